@@ -1,0 +1,4 @@
+pub mod Keys
+pub mod Ranges
+pub mod Sorted
+pub mod Entries

@@ -1,0 +1,23 @@
+// Numbers that name things, and shared bytes.
+use bytes::Bytes;
+
+/// The number of a write, a snapshot or a commit. A write's is below 2^63.
+pub type SeqNo = u64;
+
+/// The number of a table, which is also its file's name.
+pub type TableId = u64;
+
+/// The number of a tree, as its configuration gives it.
+pub type TreeId = u64;
+
+/// The number of a memtable.
+pub type MemtableId = u64;
+
+/// A key, as its user spells it: 0 to 65,535 bytes in a tree. Copies share the bytes.
+pub type UserKey = Bytes;
+
+/// A value: 0 to 2^32 - 1 bytes in a tree. Copies share the bytes.
+pub type UserValue = Bytes;
+
+/// A key with its value.
+pub type KvPair = (UserKey, UserValue);

@@ -1,0 +1,22 @@
+//! Bytes in, entries out: what every layer of the tree shares.
+//!
+//! | Module | Holds |
+//! |-|-|
+//! | `ids` | numbers that name things |
+//! | `value_type` | what an entry does to its key |
+//! | `key` | a user key with its number, and the order of entries |
+//! | `value` | an entry: a key and its value |
+//! | `key_range` | all keys from a least to a greatest one |
+#![tactic(auto)]
+
+mod ids;
+mod key;
+mod key_range;
+mod value;
+mod value_type;
+
+pub use ids::{KvPair, MemtableId, SeqNo, TableId, TreeId, UserKey, UserValue};
+pub use key::InternalKey;
+pub use key_range::KeyRange;
+pub use value::InternalValue;
+pub use value_type::ValueType;

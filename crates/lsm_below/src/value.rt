@@ -1,0 +1,58 @@
+// An entry: a key with its number and type, and a value.
+ghost use Rattle.std.specs.Prelude.{◌≡◌, IfOk};
+ghost use Rattle.lsm_below.specs.Entries.{entry_at, tombstone_at, weak_tombstone_at, is_tombstone_type};
+
+use crate::{InternalKey, SeqNo, UserKey, UserValue, ValueType};
+use std::alloc::AllocError;
+
+/// An entry: what a write leaves in memtables and tables. A tombstone's value is empty, of either kind.
+#[derive(Drop, Clone, Debug)]
+pub struct InternalValue {
+    pub key: InternalKey,
+    pub value: UserValue,
+}
+
+impl InternalValue {
+    /// An entry of these parts. A tombstone keeps no value: use the two constructors below.
+    pub fn from_components(
+        user_key: UserKey,
+        value: UserValue,
+        seqno: SeqNo,
+        value_type: ValueType,
+    ) -> InternalValue
+        ensures { result ≡ entry_at user_key seqno value_type value }
+    {
+        InternalValue {
+            key: InternalKey::new(user_key, seqno, value_type),
+            value,
+        }
+    }
+
+    /// An entry that removes its key.
+    pub fn new_tombstone(user_key: UserKey, seqno: SeqNo) -> InternalValue
+        ensures { result ≡ tombstone_at user_key seqno }
+    {
+        InternalValue::from_components(user_key, UserValue::new(), seqno, ValueType::Tombstone)
+    }
+
+    /// An entry that removes its key, of which at most one value was ever written.
+    pub fn new_weak_tombstone(user_key: UserKey, seqno: SeqNo) -> InternalValue
+        ensures { result ≡ weak_tombstone_at user_key seqno }
+    {
+        InternalValue::from_components(user_key, UserValue::new(), seqno, ValueType::WeakTombstone)
+    }
+
+    /// Whether the entry removes its key, weakly or not.
+    pub fn is_tombstone(&self) -> bool
+        ensures { result ≡ is_tombstone_type self.now.key.value_type }
+    {
+        self.key.is_tombstone()
+    }
+
+    /// A copy, which shares the bytes. Refused only for want of memory.
+    pub fn copy(&self) -> Result<InternalValue, AllocError>
+        ensures { IfOk result (λ copy. copy ≡ self.now) }
+    {
+        self.clone()
+    }
+}

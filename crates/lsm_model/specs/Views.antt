@@ -1,0 +1,175 @@
+-- What a tree keeps for its reads: sources, newest first, behind super versions, newest first.
+use Rattle.std.specs.Prelude.{◌≡◌, ℕ, ◌+◌, ◌<◌, ◌≤◌, Bool, true, false, ◌&&◌, ◌⊎◌, not, filter, List, [], ◌∷◌, ◌++◌, Option, Some, None, map, flat_map, if◌then◌else◌, nat_lt, ◌==◌}
+use Rattle.std.specs.List.{find, AllByRecursion}
+use Rattle.std.specs.Option.{option_or}
+use Rattle.lsm_below.specs.Entries.{Entry, entry_cmp, value_of, top}
+use Rattle.lsm_below.specs.Sorted.{put}
+use Rattle.lsm_model.specs.Journal.{answer, Map, changed}
+use Rattle.lsm_below.specs.Keys.{Bytes}
+use Rattle.lsm_below.specs.Ranges.{Range, in_range, overlap}
+use Rattle.lsm_model.specs.declared.question.Question.{Question}
+use Rattle.lsm_model.specs.declared.question.Question.TheVariants.{Get, Between, Prefix}
+use Rattle.lsm_model.specs.declared.question.Answer.{Answer}
+use Rattle.lsm_model.specs.declared.question.Answer.TheVariants.{Found}
+use Rattle.std.specs.FinMap.{empty}
+
+abbrev pub shown : Option Entry → Option Bytes
+shown None = None
+shown (Some e) = value_of e
+
+-- the value of a key in a list of sources
+abbrev pub view_at : Bytes → ℕ → List (List Entry) → Option Bytes
+view_at k s sources = shown (top k s (flat_map (λ es. es) sources))
+
+-- what a walk answers that goes from source to source and stops at the first visible entry
+abbrev pub walk : Bytes → ℕ → List (List Entry) → Option Entry
+walk k s [] = None
+walk k s (es ∷ sources) = option_or (top k s es) (walk k s sources)
+
+-- memtables are shared by id
+abbrev pub Memtables : Type 0
+Memtables = ℕ → List Entry
+
+-- a table, by its id, the keys that it may hold, and its entries
+pub record Table : Type 0 where
+  pub id : ℕ
+  pub range : Range
+  pub entries : List Entry
+
+-- a table and its level
+pub record Placed : Type 0 where
+  pub level : ℕ
+  pub table : Table
+
+abbrev pub held : List Placed → List Entry
+held tables = flat_map (λ p. p.table.entries) tables
+
+-- memtables by id, the active one and the sealed ones from the newest; tables level by level, run by run
+pub record SuperVersion : Type 0 where
+  pub number : ℕ
+  pub active : ℕ
+  pub sealed : List ℕ
+  pub tables : List Placed
+
+abbrev pub sources : Memtables → SuperVersion → List (List Entry)
+sources mems sv = map mems (sv.active ∷ sv.sealed) ++ map (λ p. p.table.entries) sv.tables
+
+abbrev pub entries : Memtables → SuperVersion → List Entry
+entries mems sv = flat_map mems (sv.active ∷ sv.sealed) ++ held sv.tables
+
+-- what a list of entries, the newest first, makes of a map: the first visible entry of a key decides
+abbrev pub map_of : ℕ → List Entry → Map
+map_of s [] = empty
+map_of s (e ∷ es) = if nat_lt e.key.seqno s then changed (map_of s es) e else map_of s es
+
+-- the view of a list of sources
+abbrev pub view : ℕ → List (List Entry) → Map
+view s sources = map_of s (flat_map (λ es. es) sources)
+
+-- the newest super version numbered below the snapshot
+abbrev pub lookup : ℕ → List SuperVersion → Option SuperVersion
+lookup s history = find (λ sv. nat_lt sv.number s) history
+
+-- the oldest one
+abbrev pub front : SuperVersion → List SuperVersion → SuperVersion
+front latest [] = latest
+front latest (sv ∷ older) = front sv older
+
+-- the super version that a snapshot reads: at 0 the oldest
+abbrev pub found_at : ℕ → SuperVersion → List SuperVersion → Option SuperVersion
+found_at s latest older = if s == 0 then Some (front latest older) else lookup s (latest ∷ older)
+
+-- what maintenance leaves: the newest ones up to the first numbered below w
+abbrev pub maintained : ℕ → List SuperVersion → List SuperVersion
+maintained w [] = []
+maintained w (sv ∷ older) = if nat_lt sv.number w then (sv ∷ []) else (sv ∷ maintained w older)
+
+-- what a read answers from its sources: a get walks, the others merge
+abbrev pub answered : ℕ → List (List Entry) → Question → Answer
+answered s sources (Get k) = Found (shown (walk k s sources))
+answered s sources (Between low high) = answer (view s sources) (Between low high)
+answered s sources (Prefix p) = answer (view s sources) (Prefix p)
+
+-- what a list of entries shows at a snapshot, if numbers fall: the first visible one decides
+abbrev pub seen : ℕ → List Entry → Option Bytes
+seen s es = shown (find (λ e. nat_lt e.key.seqno s) es)
+
+-- a write takes its place in a memtable, over an entry of the same key and number
+abbrev pub written : Memtables → ℕ → Entry → Memtables
+written mems a e = λ i. if i == a then put entry_cmp e (mems i) else mems i
+
+-- a write above all numbers of its key shows as one in front
+abbrev pub pushed : Memtables → ℕ → Entry → Memtables
+pushed mems a e = λ i. if i == a then (e ∷ mems i) else mems i
+
+-- a new memtable is empty
+abbrev pub emptied : Memtables → ℕ → Memtables
+emptied mems a = λ i. if i == a then [] else mems i
+
+-- ---- versions
+
+-- for each two elements, the earlier one first
+abbrev pub EachPair : {A : Type 0} → (A → A → Type 0) → List A → Type 0
+EachPair R [] = Unit {0}
+EachPair R (x ∷ xs) = AllByRecursion (R x) xs × EachPair R xs
+
+-- tables hold only keys of their ranges, and stand by rising level
+pub record IsLaidOut (tables : List Placed) : Type 0 where
+  pub covers : AllByRecursion (λ p. AllByRecursion (λ e. in_range e.key.user_key p.table.range ≡ true) p.table.entries) tables
+  pub by_level : EachPair (λ p q. p.level ≤ q.level) tables
+
+-- a choice may be merged or moved to level d, as far as these two go
+pub record PairAllowed (d : ℕ) (chosen : ℕ → Bool) (evict : Bool) (p q : Placed) : Type 0 where
+  pub order_before : chosen p.table.id ≡ false → chosen q.table.id ≡ true → p.level < d
+  pub order_behind : chosen p.table.id ≡ true → chosen q.table.id ≡ false → d ≤ q.level
+  pub eviction : evict ≡ true → chosen p.table.id ≡ true → chosen q.table.id ≡ true
+
+abbrev pub IsAllowed : ℕ → (ℕ → Bool) → Bool → List Placed → Type 0
+IsAllowed d chosen evict tables = EachPair (λ p q. overlap p.table.range q.table.range ≡ true → PairAllowed d chosen evict p q) tables
+
+-- the chosen tables, and what stands above and below the new run
+abbrev pub chosen_of : (ℕ → Bool) → List Placed → List Placed
+chosen_of chosen tables = filter (λ p. chosen p.table.id) tables
+
+abbrev pub upper_of : ℕ → (ℕ → Bool) → List Placed → List Placed
+upper_of d chosen tables = filter (λ p. not (chosen p.table.id) && nat_lt p.level d) tables
+
+abbrev pub lower_of : ℕ → (ℕ → Bool) → List Placed → List Placed
+lower_of d chosen tables = filter (λ p. not (chosen p.table.id) && not (nat_lt p.level d)) tables
+
+-- what a drop leaves, and the ranges that it tells
+abbrev pub left_of : (ℕ → Bool) → List Placed → List Placed
+left_of chosen tables = filter (λ p. not (chosen p.table.id)) tables
+
+abbrev pub ranges_of : (ℕ → Bool) → List Placed → List Range
+ranges_of chosen tables = map (λ p. p.table.range) (chosen_of chosen tables)
+
+-- runs may be joined, if tables that share a key keep their order
+abbrev pub IsRearranged : List Placed → List Placed → Type 0
+IsRearranged old new = (k : Bytes) → filter (λ p. in_range k p.table.range) new ≡ filter (λ p. in_range k p.table.range) old
+
+abbrev pub IsIn : {A : Type 0} → A → List A → Type 0
+IsIn x [] = ⊥
+IsIn x (y ∷ ys) = (y ≡ x) ⊎ IsIn x ys
+
+-- the place of a table by its id
+abbrev pub place_of : List Placed → ℕ → ℕ
+place_of [] i = 0
+place_of (p ∷ tables) i = if p.table.id == i then 0 else place_of tables i + 1
+
+abbrev pub HasDistinctIds : List Placed → Type 0
+HasDistinctIds tables = EachPair (λ p q. (p.table.id == q.table.id) ≡ false) tables
+
+-- the same tables, of which overlapping ones keep their order
+pub record IsReordered (old new : List Placed) : Type 0 where
+  pub kept : (p : Placed) → IsIn p old → IsIn p new
+  pub from : (p : Placed) → IsIn p new → IsIn p old
+  pub order : EachPair (λ p q. overlap p.table.range q.table.range ≡ true → place_of old p.table.id < place_of old q.table.id) new
+
+abbrev pub placed_at : ℕ → Table → Placed
+placed_at level t = record { level = level; table = t }
+
+-- levels of runs of tables, one behind the other
+abbrev pub placed_from : ℕ → List (List (List Table)) → List Placed
+placed_from level [] = []
+placed_from level (runs ∷ levels) = map (placed_at level) (flat_map (λ r. r) runs) ++ placed_from (level + 1) levels

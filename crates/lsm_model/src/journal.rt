@@ -1,0 +1,36 @@
+// What a journal lists: calls, and what else matters to reads.
+use crate::{Answer, Question};
+use lsm_below::{InternalValue, KeyRange, SeqNo};
+use std::marker::Model;
+
+/// Ranges of keys, seen as a list.
+#[derive(Drop)]
+pub struct KeyRanges {
+    list: Vec<KeyRange>,
+}
+
+impl Model for KeyRanges {
+    ghost use Rattle.std.specs.Prelude.{List};
+    ghost use Rattle.lsm_below.specs.Ranges.{Range};
+
+    ghost Value = { List Range };
+
+    ghost view = { λ r. r.list.items };
+}
+
+/// What a journal lists, in the order in which it happened.
+#[derive(Drop)]
+pub enum JournalEntry {
+    /// A key was written: its entry.
+    Write(InternalValue),
+    /// Everything was cleared, under this number.
+    Clear(SeqNo),
+    /// A flush, merge, move or drop was installed under this number.
+    Install(SeqNo),
+    /// A drop of tables with these key ranges was installed, or may have been.
+    Dropped(KeyRanges, SeqNo),
+    /// A watermark was named: no snapshot below it needs an answer any more.
+    Mark(SeqNo),
+    /// A read at a snapshot: what it asked, and what it answered.
+    Read(SeqNo, Question, Answer),
+}

@@ -1,0 +1,20 @@
+//! What must be believed of the tree: the journal of calls, its replay, what a tree's reads show,
+//! in which order calls may come, the steps of a tree, what a crash may leave; and the theory above it.
+//!
+//! | Module | Holds |
+//! |-|-|
+//! | `op` | what a write does to its key |
+//! | `question` | what a read asks, and what it answers |
+//! | `journal` | what a journal lists |
+//! | `laws` | the theorems, each as the contract of a function |
+#![tactic(auto)]
+
+mod journal;
+mod laws;
+mod op;
+mod question;
+
+pub use journal::{JournalEntry, KeyRanges};
+pub use laws::every_run_reads_right;
+pub use op::Op;
+pub use question::{Answer, KvPairs, Question};

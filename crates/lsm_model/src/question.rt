@@ -1,0 +1,38 @@
+// What a read asks, and what it answers.
+use lsm_below::{KvPair, UserKey, UserValue};
+use std::marker::Model;
+use std::ops::Bound;
+
+/// Keys with their values, seen as a list.
+#[derive(Drop)]
+pub struct KvPairs {
+    list: Vec<KvPair>,
+}
+
+impl Model for KvPairs {
+    ghost use Rattle.std.specs.Prelude.{List, ℕ};
+
+    ghost Value = { List (List ℕ × List ℕ) };
+
+    ghost view = { λ p. p.list.items };
+}
+
+/// What a read asks.
+#[derive(Drop)]
+pub enum Question {
+    /// The value of a key.
+    Get(UserKey),
+    /// The keys within these bounds, with their values.
+    Between(Bound<UserKey>, Bound<UserKey>),
+    /// The keys that begin so, with their values.
+    Prefix(UserKey),
+}
+
+/// What a read answers.
+#[derive(Drop)]
+pub enum Answer {
+    /// Of a key: its value, or None.
+    Found(Option<UserValue>),
+    /// Of bounds or a prefix: the pairs by rising key.
+    Pairs(KvPairs),
+}
