@@ -1,6 +1,6 @@
 // An entry: a key with its number and type, and a value.
 ghost use Rattle.std.specs.Prelude.{◌≡◌, IfOk};
-ghost use Rattle.lsm_below.specs.Entries.{entry_at, tombstone_at, weak_tombstone_at, is_tombstone_type};
+ghost use Rattle.lsm_below.specs.Entries.{entry_at, tombstone_at, weak_tombstone_at, is_tombstone_type, kept_value};
 
 use crate::{InternalKey, SeqNo, UserKey, UserValue, ValueType};
 use std::alloc::AllocError;
@@ -13,15 +13,19 @@ pub struct InternalValue {
 }
 
 impl InternalValue {
-    /// An entry of these parts. A tombstone keeps no value: use the two constructors below.
+    /// An entry of these parts. A tombstone keeps no value: one that is handed in is dropped.
     pub fn from_components(
         user_key: UserKey,
         value: UserValue,
         seqno: SeqNo,
         value_type: ValueType,
     ) -> InternalValue
-        ensures { result ≡ entry_at user_key seqno value_type value }
+        ensures { result ≡ entry_at user_key seqno value_type (kept_value value_type value) }
     {
+        let value = match value_type {
+            ValueType::Value => value,
+            ValueType::Tombstone | ValueType::WeakTombstone => UserValue::new(),
+        };
         InternalValue {
             key: InternalKey::new(user_key, seqno, value_type),
             value,

@@ -1,0 +1,5 @@
+pub mod Sorted
+pub mod Lookup
+pub mod Newest
+pub mod Contents
+pub mod Histories
