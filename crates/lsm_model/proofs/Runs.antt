@@ -7,10 +7,11 @@ use Rattle.lsm_below.specs.Keys.{Bytes, is_same}
 use Rattle.lsm_below.specs.Entries.{Entry, above, stack, top, IsFalling, entry_cmp}
 use Rattle.lsm_model.specs.Journal.{Event, answer, Agrees, ReadAgrees, is_outside, value_after, Map, replay, replay_at, is_kept, InOrder, next_number, next_number_after, MayWrite, cut}
 use Rattle.lsm_below.specs.Ranges.{Range}
-use Rattle.lsm_model.specs.Views.{view, found_at, front, view_at, shown, seen, Memtables, Placed, SuperVersion, sources, entries, lookup, maintained, IsLaidOut, ranges_of, held, pushed, written, answered}
+use Rattle.lsm_model.specs.Views.{view, found_at, front, view_at, shown, seen, Memtables, Placed, SuperVersion, sources, entries, lookup, maintained, ranges_of, held, pushed, written, answered}
 use Rattle.lsm_model.specs.Steps.{State, history, among, Action, Wrote, Rotated, Flushed, Merged, Moved, DroppedTables, Cleared, Marked, LostDrop, Asked, Maintained, Step, Run, IsCommit, IsFlush, IsMerge, IsMove, IsMaintained, IsOpened, ReadsEqualReplay, EveryRunReadsRight, IsWrite}
 use Rattle.lsm_below.specs.Sorted.{put}
 use Rattle.lsm_model.specs.declared.journal.JournalEntry.TheVariants.{Write, Clear, Install, Dropped, Mark, Read}
+use Rattle.lsm_model.specs.Sound.{FitsAt, IsSound, Holds}
 use Rattle.lsm_model.proofs.Lists.{fold_push, each_weaker, each_both, each_found}
 use Rattle.lsm_model.proofs.Stacks.{stack-append, seen_first, seen_past, top_first, walk_top}
 use Rattle.lsm_model.proofs.Journals.{get-replay, above_stack, and_false, in_order_last, in_order_front}
@@ -20,11 +21,11 @@ use Rattle.lsm_model.specs.declared.question.Answer.TheVariants.{Found}
 use Rattle.lsm_model.proofs.Puts.{put_stack}
 use Rattle.lsm_model.proofs.Lists.{each_left}
 use Rattle.lsm_model.proofs.Answers.{answers_agree, get-map_of, agrees_push}
-use Rattle.lsm_model.proofs.Sound.{FitsAt, IsSound, write_sound}
+use Rattle.lsm_model.proofs.Sound.{write_sound}
 use Rattle.lsm_model.proofs.Installs.{maintained_cases, same_sound, ShowsSame, rotate_sound, lookup_latest}
 use Rattle.lsm_model.proofs.Commits.{flush_same, merge_same, move_same, dropped_sound, cleared_sound, note_sound, mark_note, read_note, lost_note, forgotten_sound, some_still}
 
-joined_map : {A : Type 0} (f : A → List Entry) (xs : List A) → flat_map (λ (es : List Entry). es) (map f xs) ≡ flat_map f xs
+pub joined_map : {A : Type 0} (f : A → List Entry) (xs : List A) → flat_map (λ (es : List Entry). es) (map f xs) ≡ flat_map f xs
 joined_map f [] = refl
 joined_map f (x ∷ xs) = ap (λ es. f x ++ es) (joined_map f xs)
 
@@ -84,13 +85,6 @@ start_none [] k z = refl
 start_none (e ∷ es) k z = absurd (omega arith)
 
 -- ---- each step
-
--- what each step keeps
-pub record Holds (opened : List Entry) (start : Map) (t : State) : Type 0 where
-  pub sound : IsSound opened (get start) t.journal t.mems t.latest t.older
-  pub laid : IsLaidOut t.latest.tables
-  pub agrees : Agrees start t.journal
-  pub zero : (k : Bytes) → above opened ≡ 0 → get start k ≡ None
 
 -- the view of a super version, at a key
 pub get-view : (k : Bytes) (s : ℕ) (mems : Memtables) (sv : SuperVersion) → get (view s (sources mems sv)) k ≡ seen s (stack k (entries mems sv))
@@ -275,7 +269,7 @@ step_holds opened start old (Maintained w) new m o h =
     }
 
 -- journals only grow
-step_grows : (opened : List Entry) (old : State) (action : Action) (new : State) → Step opened old action new → (more : List Event) × (new.journal ≡ old.journal ++ more)
+pub step_grows : (opened : List Entry) (old : State) (action : Action) (new : State) → Step opened old action new → (more : List Event) × (new.journal ≡ old.journal ++ more)
 step_grows opened old (Wrote e) new m = (Write e ∷ [], m.journal)
 step_grows opened old (Rotated a) new m = ([], ap (λ (t : State). t.journal) m.1 ∙ sym (append-nil old.journal))
 step_grows opened old (Flushed w job made) new m = (_, m.commit.journal)
