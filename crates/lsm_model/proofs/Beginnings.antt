@@ -6,13 +6,13 @@ use Rattle.std.proofs.lemmas.Grind.{flat_map-append, fold-append}
 use Rattle.lsm_below.specs.Keys.{Bytes, is_same}
 use Rattle.lsm_below.specs.Entries.{Entry, value_of, stack, above, values, keep, IsSingle}
 use Rattle.lsm_model.specs.Journal.{Event, in_any}
-use Rattle.lsm_model.specs.declared.journal.JournalEntry.TheVariants.{Write, Clear, Install, Dropped, Mark, Read}
 use Rattle.lsm_model.specs.Views.{Memtables, Placed, seen}
 use Rattle.lsm_model.specs.Beginnings.{spared_after, spoiled_after, is_spared, Note, FlushedIds, sealed_at, greatest, covered}
+use Rattle.lsm_model.specs.declared.journal.JournalEntry.TheVariants.{Write, Clear, Install, Dropped, Mark, Read}
 use Rattle.lsm_model.proofs.Lists.{each_sub, sub_append, sub_itself}
 use Rattle.lsm_model.proofs.Stacks.{stack-append, seen_first, keep_same_behind, keep_sub, single_right}
-use Rattle.lsm_model.proofs.Runs.{each_above}
 use Rattle.lsm_model.proofs.Merges.{of_tables}
+use Rattle.lsm_model.proofs.Runs.{each_above}
 
 -- a key's value after an event; every call counts, whatever its number
 abbrev pub begun_after : Bytes → Option Bytes → Event → Option Bytes

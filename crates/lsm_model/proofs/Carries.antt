@@ -4,23 +4,24 @@ use Rattle.std.specs.List.{AllByRecursion}
 use Rattle.std.specs.FinMap.{get}
 use Rattle.std.proofs.Math.Seq.{take-length}
 use Rattle.std.proofs.lemmas.List.{length-append}
+use Rattle.std.proofs.lemmas.Grind.{flat_map-append}
 use Rattle.lsm_below.specs.Keys.{Bytes}
+use Rattle.lsm_below.specs.Ranges.{Range}
 use Rattle.lsm_below.specs.Entries.{Entry, stack, keep, IsSingle}
 use Rattle.lsm_model.specs.Journal.{Event, Map, in_any}
-use Rattle.lsm_model.specs.declared.journal.JournalEntry.TheVariants.{Write, Clear, Install, Dropped, Mark, Read}
-use Rattle.lsm_below.specs.Ranges.{Range}
 use Rattle.lsm_model.specs.Views.{Memtables, SuperVersion, Placed, entries, sources, IsLaidOut, IsAllowed, chosen_of, upper_of, lower_of, left_of, ranges_of, answered, emptied}
 use Rattle.lsm_model.specs.Steps.{State, among, Action, Wrote, Rotated, Flushed, Merged, Moved, DroppedTables, Cleared, Marked, LostDrop, Asked, Maintained, Step, IsFlush, IsMerge, IsMove, IsDrop}
+use Rattle.lsm_model.specs.Sound.{Holds}
 use Rattle.lsm_model.specs.Beginnings.{spoiled_after, Note, SealedAt, FlushedIds, ClearedTo, sealed_at, covered, noted_by}
+use Rattle.lsm_model.specs.declared.journal.JournalEntry.TheVariants.{Write, Clear, Install, Dropped, Mark, Read}
 use Rattle.lsm_model.proofs.Lists.{fold_push, each_append, each_weaker, Sublist, sub_itself, sub_none, sub_append}
 use Rattle.lsm_model.proofs.Stacks.{stack-append, keep_sub, single_right}
 use Rattle.lsm_model.proofs.Sound.{flat_map_same, written_other}
 use Rattle.lsm_model.proofs.Installs.{emptied_other}
 use Rattle.lsm_model.proofs.Merges.{of_tables, of_tables-append, parts_of, evicted_parts, rearranged_same}
 use Rattle.lsm_model.proofs.Commits.{stack_of, each_filter, around, sub_filter, left_alone}
-use Rattle.lsm_model.specs.Sound.{Holds}
 use Rattle.lsm_model.proofs.Runs.{each_always}
-use Rattle.lsm_model.proofs.Beginnings.{begun, newest, Begins, is_spared_at, spared_all, spared_at_more, keep_newest_sub, Tails, Fall, fall_covered, fall_kept, tails_kept, flush_tails, flush_fall, ShowsBehind}
+use Rattle.lsm_model.proofs.Beginnings.{begun, newest, Begins, is_spared_at, spared_all, spared_at_more, keep_newest_sub, Tails, Fall, fall_covered, fall_kept, tails_kept, flush_tails, flush_fall, ShowsBehind, begun_after}
 use Rattle.lsm_model.proofs.Wholes.{whole_begins}
 
 -- what the tables and the sealed memtables show, and the order of their places
@@ -121,7 +122,7 @@ flush_puts opened start old w job made new notes more m h c =
   where
     mem_parts : (k : Bytes) → old.latest.sealed ≡ new.latest.sealed ++ job → stack k (flat_map old.mems (old.latest.active ∷ old.latest.sealed)) ≡ stack k (flat_map old.mems (old.latest.active ∷ new.latest.sealed)) ++ stack k (flat_map old.mems job)
     mem_parts k e =
-        ap (λ ids. stack k (flat_map old.mems (old.latest.active ∷ ids))) e ∙ ap (stack k) (Rattle.std.proofs.lemmas.Grind.flat_map-append old.mems (old.latest.active ∷ new.latest.sealed) job) ∙ stack-append k (flat_map old.mems (old.latest.active ∷ new.latest.sealed)) (flat_map old.mems job)
+        ap (λ ids. stack k (flat_map old.mems (old.latest.active ∷ ids))) e ∙ ap (stack k) (flat_map-append old.mems (old.latest.active ∷ new.latest.sealed) job) ∙ stack-append k (flat_map old.mems (old.latest.active ∷ new.latest.sealed)) (flat_map old.mems job)
 
 -- the sealed memtables stay, and tables show the same behind any of them
 same_puts : (opened : List Entry) (start : Map) (old : State) (notes : List Note) (more : List Event) (latest : SuperVersion) → latest.sealed ≡ old.latest.sealed → IsLaidOut latest.tables
@@ -211,7 +212,7 @@ clear_carries start old n a mems notes c =
     let e = length-append old.journal (Clear n ∷ []) in
     let is : length journal ≡ max (length old.journal + 1) (covered notes) = omega arith in
     record {
-      tails = λ k. subst (λ p. Begins k (get start k) journal p []) is (λ safe. sym (ap (begun k (get start k)) (take-length journal) ∙ fold_push (Rattle.lsm_model.proofs.Beginnings.begun_after k) (get start k) old.journal (Clear n)));
+      tails = λ k. subst (λ p. Begins k (get start k) journal p []) is (λ safe. sym (ap (begun k (get start k)) (take-length journal) ∙ fold_push (begun_after k) (get start k) old.journal (Clear n)));
       fall = omega arith;
     }
 

@@ -4,14 +4,14 @@ use Rattle.std.specs.List.{AllByRecursion}
 use Rattle.std.proofs.lemmas.Grind.{flat_map-append}
 use Rattle.lsm_below.specs.Keys.{Bytes}
 use Rattle.lsm_below.specs.Ranges.{Range, in_range}
+use Rattle.lsm_below.specs.Entries.{Entry, stack, values, above, keep, IsSingle}
 use Rattle.lsm_model.specs.Journal.{in_any, Event, next_of, sets_of, floor, next_number, is_kept, kept_after, is_outside, outside_after, replay_at, value_after, next_after, sets_after, floor_after}
-use Rattle.lsm_below.specs.Entries.{Entry, stack, values, above, keep}
 use Rattle.lsm_model.specs.Views.{seen, Memtables, SuperVersion, entries, held, lookup, emptied, Placed, IsLaidOut, IsAllowed, chosen_of, upper_of, lower_of, IsRearranged, left_of, ranges_of}
 use Rattle.lsm_model.specs.Steps.{AllCover}
+use Rattle.lsm_model.specs.Sound.{FitsAt, HasIds, IsSound}
 use Rattle.lsm_model.specs.declared.journal.JournalEntry.TheVariants.{Clear, Install, Dropped, Mark, Read}
 use Rattle.lsm_model.specs.declared.question.Question.{Question}
 use Rattle.lsm_model.specs.declared.question.Answer.{Answer}
-use Rattle.lsm_model.specs.Sound.{FitsAt, HasIds, IsSound}
 use Rattle.lsm_model.proofs.Lists.{fold_push, each_append, each_left, each_weaker, Sublist, done, sub_itself, sub_none, sub_append}
 use Rattle.lsm_model.proofs.Stacks.{stack-append, keep_sub, keep_same_behind}
 use Rattle.lsm_model.proofs.Installs.{ShowsSame, drop_sound, clear_sound, emptied_sound, emptied_here, below_next}
@@ -37,7 +37,7 @@ kept_same opened start journal mems latest older new w evict before part rest ne
           rw (was k, is k) (replaced k s single below (last k));
     }
   where
-    replaced : (k : Bytes) (s : ℕ) → Rattle.lsm_below.specs.Entries.IsSingle (before k ++ (part k ++ rest k)) → AllByRecursion (λ e. e.key.seqno < s) (before k ++ (part k ++ rest k)) → (evict ≡ true → (part k ≡ []) ⊎ (rest k ≡ [])) → seen s (before k ++ (keep w evict (part k) ++ rest k)) ≡ seen s (before k ++ (part k ++ rest k))
+    replaced : (k : Bytes) (s : ℕ) → IsSingle (before k ++ (part k ++ rest k)) → AllByRecursion (λ e. e.key.seqno < s) (before k ++ (part k ++ rest k)) → (evict ≡ true → (part k ≡ []) ⊎ (rest k ≡ [])) → seen s (before k ++ (keep w evict (part k) ++ rest k)) ≡ seen s (before k ++ (part k ++ rest k))
     replaced k s single below last =
         elim evict as (λ b. evict ≡ b → seen s (before k ++ (keep w b (part k) ++ rest k)) ≡ seen s (before k ++ (part k ++ rest k))) [
           | true ↦ λ q. ⊎_elim

@@ -1,17 +1,17 @@
 -- Two lives with a crash in a flush and one in a clear: the premises can be met. And why the beginnings are as they are.
 use Rattle.std.proofs.Common.{◌≡◌, true, false, List, [], ◌∷◌, ◌++◌, Some, None, take, drop, refl, arith, inl, inr}
+use Rattle.lsm_below.specs.Entries.{entry_at}
+use Rattle.lsm_below.specs.declared.value_type.ValueType.TheVariants.{Value}
 use Rattle.lsm_model.specs.Journal.{Event, is_outside}
-use Rattle.lsm_model.specs.declared.journal.JournalEntry.TheVariants.{Write, Clear, Install, Dropped}
 use Rattle.lsm_model.specs.Views.{Placed, emptied}
 use Rattle.lsm_model.specs.Steps.{State, Wrote, Rotated, Flushed, Cleared, history}
 use Rattle.lsm_model.specs.Beginnings.{is_spared, Note, SealedAt, FlushedIds, ClearLost, covered, Saved, Done, Lost, Lives, AllLiveWell}
+use Rattle.lsm_model.specs.declared.journal.JournalEntry.TheVariants.{Write, Clear, Install, Dropped}
 use Rattle.lsm_model.proofs.Merges.{of_tables}
+use Rattle.lsm_model.proofs.Examples.{key, set0, table, sv, state, m0, m1, m2, kept_one}
 use Rattle.lsm_model.proofs.Beginnings.{begun, newest}
 use Rattle.lsm_model.proofs.Wholes.{stands_of}
-use Rattle.lsm_model.proofs.Examples.{key, set0, table, sv, state, m0, m1, m2, kept_one}
 use Rattle.lsm_model.proofs.Crashes.{any_number}
-use Rattle.lsm_below.specs.Entries.{entry_at}
-use Rattle.lsm_below.specs.declared.value_type.ValueType.TheVariants.{Value}
 
 abbrev saved : State → List Note → List (List Placed) → Saved
 saved t notes others = record { state = t; notes = notes; others = others }

@@ -7,17 +7,17 @@ use Rattle.std.proofs.lemmas.List.{length-append, take-append-le, drop-append-le
 use Rattle.lsm_below.specs.Keys.{Bytes}
 use Rattle.lsm_below.specs.Entries.{Entry, above, stack, top, IsFalling, IsSingle}
 use Rattle.lsm_model.specs.Journal.{Event, Map, InOrder}
-use Rattle.lsm_model.specs.declared.journal.JournalEntry.TheVariants.{Clear, Dropped}
 use Rattle.lsm_model.specs.Views.{Placed, held, shown, seen, view, view_at, IsLaidOut, IsIn, ranges_of, HasDistinctIds}
 use Rattle.lsm_model.specs.Steps.{State, among, Action, Flushed, Merged, Moved, DroppedTables, Cleared, LostDrop, Step}
+use Rattle.lsm_model.specs.Sound.{Holds}
 use Rattle.lsm_model.specs.Beginnings.{is_spared, Note, ClearLost, sealed_at, covered, SealedAt, FlushedIds, ClearedTo, shown_by, Stands, Recovers, Saved, versions, Deed, Done, Lost, is_commit, noted_by, noted_lost, told_lost, Does, Deeds, IsStart, EveryCrashRecovers, EachDeedRecovers, EveryDeedReadsRight, BeginningsAnswer, beginning, IsBeginning, DeedsJoin, DeedsSplit, CoverLasts, OpeningStarts, ShownAbove, IsFound, Life, LivesWell, AnyNumberOfCrashes}
+use Rattle.lsm_model.specs.declared.journal.JournalEntry.TheVariants.{Clear, Dropped}
 use Rattle.lsm_model.proofs.Lists.{fold_push, each_weaker}
 use Rattle.lsm_model.proofs.Stacks.{falling_right, falling_sub, single_right, single_sub, top_first}
 use Rattle.lsm_model.proofs.Journals.{in_order_front}
 use Rattle.lsm_model.proofs.Merges.{of_tables}
-use Rattle.lsm_model.proofs.Answers.{get-map_of, answers_agree}
 use Rattle.lsm_model.proofs.Commits.{stack_of}
-use Rattle.lsm_model.specs.Sound.{Holds}
+use Rattle.lsm_model.proofs.Answers.{get-map_of, answers_agree}
 use Rattle.lsm_model.proofs.Runs.{joined_map, step_holds, step_grows, opened_holds, reads_right}
 use Rattle.lsm_model.proofs.Beginnings.{begun_after, newest_seen, Begins, spared_all, spared_more, fall_covered, tails_tables}
 use Rattle.lsm_model.proofs.Wholes.{get-beginning, below_above, get-shown_by, stands_of}

@@ -3,13 +3,13 @@ use Rattle.std.proofs.Common.{◌≡◌, ℕ, true, false, cond, List, [], ◌�
 use Rattle.std.specs.FinMap.{empty, get-empty}
 use Rattle.lsm_below.specs.Keys.{Bytes, is_same, bytes_cmp}
 use Rattle.lsm_below.specs.Entries.{Entry, stack, keep, entry_at, weak_tombstone_at, tombstone_at}
+use Rattle.lsm_below.specs.declared.value_type.ValueType.TheVariants.{Value}
 use Rattle.lsm_model.specs.Journal.{Event, InOrder}
-use Rattle.lsm_model.specs.declared.journal.JournalEntry.TheVariants.{Write, Install, Read}
-use Rattle.lsm_model.specs.declared.question.Question.TheVariants.{Get}
 use Rattle.lsm_model.specs.Views.{seen, sources, IsAllowed, Memtables, Placed, SuperVersion, written, answered, emptied}
 use Rattle.lsm_model.specs.Steps.{State, among, Action, ReadsEqualReplay, Wrote, Rotated, Flushed, Merged, Asked, Run, IsOpened}
+use Rattle.lsm_model.specs.declared.journal.JournalEntry.TheVariants.{Write, Install, Read}
+use Rattle.lsm_model.specs.declared.question.Question.TheVariants.{Get}
 use Rattle.lsm_model.proofs.Runs.{every_run}
-use Rattle.lsm_below.specs.declared.value_type.ValueType.TheVariants.{Value}
 
 abbrev pub key : Bytes
 key = 1 ∷ []

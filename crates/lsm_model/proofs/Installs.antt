@@ -4,12 +4,12 @@ use Rattle.std.specs.List.{AllByRecursion}
 use Rattle.std.proofs.lemmas.Bool.{cases_lt}
 use Rattle.std.proofs.lemmas.Grind.{fold-append}
 use Rattle.lsm_below.specs.Keys.{Bytes}
+use Rattle.lsm_below.specs.Ranges.{Range}
 use Rattle.lsm_below.specs.Entries.{Entry, stack, values, above}
 use Rattle.lsm_model.specs.Journal.{Event, in_any, value_after, replay_at, outside_after, is_outside, kept_after, is_kept, next_after, next_of, next_number, floor_after, floor, sets_after, sets_of}
-use Rattle.lsm_below.specs.Ranges.{Range}
 use Rattle.lsm_model.specs.Views.{Memtables, SuperVersion, entries, lookup, seen, emptied, maintained}
-use Rattle.lsm_model.specs.declared.journal.JournalEntry.TheVariants.{Clear, Install, Dropped}
 use Rattle.lsm_model.specs.Sound.{HasIds, FitsAt, IsSound}
+use Rattle.lsm_model.specs.declared.journal.JournalEntry.TheVariants.{Clear, Install, Dropped}
 use Rattle.lsm_model.proofs.Lists.{fold_push, each_weaker, each_found, each_both, Sublist, sub_none}
 use Rattle.lsm_model.proofs.Journals.{next_of-le, floor-le}
 use Rattle.lsm_model.proofs.Sound.{fits_sub, flat_map_same}

@@ -3,16 +3,16 @@ use Rattle.std.proofs.Common.{◌≡◌, ℕ, ◌+◌, ◌<◌, ◌≤◌, max, 
 use Rattle.std.specs.List.{find, AllByRecursion}
 use Rattle.std.specs.Option.{option_or}
 use Rattle.std.proofs.lemmas.List.Folds.{find-append}
+use Rattle.std.proofs.lemmas.Bool.{cases_lt}
 use Rattle.lsm_below.specs.Keys.{Bytes, is_same}
 use Rattle.lsm_below.specs.Entries.{Entry, entry_cmp, value_of, is_value, is_weak, stack, values, above}
 use Rattle.lsm_below.specs.Sorted.{put}
 use Rattle.lsm_model.specs.Journal.{Event, MayWrite, value_after, replay_at, outside_after, is_outside, kept_after, next_after, next_of, floor_after, sets_after, sets_of}
 use Rattle.lsm_model.specs.Views.{Memtables, SuperVersion, held, entries, lookup, shown, seen, pushed, written}
-use Rattle.lsm_model.specs.declared.journal.JournalEntry.TheVariants.{Write}
 use Rattle.lsm_model.specs.Sound.{Fits, HasIds, FitsAt, IsSound}
+use Rattle.lsm_model.specs.declared.journal.JournalEntry.TheVariants.{Write}
 use Rattle.lsm_model.proofs.Lists.{fold_push, each_weaker, each_sub, each_both, Sublist}
 use Rattle.lsm_model.proofs.Stacks.{stack-append, falling_sub, single_sub, values_sub, seen_first}
-use Rattle.std.proofs.lemmas.Bool.{cases_lt}
 use Rattle.lsm_model.proofs.Journals.{same_key, and_false}
 
 pub fits_more : (n m c d : ℕ) (es : List Entry) → n ≤ m → c ≤ d → Fits n c es → Fits m d es

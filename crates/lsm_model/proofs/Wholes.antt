@@ -6,16 +6,16 @@ use Rattle.std.proofs.Math.Seq.{take-length, drop-length}
 use Rattle.lsm_below.specs.Keys.{Bytes, bytes_cmp, is_same}
 use Rattle.lsm_below.specs.Entries.{Entry, above, stack, IsFalling, IsSingle}
 use Rattle.lsm_model.specs.Journal.{Event, Map, value_after, replay_at, outside_after, next_number, next_of}
-use Rattle.lsm_model.specs.declared.journal.JournalEntry.TheVariants.{Write, Clear, Install, Dropped, Mark, Read}
 use Rattle.lsm_model.specs.Views.{Placed, held, entries, seen, IsLaidOut, HasDistinctIds}
 use Rattle.lsm_model.specs.Steps.{State}
+use Rattle.lsm_model.specs.Sound.{Holds}
 use Rattle.lsm_model.specs.Beginnings.{call_after, beginning, spared_after, shown_by, Stands}
+use Rattle.lsm_model.specs.declared.journal.JournalEntry.TheVariants.{Write, Clear, Install, Dropped, Mark, Read}
 use Rattle.lsm_model.proofs.Lists.{each_weaker}
 use Rattle.lsm_model.proofs.Journals.{and_true, get-changed, above_stack, next_of-le, floor-le}
-use Rattle.lsm_model.proofs.Answers.{get-map_of}
 use Rattle.lsm_model.proofs.Installs.{lookup_latest}
 use Rattle.lsm_model.proofs.Merges.{of_tables}
-use Rattle.lsm_model.specs.Sound.{Holds}
+use Rattle.lsm_model.proofs.Answers.{get-map_of}
 use Rattle.lsm_model.proofs.Runs.{each_above, joined_map}
 use Rattle.lsm_model.proofs.Beginnings.{begun_after, begun, newest, newest_seen, Begins}
 

@@ -4,10 +4,10 @@ use Rattle.std.specs.FinMap.{empty, get}
 use Rattle.lsm_below.specs.Keys.{Bytes, is_same}
 use Rattle.lsm_below.specs.Entries.{Entry, above, stack, IsOrdered, IsSingle}
 use Rattle.lsm_model.specs.Journal.{in_any, Event, Map, answer, cut, changed, InOrder}
-use Rattle.lsm_model.specs.declared.journal.JournalEntry.TheVariants.{Write, Clear, Install, Dropped, Mark, Read}
-use Rattle.lsm_model.specs.declared.question.Question.{Question}
 use Rattle.lsm_model.specs.Views.{view, Placed, held, IsLaidOut, ranges_of, IsIn, HasDistinctIds}
 use Rattle.lsm_model.specs.Steps.{State, among, Action, Rotated, Flushed, Merged, Moved, DroppedTables, Cleared, LostDrop, Step, IsOpened, ReadsEqualReplay}
+use Rattle.lsm_model.specs.declared.journal.JournalEntry.TheVariants.{Write, Clear, Install, Dropped, Mark, Read}
+use Rattle.lsm_model.specs.declared.question.Question.{Question}
 
 -- ---- beginnings
 
@@ -24,7 +24,7 @@ call_after m (Read s question told) = m
 abbrev pub beginning : Map → List Event → Map
 beginning start front = fold call_after start front
 
--- is the key in no dropped range since its last call?
+-- is the key, after an event, in no dropped range since its last call?
 abbrev pub spared_after : Bytes → Bool → Event → Bool
 spared_after k b (Write e) = is_same k e.key.user_key || b
 spared_after k b (Clear n) = true
@@ -33,7 +33,7 @@ spared_after k b (Dropped ranges n) = if in_any k ranges then false else b
 spared_after k b (Mark w) = b
 spared_after k b (Read s question told) = b
 
--- the same, where calls count no more
+-- is the key, after an event, in no dropped range, where calls count no more?
 abbrev pub spoiled_after : Bytes → Bool → Event → Bool
 spoiled_after k b (Write e) = b
 spoiled_after k b (Clear n) = b
@@ -48,7 +48,7 @@ is_spared k front back = fold (spoiled_after k) (fold (spared_after k) true fron
 
 -- ---- what is acknowledged
 
--- what stands beside the journal, the newest first
+-- what stands beside the journal: which memtables were sealed and flushed, and which clears came, each with its place
 pub data Note : Type 0 where
   -- a memtable was sealed: its id, and the place that the journal had reached
   SealedAt : ℕ → ℕ → Note
@@ -59,7 +59,7 @@ pub data Note : Type 0 where
   -- a clear of unknown outcome: its number, and its place
   ClearLost : ℕ → ℕ → Note
 
--- the place of the journal when a memtable was sealed
+-- the place that the journal had reached when a memtable was sealed
 abbrev pub sealed_at : List Note → ℕ → ℕ
 sealed_at [] i = 0
 sealed_at (SealedAt m p ∷ notes) i = if i == m then p else sealed_at notes i
@@ -67,12 +67,12 @@ sealed_at (FlushedIds ids ∷ notes) i = sealed_at notes i
 sealed_at (ClearedTo p ∷ notes) i = sealed_at notes i
 sealed_at (ClearLost n p ∷ notes) i = sealed_at notes i
 
--- the greatest place of some memtables
+-- the greatest place at which one of the memtables was sealed
 abbrev pub greatest : List Note → List ℕ → ℕ
 greatest notes [] = 0
 greatest notes (m ∷ ids) = max (sealed_at notes m) (greatest notes ids)
 
--- the greatest place that an installed flush or an answered clear covers
+-- the greatest place that an installed flush or an answered clear covers; the notes stand newest first
 abbrev pub covered : List Note → ℕ
 covered [] = 0
 covered (SealedAt m p ∷ notes) = covered notes
@@ -80,7 +80,7 @@ covered (FlushedIds ids ∷ notes) = max (greatest notes ids) (covered notes)
 covered (ClearedTo p ∷ notes) = max p (covered notes)
 covered (ClearLost n p ∷ notes) = covered notes
 
--- The journal before a place. If a clear of unknown outcome stands there, it may be added.
+-- the journal before a place, to which a clear of unknown outcome that stands there may be added
 abbrev pub IsFront : List Event → List Note → ℕ → List Event → Type 0
 IsFront journal notes place front = (front ≡ take place journal) ⊎ ((n : ℕ) × IsIn (ClearLost n place) notes × (front ≡ take place journal ++ Clear n ∷ []))
 
@@ -97,7 +97,7 @@ pub record Stands (tables : List Placed) : Type 0 where
   pub ordered : IsOrdered (map (λ p. p.table.entries) tables)
   pub single : (k : Bytes) → IsSingle (stack k (held tables))
 
--- A map that is, outside dropped ranges, a beginning of the calls which reaches this far at least.
+-- a map that is, outside dropped ranges, a beginning of the calls which reaches this far at least
 pub record IsBeginning (start : Map) (journal : List Event) (notes : List Note) (least : ℕ) (m : Map) : Type 0 where
   pub place : ℕ
   pub enough : least ≤ place
@@ -106,19 +106,20 @@ pub record IsBeginning (start : Map) (journal : List Event) (notes : List Note) 
   pub is_front : IsFront journal notes place front
   pub shows : (k : Bytes) → is_spared k front (drop place journal) ≡ true → get m k ≡ get (beginning start front) k
 
--- tables that opening takes, and that show such a beginning
+-- tables that opening takes, and that show a beginning of the calls which reaches this far at least
 pub record Recovers (start : Map) (journal : List Event) (notes : List Note) (least : ℕ) (tables : List Placed) : Type 0 where
   pub stands : Stands tables
   pub begins : IsBeginning start journal notes least (shown_by tables)
 
--- such a map answers as the beginning does, outside dropped ranges
+-- a map that is a beginning of the calls answers each question as that beginning does, outside dropped ranges
 abbrev pub BeginningsAnswer : Type 0
 BeginningsAnswer = (start : Map) (journal : List Event) (notes : List Note) (least : ℕ) (m : Map) (b : IsBeginning start journal notes least m) (question : Question)
     → let out = λ (k : Bytes). is_spared k b.front (drop b.place journal) in
     cut out question (answer m question) ≡ cut out question (answer (beginning start b.front) question)
 
--- ---- steps that a crash may cut off
+-- ---- deeds
 
+-- a tree with its notes, and with the tables that a crash may show in place of the latest ones
 pub record Saved : Type 0 where
   pub state : State
   pub notes : List Note
@@ -129,11 +130,13 @@ pub record Saved : Type 0 where
 abbrev pub versions : Saved → List (List Placed)
 versions t = t.state.latest.tables ∷ t.others
 
+-- what a tree does, where a crash may come at any time
 pub data Deed : Type 0 where
   Done : Action → Deed
   -- a commit of unknown outcome, and what it would have made
   Lost : Action → State → Deed
 
+-- does the action put other tables in place?
 abbrev pub is_commit : Action → Bool
 is_commit (Flushed w job made) = true
 is_commit (Merged w d ids evict made) = true
@@ -149,15 +152,17 @@ noted_by old (Flushed w job made) = FlushedIds job ∷ []
 noted_by old (Cleared n a) = ClearedTo (length old.journal + 1) ∷ []
 noted_by old other = []
 
--- what a commit of unknown outcome notes, and what it puts into the journal
+-- what a commit of unknown outcome notes
 abbrev pub noted_lost : State → Action → List Note
 noted_lost old (Cleared n a) = ClearLost n (length old.journal) ∷ []
 noted_lost old other = []
 
+-- what a commit of unknown outcome puts into the journal
 abbrev pub told_lost : State → Action → State → List Event
 told_lost old (DroppedTables ids) would = Dropped (ranges_of (among ids) old.latest.tables) would.latest.number ∷ []
 told_lost old other would = []
 
+-- is the action one of unknown outcome?
 abbrev pub is_lost : Action → Bool
 is_lost (LostDrop ranges n) = true
 is_lost other = false
@@ -181,10 +186,12 @@ pub record IsLost (opened : List Entry) (old : Saved) (action : Action) (would :
   pub notes : new.notes ≡ noted_lost old.state action ++ old.notes
   pub others : new.others ≡ would.latest.tables ∷ []
 
+-- a deed leads from one state to another
 abbrev pub Does : List Entry → Saved → Deed → Saved → Type 0
 Does opened old (Done action) new = IsDone opened old action new
 Does opened old (Lost action would) new = IsLost opened old action would new
 
+-- deeds, one behind the other, lead from one state to another
 abbrev pub Deeds : List Entry → Saved → List Deed → Saved → Type 0
 Deeds opened old [] new = new ≡ old
 Deeds opened old (deed ∷ deeds) new = (mid : Saved) × Does opened old deed mid × Deeds opened mid deeds new
@@ -194,33 +201,35 @@ abbrev pub IsFound : List Placed → (opened : List Entry) (old : Saved) (deeds 
 IsFound left opened old [] new done = IsIn left (versions old)
 IsFound left opened old (deed ∷ deeds) new done = IsIn left (versions old) ⊎ IsFound left opened done.0 deeds new done.2
 
--- as opening leaves a tree
+-- a tree as opening leaves it, with no notes
 pub record IsStart (opened : List Entry) (start : Map) (t : Saved) : Type 0 where
   pub opens : IsOpened opened start t.state
   pub distinct : HasDistinctIds t.state.latest.tables
   pub notes : t.notes ≡ []
   pub others : t.others ≡ []
 
--- After any deeds from an opened tree, some further ones, as those of one call:
--- what opening may find at any moment of these holds all that was acknowledged before them.
+-- ---- what holds of deeds
+
+-- tables found at any moment of a call show a beginning that holds all that was acknowledged before the call
 abbrev pub EveryCrashRecovers : Type 0
 EveryCrashRecovers = (opened : List Entry) (start : Map) (first old new : Saved) (earlier call : List Deed) → IsStart opened start first → Deeds opened first earlier old → (done : Deeds opened old call new) → InOrder opened new.state.journal
     → (left : List Placed) → IsFound left opened old call new done → Recovers start new.state.journal new.notes (covered old.notes) left
 
--- the reads are right too, also behind a commit of unknown outcome
+-- after any deeds from an opened tree the reads are right, also behind a commit of unknown outcome
 abbrev pub EveryDeedReadsRight : Type 0
 EveryDeedReadsRight = (opened : List Entry) (start : Map) (first new : Saved) (deeds : List Deed) → IsStart opened start first → Deeds opened first deeds new → InOrder opened new.state.journal → ReadsEqualReplay opened start new.state
 
--- Around one deed: the old version or the new one, judged by the journal behind it
+-- around one deed the old tables and the new ones show a beginning that holds all that was acknowledged before the deed
 abbrev pub EachDeedRecovers : Type 0
 EachDeedRecovers = (opened : List Entry) (start : Map) (first old new : Saved) (earlier : List Deed) (deed : Deed) → IsStart opened start first → Deeds opened first earlier old → Does opened old deed new → InOrder opened new.state.journal
     → (left : List Placed) → IsIn left (versions old) ⊎ IsIn left (versions new) → Recovers start new.state.journal new.notes (covered old.notes) left
 
--- Deeds behind deeds are deeds, in which all that is found in either is found; and deeds can be cut anywhere.
+-- deeds behind deeds are deeds, in which all that is found in either is found
 abbrev pub DeedsJoin : Type 0
 DeedsJoin = (opened : List Entry) (old mid new : Saved) (xs ys : List Deed) (d : Deeds opened old xs mid) (e : Deeds opened mid ys new)
     → (both : Deeds opened old (xs ++ ys) new) × ((left : List Placed) → IsFound left opened old xs mid d ⊎ IsFound left opened mid ys new e → IsFound left opened old (xs ++ ys) new both)
 
+-- deeds can be cut anywhere
 abbrev pub DeedsSplit : Type 0
 DeedsSplit = (opened : List Entry) (old new : Saved) (xs ys : List Deed) → Deeds opened old (xs ++ ys) new → (mid : Saved) × Deeds opened old xs mid × Deeds opened mid ys new
 
@@ -242,7 +251,7 @@ pub record IsFresh (first : List Placed) (t : Saved) : Type 0 where
   pub notes : t.notes ≡ []
   pub others : t.others ≡ []
 
--- tables that stand are a start, and their map is the starting map
+-- a tree that is opened on tables which stand is a start, and what they show is the starting map
 abbrev pub OpeningStarts : Type 0
 OpeningStarts = (tables : List Placed) (t : Saved) → Stands tables → IsFresh tables t → IsStart (held tables) (shown_by tables) t
 
@@ -268,14 +277,16 @@ pub record LivesWell (first left : List Placed) (life : Life first left) : Type 
   pub reads : ReadsEqualReplay (held first) (shown_by first) life.new.state
   pub recovers : Recovers (shown_by first) life.new.state.journal life.new.notes (covered life.old.notes) left
 
--- one life behind the other
+-- one life behind the other, each opened on what the one before left
 abbrev pub Lives : List Placed → List (List Placed) → Type 0
 Lives first [] = Unit {0}
 Lives first (left ∷ more) = Life first left × Lives left more
 
+-- in each of the lives the reads are right, and what is left is a beginning of its calls
 abbrev pub AllLiveWell : (first : List Placed) (lefts : List (List Placed)) → Lives first lefts → Type 0
 AllLiveWell first [] lives = Unit {0}
 AllLiveWell first (left ∷ more) lives = LivesWell first left lives.0 × AllLiveWell left more lives.1
 
+-- from tables that stand, life behind life goes well, whatever each crash leaves
 abbrev pub AnyNumberOfCrashes : Type 0
 AnyNumberOfCrashes = (first : List Placed) → Stands first → (lefts : List (List Placed)) (lives : Lives first lefts) → AllLiveWell first lefts lives
