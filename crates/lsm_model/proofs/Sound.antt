@@ -1,4 +1,4 @@
--- What holds between any two steps, and that a write and a rotation keep it.
+-- A write keeps what holds between any two steps.
 use Rattle.std.proofs.Common.{◌≡◌, ℕ, ◌+◌, ◌<◌, ◌≤◌, max, Bool, true, false, cond, ◌&&◌, ◌||◌, List, [], ◌∷◌, ◌++◌, Option, Some, refl, sym, ap, ◌∙◌, subst, arith, flat_map, ltb, eqb, lt-ltb, le-ltb, ne_eqb, eq-eqb, ◌⊎◌, ⊎_elim}
 use Rattle.std.specs.List.{find, AllByRecursion}
 use Rattle.std.specs.Option.{option_or}

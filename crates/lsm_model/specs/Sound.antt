@@ -35,8 +35,7 @@ pub record IsSound (opened : List Entry) (start : Bytes → Option Bytes) (journ
   pub recent : latest.number ≤ floor journal
   pub kept : (s : ℕ) → 0 < s → is_kept s journal ≡ true → is_some (lookup s (latest ∷ older)) ≡ true
 
--- What holds of a tree after any steps from an opened one: its super versions are sound, its tables are laid out,
--- its reads answered what the replay did, and a tree that was opened on no entries started empty.
+-- what holds of a tree after any steps from an opened one: sound super versions, tables that are laid out, and right reads
 pub record Holds (opened : List Entry) (start : Map) (t : State) : Type 0 where
   pub sound : IsSound opened (get start) t.journal t.mems t.latest t.older
   pub laid : IsLaidOut t.latest.tables
