@@ -20,5 +20,5 @@ pub use laws::{
     every_crash_recovers, every_deed_reads_right, every_run_reads_right, opening_starts,
     steps_spare_answers, tables_show_above,
 };
-pub use op::Op;
+pub use op::{Op, Ops};
 pub use question::{Answer, KvPairs, Question};

@@ -1,7 +1,9 @@
 // A version: the tables of a tree, level by level.
-ghost use Rattle.std.specs.Prelude.{◌≡◌};
+ghost use Rattle.std.specs.Prelude.{◌≡◌, map, option_copied};
+ghost use Rattle.lsm_model.specs.Views.{walk, placed_from};
 ghost use Rattle.lsm_parts.specs.Versions.{empty_levels};
 
+use lsm_below::{InternalValue, SeqNo};
 use std::marker::Model;
 
 /// The number of a version.
@@ -34,6 +36,15 @@ impl Version {
         ensures { result ≡ self.now.id }
     {
         self.id
+    }
+
+    /// What a walk finds from table to table, level by level and run by run: the first visible entry of the key.
+    pub fn get(&self, _key: &[u8], _seqno: SeqNo) -> Option<&InternalValue>
+        ensures { option_copied result ≡ walk _key.now _seqno (map (λ p. p.table.entries) (placed_from 0 self.now.levels)) }
+    {
+        // No table was made yet.
+        let _ = &self.id;
+        None
     }
 
     /// The same version once more.
