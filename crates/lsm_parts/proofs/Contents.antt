@@ -1,5 +1,5 @@
 -- What an insert keeps of a memtable's content.
-use Rattle.std.proofs.Common.{◌≡◌, ℕ, max, List, [], ◌∷◌, Some, unwrap_or, refl, sym, ◌∙◌, ap, arith}
+use Rattle.std.proofs.Common.{◌≡◌, ℕ, max, Bool, List, [], ◌∷◌, Some, unwrap_or, refl, sym, ◌∙◌, ap, arith}
 use Rattle.std.specs.declared.cmp.Ordering.{Ordering}
 use Rattle.std.specs.declared.cmp.Ordering.TheVariants.{Less, Equal, Greater}
 use Rattle.std.specs.Ordering.{nat_cmp, ordering_then}
@@ -7,8 +7,8 @@ use Rattle.std.proofs.lemmas.Cmp.{ranked}
 use Rattle.lsm_below.specs.Keys.{bytes_cmp}
 use Rattle.lsm_below.specs.Sorted.{Rises, put, by_ordering}
 use Rattle.lsm_below.specs.Entries.{Entry, entry_cmp}
-use Rattle.lsm_parts.specs.Memtables.{highest_of}
-use Rattle.lsm_parts.specs.Contents.{SeenContent, added}
+use Rattle.lsm_parts.specs.Memtables.{SeenMemtable, highest_of, with_entries}
+use Rattle.lsm_parts.specs.Contents.{SeenContent, added, all_added}
 use Rattle.lsm_parts.proofs.Sorted.{rises_put}
 use Rattle.lsm_parts.proofs.Lookup.{entry_total}
 
@@ -34,3 +34,19 @@ content_kept e old new rises highest is = rw is (
   rises_put entry_total e old.entries rises,
   ap (λ o. Some (max (unwrap_or o 0) e.key.seqno)) highest ∙ sym (highest_of-put e old.entries),
 )
+
+-- so does an insert of each entry in turn
+pub contents_kept : (es : List Entry) (old new : SeenContent) → Rises entry_cmp old.entries → old.highest ≡ highest_of old.entries → new ≡ all_added es old → Rises entry_cmp new.entries × (new.highest ≡ highest_of new.entries)
+contents_kept [] old new rises highest is = rw is (rises, highest)
+contents_kept (e ∷ es) old new rises highest is =
+    let kept = content_kept e old (added e old) rises highest refl in
+    contents_kept es (added e old) new kept.0 kept.1 is
+
+-- a memtable of a content
+abbrev pub memtable_of : ℕ → Bool → SeenContent → SeenMemtable
+memtable_of id flagged c = record { id = id; entries = c.entries; size = c.size; flagged = flagged }
+
+-- an insert into a memtable is one into its content
+pub with_entries_added : (es : List Entry) (id : ℕ) (flagged : Bool) (c : SeenContent) → with_entries es (memtable_of id flagged c) ≡ memtable_of id flagged (all_added es c)
+with_entries_added [] id flagged c = refl
+with_entries_added (e ∷ es) id flagged c = with_entries_added es id flagged (added e c)

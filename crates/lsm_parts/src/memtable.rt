@@ -5,7 +5,7 @@ ghost use Rattle.lsm_below.specs.declared.value.InternalValue.{InternalValue};
 ghost use Rattle.lsm_below.specs.Entries.{entry_cmp, top};
 ghost use Rattle.lsm_below.specs.Sorted.{Rises, put, first};
 ghost use Rattle.lsm_parts.specs.Memtables.{capped, entry_size, new_memtable, with_entry, with_entries, highest_of, is_visible, stands_before, IsTop, HasNone};
-ghost use Rattle.lsm_parts.specs.Contents.{content_of, added};
+ghost use Rattle.lsm_parts.specs.Contents.{content_of, added, all_added};
 
 use crate::Error;
 use lsm_below::{InternalValue, MemtableId, SeqNo};
@@ -83,6 +83,17 @@ fn add_entry(content: &mut Content, entry: InternalValue)
     let highest = content.highest.unwrap_or(0).max(entry.key.seqno);
     content.highest = Some(highest);
     put_entry(&mut content.entries, entry);
+}
+
+/// Puts each entry in its place, in turn. There is room for all.
+fn add_entries(content: &mut Content, batch: Vec<InternalValue>)
+    requires sorted { Rises entry_cmp content.old.entries.items }
+    requires room { vec_len content.old.entries + vec_len batch ≤ vec_capacity content.old.entries }
+    ensures { content_of content.new ≡ all_added batch.items (content_of content.old) }
+{
+    for entry in batch {
+        add_entry(content, entry);
+    }
 }
 
 /// Whether the entry stands before each entry of the key that is numbered below this.
@@ -229,5 +240,17 @@ impl Memtable {
         let added = size_of_entry(&item);
         add_entry(&mut self.content, item);
         Ok((added, self.content.size))
+    }
+
+    /// Puts each entry of a batch in its place, in turn, over one of the same key and number.
+    /// Refused only for want of memory, and then nothing changes.
+    pub fn insert_all(&mut self, batch: Vec<InternalValue>) -> Result<(), Error>
+        ensures ok { OnOk result (self.new ≡ with_entries batch.items self.old) }
+        ensures err { OnErr result (self.new ≡ self.old) }
+        ensures memory { IfErr result (λ e. e ≡ Error.OutOfMemory) }
+    {
+        self.content.entries.try_reserve(batch.len())?;
+        add_entries(&mut self.content, batch);
+        Ok(())
     }
 }
