@@ -2,7 +2,7 @@
 //!
 //! | Module | Holds |
 //! |-|-|
-//! | `ids` | numbers that name things |
+//! | `ids` | numbers that name things, and shared bytes |
 //! | `value_type` | what an entry does to its key |
 //! | `key` | a user key with its number, and the order of entries |
 //! | `value` | an entry: a key and its value |
@@ -17,7 +17,7 @@ mod store;
 mod value;
 mod value_type;
 
-pub use ids::{KvPair, MemtableId, SeqNo, TableId, TreeId, UserKey, UserValue};
+pub use ids::{KvPair, MemtableId, SeqNo, TableId, TreeId, UserKey, UserValue, share};
 pub use key::InternalKey;
 pub use key_range::KeyRange;
 pub use store::{NoStore, Store};

@@ -1,6 +1,6 @@
 // An entry: a key with its number and type, and a value.
 ghost use Rattle.std.specs.Prelude.{◌≡◌, IfOk};
-ghost use Rattle.lsm_below.specs.Entries.{entry_at, tombstone_at, weak_tombstone_at, is_tombstone_type, kept_value};
+ghost use Rattle.lsm_below.specs.Entries.{entry_at, tombstone_at, weak_tombstone_at, is_tombstone_type, kept_value, plain};
 
 use crate::{InternalKey, SeqNo, UserKey, UserValue, ValueType};
 use std::alloc::AllocError;
@@ -44,6 +44,14 @@ impl InternalValue {
         ensures { result ≡ weak_tombstone_at user_key seqno }
     {
         InternalValue::from_components(user_key, UserValue::new(), seqno, ValueType::WeakTombstone)
+    }
+
+    /// The entry, of which a tombstone keeps no value.
+    pub fn into_plain(self) -> InternalValue
+        ensures { result ≡ plain self }
+    {
+        let InternalValue { key, value } = self;
+        InternalValue::from_components(key.user_key, value, key.seqno, key.value_type)
     }
 
     /// Whether the entry removes its key, weakly or not.

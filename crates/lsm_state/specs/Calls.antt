@@ -1,5 +1,5 @@
 -- What each call of a tree does and answers.
-use Rattle.std.specs.Prelude.{◌≡◌, ℕ, ◌+◌, ◌<◌, ◌≤◌, ◌⊎◌, List, [], ◌∷◌, ◌++◌, map, Option, Some, None, IsNone, Result, Err, IfOk, IfErr, IfSome, OnOk, OnErr, if◌then◌else◌}
+use Rattle.std.specs.Prelude.{◌≡◌, ℕ, ◌≤◌, ◌⊎◌, List, [], ◌∷◌, ◌++◌, map, Option, Some, None, Result, Err, IfOk, IfErr, IfSome, OnOk, OnErr, if◌then◌else◌}
 use Rattle.lsm_below.specs.Keys.{Bytes}
 use Rattle.lsm_below.specs.Entries.{Entry, above, is_tombstone_type}
 use Rattle.lsm_model.specs.Journal.{Event}

@@ -1,5 +1,5 @@
 -- The memtables that are held, as a list: the active one first.
-use Rattle.std.specs.Prelude.{◌≡◌, ℕ, List, [], ◌∷◌, if◌then◌else◌, ◌==◌}
+use Rattle.std.specs.Prelude.{ℕ, List, [], ◌∷◌, if◌then◌else◌, ◌==◌}
 use Rattle.lsm_below.specs.Entries.{Entry}
 use Rattle.lsm_parts.specs.Memtables.{SeenMemtable, with_entry, with_entries}
 use Rattle.lsm_model.specs.Views.{Memtables}

@@ -1,5 +1,6 @@
 // The tree's writes.
 ghost use Rattle.std.specs.Prelude.{◌≡◌, ℕ, ◌<◌, ◌≤◌, ◌⊎◌, Some, None, map, length, IfOk, IfErr, OnOk, vec_len};
+ghost use Rattle.std.specs.List.{list_any};
 ghost use Rattle.lsm_below.specs.Keys.{Bytes};
 ghost use Rattle.lsm_below.specs.Entries.{plain};
 ghost use Rattle.lsm_model.specs.Ops.{op_entry, op_entries};
@@ -8,7 +9,7 @@ ghost use Rattle.lsm_model.specs.declared.op.Op.TheVariants.{Set, Del, Weak};
 ghost use Rattle.lsm_state.specs.Calls.{Appends, WritesBatch};
 
 use crate::TreeState;
-use lsm_below::{InternalValue, SeqNo, Store, UserKey, UserValue, ValueType};
+use lsm_below::{InternalValue, SeqNo, Store, UserKey, UserValue, ValueType, share};
 use lsm_model::Op;
 use lsm_parts::{Error, LIMIT};
 use std::alloc::{AllocError, Global};
@@ -31,7 +32,8 @@ fn is_value_too_long(op: &Op) -> bool
 {
     match op {
         Op::Set(value) => value.len() > MAX_VALUE_LEN,
-        Op::Del | Op::Weak => false,
+        Op::Del => false,
+        Op::Weak => false,
     }
 }
 
@@ -51,13 +53,25 @@ fn refusal_of(entry: &InternalValue) -> Option<Error>
     None
 }
 
+fn has_long_key(ops: &[(UserKey, Op)]) -> bool
+    ensures { result ≡ list_any (λ p. is_long_key p.0) ops.now }
+{
+    ops.iter().any(|op| is_key_too_long(&op.0))
+}
+
+fn has_long_value(ops: &[(UserKey, Op)]) -> bool
+    ensures { result ≡ list_any (λ p. is_long_value (op_value p.1)) ops.now }
+{
+    ops.iter().any(|op| is_value_too_long(&op.1))
+}
+
 /// Whether a key comes twice.
 fn has_repeats(alloc: Global, ops: &[(UserKey, Op)]) -> Result<bool, AllocError>
     ensures { IfOk result (λ b. b ≡ repeats (keys_of ops.now)) }
 {
     let mut seen = BTreeSet::new(alloc);
     for (key, _) in ops {
-        let is_new = seen.insert(key.clone()?)?;
+        let is_new = seen.insert(share(key)?)?;
         if !is_new {
             return Ok(true);
         }
@@ -73,10 +87,10 @@ fn check_batch(alloc: Global, number: SeqNo, ops: &[(UserKey, Op)]) -> Result<()
     if number >= LIMIT {
         return Err(Error::OutOfNumbers);
     }
-    if ops.iter().any(|op| is_key_too_long(&op.0)) {
+    if has_long_key(ops) {
         return Err(Error::KeyTooLong);
     }
-    if ops.iter().any(|op| is_value_too_long(&op.1)) {
+    if has_long_value(ops) {
         return Err(Error::ValueTooLong);
     }
     if has_repeats(alloc, ops)? {
@@ -151,9 +165,7 @@ impl<S: Store> TreeState<S> {
         ensures appends { Appends (plain entry) result self.old.core self.new.core }
         ensures store { self.new.store ≡ self.old.store }
     {
-        let InternalValue { key, value } = entry;
-        let entry =
-            InternalValue::from_components(key.user_key, value, key.seqno, key.value_type);
+        let entry = entry.into_plain();
         if let Some(error) = refusal_of(&entry) {
             return Err(error);
         }
