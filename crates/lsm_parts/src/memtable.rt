@@ -4,14 +4,16 @@ ghost use Rattle.std.specs.Slice.Iter.{iter_rest};
 ghost use Rattle.lsm_below.specs.declared.value.InternalValue.{InternalValue};
 ghost use Rattle.lsm_below.specs.Entries.{entry_cmp, top};
 ghost use Rattle.lsm_below.specs.Sorted.{Rises, put, first};
-ghost use Rattle.lsm_parts.specs.Memtables.{capped, entry_size, new_memtable, with_entry, with_entries, highest_of, is_visible, stands_before, IsTop, HasNone};
+ghost use Rattle.lsm_parts.specs.Memtables.{capped, entry_size, new_memtable, with_entry, with_entries, highest_of, is_visible, stands_before, within, IsTop, HasNone};
+ghost use Rattle.lsm_model.specs.Journal.{is_from, is_to};
 ghost use Rattle.lsm_parts.specs.Contents.{content_of, added, all_added};
 
 use crate::Error;
-use lsm_below::{InternalValue, MemtableId, SeqNo};
+use lsm_below::{InternalValue, MemtableId, SeqNo, UserKey};
 use std::alloc::Global;
 use std::cmp::Ordering;
 use std::marker::Model;
+use std::ops::Bound;
 use std::slice::Iter;
 
 /// Entries by rising key, and under one key by falling number, of which each stands once.
@@ -145,6 +147,41 @@ fn first_visible<'a>(
     }
 }
 
+/// Whether a key lies within a lower bound.
+fn lies_from(bound: &Bound<UserKey>, key: &UserKey) -> bool
+    ensures { result ≡ is_from bound.now key.now }
+{
+    match bound {
+        Bound::Included(low) => low <= key,
+        Bound::Excluded(low) => low < key,
+        Bound::Unbounded => true,
+    }
+}
+
+/// Whether a key lies within an upper bound.
+fn lies_to(bound: &Bound<UserKey>, key: &UserKey) -> bool
+    ensures { result ≡ is_to bound.now key.now }
+{
+    match bound {
+        Bound::Included(high) => key <= high,
+        Bound::Excluded(high) => key < high,
+        Bound::Unbounded => true,
+    }
+}
+
+/// The entries whose keys lie within the bounds: they stand together.
+fn entries_within<'a>(
+    entries: &'a [InternalValue],
+    bounds: &(Bound<UserKey>, Bound<UserKey>),
+) -> &'a [InternalValue]
+    requires { Rises entry_cmp entries.now }
+    ensures { result.now ≡ within bounds.now.0 bounds.now.1 entries.now }
+{
+    let end = entries.partition_point(|entry| lies_to(&bounds.1, &entry.key.user_key));
+    let start = entries.partition_point(|entry| !lies_from(&bounds.0, &entry.key.user_key));
+    &entries[start.min(end)..end]
+}
+
 impl Memtable {
     /// An empty memtable.
     pub fn new(alloc: Global, id: MemtableId) -> Memtable
@@ -182,6 +219,13 @@ impl Memtable {
         ensures { iter_rest result ≡ self.now.entries }
     {
         self.content.entries.iter()
+    }
+
+    /// The entries in order whose keys lie within the bounds. There is none where the lower one is above the upper one.
+    pub fn range(&self, bounds: &(Bound<UserKey>, Bound<UserKey>)) -> Iter<'_, InternalValue>
+        ensures { iter_rest result ≡ within bounds.now.0 bounds.now.1 self.now.entries }
+    {
+        entries_within(&self.content.entries, bounds).iter()
     }
 
     /// The bytes of all accepted inserts, replaced ones counted again, up to 2^64 - 1.
