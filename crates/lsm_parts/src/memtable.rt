@@ -298,3 +298,99 @@ impl Memtable {
         Ok(())
     }
 }
+
+#[cfg(test)]
+mod tests {
+    use super::*;
+    use lsm_below::{UserValue, ValueType};
+    use std::test::Fail;
+
+    fn entry(key: &'static str, value: &'static str, seqno: SeqNo) -> InternalValue {
+        InternalValue::from_components(
+            UserKey::from_static(key.as_bytes()),
+            UserValue::from_static(value.as_bytes()),
+            seqno,
+            ValueType::Value,
+        )
+    }
+
+    #[test]
+    fn finds_the_newest_below_the_snapshot(rt: HostRuntime) -> Result<(), Fail> {
+        let mut table = Memtable::new(rt.alloc(), 0);
+        table.insert(entry("hello-key-999991", "hello-value-999991", 0))?;
+        table.insert(entry("hello-key-999991", "hello-value-999991-2", 1))?;
+        for seqno in [0, 255, 99] {
+            table.insert(entry("abc", "", seqno))?;
+        }
+        let lookups = [
+            ("abc", u64::MAX, Some((255, ""))),
+            ("abc", 100, Some((99, ""))),
+            ("abc", 50, Some((0, ""))),
+            ("abc", 0, None),
+            (
+                "hello-key-999991",
+                u64::MAX,
+                Some((1, "hello-value-999991-2")),
+            ),
+            ("hello-key-999991", 1, Some((0, "hello-value-999991"))),
+            ("hello-key-999991", 2, Some((1, "hello-value-999991-2"))),
+            ("hello-key-99999", u64::MAX, None),
+            ("hello-key-99999", 1, None),
+            ("hello-key-99999", 2, None),
+        ];
+        for (key, snapshot, want) in lookups {
+            let found = table.get(key.as_bytes(), snapshot);
+            assert_eq!(rt;
+                found.map(|e| e.key.seqno),
+                want.map(|w| w.0),
+                "{key} at {snapshot}"
+            );
+            let value = found.map(|e| e.value.as_slice());
+            assert_eq!(rt; value, want.map(|w| w.1.as_bytes()), "{key} at {snapshot}");
+        }
+        Ok(())
+    }
+
+    #[test]
+    fn counts_replaced_entries_again(rt: HostRuntime) -> Result<(), Fail> {
+        let mut table = Memtable::new(rt.alloc(), 0);
+        let key = UserKey::from_static(b"a");
+        let inserts = [
+            (entry("a", "my_value", 0), (57, 57), 1),
+            (InternalValue::new_tombstone(key, 1), (49, 106), 2),
+            (entry("a", "x", 1), (50, 156), 2),
+        ];
+        for (item, sizes, len) in inserts {
+            assert_eq!(rt; table.insert(item)?, sizes);
+            assert_eq!(rt; table.len(), len);
+        }
+        assert_eq!(rt; table.size(), 156);
+        assert_eq!(rt; table.get_highest_seqno(), Some(1));
+        Ok(())
+    }
+
+    #[test]
+    fn lends_what_lies_within_bounds(rt: HostRuntime) -> Result<(), Fail> {
+        let mut table = Memtable::new(rt.alloc(), 0);
+        table.insert_all(vec![in rt.alloc();
+            entry("b", "", 1),
+            entry("a", "", 1),
+            entry("a", "", 2),
+        ]?)?;
+        let a = || UserKey::from_static(b"a");
+        let b = || UserKey::from_static(b"b");
+        let ranges = [
+            ((Bound::Unbounded, Bound::Unbounded), 3, Some(2)),
+            ((Bound::Included(a()), Bound::Excluded(b())), 2, Some(2)),
+            ((Bound::Excluded(a()), Bound::Included(b())), 1, Some(1)),
+            ((Bound::Included(b()), Bound::Included(a())), 0, None),
+        ];
+        for (bounds, count, first) in ranges {
+            assert_eq!(rt; table.range(&bounds).count(), count);
+            assert_eq!(rt; table.range(&bounds).next().map(|e| e.key.seqno), first);
+        }
+        let last = table.iter().next_back().map(|e| e.key.user_key.as_slice());
+        assert_eq!(rt; last, Some(b"b".as_slice()));
+        Ok(())
+    }
+}
