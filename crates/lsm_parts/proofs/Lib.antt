@@ -3,3 +3,4 @@ pub mod Lookup
 pub mod Newest
 pub mod Contents
 pub mod Histories
+pub mod Ranges

@@ -72,7 +72,7 @@ module _ {X : Type 0} {R : X → X → Ordering} (o : IsTotalOrder R) where
   less_not x y a less is = ap ordering_reverse (sym is) ∙ (sym (o.antisymm x y) ∙ less)
 
   -- the comparisons with e rise along the list
-  index_rises : (e a b : X) (r s : Ordering) → R a b ≡ Less → R a e ≡ r → R b e ≡ s → ordering_index r ≤ ordering_index s
+  pub index_rises : (e a b : X) (r s : Ordering) → R a b ≡ Less → R a e ≡ r → R b e ≡ s → ordering_index r ≤ ordering_index s
   index_rises e a b Less s less ra sb = omega arith
   index_rises e a b Equal Less less ra sb = let no : Greater ≡ Less = less_not e b Less (sym (tied_left a e b ra) ∙ less) sb in absurd (cc no)
   index_rises e a b Equal Equal less ra sb = omega arith

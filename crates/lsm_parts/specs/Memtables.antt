@@ -1,10 +1,12 @@
 -- What callers see of a memtable, and what an insert makes of it.
 use Rattle.std.specs.List.{Contains}
-use Rattle.std.specs.Prelude.{◌≡◌, ℕ, ◌+◌, ◌-◌, ◌^◌, ◌<◌, ◌≤◌, max, min, Bool, true, false, List, [], ◌∷◌, length, nat_le, nat_lt, Option, Some, None, unwrap_or, cond}
+use Rattle.std.specs.Prelude.{◌≡◌, ℕ, ◌+◌, ◌-◌, ◌^◌, ◌<◌, ◌≤◌, max, min, Bool, true, false, List, [], ◌∷◌, length, nat_le, nat_lt, Option, Some, None, unwrap_or, cond, filter, ◌&&◌}
 use Rattle.std.specs.Ordering.{is_eq}
+use Rattle.std.specs.declared.ops.Bound.{Bound}
 use Rattle.lsm_below.specs.Keys.{Bytes, bytes_cmp}
 use Rattle.lsm_below.specs.Sorted.{by_ordering, put}
 use Rattle.lsm_below.specs.Entries.{Entry, entry_cmp}
+use Rattle.lsm_model.specs.Journal.{is_from, is_to}
 
 -- a memtable: its entries by rising key and falling number, and the sizes of all accepted inserts
 pub record SeenMemtable : Type 0 where
@@ -57,3 +59,7 @@ pub record IsTop (entries : List Entry) (key : Bytes) (snapshot : ℕ) (e : Entr
 -- no entry of the key is numbered below the snapshot
 abbrev pub HasNone : List Entry → Bytes → ℕ → Type 0
 HasNone entries key snapshot = (f : Entry) → Contains entries f → f.key.user_key ≡ key → f.key.seqno < snapshot → ⊥
+
+-- the entries whose keys lie within the bounds
+abbrev pub within : Bound Bytes → Bound Bytes → List Entry → List Entry
+within low high entries = filter (λ e. is_from low e.key.user_key && is_to high e.key.user_key) entries

@@ -4,14 +4,16 @@ ghost use Rattle.std.specs.Slice.Iter.{iter_rest};
 ghost use Rattle.lsm_below.specs.declared.value.InternalValue.{InternalValue};
 ghost use Rattle.lsm_below.specs.Entries.{entry_cmp, top};
 ghost use Rattle.lsm_below.specs.Sorted.{Rises, put, first};
-ghost use Rattle.lsm_parts.specs.Memtables.{capped, entry_size, new_memtable, with_entry, with_entries, highest_of, is_visible, stands_before, IsTop, HasNone};
+ghost use Rattle.lsm_parts.specs.Memtables.{capped, entry_size, new_memtable, with_entry, with_entries, highest_of, is_visible, stands_before, within, IsTop, HasNone};
+ghost use Rattle.lsm_model.specs.Journal.{is_from, is_to};
 ghost use Rattle.lsm_parts.specs.Contents.{content_of, added, all_added};
 
 use crate::Error;
-use lsm_below::{InternalValue, MemtableId, SeqNo};
+use lsm_below::{InternalValue, MemtableId, SeqNo, UserKey};
 use std::alloc::Global;
 use std::cmp::Ordering;
 use std::marker::Model;
+use std::ops::Bound;
 use std::slice::Iter;
 
 /// Entries by rising key, and under one key by falling number, of which each stands once.
@@ -145,6 +147,41 @@ fn first_visible<'a>(
     }
 }
 
+/// Whether a key lies within a lower bound.
+fn lies_from(bound: &Bound<UserKey>, key: &UserKey) -> bool
+    ensures { result ≡ is_from bound.now key.now }
+{
+    match bound {
+        Bound::Included(low) => low <= key,
+        Bound::Excluded(low) => low < key,
+        Bound::Unbounded => true,
+    }
+}
+
+/// Whether a key lies within an upper bound.
+fn lies_to(bound: &Bound<UserKey>, key: &UserKey) -> bool
+    ensures { result ≡ is_to bound.now key.now }
+{
+    match bound {
+        Bound::Included(high) => key <= high,
+        Bound::Excluded(high) => key < high,
+        Bound::Unbounded => true,
+    }
+}
+
+/// The entries whose keys lie within the bounds: they stand together.
+fn entries_within<'a>(
+    entries: &'a [InternalValue],
+    bounds: &(Bound<UserKey>, Bound<UserKey>),
+) -> &'a [InternalValue]
+    requires { Rises entry_cmp entries.now }
+    ensures { result.now ≡ within bounds.now.0 bounds.now.1 entries.now }
+{
+    let end = entries.partition_point(|entry| lies_to(&bounds.1, &entry.key.user_key));
+    let start = entries.partition_point(|entry| !lies_from(&bounds.0, &entry.key.user_key));
+    &entries[start.min(end)..end]
+}
+
 impl Memtable {
     /// An empty memtable.
     pub fn new(alloc: Global, id: MemtableId) -> Memtable
@@ -182,6 +219,13 @@ impl Memtable {
         ensures { iter_rest result ≡ self.now.entries }
     {
         self.content.entries.iter()
+    }
+
+    /// The entries in order whose keys lie within the bounds. There is none where the lower one is above the upper one.
+    pub fn range(&self, bounds: &(Bound<UserKey>, Bound<UserKey>)) -> Iter<'_, InternalValue>
+        ensures { iter_rest result ≡ within bounds.now.0 bounds.now.1 self.now.entries }
+    {
+        entries_within(&self.content.entries, bounds).iter()
     }
 
     /// The bytes of all accepted inserts, replaced ones counted again, up to 2^64 - 1.
@@ -251,6 +295,102 @@ impl Memtable {
     {
         self.content.entries.try_reserve(batch.len())?;
         add_entries(&mut self.content, batch);
+        Ok(())
+    }
+}
+
+#[cfg(test)]
+mod tests {
+    use super::*;
+    use lsm_below::{UserValue, ValueType};
+    use std::test::Fail;
+
+    fn entry(key: &'static str, value: &'static str, seqno: SeqNo) -> InternalValue {
+        InternalValue::from_components(
+            UserKey::from_static(key.as_bytes()),
+            UserValue::from_static(value.as_bytes()),
+            seqno,
+            ValueType::Value,
+        )
+    }
+
+    #[test]
+    fn finds_the_newest_below_the_snapshot(rt: HostRuntime) -> Result<(), Fail> {
+        let mut table = Memtable::new(rt.alloc(), 0);
+        table.insert(entry("hello-key-999991", "hello-value-999991", 0))?;
+        table.insert(entry("hello-key-999991", "hello-value-999991-2", 1))?;
+        for seqno in [0, 255, 99] {
+            table.insert(entry("abc", "", seqno))?;
+        }
+        let lookups = [
+            ("abc", u64::MAX, Some((255, ""))),
+            ("abc", 100, Some((99, ""))),
+            ("abc", 50, Some((0, ""))),
+            ("abc", 0, None),
+            (
+                "hello-key-999991",
+                u64::MAX,
+                Some((1, "hello-value-999991-2")),
+            ),
+            ("hello-key-999991", 1, Some((0, "hello-value-999991"))),
+            ("hello-key-999991", 2, Some((1, "hello-value-999991-2"))),
+            ("hello-key-99999", u64::MAX, None),
+            ("hello-key-99999", 1, None),
+            ("hello-key-99999", 2, None),
+        ];
+        for (key, snapshot, want) in lookups {
+            let found = table.get(key.as_bytes(), snapshot);
+            assert_eq!(rt;
+                found.map(|e| e.key.seqno),
+                want.map(|w| w.0),
+                "{key} at {snapshot}"
+            );
+            let value = found.map(|e| e.value.as_slice());
+            assert_eq!(rt; value, want.map(|w| w.1.as_bytes()), "{key} at {snapshot}");
+        }
+        Ok(())
+    }
+
+    #[test]
+    fn counts_replaced_entries_again(rt: HostRuntime) -> Result<(), Fail> {
+        let mut table = Memtable::new(rt.alloc(), 0);
+        let key = UserKey::from_static(b"a");
+        let inserts = [
+            (entry("a", "my_value", 0), (57, 57), 1),
+            (InternalValue::new_tombstone(key, 1), (49, 106), 2),
+            (entry("a", "x", 1), (50, 156), 2),
+        ];
+        for (item, sizes, len) in inserts {
+            assert_eq!(rt; table.insert(item)?, sizes);
+            assert_eq!(rt; table.len(), len);
+        }
+        assert_eq!(rt; table.size(), 156);
+        assert_eq!(rt; table.get_highest_seqno(), Some(1));
+        Ok(())
+    }
+
+    #[test]
+    fn lends_what_lies_within_bounds(rt: HostRuntime) -> Result<(), Fail> {
+        let mut table = Memtable::new(rt.alloc(), 0);
+        table.insert_all(vec![in rt.alloc();
+            entry("b", "", 1),
+            entry("a", "", 1),
+            entry("a", "", 2),
+        ]?)?;
+        let a = || UserKey::from_static(b"a");
+        let b = || UserKey::from_static(b"b");
+        let ranges = [
+            ((Bound::Unbounded, Bound::Unbounded), 3, Some(2)),
+            ((Bound::Included(a()), Bound::Excluded(b())), 2, Some(2)),
+            ((Bound::Excluded(a()), Bound::Included(b())), 1, Some(1)),
+            ((Bound::Included(b()), Bound::Included(a())), 0, None),
+        ];
+        for (bounds, count, first) in ranges {
+            assert_eq!(rt; table.range(&bounds).count(), count);
+            assert_eq!(rt; table.range(&bounds).next().map(|e| e.key.seqno), first);
+        }
+        let last = table.iter().next_back().map(|e| e.key.user_key.as_slice());
+        assert_eq!(rt; last, Some(b"b".as_slice()));
         Ok(())
     }
 }

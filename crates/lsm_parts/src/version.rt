@@ -8,3 +8,6 @@ pub use sealed::SealedMemtables;
 pub use super_version::SuperVersion;
 pub use super_versions::SuperVersions;
 pub use table_version::{Version, VersionId};
+
+#[cfg(test)]
+mod tests;

@@ -1,5 +1,6 @@
 // What a snapshot reads.
 ghost use Rattle.std.specs.Prelude.{◌≡◌, IfOk, IfErr};
+ghost use Rattle.lsm_parts.specs.History.{names};
 
 use crate::{Error, SealedMemtables, Version};
 use lsm_below::{MemtableId, SeqNo};
@@ -18,6 +19,13 @@ pub struct SuperVersion {
 }
 
 impl SuperVersion {
+    /// Whether it reads this memtable, as the one that is written to or as a sealed one.
+    pub fn names(&self, id: MemtableId) -> bool
+        ensures { result ≡ names id self.now }
+    {
+        id == self.active_memtable || self.sealed_memtables.contains(id)
+    }
+
     /// A copy. Refused only for want of memory.
     pub fn copy(&self) -> Result<SuperVersion, Error>
         ensures ok { IfOk result (λ copy. copy ≡ self.now) }

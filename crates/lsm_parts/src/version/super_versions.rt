@@ -1,10 +1,10 @@
 // The history of super versions.
 ghost use Rattle.std.specs.Prelude.{◌≡◌, ℕ, ◌+◌, ◌-◌, ◌∷◌, ◌↔◌, [], None, length, IfOk, IfErr, OnOk, OnErr, IsErrOf, option_copied, nat_lt};
-ghost use Rattle.std.specs.List.{find};
-ghost use Rattle.lsm_parts.specs.History.{found_version, first_version, versions_of};
+ghost use Rattle.std.specs.List.{find, list_any};
+ghost use Rattle.lsm_parts.specs.History.{found_version, first_version, versions_of, names, named_size};
 
-use crate::{Error, SealedMemtables, SuperVersion, Version, seqno_filter};
-use lsm_below::SeqNo;
+use crate::{Error, Memtable, SealedMemtables, SuperVersion, Version, seqno_filter};
+use lsm_below::{MemtableId, SeqNo};
 use std::alloc::Global;
 use std::collections::VecDeque;
 use std::marker::Model;
@@ -51,8 +51,10 @@ impl SuperVersions {
     }
 
     /// How many super versions there are.
-    pub fn len(&self) -> usize {
-        self.older.len().saturating_add(1)
+    pub fn len(&self) -> usize
+        ensures { result ≡ length (versions_of self.now) }
+    {
+        self.older.len() + 1
     }
 
     /// How many there are beside the latest one.
@@ -99,6 +101,22 @@ impl SuperVersions {
             Some(version) => Ok(version),
             None => Err(Error::SnapshotTooOld),
         }
+    }
+
+    /// The bytes that these memtables count, of those that a super version names, up to 2^64 - 1.
+    pub fn memtable_size_sum(&self, memtables: &[Memtable]) -> u64
+        ensures { result ≡ named_size self.now memtables.now }
+    {
+        memtables
+            .iter()
+            .filter(|memtable| self.names(memtable.id()))
+            .fold(0, |sum: u64, memtable| sum.saturating_add(memtable.size()))
+    }
+
+    fn names(&self, id: MemtableId) -> bool
+        ensures { result ≡ list_any (names id) (versions_of self.now) }
+    {
+        self.latest.names(id) || self.older.iter().any(|version| version.names(id))
     }
 
     fn find_version(&self, seqno: SeqNo) -> Option<&SuperVersion>
