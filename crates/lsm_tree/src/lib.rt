@@ -9,6 +9,10 @@
 //! | `recorded` | a tree with the journal of its calls |
 #![tactic(auto)]
 
+mod marks;
+mod pass;
+mod recorded;
+
 pub use lsm_below::{
     InternalKey, InternalValue, KeyRange, KvPair, MemtableId, NoStore, SeqNo, Store, TableId,
     TreeId, UserKey, UserValue, ValueType,
@@ -19,3 +23,5 @@ pub use lsm_parts::{
     SuperVersion, SuperVersions, Version, VersionId, seqno_filter,
 };
 pub use lsm_state::TreeState;
+pub use pass::Pass;
+pub use recorded::Recorded;
