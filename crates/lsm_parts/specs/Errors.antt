@@ -1,5 +1,5 @@
 -- Errors and their numbers.
-use Rattle.std.specs.Prelude.{ℕ}
+use Rattle.std.specs.Prelude.{ℕ, List, codes}
 use Rattle.lsm_parts.specs.declared.error.Error.{Error}
 use Rattle.lsm_parts.specs.declared.error.Error.TheVariants.{OutOfMemory, Store, CommitUnknown, Unrecoverable, InvalidVersion, InvalidTag, InvalidHeader, SnapshotTooOld, OutOfNumbers, KeyTooLong, ValueTooLong, NumberTooGreat, FlushOpen, TooManyRuns, NotDisjoint, Busy, AfterCommit, OutOfOrder, DuplicateKey, ChecksumMismatch, Strategy}
 
@@ -26,3 +26,27 @@ number_of OutOfOrder = 18
 number_of DuplicateKey = 19
 number_of ChecksumMismatch = 20
 number_of Strategy = 21
+
+-- the bare name of an error, whatever it carries
+abbrev pub name_of : Error → List ℕ
+name_of OutOfMemory = codes "OutOfMemory"
+name_of Store = codes "Store"
+name_of CommitUnknown = codes "CommitUnknown"
+name_of Unrecoverable = codes "Unrecoverable"
+name_of (InvalidVersion b) = codes "InvalidVersion"
+name_of (InvalidTag name b) = codes "InvalidTag"
+name_of (InvalidHeader name) = codes "InvalidHeader"
+name_of SnapshotTooOld = codes "SnapshotTooOld"
+name_of OutOfNumbers = codes "OutOfNumbers"
+name_of KeyTooLong = codes "KeyTooLong"
+name_of ValueTooLong = codes "ValueTooLong"
+name_of NumberTooGreat = codes "NumberTooGreat"
+name_of FlushOpen = codes "FlushOpen"
+name_of TooManyRuns = codes "TooManyRuns"
+name_of NotDisjoint = codes "NotDisjoint"
+name_of Busy = codes "Busy"
+name_of AfterCommit = codes "AfterCommit"
+name_of OutOfOrder = codes "OutOfOrder"
+name_of DuplicateKey = codes "DuplicateKey"
+name_of ChecksumMismatch = codes "ChecksumMismatch"
+name_of Strategy = codes "Strategy"

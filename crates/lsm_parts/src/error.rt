@@ -1,6 +1,6 @@
 // What a call refuses, and why.
 ghost use Rattle.std.specs.Prelude.{◌≡◌, ◌≤◌};
-ghost use Rattle.lsm_parts.specs.Errors.{number_of};
+ghost use Rattle.lsm_parts.specs.Errors.{number_of, name_of};
 ghost use Rattle.lsm_parts.specs.declared.error.Error.TheVariants.{OutOfMemory};
 
 use std::alloc::{AllocError, AllocFailed};
@@ -105,7 +105,9 @@ impl Error {
     }
 
     /// The error's bare name, whatever it carries.
-    pub fn name(&self) -> &'static str {
+    pub fn name(&self) -> &'static str
+        ensures { result.now ≡ name_of self.now }
+    {
         match self {
             Error::OutOfMemory => "OutOfMemory",
             Error::Store => "Store",
