@@ -1,3 +1,4 @@
 pub mod Passes
 pub mod Marks
+pub mod Notes
 pub mod Recorded

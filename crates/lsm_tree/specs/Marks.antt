@@ -10,6 +10,7 @@ use Rattle.lsm_below.specs.declared.value_type.ValueType.TheVariants.{Value, Tom
 use Rattle.lsm_model.specs.Journal.{Event, next_of, sets_of, floor}
 use Rattle.lsm_model.specs.Ops.{op_entries}
 use Rattle.lsm_model.specs.declared.op.Op.{Op}
+use Rattle.lsm_model.specs.declared.op.Op.TheVariants.{Set, Del, Weak}
 use Rattle.lsm_model.specs.declared.journal.JournalEntry.TheVariants.{Write, Clear, Install, Dropped, Mark as Watermark, Read}
 use Rattle.lsm_tree.specs.declared.marks.Mark.{Mark}
 
@@ -69,6 +70,16 @@ mark_in journal k = record { next = next_of k [] journal; sets = min (sets_of k 
 -- not below an install or a clear, above each earlier one of its key, and a weakly removed key has at most one value.
 abbrev pub keeps_order : List Event → ℕ → Entry → Bool
 keeps_order journal counter e = nat_lt e.key.seqno counter && nat_le (floor journal) e.key.seqno && mark_allows (mark_in journal e.key.user_key) e.key.seqno e.key.value_type
+
+-- the type of the entry that a write makes
+abbrev pub op_type : Op → ValueType
+op_type (Set value) = Value
+op_type Del = Tombstone
+op_type Weak = WeakTombstone
+
+-- does a write of a batch, under this number, keep the order that marks and a least number tell?
+abbrev pub op_allowed : (Bytes → Mark) → ℕ → ℕ → Bytes × Op → Bool
+op_allowed marks low n p = nat_le low n && mark_allows (marks p.0) n (op_type p.1)
 
 -- does each write of a batch, under the number that it draws?
 abbrev pub batch_keeps_order : List Event → ℕ → List (Bytes × Op) → Bool

@@ -13,10 +13,12 @@ ghost use Rattle.lsm_model.specs.declared.question.Answer.TheVariants.{Found};
 ghost use Rattle.lsm_model.specs.declared.op.Op.TheVariants.{Set, Del, Weak};
 ghost use Rattle.lsm_state.specs.Core.{fresh_core, state_of, latest_of, older_of};
 ghost use Rattle.lsm_state.specs.Calls.{Appends, WritesBatch, Gives, Rotates};
-ghost use Rattle.lsm_tree.specs.Marks.{keeps_order, batch_keeps_order};
+ghost use Rattle.std.specs.List.{list_all};
+ghost use Rattle.lsm_tree.specs.Marks.{mark_of, keeps_order, batch_keeps_order, op_type, op_allowed};
 ghost use Rattle.lsm_tree.specs.Passes.{Notes};
 
 use crate::marks::{Mark, is_allowed, mark_write, read_mark, reserve_mark};
+use crate::notes::{make_note, make_notes, mark_notes, put_notes, reserve_notes};
 use crate::pass::{Pass, make_room, put_entry};
 use lsm_below::{
     InternalValue, MemtableId, NoStore, SeqNo, Store, UserKey, UserValue, ValueType, share,
@@ -54,22 +56,6 @@ impl<S: Store> Model for Recorded<S> {
     ghost invariant = { λ r. IsRecorded r.marks r.floor r.core.core r.journal.items };
 }
 
-/// An entry for the journal, and one for the pass.
-#[derive(Drop)]
-struct Note {
-    entry: InternalValue,
-    copy: InternalValue,
-}
-
-fn make_note(entry: &InternalValue) -> Result<Note, AllocError>
-    ensures { IfOk result (λ n. (n.entry ≡ entry.now) × (n.copy ≡ entry.now)) }
-{
-    Ok(Note {
-        entry: entry.copy()?,
-        copy: entry.copy()?,
-    })
-}
-
 fn share_value(value: &Option<UserValue>) -> Result<Option<UserValue>, AllocError>
     ensures { IfOk result (λ copy. copy ≡ value.now) }
 {
@@ -89,6 +75,46 @@ fn read_entry(
 {
     let told = Answer::Found(share_value(value)?);
     Ok(JournalEntry::Read(snapshot, Question::Get(share(key)?), told))
+}
+
+/// Whether writes under this number keep the order of their keys, and of installs and clears.
+fn all_allowed(
+    marks: &BTreeMap<UserKey, Mark>,
+    floor: SeqNo,
+    number: SeqNo,
+    ops: &[(UserKey, Op)],
+) -> bool
+    ensures { result ≡ list_all (op_allowed (mark_of marks.now) floor number) ops.now }
+{
+    for (key, op) in ops {
+        if !is_op_allowed(marks, floor, number, key, op) {
+            return false;
+        }
+    }
+    true
+}
+
+fn is_op_allowed(
+    marks: &BTreeMap<UserKey, Mark>,
+    floor: SeqNo,
+    number: SeqNo,
+    key: &UserKey,
+    op: &Op,
+) -> bool
+    ensures { result ≡ op_allowed (mark_of marks.now) floor number (key.now, op.now) }
+{
+    floor <= number && is_allowed(read_mark(marks, key), number, type_of(op))
+}
+
+/// The type of the entry that a write makes.
+fn type_of(op: &Op) -> ValueType
+    ensures { result ≡ op_type op.now }
+{
+    match op {
+        Op::Set(_) => ValueType::Value,
+        Op::Del => ValueType::Tombstone,
+        Op::Weak => ValueType::WeakTombstone,
+    }
 }
 
 impl Recorded<NoStore> {
@@ -204,6 +230,83 @@ impl<S: Store> Recorded<S> {
             JournalEntry::Write(note.copy),
         );
         Ok(sizes)
+    }
+
+    /// Sets a key under a number, as `append_entry`.
+    pub fn insert(
+        &mut self,
+        pass: &mut Pass,
+        key: UserKey,
+        value: UserValue,
+        seqno: SeqNo,
+    ) -> Result<(u64, u64), Error>
+        ensures out_of_order { IsErrOf result Error.OutOfOrder ↔ (keeps_order self.old.journal self.old.tree.core.seqno (op_entry key seqno (Set value)) ≡ false) }
+        ensures core { OwnOr result (Appends (op_entry key seqno (Set value)) result self.old.tree.core self.new.tree.core) }
+        ensures noted { OnOk result (Notes (WriteEntry (op_entry key seqno (Set value)) ∷ []) self.old.journal self.new.journal pass.old pass.new) }
+        ensures err { OnErr result ((self.new ≡ self.old) × (pass.new ≡ pass.old)) }
+    {
+        let entry = InternalValue::from_components(key, value, seqno, ValueType::Value);
+        self.append_entry(pass, entry)
+    }
+
+    /// Removes a key under a number, as `append_entry`.
+    pub fn remove(
+        &mut self,
+        pass: &mut Pass,
+        key: UserKey,
+        seqno: SeqNo,
+    ) -> Result<(u64, u64), Error>
+        ensures out_of_order { IsErrOf result Error.OutOfOrder ↔ (keeps_order self.old.journal self.old.tree.core.seqno (op_entry key seqno Del) ≡ false) }
+        ensures core { OwnOr result (Appends (op_entry key seqno Del) result self.old.tree.core self.new.tree.core) }
+        ensures noted { OnOk result (Notes (WriteEntry (op_entry key seqno Del) ∷ []) self.old.journal self.new.journal pass.old pass.new) }
+        ensures err { OnErr result ((self.new ≡ self.old) × (pass.new ≡ pass.old)) }
+    {
+        self.append_entry(pass, InternalValue::new_tombstone(key, seqno))
+    }
+
+    /// Removes a key, of which at most one value was ever written, as `append_entry`.
+    pub fn remove_weak(
+        &mut self,
+        pass: &mut Pass,
+        key: UserKey,
+        seqno: SeqNo,
+    ) -> Result<(u64, u64), Error>
+        ensures out_of_order { IsErrOf result Error.OutOfOrder ↔ (keeps_order self.old.journal self.old.tree.core.seqno (op_entry key seqno Weak) ≡ false) }
+        ensures core { OwnOr result (Appends (op_entry key seqno Weak) result self.old.tree.core self.new.tree.core) }
+        ensures noted { OnOk result (Notes (WriteEntry (op_entry key seqno Weak) ∷ []) self.old.journal self.new.journal pass.old pass.new) }
+        ensures err { OnErr result ((self.new ≡ self.old) × (pass.new ≡ pass.old)) }
+    {
+        self.append_entry(pass, InternalValue::new_weak_tombstone(key, seqno))
+    }
+
+    /// Writes a batch under the next number, as `TreeState::write`, and puts its entries behind the journal
+    /// and the pass. `OutOfOrder`, before all else, exactly where one of its writes would break the order.
+    /// Refused, it changes nothing.
+    pub fn write(&mut self, pass: &mut Pass, ops: Vec<(UserKey, Op)>) -> Result<SeqNo, Error>
+        ensures out_of_order { IsErrOf result Error.OutOfOrder ↔ (batch_keeps_order self.old.journal self.old.tree.core.seqno ops.items ≡ false) }
+        ensures core { OwnOr result (WritesBatch ops.items result self.old.tree.core self.new.tree.core) }
+        ensures noted { OnOk result (Notes (map WriteEntry (op_entries self.old.tree.core.seqno ops.items)) self.old.journal self.new.journal pass.old pass.new) }
+        ensures err { OnErr result ((self.new ≡ self.old) × (pass.new ≡ pass.old)) }
+    {
+        let number = self.core.seqno().get();
+        if !self.batch_keeps_order(number, &ops) {
+            return Err(Error::OutOfOrder);
+        }
+        let notes = make_notes(self.alloc, number, &ops)?;
+        make_room(&mut self.journal, &mut pass.entries, notes.len())?;
+        reserve_notes(&mut self.marks, &notes)?;
+        let number = self.core.write(ops)?;
+        mark_notes(&mut self.marks, number, &notes);
+        put_notes(&mut self.journal, &mut pass.entries, notes);
+        Ok(number)
+    }
+
+    /// Whether each write of a batch under this number, the counter's, keeps the order of the journal.
+    fn batch_keeps_order(&self, number: SeqNo, ops: &[(UserKey, Op)]) -> bool
+        requires { number ≡ self.now.tree.core.seqno }
+        ensures { result ≡ batch_keeps_order self.now.journal number ops.now }
+    {
+        all_allowed(&self.marks, self.floor, number, ops)
     }
 
     /// Whether a write of this entry keeps the order of the journal.
