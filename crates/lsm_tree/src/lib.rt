@@ -9,6 +9,9 @@
 //! | `recorded` | a tree with the journal of its calls |
 #![tactic(auto)]
 
+pub mod run;
+mod steps;
+
 pub use lsm_below::{
     InternalKey, InternalValue, KeyRange, KvPair, MemtableId, NoStore, SeqNo, Store, TableId,
     TreeId, UserKey, UserValue, ValueType,
@@ -19,3 +22,4 @@ pub use lsm_parts::{
     SuperVersion, SuperVersions, Version, VersionId, seqno_filter,
 };
 pub use lsm_state::TreeState;
+pub use steps::{Counter, Outcome, Reply, Step};

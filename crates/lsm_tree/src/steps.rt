@@ -1,9 +1,7 @@
 // Calls on a tree as data, and what each of them answers.
 ghost use Rattle.std.specs.Prelude.{◌≡◌};
 
-use crate::{
-    Error, InternalValue, JournalEntry, MemtableId, Ops, SeqNo, UserKey, UserValue,
-};
+use crate::{Error, InternalValue, JournalEntry, MemtableId, Ops, SeqNo, UserKey, UserValue};
 use std::marker::Model;
 
 /// A counter of a tree.
