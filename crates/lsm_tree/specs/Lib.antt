@@ -2,3 +2,5 @@ pub mod Passes
 pub mod Marks
 pub mod Notes
 pub mod Recorded
+pub mod Told
+pub mod Runs

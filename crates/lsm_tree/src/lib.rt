@@ -3,7 +3,7 @@
 //! | Module | Holds |
 //! |-|-|
 //! | `steps` | calls as data, and what each answers |
-//! | `run` | a list of calls on a tree, with the replay theorem |
+//! | `runner` | a list of calls on a tree, with the replay theorem |
 //! | `pass` | what one caller's calls put into a journal |
 //! | `notes` | copies of the entries of a write, for the journal and a pass |
 //! | `marks` | what was written to each key, by which a write in order is told |
@@ -14,6 +14,8 @@ mod marks;
 mod notes;
 mod pass;
 mod recorded;
+mod runner;
+mod steps;
 
 pub use lsm_below::{
     InternalKey, InternalValue, KeyRange, KvPair, MemtableId, NoStore, SeqNo, Store, TableId,
@@ -27,3 +29,5 @@ pub use lsm_parts::{
 pub use lsm_state::TreeState;
 pub use pass::Pass;
 pub use recorded::Recorded;
+pub use runner::run;
+pub use steps::{Counter, Outcome, Reply, Step};

@@ -1,0 +1,167 @@
+-- What a run of steps does, and what its reads answer.
+use Rattle.std.specs.Prelude.{◌≡◌, ℕ, ◌+◌, ◌<◌, ◌≤◌, ◌^◌, ◌⊎◌, ◌↔◌, max, Bool, true, List, [], ◌∷◌, ◌++◌, None, Result, Ok, Err, map, filter, nat_le}
+use Rattle.std.specs.FinMap.{get}
+use Rattle.lsm_below.specs.Keys.{Bytes}
+use Rattle.lsm_below.specs.Entries.{Entry, above, plain}
+use Rattle.lsm_model.specs.Journal.{Event, Map, InOrder, is_outside, IsKept, replay}
+use Rattle.lsm_model.specs.Views.{found_at, shown}
+use Rattle.lsm_model.specs.Steps.{IsOpened, ReadsEqualReplay}
+use Rattle.lsm_model.specs.Ops.{op_entry, op_entries}
+use Rattle.lsm_model.specs.declared.op.Op.{Op}
+use Rattle.lsm_model.specs.declared.op.Op.TheVariants.{Set as SetTo, Del, Weak}
+use Rattle.lsm_model.specs.declared.journal.JournalEntry.TheVariants.{Write as Wrote, Read}
+use Rattle.lsm_model.specs.declared.question.Question.TheVariants.{Get as AskGet}
+use Rattle.lsm_model.specs.declared.question.Answer.TheVariants.{Found}
+use Rattle.lsm_parts.specs.declared.error.Error.{Error}
+use Rattle.lsm_parts.specs.declared.error.Error.TheVariants.{OutOfMemory, OutOfNumbers, SnapshotTooOld}
+use Rattle.lsm_state.specs.Held.{first_entries}
+use Rattle.lsm_state.specs.Core.{Core, state_of, latest_of, older_of}
+use Rattle.lsm_state.specs.Calls.{Appends, WritesBatch, Gives, GivesEntry, IsGetStep, Rotates}
+use Rattle.lsm_tree.specs.declared.steps.Counter.{Counter}
+use Rattle.lsm_tree.specs.declared.steps.Counter.TheVariants.{Seqno, Visible}
+use Rattle.lsm_tree.specs.declared.steps.Step.{Step}
+use Rattle.lsm_tree.specs.declared.steps.Step.TheVariants.{Insert, Remove, RemoveWeak, AppendEntry, Write, Get, GetInternalEntry, RotateMemtable, Next, Set, FetchMax}
+use Rattle.lsm_tree.specs.declared.steps.Reply.{Reply}
+use Rattle.lsm_tree.specs.declared.steps.Reply.TheVariants.{Sizes, Number, Value, Entry as EntryOf, Sealed, Done, Refused}
+use Rattle.lsm_tree.specs.Told.{Told}
+
+-- ---- what a step of each kind may answer, add to the journal and do
+
+-- a write of one entry
+abbrev pub TakesEntry : Entry → Reply → List Event → Core → Core → Type 0
+TakesEntry e (Sizes size total) events old new = (events ≡ Wrote e ∷ []) × Appends e (Ok (size, total)) old new
+TakesEntry e (Refused x) events old new = (events ≡ []) × Appends e (Err x) old new
+TakesEntry e reply events old new = ⊥
+
+-- a write of a batch
+abbrev pub TakesBatch : List (Bytes × Op) → Reply → List Event → Core → Core → Type 0
+TakesBatch ops (Number n) events old new = (events ≡ map Wrote (op_entries n ops)) × WritesBatch ops (Ok n) old new
+TakesBatch ops (Refused x) events old new = (events ≡ []) × WritesBatch ops (Err x) old new
+TakesBatch ops reply events old new = ⊥
+
+-- why a read is refused: the snapshot is too old exactly where it finds no super version, else memory is missing
+abbrev pub IsReadRefusal : ℕ → Core → Error → Type 0
+IsReadRefusal s c x = ((x ≡ SnapshotTooOld) ⊎ (x ≡ OutOfMemory)) × ((x ≡ SnapshotTooOld) ↔ (found_at s (latest_of c) (older_of c) ≡ None))
+
+-- a read of a key
+abbrev pub TakesGet : Bytes → ℕ → Reply → List Event → Core → Core → Type 0
+TakesGet k s (Value v) events old new = (events ≡ Read s (AskGet k) (Found v) ∷ []) × (new ≡ old) × Gives old k s v × IsGetStep old k s v
+TakesGet k s (Refused x) events old new = (events ≡ []) × (new ≡ old) × IsReadRefusal s old x
+TakesGet k s reply events old new = ⊥
+
+-- a read of a key's entry
+abbrev pub TakesGetEntry : Bytes → ℕ → Reply → List Event → Core → Core → Type 0
+TakesGetEntry k s (EntryOf e) events old new = (events ≡ []) × (new ≡ old) × GivesEntry old k s e
+TakesGetEntry k s (Refused x) events old new = (events ≡ []) × (new ≡ old) × IsReadRefusal s old x
+TakesGetEntry k s reply events old new = ⊥
+
+-- a rotation: where no id is left it is refused as that, or for want of memory, unless there is nothing to seal
+abbrev pub TakesRotate : Reply → List Event → Core → Core → Type 0
+TakesRotate (Sealed id) events old new = (events ≡ []) × Rotates old id new × (2 ^ 63 ≤ old.next_memtable → first_entries old.memtables ≡ [])
+TakesRotate (Refused x) events old new = (events ≡ []) × (new ≡ old) × ((x ≡ OutOfNumbers) ⊎ (x ≡ OutOfMemory)) × (x ≡ OutOfNumbers → 2 ^ 63 ≤ old.next_memtable)
+TakesRotate reply events old new = ⊥
+
+-- where a counter stands
+abbrev pub counter_of : Counter → Core → ℕ
+counter_of Seqno c = c.seqno
+counter_of Visible c = c.visible_seqno
+
+-- a tree with another number in a counter
+abbrev pub with_counter : Counter → ℕ → Core → Core
+with_counter Seqno n c = record { config = c.config; memtables = c.memtables; history = c.history; next_memtable = c.next_memtable; seqno = n; visible_seqno = c.visible_seqno }
+with_counter Visible n c = record { config = c.config; memtables = c.memtables; history = c.history; next_memtable = c.next_memtable; seqno = c.seqno; visible_seqno = n }
+
+-- the draw of a counter's next number: refused exactly where the counter stands at 2^63 or above
+abbrev pub TakesNext : Counter → Reply → List Event → Core → Core → Type 0
+TakesNext counter (Number n) events old new = (events ≡ []) × (n ≡ counter_of counter old) × (n < 2 ^ 63) × (new ≡ with_counter counter (n + 1) old)
+TakesNext counter (Refused x) events old new = (events ≡ []) × (x ≡ OutOfNumbers) × (2 ^ 63 ≤ counter_of counter old) × (new ≡ old)
+TakesNext counter reply events old new = ⊥
+
+-- a counter is put at a number
+abbrev pub TakesCounter : Counter → ℕ → Reply → List Event → Core → Core → Type 0
+TakesCounter counter n Done events old new = (events ≡ []) × (new ≡ with_counter counter n old)
+TakesCounter counter n reply events old new = ⊥
+
+-- what a step may answer, add to the journal and do
+abbrev pub Takes : Step → Reply → List Event → Core → Core → Type 0
+Takes (Insert k v n) reply events old new = TakesEntry (op_entry k n (SetTo v)) reply events old new
+Takes (Remove k n) reply events old new = TakesEntry (op_entry k n Del) reply events old new
+Takes (RemoveWeak k n) reply events old new = TakesEntry (op_entry k n Weak) reply events old new
+Takes (AppendEntry e) reply events old new = TakesEntry (plain e) reply events old new
+Takes (Write ops) reply events old new = TakesBatch ops reply events old new
+Takes (Get k s) reply events old new = TakesGet k s reply events old new
+Takes (GetInternalEntry k s) reply events old new = TakesGetEntry k s reply events old new
+Takes RotateMemtable reply events old new = TakesRotate reply events old new
+Takes (Next counter) reply events old new = TakesNext counter reply events old new
+Takes (Set counter n) reply events old new = TakesCounter counter n reply events old new
+Takes (FetchMax counter n) reply events old new = TakesCounter counter (max (counter_of counter old) n) reply events old new
+
+-- ---- outcomes
+
+-- the outcome of a write of one entry, where these events are noted if it is accepted
+abbrev pub told_entry : List Event → Result (ℕ × ℕ) Error → Told
+told_entry events (Ok sizes) = record { reply = Sizes sizes.0 sizes.1; entries = events }
+told_entry events (Err x) = record { reply = Refused x; entries = [] }
+
+-- the same of a batch
+abbrev pub told_batch : List Event → Result ℕ Error → Told
+told_batch events (Ok n) = record { reply = Number n; entries = events }
+told_batch events (Err x) = record { reply = Refused x; entries = [] }
+
+-- ---- runs
+
+-- the steps, one behind the other, lead from the old state to the new with these outcomes
+abbrev pub Ran : List Step → List Told → Core → Core → Type 0
+Ran [] [] old new = new ≡ old
+Ran (x ∷ xs) (t ∷ ts) old new = (mid : Core) × Takes x t.reply t.entries old mid × Ran xs ts mid new
+Ran [] (t ∷ ts) old new = ⊥
+Ran (x ∷ xs) [] old new = ⊥
+
+-- the journal of a run
+abbrev pub journal_of : List Told → List Event
+journal_of [] = []
+journal_of (t ∷ ts) = t.entries ++ journal_of ts
+
+-- ---- what the reads answer
+
+-- a read of a key answers the replay of the journal before it, and where its snapshot is kept only memory may be missing
+abbrev pub GetAnswers : List Entry → Map → List Event → Bytes → ℕ → Reply → Type 0
+GetAnswers opened start before k s (Value v) = above opened ≤ s → is_outside k s before ≡ true → v ≡ get (replay start before s) k
+GetAnswers opened start before k s (Refused x) = IsKept s before → x ≡ OutOfMemory
+GetAnswers opened start before k s reply = ⊥
+
+-- the same of a read of a key's entry, by the value that the entry gives
+abbrev pub GetEntryAnswers : List Entry → Map → List Event → Bytes → ℕ → Reply → Type 0
+GetEntryAnswers opened start before k s (EntryOf e) = above opened ≤ s → is_outside k s before ≡ true → shown e ≡ get (replay start before s) k
+GetEntryAnswers opened start before k s (Refused x) = IsKept s before → x ≡ OutOfMemory
+GetEntryAnswers opened start before k s reply = ⊥
+
+-- a step answers right, if it reads
+abbrev pub StepAnswers : List Entry → Map → List Event → Step → Reply → Type 0
+StepAnswers opened start before (Get k s) reply = GetAnswers opened start before k s reply
+StepAnswers opened start before (GetInternalEntry k s) reply = GetEntryAnswers opened start before k s reply
+StepAnswers opened start before step reply = Unit {0}
+
+-- each step answers right, behind this journal and the entries of the steps before it
+abbrev pub EachAnswers : List Entry → Map → List Event → List Step → List Told → Type 0
+EachAnswers opened start before (x ∷ xs) (t ∷ ts) = StepAnswers opened start before x t.reply × EachAnswers opened start (before ++ t.entries) xs ts
+EachAnswers opened start before [] ts = Unit {0}
+EachAnswers opened start before (x ∷ xs) [] = Unit {0}
+
+-- is an event anything but a read below what was opened, which no replay tells?
+abbrev pub is_told : List Entry → Event → Bool
+is_told opened (Read s question told) = nat_le (above opened) s
+is_told opened event = true
+
+-- a journal, without the reads below what was opened
+abbrev pub told_of : List Entry → List Event → List Event
+told_of opened journal = filter (is_told opened) journal
+
+-- From a tree as opening left it, whenever the journal is in order: each step answers right, every super version
+-- stays ordered, views equal replays, and kept snapshots are answered. In order speaks of the journal alone: a
+-- counter that is set back is no matter, so long as the writes keep their order. Reads below what was opened are
+-- left out of the journal at last, since what a key was down there is not known; where nothing was opened there are none.
+abbrev pub RunEqualsReplay : (opened : List Entry) (start : Map) → List Step → List Told → Core → Core → Type 0
+RunEqualsReplay opened start steps told old new =
+    IsOpened opened start (state_of [] old) → InOrder opened (journal_of told)
+    → EachAnswers opened start [] steps told × ReadsEqualReplay opened start (state_of (told_of opened (journal_of told)) new)

@@ -1,0 +1,93 @@
+// Calls on a tree as data, and what each of them answers.
+ghost use Rattle.std.specs.Prelude.{◌≡◌};
+
+use crate::{Error, InternalValue, JournalEntry, MemtableId, Ops, SeqNo, UserKey, UserValue};
+use std::marker::Model;
+
+/// A counter of a tree.
+#[derive(Clone, Copy, Debug, PartialEq, Eq)]
+pub enum Counter {
+    /// The counter of numbers.
+    Seqno,
+    /// The visible counter.
+    Visible,
+}
+
+/// A call on a tree, as data: each is the method of `TreeState` that it is named after.
+#[derive(Drop)]
+pub enum Step {
+    /// Sets a key under a number.
+    Insert(UserKey, UserValue, SeqNo),
+    /// Removes a key under a number.
+    Remove(UserKey, SeqNo),
+    /// Removes a key, of which at most one value was ever written, under a number.
+    RemoveWeak(UserKey, SeqNo),
+    /// Writes an entry under its own number.
+    AppendEntry(InternalValue),
+    /// Writes a batch under the next number.
+    Write(Ops),
+    /// Reads a key at a snapshot.
+    Get(UserKey, SeqNo),
+    /// Reads the entry of a key at a snapshot.
+    GetInternalEntry(UserKey, SeqNo),
+    /// Seals the active memtable.
+    RotateMemtable,
+    /// Draws the counter's next number.
+    Next(Counter),
+    /// Has the counter go on from a number.
+    Set(Counter, SeqNo),
+    /// Has the counter go on from a number, unless it stands at a greater one.
+    FetchMax(Counter, SeqNo),
+}
+
+/// What a step answers.
+#[derive(Drop)]
+pub enum Reply {
+    /// Of an insert, a removal or an appended entry: the bytes that the entry counts, and those of the
+    /// active memtable.
+    Sizes(u64, u64),
+    /// Of a batch: the number that it was written under. Of a counter: the number that was drawn.
+    Number(SeqNo),
+    /// Of a read: the value of the key, or None.
+    Value(Option<UserValue>),
+    /// Of a read of an entry: the entry, or None.
+    Entry(Option<InternalValue>),
+    /// Of a rotation: the id of the memtable that was sealed, or None where it was empty.
+    Sealed(Option<MemtableId>),
+    /// Of a counter that was set: nothing.
+    Done,
+    /// The step was refused, and changed nothing.
+    Refused(Error),
+}
+
+/// A step's reply, and what it adds to the journal.
+#[derive(Drop)]
+pub struct Outcome {
+    pub(crate) reply: Reply,
+    pub(crate) entries: Vec<JournalEntry>,
+}
+
+impl Model for Outcome {
+    ghost use Rattle.lsm_tree.specs.Told.{Told};
+
+    ghost Value = { Told };
+
+    ghost view = { λ o. record { reply = o.reply; entries = o.entries.items } };
+}
+
+impl Outcome {
+    /// What the step answered.
+    pub fn reply(&self) -> &Reply
+        ensures { result.now ≡ self.now.reply }
+    {
+        &self.reply
+    }
+
+    /// What the step adds to the journal: an accepted write its entry, an accepted batch its entries in
+    /// their order, an answered `Get` the read; nothing else adds any.
+    pub fn entries(&self) -> &[JournalEntry]
+        ensures { result.now ≡ self.now.entries }
+    {
+        &self.entries
+    }
+}
