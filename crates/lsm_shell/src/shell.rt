@@ -1,0 +1,83 @@
+// The run from the first line to the last.
+use crate::reply::Reply;
+use crate::session::Session;
+use lsm_tree::Error;
+use std::alloc::Global;
+use std::io::{self, BufRead, BufReader, BufWriter, ErrorKind, Read, Write};
+
+const SUCCESS: u8 = 0;
+
+const FAULT: u8 = 1;
+
+const USAGE: u8 = 2;
+
+/// Answers the lines of the input on the output, and gives the status to end with: 0 at the end of
+/// the input, 1 after a fault of the input or the output, or where no memory is left for their
+/// buffers, and 2 for arguments, of which it knows none. None stands for arguments that are no text.
+pub fn run_shell<R, W, E>(
+    alloc: Global,
+    arguments: Option<&[String]>,
+    input: R,
+    output: W,
+    errors: E,
+) -> u8
+where
+    R: Read + Drop,
+    W: Write + Drop,
+    E: Write + Drop,
+{
+    let mut errors = errors;
+    if arguments.is_none_or(|words| !words.is_empty()) {
+        // Nothing is left to be told where even this line can't be written.
+        let _ = errors.write_all(b"usage: lsm_shell\n");
+        return USAGE;
+    }
+    match answer_lines(alloc, input, output) {
+        Ok(()) => SUCCESS,
+        Err(_) => FAULT,
+    }
+}
+
+fn answer_lines<R, W>(alloc: Global, input: R, output: W) -> io::Result<()>
+where
+    R: Read + Drop,
+    W: Write + Drop,
+{
+    let mut input = BufReader::new(alloc, input)?;
+    let mut output = BufWriter::new(alloc, output)?;
+    let mut session = Session::in_memory(alloc);
+    let mut line = Vec::new(alloc);
+    for _ in 0..u64::MAX {
+        // The input may wait for who reads the answers. So these are handed on before it is asked
+        // for more, which it is not while a whole line is there.
+        if !input.buffer().contains(&b'\n') {
+            output.flush()?;
+        }
+        let reply = match read_line(&mut input, &mut line) {
+            Ok(true) => session.answer(line.as_slice()),
+            Ok(false) => break,
+            Err(error) if error.kind() == ErrorKind::OutOfMemory => {
+                line = Vec::new(alloc);
+                input.skip_until(b'\n')?;
+                Reply::Refused(Error::OutOfMemory)
+            }
+            Err(error) => return Err(error),
+        };
+        reply.write_to(&mut output)?;
+    }
+    output.flush()
+}
+
+// Reads a line into `line`, without its end. False: the input has ended.
+//
+// For want of memory the rest of the line is left in the input, its end among it.
+fn read_line<R: BufRead>(input: &mut R, line: &mut Vec<u8>) -> io::Result<bool> {
+    line.clear();
+    if input.read_until(b'\n', line)? == 0 {
+        return Ok(false);
+    }
+    if line.last() == Some(&b'\n') {
+        line.pop();
+    }
+    Ok(true)
+}
