@@ -1,5 +1,8 @@
 // What a line asks.
-use crate::word::{is_word, parse_number, split_at_space};
+ghost use Rattle.std.specs.Prelude.{◌≡◌, IfOk};
+ghost use Rattle.lsm_shell.specs.Command.{command_of, command_of_two, command_of_three};
+
+use crate::word::{Words, parse_number, split_words};
 use bytes::Bytes;
 use lsm_below::{SeqNo, UserKey, UserValue};
 use std::alloc::{AllocError, Global};
@@ -19,40 +22,50 @@ pub enum Command {
     Rotate,
 }
 
-/// What a line asks: its words stand between single spaces. None: it asks nothing that the shell
-/// knows.
-pub fn parse(alloc: Global, line: &[u8]) -> Result<Option<Command>, AllocError> {
-    let (verb, rest) = split_at_space(line);
-    let Some(rest) = rest else {
-        return Ok((verb == b"rotate".as_slice()).then_some(Command::Rotate));
-    };
-    let (key, rest) = split_at_space(rest);
-    if !is_word(key) {
-        return Ok(None);
+/// What a line asks. None: nothing that the shell knows.
+pub fn parse(alloc: Global, line: &[u8]) -> Result<Option<Command>, AllocError>
+    ensures { IfOk result (λ found. found ≡ command_of line.now) }
+{
+    match split_words(line) {
+        Some(Words::One(verb)) => Ok((verb == b"rotate".as_slice()).then_some(Command::Rotate)),
+        Some(Words::Two(verb, key)) => parse_two(alloc, verb, key),
+        Some(Words::Three(verb, key, last)) => parse_three(alloc, verb, key, last),
+        None => Ok(None),
     }
-    parse_keyed(alloc, verb, key, rest)
 }
 
-// A command on a key, with what stands after the key.
-fn parse_keyed(
+fn parse_two(alloc: Global, verb: &[u8], key: &[u8]) -> Result<Option<Command>, AllocError>
+    ensures { IfOk result (λ found. found ≡ command_of_two verb.now key.now) }
+{
+    Ok(Some(match verb {
+        b"del" => Command::Del(Bytes::copy_from_slice(alloc, key)?),
+        b"weak" => Command::Weak(Bytes::copy_from_slice(alloc, key)?),
+        b"get" => Command::Get(Bytes::copy_from_slice(alloc, key)?, None),
+        _ => return Ok(None),
+    }))
+}
+
+fn parse_three(
     alloc: Global,
     verb: &[u8],
     key: &[u8],
-    rest: Option<&[u8]>,
-) -> Result<Option<Command>, AllocError> {
-    let command = match (verb, rest) {
-        (b"put", Some(value)) if is_word(value) => {
-            let value = Bytes::copy_from_slice(alloc, value)?;
-            Command::Put(Bytes::copy_from_slice(alloc, key)?, value)
+    last: &[u8],
+) -> Result<Option<Command>, AllocError>
+    ensures { IfOk result (λ found. found ≡ command_of_three verb.now key.now last.now) }
+{
+    match verb {
+        b"put" => {
+            let value = Bytes::copy_from_slice(alloc, last)?;
+            let key = Bytes::copy_from_slice(alloc, key)?;
+            Ok(Some(Command::Put(key, value)))
         }
-        (b"del", None) => Command::Del(Bytes::copy_from_slice(alloc, key)?),
-        (b"weak", None) => Command::Weak(Bytes::copy_from_slice(alloc, key)?),
-        (b"get", None) => Command::Get(Bytes::copy_from_slice(alloc, key)?, None),
-        (b"get", Some(digits)) => match parse_number(digits) {
-            Some(snapshot) => Command::Get(Bytes::copy_from_slice(alloc, key)?, Some(snapshot)),
-            None => return Ok(None),
-        },
-        _ => return Ok(None),
-    };
-    Ok(Some(command))
+        b"get" => {
+            let Some(snapshot) = parse_number(last) else {
+                return Ok(None);
+            };
+            let key = Bytes::copy_from_slice(alloc, key)?;
+            Ok(Some(Command::Get(key, Some(snapshot))))
+        }
+        _ => Ok(None),
+    }
 }
