@@ -11,7 +11,7 @@ use Rattle.lsm_shell.specs.Words.{HasNoFewWords, list_of_words}
 use Rattle.lsm_shell.specs.declared.word.Words.{Words}
 use Rattle.std.specs.Bool.{then_some}
 
-abbrev is_space : ℕ → Bool
+abbrev pub is_space : ℕ → Bool
 is_space b = b == 32
 
 -- what `position` found
@@ -45,12 +45,12 @@ one_part line e =
 byte_is_no_space : (b : ℕ) → is_word_byte b ≡ true → is_space b ≡ false
 byte_is_no_space b e = grind (arith, nat_tests)
 
-both : (a b : Bool) → (a && b) ≡ true → (a ≡ true) × (b ≡ true)
+pub both : (a b : Bool) → (a && b) ≡ true → (a ≡ true) × (b ≡ true)
 both true true e = (refl, refl)
 both true false e = cc
 both false b e = cc
 
-no_space : (w : List ℕ) → list_all is_word_byte w ≡ true → All (λ b. is_space b ≡ false) w
+pub no_space : (w : List ℕ) → list_all is_word_byte w ≡ true → All (λ b. is_space b ≡ false) w
 no_space w e k d l = byte_is_no_space _ (AllPass-from_list_all is_word_byte w e k d l)
 
 -- a word has no space

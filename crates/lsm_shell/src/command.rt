@@ -1,6 +1,7 @@
 // What a line asks.
 ghost use Rattle.std.specs.Prelude.{◌≡◌, IfOk};
 ghost use Rattle.lsm_shell.specs.Command.{command_of, command_of_two, command_of_three};
+ghost use Rattle.lsm_shell.specs.Spelling.{IsSpelledBy};
 
 use crate::word::{Words, parse_number, split_words};
 use bytes::Bytes;
@@ -24,7 +25,10 @@ pub enum Command {
 
 /// What a line asks. None: nothing that the shell knows.
 pub fn parse(alloc: Global, line: &[u8]) -> Result<Option<Command>, AllocError>
-    ensures { IfOk result (λ found. found ≡ command_of line.now) }
+    ensures value { IfOk result (λ found. found ≡ command_of line.now) }
+
+    // So it is the one command that the line spells.
+    ensures spelled { IfOk result (IsSpelledBy line.now) }
 {
     match split_words(line) {
         Some(Words::One(verb)) => Ok((verb == b"rotate".as_slice()).then_some(Command::Rotate)),
