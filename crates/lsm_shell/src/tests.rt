@@ -38,6 +38,27 @@ fn answers_lines(rt: HostRuntime) -> Result<(), Fail> {
     Ok(())
 }
 
+/// A line may be longer than what is read at a time, and the tree decides how long a key may be.
+#[test]
+fn answers_long_lines(rt: HostRuntime) -> Result<(), Fail> {
+    let long = vec![in rt.alloc(); b'v'; 65536]?;
+    let mut lines = Vec::from_slice(rt.alloc(), b"put ")?;
+    lines.extend_from_slice(&long)?;
+    lines.extend_from_slice(b" x\nput a ")?;
+    lines.extend_from_slice(&long)?;
+    lines.extend_from_slice(b"\nget a\n")?;
+    let mut wanted = Vec::from_slice(rt.alloc(), b"error 10 KeyTooLong\nok 0\nvalue ")?;
+    wanted.extend_from_slice(&long)?;
+    wanted.push(b'\n')?;
+    let mut printed = Vec::new(rt.alloc());
+    let mut errors = Vec::new(rt.alloc());
+    let input = lines.as_slice();
+    let status = run_shell(rt.alloc(), Some(&[]), input, &mut printed, &mut errors);
+    assert!(rt; printed.as_slice() == wanted.as_slice());
+    assert_eq!(rt; (status, errors.len()), (0, 0));
+    Ok(())
+}
+
 #[test]
 fn refuses_other_lines(rt: HostRuntime) -> Result<(), Fail> {
     let lines: [&[u8]; 20] = [
