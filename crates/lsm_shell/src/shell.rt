@@ -1,4 +1,8 @@
 // The run from the first line to the last.
+ghost use Rattle.std.specs.Prelude.{◌≡◌, true, false, IfSome, OnOk};
+ghost use Rattle.std.specs.Io.BufRead.{first_piece, DropsThrough};
+ghost use Rattle.std.specs.Io.KnownBytes.{IsAtEnd};
+
 use crate::reply::Reply;
 use crate::session::Session;
 use lsm_tree::Error;
@@ -71,7 +75,12 @@ where
 // Reads a line into `line`, without its end. False: the input has ended.
 //
 // For want of memory the rest of the line is left in the input, its end among it.
-fn read_line<R: BufRead>(input: &mut R, line: &mut Vec<u8>) -> io::Result<bool> {
+fn read_line<R: BufRead>(input: &mut R, line: &mut Vec<u8>) -> io::Result<bool>
+    // Where the input's bytes are known.
+    ensures line { result ≡ Ok true → IfSome (R.remaining input.old) (λ bytes. line.new.items ≡ first_piece 10 bytes) }
+    ensures rest { OnOk result (DropsThrough (R.remaining input.old) (R.remaining input.new) 10) }
+    ensures end { result ≡ Ok false → IsAtEnd (R.remaining input.old) }
+{
     line.clear();
     if input.read_until(b'\n', line)? == 0 {
         return Ok(false);
