@@ -31,7 +31,7 @@ fn main(rt: HostRuntime) -> ExitCode {
     ExitCode::from(status)
 }
 
-// The program's arguments, without its name.
+// The program's arguments, without its name. One that is no text is an error of the kind InvalidData.
 fn list_arguments<R: Env + AllocGlobal>(rt: &R) -> io::Result<Vec<String>> {
     let words = env::args(rt)?.skip(1).collect(rt.alloc())?;
     Ok(words)

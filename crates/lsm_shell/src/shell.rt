@@ -16,21 +16,23 @@ const FAULT: u8 = 1;
 const USAGE: u8 = 2;
 
 /// Answers the lines of the input on the output, and gives the status to end with: 0 at the end of
-/// the input, 1 after a fault of the input or the output, or where no memory is left for their
-/// buffers, and 2 for arguments, of which it knows none. None stands for arguments that are no text.
+/// the input, 1 after a fault of the input or the output, and 2 for arguments, of which it knows
+/// none. `arguments` is None where one of them is no text.
+///
+/// Where a line finds no memory, its answer says so, and the run goes on with the next line. Where
+/// the buffers of the input or the output find none, the status is 1.
 pub fn run_shell<R, W, E>(
     alloc: Global,
     arguments: Option<&[String]>,
     input: R,
     output: W,
-    errors: E,
+    mut errors: E,
 ) -> u8
 where
     R: Read + Drop,
     W: Write + Drop,
     E: Write + Drop,
 {
-    let mut errors = errors;
     if arguments.is_none_or(|words| !words.is_empty()) {
         // Nothing is left to be told where even this line can't be written.
         let _ = errors.write_all(b"usage: lsm_shell\n");
@@ -52,8 +54,8 @@ where
     let mut session = Session::in_memory(alloc);
     let mut line = Vec::new(alloc);
     for _ in 0..u64::MAX {
-        // The input may wait for who reads the answers. So these are handed on before it is asked
-        // for more, which it is not while a whole line is there.
+        // Whoever writes the lines may wait for the answers to the earlier ones. So the output is
+        // flushed before the input is asked for more, and not while a whole line is there.
         if !input.buffer().contains(&b'\n') {
             output.flush()?;
         }
@@ -61,6 +63,7 @@ where
             Ok(true) => session.answer(line.as_slice()),
             Ok(false) => break,
             Err(error) if error.kind() == ErrorKind::OutOfMemory => {
+                // A short line after a long one may find memory once the long one's is given back.
                 line = Vec::new(alloc);
                 input.skip_until(b'\n')?;
                 Reply::Refused(Error::OutOfMemory)

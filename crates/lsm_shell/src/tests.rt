@@ -4,7 +4,7 @@ use std::cell::Cell;
 use std::io::{self, ErrorKind, Read, Write};
 use std::test::Fail;
 
-/// What follows a first read of a key and its removal.
+/// A key is written, read, removed, and read at older snapshots.
 const REMOVED: &[u8] = b"put a x\nget a\ndel a\nget a\nget a 1\nget a 0\nrotate\nrotate\nget a 1\n";
 
 #[test]
