@@ -25,9 +25,21 @@ entry_cmp = on (λ e. e.key) key_cmp
 abbrev pub entry_at : Bytes → ℕ → ValueType → Bytes → Entry
 entry_at k n kind v = record { key = record { user_key = k; seqno = n; value_type = kind }; value = v }
 
+-- the value that an entry of this type keeps: none for a tombstone of either kind
+abbrev pub kept_value : ValueType → Bytes → Bytes
+kept_value Value v = v
+kept_value Tombstone v = []
+kept_value WeakTombstone v = []
+
+-- an entry, of which a tombstone keeps no value
+abbrev pub plain : Entry → Entry
+plain e = record { key = e.key; value = kept_value e.key.value_type e.value }
+
+-- an entry that removes its key
 abbrev pub tombstone_at : Bytes → ℕ → Entry
 tombstone_at k n = entry_at k n Tombstone []
 
+-- an entry that removes its key, of which at most one value was ever written
 abbrev pub weak_tombstone_at : Bytes → ℕ → Entry
 weak_tombstone_at k n = entry_at k n WeakTombstone []
 

@@ -1,5 +1,8 @@
 // Numbers that name things, and shared bytes.
+ghost use Rattle.std.specs.Prelude.{◌≡◌, IfOk};
+
 use bytes::Bytes;
+use std::alloc::AllocError;
 
 /// The number of a write, a snapshot or a commit. A write's is below 2^63.
 pub type SeqNo = u64;
@@ -21,3 +24,10 @@ pub type UserValue = Bytes;
 
 /// A key with its value.
 pub type KvPair = (UserKey, UserValue);
+
+/// The same bytes once more, shared. Refused only for want of memory.
+pub fn share(bytes: &Bytes) -> Result<Bytes, AllocError>
+    ensures { IfOk result (λ copy. copy ≡ bytes.now) }
+{
+    bytes.clone()
+}

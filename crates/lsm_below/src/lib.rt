@@ -2,21 +2,24 @@
 //!
 //! | Module | Holds |
 //! |-|-|
-//! | `ids` | numbers that name things |
+//! | `ids` | numbers that name things, and shared bytes |
 //! | `value_type` | what an entry does to its key |
 //! | `key` | a user key with its number, and the order of entries |
 //! | `value` | an entry: a key and its value |
 //! | `key_range` | all keys from a least to a greatest one |
+//! | `store` | what a tree keeps its files in |
 #![tactic(auto)]
 
 mod ids;
 mod key;
 mod key_range;
+mod store;
 mod value;
 mod value_type;
 
-pub use ids::{KvPair, MemtableId, SeqNo, TableId, TreeId, UserKey, UserValue};
+pub use ids::{KvPair, MemtableId, SeqNo, TableId, TreeId, UserKey, UserValue, share};
 pub use key::InternalKey;
 pub use key_range::KeyRange;
+pub use store::{NoStore, Store};
 pub use value::InternalValue;
 pub use value_type::ValueType;

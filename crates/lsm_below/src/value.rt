@@ -1,6 +1,6 @@
 // An entry: a key with its number and type, and a value.
 ghost use Rattle.std.specs.Prelude.{◌≡◌, IfOk};
-ghost use Rattle.lsm_below.specs.Entries.{entry_at, tombstone_at, weak_tombstone_at, is_tombstone_type};
+ghost use Rattle.lsm_below.specs.Entries.{entry_at, tombstone_at, weak_tombstone_at, is_tombstone_type, kept_value, plain};
 
 use crate::{InternalKey, SeqNo, UserKey, UserValue, ValueType};
 use std::alloc::AllocError;
@@ -13,15 +13,19 @@ pub struct InternalValue {
 }
 
 impl InternalValue {
-    /// An entry of these parts. A tombstone keeps no value: use the two constructors below.
+    /// An entry of these parts. A tombstone keeps no value: one that is handed in is dropped.
     pub fn from_components(
         user_key: UserKey,
         value: UserValue,
         seqno: SeqNo,
         value_type: ValueType,
     ) -> InternalValue
-        ensures { result ≡ entry_at user_key seqno value_type value }
+        ensures { result ≡ entry_at user_key seqno value_type (kept_value value_type value) }
     {
+        let value = match value_type {
+            ValueType::Value => value,
+            ValueType::Tombstone | ValueType::WeakTombstone => UserValue::new(),
+        };
         InternalValue {
             key: InternalKey::new(user_key, seqno, value_type),
             value,
@@ -42,6 +46,14 @@ impl InternalValue {
         InternalValue::from_components(user_key, UserValue::new(), seqno, ValueType::WeakTombstone)
     }
 
+    /// The entry, of which a tombstone keeps no value.
+    pub fn into_plain(self) -> InternalValue
+        ensures { result ≡ plain self }
+    {
+        let InternalValue { key, value } = self;
+        InternalValue::from_components(key.user_key, value, key.seqno, key.value_type)
+    }
+
     /// Whether the entry removes its key, weakly or not.
     pub fn is_tombstone(&self) -> bool
         ensures { result ≡ is_tombstone_type self.now.key.value_type }
@@ -54,5 +66,34 @@ impl InternalValue {
         ensures { IfOk result (λ copy. copy ≡ self.now) }
     {
         self.clone()
+    }
+}
+
+#[cfg(test)]
+mod tests {
+    use super::*;
+    use std::test::Fail;
+
+    fn entry(key: &'static str, seqno: SeqNo, value_type: ValueType) -> InternalValue {
+        let value = UserValue::from_static(b"v");
+        InternalValue::from_components(
+            UserKey::from_static(key.as_bytes()),
+            value,
+            seqno,
+            value_type,
+        )
+    }
+
+    #[test]
+    fn keys_rise_and_numbers_fall(rt: HostRuntime) -> Result<(), Fail> {
+        let value = entry("a", 1, ValueType::Value);
+        let tombstone = entry("a", 1, ValueType::Tombstone);
+        assert!(rt; entry("a", 2, ValueType::Value).key < value.key);
+        assert!(rt; value.key < entry("b", 9, ValueType::Value).key);
+        assert!(rt; value.key == tombstone.key);
+        assert_eq!(rt; value.copy()?.value.as_slice(), b"v".as_slice());
+        assert!(rt; tombstone.value.is_empty());
+        assert!(rt; tombstone.key.copy()?.is_tombstone());
+        Ok(())
     }
 }

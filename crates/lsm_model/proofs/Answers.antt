@@ -1,5 +1,5 @@
 -- Answers from maps that agree on some keys, and journals whose reads agree.
-use Rattle.std.proofs.Common.{◌≡◌, ℕ, ◌+◌, ◌<◌, ◌≤◌, Bool, true, false, cond, T, ◌&&◌, ◌||◌, List, [], ◌∷◌, ◌++◌, Option, Some, None, filter, refl, sym, ap, ◌∙◌, subst, flat_map, ltb, append_assoc, Ordering, Equal}
+use Rattle.std.proofs.Common.{◌≡◌, ℕ, Bool, true, false, cond, ◌&&◌, List, [], ◌∷◌, ◌++◌, Some, None, filter, refl, sym, ap, ◌∙◌, subst, ltb, append_assoc, Equal, append-nil}
 use Rattle.std.specs.FinMap.{FinMap, get, entries, empty, get-empty, entries_sorted, get-entries, from_sorted, entries-from_sorted, get-from_sorted, same_map, find, is_sorted, slice_cmp-IsAntisymmetric, nat_cmp-IsAntisymmetric}
 use Rattle.std.specs.FinMap.Entries.{is_sorted-where_key, find-where_key}
 use Rattle.std.specs.Cmp.Lexicographic.{nat_list_cmp_total}
@@ -70,7 +70,7 @@ get-map_of k s (e ∷ es) =
 
 -- one more event that agrees
 agrees_more : (start : Map) (before journal : List Event) (x : Event) → AgreesFrom start before journal → ReadAgrees start (before ++ journal) x → AgreesFrom start before (journal ++ x ∷ [])
-agrees_more start before [] x h r = (subst (λ js. ReadAgrees start js x) (Rattle.std.proofs.Common.append-nil before) r, tt)
+agrees_more start before [] x h r = (subst (λ js. ReadAgrees start js x) (append-nil before) r, tt)
 agrees_more start before (y ∷ journal) x h r = (h.0, agrees_more start (before ++ y ∷ []) journal x h.1 (subst (λ js. ReadAgrees start js x) (sym (append_assoc before (y ∷ []) journal)) r))
 
 pub agrees_push : (start : Map) (journal : List Event) (x : Event) → Agrees start journal → ReadAgrees start journal x → Agrees start (journal ++ x ∷ [])

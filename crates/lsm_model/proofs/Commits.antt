@@ -4,16 +4,16 @@ use Rattle.std.specs.List.{AllByRecursion}
 use Rattle.std.proofs.lemmas.Grind.{flat_map-append}
 use Rattle.lsm_below.specs.Keys.{Bytes}
 use Rattle.lsm_below.specs.Ranges.{Range, in_range}
+use Rattle.lsm_below.specs.Entries.{Entry, stack, values, above, keep, IsSingle}
 use Rattle.lsm_model.specs.Journal.{in_any, Event, next_of, sets_of, floor, next_number, is_kept, kept_after, is_outside, outside_after, replay_at, value_after, next_after, sets_after, floor_after}
-use Rattle.lsm_below.specs.Entries.{Entry, stack, values, above, keep}
 use Rattle.lsm_model.specs.Views.{seen, Memtables, SuperVersion, entries, held, lookup, emptied, Placed, IsLaidOut, IsAllowed, chosen_of, upper_of, lower_of, IsRearranged, left_of, ranges_of}
 use Rattle.lsm_model.specs.Steps.{AllCover}
+use Rattle.lsm_model.specs.Sound.{FitsAt, HasIds, IsSound}
 use Rattle.lsm_model.specs.declared.journal.JournalEntry.TheVariants.{Clear, Install, Dropped, Mark, Read}
 use Rattle.lsm_model.specs.declared.question.Question.{Question}
 use Rattle.lsm_model.specs.declared.question.Answer.{Answer}
 use Rattle.lsm_model.proofs.Lists.{fold_push, each_append, each_left, each_weaker, Sublist, done, sub_itself, sub_none, sub_append}
 use Rattle.lsm_model.proofs.Stacks.{stack-append, keep_sub, keep_same_behind}
-use Rattle.lsm_model.proofs.Sound.{FitsAt, HasIds, IsSound}
 use Rattle.lsm_model.proofs.Installs.{ShowsSame, drop_sound, clear_sound, emptied_sound, emptied_here, below_next}
 use Rattle.lsm_model.proofs.Merges.{of_table, of_tables, of_tables-cons, of_tables-append, parts_of, evicted_parts, rearranged_same, none_outside}
 
@@ -37,7 +37,7 @@ kept_same opened start journal mems latest older new w evict before part rest ne
           rw (was k, is k) (replaced k s single below (last k));
     }
   where
-    replaced : (k : Bytes) (s : ℕ) → Rattle.lsm_below.specs.Entries.IsSingle (before k ++ (part k ++ rest k)) → AllByRecursion (λ e. e.key.seqno < s) (before k ++ (part k ++ rest k)) → (evict ≡ true → (part k ≡ []) ⊎ (rest k ≡ [])) → seen s (before k ++ (keep w evict (part k) ++ rest k)) ≡ seen s (before k ++ (part k ++ rest k))
+    replaced : (k : Bytes) (s : ℕ) → IsSingle (before k ++ (part k ++ rest k)) → AllByRecursion (λ e. e.key.seqno < s) (before k ++ (part k ++ rest k)) → (evict ≡ true → (part k ≡ []) ⊎ (rest k ≡ [])) → seen s (before k ++ (keep w evict (part k) ++ rest k)) ≡ seen s (before k ++ (part k ++ rest k))
     replaced k s single below last =
         elim evict as (λ b. evict ≡ b → seen s (before k ++ (keep w b (part k) ++ rest k)) ≡ seen s (before k ++ (part k ++ rest k))) [
           | true ↦ λ q. ⊎_elim
@@ -48,7 +48,7 @@ kept_same opened start journal mems latest older new w evict before part rest ne
         ] refl
 
 -- one key's entries in a super version
-stack_of : (k : Bytes) (mems : Memtables) (sv : SuperVersion) → stack k (entries mems sv) ≡ stack k (flat_map mems (sv.active ∷ sv.sealed)) ++ of_tables k sv.tables
+pub stack_of : (k : Bytes) (mems : Memtables) (sv : SuperVersion) → stack k (entries mems sv) ≡ stack k (flat_map mems (sv.active ∷ sv.sealed)) ++ of_tables k sv.tables
 stack_of k mems sv = stack-append k (flat_map mems (sv.active ∷ sv.sealed)) (held sv.tables)
 
 -- A flush: the oldest sealed memtables become tables in front of all others.
@@ -72,12 +72,12 @@ flush_same opened start journal mems latest older new w job made next act sealed
     sound
 
 -- chosen tables stay covered, as do the others
-each_filter : {A : Type 0} (P : A → Type 0) (t : A → Bool) (xs : List A) → AllByRecursion P xs → AllByRecursion P (filter t xs)
+pub each_filter : {A : Type 0} (P : A → Type 0) (t : A → Bool) (xs : List A) → AllByRecursion P xs → AllByRecursion P (filter t xs)
 each_filter P t [] h = tt
 each_filter P t (x ∷ xs) h = elim (t x) as (λ b. AllByRecursion P (cond b (x ∷ filter t xs) (filter t xs))) [ true ↦ (h.0, each_filter P t xs h.1) | false ↦ each_filter P t xs h.1 ]
 
 -- what a new run in place of chosen tables leaves to each key
-around : (k : Bytes) (d : ℕ) (chosen : ℕ → Bool) (old made new : List Placed) (es : List Entry) → IsLaidOut old → AllCover made → IsLaidOut new
+pub around : (k : Bytes) (d : ℕ) (chosen : ℕ → Bool) (old made new : List Placed) (es : List Entry) → IsLaidOut old → AllCover made → IsLaidOut new
     → IsRearranged (upper_of d chosen old ++ (made ++ lower_of d chosen old)) new → of_tables k made ≡ es
     → of_tables k new ≡ of_tables k (upper_of d chosen old) ++ (es ++ of_tables k (lower_of d chosen old))
 around k d chosen old made new es laid covers laid' same is =
@@ -126,7 +126,7 @@ move_same opened start journal mems latest older new d chosen moved next act sea
     record { next = next; act = omega arith; ids = rw (act, sealed) (omega arith, i.1); sub = λ k. rw (equal k) (sub_itself (stack k (entries mems latest))); same = λ k s h. rw (equal k) refl }
 
 -- a drop leaves out entries, and none of a key that is in no range of what it drops
-sub_filter : (k : Bytes) (t : Placed → Bool) (tables : List Placed) → Sublist (of_tables k (filter t tables)) (of_tables k tables)
+pub sub_filter : (k : Bytes) (t : Placed → Bool) (tables : List Placed) → Sublist (of_tables k (filter t tables)) (of_tables k tables)
 sub_filter k t [] = done
 sub_filter k t (p ∷ tables) =
     rw (of_tables-cons k p tables)
@@ -135,7 +135,7 @@ sub_filter k t (p ∷ tables) =
       | false ↦ sub_append {xs = []} (sub_none (of_table k p)) (sub_filter k t tables)
     ])
 
-left_alone : (k : Bytes) (chosen : ℕ → Bool) (tables : List Placed) → AllCover tables → in_any k (ranges_of chosen tables) ≡ false → of_tables k (left_of chosen tables) ≡ of_tables k tables
+pub left_alone : (k : Bytes) (chosen : ℕ → Bool) (tables : List Placed) → AllCover tables → in_any k (ranges_of chosen tables) ≡ false → of_tables k (left_of chosen tables) ≡ of_tables k tables
 left_alone k chosen [] covers none = refl
 left_alone k chosen (p ∷ tables) covers none =
     elim (chosen p.table.id) as (λ b. in_any k (map (λ p. p.table.range) (cond b (p ∷ chosen_of chosen tables) (chosen_of chosen tables))) ≡ false → of_tables k (cond (not b) (p ∷ left_of chosen tables) (left_of chosen tables)) ≡ of_tables k (p ∷ tables)) [

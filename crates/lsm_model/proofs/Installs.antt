@@ -4,14 +4,15 @@ use Rattle.std.specs.List.{AllByRecursion}
 use Rattle.std.proofs.lemmas.Bool.{cases_lt}
 use Rattle.std.proofs.lemmas.Grind.{fold-append}
 use Rattle.lsm_below.specs.Keys.{Bytes}
+use Rattle.lsm_below.specs.Ranges.{Range}
 use Rattle.lsm_below.specs.Entries.{Entry, stack, values, above}
 use Rattle.lsm_model.specs.Journal.{Event, in_any, value_after, replay_at, outside_after, is_outside, kept_after, is_kept, next_after, next_of, next_number, floor_after, floor, sets_after, sets_of}
-use Rattle.lsm_below.specs.Ranges.{Range}
 use Rattle.lsm_model.specs.Views.{Memtables, SuperVersion, entries, lookup, seen, emptied, maintained}
+use Rattle.lsm_model.specs.Sound.{HasIds, FitsAt, IsSound}
 use Rattle.lsm_model.specs.declared.journal.JournalEntry.TheVariants.{Clear, Install, Dropped}
 use Rattle.lsm_model.proofs.Lists.{fold_push, each_weaker, each_found, each_both, Sublist, sub_none}
 use Rattle.lsm_model.proofs.Journals.{next_of-le, floor-le}
-use Rattle.lsm_model.proofs.Sound.{HasIds, FitsAt, IsSound, fits_sub, flat_map_same}
+use Rattle.lsm_model.proofs.Sound.{fits_sub, flat_map_same}
 
 -- the latest super version, where the snapshot is above its number, or an older one
 pub lookup_cases : (s : ℕ) (latest sv : SuperVersion) (older : List SuperVersion) → lookup s (latest ∷ older) ≡ Some sv → ((latest.number < s) × (latest ≡ sv)) ⊎ ((s ≤ latest.number) × (lookup s older ≡ Some sv))
@@ -29,7 +30,7 @@ lookup_older s latest older h = ap (λ b. cond b (Some latest) (lookup s older))
 
 -- ---- a new empty memtable changes nothing
 
-emptied_other : (mems : Memtables) (a i : ℕ) → i < a → emptied mems a i ≡ mems i
+pub emptied_other : (mems : Memtables) (a i : ℕ) → i < a → emptied mems a i ≡ mems i
 emptied_other mems a i h = ap (λ b. cond b [] (mems i)) (ne_eqb i a (λ q. omega arith))
 
 pub emptied_here : (mems : Memtables) (a : ℕ) → emptied mems a a ≡ []

@@ -4,10 +4,10 @@ use Rattle.std.specs.Cmp.Lexicographic.{nat_list_cmp_total}
 use Rattle.std.specs.FinMap.{get, empty, get-insert, get-remove, get-empty, slice_cmp-IsAntisymmetric, nat_cmp-IsAntisymmetric}
 use Rattle.std.proofs.lemmas.Cmp.{tied_itself}
 use Rattle.std.proofs.lemmas.Grind.{fold-append}
-use Rattle.lsm_below.specs.declared.value_type.ValueType.{ValueType}
-use Rattle.lsm_below.specs.declared.value_type.ValueType.TheVariants.{Value, Tombstone, WeakTombstone}
 use Rattle.lsm_below.specs.Keys.{Bytes, is_same, bytes_cmp}
 use Rattle.lsm_below.specs.Entries.{Entry, value_by, value_of, above, stack}
+use Rattle.lsm_below.specs.declared.value_type.ValueType.{ValueType}
+use Rattle.lsm_below.specs.declared.value_type.ValueType.TheVariants.{Value, Tombstone, WeakTombstone}
 use Rattle.lsm_model.specs.Journal.{changed_by, Event, Map, changed, map_after, replay, value_after, replay_at, next_after, next_of, next_number_after, next_number, floor_after, floor, kept_after, is_kept, MayCome, InOrderFrom, InOrder}
 use Rattle.lsm_model.specs.declared.journal.JournalEntry.TheVariants.{Write, Clear, Install, Dropped, Mark, Read}
 use Rattle.lsm_model.proofs.Lists.{fold_push}

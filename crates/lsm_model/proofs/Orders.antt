@@ -1,10 +1,10 @@
 -- Lists that are in one order and have the same members are equal: of a merger's output, and of runs that are joined.
 use Rattle.std.proofs.Common.{◌≡◌, ℕ, ◌+◌, ◌<◌, ◌≤◌, Bool, true, false, cond, List, [], ◌∷◌, ◌++◌, map, flat_map, filter, refl, sym, ap, ◌∙◌, subst, arith, eqb, inl, inr, ⊎_elim, ap₂, eq-eqb}
 use Rattle.std.specs.List.{AllByRecursion}
-use Rattle.lsm_below.specs.Entries.{Entry, IsFalling}
 use Rattle.lsm_below.specs.Ranges.{in_range}
+use Rattle.lsm_below.specs.Entries.{Entry, IsFalling}
 use Rattle.lsm_model.specs.Views.{EachPair, IsIn, Placed, Table, place_of, HasDistinctIds, IsReordered, IsRearranged, placed_from, placed_at}
-use Rattle.lsm_model.proofs.Lists.{each_weaker, each_append}
+use Rattle.lsm_model.proofs.Lists.{each_weaker, each_append, each_both}
 use Rattle.lsm_model.proofs.Merges.{overlap_at}
 
 each_in : {A : Type 0} (P : A → Type 0) (xs : List A) (x : A) → AllByRecursion P xs → IsIn x xs → P x
@@ -71,7 +71,7 @@ own_order (t ∷ tables) h = (
   where
     later : (xs : List Placed) → AllByRecursion (λ q. eqb t.table.id q.table.id ≡ false) xs → EachPair (λ p q. place_of tables p.table.id < place_of tables q.table.id) xs → EachPair (λ p q. place_of (t ∷ tables) p.table.id < place_of (t ∷ tables) q.table.id) xs
     later [] d h = tt
-    later (x ∷ xs) d h = (Rattle.lsm_model.proofs.Lists.each_both _ _ _ (λ q (n : eqb t.table.id q.table.id ≡ false) l. rw (d.0, n) (omega arith)) xs d.1 h.0, later xs d.1 h.1)
+    later (x ∷ xs) d h = (each_both _ _ _ (λ q (n : eqb t.table.id q.table.id ≡ false) l. rw (d.0, n) (omega arith)) xs d.1 h.0, later xs d.1 h.1)
 
 -- the rules for joined runs give what the reads need
 pub reordered : (old new : List Placed) → HasDistinctIds old → IsReordered old new → IsRearranged old new

@@ -4,9 +4,10 @@ use Rattle.std.specs.List.{AllByRecursion}
 use Rattle.std.specs.Ordering.{ordering_then}
 use Rattle.std.specs.Cmp.Lexicographic.{nat_list_cmp_total}
 use Rattle.std.proofs.lemmas.Cmp.{tied_itself, ranked}
+use Rattle.std.specs.FinMap.{slice_cmp-IsAntisymmetric, nat_cmp-IsAntisymmetric}
+use Rattle.lsm_below.specs.Keys.{Bytes, is_same, bytes_cmp}
 use Rattle.lsm_below.specs.Entries.{entry_cmp, Entry, stack}
 use Rattle.lsm_below.specs.Sorted.{put, by_ordering}
-use Rattle.lsm_below.specs.Keys.{Bytes, is_same, bytes_cmp}
 use Rattle.lsm_model.proofs.Journals.{same_key, same_itself}
 
 greater : (a b : ℕ) (r : Ordering) → r ≡ nat_cmp a b → b < a → r ≡ Greater
@@ -65,5 +66,5 @@ put_stack k e (x ∷ xs) below = by_place (put_stack k e xs (tail (is_same e.key
         first_tied Greater s h = h
 
         tied_keys : entry_cmp x e ≡ Equal → x.key.user_key ≡ e.key.user_key
-        tied_keys h = Rattle.std.specs.FinMap.slice_cmp-IsAntisymmetric Rattle.std.specs.FinMap.nat_cmp-IsAntisymmetric x.key.user_key e.key.user_key (first_tied (bytes_cmp x.key.user_key e.key.user_key) (nat_cmp e.key.seqno x.key.seqno) h)
+        tied_keys h = slice_cmp-IsAntisymmetric nat_cmp-IsAntisymmetric x.key.user_key e.key.user_key (first_tied (bytes_cmp x.key.user_key e.key.user_key) (nat_cmp e.key.seqno x.key.seqno) h)
     by_place ih Greater is = refl

@@ -1,30 +1,31 @@
 -- Opening, each step, and so each run.
-use Rattle.std.proofs.Common.{◌≡◌, ℕ, ◌<◌, ◌≤◌, Bool, true, false, cond, List, [], ◌∷◌, ◌++◌, Option, Some, None, map, refl, sym, ap, ◌∙◌, subst, arith, flat_map, ltb, le-ltb, eqb, eqb-true, append_assoc, is_some, append-nil, ap₂}
+use Rattle.std.proofs.Common.{◌≡◌, ℕ, ◌<◌, ◌≤◌, Bool, true, false, cond, List, [], ◌∷◌, ◌++◌, Option, Some, None, map, refl, sym, ap, ◌∙◌, subst, arith, flat_map, ltb, le-ltb, eqb, eqb-true, append_assoc, is_some, append-nil, ap₂, ⊎_elim}
 use Rattle.std.specs.List.{AllByRecursion}
 use Rattle.std.specs.FinMap.{get}
 use Rattle.std.proofs.lemmas.Grind.{flat_map-append}
+use Rattle.std.proofs.lemmas.Bool.{eqb-false}
 use Rattle.lsm_below.specs.Keys.{Bytes, is_same}
-use Rattle.lsm_below.specs.Entries.{Entry, above, stack, top, IsFalling, entry_cmp}
-use Rattle.lsm_model.specs.Journal.{Event, answer, Agrees, ReadAgrees, is_outside, value_after, Map, replay, replay_at, is_kept, InOrder, next_number, next_number_after, MayWrite, cut}
 use Rattle.lsm_below.specs.Ranges.{Range}
-use Rattle.lsm_model.specs.Views.{view, found_at, front, view_at, shown, seen, Memtables, Placed, SuperVersion, sources, entries, lookup, maintained, IsLaidOut, ranges_of, held, pushed, written, answered}
-use Rattle.lsm_model.specs.Steps.{State, history, among, Action, Wrote, Rotated, Flushed, Merged, Moved, DroppedTables, Cleared, Marked, LostDrop, Asked, Maintained, Step, Run, IsCommit, IsFlush, IsMerge, IsMove, IsMaintained, IsOpened, ReadsEqualReplay, EveryRunReadsRight, IsWrite}
+use Rattle.lsm_below.specs.Entries.{Entry, above, stack, top, IsFalling, entry_cmp}
 use Rattle.lsm_below.specs.Sorted.{put}
+use Rattle.lsm_model.specs.Journal.{Event, answer, Agrees, ReadAgrees, is_outside, value_after, Map, replay, replay_at, is_kept, InOrder, next_number, next_number_after, MayWrite, cut}
+use Rattle.lsm_model.specs.Views.{view, found_at, front, view_at, shown, seen, Memtables, Placed, SuperVersion, sources, entries, lookup, maintained, ranges_of, held, pushed, written, answered}
+use Rattle.lsm_model.specs.Steps.{State, history, among, Action, Wrote, Rotated, Flushed, Merged, Moved, DroppedTables, Cleared, Marked, LostDrop, Asked, Maintained, Step, Run, IsCommit, IsFlush, IsMerge, IsMove, IsMaintained, IsOpened, ReadsEqualReplay, EveryRunReadsRight, IsWrite}
+use Rattle.lsm_model.specs.Sound.{FitsAt, IsSound, Holds}
 use Rattle.lsm_model.specs.declared.journal.JournalEntry.TheVariants.{Write, Clear, Install, Dropped, Mark, Read}
-use Rattle.lsm_model.proofs.Lists.{fold_push, each_weaker, each_both, each_found}
-use Rattle.lsm_model.proofs.Stacks.{stack-append, seen_first, seen_past, top_first, walk_top}
-use Rattle.lsm_model.proofs.Journals.{get-replay, above_stack, and_false, in_order_last, in_order_front}
 use Rattle.lsm_model.specs.declared.question.Question.{Question}
 use Rattle.lsm_model.specs.declared.question.Question.TheVariants.{Get, Between, Prefix}
 use Rattle.lsm_model.specs.declared.question.Answer.TheVariants.{Found}
-use Rattle.lsm_model.proofs.Puts.{put_stack}
-use Rattle.lsm_model.proofs.Lists.{each_left}
-use Rattle.lsm_model.proofs.Answers.{answers_agree, get-map_of, agrees_push}
-use Rattle.lsm_model.proofs.Sound.{FitsAt, IsSound, write_sound}
+use Rattle.lsm_model.proofs.Lists.{fold_push, each_weaker, each_both, each_found, each_left}
+use Rattle.lsm_model.proofs.Stacks.{stack-append, seen_first, seen_past, top_first, walk_top}
+use Rattle.lsm_model.proofs.Journals.{get-replay, above_stack, and_false, in_order_last, in_order_front}
+use Rattle.lsm_model.proofs.Sound.{write_sound}
 use Rattle.lsm_model.proofs.Installs.{maintained_cases, same_sound, ShowsSame, rotate_sound, lookup_latest}
-use Rattle.lsm_model.proofs.Commits.{flush_same, merge_same, move_same, dropped_sound, cleared_sound, note_sound, mark_note, read_note, lost_note, forgotten_sound, some_still}
+use Rattle.lsm_model.proofs.Commits.{flush_same, merge_same, move_same, dropped_sound, cleared_sound, note_sound, mark_note, read_note, lost_note, forgotten_sound, some_still, IsNote}
+use Rattle.lsm_model.proofs.Answers.{answers_agree, get-map_of, agrees_push}
+use Rattle.lsm_model.proofs.Puts.{put_stack}
 
-joined_map : {A : Type 0} (f : A → List Entry) (xs : List A) → flat_map (λ (es : List Entry). es) (map f xs) ≡ flat_map f xs
+pub joined_map : {A : Type 0} (f : A → List Entry) (xs : List A) → flat_map (λ (es : List Entry). es) (map f xs) ≡ flat_map f xs
 joined_map f [] = refl
 joined_map f (x ∷ xs) = ap (λ es. f x ++ es) (joined_map f xs)
 
@@ -85,13 +86,6 @@ start_none (e ∷ es) k z = absurd (omega arith)
 
 -- ---- each step
 
--- what each step keeps
-pub record Holds (opened : List Entry) (start : Map) (t : State) : Type 0 where
-  pub sound : IsSound opened (get start) t.journal t.mems t.latest t.older
-  pub laid : IsLaidOut t.latest.tables
-  pub agrees : Agrees start t.journal
-  pub zero : (k : Bytes) → above opened ≡ 0 → get start k ≡ None
-
 -- the view of a super version, at a key
 pub get-view : (k : Bytes) (s : ℕ) (mems : Memtables) (sv : SuperVersion) → get (view s (sources mems sv)) k ≡ seen s (stack k (entries mems sv))
 get-view k s mems sv = get-map_of k s (flat_map (λ (es : List Entry). es) (sources mems sv)) ∙ ap (λ es. seen s (stack k es)) (joined_sources mems sv)
@@ -115,7 +109,7 @@ reads_right opened start t h =
       views = view_right opened start t h;
       answered = λ s kept. elim (eqb s 0) as (λ b. eqb s 0 ≡ b → is_some (cond b (Some (front t.latest t.older)) (lookup s (history t))) ≡ true) [
         | true ↦ λ z. refl
-        | false ↦ λ z. Rattle.std.proofs.Common.⊎_elim (λ (n : s ≡ 0). absurd (Rattle.std.proofs.lemmas.Bool.eqb-false s 0 z n)) (λ (is : is_kept s t.journal ≡ true). h.sound.kept s (positive s z) is) kept
+        | false ↦ λ z. ⊎_elim (λ (n : s ≡ 0). absurd (eqb-false s 0 z n)) (λ (is : is_kept s t.journal ≡ true). h.sound.kept s (positive s z) is) kept
       ] refl;
       agrees = h.agrees;
       tops = λ k s. each_weaker _ _ (λ sv f. get-map_of k s (flat_map (λ (es : List Entry). es) (sources t.mems sv)) ∙ ap shown (sym (top_first k s (flat_map (λ (es : List Entry). es) (sources t.mems sv)) f))) (history t) (falls k);
@@ -127,7 +121,7 @@ reads_right opened start t h =
     for_each P (x ∷ xs) h = (λ k. (h k).0, for_each P xs (λ k. (h k).1))
 
     positive : (s : ℕ) → eqb s 0 ≡ false → 0 < s
-    positive s z = let n = Rattle.std.proofs.lemmas.Bool.eqb-false s 0 z in omega arith
+    positive s z = let n = eqb-false s 0 z in omega arith
 
 -- memtables that show the same in every super version will do as well
 remembered : (opened : List Entry) (start : Bytes → Option Bytes) (journal : List Event) (mems other : Memtables) (latest : SuperVersion) (older : List SuperVersion) → ((k : Bytes) → AllByRecursion (λ sv. stack k (entries other sv) ≡ stack k (entries mems sv)) (latest ∷ older)) → IsSound opened start journal mems latest older → IsSound opened start journal other latest older
@@ -199,7 +193,7 @@ answered_view opened start t h s sv found (Prefix p) = refl
 committed : (opened : List Entry) (start : Map) (events : List Event) (old new : State) → IsCommit events old new → IsSound opened (get start) (old.journal ++ events) old.mems new.latest (old.latest ∷ old.older) → Agrees start (old.journal ++ events) → Holds opened start old → Holds opened start new
 committed opened start events old new c s a h = record { sound = rw (c.journal, c.mems, c.older) s; laid = c.laid; agrees = rw c.journal a; zero = h.zero }
 
-noted : (opened : List Entry) (start : Map) (old : State) (x : Event) → Rattle.lsm_model.proofs.Commits.IsNote x → ReadAgrees start old.journal x → Holds opened start old → Holds opened start (record { journal = old.journal ++ x ∷ []; mems = old.mems; latest = old.latest; older = old.older })
+noted : (opened : List Entry) (start : Map) (old : State) (x : Event) → IsNote x → ReadAgrees start old.journal x → Holds opened start old → Holds opened start (record { journal = old.journal ++ x ∷ []; mems = old.mems; latest = old.latest; older = old.older })
 noted opened start old x note a h = record { sound = note_sound opened (get start) old.journal old.mems old.latest old.older x note h.sound; laid = h.laid; agrees = agrees_push start old.journal x h.agrees a; zero = h.zero }
 
 -- what order says of a commit's number
@@ -275,7 +269,7 @@ step_holds opened start old (Maintained w) new m o h =
     }
 
 -- journals only grow
-step_grows : (opened : List Entry) (old : State) (action : Action) (new : State) → Step opened old action new → (more : List Event) × (new.journal ≡ old.journal ++ more)
+pub step_grows : (opened : List Entry) (old : State) (action : Action) (new : State) → Step opened old action new → (more : List Event) × (new.journal ≡ old.journal ++ more)
 step_grows opened old (Wrote e) new m = (Write e ∷ [], m.journal)
 step_grows opened old (Rotated a) new m = ([], ap (λ (t : State). t.journal) m.1 ∙ sym (append-nil old.journal))
 step_grows opened old (Flushed w job made) new m = (_, m.commit.journal)

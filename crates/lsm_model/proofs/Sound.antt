@@ -1,38 +1,19 @@
--- What holds between any two steps, and that a write and a rotation keep it.
-use Rattle.std.proofs.Common.{◌≡◌, ℕ, ◌+◌, ◌<◌, ◌≤◌, max, Bool, true, false, cond, ◌&&◌, ◌||◌, List, [], ◌∷◌, ◌++◌, Option, Some, refl, sym, ap, ◌∙◌, subst, arith, flat_map, ltb, eqb, lt-ltb, le-ltb, ne_eqb, eq-eqb, ◌⊎◌, ⊎_elim, is_some}
+-- A write keeps what holds between any two steps.
+use Rattle.std.proofs.Common.{◌≡◌, ℕ, ◌+◌, ◌<◌, ◌≤◌, max, Bool, true, false, cond, ◌&&◌, ◌||◌, List, [], ◌∷◌, ◌++◌, Option, Some, refl, sym, ap, ◌∙◌, subst, arith, flat_map, ltb, eqb, lt-ltb, le-ltb, ne_eqb, eq-eqb, ◌⊎◌, ⊎_elim}
 use Rattle.std.specs.List.{find, AllByRecursion}
 use Rattle.std.specs.Option.{option_or}
 use Rattle.std.proofs.lemmas.List.Folds.{find-append}
+use Rattle.std.proofs.lemmas.Bool.{cases_lt}
 use Rattle.lsm_below.specs.Keys.{Bytes, is_same}
-use Rattle.lsm_below.specs.Entries.{Entry, value_of, is_value, is_weak, stack, values, above, IsFalling, IsSingle}
-use Rattle.lsm_model.specs.Journal.{Event, MayWrite, value_after, replay_at, outside_after, is_outside, kept_after, is_kept, next_after, next_of, floor_after, floor, sets_after, sets_of}
-use Rattle.lsm_model.specs.Views.{Memtables, SuperVersion, held, entries, lookup, shown, seen, pushed}
+use Rattle.lsm_below.specs.Entries.{Entry, entry_cmp, value_of, is_value, is_weak, stack, values, above}
+use Rattle.lsm_below.specs.Sorted.{put}
+use Rattle.lsm_model.specs.Journal.{Event, MayWrite, value_after, replay_at, outside_after, is_outside, kept_after, next_after, next_of, floor_after, sets_after, sets_of}
+use Rattle.lsm_model.specs.Views.{Memtables, SuperVersion, held, entries, lookup, shown, seen, pushed, written}
+use Rattle.lsm_model.specs.Sound.{Fits, HasIds, FitsAt, IsSound}
 use Rattle.lsm_model.specs.declared.journal.JournalEntry.TheVariants.{Write}
 use Rattle.lsm_model.proofs.Lists.{fold_push, each_weaker, each_sub, each_both, Sublist}
 use Rattle.lsm_model.proofs.Stacks.{stack-append, falling_sub, single_sub, values_sub, seen_first}
-use Rattle.std.proofs.lemmas.Bool.{cases_lt}
 use Rattle.lsm_model.proofs.Journals.{same_key, and_false}
-
--- the entries of a key, in a super version
-pub record Fits (next sets : ℕ) (es : List Entry) : Type 0 where
-  pub falling : IsFalling es
-  pub below : AllByRecursion (λ e. e.key.seqno < next) es
-  pub single : IsSingle es
-  pub few : values es ≤ sets
-
-abbrev pub HasIds : ℕ → SuperVersion → Type 0
-HasIds a sv = (sv.active ≤ a) × AllByRecursion (λ m. m < a) sv.sealed
-
-abbrev pub FitsAt : List Entry → List Event → Memtables → Bytes → SuperVersion → Type 0
-FitsAt opened journal mems k sv = Fits (next_of k opened journal) (sets_of k opened journal) (stack k (entries mems sv))
-
--- start is what the opened tables show
-pub record IsSound (opened : List Entry) (start : Bytes → Option Bytes) (journal : List Event) (mems : Memtables) (latest : SuperVersion) (older : List SuperVersion) : Type 0 where
-  pub right : (k : Bytes) (s : ℕ) (sv : SuperVersion) → above opened ≤ s → is_outside k s journal ≡ true → lookup s (latest ∷ older) ≡ Some sv → seen s (stack k (entries mems sv)) ≡ replay_at k s (start k) journal
-  pub fits : (k : Bytes) → AllByRecursion (FitsAt opened journal mems k) (latest ∷ older)
-  pub ids : AllByRecursion (HasIds latest.active) (latest ∷ older)
-  pub recent : latest.number ≤ floor journal
-  pub kept : (s : ℕ) → 0 < s → is_kept s journal ≡ true → is_some (lookup s (latest ∷ older)) ≡ true
 
 pub fits_more : (n m c d : ℕ) (es : List Entry) → n ≤ m → c ≤ d → Fits n c es → Fits m d es
 fits_more n m c d es h q f = record { falling = f.falling; below = each_weaker _ _ (λ e b. omega arith) es f.below; single = f.single; few = let a = f.few in omega arith }
@@ -53,6 +34,10 @@ fits_push n c e es h w f = record {
 pub flat_map_same : (f g : Memtables) (ids : List ℕ) → AllByRecursion (λ i. f i ≡ g i) ids → flat_map f ids ≡ flat_map g ids
 flat_map_same f g [] h = refl
 flat_map_same f g (i ∷ ids) h = rw (h.0, flat_map_same f g ids h.1) refl
+
+-- a write reaches no older memtable
+pub written_other : (mems : Memtables) (a : ℕ) (e : Entry) (i : ℕ) → i < a → written mems a e i ≡ mems i
+written_other mems a e i h = ap (λ b. cond b (put entry_cmp e (mems i)) (mems i)) (ne_eqb i a (λ q. omega arith))
 
 pushed_other : (mems : Memtables) (a : ℕ) (e : Entry) (i : ℕ) → i < a → pushed mems a e i ≡ mems i
 pushed_other mems a e i h = ap (λ b. cond b (e ∷ mems i) (mems i)) (ne_eqb i a (λ q. omega arith))

@@ -7,12 +7,13 @@ use Rattle.lsm_below.specs.Entries.{Entry, stack}
 use Rattle.lsm_model.specs.Journal.{Map, InOrder}
 use Rattle.lsm_model.specs.Views.{view, front, seen, SuperVersion, sources, entries, lookup, emptied, Memtables, pushed}
 use Rattle.lsm_model.specs.Steps.{State, history, Action, Wrote, Rotated, Flushed, Merged, Moved, DroppedTables, Cleared, Marked, LostDrop, Asked, Maintained, Step, Spares, StepsSpareAnswers}
+use Rattle.lsm_model.specs.Sound.{HasIds, Holds}
 use Rattle.lsm_model.proofs.Lists.{each_found}
 use Rattle.lsm_model.proofs.Journals.{floor-le}
-use Rattle.lsm_model.proofs.Sound.{HasIds, seen_pushed}
+use Rattle.lsm_model.proofs.Sound.{seen_pushed}
 use Rattle.lsm_model.proofs.Installs.{ShowsSame, lookup_cases, lookup_latest, lookup_older, entries_emptied, emptied_here, rotated}
 use Rattle.lsm_model.proofs.Commits.{found_still}
-use Rattle.lsm_model.proofs.Runs.{Holds, write_pushed, flushed, merged, moved, run_holds, step_order, opened_holds, get-view, seen_zero, stack_entries, same_sources}
+use Rattle.lsm_model.proofs.Runs.{write_pushed, flushed, merged, moved, run_holds, step_order, opened_holds, get-view, seen_zero, stack_entries, same_sources}
 
 pub Alike : Bytes → ℕ → State → State → Type 0
 Alike k s old new = (sv sv' : SuperVersion) → lookup s (history old) ≡ Some sv → lookup s (history new) ≡ Some sv' → seen s (stack k (entries old.mems sv)) ≡ seen s (stack k (entries new.mems sv'))

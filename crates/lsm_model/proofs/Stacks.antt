@@ -3,10 +3,10 @@ use Rattle.std.proofs.Common.{◌≡◌, ℕ, ◌+◌, ◌<◌, ◌≤◌, Bool,
 use Rattle.std.specs.List.{find, AllByRecursion}
 use Rattle.std.proofs.lemmas.List.Elements.{filter-append}
 use Rattle.std.proofs.lemmas.List.Folds.{find-append}
-use Rattle.lsm_below.specs.declared.value_type.ValueType.{ValueType}
-use Rattle.lsm_below.specs.declared.value_type.ValueType.TheVariants.{Value, Tombstone, WeakTombstone}
 use Rattle.lsm_below.specs.Keys.{Bytes, is_same}
 use Rattle.lsm_below.specs.Entries.{Entry, value_by, is_value_kind, is_del_kind, is_weak_kind, value_of, is_value, is_del, is_weak, stack, values, top, later, IsFalling, IsSingle, keep}
+use Rattle.lsm_below.specs.declared.value_type.ValueType.{ValueType}
+use Rattle.lsm_below.specs.declared.value_type.ValueType.TheVariants.{Value, Tombstone, WeakTombstone}
 use Rattle.lsm_model.specs.Views.{shown, walk, seen}
 use Rattle.lsm_model.proofs.Lists.{each_left, each_right, each_sub, Sublist, done, kept, left, sub_none}
 

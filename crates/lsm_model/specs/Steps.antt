@@ -1,8 +1,7 @@
 -- The steps of a tree, and what holds of its reads after any of them.
-use Rattle.std.specs.Prelude.{◌≡◌, ℕ, ◌<◌, ◌≤◌, Bool, true, false, List, [], ◌∷◌, ◌++◌, Some, flat_map, is_some}
+use Rattle.std.specs.Prelude.{◌≡◌, ℕ, ◌<◌, ◌≤◌, Bool, true, false, List, [], ◌∷◌, ◌++◌, Some, flat_map, is_some, ◌==◌}
 use Rattle.std.specs.List.{AllByRecursion, list_any}
 use Rattle.std.specs.FinMap.{get}
-use Rattle.std.specs.Prelude.{◌==◌}
 use Rattle.lsm_below.specs.Keys.{Bytes}
 use Rattle.lsm_below.specs.Ranges.{Range, in_range}
 use Rattle.lsm_below.specs.Entries.{Entry, above, stack, top, IsOrdered, IsSingle, keep}
@@ -11,22 +10,30 @@ use Rattle.lsm_model.specs.Views.{view, found_at, view_at, walk, Memtables, Plac
 use Rattle.lsm_model.specs.declared.journal.JournalEntry.TheVariants.{Write, Clear, Install, Dropped, Mark, Read}
 use Rattle.lsm_model.specs.declared.question.Question.{Question}
 
+-- ---- states
+
+-- a tree: its journal, its memtables, and its super versions, the latest and the older ones from the newest
 pub record State : Type 0 where
   pub journal : List Event
   pub mems : Memtables
   pub latest : SuperVersion
   pub older : List SuperVersion
 
+-- the super versions of a tree, from the newest
 abbrev pub history : State → List SuperVersion
 history t = t.latest ∷ t.older
 
--- tables by their ids
+-- is the id one of these?
 abbrev pub among : List ℕ → ℕ → Bool
 among ids i = list_any (λ j. i == j) ids
 
+-- tables hold only keys of their ranges
 abbrev pub AllCover : List Placed → Type 0
 AllCover tables = AllByRecursion (λ p. AllByRecursion (λ e. in_range e.key.user_key p.table.range ≡ true) p.table.entries) tables
 
+-- ---- actions
+
+-- what a tree does
 pub data Action : Type 0 where
   -- the entry; the id of the new memtable
   Wrote : Entry → Action
@@ -46,14 +53,14 @@ pub data Action : Type 0 where
   Asked : ℕ → Question → Action
   Maintained : ℕ → Action
 
--- a write to the active memtable, in whatever order a memtable lists its keys
+-- an entry took its place in the active memtable, in whatever order a memtable lists its keys
 pub record IsWrite (e : Entry) (old new : State) : Type 0 where
   pub journal : new.journal ≡ old.journal ++ Write e ∷ []
   pub mems : (k : Bytes) (i : ℕ) → stack k (new.mems i) ≡ stack k (written old.mems old.latest.active e i)
   pub latest : new.latest ≡ old.latest
   pub older : new.older ≡ old.older
 
--- a new super version before the others, with its own number
+-- a new super version came in front of the others, and the journal tells these events
 pub record IsCommit (events : List Event) (old new : State) : Type 0 where
   pub journal : new.journal ≡ old.journal ++ events
   pub mems : new.mems ≡ old.mems
@@ -61,6 +68,7 @@ pub record IsCommit (events : List Event) (old new : State) : Type 0 where
   pub older : new.older ≡ old.latest ∷ old.older
   pub laid : IsLaidOut new.latest.tables
 
+-- the oldest sealed memtables gave way to tables, in front of all others, that hold what a compaction keeps of them
 pub record IsFlush (w : ℕ) (job : List ℕ) (made : List Placed) (old new : State) : Type 0 where
   pub commit : IsCommit (Install new.latest.number ∷ []) old new
   pub sealed : old.latest.sealed ≡ new.latest.sealed ++ job
@@ -68,6 +76,7 @@ pub record IsFlush (w : ℕ) (job : List ℕ) (made : List Placed) (old new : St
   pub placed : IsRearranged (made ++ old.latest.tables) new.latest.tables
   pub kept : (k : Bytes) → stack k (held made) ≡ keep w false (stack k (flat_map old.mems job))
 
+-- chosen tables gave way to a first run of level d, which holds what a compaction keeps of them
 pub record IsMerge (w d : ℕ) (ids : List ℕ) (evict : Bool) (made : List Placed) (old new : State) : Type 0 where
   pub commit : IsCommit (Install new.latest.number ∷ []) old new
   pub sealed : new.latest.sealed ≡ old.latest.sealed
@@ -76,6 +85,7 @@ pub record IsMerge (w d : ℕ) (ids : List ℕ) (evict : Bool) (made : List Plac
   pub placed : IsRearranged (upper_of d (among ids) old.latest.tables ++ (made ++ lower_of d (among ids) old.latest.tables)) new.latest.tables
   pub kept : (k : Bytes) → stack k (held made) ≡ keep w evict (stack k (held (chosen_of (among ids) old.latest.tables)))
 
+-- chosen tables became a first run of level d, with the same entries
 pub record IsMove (d : ℕ) (ids : List ℕ) (moved : List Placed) (old new : State) : Type 0 where
   pub commit : IsCommit (Install new.latest.number ∷ []) old new
   pub sealed : new.latest.sealed ≡ old.latest.sealed
@@ -84,12 +94,13 @@ pub record IsMove (d : ℕ) (ids : List ℕ) (moved : List Placed) (old new : St
   pub placed : IsRearranged (upper_of d (among ids) old.latest.tables ++ (moved ++ lower_of d (among ids) old.latest.tables)) new.latest.tables
   pub same : (k : Bytes) → stack k (held moved) ≡ stack k (held (chosen_of (among ids) old.latest.tables))
 
+-- chosen tables were dropped, and the journal tells their ranges
 pub record IsDrop (ids : List ℕ) (old new : State) : Type 0 where
   pub commit : IsCommit (Dropped (ranges_of (among ids) old.latest.tables) new.latest.number ∷ (Install new.latest.number ∷ [])) old new
   pub sealed : new.latest.sealed ≡ old.latest.sealed
   pub placed : IsRearranged (left_of (among ids) old.latest.tables) new.latest.tables
 
--- Old super versions are forgotten, at most those that maintenance at w forgets, which no kept snapshot is below.
+-- old super versions were forgotten, none that maintenance at w leaves, where no kept snapshot is below w
 pub record IsMaintained (w : ℕ) (old new : State) : Type 0 where
   pub marked : (s : ℕ) → is_kept s old.journal ≡ true → w ≤ s
   pub journal : new.journal ≡ old.journal
@@ -99,6 +110,7 @@ pub record IsMaintained (w : ℕ) (old new : State) : Type 0 where
   pub removed : List SuperVersion
   pub was : history old ≡ history new ++ removed
 
+-- an action leads from one state of a tree to another
 abbrev pub Step : List Entry → State → Action → State → Type 0
 Step opened old (Wrote e) new = IsWrite e old new
 Step opened old (Rotated a) new = (old.latest.active < a) × (new ≡ record { journal = old.journal; mems = emptied old.mems a; latest = record { number = old.latest.number; active = a; sealed = old.latest.active ∷ old.latest.sealed; tables = old.latest.tables }; older = old.older })
@@ -112,11 +124,14 @@ Step opened old (LostDrop ranges n) new = new ≡ record { journal = old.journal
 Step opened old (Asked s question) new = (sv : SuperVersion) × (above opened ≤ s) × (found_at s old.latest old.older ≡ Some sv) × (new ≡ record { journal = old.journal ++ Read s question (answered s (sources old.mems sv) question) ∷ []; mems = old.mems; latest = old.latest; older = old.older })
 Step opened old (Maintained w) new = IsMaintained w old new
 
+-- actions, one behind the other, lead from one state of a tree to another
 abbrev pub Run : List Entry → State → List Action → State → Type 0
 Run opened old [] new = new ≡ old
 Run opened old (action ∷ actions) new = (mid : State) × Step opened old action mid × Run opened mid actions new
 
--- as opening leaves a tree: nothing but tables, which are ordered, and start is what they show
+-- ---- reads
+
+-- a tree as opening leaves it: nothing but tables, which are ordered, and start is what they show
 pub record IsOpened (opened : List Entry) (start : Map) (t : State) : Type 0 where
   pub journal : t.journal ≡ []
   pub number : t.latest.number ≡ 0
@@ -129,7 +144,7 @@ pub record IsOpened (opened : List Entry) (start : Map) (t : State) : Type 0 whe
   pub single : (k : Bytes) → IsSingle (stack k opened)
   pub starts : (k : Bytes) → get start k ≡ view_at k (above opened) (opened ∷ [])
 
--- what holds of the reads
+-- the reads of a tree answer what the replay of its journal does
 pub record ReadsEqualReplay (opened : List Entry) (start : Map) (t : State) : Type 0 where
   -- every super version stays ordered
   pub ordered : AllByRecursion (λ sv. IsOrdered (sources t.mems sv)) (history t)
@@ -143,10 +158,13 @@ pub record ReadsEqualReplay (opened : List Entry) (start : Map) (t : State) : Ty
   pub tops : (k : Bytes) (s : ℕ) → AllByRecursion (λ sv. get (view s (sources t.mems sv)) k ≡ view_at k s (sources t.mems sv)) (history t)
   pub walks : (k : Bytes) (s : ℕ) → AllByRecursion (λ sv. walk k s (sources t.mems sv) ≡ top k s (flat_map (λ es. es) (sources t.mems sv))) (history t)
 
+-- after any steps in order from an opened tree, its reads answer what the replay of its journal does
 abbrev pub EveryRunReadsRight : Type 0
 EveryRunReadsRight = (opened : List Entry) (start : Map) (old new : State) (actions : List Action) → IsOpened opened start old → Run opened old actions new → InOrder opened new.journal → ReadsEqualReplay opened start new
 
--- a step leaves the answers at this snapshot, where it is answered before and after
+-- ---- answers that stay
+
+-- an action is to leave the answers at this snapshot
 abbrev pub Spares : Action → State → ℕ → Type 0
 Spares (Wrote e) new s = s ≤ e.key.seqno
 Spares (Rotated a) new s = Unit {0}
@@ -160,6 +178,7 @@ Spares (LostDrop ranges n) new s = Unit {0}
 Spares (Asked at question) new s = Unit {0}
 Spares (Maintained w) new s = Unit {0}
 
+-- a step that is to leave the answers at a snapshot leaves them, where the snapshot is answered before and after
 abbrev pub StepsSpareAnswers : Type 0
 StepsSpareAnswers = (opened : List Entry) (start : Map) (first old new : State) (actions : List Action) (action : Action) (s : ℕ) (sv sv' : SuperVersion)
     → IsOpened opened start first → Run opened first actions old → Step opened old action new → InOrder opened new.journal → Spares action new s

@@ -1,0 +1,5 @@
+pub mod Errors
+pub mod Memtables
+pub mod Versions
+pub mod Contents
+pub mod History

@@ -1,0 +1,36 @@
+// What a tree is opened with.
+ghost use Rattle.std.specs.Prelude.{◌≡◌};
+
+use lsm_below::{SeqNo, TreeId};
+
+/// The levels of every tree.
+pub const DEFAULT_LEVEL_COUNT: u8 = 7;
+
+/// What a tree is opened with: its id, and where its counters start.
+#[derive(Clone, Copy, Debug, PartialEq, Eq)]
+pub struct Config {
+    pub id: TreeId,
+    pub seqno: SeqNo,
+    pub visible_seqno: SeqNo,
+}
+
+impl Config {
+    /// A configuration of these parts: `seqno` is the first number that a write draws,
+    /// `visible_seqno` the first snapshot that callers are to take.
+    pub fn new(id: TreeId, seqno: SeqNo, visible_seqno: SeqNo) -> Config
+        ensures { result ≡ record { id = id; seqno = seqno; visible_seqno = visible_seqno } }
+    {
+        Config {
+            id,
+            seqno,
+            visible_seqno,
+        }
+    }
+
+    /// The number of levels, always `DEFAULT_LEVEL_COUNT`.
+    pub fn level_count(&self) -> u8
+        ensures { result ≡ DEFAULT_LEVEL_COUNT }
+    {
+        DEFAULT_LEVEL_COUNT
+    }
+}

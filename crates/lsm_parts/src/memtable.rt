@@ -1,0 +1,396 @@
+// A sorted table of entries in memory.
+ghost use Rattle.std.specs.Prelude.{◌≡◌, ℕ, ◌+◌, ◌-◌, ◌<◌, ◌≤◌, ◌↔◌, [], length, IsTrue, IfOk, IfErr, OnOk, OnErr, IfSome, IfNone, option_copied, true, false, slice_index_or, vec_len, vec_capacity};
+ghost use Rattle.std.specs.Slice.Iter.{iter_rest};
+ghost use Rattle.lsm_below.specs.declared.value.InternalValue.{InternalValue};
+ghost use Rattle.lsm_below.specs.Entries.{entry_cmp, top};
+ghost use Rattle.lsm_below.specs.Sorted.{Rises, put, first};
+ghost use Rattle.lsm_parts.specs.Memtables.{capped, entry_size, new_memtable, with_entry, with_entries, highest_of, is_visible, stands_before, within, IsTop, HasNone};
+ghost use Rattle.lsm_model.specs.Journal.{is_from, is_to};
+ghost use Rattle.lsm_parts.specs.Contents.{content_of, added, all_added};
+
+use crate::Error;
+use lsm_below::{InternalValue, MemtableId, SeqNo, UserKey};
+use std::alloc::Global;
+use std::cmp::Ordering;
+use std::marker::Model;
+use std::ops::Bound;
+use std::slice::Iter;
+
+/// Entries by rising key, and under one key by falling number, of which each stands once.
+/// It takes any number, and any key and value.
+#[derive(Drop)]
+pub struct Memtable {
+    id: MemtableId,
+    content: Content,
+    flagged: bool,
+}
+
+/// The entries, the sizes of all accepted inserts, and the greatest number.
+#[derive(Drop)]
+struct Content {
+    entries: Vec<InternalValue>,
+    size: u64,
+    highest: Option<SeqNo>,
+}
+
+impl Model for Memtable {
+    ghost use Rattle.std.specs.Prelude.{◌≡◌};
+    ghost use Rattle.lsm_below.specs.Entries.{entry_cmp};
+    ghost use Rattle.lsm_below.specs.Sorted.{Rises};
+    ghost use Rattle.lsm_parts.specs.Memtables.{SeenMemtable, highest_of};
+
+    ghost Value = { SeenMemtable };
+
+    ghost view = { λ t. record { id = t.id; entries = t.content.entries.items; size = t.content.size; flagged = t.flagged } };
+
+    ghost invariant = { λ t. Rises entry_cmp t.content.entries.items × (t.content.highest ≡ highest_of t.content.entries.items) };
+}
+
+/// The bytes that an entry counts: those of its key and value, and 48.
+fn size_of_entry(entry: &InternalValue) -> u64
+    ensures { result ≡ entry_size entry.now }
+{
+    (entry.key.user_key.len() as u64)
+        .saturating_add(entry.value.len() as u64)
+        .saturating_add(48)
+}
+
+/// Puts an entry in its place, over one of the same key and number. There is room.
+fn put_entry(entries: &mut Vec<InternalValue>, entry: InternalValue)
+    requires sorted { Rises entry_cmp entries.old.items }
+    requires room { vec_len entries.old < vec_capacity entries.old }
+    ensures items { entries.new.items ≡ put entry_cmp entry entries.old.items }
+    ensures len { vec_len entries.new ≤ vec_len entries.old + 1 }
+    ensures capacity { vec_capacity entries.old ≤ vec_capacity entries.new }
+{
+    match entries.binary_search_by(|other| other.key.cmp(&entry.key)) {
+        Ok(at) => entries[at] = entry,
+        Err(at) => {
+            let Ok(()) = entries.insert(at, entry) else {
+                unreachable!()
+            };
+        }
+    }
+}
+
+/// Puts an entry in its place. There is room.
+fn add_entry(content: &mut Content, entry: InternalValue)
+    requires sorted { Rises entry_cmp content.old.entries.items }
+    requires room { vec_len content.old.entries < vec_capacity content.old.entries }
+    ensures added { content_of content.new ≡ added entry (content_of content.old) }
+    ensures len { vec_len content.new.entries ≤ vec_len content.old.entries + 1 }
+    ensures capacity { vec_capacity content.old.entries ≤ vec_capacity content.new.entries }
+{
+    content.size = content.size.saturating_add(size_of_entry(&entry));
+    let highest = content.highest.unwrap_or(0).max(entry.key.seqno);
+    content.highest = Some(highest);
+    put_entry(&mut content.entries, entry);
+}
+
+/// Puts each entry in its place, in turn. There is room for all.
+fn add_entries(content: &mut Content, batch: Vec<InternalValue>)
+    requires sorted { Rises entry_cmp content.old.entries.items }
+    requires room { vec_len content.old.entries + vec_len batch ≤ vec_capacity content.old.entries }
+    ensures { content_of content.new ≡ all_added batch.items (content_of content.old) }
+{
+    for entry in batch {
+        add_entry(content, entry);
+    }
+}
+
+/// Whether the entry stands before each entry of the key that is numbered below this.
+fn is_before(entry: &InternalValue, key: &[u8], number: u64) -> bool
+    ensures { result ≡ stands_before key.now number entry.now }
+{
+    match entry.key.user_key.as_slice().cmp(key) {
+        Ordering::Less => true,
+        Ordering::Equal => entry.key.seqno >= number,
+        Ordering::Greater => false,
+    }
+}
+
+/// How many entries stand before each entry of the key that is numbered below this.
+fn place_below(entries: &[InternalValue], key: &[u8], number: u64) -> usize
+    requires { Rises entry_cmp entries.now }
+    ensures bound { result ≤ length entries.now }
+    ensures before { (j : ℕ) (d : InternalValue) → j < result → stands_before key.now number (slice_index_or entries.now j d) ≡ true }
+    ensures behind { (j : ℕ) (d : InternalValue) → result ≤ j → j < length entries.now → stands_before key.now number (slice_index_or entries.now j d) ≡ false }
+{
+    let mut low = 0;
+    let mut high = entries.len();
+    while low < high {
+        let mid = low + (high - low) / 2;
+        if is_before(&entries[mid], key, number) {
+            low = mid + 1;
+        } else {
+            high = mid;
+        }
+    }
+    low
+}
+
+/// The entry of a key with the greatest number below the snapshot.
+fn first_visible<'a>(
+    entries: &'a [InternalValue],
+    key: &[u8],
+    snapshot: SeqNo,
+) -> Option<&'a InternalValue>
+    requires { Rises entry_cmp entries.now }
+    ensures { option_copied result ≡ first (is_visible key.now snapshot) entries.now }
+{
+    let at = place_below(entries, key, snapshot);
+    let entry = entries.get(at)?;
+    if entry.key.user_key.as_slice() == key {
+        Some(entry)
+    } else {
+        None
+    }
+}
+
+/// Whether a key lies within a lower bound.
+fn lies_from(bound: &Bound<UserKey>, key: &UserKey) -> bool
+    ensures { result ≡ is_from bound.now key.now }
+{
+    match bound {
+        Bound::Included(low) => low <= key,
+        Bound::Excluded(low) => low < key,
+        Bound::Unbounded => true,
+    }
+}
+
+/// Whether a key lies within an upper bound.
+fn lies_to(bound: &Bound<UserKey>, key: &UserKey) -> bool
+    ensures { result ≡ is_to bound.now key.now }
+{
+    match bound {
+        Bound::Included(high) => key <= high,
+        Bound::Excluded(high) => key < high,
+        Bound::Unbounded => true,
+    }
+}
+
+/// The entries whose keys lie within the bounds: they stand together.
+fn entries_within<'a>(
+    entries: &'a [InternalValue],
+    bounds: &(Bound<UserKey>, Bound<UserKey>),
+) -> &'a [InternalValue]
+    requires { Rises entry_cmp entries.now }
+    ensures { result.now ≡ within bounds.now.0 bounds.now.1 entries.now }
+{
+    let end = entries.partition_point(|entry| lies_to(&bounds.1, &entry.key.user_key));
+    let start = entries.partition_point(|entry| !lies_from(&bounds.0, &entry.key.user_key));
+    &entries[start.min(end)..end]
+}
+
+impl Memtable {
+    /// An empty memtable.
+    pub fn new(alloc: Global, id: MemtableId) -> Memtable
+        ensures { result ≡ new_memtable id }
+    {
+        Memtable {
+            id,
+            content: Content {
+                entries: Vec::new(alloc),
+                size: 0,
+                highest: None,
+            },
+            flagged: false,
+        }
+    }
+
+    /// The memtable's number.
+    pub fn id(&self) -> MemtableId
+        ensures { result ≡ self.now.id }
+    {
+        self.id
+    }
+
+    /// The entry of a key with the greatest number below the snapshot. None only where there is none.
+    pub fn get(&self, key: &[u8], seqno: SeqNo) -> Option<&InternalValue>
+        ensures is { option_copied result ≡ top key.now seqno self.now.entries }
+        ensures greatest { IfSome result (λ e. IsTop self.now.entries key.now seqno e.now) }
+        ensures none { IfNone result (HasNone self.now.entries key.now seqno) }
+    {
+        first_visible(&self.content.entries, key, seqno)
+    }
+
+    /// The entries in order.
+    pub fn iter(&self) -> Iter<'_, InternalValue>
+        ensures { iter_rest result ≡ self.now.entries }
+    {
+        self.content.entries.iter()
+    }
+
+    /// The entries in order whose keys lie within the bounds. There is none where the lower one is above the upper one.
+    pub fn range(&self, bounds: &(Bound<UserKey>, Bound<UserKey>)) -> Iter<'_, InternalValue>
+        ensures { iter_rest result ≡ within bounds.now.0 bounds.now.1 self.now.entries }
+    {
+        entries_within(&self.content.entries, bounds).iter()
+    }
+
+    /// The bytes of all accepted inserts, replaced ones counted again, up to 2^64 - 1.
+    /// An entry counts its key's and its value's bytes, and 48.
+    pub fn size(&self) -> u64
+        ensures { result ≡ self.now.size }
+    {
+        self.content.size
+    }
+
+    /// How many entries there are.
+    pub fn len(&self) -> usize
+        ensures { result ≡ length self.now.entries }
+    {
+        self.content.entries.len()
+    }
+
+    /// Whether there is none.
+    pub fn is_empty(&self) -> bool
+        ensures { IsTrue result ↔ (self.now.entries ≡ []) }
+    {
+        self.content.entries.is_empty()
+    }
+
+    /// The greatest number, None where there is no entry.
+    pub fn get_highest_seqno(&self) -> Option<SeqNo>
+        ensures { result ≡ highest_of self.now.entries }
+    {
+        self.content.highest
+    }
+
+    /// Whether `flag_rotated` was called.
+    pub fn is_flagged_for_rotation(&self) -> bool
+        ensures { result ≡ self.now.flagged }
+    {
+        self.flagged
+    }
+
+    /// Notes that the memtable is to be rotated.
+    pub fn flag_rotated(&mut self)
+        ensures { self.new ≡ record self.old { flagged = true } }
+    {
+        self.flagged = true;
+    }
+
+    /// Puts an entry in its place, over one of the same key and number, its type too.
+    /// Answers the bytes that it counts, and those of all inserts so far.
+    /// Refused only for want of memory, and then nothing changes.
+    pub fn insert(&mut self, item: InternalValue) -> Result<(u64, u64), Error>
+        ensures sizes { IfOk result (λ r. (r.0 ≡ entry_size item) × (r.1 ≡ self.new.size)) }
+        ensures ok { OnOk result (self.new ≡ with_entry item self.old) }
+        ensures err { OnErr result (self.new ≡ self.old) }
+        ensures memory { IfErr result (λ e. e ≡ Error.OutOfMemory) }
+    {
+        self.content.entries.try_reserve(1)?;
+        let added = size_of_entry(&item);
+        add_entry(&mut self.content, item);
+        Ok((added, self.content.size))
+    }
+
+    /// Puts each entry of a batch in its place, in turn, over one of the same key and number.
+    /// Refused only for want of memory, and then nothing changes.
+    pub fn insert_all(&mut self, batch: Vec<InternalValue>) -> Result<(), Error>
+        ensures ok { OnOk result (self.new ≡ with_entries batch.items self.old) }
+        ensures err { OnErr result (self.new ≡ self.old) }
+        ensures memory { IfErr result (λ e. e ≡ Error.OutOfMemory) }
+    {
+        self.content.entries.try_reserve(batch.len())?;
+        add_entries(&mut self.content, batch);
+        Ok(())
+    }
+}
+
+#[cfg(test)]
+mod tests {
+    use super::*;
+    use lsm_below::{UserValue, ValueType};
+    use std::test::Fail;
+
+    fn entry(key: &'static str, value: &'static str, seqno: SeqNo) -> InternalValue {
+        InternalValue::from_components(
+            UserKey::from_static(key.as_bytes()),
+            UserValue::from_static(value.as_bytes()),
+            seqno,
+            ValueType::Value,
+        )
+    }
+
+    #[test]
+    fn finds_the_newest_below_the_snapshot(rt: HostRuntime) -> Result<(), Fail> {
+        let mut table = Memtable::new(rt.alloc(), 0);
+        table.insert(entry("hello-key-999991", "hello-value-999991", 0))?;
+        table.insert(entry("hello-key-999991", "hello-value-999991-2", 1))?;
+        for seqno in [0, 255, 99] {
+            table.insert(entry("abc", "", seqno))?;
+        }
+        let lookups = [
+            ("abc", u64::MAX, Some((255, ""))),
+            ("abc", 100, Some((99, ""))),
+            ("abc", 50, Some((0, ""))),
+            ("abc", 0, None),
+            (
+                "hello-key-999991",
+                u64::MAX,
+                Some((1, "hello-value-999991-2")),
+            ),
+            ("hello-key-999991", 1, Some((0, "hello-value-999991"))),
+            ("hello-key-999991", 2, Some((1, "hello-value-999991-2"))),
+            ("hello-key-99999", u64::MAX, None),
+            ("hello-key-99999", 1, None),
+            ("hello-key-99999", 2, None),
+        ];
+        for (key, snapshot, want) in lookups {
+            let found = table.get(key.as_bytes(), snapshot);
+            assert_eq!(rt;
+                found.map(|e| e.key.seqno),
+                want.map(|w| w.0),
+                "{key} at {snapshot}"
+            );
+            let value = found.map(|e| e.value.as_slice());
+            assert_eq!(rt; value, want.map(|w| w.1.as_bytes()), "{key} at {snapshot}");
+        }
+        Ok(())
+    }
+
+    #[test]
+    fn counts_replaced_entries_again(rt: HostRuntime) -> Result<(), Fail> {
+        let mut table = Memtable::new(rt.alloc(), 0);
+        let key = UserKey::from_static(b"a");
+        let inserts = [
+            (entry("a", "my_value", 0), (57, 57), 1),
+            (InternalValue::new_tombstone(key, 1), (49, 106), 2),
+            (entry("a", "x", 1), (50, 156), 2),
+        ];
+        for (item, sizes, len) in inserts {
+            assert_eq!(rt; table.insert(item)?, sizes);
+            assert_eq!(rt; table.len(), len);
+        }
+        assert_eq!(rt; table.size(), 156);
+        assert_eq!(rt; table.get_highest_seqno(), Some(1));
+        Ok(())
+    }
+
+    #[test]
+    fn lends_what_lies_within_bounds(rt: HostRuntime) -> Result<(), Fail> {
+        let mut table = Memtable::new(rt.alloc(), 0);
+        table.insert_all(vec![in rt.alloc();
+            entry("b", "", 1),
+            entry("a", "", 1),
+            entry("a", "", 2),
+        ]?)?;
+        let a = || UserKey::from_static(b"a");
+        let b = || UserKey::from_static(b"b");
+        let ranges = [
+            ((Bound::Unbounded, Bound::Unbounded), 3, Some(2)),
+            ((Bound::Included(a()), Bound::Excluded(b())), 2, Some(2)),
+            ((Bound::Excluded(a()), Bound::Included(b())), 1, Some(1)),
+            ((Bound::Included(b()), Bound::Included(a())), 0, None),
+        ];
+        for (bounds, count, first) in ranges {
+            assert_eq!(rt; table.range(&bounds).count(), count);
+            assert_eq!(rt; table.range(&bounds).next().map(|e| e.key.seqno), first);
+        }
+        let last = table.iter().next_back().map(|e| e.key.user_key.as_slice());
+        assert_eq!(rt; last, Some(b"b".as_slice()));
+        Ok(())
+    }
+}

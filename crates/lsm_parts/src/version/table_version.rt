@@ -1,0 +1,56 @@
+// A version: the tables of a tree, level by level.
+ghost use Rattle.std.specs.Prelude.{◌≡◌, map, option_copied};
+ghost use Rattle.lsm_model.specs.Views.{walk, placed_from};
+ghost use Rattle.lsm_parts.specs.Versions.{empty_levels};
+
+use lsm_below::{InternalValue, SeqNo};
+use std::marker::Model;
+
+/// The number of a version.
+pub type VersionId = u64;
+
+/// The tables of a tree, level by level. No call makes a table yet, so all seven levels are empty.
+#[derive(Drop, Debug)]
+pub struct Version {
+    id: VersionId,
+}
+
+impl Model for Version {
+    ghost use Rattle.lsm_parts.specs.Versions.{SeenVersion, empty_levels};
+
+    ghost Value = { SeenVersion };
+
+    ghost view = { λ v. record { id = v.id; levels = empty_levels } };
+}
+
+impl Version {
+    /// A version without tables.
+    pub fn new(id: VersionId) -> Version
+        ensures { result ≡ record { id = id; levels = empty_levels } }
+    {
+        Version { id }
+    }
+
+    /// The version's number.
+    pub fn id(&self) -> VersionId
+        ensures { result ≡ self.now.id }
+    {
+        self.id
+    }
+
+    /// What a walk finds from table to table, level by level and run by run: the first visible entry of the key.
+    pub fn get(&self, _key: &[u8], _seqno: SeqNo) -> Option<&InternalValue>
+        ensures { option_copied result ≡ walk _key.now _seqno (map (λ p. p.table.entries) (placed_from 0 self.now.levels)) }
+    {
+        // No table was made yet.
+        let _ = &self.id;
+        None
+    }
+
+    /// The same version once more.
+    pub fn copy(&self) -> Version
+        ensures { result ≡ self.now }
+    {
+        Version { id: self.id }
+    }
+}

@@ -1,0 +1,134 @@
+-- Each call is a step of the theory.
+use Rattle.std.proofs.Common.{◌≡◌, ℕ, ◌+◌, ◌<◌, true, false, cond, List, [], ◌∷◌, ◌++◌, max, ◌⊎◌, Option, None, Result, Ok, Err, IfOk, IfErr, OnOk, OnErr, IfSome, map, refl, sym, ap, ◌∙◌, subst, eqb, append-nil, append_assoc}
+use Rattle.std.specs.FinMap.{empty, get-empty}
+use Rattle.std.proofs.lemmas.List.{reverse-append}
+use Rattle.lsm_below.specs.Keys.{Bytes, bytes_cmp}
+use Rattle.lsm_below.specs.Entries.{Entry, entry_cmp, stack}
+use Rattle.lsm_below.specs.Sorted.{put}
+use Rattle.lsm_model.specs.Journal.{Event}
+use Rattle.lsm_model.specs.Views.{written}
+use Rattle.lsm_model.specs.Steps.{Run, Wrote, IsOpened}
+use Rattle.lsm_model.specs.declared.journal.JournalEntry.TheVariants.{Write, Read}
+use Rattle.lsm_model.specs.declared.question.Question.TheVariants.{Get}
+use Rattle.lsm_model.specs.declared.question.Answer.TheVariants.{Found}
+use Rattle.lsm_model.specs.Ops.{op_entries}
+use Rattle.lsm_model.specs.declared.op.Op.{Op}
+use Rattle.lsm_parts.specs.Memtables.{SeenMemtable, entry_size, with_entry, with_entries}
+use Rattle.lsm_parts.specs.declared.error.Error.{Error}
+use Rattle.lsm_parts.specs.declared.error.Error.TheVariants.{OutOfMemory}
+use Rattle.lsm_parts.specs.declared.config.Config.{Config}
+use Rattle.lsm_state.specs.Held.{entries_of, put_first, put_all_first, HasFirst, first_size}
+use Rattle.lsm_state.specs.Core.{Core, state_of, latest_of, older_of, fresh_core, written_core, written_all, drawn_core, rotated_core}
+use Rattle.lsm_state.specs.Refusals.{entry_refusal, batch_refusal}
+use Rattle.lsm_state.specs.Calls.{IsWriteStep, IsWriteRun, IsRotateStep, IsGetStep, Gives, Appends, WritesBatch}
+
+-- ---- writes
+
+-- an insert into the first memtable is one under its id
+put_first-written : (tables : List SeenMemtable) (a : ℕ) (e : Entry) → HasFirst tables (λ t. t.id ≡ a) → (i : ℕ) → entries_of (put_first e tables) i ≡ written (entries_of tables) a e i
+put_first-written [] a e h i = absurd h
+put_first-written (t ∷ tables) a e h i =
+    subst (λ b. entries_of (put_first e (t ∷ tables)) i ≡ written (entries_of (t ∷ tables)) b e i) h
+    (elim (eqb i t.id) as (λ b. cond b (put entry_cmp e t.entries) (entries_of tables i) ≡ cond b (put entry_cmp e (cond b t.entries (entries_of tables i))) (cond b t.entries (entries_of tables i))) [ true ↦ refl | false ↦ refl ])
+
+-- the first memtable is the active one
+abbrev pub HasActive : Core → Type 0
+HasActive c = HasFirst c.memtables (λ t. t.id ≡ c.history.latest.active_memtable)
+
+pub write_step : (e : Entry) (c : Core) → HasActive c → IsWriteStep e c (written_core e c)
+write_step e c h opened journal = record { journal = refl; mems = λ k i. ap (stack k) (put_first-written c.memtables c.history.latest.active_memtable e h i); latest = refl; older = refl }
+
+first_kept : (tables : List SeenMemtable) (e : Entry) (P : ℕ → Type 0) → HasFirst tables (λ t. P t.id) → HasFirst (put_first e tables) (λ t. P t.id)
+first_kept [] e P h = h
+first_kept (t ∷ tables) e P h = h
+
+all_first : (e : Entry) (es : List Entry) (tables : List SeenMemtable) → put_all_first (e ∷ es) tables ≡ put_all_first es (put_first e tables)
+all_first e es [] = refl
+all_first e es (t ∷ tables) = refl
+
+none_first : (tables : List SeenMemtable) → put_all_first [] tables ≡ tables
+none_first [] = refl
+none_first (t ∷ tables) = refl
+
+abbrev pub with_memtables : Core → List SeenMemtable → Core
+with_memtables c tables = record { config = c.config; memtables = tables; history = c.history; next_memtable = c.next_memtable; seqno = c.seqno; visible_seqno = c.visible_seqno }
+
+pub write_run : (es : List Entry) (c : Core) → HasActive c → IsWriteRun es c (written_all es c)
+write_run [] c h opened journal = ap₂_state (append-nil journal) (none_first c.memtables)
+  where
+    ap₂_state : {j j' : List Event} {ts ts' : List SeenMemtable} → j ≡ j' → ts ≡ ts' → state_of j (with_memtables c ts) ≡ state_of j' (with_memtables c ts')
+    ap₂_state {j' = j'} {ts = ts} p q = ap (λ j. state_of j (with_memtables c ts)) p ∙ ap (λ t. state_of j' (with_memtables c t)) q
+write_run (e ∷ es) c h opened journal =
+    let rest = write_run es (written_core e c) (first_kept c.memtables e (λ i. i ≡ c.history.latest.active_memtable) h) opened (journal ++ Write e ∷ []) in (
+      state_of (journal ++ Write e ∷ []) (written_core e c),
+      write_step e c h opened journal,
+      subst (λ j. Run opened (state_of (journal ++ Write e ∷ []) (written_core e c)) (map Wrote es) (state_of j (written_all (e ∷ es) c))) (append_assoc journal (Write e ∷ []) (map Write es))
+          (subst (λ ts. Run opened (state_of (journal ++ Write e ∷ []) (written_core e c)) (map Wrote es) (state_of ((journal ++ Write e ∷ []) ++ map Write es) (with_memtables c ts))) (sym (all_first e es c.memtables)) rest),
+    )
+
+-- an insert into the memtables is a write
+pub appended : (e : Entry) (r : Result (ℕ × ℕ) Error) (c : Core) (tables : List SeenMemtable) → HasActive c → entry_refusal e ≡ None
+    → IfOk r (λ s. (s.0 ≡ entry_size e) × (s.1 ≡ first_size tables)) → OnOk r (tables ≡ put_first e c.memtables) → OnErr r (tables ≡ c.memtables) → IfErr r (λ x. x ≡ OutOfMemory)
+    → Appends e r c (with_memtables c tables)
+appended e (Ok s) c tables h none sizes ok err memory = record {
+  sizes = sizes;
+  core = ap (with_memtables c) ok;
+  step = subst (λ t. IsWriteStep e c (with_memtables c t)) (sym ok) (write_step e c h);
+  unchanged = tt;
+  told = subst (λ o. IfSome o (λ x. ◌≡◌ {A = Result (ℕ × ℕ) Error} (Ok s) (Err x))) (sym none) tt;
+  memory = λ _. tt;
+}
+appended e (Err x) c tables h none sizes ok err memory = record {
+  sizes = tt;
+  core = tt;
+  step = tt;
+  unchanged = ap (with_memtables c) err;
+  told = subst (λ o. IfSome o (λ y. ◌≡◌ {A = Result (ℕ × ℕ) Error} (Err x) (Err y))) (sym none) tt;
+  memory = λ _. memory;
+}
+
+-- ---- opening, rotation, reads
+
+pub fresh_opened : (config : Config) → IsOpened [] empty (state_of [] (fresh_core config))
+fresh_opened config = record {
+  journal = refl;
+  number = refl;
+  active = refl;
+  sealed = refl;
+  tables = refl;
+  laid = record { covers = tt; by_level = tt };
+  older = refl;
+  ordered = λ k. tt;
+  single = λ k. tt;
+  starts = λ k. get-empty bytes_cmp k;
+}
+
+pub rotate_step : (c : Core) → c.history.latest.active_memtable < c.next_memtable → IsRotateStep c.next_memtable c (rotated_core c)
+rotate_step c h opened journal = (h, ap (λ l. record { journal = journal; mems = entries_of (rotated_core c).memtables; latest = record { number = (latest_of c).number; active = c.next_memtable; sealed = l; tables = (latest_of c).tables }; older = older_of c }) (reverse-append c.history.latest.sealed_memtables (c.history.latest.active_memtable ∷ [])))
+
+pub get_step : (c : Core) (k : Bytes) (s : ℕ) (v : Option Bytes) → Gives c k s v → IsGetStep c k s v
+get_step c k s v g opened journal low = (g.0, low, g.1, ap (λ w. state_of (journal ++ Read s (Get k) (Found w) ∷ []) c) g.2)
+
+with_entries-id : (es : List Entry) (t : SeenMemtable) → (with_entries es t).id ≡ t.id
+with_entries-id [] t = refl
+with_entries-id (e ∷ es) t = with_entries-id es (with_entry e t)
+
+-- a batch leaves the first memtable the active one
+pub all_kept : (tables : List SeenMemtable) (es : List Entry) (i : ℕ) → HasFirst tables (λ t. t.id ≡ i) → HasFirst (put_all_first es tables) (λ t. t.id ≡ i)
+all_kept [] es i h = h
+all_kept (t ∷ tables) es i h = with_entries-id es t ∙ h
+
+-- a batch is written under the next number
+pub batch_written : (ops : List (Bytes × Op)) (c : Core) (n : ℕ) (tables : List SeenMemtable) (seqno visible : ℕ) → HasActive c → n ≡ c.seqno → batch_refusal n ops ≡ None
+    → tables ≡ put_all_first (op_entries n ops) c.memtables → seqno ≡ n + 1 → visible ≡ max c.visible_seqno (n + 1)
+    → WritesBatch ops (Ok n) c (record { config = c.config; memtables = tables; history = c.history; next_memtable = c.next_memtable; seqno = seqno; visible_seqno = visible })
+batch_written ops c n tables seqno visible h is none put next shown =
+    let whole : ◌≡◌ {A = Core} (record { config = c.config; memtables = tables; history = c.history; next_memtable = c.next_memtable; seqno = seqno; visible_seqno = visible }) (drawn_core (written_all (op_entries c.seqno ops) c)) = rw (put, next, shown, is) refl in
+    record {
+      number = is;
+      core = whole;
+      run = subst (λ x. IsWriteRun (op_entries c.seqno ops) c x) (sym whole) (write_run (op_entries c.seqno ops) c h);
+      unchanged = tt;
+      told = subst (λ o. IfSome o (λ x. (◌≡◌ {A = Result ℕ Error} (Ok n) (Err x)) ⊎ (◌≡◌ {A = Result ℕ Error} (Ok n) (Err OutOfMemory)))) (sym none ∙ ap (λ m. batch_refusal m ops) is) tt;
+      memory = λ _. tt;
+    }

@@ -1,0 +1,65 @@
+-- What callers see of a tree, and how the theory sees it.
+use Rattle.std.specs.Prelude.{ℕ, ◌+◌, max, List, [], ◌∷◌, ◌++◌, map, reverse}
+use Rattle.lsm_below.specs.Entries.{Entry}
+use Rattle.lsm_model.specs.Journal.{Event}
+use Rattle.lsm_model.specs.Views.{SuperVersion as Shown, placed_from}
+use Rattle.lsm_model.specs.Steps.{State}
+use Rattle.lsm_parts.specs.declared.config.Config.{Config}
+use Rattle.lsm_parts.specs.declared.version.super_version.SuperVersion.{SuperVersion}
+use Rattle.lsm_parts.specs.Memtables.{SeenMemtable, new_memtable}
+use Rattle.lsm_parts.specs.Versions.{empty_levels}
+use Rattle.lsm_parts.specs.History.{SeenHistory, first_version}
+use Rattle.lsm_state.specs.Held.{entries_of, put_first, put_all_first}
+
+-- a tree: its configuration, its memtables, the active one first, its super versions and its counters
+pub record Core : Type 0 where
+  pub config : Config
+  pub memtables : List SeenMemtable
+  pub history : SeenHistory
+  pub next_memtable : ℕ
+  pub seqno : ℕ
+  pub visible_seqno : ℕ
+
+-- a tree beside its store
+pub record Seen (S : Type 0) : Type 0 where
+  pub store : S
+  pub core : Core
+
+-- a super version as the theory sees it: sealed memtables from the newest, tables level by level
+abbrev pub shown_as : SuperVersion → Shown
+shown_as sv = record { number = sv.seqno; active = sv.active_memtable; sealed = reverse sv.sealed_memtables; tables = placed_from 0 sv.version.levels }
+
+-- the super versions, newest first, as the theory sees them
+abbrev pub latest_of : Core → Shown
+latest_of c = shown_as c.history.latest
+
+abbrev pub older_of : Core → List Shown
+older_of c = map shown_as c.history.older
+
+-- the theory's state behind a journal
+abbrev pub state_of : List Event → Core → State
+state_of journal c = record { journal = journal; mems = entries_of c.memtables; latest = latest_of c; older = older_of c }
+
+-- a new tree: one empty memtable, and a version without tables
+abbrev pub fresh_core : Config → Core
+fresh_core config = record { config = config; memtables = new_memtable 0 ∷ []; history = record { latest = first_version (record { id = 0; levels = empty_levels }); older = [] }; next_memtable = 1; seqno = config.seqno; visible_seqno = config.visible_seqno }
+
+-- the tree after a write: the entry is in the active memtable, and all else is as it was
+abbrev pub written_core : Entry → Core → Core
+written_core e c = record { config = c.config; memtables = put_first e c.memtables; history = c.history; next_memtable = c.next_memtable; seqno = c.seqno; visible_seqno = c.visible_seqno }
+
+-- the tree after several writes
+abbrev pub written_all : List Entry → Core → Core
+written_all es c = record { config = c.config; memtables = put_all_first es c.memtables; history = c.history; next_memtable = c.next_memtable; seqno = c.seqno; visible_seqno = c.visible_seqno }
+
+-- the next number is used, and visible
+abbrev pub drawn_core : Core → Core
+drawn_core c = record { config = c.config; memtables = c.memtables; history = c.history; next_memtable = c.next_memtable; seqno = c.seqno + 1; visible_seqno = max c.visible_seqno (c.seqno + 1) }
+
+-- the super version after a rotation: the active memtable is sealed in favour of another one
+abbrev pub rotated : ℕ → SuperVersion → SuperVersion
+rotated id sv = record { active_memtable = id; sealed_memtables = sv.sealed_memtables ++ sv.active_memtable ∷ []; version = sv.version; seqno = sv.seqno }
+
+-- the tree after a rotation
+abbrev pub rotated_core : Core → Core
+rotated_core c = record { config = c.config; memtables = new_memtable c.next_memtable ∷ c.memtables; history = record { latest = rotated c.next_memtable c.history.latest; older = c.history.older }; next_memtable = c.next_memtable + 1; seqno = c.seqno; visible_seqno = c.visible_seqno }

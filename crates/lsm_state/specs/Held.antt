@@ -1,0 +1,35 @@
+-- The memtables that are held, as a list: the active one first.
+use Rattle.std.specs.Prelude.{ℕ, List, [], ◌∷◌, if◌then◌else◌, ◌==◌}
+use Rattle.lsm_below.specs.Entries.{Entry}
+use Rattle.lsm_parts.specs.Memtables.{SeenMemtable, with_entry, with_entries}
+use Rattle.lsm_model.specs.Views.{Memtables}
+
+-- the entries of the memtable with this id: none where no such one is held
+abbrev pub entries_of : List SeenMemtable → Memtables
+entries_of [] = λ i. []
+entries_of (t ∷ tables) = λ i. if i == t.id then t.entries else entries_of tables i
+
+-- an entry is put into the first one
+abbrev pub put_first : Entry → List SeenMemtable → List SeenMemtable
+put_first e [] = []
+put_first e (t ∷ tables) = with_entry e t ∷ tables
+
+-- entries are put into the first one, one after the other
+abbrev pub put_all_first : List Entry → List SeenMemtable → List SeenMemtable
+put_all_first es [] = []
+put_all_first es (t ∷ tables) = with_entries es t ∷ tables
+
+-- the size of the first one
+abbrev pub first_size : List SeenMemtable → ℕ
+first_size [] = 0
+first_size (t ∷ tables) = t.size
+
+-- the entries of the first one
+abbrev pub first_entries : List SeenMemtable → List Entry
+first_entries [] = []
+first_entries (t ∷ tables) = t.entries
+
+-- the first one has P
+abbrev pub HasFirst : List SeenMemtable → (SeenMemtable → Type 0) → Type 0
+HasFirst [] P = ⊥
+HasFirst (t ∷ tables) P = P t

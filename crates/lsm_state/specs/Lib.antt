@@ -1,0 +1,5 @@
+pub mod Held
+pub mod Core
+pub mod Refusals
+pub mod Calls
+pub mod Lending

@@ -1,0 +1,18 @@
+//! The tree with one owner.
+//!
+//! | Module | Holds |
+//! |-|-|
+//! | `memtables` | the memtables that are held, by id |
+//! | `tree` | the tree: how it is opened, its counters, rotation |
+//! | `writes` | its writes |
+//! | `reads` | its reads |
+#![tactic(auto)]
+
+mod memtables;
+mod reads;
+mod tree;
+mod writes;
+
+pub use memtables::Memtables;
+pub use tree::TreeState;
+pub use writes::{MAX_KEY_LEN, MAX_VALUE_LEN};

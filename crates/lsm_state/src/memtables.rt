@@ -1,0 +1,106 @@
+// The memtables that are held, by id.
+ghost use Rattle.std.specs.Prelude.{◌≡◌, ℕ, ◌+◌, ◌∷◌, [], IfOk, IfErr, OnOk, OnErr, IsTrue, ◌↔◌, option_copied};
+ghost use Rattle.lsm_below.specs.Entries.{top};
+ghost use Rattle.lsm_parts.specs.Memtables.{entry_size, new_memtable};
+ghost use Rattle.lsm_state.specs.Held.{entries_of, put_first, put_all_first, first_size, first_entries};
+
+use lsm_below::{InternalValue, MemtableId, SeqNo};
+use lsm_parts::{Error, Memtable};
+use std::alloc::Global;
+use std::marker::Model;
+use std::mem;
+
+/// The memtables that are held: the active one, and behind it the sealed ones from the newest.
+#[derive(Drop)]
+pub struct Memtables {
+    active: Memtable,
+    sealed: Vec<Memtable>,
+}
+
+impl Model for Memtables {
+    ghost use Rattle.std.specs.Prelude.{List, ◌∷◌};
+    ghost use Rattle.lsm_parts.specs.Memtables.{SeenMemtable};
+
+    ghost Value = { List SeenMemtable };
+
+    ghost view = { λ m. m.active ∷ m.sealed.items };
+}
+
+/// What the memtable with this id shows of a key below the snapshot. There are a handful of them.
+fn search_sealed<'a>(
+    sealed: &'a [Memtable],
+    id: MemtableId,
+    key: &[u8],
+    seqno: SeqNo,
+) -> Option<&'a InternalValue>
+    ensures { option_copied result ≡ top key.now seqno (entries_of sealed.now id) }
+{
+    for memtable in sealed {
+        if memtable.id() == id {
+            return memtable.get(key, seqno);
+        }
+    }
+    None
+}
+
+impl Memtables {
+    /// An empty memtable, which is the active one.
+    pub fn new(alloc: Global, id: MemtableId) -> Memtables
+        ensures { result ≡ new_memtable id ∷ [] }
+    {
+        Memtables {
+            active: Memtable::new(alloc, id),
+            sealed: Vec::new(alloc),
+        }
+    }
+
+    /// Whether nothing was written to the active memtable.
+    pub fn is_active_empty(&self) -> bool
+        ensures { IsTrue result ↔ (first_entries self.now ≡ []) }
+    {
+        self.active.is_empty()
+    }
+
+    /// What the memtable with this id shows of a key below the snapshot.
+    pub fn search(&self, id: MemtableId, key: &[u8], seqno: SeqNo) -> Option<&InternalValue>
+        ensures { option_copied result ≡ top key.now seqno (entries_of self.now id) }
+    {
+        if self.active.id() == id {
+            return self.active.get(key, seqno);
+        }
+        search_sealed(&self.sealed, id, key, seqno)
+    }
+
+    /// Puts an entry in its place in the active memtable, and answers the bytes that it counts and those
+    /// of the memtable. Refused only for want of memory, and then nothing changes.
+    pub fn insert(&mut self, entry: InternalValue) -> Result<(u64, u64), Error>
+        ensures sizes { IfOk result (λ r. (r.0 ≡ entry_size entry) × (r.1 ≡ first_size self.new)) }
+        ensures ok { OnOk result (self.new ≡ put_first entry self.old) }
+        ensures err { OnErr result (self.new ≡ self.old) }
+        ensures memory { IfErr result (λ e. e ≡ Error.OutOfMemory) }
+    {
+        self.active.insert(entry)
+    }
+
+    /// Puts all entries in their places in the active memtable, or none.
+    /// Refused only for want of memory, and then nothing changes.
+    pub fn insert_all(&mut self, batch: Vec<InternalValue>) -> Result<(), Error>
+        ensures ok { OnOk result (self.new ≡ put_all_first batch.items self.old) }
+        ensures err { OnErr result (self.new ≡ self.old) }
+        ensures memory { IfErr result (λ e. e ≡ Error.OutOfMemory) }
+    {
+        self.active.insert_all(batch)
+    }
+
+    /// Seals the active memtable behind a new one. Refused only for want of memory, and then nothing changes.
+    pub fn rotate(&mut self, alloc: Global, id: MemtableId) -> Result<(), Error>
+        ensures ok { OnOk result (self.new ≡ new_memtable id ∷ self.old) }
+        ensures err { OnErr result (self.new ≡ self.old) }
+        ensures memory { IfErr result (λ e. e ≡ Error.OutOfMemory) }
+    {
+        self.sealed.try_reserve(1)?;
+        let sealed = mem::replace(&mut self.active, Memtable::new(alloc, id));
+        self.sealed.insert(0, sealed)?;
+        Ok(())
+    }
+}

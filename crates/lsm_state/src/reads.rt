@@ -1,0 +1,114 @@
+// The tree's reads.
+ghost use Rattle.std.specs.Prelude.{◌≡◌, ℕ, ◌↔◌, ◌⊎◌, None, Some, map, reverse, option_copied, IfOk, IfErr, IsErrOf};
+ghost use Rattle.lsm_below.specs.Entries.{value_of as value_given};
+ghost use Rattle.lsm_model.specs.Views.{found_at, sources, walk as walk_sources};
+ghost use Rattle.lsm_state.specs.Held.{entries_of};
+ghost use Rattle.lsm_state.specs.Core.{latest_of, older_of, shown_as};
+ghost use Rattle.lsm_state.specs.Calls.{Finds, Gives, GivesEntry, IsGetStep, live};
+
+use crate::{Memtables, TreeState};
+use lsm_below::{InternalValue, MemtableId, SeqNo, Store, UserValue, ValueType};
+use lsm_parts::{Error, SuperVersion};
+use std::alloc::AllocError;
+
+/// The value that an entry gives its key.
+fn value_of(entry: &InternalValue) -> Result<Option<UserValue>, AllocError>
+    ensures { IfOk result (λ v. v ≡ value_given entry.now) }
+{
+    match entry.key.value_type {
+        ValueType::Value => Ok(Some(entry.value.clone()?)),
+        ValueType::Tombstone => Ok(None),
+        ValueType::WeakTombstone => Ok(None),
+    }
+}
+
+/// What a walk finds among sealed memtables, the one that was sealed last before the others.
+fn walk_sealed<'a>(
+    memtables: &'a Memtables,
+    sealed: &[MemtableId],
+    key: &[u8],
+    seqno: SeqNo,
+) -> Option<&'a InternalValue>
+    ensures { option_copied result ≡ walk_sources key.now seqno (map (entries_of memtables.now) (reverse sealed.now)) }
+{
+    let mut rest = sealed;
+    while let Some((id, older)) = rest.split_last() {
+        if let Some(entry) = memtables.search(*id, key, seqno) {
+            return Some(entry);
+        }
+        rest = older;
+    }
+    None
+}
+
+/// What a walk finds from source to source, the newest before the others.
+fn walk<'a>(
+    memtables: &'a Memtables,
+    version: &'a SuperVersion,
+    key: &[u8],
+    seqno: SeqNo,
+) -> Option<&'a InternalValue>
+    ensures { option_copied result ≡ walk_sources key.now seqno (sources (entries_of memtables.now) (shown_as version.now)) }
+{
+    if let Some(entry) = memtables.search(version.active_memtable, key, seqno) {
+        return Some(entry);
+    }
+    if let Some(entry) = walk_sealed(memtables, version.sealed_memtables.as_slice(), key, seqno) {
+        return Some(entry);
+    }
+    version.version.get(key, seqno)
+}
+
+impl<S: Store> TreeState<S> {
+    /// The value of a key at a snapshot: that of its entry with the greatest number below the snapshot
+    /// in the first source that has one. None for a tombstone, or where there is no entry.
+    /// `SnapshotTooOld` exactly where no super version is found for the snapshot; else only memory may be missing.
+    pub fn get(&self, key: &[u8], seqno: SeqNo) -> Result<Option<UserValue>, Error>
+        ensures ok { IfOk result (λ v. Gives self.now.core key.now seqno v) }
+        ensures step { IfOk result (λ v. IsGetStep self.now.core key.now seqno v) }
+        ensures too_old { IsErrOf result Error.SnapshotTooOld ↔ (found_at seqno (latest_of self.now.core) (older_of self.now.core) ≡ None) }
+        ensures only { IfErr result (λ e. (e ≡ Error.SnapshotTooOld) ⊎ (e ≡ Error.OutOfMemory)) }
+    {
+        match self.find(key, seqno)? {
+            Some(entry) => Ok(value_of(entry)?),
+            None => Ok(None),
+        }
+    }
+
+    /// The entry that decides `get`, None for a tombstone. Refused as `get`.
+    pub fn get_internal_entry(
+        &self,
+        key: &[u8],
+        seqno: SeqNo,
+    ) -> Result<Option<InternalValue>, Error>
+        ensures ok { IfOk result (λ e. GivesEntry self.now.core key.now seqno e) }
+        ensures too_old { IsErrOf result Error.SnapshotTooOld ↔ (found_at seqno (latest_of self.now.core) (older_of self.now.core) ≡ None) }
+        ensures only { IfErr result (λ e. (e ≡ Error.SnapshotTooOld) ⊎ (e ≡ Error.OutOfMemory)) }
+    {
+        match self.find(key, seqno)? {
+            Some(entry) => Ok(copy_live(entry)?),
+            None => Ok(None),
+        }
+    }
+
+    fn find(&self, key: &[u8], seqno: SeqNo) -> Result<Option<&InternalValue>, Error>
+        ensures ok { IfOk result (λ e. Finds self.now.core key.now seqno (option_copied e)) }
+        ensures too_old { IsErrOf result Error.SnapshotTooOld ↔ (found_at seqno (latest_of self.now.core) (older_of self.now.core) ≡ None) }
+        ensures only { IfErr result (λ e. e ≡ Error.SnapshotTooOld) }
+    {
+        match self.history.get_version_for_snapshot(seqno) {
+            Ok(version) => Ok(walk(&self.memtables, version, key, seqno)),
+            Err(error) => Err(error),
+        }
+    }
+}
+
+/// A copy of an entry, unless it is a tombstone.
+fn copy_live(entry: &InternalValue) -> Result<Option<InternalValue>, AllocError>
+    ensures { IfOk result (λ e. e ≡ live (Some entry.now)) }
+{
+    if entry.is_tombstone() {
+        return Ok(None);
+    }
+    Ok(Some(entry.copy()?))
+}

@@ -1,0 +1,148 @@
+// The tree: memtables by id behind a history of super versions, and its counters.
+ghost use Rattle.std.specs.Prelude.{◌≡◌, ℕ, ◌+◌, ◌≤◌, ◌↔◌, ◌⊎◌, [], None, Some, IfOk, IfErr, OnErr, IsErrOf};
+ghost use Rattle.std.specs.Borrow.{sem};
+ghost use Rattle.lsm_parts.specs.History.{found_version};
+ghost use Rattle.lsm_state.specs.Held.{first_entries};
+ghost use Rattle.lsm_state.specs.Core.{rotated as rotated_version};
+
+use crate::Memtables;
+use lsm_below::{MemtableId, NoStore, SeqNo, Store};
+use lsm_parts::{
+    Config, Error, LIMIT, SequenceNumberCounter, SuperVersion, SuperVersions, Version,
+};
+use std::alloc::Global;
+use std::marker::Model;
+
+/// A tree with one owner.
+#[derive(Drop)]
+pub struct TreeState<S: Store = NoStore> {
+    pub(crate) alloc: Global,
+    store: S,
+    config: Config,
+    pub(crate) memtables: Memtables,
+    pub(crate) history: SuperVersions,
+    next_memtable: SequenceNumberCounter,
+    pub(crate) seqno: SequenceNumberCounter,
+    pub(crate) visible_seqno: SequenceNumberCounter,
+}
+
+impl<S: Store> Model for TreeState<S> {
+    ghost use Rattle.std.specs.Prelude.{◌≡◌, ◌<◌};
+    ghost use Rattle.lsm_state.specs.Core.{Seen};
+    ghost use Rattle.lsm_state.specs.Held.{HasFirst};
+
+    ghost Value = { Seen S };
+
+    ghost view = { λ t. record { store = t.store; core = record { config = t.config; memtables = t.memtables; history = t.history; next_memtable = t.next_memtable; seqno = t.seqno; visible_seqno = t.visible_seqno } } };
+
+    ghost invariant = { λ t. HasFirst t.memtables (λ m. m.id ≡ t.history.latest.active_memtable) × (t.history.latest.active_memtable < t.next_memtable) };
+}
+
+impl TreeState<NoStore> {
+    ghost use Rattle.lsm_model.specs.Steps.{IsOpened};
+    ghost use Rattle.std.specs.FinMap.{empty};
+    ghost use Rattle.lsm_state.specs.Core.{fresh_core, state_of};
+
+    /// An empty tree in memory, whose counters start where the configuration says.
+    pub fn open_in_memory(alloc: Global, config: Config) -> TreeState<NoStore>
+        ensures core { result.core ≡ fresh_core config }
+        ensures opened { IsOpened [] empty (state_of [] result.core) }
+    {
+        TreeState {
+            alloc,
+            store: NoStore,
+            config,
+            memtables: Memtables::new(alloc, 0),
+            history: SuperVersions::new(alloc, Version::new(0)),
+            next_memtable: SequenceNumberCounter::new(1),
+            seqno: SequenceNumberCounter::new(config.seqno),
+            visible_seqno: SequenceNumberCounter::new(config.visible_seqno),
+        }
+    }
+}
+
+impl<S: Store> TreeState<S> {
+    ghost use Rattle.lsm_state.specs.Calls.{Rotates};
+    ghost use Rattle.lsm_state.specs.Lending.{LendsSeqno, LendsVisible};
+
+    /// The counter of numbers.
+    pub fn seqno(&self) -> &SequenceNumberCounter
+        ensures { result.now ≡ self.now.core.seqno }
+    {
+        &self.seqno
+    }
+
+    /// The counter of numbers, to be changed.
+    pub fn seqno_mut(&mut self) -> &mut SequenceNumberCounter
+        ensures* lends { sem 𝓛 (LendsSeqno S.row self.entry result) }
+        ensures value { result.now ≡ self.old.core.seqno }
+    {
+        &mut self.seqno
+    }
+
+    /// The visible counter: the snapshot that sees every batch so far.
+    pub fn visible_seqno(&self) -> &SequenceNumberCounter
+        ensures { result.now ≡ self.now.core.visible_seqno }
+    {
+        &self.visible_seqno
+    }
+
+    /// The visible counter, to be changed.
+    pub fn visible_seqno_mut(&mut self) -> &mut SequenceNumberCounter
+        ensures* lends { sem 𝓛 (LendsVisible S.row self.entry result) }
+        ensures value { result.now ≡ self.old.core.visible_seqno }
+    {
+        &mut self.visible_seqno
+    }
+
+    /// The super version that a snapshot reads: at 0 the oldest, else the newest one numbered below it.
+    /// Where there is none it is `SnapshotTooOld`, and only there.
+    pub fn get_version_for_snapshot(&self, seqno: SeqNo) -> Result<&SuperVersion, Error>
+        ensures ok { IfOk result (λ sv. found_version seqno self.now.core.history ≡ Some sv.now) }
+        ensures too_old { IsErrOf result Error.SnapshotTooOld ↔ (found_version seqno self.now.core.history ≡ None) }
+        ensures only { IfErr result (λ e. e ≡ Error.SnapshotTooOld) }
+    {
+        self.history.get_version_for_snapshot(seqno)
+    }
+
+    /// Seals the active memtable in favour of an empty one, and answers the id of the sealed one;
+    /// None where nothing was written to it. The id of the new one is drawn: at 2^63 it is
+    /// `OutOfNumbers`. Refused, it changes nothing.
+    pub fn rotate_memtable(&mut self) -> Result<Option<MemtableId>, Error>
+        ensures ok { IfOk result (λ r. Rotates self.old.core r self.new.core) }
+        ensures store { self.new.store ≡ self.old.store }
+
+        ensures err { OnErr result (self.new ≡ self.old) }
+        ensures out_of_numbers { IsErrOf result Error.OutOfNumbers → LIMIT ≤ self.old.core.next_memtable }
+        ensures told { LIMIT ≤ self.old.core.next_memtable → IfOk result (λ _. first_entries self.old.core.memtables ≡ []) }
+        ensures only { IfErr result (λ e. (e ≡ Error.OutOfNumbers) ⊎ (e ≡ Error.OutOfMemory)) }
+    {
+        if self.memtables.is_active_empty() {
+            return Ok(None);
+        }
+        let id = self.next_memtable.get();
+        if id >= LIMIT {
+            return Err(Error::OutOfNumbers);
+        }
+        let latest = self.history.latest_version();
+        let sealed = latest.active_memtable;
+        let rotated = rotated(latest, id)?;
+        self.memtables.rotate(self.alloc, id)?;
+        self.history.replace_latest_version(rotated);
+        self.next_memtable.set(id + 1);
+        Ok(Some(sealed))
+    }
+}
+
+/// A super version whose active memtable is sealed in favour of another one.
+fn rotated(version: &SuperVersion, id: MemtableId) -> Result<SuperVersion, Error>
+    ensures ok { IfOk result (λ sv. sv ≡ rotated_version id version.now) }
+    ensures memory { IfErr result (λ e. e ≡ Error.OutOfMemory) }
+{
+    Ok(SuperVersion {
+        active_memtable: id,
+        sealed_memtables: version.sealed_memtables.add(version.active_memtable)?,
+        version: version.version.copy(),
+        seqno: version.seqno,
+    })
+}

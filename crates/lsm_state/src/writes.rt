@@ -1,0 +1,193 @@
+// The tree's writes.
+ghost use Rattle.std.specs.Prelude.{◌≡◌, ℕ, ◌<◌, ◌≤◌, ◌⊎◌, Some, None, map, length, IfOk, IfErr, OnOk, vec_len};
+ghost use Rattle.std.specs.List.{list_any};
+ghost use Rattle.lsm_below.specs.Keys.{Bytes};
+ghost use Rattle.lsm_below.specs.Entries.{plain};
+ghost use Rattle.lsm_model.specs.Ops.{op_entry, op_entries};
+ghost use Rattle.lsm_state.specs.Refusals.{entry_refusal, batch_refusal, is_long_key, is_long_value, op_value, repeats, keys_of};
+ghost use Rattle.lsm_model.specs.declared.op.Op.TheVariants.{Set, Del, Weak};
+ghost use Rattle.lsm_state.specs.Calls.{Appends, WritesBatch};
+
+use crate::TreeState;
+use lsm_below::{InternalValue, SeqNo, Store, UserKey, UserValue, ValueType, share};
+use lsm_model::Op;
+use lsm_parts::{Error, LIMIT};
+use std::alloc::{AllocError, Global};
+use std::collections::BTreeSet;
+
+/// The most bytes that a key has.
+pub const MAX_KEY_LEN: usize = 65_535;
+
+/// The most bytes that a value has.
+pub const MAX_VALUE_LEN: usize = 4_294_967_295;
+
+fn is_key_too_long(key: &UserKey) -> bool
+    ensures { result ≡ is_long_key key.now }
+{
+    key.len() > MAX_KEY_LEN
+}
+
+fn is_value_too_long(op: &Op) -> bool
+    ensures { result ≡ is_long_value (op_value op.now) }
+{
+    match op {
+        Op::Set(value) => value.len() > MAX_VALUE_LEN,
+        Op::Del => false,
+        Op::Weak => false,
+    }
+}
+
+/// Why an entry is refused.
+fn refusal_of(entry: &InternalValue) -> Option<Error>
+    ensures { result ≡ entry_refusal entry.now }
+{
+    if is_key_too_long(&entry.key.user_key) {
+        return Some(Error::KeyTooLong);
+    }
+    if entry.value.len() > MAX_VALUE_LEN {
+        return Some(Error::ValueTooLong);
+    }
+    if entry.key.seqno >= LIMIT {
+        return Some(Error::NumberTooGreat);
+    }
+    None
+}
+
+fn has_long_key(ops: &[(UserKey, Op)]) -> bool
+    ensures { result ≡ list_any (λ p. is_long_key p.0) ops.now }
+{
+    ops.iter().any(|op| is_key_too_long(&op.0))
+}
+
+fn has_long_value(ops: &[(UserKey, Op)]) -> bool
+    ensures { result ≡ list_any (λ p. is_long_value (op_value p.1)) ops.now }
+{
+    ops.iter().any(|op| is_value_too_long(&op.1))
+}
+
+/// Whether a key comes twice.
+fn has_repeats(alloc: Global, ops: &[(UserKey, Op)]) -> Result<bool, AllocError>
+    ensures { IfOk result (λ b. b ≡ repeats (keys_of ops.now)) }
+{
+    let mut seen = BTreeSet::new(alloc);
+    for (key, _) in ops {
+        let is_new = seen.insert(share(key)?)?;
+        if !is_new {
+            return Ok(true);
+        }
+    }
+    Ok(false)
+}
+
+/// Why a batch is refused under a number.
+fn check_batch(alloc: Global, number: SeqNo, ops: &[(UserKey, Op)]) -> Result<(), Error>
+    ensures ok { OnOk result (batch_refusal number ops.now ≡ None) }
+    ensures err { IfErr result (λ e. (batch_refusal number ops.now ≡ Some e) ⊎ (e ≡ Error.OutOfMemory)) }
+{
+    if number >= LIMIT {
+        return Err(Error::OutOfNumbers);
+    }
+    if has_long_key(ops) {
+        return Err(Error::KeyTooLong);
+    }
+    if has_long_value(ops) {
+        return Err(Error::ValueTooLong);
+    }
+    if has_repeats(alloc, ops)? {
+        return Err(Error::DuplicateKey);
+    }
+    Ok(())
+}
+
+/// The entry of a write.
+fn make_entry(key: UserKey, number: SeqNo, op: Op) -> InternalValue
+    ensures { result ≡ op_entry key number op }
+{
+    match op {
+        Op::Set(value) => InternalValue::from_components(key, value, number, ValueType::Value),
+        Op::Del => InternalValue::new_tombstone(key, number),
+        Op::Weak => InternalValue::new_weak_tombstone(key, number),
+    }
+}
+
+/// The entries of a batch.
+fn make_entries(
+    alloc: Global,
+    number: SeqNo,
+    ops: Vec<(UserKey, Op)>,
+) -> Result<Vec<InternalValue>, AllocError>
+    ensures { IfOk result (λ entries. entries.items ≡ op_entries number ops.items) }
+{
+    let mut entries = Vec::with_capacity(alloc, ops.len())?;
+    for (key, op) in ops {
+        entries.push(make_entry(key, number, op))?;
+    }
+    Ok(entries)
+}
+
+impl<S: Store> TreeState<S> {
+    /// Sets a key under a number, in whatever order numbers come.
+    ///
+    /// Answers the bytes that the entry counts (its key's, its value's and 48) and those of the active
+    /// memtable. A write of the same key and number is replaced. `KeyTooLong` above 65,535 bytes,
+    /// `ValueTooLong` above 2^32 - 1, `NumberTooGreat` from 2^63 on; of several the first is told.
+    /// Refused, it changes nothing.
+    pub fn insert(
+        &mut self,
+        key: UserKey,
+        value: UserValue,
+        seqno: SeqNo,
+    ) -> Result<(u64, u64), Error>
+        ensures appends { Appends (op_entry key seqno (Set value)) result self.old.core self.new.core }
+        ensures store { self.new.store ≡ self.old.store }
+    {
+        self.append_entry(make_entry(key, seqno, Op::Set(value)))
+    }
+
+    /// Removes a key under a number. Answers and refuses as `insert`.
+    pub fn remove(&mut self, key: UserKey, seqno: SeqNo) -> Result<(u64, u64), Error>
+        ensures appends { Appends (op_entry key seqno Del) result self.old.core self.new.core }
+        ensures store { self.new.store ≡ self.old.store }
+    {
+        self.append_entry(make_entry(key, seqno, Op::Del))
+    }
+
+    /// Removes a key, of which at most one value was ever written. Answers and refuses as `insert`.
+    pub fn remove_weak(&mut self, key: UserKey, seqno: SeqNo) -> Result<(u64, u64), Error>
+        ensures appends { Appends (op_entry key seqno Weak) result self.old.core self.new.core }
+        ensures store { self.new.store ≡ self.old.store }
+    {
+        self.append_entry(make_entry(key, seqno, Op::Weak))
+    }
+
+    /// Writes an entry under its own number; a tombstone's value is dropped. Answers and refuses as `insert`.
+    pub fn append_entry(&mut self, entry: InternalValue) -> Result<(u64, u64), Error>
+        ensures appends { Appends (plain entry) result self.old.core self.new.core }
+        ensures store { self.new.store ≡ self.old.store }
+    {
+        let entry = entry.into_plain();
+        if let Some(error) = refusal_of(&entry) {
+            return Err(error);
+        }
+        self.memtables.insert(entry)
+    }
+
+    /// Writes a batch under the next number, all of it or none, makes the number visible, and answers it.
+    /// An empty batch uses a number too.
+    ///
+    /// `OutOfNumbers` where the counter stands at 2^63 or above, `KeyTooLong` and `ValueTooLong` as
+    /// `insert`, `DuplicateKey` where a key comes twice; of several the first is told.
+    /// Refused, it changes nothing and uses no number.
+    pub fn write(&mut self, ops: Vec<(UserKey, Op)>) -> Result<SeqNo, Error>
+        ensures writes { WritesBatch ops.items result self.old.core self.new.core }
+        ensures store { self.new.store ≡ self.old.store }
+    {
+        let number = self.seqno.get();
+        check_batch(self.alloc, number, &ops)?;
+        let entries = make_entries(self.alloc, number, ops)?;
+        self.memtables.insert_all(entries)?;
+        self.seqno.set(number + 1);
+        self.visible_seqno.fetch_max(number + 1);
+        Ok(number)
+    }
+}

@@ -1,0 +1,3 @@
+pub mod Passes
+pub mod Marks
+pub mod Recorded

@@ -1,0 +1,27 @@
+//! The tree under any list of calls, and the tree that keeps the journal of its calls.
+//!
+//! | Module | Holds |
+//! |-|-|
+//! | `steps` | calls as data, and what each answers |
+//! | `run` | a list of calls on a tree, with the replay theorem |
+//! | `pass` | what one caller's calls put into a journal |
+//! | `marks` | what was written to each key, by which a write in order is told |
+//! | `recorded` | a tree with the journal of its calls |
+#![tactic(auto)]
+
+mod marks;
+mod pass;
+mod recorded;
+
+pub use lsm_below::{
+    InternalKey, InternalValue, KeyRange, KvPair, MemtableId, NoStore, SeqNo, Store, TableId,
+    TreeId, UserKey, UserValue, ValueType,
+};
+pub use lsm_model::{Answer, JournalEntry, KeyRanges, KvPairs, Op, Ops, Question};
+pub use lsm_parts::{
+    Config, DEFAULT_LEVEL_COUNT, Error, Memtable, SealedMemtables, SequenceNumberCounter,
+    SuperVersion, SuperVersions, Version, VersionId, seqno_filter,
+};
+pub use lsm_state::TreeState;
+pub use pass::Pass;
+pub use recorded::Recorded;

@@ -1,0 +1,79 @@
+// What one caller's calls put into a journal.
+ghost use Rattle.std.specs.Prelude.{◌≡◌, [], ◌<◌, ◌≤◌, ◌+◌, ◌++◌, ◌∷◌, length, vec_len, vec_capacity, OnOk};
+
+use lsm_model::JournalEntry;
+use std::alloc::{AllocError, Global};
+use std::marker::Model;
+
+/// The entries that one caller's calls put into a journal, each with its place there, counted from 0.
+#[derive(Drop)]
+pub struct Pass {
+    pub(crate) entries: Vec<(u64, JournalEntry)>,
+}
+
+impl Model for Pass {
+    ghost use Rattle.std.specs.Prelude.{List, ℕ};
+    ghost use Rattle.lsm_model.specs.declared.journal.JournalEntry.{JournalEntry};
+
+    ghost Value = { List (ℕ × JournalEntry) };
+
+    ghost view = { λ p. p.entries.items };
+}
+
+impl Pass {
+    /// An empty list.
+    pub fn new(alloc: Global) -> Pass
+        ensures { result ≡ [] }
+    {
+        Pass {
+            entries: Vec::new(alloc),
+        }
+    }
+
+    /// The entries with their places.
+    pub fn entries(&self) -> &[(u64, JournalEntry)]
+        ensures { result.now ≡ self.now }
+    {
+        &self.entries
+    }
+}
+
+/// Makes room for entries in a journal and in a pass.
+pub(crate) fn make_room(
+    journal: &mut Vec<JournalEntry>,
+    pass: &mut Vec<(u64, JournalEntry)>,
+    count: usize,
+) -> Result<(), AllocError>
+    ensures journal { journal.new.items ≡ journal.old.items }
+    ensures pass { pass.new.items ≡ pass.old.items }
+    ensures journal_room { OnOk result (vec_len journal.new + count ≤ vec_capacity journal.new) }
+    ensures pass_room { OnOk result (vec_len pass.new + count ≤ vec_capacity pass.new) }
+{
+    journal.try_reserve(count)?;
+    pass.try_reserve(count)
+}
+
+/// Puts an entry behind a journal, and a copy with its place behind a pass. There is room.
+pub(crate) fn put_entry(
+    journal: &mut Vec<JournalEntry>,
+    pass: &mut Vec<(u64, JournalEntry)>,
+    entry: JournalEntry,
+    copy: JournalEntry,
+)
+    requires journal_room { vec_len journal.old < vec_capacity journal.old }
+    requires pass_room { vec_len pass.old < vec_capacity pass.old }
+    ensures journal { journal.new.items ≡ journal.old.items ++ entry ∷ [] }
+    ensures pass { pass.new.items ≡ pass.old.items ++ (length journal.old.items, copy) ∷ [] }
+    ensures journal_len { vec_len journal.new ≡ vec_len journal.old + 1 }
+    ensures pass_len { vec_len pass.new ≡ vec_len pass.old + 1 }
+    ensures journal_capacity { vec_capacity journal.old ≤ vec_capacity journal.new }
+    ensures pass_capacity { vec_capacity pass.old ≤ vec_capacity pass.new }
+{
+    let place = journal.len() as u64;
+    let Ok(()) = pass.push((place, copy)) else {
+        unreachable!()
+    };
+    let Ok(()) = journal.push(entry) else {
+        unreachable!()
+    };
+}
