@@ -1,0 +1,44 @@
+-- What the words of a line ask.
+use Rattle.std.proofs.Common.{◌≡◌, ℕ, ◌<◌, Bool, true, false, cond, ◌∙◌, ap, bytes_eq, List, [], ◌∷◌, length, Option, Some, None, refl, arith}
+use Rattle.std.specs.Bool.{then_some}
+use Rattle.std.specs.Prelude.{codes}
+use Rattle.lsm_shell.specs.declared.command.Command.{Command}
+use Rattle.lsm_shell.specs.declared.command.Command.TheVariants.{Rotate}
+use Rattle.lsm_shell.specs.Word.{words_of}
+use Rattle.lsm_shell.specs.Words.{HasNoFewWords}
+use Rattle.lsm_shell.specs.Command.{command_of, command_of_words, command_of_one, command_of_two, command_of_three}
+
+pub asks_one : (line a : List ℕ) → words_of line ≡ Some (a ∷ []) → command_of line ≡ command_of_one a
+unfolding command_of command_of_words
+asks_one line a e = rw e refl
+
+pub asks_two : (line a b : List ℕ) → words_of line ≡ Some (a ∷ b ∷ []) → command_of line ≡ command_of_two a b
+unfolding command_of command_of_words
+asks_two line a b e = rw e refl
+
+pub asks_three : (line a b c : List ℕ) → words_of line ≡ Some (a ∷ b ∷ c ∷ []) → command_of line ≡ command_of_three a b c
+unfolding command_of command_of_words
+asks_three line a b c e = rw e refl
+
+asks_past_three : (words : List (List ℕ)) → 3 < length words → command_of_words words ≡ None
+unfolding command_of_words
+asks_past_three [] h = absurd (omega arith)
+asks_past_three (a ∷ []) h = absurd (omega arith)
+asks_past_three (a ∷ b ∷ []) h = absurd (omega arith)
+asks_past_three (a ∷ b ∷ c ∷ []) h = absurd (omega arith)
+asks_past_three (a ∷ b ∷ c ∷ d ∷ more) h = refl
+
+asks_none_of : (line : List ℕ) (o : Option (List (List ℕ))) → words_of line ≡ o → HasNoFewWords line → command_of line ≡ None
+unfolding command_of
+asks_none_of line None e h = rw e refl
+asks_none_of line (Some words) e h = rw e (asks_past_three words (h words e))
+
+pub asks_none : (line : List ℕ) → HasNoFewWords line → command_of line ≡ None
+asks_none line h = asks_none_of line (words_of line) refl h
+
+then_some_is : (b : Bool) (x : Command) → then_some b x ≡ cond b (Some x) None
+then_some_is true x = refl
+then_some_is false x = refl
+
+pub rotates : (verb text : List ℕ) (b : Bool) → b ≡ bytes_eq verb text → text ≡ codes "rotate" → then_some b Rotate ≡ command_of_one verb
+rotates verb text b e t = then_some_is b Rotate ∙ ap (λ b. cond b (Some Rotate) None) (e ∙ ap (bytes_eq verb) t)

@@ -1,0 +1,105 @@
+-- A line asks the command that it spells.
+use Rattle.std.proofs.Common.{◌≡◌, ℕ, ◌<◌, Bool, true, false, cond, List, [], ◌∷◌, length, Option, Some, None, Result, Ok, Err, IfOk, IfSome, refl, sym, ◌∙◌, ap, subst, arith, bytes_eq, decimal}
+use Rattle.std.proofs.lemmas.Slice.Eq.{bytes_eq-Decides}
+use Rattle.std.proofs.lemmas.List.Splits.{slice_split_at, join_with_byte-slice_split}
+use Rattle.std.specs.List.{list_all, join_with_byte}
+use Rattle.std.specs.Prelude.{codes, option_map}
+use Rattle.lsm_shell.specs.declared.command.Command.{Command}
+use Rattle.lsm_shell.specs.declared.command.Command.TheVariants.{Put, Del, Weak, Get, Rotate}
+use Rattle.lsm_shell.specs.Word.{is_word, parts_of, words_of, number_of}
+use Rattle.lsm_shell.specs.Command.{command_of, command_of_words}
+use Rattle.lsm_shell.specs.Spelling.{spelling_of, HasFitNumber, Spells, IsSpelledBy}
+use Rattle.lsm_shell.proofs.Number.{number_is, number_of-decimal}
+use Rattle.lsm_shell.proofs.Parts.{is_space, both, no_space, parts_of-word, words_are, words_in}
+
+-- ---- what words ask is spelled by them
+
+-- these words spell the command
+abbrev AreWordsOf : List (List ℕ) → Command → Type 0
+AreWordsOf words command = (words ≡ spelling_of command) × HasFitNumber command
+
+same : (v text : List ℕ) → bytes_eq v text ≡ true → v ≡ text
+same v text e = (bytes_eq-Decides v text).0 e
+
+one_word : (v : List ℕ) (b : Bool) → bytes_eq v (codes "rotate") ≡ b → IfSome (cond b (Some Rotate) None) (AreWordsOf (v ∷ []))
+one_word v true e = (ap (λ w. w ∷ []) (same v _ e), tt)
+one_word v false e = tt
+
+two_words : (v key : List ℕ) (d w g : Bool) → bytes_eq v (codes "del") ≡ d → bytes_eq v (codes "weak") ≡ w → bytes_eq v (codes "get") ≡ g → IfSome (cond d (Some (Del key)) (cond w (Some (Weak key)) (cond g (Some (Get key None)) None))) (AreWordsOf (v ∷ key ∷ []))
+two_words v key true w g ed ew eg = (ap (λ u. u ∷ key ∷ []) (same v _ ed), tt)
+two_words v key false true g ed ew eg = (ap (λ u. u ∷ key ∷ []) (same v _ ew), tt)
+two_words v key false false true ed ew eg = (ap (λ u. u ∷ key ∷ []) (same v _ eg), tt)
+two_words v key false false false ed ew eg = tt
+
+with_snapshot : (v key last : List ℕ) (n : Option ℕ) → number_of last ≡ n → v ≡ codes "get" → IfSome (option_map (λ s. Get key (Some s)) n) (AreWordsOf (v ∷ key ∷ last ∷ []))
+with_snapshot v key last None e is_get = tt
+with_snapshot v key last (Some n) e is_get =
+    let k = number_is last n e in
+    (ap (λ u. u ∷ key ∷ last ∷ []) is_get ∙ ap (λ u. codes "get" ∷ key ∷ u ∷ []) k.1, k.0)
+
+three_words : (v key last : List ℕ) (p g : Bool) → bytes_eq v (codes "put") ≡ p → bytes_eq v (codes "get") ≡ g → IfSome (cond p (Some (Put key last)) (cond g (option_map (λ s. Get key (Some s)) (number_of last)) None)) (AreWordsOf (v ∷ key ∷ last ∷ []))
+three_words v key last true g ep eg = (ap (λ u. u ∷ key ∷ last ∷ []) (same v _ ep), tt)
+three_words v key last false true ep eg = with_snapshot v key last (number_of last) refl (same v _ eg)
+three_words v key last false false ep eg = tt
+
+words_spell : (words : List (List ℕ)) → IfSome (command_of_words words) (AreWordsOf words)
+unfolding command_of_words
+words_spell [] = tt
+words_spell (v ∷ []) = one_word v _ refl
+words_spell (v ∷ key ∷ []) = two_words v key _ _ _ refl refl refl
+words_spell (v ∷ key ∷ last ∷ []) = three_words v key last _ _ refl refl
+words_spell (v ∷ key ∷ last ∷ more ∷ others) = tt
+
+spelled_by_words : (line : List ℕ) (words : List (List ℕ)) (found : Option Command) → line ≡ join_with_byte 32 words → list_all is_word words ≡ true → IfSome found (AreWordsOf words) → IfSome found (Spells line)
+spelled_by_words line words None joined all h = tt
+spelled_by_words line words (Some c) joined all h = record {
+  fits = h.1;
+  words = subst (λ ws. list_all is_word ws ≡ true) h.0 all;
+  joined = joined ∙ ap (join_with_byte 32) h.0;
+}
+
+spelled_from : (line : List ℕ) (o : Option (List (List ℕ))) → words_of line ≡ o → IfSome (command_of line) (Spells line)
+unfolding command_of
+spelled_from line None e = rw e tt
+spelled_from line (Some words) e =
+    let h = words_in line words e in
+    let joined : line ≡ join_with_byte 32 words = sym (join_with_byte-slice_split 32 line) ∙ ap (join_with_byte 32) h.1 in
+    rw e (spelled_by_words line words (command_of_words words) joined (subst (λ ws. list_all is_word ws ≡ true) h.1 h.0) (words_spell words))
+
+-- ---- a command is asked by its words
+
+parts_of-joined : (a : List ℕ) (more : List (List ℕ)) → list_all is_word (a ∷ more) ≡ true → parts_of (join_with_byte 32 (a ∷ more)) ≡ a ∷ more
+parts_of-joined a [] all = parts_of-word a (both (is_word a) true all).0
+parts_of-joined a (b ∷ more) all =
+    let h = both (is_word a) (list_all is_word (b ∷ more)) all in
+    slice_split_at is_space a 32 (join_with_byte 32 (b ∷ more)) (no_space a (both _ _ h.0).1) refl
+    ∙ ap (λ ps. a ∷ ps) (parts_of-joined b more h.1)
+
+words_of-joined : (line : List ℕ) (words : List (List ℕ)) → 0 < length words → list_all is_word words ≡ true → line ≡ join_with_byte 32 words → words_of line ≡ Some words
+words_of-joined line [] some all e = absurd (omega arith)
+words_of-joined line (a ∷ more) some all e = words_are line (a ∷ more) (ap parts_of e ∙ parts_of-joined a more all) all
+
+asked_by_words : (c : Command) → HasFitNumber c → (0 < length (spelling_of c)) × (command_of_words (spelling_of c) ≡ Some c)
+unfolding command_of_words
+asked_by_words (Put key value) h = (omega arith, refl)
+asked_by_words (Del key) h = (omega arith, refl)
+asked_by_words (Weak key) h = (omega arith, refl)
+asked_by_words (Get key None) h = (omega arith, refl)
+asked_by_words (Get key (Some n)) h = (omega arith, ap (option_map (λ s. Get key (Some s))) (number_of-decimal (decimal n) n h refl))
+asked_by_words Rotate h = (omega arith, refl)
+
+asked : (line : List ℕ) (c : Command) → Spells line c → command_of line ≡ Some c
+unfolding command_of
+asked line c s =
+    let k = asked_by_words c s.fits in
+    rw (words_of-joined line (spelling_of c) k.0 s.words s.joined) k.1
+
+IsSpelledBy-command_of : (line : List ℕ) → IsSpelledBy line (command_of line)
+IsSpelledBy-command_of line = record { spelled = spelled_from line (words_of line) refl; only = asked line }
+
+pub IsSpelledBy-same : (line : List ℕ) (found : Option Command) → found ≡ command_of line → IsSpelledBy line found
+IsSpelledBy-same line found e = subst (IsSpelledBy line) (sym e) (IsSpelledBy-command_of line)
+
+pub IsSpelledBy-if_ok : {E : Type 0} (line : List ℕ) (r : Result (Option Command) E) → IfOk r (λ found. found ≡ command_of line) → IfOk r (IsSpelledBy line)
+IsSpelledBy-if_ok line (Ok found) e = IsSpelledBy-same line found e
+IsSpelledBy-if_ok line (Err x) e = tt

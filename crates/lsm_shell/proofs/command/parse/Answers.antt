@@ -1,0 +1,37 @@
+use Rattle.std.proofs.Common.{◌≡◌, None, IfOk, sym, ◌∙◌}
+use Rattle.lsm_shell.specs.Command.{command_of}
+use Rattle.lsm_shell.proofs.Commands.{asks_one, asks_two, asks_three, asks_none, rotates}
+use Rattle.lsm_shell.proofs.Spelling.{IsSpelledBy-same, IsSpelledBy-if_ok}
+use Rattle.lsm_shell.proofs.command.parse.Goals.{After-then_some, After-parse_two, After-parse_three, In-None}
+use Rattle.lsm_shell.proofs.command.parse.Goals as goal
+
+one : (c : After-then_some) → c.then_some.result ≡ command_of c.args.line.now
+one c =
+    let words = rw c.in-Some-One.field-0-is at c.in-Some-One.ensures in
+    let asked = asks_one c.args.line.now c.in-Some-One.verb.now words in
+    c.then_some.ensures ∙ (rotates c.in-Some-One.verb.now c.as_slice.result.now c.eq.result c.eq.ensures c.as_slice.ensures ∙ sym asked)
+
+two : (c : After-parse_two) → IfOk c.parse_two.result (λ found. found ≡ command_of c.args.line.now)
+two c =
+    let words = rw c.in-Some-Two.field-0-is at c.in-Some-Two.ensures in
+    rw (asks_two c.args.line.now c.in-Some-Two.verb.now c.in-Some-Two.key.now words) c.parse_two.ensures
+
+three : (c : After-parse_three) → IfOk c.parse_three.result (λ found. found ≡ command_of c.args.line.now)
+three c =
+    let words = rw c.in-Some-Three.field-0-is at c.in-Some-Three.ensures in
+    rw (asks_three c.args.line.now c.in-Some-Three.verb.now c.in-Some-Three.key.now c.in-Some-Three.last.now words) c.parse_three.ensures
+
+none_asked : (c : In-None) → None ≡ command_of c.args.line.now
+none_asked c = sym (asks_none c.args.line.now c.in-None.ensures)
+
+pub returns-in-Some-One : goal.returns-in-Some-One
+returns-in-Some-One c = record { value = one c; spelled = IsSpelledBy-same c.args.line.now c.then_some.result (one c) }
+
+pub returns-in-Some-Two : goal.returns-in-Some-Two
+returns-in-Some-Two c = record { value = two c; spelled = IsSpelledBy-if_ok c.args.line.now c.parse_two.result (two c) }
+
+pub returns-in-Some-Three : goal.returns-in-Some-Three
+returns-in-Some-Three c = record { value = three c; spelled = IsSpelledBy-if_ok c.args.line.now c.parse_three.result (three c) }
+
+pub returns-in-None : goal.returns-in-None
+returns-in-None c = record { value = none_asked c; spelled = IsSpelledBy-same c.args.line.now None (none_asked c) }

@@ -1,0 +1,44 @@
+use Rattle.std.proofs.Common.{◌≡◌, ap, sym, ◌∙◌, [], ◌∷◌}
+use Rattle.lsm_shell.specs.Word.{parts_of}
+use Rattle.lsm_shell.proofs.Parts.{chosen_words, words_are, no_words, one_is, one_is_none, two_are, three_are, no_second, too_many, parts_of-word}
+use Rattle.lsm_shell.proofs.word.split_words.Goals as goal
+use Rattle.lsm_shell.proofs.word.split_words.Goals.{then-not-is_word-via-then-not-is_word, then-not-is_word-via-else-not-is_word+then-not-is_word-2}
+
+pub returns-in_default : goal.returns-in_default
+returns-in_default c =
+    let first = c.split_at_space.result.0.now in
+    let parts = rw c.in_default.is at c.split_at_space.ensures in
+    chosen_words c.args.line.now _ _ _ c.then_some.ensures
+    (λ b. words_are c.args.line.now (first ∷ []) parts (one_is first (sym c.is_word.ensures ∙ b)))
+    (λ b. no_words c.args.line.now (first ∷ []) parts (one_is_none first [] (sym c.is_word.ensures ∙ b)))
+
+pub returns-then-not-is_word : goal.returns-then-not-is_word
+returns-then-not-is_word c =
+    let first = c.split_at_space.result.0.now in
+    let second = c.split_at_space-2.result.0.now in
+    let rest = c.in-Some.rest.now in
+    let parts = rw c.in-Some.is at c.split_at_space.ensures in
+    elim c.then-not-is_word.branch [
+      | then-not-is_word-via-then-not-is_word w ↦ no_words c.args.line.now (first ∷ parts_of rest) parts (one_is_none first (parts_of rest) (sym c.is_word-2.ensures ∙ w.if-not-is_word.true))
+      | then-not-is_word-via-else-not-is_word+then-not-is_word-2 w ↦ no_second c.args.line.now first rest second c.split_at_space-2.result.1 parts c.split_at_space-2.ensures (sym w.is_word-else-not-is_word.ensures ∙ w.if-not-is_word-2.true)
+    ]
+
+pub returns-in_default-rest : goal.returns-in_default-rest
+returns-in_default-rest c =
+    let first = c.split_at_space.result.0.now in
+    let second = c.split_at_space-2.result.0.now in
+    let parts = rw c.in-Some.is at c.split_at_space.ensures in
+    let more = rw c.in_default-rest.is at c.split_at_space-2.ensures in
+    words_are c.args.line.now (first ∷ second ∷ []) (parts ∙ ap (λ ps. first ∷ ps) more) (two_are first second (sym c.if-not-is_word.ensures) (sym c.if-not-is_word-2.ensures))
+
+pub returns : goal.returns
+returns c =
+    let first = c.split_at_space.result.0.now in
+    let second = c.split_at_space-2.result.0.now in
+    let third = c.in-Some-rest.rest.now in
+    let parts = rw c.in-Some.is at c.split_at_space.ensures in
+    let more = rw c.in-Some-rest.is at c.split_at_space-2.ensures in
+    let all : parts_of c.args.line.now ≡ first ∷ second ∷ parts_of third = parts ∙ ap (λ ps. first ∷ ps) more in
+    chosen_words c.args.line.now _ _ _ c.then_some-2.ensures
+    (λ b. let word = sym c.is_word-3.ensures ∙ b in words_are c.args.line.now (first ∷ second ∷ third ∷ []) (all ∙ ap (λ ps. first ∷ second ∷ ps) (parts_of-word third word)) (three_are first second third (sym c.if-not-is_word.ensures) (sym c.if-not-is_word-2.ensures) word))
+    (λ b. too_many c.args.line.now first second third all (sym c.is_word-3.ensures ∙ b))

@@ -1,0 +1,33 @@
+-- What a line asks.
+use Rattle.std.specs.Prelude.{ℕ, List, [], ◌∷◌, Option, Some, None, codes, bytes_eq, option_map, option_and_then, if◌then◌else◌}
+use Rattle.lsm_shell.specs.Word.{words_of, number_of}
+use Rattle.lsm_shell.specs.declared.command.Command.{Command}
+use Rattle.lsm_shell.specs.declared.command.Command.TheVariants.{Put, Del, Weak, Get, Rotate}
+
+abbrev pub command_of_one : List ℕ → Option Command
+command_of_one verb = if bytes_eq verb (codes "rotate") then Some Rotate else None
+
+abbrev pub command_of_two : List ℕ → List ℕ → Option Command
+command_of_two verb key =
+    if bytes_eq verb (codes "del") then Some (Del key)
+    else if bytes_eq verb (codes "weak") then Some (Weak key)
+    else if bytes_eq verb (codes "get") then Some (Get key None)
+    else None
+
+abbrev pub command_of_three : List ℕ → List ℕ → List ℕ → Option Command
+command_of_three verb key last =
+    if bytes_eq verb (codes "put") then Some (Put key last)
+    else if bytes_eq verb (codes "get") then option_map (λ n. Get key (Some n)) (number_of last)
+    else None
+
+-- what these words ask
+unfoldable pub command_of_words : List (List ℕ) → Option Command
+command_of_words [] = None
+command_of_words (verb ∷ []) = command_of_one verb
+command_of_words (verb ∷ key ∷ []) = command_of_two verb key
+command_of_words (verb ∷ key ∷ last ∷ []) = command_of_three verb key last
+command_of_words (verb ∷ key ∷ last ∷ more ∷ others) = None
+
+-- what a line asks
+unfoldable pub command_of : List ℕ → Option Command
+command_of line = option_and_then command_of_words (words_of line)

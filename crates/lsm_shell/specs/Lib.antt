@@ -1,0 +1,4 @@
+pub mod Command
+pub mod Spelling
+pub mod Word
+pub mod Words

@@ -1,0 +1,35 @@
+-- The line that spells a command.
+use Rattle.std.specs.Prelude.{◌≡◌, ℕ, ◌^◌, ◌<◌, true, List, [], ◌∷◌, Option, Some, None, IfSome, codes, decimal}
+use Rattle.std.specs.List.{list_all, join_with_byte}
+use Rattle.lsm_shell.specs.Word.{is_word}
+use Rattle.lsm_shell.specs.declared.command.Command.{Command}
+use Rattle.lsm_shell.specs.declared.command.Command.TheVariants.{Put, Del, Weak, Get, Rotate}
+
+-- the words that a command is written in
+abbrev pub spelling_of : Command → List (List ℕ)
+spelling_of (Put key value) = codes "put" ∷ key ∷ value ∷ []
+spelling_of (Del key) = codes "del" ∷ key ∷ []
+spelling_of (Weak key) = codes "weak" ∷ key ∷ []
+spelling_of (Get key None) = codes "get" ∷ key ∷ []
+spelling_of (Get key (Some snapshot)) = codes "get" ∷ key ∷ decimal snapshot ∷ []
+spelling_of Rotate = codes "rotate" ∷ []
+
+-- a snapshot's number is below 2^64
+abbrev pub HasFitNumber : Command → Type 0
+HasFitNumber (Put key value) = Unit {0}
+HasFitNumber (Del key) = Unit {0}
+HasFitNumber (Weak key) = Unit {0}
+HasFitNumber (Get key None) = Unit {0}
+HasFitNumber (Get key (Some snapshot)) = snapshot < 2 ^ 64
+HasFitNumber Rotate = Unit {0}
+
+-- the line has the command's words, with one space between each and the next
+pub record Spells (line : List ℕ) (command : Command) : Type 0 where
+  pub fits : HasFitNumber command
+  pub words : list_all is_word (spelling_of command) ≡ true
+  pub joined : line ≡ join_with_byte 32 (spelling_of command)
+
+-- found is the one command that the line spells
+pub record IsSpelledBy (line : List ℕ) (found : Option Command) : Type 0 where
+  pub spelled : IfSome found (Spells line)
+  pub only : (command : Command) → Spells line command → found ≡ Some command

@@ -1,0 +1,75 @@
+// What a line asks.
+ghost use Rattle.std.specs.Prelude.{◌≡◌, IfOk};
+ghost use Rattle.lsm_shell.specs.Command.{command_of, command_of_two, command_of_three};
+ghost use Rattle.lsm_shell.specs.Spelling.{IsSpelledBy};
+
+use crate::word::{Words, parse_number, split_words};
+use bytes::Bytes;
+use lsm_below::{SeqNo, UserKey, UserValue};
+use std::alloc::{AllocError, Global};
+
+/// What a line asks.
+#[derive(Drop)]
+pub enum Command {
+    /// Give the key this value.
+    Put(UserKey, UserValue),
+    /// Remove the key.
+    Del(UserKey),
+    /// Remove a key of which at most one value was ever written.
+    Weak(UserKey),
+    /// Read the key, at a snapshot if one is named.
+    Get(UserKey, Option<SeqNo>),
+    /// Seal the memtable.
+    Rotate,
+}
+
+/// What a line asks. None: nothing that the shell knows.
+pub fn parse(alloc: Global, line: &[u8]) -> Result<Option<Command>, AllocError>
+    ensures value { IfOk result (λ found. found ≡ command_of line.now) }
+
+    // So it is the one command that the line spells.
+    ensures spelled { IfOk result (IsSpelledBy line.now) }
+{
+    match split_words(line) {
+        Some(Words::One(verb)) => Ok((verb == b"rotate".as_slice()).then_some(Command::Rotate)),
+        Some(Words::Two(verb, key)) => parse_two(alloc, verb, key),
+        Some(Words::Three(verb, key, last)) => parse_three(alloc, verb, key, last),
+        None => Ok(None),
+    }
+}
+
+fn parse_two(alloc: Global, verb: &[u8], key: &[u8]) -> Result<Option<Command>, AllocError>
+    ensures { IfOk result (λ found. found ≡ command_of_two verb.now key.now) }
+{
+    Ok(Some(match verb {
+        b"del" => Command::Del(Bytes::copy_from_slice(alloc, key)?),
+        b"weak" => Command::Weak(Bytes::copy_from_slice(alloc, key)?),
+        b"get" => Command::Get(Bytes::copy_from_slice(alloc, key)?, None),
+        _ => return Ok(None),
+    }))
+}
+
+fn parse_three(
+    alloc: Global,
+    verb: &[u8],
+    key: &[u8],
+    last: &[u8],
+) -> Result<Option<Command>, AllocError>
+    ensures { IfOk result (λ found. found ≡ command_of_three verb.now key.now last.now) }
+{
+    match verb {
+        b"put" => {
+            let value = Bytes::copy_from_slice(alloc, last)?;
+            let key = Bytes::copy_from_slice(alloc, key)?;
+            Ok(Some(Command::Put(key, value)))
+        }
+        b"get" => {
+            let Some(snapshot) = parse_number(last) else {
+                return Ok(None);
+            };
+            let key = Bytes::copy_from_slice(alloc, key)?;
+            Ok(Some(Command::Get(key, Some(snapshot))))
+        }
+        _ => Ok(None),
+    }
+}

@@ -1,0 +1,95 @@
+// The run from the first line to the last.
+ghost use Rattle.std.specs.Prelude.{◌≡◌, true, false, IfSome, OnOk};
+ghost use Rattle.std.specs.Io.BufRead.{first_piece, DropsThrough};
+ghost use Rattle.std.specs.Io.KnownBytes.{IsAtEnd};
+
+use crate::reply::Reply;
+use crate::session::Session;
+use lsm_tree::Error;
+use std::alloc::Global;
+use std::io::{self, BufRead, BufReader, BufWriter, ErrorKind, Read, Write};
+
+const SUCCESS: u8 = 0;
+
+const FAULT: u8 = 1;
+
+const USAGE: u8 = 2;
+
+/// Answers the lines of the input on the output, and gives the status to end with: 0 at the end of
+/// the input, 1 after a fault of the input or the output, and 2 for arguments, of which it knows
+/// none. `arguments` is None where one of them is no text.
+///
+/// Where a line finds no memory, its answer says so, and the run goes on with the next line. Where
+/// the buffers of the input or the output find none, the status is 1.
+pub fn run_shell<R, W, E>(
+    alloc: Global,
+    arguments: Option<&[String]>,
+    input: R,
+    output: W,
+    mut errors: E,
+) -> u8
+where
+    R: Read + Drop,
+    W: Write + Drop,
+    E: Write + Drop,
+{
+    if arguments.is_none_or(|words| !words.is_empty()) {
+        // Nothing is left to be told where even this line can't be written.
+        let _ = errors.write_all(b"usage: lsm_shell\n");
+        return USAGE;
+    }
+    match answer_lines(alloc, input, output) {
+        Ok(()) => SUCCESS,
+        Err(_) => FAULT,
+    }
+}
+
+fn answer_lines<R, W>(alloc: Global, input: R, output: W) -> io::Result<()>
+where
+    R: Read + Drop,
+    W: Write + Drop,
+{
+    let mut input = BufReader::new(alloc, input)?;
+    let mut output = BufWriter::new(alloc, output)?;
+    let mut session = Session::in_memory(alloc);
+    let mut line = Vec::new(alloc);
+    for _ in 0..u64::MAX {
+        // Whoever writes the lines may wait for the answers to the earlier ones. So the output is
+        // flushed before the input is asked for more, and not while a whole line is there.
+        if !input.buffer().contains(&b'\n') {
+            output.flush()?;
+        }
+        let reply = match read_line(&mut input, &mut line) {
+            Ok(true) => session.answer(line.as_slice()),
+            Ok(false) => break,
+            Err(error) if error.kind() == ErrorKind::OutOfMemory => {
+                // A short line after a long one may find memory once the long one's is given back.
+                line = Vec::new(alloc);
+                input.skip_until(b'\n')?;
+                Reply::Refused(Error::OutOfMemory)
+            }
+            Err(error) => return Err(error),
+        };
+        reply.write_to(&mut output)?;
+    }
+    output.flush()
+}
+
+// Reads a line into `line`, without its end. False: the input has ended.
+//
+// For want of memory the rest of the line is left in the input, its end among it.
+fn read_line<R: BufRead>(input: &mut R, line: &mut Vec<u8>) -> io::Result<bool>
+    // Where the input's bytes are known.
+    ensures line { result ≡ Ok true → IfSome (R.remaining input.old) (λ bytes. line.new.items ≡ first_piece 10 bytes) }
+    ensures rest { OnOk result (DropsThrough (R.remaining input.old) (R.remaining input.new) 10) }
+    ensures end { result ≡ Ok false → IsAtEnd (R.remaining input.old) }
+{
+    line.clear();
+    if input.read_until(b'\n', line)? == 0 {
+        return Ok(false);
+    }
+    if line.last() == Some(&b'\n') {
+        line.pop();
+    }
+    Ok(true)
+}
