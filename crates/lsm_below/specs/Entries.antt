@@ -45,16 +45,19 @@ weak_tombstone_at k n = entry_at k n WeakTombstone []
 
 -- ---- what an entry does to its key
 
+-- does an entry of this type remove its key, weakly or not?
 abbrev pub is_tombstone_type : ValueType → Bool
 is_tombstone_type Value = false
 is_tombstone_type Tombstone = true
 is_tombstone_type WeakTombstone = true
 
+-- the value that an entry of this type gives its key
 abbrev pub value_by : ValueType → Bytes → Option Bytes
 value_by Value v = Some v
 value_by Tombstone v = None
 value_by WeakTombstone v = None
 
+-- is it the type of a value, of a tombstone, of a weak tombstone?
 abbrev pub is_value_kind : ValueType → Bool
 is_value_kind Value = true
 is_value_kind Tombstone = false
@@ -74,6 +77,7 @@ is_weak_kind Tombstone = false
 abbrev pub value_of : Entry → Option Bytes
 value_of e = value_by e.key.value_type e.value
 
+-- is the entry a value, a tombstone, a weak tombstone?
 abbrev pub is_value : Entry → Bool
 is_value e = is_value_kind e.key.value_type
 

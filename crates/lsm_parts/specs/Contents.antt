@@ -11,6 +11,7 @@ pub record SeenContent : Type 0 where
   pub size : ℕ
   pub highest : Option ℕ
 
+-- what is held, with its vector as a list
 abbrev pub content_of : Content → SeenContent
 content_of c = record { entries = c.entries.items; size = c.size; highest = c.highest }
 

@@ -2,6 +2,7 @@
 use Rattle.std.specs.Prelude.{ℕ, List, [], ◌∷◌}
 use Rattle.lsm_model.specs.Views.{Table}
 
+-- a version: its number, and its levels, each a list of runs
 pub record SeenVersion : Type 0 where
   pub id : ℕ
   pub levels : List (List (List Table))

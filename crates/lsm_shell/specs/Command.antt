@@ -4,9 +4,11 @@ use Rattle.lsm_shell.specs.Word.{words_of, number_of}
 use Rattle.lsm_shell.specs.declared.command.Command.{Command}
 use Rattle.lsm_shell.specs.declared.command.Command.TheVariants.{Put, Del, Weak, Get, Rotate}
 
+-- what a line of one word asks
 abbrev pub command_of_one : List ℕ → Option Command
 command_of_one verb = if bytes_eq verb (codes "rotate") then Some Rotate else None
 
+-- what a line of two words asks
 abbrev pub command_of_two : List ℕ → List ℕ → Option Command
 command_of_two verb key =
     if bytes_eq verb (codes "del") then Some (Del key)
@@ -14,6 +16,7 @@ command_of_two verb key =
     else if bytes_eq verb (codes "get") then Some (Get key None)
     else None
 
+-- what a line of three words asks
 abbrev pub command_of_three : List ℕ → List ℕ → List ℕ → Option Command
 command_of_three verb key last =
     if bytes_eq verb (codes "put") then Some (Put key last)

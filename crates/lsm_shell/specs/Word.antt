@@ -3,10 +3,11 @@ use Rattle.std.specs.Prelude.{ℕ, ◌^◌, Bool, ◌&&◌, List, length, Option
 use Rattle.std.specs.List.{list_all, slice_split}
 use Rattle.std.specs.Str.Parse.{digits_value}
 
--- a word has one or more bytes, each from 33 to 126
+-- may the byte stand in a word?
 abbrev pub is_word_byte : ℕ → Bool
 is_word_byte b = nat_le 33 b && nat_le b 126
 
+-- a word has one or more bytes, each from 33 to 126
 abbrev pub is_word : List ℕ → Bool
 is_word w = nat_lt 0 (length w) && list_all is_word_byte w
 

@@ -4,6 +4,7 @@ use Rattle.lsm_shell.specs.Word.{words_of}
 use Rattle.lsm_shell.specs.declared.word.Words.{Words}
 use Rattle.lsm_shell.specs.declared.word.Words.TheVariants.{One, Two, Three}
 
+-- the words as a list
 abbrev pub list_of_words : Words → List (List ℕ)
 list_of_words (One a) = a.now ∷ []
 list_of_words (Two a b) = a.now ∷ b.now ∷ []

@@ -29,10 +29,11 @@ pub record Seen (S : Type 0) : Type 0 where
 abbrev pub shown_as : SuperVersion → Shown
 shown_as sv = record { number = sv.seqno; active = sv.active_memtable; sealed = reverse sv.sealed_memtables; tables = placed_from 0 sv.version.levels }
 
--- the super versions, newest first, as the theory sees them
+-- the latest super version, as the theory sees it
 abbrev pub latest_of : Core → Shown
 latest_of c = shown_as c.history.latest
 
+-- the older ones, newest first
 abbrev pub older_of : Core → List Shown
 older_of c = map shown_as c.history.older
 

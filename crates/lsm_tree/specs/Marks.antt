@@ -42,15 +42,16 @@ next_mark m n Value = record { next = max m.next (n + 1); sets = min (m.sets + 1
 next_mark m n Tombstone = record { next = max m.next (n + 1); sets = m.sets; is_weak = m.is_weak }
 next_mark m n WeakTombstone = record { next = max m.next (n + 1); sets = m.sets; is_weak = true }
 
--- the marks after a write of this entry, and of several
+-- the marks after a write of this entry
 abbrev pub marked_by : Entry → (Bytes → Mark) → Bytes → Mark
 marked_by e marks = marked marks e.key.user_key (next_mark (marks e.key.user_key) e.key.seqno e.key.value_type)
 
+-- the marks after a write of each entry in turn
 abbrev pub marked_all : List Entry → (Bytes → Mark) → Bytes → Mark
 marked_all [] marks = marks
 marked_all (e ∷ es) marks = marked_all es (marked_by e marks)
 
--- was the key removed weakly?
+-- was the key, after an event, removed weakly?
 abbrev pub weak_after : Bytes → Bool → Event → Bool
 weak_after k b (Write e) = is_same k e.key.user_key && is_weak e || b
 weak_after k b (Clear n) = b
@@ -59,6 +60,7 @@ weak_after k b (Dropped ranges n) = b
 weak_after k b (Watermark w) = b
 weak_after k b (Read at question answer) = b
 
+-- the same after a whole journal
 abbrev pub weak_of : Bytes → List Event → Bool
 weak_of k journal = fold (weak_after k) false journal
 

@@ -8,10 +8,11 @@ use Rattle.lsm_model.specs.declared.journal.JournalEntry.TheVariants.{Write}
 use Rattle.lsm_tree.specs.declared.marks.Mark.{Mark}
 use Rattle.lsm_tree.specs.declared.notes.Note.{Note}
 
--- what goes into the journal, and into the pass
+-- what goes into the journal
 abbrev pub journal_entry : Note → JournalEntry
 journal_entry n = Write n.entry
 
+-- what goes into the pass
 abbrev pub pass_entry : Note → JournalEntry
 pass_entry n = Write n.copy
 
