@@ -1,4 +1,6 @@
 // What a journal lists: calls, and what else matters to reads.
+ghost use Rattle.std.specs.Prelude.{◌≡◌};
+
 use crate::{Answer, Question};
 use lsm_below::{InternalValue, KeyRange, SeqNo};
 use std::marker::Model;
@@ -16,6 +18,29 @@ impl Model for KeyRanges {
     ghost Value = { List Range };
 
     ghost view = { λ r. r.list.items };
+}
+
+impl KeyRanges {
+    /// These ranges.
+    pub fn new(list: Vec<KeyRange>) -> KeyRanges
+        ensures { result ≡ list.items }
+    {
+        KeyRanges { list }
+    }
+
+    /// The ranges, as they were handed in.
+    pub fn into_vec(self) -> Vec<KeyRange>
+        ensures { result.items ≡ self }
+    {
+        self.list
+    }
+
+    /// The ranges, as a slice.
+    pub fn as_slice(&self) -> &[KeyRange]
+        ensures { result.now ≡ self.now }
+    {
+        &self.list
+    }
 }
 
 /// What a journal lists, in the order in which it happened.

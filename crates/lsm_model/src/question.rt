@@ -1,4 +1,6 @@
 // What a read asks, and what it answers.
+ghost use Rattle.std.specs.Prelude.{◌≡◌};
+
 use lsm_below::{KvPair, UserKey, UserValue};
 use std::marker::Model;
 use std::ops::Bound;
@@ -15,6 +17,29 @@ impl Model for KvPairs {
     ghost Value = { List (List ℕ × List ℕ) };
 
     ghost view = { λ p. p.list.items };
+}
+
+impl KvPairs {
+    /// These pairs.
+    pub fn new(list: Vec<KvPair>) -> KvPairs
+        ensures { result ≡ list.items }
+    {
+        KvPairs { list }
+    }
+
+    /// The pairs, as they were handed in.
+    pub fn into_vec(self) -> Vec<KvPair>
+        ensures { result.items ≡ self }
+    {
+        self.list
+    }
+
+    /// The pairs, as a slice.
+    pub fn as_slice(&self) -> &[KvPair]
+        ensures { result.now ≡ self.now }
+    {
+        &self.list
+    }
 }
 
 /// What a read asks.

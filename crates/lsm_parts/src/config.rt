@@ -29,7 +29,7 @@ impl Config {
 
     /// The number of levels, always `DEFAULT_LEVEL_COUNT`.
     pub fn level_count(&self) -> u8
-        ensures { result ≡ DEFAULT_LEVEL_COUNT }
+        ensures { result ≡ 7 }
     {
         DEFAULT_LEVEL_COUNT
     }

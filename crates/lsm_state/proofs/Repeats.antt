@@ -1,5 +1,5 @@
 -- Keys that come twice.
-use Rattle.std.proofs.Common.{◌≡◌, ℕ, ◌+◌, ◌<◌, length, get_or, take, drop, Bool, true, false, ◌||◌, not, cond, List, [], ◌∷◌, ◌++◌, refl, sym, ap, ◌∙◌, is_eq}
+use Rattle.std.proofs.Common.{arith, ◌≡◌, ℕ, ◌+◌, ◌<◌, length, get_or, take, drop, Bool, true, false, ◌||◌, not, cond, List, [], ◌∷◌, ◌++◌, refl, sym, ap, ◌∙◌, is_eq}
 use Rattle.std.specs.List.{list_any}
 use Rattle.std.proofs.lemmas.List.{take_more, map-append, take-append-drop}
 use Rattle.lsm_model.specs.declared.op.Op.{Op}
@@ -96,3 +96,9 @@ keys_more ops i x k lt is key =
 pub keys_whole : (ops : List (Bytes × Op)) (i : ℕ) (x : Bytes × Op) (k : Bytes) → i < length ops → x ≡ get_or ops i x → k ≡ x.0 → (keys_of (take i ops) ++ k ∷ []) ++ keys_of (drop (i + 1) ops) ≡ keys_of ops
 keys_whole ops i x k lt is key =
     ap (λ l. l ++ keys_of (drop (i + 1) ops)) (sym (keys_more ops i x k lt is key)) ∙ sym (map-append (λ (p : Bytes × Op). p.0) (take (i + 1) ops) (drop (i + 1) ops)) ∙ ap keys_of (take-append-drop (i + 1) ops)
+
+-- a single key doesn't repeat
+pub few_once : (ops : List (Bytes × Op)) → length ops < 2 → repeats (keys_of ops) ≡ false
+few_once [] lt = refl
+few_once (x ∷ []) lt = refl
+few_once (x ∷ (y ∷ ops)) lt = absurd (omega arith)

@@ -14,6 +14,12 @@ use std::alloc::Global;
 use std::marker::Model;
 
 /// A tree with one owner.
+///
+/// ```text
+/// let mut tree = TreeState::open_in_memory(alloc, Config::new(0, 0, 0));
+/// let number = tree.write(vec![in alloc; (key, Op::Set(value))]?)?;
+/// let found = tree.get(b"key", number + 1)?;
+/// ```
 #[derive(Drop)]
 pub struct TreeState<S: Store = NoStore> {
     pub(crate) alloc: Global,

@@ -69,6 +69,9 @@ fn has_long_value(ops: &[(UserKey, Op)]) -> bool
 fn has_repeats(alloc: Global, ops: &[(UserKey, Op)]) -> Result<bool, AllocError>
     ensures { IfOk result (λ b. b ≡ repeats (keys_of ops.now)) }
 {
+    if ops.len() < 2 {
+        return Ok(false);
+    }
     let mut seen = BTreeSet::new(alloc);
     for (key, _) in ops {
         let is_new = seen.insert(share(key)?)?;

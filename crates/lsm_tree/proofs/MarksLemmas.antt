@@ -1,5 +1,5 @@
 -- Marks agree with the journal.
-use Rattle.std.proofs.Common.{◌≡◌, ℕ, ◌+◌, ◌<◌, ◌≤◌, max, min, Bool, true, false, cond, ◌&&◌, ◌||◌, nat_lt, nat_le, List, [], ◌∷◌, ◌++◌, Some, unwrap_or, refl, sym, ap, ◌∙◌, subst, arith, map, append-nil, append_assoc, ltb-true, is_eq}
+use Rattle.std.proofs.Common.{Option, is_some, ◌≡◌, ℕ, ◌+◌, ◌<◌, ◌≤◌, max, min, Bool, true, false, cond, ◌&&◌, ◌||◌, nat_lt, nat_le, List, [], ◌∷◌, ◌++◌, Some, unwrap_or, refl, sym, ap, ◌∙◌, subst, arith, map, append-nil, append_assoc, ltb-true, is_eq}
 use Rattle.std.specs.declared.cmp.Ordering.{Ordering}
 use Rattle.std.specs.declared.cmp.Ordering.TheVariants.{Less, Equal, Greater}
 use Rattle.std.specs.Ordering.{ordering_reverse}
@@ -160,3 +160,15 @@ pub mark_in-writes : (es : List Entry) (journal : List Event) (k : Bytes) → ma
 mark_in-writes [] journal k = ap (λ j. mark_in j k) (append-nil journal)
 mark_in-writes (e ∷ es) journal k =
     ap (λ j. mark_in j k) (sym (append_assoc journal (Write e ∷ []) (map Write es))) ∙ mark_in-writes es (journal ++ Write e ∷ []) k ∙ marked_all_same (mark_in (journal ++ Write e ∷ [])) (marked_by e (mark_in journal)) es (mark_in-write journal e) k
+
+-- a key that isn't there has no mark
+pub no_mark_of : (marks : BTreeMap Bytes Mark) (k : Bytes) (b : Bool) → b ≡ is_some (tree.get bytes_cmp marks k) → b ≡ false → no_mark ≡ mark_of marks k
+no_mark_of marks k b is absent = go (tree.get bytes_cmp marks k) (sym is ∙ absent)
+  where
+    go : (o : Option Mark) → is_some o ≡ false → no_mark ≡ unwrap_or o no_mark
+    go None h = refl
+    go (Some m) h = absurd (cc h)
+
+-- the mark that is there is the key's
+pub mark_there : (marks : BTreeMap Bytes Mark) (k : Bytes) (m : Mark) → Some m ≡ tree.get bytes_cmp marks k → m ≡ mark_of marks k
+mark_there marks k m is = ap (λ o. unwrap_or o no_mark) is

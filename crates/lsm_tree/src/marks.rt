@@ -17,17 +17,20 @@ pub struct Mark {
     pub is_weak: bool,
 }
 
+/// The mark of a key to which nothing was written.
+const NOTHING: Mark = Mark {
+    next: 0,
+    sets: 0,
+    is_weak: false,
+};
+
 /// The mark of a key, of which nothing may be noted yet.
 pub(crate) fn read_mark(marks: &BTreeMap<UserKey, Mark>, key: &UserKey) -> Mark
     ensures { result ≡ mark_of marks.now key.now }
 {
     match marks.get(key) {
         Some(mark) => *mark,
-        None => Mark {
-            next: 0,
-            sets: 0,
-            is_weak: false,
-        },
+        None => NOTHING,
     }
 }
 
@@ -40,20 +43,11 @@ pub(crate) fn reserve_mark(
     ensures there { OnOk result (IsSome (tree.get bytes_cmp marks.new key.now)) }
     ensures kept { (q : Bytes) → IsSome (tree.get bytes_cmp marks.old q) → IsSome (tree.get bytes_cmp marks.new q) }
 {
-    let mark = read_mark(marks, key);
-    let _ = marks.insert(share(key)?, mark)?;
-    Ok(())
-}
-
-/// Sets the mark of a key for which there is room.
-pub(crate) fn update_mark(marks: &mut BTreeMap<UserKey, Mark>, key: &UserKey, mark: Mark)
-    requires { IsSome (tree.get bytes_cmp marks.old key.now) }
-    ensures is { (q : Bytes) → mark_of marks.new q ≡ marked (mark_of marks.old) key.now mark q }
-    ensures kept { (q : Bytes) → IsSome (tree.get bytes_cmp marks.old q) → IsSome (tree.get bytes_cmp marks.new q) }
-{
-    if let Some(held) = marks.get_mut(key) {
-        *held = mark;
+    if marks.contains_key(key) {
+        return Ok(());
     }
+    let _ = marks.insert(share(key)?, NOTHING)?;
+    Ok(())
 }
 
 /// Whether a write of this number and type keeps the order of its key.
@@ -100,7 +94,7 @@ pub(crate) fn mark_write(marks: &mut BTreeMap<UserKey, Mark>, entry: &InternalVa
     ensures is { (q : Bytes) → mark_of marks.new q ≡ marked_by entry.now (mark_of marks.old) q }
     ensures kept { (q : Bytes) → IsSome (tree.get bytes_cmp marks.old q) → IsSome (tree.get bytes_cmp marks.new q) }
 {
-    let mark = read_mark(marks, &entry.key.user_key);
-    let next = mark_after(mark, entry.key.seqno, entry.key.value_type);
-    update_mark(marks, &entry.key.user_key, next);
+    if let Some(mark) = marks.get_mut(&entry.key.user_key) {
+        *mark = mark_after(*mark, entry.key.seqno, entry.key.value_type);
+    }
 }

@@ -11,6 +11,7 @@ ghost use Rattle.lsm_model.specs.declared.journal.JournalEntry.TheVariants.{Writ
 ghost use Rattle.lsm_model.specs.declared.question.Question.TheVariants.{Get as GetQuestion};
 ghost use Rattle.lsm_model.specs.declared.question.Answer.TheVariants.{Found};
 ghost use Rattle.lsm_model.specs.declared.op.Op.TheVariants.{Set, Del, Weak};
+ghost use Rattle.lsm_state.specs.Held.{first_entries};
 ghost use Rattle.lsm_state.specs.Core.{fresh_core, state_of, latest_of, older_of};
 ghost use Rattle.lsm_state.specs.Calls.{Appends, WritesBatch, Gives, Rotates};
 ghost use Rattle.std.specs.List.{list_all};
@@ -24,13 +25,22 @@ use lsm_below::{
     InternalValue, MemtableId, NoStore, SeqNo, Store, UserKey, UserValue, ValueType, share,
 };
 use lsm_model::{Answer, JournalEntry, Op, Question};
-use lsm_parts::{Config, Error, SequenceNumberCounter};
+use lsm_parts::{Config, Error, LIMIT, SequenceNumberCounter};
 use lsm_state::TreeState;
 use std::alloc::{AllocError, Global};
 use std::collections::BTreeMap;
 use std::marker::Model;
 
-/// A tree with the journal of its calls. Every write is in order: its number is below the counter,
+/// A tree with the journal of its calls.
+///
+/// ```text
+/// let mut tree = Recorded::open_in_memory(alloc, Config::new(0, 0, 0));
+/// let mut pass = Pass::new(alloc);
+/// let number = tree.write(&mut pass, vec![in alloc; (key, Op::Set(value))]?)?;
+/// let found = tree.get(&mut pass, &key, number + 1)?;
+/// ```
+///
+/// Every write is in order: its number is below the counter,
 /// not below an install or a clear, and above each earlier one of its key; a weakly removed key has
 /// at most one value.
 ///
@@ -196,6 +206,8 @@ impl<S: Store> Recorded<S> {
         ensures journal { self.new.journal ≡ self.old.journal }
         ensures pass { pass.new ≡ pass.old }
         ensures err { OnErr result (self.new ≡ self.old) }
+        ensures out_of_numbers { IsErrOf result Error.OutOfNumbers → LIMIT ≤ self.old.tree.core.next_memtable }
+        ensures told { LIMIT ≤ self.old.tree.core.next_memtable → IfOk result (λ _. first_entries self.old.tree.core.memtables ≡ []) }
         ensures only { IfErr result (λ e. (e ≡ Error.OutOfNumbers) ⊎ (e ≡ Error.OutOfMemory)) }
     {
         let _ = pass;

@@ -3,7 +3,7 @@ use Rattle.std.specs.List.{list_any}
 use Rattle.std.specs.BTreeSet.{contains}
 use Rattle.lsm_below.specs.Keys.{bytes_cmp, is_same}
 use Rattle.lsm_state.specs.Refusals.{repeats, keys_of}
-use Rattle.lsm_state.proofs.Repeats.{grown, still_once, comes_twice, keys_more, keys_whole}
+use Rattle.lsm_state.proofs.Repeats.{grown, still_once, comes_twice, keys_more, keys_whole, few_once}
 use Rattle.lsm_state.proofs.writes.has_repeats.Goals as goal
 
 pub returns-then-not-is_new : goal.returns-then-not-is_new
@@ -27,3 +27,6 @@ loop-key-preserved c =
       once = subst (λ ks. repeats ks ≡ false) (sym more)
           (still_once (keys_of (take i ops)) k (contains bytes_cmp c.loop-key.seen k) (sym c.in_ok-is_new.ensures.added ∙ c.if-not-is_new.false) (c.loop-key.invariant.holds k) c.loop-key.invariant.once);
     }
+
+pub returns-then-ops-lt2 : goal.returns-then-ops-lt2
+returns-then-ops-lt2 c = sym (few_once c.args.ops.now c.if-ops-lt2.true)
