@@ -1,3 +1,3 @@
 pub mod Outcomes
-pub mod Told
+pub mod LowReads
 pub mod Replays
