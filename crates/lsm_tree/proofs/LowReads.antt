@@ -4,11 +4,13 @@ use Rattle.lsm_below.specs.Keys.{Bytes}
 use Rattle.lsm_below.specs.Entries.{Entry, above, stack, values}
 use Rattle.lsm_model.specs.Journal.{Event, Map, map_after, replay, outside_after, is_outside, kept_after, is_kept, next_after, next_of, next_number_after, next_number, floor_after, floor, sets_after, sets_of, MayCome, InOrder, InOrderFrom}
 use Rattle.lsm_model.specs.declared.journal.JournalEntry.TheVariants.{Write, Clear, Install, Dropped, Mark, Read}
+use Rattle.lsm_model.specs.declared.question.Question.{Question}
+use Rattle.lsm_model.specs.declared.question.Answer.{Answer}
 use Rattle.lsm_tree.specs.Runs.{is_no_low_read, without_low_reads}
 
 -- what changes nothing at reads
 abbrev pub PassesReads : {A : Type 0} → (A → Event → A) → Type 0
-PassesReads {A = A} step = (a : A) (s : ℕ) (question : Rattle.lsm_model.specs.declared.question.Question.Question) (told : Rattle.lsm_model.specs.declared.question.Answer.Answer) → step a (Read s question told) ≡ a
+PassesReads {A = A} step = (a : A) (s : ℕ) (question : Question) (answer : Answer) → step a (Read s question answer) ≡ a
 
 -- one event, left out or not
 event_without : {A : Type 0} (opened : List Entry) (step : A → Event → A) → PassesReads step → (a : A) (x : Event) (xs : List Event) → fold step a (cond (is_no_low_read opened x) (x ∷ xs) xs) ≡ fold step (step a x) xs

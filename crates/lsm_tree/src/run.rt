@@ -1,5 +1,5 @@
 // A list of calls on a tree, with the replay theorem.
-ghost use Rattle.std.specs.Prelude.{◌≡◌, ◌≤◌, ◌<◌, ◌+◌, ◌^◌, ◌++◌, ◌∷◌, [], List, max, map, take, length, Ok, IfOk, IfErr, OnOk, OnErr};
+ghost use Rattle.std.specs.Prelude.{◌≡◌, ◌≤◌, ◌++◌, ◌∷◌, [], List, max, map, take, length, IfOk, OnOk, OnErr};
 ghost use Rattle.lsm_below.specs.Entries.{Entry, plain};
 ghost use Rattle.lsm_model.specs.Journal.{Map};
 ghost use Rattle.lsm_model.specs.Ops.{op_entry, op_entries};
@@ -8,7 +8,7 @@ ghost use Rattle.lsm_model.specs.declared.journal.JournalEntry.TheVariants.{Writ
 ghost use Rattle.lsm_model.specs.declared.question.Question.TheVariants.{Get as AskGet};
 ghost use Rattle.lsm_model.specs.declared.question.Answer.TheVariants.{Found};
 ghost use Rattle.lsm_tree.specs.Told.{Told};
-ghost use Rattle.lsm_tree.specs.Runs.{Takes, TakesEntry, TakesBatch, TakesGet, TakesGetEntry, TakesRotate, TakesNext, TakesCounter, counter_of, with_counter, told_entry, told_batch, Ran, RunEqualsReplay};
+ghost use Rattle.lsm_tree.specs.Runs.{Takes, TakesEntry, TakesBatch, TakesGet, TakesGetEntry, TakesRotate, TakesNext, TakesCounter, counter_of, told_entry, told_batch, Ran, RunEqualsReplay};
 
 use crate::{
     Answer, Counter, Error, InternalValue, JournalEntry, Op, Outcome, Question, Reply, SeqNo, Step,
