@@ -1,6 +1,6 @@
-pub mod MarksLemmas
-pub mod RecordedLemmas
 pub mod BatchLemmas
+pub mod LowReads
+pub mod MarksLemmas
 pub mod Outcomes
-pub mod Told
+pub mod RecordedLemmas
 pub mod Replays

@@ -28,12 +28,12 @@ use Rattle.lsm_tree.specs.declared.steps.Step.TheVariants.{Insert, Remove, Remov
 use Rattle.lsm_tree.specs.declared.steps.Reply.{Reply}
 use Rattle.lsm_tree.specs.declared.steps.Reply.TheVariants.{Sizes, Number, Value, Entry as EntryOf, Sealed, Done, Refused}
 use Rattle.lsm_tree.specs.Told.{Told}
-use Rattle.lsm_tree.specs.Runs.{Takes, TakesEntry, TakesBatch, TakesGet, TakesGetEntry, TakesRotate, TakesNext, TakesCounter, IsReadRefusal, with_counter, Ran, journal_of, GetAnswers, GetEntryAnswers, StepAnswers, EachAnswers, RunEqualsReplay, told_of}
-use Rattle.lsm_tree.proofs.Told.{replay_told, outside_told, kept_told, told-append, writes_told, order_told}
+use Rattle.lsm_tree.specs.Runs.{Takes, TakesEntry, TakesBatch, TakesGet, TakesGetEntry, TakesRotate, TakesNext, TakesCounter, IsReadRefusal, with_counter, Ran, journal_of, GetAnswers, GetEntryAnswers, StepAnswers, EachAnswers, RunEqualsReplay, without_low_reads}
+use Rattle.lsm_tree.proofs.LowReads.{replay_without, outside_without, kept_without, without-append, writes_without, order_without}
 
 -- what holds of a tree behind a journal, of which reads below what was opened don't count
 abbrev pub Sound : List Entry → Map → List Event → Core → Type 0
-Sound opened start journal c = Holds opened start (state_of (told_of opened journal) c)
+Sound opened start journal c = Holds opened start (state_of (without_low_reads opened journal) c)
 
 -- ---- each call keeps the tree sound
 
@@ -43,30 +43,30 @@ same opened start journal events old new none is h = rw (none, is, append-nil jo
 
 takes_entry : (opened : List Entry) (start : Map) (e : Entry) (reply : Reply) (journal events : List Event) (old new : Core) → TakesEntry e reply events old new → InOrder opened (journal ++ events) → Sound opened start journal old → Sound opened start (journal ++ events) new
 takes_entry opened start e (Sizes size total) journal events old new t order h =
-    let is : told_of opened (journal ++ events) ≡ told_of opened journal ++ Noted e ∷ [] = ap (λ xs. told_of opened (journal ++ xs)) t.0 ∙ told-append opened journal (Noted e ∷ []) in
-    rw is (step_holds opened start (state_of (told_of opened journal) old) (Wrote e) (state_of (told_of opened journal ++ Noted e ∷ []) new) (t.1.step opened (told_of opened journal)) (rw is at (order_told opened (journal ++ events) order)) h)
+    let is : without_low_reads opened (journal ++ events) ≡ without_low_reads opened journal ++ Noted e ∷ [] = ap (λ xs. without_low_reads opened (journal ++ xs)) t.0 ∙ without-append opened journal (Noted e ∷ []) in
+    rw is (step_holds opened start (state_of (without_low_reads opened journal) old) (Wrote e) (state_of (without_low_reads opened journal ++ Noted e ∷ []) new) (t.1.step opened (without_low_reads opened journal)) (rw is at (order_without opened (journal ++ events) order)) h)
 takes_entry opened start e (Refused x) journal events old new t order h = same opened start journal events old new t.0 t.1.unchanged h
 takes_entry opened start e reply journal events old new t order h = absurd t
 
 takes_batch : (opened : List Entry) (start : Map) (ops : List (Bytes × Op)) (reply : Reply) (journal events : List Event) (old new : Core) → TakesBatch ops reply events old new → InOrder opened (journal ++ events) → Sound opened start journal old → Sound opened start (journal ++ events) new
 takes_batch opened start ops (Number n) journal events old new t order h =
     let es = op_entries old.seqno ops in
-    let is : told_of opened (journal ++ events) ≡ told_of opened journal ++ map Noted es =
-    ap (λ xs. told_of opened (journal ++ xs)) (t.0 ∙ ap (λ m. map Noted (op_entries m ops)) t.1.number) ∙ told-append opened journal (map Noted es) ∙ ap (λ xs. told_of opened journal ++ xs) (writes_told opened es) in
-    rw is (run_holds opened start (state_of (told_of opened journal) old) (map Wrote es) (state_of (told_of opened journal ++ map Noted es) new) (t.1.run opened (told_of opened journal)) (rw is at (order_told opened (journal ++ events) order)) h)
+    let is : without_low_reads opened (journal ++ events) ≡ without_low_reads opened journal ++ map Noted es =
+    ap (λ xs. without_low_reads opened (journal ++ xs)) (t.0 ∙ ap (λ m. map Noted (op_entries m ops)) t.1.number) ∙ without-append opened journal (map Noted es) ∙ ap (λ xs. without_low_reads opened journal ++ xs) (writes_without opened es) in
+    rw is (run_holds opened start (state_of (without_low_reads opened journal) old) (map Wrote es) (state_of (without_low_reads opened journal ++ map Noted es) new) (t.1.run opened (without_low_reads opened journal)) (rw is at (order_without opened (journal ++ events) order)) h)
 takes_batch opened start ops (Refused x) journal events old new t order h = same opened start journal events old new t.0 t.1.unchanged h
 takes_batch opened start ops reply journal events old new t order h = absurd t
 
--- a read that is told is a step, and another one doesn't count
+-- a read is a step, unless it is below what was opened and doesn't count
 takes_get : (opened : List Entry) (start : Map) (k : Bytes) (s : ℕ) (reply : Reply) (journal events : List Event) (old new : Core) → TakesGet k s reply events old new → InOrder opened (journal ++ events) → Sound opened start journal old → Sound opened start (journal ++ events) new
 takes_get opened start k s (Value v) journal events old new t order h =
     let read = Read s (AskGet k) (Found v) in
-    let is : told_of opened (journal ++ events) ≡ told_of opened journal ++ cond (nat_le (above opened) s) (read ∷ []) [] = ap (λ xs. told_of opened (journal ++ xs)) t.0 ∙ told-append opened journal (read ∷ []) in
-    let order' : InOrder opened (told_of opened journal ++ cond (nat_le (above opened) s) (read ∷ []) []) = rw is at (order_told opened (journal ++ events) order) in
+    let is : without_low_reads opened (journal ++ events) ≡ without_low_reads opened journal ++ cond (nat_le (above opened) s) (read ∷ []) [] = ap (λ xs. without_low_reads opened (journal ++ xs)) t.0 ∙ without-append opened journal (read ∷ []) in
+    let order' : InOrder opened (without_low_reads opened journal ++ cond (nat_le (above opened) s) (read ∷ []) []) = rw is at (order_without opened (journal ++ events) order) in
     rw (is, t.1)
-    (elim (nat_le (above opened) s) as (λ b. nat_le (above opened) s ≡ b → InOrder opened (told_of opened journal ++ cond b (read ∷ []) []) → Holds opened start (state_of (told_of opened journal ++ cond b (read ∷ []) []) old)) [
-      | true ↦ λ low o. step_holds opened start (state_of (told_of opened journal) old) (Asked s (AskGet k)) (state_of (told_of opened journal ++ read ∷ []) old) (t.3 opened (told_of opened journal) (grind arith)) o h
-      | false ↦ λ low o. rw (append-nil (told_of opened journal)) h
+    (elim (nat_le (above opened) s) as (λ b. nat_le (above opened) s ≡ b → InOrder opened (without_low_reads opened journal ++ cond b (read ∷ []) []) → Holds opened start (state_of (without_low_reads opened journal ++ cond b (read ∷ []) []) old)) [
+      | true ↦ λ low o. step_holds opened start (state_of (without_low_reads opened journal) old) (Asked s (AskGet k)) (state_of (without_low_reads opened journal ++ read ∷ []) old) (t.3 opened (without_low_reads opened journal) (grind arith)) o h
+      | false ↦ λ low o. rw (append-nil (without_low_reads opened journal)) h
     ] refl order')
 takes_get opened start k s (Refused x) journal events old new t order h = same opened start journal events old new t.0 t.1 h
 takes_get opened start k s reply journal events old new t order h = absurd t
@@ -76,14 +76,14 @@ takes_get_entry opened start k s (EntryOf e) journal events old new t h = same o
 takes_get_entry opened start k s (Refused x) journal events old new t h = same opened start journal events old new t.0 t.1 h
 takes_get_entry opened start k s reply journal events old new t h = absurd t
 
-rotates : (opened : List Entry) (start : Map) (id : Option ℕ) (journal : List Event) (old new : Core) → Rotates old id new → InOrder opened (told_of opened journal) → Sound opened start journal old → Sound opened start journal new
+rotates : (opened : List Entry) (start : Map) (id : Option ℕ) (journal : List Event) (old new : Core) → Rotates old id new → InOrder opened (without_low_reads opened journal) → Sound opened start journal old → Sound opened start journal new
 rotates opened start None journal old new t order h = rw t.1 h
-rotates opened start (Some id) journal old new t order h = step_holds opened start (state_of (told_of opened journal) old) (Rotated old.next_memtable) (state_of (told_of opened journal) new) (t.3 opened (told_of opened journal)) order h
+rotates opened start (Some id) journal old new t order h = step_holds opened start (state_of (without_low_reads opened journal) old) (Rotated old.next_memtable) (state_of (without_low_reads opened journal) new) (t.3 opened (without_low_reads opened journal)) order h
 
 takes_rotate : (opened : List Entry) (start : Map) (reply : Reply) (journal events : List Event) (old new : Core) → TakesRotate reply events old new → InOrder opened (journal ++ events) → Sound opened start journal old → Sound opened start (journal ++ events) new
 takes_rotate opened start (Sealed id) journal events old new t order h =
     let o : InOrder opened journal = in_order_front opened journal events order in
-    rw (t.0, append-nil journal) (rotates opened start id journal old new t.1 (order_told opened journal o) h)
+    rw (t.0, append-nil journal) (rotates opened start id journal old new t.1 (order_without opened journal o) h)
 takes_rotate opened start (Refused x) journal events old new t order h = same opened start journal events old new t.0 t.1 h
 takes_rotate opened start reply journal events old new t order h = absurd t
 
@@ -125,10 +125,10 @@ found_cut v w e = cc e
 -- what a walk shows is what the replay says
 walk_replays : (opened : List Entry) (start : Map) (k : Bytes) (s : ℕ) (sv : SuperVersion) (journal : List Event) (c : Core) → found_at s (latest_of c) (older_of c) ≡ Some sv → Sound opened start journal c → above opened ≤ s → is_outside k s journal ≡ true → shown (walk k s (sources (entries_of c.memtables) sv)) ≡ get (replay start journal s) k
 walk_replays opened start k s sv journal c found h low out =
-    let t = state_of (told_of opened journal) c in
+    let t = state_of (without_low_reads opened journal) c in
     found_cut _ _ (answered_view opened start t h s sv found (AskGet k))
-    ∙ view_right opened start t h s sv low found k (outside_told opened k s journal ∙ out)
-    ∙ ap (λ m. get m k) (replay_told opened start journal s)
+    ∙ view_right opened start t h s sv low found k (outside_without opened k s journal ∙ out)
+    ∙ ap (λ m. get m k) (replay_without opened start journal s)
 
 -- an entry that isn't a tombstone gives the same
 live_kind : (e : Entry) (kind : ValueType) → e.key.value_type ≡ kind → shown (live (Some e)) ≡ shown (Some e)
@@ -144,13 +144,13 @@ not_none : {A : Type 0} (o : Option A) → is_some o ≡ true → o ≡ None →
 not_none None h e = cc h
 not_none (Some x) h e = cc e
 
-kept_along : (opened : List Entry) (s : ℕ) (journal : List Event) → IsKept s journal → IsKept s (told_of opened journal)
-kept_along opened s journal kept = rw (kept_told opened s journal) kept
+kept_along : (opened : List Entry) (s : ℕ) (journal : List Event) → IsKept s journal → IsKept s (without_low_reads opened journal)
+kept_along opened s journal kept = rw (kept_without opened s journal) kept
 
 -- where the snapshot is kept, only memory may be missing
 refused_memory : (opened : List Entry) (start : Map) (s : ℕ) (x : Error) (journal : List Event) (c : Core) → IsReadRefusal s c x → Sound opened start journal c → IsKept s journal → x ≡ OutOfMemory
 refused_memory opened start s x journal c r h kept =
-    let there = (reads_right opened start (state_of (told_of opened journal) c) h).answered s (kept_along opened s journal kept) in
+    let there = (reads_right opened start (state_of (without_low_reads opened journal) c) h).answered s (kept_along opened s journal kept) in
     ⊎_elim (λ (old : x ≡ SnapshotTooOld). absurd (not_none _ there (r.1.0 old))) (λ (m : x ≡ OutOfMemory). m) r.0
 
 get_answers : (opened : List Entry) (start : Map) (k : Bytes) (s : ℕ) (reply : Reply) (journal events : List Event) (old new : Core) → TakesGet k s reply events old new → Sound opened start journal old → GetAnswers opened start journal k s reply
@@ -184,7 +184,7 @@ ran_right opened start (x ∷ xs) (t ∷ ts) journal old new r order h =
 pub run_replays : (opened : List Entry) (start : Map) (xs : List Call) (ts : List Told) (old new : Core) → Ran xs ts old new → RunEqualsReplay opened start xs ts old new
 run_replays opened start xs ts old new r is order =
     let done = ran_right opened start xs ts [] old new r order (opened_holds opened start (state_of [] old) is) in
-    (done.0, reads_right opened start (state_of (told_of opened (journal_of ts)) new) done.1)
+    (done.0, reads_right opened start (state_of (without_low_reads opened (journal_of ts)) new) done.1)
 
 -- one more step
 pub ran_more : (xs : List Call) (ts : List Told) (x : Call) (t : Told) (old mid new : Core) → Ran xs ts old mid → Takes x t.reply t.entries mid new → Ran (xs ++ x ∷ []) (ts ++ t ∷ []) old new

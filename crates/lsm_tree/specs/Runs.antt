@@ -148,20 +148,19 @@ EachAnswers opened start before (x ∷ xs) (t ∷ ts) = StepAnswers opened start
 EachAnswers opened start before [] ts = Unit {0}
 EachAnswers opened start before (x ∷ xs) [] = Unit {0}
 
--- is an event anything but a read below what was opened, which no replay tells?
-abbrev pub is_told : List Entry → Event → Bool
-is_told opened (Read s question told) = nat_le (above opened) s
-is_told opened event = true
+-- is an event anything but a read at a snapshot below what was opened?
+abbrev pub is_no_low_read : List Entry → Event → Bool
+is_no_low_read opened (Read s question told) = nat_le (above opened) s
+is_no_low_read opened event = true
 
--- a journal, without the reads below what was opened
-abbrev pub told_of : List Entry → List Event → List Event
-told_of opened journal = filter (is_told opened) journal
+-- a journal without its reads below what was opened: what a key was down there is not known. All of it where nothing was opened
+abbrev pub without_low_reads : List Entry → List Event → List Event
+without_low_reads opened journal = filter (is_no_low_read opened) journal
 
 -- From a tree as opening left it, whenever the journal is in order: each step answers right, every super version
 -- stays ordered, views equal replays, and kept snapshots are answered. In order speaks of the journal alone: a
--- counter that is set back is no matter, so long as the writes keep their order. Reads below what was opened are
--- left out of the journal at last, since what a key was down there is not known; where nothing was opened there are none.
+-- counter that is set back is no matter for it, so long as the writes themselves keep their order.
 abbrev pub RunEqualsReplay : (opened : List Entry) (start : Map) → List Step → List Told → Core → Core → Type 0
 RunEqualsReplay opened start steps told old new =
     IsOpened opened start (state_of [] old) → InOrder opened (journal_of told)
-    → EachAnswers opened start [] steps told × ReadsEqualReplay opened start (state_of (told_of opened (journal_of told)) new)
+    → EachAnswers opened start [] steps told × ReadsEqualReplay opened start (state_of (without_low_reads opened (journal_of told)) new)

@@ -1,5 +1,5 @@
 // A list of calls on a tree, with the replay theorem.
-ghost use Rattle.std.specs.Prelude.{◌≡◌, ◌≤◌, ◌<◌, ◌+◌, ◌^◌, ◌++◌, ◌∷◌, [], List, max, map, take, length, Ok, IfOk, IfErr, OnOk, OnErr};
+ghost use Rattle.std.specs.Prelude.{◌≡◌, ◌≤◌, ◌++◌, ◌∷◌, [], List, max, map, take, length, IfOk, OnOk, OnErr};
 ghost use Rattle.lsm_below.specs.Entries.{Entry, plain};
 ghost use Rattle.lsm_model.specs.Journal.{Map};
 ghost use Rattle.lsm_model.specs.Ops.{op_entry, op_entries};
@@ -8,7 +8,7 @@ ghost use Rattle.lsm_model.specs.declared.journal.JournalEntry.TheVariants.{Writ
 ghost use Rattle.lsm_model.specs.declared.question.Question.TheVariants.{Get as AskGet};
 ghost use Rattle.lsm_model.specs.declared.question.Answer.TheVariants.{Found};
 ghost use Rattle.lsm_tree.specs.Told.{Told};
-ghost use Rattle.lsm_tree.specs.Runs.{Takes, TakesEntry, TakesBatch, TakesGet, TakesGetEntry, TakesRotate, TakesNext, TakesCounter, counter_of, with_counter, told_entry, told_batch, Ran, RunEqualsReplay};
+ghost use Rattle.lsm_tree.specs.Runs.{Takes, TakesEntry, TakesBatch, TakesGet, TakesGetEntry, TakesRotate, TakesNext, TakesCounter, counter_of, told_entry, told_batch, Ran, RunEqualsReplay};
 
 use crate::{
     Answer, Counter, Error, InternalValue, JournalEntry, Op, Outcome, Question, Reply, SeqNo, Step,
@@ -385,4 +385,97 @@ pub fn run<S: Store>(alloc: Global, state: &mut TreeState<S>, steps: &[Step]) ->
     ensures store { state.new.store ≡ state.old.store }
 {
     take_steps(alloc, state, steps)
+}
+
+#[cfg(test)]
+mod tests {
+    use super::*;
+    use crate::{Config, Ops};
+    use std::test::Fail;
+
+    const LIMIT: SeqNo = 9_223_372_036_854_775_808;
+
+    fn key(spelled: &'static str) -> UserKey {
+        UserKey::from_static(spelled.as_bytes())
+    }
+
+    fn batch(alloc: Global, pairs: &[(&'static str, &'static str)]) -> Result<Step, AllocError> {
+        let mut ops = Vec::new(alloc);
+        for (name, value) in pairs {
+            ops.push((key(*name), Op::Set(key(*value))))?;
+        }
+        Ok(Step::Write(Ops::new(ops)))
+    }
+
+    fn is_value(reply: Option<&Reply>, value: &'static str) -> bool {
+        match reply {
+            Some(Reply::Value(Some(found))) => found.as_slice() == value.as_bytes(),
+            _ => false,
+        }
+    }
+
+    fn is_numbered(reply: Option<&Reply>, seqno: SeqNo) -> bool {
+        match reply {
+            Some(Reply::Entry(Some(entry))) => entry.key.seqno == seqno,
+            _ => false,
+        }
+    }
+
+    #[test]
+    fn takes_each_step(rt: HostRuntime) -> Result<(), Fail> {
+        let mut state = TreeState::open_in_memory(rt.alloc(), Config::new(0, 0, 0));
+        let mut steps = Vec::new(rt.alloc());
+        steps.push(batch(rt.alloc(), &[("a", "x")])?)?;
+        steps.push(Step::Get(key("a"), 1))?;
+        steps.push(Step::Insert(key("b"), key("y"), 7))?;
+        steps.push(Step::RemoveWeak(key("b"), 8))?;
+        steps.push(Step::GetInternalEntry(key("b"), 8))?;
+        steps.push(Step::GetInternalEntry(key("b"), 9))?;
+        steps.push(Step::RotateMemtable)?;
+        steps.push(Step::RotateMemtable)?;
+
+        let outcomes = run(rt.alloc(), &mut state, &steps);
+        let mut replies = outcomes.iter().map(|outcome| outcome.reply());
+        assert!(rt; matches!(replies.next(), Some(Reply::Number(0))));
+        assert!(rt; is_value(replies.next(), "x"));
+        assert!(rt; matches!(replies.next(), Some(Reply::Sizes(50, 100))));
+        assert!(rt; matches!(replies.next(), Some(Reply::Sizes(49, 149))));
+        assert!(rt; is_numbered(replies.next(), 7));
+        assert!(rt; matches!(replies.next(), Some(Reply::Entry(None))));
+        assert!(rt; matches!(replies.next(), Some(Reply::Sealed(Some(0)))));
+        assert!(rt; matches!(replies.next(), Some(Reply::Sealed(None))));
+        let mut noted = outcomes.iter().map(|outcome| outcome.entries().len());
+        for want in [1, 1, 1, 1, 0, 0, 0, 0] {
+            assert!(rt; noted.next() == Some(want));
+        }
+        Ok(())
+    }
+
+    #[test]
+    fn counts_and_refuses(rt: HostRuntime) -> Result<(), Fail> {
+        let mut state = TreeState::open_in_memory(rt.alloc(), Config::new(0, 0, 0));
+        let mut steps = Vec::new(rt.alloc());
+        steps.push(batch(rt.alloc(), &[("a", "x")])?)?;
+        steps.push(Step::Next(Counter::Seqno))?;
+        steps.push(Step::Set(Counter::Visible, 9))?;
+        steps.push(Step::FetchMax(Counter::Visible, 3))?;
+        steps.push(Step::Insert(key("b"), key("y"), LIMIT))?;
+        steps.push(batch(rt.alloc(), &[("a", "x"), ("a", "y")])?)?;
+        steps.push(Step::Remove(key("a"), 2))?;
+        steps.push(Step::AppendEntry(InternalValue::new_tombstone(key("c"), 3)))?;
+
+        let outcomes = run(rt.alloc(), &mut state, &steps);
+        let mut replies = outcomes.iter().map(|outcome| outcome.reply());
+        assert!(rt; matches!(replies.next(), Some(Reply::Number(0))));
+        assert!(rt; matches!(replies.next(), Some(Reply::Number(1))));
+        assert!(rt; matches!(replies.next(), Some(Reply::Done)));
+        assert!(rt; matches!(replies.next(), Some(Reply::Done)));
+        assert!(rt; matches!(replies.next(), Some(Reply::Refused(Error::NumberTooGreat))));
+        assert!(rt; matches!(replies.next(), Some(Reply::Refused(Error::DuplicateKey))));
+        assert!(rt; matches!(replies.next(), Some(Reply::Sizes(49, 99))));
+        assert!(rt; matches!(replies.next(), Some(Reply::Sizes(49, 148))));
+        assert_eq!(rt; state.seqno().get(), 2);
+        assert_eq!(rt; state.visible_seqno().get(), 9);
+        Ok(())
+    }
 }
