@@ -5,11 +5,13 @@
 //! | `steps` | calls as data, and what each answers |
 //! | `runner` | a list of calls on a tree, with the replay theorem |
 //! | `pass` | what one caller's calls put into a journal |
+//! | `entries` | entries for a journal, made of what callers passed |
 //! | `notes` | copies of the entries of a write, for the journal and a pass |
 //! | `marks` | what was written to each key, by which a write in order is told |
 //! | `recorded` | a tree with the journal of its calls |
 #![tactic(auto)]
 
+mod entries;
 mod marks;
 mod notes;
 mod pass;

@@ -8,6 +8,7 @@ ghost use Rattle.lsm_tree.specs.Marks.{mark_of, marked_all};
 ghost use Rattle.lsm_tree.specs.Passes.{listed};
 ghost use Rattle.lsm_tree.specs.Notes.{HasRoom, journal_entry, pass_entry, HaveNumber};
 
+use crate::entries::entry_of;
 use crate::marks::{Mark, mark_write, reserve_mark};
 use crate::pass::put_entry;
 use lsm_below::{InternalValue, SeqNo, UserKey, ValueType, share};
@@ -30,21 +31,6 @@ pub(crate) fn make_note(entry: &InternalValue) -> Result<Note, AllocError>
         entry: entry.copy()?,
         copy: entry.copy()?,
     })
-}
-
-/// The entry of a write.
-fn entry_of(key: &UserKey, number: SeqNo, op: &Op) -> Result<InternalValue, AllocError>
-    ensures { IfOk result (λ e. e ≡ op_entry key.now number op.now) }
-{
-    let key = share(key)?;
-    match op {
-        Op::Set(value) => {
-            let value = share(value)?;
-            Ok(InternalValue::from_components(key, value, number, ValueType::Value))
-        }
-        Op::Del => Ok(InternalValue::new_tombstone(key, number)),
-        Op::Weak => Ok(InternalValue::new_weak_tombstone(key, number)),
-    }
 }
 
 /// Copies of the entry of a write.

@@ -18,6 +18,7 @@ ghost use Rattle.std.specs.List.{list_all};
 ghost use Rattle.lsm_tree.specs.Marks.{mark_of, keeps_order, batch_keeps_order, op_type, op_allowed};
 ghost use Rattle.lsm_tree.specs.Passes.{Notes};
 
+use crate::entries::read_entry;
 use crate::marks::{Mark, is_allowed, mark_write, read_mark, reserve_mark};
 use crate::notes::{make_note, make_notes, mark_notes, put_notes, reserve_notes};
 use crate::pass::{Pass, make_room, put_entry};
@@ -64,27 +65,6 @@ impl<S: Store> Model for Recorded<S> {
     ghost view = { λ r. record { tree = r.core; journal = r.journal.items } };
 
     ghost invariant = { λ r. IsRecorded r.marks r.floor r.core.core r.journal.items };
-}
-
-fn share_value(value: &Option<UserValue>) -> Result<Option<UserValue>, AllocError>
-    ensures { IfOk result (λ copy. copy ≡ value.now) }
-{
-    match value {
-        Some(bytes) => Ok(Some(share(bytes)?)),
-        None => Ok(None),
-    }
-}
-
-/// The entry of an answered get.
-fn read_entry(
-    snapshot: SeqNo,
-    key: &UserKey,
-    value: &Option<UserValue>,
-) -> Result<JournalEntry, AllocError>
-    ensures { IfOk result (λ entry. entry ≡ ReadEntry snapshot (GetQuestion key.now) (Found value.now)) }
-{
-    let told = Answer::Found(share_value(value)?);
-    Ok(JournalEntry::Read(snapshot, Question::Get(share(key)?), told))
 }
 
 /// Whether writes under this number keep the order of their keys, and of installs and clears.

@@ -10,6 +10,7 @@ ghost use Rattle.lsm_model.specs.declared.question.Answer.TheVariants.{Found};
 ghost use Rattle.lsm_tree.specs.Told.{Told};
 ghost use Rattle.lsm_tree.specs.Runs.{Takes, TakesEntry, TakesBatch, TakesGet, TakesGetEntry, TakesRotate, TakesNext, TakesCounter, counter_of, told_entry, told_batch, Ran, RunEqualsReplay};
 
+use crate::entries::{entry_of, read_entry};
 use crate::{
     Answer, Counter, Error, InternalValue, JournalEntry, Op, Outcome, Question, Reply, SeqNo, Step,
     Store, TreeState, UserKey, UserValue, ValueType,
@@ -149,20 +150,6 @@ fn share_ops(alloc: Global, ops: &[(UserKey, Op)]) -> Result<Vec<(UserKey, Op)>,
     Ok(copy)
 }
 
-/// The entry of a write, as the journal notes it.
-fn write_entry(key: &UserKey, seqno: SeqNo, op: &Op) -> Result<JournalEntry, AllocError>
-    ensures { IfOk result (λ noted. noted ≡ Wrote (op_entry key.now seqno op.now)) }
-{
-    let key = share(key)?;
-    Ok(JournalEntry::Write(match op {
-        Op::Set(value) => {
-            InternalValue::from_components(key, share(value)?, seqno, ValueType::Value)
-        }
-        Op::Del => InternalValue::new_tombstone(key, seqno),
-        Op::Weak => InternalValue::new_weak_tombstone(key, seqno),
-    }))
-}
-
 /// The entries of a batch, as the journal notes them.
 fn batch_entries(
     alloc: Global,
@@ -173,7 +160,7 @@ fn batch_entries(
 {
     let mut list = Vec::with_capacity(alloc, ops.len())?;
     for (key, op) in ops {
-        list.push(write_entry(key, seqno, op)?)?;
+        list.push(JournalEntry::Write(entry_of(key, seqno, op)?))?;
     }
     Ok(list)
 }
@@ -207,22 +194,6 @@ fn write<S: Store>(
 
 // ---- reads
 
-/// What an answered get adds to the journal.
-fn read_entry(
-    key: &UserKey,
-    snapshot: SeqNo,
-    value: &Option<UserValue>,
-) -> Result<JournalEntry, AllocError>
-    ensures { IfOk result (λ noted. noted ≡ Read snapshot (AskGet key.now) (Found value.now)) }
-{
-    let answer = match value {
-        Some(value) => Some(share(value)?),
-        None => None,
-    };
-    let question = Question::Get(share(key)?);
-    Ok(JournalEntry::Read(snapshot, question, Answer::Found(answer)))
-}
-
 fn get<S: Store>(
     alloc: Global,
     state: &TreeState<S>,
@@ -233,7 +204,7 @@ fn get<S: Store>(
 {
     match state.get(key.as_slice(), snapshot) {
         Ok(value) => {
-            let read = read_entry(key, snapshot, &value)?;
+            let read = read_entry(snapshot, key, &value)?;
             let entries = one_entry(alloc, read)?;
             Ok(Outcome {
                 reply: Reply::Value(value),
