@@ -18,8 +18,6 @@ mod pass;
 mod recorded;
 mod runner;
 mod steps;
-#[cfg(test)]
-mod tests;
 
 pub use lsm_below::{
     InternalKey, InternalValue, KeyRange, KvPair, MemtableId, NoStore, SeqNo, Store, TableId,

@@ -315,3 +315,6 @@ impl<S: Store> Recorded<S> {
             )
     }
 }
+
+#[cfg(test)]
+mod tests;
