@@ -16,3 +16,6 @@ mod writes;
 pub use memtables::Memtables;
 pub use tree::TreeState;
 pub use writes::{MAX_KEY_LEN, MAX_VALUE_LEN};
+
+#[cfg(test)]
+mod tests;
