@@ -24,7 +24,7 @@ fn range(rt: &impl Abort, min: &'static [u8], max: &'static [u8]) -> KeyRange {
     KeyRange::new((min, max))
 }
 
-fn piece(rt: &impl Abort, min: &'static [u8], max: &'static [u8]) -> Piece {
+fn piece_of(rt: &impl Abort, min: &'static [u8], max: &'static [u8]) -> Piece {
     Piece {
         range: range(rt, min, max),
     }
@@ -33,9 +33,9 @@ fn piece(rt: &impl Abort, min: &'static [u8], max: &'static [u8]) -> Piece {
 #[test]
 fn three_tables(rt: HostRuntime) -> Result<(), Fail> {
     let mut tables = Vec::new(rt.alloc());
-    tables.push(piece(&rt, b"a", b"c"))?;
-    tables.push(piece(&rt, b"e", b"g"))?;
-    tables.push(piece(&rt, b"i", b"k"))?;
+    tables.push(piece_of(&rt, b"a", b"c"))?;
+    tables.push(piece_of(&rt, b"e", b"g"))?;
+    tables.push(piece_of(&rt, b"i", b"k"))?;
     assert!(rt; is_run(&tables));
     let run = Run::new(tables).ok_or("no table")?;
     assert_eq!(rt; run.get_overlapping(&range(&rt, b"c", b"e")).len(), 2);
@@ -53,12 +53,12 @@ fn three_tables(rt: HostRuntime) -> Result<(), Fail> {
 #[test]
 fn runs_are_joined(rt: HostRuntime) -> Result<(), Fail> {
     let mut apart = Vec::new(rt.alloc());
-    apart.push(Run::single(rt.alloc(), piece(&rt, b"e", b"g"))?)?;
-    apart.push(Run::single(rt.alloc(), piece(&rt, b"a", b"c"))?)?;
+    apart.push(Run::single(rt.alloc(), piece_of(&rt, b"e", b"g"))?)?;
+    apart.push(Run::single(rt.alloc(), piece_of(&rt, b"a", b"c"))?)?;
     assert_eq!(rt; optimize_runs(rt.alloc(), apart)?.len(), 1);
     let mut overlapping = Vec::new(rt.alloc());
-    overlapping.push(Run::single(rt.alloc(), piece(&rt, b"a", b"c"))?)?;
-    overlapping.push(Run::single(rt.alloc(), piece(&rt, b"c", b"d"))?)?;
+    overlapping.push(Run::single(rt.alloc(), piece_of(&rt, b"a", b"c"))?)?;
+    overlapping.push(Run::single(rt.alloc(), piece_of(&rt, b"c", b"d"))?)?;
     assert_eq!(rt; optimize_runs(rt.alloc(), overlapping)?.len(), 2);
     Ok(())
 }
