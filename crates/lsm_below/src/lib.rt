@@ -6,20 +6,26 @@
 //! | `value_type` | what an entry does to its key |
 //! | `key` | a user key with its number, and the order of entries |
 //! | `value` | an entry: a key and its value |
-//! | `key_range` | all keys from a least to a greatest one |
+//! | `key_range` | all keys from a least to a greatest one, and what has such a range |
+//! | `run` | tables sorted by their keys, no two of which share one |
+//! | `optimize` | joins runs where their tables allow it |
 //! | `store` | what a tree keeps its files in |
 #![tactic(auto)]
 
 mod ids;
 mod key;
 mod key_range;
+mod optimize;
+mod run;
 mod store;
 mod value;
 mod value_type;
 
 pub use ids::{KvPair, MemtableId, SeqNo, TableId, TreeId, UserKey, UserValue, share};
 pub use key::InternalKey;
-pub use key_range::KeyRange;
+pub use key_range::{KeyRange, Ranged};
+pub use optimize::optimize_runs;
+pub use run::{Run, is_run};
 pub use store::{NoStore, Store};
 pub use value::InternalValue;
 pub use value_type::ValueType;
