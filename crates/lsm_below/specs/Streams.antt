@@ -84,6 +84,12 @@ pub record Compacting : Type 0 where
   pub evict : Bool
   pub over : Bool
 
+-- a call's refusal, if it is one, is of these
+abbrev pub RefusesOnly : {E : Type 0} → (E → Type 0) → Option (Result Entry E) → Type 0
+RefusesOnly may None = Unit {0}
+RefusesOnly may (Some (Ok e)) = Unit {0}
+RefusesOnly may (Some (Err x)) = may x
+
 -- one call: nothing, where nothing is left; the first of what is left; or a refusal, which ends the stream
 abbrev pub Gives : {E : Type 0} → Rest → Option (Result Entry E) → Rest → Type 0
 Gives s None t = (s.entries ≡ []) × (t ≡ ended)

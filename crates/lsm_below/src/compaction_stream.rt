@@ -1,9 +1,9 @@
 // What a compaction keeps.
 
-ghost use Rattle.std.specs.Prelude.{◌≡◌, ◌≤◌, [], ◌∷◌, ◌++◌, length, false, IfOk, MatchOption, MatchResult, ℕ, List, flat_map};
+ghost use Rattle.std.specs.Prelude.{IfErr, ◌≡◌, ◌≤◌, [], ◌∷◌, ◌++◌, length, false, IfOk, MatchOption, MatchResult, ℕ, List, flat_map};
 ghost use Rattle.std.specs.List.{All};
 ghost use Rattle.lsm_below.specs.Entries.{IsFalling, stack, keep};
-ghost use Rattle.lsm_below.specs.Streams.{Rest, Gives, IsInOrder, IsByKey, keep_distinct, goes_alone, goes_with, unless};
+ghost use Rattle.lsm_below.specs.Streams.{Rest, Gives, RefusesOnly, IsInOrder, IsByKey, keep_distinct, goes_alone, goes_with, unless};
 ghost use Rattle.lsm_below.specs.Slots.{all_of, compacted, left_of, calls_left};
 
 use crate::merger::Merger;
@@ -62,6 +62,7 @@ fn judge<S: Source>(
     watermark: SeqNo,
     evict: bool,
 ) -> Result<(bool, Option<InternalValue>), S::Error>
+    ensures cause { IfErr result S.may_refuse }
     ensures kept { IfOk result
         (λ r. compacted watermark evict (entry.now ∷ (S.rest source.old).entries) ≡ unless r.0 entry.now ++ compacted watermark evict (all_of r.1 (S.rest source.new).entries)) }
     ensures shorter { IfOk result
@@ -89,7 +90,8 @@ fn next_kept<S: Source>(
     watermark: SeqNo,
     evict: bool,
 ) -> Option<Result<InternalValue, S::Error>>
-    ensures { MatchOption result
+    ensures cause { RefusesOnly S.may_refuse result }
+    ensures entry { MatchOption result
         (compacted watermark evict (all_of pending.old (S.rest source.old).entries) ≡ [])
         (λ r. IfOk r (λ e. compacted watermark evict (all_of pending.old (S.rest source.old).entries) ≡ e ∷ compacted watermark evict (all_of pending.new (S.rest source.new).entries))) }
 {
@@ -175,6 +177,8 @@ impl<S: Source> Source for CompactionStream<S> {
 
     ghost rest = { left_of };
 
+    ghost may_refuse = { S.may_refuse };
+
     fn next_entry(&mut self) -> Option<Result<InternalValue, S::Error>> {
         if self.over {
             return None;
@@ -201,7 +205,7 @@ impl<S: Source> Source for CompactionStream<S> {
 impl<S: Source> Iterator for CompactionStream<S> {
     type Item = Result<InternalValue, S::Error>;
 
-    ghost next_gives = { λ s r t. Gives (left_of s) r (left_of t) };
+    ghost next_gives = { λ s r t. Gives (left_of s) r (left_of t) × RefusesOnly S.may_refuse r };
 
     ghost remaining = { λ s. calls_left (left_of s) };
 

@@ -1,9 +1,9 @@
 // All entries of several sources, in order.
 
-ghost use Rattle.std.specs.Prelude.{◌≡◌, ℕ, ◌<◌, ◌≤◌, [], ◌∷◌, ◌++◌, length, map, flat_map, IfOk, OnOk, MatchOption, List, true, false, slice_index_or};
+ghost use Rattle.std.specs.Prelude.{IfErr, ◌≡◌, ℕ, ◌<◌, ◌≤◌, [], ◌∷◌, ◌++◌, length, map, flat_map, IfOk, OnOk, MatchOption, List, true, false, slice_index_or};
 ghost use Rattle.std.specs.List.{All, IsFirstBest};
 ghost use Rattle.lsm_below.specs.Entries.{IsFalling, stack};
-ghost use Rattle.lsm_below.specs.Streams.{Gives, Merges, IsInOrder};
+ghost use Rattle.lsm_below.specs.Streams.{Gives, RefusesOnly, Merges, IsInOrder};
 ghost use Rattle.lsm_below.specs.Slots.{merged, head_before, all_of, calls_left};
 
 use crate::InternalValue;
@@ -50,6 +50,7 @@ fn goes_before(head: &Option<InternalValue>, other: &Option<InternalValue>) -> b
 fn fill_slot<S: Source>(slot: &mut Slot<S>) -> Result<(), S::Error>
     ensures same { OnOk result
         (all_of slot.new.head (S.rest slot.new.source).entries ≡ all_of slot.old.head (S.rest slot.old.source).entries) }
+    ensures cause { IfErr result S.may_refuse }
     ensures filled { OnOk result (MatchOption slot.new.head ((S.rest slot.new.source).entries ≡ []) (λ _. Unit {0})) }
 {
     if slot.head.is_none() {
@@ -65,6 +66,7 @@ fn fill_slot<S: Source>(slot: &mut Slot<S>) -> Result<(), S::Error>
 fn fill<S: Source>(slots: &mut [Slot<S>]) -> Result<(), S::Error>
     ensures same { OnOk result
         (map (λ s. all_of s.head (S.rest s.source).entries) slots.new ≡ map (λ s. all_of s.head (S.rest s.source).entries) slots.old) }
+    ensures cause { IfErr result S.may_refuse }
     ensures filled { OnOk result
         (All (λ s. MatchOption s.head ((S.rest s.source).entries ≡ []) (λ _. Unit {0})) slots.new) }
 {
@@ -103,7 +105,8 @@ fn take_least<S: Source>(slots: &mut [Slot<S>]) -> Option<InternalValue>
 
 /// The least of what the sources have left.
 fn pull<S: Source>(slots: &mut [Slot<S>]) -> Option<Result<InternalValue, S::Error>>
-    ensures { MatchOption result
+    ensures cause { RefusesOnly S.may_refuse result }
+    ensures entry { MatchOption result
         (merged (map (λ s. all_of s.head (S.rest s.source).entries) slots.old) ≡ [])
         (λ r. IfOk r (λ e. merged (map (λ s. all_of s.head (S.rest s.source).entries) slots.old) ≡ e ∷ merged (map (λ s. all_of s.head (S.rest s.source).entries) slots.new))) }
 {
@@ -151,6 +154,8 @@ impl<S: Source> Source for Merger<S> {
 
     ghost rest = { λ m. m };
 
+    ghost may_refuse = { S.may_refuse };
+
     fn next_entry(&mut self) -> Option<Result<InternalValue, S::Error>> {
         if self.over {
             return None;
@@ -172,7 +177,7 @@ impl<S: Source> Source for Merger<S> {
 impl<S: Source> Iterator for Merger<S> {
     type Item = Result<InternalValue, S::Error>;
 
-    ghost next_gives = { Gives };
+    ghost next_gives = { λ s r t. Gives s r t × RefusesOnly S.may_refuse r };
 
     ghost remaining = { calls_left };
 

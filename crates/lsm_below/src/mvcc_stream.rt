@@ -1,7 +1,7 @@
 // The first entry of each key.
 
 ghost use Rattle.std.specs.Prelude.{◌≡◌, [], ◌∷◌, false, IfOk, MatchOption};
-ghost use Rattle.lsm_below.specs.Streams.{Rest, Gives, IsInOrder, IsByKey, first_of};
+ghost use Rattle.lsm_below.specs.Streams.{Rest, Gives, RefusesOnly, IsInOrder, IsByKey, first_of};
 ghost use Rattle.lsm_below.specs.Slots.{all_of, firsts, calls_left};
 
 use crate::InternalValue;
@@ -32,7 +32,8 @@ fn next_first<S: Source>(
     pending: &mut Option<InternalValue>,
     source: &mut S,
 ) -> Option<Result<InternalValue, S::Error>>
-    ensures { MatchOption result
+    ensures cause { RefusesOnly S.may_refuse result }
+    ensures entry { MatchOption result
         (firsts (all_of pending.old (S.rest source.old).entries) ≡ [])
         (λ r. IfOk r (λ e. firsts (all_of pending.old (S.rest source.old).entries) ≡ e ∷ firsts (all_of pending.new (S.rest source.new).entries))) }
 {
@@ -70,6 +71,8 @@ impl<S: Source> Source for MvccStream<S> {
 
     ghost rest = { λ m. m };
 
+    ghost may_refuse = { S.may_refuse };
+
     fn next_entry(&mut self) -> Option<Result<InternalValue, S::Error>> {
         if self.over {
             return None;
@@ -91,7 +94,7 @@ impl<S: Source> Source for MvccStream<S> {
 impl<S: Source> Iterator for MvccStream<S> {
     type Item = Result<InternalValue, S::Error>;
 
-    ghost next_gives = { Gives };
+    ghost next_gives = { λ s r t. Gives s r t × RefusesOnly S.may_refuse r };
 
     ghost remaining = { calls_left };
 

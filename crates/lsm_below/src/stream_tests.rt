@@ -4,7 +4,9 @@ ghost use Rattle.std.specs.Prelude.{◌≡◌, false, IfOk};
 ghost use Rattle.std.specs.List.{All};
 ghost use Rattle.lsm_below.specs.Streams.{IsInOrder, Rest, Gives, ended};
 
-use crate::{CompactionStream, InternalValue, ListSource, Merger, MvccStream, Source, ValueType};
+use crate::{
+    CompactionStream, InternalValue, ListSource, Merger, MvccStream, Source, ValueType, compact,
+};
 use bytes::Bytes;
 use std::alloc::{AllocError, Global};
 use std::test::Fail;
@@ -131,34 +133,67 @@ fn first_of_each_key(rt: HostRuntime) -> Result<(), Fail> {
     Ok(())
 }
 
-/// A source whose only entry is refused.
+/// A source whose only entry is refused, for a reason with the number 7.
 #[derive(Drop)]
 struct Refusing {
     over: bool,
 }
 
 impl Source for Refusing {
-    type Error = AllocError;
+    type Error = u8;
 
     ghost rest = { λ s. record { entries = []; over = s.over } };
 
+    ghost may_refuse = { λ reason. reason ≡ 7 };
+
     ghost use Rattle.std.specs.Prelude.{[]};
 
-    fn next_entry(&mut self) -> Option<Result<InternalValue, AllocError>> {
+    fn next_entry(&mut self) -> Option<Result<InternalValue, u8>> {
         if self.over {
             return None;
         }
         self.over = true;
-        Some(Err(AllocError))
+        Some(Err(7))
     }
+}
+
+fn merge_refused(alloc: Global) -> Result<Merger<Refusing>, AllocError>
+    ensures { IfOk result (λ m. IsInOrder m.entries) }
+{
+    Merger::new(alloc, vec![in alloc; Refusing { over: false }]?)
+}
+
+/// Whether a stream gives that refusal first, and nothing after it, however often it is asked.
+fn refuses_once<S: Source<Error = u8>>(mut source: S) -> bool {
+    let first = source.next_entry();
+    matches!(first, Some(Err(7))) && source.next_entry().is_none() && source.next_entry().is_none()
 }
 
 #[test]
 fn a_refusal_ends_the_stream(rt: HostRuntime) -> Result<(), Fail> {
     let alloc = rt.alloc();
-    let mut merger = Merger::new(alloc, vec![in alloc; Refusing { over: false }]?)?;
-    let first = merger.next_entry();
-    assert!(rt; matches!(first, Some(Err(_))));
-    assert!(rt; merger.next_entry().is_none());
+    assert!(rt; refuses_once(merge_refused(alloc)?));
+    assert!(rt; refuses_once(MvccStream::new(merge_refused(alloc)?)));
+    assert!(rt; refuses_once(CompactionStream::new(merge_refused(alloc)?, 0)));
+    Ok(())
+}
+
+#[test]
+fn streams_are_iterators(rt: HostRuntime) -> Result<(), Fail> {
+    let alloc = rt.alloc();
+    let rows = [(7, V), (4, T), (2, V)];
+    let mut last = None;
+    for item in merge(alloc, vec![in alloc; list(alloc, b"a", &rows)?]?)? {
+        last = Some(item?.key.seqno);
+    }
+    assert!(rt; matches!(last, Some(2)));
+    for item in MvccStream::new(merge(alloc, vec![in alloc; list(alloc, b"a", &rows)?]?)?) {
+        last = Some(item?.key.seqno);
+    }
+    assert!(rt; matches!(last, Some(7)));
+    for item in compact(alloc, vec![in alloc; list(alloc, b"a", &rows)?]?, 3, false)? {
+        last = Some(item?.key.seqno);
+    }
+    assert!(rt; matches!(last, Some(4)));
     Ok(())
 }
