@@ -5,3 +5,5 @@ pub mod Optimizes
 pub mod Greedy
 pub mod Sorted
 pub mod Entries
+pub mod Streams
+pub mod Slots

@@ -9,23 +9,41 @@
 //! | `key_range` | all keys from a least to a greatest one, and what has such a range |
 //! | `run` | tables sorted by their keys, no two of which share one |
 //! | `optimize` | joins runs where their tables allow it |
+//! | `source` | what gives entries in order, one at a time |
+//! | `list_source` | entries in hand, as a source |
+//! | `merger` | all entries of several sources, in order |
+//! | `mvcc_stream` | the first entry of each key |
+//! | `compaction_stream` | what a compaction keeps |
 //! | `store` | what a tree keeps its files in |
 #![tactic(auto)]
 
+mod compaction_stream;
 mod ids;
 mod key;
 mod key_range;
+mod list_source;
+mod merger;
+mod mvcc_stream;
 mod optimize;
 mod run;
+mod source;
 mod store;
 mod value;
 mod value_type;
 
+pub use compaction_stream::{CompactionStream, compact};
 pub use ids::{KvPair, MemtableId, SeqNo, TableId, TreeId, UserKey, UserValue, share};
 pub use key::InternalKey;
 pub use key_range::{KeyRange, Ranged};
+pub use list_source::ListSource;
+pub use merger::Merger;
+pub use mvcc_stream::MvccStream;
 pub use optimize::optimize_runs;
 pub use run::{Run, is_run};
+pub use source::Source;
 pub use store::{NoStore, Store};
 pub use value::InternalValue;
 pub use value_type::ValueType;
+
+#[cfg(test)]
+mod stream_tests;

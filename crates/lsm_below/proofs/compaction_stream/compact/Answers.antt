@@ -1,0 +1,13 @@
+use Rattle.std.proofs.Common.{ap, ◌∙◌, flat_map}
+use Rattle.lsm_below.specs.Entries.{stack, keep}
+use Rattle.lsm_below.specs.Streams.{Compacting}
+use Rattle.lsm_below.specs.Slots.{left_of}
+use Rattle.lsm_below.proofs.Bridge.{kept_in_turn}
+use Rattle.lsm_below.proofs.compaction_stream.compact.Goals as goal
+
+pub returns-clause-kept : goal.returns-clause-kept
+returns-clause-kept g c = λ key h.
+    let joined = flat_map (λ s. stack key (g.S.Source.rest s).entries) c.args.sources.items in
+    kept_in_turn c.new-stream.result.watermark c.args.evict c.new-stream.result.input (left_of c.evict_tombstones.result).entries joined key c.evict_tombstones.ensures.kept
+    (ap (λ (m : Compacting). stack key m.input) c.new-stream.ensures.settings ∙ c.in_ok-merger.ensures.in_turn key h) h
+    ∙ ap (λ (m : Compacting). keep m.watermark c.args.evict joined) c.new-stream.ensures.settings

@@ -1,0 +1,215 @@
+// What a compaction keeps.
+
+ghost use Rattle.std.specs.Prelude.{IfErr, ◌≡◌, ◌≤◌, [], ◌∷◌, ◌++◌, length, false, IfOk, MatchOption, MatchResult, ℕ, List, flat_map};
+ghost use Rattle.std.specs.List.{All};
+ghost use Rattle.lsm_below.specs.Entries.{IsFalling, stack, keep};
+ghost use Rattle.lsm_below.specs.Streams.{Rest, Gives, RefusesOnly, IsInOrder, IsByKey, keep_distinct, goes_alone, goes_with, unless};
+ghost use Rattle.lsm_below.specs.Slots.{all_of, compacted, left_of, calls_left};
+
+use crate::merger::Merger;
+use crate::source::{Source, has_same_key, next_past, take_next};
+use crate::{InternalValue, SeqNo, ValueType};
+use std::alloc::{AllocError, Global};
+use std::marker::Model;
+
+/// What a compaction keeps of its source: of each key the entries that a snapshot at or above the watermark may read.
+///
+/// The keys stay in order. No more than two entries are held.
+#[derive(Drop)]
+pub struct CompactionStream<S: Source> {
+    pending: Option<InternalValue>,
+    source: S,
+    watermark: SeqNo,
+    evict: bool,
+    over: bool,
+}
+
+impl<S: Source> Model for CompactionStream<S> {
+    ghost use Rattle.lsm_below.specs.Streams.{Compacting};
+    ghost use Rattle.lsm_below.specs.Slots.{all_of};
+
+    ghost Value = { Compacting };
+
+    ghost view = { λ m. record { input = all_of m.pending (S.rest m.source).entries; watermark = m.watermark; evict = m.evict; over = m.over } };
+}
+
+/// Whether an entry goes that has nothing behind it.
+fn drops_alone(entry: &InternalValue, evict: bool) -> bool
+    ensures { result ≡ goes_alone evict entry.now }
+{
+    evict
+        && match entry.key.value_type {
+            ValueType::Value => false,
+            ValueType::Tombstone | ValueType::WeakTombstone => true,
+        }
+}
+
+/// Whether an entry goes, where the one behind it is below the watermark.
+fn drops_with(entry: &InternalValue, below: &InternalValue, evict: bool) -> bool
+    ensures { result ≡ goes_with evict entry.now below.now }
+{
+    match (entry.key.value_type, below.key.value_type) {
+        (ValueType::Tombstone, _) => evict,
+        (ValueType::WeakTombstone, ValueType::Value) => true,
+        _ => false,
+    }
+}
+
+/// Whether the entry goes, and what comes after it.
+fn judge<S: Source>(
+    source: &mut S,
+    entry: &InternalValue,
+    watermark: SeqNo,
+    evict: bool,
+) -> Result<(bool, Option<InternalValue>), S::Error>
+    ensures cause { IfErr result S.may_refuse }
+    ensures kept { IfOk result
+        (λ r. compacted watermark evict (entry.now ∷ (S.rest source.old).entries) ≡ unless r.0 entry.now ++ compacted watermark evict (all_of r.1 (S.rest source.new).entries)) }
+    ensures shorter { IfOk result
+        (λ r. length (all_of r.1 (S.rest source.new).entries) ≤ length (S.rest source.old).entries) }
+{
+    match next_past(source, true, entry)? {
+        None => Ok((drops_alone(entry, evict), None)),
+        Some(below) => {
+            if !has_same_key(entry, &below) {
+                Ok((drops_alone(entry, evict), Some(below)))
+            } else if below.key.seqno < watermark {
+                let next = next_past(source, false, &below)?;
+                Ok((drops_with(entry, &below, evict), next))
+            } else {
+                Ok((false, Some(below)))
+            }
+        }
+    }
+}
+
+/// The next entry that is kept.
+fn next_kept<S: Source>(
+    pending: &mut Option<InternalValue>,
+    source: &mut S,
+    watermark: SeqNo,
+    evict: bool,
+) -> Option<Result<InternalValue, S::Error>>
+    ensures cause { RefusesOnly S.may_refuse result }
+    ensures entry { MatchOption result
+        (compacted watermark evict (all_of pending.old (S.rest source.old).entries) ≡ [])
+        (λ r. IfOk r (λ e. compacted watermark evict (all_of pending.old (S.rest source.old).entries) ≡ e ∷ compacted watermark evict (all_of pending.new (S.rest source.new).entries))) }
+{
+    loop {
+        let entry = match take_next(pending, source) {
+            Some(Ok(entry)) => entry,
+            Some(Err(error)) => return Some(Err(error)),
+            None => return None,
+        };
+        match judge(source, &entry, watermark, evict) {
+            Ok((goes, next)) => {
+                *pending = next;
+                if !goes {
+                    return Some(Ok(entry));
+                }
+            }
+            Err(error) => return Some(Err(error)),
+        }
+    }
+}
+
+impl<S: Source> CompactionStream<S> {
+    /// What is kept of a source in order. Tombstones are not evicted, unless that is asked for.
+    pub fn new(source: S, watermark: SeqNo) -> CompactionStream<S>
+        requires { IsInOrder (S.rest source).entries }
+        ensures settings { result ≡ record { input = (S.rest source).entries; watermark = watermark; evict = false; over = false } }
+        ensures kept { IsByKey (keep_distinct watermark false) (S.rest source).entries (left_of result).entries }
+    {
+        CompactionStream {
+            pending: None,
+            source,
+            watermark,
+            evict: false,
+            over: false,
+        }
+    }
+
+    /// Whether tombstones go that hide nothing more: right where nothing older is outside the source.
+    pub fn evict_tombstones(self, evict: bool) -> CompactionStream<S>
+        requires in_order { IsInOrder self.input }
+        requires open { self.over ≡ false }
+        ensures settings { result ≡ record self { evict = evict } }
+        ensures kept { IsByKey (keep_distinct self.watermark evict) self.input (left_of result).entries }
+    {
+        let CompactionStream {
+            pending,
+            source,
+            watermark,
+            evict: _,
+            over,
+        } = self;
+        CompactionStream {
+            pending,
+            source,
+            watermark,
+            evict,
+            over,
+        }
+    }
+}
+
+/// What a compaction keeps of several sources, each in order. Refused only for want of memory.
+pub fn compact<S: Source>(
+    alloc: Global,
+    sources: Vec<S>,
+    watermark: SeqNo,
+    evict: bool,
+) -> Result<CompactionStream<Merger<S>>, AllocError>
+    requires { All (λ s. IsInOrder (S.rest s).entries) sources.items }
+    ensures in_order { IfOk result (λ c. IsInOrder (left_of c).entries) }
+    ensures kept { IfOk result
+        (λ c. (key : List ℕ) → IsFalling (flat_map (λ s. stack key (S.rest s).entries) sources.items) → stack key (left_of c).entries ≡ keep watermark evict (flat_map (λ s. stack key (S.rest s).entries) sources.items)) }
+{
+    let merger = Merger::new(alloc, sources)?;
+    let stream = CompactionStream::new(merger, watermark);
+    Ok(stream.evict_tombstones(evict))
+}
+
+impl<S: Source> Source for CompactionStream<S> {
+    type Error = S::Error;
+
+    ghost use Rattle.lsm_below.specs.Slots.{left_of};
+
+    ghost rest = { left_of };
+
+    ghost may_refuse = { S.may_refuse };
+
+    fn next_entry(&mut self) -> Option<Result<InternalValue, S::Error>> {
+        if self.over {
+            return None;
+        }
+        match next_kept(
+            &mut self.pending,
+            &mut self.source,
+            self.watermark,
+            self.evict,
+        ) {
+            Some(Ok(entry)) => Some(Ok(entry)),
+            Some(Err(error)) => {
+                self.over = true;
+                Some(Err(error))
+            }
+            None => {
+                self.over = true;
+                None
+            }
+        }
+    }
+}
+
+impl<S: Source> Iterator for CompactionStream<S> {
+    type Item = Result<InternalValue, S::Error>;
+
+    ghost next_gives = { λ s r t. Gives (left_of s) r (left_of t) × RefusesOnly S.may_refuse r };
+
+    ghost remaining = { λ s. calls_left (left_of s) };
+
+    fn next(&mut self) -> Option<Result<InternalValue, S::Error>> {
+        self.next_entry()
+    }
+}

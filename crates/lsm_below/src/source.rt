@@ -1,0 +1,92 @@
+// What gives entries in order, one at a time.
+
+ghost use Rattle.std.specs.Prelude.{◌≡◌, IfErr, ℕ, true, false, option_to_list, IfOk, ◌++◌, ◌≤◌, ◌+◌, length, MatchOption, [], ◌∷◌, None, IfNone};
+ghost use Rattle.std.specs.Ordering.{nat_cmp, is_lt, is_eq};
+ghost use Rattle.lsm_below.specs.Entries.{entry_cmp};
+ghost use Rattle.lsm_below.specs.Streams.{Rest, Gives, RefusesOnly, is_of};
+ghost use Rattle.lsm_below.specs.Slots.{is_before, same_key, is_repeat, past, all_of};
+
+use crate::InternalValue;
+
+/// What gives entries one at a time, each as it is asked for.
+///
+/// Every source ends, and a refused entry ends it too. After its end it can be asked again, and
+/// answers `None`. What is left of it, and whether it has ended, is its ghost member `rest`; which
+/// refusals may come of it is `may_refuse`.
+pub trait Source: Drop {
+    type Error: Drop;
+
+    ghost use Rattle.std.specs.Prelude.{true, None};
+    ghost use Rattle.lsm_below.specs.Streams.{Rest, Gives, RefusesOnly};
+
+    ghost rest: { Self → Rest };
+
+    ghost may_refuse: { Self.Error → Type 0 };
+
+    /// The first of what is left, or a refusal, or `None` at the end.
+    fn next_entry(&mut self) -> Option<Result<InternalValue, Self::Error>>
+        ensures gives { Gives (rest self.old) result (rest self.new) }
+        ensures cause { RefusesOnly may_refuse result }
+        ensures again { (rest self.old).over ≡ true → result ≡ None };
+}
+
+/// Whether an entry stands before another one.
+pub fn stands_before(entry: &InternalValue, other: &InternalValue) -> bool
+    ensures { result ≡ is_before entry.now other.now }
+{
+    entry.key.cmp(&other.key).is_lt()
+}
+
+/// Whether two entries have one key.
+pub fn has_same_key(entry: &InternalValue, other: &InternalValue) -> bool
+    ensures { result ≡ same_key entry.now other.now }
+{
+    entry.key.user_key.cmp(&other.key.user_key).is_eq()
+}
+
+fn repeats(numbers: bool, entry: &InternalValue, other: &InternalValue) -> bool
+    ensures { result ≡ is_repeat numbers entry.now other.now }
+{
+    has_same_key(entry, other) && (!numbers || entry.key.seqno == other.key.seqno)
+}
+
+/// The next entry that doesn't repeat this one: its key, or also its number.
+pub fn next_past<S: Source>(
+    source: &mut S,
+    numbers: bool,
+    entry: &InternalValue,
+) -> Result<Option<InternalValue>, S::Error>
+    ensures past { IfOk result
+        (λ next. all_of next (S.rest source.new).entries ≡ past numbers entry.now (S.rest source.old).entries) }
+    ensures end { IfOk result (λ next. IfNone next ((S.rest source.new).entries ≡ [])) }
+    ensures cause { IfErr result S.may_refuse }
+{
+    loop {
+        match source.next_entry() {
+            None => return Ok(None),
+            Some(Err(error)) => return Err(error),
+            Some(Ok(next)) => {
+                if !repeats(numbers, entry, &next) {
+                    return Ok(Some(next));
+                }
+            }
+        }
+    }
+}
+
+/// The entry in hand, or else the next one.
+pub fn take_next<S: Source>(
+    pending: &mut Option<InternalValue>,
+    source: &mut S,
+) -> Option<Result<InternalValue, S::Error>>
+    ensures entry { MatchOption result
+        (all_of pending.old (S.rest source.old).entries ≡ [])
+        (λ r. IfOk r (λ e. all_of pending.old (S.rest source.old).entries ≡ e ∷ (S.rest source.new).entries)) }
+    ensures hand { pending.new ≡ None }
+    ensures cause { RefusesOnly S.may_refuse result }
+{
+    match pending.take() {
+        Some(entry) => Some(Ok(entry)),
+        None => source.next_entry(),
+    }
+}
