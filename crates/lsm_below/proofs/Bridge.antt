@@ -3,7 +3,7 @@ use Rattle.std.proofs.Common.{◌≡◌, ℕ, ◌<◌, ◌≤◌, ◌+◌, Bool,
 use Rattle.std.specs.List.{AllByRecursion, sum_by}
 use Rattle.std.specs.List.Sorted.{IsPermutation}
 use Rattle.std.proofs.lemmas.Bool.Decides.{nat_tests}
-use Rattle.std.proofs.lemmas.List.Elements.{All-from_recursion, recursion_from_All}
+use Rattle.std.proofs.lemmas.List.Elements.{All-from_recursion, recursion_from_All, filter-append}
 use Rattle.std.proofs.lemmas.List.Sorted.{sum_by-IsPermutation, All-permutation}
 use Rattle.std.proofs.lemmas.List.Sums.{sum_by-cons}
 use Rattle.lsm_below.specs.declared.value.InternalValue.{InternalValue}
@@ -136,6 +136,19 @@ distinct_falling [] h = refl
 distinct_falling (e ∷ es) h =
     ap (λ l. e ∷ filter (λ f. not (nat_eq e.key.seqno f.key.seqno)) l) (distinct_falling es h.1)
     ∙ ap (λ l. e ∷ l) (filter_all (λ f. not (nat_eq e.key.seqno f.key.seqno)) es (each_weaker (λ f. f.key.seqno < e.key.seqno) (λ f. not (nat_eq e.key.seqno f.key.seqno) ≡ true) (λ f l. differs e.key.seqno f.key.seqno l) es h.0))
+
+-- a key's entries in all sources are those in each, one behind the other
+stacks_of : {S : Type 0} (f : S → List InternalValue) (k : List ℕ) (xs : List S) → stack k (flat_map f xs) ≡ flat_map (λ s. stack k (f s)) xs
+stacks_of f k [] = refl
+stacks_of f k (x ∷ xs) = filter-append (is_of k) (f x) (flat_map f xs) ∙ ap (λ l. stack k (f x) ++ l) (stacks_of f k xs)
+
+lists_joined : {S : Type 0} (f : S → List InternalValue) (xs : List S) → flat_map (λ l. l) (map f xs) ≡ flat_map f xs
+lists_joined f [] = refl
+lists_joined f (x ∷ xs) = ap (λ l. f x ++ l) (lists_joined f xs)
+
+-- what is kept of each key, where the sources are ordered
+pub kept_of_all : {S : Type 0} (f : S → List InternalValue) (xs : List S) (w : ℕ) (v : Bool) (k : List ℕ) (out : List InternalValue) → (IsFalling (flat_map (λ s. stack k (f s)) xs) → out ≡ keep w v (flat_map (λ s. stack k (f s)) xs)) → IsFalling (stack k (flat_map (λ l. l) (map f xs))) → out ≡ keep w v (stack k (flat_map f xs))
+kept_of_all f xs w v k out h o = h (subst IsFalling (ap (stack k) (lists_joined f xs) ∙ stacks_of f k xs) o) ∙ ap (keep w v) (sym (stacks_of f k xs))
 
 -- what a compaction keeps of lists that stand one behind the other
 pub kept_in_turn : (w : ℕ) (v : Bool) (input out joined : List InternalValue) (k : List ℕ) → IsByKey (keep_distinct w v) input out → stack k input ≡ joined → IsFalling joined → stack k out ≡ keep w v joined

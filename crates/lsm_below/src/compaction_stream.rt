@@ -1,8 +1,9 @@
 // What a compaction keeps.
 
-ghost use Rattle.std.specs.Prelude.{IfErr, ◌≡◌, ◌≤◌, [], ◌∷◌, ◌++◌, length, false, IfOk, MatchOption, MatchResult, ℕ, List, flat_map};
+ghost use Rattle.std.specs.Prelude.{IfErr, ◌≡◌, ◌≤◌, [], ◌∷◌, ◌++◌, length, false, IfOk, MatchOption, MatchResult, ℕ, List, flat_map, map};
 ghost use Rattle.std.specs.List.{All};
-ghost use Rattle.lsm_below.specs.Entries.{IsFalling, stack, keep};
+ghost use Rattle.lsm_below.specs.Keys.{Bytes};
+ghost use Rattle.lsm_below.specs.Entries.{IsFalling, IsOrdered, stack, keep};
 ghost use Rattle.lsm_below.specs.Streams.{Rest, Gives, RefusesOnly, IsInOrder, IsByKey, keep_distinct, goes_alone, goes_with, unless};
 ghost use Rattle.lsm_below.specs.Slots.{all_of, compacted, left_of, calls_left};
 
@@ -154,6 +155,9 @@ impl<S: Source> CompactionStream<S> {
 }
 
 /// What a compaction keeps of several sources, each in order. Refused only for want of memory.
+///
+/// Where of each key all numbers in an earlier source are above those in a later one, and fall within each, it is what is
+/// kept of the key's entries in all sources, one behind the other.
 pub fn compact<S: Source>(
     alloc: Global,
     sources: Vec<S>,
@@ -163,7 +167,9 @@ pub fn compact<S: Source>(
     requires { All (λ s. IsInOrder (S.rest s).entries) sources.items }
     ensures in_order { IfOk result (λ c. IsInOrder (left_of c).entries) }
     ensures kept { IfOk result
-        (λ c. (key : List ℕ) → IsFalling (flat_map (λ s. stack key (S.rest s).entries) sources.items) → stack key (left_of c).entries ≡ keep watermark evict (flat_map (λ s. stack key (S.rest s).entries) sources.items)) }
+        (λ c. (key : Bytes) → IsFalling (flat_map (λ s. stack key (S.rest s).entries) sources.items) → stack key (left_of c).entries ≡ keep watermark evict (flat_map (λ s. stack key (S.rest s).entries) sources.items)) }
+    ensures ordered { IfOk result
+        (λ c. IsOrdered (map (λ s. (S.rest s).entries) sources.items) → (key : Bytes) → stack key (left_of c).entries ≡ keep watermark evict (stack key (flat_map (λ s. (S.rest s).entries) sources.items))) }
 {
     let merger = Merger::new(alloc, sources)?;
     let stream = CompactionStream::new(merger, watermark);

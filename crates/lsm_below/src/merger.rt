@@ -2,6 +2,7 @@
 
 ghost use Rattle.std.specs.Prelude.{IfErr, ◌≡◌, ℕ, ◌<◌, ◌≤◌, [], ◌∷◌, ◌++◌, length, map, flat_map, IfOk, OnOk, MatchOption, List, true, false, slice_index_or};
 ghost use Rattle.std.specs.List.{All, IsFirstBest};
+ghost use Rattle.lsm_below.specs.Keys.{Bytes};
 ghost use Rattle.lsm_below.specs.Entries.{IsFalling, stack};
 ghost use Rattle.lsm_below.specs.Streams.{Gives, RefusesOnly, Merges, IsInOrder};
 ghost use Rattle.lsm_below.specs.Slots.{merged, head_before, all_of, calls_left};
@@ -140,9 +141,9 @@ impl<S: Source> Merger<S> {
         ensures merges { IfOk result (λ m. Merges (map (λ s. (S.rest s).entries) sources.items) m.entries) }
         ensures open { IfOk result (λ m. m.over ≡ false) }
         ensures by_key { IfOk result
-            (λ m. (key : List ℕ) → Merges (map (λ s. stack key (S.rest s).entries) sources.items) (stack key m.entries)) }
+            (λ m. (key : Bytes) → Merges (map (λ s. stack key (S.rest s).entries) sources.items) (stack key m.entries)) }
         ensures in_turn { IfOk result
-            (λ m. (key : List ℕ) → IsFalling (flat_map (λ s. stack key (S.rest s).entries) sources.items) → stack key m.entries ≡ flat_map (λ s. stack key (S.rest s).entries) sources.items) }
+            (λ m. (key : Bytes) → IsFalling (flat_map (λ s. stack key (S.rest s).entries) sources.items) → stack key m.entries ≡ flat_map (λ s. stack key (S.rest s).entries) sources.items) }
     {
         let slots = slots_of(alloc, sources)?;
         Ok(Merger { slots, over: false })

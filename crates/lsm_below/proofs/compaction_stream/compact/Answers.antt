@@ -2,7 +2,7 @@ use Rattle.std.proofs.Common.{ap, ◌∙◌, flat_map}
 use Rattle.lsm_below.specs.Entries.{stack, keep}
 use Rattle.lsm_below.specs.Streams.{Compacting}
 use Rattle.lsm_below.specs.Slots.{left_of}
-use Rattle.lsm_below.proofs.Bridge.{kept_in_turn}
+use Rattle.lsm_below.proofs.Bridge.{kept_in_turn, kept_of_all}
 use Rattle.lsm_below.proofs.compaction_stream.compact.Goals as goal
 
 pub returns-clause-kept : goal.returns-clause-kept
@@ -11,3 +11,6 @@ returns-clause-kept g c = λ key h.
     kept_in_turn c.new-stream.result.watermark c.args.evict c.new-stream.result.input (left_of c.evict_tombstones.result).entries joined key c.evict_tombstones.ensures.kept
     (ap (λ (m : Compacting). stack key m.input) c.new-stream.ensures.settings ∙ c.in_ok-merger.ensures.in_turn key h) h
     ∙ ap (λ (m : Compacting). keep m.watermark c.args.evict joined) c.new-stream.ensures.settings
+
+pub returns-clause-ordered : goal.returns-clause-ordered
+returns-clause-ordered g c = λ o key. kept_of_all (λ s. (g.S.Source.rest s).entries) c.args.sources.items c.args.watermark c.args.evict key _ (returns-clause-kept g c key) (o key)
