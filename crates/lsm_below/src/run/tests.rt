@@ -47,10 +47,6 @@ fn three_tables(rt: HostRuntime) -> Result<(), Fail> {
     assert_eq!(rt; run.range_overlap_indexes(&from, &to), Some((0, 1)));
     let hull = run.aggregate_key_range()?;
     assert!(rt; hull.contains_key(b"k") && !hull.contains_key(b"l"));
-    let ends = [range(&rt, b"e", b"g"), range(&rt, b"b", b"c"), hull.copy()?];
-    let two = KeyRange::aggregate(&ends[..2])?.ok_or("no range")?;
-    assert!(rt; two.contains_key(b"b") && two.contains_key(b"g"));
-    assert!(rt; !two.contains_key(b"a") && two.overlaps_with_key_range(&hull));
     Ok(())
 }
 
