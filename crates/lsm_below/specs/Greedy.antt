@@ -12,7 +12,7 @@ abbrev pub put : {T : Type 0} → (T → Range) → T → List T → List T
 put range t [] = t ∷ []
 put range t (x ∷ xs) = if is_below (range x).max (range t).min then (x ∷ put range t xs) else (t ∷ x ∷ xs)
 
--- no table overlaps the range
+-- does no table overlap the range?
 abbrev pub is_free : {T : Type 0} → (T → Range) → Range → List T → Bool
 is_free range r [] = true
 is_free range r (x ∷ xs) = not (overlap (range x) r) && is_free range r xs
@@ -29,7 +29,7 @@ pub record IsPlaced {T : Type 0} (range : T → Range) (done : List T) (runs : L
   pub keys : IsRearranged range done (tables_of runs)
   pub joined : EachPair (λ x y. overlap (range x) (range y) ≡ false) done → length runs ≤ 1
 
--- the first table begins behind a range
+-- does the first table begin behind a range?
 abbrev pub starts_behind : {T : Type 0} → (T → Range) → Range → List T → Bool
 starts_behind range r [] = true
 starts_behind range r (x ∷ xs) = is_below r.max (range x).min

@@ -22,6 +22,7 @@ StandsIn runs i t = Contains (slice_index_or runs i []) t
 abbrev pub StandsBefore : {T : Type 0} → List (List T) → T → T → Type 0
 StandsBefore runs a b = (i : ℕ) × (j : ℕ) × (i < j) × StandsIn runs i a × StandsIn runs j b
 
+-- the runs that may come of joining the old ones
 pub record Optimizes {T : Type 0} (range : T → Range) (old new : List (List T)) : Type 0 where
   -- the same tables
   pub same : IsPermutation (tables_of old) (tables_of new)

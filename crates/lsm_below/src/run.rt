@@ -211,6 +211,7 @@ impl<T: Ranged> Model for Run<T> {
 }
 
 impl<T: Ranged> Run<T> {
+    /// A run of these tables, which are sorted and disjoint. None for none.
     pub fn new(tables: Vec<T>) -> Option<Run<T>>
     where
         T: Drop,
@@ -224,7 +225,7 @@ impl<T: Ranged> Run<T> {
         Some(Run { tables })
     }
 
-    /// What every run meets.
+    /// What every run meets: it is sorted, its tables are disjoint, and it has one at least.
     pub fn facts(&self)
         ensures run { IsRun T.range self.now }
         ensures some { 0 < length self.now }
@@ -232,13 +233,14 @@ impl<T: Ranged> Run<T> {
         let _ = &self.tables;
     }
 
+    /// The tables, by their keys.
     pub fn as_slice(&self) -> &[T]
         ensures { result.now ≡ self.now }
     {
         &self.tables
     }
 
-    /// The tables themselves.
+    /// The tables, taken out of the run.
     pub fn into_tables(self) -> Vec<T>
         ensures { result.items ≡ self }
     {
@@ -259,14 +261,14 @@ impl<T: Ranged> Run<T> {
     }
 
     /// Whether no table overlaps the range.
-    pub fn is_free_of(&self, range: &KeyRange) -> bool
+    pub(crate) fn is_free_of(&self, range: &KeyRange) -> bool
         ensures { result ≡ is_free T.range range.now self.now }
     {
         free_of(&self.tables, range)
     }
 
     /// Puts a table in its place, where none overlaps it.
-    pub fn put(&mut self, table: T) -> Result<(), AllocError>
+    pub(crate) fn put(&mut self, table: T) -> Result<(), AllocError>
     where
         T: Drop,
         requires { is_free T.range (T.range table) self.old ≡ true }
@@ -277,31 +279,36 @@ impl<T: Ranged> Run<T> {
         Ok(())
     }
 
+    /// The range that just holds those of the tables. Refused only for want of memory.
     pub fn aggregate_key_range(&self) -> Result<KeyRange, AllocError>
         ensures { IfOk result (λ r. IsHull T.range self.now r) }
     {
         aggregate_of(&self.tables)
     }
 
+    /// The table whose range has the key.
     pub fn get_for_key(&self, key: &[u8]) -> Option<&T>
         ensures { option_copied result ≡ find (λ t. in_range key.now (T.range t)) self.now }
     {
         find_for_key(&self.tables, key)
     }
 
+    /// The tables that share a key with the range: a part of the run.
     pub fn get_overlapping(&self, range: &KeyRange) -> &[T]
         ensures { result.now ≡ filter (λ t. overlap (T.range t) range.now) self.now }
     {
         overlapping(&self.tables, range)
     }
 
+    /// The tables that lie wholly in the range: a part of the run.
     pub fn get_contained(&self, range: &KeyRange) -> &[T]
         ensures { result.now ≡ filter (λ t. is_within (T.range t) range.now) self.now }
     {
         contained(&self.tables, range)
     }
 
-    /// The first and the last place of the tables that reach into the bounds.
+    /// The first and the last place of the tables that reach into the bounds, an excluded one strictly.
+    /// None if no table does.
     pub fn range_overlap_indexes(
         &self,
         lower: &Bound<UserKey>,
@@ -314,6 +321,7 @@ impl<T: Ranged> Run<T> {
 }
 
 impl<T: Ranged + Clone + Drop> Run<T> {
+    /// A copy, of clones of the tables. Refused only for want of memory.
     pub fn copy(&self) -> Result<Run<T>, AllocError>
         requires { (x y : T) → T.is_clone x y → y ≡ x }
         ensures { IfOk result (λ r. r ≡ self.now) }
