@@ -1,5 +1,5 @@
 use super::*;
-use crate::key_range::key_is_at_most;
+use crate::key_range::tests::range;
 use crate::optimize_runs;
 use std::process::Abort;
 use std::test::Fail;
@@ -17,11 +17,16 @@ impl Ranged for Piece {
     }
 }
 
-fn range(rt: &impl Abort, min: &'static [u8], max: &'static [u8]) -> KeyRange {
-    let min = UserKey::from_static(min);
-    let max = UserKey::from_static(max);
-    assert!(rt; key_is_at_most(min.as_slice(), max.as_slice()));
-    KeyRange::new((min, max))
+impl Clone for Piece {
+    ghost use Rattle.std.specs.Prelude.{◌≡◌};
+
+    ghost is_clone = { λ p copy. copy ≡ p };
+
+    fn clone(&self) -> Result<Piece, AllocError> {
+        Ok(Piece {
+            range: self.range.copy()?,
+        })
+    }
 }
 
 fn piece_of(rt: &impl Abort, min: &'static [u8], max: &'static [u8]) -> Piece {
@@ -61,6 +66,17 @@ fn three_tables(rt: HostRuntime) -> Result<(), Fail> {
     indexes(&rt, &run);
     let hull = run.aggregate_key_range()?;
     assert!(rt; hull.contains_key(b"k") && !hull.contains_key(b"l"));
+    Ok(())
+}
+
+#[test]
+fn a_run_is_copied_whole(rt: HostRuntime) -> Result<(), Fail> {
+    let tables = three(&rt, rt.alloc())?;
+    assert!(rt; is_run(&tables));
+    let run = Run::new(tables).ok_or("no table")?;
+    let copy = run.copy()?;
+    assert_eq!(rt; copy.as_slice().len(), 3);
+    indexes(&rt, &copy);
     Ok(())
 }
 
