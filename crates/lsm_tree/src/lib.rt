@@ -17,11 +17,13 @@ mod notes;
 mod pass;
 mod recorded;
 mod runner;
+mod same;
 mod steps;
 
 pub use lsm_below::{
-    InternalKey, InternalValue, KeyRange, KvPair, MemtableId, NoStore, SeqNo, Store, TableId,
-    TreeId, UserKey, UserValue, ValueType,
+    CompactionStream, InternalKey, InternalValue, KeyRange, KvPair, ListSource, MemtableId, Merger,
+    MvccStream, NoStore, Ranged, Run, SeqNo, Source, Store, TableId, TreeId, UserKey, UserValue,
+    ValueType, compact, is_run, optimize_runs,
 };
 pub use lsm_model::{Answer, JournalEntry, KeyRanges, KvPairs, Op, Ops, Question};
 pub use lsm_parts::{
