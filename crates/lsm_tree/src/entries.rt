@@ -24,7 +24,8 @@ pub(crate) fn entry_of(key: &UserKey, number: SeqNo, op: &Op) -> Result<Internal
     }
 }
 
-fn share_value(value: &Option<UserValue>) -> Result<Option<UserValue>, AllocError>
+/// A value that may be there, shared.
+pub(crate) fn share_value(value: &Option<UserValue>) -> Result<Option<UserValue>, AllocError>
     ensures { IfOk result (λ copy. copy ≡ value.now) }
 {
     match value {
