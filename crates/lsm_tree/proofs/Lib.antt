@@ -1,4 +1,5 @@
 pub mod BatchLemmas
+pub mod ClosingLemmas
 pub mod LowReads
 pub mod MarksLemmas
 pub mod Outcomes

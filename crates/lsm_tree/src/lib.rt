@@ -11,6 +11,7 @@
 //! | `recorded` | a tree with the journal of its calls |
 #![tactic(auto)]
 
+mod closing;
 mod copies;
 mod entries;
 mod marks;
