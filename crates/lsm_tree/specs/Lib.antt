@@ -1,5 +1,6 @@
 pub mod Passes
 pub mod Closing
+pub mod Shared
 pub mod Ticks
 pub mod Marks
 pub mod Notes

@@ -9,17 +9,26 @@
 //! | `notes` | copies of the entries of a write, for the journal and a pass |
 //! | `marks` | what was written to each key, by which a write in order is told |
 //! | `recorded` | a tree with the journal of its calls |
+//! | `same` | whether two entries of a journal are the same |
+//! | `copies` | copies of the entries of a journal |
+//! | `closing` | whether passes list a journal |
+//! | `handle` | trees that several callers share, behind one lock |
+//! | `shared_tree` | the calls of a tree behind the lock |
+//! | `recorded_tree` | the calls of a tree with its journal, behind the lock |
 #![tactic(auto)]
 
 mod closing;
 mod copies;
 mod entries;
+mod handle;
 mod marks;
 mod notes;
 mod pass;
 mod recorded;
+mod recorded_tree;
 mod runner;
 mod same;
+mod shared_tree;
 mod steps;
 
 pub use lsm_below::{
@@ -33,6 +42,7 @@ pub use lsm_parts::{
     SuperVersion, SuperVersions, Version, VersionId, seqno_filter,
 };
 pub use lsm_state::TreeState;
+pub use handle::{Handle, RecordedTree, Tree};
 pub use pass::Pass;
 pub use recorded::Recorded;
 pub use runner::run;

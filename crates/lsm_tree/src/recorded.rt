@@ -1,9 +1,9 @@
 // A tree with the journal of its calls.
-ghost use Rattle.std.specs.Prelude.{◌≡◌, ℕ, ◌+◌, ◌<◌, ◌≤◌, ◌^◌, ◌∷◌, ◌++◌, [], true, false, None, IfOk, IfErr, OnOk, OnErr, IsErrOf, IsTrue, ◌↔◌, ◌⊎◌, map};
+ghost use Rattle.std.specs.Prelude.{◌≡◌, ℕ, ◌+◌, ◌<◌, ◌≤◌, ◌^◌, ◌∷◌, ◌++◌, [], true, false, None, IfOk, IfErr, IfSome, OnOk, OnErr, IsErrOf, IsTrue, ◌↔◌, ◌⊎◌, map};
 ghost use Rattle.std.specs.FinMap.{get as value_in, empty};
 ghost use Rattle.lsm_below.specs.Keys.{Bytes};
 ghost use Rattle.lsm_below.specs.Entries.{plain};
-ghost use Rattle.lsm_model.specs.Journal.{is_outside, replay, IsKept};
+ghost use Rattle.lsm_model.specs.Journal.{is_outside, replay, IsKept, Agrees};
 ghost use Rattle.lsm_model.specs.Ops.{op_entry, op_entries};
 ghost use Rattle.lsm_model.specs.Steps.{ReadsEqualReplay};
 ghost use Rattle.lsm_model.specs.Views.{found_at};
@@ -17,7 +17,10 @@ ghost use Rattle.lsm_state.specs.Calls.{Appends, WritesBatch, Gives, Rotates};
 ghost use Rattle.std.specs.List.{list_all};
 ghost use Rattle.lsm_tree.specs.Marks.{mark_of, keeps_order, batch_keeps_order, op_type, op_allowed};
 ghost use Rattle.lsm_tree.specs.Passes.{Notes};
+ghost use Rattle.lsm_tree.specs.Closing.{ListTogether};
 
+use crate::closing::list_together;
+use crate::copies::copy_journal;
 use crate::entries::read_entry;
 use crate::marks::{Mark, is_allowed, mark_write, read_mark, reserve_mark};
 use crate::notes::{make_note, make_notes, mark_notes, put_notes, reserve_notes};
@@ -291,6 +294,33 @@ impl<S: Store> Recorded<S> {
         mark_notes(&mut self.marks, number, &notes);
         put_notes(&mut self.journal, &mut pass.entries, notes);
         Ok(number)
+    }
+
+    /// A copy of the journal, where the passes together list it: each of its places once, with the entry there,
+    /// and nothing else, each pass its own by rising places. Else, also for want of memory, the passes.
+    pub fn close(&self, passes: Vec<Pass>) -> Result<Vec<JournalEntry>, Vec<Pass>>
+        ensures journal { IfOk result (λ j. j.items ≡ self.now.journal) }
+        ensures listed { IfOk result (λ j. ListTogether j.items passes.items) }
+        ensures agrees { IfOk result (λ j. Agrees empty j.items) }
+        ensures back { IfErr result (λ back. back ≡ passes) }
+    {
+        self.facts();
+        match self.copy_if_listed(&passes) {
+            Ok(Some(journal)) => Ok(journal),
+            Ok(None) | Err(_) => Err(passes),
+        }
+    }
+
+    /// A copy of the journal, where the passes together list it.
+    fn copy_if_listed(&self, passes: &[Pass]) -> Result<Option<Vec<JournalEntry>>, AllocError>
+        ensures journal { IfOk result (λ told. IfSome told (λ j. j.items ≡ self.now.journal)) }
+        ensures listed { IfOk result (λ told. IfSome told (λ j. ListTogether j.items passes.now)) }
+    {
+        if !list_together(self.alloc, &self.journal, passes)? {
+            return Ok(None);
+        }
+        let journal = copy_journal(self.alloc, &self.journal)?;
+        Ok(Some(journal))
     }
 
     /// Whether each write of a batch under this number, the counter's, keeps the order of the journal.

@@ -1,0 +1,130 @@
+// The calls of a tree with its journal, behind the lock.
+ghost use Rattle.std.specs.Prelude.{◌≡◌, [], ◌∷◌, map, IfOk, IfErr, OnOk, OnErr};
+ghost use Rattle.std.specs.FinMap.{empty};
+ghost use Rattle.lsm_below.specs.Entries.{plain};
+ghost use Rattle.lsm_model.specs.Journal.{Agrees};
+ghost use Rattle.lsm_model.specs.Ops.{op_entry, op_entries};
+ghost use Rattle.lsm_model.specs.declared.journal.JournalEntry.TheVariants.{Write as WriteEntry, Read as ReadEntry};
+ghost use Rattle.lsm_model.specs.declared.question.Question.TheVariants.{Get as GetQuestion};
+ghost use Rattle.lsm_model.specs.declared.question.Answer.TheVariants.{Found};
+ghost use Rattle.lsm_model.specs.declared.op.Op.TheVariants.{Set, Del, Weak};
+ghost use Rattle.lsm_tree.specs.Closing.{ListTogether};
+ghost use Rattle.lsm_tree.specs.Shared.{Puts};
+
+use crate::handle::Handle;
+use crate::pass::Pass;
+use crate::recorded::Recorded;
+use lsm_below::{InternalValue, MemtableId, SeqNo, Store, UserKey, UserValue};
+use lsm_model::{JournalEntry, Op};
+use lsm_parts::Error;
+use std::sync::Wait;
+
+/// What each call refuses stands at `Recorded`. A refused call puts nothing behind the pass.
+impl<S: Store> Handle<Recorded<S>> {
+    /// The value of a key at a snapshot, as `Recorded::get`.
+    pub fn get(
+        &self,
+        rt: &impl Wait,
+        pass: &mut Pass,
+        key: &UserKey,
+        snapshot: SeqNo,
+    ) -> Result<Option<UserValue>, Error>
+        ensures noted { IfOk result (λ v. Puts (ReadEntry snapshot (GetQuestion key.now) (Found v) ∷ []) pass.old pass.new) }
+        ensures err { OnErr result (pass.new ≡ pass.old) }
+    {
+        self.shared.lock(rt).get(pass, key, snapshot)
+    }
+
+    /// Seals the active memtable, as `Recorded::rotate_memtable`.
+    pub fn rotate_memtable(
+        &self,
+        rt: &impl Wait,
+        pass: &mut Pass,
+    ) -> Result<Option<MemtableId>, Error>
+        ensures { pass.new ≡ pass.old }
+    {
+        self.shared.lock(rt).rotate_memtable(pass)
+    }
+
+    /// Writes an entry under its own number, as `Recorded::append_entry`.
+    pub fn append_entry(
+        &self,
+        rt: &impl Wait,
+        pass: &mut Pass,
+        entry: InternalValue,
+    ) -> Result<(u64, u64), Error>
+        ensures noted { OnOk result (Puts (WriteEntry (plain entry) ∷ []) pass.old pass.new) }
+        ensures err { OnErr result (pass.new ≡ pass.old) }
+    {
+        self.shared.lock(rt).append_entry(pass, entry)
+    }
+
+    /// Sets a key under a number, as `Recorded::insert`.
+    pub fn insert(
+        &self,
+        rt: &impl Wait,
+        pass: &mut Pass,
+        key: UserKey,
+        value: UserValue,
+        seqno: SeqNo,
+    ) -> Result<(u64, u64), Error>
+        ensures noted { OnOk result (Puts (WriteEntry (op_entry key seqno (Set value)) ∷ []) pass.old pass.new) }
+        ensures err { OnErr result (pass.new ≡ pass.old) }
+    {
+        self.shared.lock(rt).insert(pass, key, value, seqno)
+    }
+
+    /// Removes a key under a number, as `Recorded::remove`.
+    pub fn remove(
+        &self,
+        rt: &impl Wait,
+        pass: &mut Pass,
+        key: UserKey,
+        seqno: SeqNo,
+    ) -> Result<(u64, u64), Error>
+        ensures noted { OnOk result (Puts (WriteEntry (op_entry key seqno Del) ∷ []) pass.old pass.new) }
+        ensures err { OnErr result (pass.new ≡ pass.old) }
+    {
+        self.shared.lock(rt).remove(pass, key, seqno)
+    }
+
+    /// Removes a key, of which at most one value was ever written, as `Recorded::remove_weak`.
+    pub fn remove_weak(
+        &self,
+        rt: &impl Wait,
+        pass: &mut Pass,
+        key: UserKey,
+        seqno: SeqNo,
+    ) -> Result<(u64, u64), Error>
+        ensures noted { OnOk result (Puts (WriteEntry (op_entry key seqno Weak) ∷ []) pass.old pass.new) }
+        ensures err { OnErr result (pass.new ≡ pass.old) }
+    {
+        self.shared.lock(rt).remove_weak(pass, key, seqno)
+    }
+
+    /// Writes a batch under the next number, which it answers, as `Recorded::write`.
+    pub fn write(
+        &self,
+        rt: &impl Wait,
+        pass: &mut Pass,
+        ops: Vec<(UserKey, Op)>,
+    ) -> Result<SeqNo, Error>
+        ensures noted { IfOk result (λ n. Puts (map WriteEntry (op_entries n ops.items)) pass.old pass.new) }
+        ensures err { OnErr result (pass.new ≡ pass.old) }
+    {
+        self.shared.lock(rt).write(pass, ops)
+    }
+
+    /// A copy of the journal, where the passes together list it, else the passes; as `Recorded::close`.
+    pub fn close(
+        &self,
+        rt: &impl Wait,
+        passes: Vec<Pass>,
+    ) -> Result<Vec<JournalEntry>, Vec<Pass>>
+        ensures listed { IfOk result (λ j. ListTogether j.items passes.items) }
+        ensures agrees { IfOk result (λ j. Agrees empty j.items) }
+        ensures back { IfErr result (λ back. back ≡ passes) }
+    {
+        self.shared.lock(rt).close(passes)
+    }
+}

@@ -1,0 +1,124 @@
+// The calls of a tree behind the lock.
+ghost use Rattle.std.specs.Prelude.{◌≡◌, ◌<◌, IfOk, IfErr, OnOk, OnErr};
+ghost use Rattle.lsm_below.specs.Entries.{plain};
+ghost use Rattle.lsm_model.specs.Ops.{op_entry};
+ghost use Rattle.lsm_model.specs.declared.op.Op.TheVariants.{Set, Del, Weak};
+ghost use Rattle.lsm_state.specs.Calls.{Appends, WritesBatch, Gives, GivesEntry, Rotates};
+ghost use Rattle.lsm_tree.specs.Shared.{OnSomeTree, AtSomeTree};
+
+use crate::handle::Handle;
+use lsm_below::{InternalValue, MemtableId, SeqNo, Store, UserKey, UserValue};
+use lsm_model::Op;
+use lsm_parts::{Error, LIMIT};
+use lsm_state::TreeState;
+use std::sync::Wait;
+
+/// Each call does and refuses what the one of the same name of `TreeState` does and refuses, on the tree as
+/// the lock found it.
+impl<S: Store> Handle<TreeState<S>> {
+    /// The value of a key at a snapshot, as `TreeState::get`.
+    pub fn get(
+        &self,
+        rt: &impl Wait,
+        key: &[u8],
+        seqno: SeqNo,
+    ) -> Result<Option<UserValue>, Error>
+        ensures { IfOk result (λ v. AtSomeTree (λ c. Gives c key.now seqno v)) }
+    {
+        self.shared.lock(rt).get(key, seqno)
+    }
+
+    /// The entry that decides `get`, as `TreeState::get_internal_entry`.
+    pub fn get_internal_entry(
+        &self,
+        rt: &impl Wait,
+        key: &[u8],
+        seqno: SeqNo,
+    ) -> Result<Option<InternalValue>, Error>
+        ensures { IfOk result (λ e. AtSomeTree (λ c. GivesEntry c key.now seqno e)) }
+    {
+        self.shared.lock(rt).get_internal_entry(key, seqno)
+    }
+
+    /// Seals the active memtable, as `TreeState::rotate_memtable`.
+    pub fn rotate_memtable(&self, rt: &impl Wait) -> Result<Option<MemtableId>, Error>
+        ensures { IfOk result (λ id. OnSomeTree (λ old new. Rotates old id new)) }
+    {
+        self.shared.lock(rt).rotate_memtable()
+    }
+
+    /// Writes an entry under its own number, as `TreeState::append_entry`.
+    pub fn append_entry(
+        &self,
+        rt: &impl Wait,
+        entry: InternalValue,
+    ) -> Result<(u64, u64), Error>
+        ensures { OnSomeTree (λ old new. Appends (plain entry) result old new) }
+    {
+        self.shared.lock(rt).append_entry(entry)
+    }
+
+    /// Sets a key under a number, as `TreeState::insert`.
+    pub fn insert(
+        &self,
+        rt: &impl Wait,
+        key: UserKey,
+        value: UserValue,
+        seqno: SeqNo,
+    ) -> Result<(u64, u64), Error>
+        ensures { OnSomeTree (λ old new. Appends (op_entry key seqno (Set value)) result old new) }
+    {
+        self.shared.lock(rt).insert(key, value, seqno)
+    }
+
+    /// Removes a key under a number, as `TreeState::remove`.
+    pub fn remove(
+        &self,
+        rt: &impl Wait,
+        key: UserKey,
+        seqno: SeqNo,
+    ) -> Result<(u64, u64), Error>
+        ensures { OnSomeTree (λ old new. Appends (op_entry key seqno Del) result old new) }
+    {
+        self.shared.lock(rt).remove(key, seqno)
+    }
+
+    /// Removes a key, of which at most one value was ever written, as `TreeState::remove_weak`.
+    pub fn remove_weak(
+        &self,
+        rt: &impl Wait,
+        key: UserKey,
+        seqno: SeqNo,
+    ) -> Result<(u64, u64), Error>
+        ensures { OnSomeTree (λ old new. Appends (op_entry key seqno Weak) result old new) }
+    {
+        self.shared.lock(rt).remove_weak(key, seqno)
+    }
+
+    /// Writes a batch under the next number, which it answers, as `TreeState::write`.
+    pub fn write(&self, rt: &impl Wait, ops: Vec<(UserKey, Op)>) -> Result<SeqNo, Error>
+        ensures { OnSomeTree (λ old new. WritesBatch ops.items result old new) }
+    {
+        self.shared.lock(rt).write(ops)
+    }
+
+    /// Draws the next number, to write under it. `OutOfNumbers` from 2^63 on; then nothing changes.
+    pub fn next_seqno(&self, rt: &impl Wait) -> Result<SeqNo, Error>
+        ensures below { IfOk result (λ n. n < LIMIT) }
+        ensures only { IfErr result (λ e. e ≡ Error.OutOfNumbers) }
+    {
+        self.shared.lock(rt).seqno_mut().next()
+    }
+
+    /// The snapshot that sees every write so far that was made visible.
+    pub fn visible_number(&self, rt: &impl Wait) -> SeqNo
+        ensures { AtSomeTree (λ c. c.visible_seqno ≡ result) }
+    {
+        self.shared.lock(rt).visible_seqno().get()
+    }
+
+    /// Raises the visible counter to a number, unless it stands at a greater one.
+    pub fn raise_visible(&self, rt: &impl Wait, seqno: SeqNo) {
+        self.shared.lock(rt).visible_seqno_mut().fetch_max(seqno);
+    }
+}
