@@ -38,3 +38,6 @@ impl<C: Drop> Clone for Handle<C> {
         })
     }
 }
+
+#[cfg(test)]
+mod tests;

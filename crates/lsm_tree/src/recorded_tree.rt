@@ -1,5 +1,5 @@
 // The calls of a tree with its journal, behind the lock.
-ghost use Rattle.std.specs.Prelude.{◌≡◌, [], ◌∷◌, map, IfOk, IfErr, OnOk, OnErr};
+ghost use Rattle.std.specs.Prelude.{◌≡◌, ◌⊎◌, [], ◌∷◌, map, IfOk, IfErr, OnOk, OnErr};
 ghost use Rattle.std.specs.FinMap.{empty};
 ghost use Rattle.lsm_below.specs.Entries.{plain};
 ghost use Rattle.lsm_model.specs.Journal.{Agrees};
@@ -9,7 +9,9 @@ ghost use Rattle.lsm_model.specs.declared.question.Question.TheVariants.{Get as 
 ghost use Rattle.lsm_model.specs.declared.question.Answer.TheVariants.{Found};
 ghost use Rattle.lsm_model.specs.declared.op.Op.TheVariants.{Set, Del, Weak};
 ghost use Rattle.lsm_tree.specs.Closing.{ListTogether};
-ghost use Rattle.lsm_tree.specs.Shared.{Puts};
+ghost use Rattle.lsm_state.specs.Calls.{Appends, WritesBatch};
+ghost use Rattle.lsm_tree.specs.Recorded.{OwnOr};
+ghost use Rattle.lsm_tree.specs.Shared.{OnSomeTree, Puts};
 
 use crate::handle::Handle;
 use crate::pass::Pass;
@@ -29,6 +31,7 @@ impl<S: Store> Handle<Recorded<S>> {
         key: &UserKey,
         snapshot: SeqNo,
     ) -> Result<Option<UserValue>, Error>
+        ensures only { IfErr result (λ e. (e ≡ Error.SnapshotTooOld) ⊎ (e ≡ Error.OutOfMemory)) }
         ensures noted { IfOk result (λ v. Puts (ReadEntry snapshot (GetQuestion key.now) (Found v) ∷ []) pass.old pass.new) }
         ensures err { OnErr result (pass.new ≡ pass.old) }
     {
@@ -41,7 +44,8 @@ impl<S: Store> Handle<Recorded<S>> {
         rt: &impl Wait,
         pass: &mut Pass,
     ) -> Result<Option<MemtableId>, Error>
-        ensures { pass.new ≡ pass.old }
+        ensures only { IfErr result (λ e. (e ≡ Error.OutOfNumbers) ⊎ (e ≡ Error.OutOfMemory)) }
+        ensures pass { pass.new ≡ pass.old }
     {
         self.shared.lock(rt).rotate_memtable(pass)
     }
@@ -53,6 +57,7 @@ impl<S: Store> Handle<Recorded<S>> {
         pass: &mut Pass,
         entry: InternalValue,
     ) -> Result<(u64, u64), Error>
+        ensures core { OwnOr result (OnSomeTree (λ old new. Appends (plain entry) result old new)) }
         ensures noted { OnOk result (Puts (WriteEntry (plain entry) ∷ []) pass.old pass.new) }
         ensures err { OnErr result (pass.new ≡ pass.old) }
     {
@@ -68,6 +73,7 @@ impl<S: Store> Handle<Recorded<S>> {
         value: UserValue,
         seqno: SeqNo,
     ) -> Result<(u64, u64), Error>
+        ensures core { OwnOr result (OnSomeTree (λ old new. Appends (op_entry key seqno (Set value)) result old new)) }
         ensures noted { OnOk result (Puts (WriteEntry (op_entry key seqno (Set value)) ∷ []) pass.old pass.new) }
         ensures err { OnErr result (pass.new ≡ pass.old) }
     {
@@ -82,6 +88,7 @@ impl<S: Store> Handle<Recorded<S>> {
         key: UserKey,
         seqno: SeqNo,
     ) -> Result<(u64, u64), Error>
+        ensures core { OwnOr result (OnSomeTree (λ old new. Appends (op_entry key seqno Del) result old new)) }
         ensures noted { OnOk result (Puts (WriteEntry (op_entry key seqno Del) ∷ []) pass.old pass.new) }
         ensures err { OnErr result (pass.new ≡ pass.old) }
     {
@@ -96,6 +103,7 @@ impl<S: Store> Handle<Recorded<S>> {
         key: UserKey,
         seqno: SeqNo,
     ) -> Result<(u64, u64), Error>
+        ensures core { OwnOr result (OnSomeTree (λ old new. Appends (op_entry key seqno Weak) result old new)) }
         ensures noted { OnOk result (Puts (WriteEntry (op_entry key seqno Weak) ∷ []) pass.old pass.new) }
         ensures err { OnErr result (pass.new ≡ pass.old) }
     {
@@ -109,6 +117,7 @@ impl<S: Store> Handle<Recorded<S>> {
         pass: &mut Pass,
         ops: Vec<(UserKey, Op)>,
     ) -> Result<SeqNo, Error>
+        ensures core { OwnOr result (OnSomeTree (λ old new. WritesBatch ops.items result old new)) }
         ensures noted { IfOk result (λ n. Puts (map WriteEntry (op_entries n ops.items)) pass.old pass.new) }
         ensures err { OnErr result (pass.new ≡ pass.old) }
     {

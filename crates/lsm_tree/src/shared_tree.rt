@@ -1,5 +1,5 @@
 // The calls of a tree behind the lock.
-ghost use Rattle.std.specs.Prelude.{◌≡◌, ◌<◌, IfOk, IfErr, OnOk, OnErr};
+ghost use Rattle.std.specs.Prelude.{◌≡◌, ◌<◌, ◌⊎◌, IfOk, IfErr};
 ghost use Rattle.lsm_below.specs.Entries.{plain};
 ghost use Rattle.lsm_model.specs.Ops.{op_entry};
 ghost use Rattle.lsm_model.specs.declared.op.Op.TheVariants.{Set, Del, Weak};
@@ -23,7 +23,8 @@ impl<S: Store> Handle<TreeState<S>> {
         key: &[u8],
         seqno: SeqNo,
     ) -> Result<Option<UserValue>, Error>
-        ensures { IfOk result (λ v. AtSomeTree (λ c. Gives c key.now seqno v)) }
+        ensures gives { IfOk result (λ v. AtSomeTree (λ c. Gives c key.now seqno v)) }
+        ensures only { IfErr result (λ e. (e ≡ Error.SnapshotTooOld) ⊎ (e ≡ Error.OutOfMemory)) }
     {
         self.shared.lock(rt).get(key, seqno)
     }
@@ -35,14 +36,16 @@ impl<S: Store> Handle<TreeState<S>> {
         key: &[u8],
         seqno: SeqNo,
     ) -> Result<Option<InternalValue>, Error>
-        ensures { IfOk result (λ e. AtSomeTree (λ c. GivesEntry c key.now seqno e)) }
+        ensures gives { IfOk result (λ e. AtSomeTree (λ c. GivesEntry c key.now seqno e)) }
+        ensures only { IfErr result (λ e. (e ≡ Error.SnapshotTooOld) ⊎ (e ≡ Error.OutOfMemory)) }
     {
         self.shared.lock(rt).get_internal_entry(key, seqno)
     }
 
     /// Seals the active memtable, as `TreeState::rotate_memtable`.
     pub fn rotate_memtable(&self, rt: &impl Wait) -> Result<Option<MemtableId>, Error>
-        ensures { IfOk result (λ id. OnSomeTree (λ old new. Rotates old id new)) }
+        ensures rotates { IfOk result (λ id. OnSomeTree (λ old new. Rotates old id new)) }
+        ensures only { IfErr result (λ e. (e ≡ Error.OutOfNumbers) ⊎ (e ≡ Error.OutOfMemory)) }
     {
         self.shared.lock(rt).rotate_memtable()
     }

@@ -1,0 +1,94 @@
+// Callers in threads of their own, on one tree.
+use lsm_below::UserKey;
+use lsm_model::Op;
+use lsm_tree::{Config, Error, Handle, Pass, Recorded, RecordedTree};
+use std::alloc::{AllocError, Global};
+use std::sync::Wait;
+use std::thread::{self, Threads};
+
+/// How many keys each caller writes.
+const KEYS: u8 = 10;
+
+/// Starts so many callers, each of which writes keys of its own, one a `write`, and reads each back at
+/// its number + 1.
+///
+/// The length of the journal, where each read what it wrote and the passes together list the journal.
+/// None where one read something else.
+pub fn call_all<R: Threads + Wait + Sync>(
+    rt: &R,
+    alloc: Global,
+    callers: u8,
+) -> Result<Option<usize>, Error> {
+    let tree = Handle::new(
+        alloc,
+        Recorded::open_in_memory(alloc, Config::new(0, 0, 0)),
+    )?;
+    let told = thread::map_indices(rt, alloc, usize::from(callers), &|caller| {
+        call(rt, alloc, &tree, caller)
+    })?;
+    let Some(passes) = all_passes(alloc, told)? else {
+        return Ok(None);
+    };
+    Ok(count_entries(rt, &tree, passes))
+}
+
+/// How many entries the journal has that these passes list.
+fn count_entries(rt: &impl Wait, tree: &RecordedTree, passes: Vec<Pass>) -> Option<usize> {
+    match tree.close(rt, passes) {
+        Ok(journal) => Some(journal.len()),
+        Err(_) => None,
+    }
+}
+
+/// The passes of callers, None where one read something else than it wrote.
+fn all_passes(
+    alloc: Global,
+    told: Vec<Result<Option<Pass>, Error>>,
+) -> Result<Option<Vec<Pass>>, Error> {
+    let mut passes = Vec::with_capacity(alloc, told.len())?;
+    for pass in told {
+        match pass? {
+            Some(pass) => passes.push(pass)?,
+            None => return Ok(None),
+        }
+    }
+    Ok(Some(passes))
+}
+
+/// What one caller's calls put into the journal, None where it read something else than it wrote.
+fn call(
+    rt: &impl Wait,
+    alloc: Global,
+    tree: &RecordedTree,
+    caller: usize,
+) -> Result<Option<Pass>, Error> {
+    let mut pass = Pass::new(alloc);
+    for key in 0..KEYS {
+        if !write_and_read(rt, alloc, tree, &mut pass, &[caller as u8, key])? {
+            return Ok(None);
+        }
+    }
+    Ok(Some(pass))
+}
+
+/// Writes a key with its own bytes as its value, and reads it back: whether it is what was written.
+fn write_and_read(
+    rt: &impl Wait,
+    alloc: Global,
+    tree: &RecordedTree,
+    pass: &mut Pass,
+    key: &[u8],
+) -> Result<bool, Error> {
+    let key = UserKey::copy_from_slice(alloc, key)?;
+    let number = tree.write(rt, pass, set(alloc, &key)?)?;
+    let found = tree.get(rt, pass, &key, number.saturating_add(1))?;
+    Ok(found.is_some_and(|value| value == key))
+}
+
+/// A write of this key with its own bytes as its value.
+fn set(alloc: Global, key: &UserKey) -> Result<Vec<(UserKey, Op)>, AllocError> {
+    let value = key.clone()?;
+    let mut ops = Vec::with_capacity(alloc, 1)?;
+    ops.push((key.clone()?, Op::Set(value)))?;
+    Ok(ops)
+}
