@@ -1,5 +1,5 @@
 -- What the program's arguments ask.
-use Rattle.std.specs.Prelude.{ℕ, Bool, ◌&&◌, List, [], ◌∷◌, Option, Some, None, bytes_eq, string_bytes, nat_lt, nat_le, if◌then◌else◌}
+use Rattle.std.specs.Prelude.{ℕ, Bool, ◌&&◌, List, [], ◌∷◌, Option, Some, None, bytes_eq, codes, nat_lt, nat_le, if◌then◌else◌}
 use Rattle.lsm_shell.specs.Word.{number_of}
 use Rattle.lsm_shell.specs.declared.arguments.Mode.{Mode}
 use Rattle.lsm_shell.specs.declared.arguments.Mode.TheVariants.{Lines, Threads}
@@ -17,5 +17,5 @@ callers_of word = callers (number_of word)
 abbrev pub mode_of : List (List ℕ) → Option Mode
 mode_of [] = Some Lines
 mode_of (verb ∷ []) = None
-mode_of (verb ∷ count ∷ []) = if bytes_eq verb (string_bytes "threads") then callers_of count else None
+mode_of (verb ∷ count ∷ []) = if bytes_eq verb (codes "threads") then callers_of count else None
 mode_of (verb ∷ count ∷ more ∷ others) = None

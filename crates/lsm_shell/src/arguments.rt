@@ -1,5 +1,5 @@
 // What the program's arguments ask.
-ghost use Rattle.std.specs.Prelude.{◌≡◌};
+ghost use Rattle.std.specs.Prelude.{◌≡◌, map, string_bytes};
 ghost use Rattle.lsm_shell.specs.Arguments.{mode_of, callers_of};
 
 use crate::word::parse_number;
@@ -18,7 +18,7 @@ pub enum Mode {
 
 /// What these arguments ask, None where they ask nothing that the program knows.
 pub fn parse_arguments(arguments: &[String]) -> Option<Mode>
-    ensures { result ≡ mode_of arguments.now }
+    ensures { result ≡ mode_of (map string_bytes arguments.now) }
 {
     match arguments {
         [] => Some(Mode::Lines),

@@ -6,13 +6,17 @@
 //! | `command` | what a line asks |
 //! | `reply` | what is printed for a line |
 //! | `session` | a tree that answers commands |
+//! | `arguments` | what the program's arguments ask |
+//! | `threads` | callers in threads of their own, on one tree |
 //! | `shell` | the run from the first line to the last |
 #![tactic(auto)]
 
+mod arguments;
 mod command;
 mod reply;
 mod session;
 mod shell;
+mod threads;
 mod word;
 
 use shell::run_shell;
@@ -27,7 +31,7 @@ fn main(rt: HostRuntime) -> ExitCode {
         Err(_) => return ExitCode::FAILURE,
     };
     let words = arguments.as_ref().map(|words| words.as_slice());
-    let status = run_shell(rt.alloc(), words, rt.stdin(), rt.stdout(), rt.stderr());
+    let status = run_shell(&rt, rt.alloc(), words, rt.stdin(), rt.stdout(), rt.stderr());
     ExitCode::from(status)
 }
 

@@ -3,11 +3,15 @@ ghost use Rattle.std.specs.Prelude.{◌≡◌, true, false, IfSome, OnOk};
 ghost use Rattle.std.specs.Io.BufRead.{first_piece, DropsThrough};
 ghost use Rattle.std.specs.Io.KnownBytes.{IsAtEnd};
 
+use crate::arguments::{Mode, parse_arguments};
 use crate::reply::Reply;
 use crate::session::Session;
+use crate::threads::call_all;
 use lsm_tree::Error;
 use std::alloc::Global;
 use std::io::{self, BufRead, BufReader, BufWriter, ErrorKind, Read, Write};
+use std::sync::Wait;
+use std::thread::Threads;
 
 const SUCCESS: u8 = 0;
 
@@ -15,13 +19,16 @@ const FAULT: u8 = 1;
 
 const USAGE: u8 = 2;
 
-/// Answers the lines of the input on the output, and gives the status to end with: 0 at the end of
-/// the input, 1 after a fault of the input or the output, and 2 for arguments, of which it knows
-/// none. `arguments` is None where one of them is no text.
+/// Does what the arguments ask, and gives the status to end with.
+///
+/// Without arguments it answers the lines of the input on the output: 0 at the end of the input, 1 after
+/// a fault of the input or the output. With `threads N` it starts N callers on one tree: 0 where each read
+/// what it wrote, else 1. With any other arguments, 2; `arguments` is None where one of them is no text.
 ///
 /// Where a line finds no memory, its answer says so, and the run goes on with the next line. Where
 /// the buffers of the input or the output find none, the status is 1.
-pub fn run_shell<R, W, E>(
+pub fn run_shell<P, R, W, E>(
+    rt: &P,
     alloc: Global,
     arguments: Option<&[String]>,
     input: R,
@@ -29,17 +36,41 @@ pub fn run_shell<R, W, E>(
     mut errors: E,
 ) -> u8
 where
+    P: Threads + Wait + Sync,
     R: Read + Drop,
     W: Write + Drop,
     E: Write + Drop,
 {
-    if arguments.is_none_or(|words| !words.is_empty()) {
+    let Some(mode) = arguments.and_then(parse_arguments) else {
         // Nothing is left to be told where even this line can't be written.
-        let _ = errors.write_all(b"usage: lsm_shell\n");
+        let _ = errors.write_all(b"usage: lsm_shell [threads N]\n");
         return USAGE;
-    }
-    match answer_lines(alloc, input, output) {
+    };
+    let told = match mode {
+        Mode::Lines => answer_lines(alloc, input, output),
+        Mode::Threads(callers) => return report_callers(rt, alloc, callers, output),
+    };
+    match told {
         Ok(()) => SUCCESS,
+        Err(_) => FAULT,
+    }
+}
+
+/// Starts the callers, prints what came of it, and gives the status.
+fn report_callers<P, W>(rt: &P, alloc: Global, callers: u8, mut output: W) -> u8
+where
+    P: Threads + Wait + Sync,
+    W: Write + Drop,
+{
+    let (printed, status) = match call_all(rt, alloc, callers) {
+        Ok(Some(entries)) => (
+            writeln!(output, "threads {callers} entries {entries} all equal"),
+            SUCCESS,
+        ),
+        Ok(None) | Err(_) => (writeln!(output, "threads {callers} wrong"), FAULT),
+    };
+    match printed.and_then(|()| output.flush()) {
+        Ok(()) => status,
         Err(_) => FAULT,
     }
 }

@@ -1,8 +1,12 @@
 // What is printed, and how a run ends.
 use crate::shell::run_shell;
+use std::alloc::{AllocError, Global};
 use std::cell::Cell;
 use std::io::{self, ErrorKind, Read, Write};
+use std::process::Abort;
+use std::sync::Wait;
 use std::test::Fail;
+use std::thread::Threads;
 
 /// A key is written, read, removed, and read at older snapshots.
 const REMOVED: &[u8] = b"put a x\nget a\ndel a\nget a\nget a 1\nget a 0\nrotate\nrotate\nget a 1\n";
@@ -31,7 +35,7 @@ fn answers_lines(rt: HostRuntime) -> Result<(), Fail> {
     for (lines, wanted) in table {
         let mut printed = Vec::new(rt.alloc());
         let mut errors = Vec::new(rt.alloc());
-        let status = run_shell(rt.alloc(), Some(&[]), lines, &mut printed, &mut errors);
+        let status = run_shell(&rt, rt.alloc(), Some(&[]), lines, &mut printed, &mut errors);
         assert_eq!(rt; printed.as_slice(), wanted);
         assert_eq!(rt; (status, errors.len()), (0, 0));
     }
@@ -53,7 +57,7 @@ fn answers_long_lines(rt: HostRuntime) -> Result<(), Fail> {
     let mut printed = Vec::new(rt.alloc());
     let mut errors = Vec::new(rt.alloc());
     let input = lines.as_slice();
-    let status = run_shell(rt.alloc(), Some(&[]), input, &mut printed, &mut errors);
+    let status = run_shell(&rt, rt.alloc(), Some(&[]), input, &mut printed, &mut errors);
     assert!(rt; printed.as_slice() == wanted.as_slice());
     assert_eq!(rt; (status, errors.len()), (0, 0));
     Ok(())
@@ -87,6 +91,7 @@ fn refuses_other_lines(rt: HostRuntime) -> Result<(), Fail> {
         let mut printed = Vec::new(rt.alloc());
         let mut errors = Vec::new(rt.alloc());
         let status = run_shell(
+            &rt,
             rt.alloc(),
             Some(&[]),
             line.chain(b"\n".as_slice()),
@@ -103,18 +108,74 @@ fn refuses_other_lines(rt: HostRuntime) -> Result<(), Fail> {
     Ok(())
 }
 
+/// The arguments between single spaces, none for an empty text.
+fn arguments_of(alloc: Global, text: &str) -> Result<Vec<String>, AllocError> {
+    let mut words = Vec::new(alloc);
+    for word in text.split(' ') {
+        if !word.is_empty() {
+            words.push(String::from_str(alloc, word)?)?;
+        }
+    }
+    Ok(words)
+}
+
 #[test]
-fn takes_no_arguments(rt: HostRuntime) -> Result<(), Fail> {
-    let mut words = Vec::new(rt.alloc());
-    words.push(String::from_str(rt.alloc(), "folder")?)?;
-    for arguments in [Some(words.as_slice()), None] {
-        let mut printed = Vec::new(rt.alloc());
-        let mut errors = Vec::new(rt.alloc());
-        let status = run_shell(rt.alloc(), arguments, REMOVED, &mut printed, &mut errors);
-        assert_eq!(rt; errors.as_slice(), b"usage: lsm_shell\n".as_slice());
-        assert_eq!(rt; (status, printed.len()), (2, 0));
+fn takes_no_other_arguments(rt: HostRuntime) -> Result<(), Fail> {
+    let lines = [
+        "folder",
+        "threads",
+        "threads 0",
+        "threads 65",
+        "threads 02",
+        "threads +2",
+        "threads 2 3",
+        "Threads 2",
+    ];
+    for line in lines {
+        let arguments = arguments_of(rt.alloc(), line)?;
+        refuses_arguments(&rt, rt.alloc(), Some(&arguments));
+    }
+    refuses_arguments(&rt, rt.alloc(), None);
+    Ok(())
+}
+
+fn refuses_arguments<R: Abort + Threads + Wait + Sync>(
+    rt: &R,
+    alloc: Global,
+    arguments: Option<&[String]>,
+) {
+    let mut printed = Vec::new(alloc);
+    let mut errors = Vec::new(alloc);
+    let status = run_shell(rt, alloc, arguments, REMOVED, &mut printed, &mut errors);
+    assert_eq!(rt; errors.as_slice(), b"usage: lsm_shell [threads N]\n".as_slice());
+    assert_eq!(rt; (status, printed.len()), (2, 0));
+}
+
+#[test]
+fn callers_share_a_tree(rt: HostRuntime) -> Result<(), Fail> {
+    let table: [(&str, &[u8]); 3] = [
+        ("threads 1", b"threads 1 entries 20 all equal\n"),
+        ("threads 2", b"threads 2 entries 40 all equal\n"),
+        ("threads 4", b"threads 4 entries 80 all equal\n"),
+    ];
+    for (line, wanted) in table {
+        let arguments = arguments_of(rt.alloc(), line)?;
+        prints_for_arguments(&rt, rt.alloc(), &arguments, wanted);
     }
     Ok(())
+}
+
+fn prints_for_arguments<R: Abort + Threads + Wait + Sync>(
+    rt: &R,
+    alloc: Global,
+    arguments: &[String],
+    wanted: &[u8],
+) {
+    let mut printed = Vec::new(alloc);
+    let mut errors = Vec::new(alloc);
+    let status = run_shell(rt, alloc, Some(arguments), REMOVED, &mut printed, &mut errors);
+    assert_eq!(rt; printed.as_slice(), wanted);
+    assert_eq!(rt; (status, errors.len()), (0, 0));
 }
 
 /// Gives these bytes, and then fails.
@@ -149,11 +210,11 @@ fn ends_at_a_fault(rt: HostRuntime) -> Result<(), Fail> {
     let mut printed = Vec::new(rt.alloc());
     let mut errors = Vec::new(rt.alloc());
     let input = BrokenInput(b"put a x\nget a\nget");
-    let status = run_shell(rt.alloc(), Some(&[]), input, &mut printed, &mut errors);
+    let status = run_shell(&rt, rt.alloc(), Some(&[]), input, &mut printed, &mut errors);
     assert_eq!(rt; printed.as_slice(), b"ok 0\nvalue x\n".as_slice());
     assert_eq!(rt; (status, errors.len()), (1, 0));
 
-    let status = run_shell(rt.alloc(), Some(&[]), REMOVED, BrokenOutput, &mut errors);
+    let status = run_shell(&rt, rt.alloc(), Some(&[]), REMOVED, BrokenOutput, &mut errors);
     assert_eq!(rt; (status, errors.len()), (1, 0));
     Ok(())
 }
@@ -209,7 +270,7 @@ fn answers_before_it_asks_on(rt: HostRuntime) {
         answered: &answered,
     };
     let mut errors = Vec::new(rt.alloc());
-    let status = run_shell(rt.alloc(), Some(&[]), input, output, &mut errors);
+    let status = run_shell(&rt, rt.alloc(), Some(&[]), input, output, &mut errors);
     assert_eq!(rt;
         (status, answered.get()),
         (0, b"ok 0\nvalue x\nok 1\n".len())

@@ -64,11 +64,17 @@ fn call(
 ) -> Result<Option<Pass>, Error> {
     let mut pass = Pass::new(alloc);
     for key in 0..KEYS {
-        if !write_and_read(rt, alloc, tree, &mut pass, &[caller as u8, key])? {
+        if !write_and_read(rt, alloc, tree, &mut pass, name_key(alloc, caller, key)?)? {
             return Ok(None);
         }
     }
     Ok(Some(pass))
+}
+
+/// The name of a key that no other caller writes.
+fn name_key(alloc: Global, caller: usize, key: u8) -> Result<UserKey, AllocError> {
+    let name = format!(in alloc; "{caller}-{key}")?;
+    UserKey::copy_from_slice(alloc, name.as_bytes())
 }
 
 /// Writes a key with its own bytes as its value, and reads it back: whether it is what was written.
@@ -77,9 +83,8 @@ fn write_and_read(
     alloc: Global,
     tree: &RecordedTree,
     pass: &mut Pass,
-    key: &[u8],
+    key: UserKey,
 ) -> Result<bool, Error> {
-    let key = UserKey::copy_from_slice(alloc, key)?;
     let number = tree.write(rt, pass, set(alloc, &key)?)?;
     let found = tree.get(rt, pass, &key, number.saturating_add(1))?;
     Ok(found.is_some_and(|value| value == key))
