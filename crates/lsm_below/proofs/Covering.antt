@@ -22,11 +22,11 @@ not_greater a b n m Greater is h = absurd (cc h)
 pub key_upto : (x y : Entry) → entry_cmp x y ≡ Less → is_below y.key.user_key x.key.user_key ≡ false
 key_upto x y h = not_greater x.key.user_key y.key.user_key y.key.seqno x.key.seqno (bytes_cmp x.key.user_key y.key.user_key) refl h
 
-below_first : (x : Entry) (xs : List Entry) → All (λ y. entry_cmp x y ≡ Less) xs → AllByRecursion (λ e. is_below e.key.user_key x.key.user_key ≡ false) xs
+pub below_first : (x : Entry) (xs : List Entry) → All (λ y. entry_cmp x y ≡ Less) xs → AllByRecursion (λ e. is_below e.key.user_key x.key.user_key ≡ false) xs
 below_first x [] h = tt
 below_first x (y ∷ ys) h = (key_upto x y (All-head (λ z. entry_cmp x z ≡ Less) y ys h), below_first x ys (All-tail (λ z. entry_cmp x z ≡ Less) y ys h))
 
-upto_last : (x : Entry) (xs : List Entry) → Rises entry_cmp (x ∷ xs) → AllByRecursion (λ e. is_below (last_key (x ∷ xs)) e.key.user_key ≡ false) (x ∷ xs)
+pub upto_last : (x : Entry) (xs : List Entry) → Rises entry_cmp (x ∷ xs) → AllByRecursion (λ e. is_below (last_key (x ∷ xs)) e.key.user_key ≡ false) (x ∷ xs)
 upto_last x [] h = (below_itself x.key.user_key, tt)
 upto_last x (y ∷ ys) h =
     let rest = upto_last y ys h.1 in

@@ -13,3 +13,4 @@ pub mod Image
 pub mod ImageReading
 pub mod Lookups
 pub mod Tables
+pub mod Cutting

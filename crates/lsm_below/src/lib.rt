@@ -18,6 +18,7 @@
 //! | `checksum` | the checksum of a file's bytes |
 //! | `image` | the bytes of a table's file |
 //! | `table` | the entries of one file |
+//! | `multi_writer` | entries cut into tables |
 //! | `table_error` | what reading a table refuses |
 //! | `store` | what a tree keeps its files in |
 #![tactic(auto)]
@@ -31,6 +32,7 @@ mod key_range;
 mod list_source;
 mod lookup;
 mod merger;
+mod multi_writer;
 mod mvcc_stream;
 mod optimize;
 mod run;
@@ -44,12 +46,13 @@ mod value_type;
 pub use checksum::{Checksum, sums_of_parts};
 pub use compaction_stream::{CompactionStream, compact};
 pub use ids::{KvPair, MemtableId, SeqNo, TableId, TreeId, UserKey, UserValue, share};
-pub use image::{decode, encode, no_image_begins_another};
+pub use image::{decode, encode, fits_image, is_writable, no_image_begins_another};
 pub use key::InternalKey;
 pub use key_range::{KeyRange, Ranged};
 pub use list_source::ListSource;
 pub use lookup::{entries_within, first_visible};
 pub use merger::Merger;
+pub use multi_writer::{MultiWriter, write_tables};
 pub use mvcc_stream::MvccStream;
 pub use optimize::optimize_runs;
 pub use run::{Run, is_run};

@@ -222,3 +222,6 @@ impl Clone for Table {
         self.copy()
     }
 }
+
+#[cfg(test)]
+mod tests;

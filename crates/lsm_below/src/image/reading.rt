@@ -89,7 +89,8 @@ fn entry_of(bytes: &mut Bytes) -> Result<InternalValue, TableError>
     })
 }
 
-fn may_follow(entries: &[InternalValue], entry: &InternalValue) -> bool
+/// Whether the last of the entries stands before an entry.
+pub(super) fn may_follow(entries: &[InternalValue], entry: &InternalValue) -> bool
     ensures { result ≡ follows entries.now entry.now }
 {
     match entries.last() {
