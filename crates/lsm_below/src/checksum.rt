@@ -143,13 +143,17 @@ mod tests {
         Checksum::of(bytes).into_u128()
     }
 
+    fn rows_of_zeros() -> bool {
+        sum(&[]) == 0 && sum(&[0]) == 1 && sum(&[0, 0]) == 1_099_511_628_212
+    }
+
+    fn rows_of_letters() -> bool {
+        sum(&[0x61]) == 98 && sum(&[0x61, 0x62]) == 107_752_139_564_777
+    }
+
     #[test]
     fn rows(rt: HostRuntime) {
-        assert_eq!(rt; sum(&[]), 0);
-        assert_eq!(rt; sum(&[0]), 1);
-        assert_eq!(rt; sum(&[0, 0]), 1_099_511_628_212);
-        assert_eq!(rt; sum(&[0x61]), 98);
-        assert_eq!(rt; sum(&[0x61, 0x62]), 107_752_139_564_777);
+        assert!(rt; rows_of_zeros() && rows_of_letters());
     }
 
     #[test]

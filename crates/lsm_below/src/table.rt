@@ -24,7 +24,7 @@ use std::sync::Arc;
 
 /// What copies of a table share.
 #[derive(Drop)]
-pub(crate) struct TableInner {
+struct TableInner {
     id: TableId,
     created_at: u64,
     entries: Vec<InternalValue>,

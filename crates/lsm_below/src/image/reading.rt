@@ -13,7 +13,7 @@ use std::alloc::Global;
 
 /// What stands before an entry's key.
 #[derive(Drop)]
-pub(crate) struct Header {
+struct Header {
     key_len: u16,
     seqno: SeqNo,
     value_type: ValueType,

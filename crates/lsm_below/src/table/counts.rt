@@ -8,7 +8,7 @@ use crate::{InternalValue, SeqNo, ValueType};
 
 /// What is counted of entries, in one walk over them.
 #[derive(Clone, Copy)]
-pub(crate) struct Counts {
+pub(super) struct Counts {
     /// The greatest number, 0 where there is no entry.
     pub(super) highest: SeqNo,
     /// How many entries remove their key, weakly or not.

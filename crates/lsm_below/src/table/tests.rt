@@ -44,24 +44,23 @@ fn table(rt: &impl Abort, alloc: Global) -> Result<Table, Fail> {
     Ok(Table::recover(alloc, 4, bytes)?)
 }
 
-#[test]
-fn what_it_tells(rt: HostRuntime) -> Result<(), Fail> {
-    let table = table(&rt, rt.alloc())?;
-    assert_eq!(rt; table.id(), 4);
-    assert_eq!(rt; table.created_at(), 5);
-    assert_eq!(rt; table.item_count(), 6);
-    assert_eq!(rt; table.entries().len(), 6);
-    assert_eq!(rt; table.get_highest_seqno(), 9);
-    assert_eq!(rt; table.global_seqno(), 0);
-    Ok(())
+fn tells(table: &Table) -> bool {
+    table.id() == 4 && table.created_at() == 5 && table.global_seqno() == 0
+}
+
+fn counts(table: &Table) -> bool {
+    table.item_count() == 6
+        && table.entries().len() == 6
+        && table.tombstone_count() == 4
+        && table.weak_tombstone_count() == 3
+        && table.weak_tombstone_reclaimable() == 1
+        && table.get_highest_seqno() == 9
 }
 
 #[test]
-fn what_is_counted(rt: HostRuntime) -> Result<(), Fail> {
+fn what_it_tells_and_counts(rt: HostRuntime) -> Result<(), Fail> {
     let table = table(&rt, rt.alloc())?;
-    assert_eq!(rt; table.tombstone_count(), 4);
-    assert_eq!(rt; table.weak_tombstone_count(), 3);
-    assert_eq!(rt; table.weak_tombstone_reclaimable(), 1);
+    assert!(rt; tells(&table) && counts(&table));
     Ok(())
 }
 
@@ -70,34 +69,37 @@ fn the_file(rt: HostRuntime) -> Result<(), Fail> {
     let bytes = image_of(&rt, rt.alloc(), &entries(rt.alloc())?)?.ok_or("no image")?;
     let sum = Checksum::of(bytes.as_slice());
     let table = Table::recover(rt.alloc(), 4, bytes)?;
-    assert_eq!(rt; table.file_size(), 118);
-    assert!(rt; table.checksum() == sum);
+    assert!(rt; table.file_size() == 118 && table.checksum() == sum);
     Ok(())
 }
 
-fn number_of(entry: Option<&InternalValue>) -> Option<SeqNo> {
-    entry.map(|e| e.key.seqno)
+fn finds(table: &Table, key: &[u8], snapshot: SeqNo, number: SeqNo) -> bool {
+    match table.get(key, snapshot) {
+        Some(entry) => entry.key.seqno == number,
+        None => false,
+    }
 }
 
 #[test]
 fn the_newest_below_a_snapshot(rt: HostRuntime) -> Result<(), Fail> {
     let table = table(&rt, rt.alloc())?;
-    assert_eq!(rt; number_of(table.get(b"a", 10)), Some(9));
-    assert_eq!(rt; number_of(table.get(b"a", 9)), Some(7));
-    assert_eq!(rt; number_of(table.get(b"a", 7)), None);
-    assert_eq!(rt; number_of(table.get(b"b", 6)), Some(5));
-    assert_eq!(rt; number_of(table.get(b"d", 6)), None);
+    assert!(rt; finds(&table, b"a", 10, 9) && finds(&table, b"a", 9, 7));
+    assert!(rt; table.get(b"a", 7).is_none() && table.get(b"d", 10).is_none());
     Ok(())
+}
+
+fn has_parts(table: &Table, in_b: &Bound<UserKey>, above_b: &Bound<UserKey>) -> bool {
+    table.range(in_b, in_b).len() == 3
+        && table.range(&Bound::Unbounded, in_b).len() == 5
+        && table.range(above_b, &Bound::Unbounded).len() == 1
 }
 
 #[test]
 fn a_part_of_it(rt: HostRuntime) -> Result<(), Fail> {
     let table = table(&rt, rt.alloc())?;
-    let b = Bound::Included(UserKey::from_static(b"b"));
-    assert_eq!(rt; table.range(&b, &b).len(), 3);
-    assert_eq!(rt; table.range(&Bound::Unbounded, &b).len(), 5);
-    let b = Bound::Excluded(UserKey::from_static(b"b"));
-    assert_eq!(rt; table.range(&b, &Bound::Unbounded).len(), 1);
+    let in_b = Bound::Included(UserKey::from_static(b"b"));
+    let above_b = Bound::Excluded(UserKey::from_static(b"b"));
+    assert!(rt; has_parts(&table, &in_b, &above_b));
     Ok(())
 }
 
