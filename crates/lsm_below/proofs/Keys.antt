@@ -33,7 +33,7 @@ one_way Less h = refl
 one_way Equal h = absurd (cc h)
 one_way Greater h = absurd (cc h)
 
-back : (a b : List ℕ) → is_lt (slice_cmp nat_cmp b a) ≡ is_gt (slice_cmp nat_cmp a b)
+pub back : (a b : List ℕ) → is_lt (slice_cmp nat_cmp b a) ≡ is_gt (slice_cmp nat_cmp a b)
 back a b = ap is_lt (nat_list_cmp_total.antisymm b a) ∙ turned (slice_cmp nat_cmp a b)
 
 -- a ≤ b ≤ c

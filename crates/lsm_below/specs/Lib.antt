@@ -7,3 +7,10 @@ pub mod Sorted
 pub mod Entries
 pub mod Streams
 pub mod Slots
+pub mod Sum
+pub mod Reading
+pub mod Image
+pub mod ImageReading
+pub mod Lookups
+pub mod Tables
+pub mod Cutting

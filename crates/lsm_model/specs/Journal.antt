@@ -1,13 +1,11 @@
 -- What callers did to a tree, and what reads are to answer: folds over one list of events.
 use Rattle.std.specs.Prelude.{◌≡◌, ℕ, ◌+◌, ◌≤◌, max, Bool, true, false, ◌&&◌, ◌||◌, ◌⊎◌, List, [], ◌∷◌, ◌++◌, Option, None, fold, filter, if◌then◌else◌, nat_eq, nat_lt}
-use Rattle.std.specs.Ordering.{is_le, is_lt}
 use Rattle.std.specs.List.{list_any, starts_with}
 use Rattle.std.specs.FinMap.{FinMap, empty, insert, remove, get, entries}
-use Rattle.std.specs.declared.ops.Bound.{Bound}
-use Rattle.std.specs.declared.ops.Bound.TheVariants.{Included, Excluded, Unbounded}
 use Rattle.lsm_below.specs.Keys.{Bytes, bytes_cmp, is_same}
 use Rattle.lsm_below.specs.Ranges.{Range, in_range}
 use Rattle.lsm_below.specs.Entries.{Entry, value_of, is_value, is_weak, stack, values, above}
+pub use Rattle.lsm_below.specs.Lookups.{is_from, is_to}
 use Rattle.lsm_below.specs.declared.value_type.ValueType.{ValueType}
 use Rattle.lsm_below.specs.declared.value_type.ValueType.TheVariants.{Value, Tombstone, WeakTombstone}
 use Rattle.lsm_model.specs.declared.question.Question.{Question}
@@ -184,18 +182,6 @@ abbrev pub InOrder : List Entry → List Event → Type 0
 InOrder opened journal = InOrderFrom opened [] journal
 
 -- ---- answers
-
--- does the key lie within the lower bound?
-abbrev pub is_from : Bound Bytes → Bytes → Bool
-is_from (Included low) k = is_le (bytes_cmp low k)
-is_from (Excluded low) k = is_lt (bytes_cmp low k)
-is_from Unbounded k = true
-
--- does the key lie within the upper bound?
-abbrev pub is_to : Bound Bytes → Bytes → Bool
-is_to (Included high) k = is_le (bytes_cmp k high)
-is_to (Excluded high) k = is_lt (bytes_cmp k high)
-is_to Unbounded k = true
 
 -- what a map answers to a question
 abbrev pub answer : Map → Question → Answer

@@ -1,0 +1,17 @@
+// The image of a table: entries as the bytes of a file, and back.
+//
+// It is the letters `LSMT`, made-at in nanoseconds (u64), the count of the entries (u64), and the
+// entries: key length (u16), number (u64), type (u8), value length (u32), key, value. Numbers are
+// little endian. Nothing follows.
+
+mod limits;
+mod reading;
+mod writing;
+
+pub(crate) use limits::may_stand_behind;
+pub use limits::{fits_image, is_writable};
+pub use reading::{decode, no_image_begins_another};
+pub use writing::encode;
+
+#[cfg(test)]
+mod tests;

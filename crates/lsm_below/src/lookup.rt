@@ -1,0 +1,95 @@
+// Look-ups in entries that rise, by binary search.
+ghost use Rattle.std.specs.Prelude.{◌≡◌, ℕ, ◌<◌, ◌≤◌, length, true, false, option_copied, slice_index_or};
+ghost use Rattle.lsm_below.specs.declared.value.InternalValue.{InternalValue};
+ghost use Rattle.lsm_below.specs.Entries.{entry_cmp};
+ghost use Rattle.lsm_below.specs.Sorted.{Rises, first};
+ghost use Rattle.lsm_below.specs.Lookups.{is_visible, stands_before, is_from, is_to, within};
+
+use crate::{InternalValue, SeqNo, UserKey};
+use std::cmp::Ordering;
+use std::ops::Bound;
+
+/// Whether the entry stands before each entry of the key that is numbered below this.
+fn stands_ahead(entry: &InternalValue, key: &[u8], number: SeqNo) -> bool
+    ensures { result ≡ stands_before key.now number entry.now }
+{
+    match entry.key.user_key.as_slice().cmp(key) {
+        Ordering::Less => true,
+        Ordering::Equal => entry.key.seqno >= number,
+        Ordering::Greater => false,
+    }
+}
+
+/// How many entries stand before each entry of the key that is numbered below this.
+fn place_below(entries: &[InternalValue], key: &[u8], number: SeqNo) -> usize
+    requires { Rises entry_cmp entries.now }
+    ensures bound { result ≤ length entries.now }
+    ensures before { (j : ℕ) (d : InternalValue) → j < result → stands_before key.now number (slice_index_or entries.now j d) ≡ true }
+    ensures behind { (j : ℕ) (d : InternalValue) → result ≤ j → j < length entries.now → stands_before key.now number (slice_index_or entries.now j d) ≡ false }
+{
+    let mut low = 0;
+    let mut high = entries.len();
+    while low < high {
+        let mid = low + (high - low) / 2;
+        if stands_ahead(&entries[mid], key, number) {
+            low = mid + 1;
+        } else {
+            high = mid;
+        }
+    }
+    low
+}
+
+/// The entry of a key with the greatest number below the snapshot.
+pub fn first_visible<'a>(
+    entries: &'a [InternalValue],
+    key: &[u8],
+    snapshot: SeqNo,
+) -> Option<&'a InternalValue>
+    requires { Rises entry_cmp entries.now }
+    ensures { option_copied result ≡ first (is_visible key.now snapshot) entries.now }
+{
+    let at = place_below(entries, key, snapshot);
+    let entry = entries.get(at)?;
+    if entry.key.user_key.as_slice() == key {
+        Some(entry)
+    } else {
+        None
+    }
+}
+
+/// Whether a key lies within a lower bound.
+fn lies_from(bound: &Bound<UserKey>, key: &UserKey) -> bool
+    ensures { result ≡ is_from bound.now key.now }
+{
+    match bound {
+        Bound::Included(low) => low <= key,
+        Bound::Excluded(low) => low < key,
+        Bound::Unbounded => true,
+    }
+}
+
+/// Whether a key lies within an upper bound.
+fn lies_to(bound: &Bound<UserKey>, key: &UserKey) -> bool
+    ensures { result ≡ is_to bound.now key.now }
+{
+    match bound {
+        Bound::Included(high) => key <= high,
+        Bound::Excluded(high) => key < high,
+        Bound::Unbounded => true,
+    }
+}
+
+/// The entries whose keys lie within the bounds: they stand together.
+pub fn entries_within<'a>(
+    entries: &'a [InternalValue],
+    lower: &Bound<UserKey>,
+    upper: &Bound<UserKey>,
+) -> &'a [InternalValue]
+    requires { Rises entry_cmp entries.now }
+    ensures { result.now ≡ within lower.now upper.now entries.now }
+{
+    let end = entries.partition_point(|entry| lies_to(upper, &entry.key.user_key));
+    let start = entries.partition_point(|entry| !lies_from(lower, &entry.key.user_key));
+    &entries[start.min(end)..end]
+}
