@@ -7,3 +7,10 @@ pub mod Sorted
 pub mod Entries
 pub mod Streams
 pub mod Slots
+pub mod World
+pub mod NoWorld
+pub mod Plans
+pub mod Held
+pub mod Files
+pub mod Memory
+pub mod Picks

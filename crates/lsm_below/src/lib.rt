@@ -22,6 +22,7 @@ mod ids;
 mod key;
 mod key_range;
 mod list_source;
+mod mem_store;
 mod merger;
 mod mvcc_stream;
 mod optimize;
@@ -36,12 +37,13 @@ pub use ids::{KvPair, MemtableId, SeqNo, TableId, TreeId, UserKey, UserValue, sh
 pub use key::InternalKey;
 pub use key_range::{KeyRange, Ranged};
 pub use list_source::ListSource;
+pub use mem_store::{Fault, MemStore, Pick};
 pub use merger::Merger;
 pub use mvcc_stream::MvccStream;
 pub use optimize::optimize_runs;
 pub use run::{Run, is_run};
 pub use source::Source;
-pub use store::{NoStore, Store};
+pub use store::{NoStore, Store, StoreError};
 pub use value::InternalValue;
 pub use value_type::ValueType;
 
