@@ -14,3 +14,10 @@ pub mod ImageReading
 pub mod Lookups
 pub mod Tables
 pub mod Cutting
+pub mod World
+pub mod NoWorld
+pub mod Plans
+pub mod Held
+pub mod Files
+pub mod Memory
+pub mod Picks
