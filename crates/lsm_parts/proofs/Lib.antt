@@ -4,3 +4,7 @@ pub mod Newest
 pub mod Contents
 pub mod Histories
 pub mod Ranges
+pub mod Prefixes
+pub mod Cuts
+pub mod Shown
+pub mod Ends
