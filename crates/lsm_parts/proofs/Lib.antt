@@ -8,3 +8,5 @@ pub mod Prefixes
 pub mod Cuts
 pub mod Shown
 pub mod Ends
+pub mod Last
+pub mod ShownEnds

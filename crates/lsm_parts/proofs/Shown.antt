@@ -1,5 +1,5 @@
 -- What a merge of cuts shows.
-use Rattle.std.proofs.Common.{◌≡◌, zero, suc, ◌≤◌, Bool, true, false, cond, List, [], ◌∷◌, ◌++◌, length, filter, map, flat_map, Option, Some, None, option_to_list, refl, sym, ap, ◌∙◌, subst, arith, inl, inr, ◌⊎◌, ltb}
+use Rattle.std.proofs.Common.{◌≡◌, zero, suc, ◌≤◌, Bool, true, false, cond, List, [], ◌∷◌, ◌++◌, length, filter, map, flat_map, Option, Some, None, option_to_list, MatchOption, Result, Ok, Err, IfOk, refl, sym, ap, ◌∙◌, subst, arith, inl, inr, ◌⊎◌, ltb}
 use Rattle.std.specs.List.{All, AllByRecursion, Contains}
 use Rattle.std.specs.List.Sorted.{IsPermutation}
 use Rattle.std.specs.declared.cmp.Ordering.{Ordering}
@@ -23,6 +23,9 @@ use Rattle.lsm_model.proofs.Journals.{same_key}
 use Rattle.lsm_model.specs.Views.{shown}
 use Rattle.lsm_parts.specs.Memtables.{within}
 use Rattle.lsm_parts.specs.Shown.{lies_within, IsNewestOf, IsNewest, IsShown, by_key, Shows}
+use Rattle.lsm_parts.specs.declared.error.Error.{Error}
+use Rattle.lsm_parts.specs.Ends.{EndShown}
+use Rattle.lsm_parts.specs.declared.tree_iter.End.TheVariants.{Front}
 use Rattle.lsm_parts.specs.Reads.{Part, cut, counted, all_counted}
 use Rattle.lsm_parts.specs.Cuts.{part_of, IsFresh, AreCuts, AreNewest}
 use Rattle.lsm_parts.specs.declared.cut.Cut.{Cut}
@@ -121,14 +124,14 @@ lowers k e [] ke of le = tt
 lowers k e (f ∷ es) ke of le = (number_falls e f (same_from k e f ke of.0) le.0, lowers k e es ke of.1 le.1)
 
 -- of one key's entries in order the first is the newest one
-newest_first : (k : Bytes) (all sorted : List Entry) → IsPermutation all sorted → IsInOrder sorted → AllByRecursion (λ f. is_of k f ≡ true) sorted → IsNewestOf all (first_item sorted)
+pub newest_first : (k : Bytes) (all sorted : List Entry) → IsPermutation all sorted → IsInOrder sorted → AllByRecursion (λ f. is_of k f ≡ true) sorted → IsNewestOf all (first_item sorted)
 newest_first k all [] perm order of = nil_from_length all (sym (length_permutation all [] perm))
 newest_first k all (e ∷ es) perm order of =
     let back = IsPermutation-sym all (e ∷ es) perm in
     let own : e.key.seqno ≤ e.key.seqno = omega arith in
     (Contains-permutation (e ∷ es) all e back (contains_here e es), All-permutation (λ f. f.key.seqno ≤ e.key.seqno) (e ∷ es) all back (All-from_recursion (λ f. f.key.seqno ≤ e.key.seqno) (e ∷ es) (own, lowers k e es of.0 of.1 order.0)))
 
-first_listed : (es : List Entry) → first_of es ≡ option_to_list (first_item es)
+pub first_listed : (es : List Entry) → first_of es ≡ option_to_list (first_item es)
 first_listed [] = refl
 first_listed (e ∷ es) = refl
 
@@ -139,17 +142,35 @@ module _ (low high : Bound Bytes) where
   abbrev pub of_cuts : Bytes → List Part → List Entry
   of_cuts k parts = flat_map (λ p. stack k (counted p)) (map (cut low high) parts)
 
-  inside : (k : Bytes) → lies_within low high k ≡ true → (parts : List Part) → of_cuts k parts ≡ stack k (all_counted parts)
+  pub inside : (k : Bytes) → lies_within low high k ≡ true → (parts : List Part) → of_cuts k parts ≡ stack k (all_counted parts)
   inside k h [] = refl
   inside k h (p ∷ parts) =
       ap (λ l. l ++ flat_map (λ p. stack k (counted p)) (map (cut low high) parts)) (filter_inner (is_of k) (λ e. ltb e.key.seqno p.below) (λ e. lies_within low high e.key.user_key) (λ e q. ap (lies_within low high) (sym (same_key k e.key.user_key q)) ∙ h) p.entries)
       ∙ ap (λ l. stack k (counted p) ++ l) (inside k h parts) ∙ sym (filter-append (is_of k) (counted p) (all_counted parts))
 
-  outside : (k : Bytes) → lies_within low high k ≡ false → (parts : List Part) → of_cuts k parts ≡ []
+  pub outside : (k : Bytes) → lies_within low high k ≡ false → (parts : List Part) → of_cuts k parts ≡ []
   outside k h [] = refl
   outside k h (p ∷ parts) =
       ap (λ l. l ++ flat_map (λ p. stack k (counted p)) (map (cut low high) parts)) (filter_outer (is_of k) (λ e. ltb e.key.seqno p.below) (λ e. lies_within low high e.key.user_key) (λ e q. ap (lies_within low high) (sym (same_key k e.key.user_key q)) ∙ h) p.entries)
       ∙ outside k h parts
+
+-- a key's entries of those within bounds
+pub only_within : (low high : Bound Bytes) (k : Bytes) → lies_within low high k ≡ true → (es : List Entry) → stack k (within low high es) ≡ stack k es
+only_within low high k h es =
+    sym (ap (filter (is_of k)) (filter_every (within low high es))) ∙ filter_inner (is_of k) (λ e. true) (λ e. lies_within low high e.key.user_key) (λ e q. ap (lies_within low high) (sym (same_key k e.key.user_key q)) ∙ h) es
+    ∙ ap (filter (is_of k)) (filter_every es)
+  where
+    filter_every : (xs : List Entry) → filter (λ e. true) xs ≡ xs
+    filter_every [] = refl
+    filter_every (x ∷ xs) = ap (λ l. x ∷ l) (filter_every xs)
+
+pub all_outside : (low high : Bound Bytes) (k : Bytes) → lies_within low high k ≡ false → (es : List Entry) → stack k (within low high es) ≡ []
+all_outside low high k h es =
+    sym (ap (filter (is_of k)) (filter_each (within low high es))) ∙ filter_outer (is_of k) (λ e. true) (λ e. lies_within low high e.key.user_key) (λ e q. ap (lies_within low high) (sym (same_key k e.key.user_key q)) ∙ h) es
+  where
+    filter_each : (xs : List Entry) → filter (λ e. true) xs ≡ xs
+    filter_each [] = refl
+    filter_each (x ∷ xs) = ap (λ l. x ∷ l) (filter_each xs)
 
 -- what cuts still give of a key
 given : (k : Bytes) (cuts : List Cut) → All IsFresh cuts → flat_map (λ l. l) (map (λ c. stack k (rest_of c.over (counted (part_of c))).entries) cuts) ≡ flat_map (λ p. stack k (counted p)) (map part_of cuts)
@@ -160,7 +181,7 @@ given k (c ∷ cuts) h =
 
 -- ---- the newest entries of all keys
 
-first_none : (es : List Entry) → es ≡ [] → first_item es ≡ None
+pub first_none : (es : List Entry) → es ≡ [] → first_item es ≡ None
 first_none [] h = refl
 first_none (e ∷ es) h = absurd (cc h)
 
@@ -279,3 +300,14 @@ module _ (low high : Bound Bytes) (es out : List Entry) (h : AreNewest low high 
     each = All-weaker (Contains (filter is_value out)) (λ e. (lies_within low high e.key.user_key ≡ true) × IsShown es e) lists (filter is_value out) (All-contains_itself (filter is_value out));
     rest = λ k within none. (h.newest k, h.inner k within, no_value (h.newest k) (sym (ap (filter is_value) (h.stacks k)) ∙ filter_swap is_value (is_of k) out ∙ none));
   }
+
+-- ---- one end
+
+-- the first of the list
+pub front_shown : (low high : Bound Bytes) (es list : List Entry) (r : Option Entry) → Shows low high es list → MatchOption r (list ≡ []) (λ e. (rest : List Entry) × (list ≡ e ∷ rest)) → EndShown Front low high es r
+front_shown low high es list None shows is = subst (Shows low high es) is shows
+front_shown low high es list (Some e) shows is = (list, is.0, shows, is.1)
+
+pub front_of : (low high : Bound Bytes) (es out : List Entry) (r : Result (Option Entry) Error) → AreNewest low high es out → IfOk r (λ o. MatchOption o (filter is_value out ≡ []) (λ e. (rest : List Entry) × (filter is_value out ≡ e ∷ rest))) → IfOk r (EndShown Front low high es)
+front_of low high es out (Ok r) h is = front_shown low high es (filter is_value out) r (shows_newest low high es out h) is
+front_of low high es out (Err x) h is = tt

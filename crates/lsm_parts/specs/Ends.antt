@@ -1,6 +1,9 @@
 -- What an iterator from both ends gives: the ends of one list, of which each entry comes once.
 use Rattle.std.specs.Prelude.{◌≡◌, List, [], ◌∷◌, ◌++◌, Option, Some, None, Result, Ok, Err}
+use Rattle.std.specs.declared.ops.Bound.{Bound}
+use Rattle.lsm_below.specs.Keys.{Bytes}
 use Rattle.lsm_below.specs.Entries.{Entry}
+use Rattle.lsm_parts.specs.Shown.{Shows}
 use Rattle.lsm_parts.specs.Guards.{Item, pair_of}
 use Rattle.lsm_parts.specs.declared.error.Error.{Error}
 use Rattle.lsm_parts.specs.declared.tree_iter.End.{End}
@@ -29,3 +32,8 @@ TakesEnds s [] [] t = t ≡ s
 TakesEnds s (end ∷ ends) (p ∷ ps) t = (left : List Entry) × TakesPair end s p left × TakesEnds left ends ps t
 TakesEnds s [] (p ∷ ps) t = ⊥
 TakesEnds s (end ∷ ends) [] t = ⊥
+
+-- the entry at an end of the list of what is shown within bounds; none where nothing is shown
+abbrev pub EndShown : End → Bound Bytes → Bound Bytes → List Entry → Option Entry → Type 0
+EndShown end low high es None = Shows low high es []
+EndShown end low high es (Some e) = (out : List Entry) × (rest : List Entry) × Shows low high es out × IsTaken end out e rest

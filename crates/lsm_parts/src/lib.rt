@@ -17,6 +17,7 @@ mod iter_state;
 mod memtable;
 mod prefix;
 mod seqno;
+mod shown_ends;
 mod tree_iter;
 mod version;
 
@@ -27,5 +28,6 @@ pub use iter_state::IterState;
 pub use memtable::Memtable;
 pub use prefix::prefix_to_range;
 pub use seqno::{LIMIT, SequenceNumberCounter, seqno_filter};
+pub use shown_ends::{first_shown, last_shown};
 pub use tree_iter::{End, TreeIter, take_ends};
 pub use version::{SealedMemtables, SuperVersion, SuperVersions, Version, VersionId};
