@@ -1,5 +1,5 @@
 // An iterator over what a snapshot shows, from both ends.
-ghost use Rattle.std.specs.Prelude.{◌≡◌, false, filter, length, IfOk, IfErr, OnErr};
+ghost use Rattle.std.specs.Prelude.{◌≡◌, ◌↔◌, [], false, filter, length, IfOk, IfErr, OnErr, IsTrue};
 ghost use Rattle.std.specs.Iterator.{at_most};
 ghost use Rattle.lsm_below.specs.Entries.{is_value};
 ghost use Rattle.lsm_parts.specs.Shown.{Shows};
@@ -95,6 +95,20 @@ impl TreeIter {
         Ok(TreeIter {
             entries: values_of(alloc, stream)?,
         })
+    }
+
+    /// How many entries are left.
+    pub fn len(&self) -> usize
+        ensures { result ≡ length self.now }
+    {
+        self.entries.len()
+    }
+
+    /// Whether no entry is left.
+    pub fn is_empty(&self) -> bool
+        ensures { IsTrue result ↔ (self.now ≡ []) }
+    {
+        self.entries.is_empty()
     }
 
     /// The first entry of those left.

@@ -1,4 +1,5 @@
 pub mod Walks
 pub mod Steps
 pub mod Repeats
+pub mod Counts
 pub mod Refusals

@@ -96,8 +96,20 @@ impl<S: Store> TreeState<S> {
         ensures too_old { IsErrOf result Error.SnapshotTooOld ↔ (found_at seqno (latest_of self.now.core) (older_of self.now.core) ≡ None) }
         ensures only { IfErr result (λ e. e ≡ Error.SnapshotTooOld) }
     {
-        match self.history.get_version_for_snapshot(seqno) {
+        match self.version_at(seqno) {
             Ok(version) => Ok(walk(&self.memtables, version, key, seqno)),
+            Err(error) => Err(error),
+        }
+    }
+
+    /// The super version that a snapshot reads, in the theory's words.
+    pub(crate) fn version_at(&self, seqno: SeqNo) -> Result<&SuperVersion, Error>
+        ensures ok { IfOk result (λ sv. found_at seqno (latest_of self.now.core) (older_of self.now.core) ≡ Some (shown_as sv.now)) }
+        ensures too_old { IsErrOf result Error.SnapshotTooOld ↔ (found_at seqno (latest_of self.now.core) (older_of self.now.core) ≡ None) }
+        ensures only { IfErr result (λ e. e ≡ Error.SnapshotTooOld) }
+    {
+        match self.history.get_version_for_snapshot(seqno) {
+            Ok(version) => Ok(version),
             Err(error) => Err(error),
         }
     }
