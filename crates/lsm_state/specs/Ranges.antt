@@ -1,12 +1,17 @@
 -- What reads over many keys answer.
-use Rattle.std.specs.Prelude.{◌≡◌, ℕ, Bool, List, [], ◌++◌, length, filter, Option, Some, None, Ok, option_map, is_none, is_some, nat_eq, nat_lt}
+use Rattle.std.specs.Prelude.{◌≡◌, ℕ, ◌≤◌, Bool, List, [], ◌∷◌, ◌++◌, map, length, filter, Option, Some, None, Ok, option_map, is_none, is_some, nat_eq, nat_lt}
 use Rattle.std.specs.Borrow.{Bor}
-use Rattle.std.specs.List.{starts_with}
+use Rattle.std.specs.List.{starts_with, AllByRecursion}
 use Rattle.std.specs.declared.ops.Bound.{Bound}
 use Rattle.std.specs.declared.ops.Bound.TheVariants.{Unbounded}
 use Rattle.lsm_below.specs.Keys.{Bytes}
-use Rattle.lsm_below.specs.Entries.{Entry}
-use Rattle.lsm_model.specs.Views.{SuperVersion, entries, found_at}
+use Rattle.lsm_below.specs.Entries.{Entry, above, IsOrdered}
+use Rattle.lsm_model.specs.Journal.{Event}
+use Rattle.lsm_model.specs.Steps.{Step, Asked}
+use Rattle.lsm_model.specs.declared.journal.JournalEntry.TheVariants.{Read}
+use Rattle.lsm_model.specs.declared.question.Question.TheVariants.{Between}
+use Rattle.lsm_model.specs.declared.question.Answer.TheVariants.{Pairs}
+use Rattle.lsm_model.specs.Views.{SuperVersion, entries, sources, found_at}
 use Rattle.lsm_parts.specs.Memtables.{SeenMemtable}
 use Rattle.lsm_parts.specs.Prefixes.{AreBytes}
 use Rattle.lsm_parts.specs.Shown.{Shows, lies_within}
@@ -14,7 +19,7 @@ use Rattle.lsm_parts.specs.Ends.{EndShown}
 use Rattle.lsm_parts.specs.Guards.{Item, pair_of}
 use Rattle.lsm_parts.specs.declared.tree_iter.End.{End}
 use Rattle.lsm_state.specs.Held.{entries_of}
-use Rattle.lsm_state.specs.Core.{Core, latest_of, older_of}
+use Rattle.lsm_state.specs.Core.{Core, state_of, latest_of, older_of}
 
 -- a memtable on top of the tree, with the number below which its entries count; or none
 abbrev pub Index : Type 0
@@ -64,3 +69,7 @@ PairAt end c index s r = (e : Option Entry) × EndOf end c index s e × (r ≡ o
 -- whether nothing is shown
 abbrev pub TellsEmpty : End → Core → Index → ℕ → Bool → Type 0
 TellsEmpty end c index s b = (e : Option Entry) × EndOf end c index s e × (b ≡ is_none e)
+
+-- whatever the journal, an answered range, where numbers fall under each key in every super version
+abbrev pub IsRangeStep : Core → Bound Bytes → Bound Bytes → ℕ → List Entry → Type 0
+IsRangeStep c low high s out = (opened : List Entry) (journal : List Event) → above opened ≤ s → AllByRecursion (λ sv. IsOrdered (sources (entries_of c.memtables) sv)) (latest_of c ∷ older_of c) → Step opened (state_of journal c) (Asked s (Between low high)) (state_of (journal ++ Read s (Between low high) (Pairs (map pair_of out)) ∷ []) c)

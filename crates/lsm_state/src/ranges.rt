@@ -5,7 +5,7 @@ ghost use Rattle.lsm_model.specs.Views.{found_at, sources};
 ghost use Rattle.lsm_parts.specs.declared.tree_iter.End.TheVariants.{Front, Back};
 ghost use Rattle.lsm_state.specs.Held.{entries_of};
 ghost use Rattle.lsm_state.specs.Core.{latest_of, older_of, shown_as};
-ghost use Rattle.lsm_state.specs.Ranges.{counting, Ranges, ShowsPrefix, Prefixes, Numbers, PairAt, TellsEmpty, EndOf};
+ghost use Rattle.lsm_state.specs.Ranges.{counting, Ranges, ShowsPrefix, Prefixes, Numbers, PairAt, TellsEmpty, EndOf, IsRangeStep};
 ghost use Rattle.lsm_parts.specs.Shown.{Shows};
 ghost use Rattle.lsm_parts.specs.Ends.{EndShown};
 
@@ -124,6 +124,7 @@ impl<S: Store> TreeState<S> {
         index: Option<(&Memtable, SeqNo)>,
     ) -> Result<TreeIter, Error>
         ensures ok { IfOk result (Ranges self.now.core index.entry bounds.now.0 bounds.now.1 seqno) }
+        ensures step { index.entry ≡ None → IfOk result (IsRangeStep self.now.core bounds.now.0 bounds.now.1 seqno) }
         ensures too_old { IsErrOf result Error.SnapshotTooOld ↔ (found_at seqno (latest_of self.now.core) (older_of self.now.core) ≡ None) }
         ensures only { IfErr result (λ e. (e ≡ Error.SnapshotTooOld) ⊎ (e ≡ Error.OutOfMemory)) }
     {
