@@ -4,3 +4,9 @@ pub mod Newest
 pub mod Contents
 pub mod Histories
 pub mod Ranges
+pub mod Prefixes
+pub mod Cuts
+pub mod Shown
+pub mod Ends
+pub mod Last
+pub mod ShownEnds

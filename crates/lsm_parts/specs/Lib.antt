@@ -3,3 +3,9 @@ pub mod Memtables
 pub mod Versions
 pub mod Contents
 pub mod History
+pub mod Shown
+pub mod Prefixes
+pub mod Guards
+pub mod Reads
+pub mod Cuts
+pub mod Ends

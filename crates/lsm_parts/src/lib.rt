@@ -10,13 +10,24 @@
 #![tactic(auto)]
 
 mod config;
+mod cut;
 mod error;
+mod guard;
+mod iter_state;
 mod memtable;
+mod prefix;
 mod seqno;
+mod shown_ends;
+mod tree_iter;
 mod version;
 
 pub use config::{Config, DEFAULT_LEVEL_COUNT};
 pub use error::Error;
+pub use guard::{Guard, IterGuard, RangeItem};
+pub use iter_state::IterState;
 pub use memtable::Memtable;
+pub use prefix::prefix_to_range;
 pub use seqno::{LIMIT, SequenceNumberCounter, seqno_filter};
+pub use shown_ends::{first_shown, last_shown};
+pub use tree_iter::{End, TreeIter, take_ends};
 pub use version::{SealedMemtables, SuperVersion, SuperVersions, Version, VersionId};

@@ -130,7 +130,7 @@ fn place_below(entries: &[InternalValue], key: &[u8], number: u64) -> usize
 }
 
 /// The entry of a key with the greatest number below the snapshot.
-fn first_visible<'a>(
+pub(crate) fn first_visible<'a>(
     entries: &'a [InternalValue],
     key: &[u8],
     snapshot: SeqNo,
@@ -170,7 +170,7 @@ fn lies_to(bound: &Bound<UserKey>, key: &UserKey) -> bool
 }
 
 /// The entries whose keys lie within the bounds: they stand together.
-fn entries_within<'a>(
+pub(crate) fn entries_within<'a>(
     entries: &'a [InternalValue],
     bounds: &(Bound<UserKey>, Bound<UserKey>),
 ) -> &'a [InternalValue]
@@ -219,6 +219,14 @@ impl Memtable {
         ensures { iter_rest result ≡ self.now.entries }
     {
         self.content.entries.iter()
+    }
+
+    /// The entries in order, as a slice.
+    pub(crate) fn as_slice(&self) -> &[InternalValue]
+        ensures is { result.now ≡ self.now.entries }
+        ensures rises { Rises entry_cmp self.now.entries }
+    {
+        &self.content.entries
     }
 
     /// The entries in order whose keys lie within the bounds. There is none where the lower one is above the upper one.

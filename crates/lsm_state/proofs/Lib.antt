@@ -1,4 +1,6 @@
 pub mod Walks
 pub mod Steps
 pub mod Repeats
+pub mod Answered
+pub mod Counts
 pub mod Refusals

@@ -1,5 +1,5 @@
 -- What each call of a tree does and answers.
-use Rattle.std.specs.Prelude.{◌≡◌, ℕ, ◌≤◌, ◌⊎◌, List, [], ◌∷◌, ◌++◌, map, Option, Some, None, Result, Err, IfOk, IfErr, IfSome, OnOk, OnErr, if◌then◌else◌}
+use Rattle.std.specs.Prelude.{◌≡◌, ℕ, ◌≤◌, ◌-◌, ◌^◌, min, length, ◌⊎◌, List, [], ◌∷◌, ◌++◌, map, Option, Some, None, Result, Err, IfOk, IfErr, IfSome, OnOk, OnErr, if◌then◌else◌}
 use Rattle.lsm_below.specs.Keys.{Bytes}
 use Rattle.lsm_below.specs.Entries.{Entry, above, is_tombstone_type}
 use Rattle.lsm_model.specs.Journal.{Event}
@@ -68,6 +68,10 @@ Finds c k s e = (sv : SuperVersion) × (found_at s (latest_of c) (older_of c) �
 -- what a get answers: the value that the entry gives
 abbrev pub Gives : Core → Bytes → ℕ → Option Bytes → Type 0
 Gives c k s v = (sv : SuperVersion) × (found_at s (latest_of c) (older_of c) ≡ Some sv) × (v ≡ shown (walk k s (sources (entries_of c.memtables) sv)))
+
+-- the bytes of a value, up to 2^32 - 1
+abbrev pub value_size : Bytes → ℕ
+value_size v = min (length v) (2 ^ 32 - 1)
 
 -- an entry that isn't a tombstone
 abbrev pub live : Option Entry → Option Entry

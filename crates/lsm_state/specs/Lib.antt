@@ -3,3 +3,4 @@ pub mod Core
 pub mod Refusals
 pub mod Calls
 pub mod Lending
+pub mod Ranges

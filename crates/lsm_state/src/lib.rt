@@ -5,10 +5,12 @@
 //! | `memtables` | the memtables that are held, by id |
 //! | `tree` | the tree: how it is opened, its counters, rotation |
 //! | `writes` | its writes |
-//! | `reads` | its reads |
+//! | `reads` | its reads of one key |
+//! | `ranges` | its reads of many keys |
 #![tactic(auto)]
 
 mod memtables;
+mod ranges;
 mod reads;
 mod tree;
 mod writes;

@@ -1,5 +1,5 @@
 // The memtables that are held, by id.
-ghost use Rattle.std.specs.Prelude.{◌≡◌, ℕ, ◌+◌, ◌∷◌, [], IfOk, IfErr, OnOk, OnErr, IsTrue, ◌↔◌, option_copied};
+ghost use Rattle.std.specs.Prelude.{◌≡◌, ℕ, ◌+◌, ◌∷◌, [], IfOk, IfErr, OnOk, OnErr, IsTrue, ◌↔◌, option_copied, MatchOption};
 ghost use Rattle.lsm_below.specs.Entries.{top};
 ghost use Rattle.lsm_parts.specs.Memtables.{entry_size, new_memtable};
 ghost use Rattle.lsm_state.specs.Held.{entries_of, put_first, put_all_first, first_size, first_entries};
@@ -26,18 +26,13 @@ impl Model for Memtables {
     ghost view = { λ m. m.active ∷ m.sealed.items };
 }
 
-/// What the memtable with this id shows of a key below the snapshot. There are a handful of them.
-fn search_sealed<'a>(
-    sealed: &'a [Memtable],
-    id: MemtableId,
-    key: &[u8],
-    seqno: SeqNo,
-) -> Option<&'a InternalValue>
-    ensures { option_copied result ≡ top key.now seqno (entries_of sealed.now id) }
+/// The memtable with this id. There are a handful of them.
+fn find_sealed(sealed: &[Memtable], id: MemtableId) -> Option<&Memtable>
+    ensures { MatchOption result (entries_of sealed.now id ≡ []) (λ m. m.now.entries ≡ entries_of sealed.now id) }
 {
     for memtable in sealed {
         if memtable.id() == id {
-            return memtable.get(key, seqno);
+            return Some(memtable);
         }
     }
     None
@@ -61,14 +56,24 @@ impl Memtables {
         self.active.is_empty()
     }
 
+    /// The memtable with this id.
+    pub fn find(&self, id: MemtableId) -> Option<&Memtable>
+        ensures { MatchOption result (entries_of self.now id ≡ []) (λ m. m.now.entries ≡ entries_of self.now id) }
+    {
+        if self.active.id() == id {
+            return Some(&self.active);
+        }
+        find_sealed(&self.sealed, id)
+    }
+
     /// What the memtable with this id shows of a key below the snapshot.
     pub fn search(&self, id: MemtableId, key: &[u8], seqno: SeqNo) -> Option<&InternalValue>
         ensures { option_copied result ≡ top key.now seqno (entries_of self.now id) }
     {
-        if self.active.id() == id {
-            return self.active.get(key, seqno);
+        match self.find(id) {
+            Some(memtable) => memtable.get(key, seqno),
+            None => None,
         }
-        search_sealed(&self.sealed, id, key, seqno)
     }
 
     /// Puts an entry in its place in the active memtable, and answers the bytes that it counts and those

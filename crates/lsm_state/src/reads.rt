@@ -1,10 +1,11 @@
 // The tree's reads.
-ghost use Rattle.std.specs.Prelude.{◌≡◌, ℕ, ◌↔◌, ◌⊎◌, None, Some, map, reverse, option_copied, IfOk, IfErr, IsErrOf};
+ghost use Rattle.std.specs.Prelude.{◌≡◌, ℕ, ◌↔◌, ◌⊎◌, Option, None, Some, is_some, option_map, map, reverse, option_copied, IfOk, IfErr, IsErrOf};
 ghost use Rattle.lsm_below.specs.Entries.{value_of as value_given};
-ghost use Rattle.lsm_model.specs.Views.{found_at, sources, walk as walk_sources};
+ghost use Rattle.lsm_model.specs.Views.{found_at, sources, walk as walk_sources, shown as value_shown};
+ghost use Rattle.lsm_below.specs.Keys.{Bytes};
 ghost use Rattle.lsm_state.specs.Held.{entries_of};
 ghost use Rattle.lsm_state.specs.Core.{latest_of, older_of, shown_as};
-ghost use Rattle.lsm_state.specs.Calls.{Finds, Gives, GivesEntry, IsGetStep, live};
+ghost use Rattle.lsm_state.specs.Calls.{Finds, Gives, GivesEntry, IsGetStep, live, value_size};
 
 use crate::{Memtables, TreeState};
 use lsm_below::{InternalValue, MemtableId, SeqNo, Store, UserValue, ValueType};
@@ -59,6 +60,27 @@ fn walk<'a>(
     version.version.get(key, seqno)
 }
 
+/// The bytes of the value that an entry gives its key, None for a tombstone.
+fn size_of_value(entry: Option<&InternalValue>) -> Option<u32>
+    ensures { result ≡ option_map value_size (value_shown (option_copied entry.entry)) }
+{
+    let entry = entry?;
+    if entry.is_tombstone() {
+        return None;
+    }
+    Some(u32::try_from(entry.value.len()).unwrap_or(u32::MAX))
+}
+
+/// Whether an entry gives its key a value.
+fn has_value(entry: Option<&InternalValue>) -> bool
+    ensures { result ≡ is_some (value_shown (option_copied entry.entry)) }
+{
+    match entry {
+        Some(entry) => !entry.is_tombstone(),
+        None => false,
+    }
+}
+
 impl<S: Store> TreeState<S> {
     /// The value of a key at a snapshot: that of its entry with the greatest number below the snapshot
     /// in the first source that has one. None for a tombstone, or where there is no entry.
@@ -91,13 +113,49 @@ impl<S: Store> TreeState<S> {
         }
     }
 
+    /// Whether a key has a value at a snapshot. `SnapshotTooOld` as `get`; it takes no memory.
+    pub fn contains_key(&self, key: &[u8], seqno: SeqNo) -> Result<bool, Error>
+        ensures ok { IfOk result (λ b. (v : Option Bytes) × Gives self.now.core key.now seqno v × (b ≡ is_some v)) }
+        ensures too_old { IsErrOf result Error.SnapshotTooOld ↔ (found_at seqno (latest_of self.now.core) (older_of self.now.core) ≡ None) }
+        ensures only { IfErr result (λ e. e ≡ Error.SnapshotTooOld) }
+    {
+        match self.find(key, seqno) {
+            Ok(entry) => Ok(has_value(entry)),
+            Err(error) => Err(error),
+        }
+    }
+
+    /// The bytes of a key's value at a snapshot, None where it has none. `SnapshotTooOld` as `get`; it takes no memory.
+    pub fn size_of(&self, key: &[u8], seqno: SeqNo) -> Result<Option<u32>, Error>
+        ensures ok { IfOk result (λ n. (v : Option Bytes) × Gives self.now.core key.now seqno v × (n ≡ option_map value_size v)) }
+        ensures too_old { IsErrOf result Error.SnapshotTooOld ↔ (found_at seqno (latest_of self.now.core) (older_of self.now.core) ≡ None) }
+        ensures only { IfErr result (λ e. e ≡ Error.SnapshotTooOld) }
+    {
+        match self.find(key, seqno) {
+            Ok(entry) => Ok(size_of_value(entry)),
+            Err(error) => Err(error),
+        }
+    }
+
     fn find(&self, key: &[u8], seqno: SeqNo) -> Result<Option<&InternalValue>, Error>
         ensures ok { IfOk result (λ e. Finds self.now.core key.now seqno (option_copied e)) }
         ensures too_old { IsErrOf result Error.SnapshotTooOld ↔ (found_at seqno (latest_of self.now.core) (older_of self.now.core) ≡ None) }
         ensures only { IfErr result (λ e. e ≡ Error.SnapshotTooOld) }
     {
-        match self.history.get_version_for_snapshot(seqno) {
+        match self.version_at(seqno) {
             Ok(version) => Ok(walk(&self.memtables, version, key, seqno)),
+            Err(error) => Err(error),
+        }
+    }
+
+    /// The super version that a snapshot reads, in the theory's words.
+    pub(crate) fn version_at(&self, seqno: SeqNo) -> Result<&SuperVersion, Error>
+        ensures ok { IfOk result (λ sv. found_at seqno (latest_of self.now.core) (older_of self.now.core) ≡ Some (shown_as sv.now)) }
+        ensures too_old { IsErrOf result Error.SnapshotTooOld ↔ (found_at seqno (latest_of self.now.core) (older_of self.now.core) ≡ None) }
+        ensures only { IfErr result (λ e. e ≡ Error.SnapshotTooOld) }
+    {
+        match self.history.get_version_for_snapshot(seqno) {
+            Ok(version) => Ok(version),
             Err(error) => Err(error),
         }
     }

@@ -1,10 +1,15 @@
 // A version: the tables of a tree, level by level.
-ghost use Rattle.std.specs.Prelude.{◌≡◌, map, option_copied};
+ghost use Rattle.std.specs.Prelude.{◌≡◌, map, option_copied, OnOk};
 ghost use Rattle.lsm_model.specs.Views.{walk, placed_from};
 ghost use Rattle.lsm_parts.specs.Versions.{empty_levels};
+ghost use Rattle.lsm_parts.specs.Reads.{at, tables_of};
+ghost use Rattle.lsm_parts.specs.Cuts.{PutsCuts};
 
-use lsm_below::{InternalValue, SeqNo};
+use crate::cut::Cut;
+use lsm_below::{InternalValue, SeqNo, UserKey};
+use std::alloc::AllocError;
 use std::marker::Model;
+use std::ops::Bound;
 
 /// The number of a version.
 pub type VersionId = u64;
@@ -45,6 +50,21 @@ impl Version {
         // No table was made yet.
         let _ = &self.id;
         None
+    }
+
+    /// Puts what lies of each table within bounds behind the cuts that are there, in the order of a walk.
+    pub(crate) fn push_cuts<'a>(
+        &'a self,
+        _cuts: &mut Vec<Cut<'a>>,
+        _bounds: &(Bound<UserKey>, Bound<UserKey>),
+        _seqno: SeqNo,
+    ) -> Result<(), AllocError>
+        ensures { OnOk result
+            (PutsCuts _bounds.now.0 _bounds.now.1 (map (at _seqno) (tables_of self.now)) _cuts.old.items _cuts.new.items) }
+    {
+        // No table was made yet.
+        let _ = &self.id;
+        Ok(())
     }
 
     /// The same version once more.

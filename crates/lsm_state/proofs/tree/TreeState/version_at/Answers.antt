@@ -1,15 +1,13 @@
-use Rattle.std.proofs.Common.{ap, subst, Err, option_copied}
-use Rattle.lsm_state.specs.Core.{Core, shown_as}
-use Rattle.lsm_state.specs.Calls.{Finds}
+use Rattle.std.proofs.Common.{◌≡◌, Some, ap, subst, Err}
+use Rattle.lsm_model.specs.Views.{found_at}
+use Rattle.lsm_state.specs.Core.{Core, shown_as, latest_of, older_of}
 use Rattle.lsm_state.proofs.Walks.{found_some, found_none, found_not_none}
-use Rattle.lsm_state.proofs.tree.TreeState.find.Goals as goal
+use Rattle.lsm_state.proofs.tree.TreeState.version_at.Goals as goal
 
 pub returns-in-Ok-clause-ok : goal.returns-in-Ok-clause-ok
 returns-in-Ok-clause-ok g c =
     let i = c.self.inside in
-    let here : Core = record { config = i.config; memtables = i.memtables; history = i.history; next_memtable = i.next_memtable; seqno = i.seqno; visible_seqno = i.visible_seqno } in
-    let found : Finds here c.args.key.now c.args.seqno (option_copied c.walk.result) = (shown_as c.in-Ok.version.now, found_some c.args.seqno i.history c.in-Ok.version.now c.in-Ok.ensures.ok, c.walk.ensures) in
-    subst (λ t. Finds t.core c.args.key.now c.args.seqno (option_copied c.walk.result)) c.self.view_is found
+    subst (λ t. found_at c.args.seqno (latest_of t.core) (older_of t.core) ≡ Some (shown_as c.in-Ok.version.now)) c.self.view_is (found_some c.args.seqno i.history c.in-Ok.version.now c.in-Ok.ensures.ok)
 
 pub returns-in-Ok-clause-too_old : goal.returns-in-Ok-clause-too_old
 returns-in-Ok-clause-too_old g c =

@@ -1,0 +1,94 @@
+// What an iterator reads.
+ghost use Rattle.std.specs.Prelude.{◌≡◌, map, OnOk, IfOk, option_to_list};
+ghost use Rattle.lsm_parts.specs.Reads.{parts_at, at, state_of, index_of};
+ghost use Rattle.lsm_parts.specs.Cuts.{AreCuts, PutsCuts};
+
+use crate::cut::Cut;
+use crate::{Memtable, Version};
+use lsm_below::{SeqNo, UserKey};
+use std::alloc::{AllocError, Global};
+use std::marker::Model;
+use std::ops::Bound;
+
+/// What an iterator reads: a version of tables, memtables, and maybe a memtable on top that is an index of
+/// its own. The entries of an index count below its own number, all others below the snapshot.
+#[derive(Drop)]
+pub struct IterState<'a> {
+    version: &'a Version,
+    memtables: &'a [&'a Memtable],
+    overlay: Option<(&'a Memtable, SeqNo)>,
+}
+
+impl<'a> Model for IterState<'a> {
+    ghost use Rattle.lsm_parts.specs.Reads.{SeenState, state_of};
+
+    ghost Value = { SeenState };
+
+    ghost view = { λ s. state_of s.version.now s.memtables.now s.overlay };
+}
+
+impl<'a> IterState<'a> {
+    /// What is read: tables, memtables from the newest, and maybe an index with its own number.
+    pub fn new(
+        version: &'a Version,
+        memtables: &'a [&'a Memtable],
+        overlay: Option<(&'a Memtable, SeqNo)>,
+    ) -> IterState<'a>
+        ensures { result ≡ state_of version.now memtables.now overlay.entry }
+    {
+        IterState {
+            version,
+            memtables,
+            overlay,
+        }
+    }
+
+    /// What lies of each source within bounds, the newest source first. Refused only for want of memory.
+    pub(crate) fn cuts(
+        &self,
+        alloc: Global,
+        bounds: &(Bound<UserKey>, Bound<UserKey>),
+        seqno: SeqNo,
+    ) -> Result<Vec<Cut<'a>>, AllocError>
+        ensures { IfOk result
+            (λ cuts. AreCuts bounds.now.0 bounds.now.1 (parts_at seqno self.now) cuts.items) }
+    {
+        let mut cuts = Vec::new(alloc);
+        push_overlay(&mut cuts, self.overlay, bounds)?;
+        push_memtables(&mut cuts, self.memtables, bounds, seqno)?;
+        self.version.push_cuts(&mut cuts, bounds, seqno)?;
+        Ok(cuts)
+    }
+}
+
+/// Puts what lies of each memtable within bounds behind the cuts that are there.
+fn push_memtables<'a>(
+    cuts: &mut Vec<Cut<'a>>,
+    memtables: &[&'a Memtable],
+    bounds: &(Bound<UserKey>, Bound<UserKey>),
+    seqno: SeqNo,
+) -> Result<(), AllocError>
+    ensures { OnOk result
+        (PutsCuts bounds.now.0 bounds.now.1 (map (λ m. at seqno m.now.entries) memtables.now) cuts.old.items cuts.new.items) }
+{
+    for memtable in memtables {
+        cuts.push(Cut::new(memtable.as_slice(), bounds, seqno))?;
+    }
+    Ok(())
+}
+
+/// Puts what lies of an index within bounds behind the cuts that are there.
+fn push_overlay<'a>(
+    cuts: &mut Vec<Cut<'a>>,
+    overlay: Option<(&'a Memtable, SeqNo)>,
+    bounds: &(Bound<UserKey>, Bound<UserKey>),
+) -> Result<(), AllocError>
+    ensures { OnOk result
+        (PutsCuts bounds.now.0 bounds.now.1 (option_to_list (index_of overlay.entry)) cuts.old.items cuts.new.items) }
+{
+    match overlay {
+        Some((index, below)) => cuts.push(Cut::new(index.as_slice(), bounds, below))?,
+        None => {}
+    }
+    Ok(())
+}

@@ -1,0 +1,75 @@
+-- What reads over many keys answer.
+use Rattle.std.specs.Prelude.{◌≡◌, ℕ, ◌≤◌, Bool, List, [], ◌∷◌, ◌++◌, map, length, filter, Option, Some, None, Ok, option_map, is_none, is_some, nat_eq, nat_lt}
+use Rattle.std.specs.Borrow.{Bor}
+use Rattle.std.specs.List.{starts_with, AllByRecursion}
+use Rattle.std.specs.declared.ops.Bound.{Bound}
+use Rattle.std.specs.declared.ops.Bound.TheVariants.{Unbounded}
+use Rattle.lsm_below.specs.Keys.{Bytes}
+use Rattle.lsm_below.specs.Entries.{Entry, above, IsOrdered}
+use Rattle.lsm_model.specs.Journal.{Event}
+use Rattle.lsm_model.specs.Steps.{Step, Asked}
+use Rattle.lsm_model.specs.declared.journal.JournalEntry.TheVariants.{Read}
+use Rattle.lsm_model.specs.declared.question.Question.TheVariants.{Between}
+use Rattle.lsm_model.specs.declared.question.Answer.TheVariants.{Pairs}
+use Rattle.lsm_model.specs.Views.{SuperVersion, entries, sources, found_at}
+use Rattle.lsm_parts.specs.Memtables.{SeenMemtable}
+use Rattle.lsm_parts.specs.Prefixes.{AreBytes}
+use Rattle.lsm_parts.specs.Shown.{Shows, lies_within}
+use Rattle.lsm_parts.specs.Ends.{EndShown}
+use Rattle.lsm_parts.specs.Guards.{Item, pair_of}
+use Rattle.lsm_parts.specs.declared.tree_iter.End.{End}
+use Rattle.lsm_state.specs.Held.{entries_of}
+use Rattle.lsm_state.specs.Core.{Core, state_of, latest_of, older_of}
+
+-- a memtable on top of the tree, with the number below which its entries count; or none
+abbrev pub Index : Type 0
+Index = Option (Bor SeenMemtable × ℕ)
+
+-- the entries of an index that count
+abbrev pub index_entries : Index → List Entry
+index_entries None = []
+index_entries (Some p) = filter (λ e. nat_lt e.key.seqno p.1) p.0.now.entries
+
+-- the entries that count for a read: those of the index, and of a super version those below the snapshot
+abbrev pub counting : List SeenMemtable → Index → ℕ → SuperVersion → List Entry
+counting memtables index s sv = index_entries index ++ filter (λ e. nat_lt e.key.seqno s) (entries (entries_of memtables) sv)
+
+-- the snapshot's super version has P
+abbrev pub AtVersion : Core → ℕ → (SuperVersion → Type 0) → Type 0
+AtVersion c s P = (sv : SuperVersion) × (found_at s (latest_of c) (older_of c) ≡ Some sv) × P sv
+
+-- the list of what is shown within bounds
+abbrev pub Ranges : Core → Index → Bound Bytes → Bound Bytes → ℕ → List Entry → Type 0
+Ranges c index low high s out = AtVersion c s (λ sv. Shows low high (counting c.memtables index s sv) out)
+
+-- bounds within which just the keys lie that begin so
+abbrev pub AreBoundsOf : Bytes → Bound Bytes → Bound Bytes → Type 0
+AreBoundsOf prefix low high = (k : Bytes) → AreBytes k → lies_within low high k ≡ starts_with nat_eq k prefix
+
+-- the list of what entries show of the keys that begin so
+abbrev pub ShowsPrefix : Bytes → List Entry → List Entry → Type 0
+ShowsPrefix prefix es out = (low : Bound Bytes) × (high : Bound Bytes) × AreBoundsOf prefix low high × Shows low high es out
+
+-- the list of what is shown of them
+abbrev pub Prefixes : Core → Index → Bytes → ℕ → List Entry → Type 0
+Prefixes c index prefix s out = AtVersion c s (λ sv. ShowsPrefix prefix (counting c.memtables index s sv) out)
+
+-- how many keys are shown
+abbrev pub Numbers : Core → Index → ℕ → ℕ → Type 0
+Numbers c index s n = (out : List Entry) × Ranges c index Unbounded Unbounded s out × (n ≡ length out)
+
+-- the entry at an end of the list of all that is shown
+abbrev pub EndOf : End → Core → Index → ℕ → Option Entry → Type 0
+EndOf end c index s e = AtVersion c s (λ sv. EndShown end Unbounded Unbounded (counting c.memtables index s sv) e)
+
+-- the pair at an end
+abbrev pub PairAt : End → Core → Index → ℕ → Option Item → Type 0
+PairAt end c index s r = (e : Option Entry) × EndOf end c index s e × (r ≡ option_map (λ x. Ok (pair_of x)) e)
+
+-- whether nothing is shown
+abbrev pub TellsEmpty : End → Core → Index → ℕ → Bool → Type 0
+TellsEmpty end c index s b = (e : Option Entry) × EndOf end c index s e × (b ≡ is_none e)
+
+-- whatever the journal, an answered range, where numbers fall under each key in every super version
+abbrev pub IsRangeStep : Core → Bound Bytes → Bound Bytes → ℕ → List Entry → Type 0
+IsRangeStep c low high s out = (opened : List Entry) (journal : List Event) → above opened ≤ s → AllByRecursion (λ sv. IsOrdered (sources (entries_of c.memtables) sv)) (latest_of c ∷ older_of c) → Step opened (state_of journal c) (Asked s (Between low high)) (state_of (journal ++ Read s (Between low high) (Pairs (map pair_of out)) ∷ []) c)
