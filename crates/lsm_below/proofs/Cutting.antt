@@ -1,23 +1,23 @@
 -- Entries that may be written, and what cutting off a first table leaves.
-use Rattle.std.proofs.Common.{◌≡◌, ℕ, zero, suc, ◌+◌, ◌-◌, ◌^◌, ◌<◌, ◌≤◌, min, Bool, true, false, ◌&&◌, List, [], ◌∷◌, ◌++◌, length, get_or, take, drop, map, refl, sym, ap, subst, ◌∙◌, append_assoc, arith, inl, inr}
-use Rattle.std.specs.List.{All, AllByRecursion, flat_map}
+use Rattle.std.proofs.Common.{◌≡◌, ℕ, ◌+◌, ◌-◌, ◌^◌, ◌<◌, true, false, List, [], ◌∷◌, ◌++◌, length, get_or, take, drop, map, refl, sym, ap, subst, ◌∙◌, append_assoc, arith, inl, inr}
+use Rattle.std.specs.List.{AllByRecursion, flat_map}
 use Rattle.std.specs.Ordering.{nat_cmp, ordering_then, is_eq, is_lt}
 use Rattle.std.specs.declared.cmp.Ordering.{Ordering}
 use Rattle.std.specs.declared.cmp.Ordering.TheVariants.{Less, Equal, Greater}
 use Rattle.std.proofs.lemmas.Bool.{cases_lt, and_from, and_parts}
 use Rattle.std.proofs.lemmas.List.{append-nil, take-append-drop, length-append, length-take, length-drop, take_at, get_or_append_left, get_or-append-add, get_or-take, map-append}
-use Rattle.std.proofs.lemmas.List.Elements.{All-from_recursion, recursion_from_All, All-append}
+use Rattle.std.proofs.lemmas.List.Elements.{All-from_recursion, recursion_from_All}
 use Rattle.std.proofs.lemmas.List.Sums.{sum_by_more}
 use Rattle.std.proofs.lemmas.List.Concat.{flat_map-cons}
 use Rattle.lsm_below.specs.Keys.{Bytes, bytes_cmp, is_below}
 use Rattle.lsm_below.specs.Entries.{Entry, entry_cmp}
-use Rattle.lsm_below.specs.Slots.{is_before, same_key}
+use Rattle.lsm_below.specs.Slots.{same_key}
 use Rattle.lsm_below.specs.Sorted.{Rises}
 use Rattle.lsm_below.specs.Image.{Fits, IsTable, image, entry_bytes}
 use Rattle.lsm_below.specs.ImageReading.{rises, follows}
 use Rattle.lsm_below.specs.Cutting.{capped, IsWritable, IsApart, IsFilled, HasNoEarlierEnd, IsCutting, AreImagesOf, IsFirstEnd}
-use Rattle.lsm_below.specs.Tables.{first_key, last_key}
-use Rattle.lsm_below.proofs.Adjacent.{rises_found, rises_again, rises_push, and_when}
+use Rattle.lsm_below.specs.Tables.{last_key}
+use Rattle.lsm_below.proofs.Adjacent.{rises_found, rises_again, rises_push}
 use Rattle.lsm_below.proofs.Covering.{below_first, upto_last, last_is}
 use Rattle.lsm_below.proofs.Cuts.{each_at}
 use Rattle.lsm_below.proofs.Each.{each_append, each_left, each_right, each_weaker}

@@ -10,7 +10,11 @@ fn entry(key: &'static [u8], seqno: u64) -> InternalValue {
     InternalValue::from_components(UserKey::from_static(key), value, seqno, ValueType::Value)
 }
 
-fn write(rt: &impl Abort, writer: &mut MultiWriter, entry: InternalValue) -> Result<(), AllocError> {
+fn write(
+    rt: &impl Abort,
+    writer: &mut MultiWriter,
+    entry: InternalValue,
+) -> Result<(), AllocError> {
     assert!(rt; writer.may_write(&entry));
     Ok(writer.write(entry)?)
 }

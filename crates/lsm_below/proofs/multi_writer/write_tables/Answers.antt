@@ -1,11 +1,10 @@
-use Rattle.std.proofs.Common.{◌≡◌, ◌++◌, ◌∷◌, [], ℕ, List, map, length, take, drop, refl, sym, ap, subst, ◌∙◌, arith}
+use Rattle.std.proofs.Common.{◌≡◌, ◌++◌, ◌∷◌, [], ℕ, List, map, length, take, sym, ap, subst, ◌∙◌}
 use Rattle.std.specs.Global.{Vec}
-use Rattle.std.proofs.lemmas.Bool.{eqb-true, not_from_false}
+use Rattle.std.proofs.lemmas.Bool.{eqb-true}
 use Rattle.std.proofs.lemmas.List.{map-append, nil_from_length}
-use Rattle.lsm_below.specs.Entries.{Entry}
 use Rattle.lsm_below.specs.Keys.{Bytes}
 use Rattle.lsm_below.specs.Image.{IsTable, image}
-use Rattle.lsm_below.proofs.Cutting.{IsUnderway, ends, goes_on, front_table}
+use Rattle.lsm_below.proofs.Cutting.{ends, goes_on, front_table}
 use Rattle.lsm_below.proofs.multi_writer.write_tables.Goals as goal
 
 pub encode-requires : goal.encode-requires

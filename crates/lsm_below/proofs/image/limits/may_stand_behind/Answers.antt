@@ -1,4 +1,4 @@
-use Rattle.std.proofs.Common.{◌≡◌, true, false, sym, ◌∙◌}
+use Rattle.std.proofs.Common.{sym, ◌∙◌}
 use Rattle.lsm_below.proofs.Cutting.{writable_push, pushed_fits, pushed_follows}
 use Rattle.lsm_below.proofs.Keys.{both_false}
 use Rattle.lsm_below.proofs.image.limits.may_stand_behind.Goals as goal
