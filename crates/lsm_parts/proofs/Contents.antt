@@ -10,7 +10,7 @@ use Rattle.lsm_below.specs.Entries.{Entry, entry_cmp}
 use Rattle.lsm_parts.specs.Memtables.{SeenMemtable, highest_of, with_entries}
 use Rattle.lsm_parts.specs.Contents.{SeenContent, added, all_added}
 use Rattle.lsm_parts.proofs.Sorted.{rises_put}
-use Rattle.lsm_parts.proofs.Lookup.{entry_total}
+use Rattle.lsm_below.proofs.Orders.{entry_total}
 
 -- entries that tie have one number
 tied_numbers : (r : Ordering) (n m : ℕ) → ordering_then r (nat_cmp n m) ≡ Equal → n ≡ m

@@ -25,7 +25,7 @@ use Rattle.lsm_parts.specs.Shown.{lies_within, IsNewestOf, IsNewest, IsShown, Is
 use Rattle.lsm_parts.specs.Reads.{Part, counted, all_counted}
 use Rattle.lsm_parts.specs.Cuts.{part_of, IsFresh, IsGreatestOf, IsGreatestKey, with_greater_key, newer, held_in, counted_in}
 use Rattle.lsm_parts.specs.declared.cut.Cut.{Cut}
-use Rattle.lsm_parts.proofs.Lookup.{is_top, has_none}
+use Rattle.lsm_below.proofs.Visible.{is_top, has_none}
 use Rattle.lsm_parts.proofs.Shown.{contains_here, contains_behind, contains_split, filter_has, filter_had, of_itself}
 
 -- ---- the greatest key

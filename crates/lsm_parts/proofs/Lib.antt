@@ -1,9 +1,6 @@
 pub mod Sorted
-pub mod Lookup
-pub mod Newest
 pub mod Contents
 pub mod Histories
-pub mod Ranges
 pub mod Prefixes
 pub mod Cuts
 pub mod Shown

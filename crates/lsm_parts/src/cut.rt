@@ -7,9 +7,8 @@ ghost use Rattle.lsm_parts.specs.Reads.{Part, counted, cut};
 ghost use Rattle.lsm_parts.specs.Cuts.{part_of, IsFresh};
 ghost use Rattle.lsm_parts.specs.declared.error.Error.TheVariants.{OutOfMemory};
 
-use crate::memtable::entries_within;
 use crate::{Error, Memtable};
-use lsm_below::{InternalValue, SeqNo, Source, UserKey};
+use lsm_below::{InternalValue, SeqNo, Source, UserKey, entries_within};
 use std::ops::Bound;
 
 /// What lies of a source within bounds, of which the entries below a number count.
@@ -52,7 +51,7 @@ impl<'a> Cut<'a> {
         ensures fresh { IsFresh result }
     {
         Cut {
-            entries: entries_within(entries, bounds),
+            entries: entries_within(entries, &bounds.0, &bounds.1),
             below,
             over: false,
         }

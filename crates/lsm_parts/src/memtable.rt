@@ -5,13 +5,13 @@ ghost use Rattle.lsm_below.specs.declared.value.InternalValue.{InternalValue};
 ghost use Rattle.lsm_below.specs.Entries.{entry_cmp, top};
 ghost use Rattle.lsm_below.specs.Sorted.{Rises, put, first};
 ghost use Rattle.lsm_parts.specs.Memtables.{capped, entry_size, new_memtable, with_entry, with_entries, highest_of, is_visible, stands_before, within, IsTop, HasNone};
-ghost use Rattle.lsm_model.specs.Journal.{is_from, is_to};
 ghost use Rattle.lsm_parts.specs.Contents.{content_of, added, all_added};
 
 use crate::Error;
-use lsm_below::{InternalValue, MemtableId, SeqNo, UserKey};
+use lsm_below::{
+    InternalValue, MemtableId, SeqNo, UserKey, entries_within, first_visible,
+};
 use std::alloc::Global;
-use std::cmp::Ordering;
 use std::marker::Model;
 use std::ops::Bound;
 use std::slice::Iter;
@@ -98,90 +98,6 @@ fn add_entries(content: &mut Content, batch: Vec<InternalValue>)
     }
 }
 
-/// Whether the entry stands before each entry of the key that is numbered below this.
-fn is_before(entry: &InternalValue, key: &[u8], number: u64) -> bool
-    ensures { result ≡ stands_before key.now number entry.now }
-{
-    match entry.key.user_key.as_slice().cmp(key) {
-        Ordering::Less => true,
-        Ordering::Equal => entry.key.seqno >= number,
-        Ordering::Greater => false,
-    }
-}
-
-/// How many entries stand before each entry of the key that is numbered below this.
-fn place_below(entries: &[InternalValue], key: &[u8], number: u64) -> usize
-    requires { Rises entry_cmp entries.now }
-    ensures bound { result ≤ length entries.now }
-    ensures before { (j : ℕ) (d : InternalValue) → j < result → stands_before key.now number (slice_index_or entries.now j d) ≡ true }
-    ensures behind { (j : ℕ) (d : InternalValue) → result ≤ j → j < length entries.now → stands_before key.now number (slice_index_or entries.now j d) ≡ false }
-{
-    let mut low = 0;
-    let mut high = entries.len();
-    while low < high {
-        let mid = low + (high - low) / 2;
-        if is_before(&entries[mid], key, number) {
-            low = mid + 1;
-        } else {
-            high = mid;
-        }
-    }
-    low
-}
-
-/// The entry of a key with the greatest number below the snapshot.
-pub(crate) fn first_visible<'a>(
-    entries: &'a [InternalValue],
-    key: &[u8],
-    snapshot: SeqNo,
-) -> Option<&'a InternalValue>
-    requires { Rises entry_cmp entries.now }
-    ensures { option_copied result ≡ first (is_visible key.now snapshot) entries.now }
-{
-    let at = place_below(entries, key, snapshot);
-    let entry = entries.get(at)?;
-    if entry.key.user_key.as_slice() == key {
-        Some(entry)
-    } else {
-        None
-    }
-}
-
-/// Whether a key lies within a lower bound.
-fn lies_from(bound: &Bound<UserKey>, key: &UserKey) -> bool
-    ensures { result ≡ is_from bound.now key.now }
-{
-    match bound {
-        Bound::Included(low) => low <= key,
-        Bound::Excluded(low) => low < key,
-        Bound::Unbounded => true,
-    }
-}
-
-/// Whether a key lies within an upper bound.
-fn lies_to(bound: &Bound<UserKey>, key: &UserKey) -> bool
-    ensures { result ≡ is_to bound.now key.now }
-{
-    match bound {
-        Bound::Included(high) => key <= high,
-        Bound::Excluded(high) => key < high,
-        Bound::Unbounded => true,
-    }
-}
-
-/// The entries whose keys lie within the bounds: they stand together.
-pub(crate) fn entries_within<'a>(
-    entries: &'a [InternalValue],
-    bounds: &(Bound<UserKey>, Bound<UserKey>),
-) -> &'a [InternalValue]
-    requires { Rises entry_cmp entries.now }
-    ensures { result.now ≡ within bounds.now.0 bounds.now.1 entries.now }
-{
-    let end = entries.partition_point(|entry| lies_to(&bounds.1, &entry.key.user_key));
-    let start = entries.partition_point(|entry| !lies_from(&bounds.0, &entry.key.user_key));
-    &entries[start.min(end)..end]
-}
-
 impl Memtable {
     /// An empty memtable.
     pub fn new(alloc: Global, id: MemtableId) -> Memtable
@@ -233,7 +149,7 @@ impl Memtable {
     pub fn range(&self, bounds: &(Bound<UserKey>, Bound<UserKey>)) -> Iter<'_, InternalValue>
         ensures { iter_rest result ≡ within bounds.now.0 bounds.now.1 self.now.entries }
     {
-        entries_within(&self.content.entries, bounds).iter()
+        entries_within(&self.content.entries, &bounds.0, &bounds.1).iter()
     }
 
     /// The bytes of all accepted inserts, replaced ones counted again, up to 2^64 - 1.

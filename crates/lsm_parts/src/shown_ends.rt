@@ -13,10 +13,11 @@ ghost use Rattle.std.specs.declared.ops.Bound.TheVariants.{Excluded, Unbounded};
 ghost use Rattle.lsm_parts.specs.declared.tree_iter.End.TheVariants.{Front, Back};
 
 use crate::cut::Cut;
-use crate::memtable::{entries_within, first_visible};
 use crate::tree_iter::newest_of;
 use crate::{Error, IterState};
-use lsm_below::{InternalValue, SeqNo, Source, UserKey, share};
+use lsm_below::{
+    InternalValue, SeqNo, Source, UserKey, entries_within, first_visible, share,
+};
 use std::alloc::{AllocError, Global};
 use std::ops::Bound;
 
@@ -115,7 +116,8 @@ fn greatest_key(
 {
     let mut greatest = None;
     for cut in cuts {
-        greatest = with_greater(greatest, greatest_of(entries_within(cut.entries, bounds)));
+        let within = entries_within(cut.entries, &bounds.0, &bounds.1);
+        greatest = with_greater(greatest, greatest_of(within));
     }
     match greatest {
         None => Ok(None),

@@ -2,7 +2,7 @@ use Rattle.std.proofs.Common.{sym, ◌∙◌, ap, arith}
 use Rattle.std.specs.Vec.Iter.{into_iter_items}
 use Rattle.lsm_parts.specs.Contents.{content_of, all_added}
 use Rattle.lsm_parts.proofs.Sorted.{rises_put}
-use Rattle.lsm_parts.proofs.Lookup.{entry_total}
+use Rattle.lsm_below.proofs.Orders.{entry_total}
 use Rattle.lsm_parts.proofs.memtable.add_entries.Goals as goal
 
 pub loop-entry-preserved : goal.loop-entry-preserved

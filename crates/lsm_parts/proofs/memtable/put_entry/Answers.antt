@@ -2,7 +2,7 @@ use Rattle.std.proofs.Common.{rules, sym, Ok, Err}
 use Rattle.std.proofs.lemmas.Fn.{always_returns_same}
 use Rattle.lsm_below.specs.Entries.{entry_cmp}
 use Rattle.lsm_parts.proofs.Sorted.{searched}
-use Rattle.lsm_parts.proofs.Lookup.{entry_total}
+use Rattle.lsm_below.proofs.Orders.{entry_total}
 use Rattle.lsm_parts.proofs.memtable.put_entry.Goals as goal
 
 pub returns-in-Ok-clause-items : goal.returns-in-Ok-clause-items

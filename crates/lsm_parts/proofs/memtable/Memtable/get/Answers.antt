@@ -1,6 +1,6 @@
 use Rattle.std.proofs.Common.{◌∙◌}
-use Rattle.lsm_parts.proofs.Newest.{first_top}
-use Rattle.lsm_parts.proofs.Lookup.{some_top, none_there}
+use Rattle.lsm_below.proofs.Newest.{first_top}
+use Rattle.lsm_below.proofs.Visible.{some_top, none_there}
 use Rattle.lsm_parts.proofs.memtable.Memtable.get.Goals as goal
 
 pub returns-clause-is : goal.returns-clause-is
