@@ -14,7 +14,8 @@
 //! | `merger` | all entries of several sources, in order |
 //! | `mvcc_stream` | the first entry of each key |
 //! | `compaction_stream` | what a compaction keeps |
-//! | `store` | what a tree keeps its files in |
+//! | `store` | what a tree keeps its files in, and what a crash may leave of them |
+//! | `mem_store` | a store in memory, with planned faults and picked crashes |
 #![tactic(auto)]
 
 mod compaction_stream;
@@ -43,7 +44,7 @@ pub use mvcc_stream::MvccStream;
 pub use optimize::optimize_runs;
 pub use run::{Run, is_run};
 pub use source::Source;
-pub use store::{NoStore, Store, StoreError};
+pub use store::{NoStore, Store, StoreError, runs_of_calls};
 pub use value::InternalValue;
 pub use value_type::ValueType;
 
