@@ -3,7 +3,7 @@ use Rattle.std.proofs.Common.{◌≡◌, ◌⊎◌, ◌↔◌, inl, inr, ⊎_eli
 use Rattle.lsm_below.specs.World.{OldOr}
 use Rattle.lsm_below.specs.declared.mem_store.file.Absence.{Absence}
 use Rattle.lsm_below.specs.declared.mem_store.file.Absence.TheVariants.{Never, Possible, Usual}
-use Rattle.lsm_below.specs.Held.{Held, MayHold, MayLack, IsOneOf, IsWhole, fresh, written, doubted, removed, offered, softened}
+use Rattle.lsm_below.specs.Held.{Held, MayHold, MayLack, IsOneOf, IsWhole, fresh, removed, offered, softened}
 
 clash : false ≡ true → ⊥
 clash e = cc

@@ -1,7 +1,7 @@
 -- What becomes of a store in memory, as its callers see it.
-use Rattle.std.proofs.Common.{◌≡◌, ◌≢◌, ◌⊎◌, ◌↔◌, ◌≤◌, inl, inr, ⊎_elim, ℕ, zero, suc, List, [], ◌∷◌, ◌++◌, length, drop, Option, Some, None, refl, sym, ◌∙◌, ap, subst, arith, length-append}
+use Rattle.std.proofs.Common.{◌≡◌, ◌≢◌, ◌⊎◌, ◌↔◌, ◌≤◌, inl, inr, ⊎_elim, ℕ, zero, suc, List, [], ◌∷◌, ◌++◌, length, drop, Option, refl, sym, ap, subst, arith, length-append}
 use Rattle.std.specs.declared.snapshot.Snapshot.{Snapshot}
-use Rattle.lsm_below.specs.World.{Image, Row, Outcomes, World, IsImage, At, Same, Becomes}
+use Rattle.lsm_below.specs.World.{Image, Row, IsImage, At, Same, Becomes}
 use Rattle.lsm_below.specs.Held.{Held, MayHold}
 use Rattle.lsm_below.specs.Files.{Files, held_at, HoldSame, Alters}
 use Rattle.lsm_below.specs.Memory.{Past, may_of, gives_of, HadBeen, memory_world}

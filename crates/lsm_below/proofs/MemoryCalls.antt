@@ -1,6 +1,6 @@
 -- Each call of a store in memory is what its contract says, whatever its outcome.
-use Rattle.std.proofs.Common.{◌≡◌, ◌≢◌, ◌⊎◌, ◌↔◌, inl, inr, ℕ, Bool, true, false, List, [], ◌∷◌, ◌++◌, Option, Some, None, Result, OnOk, IsSome, refl, sym, ◌∙◌, ap, subst}
-use Rattle.lsm_below.specs.World.{Row, World, Anything, Only, OldOr, At, Changes}
+use Rattle.std.proofs.Common.{◌≡◌, ◌↔◌, inl, inr, ℕ, true, false, List, Option, Some, None, Result, OnOk, IsSome, refl, sym, ◌∙◌, ap, subst}
+use Rattle.lsm_below.specs.World.{Anything, Only, OldOr, At, Changes}
 use Rattle.lsm_below.specs.declared.store.StoreError.{StoreError}
 use Rattle.lsm_below.specs.declared.mem_store.plan.Outcome.{Outcome}
 use Rattle.lsm_below.specs.declared.mem_store.plan.Outcome.TheVariants.{Done, Fails, FailsDone}

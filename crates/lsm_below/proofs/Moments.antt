@@ -1,5 +1,5 @@
 -- How a run of store calls goes on: what a crash may leave at any moment of it.
-use Rattle.std.proofs.Common.{inl, inr, ⊎_elim, ◌≤◌, ◌⊎◌, ◌≡◌, ℕ, List, arith}
+use Rattle.std.proofs.Common.{inl, inr, ⊎_elim, ◌≤◌, ◌≡◌, ℕ, List, arith}
 use Rattle.lsm_below.specs.World.{Image, Row, World, IsImage, At, Same, Becomes, LeavesOnly}
 
 -- before the first call

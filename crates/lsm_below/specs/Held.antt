@@ -1,5 +1,5 @@
 -- What a store in memory holds of one name, and what a call makes of it.
-use Rattle.std.specs.Prelude.{◌≡◌, ◌⊎◌, ℕ, ◌<◌, Bool, true, false, List, [], ◌∷◌, ◌++◌, Option, Some, None, MatchOption, Vec, slice_get, option_to_list, if◌then◌else◌, map, length}
+use Rattle.std.specs.Prelude.{◌≡◌, ◌⊎◌, ℕ, ◌<◌, Bool, true, false, List, [], ◌∷◌, ◌++◌, Option, Some, None, MatchOption, Vec, slice_get, option_to_list, if◌then◌else◌, map}
 use Rattle.std.specs.declared.alloc.Global.{Global}
 use Rattle.lsm_below.specs.World.{Row}
 use Rattle.lsm_below.specs.declared.mem_store.file.Absence.{Absence}

@@ -2,7 +2,7 @@
 use Rattle.std.specs.Prelude.{◌≡◌, ◌⊎◌, ℕ, true, false, List, [], ◌∷◌, ◌++◌, Option, None, Some, Result, Ok, Err, length, drop, refl}
 use mathlib.Core.Logic.{inl, inr}
 use Rattle.std.specs.declared.snapshot.Snapshot.{Snapshot}
-use Rattle.lsm_below.specs.World.{Image, Row, Outcomes, World, Only, OldOr, IsImage}
+use Rattle.lsm_below.specs.World.{Image, Outcomes, World, IsImage}
 use Rattle.lsm_below.specs.declared.store.StoreError.{StoreError}
 use Rattle.lsm_below.specs.declared.store.StoreError.TheVariants.{OutOfMemory, Fault}
 use Rattle.lsm_below.specs.declared.mem_store.plan.Outcome.{Outcome}

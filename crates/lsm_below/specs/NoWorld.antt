@@ -1,5 +1,5 @@
 -- A store of which nothing is known but its failures.
-use Rattle.std.specs.Prelude.{ℕ, ◌^◌, ◌-◌, None}
+use Rattle.std.specs.Prelude.{◌^◌, ◌-◌, None}
 use Rattle.lsm_below.specs.World.{World}
 
 -- each call of it has failed

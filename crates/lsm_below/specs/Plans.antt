@@ -1,5 +1,5 @@
 -- Faults that are planned for calls to come.
-use Rattle.std.specs.Prelude.{◌≡◌, ◌≢◌, ℕ, ◌+◌, ◌≤◌, ◌==◌, Bool, true, false, nat_lt, if◌then◌else◌, Result, Ok, Err, Option}
+use Rattle.std.specs.Prelude.{◌≡◌, ◌≢◌, ℕ, ◌+◌, ◌≤◌, ◌==◌, Bool, true, false, nat_lt, if◌then◌else◌, Result, Ok, Err}
 use Rattle.lsm_below.specs.declared.store.StoreError.{StoreError}
 use Rattle.lsm_below.specs.declared.store.StoreError.TheVariants.{OutOfMemory, Fault as Failed}
 use Rattle.lsm_below.specs.declared.mem_store.plan.Fault.{Fault}

@@ -20,7 +20,8 @@
 //! | `table` | the entries of one file |
 //! | `multi_writer` | entries cut into tables |
 //! | `table_error` | what reading a table refuses |
-//! | `store` | what a tree keeps its files in |
+//! | `store` | what a tree keeps its files in, and what a crash may leave of them |
+//! | `mem_store` | a store in memory, with planned faults and picked crashes |
 #![tactic(auto)]
 
 mod checksum;
@@ -59,7 +60,7 @@ pub use mvcc_stream::MvccStream;
 pub use optimize::optimize_runs;
 pub use run::{Run, is_run};
 pub use source::Source;
-pub use store::{NoStore, Store, StoreError};
+pub use store::{NoStore, Store, StoreError, runs_of_calls};
 pub use table::Table;
 pub use table_error::TableError;
 pub use value::InternalValue;

@@ -1,11 +1,11 @@
 // A store in memory, with faults that are planned and crashes that are picked.
-ghost use Rattle.std.specs.Prelude.{◌≡◌, ◌≢◌, ◌≤◌, ◌<◌, ◌+◌, ◌-◌, ◌^◌, min, List, ℕ, Some, None, Ok, Err, IfOk, OnOk, IsErrOf, IsSome, option_map, map, true, false, if◌then◌else◌, is_some, vec_len, vec_capacity};
+ghost use Rattle.std.specs.Prelude.{◌≡◌, ◌<◌, ◌+◌, ◌-◌, ◌^◌, min, Some, None, IfOk, OnOk, IsErrOf, IsSome, option_map, map, if◌then◌else◌, vec_len, vec_capacity};
 ghost use Rattle.std.proofs.Common.{inl};
 ghost use Rattle.std.specs.String.{string_bytes};
-ghost use Rattle.lsm_below.specs.World.{Image, World, Anything, Only, OldOr, IsImage, Same, Changes, Counts, Lists};
+ghost use Rattle.lsm_below.specs.World.{Anything, Only, OldOr, Same, Changes, Counts, Lists};
 ghost use Rattle.lsm_below.specs.Plans.{outcome_at, has_effect, fails, answer_of, MovesOn, AsPlanned};
-ghost use Rattle.lsm_below.specs.Held.{Held, nothing, fresh, written, doubted, removed, offered};
-ghost use Rattle.lsm_below.specs.Files.{held_at, HoldSame, Alters};
+ghost use Rattle.lsm_below.specs.Held.{removed};
+ghost use Rattle.lsm_below.specs.Files.{held_at};
 ghost use Rattle.lsm_below.specs.Memory.{HeldAs, written_by, synced_by, replaced_by, sync_outcome, gives_of, may_of, memory_world, KeepsMoment, gives_one, only_now};
 ghost use Rattle.lsm_below.specs.Picks.{picked, Crashes, Restarts};
 
@@ -203,3 +203,6 @@ impl Store for MemStore {
         self.failures
     }
 }
+
+#[cfg(test)]
+mod tests;

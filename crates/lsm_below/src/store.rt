@@ -1,8 +1,8 @@
 // What a tree keeps its files in, and what a crash may leave of them.
-ghost use Rattle.std.specs.Prelude.{◌≡◌, ◌≤◌, List, ℕ, Some, None, IfOk, OnOk, IsErrOf, IsSome, option_map, map};
+ghost use Rattle.std.specs.Prelude.{◌≡◌, ◌≤◌, List, ℕ, Some, None, IfOk, OnOk, IsErrOf, IsSome, IsTrue, Bool, Option, option_map, map};
 ghost use Rattle.std.specs.String.{string_bytes};
 ghost use Rattle.lsm_below.specs.declared.store.StoreError.TheVariants.{OutOfMemory};
-ghost use Rattle.lsm_below.specs.World.{Image, World, Anything, Only, OldOr, IsImage, Same, Changes, Counts, Lists};
+ghost use Rattle.lsm_below.specs.World.{Image, World, Anything, Only, OldOr, IsImage, At, Same, Becomes, Changes, Counts, Lists, LeavesOnly};
 ghost use Rattle.lsm_below.specs.NoWorld.{no_world};
 
 use std::alloc::{AllocError, AllocFailed, Global};
@@ -101,6 +101,18 @@ pub trait Store: Drop {
     /// Since this moment there is no other.
     ghost only_now: { tells → (store : Self) (image : Image) → (world store).since (world store).moment image → IsImage (world store).may image };
 }
+
+/// Runs of calls, for any test of images: a run begins with what a crash at this moment may leave, a call without effect
+/// adds nothing, a call that changes one name adds what a crash in it might have left, and two runs join.
+pub fn runs_of_calls<S: Store>(old: &S, mid: &S, new: &S)
+    ensures begins { S.tells → (p : Image → Bool) → ((image : Image) → IsImage (S.world old.now).may image → IsTrue (p image)) → LeavesOnly (S.world old.now) (S.world old.now) (λ image. IsTrue (p image)) }
+    ensures rests { (p : Image → Bool) → LeavesOnly (S.world old.now) (S.world mid.now) (λ image. IsTrue (p image)) → Same (S.world mid.now) (S.world new.now) → LeavesOnly (S.world old.now) (S.world new.now) (λ image. IsTrue (p image)) }
+    ensures goes_on { (p : Image → Bool) (name : List ℕ) (during after : Option (List ℕ) → Bool) → LeavesOnly (S.world old.now) (S.world mid.now) (λ image. IsTrue (p image))
+        → Becomes name (λ c. IsTrue (during c)) (λ c. IsTrue (after c)) (S.world mid.now) (S.world new.now)
+        → ((image : Image) → IsImage (At name (λ c. IsTrue (during c)) (S.world mid.now).may) image → IsTrue (p image)) → LeavesOnly (S.world old.now) (S.world new.now) (λ image. IsTrue (p image)) }
+    ensures joins { (p q r : Image → Bool) → LeavesOnly (S.world old.now) (S.world mid.now) (λ image. IsTrue (p image)) → LeavesOnly (S.world mid.now) (S.world new.now) (λ image. IsTrue (q image))
+        → ((image : Image) → IsTrue (p image) → IsTrue (r image)) → ((image : Image) → IsTrue (q image) → IsTrue (r image)) → LeavesOnly (S.world old.now) (S.world new.now) (λ image. IsTrue (r image)) }
+{}
 
 /// No store: every call of it fails, and its count of failures stands at 2^64 - 1.
 #[derive(Drop, Debug)]

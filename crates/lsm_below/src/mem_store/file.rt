@@ -1,8 +1,8 @@
 // What a store in memory holds of one name.
-ghost use Rattle.std.specs.Prelude.{◌≡◌, ◌<◌, ◌+◌, List, ℕ, Some, None, OnOk, OnErr, IfOk, option_copied, true, false, IsTrue, ◌↔◌, IsSome, vec_len, vec_capacity, length};
+ghost use Rattle.std.specs.Prelude.{◌≡◌, Some, OnOk, OnErr, IfOk, option_copied, true, false, IsTrue, ◌↔◌, IsSome};
 ghost use Rattle.std.specs.List.{list_any};
 ghost use Rattle.std.specs.Str.{bytes_eq};
-ghost use Rattle.lsm_below.specs.Held.{Held, MayHold, MayLack, fresh, nothing, written, doubted, removed, offered, softened, IsWhole};
+ghost use Rattle.lsm_below.specs.Held.{MayHold, MayLack, fresh, nothing, written, doubted, removed, offered, softened, IsWhole};
 
 use std::alloc::{AllocError, Global};
 use std::marker::Model;

@@ -1,11 +1,10 @@
 // What a store in memory holds of each name, and what a call makes of it.
-ghost use Rattle.std.specs.Prelude.{◌≡◌, ◌≢◌, List, ℕ, Some, None, OnOk, OnErr, IsSome, IsTrue, IfOk, ◌↔◌, true, false, map, option_map};
+ghost use Rattle.std.specs.Prelude.{◌≡◌, OnOk, OnErr, IsSome, IsTrue, IfOk, ◌↔◌, true, false, map, option_map};
 ghost use Rattle.std.specs.BTreeMap.{get_by_text};
-ghost use Rattle.lsm_below.specs.Held.{Held, fresh, written, doubted, removed, offered, IsWhole};
+ghost use Rattle.lsm_below.specs.Held.{fresh, written, doubted, removed, offered, IsWhole};
 ghost use Rattle.lsm_below.specs.World.{Lists};
-ghost use Rattle.lsm_below.specs.Files.{held_at, HoldSame, Alters, present};
+ghost use Rattle.lsm_below.specs.Files.{held_at, HoldSame, Alters};
 ghost use Rattle.lsm_below.specs.Memory.{gives_of, written_by, ended_by, sync_outcome};
-ghost use Rattle.lsm_below.specs.Plans.{has_effect};
 ghost use Rattle.std.specs.String.{string_bytes};
 
 use super::file::File;

@@ -1,7 +1,7 @@
 // What a crash of a store in memory leaves, name by name.
-ghost use Rattle.std.specs.Prelude.{◌≡◌, List, ℕ, Some, None, IfOk, MatchOption, option_copied, IsTrue, ◌↔◌};
+ghost use Rattle.std.specs.Prelude.{◌≡◌, List, ℕ, IfOk, option_copied, IsTrue, ◌↔◌};
 ghost use Rattle.lsm_below.specs.World.{IsImage};
-ghost use Rattle.lsm_below.specs.Held.{Held, MayHold, fresh};
+ghost use Rattle.lsm_below.specs.Held.{MayHold, fresh};
 ghost use Rattle.lsm_below.specs.Files.{held_at};
 ghost use Rattle.lsm_below.specs.Memory.{may_of};
 ghost use Rattle.lsm_below.specs.Picks.{pick_for, left_at, picked};

@@ -1,6 +1,6 @@
 use Rattle.std.proofs.Common.{◌≡◌, ap, ◌∙◌, subst, sym, Some}
 use Rattle.lsm_below.specs.World.{OldOr, Only, Changes}
-use Rattle.lsm_below.specs.Plans.{outcome_at, answer_of, has_effect, MovesOn, AsPlanned}
+use Rattle.lsm_below.specs.Plans.{answer_of, has_effect, MovesOn, AsPlanned}
 use Rattle.lsm_below.specs.Held.{offered}
 use Rattle.lsm_below.specs.Files.{Files, Alters}
 use Rattle.lsm_below.specs.Memory.{Past, memory_world, gives_of, may_of, KeepsMoment, replaced_by, ended_by, sync_outcome, HeldAs}

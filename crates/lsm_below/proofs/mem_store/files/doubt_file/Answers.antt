@@ -1,4 +1,4 @@
-use Rattle.std.proofs.Common.{sym, ap, ◌∙◌, rules}
+use Rattle.std.proofs.Common.{ap, ◌∙◌, rules}
 use Rattle.lsm_below.specs.Held.{doubted}
 use Rattle.lsm_below.proofs.HeldFiles.{found, set_alters}
 use Rattle.lsm_below.proofs.mem_store.files.doubt_file.Goals as goal

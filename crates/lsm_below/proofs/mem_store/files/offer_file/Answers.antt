@@ -1,4 +1,4 @@
-use Rattle.std.proofs.Common.{sym, ap, ◌∙◌, subst, rules}
+use Rattle.std.proofs.Common.{ap, ◌∙◌, subst, rules}
 use Rattle.lsm_below.specs.Held.{offered, IsWhole}
 use Rattle.lsm_below.specs.Files.{HoldSame}
 use Rattle.lsm_below.proofs.HeldFiles.{found, set_same, set_alters}

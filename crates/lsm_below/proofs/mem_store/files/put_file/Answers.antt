@@ -1,4 +1,4 @@
-use Rattle.std.proofs.Common.{◌≡◌, refl, sym, subst, rules}
+use Rattle.std.proofs.Common.{◌≡◌, refl, subst, rules}
 use Rattle.std.specs.String.{string_bytes}
 use Rattle.lsm_below.specs.Files.{Alters}
 use Rattle.lsm_below.proofs.HeldFiles.{set_alters}

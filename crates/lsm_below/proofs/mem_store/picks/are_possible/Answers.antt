@@ -1,4 +1,4 @@
-use Rattle.std.proofs.Common.{◌≡◌, ◌<◌, [], List, ℕ, get_or, refl, sym, ap, subst, rules, arith}
+use Rattle.std.proofs.Common.{[], List, ℕ, get_or, refl, subst, arith}
 use Rattle.std.specs.Borrow.{Bor}
 use Rattle.lsm_below.specs.declared.mem_store.picks.Pick.{Pick}
 use Rattle.lsm_below.specs.declared.mem_store.picks.Pick.TheVariants.{Absent}

@@ -1,4 +1,4 @@
-use Rattle.std.proofs.Common.{◌≡◌, ◌<◌, ℕ, List, get_or}
+use Rattle.std.proofs.Common.{◌<◌, ℕ, List, get_or}
 use Rattle.std.specs.Borrow.{Bor}
 use Rattle.lsm_below.specs.declared.mem_store.picks.Pick.{Pick}
 use Rattle.lsm_below.specs.Memory.{may_of}

@@ -1,5 +1,4 @@
-use Rattle.std.proofs.Common.{◌≡◌, ◌++◌, ◌∷◌, [], ◌≢◌, List, ℕ, None, Some, map, option_copied, refl, sym, ◌∙◌, ap, subst, rules}
-use Rattle.std.specs.BTreeMap.{get_by_text}
+use Rattle.std.proofs.Common.{◌≡◌, List, ℕ, None, map, sym, ◌∙◌, ap, subst, rules}
 use Rattle.std.specs.Map.Iter.{deref_pair}
 use Rattle.std.specs.String.{string_bytes, string_cmp_total}
 use Rattle.std.proofs.lemmas.Map.Iter.{iter_end, btree_map_turn}

@@ -1,4 +1,4 @@
-use Rattle.std.proofs.Common.{◌≡◌, ◌↔◌, false, List, ℕ, Some, None, IsTrue, option_copied, sym, ap, ◌∙◌, subst, rules}
+use Rattle.std.proofs.Common.{◌≡◌, ◌↔◌, false, List, ℕ, Some, None, option_copied, sym, ap, ◌∙◌, subst}
 use Rattle.std.specs.List.{list_any}
 use Rattle.std.specs.Str.{bytes_eq}
 use Rattle.lsm_below.specs.Held.{Held, IsWhole, IsOneOf, MayHold, MayLack, byte_lists}

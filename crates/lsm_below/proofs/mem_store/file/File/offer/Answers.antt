@@ -1,5 +1,5 @@
-use Rattle.std.proofs.Common.{◌≡◌, ◌<◌, ◌++◌, ◌∷◌, [], ap, ◌∙◌, Some, length, refl, subst, rules, arith}
-use Rattle.lsm_below.specs.Held.{Held, byte_lists, content, IsPlace, IsWhole}
+use Rattle.std.proofs.Common.{◌≡◌, ◌++◌, ◌∷◌, [], ap, ◌∙◌, Some, length, refl, subst, rules}
+use Rattle.lsm_below.specs.Held.{byte_lists, content, IsPlace, IsWhole}
 use Rattle.lsm_below.proofs.HeldPlaces.{given_whole, lists_more, content_more, content_last}
 use Rattle.lsm_below.proofs.mem_store.file.File.offer.Goals as goal
 use Rattle.lsm_below.proofs.mem_store.file.File.offer.Goals.{then-shown, else-shown}
