@@ -1,6 +1,7 @@
 -- Counters that a tree lends.
 use Rattle.std.specs.Prelude.{ℕ}
 use Rattle.std.specs.Borrow.{Lends, MutBor, Fml, RattleType}
+use Rattle.lsm_below.specs.declared.store.Store.{Ghosts}
 use Rattle.lsm_parts.specs.contracts.seqno.SequenceNumberCounter.{the_row as counter_row}
 use Rattle.lsm_state.specs.contracts.tree.TreeState.{the_row as tree_row}
 use Rattle.lsm_state.specs.Core.{Seen}
@@ -14,9 +15,9 @@ abbrev pub with_visible : {S : Type 0} → Seen S → ℕ → Seen S
 with_visible t n = record { store = t.store; core = record { config = t.core.config; memtables = t.core.memtables; history = t.core.history; next_memtable = t.core.next_memtable; seqno = t.core.seqno; visible_seqno = n } }
 
 -- the tree ends with its counter at the last number that the loan left there
-abbrev pub LendsSeqno : (S : RattleType) → MutBor (Seen S.Denot) → MutBor ℕ → Fml
-LendsSeqno S t r = Lends (tree_row S) counter_row t r (with_seqno t.now)
+abbrev pub LendsSeqno : (S : RattleType) → Ghosts S.Denot → MutBor (Seen S.Denot) → MutBor ℕ → Fml
+LendsSeqno S store t r = Lends (tree_row S store) counter_row t r (with_seqno t.now)
 
 -- the same of the visible counter
-abbrev pub LendsVisible : (S : RattleType) → MutBor (Seen S.Denot) → MutBor ℕ → Fml
-LendsVisible S t r = Lends (tree_row S) counter_row t r (with_visible t.now)
+abbrev pub LendsVisible : (S : RattleType) → Ghosts S.Denot → MutBor (Seen S.Denot) → MutBor ℕ → Fml
+LendsVisible S store t r = Lends (tree_row S store) counter_row t r (with_visible t.now)

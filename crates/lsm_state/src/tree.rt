@@ -80,7 +80,7 @@ impl<S: Store> TreeState<S> {
 
     /// The counter of numbers, to be changed.
     pub fn seqno_mut(&mut self) -> &mut SequenceNumberCounter
-        ensures* lends { sem 𝓛 (LendsSeqno S.row self.entry result) }
+        ensures* lends { sem 𝓛 (LendsSeqno S.row S.Store self.entry result) }
         ensures value { result.now ≡ self.old.core.seqno }
     {
         &mut self.seqno
@@ -95,7 +95,7 @@ impl<S: Store> TreeState<S> {
 
     /// The visible counter, to be changed.
     pub fn visible_seqno_mut(&mut self) -> &mut SequenceNumberCounter
-        ensures* lends { sem 𝓛 (LendsVisible S.row self.entry result) }
+        ensures* lends { sem 𝓛 (LendsVisible S.row S.Store self.entry result) }
         ensures value { result.now ≡ self.old.core.visible_seqno }
     {
         &mut self.visible_seqno
