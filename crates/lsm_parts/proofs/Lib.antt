@@ -7,3 +7,4 @@ pub mod Shown
 pub mod Ends
 pub mod Last
 pub mod ShownEnds
+pub mod Answers

@@ -67,7 +67,7 @@ module _ {X : Type 0} (p : X → Bool) where
       go rest false k = contains_behind y xs x (rest k)
 
   -- of a list that a test passed nothing is gone
-  filter_swap : (q : X → Bool) (xs : List X) → filter p (filter q xs) ≡ filter q (filter p xs)
+  pub filter_swap : (q : X → Bool) (xs : List X) → filter p (filter q xs) ≡ filter q (filter p xs)
   filter_swap q [] = refl
   filter_swap q (x ∷ xs) =
       elim (p x) as (λ b. p x ≡ b → filter p (cond (q x) (x ∷ filter q xs) (filter q xs)) ≡ filter q (cond b (x ∷ filter p xs) (filter p xs))) [

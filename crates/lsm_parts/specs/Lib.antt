@@ -9,3 +9,4 @@ pub mod Guards
 pub mod Reads
 pub mod Cuts
 pub mod Ends
+pub mod Answers

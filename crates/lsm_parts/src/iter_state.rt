@@ -15,7 +15,7 @@ use std::ops::Bound;
 #[derive(Drop)]
 pub struct IterState<'a> {
     version: &'a Version,
-    memtables: &'a [&'a Memtable],
+    memtables: Vec<&'a Memtable>,
     overlay: Option<(&'a Memtable, SeqNo)>,
 }
 
@@ -24,17 +24,17 @@ impl<'a> Model for IterState<'a> {
 
     ghost Value = { SeenState };
 
-    ghost view = { λ s. state_of s.version.now s.memtables.now s.overlay };
+    ghost view = { λ s. state_of s.version.now s.memtables.items s.overlay };
 }
 
 impl<'a> IterState<'a> {
     /// What is read: tables, memtables from the newest, and maybe an index with its own number.
     pub fn new(
         version: &'a Version,
-        memtables: &'a [&'a Memtable],
+        memtables: Vec<&'a Memtable>,
         overlay: Option<(&'a Memtable, SeqNo)>,
     ) -> IterState<'a>
-        ensures { result ≡ state_of version.now memtables.now overlay.entry }
+        ensures { result ≡ state_of version.now memtables.entry.items overlay.entry }
     {
         IterState {
             version,
@@ -55,7 +55,7 @@ impl<'a> IterState<'a> {
     {
         let mut cuts = Vec::new(alloc);
         push_overlay(&mut cuts, self.overlay, bounds)?;
-        push_memtables(&mut cuts, self.memtables, bounds, seqno)?;
+        push_memtables(&mut cuts, &self.memtables, bounds, seqno)?;
         self.version.push_cuts(&mut cuts, bounds, seqno)?;
         Ok(cuts)
     }

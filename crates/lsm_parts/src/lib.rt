@@ -7,6 +7,12 @@
 //! | `seqno` | the counter of numbers, and which numbers a snapshot sees |
 //! | `memtable` | a sorted table of entries in memory |
 //! | `version` | versions of tables, super versions and their history |
+//! | `prefix` | the bounds of the keys that begin alike |
+//! | `iter_state`, `cut` | what an iterator reads; what lies of a source within bounds |
+//! | `tree_iter` | an iterator over what a snapshot shows, from both ends |
+//! | `shown_ends` | the first and the last entry that a snapshot shows, without those between |
+//! | `guard` | what an iterator over pairs hands out |
+//! | `laws` | what the list of what is shown is in the theory's words |
 #![tactic(auto)]
 
 mod config;
@@ -14,6 +20,7 @@ mod cut;
 mod error;
 mod guard;
 mod iter_state;
+mod laws;
 mod memtable;
 mod prefix;
 mod seqno;
@@ -25,9 +32,13 @@ pub use config::{Config, DEFAULT_LEVEL_COUNT};
 pub use error::Error;
 pub use guard::{Guard, IterGuard, RangeItem};
 pub use iter_state::IterState;
+pub use laws::shown_is_the_view;
 pub use memtable::Memtable;
 pub use prefix::prefix_to_range;
 pub use seqno::{LIMIT, SequenceNumberCounter, seqno_filter};
 pub use shown_ends::{first_shown, last_shown};
 pub use tree_iter::{End, TreeIter, take_ends};
 pub use version::{SealedMemtables, SuperVersion, SuperVersions, Version, VersionId};
+
+#[cfg(test)]
+mod tree_iter_tests;

@@ -136,8 +136,7 @@ impl Iterator for TreeIter {
     ghost remaining = { λ s. at_most (length s) };
 
     fn next(&mut self) -> Option<Guard> {
-        let entry = self.entries.pop_front()?;
-        Some(Guard::of_entry(entry))
+        Some(Guard::of_entry(self.entries.pop_front()?))
     }
 }
 
@@ -145,8 +144,7 @@ impl DoubleEndedIterator for TreeIter {
     ghost next_back_gives = { TakesPair Back };
 
     fn next_back(&mut self) -> Option<Guard> {
-        let entry = self.entries.pop_back()?;
-        Some(Guard::of_entry(entry))
+        Some(Guard::of_entry(self.entries.pop_back()?))
     }
 }
 

@@ -1,0 +1,236 @@
+-- The list of what is shown is that of a map.
+use Rattle.std.proofs.Common.{◌≡◌, ℕ, ◌<◌, ◌≤◌, Bool, true, false, cond, ◌&&◌, List, [], ◌∷◌, ◌++◌, filter, map, flat_map, Option, Some, None, option_to_list, refl, sym, ap, ◌∙◌, subst, arith, inl, inr, ltb, Equal}
+use Rattle.std.specs.List.{All, Contains}
+use Rattle.std.specs.FinMap.{get, entries, entries_sorted, get-entries, from_sorted, entries-from_sorted, get-from_sorted, same_map, find, is_sorted, slice_cmp-IsAntisymmetric, nat_cmp-IsAntisymmetric}
+use Rattle.std.specs.FinMap.Entries.{is_sorted-where_key, find-where_key, below_all}
+use Rattle.std.specs.declared.cmp.Ordering.TheVariants.{Less}
+use Rattle.std.specs.declared.ops.Bound.{Bound}
+use Rattle.std.specs.Ordering.{is_lt}
+use Rattle.std.specs.Cmp.Lexicographic.{nat_list_cmp_total}
+use Rattle.std.proofs.lemmas.List.Elements.{All-contains, All-head, All-tail, All-cons, All-nil, All-weaker, All-from_recursion, filter-append, filter_passes}
+use Rattle.std.proofs.lemmas.Grind.{flat_map-append}
+use Rattle.std.specs.List.{find as find_entry}
+use Rattle.lsm_below.proofs.Each.{each_filter}
+use Rattle.lsm_model.specs.declared.question.Answer.TheVariants.{Pairs}
+use Rattle.lsm_below.specs.Keys.{Bytes, bytes_cmp, is_same}
+use Rattle.lsm_below.specs.Entries.{Entry, stack, is_value_kind, value_of, value_by, top, later, IsFalling}
+use Rattle.lsm_below.specs.declared.value_type.ValueType.{ValueType}
+use Rattle.lsm_below.specs.declared.value_type.ValueType.TheVariants.{Value, Tombstone, WeakTombstone}
+use Rattle.lsm_below.specs.Streams.{is_of}
+use Rattle.lsm_below.specs.Sorted.{Rises}
+use Rattle.lsm_model.specs.Journal.{Map}
+use Rattle.lsm_model.specs.Views.{view, seen, shown}
+use Rattle.lsm_model.proofs.Journals.{get-changed, same_key}
+use Rattle.lsm_model.proofs.Answers.{get-map_of}
+use Rattle.lsm_parts.specs.Guards.{pair_of}
+use Rattle.lsm_parts.specs.Shown.{lies_within, IsNewestOf, IsNewest, IsShown, by_key, Shows}
+use Rattle.lsm_parts.specs.Reads.{at, counted, all_counted, tree_of, counted_at}
+use Rattle.lsm_parts.specs.Answers.{pairs_within, IsSingular, overlaid, map_at, ShownIsView, ShownIsAnswer, ShownIsOverlaid}
+use Rattle.lsm_parts.proofs.Shown.{contains_here, contains_split, filter_had, first_item, filter_swap}
+use Rattle.lsm_parts.proofs.Last.{newest_join, newest_key}
+use lib.Dec.{T}
+
+-- ---- a list that rises, as a map
+
+-- the value of the first entry
+abbrev pub first_value : List Entry → Option Bytes
+first_value [] = None
+first_value (e ∷ es) = Some e.value
+
+found_value : (out : List Entry) (k : Bytes) → find bytes_cmp k (map pair_of out) ≡ first_value (stack k out)
+found_value [] k = refl
+found_value (e ∷ out) k = elim (is_same k e.key.user_key) as (λ b. cond b (Some e.value) (find bytes_cmp k (map pair_of out)) ≡ first_value (cond b (e ∷ stack k out) (stack k out))) [
+  | true ↦ refl
+  | false ↦ found_value out k
+]
+
+all_below : (e : Entry) (out : List Entry) → All (λ f. by_key e f ≡ Less) out → below_all bytes_cmp e.key.user_key (map pair_of out) ≡ true
+all_below e [] h = refl
+all_below e (f ∷ out) h =
+    ap (λ r. is_lt r && below_all bytes_cmp e.key.user_key (map pair_of out)) (All-head (λ f. by_key e f ≡ Less) f out h) ∙ all_below e out (All-tail (λ f. by_key e f ≡ Less) f out h)
+
+rising : (out : List Entry) → Rises by_key out → is_sorted bytes_cmp (map pair_of out) ≡ true
+rising [] h = refl
+rising (e ∷ out) h = ap (λ b. b && is_sorted bytes_cmp (map pair_of out)) (all_below e out h.0) ∙ rising out h.1
+
+none_outside : (low high : Bound Bytes) (es out : List Entry) → Shows low high es out → (k : Bytes) → lies_within low high k ≡ false → (l : List Entry) → stack k out ≡ l → first_value l ≡ None
+none_outside low high es out h k out_of [] is = refl
+none_outside low high es out h k out_of (e ∷ l) is =
+    let here : Contains (stack k out) e = subst (λ x. Contains x e) (sym is) (contains_here e l) in
+    let same : k ≡ e.key.user_key = same_key k e.key.user_key (All-contains (λ x. is_of k x ≡ true) (stack k out) e (filter_passes (is_of k) out) here) in
+    let inside = (All-contains (λ e. (lies_within low high e.key.user_key ≡ true) × IsShown es e) out e h.each (filter_had (is_of k) out e here)).0 in
+    absurd (let bad : false ≡ true = sym out_of ∙ (ap (lies_within low high) same ∙ inside) in cc bad)
+
+-- what is shown is what a map has within bounds, if it has the same at each key there
+shown_of_map : (low high : Bound Bytes) (es out : List Entry) (m : Map) → Shows low high es out → ((k : Bytes) → lies_within low high k ≡ true → get m k ≡ first_value (stack k out)) → map pair_of out ≡ pairs_within low high m
+shown_of_map low high es out m h same =
+    let p = lies_within low high in
+    let part : Map = from_sorted {R = bytes_cmp} (filter (λ e. p e.0) (entries m)) in
+    let cut_sorted = is_sorted-where_key bytes_cmp p (entries m) (entries_sorted m) in
+    let list_sorted : T (is_sorted bytes_cmp (map pair_of out)) = subst T (sym (rising out h.rises)) tt in
+    let whole : Map = from_sorted {R = bytes_cmp} (map pair_of out) in
+    let alike = λ (q x : Bytes) (e : bytes_cmp q x ≡ Equal). ap p (sym (slice_cmp-IsAntisymmetric nat_cmp-IsAntisymmetric q x e)) in
+    let in_part : (q : Bytes) → get part q ≡ cond (p q) (get m q) None = λ q.
+    get-from_sorted bytes_cmp (filter (λ e. p e.0) (entries m)) q cut_sorted ∙ find-where_key bytes_cmp p q (alike q) (entries m) ∙ ap (λ o. cond (p q) o None) (sym (get-entries m q)) in
+    let in_whole : (q : Bytes) → get whole q ≡ first_value (stack q out) = λ q. get-from_sorted bytes_cmp (map pair_of out) q list_sorted ∙ found_value out q in
+    let both : whole ≡ part = same_map nat_list_cmp_total (slice_cmp-IsAntisymmetric nat_cmp-IsAntisymmetric) whole part (λ q.
+    in_whole q ∙ (elim (p q) as (λ b. p q ≡ b → first_value (stack q out) ≡ cond b (get m q) None) [
+      | true ↦ λ inside. sym (same q inside)
+      | false ↦ λ outside. none_outside low high es out h q outside (stack q out) refl
+    ] refl) ∙ sym (in_part q)) in
+    sym (entries-from_sorted bytes_cmp (map pair_of out) list_sorted) ∙ ap entries both ∙ entries-from_sorted bytes_cmp (filter (λ e. p e.0) (entries m)) cut_sorted
+
+-- ---- one newest entry
+
+abbrev IsOnly : List Entry → Type 0
+IsOnly l = (o p : Option Entry) → IsNewestOf l o → IsNewestOf l p → o ≡ p
+
+as_value : (c : ValueType) (v : Bytes) → is_value_kind c ≡ true → value_by c v ≡ Some v
+as_value Value v h = refl
+as_value Tombstone v h = absurd (cc h)
+as_value WeakTombstone v h = absurd (cc h)
+
+-- what is listed of a key is what its newest entry shows, where that is the only one
+value_shown : (low high : Bound Bytes) (es out : List Entry) → Shows low high es out → (k : Bytes) → lies_within low high k ≡ true → IsOnly (stack k es) → (o : Option Entry) → IsNewest es k o → (l : List Entry) → stack k out ≡ l → first_value l ≡ shown o
+value_shown low high es out h k inside only o newest [] none =
+    let hidden = h.rest k inside none in
+    sym hidden.2 ∙ ap shown (only hidden.0 o hidden.1 newest)
+value_shown low high es out h k inside only o newest (e ∷ l) is =
+    let here : Contains (stack k out) e = subst (λ x. Contains x e) (sym is) (contains_here e l) in
+    let same : k ≡ e.key.user_key = same_key k e.key.user_key (All-contains (λ x. is_of k x ≡ true) (stack k out) e (filter_passes (is_of k) out) here) in
+    let listed = (All-contains (λ e. (lies_within low high e.key.user_key ≡ true) × IsShown es e) out e h.each (filter_had (is_of k) out e here)).1 in
+    sym (as_value e.key.value_type e.value listed.value) ∙ ap shown (only (Some e) o (subst (λ q. IsNewest es q (Some e)) (sym same) listed.newest) newest)
+
+shown_of_newest : (low high : Bound Bytes) (es out : List Entry) (m : Map) (newest : Bytes → Option Entry) → ((k : Bytes) → IsNewest es k (newest k)) → ((k : Bytes) → IsOnly (stack k es)) → ((k : Bytes) → get m k ≡ shown (newest k))
+    → Shows low high es out → map pair_of out ≡ pairs_within low high m
+shown_of_newest low high es out m newest is only same h =
+    shown_of_map low high es out m h (λ k inside. same k ∙ sym (value_shown low high es out h k inside (only k) (newest k) (is k) (stack k out) refl))
+
+-- where entries of one key and number are the same
+only_singular : (es : List Entry) → IsSingular es → (k : Bytes) → IsOnly (stack k es)
+only_singular es single k = go
+  where
+    go : (o p : Option Entry) → IsNewestOf (stack k es) o → IsNewestOf (stack k es) p → o ≡ p
+    go None None h q = refl
+    go None (Some f) h q = absurd (omega (arith, (subst (λ l. Contains l f) h q.0).1))
+    go (Some e) None h q = absurd (omega (arith, (subst (λ l. Contains l e) q h.0).1))
+    go (Some e) (Some f) h q =
+        let up : e.key.seqno ≤ f.key.seqno = All-contains (λ g. g.key.seqno ≤ f.key.seqno) (stack k es) e q.1 h.0 in
+        let down : f.key.seqno ≤ e.key.seqno = All-contains (λ g. g.key.seqno ≤ e.key.seqno) (stack k es) f h.1 q.0 in
+        let number : e.key.seqno ≡ f.key.seqno = omega arith in
+        ap (λ x. Some x) (single e f (filter_had (is_of k) es e h.0) (filter_had (is_of k) es f q.0) (newest_key es k e h ∙ sym (newest_key es k f q)) number)
+
+-- where numbers fall
+top_only : (e : Entry) (es : List Entry) → IsFalling (e ∷ es) → (o : Option Entry) → IsNewestOf (e ∷ es) o → o ≡ Some e
+top_only e es fall None h = absurd (cc h)
+top_only e es fall (Some f) h = elim (contains_split e es f h.0) [
+  | inl is ↦ ap (λ x. Some x) (sym is)
+  | inr behind ↦
+      let low : f.key.seqno < e.key.seqno = All-contains (λ g. g.key.seqno < e.key.seqno) es f (All-from_recursion (λ g. g.key.seqno < e.key.seqno) es fall.0) behind in
+      let up : e.key.seqno ≤ f.key.seqno = All-head (λ g. g.key.seqno ≤ f.key.seqno) e es h.1 in
+      absurd (omega arith)
+]
+
+only_falling : (l : List Entry) → IsFalling l → IsOnly l
+only_falling [] fall = go
+  where
+    go : (o p : Option Entry) → IsNewestOf [] o → IsNewestOf [] p → o ≡ p
+    go None None h q = refl
+    go None (Some f) h q = absurd (omega (arith, q.0.1))
+    go (Some e) p h q = absurd (omega (arith, h.0.1))
+only_falling (e ∷ es) fall = λ o p h q. top_only e es fall o h ∙ sym (top_only e es fall p q)
+
+first_falling : (l : List Entry) → IsFalling l → IsNewestOf l (first_item l)
+first_falling [] fall = refl
+first_falling (e ∷ es) fall =
+    let own : e.key.seqno ≤ e.key.seqno = omega arith in
+    (contains_here e es, All-cons (λ f. f.key.seqno ≤ e.key.seqno) e es own (All-weaker (λ f. f.key.seqno < e.key.seqno) (λ f. f.key.seqno ≤ e.key.seqno) (λ f lt. omega arith) es (All-from_recursion (λ f. f.key.seqno < e.key.seqno) es fall.0)))
+
+-- ---- the view by tops
+
+newest_top : (k : Bytes) (s : ℕ) (es : List Entry) → IsNewestOf (stack k (filter (λ e. ltb e.key.seqno s) es)) (top k s es)
+newest_top k s [] = refl
+newest_top k s (e ∷ es) = go (newest_top k s es) (is_same k e.key.user_key) refl (ltb e.key.seqno s)
+  where
+    go : IsNewestOf (stack k (filter (λ e. ltb e.key.seqno s) es)) (top k s es) → (b : Bool) → is_same k e.key.user_key ≡ b → (c : Bool) → IsNewestOf (stack k (cond c (e ∷ filter (λ e. ltb e.key.seqno s) es) (filter (λ e. ltb e.key.seqno s) es))) (cond (b && c) (later e (top k s es)) (top k s es))
+    go ih true is true =
+        let own : e.key.seqno ≤ e.key.seqno = omega arith in
+        subst (λ b. IsNewestOf (cond b (e ∷ stack k (filter (λ e. ltb e.key.seqno s) es)) (stack k (filter (λ e. ltb e.key.seqno s) es))) (later e (top k s es))) (sym is)
+        (newest_join (e ∷ []) (stack k (filter (λ e. ltb e.key.seqno s) es)) (Some e) (top k s es) (contains_here e [], All-cons (λ f. f.key.seqno ≤ e.key.seqno) e [] own (All-nil (λ f. f.key.seqno ≤ e.key.seqno))) ih)
+    go ih true is false = ih
+    go ih false is true = subst (λ b. IsNewestOf (cond b (e ∷ stack k (filter (λ e. ltb e.key.seqno s) es)) (stack k (filter (λ e. ltb e.key.seqno s) es))) (top k s es)) (sym is) ih
+    go ih false is false = ih
+
+counted_flat : (s : ℕ) (sources : List (List Entry)) → all_counted (map (at s) sources) ≡ filter (λ e. ltb e.key.seqno s) (flat_map (λ es. es) sources)
+counted_flat s [] = refl
+counted_flat s (es ∷ sources) = ap (λ l. filter (λ e. ltb e.key.seqno s) es ++ l) (counted_flat s sources) ∙ sym (filter-append (λ e. ltb e.key.seqno s) es (flat_map (λ es. es) sources))
+
+pub is_view : ShownIsView
+is_view s sources m low high out at_key single h =
+    let all = flat_map (λ (es : List Entry). es) sources in
+    let counts = λ (e : Entry). ltb e.key.seqno s in
+    let fewer : IsSingular (filter counts all) = λ e f he hf. single e f (filter_had counts all e he) (filter_had counts all f hf) in
+    shown_of_newest low high (filter counts all) out m (λ k. top k s all) (λ k. newest_top k s all) (only_singular (filter counts all) fewer) at_key
+    (subst (λ es. Shows low high es out) (counted_flat s sources) h)
+
+-- ---- the view where numbers fall
+
+-- what the first entry of a list shows, over this
+abbrev over : List Entry → Option Bytes → Option Bytes
+over [] b = b
+over (e ∷ es) b = value_of e
+
+over_none : (l : List Entry) → over l None ≡ shown (first_item l)
+over_none [] = refl
+over_none (e ∷ es) = refl
+
+over-append : (xs ys : List Entry) (b : Option Bytes) → over (xs ++ ys) b ≡ over xs (over ys b)
+over-append [] ys b = refl
+over-append (x ∷ xs) ys b = refl
+
+get-overlaid : (es : List Entry) (m : Map) (k : Bytes) → get (overlaid es m) k ≡ over (stack k es) (get m k)
+get-overlaid [] m k = refl
+get-overlaid (e ∷ es) m k = get-changed (overlaid es m) e k ∙ (elim (is_same k e.key.user_key) as (λ b. cond b (value_of e) (get (overlaid es m) k) ≡ over (cond b (e ∷ stack k es) (stack k es)) (get m k)) [
+  | true ↦ refl
+  | false ↦ get-overlaid es m k
+])
+
+seen_over : (s : ℕ) (l : List Entry) → seen s l ≡ over (filter (λ e. ltb e.key.seqno s) l) None
+seen_over s [] = refl
+seen_over s (e ∷ l) = elim (ltb e.key.seqno s) as (λ b. shown (cond b (Some e) (find_entry (λ f. ltb f.key.seqno s) l)) ≡ over (cond b (e ∷ filter (λ e. ltb e.key.seqno s) l) (filter (λ e. ltb e.key.seqno s) l)) None) [
+  | true ↦ refl
+  | false ↦ seen_over s l
+]
+
+get-view_over : (s : ℕ) (sources : List (List Entry)) (k : Bytes) → get (view s sources) k ≡ over (stack k (all_counted (map (at s) sources))) None
+get-view_over s sources k =
+    let all = flat_map (λ (es : List Entry). es) sources in
+    get-map_of k s all ∙ seen_over s (stack k all) ∙ ap (λ l. over l None) (filter_swap (λ e. ltb e.key.seqno s) (is_of k) all ∙ ap (stack k) (sym (counted_flat s sources)))
+
+shown_falling : (low high : Bound Bytes) (es out : List Entry) (m : Map) → ((k : Bytes) → IsFalling (stack k es)) → ((k : Bytes) → get m k ≡ over (stack k es) None) → Shows low high es out → map pair_of out ≡ pairs_within low high m
+shown_falling low high es out m fall same h =
+    shown_of_newest low high es out m (λ k. first_item (stack k es)) (λ k. first_falling (stack k es) (fall k)) (λ k. only_falling (stack k es) (fall k)) (λ k. same k ∙ over_none (stack k es)) h
+
+falling_filter : (t : Entry → Bool) (l : List Entry) → IsFalling l → IsFalling (filter t l)
+falling_filter t [] h = tt
+falling_filter t (e ∷ l) h = elim (t e) as (λ b. IsFalling (cond b (e ∷ filter t l) (filter t l))) [
+  | true ↦ (each_filter (λ f. f.key.seqno < e.key.seqno) t l h.0, falling_filter t l h.1)
+  | false ↦ falling_filter t l h.1
+]
+
+pub is_answer : ShownIsAnswer
+is_answer s sources low high out ordered h =
+    let all = flat_map (λ (es : List Entry). es) sources in
+    let counts = λ (e : Entry). ltb e.key.seqno s in
+    let falls : (k : Bytes) → IsFalling (stack k (all_counted (map (at s) sources))) = λ k.
+    subst IsFalling (filter_swap counts (is_of k) all ∙ ap (stack k) (sym (counted_flat s sources))) (falling_filter counts (stack k all) (ordered k)) in
+    ap Pairs (sym (shown_falling low high (all_counted (map (at s) sources)) out (view s sources) falls (get-view_over s sources) h))
+
+pub is_overlaid : ShownIsOverlaid
+is_overlaid s st low high out falls h =
+    let index = all_counted (option_to_list st.overlay) in
+    let tree = all_counted (map (at s) (tree_of st)) in
+    let parts : counted_at s st ≡ index ++ tree = flat_map-append counted (option_to_list st.overlay) (map (at s) (tree_of st)) in
+    shown_falling low high (counted_at s st) out (map_at s st) falls (λ k.
+    get-overlaid index (view s (tree_of st)) k ∙ ap (over (stack k index)) (get-view_over s (tree_of st) k) ∙ sym (over-append (stack k index) (stack k tree) None)
+    ∙ ap (λ l. over l None) (sym (ap (stack k) parts ∙ filter-append (is_of k) index tree))) h
