@@ -28,7 +28,7 @@ same_where m n p same =
     at m q ∙ (elim (p q) as (λ b. p q ≡ b → cond b (get m q) None ≡ cond b (get n q) None) [ true ↦ λ h. same q h | false ↦ λ h. refl ] refl) ∙ sym (at n q)) in
     sym (entries-from_sorted bytes_cmp (filter (λ e. p e.0) (entries m)) (sorted m)) ∙ ap entries maps ∙ entries-from_sorted bytes_cmp (filter (λ e. p e.0) (entries n)) (sorted n)
 
-pub filter_swap : {A : Type 0} (p q : A → Bool) (xs : List A) → filter p (filter q xs) ≡ filter q (filter p xs)
+filter_swap : {A : Type 0} (p q : A → Bool) (xs : List A) → filter p (filter q xs) ≡ filter q (filter p xs)
 filter_swap p q [] = refl
 filter_swap p q (x ∷ xs) =
     elim (p x) as (λ b. p x ≡ b → filter p (cond (q x) (x ∷ filter q xs) (filter q xs)) ≡ filter q (cond b (x ∷ filter p xs) (filter p xs))) [

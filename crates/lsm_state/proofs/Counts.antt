@@ -17,7 +17,7 @@ module _ (s : ℕ) where
   visible es = filter (λ e. nat_lt e.key.seqno s) es
 
   -- of sources at a snapshot those entries count that are below it
-  counted_below : (xs : List (List Entry)) → all_counted (map (at s) xs) ≡ visible (flat_map (λ es. es) xs)
+  pub counted_below : (xs : List (List Entry)) → all_counted (map (at s) xs) ≡ visible (flat_map (λ es. es) xs)
   counted_below [] = refl
   counted_below (es ∷ xs) =
       flat_map-cons counted (at s es) (map (at s) xs)

@@ -70,7 +70,7 @@ fn range_of(
     ensures memory { IfErr result (λ e. e ≡ Error.OutOfMemory) }
 {
     let list = memtables_of(alloc, memtables, version)?;
-    let state = IterState::new(&version.version, &list, index);
+    let state = IterState::new(&version.version, list, index);
     TreeIter::create_range(alloc, &state, bounds, seqno)
 }
 
@@ -104,7 +104,7 @@ fn end_of(
     ensures memory { IfErr result (λ e. e ≡ Error.OutOfMemory) }
 {
     let list = memtables_of(alloc, memtables, version)?;
-    let state = IterState::new(&version.version, &list, index);
+    let state = IterState::new(&version.version, list, index);
     match end {
         End::Front => first_shown(alloc, &state, &ALL, seqno),
         End::Back => last_shown(alloc, &state, &ALL, seqno),

@@ -1,5 +1,5 @@
 use Rattle.std.proofs.Common.{subst, ap, ◌∙◌, IfOk}
-use Rattle.lsm_parts.specs.Reads.{counted_at, state_of}
+use Rattle.lsm_parts.specs.Reads.{counted_at}
 use Rattle.lsm_parts.specs.Shown.{Shows}
 use Rattle.lsm_state.proofs.Counts.{counted_is}
 use Rattle.lsm_state.proofs.ranges.range_of.Goals as goal
@@ -8,6 +8,5 @@ pub returns-clause-shows : goal.returns-clause-shows
 returns-clause-shows c =
     let sv = c.args.version.now in
     let s = c.args.seqno in
-    let looked = c.new-state.ensures ∙ ap (λ l. state_of sv.version l c.args.index) c.deref.ensures.value in
-    let counts = ap (counted_at s) looked ∙ counted_is s sv c.args.memtables.now c.in_ok-list.list.items c.in_ok-list.ensures c.args.index in
+    let counts = ap (counted_at s) c.new-state.ensures ∙ counted_is s sv c.args.memtables.now c.in_ok-list.list.items c.in_ok-list.ensures c.args.index in
     subst (λ es. IfOk c.create_range.result (Shows c.args.bounds.now.0 c.args.bounds.now.1 es)) counts c.create_range.ensures.shows
