@@ -21,3 +21,6 @@ pub use writes::{MAX_KEY_LEN, MAX_VALUE_LEN};
 
 #[cfg(test)]
 mod tests;
+
+#[cfg(test)]
+mod range_tests;
