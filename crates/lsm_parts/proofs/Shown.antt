@@ -1,5 +1,5 @@
 -- What a merge of cuts shows.
-use Rattle.std.proofs.Common.{◌≡◌, zero, suc, ◌≤◌, Bool, true, false, cond, List, [], ◌∷◌, ◌++◌, length, filter, map, flat_map, Option, Some, None, option_to_list, MatchOption, Result, Ok, Err, IfOk, refl, sym, ap, ◌∙◌, subst, arith, inl, inr, ◌⊎◌, ltb}
+use Rattle.std.proofs.Common.{◌≡◌, zero, suc, ◌≤◌, Bool, true, false, cond, List, [], ◌∷◌, ◌++◌, length, filter, map, flat_map, Option, Some, None, option_to_list, refl, sym, ap, ◌∙◌, subst, arith, inl, inr, ◌⊎◌, ltb}
 use Rattle.std.specs.List.{All, AllByRecursion, Contains}
 use Rattle.std.specs.List.Sorted.{IsPermutation}
 use Rattle.std.specs.declared.cmp.Ordering.{Ordering}
@@ -23,9 +23,6 @@ use Rattle.lsm_model.proofs.Journals.{same_key}
 use Rattle.lsm_model.specs.Views.{shown}
 use Rattle.lsm_parts.specs.Memtables.{within}
 use Rattle.lsm_parts.specs.Shown.{lies_within, IsNewestOf, IsNewest, IsShown, by_key, Shows}
-use Rattle.lsm_parts.specs.declared.error.Error.{Error}
-use Rattle.lsm_parts.specs.Ends.{EndShown}
-use Rattle.lsm_parts.specs.declared.tree_iter.End.TheVariants.{Front}
 use Rattle.lsm_parts.specs.Reads.{Part, cut, counted, all_counted}
 use Rattle.lsm_parts.specs.Cuts.{part_of, IsFresh, AreCuts, AreNewest}
 use Rattle.lsm_parts.specs.declared.cut.Cut.{Cut}
@@ -300,14 +297,3 @@ module _ (low high : Bound Bytes) (es out : List Entry) (h : AreNewest low high 
     each = All-weaker (Contains (filter is_value out)) (λ e. (lies_within low high e.key.user_key ≡ true) × IsShown es e) lists (filter is_value out) (All-contains_itself (filter is_value out));
     rest = λ k within none. (h.newest k, h.inner k within, no_value (h.newest k) (sym (ap (filter is_value) (h.stacks k)) ∙ filter_swap is_value (is_of k) out ∙ none));
   }
-
--- ---- one end
-
--- the first of the list
-pub front_shown : (low high : Bound Bytes) (es list : List Entry) (r : Option Entry) → Shows low high es list → MatchOption r (list ≡ []) (λ e. (rest : List Entry) × (list ≡ e ∷ rest)) → EndShown Front low high es r
-front_shown low high es list None shows is = subst (Shows low high es) is shows
-front_shown low high es list (Some e) shows is = (list, is.0, shows, is.1)
-
-pub front_of : (low high : Bound Bytes) (es out : List Entry) (r : Result (Option Entry) Error) → AreNewest low high es out → IfOk r (λ o. MatchOption o (filter is_value out ≡ []) (λ e. (rest : List Entry) × (filter is_value out ≡ e ∷ rest))) → IfOk r (EndShown Front low high es)
-front_of low high es out (Ok r) h is = front_shown low high es (filter is_value out) r (shows_newest low high es out h) is
-front_of low high es out (Err x) h is = tt

@@ -5,7 +5,6 @@ ghost use Rattle.lsm_below.specs.Entries.{is_value};
 ghost use Rattle.lsm_parts.specs.Shown.{Shows};
 ghost use Rattle.lsm_parts.specs.declared.error.Error.{Error};
 ghost use Rattle.lsm_parts.specs.Reads.{counted_at};
-ghost use Rattle.lsm_parts.specs.Cuts.{AreNewest};
 ghost use Rattle.lsm_parts.specs.Ends.{TakesEntry, TakesPair, TakesEnds};
 ghost use Rattle.lsm_parts.specs.declared.tree_iter.End.TheVariants.{Front, Back};
 
@@ -40,15 +39,16 @@ impl Model for TreeIter {
     ghost view = { λ t. t.entries.items };
 }
 
-/// The newest entry of each key within bounds, in order. Refused only for want of memory.
+/// The newest entry of each key within bounds, in order: the values among them are what is shown.
+/// Refused only for want of memory.
 pub(crate) fn newest_of<'a>(
     alloc: Global,
     state: &IterState<'a>,
     bounds: &(Bound<UserKey>, Bound<UserKey>),
     seqno: SeqNo,
 ) -> Result<MvccStream<Merger<Cut<'a>>>, AllocError>
-    ensures newest { IfOk result
-        (λ stream. AreNewest bounds.now.0 bounds.now.1 (counted_at seqno state.now) stream.entries) }
+    ensures shows { IfOk result
+        (λ stream. Shows bounds.now.0 bounds.now.1 (counted_at seqno state.now) (filter is_value stream.entries)) }
     ensures open { IfOk result (λ stream. stream.over ≡ false) }
 {
     let cuts = state.cuts(alloc, bounds, seqno)?;
