@@ -8,9 +8,7 @@ ghost use Rattle.lsm_parts.specs.Memtables.{capped, entry_size, new_memtable, wi
 ghost use Rattle.lsm_parts.specs.Contents.{content_of, added, all_added};
 
 use crate::Error;
-use lsm_below::{
-    InternalValue, MemtableId, SeqNo, UserKey, entries_within, first_visible,
-};
+use lsm_below::{InternalValue, MemtableId, SeqNo, UserKey, entries_within, first_visible};
 use std::alloc::Global;
 use std::marker::Model;
 use std::ops::Bound;

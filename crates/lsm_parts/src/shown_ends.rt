@@ -15,9 +15,7 @@ ghost use Rattle.lsm_parts.specs.declared.tree_iter.End.TheVariants.{Front, Back
 use crate::cut::Cut;
 use crate::tree_iter::newest_of;
 use crate::{Error, IterState};
-use lsm_below::{
-    InternalValue, SeqNo, Source, UserKey, entries_within, first_visible, share,
-};
+use lsm_below::{InternalValue, SeqNo, Source, UserKey, entries_within, first_visible, share};
 use std::alloc::{AllocError, Global};
 use std::ops::Bound;
 

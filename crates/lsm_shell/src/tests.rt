@@ -147,7 +147,10 @@ fn refuses_arguments<R: Abort + Threads + Wait + Sync>(
     let mut printed = Vec::new(alloc);
     let mut errors = Vec::new(alloc);
     let status = run_shell(rt, alloc, arguments, REMOVED, &mut printed, &mut errors);
-    assert_eq!(rt; errors.as_slice(), b"usage: lsm_shell [threads N]\n".as_slice());
+    assert_eq!(rt;
+        errors.as_slice(),
+        b"usage: lsm_shell [threads N]\n".as_slice()
+    );
     assert_eq!(rt; (status, printed.len()), (2, 0));
 }
 
@@ -173,7 +176,14 @@ fn prints_for_arguments<R: Abort + Threads + Wait + Sync>(
 ) {
     let mut printed = Vec::new(alloc);
     let mut errors = Vec::new(alloc);
-    let status = run_shell(rt, alloc, Some(arguments), REMOVED, &mut printed, &mut errors);
+    let status = run_shell(
+        rt,
+        alloc,
+        Some(arguments),
+        REMOVED,
+        &mut printed,
+        &mut errors,
+    );
     assert_eq!(rt; printed.as_slice(), wanted);
     assert_eq!(rt; (status, errors.len()), (0, 0));
 }
@@ -214,7 +224,14 @@ fn ends_at_a_fault(rt: HostRuntime) -> Result<(), Fail> {
     assert_eq!(rt; printed.as_slice(), b"ok 0\nvalue x\n".as_slice());
     assert_eq!(rt; (status, errors.len()), (1, 0));
 
-    let status = run_shell(&rt, rt.alloc(), Some(&[]), REMOVED, BrokenOutput, &mut errors);
+    let status = run_shell(
+        &rt,
+        rt.alloc(),
+        Some(&[]),
+        REMOVED,
+        BrokenOutput,
+        &mut errors,
+    );
     assert_eq!(rt; (status, errors.len()), (1, 0));
     Ok(())
 }

@@ -19,13 +19,13 @@ pub fn call_all<R: Threads + Wait + Sync>(
     alloc: Global,
     callers: u8,
 ) -> Result<Option<usize>, Error> {
-    let tree = Handle::new(
+    let tree = Handle::new(alloc, Recorded::open_in_memory(alloc, Config::new(0, 0, 0)))?;
+    let told = thread::map_indices(
+        rt,
         alloc,
-        Recorded::open_in_memory(alloc, Config::new(0, 0, 0)),
+        usize::from(callers),
+        &|caller| { call(rt, alloc, &tree, caller) },
     )?;
-    let told = thread::map_indices(rt, alloc, usize::from(callers), &|caller| {
-        call(rt, alloc, &tree, caller)
-    })?;
     let Some(passes) = all_passes(alloc, told)? else {
         return Ok(None);
     };

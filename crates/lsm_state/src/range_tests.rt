@@ -98,12 +98,7 @@ fn values_have_sizes(rt: HostRuntime) -> Result<(), Fail> {
 /// Over a and b: another value of a, and a tombstone of b.
 fn index_on_top(alloc: Global) -> Result<Memtable, Error> {
     let mut index = Memtable::new(alloc, 9);
-    index.insert(InternalValue::from_components(
-        text("a"),
-        text("o"),
-        HIGH,
-        ValueType::Value,
-    ))?;
+    index.insert(InternalValue::from_components(text("a"), text("o"), HIGH, ValueType::Value))?;
     index.insert(InternalValue::new_tombstone(text("b"), HIGH))?;
     Ok(index)
 }

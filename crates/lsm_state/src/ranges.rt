@@ -163,11 +163,7 @@ impl<S: Store> TreeState<S> {
     }
 
     /// All that a snapshot shows, as `range` with open bounds.
-    pub fn iter(
-        &self,
-        seqno: SeqNo,
-        index: Option<(&Memtable, SeqNo)>,
-    ) -> Result<TreeIter, Error>
+    pub fn iter(&self, seqno: SeqNo, index: Option<(&Memtable, SeqNo)>) -> Result<TreeIter, Error>
         ensures ok { IfOk result (Ranges self.now.core index.entry Unbounded Unbounded seqno) }
         ensures too_old { IsErrOf result Error.SnapshotTooOld ↔ (found_at seqno (latest_of self.now.core) (older_of self.now.core) ≡ None) }
         ensures only { IfErr result (λ e. (e ≡ Error.SnapshotTooOld) ⊎ (e ≡ Error.OutOfMemory)) }
@@ -220,11 +216,7 @@ impl<S: Store> TreeState<S> {
     }
 
     /// How many keys a snapshot shows. It walks over all of them.
-    pub fn len(
-        &self,
-        seqno: SeqNo,
-        index: Option<(&Memtable, SeqNo)>,
-    ) -> Result<usize, Error>
+    pub fn len(&self, seqno: SeqNo, index: Option<(&Memtable, SeqNo)>) -> Result<usize, Error>
         ensures ok { IfOk result (Numbers self.now.core index.entry seqno) }
         ensures too_old { IsErrOf result Error.SnapshotTooOld ↔ (found_at seqno (latest_of self.now.core) (older_of self.now.core) ≡ None) }
         ensures only { IfErr result (λ e. (e ≡ Error.SnapshotTooOld) ⊎ (e ≡ Error.OutOfMemory)) }
@@ -236,11 +228,7 @@ impl<S: Store> TreeState<S> {
     }
 
     /// Whether a snapshot shows nothing. It stops at the first pair that it finds.
-    pub fn is_empty(
-        &self,
-        seqno: SeqNo,
-        index: Option<(&Memtable, SeqNo)>,
-    ) -> Result<bool, Error>
+    pub fn is_empty(&self, seqno: SeqNo, index: Option<(&Memtable, SeqNo)>) -> Result<bool, Error>
         ensures ok { IfOk result (TellsEmpty Front self.now.core index.entry seqno) }
         ensures too_old { IsErrOf result Error.SnapshotTooOld ↔ (found_at seqno (latest_of self.now.core) (older_of self.now.core) ≡ None) }
         ensures only { IfErr result (λ e. (e ≡ Error.SnapshotTooOld) ⊎ (e ≡ Error.OutOfMemory)) }

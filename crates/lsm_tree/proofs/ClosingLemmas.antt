@@ -33,15 +33,15 @@ finds_more xs i p d old t h at len free f q lt =
     let before = f q lt in
     elim (eqb_tells (get_or xs i d).0 q) [
       | inl z ↦
-        let same : p ≡ q = sym at ∙ z.1 in
-        let now : found (set t p true) q ≡ 1 = ap (λ b. if b then 1 else 0) (subst (λ w. get_or (set t p true) w false ≡ true) same (get_or-set_same t p true false here)) in
-        let was : found t q ≡ 0 = ap (λ b. if b then 1 else 0) (subst (λ w. get_or t w false ≡ false) same (get_or_default t p false true here ∙ free)) in
-        let more : times_in q (take (i + 1) xs) ≡ times_in q (take i xs) + 1 = count_by_more_yes (λ x. nat_eq x.0 q) xs i d h z.0 in
-        omega arith
+          let same : p ≡ q = sym at ∙ z.1 in
+          let now : found (set t p true) q ≡ 1 = ap (λ b. if b then 1 else 0) (subst (λ w. get_or (set t p true) w false ≡ true) same (get_or-set_same t p true false here)) in
+          let was : found t q ≡ 0 = ap (λ b. if b then 1 else 0) (subst (λ w. get_or t w false ≡ false) same (get_or_default t p false true here ∙ free)) in
+          let more : times_in q (take (i + 1) xs) ≡ times_in q (take i xs) + 1 = count_by_more_yes (λ x. nat_eq x.0 q) xs i d h z.0 in
+          omega arith
       | inr z ↦
-        let now : found (set t p true) q ≡ found t q = ap (λ b. if b then 1 else 0) (get_or-set_other t p q true false (λ e. z.1 (at ∙ sym e))) in
-        let more : times_in q (take (i + 1) xs) ≡ times_in q (take i xs) = count_by_more_no (λ x. nat_eq x.0 q) xs i d h z.0 in
-        omega arith
+          let now : found (set t p true) q ≡ found t q = ap (λ b. if b then 1 else 0) (get_or-set_other t p q true false (λ e. z.1 (at ∙ sym e))) in
+          let more : times_in q (take (i + 1) xs) ≡ times_in q (take i xs) = count_by_more_no (λ x. nat_eq x.0 q) xs i d h z.0 in
+          omega arith
     ]
 
 -- a pass more

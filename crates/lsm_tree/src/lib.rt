@@ -31,6 +31,7 @@ mod same;
 mod shared_tree;
 mod steps;
 
+pub use handle::{Handle, RecordedTree, Tree};
 pub use lsm_below::{
     CompactionStream, InternalKey, InternalValue, KeyRange, KvPair, ListSource, MemtableId, Merger,
     MvccStream, NoStore, Ranged, Run, SeqNo, Source, Store, TableId, TreeId, UserKey, UserValue,
@@ -42,7 +43,6 @@ pub use lsm_parts::{
     SuperVersion, SuperVersions, Version, VersionId, seqno_filter,
 };
 pub use lsm_state::TreeState;
-pub use handle::{Handle, RecordedTree, Tree};
 pub use pass::Pass;
 pub use recorded::Recorded;
 pub use runner::run;

@@ -125,11 +125,7 @@ impl<S: Store> Handle<Recorded<S>> {
     }
 
     /// A copy of the journal, where the passes together list it, else the passes; as `Recorded::close`.
-    pub fn close(
-        &self,
-        rt: &impl Wait,
-        passes: Vec<Pass>,
-    ) -> Result<Vec<JournalEntry>, Vec<Pass>>
+    pub fn close(&self, rt: &impl Wait, passes: Vec<Pass>) -> Result<Vec<JournalEntry>, Vec<Pass>>
         ensures listed { IfOk result (λ j. ListTogether j.items passes.items) }
         ensures agrees { IfOk result (λ j. Agrees empty j.items) }
         ensures back { IfErr result (λ back. back ≡ passes) }

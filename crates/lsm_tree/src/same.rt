@@ -116,7 +116,10 @@ pub(crate) fn same_entry(left: &JournalEntry, right: &JournalEntry) -> bool
         (JournalEntry::Dropped(left, number), JournalEntry::Dropped(right, other)) => {
             number == other && same_ranges(left.as_slice(), right.as_slice())
         }
-        (JournalEntry::Read(snapshot, asked, told), JournalEntry::Read(other, other_asked, other_told)) => {
+        (
+            JournalEntry::Read(snapshot, asked, told),
+            JournalEntry::Read(other, other_asked, other_told),
+        ) => {
             snapshot == other && same_question(asked, other_asked) && same_answer(told, other_told)
         }
         _ => false,

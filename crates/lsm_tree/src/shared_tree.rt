@@ -17,12 +17,7 @@ use std::sync::Wait;
 /// the lock found it.
 impl<S: Store> Handle<TreeState<S>> {
     /// The value of a key at a snapshot, as `TreeState::get`.
-    pub fn get(
-        &self,
-        rt: &impl Wait,
-        key: &[u8],
-        seqno: SeqNo,
-    ) -> Result<Option<UserValue>, Error>
+    pub fn get(&self, rt: &impl Wait, key: &[u8], seqno: SeqNo) -> Result<Option<UserValue>, Error>
         ensures gives { IfOk result (λ v. AtSomeTree (λ c. Gives c key.now seqno v)) }
         ensures only { IfErr result (λ e. (e ≡ Error.SnapshotTooOld) ⊎ (e ≡ Error.OutOfMemory)) }
     {
@@ -51,11 +46,7 @@ impl<S: Store> Handle<TreeState<S>> {
     }
 
     /// Writes an entry under its own number, as `TreeState::append_entry`.
-    pub fn append_entry(
-        &self,
-        rt: &impl Wait,
-        entry: InternalValue,
-    ) -> Result<(u64, u64), Error>
+    pub fn append_entry(&self, rt: &impl Wait, entry: InternalValue) -> Result<(u64, u64), Error>
         ensures { OnSomeTree (λ old new. Appends (plain entry) result old new) }
     {
         self.shared.lock(rt).append_entry(entry)
@@ -75,12 +66,7 @@ impl<S: Store> Handle<TreeState<S>> {
     }
 
     /// Removes a key under a number, as `TreeState::remove`.
-    pub fn remove(
-        &self,
-        rt: &impl Wait,
-        key: UserKey,
-        seqno: SeqNo,
-    ) -> Result<(u64, u64), Error>
+    pub fn remove(&self, rt: &impl Wait, key: UserKey, seqno: SeqNo) -> Result<(u64, u64), Error>
         ensures { OnSomeTree (λ old new. Appends (op_entry key seqno Del) result old new) }
     {
         self.shared.lock(rt).remove(key, seqno)

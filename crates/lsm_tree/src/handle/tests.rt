@@ -170,7 +170,10 @@ fn writes_take_numbers_of_their_own(rt: HostRuntime) -> Result<(), Fail> {
 }
 
 fn open_tree(alloc: Global) -> Result<Tree, AllocError> {
-    Handle::new(alloc, TreeState::open_in_memory(alloc, Config::new(0, 0, 0)))
+    Handle::new(
+        alloc,
+        TreeState::open_in_memory(alloc, Config::new(0, 0, 0)),
+    )
 }
 
 /// A value under a drawn number, made visible.

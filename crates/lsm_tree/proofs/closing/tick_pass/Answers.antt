@@ -30,4 +30,4 @@ pub returns-clause-pass : goal.returns-clause-pass
 returns-clause-pass c h =
     let so = c.loop-place.invariant in
     let all = take_all c.loop-place.place-index c.args.pass.now c.loop-place-test.false in
-    subst (IsPassOf c.args.journal.now) all (record { there = so.there; rising = so.rising; })
+    subst (IsPassOf c.args.journal.now) all (record { there = so.there; rising = so.rising })
