@@ -142,6 +142,7 @@ impl<S: Store> TreeState<S> {
         index: Option<(&Memtable, SeqNo)>,
     ) -> Result<TreeIter, Error>
         ensures ok { IfOk result (Ranges self.now.core index.entry bounds.now.0 bounds.now.1 seqno) }
+        ensures step { index.entry ≡ None → IfOk result (IsRangeStep self.now.core bounds.now.0 bounds.now.1 seqno) }
         ensures too_old { IsErrOf result Error.SnapshotTooOld ↔ (found_at seqno (latest_of self.now.core) (older_of self.now.core) ≡ None) }
         ensures only { IfErr result (λ e. (e ≡ Error.SnapshotTooOld) ⊎ (e ≡ Error.OutOfMemory)) }
     {

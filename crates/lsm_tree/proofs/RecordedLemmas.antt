@@ -1,5 +1,5 @@
 -- What each call keeps of a tree behind its journal.
-use Rattle.std.proofs.Common.{cond, ◌≡◌, ℕ, ◌+◌, ◌<◌, ◌≤◌, Bool, true, false, List, [], ◌∷◌, ◌++◌, Option, Some, None, Result, Ok, Err, IfOk, OnErr, unwrap_or, map, refl, sym, ap, ◌∙◌, subst, arith, ◌⊎◌, ⊎_elim, is_some, IfSome}
+use Rattle.std.proofs.Common.{cond, ◌≡◌, ℕ, ◌+◌, ◌<◌, ◌≤◌, Bool, true, false, List, [], ◌∷◌, ◌++◌, Option, Some, None, Result, Ok, Err, IfOk, OnErr, unwrap_or, map, refl, sym, ap, ◌∙◌, subst, arith, ◌⊎◌, ⊎_elim, is_some, IfSome, append-nil, append_assoc}
 use Rattle.std.specs.BTreeMap.{BTreeMap, is_at}
 use Rattle.std.specs.Map.{lookup}
 use Rattle.std.specs.FinMap.{get, empty}
@@ -8,7 +8,7 @@ use Rattle.std.proofs.lemmas.Bool.Decides.{nat_tests}
 use Rattle.lsm_below.specs.declared.value_type.ValueType.TheVariants.{Value, Tombstone, WeakTombstone}
 use Rattle.lsm_below.specs.Keys.{Bytes, bytes_cmp}
 use Rattle.lsm_below.specs.Entries.{Entry, plain, kept_value}
-use Rattle.lsm_model.specs.Journal.{Event, is_outside, IsKept, replay, next_number_after, floor_after, floor, next_number}
+use Rattle.lsm_model.specs.Journal.{Event, Map, AgreesFrom, ReadAgrees, is_outside, IsKept, replay, next_number_after, floor_after, floor, next_number}
 use Rattle.lsm_model.specs.Views.{found_at}
 use Rattle.lsm_model.specs.Steps.{Wrote, Asked, Rotated, IsOpened}
 use Rattle.lsm_model.specs.Sound.{Holds}
@@ -16,8 +16,8 @@ use Rattle.lsm_model.specs.Ops.{op_entry, op_entries}
 use Rattle.lsm_model.specs.declared.op.Op.{Op}
 use Rattle.lsm_model.specs.declared.op.Op.TheVariants.{Set, Del, Weak}
 use Rattle.lsm_model.specs.declared.journal.JournalEntry.TheVariants.{Write, Read}
-use Rattle.lsm_model.specs.declared.question.Question.TheVariants.{Get}
-use Rattle.lsm_model.specs.declared.question.Answer.TheVariants.{Found}
+use Rattle.lsm_model.specs.declared.question.Question.TheVariants.{Get, Between}
+use Rattle.lsm_model.specs.declared.question.Answer.TheVariants.{Found, Pairs}
 use Rattle.lsm_model.proofs.Lists.{fold_push}
 use Rattle.lsm_model.proofs.Runs.{opened_holds, step_holds, run_holds, reads_right, view_right, answered_view}
 use Rattle.lsm_parts.specs.declared.config.Config.{Config}
@@ -25,6 +25,9 @@ use Rattle.lsm_parts.specs.declared.error.Error.{Error}
 use Rattle.lsm_parts.specs.declared.error.Error.TheVariants.{OutOfMemory, OutOfNumbers, KeyTooLong, ValueTooLong, DuplicateKey}
 use Rattle.lsm_state.specs.Core.{Core, Seen, state_of, latest_of, older_of, fresh_core}
 use Rattle.lsm_state.specs.Calls.{IsWriteStep, IsGetStep, Gives, Rotates, WritesBatch}
+use Rattle.lsm_state.specs.Ranges.{IsRangeStep}
+use Rattle.lsm_parts.specs.Guards.{pair_of}
+use Rattle.std.specs.declared.ops.Bound.{Bound}
 use Rattle.lsm_state.specs.Refusals.{batch_refusal, repeats, keys_of, is_great, is_long_key, is_long_value, op_value}
 use Rattle.lsm_tree.specs.declared.marks.Mark.{Mark}
 use Rattle.lsm_tree.specs.Marks.{mark_of, mark_in, marked_by, marked_all, keeps_order, batch_keeps_order, no_mark}
@@ -124,6 +127,20 @@ recorded_read marks low c journal k s v r step =
     let counted : next_number [] (journal ++ Read s (Get k) (Found v) ∷ []) ≤ c.seqno = rw (fold_push next_number_after 0 journal (Read s (Get k) (Found v))) r.counted in
     recorded marks low c (journal ++ Read s (Get k) (Found v) ∷ []) (step_holds [] empty (state_of journal c) (Asked s (Get k)) (state_of (journal ++ Read s (Get k) (Found v) ∷ []) c) (step [] journal (omega arith)) order r.holds)
     (record { order = order; counted = counted }) (r.floored ∙ sym (fold_push floor_after 0 journal (Read s (Get k) (Found v)))) (λ q. r.noted q ∙ sym (mark_in-read journal s (Get k) (Found v) q))
+
+pub recorded_range : (marks : Marks) (low : ℕ) (c : Core) (journal : List Event) (from to : Bound Bytes) (s : ℕ) (out : List Entry) → IsRecorded marks low c journal → IsRangeStep c from to s out → IsRecorded marks low c (journal ++ Read s (Between from to) (Pairs (map pair_of out)) ∷ [])
+recorded_range marks low c journal from to s out r step =
+    let question = Between from to in
+    let told = Pairs (map pair_of out) in
+    let order = in_order_push [] journal (Read s question told) r.order tt in
+    let counted : next_number [] (journal ++ Read s question told ∷ []) ≤ c.seqno = rw (fold_push next_number_after 0 journal (Read s question told)) r.counted in
+    recorded marks low c (journal ++ Read s question told ∷ []) (step_holds [] empty (state_of journal c) (Asked s question) (state_of (journal ++ Read s question told ∷ []) c) (step [] journal (omega arith) r.reads.ordered) order r.holds)
+    (record { order = order; counted = counted }) (r.floored ∙ sym (fold_push floor_after 0 journal (Read s question told))) (λ q. r.noted q ∙ sym (mark_in-read journal s question told q))
+
+-- the last read of a journal agrees with the replay before it
+pub agrees_last : (start : Map) (before journal : List Event) (x : Event) → AgreesFrom start before (journal ++ x ∷ []) → ReadAgrees start (before ++ journal) x
+agrees_last start before [] x h = subst (λ js. ReadAgrees start js x) (sym (append-nil before)) h.0
+agrees_last start before (y ∷ journal) x h = subst (λ js. ReadAgrees start js x) (append_assoc before (y ∷ []) journal) (agrees_last start (before ++ y ∷ []) journal x h.1)
 
 found_cut : (v w : Option Bytes) → Found v ≡ Found w → v ≡ w
 found_cut v w e = cc e

@@ -7,3 +7,4 @@ pub mod Notes
 pub mod Recorded
 pub mod Told
 pub mod Runs
+pub mod Listing

@@ -8,7 +8,8 @@ use lsm_model::{Answer, JournalEntry, KeyRanges, KvPairs, Question};
 use std::alloc::{AllocError, Global};
 use std::ops::Bound;
 
-fn copy_bound(bound: &Bound<UserKey>) -> Result<Bound<UserKey>, AllocError>
+/// A copy of a bound.
+pub(crate) fn copy_bound(bound: &Bound<UserKey>) -> Result<Bound<UserKey>, AllocError>
     ensures { IfOk result (λ copy. copy ≡ bound.now) }
 {
     match bound {

@@ -346,5 +346,7 @@ impl<S: Store> Recorded<S> {
     }
 }
 
+mod range;
+
 #[cfg(test)]
 mod tests;

@@ -5,8 +5,8 @@ ghost use Rattle.lsm_below.specs.Entries.{plain};
 ghost use Rattle.lsm_model.specs.Journal.{Agrees};
 ghost use Rattle.lsm_model.specs.Ops.{op_entry, op_entries};
 ghost use Rattle.lsm_model.specs.declared.journal.JournalEntry.TheVariants.{Write as WriteEntry, Read as ReadEntry};
-ghost use Rattle.lsm_model.specs.declared.question.Question.TheVariants.{Get as GetQuestion};
-ghost use Rattle.lsm_model.specs.declared.question.Answer.TheVariants.{Found};
+ghost use Rattle.lsm_model.specs.declared.question.Question.TheVariants.{Get as GetQuestion, Between};
+ghost use Rattle.lsm_model.specs.declared.question.Answer.TheVariants.{Found, Pairs as PairsAnswer};
 ghost use Rattle.lsm_model.specs.declared.op.Op.TheVariants.{Set, Del, Weak};
 ghost use Rattle.lsm_tree.specs.Closing.{ListTogether};
 ghost use Rattle.lsm_state.specs.Calls.{Appends, WritesBatch};
@@ -16,9 +16,10 @@ ghost use Rattle.lsm_tree.specs.Shared.{OnSomeTree, Puts};
 use crate::handle::Handle;
 use crate::pass::Pass;
 use crate::recorded::Recorded;
-use lsm_below::{InternalValue, MemtableId, SeqNo, Store, UserKey, UserValue};
+use lsm_below::{InternalValue, KvPair, MemtableId, SeqNo, Store, UserKey, UserValue};
 use lsm_model::{JournalEntry, Op};
 use lsm_parts::Error;
+use std::ops::Bound;
 use std::sync::Wait;
 
 /// What each call refuses stands at `Recorded`. A refused call puts nothing behind the pass.
@@ -36,6 +37,21 @@ impl<S: Store> Handle<Recorded<S>> {
         ensures err { OnErr result (pass.new ≡ pass.old) }
     {
         self.shared.lock(rt).get(pass, key, snapshot)
+    }
+
+    /// The pairs that a snapshot shows within bounds, as `Recorded::range`.
+    pub fn range(
+        &self,
+        rt: &impl Wait,
+        pass: &mut Pass,
+        bounds: &(Bound<UserKey>, Bound<UserKey>),
+        snapshot: SeqNo,
+    ) -> Result<Vec<KvPair>, Error>
+        ensures only { IfErr result (λ e. (e ≡ Error.SnapshotTooOld) ⊎ (e ≡ Error.OutOfMemory)) }
+        ensures noted { IfOk result (λ pairs. Puts (ReadEntry snapshot (Between bounds.now.0 bounds.now.1) (PairsAnswer pairs.items) ∷ []) pass.old pass.new) }
+        ensures err { OnErr result (pass.new ≡ pass.old) }
+    {
+        self.shared.lock(rt).range(pass, bounds, snapshot)
     }
 
     /// Seals the active memtable, as `Recorded::rotate_memtable`.
