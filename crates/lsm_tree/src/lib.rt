@@ -33,14 +33,16 @@ mod steps;
 
 pub use handle::{Handle, RecordedTree, Tree};
 pub use lsm_below::{
-    CompactionStream, InternalKey, InternalValue, KeyRange, KvPair, ListSource, MemtableId, Merger,
-    MvccStream, NoStore, Ranged, Run, SeqNo, Source, Store, TableId, TreeId, UserKey, UserValue,
-    ValueType, compact, is_run, optimize_runs,
+    Checksum, CompactionStream, Fault, InternalKey, InternalValue, KeyRange, KvPair, ListSource,
+    MemStore, MemtableId, Merger, MultiWriter, MvccStream, NoStore, Pick, Ranged, Run, SeqNo,
+    Source, Store, StoreError, Table, TableError, TableId, TreeId, UserKey, UserValue, ValueType,
+    compact, is_run, optimize_runs, write_tables,
 };
 pub use lsm_model::{Answer, JournalEntry, KeyRanges, KvPairs, Op, Ops, Question};
 pub use lsm_parts::{
-    Config, DEFAULT_LEVEL_COUNT, Error, Memtable, SealedMemtables, SequenceNumberCounter,
-    SuperVersion, SuperVersions, Version, VersionId, seqno_filter,
+    Config, DEFAULT_LEVEL_COUNT, End, Error, Guard, IterGuard, IterState, Memtable, RangeItem,
+    SealedMemtables, SequenceNumberCounter, SuperVersion, SuperVersions, TreeIter, Version,
+    VersionId, prefix_to_range, seqno_filter, take_ends,
 };
 pub use lsm_state::TreeState;
 pub use pass::Pass;

@@ -347,6 +347,5 @@ impl<S: Store> Recorded<S> {
 }
 
 mod range;
-
 #[cfg(test)]
 mod tests;

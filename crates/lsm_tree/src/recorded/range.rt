@@ -47,11 +47,7 @@ fn range_entry(
     let low = copy_bound(&bounds.0)?;
     let high = copy_bound(&bounds.1)?;
     let told = KvPairs::new(copy_pairs(alloc, pairs)?);
-    Ok(JournalEntry::Read(
-        snapshot,
-        Question::Between(low, high),
-        Answer::Pairs(told),
-    ))
+    Ok(JournalEntry::Read(snapshot, Question::Between(low, high), Answer::Pairs(told)))
 }
 
 impl<S: Store> Recorded<S> {
