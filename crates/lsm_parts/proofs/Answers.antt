@@ -13,7 +13,7 @@ use Rattle.std.specs.List.{find as find_entry}
 use Rattle.lsm_below.proofs.Each.{each_filter}
 use Rattle.lsm_model.specs.declared.question.Answer.TheVariants.{Pairs}
 use Rattle.lsm_below.specs.Keys.{Bytes, bytes_cmp, is_same}
-use Rattle.lsm_below.specs.Entries.{Entry, stack, is_value_kind, value_of, value_by, top, later, IsFalling}
+use Rattle.lsm_below.specs.Entries.{Entry, stack, is_value_kind, value_of, value_by, top, later, IsFalling, IsOrdered}
 use Rattle.lsm_below.specs.declared.value_type.ValueType.{ValueType}
 use Rattle.lsm_below.specs.declared.value_type.ValueType.TheVariants.{Value, Tombstone, WeakTombstone}
 use Rattle.lsm_below.specs.Streams.{is_of}
@@ -23,9 +23,9 @@ use Rattle.lsm_model.specs.Views.{view, seen, shown}
 use Rattle.lsm_model.proofs.Journals.{get-changed, same_key}
 use Rattle.lsm_model.proofs.Answers.{get-map_of}
 use Rattle.lsm_parts.specs.Guards.{pair_of}
-use Rattle.lsm_parts.specs.Shown.{lies_within, IsNewestOf, IsNewest, IsShown, by_key, Shows}
+use Rattle.lsm_parts.specs.Shown.{lies_within, begins_with, IsNewestOf, IsNewest, IsShown, by_key, ShowsOf}
 use Rattle.lsm_parts.specs.Reads.{at, counted, all_counted, tree_of, counted_at}
-use Rattle.lsm_parts.specs.Answers.{pairs_within, IsSingular, overlaid, map_at, ShownIsView, ShownIsAnswer, ShownIsOverlaid}
+use Rattle.lsm_parts.specs.Answers.{pairs_of, IsSingular, overlaid, map_at, ShownIsView, ShownIsAnswer, ShownIsPrefixAnswer, ShownIsOverlaid}
 use Rattle.lsm_parts.proofs.Shown.{contains_here, contains_split, filter_had, first_item, filter_swap}
 use Rattle.lsm_parts.proofs.Last.{newest_join, newest_key}
 use lib.Dec.{T}
@@ -53,18 +53,17 @@ rising : (out : List Entry) → Rises by_key out → is_sorted bytes_cmp (map pa
 rising [] h = refl
 rising (e ∷ out) h = ap (λ b. b && is_sorted bytes_cmp (map pair_of out)) (all_below e out h.0) ∙ rising out h.1
 
-none_outside : (low high : Bound Bytes) (es out : List Entry) → Shows low high es out → (k : Bytes) → lies_within low high k ≡ false → (l : List Entry) → stack k out ≡ l → first_value l ≡ None
-none_outside low high es out h k out_of [] is = refl
-none_outside low high es out h k out_of (e ∷ l) is =
+none_outside : (test : Bytes → Bool) (es out : List Entry) → ShowsOf test es out → (k : Bytes) → test k ≡ false → (l : List Entry) → stack k out ≡ l → first_value l ≡ None
+none_outside test es out h k out_of [] is = refl
+none_outside test es out h k out_of (e ∷ l) is =
     let here : Contains (stack k out) e = subst (λ x. Contains x e) (sym is) (contains_here e l) in
     let same : k ≡ e.key.user_key = same_key k e.key.user_key (All-contains (λ x. is_of k x ≡ true) (stack k out) e (filter_passes (is_of k) out) here) in
-    let inside = (All-contains (λ e. (lies_within low high e.key.user_key ≡ true) × IsShown es e) out e h.each (filter_had (is_of k) out e here)).0 in
-    absurd (let bad : false ≡ true = sym out_of ∙ (ap (lies_within low high) same ∙ inside) in cc bad)
+    let inside = (All-contains (λ e. (test e.key.user_key ≡ true) × IsShown es e) out e h.each (filter_had (is_of k) out e here)).0 in
+    absurd (let bad : false ≡ true = sym out_of ∙ (ap test same ∙ inside) in cc bad)
 
--- what is shown is what a map has within bounds, if it has the same at each key there
-shown_of_map : (low high : Bound Bytes) (es out : List Entry) (m : Map) → Shows low high es out → ((k : Bytes) → lies_within low high k ≡ true → get m k ≡ first_value (stack k out)) → map pair_of out ≡ pairs_within low high m
-shown_of_map low high es out m h same =
-    let p = lies_within low high in
+-- what is shown is what a map has of the keys that pass, if it has the same at each of them
+shown_of_map : (test : Bytes → Bool) (es out : List Entry) (m : Map) → ShowsOf test es out → ((k : Bytes) → test k ≡ true → get m k ≡ first_value (stack k out)) → map pair_of out ≡ pairs_of test m
+shown_of_map p es out m h same =
     let part : Map = from_sorted {R = bytes_cmp} (filter (λ e. p e.0) (entries m)) in
     let cut_sorted = is_sorted-where_key bytes_cmp p (entries m) (entries_sorted m) in
     let list_sorted : T (is_sorted bytes_cmp (map pair_of out)) = subst T (sym (rising out h.rises)) tt in
@@ -76,7 +75,7 @@ shown_of_map low high es out m h same =
     let both : whole ≡ part = same_map nat_list_cmp_total (slice_cmp-IsAntisymmetric nat_cmp-IsAntisymmetric) whole part (λ q.
     in_whole q ∙ (elim (p q) as (λ b. p q ≡ b → first_value (stack q out) ≡ cond b (get m q) None) [
       | true ↦ λ inside. sym (same q inside)
-      | false ↦ λ outside. none_outside low high es out h q outside (stack q out) refl
+      | false ↦ λ outside. none_outside p es out h q outside (stack q out) refl
     ] refl) ∙ sym (in_part q)) in
     sym (entries-from_sorted bytes_cmp (map pair_of out) list_sorted) ∙ ap entries both ∙ entries-from_sorted bytes_cmp (filter (λ e. p e.0) (entries m)) cut_sorted
 
@@ -91,20 +90,20 @@ as_value Tombstone v h = absurd (cc h)
 as_value WeakTombstone v h = absurd (cc h)
 
 -- what is listed of a key is what its newest entry shows, where that is the only one
-value_shown : (low high : Bound Bytes) (es out : List Entry) → Shows low high es out → (k : Bytes) → lies_within low high k ≡ true → IsOnly (stack k es) → (o : Option Entry) → IsNewest es k o → (l : List Entry) → stack k out ≡ l → first_value l ≡ shown o
-value_shown low high es out h k inside only o newest [] none =
+value_shown : (test : Bytes → Bool) (es out : List Entry) → ShowsOf test es out → (k : Bytes) → test k ≡ true → IsOnly (stack k es) → (o : Option Entry) → IsNewest es k o → (l : List Entry) → stack k out ≡ l → first_value l ≡ shown o
+value_shown test es out h k inside only o newest [] none =
     let hidden = h.rest k inside none in
     sym hidden.2 ∙ ap shown (only hidden.0 o hidden.1 newest)
-value_shown low high es out h k inside only o newest (e ∷ l) is =
+value_shown test es out h k inside only o newest (e ∷ l) is =
     let here : Contains (stack k out) e = subst (λ x. Contains x e) (sym is) (contains_here e l) in
     let same : k ≡ e.key.user_key = same_key k e.key.user_key (All-contains (λ x. is_of k x ≡ true) (stack k out) e (filter_passes (is_of k) out) here) in
-    let listed = (All-contains (λ e. (lies_within low high e.key.user_key ≡ true) × IsShown es e) out e h.each (filter_had (is_of k) out e here)).1 in
+    let listed = (All-contains (λ e. (test e.key.user_key ≡ true) × IsShown es e) out e h.each (filter_had (is_of k) out e here)).1 in
     sym (as_value e.key.value_type e.value listed.value) ∙ ap shown (only (Some e) o (subst (λ q. IsNewest es q (Some e)) (sym same) listed.newest) newest)
 
-shown_of_newest : (low high : Bound Bytes) (es out : List Entry) (m : Map) (newest : Bytes → Option Entry) → ((k : Bytes) → IsNewest es k (newest k)) → ((k : Bytes) → IsOnly (stack k es)) → ((k : Bytes) → get m k ≡ shown (newest k))
-    → Shows low high es out → map pair_of out ≡ pairs_within low high m
-shown_of_newest low high es out m newest is only same h =
-    shown_of_map low high es out m h (λ k inside. same k ∙ sym (value_shown low high es out h k inside (only k) (newest k) (is k) (stack k out) refl))
+shown_of_newest : (test : Bytes → Bool) (es out : List Entry) (m : Map) (newest : Bytes → Option Entry) → ((k : Bytes) → IsNewest es k (newest k)) → ((k : Bytes) → IsOnly (stack k es)) → ((k : Bytes) → get m k ≡ shown (newest k))
+    → ShowsOf test es out → map pair_of out ≡ pairs_of test m
+shown_of_newest test es out m newest is only same h =
+    shown_of_map test es out m h (λ k inside. same k ∙ sym (value_shown test es out h k inside (only k) (newest k) (is k) (stack k out) refl))
 
 -- where entries of one key and number are the same
 only_singular : (es : List Entry) → IsSingular es → (k : Bytes) → IsOnly (stack k es)
@@ -166,12 +165,12 @@ counted_flat s [] = refl
 counted_flat s (es ∷ sources) = ap (λ l. filter (λ e. ltb e.key.seqno s) es ++ l) (counted_flat s sources) ∙ sym (filter-append (λ e. ltb e.key.seqno s) es (flat_map (λ es. es) sources))
 
 pub is_view : ShownIsView
-is_view s sources m low high out at_key single h =
+is_view s sources m test out at_key single h =
     let all = flat_map (λ (es : List Entry). es) sources in
     let counts = λ (e : Entry). ltb e.key.seqno s in
     let fewer : IsSingular (filter counts all) = λ e f he hf. single e f (filter_had counts all e he) (filter_had counts all f hf) in
-    shown_of_newest low high (filter counts all) out m (λ k. top k s all) (λ k. newest_top k s all) (only_singular (filter counts all) fewer) at_key
-    (subst (λ es. Shows low high es out) (counted_flat s sources) h)
+    shown_of_newest test (filter counts all) out m (λ k. top k s all) (λ k. newest_top k s all) (only_singular (filter counts all) fewer) at_key
+    (subst (λ es. ShowsOf test es out) (counted_flat s sources) h)
 
 -- ---- the view where numbers fall
 
@@ -207,9 +206,9 @@ get-view_over s sources k =
     let all = flat_map (λ (es : List Entry). es) sources in
     get-map_of k s all ∙ seen_over s (stack k all) ∙ ap (λ l. over l None) (filter_swap (λ e. ltb e.key.seqno s) (is_of k) all ∙ ap (stack k) (sym (counted_flat s sources)))
 
-shown_falling : (low high : Bound Bytes) (es out : List Entry) (m : Map) → ((k : Bytes) → IsFalling (stack k es)) → ((k : Bytes) → get m k ≡ over (stack k es) None) → Shows low high es out → map pair_of out ≡ pairs_within low high m
-shown_falling low high es out m fall same h =
-    shown_of_newest low high es out m (λ k. first_item (stack k es)) (λ k. first_falling (stack k es) (fall k)) (λ k. only_falling (stack k es) (fall k)) (λ k. same k ∙ over_none (stack k es)) h
+shown_falling : (test : Bytes → Bool) (es out : List Entry) (m : Map) → ((k : Bytes) → IsFalling (stack k es)) → ((k : Bytes) → get m k ≡ over (stack k es) None) → ShowsOf test es out → map pair_of out ≡ pairs_of test m
+shown_falling test es out m fall same h =
+    shown_of_newest test es out m (λ k. first_item (stack k es)) (λ k. first_falling (stack k es) (fall k)) (λ k. only_falling (stack k es) (fall k)) (λ k. same k ∙ over_none (stack k es)) h
 
 falling_filter : (t : Entry → Bool) (l : List Entry) → IsFalling l → IsFalling (filter t l)
 falling_filter t [] h = tt
@@ -218,19 +217,27 @@ falling_filter t (e ∷ l) h = elim (t e) as (λ b. IsFalling (cond b (e ∷ fil
   | false ↦ falling_filter t l h.1
 ]
 
-pub is_answer : ShownIsAnswer
-is_answer s sources low high out ordered h =
+-- the numbers of a key that count fall, where all of its numbers do
+counted_falls : (s : ℕ) (sources : List (List Entry)) → IsOrdered sources → (k : Bytes) → IsFalling (stack k (all_counted (map (at s) sources)))
+counted_falls s sources ordered k =
     let all = flat_map (λ (es : List Entry). es) sources in
     let counts = λ (e : Entry). ltb e.key.seqno s in
-    let falls : (k : Bytes) → IsFalling (stack k (all_counted (map (at s) sources))) = λ k.
-    subst IsFalling (filter_swap counts (is_of k) all ∙ ap (stack k) (sym (counted_flat s sources))) (falling_filter counts (stack k all) (ordered k)) in
-    ap Pairs (sym (shown_falling low high (all_counted (map (at s) sources)) out (view s sources) falls (get-view_over s sources) h))
+    subst IsFalling (filter_swap counts (is_of k) all ∙ ap (stack k) (sym (counted_flat s sources))) (falling_filter counts (stack k all) (ordered k))
+
+shown_ordered : (s : ℕ) (sources : List (List Entry)) (test : Bytes → Bool) (out : List Entry) → IsOrdered sources → ShowsOf test (all_counted (map (at s) sources)) out → map pair_of out ≡ pairs_of test (view s sources)
+shown_ordered s sources test out ordered h = shown_falling test (all_counted (map (at s) sources)) out (view s sources) (counted_falls s sources ordered) (get-view_over s sources) h
+
+pub is_answer : ShownIsAnswer
+is_answer s sources low high out ordered h = ap Pairs (sym (shown_ordered s sources (lies_within low high) out ordered h))
+
+pub is_prefix_answer : ShownIsPrefixAnswer
+is_prefix_answer s sources prefix out ordered h = ap Pairs (sym (shown_ordered s sources (begins_with prefix) out ordered h))
 
 pub is_overlaid : ShownIsOverlaid
-is_overlaid s st low high out falls h =
+is_overlaid s st test out falls h =
     let index = all_counted (option_to_list st.overlay) in
     let tree = all_counted (map (at s) (tree_of st)) in
     let parts : counted_at s st ≡ index ++ tree = flat_map-append counted (option_to_list st.overlay) (map (at s) (tree_of st)) in
-    shown_falling low high (counted_at s st) out (map_at s st) falls (λ k.
+    shown_falling test (counted_at s st) out (map_at s st) falls (λ k.
     get-overlaid index (view s (tree_of st)) k ∙ ap (over (stack k index)) (get-view_over s (tree_of st) k) ∙ sym (over-append (stack k index) (stack k tree) None)
     ∙ ap (λ l. over l None) (sym (ap (stack k) parts ∙ filter-append (is_of k) index tree))) h

@@ -50,3 +50,28 @@ and_true false = refl
 pub full_only : (p rest t k : List ℕ) → p ≡ rest ++ t → length rest ≡ 0 → IsFull t → AllByRecursion (λ b. b < 256) k → (is_le (slice_cmp nat_cmp p k) && true) ≡ starts_with eqb k p
 full_only p [] t k is none f s = and_true (is_le (slice_cmp nat_cmp p k)) ∙ rw is (full_begins t k f s)
 full_only p (x ∷ rest) t k is none f s = absurd (omega (arith, none))
+
+-- ---- whatever its numbers
+
+begins_from : (t k : List ℕ) → starts_with eqb k t ≡ true → is_le (slice_cmp nat_cmp t k) ≡ true
+begins_from [] [] h = refl
+begins_from [] (c ∷ k) h = refl
+begins_from (b ∷ t) [] h = absurd (cc h)
+begins_from (b ∷ t) (c ∷ k) h =
+    let ih = begins_from t k in
+    grind (arith, nat_tests)
+
+-- what begins with the prefix stands from the prefix on, and before the raised one
+pub begins_between : (r : List ℕ) (b : ℕ) (t k : List ℕ) → starts_with eqb k (r ++ b ∷ t) ≡ true → (is_le (slice_cmp nat_cmp (r ++ b ∷ t) k) && is_lt (slice_cmp nat_cmp k (r ++ (b + 1) ∷ []))) ≡ true
+begins_between [] b t [] h = absurd (cc h)
+begins_between [] b t (c ∷ k) h =
+    let from = begins_from t k in
+    let none = none_below k in
+    grind (arith, nat_tests)
+begins_between (x ∷ r) b t [] h = absurd (cc h)
+begins_between (x ∷ r) b t (c ∷ k) h =
+    let ih = begins_between r b t k in
+    grind (arith, nat_tests)
+
+pub begins_on : (p k : List ℕ) → starts_with eqb k p ≡ true → (is_le (slice_cmp nat_cmp p k) && true) ≡ true
+begins_on p k h = and_true (is_le (slice_cmp nat_cmp p k)) ∙ begins_from p k h

@@ -1,6 +1,6 @@
 -- What entries show within bounds: of each key its newest entry decides.
-use Rattle.std.specs.Prelude.{◌≡◌, ◌≤◌, Bool, true, ◌&&◌, List, [], Option, Some, None}
-use Rattle.std.specs.List.{All, Contains}
+use Rattle.std.specs.Prelude.{◌≡◌, ◌≤◌, Bool, true, ◌&&◌, List, [], Option, Some, None, nat_eq}
+use Rattle.std.specs.List.{All, Contains, starts_with}
 use Rattle.std.specs.Ordering.{on}
 use Rattle.std.specs.declared.cmp.Ordering.{Ordering}
 use Rattle.std.specs.declared.ops.Bound.{Bound}
@@ -36,11 +36,23 @@ IsHidden es k = (e : Option Entry) × IsNewest es k e × (shown e ≡ None)
 abbrev pub by_key : Entry → Entry → Ordering
 by_key = on (λ e. e.key.user_key) bytes_cmp
 
--- the list of what entries show within bounds
-pub record Shows (low high : Bound Bytes) (es out : List Entry) : Type 0 where
+-- the list of what entries show of the keys that pass a test
+pub record ShowsOf (test : Bytes → Bool) (es out : List Entry) : Type 0 where
   -- keys rise, and none comes twice
   pub rises : Rises by_key out
-  -- each lies within the bounds and is shown
-  pub each : All (λ e. (lies_within low high e.key.user_key ≡ true) × IsShown es e) out
-  -- of every other key within the bounds nothing is shown
-  pub rest : (k : Bytes) → lies_within low high k ≡ true → stack k out ≡ [] → IsHidden es k
+  -- each passes the test and is shown
+  pub each : All (λ e. (test e.key.user_key ≡ true) × IsShown es e) out
+  -- of every other key that passes it nothing is shown
+  pub rest : (k : Bytes) → test k ≡ true → stack k out ≡ [] → IsHidden es k
+
+-- the list of what they show within bounds
+abbrev pub Shows : Bound Bytes → Bound Bytes → List Entry → List Entry → Type 0
+Shows low high = ShowsOf (lies_within low high)
+
+-- does the key begin so?
+abbrev pub begins_with : Bytes → Bytes → Bool
+begins_with prefix k = starts_with nat_eq k prefix
+
+-- the list of what they show of the keys that begin so
+abbrev pub ShowsPrefix : Bytes → List Entry → List Entry → Type 0
+ShowsPrefix prefix = ShowsOf (begins_with prefix)

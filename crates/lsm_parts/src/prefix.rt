@@ -1,14 +1,24 @@
 // The bounds of the keys that begin alike.
-ghost use Rattle.std.specs.Prelude.{◌≡◌, ◌+◌, ◌<◌, ◌∷◌, ◌++◌, [], IfOk, IfErr, nat_eq};
-ghost use Rattle.std.specs.List.{starts_with};
+ghost use Rattle.std.specs.Prelude.{◌≡◌, ℕ, ◌+◌, ◌<◌, ◌∷◌, ◌++◌, [], true, IfOk, IfErr, slice_index};
 ghost use Rattle.lsm_below.specs.Keys.{Bytes};
-ghost use Rattle.lsm_parts.specs.Prefixes.{AreBytes, Follows};
-ghost use Rattle.lsm_parts.specs.Shown.{lies_within};
+ghost use Rattle.lsm_parts.specs.Prefixes.{AreBytes, Follows, LetsIn};
+ghost use Rattle.lsm_parts.specs.Shown.{lies_within, begins_with};
 
 use crate::Error;
 use lsm_below::UserKey;
 use std::alloc::{AllocError, Global};
 use std::ops::Bound;
+
+fn are_bytes(bytes: &[u8])
+    ensures { (i : ℕ) → slice_index bytes.now i < 256 }
+{}
+
+/// A key's numbers are those of bytes.
+pub(crate) fn key_has_bytes(key: &UserKey)
+    ensures { AreBytes key.now }
+{
+    are_bytes(key.as_slice());
+}
 
 /// The bytes before the last one, and that one raised by one: the least key above all that begin with both.
 fn raised(alloc: Global, front: &[u8], last: u8) -> Result<UserKey, AllocError>
@@ -23,7 +33,8 @@ fn raised(alloc: Global, front: &[u8], last: u8) -> Result<UserKey, AllocError>
 
 /// The upper bound of the keys that begin so, of those not below the prefix itself.
 fn upper_of(alloc: Global, prefix: &[u8]) -> Result<Bound<UserKey>, AllocError>
-    ensures { IfOk result (λ upper. Follows prefix.now upper) }
+    ensures only { IfOk result (Follows prefix.now) }
+    ensures all { IfOk result (LetsIn prefix.now) }
 {
     let mut rest = prefix;
     while let Some((last, front)) = rest.split_last() {
@@ -45,7 +56,9 @@ pub fn prefix_to_range(
     prefix: &[u8],
 ) -> Result<(Bound<UserKey>, Bound<UserKey>), Error>
     ensures ok { IfOk result
-        (λ bounds. (key : Bytes) → AreBytes key → lies_within bounds.0 bounds.1 key ≡ starts_with nat_eq key prefix.now) }
+        (λ bounds. (key : Bytes) → AreBytes key → lies_within bounds.0 bounds.1 key ≡ begins_with prefix.now key) }
+    ensures all { IfOk result
+        (λ bounds. (key : Bytes) → begins_with prefix.now key ≡ true → lies_within bounds.0 bounds.1 key ≡ true) }
     ensures memory { IfErr result (λ e. e ≡ Error.OutOfMemory) }
 {
     if prefix.is_empty() {

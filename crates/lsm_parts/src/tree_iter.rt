@@ -1,14 +1,17 @@
 // An iterator over what a snapshot shows, from both ends.
 ghost use Rattle.std.specs.Prelude.{◌≡◌, ◌↔◌, [], false, filter, length, IfOk, IfErr, OnErr, IsTrue};
+ghost use Rattle.std.specs.List.{All};
 ghost use Rattle.std.specs.Iterator.{at_most};
 ghost use Rattle.lsm_below.specs.Entries.{is_value};
-ghost use Rattle.lsm_parts.specs.Shown.{Shows};
+ghost use Rattle.lsm_parts.specs.Shown.{Shows, ShowsPrefix};
+ghost use Rattle.lsm_parts.specs.Prefixes.{HasBytes};
 ghost use Rattle.lsm_parts.specs.declared.error.Error.{Error};
 ghost use Rattle.lsm_parts.specs.Reads.{counted_at};
 ghost use Rattle.lsm_parts.specs.Ends.{TakesEntry, TakesPair, TakesEnds};
 ghost use Rattle.lsm_parts.specs.declared.tree_iter.End.TheVariants.{Front, Back};
 
 use crate::cut::Cut;
+use crate::prefix::{key_has_bytes, prefix_to_range};
 use crate::{Error, Guard, IterState};
 use lsm_below::{InternalValue, Merger, MvccStream, SeqNo, Source, UserKey};
 use std::alloc::{AllocError, Global};
@@ -63,6 +66,7 @@ fn values_of<S: Source<Error = Error>>(
 ) -> Result<VecDeque<InternalValue>, Error>
     requires { (e : Error) → S.may_refuse e → e ≡ Error.OutOfMemory }
     ensures ok { IfOk result (λ list. list.items ≡ filter is_value (S.rest source).entries) }
+    ensures bytes { IfOk result (λ list. All HasBytes list.items) }
     ensures memory { IfErr result (λ e. e ≡ Error.OutOfMemory) }
 {
     let mut list = VecDeque::new(alloc);
@@ -72,6 +76,7 @@ fn values_of<S: Source<Error = Error>>(
             Some(Err(error)) => return Err(error),
             Some(Ok(entry)) => {
                 if !entry.is_tombstone() {
+                    key_has_bytes(&entry.key.user_key);
                     list.push_back(entry)?;
                 }
             }
@@ -89,12 +94,28 @@ impl TreeIter {
         seqno: SeqNo,
     ) -> Result<TreeIter, Error>
         ensures shows { IfOk result (λ iter. Shows bounds.now.0 bounds.now.1 (counted_at seqno state.now) iter) }
+        ensures bytes { IfOk result (All HasBytes) }
         ensures memory { IfErr result (λ e. e ≡ Error.OutOfMemory) }
     {
         let stream = newest_of(alloc, state, bounds, seqno)?;
         Ok(TreeIter {
             entries: values_of(alloc, stream)?,
         })
+    }
+
+    /// What a snapshot shows of the keys that begin so, as `create_range`. Refused only for want of memory.
+    pub fn create_prefix(
+        alloc: Global,
+        state: &IterState<'_>,
+        prefix: &[u8],
+        seqno: SeqNo,
+    ) -> Result<TreeIter, Error>
+        ensures shows { IfOk result (λ iter. ShowsPrefix prefix.now (counted_at seqno state.now) iter) }
+        ensures memory { IfErr result (λ e. e ≡ Error.OutOfMemory) }
+    {
+        let bounds = prefix_to_range(alloc, prefix)?;
+        let iter = TreeIter::create_range(alloc, state, &bounds, seqno)?;
+        Ok(iter)
     }
 
     /// How many entries are left.
