@@ -1,7 +1,7 @@
 -- What reads over many keys answer.
-use Rattle.std.specs.Prelude.{◌≡◌, ℕ, ◌≤◌, Bool, List, [], ◌∷◌, ◌++◌, map, length, filter, Option, Some, None, Ok, option_map, is_none, is_some, nat_eq, nat_lt}
+use Rattle.std.specs.Prelude.{◌≡◌, ℕ, ◌≤◌, Bool, List, [], ◌∷◌, ◌++◌, map, length, filter, Option, Some, None, Ok, option_map, is_none, is_some, nat_lt}
 use Rattle.std.specs.Borrow.{Bor}
-use Rattle.std.specs.List.{starts_with, AllByRecursion}
+use Rattle.std.specs.List.{AllByRecursion}
 use Rattle.std.specs.declared.ops.Bound.{Bound}
 use Rattle.std.specs.declared.ops.Bound.TheVariants.{Unbounded}
 use Rattle.lsm_below.specs.Keys.{Bytes}
@@ -9,12 +9,12 @@ use Rattle.lsm_below.specs.Entries.{Entry, above, IsOrdered}
 use Rattle.lsm_model.specs.Journal.{Event}
 use Rattle.lsm_model.specs.Steps.{Step, Asked}
 use Rattle.lsm_model.specs.declared.journal.JournalEntry.TheVariants.{Read}
-use Rattle.lsm_model.specs.declared.question.Question.TheVariants.{Between}
+use Rattle.lsm_model.specs.declared.question.Question.{Question}
+use Rattle.lsm_model.specs.declared.question.Question.TheVariants.{Between, Prefix}
 use Rattle.lsm_model.specs.declared.question.Answer.TheVariants.{Pairs}
 use Rattle.lsm_model.specs.Views.{SuperVersion, entries, sources, found_at}
 use Rattle.lsm_parts.specs.Memtables.{SeenMemtable}
-use Rattle.lsm_parts.specs.Prefixes.{AreBytes}
-use Rattle.lsm_parts.specs.Shown.{Shows, lies_within}
+use Rattle.lsm_parts.specs.Shown.{Shows, ShowsPrefix}
 use Rattle.lsm_parts.specs.Ends.{EndShown}
 use Rattle.lsm_parts.specs.Guards.{Item, pair_of}
 use Rattle.lsm_parts.specs.declared.tree_iter.End.{End}
@@ -42,15 +42,7 @@ AtVersion c s P = (sv : SuperVersion) × (found_at s (latest_of c) (older_of c) 
 abbrev pub Ranges : Core → Index → Bound Bytes → Bound Bytes → ℕ → List Entry → Type 0
 Ranges c index low high s out = AtVersion c s (λ sv. Shows low high (counting c.memtables index s sv) out)
 
--- bounds within which just the keys lie that begin so
-abbrev pub AreBoundsOf : Bytes → Bound Bytes → Bound Bytes → Type 0
-AreBoundsOf prefix low high = (k : Bytes) → AreBytes k → lies_within low high k ≡ starts_with nat_eq k prefix
-
--- the list of what entries show of the keys that begin so
-abbrev pub ShowsPrefix : Bytes → List Entry → List Entry → Type 0
-ShowsPrefix prefix es out = (low : Bound Bytes) × (high : Bound Bytes) × AreBoundsOf prefix low high × Shows low high es out
-
--- the list of what is shown of them
+-- the list of what is shown of the keys that begin so
 abbrev pub Prefixes : Core → Index → Bytes → ℕ → List Entry → Type 0
 Prefixes c index prefix s out = AtVersion c s (λ sv. ShowsPrefix prefix (counting c.memtables index s sv) out)
 
@@ -70,6 +62,14 @@ PairAt end c index s r = (e : Option Entry) × EndOf end c index s e × (r ≡ o
 abbrev pub TellsEmpty : End → Core → Index → ℕ → Bool → Type 0
 TellsEmpty end c index s b = (e : Option Entry) × EndOf end c index s e × (b ≡ is_none e)
 
--- whatever the journal, an answered range, where numbers fall under each key in every super version
+-- whatever the journal, an answered question is a step, where numbers fall under each key in every super version
+abbrev pub IsListStep : Core → Question → ℕ → List Entry → Type 0
+IsListStep c question s out = (opened : List Entry) (journal : List Event) → above opened ≤ s → AllByRecursion (λ sv. IsOrdered (sources (entries_of c.memtables) sv)) (latest_of c ∷ older_of c) → Step opened (state_of journal c) (Asked s question) (state_of (journal ++ Read s question (Pairs (map pair_of out)) ∷ []) c)
+
+-- a range
 abbrev pub IsRangeStep : Core → Bound Bytes → Bound Bytes → ℕ → List Entry → Type 0
-IsRangeStep c low high s out = (opened : List Entry) (journal : List Event) → above opened ≤ s → AllByRecursion (λ sv. IsOrdered (sources (entries_of c.memtables) sv)) (latest_of c ∷ older_of c) → Step opened (state_of journal c) (Asked s (Between low high)) (state_of (journal ++ Read s (Between low high) (Pairs (map pair_of out)) ∷ []) c)
+IsRangeStep c low high = IsListStep c (Between low high)
+
+-- the keys that begin so
+abbrev pub IsPrefixStep : Core → Bytes → ℕ → List Entry → Type 0
+IsPrefixStep c prefix = IsListStep c (Prefix prefix)

@@ -5,15 +5,14 @@ ghost use Rattle.lsm_model.specs.Views.{found_at, sources};
 ghost use Rattle.lsm_parts.specs.declared.tree_iter.End.TheVariants.{Front, Back};
 ghost use Rattle.lsm_state.specs.Held.{entries_of};
 ghost use Rattle.lsm_state.specs.Core.{latest_of, older_of, shown_as};
-ghost use Rattle.lsm_state.specs.Ranges.{counting, Ranges, ShowsPrefix, Prefixes, Numbers, PairAt, TellsEmpty, EndOf, IsRangeStep};
-ghost use Rattle.lsm_parts.specs.Shown.{Shows};
+ghost use Rattle.lsm_state.specs.Ranges.{counting, Ranges, Prefixes, Numbers, PairAt, TellsEmpty, EndOf, IsRangeStep, IsPrefixStep};
+ghost use Rattle.lsm_parts.specs.Shown.{Shows, ShowsPrefix};
 ghost use Rattle.lsm_parts.specs.Ends.{EndShown};
 
 use crate::{Memtables, TreeState};
 use lsm_below::{InternalValue, MemtableId, SeqNo, Store, UserKey};
 use lsm_parts::{
     End, Error, Guard, IterState, Memtable, SuperVersion, TreeIter, first_shown, last_shown,
-    prefix_to_range,
 };
 use std::alloc::{AllocError, Global};
 use std::ops::Bound;
@@ -86,9 +85,9 @@ fn prefix_of(
     ensures shows { IfOk result (ShowsPrefix prefix.now (counting memtables.now index.entry seqno (shown_as version.now))) }
     ensures memory { IfErr result (λ e. e ≡ Error.OutOfMemory) }
 {
-    let bounds = prefix_to_range(alloc, prefix)?;
-    let iter = range_of(alloc, memtables, version, &bounds, seqno, index)?;
-    Ok(iter)
+    let list = memtables_of(alloc, memtables, version)?;
+    let state = IterState::new(&version.version, list, index);
+    TreeIter::create_prefix(alloc, &state, prefix, seqno)
 }
 
 /// The entry at an end of all that is shown by a super version, under an index.
@@ -193,6 +192,7 @@ impl<S: Store> TreeState<S> {
         index: Option<(&Memtable, SeqNo)>,
     ) -> Result<TreeIter, Error>
         ensures ok { IfOk result (Prefixes self.now.core index.entry prefix.now seqno) }
+        ensures step { index.entry ≡ None → IfOk result (IsPrefixStep self.now.core prefix.now seqno) }
         ensures too_old { IsErrOf result Error.SnapshotTooOld ↔ (found_at seqno (latest_of self.now.core) (older_of self.now.core) ≡ None) }
         ensures only { IfErr result (λ e. (e ≡ Error.SnapshotTooOld) ⊎ (e ≡ Error.OutOfMemory)) }
     {
@@ -210,6 +210,7 @@ impl<S: Store> TreeState<S> {
         index: Option<(&Memtable, SeqNo)>,
     ) -> Result<TreeIter, Error>
         ensures ok { IfOk result (Prefixes self.now.core index.entry prefix.now seqno) }
+        ensures step { index.entry ≡ None → IfOk result (IsPrefixStep self.now.core prefix.now seqno) }
         ensures too_old { IsErrOf result Error.SnapshotTooOld ↔ (found_at seqno (latest_of self.now.core) (older_of self.now.core) ≡ None) }
         ensures only { IfErr result (λ e. (e ≡ Error.SnapshotTooOld) ⊎ (e ≡ Error.OutOfMemory)) }
     {
