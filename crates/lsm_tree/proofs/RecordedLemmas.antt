@@ -16,7 +16,8 @@ use Rattle.lsm_model.specs.Ops.{op_entry, op_entries}
 use Rattle.lsm_model.specs.declared.op.Op.{Op}
 use Rattle.lsm_model.specs.declared.op.Op.TheVariants.{Set, Del, Weak}
 use Rattle.lsm_model.specs.declared.journal.JournalEntry.TheVariants.{Write, Read}
-use Rattle.lsm_model.specs.declared.question.Question.TheVariants.{Get, Between}
+use Rattle.lsm_model.specs.declared.question.Question.{Question}
+use Rattle.lsm_model.specs.declared.question.Question.TheVariants.{Get}
 use Rattle.lsm_model.specs.declared.question.Answer.TheVariants.{Found, Pairs}
 use Rattle.lsm_model.proofs.Lists.{fold_push}
 use Rattle.lsm_model.proofs.Runs.{opened_holds, step_holds, run_holds, reads_right, view_right, answered_view}
@@ -25,9 +26,8 @@ use Rattle.lsm_parts.specs.declared.error.Error.{Error}
 use Rattle.lsm_parts.specs.declared.error.Error.TheVariants.{OutOfMemory, OutOfNumbers, KeyTooLong, ValueTooLong, DuplicateKey}
 use Rattle.lsm_state.specs.Core.{Core, Seen, state_of, latest_of, older_of, fresh_core}
 use Rattle.lsm_state.specs.Calls.{IsWriteStep, IsGetStep, Gives, Rotates, WritesBatch}
-use Rattle.lsm_state.specs.Ranges.{IsRangeStep}
+use Rattle.lsm_state.specs.Ranges.{IsListStep}
 use Rattle.lsm_parts.specs.Guards.{pair_of}
-use Rattle.std.specs.declared.ops.Bound.{Bound}
 use Rattle.lsm_state.specs.Refusals.{batch_refusal, repeats, keys_of, is_great, is_long_key, is_long_value, op_value}
 use Rattle.lsm_tree.specs.declared.marks.Mark.{Mark}
 use Rattle.lsm_tree.specs.Marks.{mark_of, mark_in, marked_by, marked_all, keeps_order, batch_keeps_order, no_mark}
@@ -128,9 +128,8 @@ recorded_read marks low c journal k s v r step =
     recorded marks low c (journal ++ Read s (Get k) (Found v) ∷ []) (step_holds [] empty (state_of journal c) (Asked s (Get k)) (state_of (journal ++ Read s (Get k) (Found v) ∷ []) c) (step [] journal (omega arith)) order r.holds)
     (record { order = order; counted = counted }) (r.floored ∙ sym (fold_push floor_after 0 journal (Read s (Get k) (Found v)))) (λ q. r.noted q ∙ sym (mark_in-read journal s (Get k) (Found v) q))
 
-pub recorded_range : (marks : Marks) (low : ℕ) (c : Core) (journal : List Event) (from to : Bound Bytes) (s : ℕ) (out : List Entry) → IsRecorded marks low c journal → IsRangeStep c from to s out → IsRecorded marks low c (journal ++ Read s (Between from to) (Pairs (map pair_of out)) ∷ [])
-recorded_range marks low c journal from to s out r step =
-    let question = Between from to in
+pub recorded_list : (marks : Marks) (low : ℕ) (c : Core) (journal : List Event) (question : Question) (s : ℕ) (out : List Entry) → IsRecorded marks low c journal → IsListStep c question s out → IsRecorded marks low c (journal ++ Read s question (Pairs (map pair_of out)) ∷ [])
+recorded_list marks low c journal question s out r step =
     let told = Pairs (map pair_of out) in
     let order = in_order_push [] journal (Read s question told) r.order tt in
     let counted : next_number [] (journal ++ Read s question told ∷ []) ≤ c.seqno = rw (fold_push next_number_after 0 journal (Read s question told)) r.counted in

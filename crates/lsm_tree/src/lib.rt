@@ -14,6 +14,7 @@
 //! | `closing` | whether passes list a journal |
 //! | `handle` | trees that several callers share, behind one lock |
 //! | `shared_tree` | the calls of a tree behind the lock |
+//! | `shared_ranges` | its reads of many keys |
 //! | `recorded_tree` | the calls of a tree with its journal, behind the lock |
 #![tactic(auto)]
 
@@ -28,6 +29,7 @@ mod recorded;
 mod recorded_tree;
 mod runner;
 mod same;
+mod shared_ranges;
 mod shared_tree;
 mod steps;
 

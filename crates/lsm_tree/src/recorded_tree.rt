@@ -5,7 +5,7 @@ ghost use Rattle.lsm_below.specs.Entries.{plain};
 ghost use Rattle.lsm_model.specs.Journal.{Agrees};
 ghost use Rattle.lsm_model.specs.Ops.{op_entry, op_entries};
 ghost use Rattle.lsm_model.specs.declared.journal.JournalEntry.TheVariants.{Write as WriteEntry, Read as ReadEntry};
-ghost use Rattle.lsm_model.specs.declared.question.Question.TheVariants.{Get as GetQuestion, Between};
+ghost use Rattle.lsm_model.specs.declared.question.Question.TheVariants.{Get as GetQuestion, Between, Prefix};
 ghost use Rattle.lsm_model.specs.declared.question.Answer.TheVariants.{Found, Pairs as PairsAnswer};
 ghost use Rattle.lsm_model.specs.declared.op.Op.TheVariants.{Set, Del, Weak};
 ghost use Rattle.lsm_tree.specs.Closing.{ListTogether};
@@ -52,6 +52,21 @@ impl<S: Store> Handle<Recorded<S>> {
         ensures err { OnErr result (pass.new ≡ pass.old) }
     {
         self.shared.lock(rt).range(pass, bounds, snapshot)
+    }
+
+    /// The pairs of the keys that begin so, as `Recorded::prefix`.
+    pub fn prefix(
+        &self,
+        rt: &impl Wait,
+        pass: &mut Pass,
+        prefix: &UserKey,
+        snapshot: SeqNo,
+    ) -> Result<Vec<KvPair>, Error>
+        ensures only { IfErr result (λ e. (e ≡ Error.SnapshotTooOld) ⊎ (e ≡ Error.OutOfMemory)) }
+        ensures noted { IfOk result (λ pairs. Puts (ReadEntry snapshot (Prefix prefix.now) (PairsAnswer pairs.items) ∷ []) pass.old pass.new) }
+        ensures err { OnErr result (pass.new ≡ pass.old) }
+    {
+        self.shared.lock(rt).prefix(pass, prefix, snapshot)
     }
 
     /// Seals the active memtable, as `Recorded::rotate_memtable`.

@@ -1,9 +1,10 @@
 // The calls of a tree behind the lock.
-ghost use Rattle.std.specs.Prelude.{◌≡◌, ◌<◌, ◌⊎◌, IfOk, IfErr};
+ghost use Rattle.std.specs.Prelude.{◌≡◌, ◌<◌, ◌⊎◌, Option, IfOk, IfErr, is_some, option_map};
+ghost use Rattle.lsm_below.specs.Keys.{Bytes};
 ghost use Rattle.lsm_below.specs.Entries.{plain};
 ghost use Rattle.lsm_model.specs.Ops.{op_entry};
 ghost use Rattle.lsm_model.specs.declared.op.Op.TheVariants.{Set, Del, Weak};
-ghost use Rattle.lsm_state.specs.Calls.{Appends, WritesBatch, Gives, GivesEntry, Rotates};
+ghost use Rattle.lsm_state.specs.Calls.{Appends, WritesBatch, Gives, GivesEntry, Rotates, value_size};
 ghost use Rattle.lsm_tree.specs.Shared.{OnSomeTree, AtSomeTree};
 
 use crate::handle::Handle;
@@ -35,6 +36,22 @@ impl<S: Store> Handle<TreeState<S>> {
         ensures only { IfErr result (λ e. (e ≡ Error.SnapshotTooOld) ⊎ (e ≡ Error.OutOfMemory)) }
     {
         self.shared.lock(rt).get_internal_entry(key, seqno)
+    }
+
+    /// Whether a key has a value at a snapshot, as `TreeState::contains_key`.
+    pub fn contains_key(&self, rt: &impl Wait, key: &[u8], seqno: SeqNo) -> Result<bool, Error>
+        ensures tells { IfOk result (λ b. AtSomeTree (λ c. (v : Option Bytes) × Gives c key.now seqno v × (b ≡ is_some v))) }
+        ensures only { IfErr result (λ e. e ≡ Error.SnapshotTooOld) }
+    {
+        self.shared.lock(rt).contains_key(key, seqno)
+    }
+
+    /// The bytes of a key's value at a snapshot, as `TreeState::size_of`.
+    pub fn size_of(&self, rt: &impl Wait, key: &[u8], seqno: SeqNo) -> Result<Option<u32>, Error>
+        ensures tells { IfOk result (λ n. AtSomeTree (λ c. (v : Option Bytes) × Gives c key.now seqno v × (n ≡ option_map value_size v))) }
+        ensures only { IfErr result (λ e. e ≡ Error.SnapshotTooOld) }
+    {
+        self.shared.lock(rt).size_of(key, seqno)
     }
 
     /// Seals the active memtable, as `TreeState::rotate_memtable`.

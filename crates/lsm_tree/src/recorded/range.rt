@@ -4,20 +4,21 @@ ghost use Rattle.std.specs.FinMap.{empty};
 ghost use Rattle.lsm_model.specs.Journal.{IsKept, ReadAgrees};
 ghost use Rattle.lsm_model.specs.Views.{found_at};
 ghost use Rattle.lsm_model.specs.declared.journal.JournalEntry.TheVariants.{Read as ReadEntry};
-ghost use Rattle.lsm_model.specs.declared.question.Question.TheVariants.{Between};
+ghost use Rattle.lsm_model.specs.declared.question.Question.TheVariants.{Between, Prefix};
 ghost use Rattle.lsm_model.specs.declared.question.Answer.TheVariants.{Pairs as PairsAnswer};
 ghost use Rattle.lsm_parts.specs.Guards.{pair_of};
 ghost use Rattle.lsm_state.specs.Core.{latest_of, older_of};
+ghost use Rattle.lsm_state.specs.Ranges.{IsListStep};
 ghost use Rattle.lsm_tree.specs.Passes.{Notes};
-ghost use Rattle.lsm_tree.specs.Listing.{Lists};
+ghost use Rattle.lsm_tree.specs.Listing.{Lists, ListsPrefix};
 
-use crate::copies::{copy_bound, copy_pairs};
+use crate::copies::{copy_bound, copy_entry, copy_pairs};
 use crate::pass::{Pass, make_room, put_entry};
 use crate::recorded::Recorded;
-use lsm_below::{KvPair, SeqNo, Store, UserKey};
+use lsm_below::{KvPair, SeqNo, Store, UserKey, share};
 use lsm_model::{Answer, JournalEntry, KvPairs, Question};
 use lsm_parts::{Error, TreeIter};
-use std::alloc::{AllocError, Global};
+use std::alloc::Global;
 use std::ops::Bound;
 
 /// The pairs that an iterator has left. Refused only for want of memory.
@@ -33,21 +34,6 @@ fn take_pairs(alloc: Global, mut iter: TreeIter) -> Result<Vec<KvPair>, Error>
             Some(Ok(entry)) => pairs.push((entry.key.user_key, entry.value))?,
         }
     }
-}
-
-/// What an answered range puts into a journal.
-fn range_entry(
-    alloc: Global,
-    snapshot: SeqNo,
-    bounds: &(Bound<UserKey>, Bound<UserKey>),
-    pairs: &[KvPair],
-) -> Result<JournalEntry, AllocError>
-    ensures { IfOk result (λ entry. entry ≡ ReadEntry snapshot (Between bounds.now.0 bounds.now.1) (PairsAnswer pairs.now)) }
-{
-    let low = copy_bound(&bounds.0)?;
-    let high = copy_bound(&bounds.1)?;
-    let told = KvPairs::new(copy_pairs(alloc, pairs)?);
-    Ok(JournalEntry::Read(snapshot, Question::Between(low, high), Answer::Pairs(told)))
 }
 
 impl<S: Store> Recorded<S> {
@@ -70,9 +56,53 @@ impl<S: Store> Recorded<S> {
         ensures only { IfErr result (λ e. (e ≡ Error.SnapshotTooOld) ⊎ (e ≡ Error.OutOfMemory)) }
     {
         let iter = self.core.range(bounds, snapshot, None)?;
+        let question = Question::Between(copy_bound(&bounds.0)?, copy_bound(&bounds.1)?);
+        self.note_listed(pass, snapshot, question, iter)
+    }
+
+    /// The pairs of the keys that begin so, as `TreeState::prefix`; noted as those of a range.
+    pub fn prefix(
+        &mut self,
+        pass: &mut Pass,
+        prefix: &UserKey,
+        snapshot: SeqNo,
+    ) -> Result<Vec<KvPair>, Error>
+        ensures core { IfOk result (λ pairs. ListsPrefix self.old.tree.core prefix.now snapshot pairs.items) }
+        ensures replay { IfOk result (λ pairs. ReadAgrees empty self.old.journal (ReadEntry snapshot (Prefix prefix.now) (PairsAnswer pairs.items))) }
+        ensures noted { IfOk result (λ pairs. Notes (ReadEntry snapshot (Prefix prefix.now) (PairsAnswer pairs.items) ∷ []) self.old.journal self.new.journal pass.old pass.new) }
+        ensures tree { self.new.tree ≡ self.old.tree }
+
+        ensures err { OnErr result ((self.new ≡ self.old) × (pass.new ≡ pass.old)) }
+        ensures too_old { IsErrOf result Error.SnapshotTooOld ↔ (found_at snapshot (latest_of self.old.tree.core) (older_of self.old.tree.core) ≡ None) }
+        ensures kept { IsKept snapshot self.old.journal → IfErr result (λ e. e ≡ Error.OutOfMemory) }
+        ensures only { IfErr result (λ e. (e ≡ Error.SnapshotTooOld) ⊎ (e ≡ Error.OutOfMemory)) }
+    {
+        let iter = self.core.prefix(prefix.as_slice(), snapshot, None)?;
+        let question = Question::Prefix(share(prefix)?);
+        self.note_listed(pass, snapshot, question, iter)
+    }
+
+    /// The pairs of what a question was answered; and the read is put behind the journal and the pass.
+    /// Refused only for want of memory.
+    fn note_listed(
+        &mut self,
+        pass: &mut Pass,
+        snapshot: SeqNo,
+        question: Question,
+        iter: TreeIter,
+    ) -> Result<Vec<KvPair>, Error>
+        requires { IsListStep self.old.tree.core question snapshot iter }
+        ensures pairs { IfOk result (λ pairs. pairs.items ≡ map pair_of iter) }
+        ensures replay { IfOk result (λ pairs. ReadAgrees empty self.old.journal (ReadEntry snapshot question (PairsAnswer pairs.items))) }
+        ensures noted { IfOk result (λ pairs. Notes (ReadEntry snapshot question (PairsAnswer pairs.items) ∷ []) self.old.journal self.new.journal pass.old pass.new) }
+        ensures tree { self.new.tree ≡ self.old.tree }
+        ensures err { OnErr result ((self.new ≡ self.old) × (pass.new ≡ pass.old)) }
+        ensures memory { IfErr result (λ e. e ≡ Error.OutOfMemory) }
+    {
         let pairs = take_pairs(self.alloc, iter)?;
-        let entry = range_entry(self.alloc, snapshot, bounds, &pairs)?;
-        let copy = range_entry(self.alloc, snapshot, bounds, &pairs)?;
+        let told = KvPairs::new(copy_pairs(self.alloc, &pairs)?);
+        let entry = JournalEntry::Read(snapshot, question, Answer::Pairs(told));
+        let copy = copy_entry(self.alloc, &entry)?;
         make_room(&mut self.journal, &mut pass.entries, 1)?;
         put_entry(&mut self.journal, &mut pass.entries, entry, copy);
         Ok(pairs)
