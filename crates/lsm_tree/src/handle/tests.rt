@@ -5,6 +5,7 @@ use crate::pass::Pass;
 use lsm_below::{InternalValue, UserKey};
 use lsm_model::{JournalEntry, Op};
 use lsm_parts::{Config, Error};
+use std::ops::Bound;
 use std::process::Abort;
 use std::sync::Wait;
 use std::test::Fail;
@@ -208,5 +209,69 @@ fn a_tree_is_written_in_each_way(rt: HostRuntime) -> Result<(), Fail> {
     let tree = open_tree(rt.alloc())?;
     assert_eq!(rt; write_all(&rt, rt.alloc(), &tree)?, 0);
     assert_eq!(rt; tree.visible_number(&rt), 1);
+    Ok(())
+}
+
+/// A value under a drawn number, in a new tree.
+fn one_key(rt: &impl Wait, alloc: Global) -> Result<Tree, Error> {
+    let tree = open_tree(alloc)?;
+    set_next(rt, &tree)?;
+    Ok(tree)
+}
+
+/// How many pairs the calls for bounds list together.
+fn count_ranges(rt: &impl Wait, tree: &Tree) -> Result<usize, Error> {
+    let all = (Bound::Unbounded, Bound::Unbounded);
+    let range = tree.range(rt, &all, 1, None)?.len();
+    let create_range = tree.create_range(rt, &all, 1, None)?.len();
+    let internal = tree.create_internal_range(rt, &all, 1, None)?.len();
+    Ok(range.saturating_add(create_range).saturating_add(internal))
+}
+
+/// How many pairs the calls for all keys, and for a prefix, list together.
+fn count_others(rt: &impl Wait, tree: &Tree) -> Result<usize, Error> {
+    let iter = tree.iter(rt, 1, None)?.len();
+    let create_iter = tree.create_iter(rt, 1, None)?.len();
+    let prefix = tree.prefix(rt, b"a", 1, None)?.len();
+    let create_prefix = tree.create_prefix(rt, b"a", 1, None)?.len();
+    let iters = iter.saturating_add(create_iter);
+    Ok(iters.saturating_add(prefix).saturating_add(create_prefix))
+}
+
+#[test]
+fn a_shared_tree_lists_its_pairs(rt: HostRuntime) -> Result<(), Fail> {
+    let tree = one_key(&rt, rt.alloc())?;
+    assert_eq!(rt; count_ranges(&rt, &tree)?, 3);
+    assert_eq!(rt; count_others(&rt, &tree)?, 4);
+    Ok(())
+}
+
+#[test]
+fn a_shared_tree_tells_of_its_pairs(rt: HostRuntime) -> Result<(), Fail> {
+    let tree = one_key(&rt, rt.alloc())?;
+    assert_eq!(rt; tree.len(&rt, 1, None)?, 1);
+    assert!(rt; !tree.is_empty(&rt, 1, None)?);
+    assert!(rt; tree.first_key_value(&rt, 1, None)?.is_some());
+    assert!(rt; tree.last_key_value(&rt, 1, None)?.is_some());
+    assert!(rt; tree.contains_key(&rt, b"a", 1)?);
+    assert_eq!(rt; tree.size_of(&rt, b"a", 1)?, Some(1));
+    Ok(())
+}
+
+/// How many pairs a range and a prefix of a recorded tree list together.
+fn count_recorded(rt: &impl Wait, tree: &RecordedTree, pass: &mut Pass) -> Result<usize, Error> {
+    let all = (Bound::Unbounded, Bound::Unbounded);
+    let range = tree.range(rt, pass, &all, 1)?.len();
+    let prefix = tree.prefix(rt, pass, &text("a"), 1)?.len();
+    Ok(range.saturating_add(prefix))
+}
+
+#[test]
+fn ranges_behind_the_lock_are_listed(rt: HostRuntime) -> Result<(), Fail> {
+    let alloc = rt.alloc();
+    let tree = open(alloc)?;
+    let mut pass = call(&rt, alloc, &tree, "a")?;
+    assert_eq!(rt; count_recorded(&rt, &tree, &mut pass)?, 2);
+    assert_eq!(rt; closed(&rt, &tree, one_pass(alloc, pass)?), Some(4));
     Ok(())
 }

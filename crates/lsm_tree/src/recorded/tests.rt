@@ -1,5 +1,6 @@
 // What no contract says: that calls succeed where memory is ample.
 use super::*;
+use std::ops::Bound;
 use std::test::Fail;
 
 fn text(spelled: &'static str) -> UserKey {
@@ -62,5 +63,41 @@ fn calls_are_noted_with_their_places(rt: HostRuntime) -> Result<(), Fail> {
     assert_eq!(rt; tree.journal().len(), 3);
     let places = pass.entries().iter().map(|noted| noted.0);
     assert!(rt; places.eq(0..3));
+    Ok(())
+}
+
+/// Three keys, of which two begin with `a`.
+fn set_three(tree: &mut Recorded, pass: &mut Pass) -> Result<(u64, u64), Error> {
+    tree.insert(pass, text("a"), text("x"), 0)?;
+    tree.insert(pass, text("ab"), text("y"), 1)?;
+    tree.insert(pass, text("b"), text("z"), 2)
+}
+
+fn three_keys(alloc: Global, pass: &mut Pass) -> Result<Recorded, Error> {
+    let mut tree = Recorded::open_in_memory(alloc, Config::new(0, 3, 3));
+    set_three(&mut tree, pass)?;
+    Ok(tree)
+}
+
+#[test]
+fn ranges_are_noted(rt: HostRuntime) -> Result<(), Fail> {
+    let mut pass = Pass::new(rt.alloc());
+    let mut tree = three_keys(rt.alloc(), &mut pass)?;
+    let bounds = (Bound::Included(text("a")), Bound::Excluded(text("b")));
+    let pairs = tree.range(&mut pass, &bounds, 3)?;
+    assert_eq!(rt; pairs.len(), 2);
+    assert_eq!(rt; tree.journal().len(), 4);
+    assert_eq!(rt; pass.entries().len(), 4);
+    Ok(())
+}
+
+#[test]
+fn prefixes_are_noted(rt: HostRuntime) -> Result<(), Fail> {
+    let mut pass = Pass::new(rt.alloc());
+    let mut tree = three_keys(rt.alloc(), &mut pass)?;
+    assert_eq!(rt; tree.prefix(&mut pass, &text("a"), 3)?.len(), 2);
+    assert_eq!(rt; tree.prefix(&mut pass, &text(""), 3)?.len(), 3);
+    assert_eq!(rt; tree.prefix(&mut pass, &text("a"), 1)?.len(), 1);
+    assert_eq!(rt; tree.journal().len(), 6);
     Ok(())
 }
