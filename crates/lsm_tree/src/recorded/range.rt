@@ -14,9 +14,10 @@ ghost use Rattle.lsm_tree.specs.Listing.{Lists};
 use crate::copies::{copy_bound, copy_pairs};
 use crate::pass::{Pass, make_room, put_entry};
 use crate::recorded::Recorded;
-use lsm_below::{KvPair, SeqNo, Store, UserKey};
+use lsm_below::{KvPair, SeqNo, UserKey};
 use lsm_model::{Answer, JournalEntry, KvPairs, Question};
 use lsm_parts::{Error, TreeIter};
+use lsm_store::Store;
 use std::alloc::{AllocError, Global};
 use std::ops::Bound;
 
