@@ -1,7 +1,7 @@
 // What a tree keeps its files in, and what a crash may leave of them.
-ghost use Rattle.std.specs.Prelude.{◌≡◌, ◌≤◌, List, ℕ, Some, None, IfOk, OnOk, IsErrOf, IsSome, IsTrue, Bool, Option, option_map, map};
+ghost use Rattle.std.specs.Prelude.{◌≡◌, ◌≤◌, List, ℕ, Some, None, Err, IfOk, OnOk, IsErrOf, IsSome, IsTrue, Bool, Option, option_map, map};
 ghost use Rattle.std.specs.String.{string_bytes};
-ghost use Rattle.lsm_store.specs.declared.store.StoreError.TheVariants.{OutOfMemory};
+ghost use Rattle.lsm_store.specs.declared.store.StoreError.TheVariants.{OutOfMemory, Fault};
 ghost use Rattle.lsm_store.specs.World.{Image, World, Anything, Only, OldOr, IsImage, At, Same, Becomes, Changes, Counts, Lists, LeavesOnly};
 ghost use Rattle.lsm_store.specs.NoWorld.{no_world};
 
@@ -129,27 +129,39 @@ impl Store for NoStore {
 
     ghost only_now = { λ no store image left. absurd no };
 
-    fn list(&mut self, _: Global) -> Result<Vec<String>, StoreError> {
+    fn list(&mut self, _: Global) -> Result<Vec<String>, StoreError>
+        ensures { result ≡ Err Fault }
+    {
         Err(StoreError::Fault)
     }
 
-    fn read(&mut self, _: Global, _: &str) -> Result<Option<Vec<u8>>, StoreError> {
+    fn read(&mut self, _: Global, _: &str) -> Result<Option<Vec<u8>>, StoreError>
+        ensures { result ≡ Err Fault }
+    {
         Err(StoreError::Fault)
     }
 
-    fn write(&mut self, _: &str, _: &[u8]) -> Result<(), StoreError> {
+    fn write(&mut self, _: &str, _: &[u8]) -> Result<(), StoreError>
+        ensures { result ≡ Err Fault }
+    {
         Err(StoreError::Fault)
     }
 
-    fn sync(&mut self, _: &str) -> Result<(), StoreError> {
+    fn sync(&mut self, _: &str) -> Result<(), StoreError>
+        ensures { result ≡ Err Fault }
+    {
         Err(StoreError::Fault)
     }
 
-    fn replace(&mut self, _: &str, _: &[u8]) -> Result<(), StoreError> {
+    fn replace(&mut self, _: &str, _: &[u8]) -> Result<(), StoreError>
+        ensures { result ≡ Err Fault }
+    {
         Err(StoreError::Fault)
     }
 
-    fn remove(&mut self, _: &str) -> Result<(), StoreError> {
+    fn remove(&mut self, _: &str) -> Result<(), StoreError>
+        ensures { result ≡ Err Fault }
+    {
         Err(StoreError::Fault)
     }
 
