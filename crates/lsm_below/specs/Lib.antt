@@ -7,17 +7,4 @@ pub mod Sorted
 pub mod Entries
 pub mod Streams
 pub mod Slots
-pub mod Sum
-pub mod Reading
-pub mod Image
-pub mod ImageReading
 pub mod Lookups
-pub mod Tables
-pub mod Cutting
-pub mod World
-pub mod NoWorld
-pub mod Plans
-pub mod Held
-pub mod Files
-pub mod Memory
-pub mod Picks

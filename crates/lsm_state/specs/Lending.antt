@@ -1,7 +1,7 @@
 -- Counters that a tree lends.
 use Rattle.std.specs.Prelude.{ℕ}
 use Rattle.std.specs.Borrow.{Lends, MutBor, Fml, RattleType}
-use Rattle.lsm_below.specs.declared.store.Store.{Ghosts}
+use Rattle.lsm_store.specs.declared.store.Store.{Ghosts}
 use Rattle.lsm_parts.specs.contracts.seqno.SequenceNumberCounter.{the_row as counter_row}
 use Rattle.lsm_state.specs.contracts.tree.TreeState.{the_row as tree_row}
 use Rattle.lsm_state.specs.Core.{Seen}

@@ -10,10 +10,11 @@ ghost use Rattle.lsm_parts.specs.Shown.{Shows, ShowsPrefix};
 ghost use Rattle.lsm_parts.specs.Ends.{EndShown};
 
 use crate::{Memtables, TreeState};
-use lsm_below::{InternalValue, MemtableId, SeqNo, Store, UserKey};
+use lsm_below::{InternalValue, MemtableId, SeqNo, UserKey};
 use lsm_parts::{
     End, Error, Guard, IterState, Memtable, SuperVersion, TreeIter, first_shown, last_shown,
 };
+use lsm_store::Store;
 use std::alloc::{AllocError, Global};
 use std::ops::Bound;
 

@@ -8,8 +8,9 @@ ghost use Rattle.lsm_state.specs.Core.{latest_of, older_of, shown_as};
 ghost use Rattle.lsm_state.specs.Calls.{Finds, Gives, GivesEntry, IsGetStep, live, value_size};
 
 use crate::{Memtables, TreeState};
-use lsm_below::{InternalValue, MemtableId, SeqNo, Store, UserValue, ValueType};
+use lsm_below::{InternalValue, MemtableId, SeqNo, UserValue, ValueType};
 use lsm_parts::{Error, SuperVersion};
+use lsm_store::Store;
 use std::alloc::AllocError;
 
 /// The value that an entry gives its key.

@@ -6,10 +6,11 @@ ghost use Rattle.lsm_state.specs.Held.{first_entries};
 ghost use Rattle.lsm_state.specs.Core.{rotated as rotated_version};
 
 use crate::Memtables;
-use lsm_below::{MemtableId, NoStore, SeqNo, Store};
+use lsm_below::{MemtableId, SeqNo};
 use lsm_parts::{
     Config, Error, LIMIT, SequenceNumberCounter, SuperVersion, SuperVersions, Version,
 };
+use lsm_store::{NoStore, Store};
 use std::alloc::Global;
 use std::marker::Model;
 

@@ -9,9 +9,10 @@ ghost use Rattle.lsm_model.specs.declared.op.Op.TheVariants.{Set, Del, Weak};
 ghost use Rattle.lsm_state.specs.Calls.{Appends, WritesBatch};
 
 use crate::TreeState;
-use lsm_below::{InternalValue, SeqNo, Store, UserKey, UserValue, ValueType, share};
+use lsm_below::{InternalValue, SeqNo, UserKey, UserValue, ValueType, share};
 use lsm_model::Op;
 use lsm_parts::{Error, LIMIT};
+use lsm_store::Store;
 use std::alloc::{AllocError, Global};
 use std::collections::BTreeSet;
 

@@ -2,8 +2,8 @@
 ghost use Rattle.std.specs.Prelude.{◌≡◌};
 
 use crate::recorded::Recorded;
-use lsm_below::NoStore;
 use lsm_state::TreeState;
+use lsm_store::NoStore;
 use std::alloc::{AllocError, Global};
 use std::sync::{Arc, Mutex};
 

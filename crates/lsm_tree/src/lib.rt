@@ -35,10 +35,9 @@ mod steps;
 
 pub use handle::{Handle, RecordedTree, Tree};
 pub use lsm_below::{
-    Checksum, CompactionStream, Fault, InternalKey, InternalValue, KeyRange, KvPair, ListSource,
-    MemStore, MemtableId, Merger, MultiWriter, MvccStream, NoStore, Pick, Ranged, Run, SeqNo,
-    Source, Store, StoreError, Table, TableError, TableId, TreeId, UserKey, UserValue, ValueType,
-    compact, is_run, optimize_runs, write_tables,
+    CompactionStream, InternalKey, InternalValue, KeyRange, KvPair, ListSource, MemtableId, Merger,
+    MvccStream, Ranged, Run, SeqNo, Source, TableId, TreeId, UserKey, UserValue, ValueType,
+    compact, is_run, optimize_runs,
 };
 pub use lsm_model::{Answer, JournalEntry, KeyRanges, KvPairs, Op, Ops, Question};
 pub use lsm_parts::{
@@ -47,6 +46,8 @@ pub use lsm_parts::{
     VersionId, prefix_to_range, seqno_filter, take_ends,
 };
 pub use lsm_state::TreeState;
+pub use lsm_store::{Fault, MemStore, NoStore, Pick, Store, StoreError};
+pub use lsm_tables::{Checksum, MultiWriter, Table, TableError, write_tables};
 pub use pass::Pass;
 pub use recorded::Recorded;
 pub use runner::run;

@@ -25,12 +25,11 @@ use crate::entries::read_entry;
 use crate::marks::{Mark, is_allowed, mark_write, read_mark, reserve_mark};
 use crate::notes::{make_note, make_notes, mark_notes, put_notes, reserve_notes};
 use crate::pass::{Pass, make_room, put_entry};
-use lsm_below::{
-    InternalValue, MemtableId, NoStore, SeqNo, Store, UserKey, UserValue, ValueType, share,
-};
+use lsm_below::{InternalValue, MemtableId, SeqNo, UserKey, UserValue, ValueType, share};
 use lsm_model::{Answer, JournalEntry, Op, Question};
 use lsm_parts::{Config, Error, LIMIT, SequenceNumberCounter};
 use lsm_state::TreeState;
+use lsm_store::{NoStore, Store};
 use std::alloc::{AllocError, Global};
 use std::collections::BTreeMap;
 use std::marker::Model;

@@ -16,9 +16,10 @@ ghost use Rattle.lsm_tree.specs.Shared.{OnSomeTree, Puts};
 use crate::handle::Handle;
 use crate::pass::Pass;
 use crate::recorded::Recorded;
-use lsm_below::{InternalValue, KvPair, MemtableId, SeqNo, Store, UserKey, UserValue};
+use lsm_below::{InternalValue, KvPair, MemtableId, SeqNo, UserKey, UserValue};
 use lsm_model::{JournalEntry, Op};
 use lsm_parts::Error;
+use lsm_store::Store;
 use std::ops::Bound;
 use std::sync::Wait;
 

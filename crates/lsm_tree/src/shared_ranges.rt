@@ -6,9 +6,10 @@ ghost use Rattle.lsm_state.specs.Ranges.{Ranges, Prefixes, Numbers, PairAt, Tell
 ghost use Rattle.lsm_tree.specs.Shared.{AtSomeTree};
 
 use crate::handle::Handle;
-use lsm_below::{SeqNo, Store, UserKey};
+use lsm_below::{SeqNo, UserKey};
 use lsm_parts::{Error, Guard, Memtable, TreeIter};
 use lsm_state::TreeState;
+use lsm_store::Store;
 use std::ops::Bound;
 use std::sync::Wait;
 

@@ -8,10 +8,11 @@ ghost use Rattle.lsm_state.specs.Calls.{Appends, WritesBatch, Gives, GivesEntry,
 ghost use Rattle.lsm_tree.specs.Shared.{OnSomeTree, AtSomeTree};
 
 use crate::handle::Handle;
-use lsm_below::{InternalValue, MemtableId, SeqNo, Store, UserKey, UserValue};
+use lsm_below::{InternalValue, MemtableId, SeqNo, UserKey, UserValue};
 use lsm_model::Op;
 use lsm_parts::{Error, LIMIT};
 use lsm_state::TreeState;
+use lsm_store::Store;
 use std::sync::Wait;
 
 /// Each call does and refuses what the one of the same name of `TreeState` does and refuses, on the tree as

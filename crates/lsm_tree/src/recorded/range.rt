@@ -15,9 +15,10 @@ ghost use Rattle.lsm_tree.specs.Listing.{Lists, ListsPrefix};
 use crate::copies::{copy_bound, copy_entry, copy_pairs};
 use crate::pass::{Pass, make_room, put_entry};
 use crate::recorded::Recorded;
-use lsm_below::{KvPair, SeqNo, Store, UserKey, share};
+use lsm_below::{KvPair, SeqNo, UserKey, share};
 use lsm_model::{Answer, JournalEntry, KvPairs, Question};
 use lsm_parts::{Error, TreeIter};
+use lsm_store::Store;
 use std::alloc::Global;
 use std::ops::Bound;
 

@@ -1,4 +1,0 @@
-use Rattle.lsm_below.proofs.checksum.+power.Given as goal
-
-abbrev pub decreases-power : goal.decreases-power
-decreases-power l = l.n

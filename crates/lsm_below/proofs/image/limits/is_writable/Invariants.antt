@@ -1,6 +1,0 @@
-use Rattle.std.proofs.Common.{take}
-use Rattle.lsm_below.specs.Cutting.{IsWritable}
-use Rattle.lsm_below.proofs.image.limits.is_writable.Given as goal
-
-abbrev pub invariant-loop-i : goal.invariant-loop-i
-invariant-loop-i l = IsWritable (take l.i l.entries)

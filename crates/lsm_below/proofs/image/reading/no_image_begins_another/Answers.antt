@@ -1,5 +1,0 @@
-use Rattle.lsm_below.proofs.Images.{images_first}
-use Rattle.lsm_below.proofs.image.reading.no_image_begins_another.Goals as goal
-
-pub returns : goal.returns
-returns c = images_first

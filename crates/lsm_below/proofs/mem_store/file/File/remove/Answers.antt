@@ -1,7 +1,0 @@
-use Rattle.std.proofs.Common.{subst}
-use Rattle.lsm_below.specs.Held.{IsWhole}
-use Rattle.lsm_below.proofs.HeldPlaces.{given_whole}
-use Rattle.lsm_below.proofs.mem_store.file.File.remove.Goals as goal
-
-pub returns-clause-whole : goal.returns-clause-whole
-returns-clause-whole c = subst IsWhole c.self.view_is (given_whole c.self.inside.given c.self.inside.contents.items c.self.inside.absence c.self.invariant.0 c.self.invariant.2)

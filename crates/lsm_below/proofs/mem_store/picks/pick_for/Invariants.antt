@@ -1,6 +1,0 @@
-use Rattle.std.proofs.Common.{◌≡◌, drop}
-use Rattle.lsm_below.specs.Picks.{pick_for}
-use Rattle.lsm_below.proofs.mem_store.picks.pick_for.Given as goal
-
-abbrev pub invariant-loop-of : goal.invariant-loop-of
-invariant-loop-of l = pick_for l.picks l.name ≡ pick_for (drop l.of-index l.picks) l.name

@@ -1,7 +1,0 @@
-use Rattle.std.proofs.Common.{subst}
-use Rattle.lsm_below.specs.Tables.{SeenTable, IsCovered, range_of}
-use Rattle.lsm_below.proofs.Covering.{covered}
-use Rattle.lsm_below.proofs.table.Table.facts.Goals as goal
-
-pub returns-clause-covered : goal.returns-clause-covered
-returns-clause-covered c = subst (λ (t : SeenTable). IsCovered t.entries (range_of t.entries)) c.self.view_is (covered _ c.self.invariant.table.rises)

@@ -1,0 +1,129 @@
+-- What becomes of a store in memory, as its callers see it.
+use Rattle.std.proofs.Common.{◌≡◌, ◌≢◌, ◌⊎◌, ◌↔◌, ◌≤◌, inl, inr, ⊎_elim, ℕ, zero, suc, List, [], ◌∷◌, ◌++◌, length, drop, Option, refl, sym, ap, subst, arith, length-append}
+use Rattle.std.specs.declared.snapshot.Snapshot.{Snapshot}
+use Rattle.lsm_store.specs.World.{Image, Row, IsImage, At, Same, Becomes}
+use Rattle.lsm_store.specs.Held.{Held, MayHold}
+use Rattle.lsm_store.specs.Files.{Files, held_at, HoldSame, Alters}
+use Rattle.lsm_store.specs.Memory.{Past, may_of, gives_of, HadBeen, memory_world}
+use Rattle.lsm_store.proofs.HeldFiles.{by_name}
+
+-- the row of the one name, from that of its record
+pub at_row : (name : List ℕ) (f : Held → Held) (row : Row) (old new : Files) → Alters name f old new → ((c : Option (List ℕ)) → MayHold (f (held_at old name)) c ↔ row c)
+    → (n : List ℕ) (c : Option (List ℕ)) → may_of new n c ↔ At name row (may_of old) n c
+at_row name f row old new alters is n c = (to, back n)
+  where
+    to : may_of new n c → At name row (may_of old) n c
+    to may = record {
+      here = λ same. (is c).0 (subst (λ h. MayHold h c) alters.here (subst (λ m. may_of new m c) same may));
+      elsewhere = λ ne. subst (λ h. MayHold h c) (alters.elsewhere n ne) may;
+    }
+
+    back : (m : List ℕ) → At name row (may_of old) m c → may_of new m c
+    back = by_name (λ m. At name row (may_of old) m c → may_of new m c) name
+        (λ at. subst (λ h. MayHold h c) (sym alters.here) ((is c).1 (at.here refl)))
+        (λ m ne at. subst (λ h. MayHold h c) (sym (alters.elsewhere m ne)) (at.elsewhere ne))
+
+pub gives_elsewhere : (name : List ℕ) (f : Held → Held) (old new : Files) → Alters name f old new → (n : List ℕ) → n ≢ name → gives_of new n ≡ gives_of old n
+gives_elsewhere name f old new alters n ne = ap (λ h. h.gives) (alters.elsewhere n ne)
+
+still : (past : Past) (s : Snapshot Files) (image : Image) → HadBeen past image → HadBeen (past ++ s ∷ []) image
+still [] s image had = absurd had
+still (p ∷ past) s image (inl here) = inl here
+still (p ∷ past) s image (inr there) = inr (still past s image there)
+
+newest : (past : Past) (s : Snapshot Files) (image : Image) → IsImage (may_of s.value) image → HadBeen (past ++ s ∷ []) image
+newest [] s image is = inl is
+newest (p ∷ past) s image is = inr (newest past s image is)
+
+either : (past : Past) (s : Snapshot Files) (image : Image) → HadBeen (past ++ s ∷ []) image → HadBeen past image ⊎ IsImage (may_of s.value) image
+either [] s image (inl here) = inr here
+either [] s image (inr none) = absurd none
+either (p ∷ past) s image (inl here) = inl (inl here)
+either (p ∷ past) s image (inr there) = ⊎_elim (λ had. inl (inr had)) (λ new. inr new) (either past s image there)
+
+drop_push : (t : ℕ) (past : Past) (s : Snapshot Files) → t ≤ length past → drop t (past ++ s ∷ []) ≡ drop t past ++ s ∷ []
+drop_push zero past s le = refl
+drop_push (suc t) [] s le = absurd (omega arith)
+drop_push (suc t) (p ∷ past) s le = drop_push t past s (omega arith)
+
+module _ (name : List ℕ) (old : Files) (past : Past) (f g : ℕ) where
+  -- no moment is added: each image of before is one still
+  pub grown : (row : Row) (new : Files)
+      → ((n : List ℕ) (c : Option (List ℕ)) → may_of new n c ↔ At name row (may_of old) n c)
+      → ((c : Option (List ℕ)) → may_of old name c → row c)
+      → ((n : List ℕ) → n ≢ name → gives_of new n ≡ gives_of old n)
+      → Becomes name row row (memory_world old past f) (memory_world new past g)
+  grown row new may keeps elsewhere = record {
+    may = may;
+    elsewhere = elsewhere;
+    later = omega arith;
+    since = λ t image le. (
+      (λ left. ⊎_elim (λ now. inr (λ n. (may n (image n)).0 (now n))) (λ had. inl (inr had)) left),
+      (λ left. ⊎_elim (λ before. ⊎_elim (λ was. inl (λ n. (may n (image n)).1 (record { here = λ same. keeps (image n) (subst (λ m. may_of old m (image n)) same (was n)); elsewhere = λ _. was n }))) (λ had. inr had) before)
+          (λ of. inl (λ n. (may n (image n)).1 (of n))) left),
+    );
+  }
+
+  -- the moment of the call is kept
+  pub pushed : (during after : Row) (mid new : Files) (later : Past) (s : Snapshot Files)
+      → s.value ≡ mid → later ≡ past ++ s ∷ []
+      → ((n : List ℕ) (c : Option (List ℕ)) → may_of mid n c ↔ At name during (may_of old) n c)
+      → ((n : List ℕ) (c : Option (List ℕ)) → may_of new n c ↔ At name after (may_of old) n c)
+      → ((c : Option (List ℕ)) → may_of old name c → during c)
+      → ((c : Option (List ℕ)) → after c → during c)
+      → ((n : List ℕ) → n ≢ name → gives_of new n ≡ gives_of old n)
+      → Becomes name during after (memory_world old past f) (memory_world new later g)
+  pushed during after mid new later s was is in_call may keeps narrows elsewhere = subst (λ (l : Past). Becomes name during after (memory_world old past f) (memory_world new l g)) (sym is) (record {
+    may = may;
+    elsewhere = elsewhere;
+    later = omega (arith, length-append past (s ∷ []));
+    since = λ t image le. (to t image le, back t image le);
+  })
+    where
+      seen : (image : Image) → IsImage (At name during (may_of old)) image → IsImage (may_of s.value) image
+      seen image of = subst (λ (fs : Files). IsImage (may_of fs) image) (sym was) (λ n. (in_call n (image n)).1 (of n))
+
+      unseen : (image : Image) → IsImage (may_of s.value) image → IsImage (At name during (may_of old)) image
+      unseen image is = λ n. (in_call n (image n)).0 (subst (λ (fs : Files). IsImage (may_of fs) image) was is n)
+
+      wider : (image : Image) → IsImage (may_of old) image → IsImage (At name during (may_of old)) image
+      wider image was n = record { here = λ same. keeps (image n) (subst (λ m. may_of old m (image n)) same (was n)); elsewhere = λ _. was n }
+
+      narrow : (image : Image) → IsImage (may_of new) image → IsImage (At name during (may_of old)) image
+      narrow image now n = let at = (may n (image n)).0 (now n) in record { here = λ same. narrows (image n) (at.here same); elsewhere = λ ne. at.elsewhere ne }
+
+      to : (t : ℕ) (image : Image) → t ≤ length past → IsImage (may_of new) image ⊎ HadBeen (drop t (past ++ s ∷ [])) image → (IsImage (may_of old) image ⊎ HadBeen (drop t past) image) ⊎ IsImage (At name during (may_of old)) image
+      to t image le left = ⊎_elim (λ now. inr (narrow image now))
+          (λ had. ⊎_elim (λ before. inl (inr before)) (λ call. inr (unseen image call)) (either (drop t past) s image (subst (λ (l : Past). HadBeen l image) (drop_push t past s le) had))) left
+
+      put : (t : ℕ) (image : Image) → t ≤ length past → HadBeen (drop t past ++ s ∷ []) image → IsImage (may_of new) image ⊎ HadBeen (drop t (past ++ s ∷ [])) image
+      put t image le had = inr (subst (λ (l : Past). HadBeen l image) (sym (drop_push t past s le)) had)
+
+      back : (t : ℕ) (image : Image) → t ≤ length past → (IsImage (may_of old) image ⊎ HadBeen (drop t past) image) ⊎ IsImage (At name during (may_of old)) image → IsImage (may_of new) image ⊎ HadBeen (drop t (past ++ s ∷ [])) image
+      back t image le left = elim left [
+        | inl (inl now) ↦ put t image le (newest (drop t past) s image (seen image (wider image now)))
+        | inl (inr had) ↦ put t image le (still (drop t past) s image had)
+        | inr of ↦ put t image le (newest (drop t past) s image (seen image of))
+      ]
+
+-- without effect
+pub same_world : (old new : Files) (past : Past) (f g : ℕ) → HoldSame old new → Same (memory_world old past f) (memory_world new past g)
+same_world old new past f g same = record {
+  gives = λ n. ap (λ h. h.gives) (same n);
+  may = λ n c. (kept n c, back n c);
+  moment = refl;
+  since = λ t image le. (
+    (λ left. ⊎_elim (λ now. inl (λ n. kept n (image n) (now n))) (λ had. inr had) left),
+    (λ left. ⊎_elim (λ now. inl (λ n. back n (image n) (now n))) (λ had. inr had) left),
+  );
+}
+  where
+    kept : (n : List ℕ) (c : Option (List ℕ)) → may_of new n c → may_of old n c
+    kept n c may = subst (λ h. MayHold h c) (same n) may
+
+    back : (n : List ℕ) (c : Option (List ℕ)) → may_of old n c → may_of new n c
+    back n c may = subst (λ h. MayHold h c) (sym (same n)) may
+
+pub same_after : (old new : Files) (past later : Past) (f g : ℕ) → new ≡ old → later ≡ past → Same (memory_world old past f) (memory_world new later g)
+same_after old new past later f g files moments =
+    subst (λ (p : Past). Same (memory_world old past f) (memory_world new p g)) (sym moments) (same_world old new past f g (λ n. ap (λ (fs : Files). held_at fs n) files))

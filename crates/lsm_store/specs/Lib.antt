@@ -1,0 +1,7 @@
+pub mod World
+pub mod NoWorld
+pub mod Plans
+pub mod Held
+pub mod Files
+pub mod Memory
+pub mod Picks

@@ -1,0 +1,13 @@
+//! What a tree keeps its files in, and what a crash may leave of them. A store knows nothing of entries.
+//!
+//! | Module | Holds |
+//! |-|-|
+//! | `store` | the calls of a store, and what a crash may leave of its files |
+//! | `mem_store` | a store in memory, with planned faults and picked crashes |
+#![tactic(auto)]
+
+mod mem_store;
+mod store;
+
+pub use mem_store::{Fault, MemStore, Pick};
+pub use store::{NoStore, Store, StoreError, runs_of_calls};

@@ -1,0 +1,9 @@
+pub mod Modular
+pub mod SumParts
+pub mod Spellings
+pub mod Adjacent
+pub mod Images
+pub mod Counting
+pub mod Covering
+pub mod Lengths
+pub mod Cutting

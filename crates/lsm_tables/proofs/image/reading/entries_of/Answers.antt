@@ -1,0 +1,31 @@
+use Rattle.std.proofs.Common.{◌≡◌, ◌++◌, ◌∷◌, [], sym, ap, ◌∙◌}
+use Rattle.std.proofs.lemmas.Result.{err_from_is_err_and}
+use Rattle.lsm_tables.specs.Reading.{many}
+use Rattle.lsm_tables.proofs.Spellings.{goes_on, is_done}
+use Rattle.lsm_tables.proofs.Images.{entry_fails}
+use Rattle.lsm_tables.specs.ImageReading.{spelled_at, rises, follows}
+use Rattle.lsm_tables.proofs.Adjacent.{rises_push, and_when, and_unless}
+use Rattle.lsm_tables.proofs.image.reading.entries_of.Goals.{then-rising, else-rising}
+use Rattle.lsm_tables.proofs.image.reading.entries_of.Goals as goal
+
+pub returns-in_err-entry-clause-read : goal.returns-in_err-entry-clause-read
+returns-in_err-entry-clause-read c =
+    let p = err_from_is_err_and c.from_residual-in_err-entry.result c.from_residual-in_err-entry.ensures.1 in
+    rw (p.1, p.2) (entry_fails c.in_err-entry.field-0.0 c.loop.entries.items c.args.count c.loop.counter c.loop.bytes (many spelled_at c.args.count c.args.bytes.now) c.loop-test.true c.in_err-entry.ensures c.loop.invariant.read)
+
+pub loop-preserved : goal.loop-preserved
+loop-preserved c =
+    let e = c.in_ok-entry.entry in
+    let es = c.loop.entries.items in
+    let pushed : c.push.new.self.items ≡ es ++ e ∷ [] = c.in_ok-push.ensures.items in
+    let push : rises c.push.new.self.items ≡ rises (es ++ e ∷ []) = ap rises pushed in
+    record {
+      read = rw pushed (goes_on spelled_at es c.args.count c.loop.counter c.loop.bytes e c.entry_of.new.bytes (many spelled_at c.args.count c.args.bytes.now) c.loop-test.true c.in_ok-entry.ensures c.loop.invariant.read);
+      rising = elim c.if-rising.branch [
+        | then-rising w ↦ w.rising-is ∙ w.may_follow-rising.ensures ∙ ap (λ s. follows s e) w.deref.ensures.value ∙ sym (push ∙ rises_push es e ∙ and_when (rises es) (follows es e) (sym c.loop.invariant.rising ∙ w.if-rising.true))
+        | else-rising w ↦ w.rising-is ∙ w.if-rising.false ∙ sym (push ∙ rises_push es e ∙ and_unless (rises es) (follows es e) (sym c.loop.invariant.rising ∙ w.if-rising.false))
+      ];
+    }
+
+pub returns-clause-read : goal.returns-clause-read
+returns-clause-read c = is_done spelled_at c.loop.entries.items c.args.count c.loop.counter c.loop.bytes (many spelled_at c.args.count c.args.bytes.now) c.loop-test.false c.loop.invariant.read

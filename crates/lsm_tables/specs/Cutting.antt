@@ -1,0 +1,61 @@
+-- How a list of entries is cut into tables.
+use Rattle.std.specs.Prelude.{◌≡◌, ℕ, ◌-◌, ◌^◌, ◌<◌, ◌≤◌, min, false, List, [], ◌∷◌, ◌++◌, length, take, map, slice_index_or}
+use Rattle.std.specs.List.{AllByRecursion, flat_map}
+use Rattle.lsm_below.specs.Keys.{Bytes}
+use Rattle.lsm_below.specs.Entries.{Entry, entry_cmp}
+use Rattle.lsm_below.specs.Sorted.{Rises}
+use Rattle.lsm_below.specs.Slots.{same_key}
+use Rattle.lsm_below.specs.Optimizes.{EachPair}
+use Rattle.lsm_tables.specs.Image.{Fits, IsTable, image, entry_bytes}
+
+-- what may be cut into tables: entries that rise and fit an image
+pub record IsWritable (es : List Entry) : Type 0 where
+  pub each : AllByRecursion Fits es
+  pub rises : Rises entry_cmp es
+
+-- no entry of the one list has a key of the other one
+abbrev pub IsApart : List Entry → List Entry → Type 0
+IsApart xs ys = AllByRecursion (λ y. AllByRecursion (λ x. same_key x y ≡ false) xs) ys
+
+-- each table but the last one has at least the target in entry bytes
+abbrev pub IsFilled : ℕ → List (List Entry) → Type 0
+IsFilled target [] = Unit {0}
+IsFilled target (t ∷ []) = Unit {0}
+IsFilled target (t ∷ (u ∷ tables)) = (target ≤ entry_bytes t) × IsFilled target (u ∷ tables)
+
+-- the table could have ended nowhere before its end: in front of each entry of another key than those before, it has less than the target
+abbrev pub HasNoEarlierEnd : ℕ → List Entry → Type 0
+HasNoEarlierEnd target t = (xs ys : List Entry) (y : Entry) → t ≡ xs ++ y ∷ ys → 0 < length xs → IsApart xs (y ∷ []) → entry_bytes xs < target
+
+-- the tables of a list: they hold it, one behind the other; no two have entries of one key; and each ends as soon as it has the target
+pub record IsCutting (target : ℕ) (es : List Entry) (tables : List (List Entry)) : Type 0 where
+  pub whole : flat_map (λ t. t) tables ≡ es
+  pub some : AllByRecursion (λ t. 0 < length t) tables
+  pub apart : EachPair IsApart tables
+  pub filled : IsFilled target tables
+  pub no_later : AllByRecursion (HasNoEarlierEnd target) tables
+
+-- the images of the tables into which a list is cut
+pub record AreImagesOf (target made_at : ℕ) (es : List Entry) (images : List Bytes) : Type 0 where
+  pub tables : List (List Entry)
+  pub cut : IsCutting target es tables
+  pub each : AllByRecursion IsTable tables
+  pub spelled : images ≡ map (image made_at) tables
+
+-- a sum that stands at the greatest number
+abbrev pub capped : ℕ → ℕ
+capped n = min n (2 ^ 64 - 1)
+
+-- where the first table of a list ends
+pub record IsFirstEnd (target : ℕ) (es : List Entry) (end : ℕ) : Type 0 where
+  pub some : 0 < end
+  pub within : end ≤ length es
+  pub filled : end < length es → target ≤ entry_bytes (take end es)
+  pub apart : (d : Entry) → end < length es → same_key (slice_index_or es (end - 1) d) (slice_index_or es end d) ≡ false
+  pub none_earlier : (j : ℕ) (d : Entry) → 0 < j → j < end → same_key (slice_index_or es (j - 1) d) (slice_index_or es j d) ≡ false → entry_bytes (take j es) < target
+
+-- a writer: its target, when its tables are made, and what was written
+pub record SeenWriter : Type 0 where
+  pub target : ℕ
+  pub made_at : ℕ
+  pub written : List Entry

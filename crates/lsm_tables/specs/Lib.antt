@@ -1,0 +1,6 @@
+pub mod Sum
+pub mod Reading
+pub mod Image
+pub mod ImageReading
+pub mod Tables
+pub mod Cutting

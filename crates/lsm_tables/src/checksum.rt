@@ -1,0 +1,170 @@
+// The checksum of a file's bytes.
+ghost use Rattle.std.specs.Prelude.{◌≡◌, ℕ, List, ◌+◌, ◌*◌, ◌%◌, ◌^◌, ◌++◌, length};
+ghost use Rattle.std.specs.List.{fold};
+ghost use Rattle.lsm_tables.specs.Sum.{prime, step, sum_of};
+
+const PRIME: u128 = 1_099_511_628_211;
+
+/// The checksum of a file's bytes: `s`, from 0, with `s = (s * 1099511628211 + byte + 1) mod 2^128`
+/// for each byte in turn. It tells an honest mistake; no claim that damage is found rests on it.
+#[derive(Clone, Copy, Debug, PartialEq, Eq)]
+pub struct Checksum(u128);
+
+/// The sums of four parts of one length.
+struct Sums {
+    first: u128,
+    second: u128,
+    third: u128,
+    fourth: u128,
+}
+
+fn with_byte(sum: u128, byte: u8) -> u128
+    ensures { result ≡ step sum byte }
+{
+    sum.wrapping_mul(PRIME).wrapping_add(byte as u128 + 1)
+}
+
+/// The sum goes on over more bytes.
+fn sum_on(sum: u128, bytes: &[u8]) -> u128
+    ensures { result ≡ fold step sum bytes.now }
+{
+    let mut total = sum;
+    for byte in bytes {
+        total = with_byte(total, *byte);
+    }
+    total
+}
+
+/// The prime to the power n, modulo 2^128.
+fn power(n: usize) -> u128
+    ensures { result ≡ prime ^ n % 2 ^ 128 }
+{
+    if n == 0 {
+        return 1;
+    }
+    let half = power(n / 2);
+    let square = half.wrapping_mul(half);
+    if n % 2 == 0 {
+        square
+    } else {
+        square.wrapping_mul(PRIME)
+    }
+}
+
+/// The sum of two parts, the second of which has so many bytes as the power says.
+fn joined(first: u128, power: u128, second: u128) -> u128
+    ensures { result ≡ (first * power + second) % 2 ^ 128 }
+{
+    first.wrapping_mul(power).wrapping_add(second)
+}
+
+/// Four parts of one length, side by side: no sum waits for another.
+fn four_sums(first: &[u8], second: &[u8], third: &[u8], fourth: &[u8]) -> Sums
+    requires second { length second.now ≡ length first.now }
+    requires third { length third.now ≡ length first.now }
+    requires fourth { length fourth.now ≡ length first.now }
+    ensures first { result.first ≡ sum_of first.now }
+    ensures second { result.second ≡ sum_of second.now }
+    ensures third { result.third ≡ sum_of third.now }
+    ensures fourth { result.fourth ≡ sum_of fourth.now }
+{
+    let mut a = 0;
+    let mut b = 0;
+    let mut c = 0;
+    let mut d = 0;
+    for i in 0..first.len() {
+        a = with_byte(a, first[i]);
+        b = with_byte(b, second[i]);
+        c = with_byte(c, third[i]);
+        d = with_byte(d, fourth[i]);
+    }
+    Sums {
+        first: a,
+        second: b,
+        third: c,
+        fourth: d,
+    }
+}
+
+fn sum_of_bytes(bytes: &[u8]) -> u128
+    ensures { result ≡ sum_of bytes.now }
+{
+    let quarter = bytes.len() / 4;
+    let (first, rest) = bytes.split_at(quarter);
+    let (second, rest) = rest.split_at(quarter);
+    let (third, rest) = rest.split_at(quarter);
+    let (fourth, last) = rest.split_at(quarter);
+    let Sums {
+        first,
+        second,
+        third,
+        fourth,
+    } = four_sums(first, second, third, fourth);
+    let power = power(quarter);
+    let sum = joined(first, power, second);
+    let sum = joined(sum, power, third);
+    let sum = joined(sum, power, fourth);
+    sum_on(sum, last)
+}
+
+impl Checksum {
+    /// The checksum of the bytes.
+    pub fn of(bytes: &[u8]) -> Checksum
+        ensures { result.0 ≡ sum_of bytes.now }
+    {
+        Checksum(sum_of_bytes(bytes))
+    }
+
+    /// A checksum that was kept as a number.
+    pub fn from_raw(value: u128) -> Checksum
+        ensures { result.0 ≡ value }
+    {
+        Checksum(value)
+    }
+
+    /// The checksum as a number.
+    pub fn into_u128(self) -> u128
+        ensures { result ≡ self.0 }
+    {
+        self.0
+    }
+}
+
+/// The sum of two parts is made of their sums and the second one's length.
+pub fn sums_of_parts()
+    ensures { (a b : List ℕ) → sum_of (a ++ b) ≡ (sum_of a * prime ^ length b + sum_of b) % 2 ^ 128 }
+{}
+
+#[cfg(test)]
+mod tests {
+    use super::*;
+
+    fn sum(bytes: &[u8]) -> u128 {
+        Checksum::of(bytes).into_u128()
+    }
+
+    fn rows_of_zeros() -> bool {
+        sum(&[]) == 0 && sum(&[0]) == 1 && sum(&[0, 0]) == 1_099_511_628_212
+    }
+
+    fn rows_of_letters() -> bool {
+        sum(&[0x61]) == 98 && sum(&[0x61, 0x62]) == 107_752_139_564_777
+    }
+
+    #[test]
+    fn rows(rt: HostRuntime) {
+        assert!(rt; rows_of_zeros() && rows_of_letters());
+    }
+
+    #[test]
+    fn parts_side_by_side(rt: HostRuntime) {
+        let bytes = b"nineteen bytes long";
+        assert_eq!(rt; sum(bytes), sum_on(0, bytes));
+        sums_of_parts();
+    }
+
+    #[test]
+    fn kept_as_a_number(rt: HostRuntime) {
+        assert!(rt; Checksum::from_raw(98) == Checksum::of(b"a"));
+    }
+}

@@ -1,0 +1,170 @@
+// Reading an image.
+ghost use Rattle.std.specs.Prelude.{◌≡◌, ℕ, List, ◌≤◌, ◌<◌, ◌++◌, length, slice_index, IfOk, IfErr};
+ghost use Rattle.lsm_below.specs.Entries.{Entry};
+ghost use Rattle.lsm_tables.specs.Reading.{many};
+ghost use Rattle.lsm_tables.specs.Image.{IsImageOf, IsNoImage};
+ghost use Rattle.lsm_tables.specs.ImageReading.{Gives, type_of, header_at, may_have, spelled_at, follows, rises, contents, image_at};
+ghost use Rattle.lsm_tables.specs.declared.table_error.TableError.TheVariants.{BadTable};
+
+use crate::TableError;
+use byteorder::{ByteOrder, LittleEndian};
+use bytes::Bytes;
+use lsm_below::{InternalKey, InternalValue, SeqNo, ValueType};
+use std::alloc::Global;
+
+/// What stands before an entry's key.
+#[derive(Drop)]
+struct Header {
+    key_len: u16,
+    seqno: SeqNo,
+    value_type: ValueType,
+    value_len: u32,
+}
+
+/// What a slice of bytes contains are bytes.
+fn are_bytes(bytes: &[u8])
+    ensures { (i : ℕ) → slice_index bytes.now i < 256 }
+{}
+
+fn type_at(code: u8) -> Result<ValueType, TableError>
+    ensures { Gives (λ x. x) result (type_of code) }
+{
+    match code {
+        0 => Ok(ValueType::Value),
+        1 => Ok(ValueType::Tombstone),
+        2 => Ok(ValueType::WeakTombstone),
+        _ => Err(TableError::BadTable),
+    }
+}
+
+#[tactic(auto, unfolding(crate::specs::ImageReading::header_at))]
+fn header_of(bytes: &[u8]) -> Result<Header, TableError>
+    requires { 15 ≤ length bytes.now }
+    ensures { Gives (λ x. x) result (header_at bytes.now) }
+{
+    let value_type = type_at(bytes[10])?;
+    Ok(Header {
+        key_len: LittleEndian::read_u16(bytes),
+        seqno: LittleEndian::read_u64(&bytes[2..]),
+        value_type,
+        value_len: LittleEndian::read_u32(&bytes[11..]),
+    })
+}
+
+fn may_have_value(value_type: ValueType, len: usize) -> bool
+    ensures { result ≡ may_have value_type len }
+{
+    match value_type {
+        ValueType::Value => true,
+        ValueType::Tombstone | ValueType::WeakTombstone => len == 0,
+    }
+}
+
+/// An entry, cut from the front of the bytes.
+#[tactic(auto, unfolding(crate::specs::ImageReading::spelled_at, crate::specs::ImageReading::body_at))]
+fn entry_of(bytes: &mut Bytes) -> Result<InternalValue, TableError>
+    ensures { Gives (λ e. (e, bytes.new)) result (spelled_at bytes.old) }
+{
+    if bytes.len() < 15 {
+        return Err(TableError::BadTable);
+    }
+    let header = header_of(bytes.as_slice())?;
+    let key_len = header.key_len as usize;
+    let value_len = header.value_len as usize;
+    bytes.advance(15);
+    if bytes.len() < key_len + value_len {
+        return Err(TableError::BadTable);
+    }
+    if !may_have_value(header.value_type, value_len) {
+        return Err(TableError::BadTable);
+    }
+    let user_key = bytes.split_to(key_len)?;
+    let value = bytes.split_to(value_len)?;
+    Ok(InternalValue {
+        key: InternalKey {
+            user_key,
+            seqno: header.seqno,
+            value_type: header.value_type,
+        },
+        value,
+    })
+}
+
+/// Whether the last of the entries stands before an entry.
+pub(super) fn may_follow(entries: &[InternalValue], entry: &InternalValue) -> bool
+    ensures { result ≡ follows entries.now entry.now }
+{
+    match entries.last() {
+        None => true,
+        Some(last) => last.key.cmp(&entry.key).is_lt(),
+    }
+}
+
+/// How many entries there can be, so that room is made once, and none for a count that lies.
+fn room_for(count: u64, bytes: &Bytes) -> usize {
+    let most = bytes.len() / 15;
+    if count < most as u64 {
+        count as usize
+    } else {
+        most
+    }
+}
+
+/// So many entries, cut from the front of the bytes, and whether they rise.
+fn entries_of(
+    alloc: Global,
+    count: u64,
+    bytes: &mut Bytes,
+) -> Result<(Vec<InternalValue>, bool), TableError>
+    ensures read { Gives (λ x. (x.0.items, bytes.new)) result (many spelled_at count bytes.old) }
+    ensures rising { IfOk result (λ x. x.1 ≡ rises x.0.items) }
+{
+    let mut entries = Vec::with_capacity(alloc, room_for(count, bytes))?;
+    let mut rising = true;
+    for _ in 0..count {
+        let entry = entry_of(bytes)?;
+        rising = rising && may_follow(&entries, &entry);
+        entries.push(entry)?;
+    }
+    Ok((entries, rising))
+}
+
+#[tactic(auto, unfolding(crate::specs::ImageReading::image_at))]
+fn read_image(alloc: Global, bytes: Bytes) -> Result<(u64, Vec<InternalValue>), TableError>
+    ensures { Gives (λ x. contents x.0 x.1.items) result (image_at bytes) }
+{
+    let mut bytes = bytes;
+    if bytes.len() < 20 {
+        return Err(TableError::BadTable);
+    }
+    let front = bytes.as_slice();
+    if LittleEndian::read_u32(front) != 0x544d_534c {
+        return Err(TableError::BadTable);
+    }
+    let made_at = LittleEndian::read_u64(&front[4..]);
+    let count = LittleEndian::read_u64(&front[12..]);
+    bytes.advance(20);
+    let (entries, rising) = entries_of(alloc, count, &mut bytes)?;
+    if !bytes.is_empty() || entries.is_empty() || !rising {
+        return Err(TableError::BadTable);
+    }
+    Ok((made_at, entries))
+}
+
+/// Made-at (in nanoseconds) and the entries of an image, whose keys and values share its bytes.
+///
+/// `BadTable` where the bytes are the image of no table, and only there; `OutOfMemory` where a
+/// growth was refused.
+pub fn decode(alloc: Global, bytes: Bytes) -> Result<(u64, Vec<InternalValue>), TableError>
+    ensures read { IfOk result (λ x. IsImageOf x.0 x.1.items bytes) }
+    ensures bad { IfErr result (λ e. e ≡ BadTable → IsNoImage bytes) }
+{
+    are_bytes(bytes.as_slice());
+    read_image(alloc, bytes)
+}
+
+/// No image begins another one, so each table has one image alone.
+pub fn no_image_begins_another()
+    ensures { (m n : ℕ) (es fs : List Entry) (a b x y : List ℕ) → IsImageOf m es a → IsImageOf n fs b
+        → a ++ x ≡ b ++ y → (m ≡ n) × (es ≡ fs) × (x ≡ y) }
+{}

@@ -1,0 +1,83 @@
+// Writing an image.
+ghost use Rattle.std.specs.Prelude.{◌≡◌, ◌++◌, length, OnOk, IfOk};
+ghost use Rattle.lsm_tables.specs.Image.{Fits, IsTable, type_code, head, front, spelled, image};
+
+use byteorder::{ByteOrder, LittleEndian};
+use lsm_below::{InternalValue, SeqNo, ValueType};
+use std::alloc::{AllocError, Global};
+
+fn code_of(value_type: ValueType) -> u8
+    ensures { result ≡ type_code value_type }
+{
+    match value_type {
+        ValueType::Value => 0,
+        ValueType::Tombstone => 1,
+        ValueType::WeakTombstone => 2,
+    }
+}
+
+#[tactic(auto, unfolding(crate::specs::Image::head))]
+fn head_of(key_len: u16, seqno: SeqNo, value_type: ValueType, value_len: u32) -> [u8; 15]
+    ensures { result ≡ head key_len seqno value_type value_len }
+{
+    let mut out = [0u8; 15];
+    LittleEndian::write_u16(&mut out, key_len);
+    LittleEndian::write_u64(&mut out[2..], seqno);
+    out[10] = code_of(value_type);
+    LittleEndian::write_u32(&mut out[11..], value_len);
+    out
+}
+
+#[tactic(auto, unfolding(crate::specs::Image::front))]
+fn front_of(made_at: u64, count: u64) -> [u8; 20]
+    ensures { result ≡ front made_at count }
+{
+    let mut out = [0u8; 20];
+    LittleEndian::write_u32(&mut out, 0x544d_534c);
+    LittleEndian::write_u64(&mut out[4..], made_at);
+    LittleEndian::write_u64(&mut out[12..], count);
+    out
+}
+
+fn put_entry(out: &mut Vec<u8>, entry: &InternalValue) -> Result<(), AllocError>
+    requires { Fits entry.now }
+    ensures { OnOk result (out.new.items ≡ out.old.items ++ spelled entry.now) }
+{
+    let head = head_of(
+        entry.key.user_key.len() as u16,
+        entry.key.seqno,
+        entry.key.value_type,
+        entry.value.len() as u32,
+    );
+    out.extend_from_slice(&head)?;
+    out.extend_from_slice(entry.key.user_key.as_slice())?;
+    out.extend_from_slice(entry.value.as_slice())
+}
+
+/// How many bytes the image has, so that room is made once.
+fn size_of(entries: &[InternalValue]) -> usize {
+    let mut size = 20usize;
+    for entry in entries {
+        size = size
+            .saturating_add(15)
+            .saturating_add(entry.key.user_key.len())
+            .saturating_add(entry.value.len());
+    }
+    size
+}
+
+/// The image of a table of these entries, made at this moment (in nanoseconds). There is one alone.
+///
+/// The entries rise, at least one; keys have at most 65,535 bytes, values at most 2^32 - 1, and
+/// tombstones none. Refused only for want of memory.
+pub fn encode(alloc: Global, made_at: u64, entries: &[InternalValue]) -> Result<Vec<u8>, AllocError>
+    requires { IsTable entries.now }
+    ensures { IfOk result (λ v. v.items ≡ image made_at entries.now) }
+{
+    let mut out = Vec::with_capacity(alloc, size_of(entries))?;
+    out.extend_from_slice(&front_of(made_at, entries.len() as u64))?;
+    for entry in entries {
+        put_entry(&mut out, entry)?;
+    }
+    Ok(out)
+}

@@ -1,0 +1,22 @@
+//! Entries as the bytes of files, and back: tables, their images, and where entries are cut into them.
+//!
+//! | Module | Holds |
+//! |-|-|
+//! | `checksum` | the checksum of a file's bytes |
+//! | `image` | the bytes of a table's file |
+//! | `table` | the entries of one file |
+//! | `multi_writer` | entries cut into tables |
+//! | `table_error` | what reading a table refuses |
+#![tactic(auto)]
+
+mod checksum;
+mod image;
+mod multi_writer;
+mod table;
+mod table_error;
+
+pub use checksum::{Checksum, sums_of_parts};
+pub use image::{decode, encode, fits_image, is_writable, no_image_begins_another};
+pub use multi_writer::{MultiWriter, write_tables};
+pub use table::Table;
+pub use table_error::TableError;

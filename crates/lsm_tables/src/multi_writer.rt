@@ -1,0 +1,123 @@
+// Entries cut into tables.
+ghost use Rattle.std.specs.Prelude.{◌≡◌, ◌+◌, ◌++◌, ◌∷◌, [], ◌<◌, ◌↔◌, map, length, IfOk, IfErr, OnOk, OnErr, IsTrue};
+ghost use Rattle.lsm_tables.specs.Cutting.{IsWritable, IsFirstEnd, AreImagesOf, capped};
+
+use crate::image::{encode, may_stand_behind};
+use lsm_below::{InternalValue, has_same_key};
+use std::alloc::{AllocError, AllocFailed, Global};
+use std::marker::Model;
+
+/// The bytes that an entry takes in an image, up to 2^64 - 1.
+fn size_of_entry(entry: &InternalValue) -> u64
+    ensures { result ≡ capped (15 + length entry.now.key.user_key + length entry.now.value) }
+{
+    15u64
+        .saturating_add(entry.key.user_key.len() as u64)
+        .saturating_add(entry.value.len() as u64)
+}
+
+/// Where the first table of entries ends: before an entry of another key, as soon as it has the
+/// target, or with the last entry.
+fn first_end(entries: &[InternalValue], target: u64) -> usize
+    requires { 0 < length entries.now }
+    ensures { IsFirstEnd target entries.now result }
+{
+    let mut end = 1;
+    let mut held = size_of_entry(&entries[0]);
+    while end < entries.len() {
+        let entry = &entries[end];
+        if held >= target && !has_same_key(&entries[end - 1], entry) {
+            return end;
+        }
+        held = held.saturating_add(size_of_entry(entry));
+        end += 1;
+    }
+    end
+}
+
+/// The images of the tables into which entries are cut, made at this moment (in nanoseconds).
+///
+/// A table ends only between two keys, so all versions of a key stand in one table; and it ends
+/// as soon as its entries have the target in bytes, where an entry has 15, its key's and its
+/// value's. No entries: no images. Refused only for want of memory.
+pub fn write_tables(
+    alloc: Global,
+    target: u64,
+    made_at: u64,
+    entries: &[InternalValue],
+) -> Result<Vec<Vec<u8>>, AllocError>
+    requires { IsWritable entries.now }
+    ensures { IfOk result (λ images. AreImagesOf target made_at entries.now (map (λ v. v.items) images.items)) }
+{
+    let mut images = Vec::new(alloc);
+    let mut rest = entries;
+    while !rest.is_empty() {
+        let (table, behind) = rest.split_at(first_end(rest, target));
+        images.push(encode(alloc, made_at, table)?)?;
+        rest = behind;
+    }
+    Ok(images)
+}
+
+/// Takes entries one by one, and makes images of tables of them, as `write_tables` does.
+#[derive(Drop)]
+pub struct MultiWriter {
+    alloc: Global,
+    target: u64,
+    made_at: u64,
+    entries: Vec<InternalValue>,
+}
+
+impl Model for MultiWriter {
+    ghost use Rattle.lsm_tables.specs.Cutting.{SeenWriter, IsWritable};
+
+    ghost Value = { SeenWriter };
+
+    ghost view = { λ w. record { target = w.target; made_at = w.made_at; written = w.entries.items } };
+
+    ghost invariant = { λ w. IsWritable w.entries.items };
+}
+
+impl MultiWriter {
+    /// A writer of tables of this target, in bytes of entries, and made at this moment, in
+    /// nanoseconds.
+    pub fn new(alloc: Global, target: u64, made_at: u64) -> MultiWriter
+        ensures { result ≡ record { target = target; made_at = made_at; written = [] } }
+    {
+        MultiWriter {
+            alloc,
+            target,
+            made_at,
+            entries: Vec::new(alloc),
+        }
+    }
+
+    /// Whether an entry fits an image and stands behind those that were written.
+    pub fn may_write(&self, entry: &InternalValue) -> bool
+        ensures { IsTrue result ↔ IsWritable (self.now.written ++ entry.now ∷ []) }
+    {
+        may_stand_behind(&self.entries, entry)
+    }
+
+    /// Takes the next entry. Refused only for want of memory, and then the entry comes back and
+    /// nothing changes.
+    pub fn write(&mut self, entry: InternalValue) -> Result<(), AllocFailed<InternalValue>>
+        requires { IsWritable (self.old.written ++ entry ∷ []) }
+        ensures ok { OnOk result (self.new ≡ record self.old { written = self.old.written ++ entry ∷ [] }) }
+        ensures err { OnErr result (self.new ≡ self.old) }
+        ensures back { IfErr result (λ e. e.value ≡ entry) }
+    {
+        self.entries.push(entry)
+    }
+
+    /// The images of the tables into which the entries are cut. Refused only for want of memory;
+    /// the writer keeps its entries.
+    pub fn finish(&self) -> Result<Vec<Vec<u8>>, AllocError>
+        ensures { IfOk result (λ images. AreImagesOf self.now.target self.now.made_at self.now.written (map (λ v. v.items) images.items)) }
+    {
+        write_tables(self.alloc, self.target, self.made_at, &self.entries)
+    }
+}
+
+#[cfg(test)]
+mod tests;

@@ -1,0 +1,227 @@
+// A table in memory: the entries of one file.
+ghost use Rattle.std.specs.Prelude.{◌≡◌, ◌+◌, ◌<◌, length, IfOk, IfErr, IfSome, IfNone, option_copied};
+ghost use Rattle.lsm_below.specs.Entries.{entry_cmp, top};
+ghost use Rattle.lsm_below.specs.Sorted.{Rises};
+ghost use Rattle.lsm_below.specs.Lookups.{IsTop, HasNone, within};
+ghost use Rattle.lsm_tables.specs.Image.{IsTable, IsImageOf, IsNoImage, image, entry_bytes};
+ghost use Rattle.lsm_tables.specs.Sum.{sum_of};
+ghost use Rattle.lsm_tables.specs.Tables.{IsCovered, range_of, greatest, tombstones, weak_tombstones, reclaimable};
+ghost use Rattle.lsm_tables.specs.declared.table_error.TableError.TheVariants.{BadTable};
+
+mod counts;
+
+use crate::image::decode;
+use crate::{Checksum, TableError};
+use bytes::Bytes;
+use counts::{Counts, count};
+use lsm_below::{
+    InternalValue, KeyRange, Ranged, SeqNo, TableId, UserKey, entries_within, first_visible, share,
+};
+use std::alloc::{AllocError, Global};
+use std::marker::Model;
+use std::ops::Bound;
+use std::sync::Arc;
+
+/// What copies of a table share.
+#[derive(Drop)]
+struct TableInner {
+    id: TableId,
+    created_at: u64,
+    entries: Vec<InternalValue>,
+    key_range: KeyRange,
+    file_size: u64,
+    checksum: Checksum,
+    counts: Counts,
+}
+
+/// The entries of one file, decoded: at least one, by rising key, and under one key by falling
+/// number. Keys and values share the bytes of the file's image, and copies share the entries.
+#[derive(Drop)]
+pub struct Table {
+    inner: Arc<TableInner>,
+}
+
+impl Model for Table {
+    ghost use Rattle.std.specs.Arc.{arc_value};
+    ghost use Rattle.lsm_tables.specs.Tables.{SeenTable, IsKept};
+
+    ghost Value = { SeenTable };
+
+    ghost view = { λ t. let inner = arc_value t.inner in record { id = inner.id; created_at = inner.created_at; entries = inner.entries.items } };
+
+    ghost invariant = { λ t. IsKept (arc_value t.inner) };
+}
+
+/// The range from the first entry's key to the last one's.
+fn range_between(entries: &[InternalValue]) -> Result<KeyRange, AllocError>
+    requires some { 0 < length entries.now }
+    requires rises { Rises entry_cmp entries.now }
+    ensures { IfOk result (λ r. r ≡ range_of entries.now) }
+{
+    let first = &entries[0].key.user_key;
+    let last = &entries[entries.len() - 1].key.user_key;
+    Ok(KeyRange::new((share(first)?, share(last)?)))
+}
+
+impl Table {
+    /// The table of this number whose file has these bytes. Keys and values share them.
+    ///
+    /// `BadTable` where the bytes are the image of no table, and only there; `OutOfMemory` where a
+    /// growth was refused.
+    pub fn recover(alloc: Global, id: TableId, bytes: Bytes) -> Result<Table, TableError>
+        ensures id { IfOk result (λ t. t.id ≡ id) }
+        ensures entries { IfOk result (λ t. IsImageOf t.created_at t.entries bytes) }
+        ensures bad { IfErr result (λ e. e ≡ BadTable → IsNoImage bytes) }
+    {
+        let checksum = Checksum::of(bytes.as_slice());
+        let file_size = bytes.len() as u64;
+        let (created_at, entries) = decode(alloc, bytes)?;
+        let key_range = range_between(&entries)?;
+        let counts = count(&entries);
+        let inner = TableInner {
+            id,
+            created_at,
+            entries,
+            key_range,
+            file_size,
+            checksum,
+            counts,
+        };
+        Ok(Table {
+            inner: Arc::new(alloc, inner)?,
+        })
+    }
+
+    /// The table's number, which is also its file's name.
+    pub fn id(&self) -> TableId
+        ensures { result ≡ self.now.id }
+    {
+        self.inner.id
+    }
+
+    /// When the table was made, in nanoseconds.
+    pub fn created_at(&self) -> u64
+        ensures { result ≡ self.now.created_at }
+    {
+        self.inner.created_at
+    }
+
+    /// The entries, by rising key, and under one key by falling number.
+    pub fn entries(&self) -> &[InternalValue]
+        ensures { result.now ≡ self.now.entries }
+    {
+        &self.inner.entries
+    }
+
+    /// What every table meets: it has an entry at least, its entries rise and fit an image, and its
+    /// range has their keys.
+    pub fn facts(&self)
+        ensures table { IsTable self.now.entries }
+        ensures covered { IsCovered self.now.entries (range_of self.now.entries) }
+    {
+        let _ = &self.inner;
+    }
+
+    /// The entry of a key with the greatest number below the snapshot. None only where there is none.
+    pub fn get(&self, key: &[u8], seqno: SeqNo) -> Option<&InternalValue>
+        ensures is { option_copied result ≡ top key.now seqno self.now.entries }
+        ensures greatest { IfSome result (λ e. IsTop self.now.entries key.now seqno e.now) }
+        ensures none { IfNone result (HasNone self.now.entries key.now seqno) }
+    {
+        first_visible(&self.inner.entries, key, seqno)
+    }
+
+    /// The entries whose keys lie within the bounds: a part of the table. There is none where the
+    /// lower bound is above the upper one.
+    pub fn range(&self, lower: &Bound<UserKey>, upper: &Bound<UserKey>) -> &[InternalValue]
+        ensures { result.now ≡ within lower.now upper.now self.now.entries }
+    {
+        entries_within(&self.inner.entries, lower, upper)
+    }
+
+    /// The bytes of the table's file: 20, and for each entry 15, its key's and its value's.
+    pub fn file_size(&self) -> u64
+        ensures { result ≡ 20 + entry_bytes self.now.entries }
+    {
+        self.inner.file_size
+    }
+
+    /// The checksum of the table's file.
+    pub fn checksum(&self) -> Checksum
+        ensures { result.0 ≡ sum_of (image self.now.created_at self.now.entries) }
+    {
+        self.inner.checksum
+    }
+
+    /// The greatest number of an entry.
+    pub fn get_highest_seqno(&self) -> SeqNo
+        ensures { result ≡ greatest self.now.entries }
+    {
+        self.inner.counts.highest
+    }
+
+    /// How many entries there are.
+    pub fn item_count(&self) -> usize
+        ensures { result ≡ length self.now.entries }
+    {
+        self.inner.entries.len()
+    }
+
+    /// How many entries remove their key, weakly or not.
+    pub fn tombstone_count(&self) -> usize
+        ensures { result ≡ tombstones self.now.entries }
+    {
+        self.inner.counts.tombstones
+    }
+
+    /// How many entries remove their key weakly.
+    pub fn weak_tombstone_count(&self) -> usize
+        ensures { result ≡ weak_tombstones self.now.entries }
+    {
+        self.inner.counts.weak
+    }
+
+    /// How many weak tombstones stand directly above a value of their key.
+    pub fn weak_tombstone_reclaimable(&self) -> usize
+        ensures { result ≡ reclaimable self.now.entries }
+    {
+        self.inner.counts.reclaimable
+    }
+
+    /// What is added to the numbers of the entries: 0.
+    pub fn global_seqno(&self) -> SeqNo
+        ensures { result ≡ 0 }
+    {
+        0
+    }
+
+    /// The table once more, its entries shared. Refused only for want of memory.
+    pub fn copy(&self) -> Result<Table, AllocError>
+        ensures { IfOk result (λ t. t ≡ self.now) }
+    {
+        Ok(Table {
+            inner: Arc::try_clone(&self.inner)?,
+        })
+    }
+}
+
+impl Ranged for Table {
+    ghost use Rattle.lsm_tables.specs.Tables.{range_of};
+
+    ghost range = { λ t. range_of t.entries };
+
+    fn key_range(&self) -> &KeyRange {
+        &self.inner.key_range
+    }
+}
+
+impl Clone for Table {
+    ghost is_clone = { λ t copy. copy ≡ t };
+
+    fn clone(&self) -> Result<Table, AllocError> {
+        self.copy()
+    }
+}
+
+#[cfg(test)]
+mod tests;
