@@ -8,7 +8,8 @@ ghost use Rattle.lsm_model.specs.declared.journal.JournalEntry.TheVariants.{Writ
 ghost use Rattle.lsm_model.specs.declared.question.Question.TheVariants.{Get as AskGet};
 ghost use Rattle.lsm_model.specs.declared.question.Answer.TheVariants.{Found};
 ghost use Rattle.lsm_tree.specs.Told.{Told};
-ghost use Rattle.lsm_tree.specs.Runs.{Takes, TakesEntry, TakesBatch, TakesGet, TakesGetEntry, TakesRotate, TakesNext, TakesCounter, counter_of, told_entry, told_batch, Ran, RunEqualsReplay};
+ghost use Rattle.lsm_tree.specs.ReadSteps.{TakesGet, TakesGetEntry};
+ghost use Rattle.lsm_tree.specs.Runs.{Takes, TakesEntry, TakesBatch, TakesRotate, TakesNext, TakesCounter, counter_of, told_entry, told_batch, Ran, RunEqualsReplay};
 
 use crate::entries::{entry_of, read_entry};
 use crate::{
@@ -304,6 +305,8 @@ fn take_step<S: Store>(
         Step::GetInternalEntry(key, snapshot) => {
             Ok(get_internal_entry(alloc, state, key, *snapshot))
         }
+        Step::Range(low, high, snapshot) => ranges::range(alloc, state, low, high, *snapshot),
+        Step::Iter(snapshot) => ranges::iter(alloc, state, *snapshot),
         Step::RotateMemtable => Ok(rotate_memtable(alloc, state)),
         Step::Next(counter) => Ok(next(alloc, state, *counter)),
         Step::Set(counter, seqno) => Ok(set(alloc, state, *counter, *seqno)),
@@ -358,5 +361,6 @@ pub fn run<S: Store>(alloc: Global, state: &mut TreeState<S>, steps: &[Step]) ->
     take_steps(alloc, state, steps)
 }
 
+mod ranges;
 #[cfg(test)]
 mod tests;

@@ -1,8 +1,11 @@
 // Calls on a tree as data, and what each of them answers.
 ghost use Rattle.std.specs.Prelude.{◌≡◌};
 
-use crate::{Error, InternalValue, JournalEntry, MemtableId, Ops, SeqNo, UserKey, UserValue};
+use crate::{
+    Error, InternalValue, JournalEntry, KvPairs, MemtableId, Ops, SeqNo, UserKey, UserValue,
+};
 use std::marker::Model;
+use std::ops::Bound;
 
 /// A counter of a tree.
 #[derive(Clone, Copy, Debug, PartialEq, Eq)]
@@ -30,6 +33,10 @@ pub enum Step {
     Get(UserKey, SeqNo),
     /// Reads the entry of a key at a snapshot.
     GetInternalEntry(UserKey, SeqNo),
+    /// Reads the pairs within bounds at a snapshot.
+    Range(Bound<UserKey>, Bound<UserKey>, SeqNo),
+    /// Reads all pairs at a snapshot.
+    Iter(SeqNo),
     /// Seals the active memtable.
     RotateMemtable,
     /// Draws the counter's next number.
@@ -52,6 +59,8 @@ pub enum Reply {
     Value(Option<UserValue>),
     /// Of a read of an entry: the entry, or None.
     Entry(Option<InternalValue>),
+    /// Of a read of many keys: the pairs by rising key.
+    Pairs(KvPairs),
     /// Of a rotation: the id of the memtable that was sealed, or None where it was empty.
     Sealed(Option<MemtableId>),
     /// Of a counter that was set: nothing.
@@ -84,7 +93,7 @@ impl Outcome {
     }
 
     /// What the step adds to the journal: an accepted write its entry, an accepted batch its entries in
-    /// their order, an answered `Get` the read; nothing else adds any.
+    /// their order, an answered `Get`, `Range` or `Iter` the read; nothing else adds any.
     pub fn entries(&self) -> &[JournalEntry]
         ensures { result.now ≡ self.now.entries }
     {

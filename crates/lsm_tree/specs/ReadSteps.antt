@@ -1,0 +1,88 @@
+-- What a step that reads may answer and put into the journal, and how that follows from the replay.
+use Rattle.std.specs.Prelude.{◌≡◌, ℕ, ◌≤◌, ◌⊎◌, ◌↔◌, true, List, [], ◌∷◌, ◌++◌, None, Result, Ok, Err, map}
+use Rattle.std.specs.List.{AllByRecursion}
+use Rattle.std.specs.FinMap.{get}
+use Rattle.std.specs.declared.ops.Bound.{Bound}
+use Rattle.lsm_below.specs.Keys.{Bytes}
+use Rattle.lsm_below.specs.Entries.{Entry, above, IsOrdered}
+use Rattle.lsm_model.specs.Journal.{Event, Map, is_outside, IsKept, replay, ReadAgrees}
+use Rattle.lsm_model.specs.Views.{found_at, shown, sources}
+use Rattle.lsm_model.specs.Steps.{Step, Asked}
+use Rattle.lsm_model.specs.declared.journal.JournalEntry.TheVariants.{Read}
+use Rattle.lsm_model.specs.declared.question.Question.{Question}
+use Rattle.lsm_model.specs.declared.question.Question.TheVariants.{Get as AskGet, Between}
+use Rattle.lsm_model.specs.declared.question.Answer.TheVariants.{Found, Pairs as FoundPairs}
+use Rattle.lsm_parts.specs.Guards.{Pair, pair_of}
+use Rattle.lsm_parts.specs.declared.error.Error.{Error}
+use Rattle.lsm_parts.specs.declared.error.Error.TheVariants.{OutOfMemory, SnapshotTooOld}
+use Rattle.lsm_state.specs.Held.{entries_of}
+use Rattle.lsm_state.specs.Core.{Core, state_of, latest_of, older_of}
+use Rattle.lsm_state.specs.Calls.{Gives, GivesEntry, IsGetStep}
+use Rattle.lsm_tree.specs.declared.steps.Reply.{Reply}
+use Rattle.lsm_tree.specs.declared.steps.Reply.TheVariants.{Value, Entry as EntryOf, Pairs, Refused}
+use Rattle.lsm_tree.specs.Listing.{Lists}
+use Rattle.lsm_tree.specs.Told.{Told}
+
+-- ---- what a read may answer, and add to the journal
+
+-- why a read is refused: the snapshot is too old exactly where it finds no super version, else memory is missing
+abbrev pub IsReadRefusal : ℕ → Core → Error → Type 0
+IsReadRefusal s c x = ((x ≡ SnapshotTooOld) ⊎ (x ≡ OutOfMemory)) × ((x ≡ SnapshotTooOld) ↔ (found_at s (latest_of c) (older_of c) ≡ None))
+
+-- a read of a key
+abbrev pub TakesGet : Bytes → ℕ → Reply → List Event → Core → Core → Type 0
+TakesGet k s (Value v) events old new = (events ≡ Read s (AskGet k) (Found v) ∷ []) × (new ≡ old) × Gives old k s v × IsGetStep old k s v
+TakesGet k s (Refused x) events old new = (events ≡ []) × (new ≡ old) × IsReadRefusal s old x
+TakesGet k s reply events old new = ⊥
+
+-- a read of a key's entry
+abbrev pub TakesGetEntry : Bytes → ℕ → Reply → List Event → Core → Core → Type 0
+TakesGetEntry k s (EntryOf e) events old new = (events ≡ []) × (new ≡ old) × GivesEntry old k s e
+TakesGetEntry k s (Refused x) events old new = (events ≡ []) × (new ≡ old) × IsReadRefusal s old x
+TakesGetEntry k s reply events old new = ⊥
+
+-- whatever the journal, an answered read of pairs, where numbers fall under each key in every super version
+abbrev pub IsPairsStep : Core → Question → ℕ → List Pair → Type 0
+IsPairsStep c question s pairs = (opened : List Entry) (journal : List Event) → above opened ≤ s → AllByRecursion (λ sv. IsOrdered (sources (entries_of c.memtables) sv)) (latest_of c ∷ older_of c)
+    → Step opened (state_of journal c) (Asked s question) (state_of (journal ++ Read s question (FoundPairs pairs) ∷ []) c)
+
+-- a read of many keys, of which the pairs are right
+abbrev pub TakesPairs : Question → (List Pair → Type 0) → ℕ → Reply → List Event → Core → Core → Type 0
+TakesPairs question Right s (Pairs pairs) events old new = (events ≡ Read s question (FoundPairs pairs) ∷ []) × (new ≡ old) × Right pairs × IsPairsStep old question s pairs
+TakesPairs question Right s (Refused x) events old new = (events ≡ []) × (new ≡ old) × IsReadRefusal s old x
+TakesPairs question Right s reply events old new = ⊥
+
+-- a read of the keys within bounds
+abbrev pub TakesRange : Bound Bytes → Bound Bytes → ℕ → Reply → List Event → Core → Core → Type 0
+TakesRange low high s reply events old new = TakesPairs (Between low high) (Lists old low high s) s reply events old new
+
+-- ---- outcomes
+
+-- the outcome of an answered read of pairs
+abbrev pub told_pairs : Question → ℕ → List Pair → Told
+told_pairs question s pairs = record { reply = Pairs pairs; entries = Read s question (FoundPairs pairs) ∷ [] }
+
+-- the outcome of a read of pairs by what it found; it may be refused for memory to list them
+abbrev pub ToldFound : Question → ℕ → Result (List Entry) Error → Told → Type 0
+ToldFound question s (Ok out) told = (told ≡ told_pairs question s (map pair_of out)) ⊎ (told ≡ record { reply = Refused OutOfMemory; entries = [] })
+ToldFound question s (Err x) told = told ≡ record { reply = Refused x; entries = [] }
+
+-- ---- what the replay says of it
+
+-- a read of a key answers the replay of the journal before it, and where its snapshot is kept only memory may be missing
+abbrev pub GetAnswers : List Entry → Map → List Event → Bytes → ℕ → Reply → Type 0
+GetAnswers opened start before k s (Value v) = above opened ≤ s → is_outside k s before ≡ true → v ≡ get (replay start before s) k
+GetAnswers opened start before k s (Refused x) = IsKept s before → x ≡ OutOfMemory
+GetAnswers opened start before k s reply = ⊥
+
+-- the same of a read of a key's entry, by the value that the entry gives
+abbrev pub GetEntryAnswers : List Entry → Map → List Event → Bytes → ℕ → Reply → Type 0
+GetEntryAnswers opened start before k s (EntryOf e) = above opened ≤ s → is_outside k s before ≡ true → shown e ≡ get (replay start before s) k
+GetEntryAnswers opened start before k s (Refused x) = IsKept s before → x ≡ OutOfMemory
+GetEntryAnswers opened start before k s reply = ⊥
+
+-- the same of a read of pairs, outside dropped ranges
+abbrev pub PairsAnswer : List Entry → Map → List Event → Question → ℕ → Reply → Type 0
+PairsAnswer opened start before question s (Pairs pairs) = above opened ≤ s → ReadAgrees start before (Read s question (FoundPairs pairs))
+PairsAnswer opened start before question s (Refused x) = IsKept s before → x ≡ OutOfMemory
+PairsAnswer opened start before question s reply = ⊥
