@@ -1,5 +1,5 @@
 -- From the reads of a run of steps to the replay of its journal.
-use Rattle.std.proofs.Common.{◌≡◌, ℕ, ◌≤◌, true, false, cond, List, [], ◌∷◌, ◌++◌, Option, Some, None, refl, ap, ◌∙◌, arith, ⊎_elim, is_some, nat_le, append-nil}
+use Rattle.std.proofs.Common.{◌≡◌, ℕ, ◌≤◌, true, false, cond, List, [], ◌∷◌, ◌++◌, Option, Some, None, refl, ap, ◌∙◌, arith, ⊎_elim, is_some, option_map, nat_le, append-nil}
 use Rattle.std.specs.FinMap.{get}
 use Rattle.lsm_below.specs.Keys.{Bytes}
 use Rattle.lsm_below.specs.Entries.{Entry, above}
@@ -21,10 +21,10 @@ use Rattle.lsm_parts.specs.declared.error.Error.{Error}
 use Rattle.lsm_parts.specs.declared.error.Error.TheVariants.{OutOfMemory, SnapshotTooOld}
 use Rattle.lsm_state.specs.Held.{entries_of}
 use Rattle.lsm_state.specs.Core.{Core, state_of, latest_of, older_of}
-use Rattle.lsm_state.specs.Calls.{live}
+use Rattle.lsm_state.specs.Calls.{Gives, live, value_size}
 use Rattle.lsm_tree.specs.declared.steps.Reply.{Reply}
-use Rattle.lsm_tree.specs.declared.steps.Reply.TheVariants.{Value, Entry as EntryOf, Pairs, Refused}
-use Rattle.lsm_tree.specs.ReadSteps.{IsReadRefusal, TakesGet, TakesGetEntry, TakesPairs, GetAnswers, GetEntryAnswers, PairsAnswer}
+use Rattle.lsm_tree.specs.declared.steps.Reply.TheVariants.{Value, Entry as EntryOf, Truth, Size, Pairs, Refused}
+use Rattle.lsm_tree.specs.ReadSteps.{IsReadRefusal, TakesGet, TakesGetEntry, IsContainsReply, IsSizeReply, TakesPairs, GetAnswers, GetEntryAnswers, ContainsAnswers, SizeAnswers, PairsAnswer}
 use Rattle.lsm_tree.specs.Runs.{without_low_reads}
 use Rattle.lsm_tree.proofs.LowReads.{replay_without, outside_without, kept_without, without-append, order_without}
 
@@ -100,14 +100,20 @@ not_none (Some x) h e = cc e
 kept_along : (opened : List Entry) (s : ℕ) (journal : List Event) → IsKept s journal → IsKept s (without_low_reads opened journal)
 kept_along opened s journal kept = rw (kept_without opened s journal) kept
 
+-- a kept snapshot finds a super version
+kept_found : (opened : List Entry) (start : Map) (s : ℕ) (journal : List Event) (c : Core) → Sound opened start journal c → IsKept s journal → found_at s (latest_of c) (older_of c) ≡ None → ⊥
+kept_found opened start s journal c h kept none = not_none _ ((reads_right opened start (state_of (without_low_reads opened journal) c) h).answered s (kept_along opened s journal kept)) none
+
 -- where the snapshot is kept, only memory may be missing
 refused_memory : (opened : List Entry) (start : Map) (s : ℕ) (x : Error) (journal : List Event) (c : Core) → IsReadRefusal s c x → Sound opened start journal c → IsKept s journal → x ≡ OutOfMemory
-refused_memory opened start s x journal c r h kept =
-    let there = (reads_right opened start (state_of (without_low_reads opened journal) c) h).answered s (kept_along opened s journal kept) in
-    ⊎_elim (λ (old : x ≡ SnapshotTooOld). absurd (not_none _ there (r.1.0 old))) (λ (m : x ≡ OutOfMemory). m) r.0
+refused_memory opened start s x journal c r h kept = ⊎_elim (λ (old : x ≡ SnapshotTooOld). absurd (kept_found opened start s journal c h kept (r.1.0 old))) (λ (m : x ≡ OutOfMemory). m) r.0
+
+-- what a read of a key gives is what the replay says
+gives_replays : (opened : List Entry) (start : Map) (k : Bytes) (s : ℕ) (v : Option Bytes) (journal : List Event) (c : Core) → Gives c k s v → Sound opened start journal c → above opened ≤ s → is_outside k s journal ≡ true → v ≡ get (replay start journal s) k
+gives_replays opened start k s v journal c g h low out = g.2 ∙ walk_replays opened start k s g.0 journal c g.1 h low out
 
 pub get_answers : (opened : List Entry) (start : Map) (k : Bytes) (s : ℕ) (reply : Reply) (journal events : List Event) (old new : Core) → TakesGet k s reply events old new → Sound opened start journal old → GetAnswers opened start journal k s reply
-get_answers opened start k s (Value v) journal events old new t h = λ low out. let g = t.2 in g.2 ∙ walk_replays opened start k s g.0 journal old g.1 h low out
+get_answers opened start k s (Value v) journal events old new t h = gives_replays opened start k s v journal old t.2 h
 get_answers opened start k s (Refused x) journal events old new t h = refused_memory opened start s x journal old t.2 h
 get_answers opened start k s reply journal events old new t h = absurd t
 
@@ -115,6 +121,16 @@ pub get_entry_answers : (opened : List Entry) (start : Map) (k : Bytes) (s : ℕ
 get_entry_answers opened start k s (EntryOf e) journal events old new t h = λ low out. let g = t.2 in ap shown g.2 ∙ live_shown _ ∙ walk_replays opened start k s g.0 journal old g.1 h low out
 get_entry_answers opened start k s (Refused x) journal events old new t h = refused_memory opened start s x journal old t.2 h
 get_entry_answers opened start k s reply journal events old new t h = absurd t
+
+pub contains_answers : (opened : List Entry) (start : Map) (k : Bytes) (s : ℕ) (reply : Reply) (journal : List Event) (c : Core) → IsContainsReply k s c reply → Sound opened start journal c → ContainsAnswers opened start journal k s reply
+contains_answers opened start k s (Truth b) journal c r h = λ low out. r.2 ∙ ap (λ v. is_some v) (gives_replays opened start k s r.0 journal c r.1 h low out)
+contains_answers opened start k s (Refused x) journal c r h = λ kept. kept_found opened start s journal c h kept r.1
+contains_answers opened start k s reply journal c r h = absurd r
+
+pub size_answers : (opened : List Entry) (start : Map) (k : Bytes) (s : ℕ) (reply : Reply) (journal : List Event) (c : Core) → IsSizeReply k s c reply → Sound opened start journal c → SizeAnswers opened start journal k s reply
+size_answers opened start k s (Size n) journal c r h = λ low out. r.2 ∙ ap (option_map value_size) (gives_replays opened start k s r.0 journal c r.1 h low out)
+size_answers opened start k s (Refused x) journal c r h = λ kept. kept_found opened start s journal c h kept r.1
+size_answers opened start k s reply journal c r h = absurd r
 
 -- a read of pairs that is a step answers what the replay does, outside dropped ranges
 told_answer : (c : Core) (s : ℕ) (question : Question) (pairs : List Pair) (told : Answer) → state_of (Read s question (FoundPairs pairs) ∷ []) c ≡ state_of (Read s question told ∷ []) c → FoundPairs pairs ≡ told

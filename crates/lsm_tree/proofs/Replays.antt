@@ -16,14 +16,14 @@ use Rattle.lsm_state.specs.Calls.{Rotates}
 use Rattle.lsm_tree.specs.declared.steps.Counter.{Counter}
 use Rattle.lsm_tree.specs.declared.steps.Counter.TheVariants.{Seqno, Visible}
 use Rattle.lsm_tree.specs.declared.steps.Step.{Step as Call}
-use Rattle.lsm_tree.specs.declared.steps.Step.TheVariants.{Insert, Remove, RemoveWeak, AppendEntry, Write, Get, GetInternalEntry, Range, Iter, RotateMemtable, Next, Set, FetchMax}
+use Rattle.lsm_tree.specs.declared.steps.Step.TheVariants.{Insert, Remove, RemoveWeak, AppendEntry, Write, Get, GetInternalEntry, ContainsKey, SizeOf, Range, Iter, RotateMemtable, Next, Set, FetchMax}
 use Rattle.lsm_tree.specs.declared.steps.Reply.{Reply}
 use Rattle.lsm_tree.specs.declared.steps.Reply.TheVariants.{Sizes, Number, Sealed, Done, Refused}
 use Rattle.lsm_tree.specs.Listing.{Lists}
 use Rattle.lsm_tree.specs.Told.{Told}
 use Rattle.lsm_tree.specs.Runs.{Takes, TakesEntry, TakesBatch, TakesRotate, TakesNext, TakesCounter, with_counter, Ran, journal_of, StepAnswers, EachAnswers, RunEqualsReplay, without_low_reads}
 use Rattle.lsm_tree.proofs.LowReads.{without-append, writes_without, order_without}
-use Rattle.lsm_tree.proofs.ReadReplays.{Sound, same, takes_get, takes_get_entry, takes_pairs, get_answers, get_entry_answers, pairs_answer}
+use Rattle.lsm_tree.proofs.ReadReplays.{Sound, same, takes_get, takes_get_entry, takes_pairs, get_answers, get_entry_answers, contains_answers, size_answers, pairs_answer}
 
 -- ---- each call keeps the tree sound
 
@@ -79,6 +79,8 @@ takes_sound opened start (AppendEntry e) reply journal events old new t order h 
 takes_sound opened start (Write ops) reply journal events old new t order h = takes_batch opened start ops reply journal events old new t order h
 takes_sound opened start (Get k s) reply journal events old new t order h = takes_get opened start k s reply journal events old new t order h
 takes_sound opened start (GetInternalEntry k s) reply journal events old new t order h = takes_get_entry opened start k s reply journal events old new t h
+takes_sound opened start (ContainsKey k s) reply journal events old new t order h = same opened start journal events old new t.0 t.1 h
+takes_sound opened start (SizeOf k s) reply journal events old new t order h = same opened start journal events old new t.0 t.1 h
 takes_sound opened start (Range low high s) reply journal events old new t order h = takes_pairs opened start (Between low high) (Lists old low high s) s reply journal events old new t order h
 takes_sound opened start (Iter s) reply journal events old new t order h = takes_pairs opened start (Between Unbounded Unbounded) (Lists old Unbounded Unbounded s) s reply journal events old new t order h
 takes_sound opened start RotateMemtable reply journal events old new t order h = takes_rotate opened start reply journal events old new t order h
@@ -89,6 +91,8 @@ takes_sound opened start (FetchMax counter n) reply journal events old new t ord
 step_answers : (opened : List Entry) (start : Map) (x : Call) (reply : Reply) (journal events : List Event) (old new : Core) → Takes x reply events old new → Sound opened start journal old → StepAnswers opened start journal x reply
 step_answers opened start (Get k s) reply journal events old new t h = get_answers opened start k s reply journal events old new t h
 step_answers opened start (GetInternalEntry k s) reply journal events old new t h = get_entry_answers opened start k s reply journal events old new t h
+step_answers opened start (ContainsKey k s) reply journal events old new t h = contains_answers opened start k s reply journal old t.2 h
+step_answers opened start (SizeOf k s) reply journal events old new t h = size_answers opened start k s reply journal old t.2 h
 step_answers opened start (Range low high s) reply journal events old new t h = pairs_answer opened start (Between low high) (Lists old low high s) s reply journal events old new t h
 step_answers opened start (Iter s) reply journal events old new t h = pairs_answer opened start (Between Unbounded Unbounded) (Lists old Unbounded Unbounded s) s reply journal events old new t h
 step_answers opened start step reply journal events old new t h = tt

@@ -1,5 +1,5 @@
 -- What a step that reads may answer and put into the journal, and how that follows from the replay.
-use Rattle.std.specs.Prelude.{◌≡◌, ℕ, ◌≤◌, ◌⊎◌, ◌↔◌, true, List, [], ◌∷◌, ◌++◌, None, Result, Ok, Err, map}
+use Rattle.std.specs.Prelude.{◌≡◌, ℕ, ◌≤◌, ◌⊎◌, ◌↔◌, true, List, [], ◌∷◌, ◌++◌, Option, None, Result, Ok, Err, map, is_some, option_map}
 use Rattle.std.specs.List.{AllByRecursion}
 use Rattle.std.specs.FinMap.{get}
 use Rattle.std.specs.declared.ops.Bound.{Bound}
@@ -17,9 +17,9 @@ use Rattle.lsm_parts.specs.declared.error.Error.{Error}
 use Rattle.lsm_parts.specs.declared.error.Error.TheVariants.{OutOfMemory, SnapshotTooOld}
 use Rattle.lsm_state.specs.Held.{entries_of}
 use Rattle.lsm_state.specs.Core.{Core, state_of, latest_of, older_of}
-use Rattle.lsm_state.specs.Calls.{Gives, GivesEntry, IsGetStep}
+use Rattle.lsm_state.specs.Calls.{Gives, GivesEntry, IsGetStep, value_size}
 use Rattle.lsm_tree.specs.declared.steps.Reply.{Reply}
-use Rattle.lsm_tree.specs.declared.steps.Reply.TheVariants.{Value, Entry as EntryOf, Pairs, Refused}
+use Rattle.lsm_tree.specs.declared.steps.Reply.TheVariants.{Value, Entry as EntryOf, Truth, Size, Pairs, Refused}
 use Rattle.lsm_tree.specs.Listing.{Lists}
 use Rattle.lsm_tree.specs.Told.{Told}
 
@@ -56,6 +56,26 @@ TakesPairs question Right s reply events old new = ⊥
 abbrev pub TakesRange : Bound Bytes → Bound Bytes → ℕ → Reply → List Event → Core → Core → Type 0
 TakesRange low high s reply events old new = TakesPairs (Between low high) (Lists old low high s) s reply events old new
 
+-- a read that adds nothing to the journal
+abbrev pub TakesSilent : (Reply → Type 0) → Reply → List Event → Core → Core → Type 0
+TakesSilent Right reply events old new = (events ≡ []) × (new ≡ old) × Right reply
+
+-- why a read that takes no memory is refused: its snapshot finds no super version
+abbrev pub IsTooOld : ℕ → Core → Error → Type 0
+IsTooOld s c x = (x ≡ SnapshotTooOld) × (found_at s (latest_of c) (older_of c) ≡ None)
+
+-- whether a key has a value
+abbrev pub IsContainsReply : Bytes → ℕ → Core → Reply → Type 0
+IsContainsReply k s c (Truth b) = (v : Option Bytes) × Gives c k s v × (b ≡ is_some v)
+IsContainsReply k s c (Refused x) = IsTooOld s c x
+IsContainsReply k s c reply = ⊥
+
+-- how many bytes its value has
+abbrev pub IsSizeReply : Bytes → ℕ → Core → Reply → Type 0
+IsSizeReply k s c (Size n) = (v : Option Bytes) × Gives c k s v × (n ≡ option_map value_size v)
+IsSizeReply k s c (Refused x) = IsTooOld s c x
+IsSizeReply k s c reply = ⊥
+
 -- ---- outcomes
 
 -- the outcome of an answered read of pairs
@@ -86,3 +106,15 @@ abbrev pub PairsAnswer : List Entry → Map → List Event → Question → ℕ 
 PairsAnswer opened start before question s (Pairs pairs) = above opened ≤ s → ReadAgrees start before (Read s question (FoundPairs pairs))
 PairsAnswer opened start before question s (Refused x) = IsKept s before → x ≡ OutOfMemory
 PairsAnswer opened start before question s reply = ⊥
+
+-- whether a key has a value, outside dropped ranges; a kept snapshot is not refused
+abbrev pub ContainsAnswers : List Entry → Map → List Event → Bytes → ℕ → Reply → Type 0
+ContainsAnswers opened start before k s (Truth b) = above opened ≤ s → is_outside k s before ≡ true → b ≡ is_some (get (replay start before s) k)
+ContainsAnswers opened start before k s (Refused x) = IsKept s before → ⊥
+ContainsAnswers opened start before k s reply = ⊥
+
+-- how many bytes its value has
+abbrev pub SizeAnswers : List Entry → Map → List Event → Bytes → ℕ → Reply → Type 0
+SizeAnswers opened start before k s (Size n) = above opened ≤ s → is_outside k s before ≡ true → n ≡ option_map value_size (get (replay start before s) k)
+SizeAnswers opened start before k s (Refused x) = IsKept s before → ⊥
+SizeAnswers opened start before k s reply = ⊥

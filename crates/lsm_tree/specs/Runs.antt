@@ -18,10 +18,10 @@ use Rattle.lsm_state.specs.Calls.{Appends, WritesBatch, Rotates}
 use Rattle.lsm_tree.specs.declared.steps.Counter.{Counter}
 use Rattle.lsm_tree.specs.declared.steps.Counter.TheVariants.{Seqno, Visible}
 use Rattle.lsm_tree.specs.declared.steps.Step.{Step}
-use Rattle.lsm_tree.specs.declared.steps.Step.TheVariants.{Insert, Remove, RemoveWeak, AppendEntry, Write, Get, GetInternalEntry, Range, Iter, RotateMemtable, Next, Set, FetchMax}
+use Rattle.lsm_tree.specs.declared.steps.Step.TheVariants.{Insert, Remove, RemoveWeak, AppendEntry, Write, Get, GetInternalEntry, ContainsKey, SizeOf, Range, Iter, RotateMemtable, Next, Set, FetchMax}
 use Rattle.lsm_tree.specs.declared.steps.Reply.{Reply}
 use Rattle.lsm_tree.specs.declared.steps.Reply.TheVariants.{Sizes, Number, Sealed, Done, Refused}
-use Rattle.lsm_tree.specs.ReadSteps.{TakesGet, TakesGetEntry, TakesRange, GetAnswers, GetEntryAnswers, PairsAnswer}
+use Rattle.lsm_tree.specs.ReadSteps.{TakesGet, TakesGetEntry, TakesSilent, IsContainsReply, IsSizeReply, TakesRange, GetAnswers, GetEntryAnswers, ContainsAnswers, SizeAnswers, PairsAnswer}
 use Rattle.lsm_tree.specs.Told.{Told}
 
 -- ---- what a step of each kind may answer, add to the journal and do
@@ -74,6 +74,8 @@ Takes (AppendEntry e) reply events old new = TakesEntry (plain e) reply events o
 Takes (Write ops) reply events old new = TakesBatch ops reply events old new
 Takes (Get k s) reply events old new = TakesGet k s reply events old new
 Takes (GetInternalEntry k s) reply events old new = TakesGetEntry k s reply events old new
+Takes (ContainsKey k s) reply events old new = TakesSilent (IsContainsReply k s old) reply events old new
+Takes (SizeOf k s) reply events old new = TakesSilent (IsSizeReply k s old) reply events old new
 Takes (Range low high s) reply events old new = TakesRange low high s reply events old new
 Takes (Iter s) reply events old new = TakesRange Unbounded Unbounded s reply events old new
 Takes RotateMemtable reply events old new = TakesRotate reply events old new
@@ -113,6 +115,8 @@ journal_of (t ∷ ts) = t.entries ++ journal_of ts
 abbrev pub StepAnswers : List Entry → Map → List Event → Step → Reply → Type 0
 StepAnswers opened start before (Get k s) reply = GetAnswers opened start before k s reply
 StepAnswers opened start before (GetInternalEntry k s) reply = GetEntryAnswers opened start before k s reply
+StepAnswers opened start before (ContainsKey k s) reply = ContainsAnswers opened start before k s reply
+StepAnswers opened start before (SizeOf k s) reply = SizeAnswers opened start before k s reply
 StepAnswers opened start before (Range low high s) reply = PairsAnswer opened start before (Between low high) s reply
 StepAnswers opened start before (Iter s) reply = PairsAnswer opened start before (Between Unbounded Unbounded) s reply
 StepAnswers opened start before step reply = Unit {0}

@@ -8,7 +8,7 @@ ghost use Rattle.lsm_model.specs.declared.journal.JournalEntry.TheVariants.{Writ
 ghost use Rattle.lsm_model.specs.declared.question.Question.TheVariants.{Get as AskGet};
 ghost use Rattle.lsm_model.specs.declared.question.Answer.TheVariants.{Found};
 ghost use Rattle.lsm_tree.specs.Told.{Told};
-ghost use Rattle.lsm_tree.specs.ReadSteps.{TakesGet, TakesGetEntry};
+ghost use Rattle.lsm_tree.specs.ReadSteps.{TakesGet, TakesGetEntry, TakesSilent, IsContainsReply, IsSizeReply};
 ghost use Rattle.lsm_tree.specs.Runs.{Takes, TakesEntry, TakesBatch, TakesRotate, TakesNext, TakesCounter, counter_of, told_entry, told_batch, Ran, RunEqualsReplay};
 
 use crate::entries::{entry_of, read_entry};
@@ -230,6 +230,29 @@ fn get_internal_entry<S: Store>(
     }
 }
 
+fn contains_key<S: Store>(
+    alloc: Global,
+    state: &TreeState<S>,
+    key: &UserKey,
+    snapshot: SeqNo,
+) -> Outcome
+    ensures { TakesSilent (IsContainsReply key.now snapshot state.now.core) result.reply result.entries state.now.core state.now.core }
+{
+    match state.contains_key(key.as_slice(), snapshot) {
+        Ok(truth) => silent(alloc, Reply::Truth(truth)),
+        Err(error) => refused(alloc, error),
+    }
+}
+
+fn size_of<S: Store>(alloc: Global, state: &TreeState<S>, key: &UserKey, snapshot: SeqNo) -> Outcome
+    ensures { TakesSilent (IsSizeReply key.now snapshot state.now.core) result.reply result.entries state.now.core state.now.core }
+{
+    match state.size_of(key.as_slice(), snapshot) {
+        Ok(size) => silent(alloc, Reply::Size(size)),
+        Err(error) => refused(alloc, error),
+    }
+}
+
 // ---- rotation and counters
 
 fn rotate_memtable<S: Store>(alloc: Global, state: &mut TreeState<S>) -> Outcome
@@ -305,6 +328,8 @@ fn take_step<S: Store>(
         Step::GetInternalEntry(key, snapshot) => {
             Ok(get_internal_entry(alloc, state, key, *snapshot))
         }
+        Step::ContainsKey(key, snapshot) => Ok(contains_key(alloc, state, key, *snapshot)),
+        Step::SizeOf(key, snapshot) => Ok(size_of(alloc, state, key, *snapshot)),
         Step::Range(low, high, snapshot) => ranges::range(alloc, state, low, high, *snapshot),
         Step::Iter(snapshot) => ranges::iter(alloc, state, *snapshot),
         Step::RotateMemtable => Ok(rotate_memtable(alloc, state)),

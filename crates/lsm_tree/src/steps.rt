@@ -33,6 +33,10 @@ pub enum Step {
     Get(UserKey, SeqNo),
     /// Reads the entry of a key at a snapshot.
     GetInternalEntry(UserKey, SeqNo),
+    /// Asks whether a key has a value at a snapshot.
+    ContainsKey(UserKey, SeqNo),
+    /// Asks how many bytes a key's value has at a snapshot.
+    SizeOf(UserKey, SeqNo),
     /// Reads the pairs within bounds at a snapshot.
     Range(Bound<UserKey>, Bound<UserKey>, SeqNo),
     /// Reads all pairs at a snapshot.
@@ -59,6 +63,10 @@ pub enum Reply {
     Value(Option<UserValue>),
     /// Of a read of an entry: the entry, or None.
     Entry(Option<InternalValue>),
+    /// Of a question that is yes or no: whether it is so.
+    Truth(bool),
+    /// Of a read of a value's size: its bytes, or None where the key has no value.
+    Size(Option<u32>),
     /// Of a read of many keys: the pairs by rising key.
     Pairs(KvPairs),
     /// Of a rotation: the id of the memtable that was sealed, or None where it was empty.
