@@ -1,6 +1,8 @@
 -- From the reads of a run of steps to the replay of its journal.
-use Rattle.std.proofs.Common.{◌≡◌, ℕ, ◌≤◌, true, false, cond, List, [], ◌∷◌, ◌++◌, Option, Some, None, refl, ap, ◌∙◌, arith, ⊎_elim, is_some, option_map, nat_le, append-nil}
-use Rattle.std.specs.FinMap.{get}
+use Rattle.std.proofs.Common.{◌≡◌, ◌↔◌, ℕ, ◌≤◌, Bool, true, false, cond, List, [], ◌∷◌, ◌++◌, Option, Some, None, Ok, map, filter, length, reverse, slice_get, refl, sym, ap, ◌∙◌, subst, arith, ⊎_elim, is_some, is_none, option_map, nat_le, append-nil}
+use Rattle.std.proofs.lemmas.List.{map-append, length-map, reverse-append}
+use Rattle.std.specs.FinMap.{get, entries}
+use Rattle.std.specs.declared.ops.Bound.TheVariants.{Unbounded}
 use Rattle.lsm_below.specs.Keys.{Bytes}
 use Rattle.lsm_below.specs.Entries.{Entry, above}
 use Rattle.lsm_below.specs.declared.value_type.ValueType.{ValueType}
@@ -11,20 +13,26 @@ use Rattle.lsm_model.specs.Steps.{State, Step, Asked}
 use Rattle.lsm_model.specs.Sound.{Holds}
 use Rattle.lsm_model.specs.declared.journal.JournalEntry.TheVariants.{Read}
 use Rattle.lsm_model.specs.declared.question.Question.{Question}
-use Rattle.lsm_model.specs.declared.question.Question.TheVariants.{Get as AskGet}
+use Rattle.lsm_model.specs.declared.question.Question.TheVariants.{Get as AskGet, Between}
 use Rattle.lsm_model.specs.declared.question.Answer.{Answer}
 use Rattle.lsm_model.specs.declared.question.Answer.TheVariants.{Found, Pairs as FoundPairs}
 use Rattle.lsm_model.proofs.Answers.{answers_agree}
 use Rattle.lsm_model.proofs.Runs.{step_holds, reads_right, view_right, answered_view}
-use Rattle.lsm_parts.specs.Guards.{Pair}
+use Rattle.lsm_parts.specs.Guards.{Pair, Item, pair_of}
+use Rattle.lsm_parts.specs.Shown.{Shows}
+use Rattle.lsm_parts.specs.Ends.{EndShown}
+use Rattle.lsm_parts.specs.declared.tree_iter.End.{End}
+use Rattle.lsm_parts.specs.declared.tree_iter.End.TheVariants.{Front, Back}
 use Rattle.lsm_parts.specs.declared.error.Error.{Error}
 use Rattle.lsm_parts.specs.declared.error.Error.TheVariants.{OutOfMemory, SnapshotTooOld}
 use Rattle.lsm_state.specs.Held.{entries_of}
 use Rattle.lsm_state.specs.Core.{Core, state_of, latest_of, older_of}
 use Rattle.lsm_state.specs.Calls.{Gives, live, value_size}
+use Rattle.lsm_state.specs.Ranges.{Ranges, EndOf, counting}
+use Rattle.lsm_state.proofs.Answered.{range_step}
 use Rattle.lsm_tree.specs.declared.steps.Reply.{Reply}
-use Rattle.lsm_tree.specs.declared.steps.Reply.TheVariants.{Value, Entry as EntryOf, Truth, Size, Pairs, Refused}
-use Rattle.lsm_tree.specs.ReadSteps.{IsReadRefusal, TakesGet, TakesGetEntry, IsContainsReply, IsSizeReply, TakesPairs, GetAnswers, GetEntryAnswers, ContainsAnswers, SizeAnswers, PairsAnswer}
+use Rattle.lsm_tree.specs.declared.steps.Reply.TheVariants.{Value, Entry as EntryOf, Truth, Size, Count, Pair as EndPair, Pairs, Refused}
+use Rattle.lsm_tree.specs.ReadSteps.{IsReadRefusal, TakesGet, TakesGetEntry, IsContainsReply, IsSizeReply, TakesPairs, IsLenReply, IsEmptyReply, IsEndReply, GetAnswers, GetEntryAnswers, ContainsAnswers, SizeAnswers, PairsAnswer, OfReplay, LenAnswers, EmptyAnswers, pair_at, EndAnswers}
 use Rattle.lsm_tree.specs.Runs.{without_low_reads}
 use Rattle.lsm_tree.proofs.LowReads.{replay_without, outside_without, kept_without, without-append, order_without}
 
@@ -75,13 +83,15 @@ takes_pairs opened start question Right s reply journal events old new t order h
 found_cut : (v w : Option Bytes) → Found v ≡ Found w → v ≡ w
 found_cut v w e = cc e
 
--- what a walk shows is what the replay says
+-- outside dropped ranges, what a super version shows is what the replay says
+view_replays : (opened : List Entry) (start : Map) (s : ℕ) (sv : SuperVersion) (journal : List Event) (c : Core) → found_at s (latest_of c) (older_of c) ≡ Some sv → Sound opened start journal c → above opened ≤ s → (k : Bytes) → is_outside k s journal ≡ true → get (view s (sources (entries_of c.memtables) sv)) k ≡ get (replay start journal s) k
+view_replays opened start s sv journal c found h low k out =
+    view_right opened start (state_of (without_low_reads opened journal) c) h s sv low found k (outside_without opened k s journal ∙ out) ∙ ap (λ m. get m k) (replay_without opened start journal s)
+
+-- and so is what a walk finds
 walk_replays : (opened : List Entry) (start : Map) (k : Bytes) (s : ℕ) (sv : SuperVersion) (journal : List Event) (c : Core) → found_at s (latest_of c) (older_of c) ≡ Some sv → Sound opened start journal c → above opened ≤ s → is_outside k s journal ≡ true → shown (walk k s (sources (entries_of c.memtables) sv)) ≡ get (replay start journal s) k
 walk_replays opened start k s sv journal c found h low out =
-    let t = state_of (without_low_reads opened journal) c in
-    found_cut _ _ (answered_view opened start t h s sv found (AskGet k))
-    ∙ view_right opened start t h s sv low found k (outside_without opened k s journal ∙ out)
-    ∙ ap (λ m. get m k) (replay_without opened start journal s)
+    found_cut _ _ (answered_view opened start (state_of (without_low_reads opened journal) c) h s sv found (AskGet k)) ∙ view_replays opened start s sv journal c found h low k out
 
 -- an entry that isn't a tombstone gives the same
 live_kind : (e : Entry) (kind : ValueType) → e.key.value_type ≡ kind → shown (live (Some e)) ≡ shown (Some e)
@@ -144,6 +154,63 @@ pairs_answer opened start question Right s (Pairs pairs) journal events old new 
     let from = sources (entries_of old.memtables) sv in
     let out = λ (k : Bytes). is_outside k s journal in
     ap (cut out question) (told_answer old s question pairs (answered s from question) step.3 ∙ answered_view opened start state h s sv step.2 question)
-    ∙ answers_agree (view s from) (replay start journal s) out (λ k is. view_right opened start state h s sv low step.2 k (outside_without opened k s journal ∙ is) ∙ ap (λ m. get m k) (replay_without opened start journal s)) question
+    ∙ answers_agree (view s from) (replay start journal s) out (view_replays opened start s sv journal old step.2 h low) question
 pairs_answer opened start question Right s (Refused x) journal events old new t h = refused_memory opened start s x journal old t.2 h
 pairs_answer opened start question Right s reply journal events old new t h = absurd t
+
+-- ---- reads of all pairs
+
+all_pass : (pairs : List Pair) → filter (λ p. true) pairs ≡ pairs
+all_pass [] = refl
+all_pass (p ∷ pairs) = ap (λ ps. p ∷ ps) (all_pass pairs)
+
+pairs_cut : (ps qs : List Pair) → FoundPairs ps ≡ FoundPairs qs → ps ≡ qs
+pairs_cut ps qs e = cc e
+
+-- all that is shown are the pairs of a map that is the replay outside dropped ranges
+shown_replays : (opened : List Entry) (start : Map) (s : ℕ) (journal : List Event) (c : Core) (out : List Entry) (P : List Pair → Type 0) → Ranges c None Unbounded Unbounded s out → Sound opened start journal c → above opened ≤ s → P (map pair_of out) → OfReplay start journal s P
+shown_replays opened start s journal c out P r h low p =
+    let step = range_step c Unbounded Unbounded s out r opened [] low (reads_right opened start (state_of (without_low_reads opened journal) c) h).ordered in
+    let sv = step.0 in
+    let m = view s (sources (entries_of c.memtables) sv) in
+    let told = told_answer c s (Between Unbounded Unbounded) (map pair_of out) (FoundPairs (filter (λ e. true) (entries m))) step.3 in
+    (m, view_replays opened start s sv journal c step.2 h low, subst P (pairs_cut _ _ told ∙ all_pass (entries m)) p)
+
+-- the pair of the entry at an end is at that end of the list
+end_list : (end : End) (es : List Entry) (e : Option Entry) → EndShown end Unbounded Unbounded es e → (out : List Entry) × Shows Unbounded Unbounded es out × (option_map pair_of e ≡ pair_at end (map pair_of out))
+end_list Front es None h = ([], h, refl)
+end_list Back es None h = ([], h, refl)
+end_list Front es (Some e) h = (h.0, h.2, sym (ap (λ l. slice_get (map pair_of l) 0) h.3))
+end_list Back es (Some e) h = (h.0, h.2, sym (ap (λ l. slice_get (reverse (map pair_of l)) 0) h.3 ∙ ap (λ l. slice_get (reverse l) 0) (map-append pair_of h.1 (e ∷ [])) ∙ ap (λ l. slice_get l 0) (reverse-append (map pair_of h.1) (pair_of e ∷ []))))
+
+end_replays : (opened : List Entry) (start : Map) (end : End) (s : ℕ) (journal : List Event) (c : Core) (e : Option Entry) → EndOf end c None s e → Sound opened start journal c → above opened ≤ s → OfReplay start journal s (λ pairs. option_map pair_of e ≡ pair_at end pairs)
+end_replays opened start end s journal c e r h low =
+    let l = end_list end (counting c.memtables None s r.0) e r.2 in
+    shown_replays opened start s journal c l.0 (λ pairs. option_map pair_of e ≡ pair_at end pairs) (r.0, r.1, l.1) h low l.2
+
+pub len_answers : (opened : List Entry) (start : Map) (s : ℕ) (reply : Reply) (journal : List Event) (c : Core) → IsLenReply s c reply → Sound opened start journal c → LenAnswers opened start journal s reply
+len_answers opened start s (Count n) journal c r h = λ low. shown_replays opened start s journal c r.0 (λ pairs. n ≡ length pairs) r.1 h low (r.2 ∙ sym (length-map r.0 pair_of))
+len_answers opened start s (Refused x) journal c r h = refused_memory opened start s x journal c r h
+len_answers opened start s reply journal c r h = absurd r
+
+empties : (b : Bool) (e : Option Entry) (pairs : List Pair) → b ≡ is_none e → option_map pair_of e ≡ pair_at Front pairs → (b ≡ true) ↔ (pairs ≡ [])
+empties b None [] is at = ((λ t. refl), (λ z. is))
+empties b None (p ∷ pairs) is at = absurd (cc at)
+empties b (Some e) [] is at = absurd (cc at)
+empties b (Some e) (p ∷ pairs) is at = ((λ t. absurd (cc (is, t))), (λ z. absurd (cc z)))
+
+pub empty_answers : (opened : List Entry) (start : Map) (s : ℕ) (reply : Reply) (journal : List Event) (c : Core) → IsEmptyReply s c reply → Sound opened start journal c → EmptyAnswers opened start journal s reply
+empty_answers opened start s (Truth b) journal c r h = λ low. let all = end_replays opened start Front s journal c r.0 r.1 h low in (all.0, all.1, empties b r.0 (entries all.0) r.2 all.2)
+empty_answers opened start s (Refused x) journal c r h = refused_memory opened start s x journal c r h
+empty_answers opened start s reply journal c r h = absurd r
+
+same_pair : (p : Option Pair) (e : Option Entry) → ◌≡◌ {A = Option Item} (option_map Ok p) (option_map (λ f. Ok (pair_of f)) e) → p ≡ option_map pair_of e
+same_pair None None q = refl
+same_pair None (Some e) q = absurd (cc q)
+same_pair (Some p) None q = absurd (cc q)
+same_pair (Some p) (Some e) q = cc q
+
+pub end_answers : (opened : List Entry) (start : Map) (end : End) (s : ℕ) (reply : Reply) (journal : List Event) (c : Core) → IsEndReply end s c reply → Sound opened start journal c → EndAnswers opened start journal end s reply
+end_answers opened start end s (EndPair p) journal c r h = λ low. let all = end_replays opened start end s journal c r.0 r.1 h low in (all.0, all.1, same_pair p r.0 r.2 ∙ all.2)
+end_answers opened start end s (Refused x) journal c r h = refused_memory opened start s x journal c r h
+end_answers opened start end s reply journal c r h = absurd r

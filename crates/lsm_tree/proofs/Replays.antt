@@ -11,19 +11,20 @@ use Rattle.lsm_model.specs.declared.journal.JournalEntry.TheVariants.{Write as N
 use Rattle.lsm_model.specs.declared.question.Question.TheVariants.{Between}
 use Rattle.lsm_model.proofs.Journals.{in_order_front}
 use Rattle.lsm_model.proofs.Runs.{step_holds, run_holds, opened_holds, reads_right}
+use Rattle.lsm_parts.specs.declared.tree_iter.End.TheVariants.{Front, Back}
 use Rattle.lsm_state.specs.Core.{Core, state_of}
 use Rattle.lsm_state.specs.Calls.{Rotates}
 use Rattle.lsm_tree.specs.declared.steps.Counter.{Counter}
 use Rattle.lsm_tree.specs.declared.steps.Counter.TheVariants.{Seqno, Visible}
 use Rattle.lsm_tree.specs.declared.steps.Step.{Step as Call}
-use Rattle.lsm_tree.specs.declared.steps.Step.TheVariants.{Insert, Remove, RemoveWeak, AppendEntry, Write, Get, GetInternalEntry, ContainsKey, SizeOf, Range, Iter, RotateMemtable, Next, Set, FetchMax}
+use Rattle.lsm_tree.specs.declared.steps.Step.TheVariants.{Insert, Remove, RemoveWeak, AppendEntry, Write, Get, GetInternalEntry, ContainsKey, SizeOf, Range, Iter, Len, IsEmpty, FirstKeyValue, LastKeyValue, RotateMemtable, Next, Set, FetchMax}
 use Rattle.lsm_tree.specs.declared.steps.Reply.{Reply}
 use Rattle.lsm_tree.specs.declared.steps.Reply.TheVariants.{Sizes, Number, Sealed, Done, Refused}
 use Rattle.lsm_tree.specs.Listing.{Lists}
 use Rattle.lsm_tree.specs.Told.{Told}
 use Rattle.lsm_tree.specs.Runs.{Takes, TakesEntry, TakesBatch, TakesRotate, TakesNext, TakesCounter, with_counter, Ran, journal_of, StepAnswers, EachAnswers, RunEqualsReplay, without_low_reads}
 use Rattle.lsm_tree.proofs.LowReads.{without-append, writes_without, order_without}
-use Rattle.lsm_tree.proofs.ReadReplays.{Sound, same, takes_get, takes_get_entry, takes_pairs, get_answers, get_entry_answers, contains_answers, size_answers, pairs_answer}
+use Rattle.lsm_tree.proofs.ReadReplays.{Sound, same, takes_get, takes_get_entry, takes_pairs, get_answers, get_entry_answers, contains_answers, size_answers, pairs_answer, len_answers, empty_answers, end_answers}
 
 -- ---- each call keeps the tree sound
 
@@ -83,6 +84,10 @@ takes_sound opened start (ContainsKey k s) reply journal events old new t order 
 takes_sound opened start (SizeOf k s) reply journal events old new t order h = same opened start journal events old new t.0 t.1 h
 takes_sound opened start (Range low high s) reply journal events old new t order h = takes_pairs opened start (Between low high) (Lists old low high s) s reply journal events old new t order h
 takes_sound opened start (Iter s) reply journal events old new t order h = takes_pairs opened start (Between Unbounded Unbounded) (Lists old Unbounded Unbounded s) s reply journal events old new t order h
+takes_sound opened start (Len s) reply journal events old new t order h = same opened start journal events old new t.0 t.1 h
+takes_sound opened start (IsEmpty s) reply journal events old new t order h = same opened start journal events old new t.0 t.1 h
+takes_sound opened start (FirstKeyValue s) reply journal events old new t order h = same opened start journal events old new t.0 t.1 h
+takes_sound opened start (LastKeyValue s) reply journal events old new t order h = same opened start journal events old new t.0 t.1 h
 takes_sound opened start RotateMemtable reply journal events old new t order h = takes_rotate opened start reply journal events old new t order h
 takes_sound opened start (Next counter) reply journal events old new t order h = takes_next opened start counter reply journal events old new t h
 takes_sound opened start (Set counter n) reply journal events old new t order h = takes_counter opened start counter _ reply journal events old new t h
@@ -95,6 +100,10 @@ step_answers opened start (ContainsKey k s) reply journal events old new t h = c
 step_answers opened start (SizeOf k s) reply journal events old new t h = size_answers opened start k s reply journal old t.2 h
 step_answers opened start (Range low high s) reply journal events old new t h = pairs_answer opened start (Between low high) (Lists old low high s) s reply journal events old new t h
 step_answers opened start (Iter s) reply journal events old new t h = pairs_answer opened start (Between Unbounded Unbounded) (Lists old Unbounded Unbounded s) s reply journal events old new t h
+step_answers opened start (Len s) reply journal events old new t h = len_answers opened start s reply journal old t.2 h
+step_answers opened start (IsEmpty s) reply journal events old new t h = empty_answers opened start s reply journal old t.2 h
+step_answers opened start (FirstKeyValue s) reply journal events old new t h = end_answers opened start Front s reply journal old t.2 h
+step_answers opened start (LastKeyValue s) reply journal events old new t h = end_answers opened start Back s reply journal old t.2 h
 step_answers opened start step reply journal events old new t h = tt
 
 -- ---- the whole run

@@ -1,7 +1,7 @@
 -- What a step that reads may answer and put into the journal, and how that follows from the replay.
-use Rattle.std.specs.Prelude.{◌≡◌, ℕ, ◌≤◌, ◌⊎◌, ◌↔◌, true, List, [], ◌∷◌, ◌++◌, Option, None, Result, Ok, Err, map, is_some, option_map}
+use Rattle.std.specs.Prelude.{◌≡◌, ℕ, ◌≤◌, ◌⊎◌, ◌↔◌, true, List, [], ◌∷◌, ◌++◌, Option, Some, None, Result, Ok, Err, map, length, reverse, slice_get, is_some, option_map}
 use Rattle.std.specs.List.{AllByRecursion}
-use Rattle.std.specs.FinMap.{get}
+use Rattle.std.specs.FinMap.{get, entries}
 use Rattle.std.specs.declared.ops.Bound.{Bound}
 use Rattle.lsm_below.specs.Keys.{Bytes}
 use Rattle.lsm_below.specs.Entries.{Entry, above, IsOrdered}
@@ -12,14 +12,17 @@ use Rattle.lsm_model.specs.declared.journal.JournalEntry.TheVariants.{Read}
 use Rattle.lsm_model.specs.declared.question.Question.{Question}
 use Rattle.lsm_model.specs.declared.question.Question.TheVariants.{Get as AskGet, Between}
 use Rattle.lsm_model.specs.declared.question.Answer.TheVariants.{Found, Pairs as FoundPairs}
-use Rattle.lsm_parts.specs.Guards.{Pair, pair_of}
+use Rattle.lsm_parts.specs.Guards.{Pair, Item, pair_of}
+use Rattle.lsm_parts.specs.declared.tree_iter.End.{End}
+use Rattle.lsm_parts.specs.declared.tree_iter.End.TheVariants.{Front, Back}
 use Rattle.lsm_parts.specs.declared.error.Error.{Error}
 use Rattle.lsm_parts.specs.declared.error.Error.TheVariants.{OutOfMemory, SnapshotTooOld}
 use Rattle.lsm_state.specs.Held.{entries_of}
 use Rattle.lsm_state.specs.Core.{Core, state_of, latest_of, older_of}
 use Rattle.lsm_state.specs.Calls.{Gives, GivesEntry, IsGetStep, value_size}
+use Rattle.lsm_state.specs.Ranges.{Numbers, TellsEmpty, PairAt}
 use Rattle.lsm_tree.specs.declared.steps.Reply.{Reply}
-use Rattle.lsm_tree.specs.declared.steps.Reply.TheVariants.{Value, Entry as EntryOf, Truth, Size, Pairs, Refused}
+use Rattle.lsm_tree.specs.declared.steps.Reply.TheVariants.{Value, Entry as EntryOf, Truth, Size, Count, Pair as EndPair, Pairs, Refused}
 use Rattle.lsm_tree.specs.Listing.{Lists}
 use Rattle.lsm_tree.specs.Told.{Told}
 
@@ -76,6 +79,24 @@ IsSizeReply k s c (Size n) = (v : Option Bytes) × Gives c k s v × (n ≡ optio
 IsSizeReply k s c (Refused x) = IsTooOld s c x
 IsSizeReply k s c reply = ⊥
 
+-- how many keys are shown
+abbrev pub IsLenReply : ℕ → Core → Reply → Type 0
+IsLenReply s c (Count n) = Numbers c None s n
+IsLenReply s c (Refused x) = IsReadRefusal s c x
+IsLenReply s c reply = ⊥
+
+-- whether none is
+abbrev pub IsEmptyReply : ℕ → Core → Reply → Type 0
+IsEmptyReply s c (Truth b) = TellsEmpty Front c None s b
+IsEmptyReply s c (Refused x) = IsReadRefusal s c x
+IsEmptyReply s c reply = ⊥
+
+-- the pair at an end of all that is shown
+abbrev pub IsEndReply : End → ℕ → Core → Reply → Type 0
+IsEndReply end s c (EndPair p) = PairAt end c None s (option_map Ok p)
+IsEndReply end s c (Refused x) = IsReadRefusal s c x
+IsEndReply end s c reply = ⊥
+
 -- ---- outcomes
 
 -- the outcome of an answered read of pairs
@@ -86,6 +107,13 @@ told_pairs question s pairs = record { reply = Pairs pairs; entries = Read s que
 abbrev pub ToldFound : Question → ℕ → Result (List Entry) Error → Told → Type 0
 ToldFound question s (Ok out) told = (told ≡ told_pairs question s (map pair_of out)) ⊎ (told ≡ record { reply = Refused OutOfMemory; entries = [] })
 ToldFound question s (Err x) told = told ≡ record { reply = Refused x; entries = [] }
+
+-- the reply to a question for the pair at an end
+abbrev pub told_end : Result (Option Item) Error → Reply
+told_end (Ok None) = EndPair None
+told_end (Ok (Some (Ok p))) = EndPair (Some p)
+told_end (Ok (Some (Err x))) = Refused x
+told_end (Err x) = Refused x
 
 -- ---- what the replay says of it
 
@@ -118,3 +146,30 @@ abbrev pub SizeAnswers : List Entry → Map → List Event → Bytes → ℕ →
 SizeAnswers opened start before k s (Size n) = above opened ≤ s → is_outside k s before ≡ true → n ≡ option_map value_size (get (replay start before s) k)
 SizeAnswers opened start before k s (Refused x) = IsKept s before → ⊥
 SizeAnswers opened start before k s reply = ⊥
+
+-- P holds of all pairs of a map that has what the replay has of each key outside dropped ranges
+abbrev pub OfReplay : Map → List Event → ℕ → (List Pair → Type 0) → Type 0
+OfReplay start before s P = (m : Map) × ((k : Bytes) → is_outside k s before ≡ true → get m k ≡ get (replay start before s) k) × P (entries m)
+
+-- how many keys there are
+abbrev pub LenAnswers : List Entry → Map → List Event → ℕ → Reply → Type 0
+LenAnswers opened start before s (Count n) = above opened ≤ s → OfReplay start before s (λ pairs. n ≡ length pairs)
+LenAnswers opened start before s (Refused x) = IsKept s before → x ≡ OutOfMemory
+LenAnswers opened start before s reply = ⊥
+
+-- whether there is none
+abbrev pub EmptyAnswers : List Entry → Map → List Event → ℕ → Reply → Type 0
+EmptyAnswers opened start before s (Truth b) = above opened ≤ s → OfReplay start before s (λ pairs. (b ≡ true) ↔ (pairs ≡ []))
+EmptyAnswers opened start before s (Refused x) = IsKept s before → x ≡ OutOfMemory
+EmptyAnswers opened start before s reply = ⊥
+
+-- the pair at an end of a list, none where it is empty
+abbrev pub pair_at : End → List Pair → Option Pair
+pair_at Front pairs = slice_get pairs 0
+pair_at Back pairs = slice_get (reverse pairs) 0
+
+-- the pair with the least key, or with the greatest
+abbrev pub EndAnswers : List Entry → Map → List Event → End → ℕ → Reply → Type 0
+EndAnswers opened start before end s (EndPair p) = above opened ≤ s → OfReplay start before s (λ pairs. p ≡ pair_at end pairs)
+EndAnswers opened start before end s (Refused x) = IsKept s before → x ≡ OutOfMemory
+EndAnswers opened start before end s reply = ⊥

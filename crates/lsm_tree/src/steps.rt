@@ -2,7 +2,7 @@
 ghost use Rattle.std.specs.Prelude.{◌≡◌};
 
 use crate::{
-    Error, InternalValue, JournalEntry, KvPairs, MemtableId, Ops, SeqNo, UserKey, UserValue,
+    Error, InternalValue, JournalEntry, KvPair, KvPairs, MemtableId, Ops, SeqNo, UserKey, UserValue,
 };
 use std::marker::Model;
 use std::ops::Bound;
@@ -41,6 +41,14 @@ pub enum Step {
     Range(Bound<UserKey>, Bound<UserKey>, SeqNo),
     /// Reads all pairs at a snapshot.
     Iter(SeqNo),
+    /// Counts the keys at a snapshot.
+    Len(SeqNo),
+    /// Asks whether no key has a value at a snapshot.
+    IsEmpty(SeqNo),
+    /// Reads the pair with the least key at a snapshot.
+    FirstKeyValue(SeqNo),
+    /// Reads the pair with the greatest key at a snapshot.
+    LastKeyValue(SeqNo),
     /// Seals the active memtable.
     RotateMemtable,
     /// Draws the counter's next number.
@@ -69,6 +77,10 @@ pub enum Reply {
     Size(Option<u32>),
     /// Of a read of many keys: the pairs by rising key.
     Pairs(KvPairs),
+    /// Of a count: how many keys have a value.
+    Count(usize),
+    /// Of a read of the least or the greatest key: its pair, or None where no key has a value.
+    Pair(Option<KvPair>),
     /// Of a rotation: the id of the memtable that was sealed, or None where it was empty.
     Sealed(Option<MemtableId>),
     /// Of a counter that was set: nothing.
