@@ -1,4 +1,4 @@
--- What a step that reads may answer and put into the journal, and how that follows from the replay.
+-- What a step that reads may answer and add to the journal, and what that is of the replay.
 use Rattle.std.specs.Prelude.{◌≡◌, ℕ, ◌≤◌, ◌⊎◌, ◌↔◌, true, List, [], ◌∷◌, ◌++◌, Option, Some, None, Result, Ok, Err, map, length, reverse, slice_get, is_some, option_map}
 use Rattle.std.specs.List.{AllByRecursion}
 use Rattle.std.specs.FinMap.{get, entries}
@@ -59,7 +59,7 @@ TakesPairs question Right s reply events old new = ⊥
 abbrev pub TakesRange : Bound Bytes → Bound Bytes → ℕ → Reply → List Event → Core → Core → Type 0
 TakesRange low high s reply events old new = TakesPairs (Between low high) (Lists old low high s) s reply events old new
 
--- a read that adds nothing to the journal
+-- a read with a right reply that adds nothing to the journal
 abbrev pub TakesSilent : (Reply → Type 0) → Reply → List Event → Core → Core → Type 0
 TakesSilent Right reply events old new = (events ≡ []) × (new ≡ old) × Right reply
 
@@ -115,7 +115,7 @@ told_end (Ok (Some (Ok p))) = EndPair (Some p)
 told_end (Ok (Some (Err x))) = Refused x
 told_end (Err x) = Refused x
 
--- ---- what the replay says of it
+-- ---- what the reads answer
 
 -- a read of a key answers the replay of the journal before it, and where its snapshot is kept only memory may be missing
 abbrev pub GetAnswers : List Entry → Map → List Event → Bytes → ℕ → Reply → Type 0

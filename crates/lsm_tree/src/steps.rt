@@ -67,7 +67,7 @@ pub enum Reply {
     Sizes(u64, u64),
     /// Of a batch: the number that it was written under. Of a counter: the number that was drawn.
     Number(SeqNo),
-    /// Of a read: the value of the key, or None.
+    /// Of a read of a key: its value, or None.
     Value(Option<UserValue>),
     /// Of a read of an entry: the entry, or None.
     Entry(Option<InternalValue>),
