@@ -1,45 +1,32 @@
 -- From a run of steps to the replay of its journal.
-use Rattle.std.proofs.Common.{◌≡◌, ℕ, ◌≤◌, true, false, cond, List, [], ◌∷◌, ◌++◌, Option, Some, None, map, refl, sym, ap, ◌∙◌, subst, arith, ⊎_elim, is_some, nat_le, append-nil, append_assoc}
-use Rattle.std.specs.FinMap.{get}
+use Rattle.std.proofs.Common.{◌≡◌, ℕ, List, [], ◌∷◌, ◌++◌, Option, Some, None, map, refl, sym, ap, ◌∙◌, subst, append-nil, append_assoc}
+use Rattle.std.specs.declared.ops.Bound.TheVariants.{Unbounded}
 use Rattle.lsm_below.specs.Keys.{Bytes}
-use Rattle.lsm_below.specs.Entries.{Entry, above}
-use Rattle.lsm_below.specs.declared.value_type.ValueType.{ValueType}
-use Rattle.lsm_below.specs.declared.value_type.ValueType.TheVariants.{Value as IsValue, Tombstone, WeakTombstone}
-use Rattle.lsm_model.specs.Journal.{Event, Map, InOrder, is_outside, IsKept, replay}
-use Rattle.lsm_model.specs.Views.{found_at, shown, walk, sources, SuperVersion}
-use Rattle.lsm_model.specs.Steps.{Wrote, Rotated, Asked}
-use Rattle.lsm_model.specs.Sound.{Holds}
+use Rattle.lsm_below.specs.Entries.{Entry}
+use Rattle.lsm_model.specs.Journal.{Event, Map, InOrder}
+use Rattle.lsm_model.specs.Steps.{Wrote, Rotated}
 use Rattle.lsm_model.specs.Ops.{op_entries}
 use Rattle.lsm_model.specs.declared.op.Op.{Op}
-use Rattle.lsm_model.specs.declared.journal.JournalEntry.TheVariants.{Write as Noted, Read}
-use Rattle.lsm_model.specs.declared.question.Question.TheVariants.{Get as AskGet}
-use Rattle.lsm_model.specs.declared.question.Answer.TheVariants.{Found}
+use Rattle.lsm_model.specs.declared.journal.JournalEntry.TheVariants.{Write as Noted}
+use Rattle.lsm_model.specs.declared.question.Question.TheVariants.{Between}
 use Rattle.lsm_model.proofs.Journals.{in_order_front}
-use Rattle.lsm_model.proofs.Runs.{step_holds, run_holds, opened_holds, reads_right, view_right, answered_view}
-use Rattle.lsm_parts.specs.declared.error.Error.{Error}
-use Rattle.lsm_parts.specs.declared.error.Error.TheVariants.{OutOfMemory, SnapshotTooOld}
-use Rattle.lsm_state.specs.Held.{entries_of}
-use Rattle.lsm_state.specs.Core.{Core, state_of, latest_of, older_of}
-use Rattle.lsm_state.specs.Calls.{Rotates, live}
+use Rattle.lsm_model.proofs.Runs.{step_holds, run_holds, opened_holds, reads_right}
+use Rattle.lsm_parts.specs.declared.tree_iter.End.TheVariants.{Front, Back}
+use Rattle.lsm_state.specs.Core.{Core, state_of}
+use Rattle.lsm_state.specs.Calls.{Rotates}
 use Rattle.lsm_tree.specs.declared.steps.Counter.{Counter}
 use Rattle.lsm_tree.specs.declared.steps.Counter.TheVariants.{Seqno, Visible}
 use Rattle.lsm_tree.specs.declared.steps.Step.{Step as Call}
-use Rattle.lsm_tree.specs.declared.steps.Step.TheVariants.{Insert, Remove, RemoveWeak, AppendEntry, Write, Get, GetInternalEntry, RotateMemtable, Next, Set, FetchMax}
+use Rattle.lsm_tree.specs.declared.steps.Step.TheVariants.{Insert, Remove, RemoveWeak, AppendEntry, Write, Get, GetInternalEntry, ContainsKey, SizeOf, Range, Iter, Len, IsEmpty, FirstKeyValue, LastKeyValue, RotateMemtable, Next, Set, FetchMax}
 use Rattle.lsm_tree.specs.declared.steps.Reply.{Reply}
-use Rattle.lsm_tree.specs.declared.steps.Reply.TheVariants.{Sizes, Number, Value, Entry as EntryOf, Sealed, Done, Refused}
+use Rattle.lsm_tree.specs.declared.steps.Reply.TheVariants.{Sizes, Number, Sealed, Done, Refused}
+use Rattle.lsm_tree.specs.Listing.{Lists}
 use Rattle.lsm_tree.specs.Told.{Told}
-use Rattle.lsm_tree.specs.Runs.{Takes, TakesEntry, TakesBatch, TakesGet, TakesGetEntry, TakesRotate, TakesNext, TakesCounter, IsReadRefusal, with_counter, Ran, journal_of, GetAnswers, GetEntryAnswers, StepAnswers, EachAnswers, RunEqualsReplay, without_low_reads}
-use Rattle.lsm_tree.proofs.LowReads.{replay_without, outside_without, kept_without, without-append, writes_without, order_without}
-
--- what holds of a tree behind a journal, of which reads below what was opened don't count
-abbrev pub Sound : List Entry → Map → List Event → Core → Type 0
-Sound opened start journal c = Holds opened start (state_of (without_low_reads opened journal) c)
+use Rattle.lsm_tree.specs.Runs.{Takes, TakesEntry, TakesBatch, TakesRotate, TakesNext, TakesCounter, with_counter, Ran, journal_of, StepAnswers, EachAnswers, RunEqualsReplay, without_low_reads}
+use Rattle.lsm_tree.proofs.LowReads.{without-append, writes_without, order_without}
+use Rattle.lsm_tree.proofs.ReadReplays.{Sound, same, takes_get, takes_get_entry, takes_pairs, get_answers, get_entry_answers, contains_answers, size_answers, pairs_answer, len_answers, empty_answers, end_answers}
 
 -- ---- each call keeps the tree sound
-
--- no event, nothing changed
-same : (opened : List Entry) (start : Map) (journal events : List Event) (old new : Core) → events ≡ [] → new ≡ old → Sound opened start journal old → Sound opened start (journal ++ events) new
-same opened start journal events old new none is h = rw (none, is, append-nil journal) h
 
 takes_entry : (opened : List Entry) (start : Map) (e : Entry) (reply : Reply) (journal events : List Event) (old new : Core) → TakesEntry e reply events old new → InOrder opened (journal ++ events) → Sound opened start journal old → Sound opened start (journal ++ events) new
 takes_entry opened start e (Sizes size total) journal events old new t order h =
@@ -56,25 +43,6 @@ takes_batch opened start ops (Number n) journal events old new t order h =
     rw is (run_holds opened start (state_of (without_low_reads opened journal) old) (map Wrote es) (state_of (without_low_reads opened journal ++ map Noted es) new) (t.1.run opened (without_low_reads opened journal)) (rw is at (order_without opened (journal ++ events) order)) h)
 takes_batch opened start ops (Refused x) journal events old new t order h = same opened start journal events old new t.0 t.1.unchanged h
 takes_batch opened start ops reply journal events old new t order h = absurd t
-
--- a read is a step, unless it is below what was opened and doesn't count
-takes_get : (opened : List Entry) (start : Map) (k : Bytes) (s : ℕ) (reply : Reply) (journal events : List Event) (old new : Core) → TakesGet k s reply events old new → InOrder opened (journal ++ events) → Sound opened start journal old → Sound opened start (journal ++ events) new
-takes_get opened start k s (Value v) journal events old new t order h =
-    let read = Read s (AskGet k) (Found v) in
-    let is : without_low_reads opened (journal ++ events) ≡ without_low_reads opened journal ++ cond (nat_le (above opened) s) (read ∷ []) [] = ap (λ xs. without_low_reads opened (journal ++ xs)) t.0 ∙ without-append opened journal (read ∷ []) in
-    let order' : InOrder opened (without_low_reads opened journal ++ cond (nat_le (above opened) s) (read ∷ []) []) = rw is at (order_without opened (journal ++ events) order) in
-    rw (is, t.1)
-    (elim (nat_le (above opened) s) as (λ b. nat_le (above opened) s ≡ b → InOrder opened (without_low_reads opened journal ++ cond b (read ∷ []) []) → Holds opened start (state_of (without_low_reads opened journal ++ cond b (read ∷ []) []) old)) [
-      | true ↦ λ low o. step_holds opened start (state_of (without_low_reads opened journal) old) (Asked s (AskGet k)) (state_of (without_low_reads opened journal ++ read ∷ []) old) (t.3 opened (without_low_reads opened journal) (grind arith)) o h
-      | false ↦ λ low o. rw (append-nil (without_low_reads opened journal)) h
-    ] refl order')
-takes_get opened start k s (Refused x) journal events old new t order h = same opened start journal events old new t.0 t.1 h
-takes_get opened start k s reply journal events old new t order h = absurd t
-
-takes_get_entry : (opened : List Entry) (start : Map) (k : Bytes) (s : ℕ) (reply : Reply) (journal events : List Event) (old new : Core) → TakesGetEntry k s reply events old new → Sound opened start journal old → Sound opened start (journal ++ events) new
-takes_get_entry opened start k s (EntryOf e) journal events old new t h = same opened start journal events old new t.0 t.1 h
-takes_get_entry opened start k s (Refused x) journal events old new t h = same opened start journal events old new t.0 t.1 h
-takes_get_entry opened start k s reply journal events old new t h = absurd t
 
 rotates : (opened : List Entry) (start : Map) (id : Option ℕ) (journal : List Event) (old new : Core) → Rotates old id new → InOrder opened (without_low_reads opened journal) → Sound opened start journal old → Sound opened start journal new
 rotates opened start None journal old new t order h = rw t.1 h
@@ -112,60 +80,30 @@ takes_sound opened start (AppendEntry e) reply journal events old new t order h 
 takes_sound opened start (Write ops) reply journal events old new t order h = takes_batch opened start ops reply journal events old new t order h
 takes_sound opened start (Get k s) reply journal events old new t order h = takes_get opened start k s reply journal events old new t order h
 takes_sound opened start (GetInternalEntry k s) reply journal events old new t order h = takes_get_entry opened start k s reply journal events old new t h
+takes_sound opened start (ContainsKey k s) reply journal events old new t order h = same opened start journal events old new t.0 t.1 h
+takes_sound opened start (SizeOf k s) reply journal events old new t order h = same opened start journal events old new t.0 t.1 h
+takes_sound opened start (Range low high s) reply journal events old new t order h = takes_pairs opened start (Between low high) (Lists old low high s) s reply journal events old new t order h
+takes_sound opened start (Iter s) reply journal events old new t order h = takes_pairs opened start (Between Unbounded Unbounded) (Lists old Unbounded Unbounded s) s reply journal events old new t order h
+takes_sound opened start (Len s) reply journal events old new t order h = same opened start journal events old new t.0 t.1 h
+takes_sound opened start (IsEmpty s) reply journal events old new t order h = same opened start journal events old new t.0 t.1 h
+takes_sound opened start (FirstKeyValue s) reply journal events old new t order h = same opened start journal events old new t.0 t.1 h
+takes_sound opened start (LastKeyValue s) reply journal events old new t order h = same opened start journal events old new t.0 t.1 h
 takes_sound opened start RotateMemtable reply journal events old new t order h = takes_rotate opened start reply journal events old new t order h
 takes_sound opened start (Next counter) reply journal events old new t order h = takes_next opened start counter reply journal events old new t h
 takes_sound opened start (Set counter n) reply journal events old new t order h = takes_counter opened start counter _ reply journal events old new t h
 takes_sound opened start (FetchMax counter n) reply journal events old new t order h = takes_counter opened start counter _ reply journal events old new t h
 
--- ---- what each read answers
-
-found_cut : (v w : Option Bytes) → Found v ≡ Found w → v ≡ w
-found_cut v w e = cc e
-
--- what a walk shows is what the replay says
-walk_replays : (opened : List Entry) (start : Map) (k : Bytes) (s : ℕ) (sv : SuperVersion) (journal : List Event) (c : Core) → found_at s (latest_of c) (older_of c) ≡ Some sv → Sound opened start journal c → above opened ≤ s → is_outside k s journal ≡ true → shown (walk k s (sources (entries_of c.memtables) sv)) ≡ get (replay start journal s) k
-walk_replays opened start k s sv journal c found h low out =
-    let t = state_of (without_low_reads opened journal) c in
-    found_cut _ _ (answered_view opened start t h s sv found (AskGet k))
-    ∙ view_right opened start t h s sv low found k (outside_without opened k s journal ∙ out)
-    ∙ ap (λ m. get m k) (replay_without opened start journal s)
-
--- an entry that isn't a tombstone gives the same
-live_kind : (e : Entry) (kind : ValueType) → e.key.value_type ≡ kind → shown (live (Some e)) ≡ shown (Some e)
-live_kind e IsValue is = rw is refl
-live_kind e Tombstone is = rw is refl
-live_kind e WeakTombstone is = rw is refl
-
-live_shown : (e : Option Entry) → shown (live e) ≡ shown e
-live_shown None = refl
-live_shown (Some e) = live_kind e e.key.value_type refl
-
-not_none : {A : Type 0} (o : Option A) → is_some o ≡ true → o ≡ None → ⊥
-not_none None h e = cc h
-not_none (Some x) h e = cc e
-
-kept_along : (opened : List Entry) (s : ℕ) (journal : List Event) → IsKept s journal → IsKept s (without_low_reads opened journal)
-kept_along opened s journal kept = rw (kept_without opened s journal) kept
-
--- where the snapshot is kept, only memory may be missing
-refused_memory : (opened : List Entry) (start : Map) (s : ℕ) (x : Error) (journal : List Event) (c : Core) → IsReadRefusal s c x → Sound opened start journal c → IsKept s journal → x ≡ OutOfMemory
-refused_memory opened start s x journal c r h kept =
-    let there = (reads_right opened start (state_of (without_low_reads opened journal) c) h).answered s (kept_along opened s journal kept) in
-    ⊎_elim (λ (old : x ≡ SnapshotTooOld). absurd (not_none _ there (r.1.0 old))) (λ (m : x ≡ OutOfMemory). m) r.0
-
-get_answers : (opened : List Entry) (start : Map) (k : Bytes) (s : ℕ) (reply : Reply) (journal events : List Event) (old new : Core) → TakesGet k s reply events old new → Sound opened start journal old → GetAnswers opened start journal k s reply
-get_answers opened start k s (Value v) journal events old new t h = λ low out. let g = t.2 in g.2 ∙ walk_replays opened start k s g.0 journal old g.1 h low out
-get_answers opened start k s (Refused x) journal events old new t h = refused_memory opened start s x journal old t.2 h
-get_answers opened start k s reply journal events old new t h = absurd t
-
-get_entry_answers : (opened : List Entry) (start : Map) (k : Bytes) (s : ℕ) (reply : Reply) (journal events : List Event) (old new : Core) → TakesGetEntry k s reply events old new → Sound opened start journal old → GetEntryAnswers opened start journal k s reply
-get_entry_answers opened start k s (EntryOf e) journal events old new t h = λ low out. let g = t.2 in ap shown g.2 ∙ live_shown _ ∙ walk_replays opened start k s g.0 journal old g.1 h low out
-get_entry_answers opened start k s (Refused x) journal events old new t h = refused_memory opened start s x journal old t.2 h
-get_entry_answers opened start k s reply journal events old new t h = absurd t
-
 step_answers : (opened : List Entry) (start : Map) (x : Call) (reply : Reply) (journal events : List Event) (old new : Core) → Takes x reply events old new → Sound opened start journal old → StepAnswers opened start journal x reply
 step_answers opened start (Get k s) reply journal events old new t h = get_answers opened start k s reply journal events old new t h
 step_answers opened start (GetInternalEntry k s) reply journal events old new t h = get_entry_answers opened start k s reply journal events old new t h
+step_answers opened start (ContainsKey k s) reply journal events old new t h = contains_answers opened start k s reply journal old t.2 h
+step_answers opened start (SizeOf k s) reply journal events old new t h = size_answers opened start k s reply journal old t.2 h
+step_answers opened start (Range low high s) reply journal events old new t h = pairs_answer opened start (Between low high) (Lists old low high s) s reply journal events old new t h
+step_answers opened start (Iter s) reply journal events old new t h = pairs_answer opened start (Between Unbounded Unbounded) (Lists old Unbounded Unbounded s) s reply journal events old new t h
+step_answers opened start (Len s) reply journal events old new t h = len_answers opened start s reply journal old t.2 h
+step_answers opened start (IsEmpty s) reply journal events old new t h = empty_answers opened start s reply journal old t.2 h
+step_answers opened start (FirstKeyValue s) reply journal events old new t h = end_answers opened start Front s reply journal old t.2 h
+step_answers opened start (LastKeyValue s) reply journal events old new t h = end_answers opened start Back s reply journal old t.2 h
 step_answers opened start step reply journal events old new t h = tt
 
 -- ---- the whole run

@@ -6,5 +6,6 @@ pub mod Marks
 pub mod Notes
 pub mod Recorded
 pub mod Told
-pub mod Runs
 pub mod Listing
+pub mod ReadSteps
+pub mod Runs

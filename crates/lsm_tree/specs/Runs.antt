@@ -1,28 +1,28 @@
 -- What a run of steps does, and what its reads answer.
-use Rattle.std.specs.Prelude.{◌≡◌, ℕ, ◌+◌, ◌<◌, ◌≤◌, ◌^◌, ◌⊎◌, ◌↔◌, max, Bool, true, List, [], ◌∷◌, ◌++◌, None, Result, Ok, Err, map, filter, nat_le}
-use Rattle.std.specs.FinMap.{get}
+use Rattle.std.specs.Prelude.{◌≡◌, ℕ, ◌+◌, ◌<◌, ◌≤◌, ◌^◌, ◌⊎◌, max, Bool, true, List, [], ◌∷◌, ◌++◌, Result, Ok, Err, map, filter, nat_le}
+use Rattle.std.specs.declared.ops.Bound.TheVariants.{Unbounded}
 use Rattle.lsm_below.specs.Keys.{Bytes}
 use Rattle.lsm_below.specs.Entries.{Entry, above, plain}
-use Rattle.lsm_model.specs.Journal.{Event, Map, InOrder, is_outside, IsKept, replay}
-use Rattle.lsm_model.specs.Views.{found_at, shown}
+use Rattle.lsm_model.specs.Journal.{Event, Map, InOrder}
 use Rattle.lsm_model.specs.Steps.{IsOpened, ReadsEqualReplay}
 use Rattle.lsm_model.specs.Ops.{op_entry, op_entries}
 use Rattle.lsm_model.specs.declared.op.Op.{Op}
 use Rattle.lsm_model.specs.declared.op.Op.TheVariants.{Set as SetTo, Del, Weak}
 use Rattle.lsm_model.specs.declared.journal.JournalEntry.TheVariants.{Write as Wrote, Read}
-use Rattle.lsm_model.specs.declared.question.Question.TheVariants.{Get as AskGet}
-use Rattle.lsm_model.specs.declared.question.Answer.TheVariants.{Found}
+use Rattle.lsm_model.specs.declared.question.Question.TheVariants.{Between}
+use Rattle.lsm_parts.specs.declared.tree_iter.End.TheVariants.{Front, Back}
 use Rattle.lsm_parts.specs.declared.error.Error.{Error}
-use Rattle.lsm_parts.specs.declared.error.Error.TheVariants.{OutOfMemory, OutOfNumbers, SnapshotTooOld}
+use Rattle.lsm_parts.specs.declared.error.Error.TheVariants.{OutOfMemory, OutOfNumbers}
 use Rattle.lsm_state.specs.Held.{first_entries}
-use Rattle.lsm_state.specs.Core.{Core, state_of, latest_of, older_of}
-use Rattle.lsm_state.specs.Calls.{Appends, WritesBatch, Gives, GivesEntry, IsGetStep, Rotates}
+use Rattle.lsm_state.specs.Core.{Core, state_of}
+use Rattle.lsm_state.specs.Calls.{Appends, WritesBatch, Rotates}
 use Rattle.lsm_tree.specs.declared.steps.Counter.{Counter}
 use Rattle.lsm_tree.specs.declared.steps.Counter.TheVariants.{Seqno, Visible}
 use Rattle.lsm_tree.specs.declared.steps.Step.{Step}
-use Rattle.lsm_tree.specs.declared.steps.Step.TheVariants.{Insert, Remove, RemoveWeak, AppendEntry, Write, Get, GetInternalEntry, RotateMemtable, Next, Set, FetchMax}
+use Rattle.lsm_tree.specs.declared.steps.Step.TheVariants.{Insert, Remove, RemoveWeak, AppendEntry, Write, Get, GetInternalEntry, ContainsKey, SizeOf, Range, Iter, Len, IsEmpty, FirstKeyValue, LastKeyValue, RotateMemtable, Next, Set, FetchMax}
 use Rattle.lsm_tree.specs.declared.steps.Reply.{Reply}
-use Rattle.lsm_tree.specs.declared.steps.Reply.TheVariants.{Sizes, Number, Value, Entry as EntryOf, Sealed, Done, Refused}
+use Rattle.lsm_tree.specs.declared.steps.Reply.TheVariants.{Sizes, Number, Sealed, Done, Refused}
+use Rattle.lsm_tree.specs.ReadSteps.{TakesGet, TakesGetEntry, TakesSilent, IsContainsReply, IsSizeReply, TakesRange, IsLenReply, IsEmptyReply, IsEndReply, GetAnswers, GetEntryAnswers, ContainsAnswers, SizeAnswers, PairsAnswer, LenAnswers, EmptyAnswers, EndAnswers}
 use Rattle.lsm_tree.specs.Told.{Told}
 
 -- ---- what a step of each kind may answer, add to the journal and do
@@ -38,22 +38,6 @@ abbrev pub TakesBatch : List (Bytes × Op) → Reply → List Event → Core →
 TakesBatch ops (Number n) events old new = (events ≡ map Wrote (op_entries n ops)) × WritesBatch ops (Ok n) old new
 TakesBatch ops (Refused x) events old new = (events ≡ []) × WritesBatch ops (Err x) old new
 TakesBatch ops reply events old new = ⊥
-
--- why a read is refused: the snapshot is too old exactly where it finds no super version, else memory is missing
-abbrev pub IsReadRefusal : ℕ → Core → Error → Type 0
-IsReadRefusal s c x = ((x ≡ SnapshotTooOld) ⊎ (x ≡ OutOfMemory)) × ((x ≡ SnapshotTooOld) ↔ (found_at s (latest_of c) (older_of c) ≡ None))
-
--- a read of a key
-abbrev pub TakesGet : Bytes → ℕ → Reply → List Event → Core → Core → Type 0
-TakesGet k s (Value v) events old new = (events ≡ Read s (AskGet k) (Found v) ∷ []) × (new ≡ old) × Gives old k s v × IsGetStep old k s v
-TakesGet k s (Refused x) events old new = (events ≡ []) × (new ≡ old) × IsReadRefusal s old x
-TakesGet k s reply events old new = ⊥
-
--- a read of a key's entry
-abbrev pub TakesGetEntry : Bytes → ℕ → Reply → List Event → Core → Core → Type 0
-TakesGetEntry k s (EntryOf e) events old new = (events ≡ []) × (new ≡ old) × GivesEntry old k s e
-TakesGetEntry k s (Refused x) events old new = (events ≡ []) × (new ≡ old) × IsReadRefusal s old x
-TakesGetEntry k s reply events old new = ⊥
 
 -- a rotation: where no id is left it is refused as that, or for want of memory, unless there is nothing to seal
 abbrev pub TakesRotate : Reply → List Event → Core → Core → Type 0
@@ -91,6 +75,14 @@ Takes (AppendEntry e) reply events old new = TakesEntry (plain e) reply events o
 Takes (Write ops) reply events old new = TakesBatch ops reply events old new
 Takes (Get k s) reply events old new = TakesGet k s reply events old new
 Takes (GetInternalEntry k s) reply events old new = TakesGetEntry k s reply events old new
+Takes (ContainsKey k s) reply events old new = TakesSilent (IsContainsReply k s old) reply events old new
+Takes (SizeOf k s) reply events old new = TakesSilent (IsSizeReply k s old) reply events old new
+Takes (Range low high s) reply events old new = TakesRange low high s reply events old new
+Takes (Iter s) reply events old new = TakesRange Unbounded Unbounded s reply events old new
+Takes (Len s) reply events old new = TakesSilent (IsLenReply s old) reply events old new
+Takes (IsEmpty s) reply events old new = TakesSilent (IsEmptyReply s old) reply events old new
+Takes (FirstKeyValue s) reply events old new = TakesSilent (IsEndReply Front s old) reply events old new
+Takes (LastKeyValue s) reply events old new = TakesSilent (IsEndReply Back s old) reply events old new
 Takes RotateMemtable reply events old new = TakesRotate reply events old new
 Takes (Next counter) reply events old new = TakesNext counter reply events old new
 Takes (Set counter n) reply events old new = TakesCounter counter n reply events old new
@@ -124,22 +116,18 @@ journal_of (t ∷ ts) = t.entries ++ journal_of ts
 
 -- ---- what the reads answer
 
--- a read of a key answers the replay of the journal before it, and where its snapshot is kept only memory may be missing
-abbrev pub GetAnswers : List Entry → Map → List Event → Bytes → ℕ → Reply → Type 0
-GetAnswers opened start before k s (Value v) = above opened ≤ s → is_outside k s before ≡ true → v ≡ get (replay start before s) k
-GetAnswers opened start before k s (Refused x) = IsKept s before → x ≡ OutOfMemory
-GetAnswers opened start before k s reply = ⊥
-
--- the same of a read of a key's entry, by the value that the entry gives
-abbrev pub GetEntryAnswers : List Entry → Map → List Event → Bytes → ℕ → Reply → Type 0
-GetEntryAnswers opened start before k s (EntryOf e) = above opened ≤ s → is_outside k s before ≡ true → shown e ≡ get (replay start before s) k
-GetEntryAnswers opened start before k s (Refused x) = IsKept s before → x ≡ OutOfMemory
-GetEntryAnswers opened start before k s reply = ⊥
-
 -- a step answers right, if it reads
 abbrev pub StepAnswers : List Entry → Map → List Event → Step → Reply → Type 0
 StepAnswers opened start before (Get k s) reply = GetAnswers opened start before k s reply
 StepAnswers opened start before (GetInternalEntry k s) reply = GetEntryAnswers opened start before k s reply
+StepAnswers opened start before (ContainsKey k s) reply = ContainsAnswers opened start before k s reply
+StepAnswers opened start before (SizeOf k s) reply = SizeAnswers opened start before k s reply
+StepAnswers opened start before (Range low high s) reply = PairsAnswer opened start before (Between low high) s reply
+StepAnswers opened start before (Iter s) reply = PairsAnswer opened start before (Between Unbounded Unbounded) s reply
+StepAnswers opened start before (Len s) reply = LenAnswers opened start before s reply
+StepAnswers opened start before (IsEmpty s) reply = EmptyAnswers opened start before s reply
+StepAnswers opened start before (FirstKeyValue s) reply = EndAnswers opened start before Front s reply
+StepAnswers opened start before (LastKeyValue s) reply = EndAnswers opened start before Back s reply
 StepAnswers opened start before step reply = Unit {0}
 
 -- each step answers right, behind this journal and the entries of the steps before it

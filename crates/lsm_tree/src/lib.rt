@@ -6,6 +6,7 @@
 //! | `runner` | a list of calls on a tree, with the replay theorem |
 //! | `pass` | what one caller's calls put into a journal |
 //! | `entries` | entries for a journal, made of what callers passed |
+//! | `pairs` | the pairs that reads of many keys answer |
 //! | `notes` | copies of the entries of a write, for the journal and a pass |
 //! | `marks` | what was written to each key, by which a write in order is told |
 //! | `recorded` | a tree with the journal of its calls |
@@ -24,6 +25,7 @@ mod entries;
 mod handle;
 mod marks;
 mod notes;
+mod pairs;
 mod pass;
 mod recorded;
 mod recorded_tree;

@@ -8,7 +8,8 @@ ghost use Rattle.lsm_model.specs.declared.journal.JournalEntry.TheVariants.{Writ
 ghost use Rattle.lsm_model.specs.declared.question.Question.TheVariants.{Get as AskGet};
 ghost use Rattle.lsm_model.specs.declared.question.Answer.TheVariants.{Found};
 ghost use Rattle.lsm_tree.specs.Told.{Told};
-ghost use Rattle.lsm_tree.specs.Runs.{Takes, TakesEntry, TakesBatch, TakesGet, TakesGetEntry, TakesRotate, TakesNext, TakesCounter, counter_of, told_entry, told_batch, Ran, RunEqualsReplay};
+ghost use Rattle.lsm_tree.specs.ReadSteps.{TakesGet, TakesGetEntry, TakesSilent, IsContainsReply, IsSizeReply};
+ghost use Rattle.lsm_tree.specs.Runs.{Takes, TakesEntry, TakesBatch, TakesRotate, TakesNext, TakesCounter, counter_of, told_entry, told_batch, Ran, RunEqualsReplay};
 
 use crate::entries::{entry_of, read_entry};
 use crate::{
@@ -229,6 +230,29 @@ fn get_internal_entry<S: Store>(
     }
 }
 
+fn contains_key<S: Store>(
+    alloc: Global,
+    state: &TreeState<S>,
+    key: &UserKey,
+    snapshot: SeqNo,
+) -> Outcome
+    ensures { TakesSilent (IsContainsReply key.now snapshot state.now.core) result.reply result.entries state.now.core state.now.core }
+{
+    match state.contains_key(key.as_slice(), snapshot) {
+        Ok(truth) => silent(alloc, Reply::Truth(truth)),
+        Err(error) => refused(alloc, error),
+    }
+}
+
+fn size_of<S: Store>(alloc: Global, state: &TreeState<S>, key: &UserKey, snapshot: SeqNo) -> Outcome
+    ensures { TakesSilent (IsSizeReply key.now snapshot state.now.core) result.reply result.entries state.now.core state.now.core }
+{
+    match state.size_of(key.as_slice(), snapshot) {
+        Ok(size) => silent(alloc, Reply::Size(size)),
+        Err(error) => refused(alloc, error),
+    }
+}
+
 // ---- rotation and counters
 
 fn rotate_memtable<S: Store>(alloc: Global, state: &mut TreeState<S>) -> Outcome
@@ -304,6 +328,14 @@ fn take_step<S: Store>(
         Step::GetInternalEntry(key, snapshot) => {
             Ok(get_internal_entry(alloc, state, key, *snapshot))
         }
+        Step::ContainsKey(key, snapshot) => Ok(contains_key(alloc, state, key, *snapshot)),
+        Step::SizeOf(key, snapshot) => Ok(size_of(alloc, state, key, *snapshot)),
+        Step::Range(low, high, snapshot) => ranges::range(alloc, state, low, high, *snapshot),
+        Step::Iter(snapshot) => ranges::iter(alloc, state, *snapshot),
+        Step::Len(snapshot) => Ok(ranges::len(alloc, state, *snapshot)),
+        Step::IsEmpty(snapshot) => Ok(ranges::is_empty(alloc, state, *snapshot)),
+        Step::FirstKeyValue(snapshot) => Ok(ranges::first_key_value(alloc, state, *snapshot)),
+        Step::LastKeyValue(snapshot) => Ok(ranges::last_key_value(alloc, state, *snapshot)),
         Step::RotateMemtable => Ok(rotate_memtable(alloc, state)),
         Step::Next(counter) => Ok(next(alloc, state, *counter)),
         Step::Set(counter, seqno) => Ok(set(alloc, state, *counter, *seqno)),
@@ -358,5 +390,6 @@ pub fn run<S: Store>(alloc: Global, state: &mut TreeState<S>, steps: &[Step]) ->
     take_steps(alloc, state, steps)
 }
 
+mod ranges;
 #[cfg(test)]
 mod tests;

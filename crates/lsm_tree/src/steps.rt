@@ -1,8 +1,11 @@
 // Calls on a tree as data, and what each of them answers.
 ghost use Rattle.std.specs.Prelude.{◌≡◌};
 
-use crate::{Error, InternalValue, JournalEntry, MemtableId, Ops, SeqNo, UserKey, UserValue};
+use crate::{
+    Error, InternalValue, JournalEntry, KvPair, KvPairs, MemtableId, Ops, SeqNo, UserKey, UserValue,
+};
 use std::marker::Model;
+use std::ops::Bound;
 
 /// A counter of a tree.
 #[derive(Clone, Copy, Debug, PartialEq, Eq)]
@@ -30,6 +33,22 @@ pub enum Step {
     Get(UserKey, SeqNo),
     /// Reads the entry of a key at a snapshot.
     GetInternalEntry(UserKey, SeqNo),
+    /// Asks whether a key has a value at a snapshot.
+    ContainsKey(UserKey, SeqNo),
+    /// Asks how many bytes a key's value has at a snapshot.
+    SizeOf(UserKey, SeqNo),
+    /// Reads the pairs within bounds at a snapshot.
+    Range(Bound<UserKey>, Bound<UserKey>, SeqNo),
+    /// Reads all pairs at a snapshot.
+    Iter(SeqNo),
+    /// Counts the keys at a snapshot.
+    Len(SeqNo),
+    /// Asks whether no key has a value at a snapshot.
+    IsEmpty(SeqNo),
+    /// Reads the pair with the least key at a snapshot.
+    FirstKeyValue(SeqNo),
+    /// Reads the pair with the greatest key at a snapshot.
+    LastKeyValue(SeqNo),
     /// Seals the active memtable.
     RotateMemtable,
     /// Draws the counter's next number.
@@ -48,10 +67,20 @@ pub enum Reply {
     Sizes(u64, u64),
     /// Of a batch: the number that it was written under. Of a counter: the number that was drawn.
     Number(SeqNo),
-    /// Of a read: the value of the key, or None.
+    /// Of a read of a key: its value, or None.
     Value(Option<UserValue>),
     /// Of a read of an entry: the entry, or None.
     Entry(Option<InternalValue>),
+    /// Of a question that is yes or no: whether it is so.
+    Truth(bool),
+    /// Of a read of a value's size: its bytes, or None where the key has no value.
+    Size(Option<u32>),
+    /// Of a read of many keys: the pairs by rising key.
+    Pairs(KvPairs),
+    /// Of a count: how many keys have a value.
+    Count(usize),
+    /// Of a read of the least or the greatest key: its pair, or None where no key has a value.
+    Pair(Option<KvPair>),
     /// Of a rotation: the id of the memtable that was sealed, or None where it was empty.
     Sealed(Option<MemtableId>),
     /// Of a counter that was set: nothing.
@@ -84,7 +113,7 @@ impl Outcome {
     }
 
     /// What the step adds to the journal: an accepted write its entry, an accepted batch its entries in
-    /// their order, an answered `Get` the read; nothing else adds any.
+    /// their order, an answered `Get`, `Range` or `Iter` the read; nothing else adds any.
     pub fn entries(&self) -> &[JournalEntry]
         ensures { result.now ≡ self.now.entries }
     {
