@@ -1,3 +1,4 @@
+pub mod BoundWords
 pub mod Number
 pub mod Parts
 pub mod Commands

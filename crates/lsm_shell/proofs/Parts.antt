@@ -79,22 +79,23 @@ no_words line parts e none words w =
     let all : list_all is_word parts ≡ true = subst (λ p. list_all is_word p ≡ true) e h.0 in
     absurd (let clash : true ≡ false = sym all ∙ none in cc)
 
-past_three : (a b rest : List ℕ) (parts : List (List ℕ)) → parts_of rest ≡ parts → is_word rest ≡ false → list_all is_word (a ∷ b ∷ parts) ≡ true → 3 < length (a ∷ b ∷ parts)
-past_three a b rest [] e none all = absurd (omega (arith, length-slice_split is_space rest, ap length e))
-past_three a b rest (p ∷ []) e none all =
-    let behind_a = (both (is_word a) (list_all is_word (b ∷ p ∷ [])) all).1 in
-    let behind_b = (both (is_word b) (list_all is_word (p ∷ [])) behind_a).1 in
-    let word : is_word p ≡ true = (both (is_word p) true behind_b).0 in
+past_four : (a b c rest : List ℕ) (parts : List (List ℕ)) → parts_of rest ≡ parts → is_word rest ≡ false → list_all is_word (a ∷ b ∷ c ∷ parts) ≡ true → 4 < length (a ∷ b ∷ c ∷ parts)
+past_four a b c rest [] e none all = absurd (omega (arith, length-slice_split is_space rest, ap length e))
+past_four a b c rest (p ∷ []) e none all =
+    let behind_a = (both (is_word a) (list_all is_word (b ∷ c ∷ p ∷ [])) all).1 in
+    let behind_b = (both (is_word b) (list_all is_word (c ∷ p ∷ [])) behind_a).1 in
+    let behind_c = (both (is_word c) (list_all is_word (p ∷ [])) behind_b).1 in
+    let word : is_word p ≡ true = (both (is_word p) true behind_c).0 in
     let clash : true ≡ false = sym word ∙ (ap is_word (part_is rest p e) ∙ none) in
     cc
-past_three a b rest (p ∷ q ∷ more) e none all = omega arith
+past_four a b c rest (p ∷ q ∷ more) e none all = omega arith
 
--- a third part with a space in it is two parts or more, of which one may be no word
-pub too_many : (line a b rest : List ℕ) → parts_of line ≡ a ∷ b ∷ parts_of rest → is_word rest ≡ false → HasNoFewWords line
-too_many line a b rest e none words w =
+-- a fourth part with a space in it is two parts or more, of which one may be no word
+pub too_many : (line a b c rest : List ℕ) → parts_of line ≡ a ∷ b ∷ c ∷ parts_of rest → is_word rest ≡ false → HasNoFewWords line
+too_many line a b c rest e none words w =
     let h = words_in line words w in
-    let parts : a ∷ b ∷ parts_of rest ≡ words = sym e ∙ h.1 in
-    subst (λ ws. 3 < length ws) parts (past_three a b rest (parts_of rest) refl none (subst (λ ws. list_all is_word ws ≡ true) e h.0))
+    let parts : a ∷ b ∷ c ∷ parts_of rest ≡ words = sym e ∙ h.1 in
+    subst (λ ws. 4 < length ws) parts (past_four a b c rest (parts_of rest) refl none (subst (λ ws. list_all is_word ws ≡ true) e h.0))
 
 -- ---- words that are there if a test passes
 
@@ -114,6 +115,9 @@ two_are a b p q = rw (p, q) refl
 pub three_are : (a b c : List ℕ) → is_word a ≡ true → is_word b ≡ true → is_word c ≡ true → list_all is_word (a ∷ b ∷ c ∷ []) ≡ true
 three_are a b c p q r = rw (p, q, r) refl
 
+pub four_are : (a b c d : List ℕ) → is_word a ≡ true → is_word b ≡ true → is_word c ≡ true → is_word d ≡ true → list_all is_word (a ∷ b ∷ c ∷ d ∷ []) ≡ true
+four_are a b c d p q r s = rw (p, q, r, s) refl
+
 second_is_none : (a b : List ℕ) (more : List (List ℕ)) → is_word b ≡ false → list_all is_word (a ∷ b ∷ more) ≡ false
 second_is_none a b more p = grind (arith, common_steps)
 
@@ -121,3 +125,11 @@ second_is_none a b more p = grind (arith, common_steps)
 pub no_second : (line a rest b : List ℕ) (o : Option (Bor (List ℕ))) → parts_of line ≡ a ∷ parts_of rest → MatchOption o (parts_of rest ≡ b ∷ []) (λ r. parts_of rest ≡ b ∷ parts_of r.now) → is_word b ≡ false → HasNoFewWords line
 no_second line a rest b None e h none = no_words line (a ∷ b ∷ []) (e ∙ ap (λ ps. a ∷ ps) h) (second_is_none a b [] none)
 no_second line a rest b (Some r) e h none = no_words line (a ∷ b ∷ parts_of r.now) (e ∙ ap (λ ps. a ∷ ps) h) (second_is_none a b (parts_of r.now) none)
+
+third_is_none : (a b c : List ℕ) (more : List (List ℕ)) → is_word c ≡ false → list_all is_word (a ∷ b ∷ c ∷ more) ≡ false
+third_is_none a b c more p = grind (arith, common_steps)
+
+-- a line whose third part is no word
+pub no_third : (line a b rest c : List ℕ) (o : Option (Bor (List ℕ))) → parts_of line ≡ a ∷ b ∷ parts_of rest → MatchOption o (parts_of rest ≡ c ∷ []) (λ r. parts_of rest ≡ c ∷ parts_of r.now) → is_word c ≡ false → HasNoFewWords line
+no_third line a b rest c None e h none = no_words line (a ∷ b ∷ c ∷ []) (e ∙ ap (λ ps. a ∷ b ∷ ps) h) (third_is_none a b c [] none)
+no_third line a b rest c (Some r) e h none = no_words line (a ∷ b ∷ c ∷ parts_of r.now) (e ∙ ap (λ ps. a ∷ b ∷ ps) h) (third_is_none a b c (parts_of r.now) none)

@@ -5,10 +5,12 @@ use Rattle.std.proofs.lemmas.List.Splits.{slice_split_at, join_with_byte-slice_s
 use Rattle.std.specs.List.{list_all, join_with_byte}
 use Rattle.std.specs.Prelude.{codes, option_map}
 use Rattle.lsm_shell.specs.declared.command.Command.{Command}
-use Rattle.lsm_shell.specs.declared.command.Command.TheVariants.{Put, Del, Weak, Get, Rotate}
+use Rattle.lsm_shell.specs.declared.command.Command.TheVariants.{Put, Del, Weak, Get, Range, Rotate}
+use Rattle.lsm_shell.specs.Bounds.{lower_of, upper_of, lower_word, upper_word}
 use Rattle.lsm_shell.specs.Word.{is_word, parts_of, words_of, number_of}
 use Rattle.lsm_shell.specs.Command.{command_of, command_of_words}
 use Rattle.lsm_shell.specs.Spelling.{spelling_of, HasFitNumber, Spells, IsSpelledBy}
+use Rattle.lsm_shell.proofs.BoundWords.{lower_written, upper_written, lower_of-word, upper_of-word}
 use Rattle.lsm_shell.proofs.Number.{number_is, number_of-decimal}
 use Rattle.lsm_shell.proofs.Parts.{is_space, both, no_space, parts_of-word, words_are, words_in}
 
@@ -37,18 +39,34 @@ with_snapshot v key last (Some n) e is_get =
     let k = number_is last n e in
     (ap (λ u. u ∷ key ∷ last ∷ []) is_get ∙ ap (λ u. codes "get" ∷ key ∷ u ∷ []) k.1, k.0)
 
-three_words : (v key last : List ℕ) (p g : Bool) → bytes_eq v (codes "put") ≡ p → bytes_eq v (codes "get") ≡ g → IfSome (cond p (Some (Put key last)) (cond g (option_map (λ s. Get key (Some s)) (number_of last)) None)) (AreWordsOf (v ∷ key ∷ last ∷ []))
-three_words v key last true g ep eg = (ap (λ u. u ∷ key ∷ last ∷ []) (same v _ ep), tt)
-three_words v key last false true ep eg = with_snapshot v key last (number_of last) refl (same v _ eg)
-three_words v key last false false ep eg = tt
+-- a range is spelled by the words that gave its bounds
+range_words : (low high : List ℕ) (more : List (List ℕ)) → codes "range" ∷ low ∷ high ∷ more ≡ codes "range" ∷ lower_word (lower_of low) ∷ upper_word (upper_of high) ∷ more
+range_words low high more = rw (lower_written low, upper_written high) refl
+
+three_words : (v key last : List ℕ) (p g r : Bool) → bytes_eq v (codes "put") ≡ p → bytes_eq v (codes "get") ≡ g → bytes_eq v (codes "range") ≡ r → IfSome (cond p (Some (Put key last)) (cond g (option_map (λ s. Get key (Some s)) (number_of last)) (cond r (Some (Range (lower_of key) (upper_of last) None)) None))) (AreWordsOf (v ∷ key ∷ last ∷ []))
+three_words v key last true g r ep eg er = (ap (λ u. u ∷ key ∷ last ∷ []) (same v _ ep), tt)
+three_words v key last false true r ep eg er = with_snapshot v key last (number_of last) refl (same v _ eg)
+three_words v key last false false true ep eg er = (ap (λ u. u ∷ key ∷ last ∷ []) (same v _ er) ∙ range_words key last [], tt)
+three_words v key last false false false ep eg er = tt
+
+range_with_snapshot : (v low high last : List ℕ) (n : Option ℕ) → number_of last ≡ n → v ≡ codes "range" → IfSome (option_map (λ s. Range (lower_of low) (upper_of high) (Some s)) n) (AreWordsOf (v ∷ low ∷ high ∷ last ∷ []))
+range_with_snapshot v low high last None e is_range = tt
+range_with_snapshot v low high last (Some n) e is_range =
+    let k = number_is last n e in
+    (ap (λ u. u ∷ low ∷ high ∷ last ∷ []) is_range ∙ (ap (λ u. codes "range" ∷ low ∷ high ∷ u ∷ []) k.1 ∙ range_words low high (decimal n ∷ [])), k.0)
+
+four_words : (v low high last : List ℕ) (r : Bool) → bytes_eq v (codes "range") ≡ r → IfSome (cond r (option_map (λ s. Range (lower_of low) (upper_of high) (Some s)) (number_of last)) None) (AreWordsOf (v ∷ low ∷ high ∷ last ∷ []))
+four_words v low high last true er = range_with_snapshot v low high last (number_of last) refl (same v _ er)
+four_words v low high last false er = tt
 
 words_spell : (words : List (List ℕ)) → IfSome (command_of_words words) (AreWordsOf words)
 unfolding command_of_words
 words_spell [] = tt
 words_spell (v ∷ []) = one_word v _ refl
 words_spell (v ∷ key ∷ []) = two_words v key _ _ _ refl refl refl
-words_spell (v ∷ key ∷ last ∷ []) = three_words v key last _ _ refl refl
-words_spell (v ∷ key ∷ last ∷ more ∷ others) = tt
+words_spell (v ∷ key ∷ last ∷ []) = three_words v key last _ _ _ refl refl refl
+words_spell (v ∷ low ∷ high ∷ last ∷ []) = four_words v low high last _ refl
+words_spell (v ∷ low ∷ high ∷ last ∷ more ∷ others) = tt
 
 spelled_by_words : (line : List ℕ) (words : List (List ℕ)) (found : Option Command) → line ≡ join_with_byte 32 words → list_all is_word words ≡ true → IfSome found (AreWordsOf words) → IfSome found (Spells line)
 spelled_by_words line words None joined all h = tt
@@ -79,19 +97,31 @@ words_of-joined : (line : List ℕ) (words : List (List ℕ)) → 0 < length wor
 words_of-joined line [] some all e = absurd (omega arith)
 words_of-joined line (a ∷ more) some all e = words_are line (a ∷ more) (ap parts_of e ∙ parts_of-joined a more all) all
 
-asked_by_words : (c : Command) → HasFitNumber c → (0 < length (spelling_of c)) × (command_of_words (spelling_of c) ≡ Some c)
+-- each of the words that a range is spelled in is a word
+range_bounds : (v low high : List ℕ) (more : List (List ℕ)) → list_all is_word (v ∷ low ∷ high ∷ more) ≡ true → (is_word low ≡ true) × (is_word high ≡ true)
+range_bounds v low high more all =
+    let behind = both (is_word low) (list_all is_word (high ∷ more)) (both (is_word v) (list_all is_word (low ∷ high ∷ more)) all).1 in
+    (behind.0, (both (is_word high) (list_all is_word more) behind.1).0)
+
+asked_by_words : (c : Command) → HasFitNumber c → list_all is_word (spelling_of c) ≡ true → (0 < length (spelling_of c)) × (command_of_words (spelling_of c) ≡ Some c)
 unfolding command_of_words
-asked_by_words (Put key value) h = (omega arith, refl)
-asked_by_words (Del key) h = (omega arith, refl)
-asked_by_words (Weak key) h = (omega arith, refl)
-asked_by_words (Get key None) h = (omega arith, refl)
-asked_by_words (Get key (Some n)) h = (omega arith, ap (option_map (λ s. Get key (Some s))) (number_of-decimal (decimal n) n h refl))
-asked_by_words Rotate h = (omega arith, refl)
+asked_by_words (Put key value) h all = (omega arith, refl)
+asked_by_words (Del key) h all = (omega arith, refl)
+asked_by_words (Weak key) h all = (omega arith, refl)
+asked_by_words (Get key None) h all = (omega arith, refl)
+asked_by_words (Get key (Some n)) h all = (omega arith, ap (option_map (λ s. Get key (Some s))) (number_of-decimal (decimal n) n h refl))
+asked_by_words (Range low high None) h all =
+    let words = range_bounds (codes "range") (lower_word low) (upper_word high) [] all in
+    (omega arith, rw (lower_of-word low words.0, upper_of-word high words.1) refl)
+asked_by_words (Range low high (Some n)) h all =
+    let words = range_bounds (codes "range") (lower_word low) (upper_word high) (decimal n ∷ []) all in
+    (omega arith, rw (lower_of-word low words.0, upper_of-word high words.1, number_of-decimal (decimal n) n h refl) refl)
+asked_by_words Rotate h all = (omega arith, refl)
 
 asked : (line : List ℕ) (c : Command) → Spells line c → command_of line ≡ Some c
 unfolding command_of
 asked line c s =
-    let k = asked_by_words c s.fits in
+    let k = asked_by_words c s.fits s.words in
     rw (words_of-joined line (spelling_of c) k.0 s.words s.joined) k.1
 
 IsSpelledBy-command_of : (line : List ℕ) → IsSpelledBy line (command_of line)

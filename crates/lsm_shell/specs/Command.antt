@@ -1,8 +1,9 @@
 -- What a line asks.
 use Rattle.std.specs.Prelude.{ℕ, List, [], ◌∷◌, Option, Some, None, codes, bytes_eq, option_map, option_and_then, if◌then◌else◌}
+use Rattle.lsm_shell.specs.Bounds.{lower_of, upper_of}
 use Rattle.lsm_shell.specs.Word.{words_of, number_of}
 use Rattle.lsm_shell.specs.declared.command.Command.{Command}
-use Rattle.lsm_shell.specs.declared.command.Command.TheVariants.{Put, Del, Weak, Get, Rotate}
+use Rattle.lsm_shell.specs.declared.command.Command.TheVariants.{Put, Del, Weak, Get, Range, Rotate}
 
 -- what a line of one word asks
 abbrev pub command_of_one : List ℕ → Option Command
@@ -21,6 +22,13 @@ abbrev pub command_of_three : List ℕ → List ℕ → List ℕ → Option Comm
 command_of_three verb key last =
     if bytes_eq verb (codes "put") then Some (Put key last)
     else if bytes_eq verb (codes "get") then option_map (λ n. Get key (Some n)) (number_of last)
+    else if bytes_eq verb (codes "range") then Some (Range (lower_of key) (upper_of last) None)
+    else None
+
+-- what a line of four words asks
+abbrev pub command_of_four : List ℕ → List ℕ → List ℕ → List ℕ → Option Command
+command_of_four verb low high last =
+    if bytes_eq verb (codes "range") then option_map (λ n. Range (lower_of low) (upper_of high) (Some n)) (number_of last)
     else None
 
 -- what these words ask
@@ -29,7 +37,8 @@ command_of_words [] = None
 command_of_words (verb ∷ []) = command_of_one verb
 command_of_words (verb ∷ key ∷ []) = command_of_two verb key
 command_of_words (verb ∷ key ∷ last ∷ []) = command_of_three verb key last
-command_of_words (verb ∷ key ∷ last ∷ more ∷ others) = None
+command_of_words (verb ∷ low ∷ high ∷ last ∷ []) = command_of_four verb low high last
+command_of_words (verb ∷ low ∷ high ∷ last ∷ more ∷ others) = None
 
 -- what a line asks
 unfoldable pub command_of : List ℕ → Option Command

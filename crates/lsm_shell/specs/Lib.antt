@@ -1,4 +1,5 @@
 pub mod Arguments
+pub mod Bounds
 pub mod Command
 pub mod Spelling
 pub mod Word

@@ -1,12 +1,14 @@
 // What a line asks.
 ghost use Rattle.std.specs.Prelude.{◌≡◌, IfOk};
-ghost use Rattle.lsm_shell.specs.Command.{command_of, command_of_two, command_of_three};
+ghost use Rattle.lsm_shell.specs.Command.{command_of, command_of_two, command_of_three, command_of_four};
 ghost use Rattle.lsm_shell.specs.Spelling.{IsSpelledBy};
 
+use crate::bounds::{parse_lower, parse_upper};
 use crate::word::{Words, parse_number, split_words};
 use bytes::Bytes;
 use lsm_below::{SeqNo, UserKey, UserValue};
 use std::alloc::{AllocError, Global};
+use std::ops::Bound;
 
 /// What a line asks.
 #[derive(Drop)]
@@ -19,6 +21,8 @@ pub enum Command {
     Weak(UserKey),
     /// Read the key, at a snapshot if one is named.
     Get(UserKey, Option<SeqNo>),
+    /// Read the keys within bounds, at a snapshot if one is named.
+    Range(Bound<UserKey>, Bound<UserKey>, Option<SeqNo>),
     /// Seal the memtable.
     Rotate,
 }
@@ -34,6 +38,7 @@ pub fn parse(alloc: Global, line: &[u8]) -> Result<Option<Command>, AllocError>
         Some(Words::One(verb)) => Ok((verb == b"rotate".as_slice()).then_some(Command::Rotate)),
         Some(Words::Two(verb, key)) => parse_two(alloc, verb, key),
         Some(Words::Three(verb, key, last)) => parse_three(alloc, verb, key, last),
+        Some(Words::Four(verb, low, high, last)) => parse_four(alloc, verb, low, high, last),
         None => Ok(None),
     }
 }
@@ -69,6 +74,33 @@ fn parse_three(
             };
             let key = Bytes::copy_from_slice(alloc, key)?;
             Ok(Some(Command::Get(key, Some(snapshot))))
+        }
+        b"range" => {
+            let low = parse_lower(alloc, key)?;
+            let high = parse_upper(alloc, last)?;
+            Ok(Some(Command::Range(low, high, None)))
+        }
+        _ => Ok(None),
+    }
+}
+
+fn parse_four(
+    alloc: Global,
+    verb: &[u8],
+    low: &[u8],
+    high: &[u8],
+    last: &[u8],
+) -> Result<Option<Command>, AllocError>
+    ensures { IfOk result (λ found. found ≡ command_of_four verb.now low.now high.now last.now) }
+{
+    match verb {
+        b"range" => {
+            let Some(snapshot) = parse_number(last) else {
+                return Ok(None);
+            };
+            let low = parse_lower(alloc, low)?;
+            let high = parse_upper(alloc, high)?;
+            Ok(Some(Command::Range(low, high, Some(snapshot))))
         }
         _ => Ok(None),
     }

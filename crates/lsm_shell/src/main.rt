@@ -3,6 +3,7 @@
 //! | Module | Holds |
 //! |-|-|
 //! | `word` | words and numbers |
+//! | `bounds` | the bounds that words give |
 //! | `command` | what a line asks |
 //! | `reply` | what is printed for a line |
 //! | `session` | a tree that answers commands |
@@ -12,6 +13,7 @@
 #![tactic(auto)]
 
 mod arguments;
+mod bounds;
 mod command;
 mod reply;
 mod session;

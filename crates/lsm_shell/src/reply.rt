@@ -1,5 +1,5 @@
 // What is printed for a line.
-use lsm_below::{MemtableId, SeqNo, UserValue};
+use lsm_below::{KvPair, MemtableId, SeqNo, UserValue};
 use lsm_tree::Error;
 use std::io::{self, Write};
 
@@ -12,6 +12,8 @@ pub enum Reply {
     Value(UserValue),
     /// The key has no value.
     NoValue,
+    /// These are the pairs that there are.
+    Pairs(Vec<KvPair>),
     /// The memtable of this number was sealed.
     Rotated(MemtableId),
     /// There was nothing to seal.
@@ -23,7 +25,7 @@ pub enum Reply {
 }
 
 impl Reply {
-    /// Writes the line that is printed for this reply.
+    /// Writes the lines that are printed for this reply.
     pub fn write_to<W: Write>(&self, output: &mut W) -> io::Result<()> {
         match self {
             Reply::Written(number) => writeln!(output, "ok {number}"),
@@ -33,6 +35,7 @@ impl Reply {
                 output.write_all(b"\n")
             }
             Reply::NoValue => output.write_all(b"none\n"),
+            Reply::Pairs(pairs) => write_pairs(output, pairs),
             Reply::Rotated(id) => writeln!(output, "rotated {id}"),
             Reply::Nothing => output.write_all(b"nothing\n"),
             Reply::Refused(error) => {
@@ -43,4 +46,16 @@ impl Reply {
             Reply::Usage => output.write_all(b"error 0 Usage\n"),
         }
     }
+}
+
+/// Writes a line for each pair, and one with their count.
+fn write_pairs<W: Write>(output: &mut W, pairs: &[KvPair]) -> io::Result<()> {
+    for (key, value) in pairs {
+        output.write_all(key.as_slice())?;
+        output.write_all(b" ")?;
+        output.write_all(value.as_slice())?;
+        output.write_all(b"\n")?;
+    }
+    let count = pairs.len();
+    writeln!(output, "end {count}")
 }

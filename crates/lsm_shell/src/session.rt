@@ -5,6 +5,7 @@ use lsm_below::{SeqNo, UserKey};
 use lsm_model::Op;
 use lsm_tree::{Config, Error, Pass, Recorded};
 use std::alloc::Global;
+use std::ops::Bound;
 
 /// A tree with what its calls need, which answers lines.
 #[derive(Drop)]
@@ -39,6 +40,7 @@ impl Session {
             Command::Del(key) => self.write(key, Op::Del),
             Command::Weak(key) => self.write(key, Op::Weak),
             Command::Get(key, snapshot) => self.get(&key, snapshot),
+            Command::Range(low, high, snapshot) => self.range(&(low, high), snapshot),
             Command::Rotate => Ok(match self.tree.rotate_memtable(&mut self.pass)? {
                 Some(id) => Reply::Rotated(id),
                 None => Reply::Nothing,
@@ -54,13 +56,28 @@ impl Session {
     }
 
     fn get(&mut self, key: &UserKey, snapshot: Option<SeqNo>) -> Result<Reply, Error> {
-        let snapshot = match snapshot {
-            Some(snapshot) => snapshot,
-            None => self.tree.visible_seqno().get(),
-        };
+        let snapshot = self.snapshot_or_now(snapshot);
         Ok(match self.tree.get(&mut self.pass, key, snapshot)? {
             Some(value) => Reply::Value(value),
             None => Reply::NoValue,
         })
+    }
+
+    fn range(
+        &mut self,
+        bounds: &(Bound<UserKey>, Bound<UserKey>),
+        snapshot: Option<SeqNo>,
+    ) -> Result<Reply, Error> {
+        let snapshot = self.snapshot_or_now(snapshot);
+        let pairs = self.tree.range(&mut self.pass, bounds, snapshot)?;
+        Ok(Reply::Pairs(pairs))
+    }
+
+    /// The snapshot, or the one that sees every write so far.
+    fn snapshot_or_now(&self, snapshot: Option<SeqNo>) -> SeqNo {
+        match snapshot {
+            Some(snapshot) => snapshot,
+            None => self.tree.visible_seqno().get(),
+        }
     }
 }

@@ -108,6 +108,44 @@ fn refuses_other_lines(rt: HostRuntime) -> Result<(), Fail> {
     Ok(())
 }
 
+const PUT_THREE: &[u8] = b"put a 1\nput b 2\nput c 3\n";
+
+/// Whether lines behind those of `PUT_THREE` are answered so.
+fn answers<R: Threads + Wait + Sync>(rt: &R, alloc: Global, lines: &[u8], wanted: &[u8]) -> bool {
+    let mut printed = Vec::new(alloc);
+    let mut errors = Vec::new(alloc);
+    let input = PUT_THREE.chain(lines);
+    let status = run_shell(rt, alloc, Some(&[]), input, &mut printed, &mut errors);
+    let told = printed
+        .as_slice()
+        .strip_prefix(b"ok 0\nok 1\nok 2\n".as_slice());
+    status == 0 && errors.is_empty() && told == Some(wanted)
+}
+
+#[test]
+fn lists_ranges(rt: HostRuntime) {
+    let alloc = rt.alloc();
+    assert!(rt; answers(&rt, alloc, b"range a c\n", b"a 1\nb 2\nend 2\n"));
+    assert!(rt; answers(&rt, alloc, b"range c a\n", b"end 0\n"));
+    assert!(rt; answers(&rt, alloc, b"range - - 1\n", b"a 1\nend 1\n"));
+    assert!(rt;
+        answers(
+            &rt,
+            alloc,
+            b"range b -\nrange - b\n",
+            b"b 2\nc 3\nend 2\na 1\nend 1\n"
+        )
+    );
+}
+
+#[test]
+fn refuses_other_ranges(rt: HostRuntime) {
+    let alloc = rt.alloc();
+    assert!(rt; answers(&rt, alloc, b"range a\n", b"error 0 Usage\n"));
+    assert!(rt; answers(&rt, alloc, b"range a c 01\n", b"error 0 Usage\n"));
+    assert!(rt; answers(&rt, alloc, b"range a c 1 2\n", b"error 0 Usage\n"));
+}
+
 /// The arguments between single spaces, none for an empty text.
 fn arguments_of(alloc: Global, text: &str) -> Result<Vec<String>, AllocError> {
     let mut words = Vec::new(alloc);

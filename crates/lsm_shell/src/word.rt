@@ -33,12 +33,13 @@ pub fn parse_number(word: &[u8]) -> Option<SeqNo>
     }
 }
 
-/// One to three words.
+/// One to four words.
 #[derive(Clone, Copy)]
 pub enum Words<'a> {
     One(&'a [u8]),
     Two(&'a [u8], &'a [u8]),
     Three(&'a [u8], &'a [u8], &'a [u8]),
+    Four(&'a [u8], &'a [u8], &'a [u8], &'a [u8]),
 }
 
 // What stands before the first space, and, where there is one, what stands after it.
@@ -52,7 +53,7 @@ fn split_at_space(line: &[u8]) -> (&[u8], Option<&[u8]>)
     }
 }
 
-/// The words of a line. None: it has more than three, as no command does, or something in it is
+/// The words of a line. None: it has more than four, as no command does, or something in it is
 /// no word.
 pub fn split_words(line: &[u8]) -> Option<Words<'_>>
     ensures { MatchOption result (HasNoFewWords line.now) (λ words. words_of line.now ≡ Some (list_of_words words)) }
@@ -68,6 +69,13 @@ pub fn split_words(line: &[u8]) -> Option<Words<'_>>
     let Some(rest) = rest else {
         return Some(Words::Two(first, second));
     };
-    // A third with a space in it is no word.
-    is_word(rest).then_some(Words::Three(first, second, rest))
+    let (third, rest) = split_at_space(rest);
+    if !is_word(third) {
+        return None;
+    }
+    let Some(rest) = rest else {
+        return Some(Words::Three(first, second, third));
+    };
+    // A fourth with a space in it is no word.
+    is_word(rest).then_some(Words::Four(first, second, third, rest))
 }

@@ -23,7 +23,7 @@ each_ok P Q (Ok a) f h = f a h
 each_ok P Q (Err e) f h = h
 
 -- what a super version answers is a step, where the theory answers so from its sources
-list_step : (c : Core) (question : Question) (s : ℕ) (out : List Entry) (sv : SuperVersion) → found_at s (latest_of c) (older_of c) ≡ Some sv → (IsOrdered (sources (entries_of c.memtables) sv) → answered s (sources (entries_of c.memtables) sv) question ≡ Pairs (map pair_of out)) → IsListStep c question s out
+list_step : (c : Core) (question : Question) (s : ℕ) (out : List Entry) (sv : SuperVersion) → found_at s (latest_of c) (older_of c) ≡ Some sv → (IsOrdered (sources (entries_of c.memtables) sv) → answered s (sources (entries_of c.memtables) sv) question ≡ Pairs (map pair_of out)) → IsListStep c question s (map pair_of out)
 list_step c question s out sv found told opened journal reaches ordered =
     let mems = entries_of c.memtables in
     let falling : IsOrdered (sources mems sv) = each_found_at (λ v. IsOrdered (sources mems v)) s (latest_of c) (older_of c) sv found ordered in

@@ -16,7 +16,7 @@ use Rattle.lsm_model.specs.Views.{SuperVersion, entries, sources, found_at}
 use Rattle.lsm_parts.specs.Memtables.{SeenMemtable}
 use Rattle.lsm_parts.specs.Shown.{Shows, ShowsPrefix}
 use Rattle.lsm_parts.specs.Ends.{EndShown}
-use Rattle.lsm_parts.specs.Guards.{Item, pair_of}
+use Rattle.lsm_parts.specs.Guards.{Pair, Item, pair_of}
 use Rattle.lsm_parts.specs.declared.tree_iter.End.{End}
 use Rattle.lsm_state.specs.Held.{entries_of}
 use Rattle.lsm_state.specs.Core.{Core, state_of, latest_of, older_of}
@@ -63,13 +63,13 @@ abbrev pub TellsEmpty : End → Core → Index → ℕ → Bool → Type 0
 TellsEmpty end c index s b = (e : Option Entry) × EndOf end c index s e × (b ≡ is_none e)
 
 -- whatever the journal, an answered question is a step, where numbers fall under each key in every super version
-abbrev pub IsListStep : Core → Question → ℕ → List Entry → Type 0
-IsListStep c question s out = (opened : List Entry) (journal : List Event) → above opened ≤ s → AllByRecursion (λ sv. IsOrdered (sources (entries_of c.memtables) sv)) (latest_of c ∷ older_of c) → Step opened (state_of journal c) (Asked s question) (state_of (journal ++ Read s question (Pairs (map pair_of out)) ∷ []) c)
+abbrev pub IsListStep : Core → Question → ℕ → List Pair → Type 0
+IsListStep c question s pairs = (opened : List Entry) (journal : List Event) → above opened ≤ s → AllByRecursion (λ sv. IsOrdered (sources (entries_of c.memtables) sv)) (latest_of c ∷ older_of c) → Step opened (state_of journal c) (Asked s question) (state_of (journal ++ Read s question (Pairs pairs) ∷ []) c)
 
 -- a range
 abbrev pub IsRangeStep : Core → Bound Bytes → Bound Bytes → ℕ → List Entry → Type 0
-IsRangeStep c low high = IsListStep c (Between low high)
+IsRangeStep c low high s out = IsListStep c (Between low high) s (map pair_of out)
 
 -- the keys that begin so
 abbrev pub IsPrefixStep : Core → Bytes → ℕ → List Entry → Type 0
-IsPrefixStep c prefix = IsListStep c (Prefix prefix)
+IsPrefixStep c prefix s out = IsListStep c (Prefix prefix) s (map pair_of out)

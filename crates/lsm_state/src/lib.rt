@@ -20,4 +20,6 @@ pub use tree::TreeState;
 pub use writes::{MAX_KEY_LEN, MAX_VALUE_LEN};
 
 #[cfg(test)]
+mod range_tests;
+#[cfg(test)]
 mod tests;

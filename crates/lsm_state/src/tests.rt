@@ -1,9 +1,10 @@
+// Helpers borrow the tree, and each test drops it by a call. A proof takes a tree that is dropped at the end
+// of a block to all its pieces, and does so once more for each `?` before it.
 use crate::TreeState;
-use lsm_below::{UserKey, UserValue};
+use lsm_below::{SeqNo, UserKey, UserValue};
 use lsm_model::Op;
-use lsm_parts::{Config, Error};
-use std::alloc::{AllocError, Global};
-use std::test::Fail;
+use lsm_parts::{Config, Error, SuperVersion};
+use std::alloc::Global;
 
 fn open(alloc: Global) -> TreeState {
     TreeState::open_in_memory(alloc, Config::new(0, 0, 0))
@@ -17,84 +18,200 @@ fn value() -> UserValue {
     UserValue::from_static(b"x")
 }
 
-fn long_key(alloc: Global, len: usize) -> Result<UserKey, AllocError> {
-    UserKey::copy_from_slice(alloc, &vec![in alloc; b'a'; len]?)
+fn write(alloc: Global, tree: &mut TreeState, op: Op) -> Result<SeqNo, Error> {
+    tree.write(vec![in alloc; (key(), op)]?)
+}
+
+/// Sets the key at 0 by a batch, and says whether it was told so.
+fn set(alloc: Global, tree: &mut TreeState) -> bool {
+    matches!(write(alloc, tree, Op::Set(value())), Ok(0))
+}
+
+/// Removes the key at 1, and says whether the sizes were told: 1 + 48, behind 1 + 1 + 48.
+fn remove(tree: &mut TreeState) -> bool {
+    matches!(tree.remove(key(), 1), Ok((49, 99)))
+}
+
+fn shows_value(tree: &TreeState, snapshot: SeqNo) -> bool {
+    match tree.get(b"a", snapshot) {
+        Ok(Some(value)) => value.as_slice() == b"x".as_slice(),
+        _ => false,
+    }
+}
+
+fn shows_nothing(tree: &TreeState, snapshot: SeqNo) -> bool {
+    matches!(tree.get(b"a", snapshot), Ok(None))
 }
 
 #[test]
-fn a_snapshot_sees_what_is_numbered_below_it(rt: HostRuntime) -> Result<(), Fail> {
-    let x = Some(b"x".as_slice());
+fn a_snapshot_sees_what_is_numbered_below_it(rt: HostRuntime) {
     let mut tree = open(rt.alloc());
-    let batch = vec![in rt.alloc(); (key(), Op::Set(value()))]?;
-    assert_eq!(rt; tree.write(batch)?, 0);
-    for (snapshot, want) in [(0, None), (1, x)] {
-        let found = tree.get(b"a", snapshot)?;
-        assert_eq!(rt; found.as_ref().map(|v| v.as_slice()), want, "at {snapshot}");
-    }
-    // 1 + 48, behind 1 + 1 + 48
-    assert_eq!(rt; tree.remove(key(), 1)?, (49, 99));
-    for (snapshot, want) in [(2, None), (1, x)] {
-        let found = tree.get(b"a", snapshot)?;
-        assert_eq!(rt; found.as_ref().map(|v| v.as_slice()), want, "at {snapshot}");
-    }
-    assert_eq!(rt; tree.rotate_memtable()?, Some(0));
-    assert_eq!(rt; tree.rotate_memtable()?, None);
-    let found = tree.get(b"a", 1)?;
-    assert_eq!(rt; found.as_ref().map(|v| v.as_slice()), x);
-    for (snapshot, want) in [(1, Some(0)), (2, None)] {
-        let entry = tree.get_internal_entry(b"a", snapshot)?;
-        assert_eq!(rt; entry.as_ref().map(|e| e.key.seqno), want, "at {snapshot}");
-    }
-    Ok(())
+    assert!(rt; set(rt.alloc(), &mut tree));
+    assert!(rt; shows_nothing(&tree, 0));
+    assert!(rt; shows_value(&tree, 1));
+    drop(tree);
 }
 
 #[test]
-fn refuses_what_is_too_long_or_doubled(rt: HostRuntime) -> Result<(), Fail> {
+fn a_tombstone_hides_the_value_above_it(rt: HostRuntime) {
     let mut tree = open(rt.alloc());
-    assert_eq!(rt;
-        tree.insert(long_key(rt.alloc(), 65_535)?, value(), 0)?.0,
-        65_584
-    );
-    let longer = tree.insert(long_key(rt.alloc(), 65_536)?, value(), 0);
-    assert!(rt; matches!(longer, Err(Error::KeyTooLong)));
+    assert!(rt; set(rt.alloc(), &mut tree));
+    assert!(rt; remove(&mut tree));
+    assert!(rt; shows_nothing(&tree, 2));
+    assert!(rt; shows_value(&tree, 1));
+    drop(tree);
+}
+
+/// Sets the key, removes it, and seals the memtable; a second time there is nothing to seal.
+fn seal(alloc: Global, tree: &mut TreeState) -> bool {
+    set(alloc, tree)
+        && remove(tree)
+        && matches!(tree.rotate_memtable(), Ok(Some(0)))
+        && matches!(tree.rotate_memtable(), Ok(None))
+}
+
+fn decides_at_zero(tree: &TreeState) -> bool {
+    match tree.get_internal_entry(b"a", 1) {
+        Ok(Some(entry)) => entry.key.seqno == 0,
+        _ => false,
+    }
+}
+
+fn decides_nothing(tree: &TreeState) -> bool {
+    matches!(tree.get_internal_entry(b"a", 2), Ok(None))
+}
+
+#[test]
+fn sealed_entries_are_read(rt: HostRuntime) {
+    let mut tree = open(rt.alloc());
+    assert!(rt; seal(rt.alloc(), &mut tree));
+    assert!(rt; shows_value(&tree, 1));
+    assert!(rt; decides_at_zero(&tree));
+    assert!(rt; decides_nothing(&tree));
+    drop(tree);
+}
+
+fn insert_long(alloc: Global, tree: &mut TreeState, len: usize) -> Result<(u64, u64), Error> {
+    let key = UserKey::copy_from_slice(alloc, &vec![in alloc; b'a'; len]?)?;
+    tree.insert(key, value(), 0)
+}
+
+fn takes_longest(alloc: Global, tree: &mut TreeState) -> bool {
+    matches!(insert_long(alloc, tree, 65_535), Ok((65_584, 65_584)))
+}
+
+fn refuses_longer(alloc: Global, tree: &mut TreeState) -> bool {
+    matches!(insert_long(alloc, tree, 65_536), Err(Error::KeyTooLong))
+}
+
+#[test]
+fn refuses_what_is_too_long(rt: HostRuntime) {
+    let mut tree = open(rt.alloc());
+    assert!(rt; takes_longest(rt.alloc(), &mut tree));
+    assert!(rt; refuses_longer(rt.alloc(), &mut tree));
+    drop(tree);
+}
+
+fn refuses_late(tree: &mut TreeState) -> bool {
     let late = tree.insert(key(), value(), 9_223_372_036_854_775_808);
-    assert!(rt; matches!(late, Err(Error::NumberTooGreat)));
-    let doubled = vec![in rt.alloc(); (key(), Op::Del), (key(), Op::Set(value()))]?;
-    assert!(rt; matches!(tree.write(doubled), Err(Error::DuplicateKey)));
-    assert_eq!(rt; tree.seqno().get(), 0);
-    assert_eq!(rt; tree.write(vec![in rt.alloc()]?)?, 0);
-    assert_eq!(rt; tree.seqno().get(), 1);
-    Ok(())
+    matches!(late, Err(Error::NumberTooGreat))
+}
+
+fn write_doubled(alloc: Global, tree: &mut TreeState) -> Result<SeqNo, Error> {
+    tree.write(vec![in alloc; (key(), Op::Del), (key(), Op::Set(value()))]?)
+}
+
+fn refuses_doubled(alloc: Global, tree: &mut TreeState) -> bool {
+    matches!(write_doubled(alloc, tree), Err(Error::DuplicateKey))
+}
+
+fn counts_to(tree: &TreeState, number: SeqNo) -> bool {
+    tree.seqno().get() == number
 }
 
 #[test]
-fn the_last_number_is_drawn_once(rt: HostRuntime) -> Result<(), Fail> {
+fn refuses_what_is_late_or_doubled(rt: HostRuntime) {
+    let mut tree = open(rt.alloc());
+    assert!(rt; refuses_late(&mut tree));
+    assert!(rt; refuses_doubled(rt.alloc(), &mut tree));
+    assert!(rt; counts_to(&tree, 0));
+    drop(tree);
+}
+
+fn write_nothing(alloc: Global, tree: &mut TreeState) -> Result<SeqNo, Error> {
+    tree.write(vec![in alloc]?)
+}
+
+fn draws_zero(alloc: Global, tree: &mut TreeState) -> bool {
+    matches!(write_nothing(alloc, tree), Ok(0))
+}
+
+#[test]
+fn an_empty_batch_draws_a_number(rt: HostRuntime) {
+    let mut tree = open(rt.alloc());
+    assert!(rt; draws_zero(rt.alloc(), &mut tree));
+    assert!(rt; counts_to(&tree, 1));
+    drop(tree);
+}
+
+fn draws_last(alloc: Global, tree: &mut TreeState) -> bool {
+    matches!(write(alloc, tree, Op::Weak), Ok(9_223_372_036_854_775_807))
+}
+
+fn draws_no_more(alloc: Global, tree: &mut TreeState) -> bool {
+    matches!(write(alloc, tree, Op::Del), Err(Error::OutOfNumbers))
+}
+
+#[test]
+fn the_last_number_is_drawn_once(rt: HostRuntime) {
     let mut tree = open(rt.alloc());
     tree.seqno_mut().set(9_223_372_036_854_775_807);
-    let last = vec![in rt.alloc(); (key(), Op::Weak)]?;
-    assert_eq!(rt; tree.write(last)?, 9_223_372_036_854_775_807);
-    let next = vec![in rt.alloc(); (key(), Op::Del)]?;
-    assert!(rt; matches!(tree.write(next), Err(Error::OutOfNumbers)));
-    assert_eq!(rt; tree.seqno().get(), 9_223_372_036_854_775_808);
-    Ok(())
+    assert!(rt; draws_last(rt.alloc(), &mut tree));
+    assert!(rt; draws_no_more(rt.alloc(), &mut tree));
+    assert!(rt; counts_to(&tree, 9_223_372_036_854_775_808));
+    drop(tree);
+}
+
+fn reads_new_version(tree: &TreeState, snapshot: SeqNo) -> bool {
+    match tree.get_version_for_snapshot(snapshot) {
+        Ok(version) => {
+            version.active_memtable == 0
+                && version.sealed_memtables.is_empty()
+                && has_no_numbers(version)
+        }
+        Err(_) => false,
+    }
+}
+
+fn reads_rotated_version(tree: &TreeState, snapshot: SeqNo) -> bool {
+    match tree.get_version_for_snapshot(snapshot) {
+        Ok(version) => {
+            version.active_memtable == 1
+                && version.sealed_memtables.as_slice() == [0].as_slice()
+                && has_no_numbers(version)
+        }
+        Err(_) => false,
+    }
+}
+
+/// Rotation draws no number of a version.
+fn has_no_numbers(version: &SuperVersion) -> bool {
+    version.version.id() == 0 && version.seqno == 0
 }
 
 #[test]
-fn rotation_seals_under_every_snapshot(rt: HostRuntime) -> Result<(), Fail> {
+fn a_new_tree_has_one_memtable(rt: HostRuntime) {
+    let tree = open(rt.alloc());
+    assert!(rt; reads_new_version(&tree, 0));
+    assert!(rt; reads_new_version(&tree, 1));
+    drop(tree);
+}
+
+#[test]
+fn rotation_seals_under_every_snapshot(rt: HostRuntime) {
     let mut tree = open(rt.alloc());
-    for seqno in [0, 1] {
-        let version = tree.get_version_for_snapshot(seqno)?;
-        assert_eq!(rt; version.active_memtable, 0);
-        assert!(rt; version.sealed_memtables.is_empty());
-        assert_eq!(rt; (version.version.id(), version.seqno), (0, 0));
-    }
-    tree.insert(key(), value(), 0)?;
-    tree.rotate_memtable()?;
-    for seqno in [0, 1] {
-        let version = tree.get_version_for_snapshot(seqno)?;
-        assert_eq!(rt; version.active_memtable, 1);
-        assert_eq!(rt; version.sealed_memtables.as_slice(), [0].as_slice());
-        assert_eq!(rt; (version.version.id(), version.seqno), (0, 0));
-    }
-    Ok(())
+    assert!(rt; seal(rt.alloc(), &mut tree));
+    assert!(rt; reads_rotated_version(&tree, 0));
+    assert!(rt; reads_rotated_version(&tree, 1));
+    drop(tree);
 }

@@ -5,17 +5,17 @@ use Rattle.lsm_below.specs.Keys.{Bytes}
 use Rattle.lsm_below.specs.Entries.{Entry}
 use Rattle.lsm_model.specs.Views.{found_at}
 use Rattle.lsm_model.specs.declared.question.Question.{Question}
-use Rattle.lsm_model.specs.declared.question.Question.TheVariants.{Between}
+use Rattle.lsm_model.specs.declared.question.Question.TheVariants.{Between, Prefix}
 use Rattle.lsm_parts.specs.Guards.{Pair, Item, pair_of}
 use Rattle.lsm_parts.specs.declared.tree_iter.End.{End}
 use Rattle.lsm_parts.specs.declared.error.Error.{Error}
 use Rattle.lsm_parts.specs.declared.error.Error.TheVariants.{OutOfMemory, SnapshotTooOld}
 use Rattle.lsm_state.specs.Core.{Core, latest_of, older_of}
-use Rattle.lsm_state.specs.Ranges.{Ranges, PairAt}
-use Rattle.lsm_state.proofs.Answered.{range_step, each_ok}
+use Rattle.lsm_state.specs.Ranges.{Ranges, Prefixes, IsListStep, PairAt}
+use Rattle.lsm_state.proofs.Answered.{range_step, prefix_step, each_ok}
 use Rattle.lsm_tree.specs.declared.steps.Reply.TheVariants.{Refused}
-use Rattle.lsm_tree.specs.ReadSteps.{IsReadRefusal, IsPairsStep, TakesPairs, TakesRange, TakesSilent, IsEndReply, ToldFound, told_pairs, told_end}
-use Rattle.lsm_tree.specs.Listing.{Lists}
+use Rattle.lsm_tree.specs.ReadSteps.{IsReadRefusal, TakesPairs, TakesRange, TakesPrefix, TakesSilent, IsEndReply, ToldFound, told_pairs, told_end}
+use Rattle.lsm_tree.specs.Listing.{Lists, ListsPrefix}
 use Rattle.lsm_tree.specs.Told.{Told}
 
 -- how a read of a snapshot is refused
@@ -34,7 +34,7 @@ module _ (s : ℕ) (c : Core) where
   memory a old = (inr refl, ((λ q. absurd (cc q)), (λ none. absurd (cc (old.1 none)))))
 
   pub pairs_taken : (question : Question) (r : Result (List Entry) Error) (Right : List Pair → Type 0) (told : Told)
-      → IfOk r (λ out. Right (map pair_of out) × IsPairsStep c question s (map pair_of out)) → TellsTooOld r → RefusesOnly r
+      → IfOk r (λ out. Right (map pair_of out) × IsListStep c question s (map pair_of out)) → TellsTooOld r → RefusesOnly r
       → ToldFound question s r told → TakesPairs question Right s told.reply told.entries c c
   pairs_taken question (Ok out) Right told right old only is = ⊎_elim
       (λ (answered : told ≡ told_pairs question s (map pair_of out)). subst (λ (t : Told). TakesPairs question Right s t.reply t.entries c c) (sym answered) (refl, refl, right.0, right.1))
@@ -48,8 +48,18 @@ module _ (s : ℕ) (c : Core) where
   range_taken low high r outcome right old only h =
       each_ok (ToldFound (Between low high) s r) (λ told. TakesRange low high s told.reply told.entries c c) outcome (λ told is. pairs_taken (Between low high) r (Lists c low high s) told (listed r right) old only is) h
     where
-      listed : (r : Result (List Entry) Error) → IfOk r (Ranges c None low high s) → IfOk r (λ out. Lists c low high s (map pair_of out) × IsPairsStep c (Between low high) s (map pair_of out))
+      listed : (r : Result (List Entry) Error) → IfOk r (Ranges c None low high s) → IfOk r (λ out. Lists c low high s (map pair_of out) × IsListStep c (Between low high) s (map pair_of out))
       listed (Ok out) h = ((out, h, refl), range_step c low high s out h)
+      listed (Err x) h = tt
+
+  -- the pairs of the keys that begin so
+  pub prefix_taken : {X : Type 0} (prefix : Bytes) (r : Result (List Entry) Error) (outcome : Result Told X) → IfOk r (Prefixes c None prefix s) → TellsTooOld r → RefusesOnly r
+      → IfOk outcome (ToldFound (Prefix prefix) s r) → IfOk outcome (λ told. TakesPrefix prefix s told.reply told.entries c c)
+  prefix_taken prefix r outcome right old only h =
+      each_ok (ToldFound (Prefix prefix) s r) (λ told. TakesPrefix prefix s told.reply told.entries c c) outcome (λ told is. pairs_taken (Prefix prefix) r (ListsPrefix c prefix s) told (listed r right) old only is) h
+    where
+      listed : (r : Result (List Entry) Error) → IfOk r (Prefixes c None prefix s) → IfOk r (λ out. ListsPrefix c prefix s (map pair_of out) × IsListStep c (Prefix prefix) s (map pair_of out))
+      listed (Ok out) h = ((out, h, refl), prefix_step c prefix s out h)
       listed (Err x) h = tt
 
   -- the pair at an end

@@ -27,7 +27,7 @@ use Rattle.lsm_parts.specs.declared.error.Error.TheVariants.{OutOfMemory, OutOfN
 use Rattle.lsm_state.specs.Core.{Core, Seen, state_of, latest_of, older_of, fresh_core}
 use Rattle.lsm_state.specs.Calls.{IsWriteStep, IsGetStep, Gives, Rotates, WritesBatch}
 use Rattle.lsm_state.specs.Ranges.{IsListStep}
-use Rattle.lsm_parts.specs.Guards.{pair_of}
+use Rattle.lsm_parts.specs.Guards.{Pair}
 use Rattle.lsm_state.specs.Refusals.{batch_refusal, repeats, keys_of, is_great, is_long_key, is_long_value, op_value}
 use Rattle.lsm_tree.specs.declared.marks.Mark.{Mark}
 use Rattle.lsm_tree.specs.Marks.{mark_of, mark_in, marked_by, marked_all, keeps_order, batch_keeps_order, no_mark}
@@ -128,9 +128,9 @@ recorded_read marks low c journal k s v r step =
     recorded marks low c (journal ++ Read s (Get k) (Found v) ∷ []) (step_holds [] empty (state_of journal c) (Asked s (Get k)) (state_of (journal ++ Read s (Get k) (Found v) ∷ []) c) (step [] journal (omega arith)) order r.holds)
     (record { order = order; counted = counted }) (r.floored ∙ sym (fold_push floor_after 0 journal (Read s (Get k) (Found v)))) (λ q. r.noted q ∙ sym (mark_in-read journal s (Get k) (Found v) q))
 
-pub recorded_list : (marks : Marks) (low : ℕ) (c : Core) (journal : List Event) (question : Question) (s : ℕ) (out : List Entry) → IsRecorded marks low c journal → IsListStep c question s out → IsRecorded marks low c (journal ++ Read s question (Pairs (map pair_of out)) ∷ [])
-recorded_list marks low c journal question s out r step =
-    let told = Pairs (map pair_of out) in
+pub recorded_list : (marks : Marks) (low : ℕ) (c : Core) (journal : List Event) (question : Question) (s : ℕ) (pairs : List Pair) → IsRecorded marks low c journal → IsListStep c question s pairs → IsRecorded marks low c (journal ++ Read s question (Pairs pairs) ∷ [])
+recorded_list marks low c journal question s pairs r step =
+    let told = Pairs pairs in
     let order = in_order_push [] journal (Read s question told) r.order tt in
     let counted : next_number [] (journal ++ Read s question told ∷ []) ≤ c.seqno = rw (fold_push next_number_after 0 journal (Read s question told)) r.counted in
     recorded marks low c (journal ++ Read s question told ∷ []) (step_holds [] empty (state_of journal c) (Asked s question) (state_of (journal ++ Read s question told ∷ []) c) (step [] journal (omega arith) r.reads.ordered) order r.holds)

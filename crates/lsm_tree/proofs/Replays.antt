@@ -8,7 +8,7 @@ use Rattle.lsm_model.specs.Steps.{Wrote, Rotated}
 use Rattle.lsm_model.specs.Ops.{op_entries}
 use Rattle.lsm_model.specs.declared.op.Op.{Op}
 use Rattle.lsm_model.specs.declared.journal.JournalEntry.TheVariants.{Write as Noted}
-use Rattle.lsm_model.specs.declared.question.Question.TheVariants.{Between}
+use Rattle.lsm_model.specs.declared.question.Question.TheVariants.{Between, Prefix as AskPrefix}
 use Rattle.lsm_model.proofs.Journals.{in_order_front}
 use Rattle.lsm_model.proofs.Runs.{step_holds, run_holds, opened_holds, reads_right}
 use Rattle.lsm_parts.specs.declared.tree_iter.End.TheVariants.{Front, Back}
@@ -17,10 +17,10 @@ use Rattle.lsm_state.specs.Calls.{Rotates}
 use Rattle.lsm_tree.specs.declared.steps.Counter.{Counter}
 use Rattle.lsm_tree.specs.declared.steps.Counter.TheVariants.{Seqno, Visible}
 use Rattle.lsm_tree.specs.declared.steps.Step.{Step as Call}
-use Rattle.lsm_tree.specs.declared.steps.Step.TheVariants.{Insert, Remove, RemoveWeak, AppendEntry, Write, Get, GetInternalEntry, ContainsKey, SizeOf, Range, Iter, Len, IsEmpty, FirstKeyValue, LastKeyValue, RotateMemtable, Next, Set, FetchMax}
+use Rattle.lsm_tree.specs.declared.steps.Step.TheVariants.{Insert, Remove, RemoveWeak, AppendEntry, Write, Get, GetInternalEntry, ContainsKey, SizeOf, Range, Iter, Prefix, Len, IsEmpty, FirstKeyValue, LastKeyValue, RotateMemtable, Next, Set, FetchMax}
 use Rattle.lsm_tree.specs.declared.steps.Reply.{Reply}
 use Rattle.lsm_tree.specs.declared.steps.Reply.TheVariants.{Sizes, Number, Sealed, Done, Refused}
-use Rattle.lsm_tree.specs.Listing.{Lists}
+use Rattle.lsm_tree.specs.Listing.{Lists, ListsPrefix}
 use Rattle.lsm_tree.specs.Told.{Told}
 use Rattle.lsm_tree.specs.Runs.{Takes, TakesEntry, TakesBatch, TakesRotate, TakesNext, TakesCounter, with_counter, Ran, journal_of, StepAnswers, EachAnswers, RunEqualsReplay, without_low_reads}
 use Rattle.lsm_tree.proofs.LowReads.{without-append, writes_without, order_without}
@@ -84,6 +84,7 @@ takes_sound opened start (ContainsKey k s) reply journal events old new t order 
 takes_sound opened start (SizeOf k s) reply journal events old new t order h = same opened start journal events old new t.0 t.1 h
 takes_sound opened start (Range low high s) reply journal events old new t order h = takes_pairs opened start (Between low high) (Lists old low high s) s reply journal events old new t order h
 takes_sound opened start (Iter s) reply journal events old new t order h = takes_pairs opened start (Between Unbounded Unbounded) (Lists old Unbounded Unbounded s) s reply journal events old new t order h
+takes_sound opened start (Prefix p s) reply journal events old new t order h = takes_pairs opened start (AskPrefix p) (ListsPrefix old p s) s reply journal events old new t order h
 takes_sound opened start (Len s) reply journal events old new t order h = same opened start journal events old new t.0 t.1 h
 takes_sound opened start (IsEmpty s) reply journal events old new t order h = same opened start journal events old new t.0 t.1 h
 takes_sound opened start (FirstKeyValue s) reply journal events old new t order h = same opened start journal events old new t.0 t.1 h
@@ -100,6 +101,7 @@ step_answers opened start (ContainsKey k s) reply journal events old new t h = c
 step_answers opened start (SizeOf k s) reply journal events old new t h = size_answers opened start k s reply journal old t.2 h
 step_answers opened start (Range low high s) reply journal events old new t h = pairs_answer opened start (Between low high) (Lists old low high s) s reply journal events old new t h
 step_answers opened start (Iter s) reply journal events old new t h = pairs_answer opened start (Between Unbounded Unbounded) (Lists old Unbounded Unbounded s) s reply journal events old new t h
+step_answers opened start (Prefix p s) reply journal events old new t h = pairs_answer opened start (AskPrefix p) (ListsPrefix old p s) s reply journal events old new t h
 step_answers opened start (Len s) reply journal events old new t h = len_answers opened start s reply journal old t.2 h
 step_answers opened start (IsEmpty s) reply journal events old new t h = empty_answers opened start s reply journal old t.2 h
 step_answers opened start (FirstKeyValue s) reply journal events old new t h = end_answers opened start Front s reply journal old t.2 h

@@ -10,7 +10,7 @@ use Rattle.lsm_model.specs.Views.{found_at, shown, sources}
 use Rattle.lsm_model.specs.Steps.{Step, Asked}
 use Rattle.lsm_model.specs.declared.journal.JournalEntry.TheVariants.{Read}
 use Rattle.lsm_model.specs.declared.question.Question.{Question}
-use Rattle.lsm_model.specs.declared.question.Question.TheVariants.{Get as AskGet, Between}
+use Rattle.lsm_model.specs.declared.question.Question.TheVariants.{Get as AskGet, Between, Prefix}
 use Rattle.lsm_model.specs.declared.question.Answer.TheVariants.{Found, Pairs as FoundPairs}
 use Rattle.lsm_parts.specs.Guards.{Pair, Item, pair_of}
 use Rattle.lsm_parts.specs.declared.tree_iter.End.{End}
@@ -20,10 +20,10 @@ use Rattle.lsm_parts.specs.declared.error.Error.TheVariants.{OutOfMemory, Snapsh
 use Rattle.lsm_state.specs.Held.{entries_of}
 use Rattle.lsm_state.specs.Core.{Core, state_of, latest_of, older_of}
 use Rattle.lsm_state.specs.Calls.{Gives, GivesEntry, IsGetStep, value_size}
-use Rattle.lsm_state.specs.Ranges.{Numbers, TellsEmpty, PairAt}
+use Rattle.lsm_state.specs.Ranges.{IsListStep, Numbers, TellsEmpty, PairAt}
 use Rattle.lsm_tree.specs.declared.steps.Reply.{Reply}
 use Rattle.lsm_tree.specs.declared.steps.Reply.TheVariants.{Value, Entry as EntryOf, Truth, Size, Count, Pair as EndPair, Pairs, Refused}
-use Rattle.lsm_tree.specs.Listing.{Lists}
+use Rattle.lsm_tree.specs.Listing.{Lists, ListsPrefix}
 use Rattle.lsm_tree.specs.Told.{Told}
 
 -- ---- what a read may answer, and add to the journal
@@ -44,20 +44,19 @@ TakesGetEntry k s (EntryOf e) events old new = (events ≡ []) × (new ≡ old) 
 TakesGetEntry k s (Refused x) events old new = (events ≡ []) × (new ≡ old) × IsReadRefusal s old x
 TakesGetEntry k s reply events old new = ⊥
 
--- whatever the journal, an answered read of pairs, where numbers fall under each key in every super version
-abbrev pub IsPairsStep : Core → Question → ℕ → List Pair → Type 0
-IsPairsStep c question s pairs = (opened : List Entry) (journal : List Event) → above opened ≤ s → AllByRecursion (λ sv. IsOrdered (sources (entries_of c.memtables) sv)) (latest_of c ∷ older_of c)
-    → Step opened (state_of journal c) (Asked s question) (state_of (journal ++ Read s question (FoundPairs pairs) ∷ []) c)
-
 -- a read of many keys, of which the pairs are right
 abbrev pub TakesPairs : Question → (List Pair → Type 0) → ℕ → Reply → List Event → Core → Core → Type 0
-TakesPairs question Right s (Pairs pairs) events old new = (events ≡ Read s question (FoundPairs pairs) ∷ []) × (new ≡ old) × Right pairs × IsPairsStep old question s pairs
+TakesPairs question Right s (Pairs pairs) events old new = (events ≡ Read s question (FoundPairs pairs) ∷ []) × (new ≡ old) × Right pairs × IsListStep old question s pairs
 TakesPairs question Right s (Refused x) events old new = (events ≡ []) × (new ≡ old) × IsReadRefusal s old x
 TakesPairs question Right s reply events old new = ⊥
 
 -- a read of the keys within bounds
 abbrev pub TakesRange : Bound Bytes → Bound Bytes → ℕ → Reply → List Event → Core → Core → Type 0
 TakesRange low high s reply events old new = TakesPairs (Between low high) (Lists old low high s) s reply events old new
+
+-- a read of the keys that begin so
+abbrev pub TakesPrefix : Bytes → ℕ → Reply → List Event → Core → Core → Type 0
+TakesPrefix prefix s reply events old new = TakesPairs (Prefix prefix) (ListsPrefix old prefix s) s reply events old new
 
 -- a read with a right reply that adds nothing to the journal
 abbrev pub TakesSilent : (Reply → Type 0) → Reply → List Event → Core → Core → Type 0

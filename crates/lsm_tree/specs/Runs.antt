@@ -9,7 +9,7 @@ use Rattle.lsm_model.specs.Ops.{op_entry, op_entries}
 use Rattle.lsm_model.specs.declared.op.Op.{Op}
 use Rattle.lsm_model.specs.declared.op.Op.TheVariants.{Set as SetTo, Del, Weak}
 use Rattle.lsm_model.specs.declared.journal.JournalEntry.TheVariants.{Write as Wrote, Read}
-use Rattle.lsm_model.specs.declared.question.Question.TheVariants.{Between}
+use Rattle.lsm_model.specs.declared.question.Question.TheVariants.{Between, Prefix as AskPrefix}
 use Rattle.lsm_parts.specs.declared.tree_iter.End.TheVariants.{Front, Back}
 use Rattle.lsm_parts.specs.declared.error.Error.{Error}
 use Rattle.lsm_parts.specs.declared.error.Error.TheVariants.{OutOfMemory, OutOfNumbers}
@@ -19,10 +19,10 @@ use Rattle.lsm_state.specs.Calls.{Appends, WritesBatch, Rotates}
 use Rattle.lsm_tree.specs.declared.steps.Counter.{Counter}
 use Rattle.lsm_tree.specs.declared.steps.Counter.TheVariants.{Seqno, Visible}
 use Rattle.lsm_tree.specs.declared.steps.Step.{Step}
-use Rattle.lsm_tree.specs.declared.steps.Step.TheVariants.{Insert, Remove, RemoveWeak, AppendEntry, Write, Get, GetInternalEntry, ContainsKey, SizeOf, Range, Iter, Len, IsEmpty, FirstKeyValue, LastKeyValue, RotateMemtable, Next, Set, FetchMax}
+use Rattle.lsm_tree.specs.declared.steps.Step.TheVariants.{Insert, Remove, RemoveWeak, AppendEntry, Write, Get, GetInternalEntry, ContainsKey, SizeOf, Range, Iter, Prefix, Len, IsEmpty, FirstKeyValue, LastKeyValue, RotateMemtable, Next, Set, FetchMax}
 use Rattle.lsm_tree.specs.declared.steps.Reply.{Reply}
 use Rattle.lsm_tree.specs.declared.steps.Reply.TheVariants.{Sizes, Number, Sealed, Done, Refused}
-use Rattle.lsm_tree.specs.ReadSteps.{TakesGet, TakesGetEntry, TakesSilent, IsContainsReply, IsSizeReply, TakesRange, IsLenReply, IsEmptyReply, IsEndReply, GetAnswers, GetEntryAnswers, ContainsAnswers, SizeAnswers, PairsAnswer, LenAnswers, EmptyAnswers, EndAnswers}
+use Rattle.lsm_tree.specs.ReadSteps.{TakesGet, TakesGetEntry, TakesSilent, IsContainsReply, IsSizeReply, TakesRange, TakesPrefix, IsLenReply, IsEmptyReply, IsEndReply, GetAnswers, GetEntryAnswers, ContainsAnswers, SizeAnswers, PairsAnswer, LenAnswers, EmptyAnswers, EndAnswers}
 use Rattle.lsm_tree.specs.Told.{Told}
 
 -- ---- what a step of each kind may answer, add to the journal and do
@@ -79,6 +79,7 @@ Takes (ContainsKey k s) reply events old new = TakesSilent (IsContainsReply k s 
 Takes (SizeOf k s) reply events old new = TakesSilent (IsSizeReply k s old) reply events old new
 Takes (Range low high s) reply events old new = TakesRange low high s reply events old new
 Takes (Iter s) reply events old new = TakesRange Unbounded Unbounded s reply events old new
+Takes (Prefix p s) reply events old new = TakesPrefix p s reply events old new
 Takes (Len s) reply events old new = TakesSilent (IsLenReply s old) reply events old new
 Takes (IsEmpty s) reply events old new = TakesSilent (IsEmptyReply s old) reply events old new
 Takes (FirstKeyValue s) reply events old new = TakesSilent (IsEndReply Front s old) reply events old new
@@ -124,6 +125,7 @@ StepAnswers opened start before (ContainsKey k s) reply = ContainsAnswers opened
 StepAnswers opened start before (SizeOf k s) reply = SizeAnswers opened start before k s reply
 StepAnswers opened start before (Range low high s) reply = PairsAnswer opened start before (Between low high) s reply
 StepAnswers opened start before (Iter s) reply = PairsAnswer opened start before (Between Unbounded Unbounded) s reply
+StepAnswers opened start before (Prefix p s) reply = PairsAnswer opened start before (AskPrefix p) s reply
 StepAnswers opened start before (Len s) reply = LenAnswers opened start before s reply
 StepAnswers opened start before (IsEmpty s) reply = EmptyAnswers opened start before s reply
 StepAnswers opened start before (FirstKeyValue s) reply = EndAnswers opened start before Front s reply

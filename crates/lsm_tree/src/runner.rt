@@ -332,6 +332,7 @@ fn take_step<S: Store>(
         Step::SizeOf(key, snapshot) => Ok(size_of(alloc, state, key, *snapshot)),
         Step::Range(low, high, snapshot) => ranges::range(alloc, state, low, high, *snapshot),
         Step::Iter(snapshot) => ranges::iter(alloc, state, *snapshot),
+        Step::Prefix(prefix, snapshot) => ranges::prefix(alloc, state, prefix, *snapshot),
         Step::Len(snapshot) => Ok(ranges::len(alloc, state, *snapshot)),
         Step::IsEmpty(snapshot) => Ok(ranges::is_empty(alloc, state, *snapshot)),
         Step::FirstKeyValue(snapshot) => Ok(ranges::first_key_value(alloc, state, *snapshot)),

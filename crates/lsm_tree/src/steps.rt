@@ -41,6 +41,8 @@ pub enum Step {
     Range(Bound<UserKey>, Bound<UserKey>, SeqNo),
     /// Reads all pairs at a snapshot.
     Iter(SeqNo),
+    /// Reads the pairs of the keys that begin so, at a snapshot.
+    Prefix(UserKey, SeqNo),
     /// Counts the keys at a snapshot.
     Len(SeqNo),
     /// Asks whether no key has a value at a snapshot.
@@ -113,7 +115,7 @@ impl Outcome {
     }
 
     /// What the step adds to the journal: an accepted write its entry, an accepted batch its entries in
-    /// their order, an answered `Get`, `Range` or `Iter` the read; nothing else adds any.
+    /// their order, an answered `Get`, `Range`, `Iter` or `Prefix` the read; nothing else adds any.
     pub fn entries(&self) -> &[JournalEntry]
         ensures { result.now ≡ self.now.entries }
     {

@@ -12,30 +12,15 @@ ghost use Rattle.lsm_state.specs.Ranges.{IsListStep};
 ghost use Rattle.lsm_tree.specs.Passes.{Notes};
 ghost use Rattle.lsm_tree.specs.Listing.{Lists, ListsPrefix};
 
-use crate::copies::{copy_bound, copy_entry, copy_pairs};
+use crate::copies::{copy_bound, copy_entry};
+use crate::pairs::{pairs_entry, take_pairs};
 use crate::pass::{Pass, make_room, put_entry};
 use crate::recorded::Recorded;
 use lsm_below::{KvPair, SeqNo, UserKey, share};
-use lsm_model::{Answer, JournalEntry, KvPairs, Question};
+use lsm_model::Question;
 use lsm_parts::{Error, TreeIter};
 use lsm_store::Store;
-use std::alloc::Global;
 use std::ops::Bound;
-
-/// The pairs that an iterator has left. Refused only for want of memory.
-fn take_pairs(alloc: Global, mut iter: TreeIter) -> Result<Vec<KvPair>, Error>
-    ensures ok { IfOk result (λ pairs. pairs.items ≡ map pair_of iter) }
-    ensures memory { IfErr result (λ e. e ≡ Error.OutOfMemory) }
-{
-    let mut pairs = Vec::with_capacity(alloc, iter.len())?;
-    loop {
-        match iter.next_entry() {
-            None => return Ok(pairs),
-            Some(Err(error)) => return Err(error),
-            Some(Ok(entry)) => pairs.push((entry.key.user_key, entry.value))?,
-        }
-    }
-}
 
 impl<S: Store> Recorded<S> {
     /// The pairs that a snapshot shows within bounds, as `TreeState::range`; and the read is put behind the
@@ -92,7 +77,7 @@ impl<S: Store> Recorded<S> {
         question: Question,
         iter: TreeIter,
     ) -> Result<Vec<KvPair>, Error>
-        requires { IsListStep self.old.tree.core question snapshot iter }
+        requires { IsListStep self.old.tree.core question snapshot (map pair_of iter) }
         ensures pairs { IfOk result (λ pairs. pairs.items ≡ map pair_of iter) }
         ensures replay { IfOk result (λ pairs. ReadAgrees empty self.old.journal (ReadEntry snapshot question (PairsAnswer pairs.items))) }
         ensures noted { IfOk result (λ pairs. Notes (ReadEntry snapshot question (PairsAnswer pairs.items) ∷ []) self.old.journal self.new.journal pass.old pass.new) }
@@ -101,8 +86,7 @@ impl<S: Store> Recorded<S> {
         ensures memory { IfErr result (λ e. e ≡ Error.OutOfMemory) }
     {
         let pairs = take_pairs(self.alloc, iter)?;
-        let told = KvPairs::new(copy_pairs(self.alloc, &pairs)?);
-        let entry = JournalEntry::Read(snapshot, question, Answer::Pairs(told));
+        let entry = pairs_entry(self.alloc, snapshot, question, &pairs)?;
         let copy = copy_entry(self.alloc, &entry)?;
         make_room(&mut self.journal, &mut pass.entries, 1)?;
         put_entry(&mut self.journal, &mut pass.entries, entry, copy);

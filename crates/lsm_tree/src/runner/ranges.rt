@@ -2,7 +2,7 @@
 ghost use Rattle.std.specs.Prelude.{◌≡◌, [], IfOk};
 ghost use Rattle.std.specs.declared.ops.Bound.TheVariants.{Unbounded};
 ghost use Rattle.lsm_parts.specs.declared.tree_iter.End.TheVariants.{Front, Back};
-ghost use Rattle.lsm_tree.specs.ReadSteps.{TakesRange, TakesSilent, IsLenReply, IsEmptyReply, IsEndReply, ToldFound, told_pairs, told_end};
+ghost use Rattle.lsm_tree.specs.ReadSteps.{TakesRange, TakesPrefix, TakesSilent, IsLenReply, IsEmptyReply, IsEndReply, ToldFound, told_pairs, told_end};
 
 use super::{one_entry, refused, silent};
 use crate::copies::copy_bound;
@@ -11,6 +11,7 @@ use crate::{
     Error, Guard, IterGuard, KvPair, KvPairs, Outcome, Question, Reply, SeqNo, Store, TreeIter,
     TreeState, UserKey,
 };
+use lsm_below::share;
 use std::alloc::{AllocError, Global};
 use std::ops::Bound;
 
@@ -77,6 +78,19 @@ pub(super) fn iter<S: Store>(
 {
     let all = Question::Between(Bound::Unbounded, Bound::Unbounded);
     of_found(alloc, snapshot, all, state.iter(snapshot, None))
+}
+
+pub(super) fn prefix<S: Store>(
+    alloc: Global,
+    state: &TreeState<S>,
+    prefix: &UserKey,
+    snapshot: SeqNo,
+) -> Result<Outcome, AllocError>
+    ensures { IfOk result (λ told. TakesPrefix prefix.now snapshot told.reply told.entries state.now.core state.now.core) }
+{
+    let question = Question::Prefix(share(prefix)?);
+    let found = state.prefix(prefix.as_slice(), snapshot, None);
+    of_found(alloc, snapshot, question, found)
 }
 
 pub(super) fn len<S: Store>(alloc: Global, state: &TreeState<S>, snapshot: SeqNo) -> Outcome

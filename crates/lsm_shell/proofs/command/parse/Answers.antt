@@ -1,8 +1,8 @@
 use Rattle.std.proofs.Common.{◌≡◌, None, IfOk, sym, ◌∙◌}
 use Rattle.lsm_shell.specs.Command.{command_of}
-use Rattle.lsm_shell.proofs.Commands.{asks_one, asks_two, asks_three, asks_none, rotates}
+use Rattle.lsm_shell.proofs.Commands.{asks_one, asks_two, asks_three, asks_four, asks_none, rotates}
 use Rattle.lsm_shell.proofs.Spelling.{IsSpelledBy-same, IsSpelledBy-if_ok}
-use Rattle.lsm_shell.proofs.command.parse.Goals.{After-then_some, After-parse_two, After-parse_three, In-None}
+use Rattle.lsm_shell.proofs.command.parse.Goals.{After-then_some, After-parse_two, After-parse_three, After-parse_four, In-None}
 use Rattle.lsm_shell.proofs.command.parse.Goals as goal
 
 one : (c : After-then_some) → c.then_some.result ≡ command_of c.args.line.now
@@ -21,6 +21,11 @@ three c =
     let words = rw c.in-Some-Three.field-0-is at c.in-Some-Three.ensures in
     rw (asks_three c.args.line.now c.in-Some-Three.verb.now c.in-Some-Three.key.now c.in-Some-Three.last.now words) c.parse_three.ensures
 
+four : (c : After-parse_four) → IfOk c.parse_four.result (λ found. found ≡ command_of c.args.line.now)
+four c =
+    let words = rw c.in-Some-Four.field-0-is at c.in-Some-Four.ensures in
+    rw (asks_four c.args.line.now c.in-Some-Four.verb.now c.in-Some-Four.low.now c.in-Some-Four.high.now c.in-Some-Four.last.now words) c.parse_four.ensures
+
 none_asked : (c : In-None) → None ≡ command_of c.args.line.now
 none_asked c = sym (asks_none c.args.line.now c.in-None.ensures)
 
@@ -32,6 +37,9 @@ returns-in-Some-Two c = record { value = two c; spelled = IsSpelledBy-if_ok c.ar
 
 pub returns-in-Some-Three : goal.returns-in-Some-Three
 returns-in-Some-Three c = record { value = three c; spelled = IsSpelledBy-if_ok c.args.line.now c.parse_three.result (three c) }
+
+pub returns-in-Some-Four : goal.returns-in-Some-Four
+returns-in-Some-Four c = record { value = four c; spelled = IsSpelledBy-if_ok c.args.line.now c.parse_four.result (four c) }
 
 pub returns-in-None : goal.returns-in-None
 returns-in-None c = record { value = none_asked c; spelled = IsSpelledBy-same c.args.line.now None (none_asked c) }

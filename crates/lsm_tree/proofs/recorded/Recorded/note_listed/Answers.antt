@@ -11,17 +11,17 @@ use Rattle.lsm_tree.proofs.recorded.Recorded.note_listed.Goals as goal
 pub invariant_of-self-2 : goal.invariant_of-self-2
 invariant_of-self-2 g c =
     let i = c.self.inside in
-    let step = subst (λ t. IsListStep t.tree.core c.args.question c.args.snapshot c.args.iter) (sym c.self.view_is) c.requires in
-    rw (c.put_entry.ensures.journal, c.in_ok-make_room.ensures.journal, c.new-told.ensures, c.in_ok-copy_pairs.ensures, c.deref.ensures.value, c.in_ok-pairs.ensures.ok)
-    (recorded_list i.marks i.floor i.core.core i.journal.items c.args.question c.args.snapshot c.args.iter c.self.invariant step)
+    let step = subst (λ t. IsListStep t.tree.core c.args.question c.args.snapshot (map pair_of c.args.iter)) (sym c.self.view_is) c.requires in
+    rw (c.put_entry.ensures.journal, c.in_ok-make_room.ensures.journal, c.in_ok-entry.ensures, c.deref.ensures.value, c.in_ok-pairs.ensures.ok)
+    (recorded_list i.marks i.floor i.core.core i.journal.items c.args.question c.args.snapshot (map pair_of c.args.iter) c.self.invariant step)
 
 pub returns-clause-replay : goal.returns-clause-replay
 returns-clause-replay g c =
     let i = c.self.inside in
     let question = c.args.question in
     let s = c.args.snapshot in
-    let step = subst (λ t. IsListStep t.tree.core question s c.args.iter) (sym c.self.view_is) c.requires in
-    let behind = recorded_list i.marks i.floor i.core.core i.journal.items question s c.args.iter c.self.invariant step in
+    let step = subst (λ t. IsListStep t.tree.core question s (map pair_of c.args.iter)) (sym c.self.view_is) c.requires in
+    let behind = recorded_list i.marks i.floor i.core.core i.journal.items question s (map pair_of c.args.iter) c.self.invariant step in
     let last = agrees_last empty [] i.journal.items (Read s question (Pairs (map pair_of c.args.iter))) behind.reads.agrees in
     subst (λ t. ReadAgrees empty t.journal (Read s question (Pairs c.in_ok-pairs.pairs.items))) c.self.view_is
     (subst (λ ps. ReadAgrees empty i.journal.items (Read s question (Pairs ps))) (sym c.in_ok-pairs.ensures.ok) last)

@@ -1,5 +1,6 @@
-use Rattle.std.proofs.Common.{refl, sym, subst}
+use Rattle.std.proofs.Common.{map, refl, sym, subst}
 use Rattle.lsm_model.specs.declared.question.Question.TheVariants.{Between}
+use Rattle.lsm_parts.specs.Guards.{pair_of}
 use Rattle.lsm_state.specs.Ranges.{IsListStep}
 use Rattle.lsm_tree.proofs.recorded.Recorded.range.Goals as goal
 
@@ -7,7 +8,7 @@ pub note_listed-requires : goal.note_listed-requires
 note_listed-requires g c =
     let core = c.self.inside.core.core in
     let s = c.args.snapshot in
-    let out = c.in_ok-iter.iter in
+    let out = map pair_of c.in_ok-iter.iter in
     let low = c.in_ok-copy_bound.field-0 in
     let high = c.in_ok-copy_bound-2.field-0 in
     subst (λ t. IsListStep t.tree.core (Between low high) s out) c.self.view_is

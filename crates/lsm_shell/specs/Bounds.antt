@@ -1,0 +1,30 @@
+-- The bounds that words give: `-` leaves a bound open.
+use Rattle.std.specs.Prelude.{ℕ, List, [], ◌∷◌, codes, bytes_eq, if◌then◌else◌}
+use Rattle.std.specs.declared.ops.Bound.{Bound}
+use Rattle.std.specs.declared.ops.Bound.TheVariants.{Included, Excluded, Unbounded}
+
+-- the lower bound that a word gives: its key is within
+abbrev pub lower_of : List ℕ → Bound (List ℕ)
+lower_of word = if bytes_eq word (codes "-") then Unbounded else Included word
+
+-- the upper bound that a word gives: its key is without
+abbrev pub upper_of : List ℕ → Bound (List ℕ)
+upper_of word = if bytes_eq word (codes "-") then Unbounded else Excluded word
+
+-- ---- and back
+
+-- the word that names a key where `-` names none: the key, and no word for the key `-`
+abbrev pub key_word : List ℕ → List ℕ
+key_word key = if bytes_eq key (codes "-") then [] else key
+
+-- the word that gives a lower bound, the empty list where no word does
+abbrev pub lower_word : Bound (List ℕ) → List ℕ
+lower_word Unbounded = codes "-"
+lower_word (Included key) = key_word key
+lower_word (Excluded key) = []
+
+-- the word that gives an upper bound, the empty list where no word does
+abbrev pub upper_word : Bound (List ℕ) → List ℕ
+upper_word Unbounded = codes "-"
+upper_word (Included key) = []
+upper_word (Excluded key) = key_word key
