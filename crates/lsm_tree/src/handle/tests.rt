@@ -1,4 +1,6 @@
 // What no contract says: that calls get the lock and succeed where memory is ample, and that a journal is given out.
+//
+// Helpers borrow the tree, and each test drops it by a call: see the tests of `recorded`.
 use super::*;
 use crate::copies::copy_entry;
 use crate::pass::Pass;
@@ -27,35 +29,41 @@ fn write_and_read(
     pass: &mut Pass,
     key: &'static str,
 ) -> Result<bool, Error> {
-    let mut ops = Vec::new(alloc);
-    ops.push((text(key), Op::Set(text("x"))))?;
+    let ops = vec![in alloc; (text(key), Op::Set(text("x")))]?;
     let number = tree.write(rt, pass, ops)?;
     let found = tree.get(rt, pass, &text(key), number.saturating_add(1))?;
     Ok(found == Some(text("x")))
 }
 
-/// One caller's pass, behind a write and a read of its own.
-fn call(
+/// Whether a caller reads back what it writes.
+fn calls(
     rt: &impl Wait,
     alloc: Global,
     tree: &RecordedTree,
+    pass: &mut Pass,
     key: &'static str,
-) -> Result<Pass, Error> {
+) -> bool {
+    matches!(write_and_read(rt, alloc, tree, pass, key), Ok(true))
+}
+
+/// One caller's pass, behind a write and a read of its own.
+fn pass_of(rt: &impl Wait, alloc: Global, tree: &RecordedTree, key: &'static str) -> Pass {
     let mut pass = Pass::new(alloc);
-    write_and_read(rt, alloc, tree, &mut pass, key)?;
-    Ok(pass)
+    let _ = calls(rt, alloc, tree, &mut pass, key);
+    pass
 }
 
-fn one_pass(alloc: Global, pass: Pass) -> Result<Vec<Pass>, AllocError> {
+/// A list of one pass. Where there is no room for it, of none.
+fn one_pass(alloc: Global, pass: Pass) -> Vec<Pass> {
     let mut passes = Vec::new(alloc);
-    passes.push(pass)?;
-    Ok(passes)
+    let _ = passes.push(pass);
+    passes
 }
 
-fn two_passes(alloc: Global, first: Pass, second: Pass) -> Result<Vec<Pass>, AllocError> {
-    let mut passes = one_pass(alloc, first)?;
-    passes.push(second)?;
-    Ok(passes)
+fn two_passes(alloc: Global, first: Pass, second: Pass) -> Vec<Pass> {
+    let mut passes = one_pass(alloc, first);
+    let _ = passes.push(second);
+    passes
 }
 
 /// How many entries the journal has that is given out for these passes.
@@ -80,12 +88,11 @@ fn two_threads_share_a_tree(rt: HostRuntime) -> Result<(), Fail> {
     let tree = open(alloc)?;
     let one = tree.clone()?;
     let two = tree.clone()?;
-    let first = thread::spawn(&rt, move || call(&rt, alloc, &one, "a"))?;
-    let second = thread::spawn(&rt, move || call(&rt, alloc, &two, "b"))?;
-    let first = first.join(&rt)?;
-    let second = second.join(&rt)?;
-    let passes = two_passes(alloc, first, second)?;
+    let first = thread::spawn(&rt, move || pass_of(&rt, alloc, &one, "a"))?;
+    let second = thread::spawn(&rt, move || pass_of(&rt, alloc, &two, "b"))?;
+    let passes = two_passes(alloc, first.join(&rt), second.join(&rt));
     assert_eq!(rt; closed(&rt, &tree, passes), Some(4));
+    drop(tree);
     Ok(())
 }
 
@@ -94,8 +101,9 @@ fn each_reads_its_own_write(rt: HostRuntime) -> Result<(), Fail> {
     let alloc = rt.alloc();
     let tree = open(alloc)?;
     let mut pass = Pass::new(alloc);
-    assert!(rt; write_and_read(&rt, alloc, &tree, &mut pass, "a")?);
-    assert_eq!(rt; closed(&rt, &tree, one_pass(alloc, pass)?), Some(2));
+    assert!(rt; calls(&rt, alloc, &tree, &mut pass, "a"));
+    assert_eq!(rt; closed(&rt, &tree, one_pass(alloc, pass)), Some(2));
+    drop(tree);
     Ok(())
 }
 
@@ -103,28 +111,35 @@ fn each_reads_its_own_write(rt: HostRuntime) -> Result<(), Fail> {
 fn a_missing_pass_is_missed(rt: HostRuntime) -> Result<(), Fail> {
     let alloc = rt.alloc();
     let tree = open(alloc)?;
-    let pass = call(&rt, alloc, &tree, "a")?;
-    let _ = call(&rt, alloc, &tree, "b")?;
-    assert_eq!(rt; given_back(&rt, &tree, one_pass(alloc, pass)?), Some(1));
+    let pass = pass_of(&rt, alloc, &tree, "a");
+    drop(pass_of(&rt, alloc, &tree, "b"));
+    assert_eq!(rt; given_back(&rt, &tree, one_pass(alloc, pass)), Some(1));
+    drop(tree);
     Ok(())
 }
 
-/// Another pass with the same entries.
-fn double(alloc: Global, pass: &Pass) -> Result<Pass, AllocError> {
+/// Another pass with the same entries, as far as there is room.
+fn double(alloc: Global, pass: &Pass) -> Pass {
     let mut other = Pass::new(alloc);
     for (place, entry) in pass.entries() {
-        other.entries.push((*place, copy_entry(alloc, entry)?))?;
+        if let Ok(copy) = copy_entry(alloc, entry) {
+            let _ = other.entries.push((*place, copy));
+        }
     }
-    Ok(other)
+    other
 }
 
 #[test]
 fn a_doubled_pass_is_seen(rt: HostRuntime) -> Result<(), Fail> {
     let alloc = rt.alloc();
     let tree = open(alloc)?;
-    let pass = call(&rt, alloc, &tree, "a")?;
-    let other = double(alloc, &pass)?;
-    assert_eq!(rt; closed(&rt, &tree, two_passes(alloc, pass, other)?), None);
+    let pass = pass_of(&rt, alloc, &tree, "a");
+    let other = double(alloc, &pass);
+    assert_eq!(rt;
+        given_back(&rt, &tree, two_passes(alloc, pass, other)),
+        Some(2)
+    );
+    drop(tree);
     Ok(())
 }
 
@@ -132,10 +147,11 @@ fn a_doubled_pass_is_seen(rt: HostRuntime) -> Result<(), Fail> {
 fn an_altered_entry_is_seen(rt: HostRuntime) -> Result<(), Fail> {
     let alloc = rt.alloc();
     let tree = open(alloc)?;
-    let mut pass = call(&rt, alloc, &tree, "a")?;
+    let mut pass = pass_of(&rt, alloc, &tree, "a");
     pass.entries.pop();
-    pass.entries.push((1, JournalEntry::Mark(0)))?;
-    assert_eq!(rt; closed(&rt, &tree, one_pass(alloc, pass)?), None);
+    let _ = pass.entries.push((1, JournalEntry::Mark(0)));
+    assert_eq!(rt; given_back(&rt, &tree, one_pass(alloc, pass)), Some(1));
+    drop(tree);
     Ok(())
 }
 
@@ -143,9 +159,10 @@ fn an_altered_entry_is_seen(rt: HostRuntime) -> Result<(), Fail> {
 fn places_out_of_order_are_seen(rt: HostRuntime) -> Result<(), Fail> {
     let alloc = rt.alloc();
     let tree = open(alloc)?;
-    let mut pass = call(&rt, alloc, &tree, "a")?;
+    let mut pass = pass_of(&rt, alloc, &tree, "a");
     pass.entries.reverse();
-    assert_eq!(rt; closed(&rt, &tree, one_pass(alloc, pass)?), None);
+    assert_eq!(rt; given_back(&rt, &tree, one_pass(alloc, pass)), Some(1));
+    drop(tree);
     Ok(())
 }
 
@@ -156,25 +173,51 @@ fn write_three(rt: &impl Wait, tree: &RecordedTree, pass: &mut Pass) -> Result<(
     tree.remove_weak(rt, pass, text("b"), 1)
 }
 
+fn writes_three(rt: &impl Wait, tree: &RecordedTree, pass: &mut Pass) -> bool {
+    matches!(write_three(rt, tree, pass), Ok((49, 148)))
+}
+
+fn appends(rt: &impl Wait, tree: &RecordedTree, pass: &mut Pass) -> bool {
+    let entry = InternalValue::new_tombstone(text("c"), 2);
+    matches!(tree.append_entry(rt, pass, entry), Ok((49, 197)))
+}
+
 #[test]
 fn writes_take_numbers_of_their_own(rt: HostRuntime) -> Result<(), Fail> {
     let alloc = rt.alloc();
-    let core = Recorded::open_in_memory(alloc, Config::new(0, 3, 3));
-    let tree = Handle::new(alloc, core)?;
+    let tree = Handle::new(alloc, Recorded::open_in_memory(alloc, Config::new(0, 3, 3)))?;
     let mut pass = Pass::new(alloc);
-    assert_eq!(rt; write_three(&rt, &tree, &mut pass)?, (49, 148));
-    let entry = InternalValue::new_tombstone(text("c"), 2);
-    assert_eq!(rt; tree.append_entry(&rt, &mut pass, entry)?, (49, 197));
-    assert_eq!(rt; tree.rotate_memtable(&rt, &mut pass)?, Some(0));
+    assert!(rt; writes_three(&rt, &tree, &mut pass));
+    assert!(rt; appends(&rt, &tree, &mut pass));
+    assert!(rt; matches!(tree.rotate_memtable(&rt, &mut pass), Ok(Some(0))));
     assert_eq!(rt; pass.entries().len(), 4);
+    drop(pass);
+    drop(tree);
+    Ok(())
+}
+
+/// How many pairs a range and a prefix of a recorded tree list together.
+fn count_recorded(rt: &impl Wait, tree: &RecordedTree, pass: &mut Pass) -> Result<usize, Error> {
+    let all = (Bound::Unbounded, Bound::Unbounded);
+    let range = tree.range(rt, pass, &all, 1)?.len();
+    let prefix = tree.prefix(rt, pass, &text("a"), 1)?.len();
+    Ok(range.saturating_add(prefix))
+}
+
+#[test]
+fn ranges_behind_the_lock_are_listed(rt: HostRuntime) -> Result<(), Fail> {
+    let alloc = rt.alloc();
+    let tree = open(alloc)?;
+    let mut pass = pass_of(&rt, alloc, &tree, "a");
+    assert!(rt; matches!(count_recorded(&rt, &tree, &mut pass), Ok(2)));
+    assert_eq!(rt; closed(&rt, &tree, one_pass(alloc, pass)), Some(4));
+    drop(tree);
     Ok(())
 }
 
 fn open_tree(alloc: Global) -> Result<Tree, AllocError> {
-    Handle::new(
-        alloc,
-        TreeState::open_in_memory(alloc, Config::new(0, 0, 0)),
-    )
+    let core = TreeState::open_in_memory(alloc, Config::new(0, 0, 0));
+    Handle::new(alloc, core)
 }
 
 /// A value under a drawn number, made visible.
@@ -185,14 +228,26 @@ fn set_next(rt: &impl Wait, tree: &Tree) -> Result<(), Error> {
     Ok(())
 }
 
+fn sets_next(rt: &impl Wait, tree: &Tree) -> bool {
+    matches!(set_next(rt, tree), Ok(()))
+}
+
+fn finds(rt: &impl Wait, tree: &Tree) -> bool {
+    match tree.get(rt, b"a", 1) {
+        Ok(value) => value == Some(text("x")),
+        Err(_) => false,
+    }
+}
+
 #[test]
 fn numbers_are_drawn_and_made_visible(rt: HostRuntime) -> Result<(), Fail> {
     let tree = open_tree(rt.alloc())?;
-    set_next(&rt, &tree)?;
+    assert!(rt; sets_next(&rt, &tree));
     assert_eq!(rt; tree.visible_number(&rt), 1);
-    assert!(rt; tree.get(&rt, b"a", 1)? == Some(text("x")));
-    assert!(rt; tree.get_internal_entry(&rt, b"a", 0)?.is_none());
-    assert_eq!(rt; tree.rotate_memtable(&rt)?, Some(0));
+    assert!(rt; finds(&rt, &tree));
+    assert!(rt; matches!(tree.get_internal_entry(&rt, b"a", 0), Ok(None)));
+    assert!(rt; matches!(tree.rotate_memtable(&rt), Ok(Some(0))));
+    drop(tree);
     Ok(())
 }
 
@@ -207,16 +262,10 @@ fn write_all(rt: &impl Wait, alloc: Global, tree: &Tree) -> Result<u64, Error> {
 #[test]
 fn a_tree_is_written_in_each_way(rt: HostRuntime) -> Result<(), Fail> {
     let tree = open_tree(rt.alloc())?;
-    assert_eq!(rt; write_all(&rt, rt.alloc(), &tree)?, 0);
+    assert!(rt; matches!(write_all(&rt, rt.alloc(), &tree), Ok(0)));
     assert_eq!(rt; tree.visible_number(&rt), 1);
+    drop(tree);
     Ok(())
-}
-
-/// A value under a drawn number, in a new tree.
-fn one_key(rt: &impl Wait, alloc: Global) -> Result<Tree, Error> {
-    let tree = open_tree(alloc)?;
-    set_next(rt, &tree)?;
-    Ok(tree)
 }
 
 /// How many pairs the calls for bounds list together.
@@ -240,38 +289,28 @@ fn count_others(rt: &impl Wait, tree: &Tree) -> Result<usize, Error> {
 
 #[test]
 fn a_shared_tree_lists_its_pairs(rt: HostRuntime) -> Result<(), Fail> {
-    let tree = one_key(&rt, rt.alloc())?;
-    assert_eq!(rt; count_ranges(&rt, &tree)?, 3);
-    assert_eq!(rt; count_others(&rt, &tree)?, 4);
+    let tree = open_tree(rt.alloc())?;
+    assert!(rt; sets_next(&rt, &tree));
+    assert!(rt; matches!(count_ranges(&rt, &tree), Ok(3)));
+    assert!(rt; matches!(count_others(&rt, &tree), Ok(4)));
+    drop(tree);
     Ok(())
+}
+
+fn has_ends(rt: &impl Wait, tree: &Tree) -> bool {
+    matches!(tree.first_key_value(rt, 1, None), Ok(Some(_)))
+        && matches!(tree.last_key_value(rt, 1, None), Ok(Some(_)))
 }
 
 #[test]
 fn a_shared_tree_tells_of_its_pairs(rt: HostRuntime) -> Result<(), Fail> {
-    let tree = one_key(&rt, rt.alloc())?;
-    assert_eq!(rt; tree.len(&rt, 1, None)?, 1);
-    assert!(rt; !tree.is_empty(&rt, 1, None)?);
-    assert!(rt; tree.first_key_value(&rt, 1, None)?.is_some());
-    assert!(rt; tree.last_key_value(&rt, 1, None)?.is_some());
-    assert!(rt; tree.contains_key(&rt, b"a", 1)?);
-    assert_eq!(rt; tree.size_of(&rt, b"a", 1)?, Some(1));
-    Ok(())
-}
-
-/// How many pairs a range and a prefix of a recorded tree list together.
-fn count_recorded(rt: &impl Wait, tree: &RecordedTree, pass: &mut Pass) -> Result<usize, Error> {
-    let all = (Bound::Unbounded, Bound::Unbounded);
-    let range = tree.range(rt, pass, &all, 1)?.len();
-    let prefix = tree.prefix(rt, pass, &text("a"), 1)?.len();
-    Ok(range.saturating_add(prefix))
-}
-
-#[test]
-fn ranges_behind_the_lock_are_listed(rt: HostRuntime) -> Result<(), Fail> {
-    let alloc = rt.alloc();
-    let tree = open(alloc)?;
-    let mut pass = call(&rt, alloc, &tree, "a")?;
-    assert_eq!(rt; count_recorded(&rt, &tree, &mut pass)?, 2);
-    assert_eq!(rt; closed(&rt, &tree, one_pass(alloc, pass)?), Some(4));
+    let tree = open_tree(rt.alloc())?;
+    assert!(rt; sets_next(&rt, &tree));
+    assert!(rt; matches!(tree.len(&rt, 1, None), Ok(1)));
+    assert!(rt; matches!(tree.is_empty(&rt, 1, None), Ok(false)));
+    assert!(rt; has_ends(&rt, &tree));
+    assert!(rt; matches!(tree.contains_key(&rt, b"a", 1), Ok(true)));
+    assert!(rt; matches!(tree.size_of(&rt, b"a", 1), Ok(Some(1))));
+    drop(tree);
     Ok(())
 }
