@@ -1,7 +1,6 @@
 use super::*;
 use crate::{Config, KvPair, Ops};
 use std::ops::Bound;
-use std::test::Fail;
 
 const LIMIT: SeqNo = 9_223_372_036_854_775_808;
 
@@ -15,6 +14,24 @@ fn batch(alloc: Global, pairs: &[(&'static str, &'static str)]) -> Result<Step, 
         ops.push((key(*name), Op::Set(key(*value))))?;
     }
     Ok(Step::Write(Ops::new(ops)))
+}
+
+/// The outcomes of steps on a new tree. Where there is no room for the steps, none.
+fn run_new(alloc: Global, steps: Result<Vec<Step>, AllocError>) -> Vec<Outcome> {
+    let Ok(steps) = steps else {
+        return Vec::new(alloc);
+    };
+    let mut state = TreeState::open_in_memory(alloc, Config::new(0, 0, 0));
+    let outcomes = run(alloc, &mut state, &steps);
+    drop(state);
+    outcomes
+}
+
+fn reply_at(outcomes: &[Outcome], at: usize) -> Option<&Reply> {
+    match outcomes.get(at) {
+        Some(outcome) => Some(outcome.reply()),
+        None => None,
+    }
 }
 
 fn is_value(reply: Option<&Reply>, value: &'static str) -> bool {
@@ -31,11 +48,29 @@ fn is_numbered(reply: Option<&Reply>, seqno: SeqNo) -> bool {
     }
 }
 
-#[test]
-fn takes_each_step(rt: HostRuntime) -> Result<(), Fail> {
-    let mut state = TreeState::open_in_memory(rt.alloc(), Config::new(0, 0, 0));
-    let mut steps = Vec::new(rt.alloc());
-    steps.push(batch(rt.alloc(), &[("a", "x")])?)?;
+fn is_sizes(reply: Option<&Reply>, size: u64, total: u64) -> bool {
+    match reply {
+        Some(Reply::Sizes(own, all)) => *own == size && *all == total,
+        _ => false,
+    }
+}
+
+fn is_number(reply: Option<&Reply>, number: SeqNo) -> bool {
+    match reply {
+        Some(Reply::Number(told)) => *told == number,
+        _ => false,
+    }
+}
+
+/// Whether the outcomes note so many entries, one after the other.
+fn note(outcomes: &[Outcome], counts: &[usize]) -> bool {
+    let noted = outcomes.iter().map(|outcome| outcome.entries().len());
+    noted.eq(counts.iter().copied())
+}
+
+fn writing_steps(alloc: Global) -> Result<Vec<Step>, AllocError> {
+    let mut steps = Vec::new(alloc);
+    steps.push(batch(alloc, &[("a", "x")])?)?;
     steps.push(Step::Get(key("a"), 1))?;
     steps.push(Step::Insert(key("b"), key("y"), 7))?;
     steps.push(Step::RemoveWeak(key("b"), 8))?;
@@ -43,22 +78,22 @@ fn takes_each_step(rt: HostRuntime) -> Result<(), Fail> {
     steps.push(Step::GetInternalEntry(key("b"), 9))?;
     steps.push(Step::RotateMemtable)?;
     steps.push(Step::RotateMemtable)?;
+    Ok(steps)
+}
 
-    let outcomes = run(rt.alloc(), &mut state, &steps);
-    let mut replies = outcomes.iter().map(|outcome| outcome.reply());
-    assert!(rt; matches!(replies.next(), Some(Reply::Number(0))));
-    assert!(rt; is_value(replies.next(), "x"));
-    assert!(rt; matches!(replies.next(), Some(Reply::Sizes(50, 100))));
-    assert!(rt; matches!(replies.next(), Some(Reply::Sizes(49, 149))));
-    assert!(rt; is_numbered(replies.next(), 7));
-    assert!(rt; matches!(replies.next(), Some(Reply::Entry(None))));
-    assert!(rt; matches!(replies.next(), Some(Reply::Sealed(Some(0)))));
-    assert!(rt; matches!(replies.next(), Some(Reply::Sealed(None))));
-    let mut noted = outcomes.iter().map(|outcome| outcome.entries().len());
-    for want in [1, 1, 1, 1, 0, 0, 0, 0] {
-        assert!(rt; noted.next() == Some(want));
-    }
-    Ok(())
+#[test]
+fn takes_each_step(rt: HostRuntime) {
+    let outcomes = run_new(rt.alloc(), writing_steps(rt.alloc()));
+    assert!(rt; is_number(reply_at(&outcomes, 0), 0));
+    assert!(rt; is_value(reply_at(&outcomes, 1), "x"));
+    assert!(rt; is_sizes(reply_at(&outcomes, 2), 50, 100));
+    assert!(rt; is_sizes(reply_at(&outcomes, 3), 49, 149));
+    assert!(rt; is_numbered(reply_at(&outcomes, 4), 7));
+    assert!(rt; matches!(reply_at(&outcomes, 5), Some(Reply::Entry(None))));
+    assert!(rt; matches!(reply_at(&outcomes, 6), Some(Reply::Sealed(Some(0)))));
+    assert!(rt; matches!(reply_at(&outcomes, 7), Some(Reply::Sealed(None))));
+    assert!(rt; note(&outcomes, &[1, 1, 1, 1, 0, 0, 0, 0]));
+    drop(outcomes);
 }
 
 fn counting_steps(alloc: Global) -> Result<Vec<Step>, AllocError> {
@@ -71,44 +106,51 @@ fn counting_steps(alloc: Global) -> Result<Vec<Step>, AllocError> {
     steps.push(batch(alloc, &[("a", "x"), ("a", "y")])?)?;
     steps.push(Step::Remove(key("a"), 2))?;
     steps.push(Step::AppendEntry(InternalValue::new_tombstone(key("c"), 3)))?;
+    steps.push(Step::Next(Counter::Seqno))?;
+    steps.push(Step::Next(Counter::Visible))?;
     Ok(steps)
 }
 
 #[test]
-fn counts_and_refuses(rt: HostRuntime) -> Result<(), Fail> {
-    let mut state = TreeState::open_in_memory(rt.alloc(), Config::new(0, 0, 0));
-    let steps = counting_steps(rt.alloc())?;
-    let outcomes = run(rt.alloc(), &mut state, &steps);
-    let mut replies = outcomes.iter().map(|outcome| outcome.reply());
-    assert!(rt; matches!(replies.next(), Some(Reply::Number(0))));
-    assert!(rt; matches!(replies.next(), Some(Reply::Number(1))));
-    assert!(rt; matches!(replies.next(), Some(Reply::Done)));
-    assert!(rt; matches!(replies.next(), Some(Reply::Done)));
-    assert!(rt; matches!(replies.next(), Some(Reply::Refused(Error::NumberTooGreat))));
-    assert!(rt; matches!(replies.next(), Some(Reply::Refused(Error::DuplicateKey))));
-    assert!(rt; matches!(replies.next(), Some(Reply::Sizes(49, 99))));
-    assert!(rt; matches!(replies.next(), Some(Reply::Sizes(49, 148))));
-    assert_eq!(rt; state.seqno().get(), 2);
-    assert_eq!(rt; state.visible_seqno().get(), 9);
-    Ok(())
+fn counts_and_refuses(rt: HostRuntime) {
+    let outcomes = run_new(rt.alloc(), counting_steps(rt.alloc()));
+    assert!(rt; is_number(reply_at(&outcomes, 0), 0));
+    assert!(rt; is_number(reply_at(&outcomes, 1), 1));
+    assert!(rt; matches!(reply_at(&outcomes, 2), Some(Reply::Done)));
+    assert!(rt; matches!(reply_at(&outcomes, 3), Some(Reply::Done)));
+    assert!(rt;
+        matches!(
+            reply_at(&outcomes, 4),
+            Some(Reply::Refused(Error::NumberTooGreat))
+        )
+    );
+    assert!(rt;
+        matches!(
+            reply_at(&outcomes, 5),
+            Some(Reply::Refused(Error::DuplicateKey))
+        )
+    );
+    assert!(rt; is_sizes(reply_at(&outcomes, 6), 49, 99));
+    assert!(rt; is_sizes(reply_at(&outcomes, 7), 49, 148));
+    assert!(rt; is_number(reply_at(&outcomes, 8), 2));
+    assert!(rt; is_number(reply_at(&outcomes, 9), 9));
+    drop(outcomes);
 }
 
-/// Writes a and b under 0, c under 1 behind a rotation, and removes b under 2.
-fn filling(alloc: Global) -> Result<Vec<Step>, AllocError> {
+/// Writes a and b under 0, c under 1 behind a rotation, and removes b under 2; then one step more.
+fn filling(alloc: Global, last: Step) -> Result<Vec<Step>, AllocError> {
     let mut steps = Vec::new(alloc);
     steps.push(batch(alloc, &[("a", "x"), ("b", "yy")])?)?;
     steps.push(Step::RotateMemtable)?;
     steps.push(batch(alloc, &[("c", "zzz")])?)?;
     steps.push(Step::Remove(key("b"), 2))?;
+    steps.push(last)?;
     Ok(steps)
 }
 
 /// What a step answers on the tree that was filled.
-fn ask(alloc: Global, step: Step) -> Result<Option<Outcome>, AllocError> {
-    let mut state = TreeState::open_in_memory(alloc, Config::new(0, 0, 0));
-    let mut steps = filling(alloc)?;
-    steps.push(step)?;
-    Ok(run(alloc, &mut state, &steps).pop())
+fn ask(alloc: Global, step: Step) -> Option<Outcome> {
+    run_new(alloc, filling(alloc, step)).pop()
 }
 
 fn is_pair(pair: &KvPair, want: (&'static str, &'static str)) -> bool {
@@ -139,48 +181,41 @@ fn lists(outcome: &Option<Outcome>, want: &[(&'static str, &'static str)]) -> bo
     }
 }
 
+/// Whether a step lists these pairs.
+fn step_lists(alloc: Global, step: Step, want: &[(&'static str, &'static str)]) -> bool {
+    lists(&ask(alloc, step), want)
+}
+
 #[test]
-fn lists_all_pairs(rt: HostRuntime) -> Result<(), Fail> {
-    assert!(rt; lists(&ask(rt.alloc(), Step::Iter(0))?, &[]));
-    assert!(rt; lists(&ask(rt.alloc(), Step::Iter(1))?, &[("a", "x"), ("b", "yy")]));
+fn lists_all_pairs(rt: HostRuntime) {
+    let alloc = rt.alloc();
+    assert!(rt; step_lists(alloc, Step::Iter(0), &[]));
+    assert!(rt; step_lists(alloc, Step::Iter(1), &[("a", "x"), ("b", "yy")]));
     let three = [("a", "x"), ("b", "yy"), ("c", "zzz")];
-    assert!(rt; lists(&ask(rt.alloc(), Step::Iter(2))?, &three));
-    assert!(rt;
-        lists(
-            &ask(rt.alloc(), Step::Iter(3))?,
-            &[("a", "x"), ("c", "zzz")]
-        )
-    );
-    Ok(())
+    assert!(rt; step_lists(alloc, Step::Iter(2), &three));
+    assert!(rt; step_lists(alloc, Step::Iter(3), &[("a", "x"), ("c", "zzz")]));
 }
 
 fn between(low: &'static str, high: &'static str, snapshot: SeqNo) -> Step {
-    Step::Range(
-        Bound::Excluded(key(low)),
-        Bound::Included(key(high)),
-        snapshot,
-    )
+    let low = Bound::Excluded(key(low));
+    Step::Range(low, Bound::Included(key(high)), snapshot)
 }
 
 #[test]
-fn lists_pairs_within_bounds(rt: HostRuntime) -> Result<(), Fail> {
+fn lists_pairs_within_bounds(rt: HostRuntime) {
+    let alloc = rt.alloc();
     let two = [("b", "yy"), ("c", "zzz")];
-    assert!(rt; lists(&ask(rt.alloc(), between("a", "c", 2))?, &two));
-    assert!(rt; lists(&ask(rt.alloc(), between("a", "c", 3))?, &[("c", "zzz")]));
-    assert!(rt; lists(&ask(rt.alloc(), between("c", "a", 3))?, &[]));
-    let question = ask(rt.alloc(), between("a", "b", 3))?;
-    let noted = question.as_ref().map(|outcome| outcome.entries());
-    assert!(rt;
-        matches!(
-            noted,
-            Some([JournalEntry::Read(
-                3,
-                Question::Between(Bound::Excluded(_), Bound::Included(_)),
-                _
-            )])
-        )
-    );
-    Ok(())
+    assert!(rt; step_lists(alloc, between("a", "c", 2), &two));
+    assert!(rt; step_lists(alloc, between("a", "c", 3), &[("c", "zzz")]));
+    assert!(rt; step_lists(alloc, between("c", "a", 3), &[]));
+}
+
+#[test]
+fn lists_pairs_of_a_prefix(rt: HostRuntime) {
+    let alloc = rt.alloc();
+    assert!(rt; step_lists(alloc, Step::Prefix(key("b"), 2), &[("b", "yy")]));
+    assert!(rt; step_lists(alloc, Step::Prefix(key("b"), 3), &[]));
+    assert!(rt; step_lists(alloc, Step::Prefix(key(""), 3), &[("a", "x"), ("c", "zzz")]));
 }
 
 /// What a step answers that leaves nothing in the journal.
@@ -191,46 +226,64 @@ fn reply(outcome: &Option<Outcome>) -> Option<&Reply> {
     }
 }
 
-#[test]
-fn looks_at_one_key(rt: HostRuntime) -> Result<(), Fail> {
-    for (name, snapshot, want) in [("b", 1, true), ("b", 3, false), ("c", 1, false)] {
-        let there = ask(rt.alloc(), Step::ContainsKey(key(name), snapshot))?;
-        assert!(rt; matches!(reply(&there), Some(Reply::Truth(truth)) if *truth == want));
+fn tells(alloc: Global, step: Step, want: bool) -> bool {
+    match reply(&ask(alloc, step)) {
+        Some(Reply::Truth(truth)) => *truth == want,
+        _ => false,
     }
-    let size = ask(rt.alloc(), Step::SizeOf(key("c"), 2))?;
-    assert!(rt; matches!(reply(&size), Some(Reply::Size(Some(3)))));
-    let none = ask(rt.alloc(), Step::SizeOf(key("b"), 3))?;
-    assert!(rt; matches!(reply(&none), Some(Reply::Size(None))));
-    Ok(())
 }
 
-#[test]
-fn counts_the_keys(rt: HostRuntime) -> Result<(), Fail> {
-    for (snapshot, want) in [(0, 0), (1, 2), (2, 3), (3, 2)] {
-        let count = ask(rt.alloc(), Step::Len(snapshot))?;
-        assert!(rt; matches!(reply(&count), Some(Reply::Count(keys)) if *keys == want));
-        let empty = ask(rt.alloc(), Step::IsEmpty(snapshot))?;
-        assert!(rt; matches!(reply(&empty), Some(Reply::Truth(truth)) if *truth == (want == 0)));
-    }
-    Ok(())
-}
-
-fn has_pair(outcome: &Option<Outcome>, want: (&'static str, &'static str)) -> bool {
-    match reply(outcome) {
-        Some(Reply::Pair(Some(pair))) => is_pair(pair, want),
+fn measures(alloc: Global, step: Step, want: Option<u32>) -> bool {
+    match reply(&ask(alloc, step)) {
+        Some(Reply::Size(size)) => *size == want,
         _ => false,
     }
 }
 
 #[test]
-fn finds_both_ends(rt: HostRuntime) -> Result<(), Fail> {
-    let first = ask(rt.alloc(), Step::FirstKeyValue(1))?;
-    assert!(rt; has_pair(&first, ("a", "x")));
-    let last = ask(rt.alloc(), Step::LastKeyValue(1))?;
-    assert!(rt; has_pair(&last, ("b", "yy")));
-    let latest = ask(rt.alloc(), Step::LastKeyValue(3))?;
-    assert!(rt; has_pair(&latest, ("c", "zzz")));
-    let none = ask(rt.alloc(), Step::FirstKeyValue(0))?;
-    assert!(rt; matches!(reply(&none), Some(Reply::Pair(None))));
-    Ok(())
+fn looks_at_one_key(rt: HostRuntime) {
+    let alloc = rt.alloc();
+    assert!(rt; tells(alloc, Step::ContainsKey(key("b"), 1), true));
+    assert!(rt; tells(alloc, Step::ContainsKey(key("b"), 3), false));
+    assert!(rt; tells(alloc, Step::ContainsKey(key("c"), 1), false));
+    assert!(rt; measures(alloc, Step::SizeOf(key("c"), 2), Some(3)));
+    assert!(rt; measures(alloc, Step::SizeOf(key("b"), 3), None));
+}
+
+fn counts(alloc: Global, snapshot: SeqNo, want: usize) -> bool {
+    match reply(&ask(alloc, Step::Len(snapshot))) {
+        Some(Reply::Count(keys)) => *keys == want,
+        _ => false,
+    }
+}
+
+#[test]
+fn counts_the_keys(rt: HostRuntime) {
+    let alloc = rt.alloc();
+    assert!(rt; counts(alloc, 0, 0));
+    assert!(rt; counts(alloc, 1, 2));
+    assert!(rt; counts(alloc, 2, 3));
+    assert!(rt; counts(alloc, 3, 2));
+    assert!(rt; tells(alloc, Step::IsEmpty(0), true));
+    assert!(rt; tells(alloc, Step::IsEmpty(3), false));
+}
+
+fn has_pair(alloc: Global, step: Step, want: (&'static str, &'static str)) -> bool {
+    match reply(&ask(alloc, step)) {
+        Some(Reply::Pair(Some(pair))) => is_pair(pair, want),
+        _ => false,
+    }
+}
+
+fn has_none(alloc: Global, step: Step) -> bool {
+    matches!(reply(&ask(alloc, step)), Some(Reply::Pair(None)))
+}
+
+#[test]
+fn finds_both_ends(rt: HostRuntime) {
+    let alloc = rt.alloc();
+    assert!(rt; has_pair(alloc, Step::FirstKeyValue(1), ("a", "x")));
+    assert!(rt; has_pair(alloc, Step::LastKeyValue(1), ("b", "yy")));
+    assert!(rt; has_pair(alloc, Step::LastKeyValue(3), ("c", "zzz")));
+    assert!(rt; has_none(alloc, Step::FirstKeyValue(0)));
 }
