@@ -13,7 +13,7 @@ upper_of word = if bytes_eq word (codes "-") then Unbounded else Excluded word
 
 -- ---- and back
 
--- the word that names a key where `-` names none: the key, and no word for the key `-`
+-- the word that gives a key: itself, and the empty list, which is no word, for the key `-`
 abbrev pub key_word : List ℕ → List ℕ
 key_word key = if bytes_eq key (codes "-") then [] else key
 
