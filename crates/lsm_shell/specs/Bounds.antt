@@ -1,4 +1,4 @@
--- The bounds that words give: `-` leaves a bound open.
+-- The bounds and prefixes that words give: `-` leaves a bound open, and is the empty prefix.
 use Rattle.std.specs.Prelude.{ℕ, List, [], ◌∷◌, codes, bytes_eq, if◌then◌else◌}
 use Rattle.std.specs.declared.ops.Bound.{Bound}
 use Rattle.std.specs.declared.ops.Bound.TheVariants.{Included, Excluded, Unbounded}
@@ -10,6 +10,10 @@ lower_of word = if bytes_eq word (codes "-") then Unbounded else Included word
 -- the upper bound that a word gives: its key is without
 abbrev pub upper_of : List ℕ → Bound (List ℕ)
 upper_of word = if bytes_eq word (codes "-") then Unbounded else Excluded word
+
+-- the prefix that a word gives
+abbrev pub prefix_of : List ℕ → List ℕ
+prefix_of word = if bytes_eq word (codes "-") then [] else word
 
 -- ---- and back
 
@@ -28,3 +32,8 @@ abbrev pub upper_word : Bound (List ℕ) → List ℕ
 upper_word Unbounded = codes "-"
 upper_word (Included key) = []
 upper_word (Excluded key) = key_word key
+
+-- the word that gives a prefix, the empty list where no word does
+abbrev pub prefix_word : List ℕ → List ℕ
+prefix_word [] = codes "-"
+prefix_word (byte ∷ rest) = key_word (byte ∷ rest)
