@@ -5,12 +5,12 @@ use Rattle.std.proofs.lemmas.List.Splits.{slice_split_at, join_with_byte-slice_s
 use Rattle.std.specs.List.{list_all, join_with_byte}
 use Rattle.std.specs.Prelude.{codes, option_map}
 use Rattle.lsm_shell.specs.declared.command.Command.{Command}
-use Rattle.lsm_shell.specs.declared.command.Command.TheVariants.{Put, Del, Weak, Get, Range, Rotate}
-use Rattle.lsm_shell.specs.Bounds.{lower_of, upper_of, lower_word, upper_word}
+use Rattle.lsm_shell.specs.declared.command.Command.TheVariants.{Put, Del, Weak, Get, Range, Prefix, Rotate}
+use Rattle.lsm_shell.specs.Bounds.{lower_of, upper_of, prefix_of, lower_word, upper_word, prefix_word}
 use Rattle.lsm_shell.specs.Word.{is_word, parts_of, words_of, number_of}
-use Rattle.lsm_shell.specs.Command.{command_of, command_of_words}
+use Rattle.lsm_shell.specs.Command.{command_of, command_of_words, command_of_key, command_of_pair}
 use Rattle.lsm_shell.specs.Spelling.{spelling_of, HasFitNumber, Spells, IsSpelledBy}
-use Rattle.lsm_shell.proofs.BoundWords.{lower_written, upper_written, lower_of-word, upper_of-word}
+use Rattle.lsm_shell.proofs.BoundWords.{lower_written, upper_written, prefix_written, lower_of-word, upper_of-word, prefix_of-word}
 use Rattle.lsm_shell.proofs.Number.{number_is, number_of-decimal}
 use Rattle.lsm_shell.proofs.Parts.{is_space, both, no_space, parts_of-word, words_are, words_in}
 
@@ -27,11 +27,19 @@ one_word : (v : List ℕ) (b : Bool) → bytes_eq v (codes "rotate") ≡ b → I
 one_word v true e = (ap (λ w. w ∷ []) (same v _ e), tt)
 one_word v false e = tt
 
-two_words : (v key : List ℕ) (d w g : Bool) → bytes_eq v (codes "del") ≡ d → bytes_eq v (codes "weak") ≡ w → bytes_eq v (codes "get") ≡ g → IfSome (cond d (Some (Del key)) (cond w (Some (Weak key)) (cond g (Some (Get key None)) None))) (AreWordsOf (v ∷ key ∷ []))
-two_words v key true w g ed ew eg = (ap (λ u. u ∷ key ∷ []) (same v _ ed), tt)
-two_words v key false true g ed ew eg = (ap (λ u. u ∷ key ∷ []) (same v _ ew), tt)
-two_words v key false false true ed ew eg = (ap (λ u. u ∷ key ∷ []) (same v _ eg), tt)
-two_words v key false false false ed ew eg = tt
+-- a prefix is spelled by the word that gave it
+prefix_words : (word : List ℕ) (more : List (List ℕ)) → is_word word ≡ true → codes "prefix" ∷ word ∷ more ≡ codes "prefix" ∷ prefix_word (prefix_of word) ∷ more
+prefix_words word more h = rw (prefix_written word h) refl
+
+of_key : (v key : List ℕ) (d w g : Bool) → bytes_eq v (codes "del") ≡ d → bytes_eq v (codes "weak") ≡ w → bytes_eq v (codes "get") ≡ g → IfSome (cond d (Some (Del key)) (cond w (Some (Weak key)) (cond g (Some (Get key None)) None))) (AreWordsOf (v ∷ key ∷ []))
+of_key v key true w g ed ew eg = (ap (λ u. u ∷ key ∷ []) (same v _ ed), tt)
+of_key v key false true g ed ew eg = (ap (λ u. u ∷ key ∷ []) (same v _ ew), tt)
+of_key v key false false true ed ew eg = (ap (λ u. u ∷ key ∷ []) (same v _ eg), tt)
+of_key v key false false false ed ew eg = tt
+
+two_words : (v key : List ℕ) (p : Bool) → is_word key ≡ true → bytes_eq v (codes "prefix") ≡ p → IfSome (cond p (Some (Prefix (prefix_of key) None)) (command_of_key v key)) (AreWordsOf (v ∷ key ∷ []))
+two_words v key true word ep = (ap (λ u. u ∷ key ∷ []) (same v _ ep) ∙ prefix_words key [] word, tt)
+two_words v key false word ep = of_key v key _ _ _ refl refl refl
 
 with_snapshot : (v key last : List ℕ) (n : Option ℕ) → number_of last ≡ n → v ≡ codes "get" → IfSome (option_map (λ s. Get key (Some s)) n) (AreWordsOf (v ∷ key ∷ last ∷ []))
 with_snapshot v key last None e is_get = tt
@@ -43,11 +51,21 @@ with_snapshot v key last (Some n) e is_get =
 range_words : (low high : List ℕ) (more : List (List ℕ)) → codes "range" ∷ low ∷ high ∷ more ≡ codes "range" ∷ lower_word (lower_of low) ∷ upper_word (upper_of high) ∷ more
 range_words low high more = rw (lower_written low, upper_written high) refl
 
-three_words : (v key last : List ℕ) (p g r : Bool) → bytes_eq v (codes "put") ≡ p → bytes_eq v (codes "get") ≡ g → bytes_eq v (codes "range") ≡ r → IfSome (cond p (Some (Put key last)) (cond g (option_map (λ s. Get key (Some s)) (number_of last)) (cond r (Some (Range (lower_of key) (upper_of last) None)) None))) (AreWordsOf (v ∷ key ∷ last ∷ []))
-three_words v key last true g r ep eg er = (ap (λ u. u ∷ key ∷ last ∷ []) (same v _ ep), tt)
-three_words v key last false true r ep eg er = with_snapshot v key last (number_of last) refl (same v _ eg)
-three_words v key last false false true ep eg er = (ap (λ u. u ∷ key ∷ last ∷ []) (same v _ er) ∙ range_words key last [], tt)
-three_words v key last false false false ep eg er = tt
+prefix_with_snapshot : (v key last : List ℕ) (n : Option ℕ) → is_word key ≡ true → number_of last ≡ n → v ≡ codes "prefix" → IfSome (option_map (λ s. Prefix (prefix_of key) (Some s)) n) (AreWordsOf (v ∷ key ∷ last ∷ []))
+prefix_with_snapshot v key last None word e is_prefix = tt
+prefix_with_snapshot v key last (Some n) word e is_prefix =
+    let k = number_is last n e in
+    (ap (λ u. u ∷ key ∷ last ∷ []) is_prefix ∙ (ap (λ u. codes "prefix" ∷ key ∷ u ∷ []) k.1 ∙ prefix_words key (decimal n ∷ []) word), k.0)
+
+of_pair : (v key last : List ℕ) (p g r : Bool) → bytes_eq v (codes "put") ≡ p → bytes_eq v (codes "get") ≡ g → bytes_eq v (codes "range") ≡ r → IfSome (cond p (Some (Put key last)) (cond g (option_map (λ s. Get key (Some s)) (number_of last)) (cond r (Some (Range (lower_of key) (upper_of last) None)) None))) (AreWordsOf (v ∷ key ∷ last ∷ []))
+of_pair v key last true g r ep eg er = (ap (λ u. u ∷ key ∷ last ∷ []) (same v _ ep), tt)
+of_pair v key last false true r ep eg er = with_snapshot v key last (number_of last) refl (same v _ eg)
+of_pair v key last false false true ep eg er = (ap (λ u. u ∷ key ∷ last ∷ []) (same v _ er) ∙ range_words key last [], tt)
+of_pair v key last false false false ep eg er = tt
+
+three_words : (v key last : List ℕ) (x : Bool) → is_word key ≡ true → bytes_eq v (codes "prefix") ≡ x → IfSome (cond x (option_map (λ s. Prefix (prefix_of key) (Some s)) (number_of last)) (command_of_pair v key last)) (AreWordsOf (v ∷ key ∷ last ∷ []))
+three_words v key last true word ex = prefix_with_snapshot v key last (number_of last) word refl (same v _ ex)
+three_words v key last false word ex = of_pair v key last _ _ _ refl refl refl
 
 range_with_snapshot : (v low high last : List ℕ) (n : Option ℕ) → number_of last ≡ n → v ≡ codes "range" → IfSome (option_map (λ s. Range (lower_of low) (upper_of high) (Some s)) n) (AreWordsOf (v ∷ low ∷ high ∷ last ∷ []))
 range_with_snapshot v low high last None e is_range = tt
@@ -59,14 +77,18 @@ four_words : (v low high last : List ℕ) (r : Bool) → bytes_eq v (codes "rang
 four_words v low high last true er = range_with_snapshot v low high last (number_of last) refl (same v _ er)
 four_words v low high last false er = tt
 
-words_spell : (words : List (List ℕ)) → IfSome (command_of_words words) (AreWordsOf words)
+-- the second of the words is a word
+second_is : (v key : List ℕ) (more : List (List ℕ)) → list_all is_word (v ∷ key ∷ more) ≡ true → is_word key ≡ true
+second_is v key more all = (both (is_word key) (list_all is_word more) (both (is_word v) (list_all is_word (key ∷ more)) all).1).0
+
+words_spell : (words : List (List ℕ)) → list_all is_word words ≡ true → IfSome (command_of_words words) (AreWordsOf words)
 unfolding command_of_words
-words_spell [] = tt
-words_spell (v ∷ []) = one_word v _ refl
-words_spell (v ∷ key ∷ []) = two_words v key _ _ _ refl refl refl
-words_spell (v ∷ key ∷ last ∷ []) = three_words v key last _ _ _ refl refl refl
-words_spell (v ∷ low ∷ high ∷ last ∷ []) = four_words v low high last _ refl
-words_spell (v ∷ low ∷ high ∷ last ∷ more ∷ others) = tt
+words_spell [] all = tt
+words_spell (v ∷ []) all = one_word v _ refl
+words_spell (v ∷ key ∷ []) all = two_words v key _ (second_is v key [] all) refl
+words_spell (v ∷ key ∷ last ∷ []) all = three_words v key last _ (second_is v key (last ∷ []) all) refl
+words_spell (v ∷ low ∷ high ∷ last ∷ []) all = four_words v low high last _ refl
+words_spell (v ∷ low ∷ high ∷ last ∷ more ∷ others) all = tt
 
 spelled_by_words : (line : List ℕ) (words : List (List ℕ)) (found : Option Command) → line ≡ join_with_byte 32 words → list_all is_word words ≡ true → IfSome found (AreWordsOf words) → IfSome found (Spells line)
 spelled_by_words line words None joined all h = tt
@@ -82,7 +104,8 @@ spelled_from line None e = rw e tt
 spelled_from line (Some words) e =
     let h = words_in line words e in
     let joined : line ≡ join_with_byte 32 words = sym (join_with_byte-slice_split 32 line) ∙ ap (join_with_byte 32) h.1 in
-    rw e (spelled_by_words line words (command_of_words words) joined (subst (λ ws. list_all is_word ws ≡ true) h.1 h.0) (words_spell words))
+    let all : list_all is_word words ≡ true = subst (λ ws. list_all is_word ws ≡ true) h.1 h.0 in
+    rw e (spelled_by_words line words (command_of_words words) joined all (words_spell words all))
 
 -- ---- a command is asked by its words
 
@@ -116,6 +139,12 @@ asked_by_words (Range low high None) h all =
 asked_by_words (Range low high (Some n)) h all =
     let words = range_bounds (codes "range") (lower_word low) (upper_word high) (decimal n ∷ []) all in
     (omega arith, rw (lower_of-word low words.0, upper_of-word high words.1, number_of-decimal (decimal n) n h refl) refl)
+asked_by_words (Prefix prefix None) h all =
+    let word = second_is (codes "prefix") (prefix_word prefix) [] all in
+    (omega arith, rw (prefix_of-word prefix word) refl)
+asked_by_words (Prefix prefix (Some n)) h all =
+    let word = second_is (codes "prefix") (prefix_word prefix) (decimal n ∷ []) all in
+    (omega arith, rw (prefix_of-word prefix word, number_of-decimal (decimal n) n h refl) refl)
 asked_by_words Rotate h all = (omega arith, refl)
 
 asked : (line : List ℕ) (c : Command) → Spells line c → command_of line ≡ Some c

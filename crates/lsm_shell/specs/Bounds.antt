@@ -1,4 +1,4 @@
--- The bounds that words give: `-` leaves a bound open.
+-- The bounds and prefixes that words give: `-` leaves a bound open, and is the empty prefix.
 use Rattle.std.specs.Prelude.{ℕ, List, [], ◌∷◌, codes, bytes_eq, if◌then◌else◌}
 use Rattle.std.specs.declared.ops.Bound.{Bound}
 use Rattle.std.specs.declared.ops.Bound.TheVariants.{Included, Excluded, Unbounded}
@@ -11,9 +11,13 @@ lower_of word = if bytes_eq word (codes "-") then Unbounded else Included word
 abbrev pub upper_of : List ℕ → Bound (List ℕ)
 upper_of word = if bytes_eq word (codes "-") then Unbounded else Excluded word
 
+-- the prefix that a word gives
+abbrev pub prefix_of : List ℕ → List ℕ
+prefix_of word = if bytes_eq word (codes "-") then [] else word
+
 -- ---- and back
 
--- the word that names a key where `-` names none: the key, and no word for the key `-`
+-- the word that gives a key: itself, and the empty list, which is no word, for the key `-`
 abbrev pub key_word : List ℕ → List ℕ
 key_word key = if bytes_eq key (codes "-") then [] else key
 
@@ -28,3 +32,8 @@ abbrev pub upper_word : Bound (List ℕ) → List ℕ
 upper_word Unbounded = codes "-"
 upper_word (Included key) = []
 upper_word (Excluded key) = key_word key
+
+-- the word that gives a prefix, the empty list where no word does
+abbrev pub prefix_word : List ℕ → List ℕ
+prefix_word [] = codes "-"
+prefix_word (byte ∷ rest) = key_word (byte ∷ rest)

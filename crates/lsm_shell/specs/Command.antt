@@ -1,29 +1,41 @@
 -- What a line asks.
 use Rattle.std.specs.Prelude.{ℕ, List, [], ◌∷◌, Option, Some, None, codes, bytes_eq, option_map, option_and_then, if◌then◌else◌}
-use Rattle.lsm_shell.specs.Bounds.{lower_of, upper_of}
+use Rattle.lsm_shell.specs.Bounds.{lower_of, upper_of, prefix_of}
 use Rattle.lsm_shell.specs.Word.{words_of, number_of}
 use Rattle.lsm_shell.specs.declared.command.Command.{Command}
-use Rattle.lsm_shell.specs.declared.command.Command.TheVariants.{Put, Del, Weak, Get, Range, Rotate}
+use Rattle.lsm_shell.specs.declared.command.Command.TheVariants.{Put, Del, Weak, Get, Range, Prefix, Rotate}
 
 -- what a line of one word asks
 abbrev pub command_of_one : List ℕ → Option Command
 command_of_one verb = if bytes_eq verb (codes "rotate") then Some Rotate else None
 
--- what a line of two words asks
-abbrev pub command_of_two : List ℕ → List ℕ → Option Command
-command_of_two verb key =
+-- what a word asks of a key
+abbrev pub command_of_key : List ℕ → List ℕ → Option Command
+command_of_key verb key =
     if bytes_eq verb (codes "del") then Some (Del key)
     else if bytes_eq verb (codes "weak") then Some (Weak key)
     else if bytes_eq verb (codes "get") then Some (Get key None)
     else None
 
--- what a line of three words asks
-abbrev pub command_of_three : List ℕ → List ℕ → List ℕ → Option Command
-command_of_three verb key last =
+-- what a line of two words asks
+abbrev pub command_of_two : List ℕ → List ℕ → Option Command
+command_of_two verb key =
+    if bytes_eq verb (codes "prefix") then Some (Prefix (prefix_of key) None)
+    else command_of_key verb key
+
+-- what a word asks of a key and another word
+abbrev pub command_of_pair : List ℕ → List ℕ → List ℕ → Option Command
+command_of_pair verb key last =
     if bytes_eq verb (codes "put") then Some (Put key last)
     else if bytes_eq verb (codes "get") then option_map (λ n. Get key (Some n)) (number_of last)
     else if bytes_eq verb (codes "range") then Some (Range (lower_of key) (upper_of last) None)
     else None
+
+-- what a line of three words asks
+abbrev pub command_of_three : List ℕ → List ℕ → List ℕ → Option Command
+command_of_three verb key last =
+    if bytes_eq verb (codes "prefix") then option_map (λ n. Prefix (prefix_of key) (Some n)) (number_of last)
+    else command_of_pair verb key last
 
 -- what a line of four words asks
 abbrev pub command_of_four : List ℕ → List ℕ → List ℕ → List ℕ → Option Command

@@ -1,10 +1,10 @@
 -- The line that spells a command.
 use Rattle.std.specs.Prelude.{◌≡◌, ℕ, ◌^◌, ◌<◌, true, List, [], ◌∷◌, Option, Some, None, IfSome, codes, decimal}
 use Rattle.std.specs.List.{list_all, join_with_byte}
-use Rattle.lsm_shell.specs.Bounds.{lower_word, upper_word}
+use Rattle.lsm_shell.specs.Bounds.{lower_word, upper_word, prefix_word}
 use Rattle.lsm_shell.specs.Word.{is_word}
 use Rattle.lsm_shell.specs.declared.command.Command.{Command}
-use Rattle.lsm_shell.specs.declared.command.Command.TheVariants.{Put, Del, Weak, Get, Range, Rotate}
+use Rattle.lsm_shell.specs.declared.command.Command.TheVariants.{Put, Del, Weak, Get, Range, Prefix, Rotate}
 
 -- the words that a command is written in
 abbrev pub spelling_of : Command → List (List ℕ)
@@ -15,6 +15,8 @@ spelling_of (Get key None) = codes "get" ∷ key ∷ []
 spelling_of (Get key (Some snapshot)) = codes "get" ∷ key ∷ decimal snapshot ∷ []
 spelling_of (Range low high None) = codes "range" ∷ lower_word low ∷ upper_word high ∷ []
 spelling_of (Range low high (Some snapshot)) = codes "range" ∷ lower_word low ∷ upper_word high ∷ decimal snapshot ∷ []
+spelling_of (Prefix prefix None) = codes "prefix" ∷ prefix_word prefix ∷ []
+spelling_of (Prefix prefix (Some snapshot)) = codes "prefix" ∷ prefix_word prefix ∷ decimal snapshot ∷ []
 spelling_of Rotate = codes "rotate" ∷ []
 
 -- a snapshot's number is below 2^64
@@ -26,6 +28,8 @@ HasFitNumber (Get key None) = Unit {0}
 HasFitNumber (Get key (Some snapshot)) = snapshot < 2 ^ 64
 HasFitNumber (Range low high None) = Unit {0}
 HasFitNumber (Range low high (Some snapshot)) = snapshot < 2 ^ 64
+HasFitNumber (Prefix prefix None) = Unit {0}
+HasFitNumber (Prefix prefix (Some snapshot)) = snapshot < 2 ^ 64
 HasFitNumber Rotate = Unit {0}
 
 -- the line has the command's words, with one space between each and the next

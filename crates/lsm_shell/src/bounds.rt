@@ -1,13 +1,13 @@
-// The bounds that words give.
+// The bounds and prefixes that words give.
 ghost use Rattle.std.specs.Prelude.{◌≡◌, IfOk, bytes_eq, codes};
-ghost use Rattle.lsm_shell.specs.Bounds.{lower_of, upper_of};
+ghost use Rattle.lsm_shell.specs.Bounds.{lower_of, upper_of, prefix_of};
 
 use bytes::Bytes;
 use lsm_below::UserKey;
 use std::alloc::{AllocError, Global};
 use std::ops::Bound;
 
-/// Whether a word leaves a bound open.
+/// Whether a word names no key.
 fn is_open(word: &[u8]) -> bool
     ensures { result ≡ bytes_eq word.now (codes "-") }
 {
@@ -32,4 +32,14 @@ pub fn parse_upper(alloc: Global, word: &[u8]) -> Result<Bound<UserKey>, AllocEr
         return Ok(Bound::Unbounded);
     }
     Ok(Bound::Excluded(Bytes::copy_from_slice(alloc, word)?))
+}
+
+/// The prefix that a word gives, the empty one for `-`.
+pub fn parse_prefix(alloc: Global, word: &[u8]) -> Result<UserKey, AllocError>
+    ensures { IfOk result (λ prefix. prefix ≡ prefix_of word.now) }
+{
+    if is_open(word) {
+        return Ok(Bytes::new());
+    }
+    Bytes::copy_from_slice(alloc, word)
 }

@@ -1,9 +1,12 @@
 // What a line asks.
-ghost use Rattle.std.specs.Prelude.{◌≡◌, IfOk};
-ghost use Rattle.lsm_shell.specs.Command.{command_of, command_of_two, command_of_three, command_of_four};
+ghost use Rattle.std.specs.Prelude.{◌≡◌, IfOk, bytes_eq, codes, option_map, Some};
+ghost use Rattle.lsm_shell.specs.Command.{command_of, command_of_key, command_of_two, command_of_pair, command_of_three, command_of_four};
+ghost use Rattle.lsm_shell.specs.Bounds.{prefix_of};
+ghost use Rattle.lsm_shell.specs.Word.{number_of};
+ghost use Rattle.lsm_shell.specs.declared.command.Command.TheVariants.{Prefix};
 ghost use Rattle.lsm_shell.specs.Spelling.{IsSpelledBy};
 
-use crate::bounds::{parse_lower, parse_upper};
+use crate::bounds::{parse_lower, parse_prefix, parse_upper};
 use crate::word::{Words, parse_number, split_words};
 use bytes::Bytes;
 use lsm_below::{SeqNo, UserKey, UserValue};
@@ -23,6 +26,8 @@ pub enum Command {
     Get(UserKey, Option<SeqNo>),
     /// Read the keys within bounds, at a snapshot if one is named.
     Range(Bound<UserKey>, Bound<UserKey>, Option<SeqNo>),
+    /// Read the keys that begin so, at a snapshot if one is named.
+    Prefix(UserKey, Option<SeqNo>),
     /// Seal the memtable.
     Rotate,
 }
@@ -43,8 +48,24 @@ pub fn parse(alloc: Global, line: &[u8]) -> Result<Option<Command>, AllocError>
     }
 }
 
+fn is_prefix(verb: &[u8]) -> bool
+    ensures { result ≡ bytes_eq verb.now (codes "prefix") }
+{
+    verb == b"prefix".as_slice()
+}
+
 fn parse_two(alloc: Global, verb: &[u8], key: &[u8]) -> Result<Option<Command>, AllocError>
     ensures { IfOk result (λ found. found ≡ command_of_two verb.now key.now) }
+{
+    if is_prefix(verb) {
+        let prefix = parse_prefix(alloc, key)?;
+        return Ok(Some(Command::Prefix(prefix, None)));
+    }
+    parse_of_key(alloc, verb, key)
+}
+
+fn parse_of_key(alloc: Global, verb: &[u8], key: &[u8]) -> Result<Option<Command>, AllocError>
+    ensures { IfOk result (λ found. found ≡ command_of_key verb.now key.now) }
 {
     Ok(Some(match verb {
         b"del" => Command::Del(Bytes::copy_from_slice(alloc, key)?),
@@ -61,6 +82,30 @@ fn parse_three(
     last: &[u8],
 ) -> Result<Option<Command>, AllocError>
     ensures { IfOk result (λ found. found ≡ command_of_three verb.now key.now last.now) }
+{
+    if is_prefix(verb) {
+        return parse_prefix_at(alloc, key, last);
+    }
+    parse_of_pair(alloc, verb, key, last)
+}
+
+fn parse_prefix_at(alloc: Global, prefix: &[u8], last: &[u8]) -> Result<Option<Command>, AllocError>
+    ensures { IfOk result (λ found. found ≡ option_map (λ n. Prefix (prefix_of prefix.now) (Some n)) (number_of last.now)) }
+{
+    let Some(snapshot) = parse_number(last) else {
+        return Ok(None);
+    };
+    let prefix = parse_prefix(alloc, prefix)?;
+    Ok(Some(Command::Prefix(prefix, Some(snapshot))))
+}
+
+fn parse_of_pair(
+    alloc: Global,
+    verb: &[u8],
+    key: &[u8],
+    last: &[u8],
+) -> Result<Option<Command>, AllocError>
+    ensures { IfOk result (λ found. found ≡ command_of_pair verb.now key.now last.now) }
 {
     match verb {
         b"put" => {

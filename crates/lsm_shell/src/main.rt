@@ -3,7 +3,7 @@
 //! | Module | Holds |
 //! |-|-|
 //! | `word` | words and numbers |
-//! | `bounds` | the bounds that words give |
+//! | `bounds` | the bounds and prefixes that words give |
 //! | `command` | what a line asks |
 //! | `reply` | what is printed for a line |
 //! | `session` | a tree that answers commands |

@@ -41,6 +41,7 @@ impl Session {
             Command::Weak(key) => self.write(key, Op::Weak),
             Command::Get(key, snapshot) => self.get(&key, snapshot),
             Command::Range(low, high, snapshot) => self.range(&(low, high), snapshot),
+            Command::Prefix(prefix, snapshot) => self.prefix(&prefix, snapshot),
             Command::Rotate => Ok(match self.tree.rotate_memtable(&mut self.pass)? {
                 Some(id) => Reply::Rotated(id),
                 None => Reply::Nothing,
@@ -70,6 +71,12 @@ impl Session {
     ) -> Result<Reply, Error> {
         let snapshot = self.snapshot_or_now(snapshot);
         let pairs = self.tree.range(&mut self.pass, bounds, snapshot)?;
+        Ok(Reply::Pairs(pairs))
+    }
+
+    fn prefix(&mut self, prefix: &UserKey, snapshot: Option<SeqNo>) -> Result<Reply, Error> {
+        let snapshot = self.snapshot_or_now(snapshot);
+        let pairs = self.tree.prefix(&mut self.pass, prefix, snapshot)?;
         Ok(Reply::Pairs(pairs))
     }
 

@@ -139,6 +139,21 @@ fn lists_ranges(rt: HostRuntime) {
 }
 
 #[test]
+fn lists_prefixes(rt: HostRuntime) {
+    let alloc = rt.alloc();
+    assert!(rt; answers(&rt, alloc, b"prefix -\n", b"a 1\nb 2\nc 3\nend 3\n"));
+    assert!(rt; answers(&rt, alloc, b"prefix b\n", b"b 2\nend 1\n"));
+    assert!(rt; answers(&rt, alloc, b"prefix - 1\n", b"a 1\nend 1\n"));
+}
+
+#[test]
+fn refuses_other_prefixes(rt: HostRuntime) {
+    let alloc = rt.alloc();
+    assert!(rt; answers(&rt, alloc, b"prefix\n", b"error 0 Usage\n"));
+    assert!(rt; answers(&rt, alloc, b"prefix a 01\n", b"error 0 Usage\n"));
+}
+
+#[test]
 fn refuses_other_ranges(rt: HostRuntime) {
     let alloc = rt.alloc();
     assert!(rt; answers(&rt, alloc, b"range a\n", b"error 0 Usage\n"));
