@@ -1,8 +1,16 @@
+use Rattle.std.proofs.Common.{None, IfOk, subst}
+use Rattle.lsm_model.specs.declared.question.Question.TheVariants.{Prefix}
+use Rattle.lsm_state.specs.Ranges.{Prefixes}
+use Rattle.lsm_tree.specs.ReadSteps.{ToldFound}
 use Rattle.lsm_tree.proofs.ReadOutcomes.{prefix_taken}
 use Rattle.lsm_tree.proofs.runner.ranges.prefix.Goals as goal
 
 pub returns : goal.returns
 returns g c =
+    let core = c.args.state.now.core in
+    let s = c.args.snapshot in
+    let r = c.prefix-found.result in
     let found = c.prefix-found.ensures in
-    rw (← c.in_ok-share.ensures, ← c.as_slice.ensures)
-    (prefix_taken c.args.snapshot c.args.state.now.core c.as_slice.result.now c.prefix-found.result c.of_found.result found.ok found.too_old found.only c.of_found.ensures)
+    prefix_taken s core c.args.prefix.now r c.of_found.result
+    (subst (λ p. IfOk r (Prefixes core None p s)) c.as_slice.ensures found.ok) found.too_old found.only
+    (subst (λ p. IfOk c.of_found.result (ToldFound (Prefix p) s r)) c.in_ok-share.ensures c.of_found.ensures)
