@@ -4,7 +4,6 @@ use Rattle.std.specs.List.{All, Contains}
 use Rattle.std.specs.FinMap.{get, entries, entries_sorted, get-entries, from_sorted, entries-from_sorted, get-from_sorted, same_map, find, is_sorted, slice_cmp-IsAntisymmetric, nat_cmp-IsAntisymmetric}
 use Rattle.std.specs.FinMap.Entries.{is_sorted-where_key, find-where_key, below_all}
 use Rattle.std.specs.declared.cmp.Ordering.TheVariants.{Less}
-use Rattle.std.specs.declared.ops.Bound.{Bound}
 use Rattle.std.specs.Ordering.{is_lt}
 use Rattle.std.specs.Cmp.Lexicographic.{nat_list_cmp_total}
 use Rattle.std.proofs.lemmas.List.Elements.{All-contains, All-head, All-tail, All-cons, All-nil, All-weaker, All-from_recursion, filter-append, filter_passes}

@@ -1,5 +1,5 @@
 -- What the program's arguments ask.
-use Rattle.std.specs.Prelude.{ℕ, Bool, ◌&&◌, List, [], ◌∷◌, Option, Some, None, bytes_eq, codes, nat_lt, nat_le, if◌then◌else◌}
+use Rattle.std.specs.Prelude.{ℕ, ◌&&◌, List, [], ◌∷◌, Option, Some, None, bytes_eq, codes, nat_lt, nat_le, if◌then◌else◌}
 use Rattle.lsm_shell.specs.Word.{number_of}
 use Rattle.lsm_shell.specs.declared.arguments.Mode.{Mode}
 use Rattle.lsm_shell.specs.declared.arguments.Mode.TheVariants.{Lines, Threads}

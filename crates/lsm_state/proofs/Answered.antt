@@ -1,5 +1,5 @@
 -- A range is a step of the theory, where numbers fall under each key.
-use Rattle.std.proofs.Common.{◌≡◌, ℕ, ◌≤◌, List, [], ◌∷◌, ◌++◌, map, filter, flat_map, Option, Some, None, Result, Ok, Err, IfOk, nat_lt, sym, ap, subst, ◌∙◌}
+use Rattle.std.proofs.Common.{◌≡◌, ℕ, List, [], ◌∷◌, ◌++◌, map, filter, Some, None, Result, Ok, Err, IfOk, nat_lt, sym, ap, subst, ◌∙◌}
 use Rattle.std.specs.declared.ops.Bound.{Bound}
 use Rattle.lsm_below.specs.Keys.{Bytes}
 use Rattle.lsm_below.specs.Entries.{Entry, IsOrdered}

@@ -1,5 +1,5 @@
 -- Passes that together list a journal.
-use Rattle.std.specs.Prelude.{◌≡◌, ℕ, ◌<◌, Bool, true, List, length, Some, nat_eq, slice_get, if◌then◌else◌}
+use Rattle.std.specs.Prelude.{◌≡◌, ℕ, ◌<◌, List, length, Some, nat_eq, slice_get}
 use Rattle.std.specs.List.{All, AllPairs, count_by, sum_by}
 use Rattle.lsm_model.specs.declared.journal.JournalEntry.{JournalEntry}
 

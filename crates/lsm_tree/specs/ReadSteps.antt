@@ -1,13 +1,11 @@
 -- What a step that reads may answer and add to the journal, and what that is of the replay.
-use Rattle.std.specs.Prelude.{◌≡◌, ℕ, ◌≤◌, ◌⊎◌, ◌↔◌, true, List, [], ◌∷◌, ◌++◌, Option, Some, None, Result, Ok, Err, map, length, reverse, slice_get, is_some, option_map}
-use Rattle.std.specs.List.{AllByRecursion}
+use Rattle.std.specs.Prelude.{◌≡◌, ℕ, ◌≤◌, ◌⊎◌, ◌↔◌, true, List, [], ◌∷◌, Option, Some, None, Result, Ok, Err, map, length, reverse, slice_get, is_some, option_map}
 use Rattle.std.specs.FinMap.{get, entries}
 use Rattle.std.specs.declared.ops.Bound.{Bound}
 use Rattle.lsm_below.specs.Keys.{Bytes}
-use Rattle.lsm_below.specs.Entries.{Entry, above, IsOrdered}
+use Rattle.lsm_below.specs.Entries.{Entry, above}
 use Rattle.lsm_model.specs.Journal.{Event, Map, is_outside, IsKept, replay, ReadAgrees}
-use Rattle.lsm_model.specs.Views.{found_at, shown, sources}
-use Rattle.lsm_model.specs.Steps.{Step, Asked}
+use Rattle.lsm_model.specs.Views.{found_at, shown}
 use Rattle.lsm_model.specs.declared.journal.JournalEntry.TheVariants.{Read}
 use Rattle.lsm_model.specs.declared.question.Question.{Question}
 use Rattle.lsm_model.specs.declared.question.Question.TheVariants.{Get as AskGet, Between, Prefix}
@@ -17,8 +15,7 @@ use Rattle.lsm_parts.specs.declared.tree_iter.End.{End}
 use Rattle.lsm_parts.specs.declared.tree_iter.End.TheVariants.{Front, Back}
 use Rattle.lsm_parts.specs.declared.error.Error.{Error}
 use Rattle.lsm_parts.specs.declared.error.Error.TheVariants.{OutOfMemory, SnapshotTooOld}
-use Rattle.lsm_state.specs.Held.{entries_of}
-use Rattle.lsm_state.specs.Core.{Core, state_of, latest_of, older_of}
+use Rattle.lsm_state.specs.Core.{Core, latest_of, older_of}
 use Rattle.lsm_state.specs.Calls.{Gives, GivesEntry, IsGetStep, value_size}
 use Rattle.lsm_state.specs.Ranges.{IsListStep, Numbers, TellsEmpty, PairAt}
 use Rattle.lsm_tree.specs.declared.steps.Reply.{Reply}

@@ -1,4 +1,4 @@
-use Rattle.std.proofs.Common.{◌≡◌, ◌<◌, refl, sym, subst}
+use Rattle.std.proofs.Common.{◌<◌, refl, sym, subst}
 use Rattle.lsm_tree.proofs.ClosingLemmas.{once}
 use Rattle.lsm_tree.proofs.closing.tick_all.Goals as goal
 

@@ -1,4 +1,4 @@
-use Rattle.std.proofs.Common.{◌≡◌, length, take}
+use Rattle.std.proofs.Common.{take}
 use Rattle.std.specs.List.{All}
 use Rattle.lsm_tree.specs.Closing.{IsPassOf}
 use Rattle.lsm_tree.specs.Ticks.{FindsAll}

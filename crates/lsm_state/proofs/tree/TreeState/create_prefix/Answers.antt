@@ -1,4 +1,4 @@
-use Rattle.std.proofs.Common.{◌≡◌, None, ap, subst}
+use Rattle.std.proofs.Common.{None, ap, subst}
 use Rattle.lsm_parts.specs.Shown.{ShowsPrefix}
 use Rattle.lsm_state.specs.Core.{shown_as}
 use Rattle.lsm_state.specs.Ranges.{counting, IsPrefixStep}

@@ -1,6 +1,6 @@
 use Rattle.std.proofs.Common.{◌≡◌, Some, ap, subst, Err}
 use Rattle.lsm_model.specs.Views.{found_at}
-use Rattle.lsm_state.specs.Core.{Core, shown_as, latest_of, older_of}
+use Rattle.lsm_state.specs.Core.{shown_as, latest_of, older_of}
 use Rattle.lsm_state.proofs.Walks.{found_some, found_none, found_not_none}
 use Rattle.lsm_state.proofs.tree.TreeState.version_at.Goals as goal
 

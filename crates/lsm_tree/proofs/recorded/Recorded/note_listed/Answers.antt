@@ -1,4 +1,4 @@
-use Rattle.std.proofs.Common.{ℕ, List, ◌≡◌, ◌∷◌, [], map, sym, ap, subst, ◌∙◌}
+use Rattle.std.proofs.Common.{[], map, sym, subst}
 use Rattle.std.specs.FinMap.{empty}
 use Rattle.lsm_model.specs.Journal.{ReadAgrees}
 use Rattle.lsm_model.specs.declared.journal.JournalEntry.TheVariants.{Read}
