@@ -16,15 +16,21 @@ fn batch(alloc: Global, pairs: &[(&'static str, &'static str)]) -> Result<Step, 
     Ok(Step::Write(Ops::new(ops)))
 }
 
-/// The outcomes of steps on a new tree. Where there is no room for the steps, none.
-fn run_new(alloc: Global, steps: Result<Vec<Step>, AllocError>) -> Vec<Outcome> {
-    let Ok(steps) = steps else {
-        return Vec::new(alloc);
-    };
+/// The outcomes of steps on a new tree.
+fn run_new(alloc: Global, steps: Vec<Step>) -> Vec<Outcome> {
     let mut state = TreeState::open_in_memory(alloc, Config::new(0, 0, 0));
     let outcomes = run(alloc, &mut state, &steps);
     drop(state);
+    drop(steps);
     outcomes
+}
+
+/// These steps. Where there was no room for them, none.
+fn or_none(alloc: Global, steps: Result<Vec<Step>, AllocError>) -> Vec<Step> {
+    match steps {
+        Ok(steps) => steps,
+        Err(_) => Vec::new(alloc),
+    }
 }
 
 fn reply_at(outcomes: &[Outcome], at: usize) -> Option<&Reply> {
@@ -83,7 +89,7 @@ fn writing_steps(alloc: Global) -> Result<Vec<Step>, AllocError> {
 
 #[test]
 fn takes_each_step(rt: HostRuntime) {
-    let outcomes = run_new(rt.alloc(), writing_steps(rt.alloc()));
+    let outcomes = run_new(rt.alloc(), or_none(rt.alloc(), writing_steps(rt.alloc())));
     assert!(rt; is_number(reply_at(&outcomes, 0), 0));
     assert!(rt; is_value(reply_at(&outcomes, 1), "x"));
     assert!(rt; is_sizes(reply_at(&outcomes, 2), 50, 100));
@@ -113,7 +119,7 @@ fn counting_steps(alloc: Global) -> Result<Vec<Step>, AllocError> {
 
 #[test]
 fn counts_and_refuses(rt: HostRuntime) {
-    let outcomes = run_new(rt.alloc(), counting_steps(rt.alloc()));
+    let outcomes = run_new(rt.alloc(), or_none(rt.alloc(), counting_steps(rt.alloc())));
     assert!(rt; is_number(reply_at(&outcomes, 0), 0));
     assert!(rt; is_number(reply_at(&outcomes, 1), 1));
     assert!(rt; matches!(reply_at(&outcomes, 2), Some(Reply::Done)));
@@ -137,20 +143,24 @@ fn counts_and_refuses(rt: HostRuntime) {
     drop(outcomes);
 }
 
-/// Writes a and b under 0, c under 1 behind a rotation, and removes b under 2; then one step more.
-fn filling(alloc: Global, last: Step) -> Result<Vec<Step>, AllocError> {
+/// Writes a and b under 0, c under 1 behind a rotation, and removes b under 2.
+fn filling_steps(alloc: Global) -> Result<Vec<Step>, AllocError> {
     let mut steps = Vec::new(alloc);
     steps.push(batch(alloc, &[("a", "x"), ("b", "yy")])?)?;
     steps.push(Step::RotateMemtable)?;
     steps.push(batch(alloc, &[("c", "zzz")])?)?;
     steps.push(Step::Remove(key("b"), 2))?;
-    steps.push(last)?;
     Ok(steps)
 }
 
-/// What a step answers on the tree that was filled.
+/// What a step answers on the tree that was filled. A step is of many kinds: it is dropped by a call.
 fn ask(alloc: Global, step: Step) -> Option<Outcome> {
-    run_new(alloc, filling(alloc, step)).pop()
+    let mut steps = or_none(alloc, filling_steps(alloc));
+    match steps.push(step) {
+        Ok(()) => {}
+        Err(refused) => drop(refused),
+    }
+    run_new(alloc, steps).pop()
 }
 
 fn is_pair(pair: &KvPair, want: (&'static str, &'static str)) -> bool {
