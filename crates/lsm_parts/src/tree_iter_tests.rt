@@ -47,58 +47,71 @@ fn listed(alloc: Global, iter: TreeIter) -> Result<Vec<u8>, Error> {
     Ok(bytes)
 }
 
-fn is(bytes: Result<Vec<u8>, Error>, text: &'static str) -> bool {
-    match bytes {
-        Ok(bytes) => bytes.as_slice() == text.as_bytes(),
-        Err(_) => false,
-    }
+/// One memtable, and maybe an index over it.
+fn state_of<'a>(
+    alloc: Global,
+    version: &'a Version,
+    table: &'a Memtable,
+    index: Option<(&'a Memtable, SeqNo)>,
+) -> Result<IterState<'a>, Error> {
+    Ok(IterState::new(version, vec![in alloc; table]?, index))
 }
 
-/// What a snapshot shows of memtables within bounds.
-fn list<'a>(
+/// An iterator over all that a snapshot shows of a memtable.
+fn iter_over<'a>(
     alloc: Global,
-    tables: Vec<&'a Memtable>,
-    bounds: &Bounds,
+    version: &'a Version,
+    table: &'a Memtable,
     seqno: SeqNo,
-) -> Result<Vec<u8>, Error> {
-    let version = Version::new(0);
-    let state = IterState::new(&version, tables, None);
-    let iter = TreeIter::create_range(alloc, &state, bounds, seqno);
-    drop(state);
-    drop(version);
-    listed(alloc, iter?)
+) -> Result<TreeIter, Error> {
+    let state = state_of(alloc, version, table, None)?;
+    TreeIter::create_range(alloc, &state, &all(), seqno)
 }
 
-fn list_one<'a>(
+/// What a snapshot shows of a memtable within bounds.
+fn shown_of<'a>(
     alloc: Global,
+    version: &'a Version,
     table: &'a Memtable,
     bounds: &Bounds,
     seqno: SeqNo,
 ) -> Result<Vec<u8>, Error> {
-    list(alloc, vec![in alloc; table]?, bounds, seqno)
+    shown(alloc, version, vec![in alloc; table]?, bounds, seqno)
 }
 
-fn list_two<'a>(
+/// What a snapshot shows of memtables within bounds.
+fn shown<'a>(
     alloc: Global,
+    version: &'a Version,
+    tables: Vec<&'a Memtable>,
+    bounds: &Bounds,
+    seqno: SeqNo,
+) -> Result<Vec<u8>, Error> {
+    let state = IterState::new(version, tables, None);
+    listed(alloc, TreeIter::create_range(alloc, &state, bounds, seqno)?)
+}
+
+/// What a snapshot shows of two memtables.
+fn shown_two<'a>(
+    alloc: Global,
+    version: &'a Version,
     newer: &'a Memtable,
     older: &'a Memtable,
     seqno: SeqNo,
 ) -> Result<Vec<u8>, Error> {
-    list(alloc, vec![in alloc; newer, older]?, &all(), seqno)
+    shown(alloc, version, vec![in alloc; newer, older]?, &all(), seqno)
 }
 
-/// Sets keys 1, 3 and 5, at 0, 1 and 2.
-fn set_odd(table: &mut Memtable) -> Result<(), Error> {
-    set(table, "1", "x", 0)?;
-    set(table, "3", "y", 1)?;
-    set(table, "5", "z", 2)
+fn is(bytes: &Vec<u8>, text: &'static str) -> bool {
+    bytes.as_slice() == text.as_bytes()
 }
 
-/// A memtable of keys 1, 3 and 5. Where there is no room for them, of those before.
-fn one_three_five(alloc: Global) -> Memtable {
+fn one_three_five(alloc: Global) -> Result<Memtable, Error> {
     let mut table = Memtable::new(alloc, 0);
-    let _ = set_odd(&mut table);
-    table
+    set(&mut table, "1", "x", 0)?;
+    set(&mut table, "3", "y", 1)?;
+    set(&mut table, "5", "z", 2)?;
+    Ok(table)
 }
 
 /// The keys that are taken, with a dash for none.
@@ -113,176 +126,112 @@ fn taken(alloc: Global, iter: &mut TreeIter, turns: &[End]) -> Result<Vec<u8>, E
     Ok(bytes)
 }
 
-/// An iterator over all that a snapshot shows of a memtable.
-fn iter_over(alloc: Global, table: &Memtable, seqno: SeqNo) -> Result<TreeIter, Error> {
-    let version = Version::new(0);
-    let state = IterState::new(&version, vec![in alloc; table]?, None);
-    let iter = TreeIter::create_range(alloc, &state, &all(), seqno);
-    drop(state);
-    drop(version);
-    iter
-}
-
-fn gives_both_ends(alloc: Global, table: &Memtable) -> bool {
-    let turns = [End::Front, End::Back, End::Front, End::Front, End::Back];
-    match iter_over(alloc, table, 3) {
-        Ok(mut iter) => is(taken(alloc, &mut iter, &turns), "153--"),
-        Err(_) => false,
-    }
-}
-
 #[test]
-fn both_ends_of_one_list(rt: HostRuntime) {
-    let table = one_three_five(rt.alloc());
-    assert!(rt; gives_both_ends(rt.alloc(), &table));
-    drop(table);
+fn both_ends_of_one_list(rt: HostRuntime) -> Result<(), Fail> {
+    let alloc = rt.alloc();
+    let table = one_three_five(alloc)?;
+    let version = Version::new(0);
+    let mut iter = iter_over(alloc, &version, &table, 3)?;
+    let turns = [End::Front, End::Back, End::Front, End::Front, End::Back];
+    assert!(rt; is(&taken(alloc, &mut iter, &turns)?, "153--"));
+    Ok(())
 }
 
-/// Whether an entry of this number was given.
-fn has_number(entry: Option<Result<InternalValue, Error>>, seqno: SeqNo) -> bool {
+/// The number of an entry that was given.
+fn number_of(entry: Option<Result<InternalValue, Error>>) -> Result<Option<SeqNo>, Error> {
     match entry {
-        Some(Ok(entry)) => entry.key.seqno == seqno,
-        _ => false,
-    }
-}
-
-fn has_key(guard: Guard, wanted: &[u8]) -> bool {
-    match guard.key() {
-        Ok(key) => key.as_slice() == wanted,
-        Err(_) => false,
+        Some(entry) => Ok(Some(entry?.key.seqno)),
+        None => Ok(None),
     }
 }
 
 /// Whether a pair of this key was given.
-fn is_key(pair: Option<Guard>, wanted: &[u8]) -> bool {
+fn is_key(pair: Option<Guard>, wanted: &[u8]) -> Result<bool, Error> {
     match pair {
-        Some(guard) => has_key(guard, wanted),
-        None => false,
-    }
-}
-
-fn steps_from_both(iter: &mut TreeIter) -> bool {
-    has_number(iter.next_entry_back(), 2)
-        && has_number(iter.next_entry(), 0)
-        && is_key(iter.next_back(), b"3")
-        && iter.next().is_none()
-}
-
-fn is_stepped_over(alloc: Global, table: &Memtable) -> bool {
-    match iter_over(alloc, table, 3) {
-        Ok(mut iter) => steps_from_both(&mut iter),
-        Err(_) => false,
+        Some(guard) => Ok(guard.key()?.as_slice() == wanted),
+        None => Ok(false),
     }
 }
 
 #[test]
-fn steps_from_either_end(rt: HostRuntime) {
-    let table = one_three_five(rt.alloc());
-    assert!(rt; is_stepped_over(rt.alloc(), &table));
-    drop(table);
-}
-
-#[test]
-fn a_snapshot_sees_what_is_below_it(rt: HostRuntime) {
+fn steps_from_either_end(rt: HostRuntime) -> Result<(), Fail> {
     let alloc = rt.alloc();
-    let table = one_three_five(alloc);
-    assert!(rt; is(list_one(alloc, &table, &all(), 3), "1x3y5z"));
-    assert!(rt; is(list_one(alloc, &table, &all(), 2), "1x3y"));
-    assert!(rt; is(list_one(alloc, &table, &all(), 0), ""));
-    drop(table);
-}
-
-fn lists_inner(alloc: Global, table: &Memtable) -> bool {
-    let bounds = (Bound::Excluded(key("1")), Bound::Included(key("3")));
-    is(list_one(alloc, table, &bounds, 3), "3y")
-}
-
-fn lists_lower(alloc: Global, table: &Memtable) -> bool {
-    let bounds = (Bound::Included(key("1")), Bound::Excluded(key("3")));
-    is(list_one(alloc, table, &bounds, 3), "1x")
-}
-
-fn lists_reversed(alloc: Global, table: &Memtable) -> bool {
-    let bounds = (Bound::Included(key("5")), Bound::Included(key("1")));
-    is(list_one(alloc, table, &bounds, 3), "")
-}
-
-#[test]
-fn bounds_take_their_keys_in_or_leave_them_out(rt: HostRuntime) {
-    let table = one_three_five(rt.alloc());
-    assert!(rt; lists_inner(rt.alloc(), &table));
-    assert!(rt; lists_lower(rt.alloc(), &table));
-    assert!(rt; lists_reversed(rt.alloc(), &table));
-    drop(table);
-}
-
-/// Sets 3 at 7, and removes 5 at 8.
-fn change_two(table: &mut Memtable) -> Result<(), Error> {
-    set(table, "3", "w", 7)?;
-    remove(table, "5", 8)
-}
-
-#[test]
-fn the_newest_source_is_no_matter_but_the_number_is(rt: HostRuntime) {
-    let alloc = rt.alloc();
-    let older = one_three_five(alloc);
-    let mut newer = Memtable::new(alloc, 1);
-    assert!(rt; change_two(&mut newer).is_ok());
-    assert!(rt; is(list_two(alloc, &newer, &older, 9), "1x3w"));
-    assert!(rt; is(list_two(alloc, &newer, &older, 8), "1x3w5z"));
-    assert!(rt; is(list_two(alloc, &older, &newer, 9), "1x3w"));
-    drop(newer);
-    drop(older);
-}
-
-/// Sets a at 0 and b at 1.
-fn set_a_b(table: &mut Memtable) -> Result<(), Error> {
-    set(table, "a", "x", 0)?;
-    set(table, "b", "y", 1)
-}
-
-/// Sets a and removes b, both at the index's number.
-fn set_over_a_b(table: &mut Memtable) -> Result<(), Error> {
-    set(table, "a", "o", INDEX)?;
-    remove(table, "b", INDEX)
-}
-
-fn tree_a_b(alloc: Global) -> Memtable {
-    let mut tree = Memtable::new(alloc, 0);
-    let _ = set_a_b(&mut tree);
-    tree
-}
-
-fn index_over_a_b(alloc: Global) -> Memtable {
-    let mut index = Memtable::new(alloc, 1);
-    let _ = set_over_a_b(&mut index);
-    index
-}
-
-/// What is shown at 2 of a memtable under an index that counts below a number.
-fn list_under(
-    alloc: Global,
-    tree: &Memtable,
-    index: &Memtable,
-    below: SeqNo,
-) -> Result<Vec<u8>, Error> {
+    let table = one_three_five(alloc)?;
     let version = Version::new(0);
-    let state = IterState::new(&version, vec![in alloc; tree]?, Some((index, below)));
-    let iter = TreeIter::create_range(alloc, &state, &all(), 2);
-    drop(state);
-    drop(version);
-    listed(alloc, iter?)
+    let mut iter = iter_over(alloc, &version, &table, 3)?;
+    assert_eq!(rt; number_of(iter.next_entry_back())?, Some(2));
+    assert_eq!(rt; number_of(iter.next_entry())?, Some(0));
+    assert!(rt; is_key(iter.next_back(), b"3")?);
+    assert!(rt; iter.next().is_none());
+    Ok(())
 }
 
 #[test]
-fn an_index_counts_below_its_own_number(rt: HostRuntime) {
+fn a_snapshot_sees_what_is_below_it(rt: HostRuntime) -> Result<(), Fail> {
     let alloc = rt.alloc();
-    let tree = tree_a_b(alloc);
-    let index = index_over_a_b(alloc);
-    assert!(rt; is(list_under(alloc, &tree, &index, INDEX + 1), "ao"));
-    assert!(rt; is(list_under(alloc, &tree, &index, INDEX), "axby"));
-    drop(index);
-    drop(tree);
+    let version = Version::new(0);
+    let table = one_three_five(alloc)?;
+    assert!(rt; is(&shown_of(alloc, &version, &table, &all(), 3)?, "1x3y5z"));
+    assert!(rt; is(&shown_of(alloc, &version, &table, &all(), 2)?, "1x3y"));
+    assert!(rt; is(&shown_of(alloc, &version, &table, &all(), 0)?, ""));
+    Ok(())
+}
+
+#[test]
+fn bounds_take_their_keys_in_or_leave_them_out(rt: HostRuntime) -> Result<(), Fail> {
+    let alloc = rt.alloc();
+    let version = Version::new(0);
+    let table = one_three_five(alloc)?;
+    let inner = (Bound::Excluded(key("1")), Bound::Included(key("3")));
+    assert!(rt; is(&shown_of(alloc, &version, &table, &inner, 3)?, "3y"));
+    let lower = (Bound::Included(key("1")), Bound::Excluded(key("3")));
+    assert!(rt; is(&shown_of(alloc, &version, &table, &lower, 3)?, "1x"));
+    let reversed = (Bound::Included(key("5")), Bound::Included(key("1")));
+    assert!(rt; is(&shown_of(alloc, &version, &table, &reversed, 3)?, ""));
+    Ok(())
+}
+
+#[test]
+fn the_newest_source_is_no_matter_but_the_number_is(rt: HostRuntime) -> Result<(), Fail> {
+    let alloc = rt.alloc();
+    let version = Version::new(0);
+    let older = one_three_five(alloc)?;
+    let mut newer = Memtable::new(alloc, 1);
+    set(&mut newer, "3", "w", 7)?;
+    remove(&mut newer, "5", 8)?;
+    assert!(rt; is(&shown_two(alloc, &version, &newer, &older, 9)?, "1x3w"));
+    assert!(rt; is(&shown_two(alloc, &version, &newer, &older, 8)?, "1x3w5z"));
+    assert!(rt; is(&shown_two(alloc, &version, &older, &newer, 9)?, "1x3w"));
+    Ok(())
+}
+
+fn tree_a_b(alloc: Global) -> Result<Memtable, Error> {
+    let mut tree = Memtable::new(alloc, 0);
+    set(&mut tree, "a", "x", 0)?;
+    set(&mut tree, "b", "y", 1)?;
+    Ok(tree)
+}
+
+fn index_over_a_b(alloc: Global) -> Result<Memtable, Error> {
+    let mut index = Memtable::new(alloc, 1);
+    set(&mut index, "a", "o", INDEX)?;
+    remove(&mut index, "b", INDEX)?;
+    Ok(index)
+}
+
+#[test]
+fn an_index_counts_below_its_own_number(rt: HostRuntime) -> Result<(), Fail> {
+    let alloc = rt.alloc();
+    let tree = tree_a_b(alloc)?;
+    let index = index_over_a_b(alloc)?;
+    let version = Version::new(0);
+    let above = state_of(alloc, &version, &tree, Some((&index, INDEX + 1)))?;
+    let iter = TreeIter::create_range(alloc, &above, &all(), 2)?;
+    assert!(rt; is(&listed(alloc, iter)?, "ao"));
+    let at = state_of(alloc, &version, &tree, Some((&index, INDEX)))?;
+    let iter = TreeIter::create_range(alloc, &at, &all(), 2)?;
+    assert!(rt; is(&listed(alloc, iter)?, "axby"));
+    Ok(())
 }
 
 /// The number of an entry, if there is one.
@@ -290,85 +239,43 @@ fn number(entry: Option<InternalValue>) -> Option<SeqNo> {
     entry.map(|entry| entry.key.seqno)
 }
 
-/// The numbers of the first and the last entry that a state shows.
-fn numbers_at(
+#[test]
+fn the_ends_are_found_alone(rt: HostRuntime) -> Result<(), Fail> {
+    let alloc = rt.alloc();
+    let tree = tree_a_b(alloc)?;
+    let index = index_over_a_b(alloc)?;
+    let version = Version::new(0);
+    let above = state_of(alloc, &version, &tree, Some((&index, INDEX + 1)))?;
+    assert_eq!(rt; number(first_shown(alloc, &above, &all(), 2)?), Some(INDEX));
+    assert_eq!(rt; number(last_shown(alloc, &above, &all(), 2)?), Some(INDEX));
+    let at = state_of(alloc, &version, &tree, Some((&index, INDEX)))?;
+    assert_eq!(rt; number(first_shown(alloc, &at, &all(), 2)?), Some(0));
+    assert_eq!(rt; number(last_shown(alloc, &at, &all(), 2)?), Some(1));
+    Ok(())
+}
+
+/// The numbers of the first and the last entry that a snapshot shows of a memtable.
+fn ends_of<'a>(
     alloc: Global,
-    state: &IterState<'_>,
+    version: &'a Version,
+    table: &'a Memtable,
     seqno: SeqNo,
 ) -> Result<(Option<SeqNo>, Option<SeqNo>), Error> {
-    let first = number(first_shown(alloc, state, &all(), seqno)?);
-    let last = number(last_shown(alloc, state, &all(), seqno)?);
-    Ok((first, last))
-}
-
-/// Whether the ends of what is shown have these numbers.
-fn ends_at_numbers(
-    alloc: Global,
-    tree: &Memtable,
-    index: Option<(&Memtable, SeqNo)>,
-    seqno: SeqNo,
-    want: (Option<SeqNo>, Option<SeqNo>),
-) -> bool {
-    let version = Version::new(0);
-    let Ok(tables) = vec![in alloc; tree] else {
-        return false;
-    };
-    let state = IterState::new(&version, tables, index);
-    let found = numbers_at(alloc, &state, seqno);
-    drop(state);
-    drop(version);
-    match found {
-        Ok(found) => found == want,
-        Err(_) => false,
-    }
+    let state = state_of(alloc, version, table, None)?;
+    let first = first_shown(alloc, &state, &all(), seqno)?;
+    let last = last_shown(alloc, &state, &all(), seqno)?;
+    Ok((number(first), number(last)))
 }
 
 #[test]
-fn the_ends_are_found_alone(rt: HostRuntime) {
+fn the_ends_of_nothing_are_none(rt: HostRuntime) -> Result<(), Fail> {
     let alloc = rt.alloc();
-    let tree = tree_a_b(alloc);
-    let index = index_over_a_b(alloc);
-    let above = Some((&index, INDEX + 1));
-    assert!(rt; ends_at_numbers(alloc, &tree, above, 2, (Some(INDEX), Some(INDEX))));
-    let at = Some((&index, INDEX));
-    assert!(rt; ends_at_numbers(alloc, &tree, at, 2, (Some(0), Some(1))));
-    drop(index);
-    drop(tree);
-}
-
-#[test]
-fn the_ends_of_nothing_are_none(rt: HostRuntime) {
-    let alloc = rt.alloc();
-    let tree = tree_a_b(alloc);
-    assert!(rt; ends_at_numbers(alloc, &tree, None, 0, (None, None)));
-    assert!(rt; ends_at_numbers(alloc, &tree, None, 1, (Some(0), Some(0))));
-    assert!(rt; ends_at_numbers(alloc, &tree, None, 2, (Some(0), Some(1))));
-    drop(tree);
-}
-
-/// Whether what begins so is shown, at 3.
-fn lists_prefix(alloc: Global, table: &Memtable, prefix: &[u8], text: &'static str) -> bool {
+    let tree = tree_a_b(alloc)?;
     let version = Version::new(0);
-    let Ok(tables) = vec![in alloc; table] else {
-        return false;
-    };
-    let state = IterState::new(&version, tables, None);
-    let iter = TreeIter::create_prefix(alloc, &state, prefix, 3);
-    drop(state);
-    drop(version);
-    match iter {
-        Ok(iter) => is(listed(alloc, iter), text),
-        Err(_) => false,
-    }
-}
-
-#[test]
-fn a_prefix_lists_what_begins_so(rt: HostRuntime) {
-    let table = one_three_five(rt.alloc());
-    assert!(rt; lists_prefix(rt.alloc(), &table, b"3", "3y"));
-    assert!(rt; lists_prefix(rt.alloc(), &table, b"", "1x3y5z"));
-    assert!(rt; lists_prefix(rt.alloc(), &table, b"33", ""));
-    drop(table);
+    assert_eq!(rt; ends_of(alloc, &version, &tree, 0)?, (None, None));
+    assert_eq!(rt; ends_of(alloc, &version, &tree, 1)?, (Some(0), Some(0)));
+    assert_eq!(rt; ends_of(alloc, &version, &tree, 2)?, (Some(0), Some(1)));
+    Ok(())
 }
 
 fn begins_at(bound: &Bound<UserKey>, wanted: &[u8]) -> bool {
