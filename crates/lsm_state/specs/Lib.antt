@@ -4,3 +4,4 @@ pub mod Refusals
 pub mod Calls
 pub mod Lending
 pub mod Ranges
+pub mod Listing

@@ -1,11 +1,1 @@
-pub mod Passes
-pub mod Closing
 pub mod Shared
-pub mod Ticks
-pub mod Marks
-pub mod Notes
-pub mod Recorded
-pub mod Told
-pub mod Listing
-pub mod ReadSteps
-pub mod Runs

@@ -2,7 +2,7 @@
 use Rattle.std.specs.Prelude.{◌≡◌, ℕ, List, ◌++◌}
 use Rattle.lsm_model.specs.declared.journal.JournalEntry.{JournalEntry}
 use Rattle.lsm_state.specs.Core.{Core}
-use Rattle.lsm_tree.specs.Passes.{listed}
+use Rattle.lsm_recorded.specs.Passes.{listed}
 
 -- a call that took some tree to another
 abbrev pub OnSomeTree : (Core → Core → Type 0) → Type 0

@@ -1,7 +1,7 @@
 // Trees that several callers share.
 ghost use Rattle.std.specs.Prelude.{◌≡◌};
 
-use crate::recorded::Recorded;
+use lsm_recorded::Recorded;
 use lsm_state::TreeState;
 use lsm_store::NoStore;
 use std::alloc::{AllocError, Global};
@@ -38,6 +38,3 @@ impl<C: Drop> Clone for Handle<C> {
         })
     }
 }
-
-#[cfg(test)]
-mod tests;

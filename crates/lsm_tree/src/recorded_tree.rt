@@ -8,17 +8,16 @@ ghost use Rattle.lsm_model.specs.declared.journal.JournalEntry.TheVariants.{Writ
 ghost use Rattle.lsm_model.specs.declared.question.Question.TheVariants.{Get as GetQuestion, Between, Prefix};
 ghost use Rattle.lsm_model.specs.declared.question.Answer.TheVariants.{Found, Pairs as PairsAnswer};
 ghost use Rattle.lsm_model.specs.declared.op.Op.TheVariants.{Set, Del, Weak};
-ghost use Rattle.lsm_tree.specs.Closing.{ListTogether};
+ghost use Rattle.lsm_recorded.specs.Closing.{ListTogether};
 ghost use Rattle.lsm_state.specs.Calls.{Appends, WritesBatch};
-ghost use Rattle.lsm_tree.specs.Recorded.{OwnOr};
+ghost use Rattle.lsm_recorded.specs.Recorded.{OwnOr};
 ghost use Rattle.lsm_tree.specs.Shared.{OnSomeTree, Puts};
 
 use crate::handle::Handle;
-use crate::pass::Pass;
-use crate::recorded::Recorded;
 use lsm_below::{InternalValue, KvPair, MemtableId, SeqNo, UserKey, UserValue};
 use lsm_model::{JournalEntry, Op};
 use lsm_parts::Error;
+use lsm_recorded::{Pass, Recorded};
 use lsm_store::Store;
 use std::ops::Bound;
 use std::sync::Wait;

@@ -1,0 +1,123 @@
+// Copies of the entries of a journal, which share their bytes.
+ghost use Rattle.std.specs.Prelude.{◌≡◌, IfOk};
+ghost use Rattle.lsm_model.specs.declared.journal.JournalEntry.TheVariants.{Read, Dropped};
+
+use crate::entries::share_value;
+use lsm_below::{KeyRange, KvPair, UserKey, share};
+use lsm_model::{Answer, JournalEntry, KeyRanges, KvPairs, Question};
+use std::alloc::{AllocError, Global};
+use std::ops::Bound;
+
+/// A copy of a bound.
+pub fn copy_bound(bound: &Bound<UserKey>) -> Result<Bound<UserKey>, AllocError>
+    ensures { IfOk result (λ copy. copy ≡ bound.now) }
+{
+    match bound {
+        Bound::Included(key) => Ok(Bound::Included(share(key)?)),
+        Bound::Excluded(key) => Ok(Bound::Excluded(share(key)?)),
+        Bound::Unbounded => Ok(Bound::Unbounded),
+    }
+}
+
+fn copy_question(question: &Question) -> Result<Question, AllocError>
+    ensures { IfOk result (λ copy. copy ≡ question.now) }
+{
+    match question {
+        Question::Get(key) => Ok(Question::Get(share(key)?)),
+        Question::Between(low, high) => {
+            let low = copy_bound(low)?;
+            Ok(Question::Between(low, copy_bound(high)?))
+        }
+        Question::Prefix(prefix) => Ok(Question::Prefix(share(prefix)?)),
+    }
+}
+
+fn copy_ranges(alloc: Global, ranges: &[KeyRange]) -> Result<Vec<KeyRange>, AllocError>
+    ensures { IfOk result (λ copy. copy.items ≡ ranges.now) }
+{
+    let mut copies = Vec::with_capacity(alloc, ranges.len())?;
+    for range in ranges {
+        copies.push(range.copy()?)?;
+    }
+    Ok(copies)
+}
+
+fn copy_pair(pair: &KvPair) -> Result<KvPair, AllocError>
+    ensures { IfOk result (λ copy. copy ≡ pair.now) }
+{
+    let key = share(&pair.0)?;
+    Ok((key, share(&pair.1)?))
+}
+
+/// Copies of pairs.
+pub fn copy_pairs(alloc: Global, pairs: &[KvPair]) -> Result<Vec<KvPair>, AllocError>
+    ensures { IfOk result (λ copy. copy.items ≡ pairs.now) }
+{
+    let mut copies = Vec::with_capacity(alloc, pairs.len())?;
+    for pair in pairs {
+        copies.push(copy_pair(pair)?)?;
+    }
+    Ok(copies)
+}
+
+fn copy_answer(alloc: Global, answer: &Answer) -> Result<Answer, AllocError>
+    ensures { IfOk result (λ copy. copy ≡ answer.now) }
+{
+    match answer {
+        Answer::Found(value) => Ok(Answer::Found(share_value(value)?)),
+        Answer::Pairs(pairs) => {
+            let copies = copy_pairs(alloc, pairs.as_slice())?;
+            Ok(Answer::Pairs(KvPairs::new(copies)))
+        }
+    }
+}
+
+fn copy_read(
+    alloc: Global,
+    snapshot: u64,
+    question: &Question,
+    answer: &Answer,
+) -> Result<JournalEntry, AllocError>
+    ensures { IfOk result (λ copy. copy ≡ Read snapshot question.now answer.now) }
+{
+    let question = copy_question(question)?;
+    let answer = copy_answer(alloc, answer)?;
+    Ok(JournalEntry::Read(snapshot, question, answer))
+}
+
+fn copy_dropped(alloc: Global, ranges: &KeyRanges, number: u64) -> Result<JournalEntry, AllocError>
+    ensures { IfOk result (λ copy. copy ≡ Dropped ranges.now number) }
+{
+    let copies = copy_ranges(alloc, ranges.as_slice())?;
+    Ok(JournalEntry::Dropped(KeyRanges::new(copies), number))
+}
+
+/// A copy of an entry.
+pub fn copy_entry(alloc: Global, entry: &JournalEntry) -> Result<JournalEntry, AllocError>
+    ensures { IfOk result (λ copy. copy ≡ entry.now) }
+{
+    match entry {
+        JournalEntry::Write(entry) => Ok(JournalEntry::Write(entry.copy()?)),
+        JournalEntry::Clear(number) => Ok(JournalEntry::Clear(*number)),
+        JournalEntry::Install(number) => Ok(JournalEntry::Install(*number)),
+        JournalEntry::Dropped(ranges, number) => copy_dropped(alloc, ranges, *number),
+        JournalEntry::Mark(number) => Ok(JournalEntry::Mark(*number)),
+        JournalEntry::Read(snapshot, question, answer) => {
+            copy_read(alloc, *snapshot, question, answer)
+        }
+    }
+}
+
+/// A copy of a whole journal.
+pub fn copy_journal(
+    alloc: Global,
+    journal: &[JournalEntry],
+) -> Result<Vec<JournalEntry>, AllocError>
+    ensures { IfOk result (λ copy. copy.items ≡ journal.now) }
+{
+    let mut copies = Vec::with_capacity(alloc, journal.len())?;
+    for entry in journal {
+        copies.push(copy_entry(alloc, entry)?)?;
+    }
+    Ok(copies)
+}

@@ -1,0 +1,95 @@
+-- A batch on its way into a journal.
+use Rattle.std.proofs.Common.{◌≡◌, ℕ, zero, suc, ◌+◌, ◌<◌, Bool, true, false, ◌&&◌, List, [], ◌∷◌, ◌++◌, map, length, get_or, take, nat_lt, nat_le, refl, sym, ap, ◌∙◌, arith, lt-ltb}
+use Rattle.std.specs.List.{list_all}
+use Rattle.std.proofs.lemmas.List.{take_more, map-append}
+use Rattle.lsm_below.specs.Keys.{Bytes}
+use Rattle.lsm_below.specs.Entries.{Entry}
+use Rattle.lsm_model.specs.Journal.{Event, floor}
+use Rattle.lsm_model.specs.Ops.{op_entry, op_entries}
+use Rattle.lsm_model.specs.declared.op.Op.{Op}
+use Rattle.lsm_model.specs.declared.op.Op.TheVariants.{Set, Del, Weak}
+use Rattle.lsm_model.specs.declared.journal.JournalEntry.TheVariants.{Write}
+use Rattle.lsm_recorded.specs.declared.marks.Mark.{Mark}
+use Rattle.lsm_recorded.specs.declared.notes.Note.{Note}
+use Rattle.lsm_recorded.specs.Marks.{mark_in, mark_allows, marked_by, marked_all, keeps_order, batch_keeps_order, op_type, op_allowed}
+use Rattle.lsm_recorded.specs.Notes.{journal_entry, pass_entry, HaveNumber}
+use Rattle.lsm_recorded.proofs.MarksLemmas.{marked_by_same, marked_all_same}
+
+-- ---- the test of order
+
+one_fails : {X : Type 0} (p : X → Bool) (xs : List X) (i : ℕ) (x : X) → i < length xs → x ≡ get_or xs i x → p x ≡ false → list_all p xs ≡ false
+one_fails p [] i x lt is fails = absurd (omega arith)
+one_fails p (y ∷ xs) zero x lt is fails = ap (λ b. b && list_all p xs) (ap p (sym is) ∙ fails)
+one_fails p (y ∷ xs) (suc i) x lt is fails = ap (λ b. p y && b) (one_fails p xs i x (omega arith) is fails) ∙ and_false (p y)
+  where
+    and_false : (b : Bool) → (b && false) ≡ false
+    and_false true = refl
+    and_false false = refl
+
+pub refused_at : (marks : Bytes → Mark) (low n : ℕ) (ops : List (Bytes × Op)) (i : ℕ) (x : Bytes × Op) → i < length ops → x ≡ get_or ops i x → op_allowed marks low n x ≡ false → list_all (op_allowed marks low n) ops ≡ false
+refused_at marks low n ops i x lt is fails = one_fails (op_allowed marks low n) ops i x lt is fails
+
+module _ (journal : List Event) (n : ℕ) where
+  below : nat_lt n (n + 1) ≡ true
+  below = lt-ltb n (n + 1) (omega arith)
+
+  -- a write under the counter's number
+  one : (marks : Bytes → Mark) (low : ℕ) (k : Bytes) (op : Op) → ((q : Bytes) → marks q ≡ mark_in journal q) → low ≡ floor journal → op_allowed marks low n (k, op) ≡ keeps_order journal (n + 1) (op_entry k n op)
+  one marks low k op same least =
+      ap (λ m. nat_le low n && mark_allows m n (op_type op)) (same k) ∙ ap (λ l. nat_le l n && mark_allows (mark_in journal k) n (op_type op)) least ∙ ap (λ b. b && nat_le (floor journal) n && mark_allows (mark_in journal k) n (op_type op)) (sym below) ∙ typed op
+    where
+      typed : (op : Op) → (nat_lt n (n + 1) && nat_le (floor journal) n && mark_allows (mark_in journal k) n (op_type op)) ≡ keeps_order journal (n + 1) (op_entry k n op)
+      typed (Set value) = refl
+      typed Del = refl
+      typed Weak = refl
+
+  pub allowed_order : (marks : Bytes → Mark) (low : ℕ) (ops : List (Bytes × Op)) → ((q : Bytes) → marks q ≡ mark_in journal q) → low ≡ floor journal → list_all (op_allowed marks low n) ops ≡ batch_keeps_order journal n ops
+  allowed_order marks low [] same least = refl
+  allowed_order marks low (p ∷ ops) same least =
+      ap (λ b. b && list_all (op_allowed marks low n) ops) (one marks low p.0 p.1 same least) ∙ ap (λ b. keeps_order journal (n + 1) (op_entry p.0 n p.1) && b) (allowed_order marks low ops same least)
+
+-- ---- marks
+
+marked_all-push : (es : List Entry) (e : Entry) (f : Bytes → Mark) (q : Bytes) → marked_all (es ++ e ∷ []) f q ≡ marked_by e (marked_all es f) q
+marked_all-push [] e f q = refl
+marked_all-push (d ∷ es) e f q = marked_all-push es e (marked_by d f) q
+
+abbrev pub entries_of : List Note → List Entry
+entries_of notes = map (λ (n : Note). n.entry) notes
+
+-- one more write is noted
+pub marked_more : (notes : List Note) (i : ℕ) (x : Note) (f : Bytes → Mark) (old new : Bytes → Mark) → i < length notes → x ≡ get_or notes i x → ((q : Bytes) → old q ≡ marked_all (entries_of (take i notes)) f q) → ((q : Bytes) → new q ≡ marked_by x.entry old q)
+    → (q : Bytes) → new q ≡ marked_all (entries_of (take (i + 1) notes)) f q
+marked_more notes i x f old new lt is before after q =
+    let more : entries_of (take (i + 1) notes) ≡ entries_of (take i notes) ++ x.entry ∷ [] = ap entries_of (take_more notes i x lt ∙ ap (λ y. take i notes ++ y ∷ []) (sym is)) ∙ map-append (λ (n : Note). n.entry) (take i notes) (x ∷ []) in
+    after q ∙ marked_by_same old (marked_all (entries_of (take i notes)) f) x.entry before q ∙ sym (ap (λ es. marked_all es f q) more ∙ marked_all-push (entries_of (take i notes)) x.entry f q)
+
+-- ---- entries
+
+seqno_is : (k : Bytes) (n : ℕ) (op : Op) → (op_entry k n op).key.seqno ≡ n
+seqno_is k n (Set value) = refl
+seqno_is k n Del = refl
+seqno_is k n Weak = refl
+
+-- the entries of a batch have its number
+pub numbered : (n : ℕ) (notes : List Note) (ops : List (Bytes × Op)) → entries_of notes ≡ op_entries n ops → HaveNumber n notes
+numbered n [] ops is i d lt = absurd (omega arith)
+numbered n (x ∷ notes) [] is i d lt = absurd (cc is)
+numbered n (x ∷ notes) (p ∷ ops) is zero d lt =
+    let head : x.entry ≡ op_entry p.0 n p.1 = cc is in
+    ap (λ (e : Entry). e.key.seqno) head ∙ seqno_is p.0 n p.1
+numbered n (x ∷ notes) (p ∷ ops) is (suc i) d lt =
+    let tail : entries_of notes ≡ op_entries n ops = cc is in
+    numbered n notes ops tail i d (omega arith)
+
+pub journal_entries : (notes : List Note) → map journal_entry notes ≡ map Write (entries_of notes)
+journal_entries [] = refl
+journal_entries (x ∷ notes) = ap (λ l. Write x.entry ∷ l) (journal_entries notes)
+
+pub pass_entries : (notes : List Note) → map pass_entry notes ≡ map Write (map (λ (n : Note). n.copy) notes)
+pass_entries [] = refl
+pass_entries (x ∷ notes) = ap (λ l. Write x.copy ∷ l) (pass_entries notes)
+
+-- the marks after a batch, for which room was made first
+pub batch_marks : (f g h : Bytes → Mark) (es fs : List Entry) → es ≡ fs → ((q : Bytes) → g q ≡ f q) → ((q : Bytes) → h q ≡ marked_all es g q) → (q : Bytes) → h q ≡ marked_all fs f q
+batch_marks f g h es fs is same after q = after q ∙ ap (λ l. marked_all l g q) is ∙ marked_all_same g f fs same q

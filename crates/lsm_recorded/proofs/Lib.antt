@@ -1,0 +1,4 @@
+pub mod BatchLemmas
+pub mod ClosingLemmas
+pub mod MarksLemmas
+pub mod RecordedLemmas

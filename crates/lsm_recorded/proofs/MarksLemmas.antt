@@ -1,0 +1,174 @@
+-- Marks agree with the journal.
+use Rattle.std.proofs.Common.{Option, None, is_some, ◌≡◌, ℕ, ◌+◌, ◌<◌, ◌≤◌, max, min, Bool, true, false, cond, ◌&&◌, ◌||◌, nat_lt, nat_le, List, [], ◌∷◌, ◌++◌, Some, unwrap_or, refl, sym, ap, ◌∙◌, subst, arith, map, append-nil, append_assoc, ltb-true, is_eq}
+use Rattle.std.specs.declared.cmp.Ordering.{Ordering}
+use Rattle.std.specs.declared.cmp.Ordering.TheVariants.{Less, Equal, Greater}
+use Rattle.std.specs.Ordering.{ordering_reverse}
+use Rattle.std.specs.List.{list_any, list_all}
+use Rattle.std.proofs.lemmas.Cmp.{nat_list_cmp_total}
+use Rattle.std.proofs.lemmas.Bool.Decides.{nat_tests}
+use Rattle.std.specs.BTreeMap as tree
+use Rattle.std.specs.BTreeMap.{BTreeMap}
+use Rattle.lsm_below.specs.Keys.{Bytes, bytes_cmp, is_same}
+use Rattle.lsm_below.specs.Entries.{Entry, is_value, is_weak, is_value_kind, is_weak_kind}
+use Rattle.lsm_below.specs.declared.value_type.ValueType.{ValueType}
+use Rattle.lsm_below.specs.declared.value_type.ValueType.TheVariants.{Value, Tombstone, WeakTombstone}
+use Rattle.lsm_model.specs.Journal.{Event, next_after, next_of, sets_after, sets_of, floor_after, floor, next_number_after, next_number, MayCome, MayWrite, InOrder, InOrderFrom}
+use Rattle.lsm_model.specs.declared.journal.JournalEntry.TheVariants.{Write, Read}
+use Rattle.lsm_model.specs.declared.question.Question.{Question}
+use Rattle.lsm_model.specs.declared.question.Answer.{Answer}
+use Rattle.lsm_model.proofs.Lists.{fold_push}
+use Rattle.lsm_model.proofs.Journals.{same_key}
+use Rattle.lsm_state.specs.Refusals.{repeats}
+use Rattle.lsm_recorded.specs.declared.marks.Mark.{Mark}
+use Rattle.lsm_recorded.specs.Marks.{mark_of, marked, marked_by, marked_all, no_mark, next_mark, mark_in, weak_after, weak_of, kind_allows, mark_allows, keeps_order}
+
+turned : (o : Ordering) → is_eq (ordering_reverse o) ≡ is_eq o
+turned Less = refl
+turned Equal = refl
+turned Greater = refl
+
+pub same_swap : (a b : Bytes) → is_same a b ≡ is_same b a
+same_swap a b = ap is_eq (nat_list_cmp_total.antisymm a b) ∙ turned (bytes_cmp b a)
+
+pub mark_set : (old new : BTreeMap Bytes Mark) (k : Bytes) (m : Mark) (q : Bytes) → tree.get bytes_cmp new q ≡ cond (is_same k q) (Some m) (tree.get bytes_cmp old q) → mark_of new q ≡ marked (mark_of old) k m q
+mark_set old new k m q e =
+    ap (λ o. unwrap_or o no_mark) (e ∙ ap (λ b. cond b (Some m) (tree.get bytes_cmp old q)) (same_swap k q))
+    ∙ (elim (is_same q k) as (λ b. unwrap_or (cond b (Some m) (tree.get bytes_cmp old q)) no_mark ≡ cond b m (unwrap_or (tree.get bytes_cmp old q) no_mark)) [ true ↦ refl | false ↦ refl ])
+
+-- a mark that is set to what it was
+pub marked_same : (marks new : BTreeMap Bytes Mark) (k k' : Bytes) (m : Mark) → k' ≡ k → m ≡ mark_of marks k → (q : Bytes) → mark_of new q ≡ marked (mark_of marks) k' m q → mark_of new q ≡ mark_of marks q
+marked_same marks new k k' m key is q e = e ∙ ap (λ z. marked (mark_of marks) z m q) key ∙ (elim (is_same q k) as (λ b. is_same q k ≡ b → cond b m (mark_of marks q) ≡ mark_of marks q) [ true ↦ λ z. is ∙ ap (mark_of marks) (sym (same_key q k z)) | false ↦ λ z. refl ] refl)
+
+-- ---- one more event in order
+
+in_order_push_from : (opened : List Entry) (before journal : List Event) (x : Event) → InOrderFrom opened before journal → MayCome opened (before ++ journal) x → InOrderFrom opened before (journal ++ x ∷ [])
+in_order_push_from opened before [] x h m = (subst (λ js. MayCome opened js x) (append-nil before) m, tt)
+in_order_push_from opened before (y ∷ journal) x h m = (h.0, in_order_push_from opened (before ++ y ∷ []) journal x h.1 (subst (λ js. MayCome opened js x) (sym (append_assoc before (y ∷ []) journal)) m))
+
+pub in_order_push : (opened : List Entry) (journal : List Event) (x : Event) → InOrder opened journal → MayCome opened journal x → InOrder opened (journal ++ x ∷ [])
+in_order_push opened journal x h m = in_order_push_from opened [] journal x h m
+
+-- ---- the mark that a journal gives a key
+
+-- a type's effect on a mark, of which two values are many
+kind_mark : (kind : ValueType) (n s number : ℕ) (w : Bool) → ◌≡◌ {A = Mark} (record { next = max n (number + 1); sets = min (cond (is_value_kind kind) (s + 1) s) 2; is_weak = is_weak_kind kind || w }) (next_mark (record { next = n; sets = min s 2; is_weak = w }) number kind)
+kind_mark Value n s number w = let q : min (s + 1) 2 ≡ min (min s 2 + 1) 2 = omega arith in ap (λ z. record { next = max n (number + 1); sets = z; is_weak = w }) q
+kind_mark Tombstone n s number w = refl
+kind_mark WeakTombstone n s number w = refl
+
+pub mark_in-write : (journal : List Event) (e : Entry) (k : Bytes) → mark_in (journal ++ Write e ∷ []) k ≡ marked_by e (mark_in journal) k
+mark_in-write journal e k =
+    rw (fold_push (next_after k) 0 journal (Write e), fold_push (sets_after k) 0 journal (Write e), fold_push (weak_after k) false journal (Write e))
+    (elim (is_same k e.key.user_key) as (λ b. is_same k e.key.user_key ≡ b → ◌≡◌ {A = Mark} (record { next = cond b (max (next_of k [] journal) (e.key.seqno + 1)) (next_of k [] journal); sets = min (cond (b && is_value e) (sets_of k [] journal + 1) (sets_of k [] journal)) 2; is_weak = b && is_weak e || weak_of k journal }) (cond b (next_mark (mark_in journal e.key.user_key) e.key.seqno e.key.value_type) (mark_in journal k))) [
+      | true ↦ λ q. kind_mark e.key.value_type (next_of k [] journal) (sets_of k [] journal) e.key.seqno (weak_of k journal) ∙ ap (λ z. next_mark (mark_in journal z) e.key.seqno e.key.value_type) (same_key k e.key.user_key q)
+      | false ↦ λ q. refl
+    ] refl)
+
+pub mark_in-read : (journal : List Event) (s : ℕ) (question : Question) (told : Answer) (k : Bytes) → mark_in (journal ++ Read s question told ∷ []) k ≡ mark_in journal k
+mark_in-read journal s question told k =
+    rw (fold_push (next_after k) 0 journal (Read s question told), fold_push (sets_after k) 0 journal (Read s question told), fold_push (weak_after k) false journal (Read s question told)) refl
+
+pub floor-write : (journal : List Event) (e : Entry) → floor (journal ++ Write e ∷ []) ≡ floor journal
+floor-write journal e = fold_push floor_after 0 journal (Write e)
+
+pub marked_by_same : (f g : Bytes → Mark) (e : Entry) → ((q : Bytes) → f q ≡ g q) → (q : Bytes) → marked_by e f q ≡ marked_by e g q
+marked_by_same f g e same q =
+    ap (λ m. cond (is_same q e.key.user_key) (next_mark m e.key.seqno e.key.value_type) (f q)) (same e.key.user_key) ∙ ap (λ m. cond (is_same q e.key.user_key) (next_mark (g e.key.user_key) e.key.seqno e.key.value_type) m) (same q)
+
+pub marked_all_same : (f g : Bytes → Mark) (es : List Entry) → ((q : Bytes) → f q ≡ g q) → (q : Bytes) → marked_all es f q ≡ marked_all es g q
+marked_all_same f g [] same q = same q
+marked_all_same f g (e ∷ es) same q = marked_all_same (marked_by e f) (marked_by e g) es (marked_by_same f g e same) q
+
+-- ---- what the test of order says
+
+both : (a b : Bool) → (a && b) ≡ true → (a ≡ true) × (b ≡ true)
+both true true h = (refl, refl)
+both true false h = absurd (cc h)
+both false b h = absurd (cc h)
+
+le_of : (a b : ℕ) → nat_le a b ≡ true → a ≤ b
+le_of a b q = grind (arith, nat_tests)
+
+single_kind : (kind : ValueType) (n s : ℕ) (w : Bool) → kind_allows (record { next = n; sets = min s 2; is_weak = w }) kind ≡ true → is_weak_kind kind ≡ true → s ≤ 1
+single_kind Value n s w h q = absurd (cc q)
+single_kind Tombstone n s w h q = absurd (cc q)
+single_kind WeakTombstone n s w h q = let l : min s 2 < 2 = ltb-true (min s 2) 2 h in omega arith
+
+pub may_write : (journal : List Event) (counter : ℕ) (e : Entry) → keeps_order journal counter e ≡ true → MayWrite [] journal e × (e.key.seqno < counter)
+may_write journal counter e h =
+    let parts = both (nat_lt e.key.seqno counter && nat_le (floor journal) e.key.seqno) (mark_allows (mark_in journal e.key.user_key) e.key.seqno e.key.value_type) h in
+    let first = both (nat_lt e.key.seqno counter) (nat_le (floor journal) e.key.seqno) parts.0 in
+    let second = both (nat_le (next_of e.key.user_key [] journal) e.key.seqno) (kind_allows (mark_in journal e.key.user_key) e.key.value_type) parts.1 in (
+      record {
+        after_installs = le_of (floor journal) e.key.seqno first.1;
+        after_own = le_of (next_of e.key.user_key [] journal) e.key.seqno second.0;
+        single = single_kind e.key.value_type (next_of e.key.user_key [] journal) (sets_of e.key.user_key [] journal) (weak_of e.key.user_key journal) second.1;
+      },
+      ltb-true e.key.seqno counter first.0,
+    )
+
+-- ---- a batch in order
+
+-- a write of another key leaves the order of a key
+keeps_apart : (journal : List Event) (counter : ℕ) (e f : Entry) → is_same f.key.user_key e.key.user_key ≡ false → keeps_order (journal ++ Write e ∷ []) counter f ≡ keeps_order journal counter f
+keeps_apart journal counter e f apart =
+    ap (λ m. nat_lt f.key.seqno counter && nat_le (floor (journal ++ Write e ∷ [])) f.key.seqno && mark_allows m f.key.seqno f.key.value_type)
+    (mark_in-write journal e f.key.user_key ∙ ap (λ b. cond b (next_mark (mark_in journal e.key.user_key) e.key.seqno e.key.value_type) (mark_in journal f.key.user_key)) apart)
+    ∙ ap (λ n. nat_lt f.key.seqno counter && nat_le n f.key.seqno && mark_allows (mark_in journal f.key.user_key) f.key.seqno f.key.value_type) (floor-write journal e)
+
+abbrev pub entry_keys : List Entry → List Bytes
+entry_keys es = map (λ (e : Entry). e.key.user_key) es
+
+neither : (a b : Bool) → (a || b) ≡ false → (a ≡ false) × (b ≡ false)
+neither true b h = absurd (cc h)
+neither false b h = (refl, h)
+
+all_apart : (journal : List Event) (counter : ℕ) (e : Entry) (es : List Entry) → list_any (is_same e.key.user_key) (entry_keys es) ≡ false → list_all (keeps_order journal counter) es ≡ true → list_all (keeps_order (journal ++ Write e ∷ []) counter) es ≡ true
+all_apart journal counter e [] apart h = refl
+all_apart journal counter e (f ∷ es) apart h =
+    let other = neither (is_same e.key.user_key f.key.user_key) (list_any (is_same e.key.user_key) (entry_keys es)) apart in
+    let parts = both (keeps_order journal counter f) (list_all (keeps_order journal counter) es) h in
+    ap (λ b. b && list_all (keeps_order (journal ++ Write e ∷ []) counter) es) (keeps_apart journal counter e f (same_swap f.key.user_key e.key.user_key ∙ other.0) ∙ parts.0)
+    ∙ all_apart journal counter e es other.1 parts.1
+
+-- what is in order of a journal, and counted
+pub record IsCounted (counter : ℕ) (journal : List Event) : Type 0 where
+  pub order : InOrder [] journal
+  pub counted : next_number [] journal ≤ counter
+
+pub write_counted : (counter : ℕ) (journal : List Event) (e : Entry) → keeps_order journal counter e ≡ true → IsCounted counter journal → IsCounted counter (journal ++ Write e ∷ [])
+write_counted counter journal e ok h =
+    let may = may_write journal counter e ok in
+    record {
+      order = in_order_push [] journal (Write e) h.order may.0;
+      counted = rw (fold_push next_number_after 0 journal (Write e)) (let a = h.counted in let b = may.1 in omega arith);
+    }
+
+pub batch_counted : (counter : ℕ) (es : List Entry) (journal : List Event) → list_all (keeps_order journal counter) es ≡ true → repeats (entry_keys es) ≡ false → IsCounted counter journal → IsCounted counter (journal ++ map Write es)
+batch_counted counter [] journal ok once h = subst (IsCounted counter) (sym (append-nil journal)) h
+batch_counted counter (e ∷ es) journal ok once h =
+    let parts = both (keeps_order journal counter e) (list_all (keeps_order journal counter) es) ok in
+    let apart = neither (list_any (is_same e.key.user_key) (entry_keys es)) (repeats (entry_keys es)) once in
+    let here = write_counted counter journal e parts.0 h in
+    subst (IsCounted counter) (append_assoc journal (Write e ∷ []) (map Write es)) (batch_counted counter es (journal ++ Write e ∷ []) (all_apart journal counter e es apart.0 parts.1) apart.1 here)
+
+pub floor-writes : (es : List Entry) (journal : List Event) → floor (journal ++ map Write es) ≡ floor journal
+floor-writes [] journal = ap floor (append-nil journal)
+floor-writes (e ∷ es) journal = ap floor (sym (append_assoc journal (Write e ∷ []) (map Write es))) ∙ floor-writes es (journal ++ Write e ∷ []) ∙ floor-write journal e
+
+pub mark_in-writes : (es : List Entry) (journal : List Event) (k : Bytes) → mark_in (journal ++ map Write es) k ≡ marked_all es (mark_in journal) k
+mark_in-writes [] journal k = ap (λ j. mark_in j k) (append-nil journal)
+mark_in-writes (e ∷ es) journal k =
+    ap (λ j. mark_in j k) (sym (append_assoc journal (Write e ∷ []) (map Write es))) ∙ mark_in-writes es (journal ++ Write e ∷ []) k ∙ marked_all_same (mark_in (journal ++ Write e ∷ [])) (marked_by e (mark_in journal)) es (mark_in-write journal e) k
+
+-- a key that isn't there has no mark
+pub no_mark_of : (marks : BTreeMap Bytes Mark) (k : Bytes) (b : Bool) → b ≡ is_some (tree.get bytes_cmp marks k) → b ≡ false → no_mark ≡ mark_of marks k
+no_mark_of marks k b is absent = go (tree.get bytes_cmp marks k) (sym is ∙ absent)
+  where
+    go : (o : Option Mark) → is_some o ≡ false → no_mark ≡ unwrap_or o no_mark
+    go None h = refl
+    go (Some m) h = absurd (cc h)
+
+-- the mark that is there is the key's
+pub mark_there : (marks : BTreeMap Bytes Mark) (k : Bytes) (m : Mark) → Some m ≡ tree.get bytes_cmp marks k → m ≡ mark_of marks k
+mark_there marks k m is = ap (λ o. unwrap_or o no_mark) is

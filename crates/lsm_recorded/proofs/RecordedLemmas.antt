@@ -1,0 +1,188 @@
+-- What each call keeps of a tree behind its journal.
+use Rattle.std.proofs.Common.{cond, ◌≡◌, ℕ, ◌+◌, ◌<◌, ◌≤◌, Bool, true, false, List, [], ◌∷◌, ◌++◌, Option, Some, None, Result, Ok, Err, IfOk, OnErr, unwrap_or, map, refl, sym, ap, ◌∙◌, subst, arith, ◌⊎◌, ⊎_elim, is_some, IfSome, append-nil, append_assoc}
+use Rattle.std.specs.BTreeMap.{BTreeMap, is_at}
+use Rattle.std.specs.Map.{lookup}
+use Rattle.std.specs.FinMap.{get, empty}
+use Rattle.std.specs.List.{list_any}
+use Rattle.std.proofs.lemmas.Bool.Decides.{nat_tests}
+use Rattle.lsm_below.specs.declared.value_type.ValueType.TheVariants.{Value, Tombstone, WeakTombstone}
+use Rattle.lsm_below.specs.Keys.{Bytes, bytes_cmp}
+use Rattle.lsm_below.specs.Entries.{Entry, plain, kept_value}
+use Rattle.lsm_model.specs.Journal.{Event, Map, AgreesFrom, ReadAgrees, is_outside, IsKept, replay, next_number_after, floor_after, floor, next_number}
+use Rattle.lsm_model.specs.Views.{found_at}
+use Rattle.lsm_model.specs.Steps.{Wrote, Asked, Rotated, IsOpened}
+use Rattle.lsm_model.specs.Sound.{Holds}
+use Rattle.lsm_model.specs.Ops.{op_entry, op_entries}
+use Rattle.lsm_model.specs.declared.op.Op.{Op}
+use Rattle.lsm_model.specs.declared.op.Op.TheVariants.{Set, Del, Weak}
+use Rattle.lsm_model.specs.declared.journal.JournalEntry.TheVariants.{Write, Read}
+use Rattle.lsm_model.specs.declared.question.Question.{Question}
+use Rattle.lsm_model.specs.declared.question.Question.TheVariants.{Get}
+use Rattle.lsm_model.specs.declared.question.Answer.TheVariants.{Found, Pairs}
+use Rattle.lsm_model.proofs.Lists.{fold_push}
+use Rattle.lsm_model.proofs.Runs.{opened_holds, step_holds, run_holds, reads_right, view_right, answered_view}
+use Rattle.lsm_parts.specs.declared.config.Config.{Config}
+use Rattle.lsm_parts.specs.declared.error.Error.{Error}
+use Rattle.lsm_parts.specs.declared.error.Error.TheVariants.{OutOfMemory, OutOfNumbers, KeyTooLong, ValueTooLong, DuplicateKey}
+use Rattle.lsm_state.specs.Core.{Core, Seen, state_of, latest_of, older_of, fresh_core}
+use Rattle.lsm_state.specs.Calls.{IsWriteStep, IsGetStep, Gives, Rotates, WritesBatch}
+use Rattle.lsm_state.specs.Ranges.{IsListStep}
+use Rattle.lsm_parts.specs.Guards.{Pair}
+use Rattle.lsm_state.specs.Refusals.{batch_refusal, repeats, keys_of, is_great, is_long_key, is_long_value, op_value}
+use Rattle.lsm_recorded.specs.declared.marks.Mark.{Mark}
+use Rattle.lsm_recorded.specs.Marks.{mark_of, mark_in, marked_by, marked_all, keeps_order, batch_keeps_order, no_mark}
+use Rattle.lsm_recorded.specs.Recorded.{IsRecorded}
+use Rattle.lsm_recorded.proofs.MarksLemmas.{in_order_push, mark_in-read, mark_in-write, mark_in-writes, marked_by_same, marked_all_same, IsCounted, write_counted, batch_counted, floor-write, floor-writes, entry_keys}
+
+-- marks by key
+abbrev pub Marks : Type 0
+Marks = BTreeMap Bytes Mark
+
+-- the facts for callers follow from those that the next step goes on from
+recorded : (marks : Marks) (low : ℕ) (c : Core) (journal : List Event) → Holds [] empty (state_of journal c) → IsCounted c.seqno journal → low ≡ floor journal → ((k : Bytes) → mark_of marks k ≡ mark_in journal k) → IsRecorded marks low c journal
+recorded marks low c journal holds counted floored noted = record {
+  reads = reads_right [] empty (state_of journal c) holds;
+  holds = holds;
+  order = counted.order;
+  counted = counted.counted;
+  floored = floored;
+  noted = noted;
+}
+
+counted_of : (marks : Marks) (low : ℕ) (c : Core) (journal : List Event) → IsRecorded marks low c journal → IsCounted c.seqno journal
+counted_of marks low c journal r = record { order = r.order; counted = r.counted }
+
+-- ---- opening
+
+pub recorded_fresh : (marks : Marks) (c : Core) (journal : List Event) (config : Config) → marks.entries ≡ [] → c ≡ fresh_core config → IsOpened [] empty (state_of [] c) → journal ≡ [] → IsRecorded marks 0 c journal
+recorded_fresh marks c journal config none core opened is =
+    subst (IsRecorded marks 0 c) (sym is)
+    (recorded marks 0 c [] (opened_holds [] empty (state_of [] c) opened) (record { order = tt; counted = omega arith }) refl (λ k. ap (λ es. unwrap_or (lookup (is_at (bytes_cmp k)) es) no_mark) none))
+
+-- ---- a single write
+
+pub recorded_write : (marks marks' : Marks) (low : ℕ) (old new : Core) (journal : List Event) (e : Entry) → IsRecorded marks low old journal → keeps_order journal old.seqno e ≡ true → IsWriteStep e old new → new.seqno ≡ old.seqno
+    → ((q : Bytes) → mark_of marks' q ≡ marked_by e (mark_of marks) q) → IsRecorded marks' low new (journal ++ Write e ∷ [])
+recorded_write marks marks' low old new journal e r ok step counter noted =
+    let counted = write_counted old.seqno journal e ok (counted_of marks low old journal r) in
+    recorded marks' low new (journal ++ Write e ∷ []) (step_holds [] empty (state_of journal old) (Wrote e) (state_of (journal ++ Write e ∷ []) new) (step [] journal) counted.order r.holds)
+    (subst (λ n. IsCounted n (journal ++ Write e ∷ [])) (sym counter) counted) (r.floored ∙ sym (floor-write journal e))
+    (λ q. noted q ∙ marked_by_same (mark_of marks) (mark_in journal) e r.noted q ∙ sym (mark_in-write journal e q))
+
+-- a mark for which room was made stays what it is
+pub recorded_marks : (marks marks' : Marks) (low : ℕ) (c : Core) (journal : List Event) → IsRecorded marks low c journal → ((q : Bytes) → mark_of marks' q ≡ mark_of marks q) → IsRecorded marks' low c journal
+recorded_marks marks marks' low c journal r same = record { reads = r.reads; holds = r.holds; order = r.order; counted = r.counted; floored = r.floored; noted = λ q. same q ∙ r.noted q }
+
+-- ---- a batch
+
+entry_keys-ops : (n : ℕ) (ops : List (Bytes × Op)) → entry_keys (op_entries n ops) ≡ keys_of ops
+entry_keys-ops n [] = refl
+entry_keys-ops n (p ∷ ops) = ap (λ k. k ∷ entry_keys (op_entries n ops)) (key_is p.1) ∙ ap (λ ks. p.0 ∷ ks) (entry_keys-ops n ops)
+  where
+    key_is : (op : Op) → (op_entry p.0 n op).key.user_key ≡ p.0
+    key_is (Set value) = refl
+    key_is Del = refl
+    key_is Weak = refl
+
+-- an accepted batch had no reason to be refused
+pub accepted : (ops : List (Bytes × Op)) (n : ℕ) (old new : Core) → WritesBatch ops (Ok n) old new → batch_refusal old.seqno ops ≡ None
+accepted ops n old new w = go (batch_refusal old.seqno ops) w.told
+  where
+    go : (o : Option Error) → IfSome o (λ x. (◌≡◌ {A = Result ℕ Error} (Ok n) (Err x)) ⊎ (◌≡◌ {A = Result ℕ Error} (Ok n) (Err OutOfMemory))) → o ≡ None
+    go None h = refl
+    go (Some x) h = ⊎_elim (λ (q : ◌≡◌ {A = Result ℕ Error} (Ok n) (Err x)). absurd (cc q)) (λ (q : ◌≡◌ {A = Result ℕ Error} (Ok n) (Err OutOfMemory)). absurd (cc q)) h
+
+refused_doubles : (a b c d : Bool) → ◌≡◌ {A = Option Error} (cond a (Some OutOfNumbers) (cond b (Some KeyTooLong) (cond c (Some ValueTooLong) (cond d (Some DuplicateKey) None)))) None → (a ≡ false) × (d ≡ false)
+refused_doubles true b c d h = absurd (cc h)
+refused_doubles false true c d h = absurd (cc h)
+refused_doubles false false true d h = absurd (cc h)
+refused_doubles false false false true h = absurd (cc h)
+refused_doubles false false false false h = (refl, refl)
+
+-- so its number is below the limit, and no key comes twice
+pub accepted_parts : (ops : List (Bytes × Op)) (n : ℕ) → batch_refusal n ops ≡ None → (n < 9223372036854775808) × (repeats (keys_of ops) ≡ false)
+accepted_parts ops n h =
+    let parts = refused_doubles (is_great n) (list_any (λ p. is_long_key p.0) ops) (list_any (λ p. is_long_value (op_value p.1)) ops) (repeats (keys_of ops)) h in (below parts.0, parts.1)
+  where
+    below : is_great n ≡ false → n < 9223372036854775808
+    below q = grind (arith, nat_tests)
+
+pub recorded_batch : (marks marks' : Marks) (low : ℕ) (old new : Core) (journal : List Event) (ops : List (Bytes × Op)) (n : ℕ) → IsRecorded marks low old journal → batch_keeps_order journal old.seqno ops ≡ true → WritesBatch ops (Ok n) old new
+    → ((q : Bytes) → mark_of marks' q ≡ marked_all (op_entries old.seqno ops) (mark_of marks) q) → IsRecorded marks' low new (journal ++ map Write (op_entries old.seqno ops))
+recorded_batch marks marks' low old new journal ops n r ok w noted =
+    let es = op_entries old.seqno ops in
+    let once : repeats (entry_keys es) ≡ false = ap repeats (entry_keys-ops old.seqno ops) ∙ (accepted_parts ops old.seqno (accepted ops n old new w)).1 in
+    let before : IsCounted (old.seqno + 1) journal = record { order = r.order; counted = let a = r.counted in omega arith } in
+    let counted = batch_counted (old.seqno + 1) es journal ok once before in
+    let next : new.seqno ≡ old.seqno + 1 = ap (λ (c : Core). c.seqno) w.core in
+    recorded marks' low new (journal ++ map Write es) (run_holds [] empty (state_of journal old) (map Wrote es) (state_of (journal ++ map Write es) new) (w.run [] journal) counted.order r.holds)
+    (subst (λ m. IsCounted m (journal ++ map Write es)) (sym next) counted) (r.floored ∙ sym (floor-writes es journal))
+    (λ q. noted q ∙ marked_all_same (mark_of marks) (mark_in journal) es r.noted q ∙ sym (mark_in-writes es journal q))
+
+-- ---- reads
+
+pub recorded_read : (marks : Marks) (low : ℕ) (c : Core) (journal : List Event) (k : Bytes) (s : ℕ) (v : Option Bytes) → IsRecorded marks low c journal → IsGetStep c k s v → IsRecorded marks low c (journal ++ Read s (Get k) (Found v) ∷ [])
+recorded_read marks low c journal k s v r step =
+    let order = in_order_push [] journal (Read s (Get k) (Found v)) r.order tt in
+    let counted : next_number [] (journal ++ Read s (Get k) (Found v) ∷ []) ≤ c.seqno = rw (fold_push next_number_after 0 journal (Read s (Get k) (Found v))) r.counted in
+    recorded marks low c (journal ++ Read s (Get k) (Found v) ∷ []) (step_holds [] empty (state_of journal c) (Asked s (Get k)) (state_of (journal ++ Read s (Get k) (Found v) ∷ []) c) (step [] journal (omega arith)) order r.holds)
+    (record { order = order; counted = counted }) (r.floored ∙ sym (fold_push floor_after 0 journal (Read s (Get k) (Found v)))) (λ q. r.noted q ∙ sym (mark_in-read journal s (Get k) (Found v) q))
+
+pub recorded_list : (marks : Marks) (low : ℕ) (c : Core) (journal : List Event) (question : Question) (s : ℕ) (pairs : List Pair) → IsRecorded marks low c journal → IsListStep c question s pairs → IsRecorded marks low c (journal ++ Read s question (Pairs pairs) ∷ [])
+recorded_list marks low c journal question s pairs r step =
+    let told = Pairs pairs in
+    let order = in_order_push [] journal (Read s question told) r.order tt in
+    let counted : next_number [] (journal ++ Read s question told ∷ []) ≤ c.seqno = rw (fold_push next_number_after 0 journal (Read s question told)) r.counted in
+    recorded marks low c (journal ++ Read s question told ∷ []) (step_holds [] empty (state_of journal c) (Asked s question) (state_of (journal ++ Read s question told ∷ []) c) (step [] journal (omega arith) r.reads.ordered) order r.holds)
+    (record { order = order; counted = counted }) (r.floored ∙ sym (fold_push floor_after 0 journal (Read s question told))) (λ q. r.noted q ∙ sym (mark_in-read journal s question told q))
+
+-- the last read of a journal agrees with the replay before it
+pub agrees_last : (start : Map) (before journal : List Event) (x : Event) → AgreesFrom start before (journal ++ x ∷ []) → ReadAgrees start (before ++ journal) x
+agrees_last start before [] x h = subst (λ js. ReadAgrees start js x) (sym (append-nil before)) h.0
+agrees_last start before (y ∷ journal) x h = subst (λ js. ReadAgrees start js x) (append_assoc before (y ∷ []) journal) (agrees_last start (before ++ y ∷ []) journal x h.1)
+
+found_cut : (v w : Option Bytes) → Found v ≡ Found w → v ≡ w
+found_cut v w e = cc e
+
+-- a get answers the replay
+pub answers_replay : (marks : Marks) (low : ℕ) (k : Bytes) (s : ℕ) (v : Option Bytes) (journal : List Event) (c : Core) → Gives c k s v → IsRecorded marks low c journal → is_outside k s journal ≡ true → v ≡ get (replay empty journal s) k
+answers_replay marks low k s v journal c g r out =
+    g.2
+    ∙ found_cut _ _ (answered_view [] empty (state_of journal c) r.holds s g.0 g.1 (Get k))
+    ∙ view_right [] empty (state_of journal c) r.holds s g.0 (omega arith) g.1 k out
+
+not_none : {A : Type 0} (o : Option A) → is_some o ≡ true → o ≡ None → ⊥
+not_none None h e = cc h
+not_none (Some x) h e = cc e
+
+-- a kept snapshot finds a super version
+pub kept_found : (marks : Marks) (low : ℕ) (s : ℕ) (journal : List Event) (c : Core) → IsRecorded marks low c journal → IsKept s journal → found_at s (latest_of c) (older_of c) ≡ None → ⊥
+kept_found marks low s journal c r kept none = not_none _ (r.reads.answered s kept) none
+
+-- ---- rotation
+
+pub recorded_rotate : (marks : Marks) (low : ℕ) (old new : Core) (journal : List Event) (i : Option ℕ) → IsRecorded marks low old journal → Rotates old i new → IsRecorded marks low new journal
+recorded_rotate marks low old new journal None r t = subst (λ c. IsRecorded marks low c journal) (sym t.1) r
+recorded_rotate marks low old new journal (Some id) r t =
+    recorded marks low new journal (step_holds [] empty (state_of journal old) (Rotated old.next_memtable) (state_of journal new) (t.3 [] journal) r.order r.holds)
+    (subst (λ n. IsCounted n journal) (sym (ap (λ (c : Core). c.seqno) t.2)) (counted_of marks low old journal r)) r.floored r.noted
+
+-- whatever it answers
+pub rotate_any : {S : Type 0} (r : Result (Option ℕ) Error) (old new : Seen S) (marks : Marks) (low : ℕ) (journal : List Event) → IfOk r (λ i. Rotates old.core i new.core) → OnErr r (new ≡ old) → IsRecorded marks low old.core journal → IsRecorded marks low new.core journal
+rotate_any (Ok i) old new marks low journal t e h = recorded_rotate marks low old.core new.core journal i h t
+rotate_any (Err x) old new marks low journal t e h = subst (λ s. IsRecorded marks low s.core journal) (sym e) h
+
+-- ---- entries
+
+plain-plain_value : (kind : Rattle.lsm_below.specs.declared.value_type.ValueType.ValueType) (v : Bytes) → kept_value kind (kept_value kind v) ≡ kept_value kind v
+plain-plain_value Value v = refl
+plain-plain_value Tombstone v = refl
+plain-plain_value WeakTombstone v = refl
+
+-- an entry is made plain once
+pub plain-plain : (e : Entry) → plain (plain e) ≡ plain e
+plain-plain e = ap (λ v. record { key = e.key; value = v }) (plain-plain_value e.key.value_type e.value)
+
+-- the marks after a write, for which room was made first
+pub write_marks : (first second third : Marks) (e f : Entry) → e ≡ f → ((q : Bytes) → mark_of second q ≡ mark_of first q) → ((q : Bytes) → mark_of third q ≡ marked_by e (mark_of second) q) → (q : Bytes) → mark_of third q ≡ marked_by f (mark_of first) q
+write_marks first second third e f is same noted q = noted q ∙ ap (λ x. marked_by x (mark_of second) q) is ∙ marked_by_same (mark_of second) (mark_of first) f same q

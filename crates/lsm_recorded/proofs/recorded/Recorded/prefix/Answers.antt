@@ -1,0 +1,14 @@
+use Rattle.std.proofs.Common.{map, refl, sym, subst, ◌∙◌}
+use Rattle.lsm_model.specs.declared.question.Question.TheVariants.{Prefix}
+use Rattle.lsm_parts.specs.Guards.{pair_of}
+use Rattle.lsm_state.specs.Ranges.{IsListStep}
+use Rattle.lsm_recorded.proofs.recorded.Recorded.prefix.Goals as goal
+
+pub note_listed-requires : goal.note_listed-requires
+note_listed-requires g c =
+    let core = c.self.inside.core.core in
+    let s = c.args.snapshot in
+    let out = map pair_of c.in_ok-iter.iter in
+    let key = c.in_ok-share.field-0 in
+    subst (λ t. IsListStep t.tree.core (Prefix key) s out) c.self.view_is
+    (subst (λ p. IsListStep core (Prefix p) s out) (c.as_slice.ensures ∙ sym c.in_ok-share.ensures) (c.in_ok-iter.ensures.step refl))

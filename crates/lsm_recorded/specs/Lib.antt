@@ -1,0 +1,6 @@
+pub mod Passes
+pub mod Closing
+pub mod Ticks
+pub mod Marks
+pub mod Notes
+pub mod Recorded

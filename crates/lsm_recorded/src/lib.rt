@@ -1,0 +1,19 @@
+//! The tree that keeps the journal of its calls.
+//!
+//! | Module | Holds |
+//! |-|-|
+//! | `recorded` | a tree with the journal of its calls |
+//! | `pass` | what one caller's calls put into a journal |
+//! | `marks` | what was written to each key, by which a write in order is told |
+//! | `notes` | copies of the entries of a write, for the journal and a pass |
+//! | `closing` | whether passes list a journal |
+#![tactic(auto)]
+
+mod closing;
+mod marks;
+mod notes;
+mod pass;
+mod recorded;
+
+pub use pass::Pass;
+pub use recorded::Recorded;

@@ -1,0 +1,100 @@
+// What was written to each key so far, by which a write in order is told without the journal.
+ghost use Rattle.std.specs.Prelude.{◌≡◌, ℕ, ◌+◌, ◌^◌, ◌<◌, ◌≤◌, IfOk, IfErr, OnOk, OnErr, IsSome, ◌&&◌, nat_le};
+ghost use Rattle.std.specs.BTreeMap as tree;
+ghost use Rattle.lsm_below.specs.Keys.{Bytes, bytes_cmp};
+ghost use Rattle.lsm_recorded.specs.Marks.{mark_of, marked, marked_by, mark_allows, next_mark};
+
+use lsm_below::{InternalValue, SeqNo, UserKey, ValueType, share};
+use std::alloc::AllocError;
+use std::collections::BTreeMap;
+
+/// What was written to a key so far: the least number above, how many values (2 for more),
+/// and whether it was removed weakly.
+#[derive(Clone, Copy)]
+pub struct Mark {
+    pub next: SeqNo,
+    pub sets: u8,
+    pub is_weak: bool,
+}
+
+/// The mark of a key to which nothing was written.
+const NOTHING: Mark = Mark {
+    next: 0,
+    sets: 0,
+    is_weak: false,
+};
+
+/// The mark of a key, of which nothing may be noted yet.
+pub(crate) fn read_mark(marks: &BTreeMap<UserKey, Mark>, key: &UserKey) -> Mark
+    ensures { result ≡ mark_of marks.now key.now }
+{
+    match marks.get(key) {
+        Some(mark) => *mark,
+        None => NOTHING,
+    }
+}
+
+/// Makes room for a key's mark, which stays what it is.
+pub(crate) fn reserve_mark(
+    marks: &mut BTreeMap<UserKey, Mark>,
+    key: &UserKey,
+) -> Result<(), AllocError>
+    ensures same { (q : Bytes) → mark_of marks.new q ≡ mark_of marks.old q }
+    ensures there { OnOk result (IsSome (tree.get bytes_cmp marks.new key.now)) }
+    ensures kept { (q : Bytes) → IsSome (tree.get bytes_cmp marks.old q) → IsSome (tree.get bytes_cmp marks.new q) }
+{
+    if marks.contains_key(key) {
+        return Ok(());
+    }
+    let _ = marks.insert(share(key)?, NOTHING)?;
+    Ok(())
+}
+
+/// Whether a write of this number and type keeps the order of its key.
+pub(crate) fn is_allowed(mark: Mark, number: SeqNo, kind: ValueType) -> bool
+    ensures { result ≡ mark_allows mark number kind }
+{
+    mark.next <= number
+        && match kind {
+            ValueType::Value => !mark.is_weak || mark.sets == 0,
+            ValueType::Tombstone => true,
+            ValueType::WeakTombstone => mark.sets < 2,
+        }
+}
+
+/// The mark after a write of this number and type.
+pub(crate) fn mark_after(mark: Mark, number: SeqNo, kind: ValueType) -> Mark
+    requires { number + 1 < 2 ^ 64 }
+    ensures { result ≡ next_mark mark number kind }
+{
+    let next = mark.next.max(number + 1);
+    match kind {
+        ValueType::Value => Mark {
+            next,
+            sets: if mark.sets < 2 { mark.sets + 1 } else { 2 },
+            is_weak: mark.is_weak,
+        },
+        ValueType::Tombstone => Mark {
+            next,
+            sets: mark.sets,
+            is_weak: mark.is_weak,
+        },
+        ValueType::WeakTombstone => Mark {
+            next,
+            sets: mark.sets,
+            is_weak: true,
+        },
+    }
+}
+
+/// Notes a write in the mark of its key, for which there is room.
+pub(crate) fn mark_write(marks: &mut BTreeMap<UserKey, Mark>, entry: &InternalValue)
+    requires there { IsSome (tree.get bytes_cmp marks.old entry.now.key.user_key) }
+    requires fits { entry.now.key.seqno + 1 < 2 ^ 64 }
+    ensures is { (q : Bytes) → mark_of marks.new q ≡ marked_by entry.now (mark_of marks.old) q }
+    ensures kept { (q : Bytes) → IsSome (tree.get bytes_cmp marks.old q) → IsSome (tree.get bytes_cmp marks.new q) }
+{
+    if let Some(mark) = marks.get_mut(&entry.key.user_key) {
+        *mark = mark_after(*mark, entry.key.seqno, entry.key.value_type);
+    }
+}

@@ -1,0 +1,106 @@
+// Copies of the entries of a write, for the journal and for a pass, which share their bytes.
+ghost use Rattle.std.specs.Prelude.{◌≡◌, ℕ, ◌+◌, ◌^◌, ◌<◌, ◌≤◌, ◌++◌, IfOk, OnOk, IsSome, map, length, slice_index_or, vec_len, vec_capacity};
+ghost use Rattle.std.specs.BTreeMap as tree;
+ghost use Rattle.lsm_below.specs.Keys.{Bytes, bytes_cmp};
+ghost use Rattle.lsm_model.specs.Ops.{op_entry, op_entries};
+ghost use Rattle.lsm_recorded.specs.declared.notes.Note.{Note};
+ghost use Rattle.lsm_recorded.specs.Marks.{mark_of, marked_all};
+ghost use Rattle.lsm_recorded.specs.Passes.{listed};
+ghost use Rattle.lsm_recorded.specs.Notes.{HasRoom, journal_entry, pass_entry, HaveNumber};
+
+use crate::marks::{Mark, mark_write, reserve_mark};
+use crate::pass::put_entry;
+use lsm_below::{InternalValue, SeqNo, UserKey, ValueType, share};
+use lsm_journal::entry_of;
+use lsm_model::{JournalEntry, Op};
+use std::alloc::{AllocError, Global};
+use std::collections::BTreeMap;
+
+/// An entry for the journal, and one for the pass.
+#[derive(Drop)]
+pub(crate) struct Note {
+    pub(crate) entry: InternalValue,
+    pub(crate) copy: InternalValue,
+}
+
+/// Copies of an entry.
+pub(crate) fn make_note(entry: &InternalValue) -> Result<Note, AllocError>
+    ensures { IfOk result (λ n. (n.entry ≡ entry.now) × (n.copy ≡ entry.now)) }
+{
+    Ok(Note {
+        entry: entry.copy()?,
+        copy: entry.copy()?,
+    })
+}
+
+/// Copies of the entry of a write.
+fn note_of(key: &UserKey, number: SeqNo, op: &Op) -> Result<Note, AllocError>
+    ensures { IfOk result (λ n. (n.entry ≡ op_entry key.now number op.now) × (n.copy ≡ op_entry key.now number op.now)) }
+{
+    let entry = entry_of(key, number, op)?;
+    let copy = entry.copy()?;
+    Ok(Note { entry, copy })
+}
+
+/// Copies of the entries of a batch.
+pub(crate) fn make_notes(
+    alloc: Global,
+    number: SeqNo,
+    ops: &[(UserKey, Op)],
+) -> Result<Vec<Note>, AllocError>
+    ensures entries { IfOk result (λ notes. map (λ n. n.entry) notes.items ≡ op_entries number ops.now) }
+    ensures copies { IfOk result (λ notes. map (λ n. n.copy) notes.items ≡ op_entries number ops.now) }
+{
+    let mut notes = Vec::with_capacity(alloc, ops.len())?;
+    for (key, op) in ops {
+        notes.push(note_of(key, number, op)?)?;
+    }
+    Ok(notes)
+}
+
+/// Makes room for the marks of the keys of these entries, which stay what they are.
+pub(crate) fn reserve_notes(
+    marks: &mut BTreeMap<UserKey, Mark>,
+    notes: &[Note],
+) -> Result<(), AllocError>
+    ensures same { (q : Bytes) → mark_of marks.new q ≡ mark_of marks.old q }
+    ensures there { OnOk result (HasRoom marks.new notes.now) }
+{
+    for note in notes {
+        reserve_mark(marks, &note.entry.key.user_key)?;
+    }
+    Ok(())
+}
+
+/// Notes these writes in the marks of their keys, for which there is room. All have this number.
+pub(crate) fn mark_notes(marks: &mut BTreeMap<UserKey, Mark>, number: SeqNo, notes: &[Note])
+    requires there { HasRoom marks.old notes.now }
+    requires numbered { HaveNumber number notes.now }
+    requires fits { number + 1 < 2 ^ 64 }
+    ensures { (q : Bytes) → mark_of marks.new q ≡ marked_all (map (λ n. n.entry) notes.now) (mark_of marks.old) q }
+{
+    for note in notes {
+        mark_write(marks, &note.entry);
+    }
+}
+
+/// Puts these entries behind a journal, and their copies with their places behind a pass. There is room.
+pub(crate) fn put_notes(
+    journal: &mut Vec<JournalEntry>,
+    pass: &mut Vec<(u64, JournalEntry)>,
+    notes: Vec<Note>,
+)
+    requires journal_room { vec_len journal.old + vec_len notes ≤ vec_capacity journal.old }
+    requires pass_room { vec_len pass.old + vec_len notes ≤ vec_capacity pass.old }
+    ensures journal { journal.new.items ≡ journal.old.items ++ map journal_entry notes.items }
+    ensures pass { pass.new.items ≡ pass.old.items ++ listed (length journal.old.items) (map pass_entry notes.items) }
+{
+    for note in notes {
+        put_entry(
+            journal,
+            pass,
+            JournalEntry::Write(note.entry),
+            JournalEntry::Write(note.copy),
+        );
+    }
+}

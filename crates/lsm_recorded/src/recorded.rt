@@ -1,0 +1,347 @@
+// A tree with the journal of its calls.
+ghost use Rattle.std.specs.Prelude.{◌≡◌, ℕ, ◌+◌, ◌<◌, ◌≤◌, ◌^◌, ◌∷◌, ◌++◌, [], true, false, None, IfOk, IfErr, IfSome, OnOk, OnErr, IsErrOf, IsTrue, ◌↔◌, ◌⊎◌, map};
+ghost use Rattle.std.specs.FinMap.{get as value_in, empty};
+ghost use Rattle.lsm_below.specs.Keys.{Bytes};
+ghost use Rattle.lsm_below.specs.Entries.{plain};
+ghost use Rattle.lsm_model.specs.Journal.{is_outside, replay, IsKept, Agrees};
+ghost use Rattle.lsm_model.specs.Ops.{op_entry, op_entries};
+ghost use Rattle.lsm_model.specs.Steps.{ReadsEqualReplay};
+ghost use Rattle.lsm_model.specs.Views.{found_at};
+ghost use Rattle.lsm_model.specs.declared.journal.JournalEntry.TheVariants.{Write as WriteEntry, Read as ReadEntry};
+ghost use Rattle.lsm_model.specs.declared.question.Question.TheVariants.{Get as GetQuestion};
+ghost use Rattle.lsm_model.specs.declared.question.Answer.TheVariants.{Found};
+ghost use Rattle.lsm_model.specs.declared.op.Op.TheVariants.{Set, Del, Weak};
+ghost use Rattle.lsm_state.specs.Held.{first_entries};
+ghost use Rattle.lsm_state.specs.Core.{fresh_core, state_of, latest_of, older_of};
+ghost use Rattle.lsm_state.specs.Calls.{Appends, WritesBatch, Gives, Rotates};
+ghost use Rattle.std.specs.List.{list_all};
+ghost use Rattle.lsm_recorded.specs.Marks.{mark_of, keeps_order, batch_keeps_order, op_type, op_allowed};
+ghost use Rattle.lsm_recorded.specs.Passes.{Notes};
+ghost use Rattle.lsm_recorded.specs.Closing.{ListTogether};
+
+use crate::closing::list_together;
+use crate::marks::{Mark, is_allowed, mark_write, read_mark, reserve_mark};
+use crate::notes::{make_note, make_notes, mark_notes, put_notes, reserve_notes};
+use crate::pass::{Pass, make_room, put_entry};
+use lsm_below::{InternalValue, MemtableId, SeqNo, UserKey, UserValue, ValueType, share};
+use lsm_journal::{copy_journal, read_entry};
+use lsm_model::{Answer, JournalEntry, Op, Question};
+use lsm_parts::{Config, Error, LIMIT, SequenceNumberCounter};
+use lsm_state::TreeState;
+use lsm_store::{NoStore, Store};
+use std::alloc::{AllocError, Global};
+use std::collections::BTreeMap;
+use std::marker::Model;
+
+/// A tree with the journal of its calls.
+///
+/// ```text
+/// let mut tree = Recorded::open_in_memory(alloc, Config::new(0, 0, 0));
+/// let mut pass = Pass::new(alloc);
+/// let number = tree.write(&mut pass, vec![in alloc; (key, Op::Set(value))]?)?;
+/// let found = tree.get(&mut pass, &key, number + 1)?;
+/// ```
+///
+/// Every write is in order: its number is below the counter,
+/// not below an install or a clear, and above each earlier one of its key; a weakly removed key has
+/// at most one value.
+///
+/// Its type keeps three facts: each read of the journal answers what the replay of the journal before it
+/// does; what each snapshot sees is the replay at it; and a snapshot that is below no watermark is answered.
+#[derive(Drop)]
+pub struct Recorded<S: Store = NoStore> {
+    alloc: Global,
+    core: TreeState<S>,
+    journal: Vec<JournalEntry>,
+    marks: BTreeMap<UserKey, Mark>,
+    /// The greatest number of an install or a clear.
+    floor: SeqNo,
+}
+
+impl<S: Store> Model for Recorded<S> {
+    ghost use Rattle.lsm_recorded.specs.Recorded.{SeenRecorded, IsRecorded};
+
+    ghost Value = { SeenRecorded S };
+
+    ghost view = { λ r. record { tree = r.core; journal = r.journal.items } };
+
+    ghost invariant = { λ r. IsRecorded r.marks r.floor r.core.core r.journal.items };
+}
+
+/// Whether writes under this number keep the order of their keys, and of installs and clears.
+fn all_allowed(
+    marks: &BTreeMap<UserKey, Mark>,
+    floor: SeqNo,
+    number: SeqNo,
+    ops: &[(UserKey, Op)],
+) -> bool
+    ensures { result ≡ list_all (op_allowed (mark_of marks.now) floor number) ops.now }
+{
+    for (key, op) in ops {
+        if !is_op_allowed(marks, floor, number, key, op) {
+            return false;
+        }
+    }
+    true
+}
+
+fn is_op_allowed(
+    marks: &BTreeMap<UserKey, Mark>,
+    floor: SeqNo,
+    number: SeqNo,
+    key: &UserKey,
+    op: &Op,
+) -> bool
+    ensures { result ≡ op_allowed (mark_of marks.now) floor number (key.now, op.now) }
+{
+    floor <= number && is_allowed(read_mark(marks, key), number, type_of(op))
+}
+
+/// The type of the entry that a write makes.
+fn type_of(op: &Op) -> ValueType
+    ensures { result ≡ op_type op.now }
+{
+    match op {
+        Op::Set(_) => ValueType::Value,
+        Op::Del => ValueType::Tombstone,
+        Op::Weak => ValueType::WeakTombstone,
+    }
+}
+
+impl Recorded<NoStore> {
+    /// An empty tree in memory with an empty journal, whose counters start where the configuration says.
+    pub fn open_in_memory(alloc: Global, config: Config) -> Recorded<NoStore>
+        ensures journal { result.journal ≡ [] }
+        ensures core { result.tree.core ≡ fresh_core config }
+    {
+        Recorded {
+            alloc,
+            core: TreeState::open_in_memory(alloc, config),
+            journal: Vec::new(alloc),
+            marks: BTreeMap::new(alloc),
+            floor: 0,
+        }
+    }
+}
+
+impl<S: Store> Recorded<S> {
+    ghost use Rattle.lsm_recorded.specs.Recorded.{OwnOr};
+
+    /// The facts that the type keeps: every super version is ordered, each view equals the replay,
+    /// kept snapshots are answered, and each read of the journal agrees with the replay before it.
+    pub fn facts(&self)
+        ensures { ReadsEqualReplay [] empty (state_of self.now.journal self.now.tree.core) }
+    {
+        let _ = &self.journal;
+    }
+
+    /// The journal of the calls so far.
+    pub fn journal(&self) -> &[JournalEntry]
+        ensures { result.now ≡ self.now.journal }
+    {
+        &self.journal
+    }
+
+    /// The counter of numbers.
+    pub fn seqno(&self) -> &SequenceNumberCounter
+        ensures { result.now ≡ self.now.tree.core.seqno }
+    {
+        self.core.seqno()
+    }
+
+    /// The visible counter: the snapshot that sees every batch so far.
+    pub fn visible_seqno(&self) -> &SequenceNumberCounter
+        ensures { result.now ≡ self.now.tree.core.visible_seqno }
+    {
+        self.core.visible_seqno()
+    }
+
+    /// The value of a key at a snapshot, as `TreeState::get`; and the read is put behind the journal and the pass.
+    pub fn get(
+        &mut self,
+        pass: &mut Pass,
+        key: &UserKey,
+        snapshot: SeqNo,
+    ) -> Result<Option<UserValue>, Error>
+        ensures core { IfOk result (λ v. Gives self.old.tree.core key.now snapshot v) }
+        ensures replay { IfOk result (λ v. is_outside key.now snapshot self.old.journal ≡ true → v ≡ value_in (replay empty self.old.journal snapshot) key.now) }
+        ensures noted { IfOk result (λ v. Notes (ReadEntry snapshot (GetQuestion key.now) (Found v) ∷ []) self.old.journal self.new.journal pass.old pass.new) }
+        ensures tree { self.new.tree ≡ self.old.tree }
+
+        ensures err { OnErr result ((self.new ≡ self.old) × (pass.new ≡ pass.old)) }
+        ensures too_old { IsErrOf result Error.SnapshotTooOld ↔ (found_at snapshot (latest_of self.old.tree.core) (older_of self.old.tree.core) ≡ None) }
+        ensures kept { IsKept snapshot self.old.journal → IfErr result (λ e. e ≡ Error.OutOfMemory) }
+        ensures only { IfErr result (λ e. (e ≡ Error.SnapshotTooOld) ⊎ (e ≡ Error.OutOfMemory)) }
+    {
+        let value = self.core.get(key.as_slice(), snapshot)?;
+        let entry = read_entry(snapshot, key, &value)?;
+        let copy = read_entry(snapshot, key, &value)?;
+        make_room(&mut self.journal, &mut pass.entries, 1)?;
+        put_entry(&mut self.journal, &mut pass.entries, entry, copy);
+        Ok(value)
+    }
+
+    /// Seals the active memtable, as `TreeState::rotate_memtable`. The journal and the pass stay.
+    pub fn rotate_memtable(&mut self, pass: &mut Pass) -> Result<Option<MemtableId>, Error>
+        ensures core { IfOk result (λ r. Rotates self.old.tree.core r self.new.tree.core) }
+        ensures journal { self.new.journal ≡ self.old.journal }
+        ensures pass { pass.new ≡ pass.old }
+        ensures err { OnErr result (self.new ≡ self.old) }
+        ensures out_of_numbers { IsErrOf result Error.OutOfNumbers → LIMIT ≤ self.old.tree.core.next_memtable }
+        ensures told { LIMIT ≤ self.old.tree.core.next_memtable → IfOk result (λ _. first_entries self.old.tree.core.memtables ≡ []) }
+        ensures only { IfErr result (λ e. (e ≡ Error.OutOfNumbers) ⊎ (e ≡ Error.OutOfMemory)) }
+    {
+        let _ = pass;
+        self.core.rotate_memtable()
+    }
+
+    /// Writes an entry under its own number, as `TreeState::append_entry`, and puts it behind the journal
+    /// and the pass. `OutOfOrder`, before all else, exactly where it would break the order. Refused, it changes nothing.
+    pub fn append_entry(
+        &mut self,
+        pass: &mut Pass,
+        entry: InternalValue,
+    ) -> Result<(u64, u64), Error>
+        ensures out_of_order { IsErrOf result Error.OutOfOrder ↔ (keeps_order self.old.journal self.old.tree.core.seqno (plain entry) ≡ false) }
+        ensures core { OwnOr result (Appends (plain entry) result self.old.tree.core self.new.tree.core) }
+        ensures noted { OnOk result (Notes (WriteEntry (plain entry) ∷ []) self.old.journal self.new.journal pass.old pass.new) }
+        ensures err { OnErr result ((self.new ≡ self.old) × (pass.new ≡ pass.old)) }
+    {
+        if !self.keeps_order(&entry) {
+            return Err(Error::OutOfOrder);
+        }
+        let entry = entry.into_plain();
+        let note = make_note(&entry)?;
+        make_room(&mut self.journal, &mut pass.entries, 1)?;
+        reserve_mark(&mut self.marks, &note.entry.key.user_key)?;
+        let sizes = self.core.append_entry(entry)?;
+        mark_write(&mut self.marks, &note.entry);
+        put_entry(
+            &mut self.journal,
+            &mut pass.entries,
+            JournalEntry::Write(note.entry),
+            JournalEntry::Write(note.copy),
+        );
+        Ok(sizes)
+    }
+
+    /// Sets a key under a number, as `append_entry`.
+    pub fn insert(
+        &mut self,
+        pass: &mut Pass,
+        key: UserKey,
+        value: UserValue,
+        seqno: SeqNo,
+    ) -> Result<(u64, u64), Error>
+        ensures out_of_order { IsErrOf result Error.OutOfOrder ↔ (keeps_order self.old.journal self.old.tree.core.seqno (op_entry key seqno (Set value)) ≡ false) }
+        ensures core { OwnOr result (Appends (op_entry key seqno (Set value)) result self.old.tree.core self.new.tree.core) }
+        ensures noted { OnOk result (Notes (WriteEntry (op_entry key seqno (Set value)) ∷ []) self.old.journal self.new.journal pass.old pass.new) }
+        ensures err { OnErr result ((self.new ≡ self.old) × (pass.new ≡ pass.old)) }
+    {
+        let entry = InternalValue::from_components(key, value, seqno, ValueType::Value);
+        self.append_entry(pass, entry)
+    }
+
+    /// Removes a key under a number, as `append_entry`.
+    pub fn remove(
+        &mut self,
+        pass: &mut Pass,
+        key: UserKey,
+        seqno: SeqNo,
+    ) -> Result<(u64, u64), Error>
+        ensures out_of_order { IsErrOf result Error.OutOfOrder ↔ (keeps_order self.old.journal self.old.tree.core.seqno (op_entry key seqno Del) ≡ false) }
+        ensures core { OwnOr result (Appends (op_entry key seqno Del) result self.old.tree.core self.new.tree.core) }
+        ensures noted { OnOk result (Notes (WriteEntry (op_entry key seqno Del) ∷ []) self.old.journal self.new.journal pass.old pass.new) }
+        ensures err { OnErr result ((self.new ≡ self.old) × (pass.new ≡ pass.old)) }
+    {
+        self.append_entry(pass, InternalValue::new_tombstone(key, seqno))
+    }
+
+    /// Removes a key, of which at most one value was ever written, as `append_entry`.
+    pub fn remove_weak(
+        &mut self,
+        pass: &mut Pass,
+        key: UserKey,
+        seqno: SeqNo,
+    ) -> Result<(u64, u64), Error>
+        ensures out_of_order { IsErrOf result Error.OutOfOrder ↔ (keeps_order self.old.journal self.old.tree.core.seqno (op_entry key seqno Weak) ≡ false) }
+        ensures core { OwnOr result (Appends (op_entry key seqno Weak) result self.old.tree.core self.new.tree.core) }
+        ensures noted { OnOk result (Notes (WriteEntry (op_entry key seqno Weak) ∷ []) self.old.journal self.new.journal pass.old pass.new) }
+        ensures err { OnErr result ((self.new ≡ self.old) × (pass.new ≡ pass.old)) }
+    {
+        self.append_entry(pass, InternalValue::new_weak_tombstone(key, seqno))
+    }
+
+    /// Writes a batch under the next number, as `TreeState::write`, and puts its entries behind the journal
+    /// and the pass. `OutOfOrder`, before all else, exactly where one of its writes would break the order.
+    /// Refused, it changes nothing.
+    pub fn write(&mut self, pass: &mut Pass, ops: Vec<(UserKey, Op)>) -> Result<SeqNo, Error>
+        ensures out_of_order { IsErrOf result Error.OutOfOrder ↔ (batch_keeps_order self.old.journal self.old.tree.core.seqno ops.items ≡ false) }
+        ensures core { OwnOr result (WritesBatch ops.items result self.old.tree.core self.new.tree.core) }
+        ensures noted { OnOk result (Notes (map WriteEntry (op_entries self.old.tree.core.seqno ops.items)) self.old.journal self.new.journal pass.old pass.new) }
+        ensures err { OnErr result ((self.new ≡ self.old) × (pass.new ≡ pass.old)) }
+    {
+        let number = self.core.seqno().get();
+        if !self.batch_keeps_order(number, &ops) {
+            return Err(Error::OutOfOrder);
+        }
+        let notes = make_notes(self.alloc, number, &ops)?;
+        make_room(&mut self.journal, &mut pass.entries, notes.len())?;
+        reserve_notes(&mut self.marks, &notes)?;
+        let number = self.core.write(ops)?;
+        mark_notes(&mut self.marks, number, &notes);
+        put_notes(&mut self.journal, &mut pass.entries, notes);
+        Ok(number)
+    }
+
+    /// A copy of the journal, where the passes together list it: each of its places once, with the entry there,
+    /// and nothing else, each pass its own by rising places. Else, also for want of memory, the passes.
+    pub fn close(&self, passes: Vec<Pass>) -> Result<Vec<JournalEntry>, Vec<Pass>>
+        ensures journal { IfOk result (λ j. j.items ≡ self.now.journal) }
+        ensures listed { IfOk result (λ j. ListTogether j.items passes.items) }
+        ensures agrees { IfOk result (λ j. Agrees empty j.items) }
+        ensures back { IfErr result (λ back. back ≡ passes) }
+    {
+        self.facts();
+        match self.copy_if_listed(&passes) {
+            Ok(Some(journal)) => Ok(journal),
+            Ok(None) | Err(_) => Err(passes),
+        }
+    }
+
+    /// A copy of the journal, where the passes together list it.
+    fn copy_if_listed(&self, passes: &[Pass]) -> Result<Option<Vec<JournalEntry>>, AllocError>
+        ensures journal { IfOk result (λ told. IfSome told (λ j. j.items ≡ self.now.journal)) }
+        ensures listed { IfOk result (λ told. IfSome told (λ j. ListTogether j.items passes.now)) }
+    {
+        if !list_together(self.alloc, &self.journal, passes)? {
+            return Ok(None);
+        }
+        let journal = copy_journal(self.alloc, &self.journal)?;
+        Ok(Some(journal))
+    }
+
+    /// Whether each write of a batch under this number, the counter's, keeps the order of the journal.
+    fn batch_keeps_order(&self, number: SeqNo, ops: &[(UserKey, Op)]) -> bool
+        requires { number ≡ self.now.tree.core.seqno }
+        ensures { result ≡ batch_keeps_order self.now.journal number ops.now }
+    {
+        all_allowed(&self.marks, self.floor, number, ops)
+    }
+
+    /// Whether a write of this entry keeps the order of the journal.
+    fn keeps_order(&self, entry: &InternalValue) -> bool
+        ensures is { result ≡ keeps_order self.now.journal self.now.tree.core.seqno entry.now }
+        ensures fits { IsTrue result → entry.now.key.seqno + 1 < 2 ^ 64 }
+    {
+        entry.key.seqno < self.core.seqno().get()
+            && self.floor <= entry.key.seqno
+            && is_allowed(
+                read_mark(&self.marks, &entry.key.user_key),
+                entry.key.seqno,
+                entry.key.value_type,
+            )
+    }
+}
+
+mod range;

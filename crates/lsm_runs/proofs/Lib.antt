@@ -1,0 +1,5 @@
+pub mod LowReads
+pub mod Outcomes
+pub mod ReadOutcomes
+pub mod ReadReplays
+pub mod Replays

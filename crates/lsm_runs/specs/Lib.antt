@@ -1,0 +1,3 @@
+pub mod Told
+pub mod ReadSteps
+pub mod Runs

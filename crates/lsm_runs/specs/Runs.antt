@@ -1,0 +1,156 @@
+-- What a run of steps does, and what its reads answer.
+use Rattle.std.specs.Prelude.{◌≡◌, ℕ, ◌+◌, ◌<◌, ◌≤◌, ◌^◌, ◌⊎◌, max, Bool, true, List, [], ◌∷◌, ◌++◌, Result, Ok, Err, map, filter, nat_le}
+use Rattle.std.specs.declared.ops.Bound.TheVariants.{Unbounded}
+use Rattle.lsm_below.specs.Keys.{Bytes}
+use Rattle.lsm_below.specs.Entries.{Entry, above, plain}
+use Rattle.lsm_model.specs.Journal.{Event, Map, InOrder}
+use Rattle.lsm_model.specs.Steps.{IsOpened, ReadsEqualReplay}
+use Rattle.lsm_model.specs.Ops.{op_entry, op_entries}
+use Rattle.lsm_model.specs.declared.op.Op.{Op}
+use Rattle.lsm_model.specs.declared.op.Op.TheVariants.{Set as SetTo, Del, Weak}
+use Rattle.lsm_model.specs.declared.journal.JournalEntry.TheVariants.{Write as Wrote, Read}
+use Rattle.lsm_model.specs.declared.question.Question.TheVariants.{Between, Prefix as AskPrefix}
+use Rattle.lsm_parts.specs.declared.tree_iter.End.TheVariants.{Front, Back}
+use Rattle.lsm_parts.specs.declared.error.Error.{Error}
+use Rattle.lsm_parts.specs.declared.error.Error.TheVariants.{OutOfMemory, OutOfNumbers}
+use Rattle.lsm_state.specs.Held.{first_entries}
+use Rattle.lsm_state.specs.Core.{Core, state_of}
+use Rattle.lsm_state.specs.Calls.{Appends, WritesBatch, Rotates}
+use Rattle.lsm_runs.specs.declared.steps.Counter.{Counter}
+use Rattle.lsm_runs.specs.declared.steps.Counter.TheVariants.{Seqno, Visible}
+use Rattle.lsm_runs.specs.declared.steps.Step.{Step}
+use Rattle.lsm_runs.specs.declared.steps.Step.TheVariants.{Insert, Remove, RemoveWeak, AppendEntry, Write, Get, GetInternalEntry, ContainsKey, SizeOf, Range, Iter, Prefix, Len, IsEmpty, FirstKeyValue, LastKeyValue, RotateMemtable, Next, Set, FetchMax}
+use Rattle.lsm_runs.specs.declared.steps.Reply.{Reply}
+use Rattle.lsm_runs.specs.declared.steps.Reply.TheVariants.{Sizes, Number, Sealed, Done, Refused}
+use Rattle.lsm_runs.specs.ReadSteps.{TakesGet, TakesGetEntry, TakesSilent, IsContainsReply, IsSizeReply, TakesRange, TakesPrefix, IsLenReply, IsEmptyReply, IsEndReply, GetAnswers, GetEntryAnswers, ContainsAnswers, SizeAnswers, PairsAnswer, LenAnswers, EmptyAnswers, EndAnswers}
+use Rattle.lsm_runs.specs.Told.{Told}
+
+-- ---- what a step of each kind may answer, add to the journal and do
+
+-- a write of one entry
+abbrev pub TakesEntry : Entry → Reply → List Event → Core → Core → Type 0
+TakesEntry e (Sizes size total) events old new = (events ≡ Wrote e ∷ []) × Appends e (Ok (size, total)) old new
+TakesEntry e (Refused x) events old new = (events ≡ []) × Appends e (Err x) old new
+TakesEntry e reply events old new = ⊥
+
+-- a write of a batch
+abbrev pub TakesBatch : List (Bytes × Op) → Reply → List Event → Core → Core → Type 0
+TakesBatch ops (Number n) events old new = (events ≡ map Wrote (op_entries n ops)) × WritesBatch ops (Ok n) old new
+TakesBatch ops (Refused x) events old new = (events ≡ []) × WritesBatch ops (Err x) old new
+TakesBatch ops reply events old new = ⊥
+
+-- a rotation: where no id is left it is refused as that, or for want of memory, unless there is nothing to seal
+abbrev pub TakesRotate : Reply → List Event → Core → Core → Type 0
+TakesRotate (Sealed id) events old new = (events ≡ []) × Rotates old id new × (2 ^ 63 ≤ old.next_memtable → first_entries old.memtables ≡ [])
+TakesRotate (Refused x) events old new = (events ≡ []) × (new ≡ old) × ((x ≡ OutOfNumbers) ⊎ (x ≡ OutOfMemory)) × (x ≡ OutOfNumbers → 2 ^ 63 ≤ old.next_memtable)
+TakesRotate reply events old new = ⊥
+
+-- where a counter stands
+abbrev pub counter_of : Counter → Core → ℕ
+counter_of Seqno c = c.seqno
+counter_of Visible c = c.visible_seqno
+
+-- a tree with another number in a counter
+abbrev pub with_counter : Counter → ℕ → Core → Core
+with_counter Seqno n c = record { config = c.config; memtables = c.memtables; history = c.history; next_memtable = c.next_memtable; seqno = n; visible_seqno = c.visible_seqno }
+with_counter Visible n c = record { config = c.config; memtables = c.memtables; history = c.history; next_memtable = c.next_memtable; seqno = c.seqno; visible_seqno = n }
+
+-- the draw of a counter's next number: refused exactly where the counter stands at 2^63 or above
+abbrev pub TakesNext : Counter → Reply → List Event → Core → Core → Type 0
+TakesNext counter (Number n) events old new = (events ≡ []) × (n ≡ counter_of counter old) × (n < 2 ^ 63) × (new ≡ with_counter counter (n + 1) old)
+TakesNext counter (Refused x) events old new = (events ≡ []) × (x ≡ OutOfNumbers) × (2 ^ 63 ≤ counter_of counter old) × (new ≡ old)
+TakesNext counter reply events old new = ⊥
+
+-- a counter is put at a number
+abbrev pub TakesCounter : Counter → ℕ → Reply → List Event → Core → Core → Type 0
+TakesCounter counter n Done events old new = (events ≡ []) × (new ≡ with_counter counter n old)
+TakesCounter counter n reply events old new = ⊥
+
+-- what a step may answer, add to the journal and do
+abbrev pub Takes : Step → Reply → List Event → Core → Core → Type 0
+Takes (Insert k v n) reply events old new = TakesEntry (op_entry k n (SetTo v)) reply events old new
+Takes (Remove k n) reply events old new = TakesEntry (op_entry k n Del) reply events old new
+Takes (RemoveWeak k n) reply events old new = TakesEntry (op_entry k n Weak) reply events old new
+Takes (AppendEntry e) reply events old new = TakesEntry (plain e) reply events old new
+Takes (Write ops) reply events old new = TakesBatch ops reply events old new
+Takes (Get k s) reply events old new = TakesGet k s reply events old new
+Takes (GetInternalEntry k s) reply events old new = TakesGetEntry k s reply events old new
+Takes (ContainsKey k s) reply events old new = TakesSilent (IsContainsReply k s old) reply events old new
+Takes (SizeOf k s) reply events old new = TakesSilent (IsSizeReply k s old) reply events old new
+Takes (Range low high s) reply events old new = TakesRange low high s reply events old new
+Takes (Iter s) reply events old new = TakesRange Unbounded Unbounded s reply events old new
+Takes (Prefix p s) reply events old new = TakesPrefix p s reply events old new
+Takes (Len s) reply events old new = TakesSilent (IsLenReply s old) reply events old new
+Takes (IsEmpty s) reply events old new = TakesSilent (IsEmptyReply s old) reply events old new
+Takes (FirstKeyValue s) reply events old new = TakesSilent (IsEndReply Front s old) reply events old new
+Takes (LastKeyValue s) reply events old new = TakesSilent (IsEndReply Back s old) reply events old new
+Takes RotateMemtable reply events old new = TakesRotate reply events old new
+Takes (Next counter) reply events old new = TakesNext counter reply events old new
+Takes (Set counter n) reply events old new = TakesCounter counter n reply events old new
+Takes (FetchMax counter n) reply events old new = TakesCounter counter (max (counter_of counter old) n) reply events old new
+
+-- ---- outcomes
+
+-- the outcome of a write of one entry, where these events are noted if it is accepted
+abbrev pub told_entry : List Event → Result (ℕ × ℕ) Error → Told
+told_entry events (Ok sizes) = record { reply = Sizes sizes.0 sizes.1; entries = events }
+told_entry events (Err x) = record { reply = Refused x; entries = [] }
+
+-- the same of a batch
+abbrev pub told_batch : List Event → Result ℕ Error → Told
+told_batch events (Ok n) = record { reply = Number n; entries = events }
+told_batch events (Err x) = record { reply = Refused x; entries = [] }
+
+-- ---- runs
+
+-- the steps, one behind the other, lead from the old state to the new with these outcomes
+abbrev pub Ran : List Step → List Told → Core → Core → Type 0
+Ran [] [] old new = new ≡ old
+Ran (x ∷ xs) (t ∷ ts) old new = (mid : Core) × Takes x t.reply t.entries old mid × Ran xs ts mid new
+Ran [] (t ∷ ts) old new = ⊥
+Ran (x ∷ xs) [] old new = ⊥
+
+-- the journal of a run
+abbrev pub journal_of : List Told → List Event
+journal_of [] = []
+journal_of (t ∷ ts) = t.entries ++ journal_of ts
+
+-- ---- what the reads answer
+
+-- a step answers right, if it reads
+abbrev pub StepAnswers : List Entry → Map → List Event → Step → Reply → Type 0
+StepAnswers opened start before (Get k s) reply = GetAnswers opened start before k s reply
+StepAnswers opened start before (GetInternalEntry k s) reply = GetEntryAnswers opened start before k s reply
+StepAnswers opened start before (ContainsKey k s) reply = ContainsAnswers opened start before k s reply
+StepAnswers opened start before (SizeOf k s) reply = SizeAnswers opened start before k s reply
+StepAnswers opened start before (Range low high s) reply = PairsAnswer opened start before (Between low high) s reply
+StepAnswers opened start before (Iter s) reply = PairsAnswer opened start before (Between Unbounded Unbounded) s reply
+StepAnswers opened start before (Prefix p s) reply = PairsAnswer opened start before (AskPrefix p) s reply
+StepAnswers opened start before (Len s) reply = LenAnswers opened start before s reply
+StepAnswers opened start before (IsEmpty s) reply = EmptyAnswers opened start before s reply
+StepAnswers opened start before (FirstKeyValue s) reply = EndAnswers opened start before Front s reply
+StepAnswers opened start before (LastKeyValue s) reply = EndAnswers opened start before Back s reply
+StepAnswers opened start before step reply = Unit {0}
+
+-- each step answers right, behind this journal and the entries of the steps before it
+abbrev pub EachAnswers : List Entry → Map → List Event → List Step → List Told → Type 0
+EachAnswers opened start before (x ∷ xs) (t ∷ ts) = StepAnswers opened start before x t.reply × EachAnswers opened start (before ++ t.entries) xs ts
+EachAnswers opened start before [] ts = Unit {0}
+EachAnswers opened start before (x ∷ xs) [] = Unit {0}
+
+-- is an event anything but a read at a snapshot below what was opened?
+abbrev pub is_no_low_read : List Entry → Event → Bool
+is_no_low_read opened (Read s question told) = nat_le (above opened) s
+is_no_low_read opened event = true
+
+-- a journal without its reads below what was opened: what a key was down there is not known. All of it where nothing was opened
+abbrev pub without_low_reads : List Entry → List Event → List Event
+without_low_reads opened journal = filter (is_no_low_read opened) journal
+
+-- From a tree as opening left it, whenever the journal is in order: each step answers right, every super version
+-- stays ordered, views equal replays, and kept snapshots are answered. In order speaks of the journal alone: a
+-- counter that is set back is no matter for it, so long as the writes themselves keep their order.
+abbrev pub RunEqualsReplay : (opened : List Entry) (start : Map) → List Step → List Told → Core → Core → Type 0
+RunEqualsReplay opened start steps told old new =
+    IsOpened opened start (state_of [] old) → InOrder opened (journal_of told)
+    → EachAnswers opened start [] steps told × ReadsEqualReplay opened start (state_of (without_low_reads opened (journal_of told)) new)

@@ -1,0 +1,395 @@
+// A list of calls on a tree, with the replay theorem.
+ghost use Rattle.std.specs.Prelude.{◌≡◌, ◌≤◌, ◌++◌, ◌∷◌, [], List, max, map, take, length, IfOk, OnOk, OnErr};
+ghost use Rattle.lsm_below.specs.Entries.{Entry, plain};
+ghost use Rattle.lsm_model.specs.Journal.{Map};
+ghost use Rattle.lsm_model.specs.Ops.{op_entry, op_entries};
+ghost use Rattle.lsm_model.specs.declared.op.Op.TheVariants.{Set as SetTo, Del, Weak};
+ghost use Rattle.lsm_model.specs.declared.journal.JournalEntry.TheVariants.{Write as Wrote, Read};
+ghost use Rattle.lsm_model.specs.declared.question.Question.TheVariants.{Get as AskGet};
+ghost use Rattle.lsm_model.specs.declared.question.Answer.TheVariants.{Found};
+ghost use Rattle.lsm_runs.specs.Told.{Told};
+ghost use Rattle.lsm_runs.specs.ReadSteps.{TakesGet, TakesGetEntry, TakesSilent, IsContainsReply, IsSizeReply};
+ghost use Rattle.lsm_runs.specs.Runs.{Takes, TakesEntry, TakesBatch, TakesRotate, TakesNext, TakesCounter, counter_of, told_entry, told_batch, Ran, RunEqualsReplay};
+
+use crate::{Counter, Outcome, Reply, Step};
+use lsm_below::{InternalValue, SeqNo, UserKey, UserValue, ValueType, share};
+use lsm_journal::{entry_of, read_entry};
+use lsm_model::{Answer, JournalEntry, Op, Question};
+use lsm_parts::Error;
+use lsm_state::TreeState;
+use lsm_store::Store;
+use std::alloc::{AllocError, Global};
+
+// ---- outcomes
+
+fn refused(alloc: Global, error: Error) -> Outcome
+    ensures { result ≡ record { reply = Reply.Refused error; entries = [] } }
+{
+    silent(alloc, Reply::Refused(error))
+}
+
+/// An outcome that adds nothing to the journal.
+fn silent(alloc: Global, reply: Reply) -> Outcome
+    ensures { result ≡ record { reply = reply; entries = [] } }
+{
+    Outcome {
+        reply,
+        entries: Vec::new(alloc),
+    }
+}
+
+/// A journal of one entry.
+fn one_entry(alloc: Global, entry: JournalEntry) -> Result<Vec<JournalEntry>, AllocError>
+    ensures { IfOk result (λ list. list.items ≡ entry ∷ []) }
+{
+    let mut list = Vec::new(alloc);
+    list.push(entry)?;
+    Ok(list)
+}
+
+/// The outcome of a write of one entry, which is noted if it was accepted.
+fn of_entry(
+    alloc: Global,
+    entries: Vec<JournalEntry>,
+    written: Result<(u64, u64), Error>,
+) -> Outcome
+    ensures { result ≡ told_entry entries.items written }
+{
+    match written {
+        Ok((size, total)) => Outcome {
+            reply: Reply::Sizes(size, total),
+            entries,
+        },
+        Err(error) => refused(alloc, error),
+    }
+}
+
+// ---- writes of one entry
+
+fn insert<S: Store>(
+    alloc: Global,
+    state: &mut TreeState<S>,
+    key: &UserKey,
+    value: &UserValue,
+    seqno: SeqNo,
+) -> Result<Outcome, AllocError>
+    ensures ok { IfOk result (λ told. TakesEntry (op_entry key.now seqno (SetTo value.now)) told.reply told.entries state.old.core state.new.core) }
+    ensures err { OnErr result (state.new ≡ state.old) }
+    ensures store { state.new.store ≡ state.old.store }
+{
+    let entry = InternalValue::from_components(share(key)?, share(value)?, seqno, ValueType::Value);
+    let entries = one_entry(alloc, JournalEntry::Write(entry))?;
+    let written = state.insert(share(key)?, share(value)?, seqno);
+    Ok(of_entry(alloc, entries, written))
+}
+
+fn remove<S: Store>(
+    alloc: Global,
+    state: &mut TreeState<S>,
+    key: &UserKey,
+    seqno: SeqNo,
+) -> Result<Outcome, AllocError>
+    ensures ok { IfOk result (λ told. TakesEntry (op_entry key.now seqno Del) told.reply told.entries state.old.core state.new.core) }
+    ensures err { OnErr result (state.new ≡ state.old) }
+    ensures store { state.new.store ≡ state.old.store }
+{
+    let entry = InternalValue::new_tombstone(share(key)?, seqno);
+    let entries = one_entry(alloc, JournalEntry::Write(entry))?;
+    let written = state.remove(share(key)?, seqno);
+    Ok(of_entry(alloc, entries, written))
+}
+
+fn remove_weak<S: Store>(
+    alloc: Global,
+    state: &mut TreeState<S>,
+    key: &UserKey,
+    seqno: SeqNo,
+) -> Result<Outcome, AllocError>
+    ensures ok { IfOk result (λ told. TakesEntry (op_entry key.now seqno Weak) told.reply told.entries state.old.core state.new.core) }
+    ensures err { OnErr result (state.new ≡ state.old) }
+    ensures store { state.new.store ≡ state.old.store }
+{
+    let entry = InternalValue::new_weak_tombstone(share(key)?, seqno);
+    let entries = one_entry(alloc, JournalEntry::Write(entry))?;
+    let written = state.remove_weak(share(key)?, seqno);
+    Ok(of_entry(alloc, entries, written))
+}
+
+fn append_entry<S: Store>(
+    alloc: Global,
+    state: &mut TreeState<S>,
+    entry: &InternalValue,
+) -> Result<Outcome, AllocError>
+    ensures ok { IfOk result (λ told. TakesEntry (plain entry.now) told.reply told.entries state.old.core state.new.core) }
+    ensures err { OnErr result (state.new ≡ state.old) }
+    ensures store { state.new.store ≡ state.old.store }
+{
+    let noted = entry.copy()?.into_plain();
+    let entries = one_entry(alloc, JournalEntry::Write(noted))?;
+    let written = state.append_entry(entry.copy()?);
+    Ok(of_entry(alloc, entries, written))
+}
+
+// ---- batches
+
+fn share_op(op: &Op) -> Result<Op, AllocError>
+    ensures { IfOk result (λ copy. copy ≡ op.now) }
+{
+    match op {
+        Op::Set(value) => Ok(Op::Set(share(value)?)),
+        Op::Del => Ok(Op::Del),
+        Op::Weak => Ok(Op::Weak),
+    }
+}
+
+fn share_ops(alloc: Global, ops: &[(UserKey, Op)]) -> Result<Vec<(UserKey, Op)>, AllocError>
+    ensures { IfOk result (λ copy. copy.items ≡ ops.now) }
+{
+    let mut copy = Vec::with_capacity(alloc, ops.len())?;
+    for (key, op) in ops {
+        copy.push((share(key)?, share_op(op)?))?;
+    }
+    Ok(copy)
+}
+
+/// The entries of a batch, as the journal notes them.
+fn batch_entries(
+    alloc: Global,
+    seqno: SeqNo,
+    ops: &[(UserKey, Op)],
+) -> Result<Vec<JournalEntry>, AllocError>
+    ensures { IfOk result (λ list. list.items ≡ map Wrote (op_entries seqno ops.now)) }
+{
+    let mut list = Vec::with_capacity(alloc, ops.len())?;
+    for (key, op) in ops {
+        list.push(JournalEntry::Write(entry_of(key, seqno, op)?))?;
+    }
+    Ok(list)
+}
+
+/// The outcome of a batch, whose entries are noted if it was accepted.
+fn of_batch(alloc: Global, entries: Vec<JournalEntry>, written: Result<SeqNo, Error>) -> Outcome
+    ensures { result ≡ told_batch entries.items written }
+{
+    match written {
+        Ok(number) => Outcome {
+            reply: Reply::Number(number),
+            entries,
+        },
+        Err(error) => refused(alloc, error),
+    }
+}
+
+fn write<S: Store>(
+    alloc: Global,
+    state: &mut TreeState<S>,
+    ops: &[(UserKey, Op)],
+) -> Result<Outcome, AllocError>
+    ensures ok { IfOk result (λ told. TakesBatch ops.now told.reply told.entries state.old.core state.new.core) }
+    ensures err { OnErr result (state.new ≡ state.old) }
+    ensures store { state.new.store ≡ state.old.store }
+{
+    let entries = batch_entries(alloc, state.seqno().get(), ops)?;
+    let written = state.write(share_ops(alloc, ops)?);
+    Ok(of_batch(alloc, entries, written))
+}
+
+// ---- reads
+
+fn get<S: Store>(
+    alloc: Global,
+    state: &TreeState<S>,
+    key: &UserKey,
+    snapshot: SeqNo,
+) -> Result<Outcome, AllocError>
+    ensures { IfOk result (λ told. TakesGet key.now snapshot told.reply told.entries state.now.core state.now.core) }
+{
+    match state.get(key.as_slice(), snapshot) {
+        Ok(value) => {
+            let read = read_entry(snapshot, key, &value)?;
+            let entries = one_entry(alloc, read)?;
+            Ok(Outcome {
+                reply: Reply::Value(value),
+                entries,
+            })
+        }
+        Err(error) => Ok(refused(alloc, error)),
+    }
+}
+
+fn get_internal_entry<S: Store>(
+    alloc: Global,
+    state: &TreeState<S>,
+    key: &UserKey,
+    snapshot: SeqNo,
+) -> Outcome
+    ensures { TakesGetEntry key.now snapshot result.reply result.entries state.now.core state.now.core }
+{
+    match state.get_internal_entry(key.as_slice(), snapshot) {
+        Ok(entry) => silent(alloc, Reply::Entry(entry)),
+        Err(error) => refused(alloc, error),
+    }
+}
+
+fn contains_key<S: Store>(
+    alloc: Global,
+    state: &TreeState<S>,
+    key: &UserKey,
+    snapshot: SeqNo,
+) -> Outcome
+    ensures { TakesSilent (IsContainsReply key.now snapshot state.now.core) result.reply result.entries state.now.core state.now.core }
+{
+    match state.contains_key(key.as_slice(), snapshot) {
+        Ok(truth) => silent(alloc, Reply::Truth(truth)),
+        Err(error) => refused(alloc, error),
+    }
+}
+
+fn size_of<S: Store>(alloc: Global, state: &TreeState<S>, key: &UserKey, snapshot: SeqNo) -> Outcome
+    ensures { TakesSilent (IsSizeReply key.now snapshot state.now.core) result.reply result.entries state.now.core state.now.core }
+{
+    match state.size_of(key.as_slice(), snapshot) {
+        Ok(size) => silent(alloc, Reply::Size(size)),
+        Err(error) => refused(alloc, error),
+    }
+}
+
+// ---- rotation and counters
+
+fn rotate_memtable<S: Store>(alloc: Global, state: &mut TreeState<S>) -> Outcome
+    ensures takes { TakesRotate result.reply result.entries state.old.core state.new.core }
+    ensures store { state.new.store ≡ state.old.store }
+{
+    match state.rotate_memtable() {
+        Ok(sealed) => silent(alloc, Reply::Sealed(sealed)),
+        Err(error) => refused(alloc, error),
+    }
+}
+
+fn next<S: Store>(alloc: Global, state: &mut TreeState<S>, counter: Counter) -> Outcome
+    ensures takes { TakesNext counter result.reply result.entries state.old.core state.new.core }
+    ensures store { state.new.store ≡ state.old.store }
+{
+    let drawn = match counter {
+        Counter::Seqno => state.seqno_mut().next(),
+        Counter::Visible => state.visible_seqno_mut().next(),
+    };
+    match drawn {
+        Ok(number) => silent(alloc, Reply::Number(number)),
+        Err(error) => refused(alloc, error),
+    }
+}
+
+fn set<S: Store>(alloc: Global, state: &mut TreeState<S>, counter: Counter, seqno: SeqNo) -> Outcome
+    ensures takes { TakesCounter counter seqno result.reply result.entries state.old.core state.new.core }
+    ensures store { state.new.store ≡ state.old.store }
+{
+    match counter {
+        Counter::Seqno => state.seqno_mut().set(seqno),
+        Counter::Visible => state.visible_seqno_mut().set(seqno),
+    }
+    silent(alloc, Reply::Done)
+}
+
+fn fetch_max<S: Store>(
+    alloc: Global,
+    state: &mut TreeState<S>,
+    counter: Counter,
+    seqno: SeqNo,
+) -> Outcome
+    ensures takes { TakesCounter counter (max (counter_of counter state.old.core) seqno) result.reply result.entries state.old.core state.new.core }
+    ensures store { state.new.store ≡ state.old.store }
+{
+    match counter {
+        Counter::Seqno => state.seqno_mut().fetch_max(seqno),
+        Counter::Visible => state.visible_seqno_mut().fetch_max(seqno),
+    }
+    silent(alloc, Reply::Done)
+}
+
+// ---- runs
+
+/// Takes a step. Where there is no room for its outcome it is an error, and the tree is as it was.
+fn take_step<S: Store>(
+    alloc: Global,
+    state: &mut TreeState<S>,
+    step: &Step,
+) -> Result<Outcome, AllocError>
+    ensures ok { IfOk result (λ told. Takes step.now told.reply told.entries state.old.core state.new.core) }
+    ensures err { OnErr result (state.new ≡ state.old) }
+    ensures store { state.new.store ≡ state.old.store }
+{
+    match step {
+        Step::Insert(key, value, seqno) => insert(alloc, state, key, value, *seqno),
+        Step::Remove(key, seqno) => remove(alloc, state, key, *seqno),
+        Step::RemoveWeak(key, seqno) => remove_weak(alloc, state, key, *seqno),
+        Step::AppendEntry(entry) => append_entry(alloc, state, entry),
+        Step::Write(ops) => write(alloc, state, ops.as_slice()),
+        Step::Get(key, snapshot) => get(alloc, state, key, *snapshot),
+        Step::GetInternalEntry(key, snapshot) => {
+            Ok(get_internal_entry(alloc, state, key, *snapshot))
+        }
+        Step::ContainsKey(key, snapshot) => Ok(contains_key(alloc, state, key, *snapshot)),
+        Step::SizeOf(key, snapshot) => Ok(size_of(alloc, state, key, *snapshot)),
+        Step::Range(low, high, snapshot) => ranges::range(alloc, state, low, high, *snapshot),
+        Step::Iter(snapshot) => ranges::iter(alloc, state, *snapshot),
+        Step::Prefix(prefix, snapshot) => ranges::prefix(alloc, state, prefix, *snapshot),
+        Step::Len(snapshot) => Ok(ranges::len(alloc, state, *snapshot)),
+        Step::IsEmpty(snapshot) => Ok(ranges::is_empty(alloc, state, *snapshot)),
+        Step::FirstKeyValue(snapshot) => Ok(ranges::first_key_value(alloc, state, *snapshot)),
+        Step::LastKeyValue(snapshot) => Ok(ranges::last_key_value(alloc, state, *snapshot)),
+        Step::RotateMemtable => Ok(rotate_memtable(alloc, state)),
+        Step::Next(counter) => Ok(next(alloc, state, *counter)),
+        Step::Set(counter, seqno) => Ok(set(alloc, state, *counter, *seqno)),
+        Step::FetchMax(counter, seqno) => Ok(fetch_max(alloc, state, *counter, *seqno)),
+    }
+}
+
+/// Takes a step, and puts its outcome behind the others.
+fn add_step<S: Store>(
+    alloc: Global,
+    state: &mut TreeState<S>,
+    step: &Step,
+    outcomes: &mut Vec<Outcome>,
+) -> Result<(), AllocError>
+    ensures ok { OnOk result ((told : Told) × (outcomes.new.items ≡ outcomes.old.items ++ told ∷ []) × Takes step.now told.reply told.entries state.old.core state.new.core) }
+    ensures err { OnErr result (state.new ≡ state.old) }
+    ensures outcomes_err { OnErr result (outcomes.new.items ≡ outcomes.old.items) }
+    ensures store { state.new.store ≡ state.old.store }
+{
+    outcomes.try_reserve(1)?;
+    let outcome = take_step(alloc, state, step)?;
+    outcomes.push(outcome)?;
+    Ok(())
+}
+
+fn take_steps<S: Store>(alloc: Global, state: &mut TreeState<S>, steps: &[Step]) -> Vec<Outcome>
+    ensures bound { length result.items ≤ length steps.now }
+    ensures ran { Ran (take (length result.items) steps.now) result.items state.old.core state.new.core }
+    ensures store { state.new.store ≡ state.old.store }
+{
+    let mut outcomes = Vec::new(alloc);
+    for step in steps {
+        match add_step(alloc, state, step, &mut outcomes) {
+            Ok(()) => {}
+            Err(_) => return outcomes,
+        }
+    }
+    outcomes
+}
+
+/// Takes the steps in turn, and answers each one's outcome.
+///
+/// A step that is refused has that as its reply, and the run goes on behind it. The run ends before a step
+/// for whose outcome, journal entries included, no memory is left: the tree is as it was before that step,
+/// and the outcomes are those of the steps that were taken.
+pub fn run<S: Store>(alloc: Global, state: &mut TreeState<S>, steps: &[Step]) -> Vec<Outcome>
+    ensures bound { length result.items ≤ length steps.now }
+    ensures ran { Ran (take (length result.items) steps.now) result.items state.old.core state.new.core }
+    ensures replays { (opened : List Entry) (start : Map) → RunEqualsReplay opened start (take (length result.items) steps.now) result.items state.old.core state.new.core }
+    ensures store { state.new.store ≡ state.old.store }
+{
+    take_steps(alloc, state, steps)
+}
+
+mod ranges;

@@ -1,0 +1,124 @@
+// Calls on a tree as data, and what each of them answers.
+ghost use Rattle.std.specs.Prelude.{◌≡◌};
+
+use lsm_below::{InternalValue, KvPair, MemtableId, SeqNo, UserKey, UserValue};
+use lsm_model::{JournalEntry, KvPairs, Ops};
+use lsm_parts::Error;
+use std::marker::Model;
+use std::ops::Bound;
+
+/// A counter of a tree.
+#[derive(Clone, Copy, Debug, PartialEq, Eq)]
+pub enum Counter {
+    /// The counter of numbers.
+    Seqno,
+    /// The visible counter.
+    Visible,
+}
+
+/// A call on a tree, as data: each is the method of `TreeState` that it is named after.
+#[derive(Drop)]
+pub enum Step {
+    /// Sets a key under a number.
+    Insert(UserKey, UserValue, SeqNo),
+    /// Removes a key under a number.
+    Remove(UserKey, SeqNo),
+    /// Removes a key, of which at most one value was ever written, under a number.
+    RemoveWeak(UserKey, SeqNo),
+    /// Writes an entry under its own number.
+    AppendEntry(InternalValue),
+    /// Writes a batch under the next number.
+    Write(Ops),
+    /// Reads a key at a snapshot.
+    Get(UserKey, SeqNo),
+    /// Reads the entry of a key at a snapshot.
+    GetInternalEntry(UserKey, SeqNo),
+    /// Asks whether a key has a value at a snapshot.
+    ContainsKey(UserKey, SeqNo),
+    /// Asks how many bytes a key's value has at a snapshot.
+    SizeOf(UserKey, SeqNo),
+    /// Reads the pairs within bounds at a snapshot.
+    Range(Bound<UserKey>, Bound<UserKey>, SeqNo),
+    /// Reads all pairs at a snapshot.
+    Iter(SeqNo),
+    /// Reads the pairs of the keys that begin so, at a snapshot.
+    Prefix(UserKey, SeqNo),
+    /// Counts the keys at a snapshot.
+    Len(SeqNo),
+    /// Asks whether no key has a value at a snapshot.
+    IsEmpty(SeqNo),
+    /// Reads the pair with the least key at a snapshot.
+    FirstKeyValue(SeqNo),
+    /// Reads the pair with the greatest key at a snapshot.
+    LastKeyValue(SeqNo),
+    /// Seals the active memtable.
+    RotateMemtable,
+    /// Draws the counter's next number.
+    Next(Counter),
+    /// Has the counter go on from a number.
+    Set(Counter, SeqNo),
+    /// Has the counter go on from a number, unless it stands at a greater one.
+    FetchMax(Counter, SeqNo),
+}
+
+/// What a step answers.
+#[derive(Drop)]
+pub enum Reply {
+    /// Of an insert, a removal or an appended entry: the bytes that the entry counts, and those of the
+    /// active memtable.
+    Sizes(u64, u64),
+    /// Of a batch: the number that it was written under. Of a counter: the number that was drawn.
+    Number(SeqNo),
+    /// Of a read of a key: its value, or None.
+    Value(Option<UserValue>),
+    /// Of a read of an entry: the entry, or None.
+    Entry(Option<InternalValue>),
+    /// Of a question that is yes or no: whether it is so.
+    Truth(bool),
+    /// Of a read of a value's size: its bytes, or None where the key has no value.
+    Size(Option<u32>),
+    /// Of a read of many keys: the pairs by rising key.
+    Pairs(KvPairs),
+    /// Of a count: how many keys have a value.
+    Count(usize),
+    /// Of a read of the least or the greatest key: its pair, or None where no key has a value.
+    Pair(Option<KvPair>),
+    /// Of a rotation: the id of the memtable that was sealed, or None where it was empty.
+    Sealed(Option<MemtableId>),
+    /// Of a counter that was set: nothing.
+    Done,
+    /// The step was refused, and changed nothing.
+    Refused(Error),
+}
+
+/// A step's reply, and what it adds to the journal.
+#[derive(Drop)]
+pub struct Outcome {
+    pub(crate) reply: Reply,
+    pub(crate) entries: Vec<JournalEntry>,
+}
+
+impl Model for Outcome {
+    ghost use Rattle.lsm_runs.specs.Told.{Told};
+
+    ghost Value = { Told };
+
+    ghost view = { λ o. record { reply = o.reply; entries = o.entries.items } };
+}
+
+impl Outcome {
+    /// What the step answered.
+    pub fn reply(&self) -> &Reply
+        ensures { result.now ≡ self.now.reply }
+    {
+        &self.reply
+    }
+
+    /// What the step adds to the journal: an accepted write its entry, an accepted batch its entries in
+    /// their order, an answered `Get`, `Range`, `Iter` or `Prefix` the read; nothing else adds any.
+    pub fn entries(&self) -> &[JournalEntry]
+        ensures { result.now ≡ self.now.entries }
+    {
+        &self.entries
+    }
+}

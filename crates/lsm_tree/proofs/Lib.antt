@@ -1,9 +1,0 @@
-pub mod BatchLemmas
-pub mod ClosingLemmas
-pub mod LowReads
-pub mod MarksLemmas
-pub mod Outcomes
-pub mod ReadOutcomes
-pub mod ReadReplays
-pub mod RecordedLemmas
-pub mod Replays

@@ -1,8 +1,0 @@
-use Rattle.lsm_parts.specs.declared.tree_iter.End.TheVariants.{Front}
-use Rattle.lsm_tree.proofs.ReadOutcomes.{end_taken}
-use Rattle.lsm_tree.proofs.runner.ranges.first_key_value.Goals as goal
-
-pub returns : goal.returns
-returns g c =
-    let found = c.first_key_value.ensures in
-    end_taken c.args.snapshot c.args.state.now.core Front c.first_key_value.result c.of_end.result found.ok found.too_old found.only c.of_end.ensures

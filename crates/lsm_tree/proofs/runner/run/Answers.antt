@@ -1,5 +1,0 @@
-use Rattle.lsm_tree.proofs.Replays.{run_replays}
-use Rattle.lsm_tree.proofs.runner.run.Goals as goal
-
-pub returns-clause-replays : goal.returns-clause-replays
-returns-clause-replays g c opened start = run_replays opened start _ _ _ _ c.take_steps.ensures.ran

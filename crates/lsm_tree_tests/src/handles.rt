@@ -1,0 +1,365 @@
+// What no contract says: that calls get the lock and succeed where memory is ample, and that a journal is given out.
+//
+// Helpers borrow the tree, and each test drops it by a call: see the tests of `recorded`.
+use crate::samples::text;
+use lsm_tree::{
+    Config, Error, Handle, InternalValue, Op, Pass, Recorded, RecordedTree, Tree, TreeState,
+};
+use std::alloc::{AllocError, Global};
+use std::ops::Bound;
+use std::sync::Wait;
+use std::test::Fail;
+use std::thread;
+
+fn open(alloc: Global) -> Result<RecordedTree, AllocError> {
+    Handle::new(alloc, Recorded::open_in_memory(alloc, Config::new(0, 0, 0)))
+}
+
+/// Sets a key to `x`, under the next number.
+fn set(
+    rt: &impl Wait,
+    alloc: Global,
+    tree: &RecordedTree,
+    pass: &mut Pass,
+    key: &'static str,
+) -> Result<u64, Error> {
+    tree.write(rt, pass, vec![in alloc; (text(key), Op::Set(text("x")))]?)
+}
+
+/// Sets a key and reads it back: whether it is what was written.
+fn write_and_read(
+    rt: &impl Wait,
+    alloc: Global,
+    tree: &RecordedTree,
+    pass: &mut Pass,
+    key: &'static str,
+) -> Result<bool, Error> {
+    let number = set(rt, alloc, tree, pass, key)?;
+    let found = tree.get(rt, pass, &text(key), number.saturating_add(1))?;
+    Ok(found == Some(text("x")))
+}
+
+/// Whether a caller reads back what it writes.
+fn calls(
+    rt: &impl Wait,
+    alloc: Global,
+    tree: &RecordedTree,
+    pass: &mut Pass,
+    key: &'static str,
+) -> bool {
+    matches!(write_and_read(rt, alloc, tree, pass, key), Ok(true))
+}
+
+/// One caller's pass, behind a write and a read of its own.
+fn pass_of(rt: &impl Wait, alloc: Global, tree: &RecordedTree, key: &'static str) -> Pass {
+    let mut pass = Pass::new(alloc);
+    let _ = calls(rt, alloc, tree, &mut pass, key);
+    pass
+}
+
+/// A list of one pass. Where there is no room for it, of none.
+fn one_pass(alloc: Global, pass: Pass) -> Vec<Pass> {
+    let mut passes = Vec::new(alloc);
+    let _ = passes.push(pass);
+    passes
+}
+
+fn two_passes(alloc: Global, first: Pass, second: Pass) -> Vec<Pass> {
+    let mut passes = one_pass(alloc, first);
+    let _ = passes.push(second);
+    passes
+}
+
+/// How many entries the journal has that is given out for these passes.
+fn closed(rt: &impl Wait, tree: &RecordedTree, passes: Vec<Pass>) -> Option<usize> {
+    match tree.close(rt, passes) {
+        Ok(journal) => Some(journal.len()),
+        Err(_) => None,
+    }
+}
+
+/// How many passes are given back.
+fn given_back(rt: &impl Wait, tree: &RecordedTree, passes: Vec<Pass>) -> Option<usize> {
+    match tree.close(rt, passes) {
+        Ok(_) => None,
+        Err(passes) => Some(passes.len()),
+    }
+}
+
+#[test]
+fn two_threads_share_a_tree(rt: HostRuntime) -> Result<(), Fail> {
+    let alloc = rt.alloc();
+    let tree = open(alloc)?;
+    let one = tree.clone()?;
+    let two = tree.clone()?;
+    let first = thread::spawn(&rt, move || pass_of(&rt, alloc, &one, "a"))?;
+    let second = thread::spawn(&rt, move || pass_of(&rt, alloc, &two, "b"))?;
+    let passes = two_passes(alloc, first.join(&rt), second.join(&rt));
+    assert_eq!(rt; closed(&rt, &tree, passes), Some(4));
+    drop(tree);
+    Ok(())
+}
+
+#[test]
+fn each_reads_its_own_write(rt: HostRuntime) -> Result<(), Fail> {
+    let alloc = rt.alloc();
+    let tree = open(alloc)?;
+    let mut pass = Pass::new(alloc);
+    assert!(rt; calls(&rt, alloc, &tree, &mut pass, "a"));
+    assert_eq!(rt; closed(&rt, &tree, one_pass(alloc, pass)), Some(2));
+    drop(tree);
+    Ok(())
+}
+
+#[test]
+fn a_missing_pass_is_missed(rt: HostRuntime) -> Result<(), Fail> {
+    let alloc = rt.alloc();
+    let tree = open(alloc)?;
+    let pass = pass_of(&rt, alloc, &tree, "a");
+    drop(pass_of(&rt, alloc, &tree, "b"));
+    assert_eq!(rt; given_back(&rt, &tree, one_pass(alloc, pass)), Some(1));
+    drop(tree);
+    Ok(())
+}
+
+/// A pass with the entries of `pass_of`, at the same places, but of calls on another tree.
+fn pass_elsewhere(rt: &impl Wait, alloc: Global) -> Pass {
+    match open(alloc) {
+        Ok(tree) => {
+            let pass = pass_of(rt, alloc, &tree, "a");
+            drop(tree);
+            pass
+        }
+        Err(_) => Pass::new(alloc),
+    }
+}
+
+#[test]
+fn a_doubled_pass_is_seen(rt: HostRuntime) -> Result<(), Fail> {
+    let alloc = rt.alloc();
+    let tree = open(alloc)?;
+    let pass = pass_of(&rt, alloc, &tree, "a");
+    let other = pass_elsewhere(&rt, alloc);
+    assert_eq!(rt;
+        given_back(&rt, &tree, two_passes(alloc, pass, other)),
+        Some(2)
+    );
+    drop(tree);
+    Ok(())
+}
+
+/// Puts the entries of `pass_of` behind a pass, but for the read's snapshot, which is 0.
+fn put_altered(rt: &impl Wait, alloc: Global, tree: &RecordedTree, pass: &mut Pass) -> bool {
+    matches!(set(rt, alloc, tree, pass, "a"), Ok(0))
+        && matches!(tree.get(rt, pass, &text("a"), 0), Ok(None))
+}
+
+/// A pass with the entries of `pass_of`, of which one is another.
+fn altered_pass(rt: &impl Wait, alloc: Global) -> Pass {
+    let mut pass = Pass::new(alloc);
+    if let Ok(tree) = open(alloc) {
+        let _ = put_altered(rt, alloc, &tree, &mut pass);
+        drop(tree);
+    }
+    pass
+}
+
+#[test]
+fn an_altered_entry_is_seen(rt: HostRuntime) -> Result<(), Fail> {
+    let alloc = rt.alloc();
+    let tree = open(alloc)?;
+    drop(pass_of(&rt, alloc, &tree, "a"));
+    let pass = altered_pass(&rt, alloc);
+    assert!(rt; has_places(&pass, [0, 1]));
+    assert_eq!(rt; given_back(&rt, &tree, one_pass(alloc, pass)), Some(1));
+    drop(tree);
+    Ok(())
+}
+
+/// Puts the read of `pass_of` behind a pass, and the write before it behind one that is let go.
+fn put_read(rt: &impl Wait, alloc: Global, tree: &RecordedTree, pass: &mut Pass) -> bool {
+    let mut other = Pass::new(alloc);
+    let is_set = matches!(set(rt, alloc, tree, &mut other, "a"), Ok(0));
+    drop(other);
+    is_set && matches!(tree.get(rt, pass, &text("a"), 1), Ok(Some(_)))
+}
+
+/// A pass with the entries of `pass_of`, the read before the write: of calls on two other trees.
+fn reversed_pass(rt: &impl Wait, alloc: Global) -> Pass {
+    let mut pass = Pass::new(alloc);
+    if let Ok(tree) = open(alloc) {
+        let _ = put_read(rt, alloc, &tree, &mut pass);
+        drop(tree);
+    }
+    if let Ok(tree) = open(alloc) {
+        let _ = set(rt, alloc, &tree, &mut pass, "a");
+        drop(tree);
+    }
+    pass
+}
+
+/// Whether a pass has two entries, at these places.
+fn has_places(pass: &Pass, places: [u64; 2]) -> bool {
+    pass.entries().iter().map(|noted| noted.0).eq(places)
+}
+
+#[test]
+fn places_out_of_order_are_seen(rt: HostRuntime) -> Result<(), Fail> {
+    let alloc = rt.alloc();
+    let tree = open(alloc)?;
+    drop(pass_of(&rt, alloc, &tree, "a"));
+    let pass = reversed_pass(&rt, alloc);
+    assert!(rt; has_places(&pass, [1, 0]));
+    assert_eq!(rt; given_back(&rt, &tree, one_pass(alloc, pass)), Some(1));
+    drop(tree);
+    Ok(())
+}
+
+/// A tombstone of each kind and a value, each under a number of its own.
+fn write_three(rt: &impl Wait, tree: &RecordedTree, pass: &mut Pass) -> Result<(u64, u64), Error> {
+    tree.insert(rt, pass, text("a"), text("x"), 0)?;
+    tree.remove(rt, pass, text("a"), 1)?;
+    tree.remove_weak(rt, pass, text("b"), 1)
+}
+
+fn writes_three(rt: &impl Wait, tree: &RecordedTree, pass: &mut Pass) -> bool {
+    matches!(write_three(rt, tree, pass), Ok((49, 148)))
+}
+
+fn appends(rt: &impl Wait, tree: &RecordedTree, pass: &mut Pass) -> bool {
+    let entry = InternalValue::new_tombstone(text("c"), 2);
+    matches!(tree.append_entry(rt, pass, entry), Ok((49, 197)))
+}
+
+#[test]
+fn writes_take_numbers_of_their_own(rt: HostRuntime) -> Result<(), Fail> {
+    let alloc = rt.alloc();
+    let tree = Handle::new(alloc, Recorded::open_in_memory(alloc, Config::new(0, 3, 3)))?;
+    let mut pass = Pass::new(alloc);
+    assert!(rt; writes_three(&rt, &tree, &mut pass));
+    assert!(rt; appends(&rt, &tree, &mut pass));
+    assert!(rt; matches!(tree.rotate_memtable(&rt, &mut pass), Ok(Some(0))));
+    assert_eq!(rt; pass.entries().len(), 4);
+    drop(pass);
+    drop(tree);
+    Ok(())
+}
+
+/// How many pairs a range and a prefix of a recorded tree list together.
+fn count_recorded(rt: &impl Wait, tree: &RecordedTree, pass: &mut Pass) -> Result<usize, Error> {
+    let all = (Bound::Unbounded, Bound::Unbounded);
+    let range = tree.range(rt, pass, &all, 1)?.len();
+    let prefix = tree.prefix(rt, pass, &text("a"), 1)?.len();
+    Ok(range.saturating_add(prefix))
+}
+
+#[test]
+fn ranges_behind_the_lock_are_listed(rt: HostRuntime) -> Result<(), Fail> {
+    let alloc = rt.alloc();
+    let tree = open(alloc)?;
+    let mut pass = pass_of(&rt, alloc, &tree, "a");
+    assert!(rt; matches!(count_recorded(&rt, &tree, &mut pass), Ok(2)));
+    assert_eq!(rt; closed(&rt, &tree, one_pass(alloc, pass)), Some(4));
+    drop(tree);
+    Ok(())
+}
+
+fn open_tree(alloc: Global) -> Result<Tree, AllocError> {
+    let core = TreeState::open_in_memory(alloc, Config::new(0, 0, 0));
+    Handle::new(alloc, core)
+}
+
+/// A value under a drawn number, made visible.
+fn set_next(rt: &impl Wait, tree: &Tree) -> Result<(), Error> {
+    let number = tree.next_seqno(rt)?;
+    tree.insert(rt, text("a"), text("x"), number)?;
+    tree.raise_visible(rt, number.saturating_add(1));
+    Ok(())
+}
+
+fn sets_next(rt: &impl Wait, tree: &Tree) -> bool {
+    matches!(set_next(rt, tree), Ok(()))
+}
+
+fn finds(rt: &impl Wait, tree: &Tree) -> bool {
+    match tree.get(rt, b"a", 1) {
+        Ok(value) => value == Some(text("x")),
+        Err(_) => false,
+    }
+}
+
+#[test]
+fn numbers_are_drawn_and_made_visible(rt: HostRuntime) -> Result<(), Fail> {
+    let tree = open_tree(rt.alloc())?;
+    assert!(rt; sets_next(&rt, &tree));
+    assert_eq!(rt; tree.visible_number(&rt), 1);
+    assert!(rt; finds(&rt, &tree));
+    assert!(rt; matches!(tree.get_internal_entry(&rt, b"a", 0), Ok(None)));
+    assert!(rt; matches!(tree.rotate_memtable(&rt), Ok(Some(0))));
+    drop(tree);
+    Ok(())
+}
+
+/// A tombstone of each kind, one of them as an entry, then a batch.
+fn write_all(rt: &impl Wait, alloc: Global, tree: &Tree) -> Result<u64, Error> {
+    tree.remove(rt, text("a"), 0)?;
+    tree.remove_weak(rt, text("b"), 0)?;
+    tree.append_entry(rt, InternalValue::new_tombstone(text("c"), 0))?;
+    tree.write(rt, Vec::new(alloc))
+}
+
+#[test]
+fn a_tree_is_written_in_each_way(rt: HostRuntime) -> Result<(), Fail> {
+    let tree = open_tree(rt.alloc())?;
+    assert!(rt; matches!(write_all(&rt, rt.alloc(), &tree), Ok(0)));
+    assert_eq!(rt; tree.visible_number(&rt), 1);
+    drop(tree);
+    Ok(())
+}
+
+/// How many pairs the calls for bounds list together.
+fn count_ranges(rt: &impl Wait, tree: &Tree) -> Result<usize, Error> {
+    let all = (Bound::Unbounded, Bound::Unbounded);
+    let range = tree.range(rt, &all, 1, None)?.len();
+    let create_range = tree.create_range(rt, &all, 1, None)?.len();
+    let internal = tree.create_internal_range(rt, &all, 1, None)?.len();
+    Ok(range.saturating_add(create_range).saturating_add(internal))
+}
+
+/// How many pairs the calls for all keys, and for a prefix, list together.
+fn count_others(rt: &impl Wait, tree: &Tree) -> Result<usize, Error> {
+    let iter = tree.iter(rt, 1, None)?.len();
+    let create_iter = tree.create_iter(rt, 1, None)?.len();
+    let prefix = tree.prefix(rt, b"a", 1, None)?.len();
+    let create_prefix = tree.create_prefix(rt, b"a", 1, None)?.len();
+    let iters = iter.saturating_add(create_iter);
+    Ok(iters.saturating_add(prefix).saturating_add(create_prefix))
+}
+
+#[test]
+fn a_shared_tree_lists_its_pairs(rt: HostRuntime) -> Result<(), Fail> {
+    let tree = open_tree(rt.alloc())?;
+    assert!(rt; sets_next(&rt, &tree));
+    assert!(rt; matches!(count_ranges(&rt, &tree), Ok(3)));
+    assert!(rt; matches!(count_others(&rt, &tree), Ok(4)));
+    drop(tree);
+    Ok(())
+}
+
+fn has_ends(rt: &impl Wait, tree: &Tree) -> bool {
+    matches!(tree.first_key_value(rt, 1, None), Ok(Some(_)))
+        && matches!(tree.last_key_value(rt, 1, None), Ok(Some(_)))
+}
+
+#[test]
+fn a_shared_tree_tells_of_its_pairs(rt: HostRuntime) -> Result<(), Fail> {
+    let tree = open_tree(rt.alloc())?;
+    assert!(rt; sets_next(&rt, &tree));
+    assert!(rt; matches!(tree.len(&rt, 1, None), Ok(1)));
+    assert!(rt; matches!(tree.is_empty(&rt, 1, None), Ok(false)));
+    assert!(rt; has_ends(&rt, &tree));
+    assert!(rt; matches!(tree.contains_key(&rt, b"a", 1), Ok(true)));
+    assert!(rt; matches!(tree.size_of(&rt, b"a", 1), Ok(Some(1))));
+    drop(tree);
+    Ok(())
+}

@@ -1,0 +1,164 @@
+// What no contract says: that calls succeed where memory is ample.
+//
+// Helpers borrow the tree, and each test drops it by a call. A proof takes a tree that is dropped at the end
+// of a block to all its pieces, and does so once more for each `?` before it.
+use crate::samples::text;
+use lsm_tree::{Config, Error, Op, Pass, Recorded, SeqNo};
+use std::alloc::Global;
+use std::ops::Bound;
+
+fn open(alloc: Global, seqno: SeqNo) -> Recorded {
+    Recorded::open_in_memory(alloc, Config::new(0, seqno, seqno))
+}
+
+/// Whether a key is set and counts two bytes and 48, of so many in all.
+fn sets(tree: &mut Recorded, pass: &mut Pass, key: &'static str, seqno: SeqNo, total: u64) -> bool {
+    match tree.insert(pass, text(key), text("x"), seqno) {
+        Ok(sizes) => sizes == (50, total),
+        Err(_) => false,
+    }
+}
+
+fn is_out_of_order(tree: &mut Recorded, pass: &mut Pass, key: &'static str, seqno: SeqNo) -> bool {
+    let told = tree.insert(pass, text(key), text("y"), seqno);
+    matches!(told, Err(Error::OutOfOrder))
+}
+
+#[test]
+fn numbers_keep_their_order(rt: HostRuntime) {
+    let mut tree = open(rt.alloc(), 2);
+    let mut pass = Pass::new(rt.alloc());
+    assert!(rt; sets(&mut tree, &mut pass, "a", 1, 50));
+    // Not above the earlier number of the key, or not below the counter.
+    assert!(rt; is_out_of_order(&mut tree, &mut pass, "a", 0));
+    assert!(rt; is_out_of_order(&mut tree, &mut pass, "a", 1));
+    assert!(rt; is_out_of_order(&mut tree, &mut pass, "b", 2));
+    assert_eq!(rt; tree.journal().len(), 1);
+    assert_eq!(rt; tree.seqno().get(), 2);
+    drop(pass);
+    drop(tree);
+}
+
+fn removes(tree: &mut Recorded, pass: &mut Pass) -> bool {
+    matches!(tree.remove(pass, text("b"), 0), Ok((49, 49)))
+}
+
+fn removes_weakly(tree: &mut Recorded, pass: &mut Pass) -> bool {
+    matches!(tree.remove_weak(pass, text("c"), 1), Ok((49, 98)))
+}
+
+fn appends(tree: &mut Recorded, pass: &mut Pass) -> bool {
+    let entry = InternalValue::new_tombstone(text("d"), 0);
+    matches!(tree.append_entry(pass, entry), Ok((49, 147)))
+}
+
+#[test]
+fn keys_are_removed_in_each_way(rt: HostRuntime) {
+    let mut tree = open(rt.alloc(), 2);
+    let mut pass = Pass::new(rt.alloc());
+    assert!(rt; removes(&mut tree, &mut pass));
+    assert!(rt; removes_weakly(&mut tree, &mut pass));
+    assert!(rt; appends(&mut tree, &mut pass));
+    assert_eq!(rt; tree.journal().len(), 3);
+    drop(pass);
+    drop(tree);
+}
+
+/// A batch of one write to the key `a`.
+fn write_one(alloc: Global, tree: &mut Recorded, pass: &mut Pass, op: Op) -> Result<SeqNo, Error> {
+    tree.write(pass, vec![in alloc; (text("a"), op)]?)
+}
+
+fn writes(alloc: Global, tree: &mut Recorded, pass: &mut Pass, op: Op, number: SeqNo) -> bool {
+    match write_one(alloc, tree, pass, op) {
+        Ok(told) => told == number,
+        Err(_) => false,
+    }
+}
+
+fn may_not_set(alloc: Global, tree: &mut Recorded, pass: &mut Pass) -> bool {
+    let told = write_one(alloc, tree, pass, Op::Set(text("y")));
+    matches!(told, Err(Error::OutOfOrder))
+}
+
+#[test]
+fn a_weakly_removed_key_has_one_value(rt: HostRuntime) {
+    let mut tree = open(rt.alloc(), 0);
+    let mut pass = Pass::new(rt.alloc());
+    assert!(rt; writes(rt.alloc(), &mut tree, &mut pass, Op::Weak, 0));
+    assert!(rt; writes(rt.alloc(), &mut tree, &mut pass, Op::Set(text("x")), 1));
+    assert!(rt; may_not_set(rt.alloc(), &mut tree, &mut pass));
+    assert_eq!(rt; tree.visible_seqno().get(), 2);
+    drop(pass);
+    drop(tree);
+}
+
+fn finds_nothing(tree: &mut Recorded, pass: &mut Pass, snapshot: SeqNo) -> bool {
+    matches!(tree.get(pass, &text("a"), snapshot), Ok(None))
+}
+
+fn finds(tree: &mut Recorded, pass: &mut Pass, snapshot: SeqNo) -> bool {
+    match tree.get(pass, &text("a"), snapshot) {
+        Ok(value) => value == Some(text("x")),
+        Err(_) => false,
+    }
+}
+
+fn seals(tree: &mut Recorded, pass: &mut Pass) -> bool {
+    matches!(tree.rotate_memtable(pass), Ok(Some(0)))
+}
+
+/// Whether the entries have places from 0 on, so many.
+fn has_places(pass: &Pass, count: u64) -> bool {
+    pass.entries().iter().map(|noted| noted.0).eq(0..count)
+}
+
+#[test]
+fn calls_are_noted_with_their_places(rt: HostRuntime) {
+    let mut tree = open(rt.alloc(), 1);
+    let mut pass = Pass::new(rt.alloc());
+    assert!(rt; sets(&mut tree, &mut pass, "a", 0, 50));
+    assert!(rt; finds_nothing(&mut tree, &mut pass, 0));
+    assert!(rt; seals(&mut tree, &mut pass));
+    assert!(rt; finds(&mut tree, &mut pass, 1));
+    assert_eq!(rt; tree.journal().len(), 3);
+    assert!(rt; has_places(&pass, 3));
+    drop(pass);
+    drop(tree);
+}
+
+/// Whether two keys that begin with `a` and one that doesn't are set.
+fn sets_three(tree: &mut Recorded, pass: &mut Pass) -> bool {
+    matches!(tree.insert(pass, text("a"), text("x"), 0), Ok(_))
+        && matches!(tree.insert(pass, text("ab"), text("y"), 1), Ok(_))
+        && matches!(tree.insert(pass, text("b"), text("z"), 2), Ok(_))
+}
+
+fn ranges(tree: &mut Recorded, pass: &mut Pass, snapshot: SeqNo, count: usize) -> bool {
+    let bounds = (Bound::Included(text("a")), Bound::Excluded(text("b")));
+    match tree.range(pass, &bounds, snapshot) {
+        Ok(pairs) => pairs.len() == count,
+        Err(_) => false,
+    }
+}
+
+fn prefixes(tree: &mut Recorded, pass: &mut Pass, prefix: &'static str, count: usize) -> bool {
+    match tree.prefix(pass, &text(prefix), 3) {
+        Ok(pairs) => pairs.len() == count,
+        Err(_) => false,
+    }
+}
+
+#[test]
+fn ranges_and_prefixes_are_noted(rt: HostRuntime) {
+    let mut tree = open(rt.alloc(), 3);
+    let mut pass = Pass::new(rt.alloc());
+    assert!(rt; sets_three(&mut tree, &mut pass));
+    assert!(rt; ranges(&mut tree, &mut pass, 3, 2));
+    assert!(rt; ranges(&mut tree, &mut pass, 1, 1));
+    assert!(rt; prefixes(&mut tree, &mut pass, "a", 2));
+    assert!(rt; prefixes(&mut tree, &mut pass, "", 3));
+    assert!(rt; has_places(&pass, 7));
+    drop(pass);
+    drop(tree);
+}
