@@ -3,7 +3,7 @@
 // Helpers borrow the tree, and each test drops it by a call. A proof takes a tree that is dropped at the end
 // of a block to all its pieces, and does so once more for each `?` before it.
 use crate::samples::text;
-use lsm_tree::{Config, Error, Op, Pass, Recorded, SeqNo};
+use lsm_tree::{Config, Error, InternalValue, Op, Pass, Recorded, SeqNo};
 use std::alloc::Global;
 use std::ops::Bound;
 
