@@ -1,25 +1,50 @@
 // What a guard hands out.
-use crate::samples::key;
-use lsm_below::UserValue;
+use crate::samples::{has_key, key, value};
+use lsm_below::{UserKey, UserValue};
 use lsm_parts::{Error, Guard, IterGuard};
-use std::test::Fail;
 
 fn pair() -> Guard {
-    Guard::new(Ok((key("a"), UserValue::from_static(b"xyz"))))
+    Guard::new(Ok((key("a"), value("xyz"))))
+}
+
+fn has_size(guard: Guard, wanted: u32) -> bool {
+    match guard.size() {
+        Ok(size) => size == wanted,
+        Err(_) => false,
+    }
+}
+
+fn has_value(guard: Guard, wanted: &[u8]) -> bool {
+    match guard.into_inner() {
+        Ok((_, value)) => value.as_slice() == wanted,
+        Err(_) => false,
+    }
+}
+
+/// What is handed out where only keys of this length get their value.
+fn of_length(guard: Guard, len: usize) -> Result<(UserKey, Option<UserValue>), Error> {
+    guard.into_inner_if(|key| key.len() == len)
+}
+
+/// Whether the key is handed out, with a value or without.
+fn hands_out(
+    pair: Result<(UserKey, Option<UserValue>), Error>,
+    name: &[u8],
+    has_value: bool,
+) -> bool {
+    match pair {
+        Ok((key, value)) => key.as_slice() == name && value.is_some() == has_value,
+        Err(_) => false,
+    }
 }
 
 #[test]
-fn a_guard_hands_out_what_is_wanted(rt: HostRuntime) -> Result<(), Fail> {
-    assert_eq!(rt; pair().key()?.as_slice(), b"a".as_slice());
-    assert_eq!(rt; pair().size()?, 3);
-    let (_, value) = pair().into_inner()?;
-    assert_eq!(rt; value.as_slice(), b"xyz".as_slice());
-    let (_, wanted) = pair().into_inner_if(|key| key.len() == 1)?;
-    assert!(rt; wanted.is_some());
-    let (left, unwanted) = pair().into_inner_if(|key| key.is_empty())?;
-    assert_eq!(rt; left.as_slice(), b"a".as_slice());
-    assert!(rt; unwanted.is_none());
-    Ok(())
+fn a_guard_hands_out_what_is_wanted(rt: HostRuntime) {
+    assert!(rt; has_key(pair(), b"a"));
+    assert!(rt; has_size(pair(), 3));
+    assert!(rt; has_value(pair(), b"xyz"));
+    assert!(rt; hands_out(of_length(pair(), 1), b"a", true));
+    assert!(rt; hands_out(of_length(pair(), 0), b"a", false));
 }
 
 fn refused() -> Guard {
@@ -27,10 +52,9 @@ fn refused() -> Guard {
 }
 
 #[test]
-fn a_guard_without_a_pair_says_why(rt: HostRuntime) -> Result<(), Fail> {
+fn a_guard_without_a_pair_says_why(rt: HostRuntime) {
     assert!(rt; matches!(refused().key(), Err(Error::OutOfMemory)));
     assert!(rt; matches!(refused().size(), Err(Error::OutOfMemory)));
     assert!(rt; matches!(refused().into_inner(), Err(Error::OutOfMemory)));
-    assert!(rt; matches!(refused().into_inner_if(|_| true), Err(Error::OutOfMemory)));
-    Ok(())
+    assert!(rt; matches!(of_length(refused(), 1), Err(Error::OutOfMemory)));
 }

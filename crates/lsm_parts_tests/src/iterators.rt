@@ -2,7 +2,8 @@
 use crate::samples::{Bounds, INDEX, gives, is, key, lists, remove, set, set_over_a_b};
 use lsm_below::{InternalValue, SeqNo};
 use lsm_parts::{
-    End, Error, IterGuard, IterState, Memtable, TreeIter, Version, first_shown, last_shown, take_ends,
+    End, Error, IterGuard, IterState, Memtable, TreeIter, Version, first_shown, last_shown,
+    take_ends,
 };
 use std::alloc::Global;
 use std::ops::Bound;
@@ -169,6 +170,19 @@ fn bounds_take_their_keys_in_or_leave_them_out(rt: HostRuntime) {
     drop(table);
 }
 
+/// An iterator over what a snapshot shows of the keys that begin so.
+fn prefix_of(
+    alloc: Global,
+    state: Result<IterState<'_>, Error>,
+    prefix: &[u8],
+    seqno: SeqNo,
+) -> Result<TreeIter, Error> {
+    match state {
+        Ok(state) => TreeIter::create_prefix(alloc, &state, prefix, seqno),
+        Err(error) => Err(error),
+    }
+}
+
 /// Whether this is shown of what begins so, at 3.
 fn shows_prefix<'a>(
     alloc: Global,
@@ -177,10 +191,8 @@ fn shows_prefix<'a>(
     prefix: &[u8],
     text: &str,
 ) -> bool {
-    match state_of(alloc, version, table, None) {
-        Ok(state) => lists(alloc, TreeIter::create_prefix(alloc, &state, prefix, 3), text),
-        Err(_) => false,
-    }
+    let state = state_of(alloc, version, table, None);
+    lists(alloc, prefix_of(alloc, state, prefix, 3), text)
 }
 
 #[test]

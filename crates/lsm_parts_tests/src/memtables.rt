@@ -1,5 +1,5 @@
 // Look-ups, sizes and bounds of a memtable.
-use crate::samples::{Bounds, entry, key, set};
+use crate::samples::{Bounds, entry, key, set, tombstone};
 use lsm_below::{InternalValue, SeqNo};
 use lsm_parts::{Error, Memtable};
 use std::alloc::Global;
@@ -72,7 +72,7 @@ fn counts(table: &mut Memtable, item: InternalValue, sizes: (u64, u64), len: usi
 fn counts_replaced_entries_again(rt: HostRuntime) {
     let mut table = Memtable::new(rt.alloc(), 0);
     assert!(rt; counts(&mut table, entry("a", "my_value", 0), (57, 57), 1));
-    assert!(rt; counts(&mut table, InternalValue::new_tombstone(key("a"), 1), (49, 106), 2));
+    assert!(rt; counts(&mut table, tombstone("a", 1), (49, 106), 2));
     assert!(rt; counts(&mut table, entry("a", "x", 1), (50, 156), 2));
     assert_eq!(rt; table.size(), 156);
     assert_eq!(rt; table.get_highest_seqno(), Some(1));

@@ -22,6 +22,10 @@ pub fn entry(name: &'static str, text: &'static str, seqno: SeqNo) -> InternalVa
     InternalValue::from_components(key(name), value(text), seqno, ValueType::Value)
 }
 
+pub fn tombstone(name: &'static str, seqno: SeqNo) -> InternalValue {
+    InternalValue::new_tombstone(key(name), seqno)
+}
+
 pub fn set(
     table: &mut Memtable,
     name: &'static str,
@@ -33,7 +37,7 @@ pub fn set(
 }
 
 pub fn remove(table: &mut Memtable, name: &'static str, seqno: SeqNo) -> Result<(), Error> {
-    table.insert(InternalValue::new_tombstone(key(name), seqno))?;
+    table.insert(tombstone(name, seqno))?;
     Ok(())
 }
 

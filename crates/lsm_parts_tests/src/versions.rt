@@ -83,7 +83,10 @@ fn a_snapshot_reads_what_was_installed_before_it(rt: HostRuntime) {
 }
 
 fn is_too_old(history: &SuperVersions, snapshot: SeqNo) -> bool {
-    matches!(history.get_version_for_snapshot(snapshot), Err(Error::SnapshotTooOld))
+    matches!(
+        history.get_version_for_snapshot(snapshot),
+        Err(Error::SnapshotTooOld)
+    )
 }
 
 #[test]
