@@ -35,21 +35,28 @@ fn prefixes_end_before_the_next_byte(rt: HostRuntime) {
     assert!(rt; ends_before(rt.alloc(), &[0, 2, 255], &[0, 3]));
 }
 
-/// Whether neither end of a prefix's bounds is there.
-fn is_open(alloc: Global, prefix: &[u8]) -> bool {
-    matches!(
-        prefix_to_range(alloc, prefix),
-        Ok((Bound::Unbounded, Bound::Unbounded))
-    )
+fn is_open(bound: &Bound<UserKey>) -> bool {
+    matches!(bound, Bound::Unbounded)
+}
+
+/// Whether the bounds of a prefix have neither end.
+fn is_boundless(alloc: Global, prefix: &[u8]) -> bool {
+    match prefix_to_range(alloc, prefix) {
+        Ok((lower, upper)) => is_open(&lower) && is_open(&upper),
+        Err(_) => false,
+    }
 }
 
 /// Whether nothing ends the bounds of a prefix.
 fn is_endless(alloc: Global, prefix: &[u8]) -> bool {
-    matches!(prefix_to_range(alloc, prefix), Ok((_, Bound::Unbounded)))
+    match prefix_to_range(alloc, prefix) {
+        Ok((_, upper)) => is_open(&upper),
+        Err(_) => false,
+    }
 }
 
 #[test]
 fn some_prefixes_have_no_end(rt: HostRuntime) {
-    assert!(rt; is_open(rt.alloc(), &[]));
+    assert!(rt; is_boundless(rt.alloc(), &[]));
     assert!(rt; is_endless(rt.alloc(), &[255, 255, 255]));
 }
