@@ -1,16 +1,13 @@
 // What iterators give over memtables, from both ends.
-use crate::samples::{Bounds, INDEX, gives, is, key, lists, remove, set, set_over_a_b};
+use crate::samples::{
+    Bounds, INDEX, all, excluded, gives, included, is, lists, remove, set, set_over_a_b,
+};
 use lsm_below::{InternalValue, SeqNo};
 use lsm_parts::{
     End, Error, IterGuard, IterState, Memtable, TreeIter, Version, first_shown, last_shown,
     take_ends,
 };
 use std::alloc::Global;
-use std::ops::Bound;
-
-fn all() -> Bounds {
-    (Bound::Unbounded, Bound::Unbounded)
-}
 
 /// What is read of one memtable, and maybe of an index over it.
 fn state_of<'a>(
@@ -26,11 +23,11 @@ fn state_of<'a>(
 fn iter_of(
     alloc: Global,
     state: Result<IterState<'_>, Error>,
-    bounds: &Bounds,
+    bounds: Bounds,
     seqno: SeqNo,
 ) -> Result<TreeIter, Error> {
     match state {
-        Ok(state) => TreeIter::create_range(alloc, &state, bounds, seqno),
+        Ok(state) => TreeIter::create_range(alloc, &state, &bounds, seqno),
         Err(error) => Err(error),
     }
 }
@@ -51,7 +48,7 @@ fn iter_over<'a>(
     table: &'a Memtable,
     seqno: SeqNo,
 ) -> Result<TreeIter, Error> {
-    iter_of(alloc, state_of(alloc, version, table, None), &all(), seqno)
+    iter_of(alloc, state_of(alloc, version, table, None), all(), seqno)
 }
 
 /// The keys that are taken, with a dash for none.
@@ -121,7 +118,7 @@ fn shows<'a>(
     alloc: Global,
     version: &'a Version,
     table: &'a Memtable,
-    bounds: &Bounds,
+    bounds: Bounds,
     seqno: SeqNo,
     text: &str,
 ) -> bool {
@@ -129,34 +126,15 @@ fn shows<'a>(
     lists(alloc, iter_of(alloc, state, bounds, seqno), text)
 }
 
-fn shows_by_number<'a>(alloc: Global, version: &'a Version, table: &'a Memtable) -> bool {
-    shows(alloc, version, table, &all(), 3, "1x3y5z")
-        && shows(alloc, version, table, &all(), 2, "1x3y")
-        && shows(alloc, version, table, &all(), 0, "")
-}
-
 #[test]
 fn a_snapshot_sees_what_is_below_it(rt: HostRuntime) {
     let version = Version::new(0);
     let mut table = Memtable::new(rt.alloc(), 0);
     assert!(rt; set_odd(&mut table).is_ok());
-    assert!(rt; shows_by_number(rt.alloc(), &version, &table));
+    assert!(rt; shows(rt.alloc(), &version, &table, all(), 3, "1x3y5z"));
+    assert!(rt; shows(rt.alloc(), &version, &table, all(), 2, "1x3y"));
+    assert!(rt; shows(rt.alloc(), &version, &table, all(), 0, ""));
     drop(table);
-}
-
-fn shows_inner<'a>(alloc: Global, version: &'a Version, table: &'a Memtable) -> bool {
-    let bounds = (Bound::Excluded(key("1")), Bound::Included(key("3")));
-    shows(alloc, version, table, &bounds, 3, "3y")
-}
-
-fn shows_lower<'a>(alloc: Global, version: &'a Version, table: &'a Memtable) -> bool {
-    let bounds = (Bound::Included(key("1")), Bound::Excluded(key("3")));
-    shows(alloc, version, table, &bounds, 3, "1x")
-}
-
-fn shows_reversed<'a>(alloc: Global, version: &'a Version, table: &'a Memtable) -> bool {
-    let bounds = (Bound::Included(key("5")), Bound::Included(key("1")));
-    shows(alloc, version, table, &bounds, 3, "")
 }
 
 #[test]
@@ -164,9 +142,12 @@ fn bounds_take_their_keys_in_or_leave_them_out(rt: HostRuntime) {
     let version = Version::new(0);
     let mut table = Memtable::new(rt.alloc(), 0);
     assert!(rt; set_odd(&mut table).is_ok());
-    assert!(rt; shows_inner(rt.alloc(), &version, &table));
-    assert!(rt; shows_lower(rt.alloc(), &version, &table));
-    assert!(rt; shows_reversed(rt.alloc(), &version, &table));
+    let inner = (excluded("1"), included("3"));
+    assert!(rt; shows(rt.alloc(), &version, &table, inner, 3, "3y"));
+    let lower = (included("1"), excluded("3"));
+    assert!(rt; shows(rt.alloc(), &version, &table, lower, 3, "1x"));
+    let reversed = (included("5"), included("1"));
+    assert!(rt; shows(rt.alloc(), &version, &table, reversed, 3, ""));
     drop(table);
 }
 
@@ -233,7 +214,7 @@ fn two_show<'a>(
     text: &str,
 ) -> bool {
     let state = state_of_two(alloc, version, newer, older);
-    lists(alloc, iter_of(alloc, state, &all(), seqno), text)
+    lists(alloc, iter_of(alloc, state, all(), seqno), text)
 }
 
 #[test]
@@ -267,7 +248,7 @@ fn shows_under<'a>(
     text: &str,
 ) -> bool {
     let state = state_of(alloc, version, tree, Some(index));
-    lists(alloc, iter_of(alloc, state, &all(), 2), text)
+    lists(alloc, iter_of(alloc, state, all(), 2), text)
 }
 
 #[test]

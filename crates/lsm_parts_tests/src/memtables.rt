@@ -1,9 +1,8 @@
 // Look-ups, sizes and bounds of a memtable.
-use crate::samples::{Bounds, entry, key, set, tombstone};
+use crate::samples::{Bounds, all, entry, excluded, included, set, tombstone};
 use lsm_below::{InternalValue, SeqNo};
 use lsm_parts::{Error, Memtable};
 use std::alloc::Global;
-use std::ops::Bound;
 use std::process::Abort;
 
 // ---- look-ups
@@ -87,28 +86,9 @@ fn set_batch(alloc: Global, table: &mut Memtable) -> Result<(), Error> {
 }
 
 /// Whether so many entries lie within bounds, the first one with this number.
-fn lends(table: &Memtable, bounds: &Bounds, count: usize, first: Option<SeqNo>) -> bool {
-    table.range(bounds).count() == count
-        && table.range(bounds).next().map(|entry| entry.key.seqno) == first
-}
-
-fn lends_all(table: &Memtable) -> bool {
-    lends(table, &(Bound::Unbounded, Bound::Unbounded), 3, Some(2))
-}
-
-fn lends_included_to_excluded(table: &Memtable) -> bool {
-    let bounds = (Bound::Included(key("a")), Bound::Excluded(key("b")));
-    lends(table, &bounds, 2, Some(2))
-}
-
-fn lends_excluded_to_included(table: &Memtable) -> bool {
-    let bounds = (Bound::Excluded(key("a")), Bound::Included(key("b")));
-    lends(table, &bounds, 1, Some(1))
-}
-
-fn lends_nothing_reversed(table: &Memtable) -> bool {
-    let bounds = (Bound::Included(key("b")), Bound::Included(key("a")));
-    lends(table, &bounds, 0, None)
+fn lends(table: &Memtable, bounds: Bounds, count: usize, first: Option<SeqNo>) -> bool {
+    table.range(&bounds).count() == count
+        && table.range(&bounds).next().map(|entry| entry.key.seqno) == first
 }
 
 fn ends_with_b(table: &Memtable) -> bool {
@@ -122,10 +102,10 @@ fn ends_with_b(table: &Memtable) -> bool {
 fn lends_what_lies_within_bounds(rt: HostRuntime) {
     let mut table = Memtable::new(rt.alloc(), 0);
     assert!(rt; set_batch(rt.alloc(), &mut table).is_ok());
-    assert!(rt; lends_all(&table));
-    assert!(rt; lends_included_to_excluded(&table));
-    assert!(rt; lends_excluded_to_included(&table));
-    assert!(rt; lends_nothing_reversed(&table));
+    assert!(rt; lends(&table, all(), 3, Some(2)));
+    assert!(rt; lends(&table, (included("a"), excluded("b")), 2, Some(2)));
+    assert!(rt; lends(&table, (excluded("a"), included("b")), 1, Some(1)));
+    assert!(rt; lends(&table, (included("b"), included("a")), 0, None));
     assert!(rt; ends_with_b(&table));
     drop(table);
 }

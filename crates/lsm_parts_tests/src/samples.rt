@@ -14,6 +14,18 @@ pub fn key(text: &'static str) -> UserKey {
     UserKey::from_static(text.as_bytes())
 }
 
+pub fn all() -> Bounds {
+    (Bound::Unbounded, Bound::Unbounded)
+}
+
+pub fn included(text: &'static str) -> Bound<UserKey> {
+    Bound::Included(key(text))
+}
+
+pub fn excluded(text: &'static str) -> Bound<UserKey> {
+    Bound::Excluded(key(text))
+}
+
 pub fn value(text: &'static str) -> UserValue {
     UserValue::from_static(text.as_bytes())
 }

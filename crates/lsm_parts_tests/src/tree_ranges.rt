@@ -1,10 +1,11 @@
 // A tree's reads of many keys.
-use crate::samples::{Bounds, INDEX, gives, has_key, key, lists, open, set_over_a_b, value};
+use crate::samples::{
+    Bounds, INDEX, excluded, gives, has_key, included, key, lists, open, set_over_a_b, value,
+};
 use lsm_below::SeqNo;
 use lsm_parts::{Error, Memtable, TreeIter};
 use lsm_state::TreeState;
 use std::alloc::Global;
-use std::ops::Bound;
 
 fn put(
     tree: &mut TreeState,
@@ -140,34 +141,19 @@ fn an_index_lies_over_the_tree(rt: HostRuntime) {
 // ---- bounds
 
 /// Whether each call for a range gives these.
-fn range_lists(alloc: Global, tree: &TreeState, bounds: &Bounds, want: &str) -> bool {
-    lists(alloc, tree.range(bounds, 3, None), want)
-        && lists(alloc, tree.create_range(bounds, 3, None), want)
-        && lists(alloc, tree.create_internal_range(bounds, 3, None), want)
-}
-
-fn included_to_excluded(alloc: Global, tree: &TreeState) -> bool {
-    let bounds = (Bound::Included(key("1")), Bound::Excluded(key("5")));
-    range_lists(alloc, tree, &bounds, "1a3b")
-}
-
-fn excluded_to_included(alloc: Global, tree: &TreeState) -> bool {
-    let bounds = (Bound::Excluded(key("1")), Bound::Included(key("5")));
-    range_lists(alloc, tree, &bounds, "3b5c")
-}
-
-fn reversed(alloc: Global, tree: &TreeState) -> bool {
-    let bounds = (Bound::Included(key("5")), Bound::Included(key("1")));
-    range_lists(alloc, tree, &bounds, "")
+fn range_lists(alloc: Global, tree: &TreeState, bounds: Bounds, want: &str) -> bool {
+    lists(alloc, tree.range(&bounds, 3, None), want)
+        && lists(alloc, tree.create_range(&bounds, 3, None), want)
+        && lists(alloc, tree.create_internal_range(&bounds, 3, None), want)
 }
 
 #[test]
 fn a_range_keeps_its_bounds(rt: HostRuntime) {
     let mut tree = open(rt.alloc());
     assert!(rt; put_odd(&mut tree).is_ok());
-    assert!(rt; included_to_excluded(rt.alloc(), &tree));
-    assert!(rt; excluded_to_included(rt.alloc(), &tree));
-    assert!(rt; reversed(rt.alloc(), &tree));
+    assert!(rt; range_lists(rt.alloc(), &tree, (included("1"), excluded("5")), "1a3b"));
+    assert!(rt; range_lists(rt.alloc(), &tree, (excluded("1"), included("5")), "3b5c"));
+    assert!(rt; range_lists(rt.alloc(), &tree, (included("5"), included("1")), ""));
     drop(tree);
 }
 
