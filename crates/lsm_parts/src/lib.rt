@@ -39,6 +39,3 @@ pub use seqno::{LIMIT, SequenceNumberCounter, seqno_filter};
 pub use shown_ends::{first_shown, last_shown};
 pub use tree_iter::{End, TreeIter, take_ends};
 pub use version::{SealedMemtables, SuperVersion, SuperVersions, Version, VersionId};
-
-#[cfg(test)]
-mod tree_iter_tests;

@@ -83,18 +83,3 @@ pub fn seqno_filter(item_seqno: SeqNo, seqno: SeqNo) -> bool
 {
     item_seqno < seqno
 }
-
-#[cfg(test)]
-mod tests {
-    use super::*;
-    use std::test::Fail;
-
-    #[test]
-    fn ends_at_the_limit(rt: HostRuntime) -> Result<(), Fail> {
-        let mut counter = SequenceNumberCounter::new(9_223_372_036_854_775_807);
-        assert_eq!(rt; counter.next()?, 9_223_372_036_854_775_807);
-        assert!(rt; matches!(counter.next(), Err(Error::OutOfNumbers)));
-        assert_eq!(rt; counter.get(), 9_223_372_036_854_775_808);
-        Ok(())
-    }
-}

@@ -8,6 +8,3 @@ pub use sealed::SealedMemtables;
 pub use super_version::SuperVersion;
 pub use super_versions::SuperVersions;
 pub use table_version::{Version, VersionId};
-
-#[cfg(test)]
-mod tests;

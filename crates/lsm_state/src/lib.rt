@@ -18,8 +18,3 @@ mod writes;
 pub use memtables::Memtables;
 pub use tree::TreeState;
 pub use writes::{MAX_KEY_LEN, MAX_VALUE_LEN};
-
-#[cfg(test)]
-mod range_tests;
-#[cfg(test)]
-mod tests;

@@ -1,30 +1,19 @@
-// What is read of many keys. Helpers borrow the tree, as in the other tests.
-use crate::TreeState;
-use lsm_below::{InternalValue, SeqNo, UserKey, UserValue, ValueType};
-use lsm_parts::{Config, Error, Guard, IterGuard, Memtable, TreeIter};
+// A tree's reads of many keys.
+use crate::samples::{
+    Bounds, INDEX, excluded, gives, has_key, included, key, lists, open, set_over_a_b, value,
+};
+use lsm_below::SeqNo;
+use lsm_parts::{Error, Memtable, TreeIter};
+use lsm_state::TreeState;
 use std::alloc::Global;
-use std::ops::Bound;
-
-type Bounds = (Bound<UserKey>, Bound<UserKey>);
-
-/// The number of what an index holds.
-const INDEX: SeqNo = 9_223_372_036_854_775_808;
-
-fn open(alloc: Global) -> TreeState {
-    TreeState::open_in_memory(alloc, Config::new(0, 0, 0))
-}
-
-fn key(text: &'static str) -> UserKey {
-    UserKey::from_static(text.as_bytes())
-}
 
 fn put(
     tree: &mut TreeState,
     name: &'static str,
-    value: &'static str,
+    text: &'static str,
     seqno: SeqNo,
 ) -> Result<(), Error> {
-    tree.insert(key(name), UserValue::from_static(value.as_bytes()), seqno)?;
+    tree.insert(key(name), value(text), seqno)?;
     Ok(())
 }
 
@@ -48,13 +37,6 @@ fn a_new_tree_shows_nothing(rt: HostRuntime) {
 fn has_len(tree: &TreeState, snapshot: SeqNo, len: usize) -> bool {
     match tree.len(snapshot, None) {
         Ok(found) => found == len,
-        Err(_) => false,
-    }
-}
-
-fn has_key(guard: Guard, name: &[u8]) -> bool {
-    match guard.key() {
-        Ok(key) => key.as_slice() == name,
         Err(_) => false,
     }
 }
@@ -87,8 +69,7 @@ fn counts_keys_and_finds_the_ends(rt: HostRuntime) {
 
 /// Sets a and removes it, and says whether the sizes were told: 1 + 8 + 48, and 1 + 48 behind it.
 fn put_and_remove(tree: &mut TreeState) -> bool {
-    let value = UserValue::from_static(b"my_value");
-    matches!(tree.insert(key("a"), value, 0), Ok((57, 57)))
+    matches!(tree.insert(key("a"), value("my_value"), 0), Ok((57, 57)))
         && matches!(tree.remove(key("a"), 1), Ok((49, 106)))
 }
 
@@ -112,13 +93,6 @@ fn sizes_are_counted(rt: HostRuntime) {
 
 // ---- both ends, and an index over the tree
 
-fn gives(guard: Option<Guard>, name: &[u8]) -> bool {
-    match guard {
-        Some(guard) => has_key(guard, name),
-        None => false,
-    }
-}
-
 fn gives_from_both_ends(iter: &mut TreeIter) -> bool {
     gives(iter.next(), b"1")
         && gives(iter.next_back(), b"5")
@@ -141,43 +115,9 @@ fn both_ends_meet(rt: HostRuntime) {
     drop(tree);
 }
 
-/// The keys and values that are given, one behind the other.
-fn listed(alloc: Global, iter: TreeIter) -> Result<Vec<u8>, Error> {
-    let mut bytes = Vec::new(alloc);
-    for guard in iter {
-        let (key, value) = guard.into_inner()?;
-        bytes.extend_from_slice(key.as_slice())?;
-        bytes.extend_from_slice(value.as_slice())?;
-    }
-    Ok(bytes)
-}
-
-/// Whether just these keys and values are given.
-fn lists(alloc: Global, iter: Result<TreeIter, Error>, want: &str) -> bool {
-    match iter {
-        Ok(iter) => are_listed(listed(alloc, iter), want),
-        Err(_) => false,
-    }
-}
-
-fn are_listed(bytes: Result<Vec<u8>, Error>, want: &str) -> bool {
-    match bytes {
-        Ok(bytes) => bytes.as_slice() == want.as_bytes(),
-        Err(_) => false,
-    }
-}
-
 fn put_two(tree: &mut TreeState) -> Result<(), Error> {
     put(tree, "a", "x", 0)?;
     put(tree, "b", "y", 1)
-}
-
-/// Sets a in an index, and removes b.
-fn put_over(index: &mut Memtable) -> Result<(), Error> {
-    let value = UserValue::from_static(b"o");
-    index.insert(InternalValue::from_components(key("a"), value, INDEX, ValueType::Value))?;
-    index.insert(InternalValue::new_tombstone(key("b"), INDEX))?;
-    Ok(())
 }
 
 /// Whether both calls for all keys give these, under what the index has below a number.
@@ -191,7 +131,7 @@ fn an_index_lies_over_the_tree(rt: HostRuntime) {
     let mut tree = open(rt.alloc());
     let mut index = Memtable::new(rt.alloc(), 0);
     assert!(rt; put_two(&mut tree).is_ok());
-    assert!(rt; put_over(&mut index).is_ok());
+    assert!(rt; set_over_a_b(&mut index).is_ok());
     assert!(rt; iter_lists(rt.alloc(), &tree, (&index, INDEX + 1), "ao"));
     assert!(rt; iter_lists(rt.alloc(), &tree, (&index, INDEX), "axby"));
     drop(index);
@@ -201,34 +141,19 @@ fn an_index_lies_over_the_tree(rt: HostRuntime) {
 // ---- bounds
 
 /// Whether each call for a range gives these.
-fn range_lists(alloc: Global, tree: &TreeState, bounds: &Bounds, want: &str) -> bool {
-    lists(alloc, tree.range(bounds, 3, None), want)
-        && lists(alloc, tree.create_range(bounds, 3, None), want)
-        && lists(alloc, tree.create_internal_range(bounds, 3, None), want)
-}
-
-fn included_to_excluded(alloc: Global, tree: &TreeState) -> bool {
-    let bounds = (Bound::Included(key("1")), Bound::Excluded(key("5")));
-    range_lists(alloc, tree, &bounds, "1a3b")
-}
-
-fn excluded_to_included(alloc: Global, tree: &TreeState) -> bool {
-    let bounds = (Bound::Excluded(key("1")), Bound::Included(key("5")));
-    range_lists(alloc, tree, &bounds, "3b5c")
-}
-
-fn reversed(alloc: Global, tree: &TreeState) -> bool {
-    let bounds = (Bound::Included(key("5")), Bound::Included(key("1")));
-    range_lists(alloc, tree, &bounds, "")
+fn range_lists(alloc: Global, tree: &TreeState, bounds: Bounds, want: &str) -> bool {
+    lists(alloc, tree.range(&bounds, 3, None), want)
+        && lists(alloc, tree.create_range(&bounds, 3, None), want)
+        && lists(alloc, tree.create_internal_range(&bounds, 3, None), want)
 }
 
 #[test]
 fn a_range_keeps_its_bounds(rt: HostRuntime) {
     let mut tree = open(rt.alloc());
     assert!(rt; put_odd(&mut tree).is_ok());
-    assert!(rt; included_to_excluded(rt.alloc(), &tree));
-    assert!(rt; excluded_to_included(rt.alloc(), &tree));
-    assert!(rt; reversed(rt.alloc(), &tree));
+    assert!(rt; range_lists(rt.alloc(), &tree, (included("1"), excluded("5")), "1a3b"));
+    assert!(rt; range_lists(rt.alloc(), &tree, (excluded("1"), included("5")), "3b5c"));
+    assert!(rt; range_lists(rt.alloc(), &tree, (included("5"), included("1")), ""));
     drop(tree);
 }
 

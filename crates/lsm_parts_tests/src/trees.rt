@@ -1,35 +1,23 @@
-// Helpers borrow the tree, and each test drops it by a call. A proof takes a tree that is dropped at the end
-// of a block to all its pieces, and does so once more for each `?` before it.
-use crate::TreeState;
-use lsm_below::{SeqNo, UserKey, UserValue};
+// Writes, reads of one key and rotation of a tree.
+use crate::samples::{key, open, value};
+use lsm_below::{SeqNo, UserKey};
 use lsm_model::Op;
-use lsm_parts::{Config, Error, SuperVersion};
+use lsm_parts::{Error, SuperVersion};
+use lsm_state::TreeState;
 use std::alloc::Global;
 
-fn open(alloc: Global) -> TreeState {
-    TreeState::open_in_memory(alloc, Config::new(0, 0, 0))
-}
-
-fn key() -> UserKey {
-    UserKey::from_static(b"a")
-}
-
-fn value() -> UserValue {
-    UserValue::from_static(b"x")
-}
-
 fn write(alloc: Global, tree: &mut TreeState, op: Op) -> Result<SeqNo, Error> {
-    tree.write(vec![in alloc; (key(), op)]?)
+    tree.write(vec![in alloc; (key("a"), op)]?)
 }
 
 /// Sets the key at 0 by a batch, and says whether it was told so.
 fn set(alloc: Global, tree: &mut TreeState) -> bool {
-    matches!(write(alloc, tree, Op::Set(value())), Ok(0))
+    matches!(write(alloc, tree, Op::Set(value("x"))), Ok(0))
 }
 
 /// Removes the key at 1, and says whether the sizes were told: 1 + 48, behind 1 + 1 + 48.
 fn remove(tree: &mut TreeState) -> bool {
-    matches!(tree.remove(key(), 1), Ok((49, 99)))
+    matches!(tree.remove(key("a"), 1), Ok((49, 99)))
 }
 
 fn shows_value(tree: &TreeState, snapshot: SeqNo) -> bool {
@@ -93,7 +81,7 @@ fn sealed_entries_are_read(rt: HostRuntime) {
 
 fn insert_long(alloc: Global, tree: &mut TreeState, len: usize) -> Result<(u64, u64), Error> {
     let key = UserKey::copy_from_slice(alloc, &vec![in alloc; b'a'; len]?)?;
-    tree.insert(key, value(), 0)
+    tree.insert(key, value("x"), 0)
 }
 
 fn takes_longest(alloc: Global, tree: &mut TreeState) -> bool {
@@ -113,12 +101,12 @@ fn refuses_what_is_too_long(rt: HostRuntime) {
 }
 
 fn refuses_late(tree: &mut TreeState) -> bool {
-    let late = tree.insert(key(), value(), 9_223_372_036_854_775_808);
+    let late = tree.insert(key("a"), value("x"), 9_223_372_036_854_775_808);
     matches!(late, Err(Error::NumberTooGreat))
 }
 
 fn write_doubled(alloc: Global, tree: &mut TreeState) -> Result<SeqNo, Error> {
-    tree.write(vec![in alloc; (key(), Op::Del), (key(), Op::Set(value()))]?)
+    tree.write(vec![in alloc; (key("a"), Op::Del), (key("a"), Op::Set(value("x")))]?)
 }
 
 fn refuses_doubled(alloc: Global, tree: &mut TreeState) -> bool {

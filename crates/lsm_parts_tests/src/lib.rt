@@ -1,0 +1,41 @@
+//! Tests of `lsm_parts` and `lsm_state`, and nothing else: a crate with tests is proved twice, with and without
+//! them, so they stand here and not there.
+//!
+//! | Module | Tests |
+//! |-|-|
+//! | `errors` | the numbers and the names of errors |
+//! | `counters` | the counter of numbers |
+//! | `memtables` | look-ups, sizes and bounds of a memtable |
+//! | `versions` | sealed memtables, and the history of super versions |
+//! | `guards` | what a guard hands out |
+//! | `prefixes` | the bounds of the keys that begin alike |
+//! | `iterators` | what iterators give over memtables, from both ends |
+//! | `trees` | writes, reads of one key and rotation of a tree |
+//! | `tree_ranges` | a tree's reads of many keys |
+//! | `samples` | what several of these make, and how they look at what is given |
+//!
+//! Helpers borrow what a test owns and answer whether it is as wanted, and a test drops what it owns by a call: a
+//! proof takes a tree or a table that is dropped at the end of a block to all its pieces, and does so once more for
+//! each `?` before it.
+#![tactic(auto)]
+
+#[cfg(test)]
+mod counters;
+#[cfg(test)]
+mod errors;
+#[cfg(test)]
+mod guards;
+#[cfg(test)]
+mod iterators;
+#[cfg(test)]
+mod memtables;
+#[cfg(test)]
+mod prefixes;
+#[cfg(test)]
+mod samples;
+#[cfg(test)]
+mod tree_ranges;
+#[cfg(test)]
+mod trees;
+#[cfg(test)]
+mod versions;

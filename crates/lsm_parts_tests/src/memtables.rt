@@ -1,0 +1,111 @@
+// Look-ups, sizes and bounds of a memtable.
+use crate::samples::{Bounds, all, entry, excluded, included, set, tombstone};
+use lsm_below::{InternalValue, SeqNo};
+use lsm_parts::{Error, Memtable};
+use std::alloc::Global;
+use std::process::Abort;
+
+// ---- look-ups
+
+fn set_two_keys(table: &mut Memtable) -> Result<(), Error> {
+    set(table, "hello-key-999991", "hello-value-999991", 0)?;
+    set(table, "hello-key-999991", "hello-value-999991-2", 1)?;
+    for seqno in [0, 255, 99] {
+        set(table, "abc", "", seqno)?;
+    }
+    Ok(())
+}
+
+/// Whether a look-up finds this number and value, or nothing.
+fn finds(table: &Memtable, key: &str, snapshot: SeqNo, want: Option<(SeqNo, &str)>) -> bool {
+    match (table.get(key.as_bytes(), snapshot), want) {
+        (Some(entry), Some((seqno, value))) => {
+            entry.key.seqno == seqno && entry.value.as_slice() == value.as_bytes()
+        }
+        (None, None) => true,
+        _ => false,
+    }
+}
+
+fn finds_each(rt: &impl Abort, table: &Memtable) {
+    let lookups = [
+        ("abc", u64::MAX, Some((255, ""))),
+        ("abc", 100, Some((99, ""))),
+        ("abc", 50, Some((0, ""))),
+        ("abc", 0, None),
+        (
+            "hello-key-999991",
+            u64::MAX,
+            Some((1, "hello-value-999991-2")),
+        ),
+        ("hello-key-999991", 1, Some((0, "hello-value-999991"))),
+        ("hello-key-999991", 2, Some((1, "hello-value-999991-2"))),
+        ("hello-key-99999", u64::MAX, None),
+        ("hello-key-99999", 1, None),
+        ("hello-key-99999", 2, None),
+    ];
+    for (key, snapshot, want) in lookups {
+        assert!(rt; finds(table, key, snapshot, want), "{key} at {snapshot}");
+    }
+}
+
+#[test]
+fn finds_the_newest_below_the_snapshot(rt: HostRuntime) {
+    let mut table = Memtable::new(rt.alloc(), 0);
+    assert!(rt; set_two_keys(&mut table).is_ok());
+    finds_each(&rt, &table);
+    drop(table);
+}
+
+// ---- sizes
+
+/// Puts an entry in, and says whether it counts these sizes and there are so many entries.
+fn counts(table: &mut Memtable, item: InternalValue, sizes: (u64, u64), len: usize) -> bool {
+    match table.insert(item) {
+        Ok(found) => found == sizes && table.len() == len,
+        Err(_) => false,
+    }
+}
+
+#[test]
+fn counts_replaced_entries_again(rt: HostRuntime) {
+    let mut table = Memtable::new(rt.alloc(), 0);
+    assert!(rt; counts(&mut table, entry("a", "my_value", 0), (57, 57), 1));
+    assert!(rt; counts(&mut table, tombstone("a", 1), (49, 106), 2));
+    assert!(rt; counts(&mut table, entry("a", "x", 1), (50, 156), 2));
+    assert_eq!(rt; table.size(), 156);
+    assert_eq!(rt; table.get_highest_seqno(), Some(1));
+    drop(table);
+}
+
+// ---- bounds
+
+fn set_batch(alloc: Global, table: &mut Memtable) -> Result<(), Error> {
+    let batch = vec![in alloc; entry("b", "", 1), entry("a", "", 1), entry("a", "", 2)]?;
+    table.insert_all(batch)
+}
+
+/// Whether so many entries lie within bounds, the first one with this number.
+fn lends(table: &Memtable, bounds: Bounds, count: usize, first: Option<SeqNo>) -> bool {
+    table.range(&bounds).count() == count
+        && table.range(&bounds).next().map(|entry| entry.key.seqno) == first
+}
+
+fn ends_with_b(table: &Memtable) -> bool {
+    match table.iter().next_back() {
+        Some(entry) => entry.key.user_key.as_slice() == b"b".as_slice(),
+        None => false,
+    }
+}
+
+#[test]
+fn lends_what_lies_within_bounds(rt: HostRuntime) {
+    let mut table = Memtable::new(rt.alloc(), 0);
+    assert!(rt; set_batch(rt.alloc(), &mut table).is_ok());
+    assert!(rt; lends(&table, all(), 3, Some(2)));
+    assert!(rt; lends(&table, (included("a"), excluded("b")), 2, Some(2)));
+    assert!(rt; lends(&table, (excluded("a"), included("b")), 1, Some(1)));
+    assert!(rt; lends(&table, (included("b"), included("a")), 0, None));
+    assert!(rt; ends_with_b(&table));
+    drop(table);
+}
