@@ -1,15 +1,10 @@
-use super::*;
-use std::alloc::Global;
+// Ranges of keys.
+
+use crate::samples::range;
+use lsm_below::KeyRange;
+use std::alloc::{AllocError, Global};
 use std::process::Abort;
 use std::test::Fail;
-
-/// The range between these ends, which stand in order.
-pub(crate) fn range(rt: &impl Abort, min: &'static [u8], max: &'static [u8]) -> KeyRange {
-    let min = UserKey::from_static(min);
-    let max = UserKey::from_static(max);
-    assert!(rt; key_is_at_most(min.as_slice(), max.as_slice()));
-    KeyRange::new((min, max))
-}
 
 /// From b to d, and from a to c.
 fn two(rt: &impl Abort, alloc: Global) -> Result<Vec<KeyRange>, AllocError> {

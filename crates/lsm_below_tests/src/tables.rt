@@ -1,19 +1,13 @@
-use super::*;
-use crate::write_tables;
-use lsm_below::{Run, UserValue, ValueType, is_run};
+// Tables.
+
+use crate::samples::{T, V, W, entry};
+use bytes::Bytes;
+use lsm_below::{InternalValue, Ranged, Run, SeqNo, UserKey, is_run};
+use lsm_tables::{Checksum, Table, TableError, is_writable, write_tables};
+use std::alloc::{AllocError, Global};
+use std::ops::Bound;
 use std::process::Abort;
 use std::test::Fail;
-
-const V: ValueType = ValueType::Value;
-
-const T: ValueType = ValueType::Tombstone;
-
-const W: ValueType = ValueType::WeakTombstone;
-
-fn entry(key: &'static [u8], seqno: SeqNo, value_type: ValueType) -> InternalValue {
-    let value = UserValue::from_static(b"x");
-    InternalValue::from_components(UserKey::from_static(key), value, seqno, value_type)
-}
 
 /// The image of entries in one table, made at 5.
 fn image_of(
@@ -21,7 +15,7 @@ fn image_of(
     alloc: Global,
     entries: &[InternalValue],
 ) -> Result<Option<Bytes>, AllocError> {
-    assert!(rt; crate::is_writable(entries));
+    assert!(rt; is_writable(entries));
     let mut images = write_tables(alloc, u64::MAX, 5, entries)?;
     match images.pop() {
         Some(image) => Ok(Some(Bytes::from_vec(image)?)),

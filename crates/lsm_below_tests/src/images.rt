@@ -1,7 +1,9 @@
-use super::*;
-use crate::TableError;
+// The bytes of tables' files.
+
+use crate::samples::{V, W, entry};
 use bytes::Bytes;
-use lsm_below::{InternalValue, UserKey, UserValue, ValueType};
+use lsm_below::{InternalValue, UserValue};
+use lsm_tables::{TableError, decode, encode, fits_image, is_writable, no_image_begins_another};
 use std::alloc::{AllocError, Global};
 use std::test::Fail;
 
@@ -24,7 +26,7 @@ fn is_read(alloc: Global, bytes: &[u8]) -> Result<bool, AllocError> {
 fn is_a_to_x(entry: &InternalValue) -> bool {
     entry.key.user_key.as_slice() == b"a".as_slice()
         && entry.key.seqno == 0
-        && entry.key.value_type == ValueType::Value
+        && entry.key.value_type == V
         && entry.value.as_slice() == b"x".as_slice()
 }
 
@@ -38,18 +40,9 @@ fn one_entry_is_read(rt: HostRuntime) -> Result<(), Fail> {
     Ok(())
 }
 
-fn a_to_x(value_type: ValueType) -> InternalValue {
-    InternalValue::from_components(
-        UserKey::from_static(b"a"),
-        UserValue::from_static(b"x"),
-        0,
-        value_type,
-    )
-}
-
 #[test]
 fn one_entry_is_written(rt: HostRuntime) -> Result<(), Fail> {
-    let entries = vec![in rt.alloc(); a_to_x(ValueType::Value)]?;
+    let entries = vec![in rt.alloc(); entry(b"a", 0, V)]?;
     assert!(rt; !entries.is_empty() && is_writable(&entries));
     let bytes = encode(rt.alloc(), 0, &entries)?;
     assert_eq!(rt; bytes.as_slice(), IMAGE.as_slice());
@@ -130,8 +123,8 @@ fn a_byte_behind_is_bad(rt: HostRuntime) -> Result<(), Fail> {
 
 #[test]
 fn what_fits(rt: HostRuntime) {
-    assert!(rt; fits_image(&a_to_x(ValueType::Value)));
-    let mut tombstone = a_to_x(ValueType::WeakTombstone);
+    assert!(rt; fits_image(&entry(b"a", 0, V)));
+    let mut tombstone = entry(b"a", 0, W);
     assert!(rt; fits_image(&tombstone));
     tombstone.value = UserValue::from_static(b"x");
     assert!(rt; !fits_image(&tombstone));

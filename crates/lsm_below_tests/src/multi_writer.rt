@@ -1,15 +1,12 @@
-use super::*;
-use crate::Table;
+// Where entries are cut into tables.
+
+use crate::samples::{V, entry};
 use bytes::Bytes;
-use lsm_below::{UserKey, UserValue, ValueType};
+use lsm_below::InternalValue;
+use lsm_tables::{MultiWriter, Table};
+use std::alloc::{AllocError, Global};
 use std::process::Abort;
 use std::test::Fail;
-
-/// An entry of 17 bytes in an image.
-fn entry(key: &'static [u8], seqno: u64) -> InternalValue {
-    let value = UserValue::from_static(b"x");
-    InternalValue::from_components(UserKey::from_static(key), value, seqno, ValueType::Value)
-}
 
 fn write(
     rt: &impl Abort,
@@ -29,9 +26,9 @@ fn count(alloc: Global, image: Vec<u8>) -> Result<usize, Fail> {
 /// How many entries stand in each table, of two of the key a and one of the key b.
 fn counts(rt: &impl Abort, alloc: Global, target: u64) -> Result<Vec<usize>, Fail> {
     let mut writer = MultiWriter::new(alloc, target, 0);
-    write(rt, &mut writer, entry(b"a", 2))?;
-    write(rt, &mut writer, entry(b"a", 1))?;
-    write(rt, &mut writer, entry(b"b", 1))?;
+    write(rt, &mut writer, entry(b"a", 2, V))?;
+    write(rt, &mut writer, entry(b"a", 1, V))?;
+    write(rt, &mut writer, entry(b"b", 1, V))?;
     let mut counts = Vec::new(alloc);
     for image in writer.finish()? {
         counts.push(count(alloc, image)?)?;
@@ -63,9 +60,9 @@ fn nothing_written(rt: HostRuntime) -> Result<(), Fail> {
 #[test]
 fn what_may_not_be_written(rt: HostRuntime) -> Result<(), Fail> {
     let mut writer = MultiWriter::new(rt.alloc(), 1, 0);
-    write(&rt, &mut writer, entry(b"b", 1))?;
-    assert!(rt; !writer.may_write(&entry(b"b", 1)));
-    assert!(rt; !writer.may_write(&entry(b"a", 2)));
-    assert!(rt; writer.may_write(&entry(b"b", 0)));
+    write(&rt, &mut writer, entry(b"b", 1, V))?;
+    assert!(rt; !writer.may_write(&entry(b"b", 1, V)));
+    assert!(rt; !writer.may_write(&entry(b"a", 2, V)));
+    assert!(rt; writer.may_write(&entry(b"b", 0, V)));
     Ok(())
 }
