@@ -17,17 +17,17 @@ fn plain_sum(bytes: &[u8]) -> u128 {
     total
 }
 
-fn rows_of_zeros() -> bool {
-    sum(&[]) == 0 && sum(&[0]) == 1 && sum(&[0, 0]) == 1_099_511_628_212
-}
-
-fn rows_of_letters() -> bool {
-    sum(&[0x61]) == 98 && sum(&[0x61, 0x62]) == 107_752_139_564_777
-}
-
 #[test]
 fn rows(rt: HostRuntime) {
-    assert!(rt; rows_of_zeros() && rows_of_letters());
+    for (bytes, wanted) in [
+        (b"".as_slice(), 0),
+        (b"\0".as_slice(), 1),
+        (b"\0\0".as_slice(), 1_099_511_628_212),
+        (b"a".as_slice(), 98),
+        (b"ab".as_slice(), 107_752_139_564_777),
+    ] {
+        assert_eq!(rt; sum(bytes), wanted, "{bytes:?}");
+    }
 }
 
 #[test]

@@ -8,36 +8,45 @@ use std::test::Fail;
 
 /// From b to d, and from a to c.
 fn two(rt: &impl Abort, alloc: Global) -> Result<Vec<KeyRange>, AllocError> {
-    let mut ranges = Vec::new(alloc);
-    ranges.push(range(rt, b"b", b"d"))?;
-    ranges.push(range(rt, b"a", b"c"))?;
-    Ok(ranges)
+    Ok(vec![in alloc; range(rt, b"b", b"d"), range(rt, b"a", b"c")]?)
 }
 
-fn ends_at(rt: &impl Abort, range: &KeyRange, min: &[u8], max: &[u8]) {
-    assert_eq!(rt; range.min().as_slice(), min);
-    assert_eq!(rt; range.max().as_slice(), max);
+fn has_ends(range: &KeyRange, min: &[u8], max: &[u8]) -> bool {
+    range.min().as_slice() == min && range.max().as_slice() == max
+}
+
+/// Whether the range from a to c overlaps another one.
+fn overlaps(rt: &impl Abort, min: &'static [u8], max: &'static [u8]) -> bool {
+    let left = range(rt, b"a", b"c");
+    let right = range(rt, min, max);
+    let overlaps = left.overlaps_with_key_range(&right);
+    drop(left);
+    drop(right);
+    overlaps
 }
 
 #[test]
 fn one_shared_key_is_an_overlap(rt: HostRuntime) {
-    let left = range(&rt, b"a", b"c");
-    assert!(rt; left.overlaps_with_key_range(&range(&rt, b"c", b"e")));
-    assert!(rt; !left.overlaps_with_key_range(&range(&rt, b"d", b"e")));
+    assert!(rt; overlaps(&rt, b"c", b"e"));
+    assert!(rt; !overlaps(&rt, b"d", b"e"));
 }
 
 #[test]
 fn a_copy_has_the_same_ends(rt: HostRuntime) -> Result<(), Fail> {
-    let copy = range(&rt, b"a", b"c").copy()?;
-    ends_at(&rt, &copy, b"a", b"c");
+    let range = range(&rt, b"a", b"c");
+    let copied = range.copy();
+    drop(range);
+    assert!(rt; has_ends(&copied?, b"a", b"c"));
     Ok(())
 }
 
 #[test]
 fn several_ranges_are_held_by_one(rt: HostRuntime) -> Result<(), Fail> {
     let ranges = two(&rt, rt.alloc())?;
-    let hull = KeyRange::aggregate(&ranges)?.ok_or("no range")?;
-    ends_at(&rt, &hull, b"a", b"d");
+    let held = KeyRange::aggregate(&ranges);
+    drop(ranges);
+    let hull = held?.ok_or("no range")?;
+    assert!(rt; has_ends(&hull, b"a", b"d"));
     Ok(())
 }
 

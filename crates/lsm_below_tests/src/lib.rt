@@ -11,7 +11,7 @@
 //! | `tables` | tables |
 //! | `multi_writer` | where entries are cut into tables |
 //! | `mem_store` | the store in memory: its faults and its crashes |
-//! | `samples` | holds no test: what the others make entries and ranges by |
+//! | `samples` | holds no test: what the others make entries, ranges and runs by |
 #![tactic(auto)]
 
 #[cfg(test)]

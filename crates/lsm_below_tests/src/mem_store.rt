@@ -9,7 +9,7 @@ use lsm_store::{MemStore, Pick, Store, StoreError};
 use std::alloc::Global;
 
 /// A call on a name.
-#[derive(Clone, Copy, Debug)]
+#[derive(Clone, Copy)]
 enum Call {
     Write(&'static str, &'static [u8]),
     Sync(&'static str),

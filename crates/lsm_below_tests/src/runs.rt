@@ -2,8 +2,8 @@
 //
 // What owns a run borrows it to a helper, and has no `?` behind: a deep value that is dropped is long to prove.
 
-use crate::samples::range;
-use lsm_below::{KeyRange, Ranged, Run, UserKey, is_run, optimize_runs};
+use crate::samples::{range, run_of};
+use lsm_below::{KeyRange, Ranged, Run, UserKey, optimize_runs};
 use std::alloc::{AllocError, Global};
 use std::ops::Bound;
 use std::process::Abort;
@@ -49,18 +49,21 @@ fn three(rt: &impl Abort, alloc: Global) -> Result<Vec<Piece>, AllocError> {
     ]?)
 }
 
-/// Their run.
-fn run_of(rt: &impl Abort, tables: Vec<Piece>) -> Run<Piece> {
-    assert!(rt; is_run(&tables));
-    match Run::new(tables) {
-        Some(run) => run,
-        None => panic!(rt; "no table"),
-    }
+fn count_overlapping(run: &Run<Piece>, range: KeyRange) -> usize {
+    let count = run.get_overlapping(&range).len();
+    drop(range);
+    count
+}
+
+fn count_contained(run: &Run<Piece>, range: KeyRange) -> usize {
+    let count = run.get_contained(&range).len();
+    drop(range);
+    count
 }
 
 fn look_ups(rt: &impl Abort, run: &Run<Piece>) {
-    assert_eq!(rt; run.get_overlapping(&range(rt, b"c", b"e")).len(), 2);
-    assert_eq!(rt; run.get_contained(&range(rt, b"a", b"h")).len(), 2);
+    assert_eq!(rt; count_overlapping(run, range(rt, b"c", b"e")), 2);
+    assert_eq!(rt; count_contained(run, range(rt, b"a", b"h")), 2);
     assert!(rt; run.get_for_key(b"d").is_none());
     assert!(rt; run.get_for_key(b"f").is_some());
 }
@@ -118,17 +121,15 @@ fn left_of(alloc: Global, first: Run<Piece>, second: Run<Piece>) -> Result<usize
 }
 
 #[test]
-fn runs_apart_are_joined(rt: HostRuntime) -> Result<(), Fail> {
-    let first = Run::single(rt.alloc(), piece_of(&rt, b"e", b"g"))?;
-    let second = Run::single(rt.alloc(), piece_of(&rt, b"a", b"c"))?;
-    assert_eq!(rt; left_of(rt.alloc(), first, second)?, 1);
-    Ok(())
-}
-
-#[test]
-fn overlapping_runs_stay(rt: HostRuntime) -> Result<(), Fail> {
-    let first = Run::single(rt.alloc(), piece_of(&rt, b"a", b"c"))?;
-    let second = Run::single(rt.alloc(), piece_of(&rt, b"c", b"d"))?;
-    assert_eq!(rt; left_of(rt.alloc(), first, second)?, 2);
+fn runs_are_joined(rt: HostRuntime) -> Result<(), Fail> {
+    let alloc = rt.alloc();
+    for (min, max, other_min, other_max, wanted) in [
+        (b"e", b"g", b"a", b"c", 1),
+        (b"a", b"c", b"c", b"d", 2),
+    ] {
+        let first = Run::single(alloc, piece_of(&rt, min, max))?;
+        let second = Run::single(alloc, piece_of(&rt, other_min, other_max))?;
+        assert_eq!(rt; left_of(alloc, first, second)?, wanted);
+    }
     Ok(())
 }

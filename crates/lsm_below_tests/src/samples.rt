@@ -1,6 +1,8 @@
-// What tests make entries and ranges by.
+// What tests make entries, ranges and runs by.
 
-use lsm_below::{InternalValue, KeyRange, SeqNo, UserKey, UserValue, ValueType};
+use lsm_below::{
+    InternalValue, KeyRange, Ranged, Run, SeqNo, UserKey, UserValue, ValueType, is_run,
+};
 use std::process::Abort;
 
 pub const V: ValueType = ValueType::Value;
@@ -19,4 +21,13 @@ pub fn entry(key: &'static [u8], seqno: SeqNo, value_type: ValueType) -> Interna
 pub fn range(rt: &impl Abort, min: &'static [u8], max: &'static [u8]) -> KeyRange {
     assert!(rt; min.cmp(max).is_le());
     KeyRange::new((UserKey::from_static(min), UserKey::from_static(max)))
+}
+
+/// The run of these tables.
+pub fn run_of<T: Ranged + Drop>(rt: &impl Abort, tables: Vec<T>) -> Run<T> {
+    assert!(rt; is_run(&tables));
+    match Run::new(tables) {
+        Some(run) => run,
+        None => panic!(rt; "no table"),
+    }
 }

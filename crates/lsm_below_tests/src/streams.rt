@@ -67,65 +67,69 @@ fn merged_two(
     Merger::new(alloc, two(alloc, first, second)?)
 }
 
-/// Whether a stream gives the entries of just these numbers, and then nothing, however often it is asked.
-fn gives<S: Source>(mut source: S, numbers: &[SeqNo]) -> bool {
-    for number in numbers {
-        match source.next_entry() {
-            Some(Ok(entry)) if entry.key.seqno == *number => {}
-            _ => return false,
-        }
+/// Whether the next entry is there and has this number.
+fn gives_next<S: Source>(source: &mut S, number: SeqNo) -> bool {
+    match source.next_entry() {
+        Some(Ok(entry)) => entry.key.seqno == number,
+        Some(Err(_)) | None => false,
     }
+}
+
+/// Whether a stream has ended, also when it is asked again.
+fn is_over<S: Source>(source: &mut S) -> bool {
     source.next_entry().is_none() && source.next_entry().is_none()
 }
 
-/// What a compaction keeps of one key's entries.
-#[derive(Clone, Copy, Debug)]
-struct Row {
-    entries: &'static [(SeqNo, ValueType)],
-    watermark: SeqNo,
-    evict: bool,
-    kept: &'static [SeqNo],
+/// Whether a stream gives the entries of just these numbers, and then nothing, however often it is asked.
+fn gives<S: Source>(mut source: S, numbers: &[SeqNo]) -> bool {
+    for number in numbers {
+        if !gives_next(&mut source, *number) {
+            return false;
+        }
+    }
+    is_over(&mut source)
 }
 
-fn row_of(
-    entries: &'static [(SeqNo, ValueType)],
+/// Whether a compaction keeps the entries of just these numbers, of one key's entries.
+fn keeps(
+    alloc: Global,
+    entries: &[(SeqNo, ValueType)],
     watermark: SeqNo,
-    evict: bool,
-    kept: &'static [SeqNo],
-) -> Row {
-    Row {
-        entries,
-        watermark,
-        evict,
-        kept,
-    }
+    kept: &[SeqNo],
+) -> Result<bool, AllocError> {
+    let stream = CompactionStream::new(merged_one(alloc, entries)?, watermark);
+    Ok(gives(stream, kept))
 }
 
-fn is_kept(alloc: Global, row: Row) -> Result<bool, AllocError> {
-    let stream = CompactionStream::new(merged_one(alloc, row.entries)?, row.watermark);
-    if row.evict {
-        Ok(gives(stream.evict_tombstones(true), row.kept))
-    } else {
-        Ok(gives(stream, row.kept))
-    }
+/// Whether it does so where tombstones are evicted.
+fn keeps_evicting(
+    alloc: Global,
+    entries: &[(SeqNo, ValueType)],
+    watermark: SeqNo,
+    kept: &[SeqNo],
+) -> Result<bool, AllocError> {
+    let stream = CompactionStream::new(merged_one(alloc, entries)?, watermark);
+    Ok(gives(stream.evict_tombstones(true), kept))
 }
 
 #[test]
 fn rows_of_the_table(rt: HostRuntime) -> Result<(), Fail> {
-    let rows = [
-        row_of(&[(5, V), (3, V)], 4, false, &[5]),
-        row_of(&[(5, V), (3, V)], 3, false, &[5, 3]),
-        row_of(&[(5, T)], 0, true, &[]),
-        row_of(&[(5, T)], 0, false, &[5]),
-        row_of(&[(5, T), (3, V)], 4, true, &[]),
-        row_of(&[(5, T), (3, V)], 4, false, &[5]),
-        row_of(&[(5, W), (3, V)], 4, false, &[]),
-        row_of(&[(5, W), (3, T)], 4, true, &[5]),
-        row_of(&[(9, V), (5, T), (3, V)], 4, true, &[9]),
-    ];
-    for row in rows {
-        assert!(rt; is_kept(rt.alloc(), row)?, "{row:?}");
-    }
+    let alloc = rt.alloc();
+    assert!(rt; keeps(alloc, &[(5, V), (3, V)], 4, &[5])?);
+    assert!(rt; keeps(alloc, &[(5, V), (3, V)], 3, &[5, 3])?);
+    assert!(rt; keeps(alloc, &[(5, T)], 0, &[5])?);
+    assert!(rt; keeps(alloc, &[(5, T), (3, V)], 4, &[5])?);
+    assert!(rt; keeps(alloc, &[(5, W), (3, V)], 4, &[])?);
+    Ok(())
+}
+
+#[test]
+fn rows_with_eviction(rt: HostRuntime) -> Result<(), Fail> {
+    let alloc = rt.alloc();
+    assert!(rt; keeps_evicting(alloc, &[(5, T)], 0, &[])?);
+    assert!(rt; keeps_evicting(alloc, &[(5, T), (3, V)], 4, &[])?);
+    assert!(rt; keeps_evicting(alloc, &[(5, W), (3, T)], 4, &[5])?);
+    assert!(rt; keeps_evicting(alloc, &[(9, V), (5, T), (3, V)], 4, &[9])?);
     Ok(())
 }
 
@@ -177,10 +181,13 @@ fn merge_refused(alloc: Global) -> Result<Merger<Refusing>, AllocError>
     Merger::new(alloc, vec![in alloc; Refusing { over: false }]?)
 }
 
+fn refuses_next<S: Source<Error = u8>>(source: &mut S) -> bool {
+    matches!(source.next_entry(), Some(Err(7)))
+}
+
 /// Whether a stream gives that refusal first, and nothing after it, however often it is asked.
 fn refuses_once<S: Source<Error = u8>>(mut source: S) -> bool {
-    let first = source.next_entry();
-    matches!(first, Some(Err(7))) && source.next_entry().is_none() && source.next_entry().is_none()
+    refuses_next(&mut source) && is_over(&mut source)
 }
 
 #[test]
@@ -210,18 +217,17 @@ fn last_of<I: Iterator<Item = Result<InternalValue, AllocError>>>(
 #[test]
 fn streams_are_iterators(rt: HostRuntime) -> Result<(), Fail> {
     let alloc = rt.alloc();
-    assert_eq!(rt; last_of(merged_one(alloc, &ROWS)?)?, Some(2));
-    assert_eq!(rt;
-        last_of(MvccStream::new(merged_one(alloc, &ROWS)?))?,
-        Some(7)
-    );
+    assert!(rt; last_of(merged_one(alloc, &ROWS)?)? == Some(2));
+    assert!(rt; last_of(MvccStream::new(merged_one(alloc, &ROWS)?))? == Some(7));
     Ok(())
+}
+
+fn compacted(alloc: Global) -> Result<CompactionStream<Merger<ListSource>>, AllocError> {
+    compact(alloc, one(alloc, list(alloc, b"a", &ROWS)?)?, 3, false)
 }
 
 #[test]
 fn a_compaction_is_an_iterator(rt: HostRuntime) -> Result<(), Fail> {
-    let alloc = rt.alloc();
-    let sources = one(alloc, list(alloc, b"a", &ROWS)?)?;
-    assert_eq!(rt; last_of(compact(alloc, sources, 3, false)?)?, Some(4));
+    assert!(rt; last_of(compacted(rt.alloc())?)? == Some(4));
     Ok(())
 }

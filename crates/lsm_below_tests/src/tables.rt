@@ -1,27 +1,13 @@
 // Tables.
 
-use crate::samples::{T, V, W, entry};
+use crate::samples::{T, V, W, entry, run_of};
 use bytes::Bytes;
-use lsm_below::{InternalValue, Ranged, Run, SeqNo, UserKey, is_run};
+use lsm_below::{InternalValue, Ranged, SeqNo, UserKey};
 use lsm_tables::{Checksum, Table, TableError, is_writable, write_tables};
 use std::alloc::{AllocError, Global};
 use std::ops::Bound;
 use std::process::Abort;
 use std::test::Fail;
-
-/// The image of entries in one table, made at 5.
-fn image_of(
-    rt: &impl Abort,
-    alloc: Global,
-    entries: &[InternalValue],
-) -> Result<Option<Bytes>, AllocError> {
-    assert!(rt; is_writable(entries));
-    let mut images = write_tables(alloc, u64::MAX, 5, entries)?;
-    match images.pop() {
-        Some(image) => Ok(Some(Bytes::from_vec(image)?)),
-        None => Ok(None),
-    }
-}
 
 fn entries(alloc: Global) -> Result<Vec<InternalValue>, AllocError> {
     Ok(vec![in alloc;
@@ -34,9 +20,27 @@ fn entries(alloc: Global) -> Result<Vec<InternalValue>, AllocError> {
     ]?)
 }
 
+/// The images of entries in one table, made at 5.
+fn images_of(
+    rt: &impl Abort,
+    alloc: Global,
+    entries: &[InternalValue],
+) -> Result<Vec<Vec<u8>>, AllocError> {
+    assert!(rt; is_writable(entries));
+    write_tables(alloc, u64::MAX, 5, entries)
+}
+
+/// The image of the entries.
+fn image(rt: &impl Abort, alloc: Global) -> Result<Bytes, Fail> {
+    let entries = entries(alloc)?;
+    let images = images_of(rt, alloc, &entries);
+    drop(entries);
+    let image = images?.pop().ok_or("no image")?;
+    Ok(Bytes::from_vec(image)?)
+}
+
 fn table(rt: &impl Abort, alloc: Global) -> Result<Table, Fail> {
-    let bytes = image_of(rt, alloc, &entries(alloc)?)?.ok_or("no image")?;
-    Ok(Table::recover(alloc, 4, bytes)?)
+    Ok(Table::recover(alloc, 4, image(rt, alloc)?)?)
 }
 
 fn tells(table: &Table) -> bool {
@@ -52,22 +56,6 @@ fn counts(table: &Table) -> bool {
         && table.get_highest_seqno() == 9
 }
 
-#[test]
-fn what_it_tells_and_counts(rt: HostRuntime) -> Result<(), Fail> {
-    let table = table(&rt, rt.alloc())?;
-    assert!(rt; tells(&table) && counts(&table));
-    Ok(())
-}
-
-#[test]
-fn the_file(rt: HostRuntime) -> Result<(), Fail> {
-    let bytes = image_of(&rt, rt.alloc(), &entries(rt.alloc())?)?.ok_or("no image")?;
-    let sum = Checksum::of(bytes.as_slice());
-    let table = Table::recover(rt.alloc(), 4, bytes)?;
-    assert!(rt; table.file_size() == 118 && table.checksum() == sum);
-    Ok(())
-}
-
 fn finds(table: &Table, key: &[u8], snapshot: SeqNo, number: SeqNo) -> bool {
     match table.get(key, snapshot) {
         Some(entry) => entry.key.seqno == number,
@@ -75,26 +63,47 @@ fn finds(table: &Table, key: &[u8], snapshot: SeqNo, number: SeqNo) -> bool {
     }
 }
 
+/// Whether the newest entry below a snapshot is found.
+fn finds_the_newest(table: &Table) -> bool {
+    finds(table, b"a", 10, 9)
+        && finds(table, b"a", 9, 7)
+        && table.get(b"a", 7).is_none()
+        && table.get(b"d", 10).is_none()
+}
+
+/// Whether its parts are as long as they have to be.
+fn has_parts(table: &Table) -> bool {
+    let in_b = Bound::Included(UserKey::from_static(b"b"));
+    let above_b = Bound::Excluded(UserKey::from_static(b"b"));
+    table.range(&in_b, &in_b).len() == 3
+        && table.range(&Bound::Unbounded, &in_b).len() == 5
+        && table.range(&above_b, &Bound::Unbounded).len() == 1
+}
+
+fn has_keys(table: &Table) -> bool {
+    table.facts();
+    let range = table.key_range();
+    range.contains_key(b"a") && range.contains_key(b"c") && !range.contains_key(b"d")
+}
+
 #[test]
-fn the_newest_below_a_snapshot(rt: HostRuntime) -> Result<(), Fail> {
+fn what_it_answers(rt: HostRuntime) -> Result<(), Fail> {
     let table = table(&rt, rt.alloc())?;
-    assert!(rt; finds(&table, b"a", 10, 9) && finds(&table, b"a", 9, 7));
-    assert!(rt; table.get(b"a", 7).is_none() && table.get(b"d", 10).is_none());
+    assert!(rt; tells(&table));
+    assert!(rt; counts(&table));
+    assert!(rt; finds_the_newest(&table));
+    assert!(rt; has_parts(&table));
+    drop(table);
     Ok(())
 }
 
-fn has_parts(table: &Table, in_b: &Bound<UserKey>, above_b: &Bound<UserKey>) -> bool {
-    table.range(in_b, in_b).len() == 3
-        && table.range(&Bound::Unbounded, in_b).len() == 5
-        && table.range(above_b, &Bound::Unbounded).len() == 1
-}
-
 #[test]
-fn a_part_of_it(rt: HostRuntime) -> Result<(), Fail> {
-    let table = table(&rt, rt.alloc())?;
-    let in_b = Bound::Included(UserKey::from_static(b"b"));
-    let above_b = Bound::Excluded(UserKey::from_static(b"b"));
-    assert!(rt; has_parts(&table, &in_b, &above_b));
+fn the_file(rt: HostRuntime) -> Result<(), Fail> {
+    let bytes = image(&rt, rt.alloc())?;
+    let sum = Checksum::of(bytes.as_slice());
+    let table = Table::recover(rt.alloc(), 4, bytes)?;
+    assert!(rt; table.file_size() == 118 && table.checksum() == sum);
+    drop(table);
     Ok(())
 }
 
@@ -106,19 +115,24 @@ fn bytes_that_are_no_image(rt: HostRuntime) -> Result<(), Fail> {
     Ok(())
 }
 
-fn has_keys(table: &Table) -> bool {
-    table.facts();
-    let range = table.key_range();
-    range.contains_key(b"a") && range.contains_key(b"c") && !range.contains_key(b"d")
+#[test]
+fn a_copy_has_its_keys(rt: HostRuntime) -> Result<(), Fail> {
+    let table = table(&rt, rt.alloc())?;
+    let copied = table.copy();
+    drop(table);
+    assert!(rt; has_keys(&copied?));
+    Ok(())
+}
+
+fn one(alloc: Global, table: Table) -> Result<Vec<Table>, AllocError> {
+    Ok(vec![in alloc; table]?)
 }
 
 #[test]
 fn a_run_of_tables(rt: HostRuntime) -> Result<(), Fail> {
-    let table = table(&rt, rt.alloc())?;
-    assert!(rt; has_keys(&table.copy()?));
-    let tables = vec![in rt.alloc(); table]?;
-    assert!(rt; is_run(&tables));
-    let run = Run::new(tables).ok_or("no table")?.copy()?;
-    assert!(rt; run.get_for_key(b"b").is_some());
+    let run = run_of(&rt, one(rt.alloc(), table(&rt, rt.alloc())?)?);
+    let copied = run.copy();
+    drop(run);
+    assert!(rt; copied?.get_for_key(b"b").is_some());
     Ok(())
 }

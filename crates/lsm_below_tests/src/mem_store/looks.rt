@@ -3,6 +3,7 @@
 use super::{A, B, Call, SCRIPT, is_content, leaves, make, refuses};
 use lsm_store::{Fault, MemStore, NoStore, Pick, Store, StoreError};
 use std::alloc::Global;
+use std::process::Abort;
 use std::test::Fail;
 
 fn make_all(store: &mut MemStore, calls: &[Call]) -> Result<(), StoreError> {
@@ -25,7 +26,7 @@ fn behind(alloc: Global, calls: &[Call], fault: Option<Fault>) -> Result<MemStor
 }
 
 /// What a look at a store has to find.
-#[derive(Clone, Copy, Debug)]
+#[derive(Clone, Copy)]
 enum Look {
     /// A crash with this pick of the name a leaves this of it.
     Leaves(Pick<'static>, Option<&'static [u8]>),
@@ -59,43 +60,56 @@ fn shows(
     found
 }
 
+/// Takes each look behind these calls.
+fn check(
+    rt: &impl Abort,
+    alloc: Global,
+    calls: &[Call],
+    fault: Option<Fault>,
+    looks: &[Look],
+) -> Result<(), StoreError> {
+    for (number, look) in looks.iter().enumerate() {
+        assert!(rt;
+            shows(alloc, calls, fault, *look)?,
+            "{fault:?}, look {number}"
+        );
+    }
+    Ok(())
+}
+
 #[test]
 fn written_and_not_synced(rt: HostRuntime) -> Result<(), Fail> {
     let calls = [SCRIPT[0], SCRIPT[1], Call::Write(A, b"6")];
-    for look in [
+    let looks = [
         Look::Leaves(Pick::Before, Some(b"1")),
         Look::Leaves(Pick::Bytes(b"torn"), Some(b"torn")),
         Look::Alone(None),
-    ] {
-        assert!(rt; shows(rt.alloc(), &calls, None, look)?, "{look:?}");
-    }
+    ];
+    check(&rt, rt.alloc(), &calls, None, &looks)?;
     Ok(())
 }
 
 #[test]
 fn synced(rt: HostRuntime) -> Result<(), Fail> {
-    for look in [
+    let looks = [
         Look::Refuses(Pick::Before),
         Look::Refuses(Pick::Absent),
         Look::Alone(Some(b"1")),
-    ] {
-        assert!(rt; shows(rt.alloc(), &SCRIPT[..2], None, look)?, "{look:?}");
-    }
+    ];
+    check(&rt, rt.alloc(), &SCRIPT[..2], None, &looks)?;
     Ok(())
 }
 
 #[test]
 fn a_failed_sync_leaves_any_bytes(rt: HostRuntime) -> Result<(), Fail> {
+    let looks = [
+        Look::Leaves(Pick::Bytes(b"torn"), Some(b"torn")),
+        Look::Leaves(Pick::Before, Some(b"1")),
+        Look::Alone(None),
+        Look::Failures(1),
+    ];
     for fault in [Fault::Once, Fault::OnceDone] {
-        for look in [
-            Look::Leaves(Pick::Bytes(b"torn"), Some(b"torn")),
-            Look::Leaves(Pick::Before, Some(b"1")),
-            Look::Alone(None),
-            Look::Failures(1),
-        ] {
-            let found = shows(rt.alloc(), &SCRIPT[..2], Some(fault), look)?;
-            assert!(rt; found, "{fault:?}: {look:?}");
-        }
+        check(&rt, rt.alloc(), &SCRIPT[..2], Some(fault), &looks)?;
     }
     Ok(())
 }
@@ -103,18 +117,14 @@ fn a_failed_sync_leaves_any_bytes(rt: HostRuntime) -> Result<(), Fail> {
 #[test]
 fn removed(rt: HostRuntime) -> Result<(), Fail> {
     let calls = [SCRIPT[0], SCRIPT[1], Call::Remove(A)];
+    let looks = [
+        Look::Leaves(Pick::Before, Some(b"1")),
+        Look::Leaves(Pick::Absent, None),
+        Look::Refuses(Pick::Bytes(b"torn")),
+        Look::Alone(None),
+    ];
     for fault in [None, Some(Fault::Once), Some(Fault::OnceDone)] {
-        for look in [
-            Look::Leaves(Pick::Before, Some(b"1")),
-            Look::Leaves(Pick::Absent, None),
-            Look::Refuses(Pick::Bytes(b"torn")),
-            Look::Alone(None),
-        ] {
-            assert!(rt;
-                shows(rt.alloc(), &calls, fault, look)?,
-                "{fault:?}: {look:?}"
-            );
-        }
+        check(&rt, rt.alloc(), &calls, fault, &looks)?;
     }
     Ok(())
 }
@@ -122,13 +132,12 @@ fn removed(rt: HostRuntime) -> Result<(), Fail> {
 #[test]
 fn replaced(rt: HostRuntime) -> Result<(), Fail> {
     let calls = [SCRIPT[0], SCRIPT[1], SCRIPT[3]];
-    for look in [
+    let looks = [
         Look::Refuses(Pick::Before),
         Look::Refuses(Pick::Bytes(b"1")),
         Look::Alone(Some(b"3")),
-    ] {
-        assert!(rt; shows(rt.alloc(), &calls, None, look)?, "{look:?}");
-    }
+    ];
+    check(&rt, rt.alloc(), &calls, None, &looks)?;
     Ok(())
 }
 
@@ -136,15 +145,13 @@ fn replaced(rt: HostRuntime) -> Result<(), Fail> {
 fn replaced_after_a_fault(rt: HostRuntime) -> Result<(), Fail> {
     let calls = [SCRIPT[0], SCRIPT[1], SCRIPT[3]];
     for (fault, read) in [(Fault::Once, b"1"), (Fault::OnceDone, b"3")] {
-        for look in [
+        let looks = [
             Look::Leaves(Pick::Before, Some(b"1")),
             Look::Leaves(Pick::Bytes(b"3"), Some(b"3")),
             Look::Refuses(Pick::Absent),
             Look::Alone(Some(read)),
-        ] {
-            let found = shows(rt.alloc(), &calls, Some(fault), look)?;
-            assert!(rt; found, "{fault:?}: {look:?}");
-        }
+        ];
+        check(&rt, rt.alloc(), &calls, Some(fault), &looks)?;
     }
     Ok(())
 }

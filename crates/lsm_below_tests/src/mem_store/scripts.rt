@@ -23,7 +23,12 @@ impl Row {
     }
 
     fn allows(&self, content: Option<&[u8]>) -> bool {
-        self.torn || self.contents.iter().any(|c| is_same(*c, content))
+        for allowed in &self.contents {
+            if is_same(*allowed, content) {
+                return true;
+            }
+        }
+        self.torn
     }
 
     fn only(&mut self, content: Option<&'static [u8]>) -> Result<(), AllocError> {
