@@ -174,6 +174,3 @@ pub trait Ranged {
     fn key_range(&self) -> &KeyRange
         ensures { result.now ≡ range self.now };
 }
-
-#[cfg(test)]
-pub(crate) mod tests;

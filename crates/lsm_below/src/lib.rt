@@ -44,6 +44,3 @@ pub use run::{Run, is_run};
 pub use source::{Source, has_same_key};
 pub use value::InternalValue;
 pub use value_type::ValueType;
-
-#[cfg(test)]
-mod stream_tests;

@@ -331,6 +331,3 @@ impl<T: Ranged + Clone + Drop> Run<T> {
         })
     }
 }
-
-#[cfg(test)]
-mod tests;

@@ -68,32 +68,3 @@ impl InternalValue {
         self.clone()
     }
 }
-
-#[cfg(test)]
-mod tests {
-    use super::*;
-    use std::test::Fail;
-
-    fn entry(key: &'static str, seqno: SeqNo, value_type: ValueType) -> InternalValue {
-        let value = UserValue::from_static(b"v");
-        InternalValue::from_components(
-            UserKey::from_static(key.as_bytes()),
-            value,
-            seqno,
-            value_type,
-        )
-    }
-
-    #[test]
-    fn keys_rise_and_numbers_fall(rt: HostRuntime) -> Result<(), Fail> {
-        let value = entry("a", 1, ValueType::Value);
-        let tombstone = entry("a", 1, ValueType::Tombstone);
-        assert!(rt; entry("a", 2, ValueType::Value).key < value.key);
-        assert!(rt; value.key < entry("b", 9, ValueType::Value).key);
-        assert!(rt; value.key == tombstone.key);
-        assert_eq!(rt; value.copy()?.value.as_slice(), b"v".as_slice());
-        assert!(rt; tombstone.value.is_empty());
-        assert!(rt; tombstone.key.copy()?.is_tombstone());
-        Ok(())
-    }
-}

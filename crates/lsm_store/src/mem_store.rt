@@ -203,6 +203,3 @@ impl Store for MemStore {
         self.failures
     }
 }
-
-#[cfg(test)]
-mod tests;

@@ -12,6 +12,3 @@ pub(crate) use limits::may_stand_behind;
 pub use limits::{fits_image, is_writable};
 pub use reading::{decode, no_image_begins_another};
 pub use writing::encode;
-
-#[cfg(test)]
-mod tests;

@@ -118,6 +118,3 @@ impl MultiWriter {
         write_tables(self.alloc, self.target, self.made_at, &self.entries)
     }
 }
-
-#[cfg(test)]
-mod tests;

@@ -222,6 +222,3 @@ impl Clone for Table {
         self.copy()
     }
 }
-
-#[cfg(test)]
-mod tests;

@@ -1,0 +1,36 @@
+//! The tests of what stands below the tree: entries and their streams, tables, and the store in memory.
+//!
+//! | Module | Tests |
+//! |-|-|
+//! | `entries` | the order of entries, and their copies |
+//! | `key_ranges` | ranges of keys |
+//! | `runs` | runs of tables |
+//! | `streams` | mergers, the first entry of each key, what a compaction keeps |
+//! | `checksums` | checksums of files |
+//! | `images` | the bytes of tables' files |
+//! | `tables` | tables |
+//! | `multi_writer` | where entries are cut into tables |
+//! | `mem_store` | the store in memory: its faults and its crashes |
+//! | `samples` | holds no test: what the others make entries, ranges and runs by |
+#![tactic(auto)]
+
+#[cfg(test)]
+mod checksums;
+#[cfg(test)]
+mod entries;
+#[cfg(test)]
+mod images;
+#[cfg(test)]
+mod key_ranges;
+#[cfg(test)]
+mod mem_store;
+#[cfg(test)]
+mod multi_writer;
+#[cfg(test)]
+mod runs;
+#[cfg(test)]
+mod samples;
+#[cfg(test)]
+mod streams;
+#[cfg(test)]
+mod tables;

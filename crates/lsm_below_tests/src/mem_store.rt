@@ -1,0 +1,102 @@
+// The store in memory: its calls, and crashes of it.
+//
+// What owns a store borrows it to a helper, and has no `?` behind: a deep value that is dropped is long to prove.
+
+mod looks;
+mod scripts;
+
+use lsm_store::{MemStore, Pick, Store, StoreError};
+use std::alloc::Global;
+
+/// A call on a name.
+#[derive(Clone, Copy)]
+enum Call {
+    Write(&'static str, &'static [u8]),
+    Sync(&'static str),
+    Replace(&'static str, &'static [u8]),
+    Remove(&'static str),
+}
+
+const A: &str = "a";
+
+const B: &str = "b";
+
+const SCRIPT: [Call; 9] = [
+    Call::Write(A, b"1"),
+    Call::Sync(A),
+    Call::Write(B, b"2"),
+    Call::Replace(A, b"3"),
+    Call::Remove(B),
+    Call::Replace(B, b"4"),
+    Call::Remove(A),
+    Call::Replace(A, b"5"),
+    Call::Sync(B),
+];
+
+fn is_same(a: Option<&[u8]>, b: Option<&[u8]>) -> bool {
+    match (a, b) {
+        (Some(a), Some(b)) => a == b,
+        (None, None) => true,
+        _ => false,
+    }
+}
+
+/// Whether the call was answered; a refusal for memory is handed on.
+fn make(store: &mut MemStore, call: Call) -> Result<bool, StoreError> {
+    let answer = match call {
+        Call::Write(name, bytes) => store.write(name, bytes),
+        Call::Sync(name) => store.sync(name),
+        Call::Replace(name, bytes) => store.replace(name, bytes),
+        Call::Remove(name) => store.remove(name),
+    };
+    match answer {
+        Ok(()) => Ok(true),
+        Err(StoreError::Fault) => Ok(false),
+        Err(StoreError::OutOfMemory) => Err(StoreError::OutOfMemory),
+    }
+}
+
+/// What a crash with these picks leaves of a name. None where they aren't possible.
+fn left(
+    alloc: Global,
+    store: &MemStore,
+    name: &str,
+    picks: &[(&str, Pick<'_>)],
+) -> Result<Option<Option<Vec<u8>>>, StoreError> {
+    let Some(mut new) = store.crash(picks)? else {
+        return Ok(None);
+    };
+    let found = new.read(alloc, name);
+    drop(new);
+    Ok(Some(found?))
+}
+
+fn is_content(found: &Option<Vec<u8>>, wanted: Option<&[u8]>) -> bool {
+    match found {
+        Some(bytes) => is_same(Some(bytes.as_slice()), wanted),
+        None => wanted.is_none(),
+    }
+}
+
+/// Whether a crash with these picks leaves this of the name.
+fn leaves(
+    alloc: Global,
+    store: &MemStore,
+    name: &str,
+    picks: &[(&str, Pick<'_>)],
+    wanted: Option<&[u8]>,
+) -> Result<bool, StoreError> {
+    match left(alloc, store, name, picks)? {
+        Some(found) => Ok(is_content(&found, wanted)),
+        None => Ok(false),
+    }
+}
+
+fn refuses(
+    alloc: Global,
+    store: &MemStore,
+    name: &str,
+    pick: Pick<'_>,
+) -> Result<bool, StoreError> {
+    Ok(left(alloc, store, name, &[(name, pick)])?.is_none())
+}
