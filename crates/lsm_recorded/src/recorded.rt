@@ -334,13 +334,10 @@ impl<S: Store> Recorded<S> {
         ensures is { result ≡ keeps_order self.now.journal self.now.tree.core.seqno entry.now }
         ensures fits { IsTrue result → entry.now.key.seqno + 1 < 2 ^ 64 }
     {
-        entry.key.seqno < self.core.seqno().get()
-            && self.floor <= entry.key.seqno
-            && is_allowed(
-                read_mark(&self.marks, &entry.key.user_key),
-                entry.key.seqno,
-                entry.key.value_type,
-            )
+        let number = entry.key.seqno;
+        let is_in_time = self.floor <= number && number < self.core.seqno().get();
+        let mark = read_mark(&self.marks, &entry.key.user_key);
+        is_in_time && is_allowed(mark, number, entry.key.value_type)
     }
 }
 
