@@ -1,6 +1,8 @@
 // What one caller's calls put into a journal.
-ghost use Rattle.std.specs.Prelude.{◌≡◌, [], ◌<◌, ◌≤◌, ◌+◌, ◌++◌, ◌∷◌, length, vec_len, vec_capacity, OnOk};
+ghost use Rattle.std.specs.Prelude.{◌≡◌, [], ◌<◌, ◌≤◌, ◌+◌, ◌++◌, ◌∷◌, length, vec_len, vec_capacity, OnOk, OnErr};
+ghost use Rattle.lsm_recorded.specs.Passes.{Notes};
 
+use lsm_journal::copy_entry;
 use lsm_model::JournalEntry;
 use std::alloc::{AllocError, Global};
 use std::marker::Model;
@@ -76,4 +78,20 @@ pub(crate) fn put_entry(
     let Ok(()) = journal.push(entry) else {
         unreachable!()
     };
+}
+
+/// Puts an entry behind a journal, and a copy with its place behind a pass. Refused, it changes neither.
+pub(crate) fn note_entry(
+    alloc: Global,
+    journal: &mut Vec<JournalEntry>,
+    pass: &mut Vec<(u64, JournalEntry)>,
+    entry: JournalEntry,
+) -> Result<(), AllocError>
+    ensures ok { OnOk result (Notes (entry ∷ []) journal.old.items journal.new.items pass.old.items pass.new.items) }
+    ensures err { OnErr result ((journal.new.items ≡ journal.old.items) × (pass.new.items ≡ pass.old.items)) }
+{
+    let copy = copy_entry(alloc, &entry)?;
+    make_room(journal, pass, 1)?;
+    put_entry(journal, pass, entry, copy);
+    Ok(())
 }

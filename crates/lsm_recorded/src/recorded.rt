@@ -22,7 +22,7 @@ ghost use Rattle.lsm_recorded.specs.Closing.{ListTogether};
 use crate::closing::list_together;
 use crate::marks::{Mark, is_allowed, mark_write, read_mark, reserve_mark};
 use crate::notes::{make_note, make_notes, mark_notes, put_notes, reserve_notes};
-use crate::pass::{Pass, make_room, put_entry};
+use crate::pass::{Pass, make_room, note_entry, put_entry};
 use lsm_below::{InternalValue, MemtableId, SeqNo, UserKey, UserValue, ValueType, share};
 use lsm_journal::{copy_journal, read_entry};
 use lsm_model::{Answer, JournalEntry, Op, Question};
@@ -175,9 +175,7 @@ impl<S: Store> Recorded<S> {
     {
         let value = self.core.get(key.as_slice(), snapshot)?;
         let entry = read_entry(snapshot, key, &value)?;
-        let copy = read_entry(snapshot, key, &value)?;
-        make_room(&mut self.journal, &mut pass.entries, 1)?;
-        put_entry(&mut self.journal, &mut pass.entries, entry, copy);
+        note_entry(self.alloc, &mut self.journal, &mut pass.entries, entry)?;
         Ok(value)
     }
 

@@ -12,10 +12,10 @@ ghost use Rattle.lsm_state.specs.Ranges.{IsListStep};
 ghost use Rattle.lsm_recorded.specs.Passes.{Notes};
 ghost use Rattle.lsm_state.specs.Listing.{Lists, ListsPrefix};
 
-use crate::pass::{Pass, make_room, put_entry};
+use crate::pass::{Pass, note_entry};
 use crate::recorded::Recorded;
 use lsm_below::{KvPair, SeqNo, UserKey, share};
-use lsm_journal::{copy_bound, copy_entry, pairs_entry, take_pairs};
+use lsm_journal::{copy_bound, pairs_entry, take_pairs};
 use lsm_model::Question;
 use lsm_parts::{Error, TreeIter};
 use lsm_store::Store;
@@ -86,9 +86,7 @@ impl<S: Store> Recorded<S> {
     {
         let pairs = take_pairs(self.alloc, iter)?;
         let entry = pairs_entry(self.alloc, snapshot, question, &pairs)?;
-        let copy = copy_entry(self.alloc, &entry)?;
-        make_room(&mut self.journal, &mut pass.entries, 1)?;
-        put_entry(&mut self.journal, &mut pass.entries, entry, copy);
+        note_entry(self.alloc, &mut self.journal, &mut pass.entries, entry)?;
         Ok(pairs)
     }
 }

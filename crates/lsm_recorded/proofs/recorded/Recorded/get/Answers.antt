@@ -8,7 +8,7 @@ use Rattle.lsm_recorded.proofs.recorded.Recorded.get.Goals as goal
 pub invariant_of-self-2 : goal.invariant_of-self-2
 invariant_of-self-2 g c =
     let i = c.self.inside in
-    rw (c.put_entry.ensures.journal, c.in_ok-make_room.ensures.journal, c.in_ok-entry.ensures)
+    rw (c.in_ok-note_entry.ensures.ok.behind, c.in_ok-entry.ensures)
     (recorded_read i.marks i.floor i.core.core i.journal.items c.args.key.now c.args.snapshot c.in_ok-value.value c.self.invariant (subst (λ z. IsGetStep i.core.core z c.args.snapshot c.in_ok-value.value) c.as_slice.ensures c.in_ok-value.ensures.step))
 
 pub returns-clause-replay : goal.returns-clause-replay
