@@ -1,14 +1,15 @@
 -- One run with writes, flushes, an evicting merge and a read: the premises can be met. And why a key with a weak tombstone has one set.
-use Rattle.std.proofs.Common.{◌≡◌, ℕ, true, false, cond, List, [], ◌∷◌, ◌++◌, Some, None, refl, arith}
+use Rattle.std.proofs.Common.{◌≡◌, ℕ, ◌+◌, ◌≤◌, ◌&&◌, true, false, cond, List, [], ◌∷◌, ◌++◌, Some, None, refl, arith}
 use Rattle.std.specs.FinMap.{empty, get-empty}
 use Rattle.lsm_below.specs.Keys.{Bytes, is_same, bytes_cmp}
 use Rattle.lsm_below.specs.Entries.{Entry, stack, keep, entry_at, weak_tombstone_at, tombstone_at}
 use Rattle.lsm_below.specs.declared.value_type.ValueType.TheVariants.{Value}
-use Rattle.lsm_model.specs.Journal.{Event, InOrder}
+use Rattle.lsm_model.specs.Journal.{Event, InOrder, sets_of}
 use Rattle.lsm_model.specs.Views.{seen, sources, IsAllowed, Memtables, Placed, SuperVersion, written, answered, emptied}
 use Rattle.lsm_model.specs.Steps.{State, among, Action, ReadsEqualReplay, Wrote, Rotated, Flushed, Merged, Asked, Run, IsOpened}
 use Rattle.lsm_model.specs.declared.journal.JournalEntry.TheVariants.{Write, Install, Read}
 use Rattle.lsm_model.specs.declared.question.Question.TheVariants.{Get}
+use Rattle.lsm_model.specs.Counted.{Counted, events_of, InCountedOrder}
 use Rattle.lsm_model.proofs.Runs.{every_run}
 
 abbrev pub key : Bytes
@@ -133,6 +134,28 @@ run = (
 -- The reads of this run equal the replay.
 pub example_reads : ReadsEqualReplay [] empty last
 example_reads = every_run [] empty first last actions opened run in_order
+
+-- Its journal with where the counter stood: it is in the order that counter and key ask for.
+abbrev at : Event → ℕ → Counted
+at x c = record { event = x; counter = c }
+
+abbrev counted : List Counted
+counted = at (Write set0) 1 ∷ (at (Install 1) 1 ∷ (at (Write weak2) 3 ∷ (at (Install 3) 3 ∷ (at (Install 4) 4 ∷ (at (Read 5 (Get key) (answered 5 (sources m4 (sv 4 2 [] [])) (Get key))) 5 ∷ [])))))
+
+counted_journal : events_of counted ≡ j6
+counted_journal = refl
+
+one_set : (k : Bytes) → sets_of k [] j6 ≤ 1
+one_set k = elim (is_same k key) as (λ b. cond (b && false) (cond (b && true) 1 0 + 1) (cond (b && true) 1 0) ≤ 1) [ true ↦ omega arith | false ↦ omega arith ]
+
+counted_order : InCountedOrder [] counted
+counted_order = record {
+  counter = (omega arith, (omega arith, (omega arith, (omega arith, (omega arith, (omega arith, tt))))));
+  drawn = (omega arith, (refl, (omega arith, (refl, (refl, (tt, tt))))));
+  earlier = ((tt, (λ h. omega arith, (tt, (tt, (tt, tt))))), ((omega arith, (tt, (tt, (tt, tt)))), ((tt, (tt, (tt, tt))), ((tt, (tt, tt)), ((tt, tt), (tt, tt))))));
+  over_opened = (omega arith, (tt, (omega arith, (tt, (tt, (tt, tt))))));
+  single = λ k h. one_set k;
+}
 
 -- Set, Weak, Set, Weak of one key: with the first Set in a table below, a flush of the rest keeps nothing, and the first value is back.
 abbrev twice : List Entry

@@ -285,7 +285,7 @@ step_grows opened old (Maintained w) new m = ([], m.journal ∙ sym (append-nil 
 pub step_order : (opened : List Entry) (old : State) (action : Action) (new : State) → Step opened old action new → InOrder opened new.journal → InOrder opened old.journal
 step_order opened old action new m o = let g = step_grows opened old action new m in in_order_front opened old.journal g.0 (rw g.1 at o)
 
-run_order : (opened : List Entry) (old : State) (actions : List Action) (new : State) → Run opened old actions new → InOrder opened new.journal → InOrder opened old.journal
+pub run_order : (opened : List Entry) (old : State) (actions : List Action) (new : State) → Run opened old actions new → InOrder opened new.journal → InOrder opened old.journal
 run_order opened old [] new r o = subst (λ (t : State). InOrder opened t.journal) r o
 run_order opened old (action ∷ actions) new r o = step_order opened old action r.0 r.1 (run_order opened r.0 actions new r.2 o)
 

@@ -1,19 +1,20 @@
 -- What a step leaves of the answers.
-use Rattle.std.proofs.Common.{◌≡◌, ℕ, ◌<◌, ◌≤◌, true, false, cond, List, [], ◌∷◌, Option, Some, refl, sym, ap, ap₂, ◌∙◌, subst, arith, ltb, eqb, eqb-true, ⊎_elim}
+use Rattle.std.proofs.Common.{◌≡◌, ℕ, ◌<◌, ◌≤◌, true, false, cond, List, [], ◌∷◌, map, Option, Some, refl, sym, ap, ap₂, ◌∙◌, subst, arith, ltb, eqb, eqb-true, ⊎_elim}
 use Rattle.std.specs.FinMap.{same_map, slice_cmp-IsAntisymmetric, nat_cmp-IsAntisymmetric}
 use Rattle.std.specs.Cmp.Lexicographic.{nat_list_cmp_total}
 use Rattle.lsm_below.specs.Keys.{Bytes}
 use Rattle.lsm_below.specs.Entries.{Entry, stack}
 use Rattle.lsm_model.specs.Journal.{Map, InOrder}
-use Rattle.lsm_model.specs.Views.{view, front, seen, SuperVersion, sources, entries, lookup, emptied, Memtables, pushed}
-use Rattle.lsm_model.specs.Steps.{State, history, Action, Wrote, Rotated, Flushed, Merged, Moved, DroppedTables, Cleared, Marked, LostDrop, Asked, Maintained, Step, Spares, StepsSpareAnswers}
+use Rattle.std.specs.List.{AllByRecursion}
+use Rattle.lsm_model.specs.Views.{view, front, found_at, seen, SuperVersion, sources, entries, lookup, emptied, Memtables, pushed}
+use Rattle.lsm_model.specs.Steps.{State, history, Action, Wrote, Rotated, Flushed, Merged, Moved, DroppedTables, Cleared, Marked, LostDrop, Asked, Maintained, Step, Run, IsWrite, Spares, StaysAt, StepsSpareAnswers}
 use Rattle.lsm_model.specs.Sound.{HasIds, Holds}
 use Rattle.lsm_model.proofs.Lists.{each_found}
 use Rattle.lsm_model.proofs.Journals.{floor-le}
 use Rattle.lsm_model.proofs.Sound.{seen_pushed}
 use Rattle.lsm_model.proofs.Installs.{ShowsSame, lookup_cases, lookup_latest, lookup_older, entries_emptied, emptied_here, rotated}
 use Rattle.lsm_model.proofs.Commits.{found_still}
-use Rattle.lsm_model.proofs.Runs.{write_pushed, flushed, merged, moved, run_holds, step_order, opened_holds, get-view, seen_zero, stack_entries, same_sources}
+use Rattle.lsm_model.proofs.Runs.{write_pushed, flushed, merged, moved, run_holds, step_holds, step_order, run_order, opened_holds, get-view, seen_zero, stack_entries, same_sources}
 
 pub Alike : Bytes → ℕ → State → State → Type 0
 Alike k s old new = (sv sv' : SuperVersion) → lookup s (history old) ≡ Some sv → lookup s (history new) ≡ Some sv' → seen s (stack k (entries old.mems sv)) ≡ seen s (stack k (entries new.mems sv'))
@@ -88,10 +89,10 @@ spared opened start k s old (Maintained w) new m o l h = λ sv sv' found found'.
     let there : lookup s (history old) ≡ Some sv' = ap (lookup s) m.was ∙ found_still m.removed s sv' (history new) found' in
     ap (λ v. seen s (stack k (entries old.mems v))) (one (lookup s (history old)) sv sv' found there) ∙ sym (ap (seen s) (same_sources k new.mems old.mems sv' (each_found (λ v. sources new.mems v ≡ sources old.mems v) (λ v. ltb v.number s) (history new) sv' m.mems found')))
 
-pub steps_spare : StepsSpareAnswers
+-- one step, of a tree of which all holds that steps keep
+pub step_spares : (opened : List Entry) (start : Map) (s : ℕ) (old : State) (action : Action) (new : State) → Step opened old action new → InOrder opened new.journal → Spares action new s → Holds opened start old → StaysAt s old new
 unfolding Alike
-steps_spare opened start first old new actions action s sv sv' o r step order spares found found' =
-    let h = run_holds opened start first actions old r (step_order opened old action new step order) (opened_holds opened start first o) in
+step_spares opened start s old action new step order spares h sv sv' found found' =
     same_map nat_list_cmp_total (slice_cmp-IsAntisymmetric nat_cmp-IsAntisymmetric) (view s (sources old.mems sv)) (view s (sources new.mems sv')) (λ k.
     get-view k s old.mems sv
     ∙ (elim (eqb s 0) as (λ b. eqb s 0 ≡ b → cond b (Some (front old.latest old.older)) (lookup s (history old)) ≡ Some sv → cond b (Some (front new.latest new.older)) (lookup s (history new)) ≡ Some sv' → seen s (stack k (entries old.mems sv)) ≡ seen s (stack k (entries new.mems sv'))) [
@@ -99,3 +100,24 @@ steps_spare opened start first old new actions action s sv sv' o r step order sp
       | false ↦ λ z f g. spared opened start k s old action new step order spares h sv sv' f g
     ] refl found found')
     ∙ sym (get-view k s new.mems sv'))
+
+pub steps_spare : StepsSpareAnswers
+steps_spare opened start first old new actions action s o r step order spares =
+    step_spares opened start s old action new step order spares (run_holds opened start first actions old r (step_order opened old action new step order) (opened_holds opened start first o))
+
+-- the same super versions and memtables
+pub stays : (s : ℕ) (old new : State) → new.mems ≡ old.mems → new.latest ≡ old.latest → new.older ≡ old.older → StaysAt s old new
+stays s old new mems latest older sv sv' found found' =
+    let is : sv' ≡ sv = one (found_at s old.latest old.older) sv' sv (rw (latest, older) at found') found in
+    ap (λ (ms : Memtables). view s (sources ms sv)) (sym mems) ∙ ap (λ v. view s (sources new.mems v)) (sym is)
+
+-- several writes
+pub writes_spare : (opened : List Entry) (start : Map) (s : ℕ) (es : List Entry) (old new : State) → Run opened old (map Wrote es) new → InOrder opened new.journal → AllByRecursion (λ e. s ≤ e.key.seqno) es → Holds opened start old → StaysAt s old new
+writes_spare opened start s [] old new r order low h = subst (StaysAt s old) (sym r) (stays s old old refl refl refl)
+writes_spare opened start s (e ∷ es) old new r order low h = λ sv sv' found found'.
+    let mid = r.0 in
+    let m : IsWrite e old mid = r.1 in
+    let before : InOrder opened mid.journal = run_order opened mid (map Wrote es) new r.2 order in
+    let there : found_at s mid.latest mid.older ≡ Some sv = rw (m.latest, m.older) found in
+    step_spares opened start s old (Wrote e) mid m before low.0 h sv sv found there
+    ∙ writes_spare opened start s es mid new r.2 order low.1 (step_holds opened start old (Wrote e) mid m before h) sv sv' there found'

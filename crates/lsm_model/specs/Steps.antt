@@ -178,9 +178,20 @@ Spares (LostDrop ranges n) new s = Unit {0}
 Spares (Asked at question) new s = Unit {0}
 Spares (Maintained w) new s = Unit {0}
 
--- a step that is to leave the answers at a snapshot leaves them, where the snapshot is answered before and after
+-- what a snapshot sees stays, where it finds a super version before and after
+abbrev pub StaysAt : ℕ → State → State → Type 0
+StaysAt s old new = (sv sv' : SuperVersion) → found_at s old.latest old.older ≡ Some sv → found_at s new.latest new.older ≡ Some sv' → view s (sources old.mems sv) ≡ view s (sources new.mems sv')
+
+-- a step that is to leave the answers at a snapshot leaves them
 abbrev pub StepsSpareAnswers : Type 0
-StepsSpareAnswers = (opened : List Entry) (start : Map) (first old new : State) (actions : List Action) (action : Action) (s : ℕ) (sv sv' : SuperVersion)
-    → IsOpened opened start first → Run opened first actions old → Step opened old action new → InOrder opened new.journal → Spares action new s
-    → found_at s old.latest old.older ≡ Some sv → found_at s new.latest new.older ≡ Some sv'
-    → view s (sources old.mems sv) ≡ view s (sources new.mems sv')
+StepsSpareAnswers = (opened : List Entry) (start : Map) (first old new : State) (actions : List Action) (action : Action) (s : ℕ)
+    → IsOpened opened start first → Run opened first actions old → Step opened old action new → InOrder opened new.journal → Spares action new s → StaysAt s old new
+
+-- by what the journal tells: a write, a clear or a drop leaves what snapshots see that aren't above its number, all else leaves all
+abbrev pub IsSparedBy : ℕ → Event → Type 0
+IsSparedBy s (Write e) = s ≤ e.key.seqno
+IsSparedBy s (Clear n) = s ≤ n
+IsSparedBy s (Install n) = Unit {0}
+IsSparedBy s (Dropped ranges n) = s ≤ n
+IsSparedBy s (Mark w) = Unit {0}
+IsSparedBy s (Read at question answer) = Unit {0}

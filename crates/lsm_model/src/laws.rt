@@ -1,5 +1,6 @@
 // The theorems of the theory, each as the contract of a function that does nothing.
 ghost use Rattle.lsm_model.specs.Steps.{EveryRunReadsRight, StepsSpareAnswers};
+ghost use Rattle.lsm_model.specs.Counted.{CountedIsInOrder};
 ghost use Rattle.lsm_model.specs.Beginnings.{EveryCrashRecovers, EachDeedRecovers, EveryDeedReadsRight, BeginningsAnswer, DeedsJoin, DeedsSplit, CoverLasts, OpeningStarts, ShownAbove, AnyNumberOfCrashes};
 
 /// After any steps from an opened tree each view equals the replay.
@@ -10,6 +11,11 @@ pub fn every_run_reads_right()
 /// No step changes an answer that it is not to change.
 pub fn steps_spare_answers()
     ensures { StepsSpareAnswers }
+{}
+
+/// A journal in the order that the counter and the keys ask for is in order, event by event.
+pub fn counted_is_in_order()
+    ensures { CountedIsInOrder }
 {}
 
 /// At any moment of any call, what opening may find shows a beginning that holds all that was acknowledged before the call.

@@ -1,30 +1,33 @@
 -- The list of what is shown is that of a map.
-use Rattle.std.proofs.Common.{◌≡◌, ℕ, ◌<◌, ◌≤◌, Bool, true, false, cond, ◌&&◌, List, [], ◌∷◌, ◌++◌, filter, map, flat_map, Option, Some, None, option_to_list, refl, sym, ap, ◌∙◌, subst, arith, inl, inr, ltb, Equal}
-use Rattle.std.specs.List.{All, Contains}
+use Rattle.std.proofs.Common.{◌≡◌, ℕ, ◌<◌, ◌≤◌, Bool, true, false, cond, ◌&&◌, List, [], ◌∷◌, ◌++◌, filter, map, flat_map, Option, Some, None, option_to_list, refl, sym, ap, ◌∙◌, subst, arith, inl, inr, ltb, Equal, ⊎_elim, IfSome, append-nil}
+use Rattle.std.specs.List.{All, AllByRecursion, Contains}
+use Rattle.std.specs.Option.{option_or}
 use Rattle.std.specs.FinMap.{get, entries, entries_sorted, get-entries, from_sorted, entries-from_sorted, get-from_sorted, same_map, find, is_sorted, slice_cmp-IsAntisymmetric, nat_cmp-IsAntisymmetric}
 use Rattle.std.specs.FinMap.Entries.{is_sorted-where_key, find-where_key, below_all}
 use Rattle.std.specs.declared.cmp.Ordering.TheVariants.{Less}
-use Rattle.std.specs.Ordering.{is_lt}
+use Rattle.std.specs.Ordering.{is_lt, nat_cmp, ordering_then}
+use Rattle.std.proofs.lemmas.Cmp.{tied_itself, ranked}
 use Rattle.std.specs.Cmp.Lexicographic.{nat_list_cmp_total}
-use Rattle.std.proofs.lemmas.List.Elements.{All-contains, All-head, All-tail, All-cons, All-nil, All-weaker, All-from_recursion, filter-append, filter_passes}
+use Rattle.std.proofs.lemmas.List.Elements.{All-contains_itself, All-append, Contains-append_left, Contains-append_cases, All-contains, All-head, All-tail, All-cons, All-nil, All-weaker, All-from_recursion, filter-append, filter_passes}
 use Rattle.std.proofs.lemmas.Grind.{flat_map-append}
 use Rattle.std.specs.List.{find as find_entry}
 use Rattle.lsm_below.proofs.Each.{each_filter}
 use Rattle.lsm_model.specs.declared.question.Answer.TheVariants.{Pairs}
 use Rattle.lsm_below.specs.Keys.{Bytes, bytes_cmp, is_same}
-use Rattle.lsm_below.specs.Entries.{Entry, stack, is_value_kind, value_of, value_by, top, later, IsFalling, IsOrdered}
+use Rattle.lsm_below.specs.Entries.{Entry, entry_cmp, above, stack, is_value_kind, value_of, value_by, top, later, IsFalling, IsOrdered}
 use Rattle.lsm_below.specs.declared.value_type.ValueType.{ValueType}
 use Rattle.lsm_below.specs.declared.value_type.ValueType.TheVariants.{Value, Tombstone, WeakTombstone}
 use Rattle.lsm_below.specs.Streams.{is_of}
 use Rattle.lsm_below.specs.Sorted.{Rises}
 use Rattle.lsm_model.specs.Journal.{Map}
-use Rattle.lsm_model.specs.Views.{view, seen, shown}
+use Rattle.lsm_model.specs.Views.{view, view_at, seen, shown, EachPair}
 use Rattle.lsm_model.proofs.Journals.{get-changed, same_key}
 use Rattle.lsm_model.proofs.Answers.{get-map_of}
+use Rattle.lsm_model.proofs.Runs.{each_above}
 use Rattle.lsm_parts.specs.Guards.{pair_of}
 use Rattle.lsm_parts.specs.Shown.{lies_within, begins_with, IsNewestOf, IsNewest, IsShown, by_key, ShowsOf}
-use Rattle.lsm_parts.specs.Reads.{at, counted, all_counted, tree_of, counted_at}
-use Rattle.lsm_parts.specs.Answers.{pairs_of, IsSingular, overlaid, map_at, ShownIsView, ShownIsAnswer, ShownIsPrefixAnswer, ShownIsOverlaid}
+use Rattle.lsm_parts.specs.Reads.{Part, at, counted, all_counted, tree_of, counted_at}
+use Rattle.lsm_parts.specs.Answers.{pairs_of, AreApart, StandOnce, IsOnTop, overlaid, ShownIsView, ShownIsAnswer, ShownIsPrefixAnswer, ShownIsOverlaid}
 use Rattle.lsm_parts.proofs.Shown.{contains_here, contains_split, filter_had, first_item, filter_swap}
 use Rattle.lsm_parts.proofs.Last.{newest_join, newest_key}
 use lib.Dec.{T}
@@ -104,6 +107,10 @@ shown_of_newest : (test : Bytes → Bool) (es out : List Entry) (m : Map) (newes
 shown_of_newest test es out m newest is only same h =
     shown_of_map test es out m h (λ k inside. same k ∙ sym (value_shown test es out h k inside (only k) (newest k) (is k) (stack k out) refl))
 
+-- entries of one key and number are one and the same
+abbrev IsSingular : List Entry → Type 0
+IsSingular es = (e f : Entry) → Contains es e → Contains es f → e.key.user_key ≡ f.key.user_key → e.key.seqno ≡ f.key.seqno → e ≡ f
+
 -- where entries of one key and number are the same
 only_singular : (es : List Entry) → IsSingular es → (k : Bytes) → IsOnly (stack k es)
 only_singular es single k = go
@@ -163,12 +170,65 @@ counted_flat : (s : ℕ) (sources : List (List Entry)) → all_counted (map (at 
 counted_flat s [] = refl
 counted_flat s (es ∷ sources) = ap (λ l. filter (λ e. ltb e.key.seqno s) es ++ l) (counted_flat s sources) ∙ sym (filter-append (λ e. ltb e.key.seqno s) es (flat_map (λ es. es) sources))
 
+-- ---- sources in which each key and number stands once
+
+-- what comes later under a key has a lesser number
+behind_below : (x f : Entry) → entry_cmp x f ≡ Less → x.key.user_key ≡ f.key.user_key → f.key.seqno < x.key.seqno
+behind_below x f less same =
+    let tie : bytes_cmp x.key.user_key f.key.user_key ≡ Equal = rw same (tied_itself nat_list_cmp_total f.key.user_key) in
+    let fall : nat_cmp f.key.seqno x.key.seqno ≡ Less = ap (λ o. ordering_then o (nat_cmp f.key.seqno x.key.seqno)) (sym tie) ∙ less in
+    ranked f.key.seqno x.key.seqno Less (sym fall)
+
+rises_singular : (es : List Entry) → Rises entry_cmp es → IsSingular es
+rises_singular [] rises = λ e f he hf key number. absurd (omega (arith, he.1))
+rises_singular (x ∷ es) rises = λ e f he hf key number. ⊎_elim
+    (λ (p : x ≡ e). ⊎_elim
+    (λ (q : x ≡ f). sym p ∙ q)
+    (λ (q : Contains es f). absurd (lower f q (ap (λ (y : Entry). y.key.user_key) p ∙ key) (ap (λ (y : Entry). y.key.seqno) p ∙ number)))
+    (contains_split x es f hf))
+    (λ (p : Contains es e). ⊎_elim
+    (λ (q : x ≡ f). absurd (lower e p (ap (λ (y : Entry). y.key.user_key) q ∙ sym key) (ap (λ (y : Entry). y.key.seqno) q ∙ sym number)))
+    (λ (q : Contains es f). rises_singular es rises.1 e f p q key number)
+    (contains_split x es f hf))
+    (contains_split x es e he)
+  where
+    lower : (f : Entry) → Contains es f → x.key.user_key ≡ f.key.user_key → x.key.seqno ≡ f.key.seqno → ⊥
+    lower f there key number =
+        let low : f.key.seqno < x.key.seqno = behind_below x f (All-contains (λ y. entry_cmp x y ≡ Less) es f rises.0 there) key in
+        omega arith
+
+apart_flat : (es : List Entry) (sources : List (List Entry)) → AllByRecursion (AreApart es) sources → AreApart es (flat_map (λ l. l) sources)
+apart_flat es [] h = λ e f he hf key number. omega (arith, hf.1)
+apart_flat es (l ∷ sources) h = λ e f he hf key number. ⊎_elim
+    (λ (q : Contains l f). h.0 e f he q key number)
+    (λ (q : Contains (flat_map (λ l. l) sources) f). apart_flat es sources h.1 e f he q key number)
+    (Contains-append_cases l (flat_map (λ l. l) sources) f hf)
+
+-- two lists that have no key and number in common
+singular_append : (xs ys : List Entry) → IsSingular xs → IsSingular ys → AreApart xs ys → IsSingular (xs ++ ys)
+singular_append xs ys one two apart = λ e f he hf key number. ⊎_elim
+    (λ (p : Contains xs e). ⊎_elim
+    (λ (q : Contains xs f). one e f p q key number)
+    (λ (q : Contains ys f). absurd (apart e f p q key number))
+    (Contains-append_cases xs ys f hf))
+    (λ (p : Contains ys e). ⊎_elim
+    (λ (q : Contains xs f). absurd (apart f e q p (sym key) (sym number)))
+    (λ (q : Contains ys f). two e f p q key number)
+    (Contains-append_cases xs ys f hf))
+    (Contains-append_cases xs ys e he)
+
+once_singular : (sources : List (List Entry)) → AllByRecursion (Rises entry_cmp) sources → EachPair AreApart sources → IsSingular (flat_map (λ es. es) sources)
+once_singular [] rise apart = λ e f he hf key number. absurd (omega (arith, he.1))
+once_singular (es ∷ sources) rise apart = singular_append es (flat_map (λ es. es) sources) (rises_singular es rise.0) (once_singular sources rise.1 apart.1) (apart_flat es sources apart.0)
+
+singular_filter : (t : Entry → Bool) (es : List Entry) → IsSingular es → IsSingular (filter t es)
+singular_filter t es single = λ e f he hf. single e f (filter_had t es e he) (filter_had t es f hf)
+
 pub is_view : ShownIsView
-is_view s sources m test out at_key single h =
+is_view s sources m test out at_key once h =
     let all = flat_map (λ (es : List Entry). es) sources in
     let counts = λ (e : Entry). ltb e.key.seqno s in
-    let fewer : IsSingular (filter counts all) = λ e f he hf. single e f (filter_had counts all e he) (filter_had counts all f hf) in
-    shown_of_newest test (filter counts all) out m (λ k. top k s all) (λ k. newest_top k s all) (only_singular (filter counts all) fewer) at_key
+    shown_of_newest test (filter counts all) out m (λ k. top k s all) (λ k. newest_top k s all) (only_singular (filter counts all) (singular_filter counts all (once_singular sources once.rise once.apart))) at_key
     (subst (λ es. ShowsOf test es out) (counted_flat s sources) h)
 
 -- ---- the view where numbers fall
@@ -232,11 +292,81 @@ is_answer s sources low high out ordered h = ap Pairs (sym (shown_ordered s sour
 pub is_prefix_answer : ShownIsPrefixAnswer
 is_prefix_answer s sources prefix out ordered h = ap Pairs (sym (shown_ordered s sources (begins_with prefix) out ordered h))
 
+-- ---- an index on top
+
+-- the entries of a key fall in a source
+rises_falling : (k : Bytes) (es : List Entry) → Rises entry_cmp es → IsFalling (stack k es)
+rises_falling k [] rises = tt
+rises_falling k (e ∷ es) rises = elim (is_same k e.key.user_key) as (λ b. is_same k e.key.user_key ≡ b → IsFalling (cond b (e ∷ stack k es) (stack k es))) [
+  | true ↦ λ same. (lower (same_key k e.key.user_key same) es rises.0, rises_falling k es rises.1)
+  | false ↦ λ same. rises_falling k es rises.1
+] refl
+  where
+    lower : k ≡ e.key.user_key → (l : List Entry) → All (λ f. entry_cmp e f ≡ Less) l → AllByRecursion (λ f. f.key.seqno < e.key.seqno) (stack k l)
+    lower here [] h = tt
+    lower here (f ∷ l) h = elim (is_same k f.key.user_key) as (λ b. is_same k f.key.user_key ≡ b → AllByRecursion (λ f. f.key.seqno < e.key.seqno) (cond b (f ∷ stack k l) (stack k l))) [
+      | true ↦ λ same. (behind_below e f (All-head (λ f. entry_cmp e f ≡ Less) f l h) (sym here ∙ same_key k f.key.user_key same), lower here l (All-tail (λ f. entry_cmp e f ≡ Less) f l h))
+      | false ↦ λ same. lower here l (All-tail (λ f. entry_cmp e f ≡ Less) f l h)
+    ] refl
+
+module _ (index : List Entry) (sources : List (List Entry)) (below s : ℕ) (top_of : IsOnTop index sources) where
+  abbrev all : List Entry
+  all = flat_map (λ es. es) sources
+
+  abbrev over_all : List Entry
+  over_all = filter (λ e. ltb e.key.seqno below) index
+
+  abbrev tree : List Entry
+  tree = filter (λ e. ltb e.key.seqno s) all
+
+  high_here : (e : Entry) → Contains over_all e → above all ≤ e.key.seqno
+  high_here e h = All-contains (λ e. above all ≤ e.key.seqno) index e (All-from_recursion (λ e. above all ≤ e.key.seqno) index top_of.high) (filter_had (λ e. ltb e.key.seqno below) index e h)
+
+  low_there : (f : Entry) → Contains tree f → f.key.seqno < above all
+  low_there f h = All-contains (λ f. f.key.seqno < above all) all f (All-from_recursion (λ f. f.key.seqno < above all) all (each_above all)) (filter_had (λ e. ltb e.key.seqno s) all f h)
+
+  index_apart : AreApart over_all tree
+  index_apart e f he hf key number = let up = high_here e he in let low = low_there f hf in omega arith
+
+  newest_over : (k : Bytes) → IsNewestOf (stack k over_all ++ stack k tree) (option_or (first_item (stack k over_all)) (top k s all))
+  newest_over k = go (stack k over_all) refl
+    where
+      go : (l : List Entry) → stack k over_all ≡ l → IsNewestOf (l ++ stack k tree) (option_or (first_item l) (top k s all))
+      go [] is = newest_top k s all
+      go (e ∷ l) is =
+          let falls : IsFalling (e ∷ l) = subst IsFalling (filter_swap (λ f. ltb f.key.seqno below) (is_of k) index ∙ is) (falling_filter (λ f. ltb f.key.seqno below) (stack k index) (rises_falling k index top_of.rises)) in
+          let own = first_falling (e ∷ l) falls in
+          let up : above all ≤ e.key.seqno = high_here e (filter_had (is_of k) over_all e (subst (λ x. Contains x e) (sym is) own.0)) in (
+            Contains-append_left (e ∷ l) (stack k tree) e own.0,
+            All-append (λ f. f.key.seqno ≤ e.key.seqno) (e ∷ l) (stack k tree) own.1
+                (All-weaker (Contains (stack k tree)) (λ f. f.key.seqno ≤ e.key.seqno) (λ f there. let low = low_there f (filter_had (is_of k) tree f there) in omega arith) (stack k tree) (All-contains_itself (stack k tree))),
+          )
+
+  shown_over : (m : Map) (k : Bytes) → get m k ≡ shown (top k s all) → get (overlaid over_all m) k ≡ shown (option_or (first_item (stack k over_all)) (top k s all))
+  shown_over m k is = get-overlaid over_all m k ∙ ap (over (stack k over_all)) is ∙ go (stack k over_all)
+    where
+      go : (l : List Entry) → over l (shown (top k s all)) ≡ shown (option_or (first_item l) (top k s all))
+      go [] = refl
+      go (e ∷ l) = refl
+
+  pub overlaid_shown : (m : Map) (test : Bytes → Bool) (out : List Entry) → ((k : Bytes) → get m k ≡ view_at k s sources) → StandOnce sources → ShowsOf test (over_all ++ tree) out → map pair_of out ≡ pairs_of test (overlaid over_all m)
+  overlaid_shown m test out at_key once h =
+      let single : IsSingular (over_all ++ tree) = singular_append over_all tree (singular_filter (λ e. ltb e.key.seqno below) index (rises_singular index top_of.rises)) (singular_filter (λ e. ltb e.key.seqno s) all (once_singular sources once.rise once.apart)) index_apart in
+      shown_of_newest test (over_all ++ tree) out (overlaid over_all m) (λ k. option_or (first_item (stack k over_all)) (top k s all))
+      (λ k. subst (λ l. IsNewestOf l (option_or (first_item (stack k over_all)) (top k s all))) (sym (filter-append (is_of k) over_all tree)) (newest_over k))
+      (only_singular (over_all ++ tree) single) (λ k. shown_over m k (at_key k)) h
+
 pub is_overlaid : ShownIsOverlaid
-is_overlaid s st test out falls h =
-    let index = all_counted (option_to_list st.overlay) in
-    let tree = all_counted (map (at s) (tree_of st)) in
-    let parts : counted_at s st ≡ index ++ tree = flat_map-append counted (option_to_list st.overlay) (map (at s) (tree_of st)) in
-    shown_falling test (counted_at s st) out (map_at s st) falls (λ k.
-    get-overlaid index (view s (tree_of st)) k ∙ ap (over (stack k index)) (get-view_over s (tree_of st) k) ∙ sym (over-append (stack k index) (stack k tree) None)
-    ∙ ap (λ l. over l None) (sym (ap (stack k) parts ∙ filter-append (is_of k) index tree))) h
+is_overlaid s st m test out at_key once on_top h = go st.overlay refl on_top
+  where
+    parts : counted_at s st ≡ all_counted (option_to_list st.overlay) ++ filter (λ e. ltb e.key.seqno s) (flat_map (λ es. es) (tree_of st))
+    parts = flat_map-append counted (option_to_list st.overlay) (map (at s) (tree_of st)) ∙ ap (λ l. all_counted (option_to_list st.overlay) ++ l) (counted_flat s (tree_of st))
+
+    go : (o : Option Part) → st.overlay ≡ o → IfSome o (λ part. IsOnTop part.entries (tree_of st)) → map pair_of out ≡ pairs_of test (overlaid (all_counted (option_to_list o)) m)
+    go None is none = is_view s (tree_of st) m test out at_key once (subst (λ es. ShowsOf test es out) (parts ∙ ap (λ o. all_counted (option_to_list o) ++ filter (λ e. ltb e.key.seqno s) (flat_map (λ es. es) (tree_of st))) is ∙ sym (counted_flat s (tree_of st))) h)
+    go (Some part) is some =
+        let one : all_counted (part ∷ []) ≡ counted part = append-nil (counted part) in
+        let whole : counted_at s st ≡ counted part ++ filter (λ e. ltb e.key.seqno s) (flat_map (λ es. es) (tree_of st)) =
+        parts ∙ ap (λ o. all_counted (option_to_list o) ++ filter (λ e. ltb e.key.seqno s) (flat_map (λ es. es) (tree_of st))) is ∙ ap (λ l. l ++ filter (λ e. ltb e.key.seqno s) (flat_map (λ es. es) (tree_of st))) one in
+        overlaid_shown part.entries (tree_of st) part.below s some m test out at_key once (subst (λ es. ShowsOf test es out) whole h)
+        ∙ ap (λ l. pairs_of test (overlaid l m)) (sym one)

@@ -1,12 +1,13 @@
 -- What is shown, in the theory's words: the answer of a map.
-use Rattle.std.specs.Prelude.{◌≡◌, ℕ, Bool, List, [], ◌∷◌, map, flat_map, filter, option_to_list}
-use Rattle.std.specs.List.{Contains}
+use Rattle.std.specs.Prelude.{◌≡◌, ℕ, ◌≤◌, Bool, List, [], ◌∷◌, map, flat_map, filter, option_to_list, IfSome}
+use Rattle.std.specs.List.{AllByRecursion, Contains}
 use Rattle.std.specs.FinMap.{entries, get}
 use Rattle.std.specs.declared.ops.Bound.{Bound}
 use Rattle.lsm_below.specs.Keys.{Bytes}
-use Rattle.lsm_below.specs.Entries.{Entry, stack, IsFalling, IsOrdered}
+use Rattle.lsm_below.specs.Entries.{Entry, entry_cmp, above, IsOrdered}
+use Rattle.lsm_below.specs.Sorted.{Rises}
 use Rattle.lsm_model.specs.Journal.{Map, changed, answer}
-use Rattle.lsm_model.specs.Views.{view, view_at}
+use Rattle.lsm_model.specs.Views.{view, view_at, EachPair}
 use Rattle.lsm_model.specs.declared.question.Question.TheVariants.{Between, Prefix}
 use Rattle.lsm_model.specs.declared.question.Answer.TheVariants.{Pairs}
 use Rattle.lsm_parts.specs.Guards.{Pair, pair_of}
@@ -17,22 +18,28 @@ use Rattle.lsm_parts.specs.Reads.{SeenState, at, all_counted, tree_of, counted_a
 abbrev pub pairs_of : (Bytes → Bool) → Map → List Pair
 pairs_of test m = filter (λ p. test p.0) (entries m)
 
--- entries of one key and number are one and the same
-abbrev pub IsSingular : List Entry → Type 0
-IsSingular es = (e f : Entry) → Contains es e → Contains es f → e.key.user_key ≡ f.key.user_key → e.key.seqno ≡ f.key.seqno → e ≡ f
+-- no key and number stand in both lists
+abbrev pub AreApart : List Entry → List Entry → Type 0
+AreApart xs ys = (e f : Entry) → Contains xs e → Contains ys f → e.key.user_key ≡ f.key.user_key → e.key.seqno ≡ f.key.seqno → ⊥
+
+-- each source is in order, and no key and number stand in two sources
+pub record StandOnce (sources : List (List Entry)) : Type 0 where
+  pub rise : AllByRecursion (Rises entry_cmp) sources
+  pub apart : EachPair AreApart sources
+
+-- the index is in order, and all its numbers are above those of the sources
+pub record IsOnTop (index : List Entry) (sources : List (List Entry)) : Type 0 where
+  pub rises : Rises entry_cmp index
+  pub high : AllByRecursion (λ e. above (flat_map (λ es. es) sources) ≤ e.key.seqno) index
 
 -- a map with entries laid over it, the first of each key on top
 abbrev pub overlaid : List Entry → Map → Map
 overlaid [] m = m
 overlaid (e ∷ es) m = changed (overlaid es m) e
 
--- what a snapshot shows: the tree's view, with what counts of the index laid over it
-abbrev pub map_at : ℕ → SeenState → Map
-map_at s st = overlaid (all_counted (option_to_list st.overlay)) (view s (tree_of st))
-
--- where no key and number stand for two entries, the list of what is shown is that of the sources' view
+-- where no key and number stand in two sources, the list of what is shown is that of the sources' view by tops
 abbrev pub ShownIsView : Type 0
-ShownIsView = (s : ℕ) (sources : List (List Entry)) (m : Map) (test : Bytes → Bool) (out : List Entry) → ((k : Bytes) → get m k ≡ view_at k s sources) → IsSingular (flat_map (λ es. es) sources)
+ShownIsView = (s : ℕ) (sources : List (List Entry)) (m : Map) (test : Bytes → Bool) (out : List Entry) → ((k : Bytes) → get m k ≡ view_at k s sources) → StandOnce sources
     → ShowsOf test (all_counted (map (at s) sources)) out → map pair_of out ≡ pairs_of test m
 
 -- where each key's numbers fall along the sources, it is what the theory's view answers
@@ -45,7 +52,7 @@ abbrev pub ShownIsPrefixAnswer : Type 0
 ShownIsPrefixAnswer = (s : ℕ) (sources : List (List Entry)) (prefix : Bytes) (out : List Entry) → IsOrdered sources
     → ShowsPrefix prefix (all_counted (map (at s) sources)) out → answer (view s sources) (Prefix prefix) ≡ Pairs (map pair_of out)
 
--- where each key's numbers that count fall along all sources, the index first, it is the view with the index laid over it
+-- under an index with numbers above the tree's, it is that of the tree's view by tops, with what counts of the index laid over it
 abbrev pub ShownIsOverlaid : Type 0
-ShownIsOverlaid = (s : ℕ) (st : SeenState) (test : Bytes → Bool) (out : List Entry) → ((k : Bytes) → IsFalling (stack k (counted_at s st)))
-    → ShowsOf test (counted_at s st) out → map pair_of out ≡ pairs_of test (map_at s st)
+ShownIsOverlaid = (s : ℕ) (st : SeenState) (m : Map) (test : Bytes → Bool) (out : List Entry) → ((k : Bytes) → get m k ≡ view_at k s (tree_of st)) → StandOnce (tree_of st) → IfSome st.overlay (λ part. IsOnTop part.entries (tree_of st))
+    → ShowsOf test (counted_at s st) out → map pair_of out ≡ pairs_of test (overlaid (all_counted (option_to_list st.overlay)) m)

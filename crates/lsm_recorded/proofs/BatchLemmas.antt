@@ -11,9 +11,10 @@ use Rattle.lsm_model.specs.declared.op.Op.TheVariants.{Set, Del, Weak}
 use Rattle.lsm_model.specs.declared.journal.JournalEntry.TheVariants.{Write}
 use Rattle.lsm_recorded.specs.declared.marks.Mark.{Mark}
 use Rattle.lsm_recorded.specs.declared.notes.Note.{Note}
-use Rattle.lsm_recorded.specs.Marks.{mark_in, mark_allows, marked_by, marked_all, keeps_order, batch_keeps_order, op_type, op_allowed}
+use Rattle.lsm_recorded.specs.Marks.{mark_in, mark_allows, marked_by, marked_all, mark_tells_order, op_type, op_allowed}
+use Rattle.lsm_recorded.specs.Order.{keeps_order, batch_keeps_order}
 use Rattle.lsm_recorded.specs.Notes.{journal_entry, pass_entry, HaveNumber}
-use Rattle.lsm_recorded.proofs.MarksLemmas.{marked_by_same, marked_all_same}
+use Rattle.lsm_recorded.proofs.MarksLemmas.{order_told, marked_by_same, marked_all_same}
 
 -- ---- the test of order
 
@@ -36,9 +37,9 @@ module _ (journal : List Event) (n : ℕ) where
   -- a write under the counter's number
   one : (marks : Bytes → Mark) (low : ℕ) (k : Bytes) (op : Op) → ((q : Bytes) → marks q ≡ mark_in journal q) → low ≡ floor journal → op_allowed marks low n (k, op) ≡ keeps_order journal (n + 1) (op_entry k n op)
   one marks low k op same least =
-      ap (λ m. nat_le low n && mark_allows m n (op_type op)) (same k) ∙ ap (λ l. nat_le l n && mark_allows (mark_in journal k) n (op_type op)) least ∙ ap (λ b. b && nat_le (floor journal) n && mark_allows (mark_in journal k) n (op_type op)) (sym below) ∙ typed op
+      ap (λ m. nat_le low n && mark_allows m n (op_type op)) (same k) ∙ ap (λ l. nat_le l n && mark_allows (mark_in journal k) n (op_type op)) least ∙ ap (λ b. b && nat_le (floor journal) n && mark_allows (mark_in journal k) n (op_type op)) (sym below) ∙ typed op ∙ sym (order_told journal (n + 1) (op_entry k n op))
     where
-      typed : (op : Op) → (nat_lt n (n + 1) && nat_le (floor journal) n && mark_allows (mark_in journal k) n (op_type op)) ≡ keeps_order journal (n + 1) (op_entry k n op)
+      typed : (op : Op) → (nat_lt n (n + 1) && nat_le (floor journal) n && mark_allows (mark_in journal k) n (op_type op)) ≡ mark_tells_order journal (n + 1) (op_entry k n op)
       typed (Set value) = refl
       typed Del = refl
       typed Weak = refl
@@ -66,7 +67,7 @@ marked_more notes i x f old new lt is before after q =
 
 -- ---- entries
 
-seqno_is : (k : Bytes) (n : ℕ) (op : Op) → (op_entry k n op).key.seqno ≡ n
+pub seqno_is : (k : Bytes) (n : ℕ) (op : Op) → (op_entry k n op).key.seqno ≡ n
 seqno_is k n (Set value) = refl
 seqno_is k n Del = refl
 seqno_is k n Weak = refl

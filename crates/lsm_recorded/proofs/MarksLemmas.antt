@@ -1,5 +1,5 @@
 -- Marks agree with the journal.
-use Rattle.std.proofs.Common.{Option, None, is_some, ◌≡◌, ℕ, ◌+◌, ◌<◌, ◌≤◌, max, min, Bool, true, false, cond, ◌&&◌, ◌||◌, nat_lt, nat_le, List, [], ◌∷◌, ◌++◌, Some, unwrap_or, refl, sym, ap, ◌∙◌, subst, arith, map, append-nil, append_assoc, ltb-true, is_eq}
+use Rattle.std.proofs.Common.{Option, None, is_some, ◌≡◌, ℕ, zero, suc, not, ◌==◌, ◌+◌, ◌<◌, ◌≤◌, max, min, Bool, true, false, cond, ◌&&◌, ◌||◌, nat_lt, nat_le, List, [], ◌∷◌, ◌++◌, Some, unwrap_or, refl, sym, ap, ◌∙◌, subst, arith, map, append-nil, append_assoc, ltb-true, is_eq}
 use Rattle.std.specs.declared.cmp.Ordering.{Ordering}
 use Rattle.std.specs.declared.cmp.Ordering.TheVariants.{Less, Equal, Greater}
 use Rattle.std.specs.Ordering.{ordering_reverse}
@@ -20,7 +20,8 @@ use Rattle.lsm_model.proofs.Lists.{fold_push}
 use Rattle.lsm_model.proofs.Journals.{same_key}
 use Rattle.lsm_state.specs.Refusals.{repeats}
 use Rattle.lsm_recorded.specs.declared.marks.Mark.{Mark}
-use Rattle.lsm_recorded.specs.Marks.{mark_of, marked, marked_by, marked_all, no_mark, next_mark, mark_in, weak_after, weak_of, kind_allows, mark_allows, keeps_order}
+use Rattle.lsm_recorded.specs.Marks.{mark_of, marked, marked_by, marked_all, no_mark, next_mark, mark_in, kind_allows, mark_allows, mark_tells_order}
+use Rattle.lsm_recorded.specs.Order.{weak_after, weak_of, kind_keeps, keeps_order}
 
 turned : (o : Ordering) → is_eq (ordering_reverse o) ≡ is_eq o
 turned Less = refl
@@ -89,22 +90,50 @@ both false b h = absurd (cc h)
 le_of : (a b : ℕ) → nat_le a b ≡ true → a ≤ b
 le_of a b q = grind (arith, nat_tests)
 
-single_kind : (kind : ValueType) (n s : ℕ) (w : Bool) → kind_allows (record { next = n; sets = min s 2; is_weak = w }) kind ≡ true → is_weak_kind kind ≡ true → s ≤ 1
-single_kind Value n s w h q = absurd (cc q)
-single_kind Tombstone n s w h q = absurd (cc q)
-single_kind WeakTombstone n s w h q = let l : min s 2 < 2 = ltb-true (min s 2) 2 h in omega arith
+and_grouped : (a b c d : Bool) → ((a && b && c) && d) ≡ ((a && b) && (c && d))
+and_grouped true true c d = refl
+and_grouped true false c d = refl
+and_grouped false b c d = refl
+
+-- two sets are many
+none_set : (s : ℕ) → (s == 0) ≡ (min s 2 == 0)
+none_set zero = refl
+none_set (suc s) = grind (arith, nat_tests)
+
+few_sets : (s : ℕ) → nat_le s 1 ≡ nat_lt (min s 2) 2
+few_sets s = grind (arith, nat_tests)
+
+kind_told : (journal : List Event) (k : Bytes) (kind : ValueType) → kind_keeps journal k kind ≡ kind_allows (mark_in journal k) kind
+kind_told journal k Value = ap (λ b. not (weak_of k journal) || b) (none_set (sets_of k [] journal))
+kind_told journal k Tombstone = refl
+kind_told journal k WeakTombstone = few_sets (sets_of k [] journal)
+
+-- the mark of its key tells whether a write keeps the order
+pub order_told : (journal : List Event) (counter : ℕ) (e : Entry) → keeps_order journal counter e ≡ mark_tells_order journal counter e
+order_told journal counter e =
+    let n = e.key.seqno in
+    let k = e.key.user_key in
+    ap (λ b. nat_lt n counter && nat_le (floor journal) n && nat_le (next_of k [] journal) n && b) (kind_told journal k e.key.value_type)
+    ∙ and_grouped (nat_lt n counter) (nat_le (floor journal) n) (nat_le (next_of k [] journal) n) (kind_allows (mark_in journal k) e.key.value_type)
+
+single_kind : (journal : List Event) (k : Bytes) (kind : ValueType) → kind_keeps journal k kind ≡ true → is_weak_kind kind ≡ true → sets_of k [] journal ≤ 1
+single_kind journal k Value h q = absurd (cc q)
+single_kind journal k Tombstone h q = absurd (cc q)
+single_kind journal k WeakTombstone h q = le_of (sets_of k [] journal) 1 h
 
 pub may_write : (journal : List Event) (counter : ℕ) (e : Entry) → keeps_order journal counter e ≡ true → MayWrite [] journal e × (e.key.seqno < counter)
 may_write journal counter e h =
-    let parts = both (nat_lt e.key.seqno counter && nat_le (floor journal) e.key.seqno) (mark_allows (mark_in journal e.key.user_key) e.key.seqno e.key.value_type) h in
-    let first = both (nat_lt e.key.seqno counter) (nat_le (floor journal) e.key.seqno) parts.0 in
-    let second = both (nat_le (next_of e.key.user_key [] journal) e.key.seqno) (kind_allows (mark_in journal e.key.user_key) e.key.value_type) parts.1 in (
+    let n = e.key.seqno in
+    let k = e.key.user_key in
+    let parts = both (nat_lt n counter && nat_le (floor journal) n && nat_le (next_of k [] journal) n) (kind_keeps journal k e.key.value_type) h in
+    let second = both (nat_lt n counter && nat_le (floor journal) n) (nat_le (next_of k [] journal) n) parts.0 in
+    let first = both (nat_lt n counter) (nat_le (floor journal) n) second.0 in (
       record {
-        after_installs = le_of (floor journal) e.key.seqno first.1;
-        after_own = le_of (next_of e.key.user_key [] journal) e.key.seqno second.0;
-        single = single_kind e.key.value_type (next_of e.key.user_key [] journal) (sets_of e.key.user_key [] journal) (weak_of e.key.user_key journal) second.1;
+        after_installs = le_of (floor journal) n first.1;
+        after_own = le_of (next_of k [] journal) n second.1;
+        single = single_kind journal k e.key.value_type parts.1;
       },
-      ltb-true e.key.seqno counter first.0,
+      ltb-true n counter first.0,
     )
 
 -- ---- a batch in order
@@ -112,9 +141,11 @@ may_write journal counter e h =
 -- a write of another key leaves the order of a key
 keeps_apart : (journal : List Event) (counter : ℕ) (e f : Entry) → is_same f.key.user_key e.key.user_key ≡ false → keeps_order (journal ++ Write e ∷ []) counter f ≡ keeps_order journal counter f
 keeps_apart journal counter e f apart =
-    ap (λ m. nat_lt f.key.seqno counter && nat_le (floor (journal ++ Write e ∷ [])) f.key.seqno && mark_allows m f.key.seqno f.key.value_type)
+    order_told (journal ++ Write e ∷ []) counter f
+    ∙ ap (λ m. nat_lt f.key.seqno counter && nat_le (floor (journal ++ Write e ∷ [])) f.key.seqno && mark_allows m f.key.seqno f.key.value_type)
     (mark_in-write journal e f.key.user_key ∙ ap (λ b. cond b (next_mark (mark_in journal e.key.user_key) e.key.seqno e.key.value_type) (mark_in journal f.key.user_key)) apart)
     ∙ ap (λ n. nat_lt f.key.seqno counter && nat_le n f.key.seqno && mark_allows (mark_in journal f.key.user_key) f.key.seqno f.key.value_type) (floor-write journal e)
+    ∙ sym (order_told journal counter f)
 
 abbrev pub entry_keys : List Entry → List Bytes
 entry_keys es = map (λ (e : Entry). e.key.user_key) es

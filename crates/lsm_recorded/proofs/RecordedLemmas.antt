@@ -3,7 +3,7 @@ use Rattle.std.proofs.Common.{cond, ◌≡◌, ℕ, ◌+◌, ◌<◌, ◌≤◌,
 use Rattle.std.specs.BTreeMap.{BTreeMap, is_at}
 use Rattle.std.specs.Map.{lookup}
 use Rattle.std.specs.FinMap.{get, empty}
-use Rattle.std.specs.List.{list_any}
+use Rattle.std.specs.List.{list_any, AllByRecursion}
 use Rattle.std.proofs.lemmas.Bool.Decides.{nat_tests}
 use Rattle.lsm_below.specs.declared.value_type.ValueType.TheVariants.{Value, Tombstone, WeakTombstone}
 use Rattle.lsm_below.specs.Keys.{Bytes, bytes_cmp}
@@ -20,6 +20,7 @@ use Rattle.lsm_model.specs.declared.question.Question.{Question}
 use Rattle.lsm_model.specs.declared.question.Question.TheVariants.{Get}
 use Rattle.lsm_model.specs.declared.question.Answer.TheVariants.{Found, Pairs}
 use Rattle.lsm_model.proofs.Lists.{fold_push}
+use Rattle.lsm_model.proofs.Spared.{stays, step_spares, writes_spare}
 use Rattle.lsm_model.proofs.Runs.{opened_holds, step_holds, run_holds, reads_right, view_right, answered_view}
 use Rattle.lsm_parts.specs.declared.config.Config.{Config}
 use Rattle.lsm_parts.specs.declared.error.Error.{Error}
@@ -30,8 +31,10 @@ use Rattle.lsm_state.specs.Ranges.{IsListStep}
 use Rattle.lsm_parts.specs.Guards.{Pair}
 use Rattle.lsm_state.specs.Refusals.{batch_refusal, repeats, keys_of, is_great, is_long_key, is_long_value, op_value}
 use Rattle.lsm_recorded.specs.declared.marks.Mark.{Mark}
-use Rattle.lsm_recorded.specs.Marks.{mark_of, mark_in, marked_by, marked_all, keeps_order, batch_keeps_order, no_mark}
-use Rattle.lsm_recorded.specs.Recorded.{IsRecorded}
+use Rattle.lsm_recorded.specs.Marks.{mark_of, mark_in, marked_by, marked_all, no_mark}
+use Rattle.lsm_recorded.specs.Order.{keeps_order, batch_keeps_order}
+use Rattle.lsm_recorded.specs.Recorded.{IsRecorded, Stays, StaysTo}
+use Rattle.lsm_recorded.proofs.BatchLemmas.{seqno_is}
 use Rattle.lsm_recorded.proofs.MarksLemmas.{in_order_push, mark_in-read, mark_in-write, mark_in-writes, marked_by_same, marked_all_same, IsCounted, write_counted, batch_counted, floor-write, floor-writes, entry_keys}
 
 -- marks by key
@@ -68,6 +71,10 @@ recorded_write marks marks' low old new journal e r ok step counter noted =
     recorded marks' low new (journal ++ Write e ∷ []) (step_holds [] empty (state_of journal old) (Wrote e) (state_of (journal ++ Write e ∷ []) new) (step [] journal) counted.order r.holds)
     (subst (λ n. IsCounted n (journal ++ Write e ∷ [])) (sym counter) counted) (r.floored ∙ sym (floor-write journal e))
     (λ q. noted q ∙ marked_by_same (mark_of marks) (mark_in journal) e r.noted q ∙ sym (mark_in-write journal e q))
+
+-- it leaves what snapshots up to its number see
+pub write_spares : (marks : Marks) (low : ℕ) (old new : Core) (journal : List Event) (e : Entry) → IsRecorded marks low old journal → keeps_order journal old.seqno e ≡ true → IsWriteStep e old new → StaysTo e.key.seqno old new
+write_spares marks low old new journal e r ok step = λ s up. step_spares [] empty s (state_of journal old) (Wrote e) (state_of (journal ++ Write e ∷ []) new) (step [] journal) (write_counted old.seqno journal e ok (counted_of marks low old journal r)).order up r.holds
 
 -- a mark for which room was made stays what it is
 pub recorded_marks : (marks marks' : Marks) (low : ℕ) (c : Core) (journal : List Event) → IsRecorded marks low c journal → ((q : Bytes) → mark_of marks' q ≡ mark_of marks q) → IsRecorded marks' low c journal
@@ -107,17 +114,32 @@ accepted_parts ops n h =
     below : is_great n ≡ false → n < 9223372036854775808
     below q = grind (arith, nat_tests)
 
+batch_in_order : (marks : Marks) (low : ℕ) (old new : Core) (journal : List Event) (ops : List (Bytes × Op)) (n : ℕ) → IsRecorded marks low old journal → batch_keeps_order journal old.seqno ops ≡ true → WritesBatch ops (Ok n) old new → IsCounted (old.seqno + 1) (journal ++ map Write (op_entries old.seqno ops))
+batch_in_order marks low old new journal ops n r ok w =
+    let es = op_entries old.seqno ops in
+    let once : repeats (entry_keys es) ≡ false = ap repeats (entry_keys-ops old.seqno ops) ∙ (accepted_parts ops old.seqno (accepted ops n old new w)).1 in
+    let before : IsCounted (old.seqno + 1) journal = record { order = r.order; counted = let a = r.counted in omega arith } in
+    batch_counted (old.seqno + 1) es journal ok once before
+
 pub recorded_batch : (marks marks' : Marks) (low : ℕ) (old new : Core) (journal : List Event) (ops : List (Bytes × Op)) (n : ℕ) → IsRecorded marks low old journal → batch_keeps_order journal old.seqno ops ≡ true → WritesBatch ops (Ok n) old new
     → ((q : Bytes) → mark_of marks' q ≡ marked_all (op_entries old.seqno ops) (mark_of marks) q) → IsRecorded marks' low new (journal ++ map Write (op_entries old.seqno ops))
 recorded_batch marks marks' low old new journal ops n r ok w noted =
     let es = op_entries old.seqno ops in
-    let once : repeats (entry_keys es) ≡ false = ap repeats (entry_keys-ops old.seqno ops) ∙ (accepted_parts ops old.seqno (accepted ops n old new w)).1 in
-    let before : IsCounted (old.seqno + 1) journal = record { order = r.order; counted = let a = r.counted in omega arith } in
-    let counted = batch_counted (old.seqno + 1) es journal ok once before in
+    let counted = batch_in_order marks low old new journal ops n r ok w in
     let next : new.seqno ≡ old.seqno + 1 = ap (λ (c : Core). c.seqno) w.core in
     recorded marks' low new (journal ++ map Write es) (run_holds [] empty (state_of journal old) (map Wrote es) (state_of (journal ++ map Write es) new) (w.run [] journal) counted.order r.holds)
     (subst (λ m. IsCounted m (journal ++ map Write es)) (sym next) counted) (r.floored ∙ sym (floor-writes es journal))
     (λ q. noted q ∙ marked_all_same (mark_of marks) (mark_in journal) es r.noted q ∙ sym (mark_in-writes es journal q))
+
+numbers_are : (n s : ℕ) (ops : List (Bytes × Op)) → s ≤ n → AllByRecursion (λ e. s ≤ e.key.seqno) (op_entries n ops)
+numbers_are n s [] up = tt
+numbers_are n s (p ∷ ops) up = (rw (seqno_is p.0 n p.1) up, numbers_are n s ops up)
+
+-- a batch leaves what snapshots up to its number see
+pub batch_spares : (marks : Marks) (low : ℕ) (old new : Core) (journal : List Event) (ops : List (Bytes × Op)) (n : ℕ) → IsRecorded marks low old journal → batch_keeps_order journal old.seqno ops ≡ true → WritesBatch ops (Ok n) old new → StaysTo old.seqno old new
+batch_spares marks low old new journal ops n r ok w = λ s up.
+    let es = op_entries old.seqno ops in
+    writes_spare [] empty s es (state_of journal old) (state_of (journal ++ map Write es) new) (w.run [] journal) (batch_in_order marks low old new journal ops n r ok w).order (numbers_are old.seqno s ops up) r.holds
 
 -- ---- reads
 
@@ -166,6 +188,15 @@ recorded_rotate marks low old new journal None r t = subst (λ c. IsRecorded mar
 recorded_rotate marks low old new journal (Some id) r t =
     recorded marks low new journal (step_holds [] empty (state_of journal old) (Rotated old.next_memtable) (state_of journal new) (t.3 [] journal) r.order r.holds)
     (subst (λ n. IsCounted n journal) (sym (ap (λ (c : Core). c.seqno) t.2)) (counted_of marks low old journal r)) r.floored r.noted
+
+-- it leaves what each snapshot sees
+rotate_spares : (marks : Marks) (low : ℕ) (old new : Core) (journal : List Event) (i : Option ℕ) → IsRecorded marks low old journal → Rotates old i new → Stays old new
+rotate_spares marks low old new journal None r t = subst (Stays old) (sym t.1) (λ s. stays s (state_of [] old) (state_of [] old) refl refl refl)
+rotate_spares marks low old new journal (Some id) r t = λ s. step_spares [] empty s (state_of journal old) (Rotated old.next_memtable) (state_of journal new) (t.3 [] journal) r.order tt r.holds
+
+pub rotate_any_spares : {S : Type 0} (r : Result (Option ℕ) Error) (old new : Seen S) (marks : Marks) (low : ℕ) (journal : List Event) → IfOk r (λ i. Rotates old.core i new.core) → OnErr r (new ≡ old) → IsRecorded marks low old.core journal → Stays old.core new.core
+rotate_any_spares (Ok i) old new marks low journal t e h = rotate_spares marks low old.core new.core journal i h t
+rotate_any_spares (Err x) old new marks low journal t e h = subst (λ z. Stays old.core z.core) (sym e) (λ s. stays s (state_of [] old.core) (state_of [] old.core) refl refl refl)
 
 -- whatever it answers
 pub rotate_any : {S : Type 0} (r : Result (Option ℕ) Error) (old new : Seen S) (marks : Marks) (low : ℕ) (journal : List Event) → IfOk r (λ i. Rotates old.core i new.core) → OnErr r (new ≡ old) → IsRecorded marks low old.core journal → IsRecorded marks low new.core journal

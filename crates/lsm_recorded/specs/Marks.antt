@@ -1,17 +1,15 @@
--- Marks of keys, by which a write in order is told without the journal.
-use Rattle.std.specs.Prelude.{ℕ, ◌+◌, max, min, Bool, true, false, not, ◌&&◌, ◌||◌, List, [], ◌∷◌, unwrap_or, fold, if◌then◌else◌, nat_lt, nat_le, ◌==◌}
-use Rattle.std.specs.List.{list_all}
+-- Marks of keys, by which the private functions tell a write in order without the journal.
+use Rattle.std.specs.Prelude.{ℕ, ◌+◌, max, min, Bool, true, false, not, ◌&&◌, ◌||◌, List, [], ◌∷◌, unwrap_or, if◌then◌else◌, nat_lt, nat_le, ◌==◌}
 use Rattle.std.specs.BTreeMap as tree
 use Rattle.std.specs.BTreeMap.{BTreeMap}
 use Rattle.lsm_below.specs.Keys.{Bytes, bytes_cmp, is_same}
-use Rattle.lsm_below.specs.Entries.{Entry, is_weak}
+use Rattle.lsm_below.specs.Entries.{Entry}
 use Rattle.lsm_below.specs.declared.value_type.ValueType.{ValueType}
 use Rattle.lsm_below.specs.declared.value_type.ValueType.TheVariants.{Value, Tombstone, WeakTombstone}
 use Rattle.lsm_model.specs.Journal.{Event, next_of, sets_of, floor}
-use Rattle.lsm_model.specs.Ops.{op_entries}
 use Rattle.lsm_model.specs.declared.op.Op.{Op}
 use Rattle.lsm_model.specs.declared.op.Op.TheVariants.{Set, Del, Weak}
-use Rattle.lsm_model.specs.declared.journal.JournalEntry.TheVariants.{Write, Clear, Install, Dropped, Mark as Watermark, Read}
+use Rattle.lsm_recorded.specs.Order.{weak_of}
 use Rattle.lsm_recorded.specs.declared.marks.Mark.{Mark}
 
 -- nothing was written
@@ -51,27 +49,13 @@ abbrev pub marked_all : List Entry → (Bytes → Mark) → Bytes → Mark
 marked_all [] marks = marks
 marked_all (e ∷ es) marks = marked_all es (marked_by e marks)
 
--- was the key, after an event, removed weakly?
-abbrev pub weak_after : Bytes → Bool → Event → Bool
-weak_after k b (Write e) = is_same k e.key.user_key && is_weak e || b
-weak_after k b (Clear n) = b
-weak_after k b (Install n) = b
-weak_after k b (Dropped ranges n) = b
-weak_after k b (Watermark w) = b
-weak_after k b (Read at question answer) = b
-
--- the same after a whole journal
-abbrev pub weak_of : Bytes → List Event → Bool
-weak_of k journal = fold (weak_after k) false journal
-
 -- the mark that a journal gives a key
 abbrev pub mark_in : List Event → Bytes → Mark
 mark_in journal k = record { next = next_of k [] journal; sets = min (sets_of k [] journal) 2; is_weak = weak_of k journal }
 
--- Does a write of the entry keep the order of the journal, under a counter? Its number is below the counter,
--- not below an install or a clear, above each earlier one of its key, and a weakly removed key has at most one value.
-abbrev pub keeps_order : List Event → ℕ → Entry → Bool
-keeps_order journal counter e = nat_lt e.key.seqno counter && nat_le (floor journal) e.key.seqno && mark_allows (mark_in journal e.key.user_key) e.key.seqno e.key.value_type
+-- does the mark of its key tell that a write of the entry keeps the order of the journal?
+abbrev pub mark_tells_order : List Event → ℕ → Entry → Bool
+mark_tells_order journal counter e = nat_lt e.key.seqno counter && nat_le (floor journal) e.key.seqno && mark_allows (mark_in journal e.key.user_key) e.key.seqno e.key.value_type
 
 -- the type of the entry that a write makes
 abbrev pub op_type : Op → ValueType
@@ -82,7 +66,3 @@ op_type Weak = WeakTombstone
 -- does a write of a batch, under this number, keep the order that marks and a least number tell?
 abbrev pub op_allowed : (Bytes → Mark) → ℕ → ℕ → Bytes × Op → Bool
 op_allowed marks low n p = nat_le low n && mark_allows (marks p.0) n (op_type p.1)
-
--- does each write of a batch, under the number that it draws?
-abbrev pub batch_keeps_order : List Event → ℕ → List (Bytes × Op) → Bool
-batch_keeps_order journal n ops = list_all (keeps_order journal (n + 1)) (op_entries n ops)

@@ -5,7 +5,7 @@ use Rattle.std.specs.FinMap.{empty}
 use Rattle.lsm_below.specs.Keys.{Bytes}
 use Rattle.lsm_model.specs.declared.journal.JournalEntry.{JournalEntry}
 use Rattle.lsm_model.specs.Journal.{Event, InOrder, next_number, floor}
-use Rattle.lsm_model.specs.Steps.{ReadsEqualReplay}
+use Rattle.lsm_model.specs.Steps.{ReadsEqualReplay, StaysAt}
 use Rattle.lsm_model.specs.Sound.{Holds}
 use Rattle.lsm_parts.specs.declared.error.Error.{Error}
 use Rattle.lsm_parts.specs.declared.error.Error.TheVariants.{OutOfMemory, OutOfOrder}
@@ -34,3 +34,11 @@ pub record IsRecorded (marks : BTreeMap Bytes Mark) (low : ℕ) (c : Core) (jour
 -- a refusal of the journal's own, or what the tree below replied
 abbrev pub OwnOr : {A : Type 0} → Result A Error → Type 0 → Type 0
 OwnOr r P = (r ≡ Err OutOfOrder) ⊎ ((r ≡ Err OutOfMemory) ⊎ P)
+
+-- what each snapshot sees stays, where it finds a super version before and after
+abbrev pub Stays : Core → Core → Type 0
+Stays old new = (s : ℕ) → StaysAt s (state_of [] old) (state_of [] new)
+
+-- the same of the snapshots up to a number
+abbrev pub StaysTo : ℕ → Core → Core → Type 0
+StaysTo n old new = (s : ℕ) → s ≤ n → StaysAt s (state_of [] old) (state_of [] new)

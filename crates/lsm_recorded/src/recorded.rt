@@ -15,7 +15,8 @@ ghost use Rattle.lsm_state.specs.Held.{first_entries};
 ghost use Rattle.lsm_state.specs.Core.{fresh_core, state_of, latest_of, older_of};
 ghost use Rattle.lsm_state.specs.Calls.{Appends, WritesBatch, Gives, Rotates};
 ghost use Rattle.std.specs.List.{list_all};
-ghost use Rattle.lsm_recorded.specs.Marks.{mark_of, keeps_order, batch_keeps_order, op_type, op_allowed};
+ghost use Rattle.lsm_recorded.specs.Marks.{mark_of, op_type, op_allowed};
+ghost use Rattle.lsm_recorded.specs.Order.{keeps_order, batch_keeps_order};
 ghost use Rattle.lsm_recorded.specs.Passes.{Notes};
 ghost use Rattle.lsm_recorded.specs.Closing.{ListTogether};
 
@@ -125,7 +126,7 @@ impl Recorded<NoStore> {
 }
 
 impl<S: Store> Recorded<S> {
-    ghost use Rattle.lsm_recorded.specs.Recorded.{OwnOr};
+    ghost use Rattle.lsm_recorded.specs.Recorded.{OwnOr, Stays, StaysTo};
 
     /// The facts that the type keeps: every super version is ordered, each view equals the replay,
     /// kept snapshots are answered, and each read of the journal agrees with the replay before it.
@@ -179,11 +180,13 @@ impl<S: Store> Recorded<S> {
         Ok(value)
     }
 
-    /// Seals the active memtable, as `TreeState::rotate_memtable`. The journal and the pass stay.
+    /// Seals the active memtable, as `TreeState::rotate_memtable`. The journal and the pass stay, and so does
+    /// what each snapshot sees.
     pub fn rotate_memtable(&mut self, pass: &mut Pass) -> Result<Option<MemtableId>, Error>
         ensures core { IfOk result (λ r. Rotates self.old.tree.core r self.new.tree.core) }
         ensures journal { self.new.journal ≡ self.old.journal }
         ensures pass { pass.new ≡ pass.old }
+        ensures views { Stays self.old.tree.core self.new.tree.core }
         ensures err { OnErr result (self.new ≡ self.old) }
         ensures out_of_numbers { IsErrOf result Error.OutOfNumbers → LIMIT ≤ self.old.tree.core.next_memtable }
         ensures told { LIMIT ≤ self.old.tree.core.next_memtable → IfOk result (λ _. first_entries self.old.tree.core.memtables ≡ []) }
@@ -195,6 +198,7 @@ impl<S: Store> Recorded<S> {
 
     /// Writes an entry under its own number, as `TreeState::append_entry`, and puts it behind the journal
     /// and the pass. `OutOfOrder`, before all else, exactly where it would break the order. Refused, it changes nothing.
+    /// Snapshots up to its number see what they saw.
     pub fn append_entry(
         &mut self,
         pass: &mut Pass,
@@ -203,6 +207,7 @@ impl<S: Store> Recorded<S> {
         ensures out_of_order { IsErrOf result Error.OutOfOrder ↔ (keeps_order self.old.journal self.old.tree.core.seqno (plain entry) ≡ false) }
         ensures core { OwnOr result (Appends (plain entry) result self.old.tree.core self.new.tree.core) }
         ensures noted { OnOk result (Notes (WriteEntry (plain entry) ∷ []) self.old.journal self.new.journal pass.old pass.new) }
+        ensures views { OnOk result (StaysTo entry.key.seqno self.old.tree.core self.new.tree.core) }
         ensures err { OnErr result ((self.new ≡ self.old) × (pass.new ≡ pass.old)) }
     {
         if !self.keeps_order(&entry) {
@@ -234,6 +239,7 @@ impl<S: Store> Recorded<S> {
         ensures out_of_order { IsErrOf result Error.OutOfOrder ↔ (keeps_order self.old.journal self.old.tree.core.seqno (op_entry key seqno (Set value)) ≡ false) }
         ensures core { OwnOr result (Appends (op_entry key seqno (Set value)) result self.old.tree.core self.new.tree.core) }
         ensures noted { OnOk result (Notes (WriteEntry (op_entry key seqno (Set value)) ∷ []) self.old.journal self.new.journal pass.old pass.new) }
+        ensures views { OnOk result (StaysTo seqno self.old.tree.core self.new.tree.core) }
         ensures err { OnErr result ((self.new ≡ self.old) × (pass.new ≡ pass.old)) }
     {
         let entry = InternalValue::from_components(key, value, seqno, ValueType::Value);
@@ -250,6 +256,7 @@ impl<S: Store> Recorded<S> {
         ensures out_of_order { IsErrOf result Error.OutOfOrder ↔ (keeps_order self.old.journal self.old.tree.core.seqno (op_entry key seqno Del) ≡ false) }
         ensures core { OwnOr result (Appends (op_entry key seqno Del) result self.old.tree.core self.new.tree.core) }
         ensures noted { OnOk result (Notes (WriteEntry (op_entry key seqno Del) ∷ []) self.old.journal self.new.journal pass.old pass.new) }
+        ensures views { OnOk result (StaysTo seqno self.old.tree.core self.new.tree.core) }
         ensures err { OnErr result ((self.new ≡ self.old) × (pass.new ≡ pass.old)) }
     {
         self.append_entry(pass, InternalValue::new_tombstone(key, seqno))
@@ -265,6 +272,7 @@ impl<S: Store> Recorded<S> {
         ensures out_of_order { IsErrOf result Error.OutOfOrder ↔ (keeps_order self.old.journal self.old.tree.core.seqno (op_entry key seqno Weak) ≡ false) }
         ensures core { OwnOr result (Appends (op_entry key seqno Weak) result self.old.tree.core self.new.tree.core) }
         ensures noted { OnOk result (Notes (WriteEntry (op_entry key seqno Weak) ∷ []) self.old.journal self.new.journal pass.old pass.new) }
+        ensures views { OnOk result (StaysTo seqno self.old.tree.core self.new.tree.core) }
         ensures err { OnErr result ((self.new ≡ self.old) × (pass.new ≡ pass.old)) }
     {
         self.append_entry(pass, InternalValue::new_weak_tombstone(key, seqno))
@@ -277,6 +285,7 @@ impl<S: Store> Recorded<S> {
         ensures out_of_order { IsErrOf result Error.OutOfOrder ↔ (batch_keeps_order self.old.journal self.old.tree.core.seqno ops.items ≡ false) }
         ensures core { OwnOr result (WritesBatch ops.items result self.old.tree.core self.new.tree.core) }
         ensures noted { OnOk result (Notes (map WriteEntry (op_entries self.old.tree.core.seqno ops.items)) self.old.journal self.new.journal pass.old pass.new) }
+        ensures views { OnOk result (StaysTo self.old.tree.core.seqno self.old.tree.core self.new.tree.core) }
         ensures err { OnErr result ((self.new ≡ self.old) × (pass.new ≡ pass.old)) }
     {
         let number = self.core.seqno().get();

@@ -3,3 +3,4 @@ pub mod Outcomes
 pub mod ReadOutcomes
 pub mod ReadReplays
 pub mod Replays
+pub mod Spared

@@ -1,10 +1,11 @@
 -- What a run of steps does, and what its reads answer.
 use Rattle.std.specs.Prelude.{◌≡◌, ℕ, ◌+◌, ◌<◌, ◌≤◌, ◌^◌, ◌⊎◌, max, Bool, true, List, [], ◌∷◌, ◌++◌, Result, Ok, Err, map, filter, nat_le}
+use Rattle.std.specs.List.{AllByRecursion}
 use Rattle.std.specs.declared.ops.Bound.TheVariants.{Unbounded}
 use Rattle.lsm_below.specs.Keys.{Bytes}
 use Rattle.lsm_below.specs.Entries.{Entry, above, plain}
 use Rattle.lsm_model.specs.Journal.{Event, Map, InOrder}
-use Rattle.lsm_model.specs.Steps.{IsOpened, ReadsEqualReplay}
+use Rattle.lsm_model.specs.Steps.{IsOpened, ReadsEqualReplay, StaysAt, IsSparedBy}
 use Rattle.lsm_model.specs.Ops.{op_entry, op_entries}
 use Rattle.lsm_model.specs.declared.op.Op.{Op}
 use Rattle.lsm_model.specs.declared.op.Op.TheVariants.{Set as SetTo, Del, Weak}
@@ -154,3 +155,21 @@ abbrev pub RunEqualsReplay : (opened : List Entry) (start : Map) → List Step �
 RunEqualsReplay opened start steps told old new =
     IsOpened opened start (state_of [] old) → InOrder opened (journal_of told)
     → EachAnswers opened start [] steps told × ReadsEqualReplay opened start (state_of (without_low_reads opened (journal_of told)) new)
+
+-- ---- what the steps leave
+
+-- what each snapshot sees stays, if all these events spare it and it finds a super version before and after
+abbrev pub Spares : List Event → Core → Core → Type 0
+Spares events old new = (s : ℕ) → AllByRecursion (IsSparedBy s) events → StaysAt s (state_of [] old) (state_of [] new)
+
+-- the steps lead from the old state to the new with these outcomes, and each leaves what its events spare
+abbrev pub RanSparing : List Step → List Told → Core → Core → Type 0
+RanSparing [] [] old new = new ≡ old
+RanSparing (x ∷ xs) (t ∷ ts) old new = (mid : Core) × Takes x t.reply t.entries old mid × Spares t.entries old mid × RanSparing xs ts mid new
+RanSparing [] (t ∷ ts) old new = ⊥
+RanSparing (x ∷ xs) [] old new = ⊥
+
+-- From a tree as opening left it, whenever the journal is in order, no step changes what a snapshot sees that is
+-- answered before and after, but a write, a clear or a drop at the snapshots above its number.
+abbrev pub RunSparesAnswers : (opened : List Entry) (start : Map) → List Step → List Told → Core → Core → Type 0
+RunSparesAnswers opened start steps told old new = IsOpened opened start (state_of [] old) → InOrder opened (journal_of told) → RanSparing steps told old new

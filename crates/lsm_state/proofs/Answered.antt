@@ -30,7 +30,7 @@ list_step c question s out sv found told opened journal reaches ordered =
     (sv, reaches, found, ap (λ a. record { journal = journal ++ Read s question a ∷ []; mems = mems; latest = latest_of c; older = older_of c }) (sym (told falling)))
 
 -- the entries of a super version that count, source by source
-counts : (mems : Memtables) (s : ℕ) (sv : SuperVersion) → filter (λ e. nat_lt e.key.seqno s) (entries mems sv) ≡ all_counted (map (at s) (sources mems sv))
+pub counts : (mems : Memtables) (s : ℕ) (sv : SuperVersion) → filter (λ e. nat_lt e.key.seqno s) (entries mems sv) ≡ all_counted (map (at s) (sources mems sv))
 counts mems s sv = ap (filter (λ (e : Entry). nat_lt e.key.seqno s)) (sym (joined_sources mems sv)) ∙ sym (counted_below s (sources mems sv))
 
 pub range_step : (c : Core) (low high : Bound Bytes) (s : ℕ) (out : List Entry) → Ranges c None low high s out → IsRangeStep c low high s out

@@ -2,5 +2,6 @@ pub mod Walks
 pub mod Steps
 pub mod Repeats
 pub mod Answered
+pub mod Overlaid
 pub mod Counts
 pub mod Refusals

@@ -1,20 +1,22 @@
 -- What reads over many keys answer.
-use Rattle.std.specs.Prelude.{◌≡◌, ℕ, ◌≤◌, Bool, List, [], ◌∷◌, ◌++◌, map, length, filter, Option, Some, None, Ok, option_map, is_none, nat_lt}
+use Rattle.std.specs.Prelude.{◌≡◌, ℕ, ◌≤◌, Bool, List, [], ◌∷◌, ◌++◌, map, length, filter, Option, Some, None, Ok, option_map, is_none, nat_lt, IfSome}
 use Rattle.std.specs.Borrow.{Bor}
 use Rattle.std.specs.List.{AllByRecursion}
+use Rattle.std.specs.FinMap.{get}
 use Rattle.std.specs.declared.ops.Bound.{Bound}
 use Rattle.std.specs.declared.ops.Bound.TheVariants.{Unbounded}
 use Rattle.lsm_below.specs.Keys.{Bytes}
 use Rattle.lsm_below.specs.Entries.{Entry, above, IsOrdered}
-use Rattle.lsm_model.specs.Journal.{Event}
+use Rattle.lsm_model.specs.Journal.{Event, Map}
 use Rattle.lsm_model.specs.Steps.{Step, Asked}
 use Rattle.lsm_model.specs.declared.journal.JournalEntry.TheVariants.{Read}
 use Rattle.lsm_model.specs.declared.question.Question.{Question}
 use Rattle.lsm_model.specs.declared.question.Question.TheVariants.{Between, Prefix}
 use Rattle.lsm_model.specs.declared.question.Answer.TheVariants.{Pairs}
-use Rattle.lsm_model.specs.Views.{SuperVersion, entries, sources, found_at}
+use Rattle.lsm_model.specs.Views.{SuperVersion, entries, sources, found_at, view_at}
 use Rattle.lsm_parts.specs.Memtables.{SeenMemtable}
-use Rattle.lsm_parts.specs.Shown.{Shows, ShowsPrefix}
+use Rattle.lsm_parts.specs.Shown.{ShowsOf, Shows, ShowsPrefix}
+use Rattle.lsm_parts.specs.Answers.{pairs_of, StandOnce, IsOnTop, overlaid}
 use Rattle.lsm_parts.specs.Ends.{EndShown}
 use Rattle.lsm_parts.specs.Guards.{Pair, Item, pair_of}
 use Rattle.lsm_parts.specs.declared.tree_iter.End.{End}
@@ -73,3 +75,10 @@ IsRangeStep c low high s out = IsListStep c (Between low high) s (map pair_of ou
 -- the keys that begin so
 abbrev pub IsPrefixStep : Core → Bytes → ℕ → List Entry → Type 0
 IsPrefixStep c prefix s out = IsListStep c (Prefix prefix) s (map pair_of out)
+
+-- where each key and number stands once in the super version's sources, and the index's numbers are above theirs, the list
+-- of what is shown is that of their view by tops, with what counts of the index laid over it
+abbrev pub CountingIsOverlaid : Type 0
+CountingIsOverlaid = (memtables : List SeenMemtable) (index : Index) (s : ℕ) (sv : SuperVersion) (m : Map) (test : Bytes → Bool) (out : List Entry)
+    → ((k : Bytes) → get m k ≡ view_at k s (sources (entries_of memtables) sv)) → StandOnce (sources (entries_of memtables) sv) → IfSome index (λ p. IsOnTop p.0.now.entries (sources (entries_of memtables) sv))
+    → ShowsOf test (counting memtables index s sv) out → map pair_of out ≡ pairs_of test (overlaid (index_entries index) m)

@@ -7,14 +7,17 @@
 //! | `writes` | its writes |
 //! | `reads` | its reads of one key |
 //! | `ranges` | its reads of many keys |
+//! | `laws` | what their lists are of its view |
 #![tactic(auto)]
 
+mod laws;
 mod memtables;
 mod ranges;
 mod reads;
 mod tree;
 mod writes;
 
+pub use laws::ranges_are_overlaid;
 pub use memtables::Memtables;
 pub use tree::TreeState;
 pub use writes::{MAX_KEY_LEN, MAX_VALUE_LEN};

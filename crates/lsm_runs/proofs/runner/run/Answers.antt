@@ -1,5 +1,9 @@
 use Rattle.lsm_runs.proofs.Replays.{run_replays}
+use Rattle.lsm_runs.proofs.Spared.{run_spares}
 use Rattle.lsm_runs.proofs.runner.run.Goals as goal
 
 pub returns-clause-replays : goal.returns-clause-replays
 returns-clause-replays g c opened start = run_replays opened start _ _ _ _ c.take_steps.ensures.ran
+
+pub returns-clause-spares : goal.returns-clause-spares
+returns-clause-spares g c opened start = run_spares opened start _ _ _ _ c.take_steps.ensures.ran

@@ -1,5 +1,6 @@
 use Rattle.std.proofs.Common.{◌≡◌, subst, ◌∙◌}
-use Rattle.lsm_recorded.specs.Marks.{mark_of, batch_keeps_order}
+use Rattle.lsm_recorded.specs.Marks.{mark_of}
+use Rattle.lsm_recorded.specs.Order.{batch_keeps_order}
 use Rattle.lsm_recorded.proofs.BatchLemmas.{allowed_order}
 use Rattle.lsm_recorded.proofs.recorded.Recorded.batch_keeps_order.Goals as goal
 
