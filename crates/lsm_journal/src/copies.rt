@@ -1,10 +1,10 @@
-// Copies of the entries of a journal, which share their bytes.
+// Copies of the entries of a journal, which share their bytes and their lists of pairs.
 ghost use Rattle.std.specs.Prelude.{◌≡◌, IfOk};
 ghost use Rattle.lsm_model.specs.declared.journal.JournalEntry.TheVariants.{Read, Dropped};
 
 use crate::entries::share_value;
-use lsm_below::{KeyRange, KvPair, UserKey, share};
-use lsm_model::{Answer, JournalEntry, KeyRanges, KvPairs, Question};
+use lsm_below::{KeyRange, SeqNo, UserKey, share};
+use lsm_model::{Answer, JournalEntry, KeyRanges, Question};
 use std::alloc::{AllocError, Global};
 use std::ops::Bound;
 
@@ -42,50 +42,28 @@ fn copy_ranges(alloc: Global, ranges: &[KeyRange]) -> Result<Vec<KeyRange>, Allo
     Ok(copies)
 }
 
-fn copy_pair(pair: &KvPair) -> Result<KvPair, AllocError>
-    ensures { IfOk result (λ copy. copy ≡ pair.now) }
-{
-    let key = share(&pair.0)?;
-    Ok((key, share(&pair.1)?))
-}
-
-/// Copies of pairs.
-pub fn copy_pairs(alloc: Global, pairs: &[KvPair]) -> Result<Vec<KvPair>, AllocError>
-    ensures { IfOk result (λ copy. copy.items ≡ pairs.now) }
-{
-    let mut copies = Vec::with_capacity(alloc, pairs.len())?;
-    for pair in pairs {
-        copies.push(copy_pair(pair)?)?;
-    }
-    Ok(copies)
-}
-
-fn copy_answer(alloc: Global, answer: &Answer) -> Result<Answer, AllocError>
+fn copy_answer(answer: &Answer) -> Result<Answer, AllocError>
     ensures { IfOk result (λ copy. copy ≡ answer.now) }
 {
     match answer {
         Answer::Found(value) => Ok(Answer::Found(share_value(value)?)),
-        Answer::Pairs(pairs) => {
-            let copies = copy_pairs(alloc, pairs.as_slice())?;
-            Ok(Answer::Pairs(KvPairs::new(copies)))
-        }
+        Answer::Pairs(pairs) => Ok(Answer::Pairs(pairs.copy()?)),
     }
 }
 
 fn copy_read(
-    alloc: Global,
-    snapshot: u64,
+    snapshot: SeqNo,
     question: &Question,
     answer: &Answer,
 ) -> Result<JournalEntry, AllocError>
     ensures { IfOk result (λ copy. copy ≡ Read snapshot question.now answer.now) }
 {
     let question = copy_question(question)?;
-    let answer = copy_answer(alloc, answer)?;
+    let answer = copy_answer(answer)?;
     Ok(JournalEntry::Read(snapshot, question, answer))
 }
 
-fn copy_dropped(alloc: Global, ranges: &KeyRanges, number: u64) -> Result<JournalEntry, AllocError>
+fn copy_dropped(alloc: Global, ranges: &KeyRanges, number: SeqNo) -> Result<JournalEntry, AllocError>
     ensures { IfOk result (λ copy. copy ≡ Dropped ranges.now number) }
 {
     let copies = copy_ranges(alloc, ranges.as_slice())?;
@@ -102,9 +80,7 @@ pub fn copy_entry(alloc: Global, entry: &JournalEntry) -> Result<JournalEntry, A
         JournalEntry::Install(number) => Ok(JournalEntry::Install(*number)),
         JournalEntry::Dropped(ranges, number) => copy_dropped(alloc, ranges, *number),
         JournalEntry::Mark(number) => Ok(JournalEntry::Mark(*number)),
-        JournalEntry::Read(snapshot, question, answer) => {
-            copy_read(alloc, *snapshot, question, answer)
-        }
+        JournalEntry::Read(snapshot, question, answer) => copy_read(*snapshot, question, answer),
     }
 }
 

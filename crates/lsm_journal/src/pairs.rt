@@ -4,8 +4,7 @@ ghost use Rattle.lsm_model.specs.declared.journal.JournalEntry.TheVariants.{Read
 ghost use Rattle.lsm_model.specs.declared.question.Answer.TheVariants.{Pairs as FoundPairs};
 ghost use Rattle.lsm_parts.specs.Guards.{pair_of};
 
-use crate::copies::copy_pairs;
-use lsm_below::{KvPair, SeqNo};
+use lsm_below::{KvPair, SeqNo, share};
 use lsm_model::{Answer, JournalEntry, KvPairs, Question};
 use lsm_parts::{Error, TreeIter};
 use std::alloc::{AllocError, Global};
@@ -25,15 +24,39 @@ pub fn take_pairs(alloc: Global, mut iter: TreeIter) -> Result<Vec<KvPair>, Erro
     }
 }
 
-/// What an answered read of pairs puts into a journal.
+fn copy_pair(pair: &KvPair) -> Result<KvPair, AllocError>
+    ensures { IfOk result (λ copy. copy ≡ pair.now) }
+{
+    let key = share(&pair.0)?;
+    Ok((key, share(&pair.1)?))
+}
+
+/// Copies of pairs, which share their bytes.
+fn copy_pairs(alloc: Global, pairs: &[KvPair]) -> Result<Vec<KvPair>, AllocError>
+    ensures { IfOk result (λ copy. copy.items ≡ pairs.now) }
+{
+    let mut copies = Vec::with_capacity(alloc, pairs.len())?;
+    for pair in pairs {
+        copies.push(copy_pair(pair)?)?;
+    }
+    Ok(copies)
+}
+
+/// A list of these pairs that entries of a journal can share. Refused only for want of memory.
+pub fn share_pairs(alloc: Global, pairs: &[KvPair]) -> Result<KvPairs, AllocError>
+    ensures { IfOk result (λ list. list ≡ pairs.now) }
+{
+    let copies = copy_pairs(alloc, pairs)?;
+    KvPairs::new(alloc, copies)
+}
+
+/// What an answered read of pairs adds to a journal. It shares their list.
 pub fn pairs_entry(
-    alloc: Global,
     snapshot: SeqNo,
     question: Question,
-    pairs: &[KvPair],
+    pairs: &KvPairs,
 ) -> Result<JournalEntry, AllocError>
     ensures { IfOk result (λ entry. entry ≡ ReadEntry snapshot question (FoundPairs pairs.now)) }
 {
-    let told = KvPairs::new(copy_pairs(alloc, pairs)?);
-    Ok(JournalEntry::Read(snapshot, question, Answer::Pairs(told)))
+    Ok(JournalEntry::Read(snapshot, question, Answer::Pairs(pairs.copy()?)))
 }

@@ -1,44 +1,62 @@
 // What a read asks, and what it answers.
-ghost use Rattle.std.specs.Prelude.{◌≡◌};
+ghost use Rattle.std.specs.Prelude.{◌≡◌, IfOk, IfErr};
 
 use lsm_below::{KvPair, UserKey, UserValue};
+use std::alloc::{AllocError, Global};
 use std::marker::Model;
 use std::ops::Bound;
+use std::sync::Arc;
 
-/// Keys with their values, seen as a list.
+/// Keys with their values, seen as a list. Copies share the one list.
 #[derive(Drop)]
 pub struct KvPairs {
-    list: Vec<KvPair>,
+    list: Arc<Vec<KvPair>>,
 }
 
 impl Model for KvPairs {
     ghost use Rattle.std.specs.Prelude.{List, ℕ};
+    ghost use Rattle.std.specs.Arc.{arc_value};
 
     ghost Value = { List (List ℕ × List ℕ) };
 
-    ghost view = { λ p. p.list.items };
+    ghost view = { λ p. (arc_value p.list).items };
 }
 
 impl KvPairs {
-    /// These pairs.
-    pub fn new(list: Vec<KvPair>) -> KvPairs
-        ensures { result ≡ list.items }
+    /// These pairs. Refused only for want of memory.
+    pub fn new(alloc: Global, list: Vec<KvPair>) -> Result<KvPairs, AllocError>
+        ensures { IfOk result (λ pairs. pairs ≡ list.items) }
     {
-        KvPairs { list }
+        Ok(KvPairs {
+            list: Arc::new(alloc, list)?,
+        })
     }
 
-    /// The pairs, as they were handed in.
-    pub fn into_vec(self) -> Vec<KvPair>
-        ensures { result.items ≡ self }
+    /// The pairs, as they were handed in. Where a copy shares them they are given back.
+    pub fn into_vec(self) -> Result<Vec<KvPair>, KvPairs>
+        ensures ok { IfOk result (λ list. list.items ≡ self) }
+        ensures err { IfErr result (λ back. back ≡ self) }
     {
-        self.list
+        match Arc::try_unwrap(self.list) {
+            Ok(list) => Ok(list),
+            Err(list) => Err(KvPairs { list }),
+        }
     }
 
     /// The pairs, as a slice.
     pub fn as_slice(&self) -> &[KvPair]
         ensures { result.now ≡ self.now }
     {
-        &self.list
+        self.list.as_slice()
+    }
+
+    /// Another handle on the same list.
+    pub fn copy(&self) -> Result<KvPairs, AllocError>
+        ensures { IfOk result (λ pairs. pairs ≡ self.now) }
+    {
+        Ok(KvPairs {
+            list: Arc::try_clone(&self.list)?,
+        })
     }
 }
 

@@ -4,3 +4,4 @@ pub mod ReadOutcomes
 pub mod ReadReplays
 pub mod Replays
 pub mod Spared
+mod Counting

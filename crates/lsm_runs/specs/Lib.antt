@@ -1,3 +1,4 @@
 pub mod Told
 pub mod ReadSteps
 pub mod Runs
+pub mod Counting

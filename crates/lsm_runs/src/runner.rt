@@ -8,6 +8,7 @@ ghost use Rattle.lsm_model.specs.declared.journal.JournalEntry.TheVariants.{Writ
 ghost use Rattle.lsm_model.specs.declared.question.Question.TheVariants.{Get as AskGet};
 ghost use Rattle.lsm_model.specs.declared.question.Answer.TheVariants.{Found};
 ghost use Rattle.lsm_runs.specs.Told.{Told};
+ghost use Rattle.lsm_runs.specs.Counting.{RunIsInOrder};
 ghost use Rattle.lsm_runs.specs.ReadSteps.{TakesGet, TakesGetEntry, TakesSilent, IsContainsReply, IsSizeReply};
 ghost use Rattle.lsm_runs.specs.Runs.{Takes, TakesEntry, TakesBatch, TakesRotate, TakesNext, TakesCounter, counter_of, told_entry, told_batch, Ran, RunEqualsReplay, RunSparesAnswers};
 
@@ -388,6 +389,7 @@ pub fn run<S: Store>(alloc: Global, state: &mut TreeState<S>, steps: &[Step]) ->
     ensures ran { Ran (take (length result.items) steps.now) result.items state.old.core state.new.core }
     ensures replays { (opened : List Entry) (start : Map) → RunEqualsReplay opened start (take (length result.items) steps.now) result.items state.old.core state.new.core }
     ensures spares { (opened : List Entry) (start : Map) → RunSparesAnswers opened start (take (length result.items) steps.now) result.items state.old.core state.new.core }
+    ensures in_order { RunIsInOrder (take (length result.items) steps.now) result.items state.old.core state.new.core }
     ensures store { state.new.store ≡ state.old.store }
 {
     take_steps(alloc, state, steps)

@@ -15,7 +15,7 @@ ghost use Rattle.lsm_state.specs.Listing.{Lists, ListsPrefix};
 use crate::pass::{Pass, note_entry};
 use crate::recorded::Recorded;
 use lsm_below::{KvPair, SeqNo, UserKey, share};
-use lsm_journal::{copy_bound, pairs_entry, take_pairs};
+use lsm_journal::{copy_bound, pairs_entry, share_pairs, take_pairs};
 use lsm_model::Question;
 use lsm_parts::{Error, TreeIter};
 use lsm_store::Store;
@@ -85,7 +85,8 @@ impl<S: Store> Recorded<S> {
         ensures memory { IfErr result (λ e. e ≡ Error.OutOfMemory) }
     {
         let pairs = take_pairs(self.alloc, iter)?;
-        let entry = pairs_entry(self.alloc, snapshot, question, &pairs)?;
+        let kept = share_pairs(self.alloc, &pairs)?;
+        let entry = pairs_entry(snapshot, question, &kept)?;
         note_entry(self.alloc, &mut self.journal, &mut pass.entries, entry)?;
         Ok(pairs)
     }

@@ -24,10 +24,11 @@ fn of_pairs(
 ) -> Result<Outcome, AllocError>
     ensures { IfOk result (λ told. told ≡ told_pairs question snapshot pairs.items) }
 {
-    let read = pairs_entry(alloc, snapshot, question, &pairs)?;
+    let pairs = KvPairs::new(alloc, pairs)?;
+    let read = pairs_entry(snapshot, question, &pairs)?;
     let entries = one_entry(alloc, read)?;
     Ok(Outcome {
-        reply: Reply::Pairs(KvPairs::new(pairs)),
+        reply: Reply::Pairs(pairs),
         entries,
     })
 }

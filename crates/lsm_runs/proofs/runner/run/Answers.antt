@@ -1,3 +1,4 @@
+use Rattle.lsm_runs.proofs.Counting.{run_in_order}
 use Rattle.lsm_runs.proofs.Replays.{run_replays}
 use Rattle.lsm_runs.proofs.Spared.{run_spares}
 use Rattle.lsm_runs.proofs.runner.run.Goals as goal
@@ -7,3 +8,6 @@ returns-clause-replays g c opened start = run_replays opened start _ _ _ _ c.tak
 
 pub returns-clause-spares : goal.returns-clause-spares
 returns-clause-spares g c opened start = run_spares opened start _ _ _ _ c.take_steps.ensures.ran
+
+pub returns-clause-in_order : goal.returns-clause-in_order
+returns-clause-in_order g c = run_in_order _ _ _ _ c.take_steps.ensures.ran

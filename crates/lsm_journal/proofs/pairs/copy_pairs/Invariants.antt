@@ -1,5 +1,5 @@
 use Rattle.std.proofs.Common.{◌≡◌, take}
-use Rattle.lsm_journal.proofs.copies.copy_pairs.Given as goal
+use Rattle.lsm_journal.proofs.pairs.copy_pairs.Given as goal
 
 -- what is copied so far
 abbrev pub invariant-loop-pair : goal.invariant-loop-pair
