@@ -1,6 +1,7 @@
 // The theorems of the theory, each as the contract of a function that does nothing.
 ghost use Rattle.lsm_model.specs.Steps.{EveryRunReadsRight, StepsSpareAnswers};
 ghost use Rattle.lsm_model.specs.Counted.{CountedIsInOrder};
+ghost use Rattle.lsm_model.specs.Soundness.{Soundness};
 ghost use Rattle.lsm_model.specs.Beginnings.{EveryCrashRecovers, EachDeedRecovers, EveryDeedReadsRight, BeginningsAnswer, DeedsJoin, DeedsSplit, CoverLasts, OpeningStarts, ShownAbove, AnyNumberOfCrashes};
 
 /// After any steps from an opened tree each view equals the replay.
@@ -11,6 +12,11 @@ pub fn every_run_reads_right()
 /// No step changes an answer that it is not to change.
 pub fn steps_spare_answers()
     ensures { StepsSpareAnswers }
+{}
+
+/// What each step keeps, and what follows of reads: from this the crates that call a tree go on.
+pub fn reads_are_sound()
+    ensures { Soundness }
 {}
 
 /// A journal in the order that the counter and the keys ask for is in order, event by event.

@@ -8,6 +8,7 @@ use Rattle.std.proofs.lemmas.Cmp.{nat_list_cmp_total}
 use Rattle.std.proofs.lemmas.Bool.Decides.{nat_tests}
 use Rattle.std.specs.BTreeMap as tree
 use Rattle.std.specs.BTreeMap.{BTreeMap}
+use Rattle.std.proofs.lemmas.Grind.{fold-append}
 use Rattle.lsm_below.specs.Keys.{Bytes, bytes_cmp, is_same}
 use Rattle.lsm_below.specs.Entries.{Entry, is_value, is_weak, is_value_kind, is_weak_kind}
 use Rattle.lsm_below.specs.declared.value_type.ValueType.{ValueType}
@@ -16,7 +17,6 @@ use Rattle.lsm_model.specs.Journal.{Event, next_after, next_of, sets_after, sets
 use Rattle.lsm_model.specs.declared.journal.JournalEntry.TheVariants.{Write, Read}
 use Rattle.lsm_model.specs.declared.question.Question.{Question}
 use Rattle.lsm_model.specs.declared.question.Answer.{Answer}
-use Rattle.lsm_model.proofs.Lists.{fold_push}
 use Rattle.lsm_model.proofs.Journals.{same_key}
 use Rattle.lsm_state.specs.Refusals.{repeats}
 use Rattle.lsm_recorded.specs.declared.marks.Mark.{Mark}
@@ -59,7 +59,7 @@ kind_mark WeakTombstone n s number w = refl
 
 pub mark_in-write : (journal : List Event) (e : Entry) (k : Bytes) → mark_in (journal ++ Write e ∷ []) k ≡ marked_by e (mark_in journal) k
 mark_in-write journal e k =
-    rw (fold_push (next_after k) 0 journal (Write e), fold_push (sets_after k) 0 journal (Write e), fold_push (weak_after k) false journal (Write e))
+    rw (fold-append (next_after k) 0 journal (Write e ∷ []), fold-append (sets_after k) 0 journal (Write e ∷ []), fold-append (weak_after k) false journal (Write e ∷ []))
     (elim (is_same k e.key.user_key) as (λ b. is_same k e.key.user_key ≡ b → ◌≡◌ {A = Mark} (record { next = cond b (max (next_of k [] journal) (e.key.seqno + 1)) (next_of k [] journal); sets = min (cond (b && is_value e) (sets_of k [] journal + 1) (sets_of k [] journal)) 2; is_weak = b && is_weak e || weak_of k journal }) (cond b (next_mark (mark_in journal e.key.user_key) e.key.seqno e.key.value_type) (mark_in journal k))) [
       | true ↦ λ q. kind_mark e.key.value_type (next_of k [] journal) (sets_of k [] journal) e.key.seqno (weak_of k journal) ∙ ap (λ z. next_mark (mark_in journal z) e.key.seqno e.key.value_type) (same_key k e.key.user_key q)
       | false ↦ λ q. refl
@@ -67,10 +67,10 @@ mark_in-write journal e k =
 
 pub mark_in-read : (journal : List Event) (s : ℕ) (question : Question) (told : Answer) (k : Bytes) → mark_in (journal ++ Read s question told ∷ []) k ≡ mark_in journal k
 mark_in-read journal s question told k =
-    rw (fold_push (next_after k) 0 journal (Read s question told), fold_push (sets_after k) 0 journal (Read s question told), fold_push (weak_after k) false journal (Read s question told)) refl
+    rw (fold-append (next_after k) 0 journal (Read s question told ∷ []), fold-append (sets_after k) 0 journal (Read s question told ∷ []), fold-append (weak_after k) false journal (Read s question told ∷ [])) refl
 
 pub floor-write : (journal : List Event) (e : Entry) → floor (journal ++ Write e ∷ []) ≡ floor journal
-floor-write journal e = fold_push floor_after 0 journal (Write e)
+floor-write journal e = fold-append floor_after 0 journal (Write e ∷ [])
 
 pub marked_by_same : (f g : Bytes → Mark) (e : Entry) → ((q : Bytes) → f q ≡ g q) → (q : Bytes) → marked_by e f q ≡ marked_by e g q
 marked_by_same f g e same q =
@@ -172,7 +172,7 @@ write_counted counter journal e ok h =
     let may = may_write journal counter e ok in
     record {
       order = in_order_push [] journal (Write e) h.order may.0;
-      counted = rw (fold_push next_number_after 0 journal (Write e)) (let a = h.counted in let b = may.1 in omega arith);
+      counted = rw (fold-append next_number_after 0 journal (Write e ∷ [])) (let a = h.counted in let b = may.1 in omega arith);
     }
 
 pub batch_counted : (counter : ℕ) (es : List Entry) (journal : List Event) → list_all (keeps_order journal counter) es ≡ true → repeats (entry_keys es) ≡ false → IsCounted counter journal → IsCounted counter (journal ++ map Write es)

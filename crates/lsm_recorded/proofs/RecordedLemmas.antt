@@ -5,9 +5,11 @@ use Rattle.std.specs.Map.{lookup}
 use Rattle.std.specs.FinMap.{get, empty}
 use Rattle.std.specs.List.{list_any, AllByRecursion}
 use Rattle.std.proofs.lemmas.Bool.Decides.{nat_tests}
+use Rattle.std.proofs.lemmas.Grind.{fold-append}
 use Rattle.lsm_below.specs.declared.value_type.ValueType.TheVariants.{Value, Tombstone, WeakTombstone}
 use Rattle.lsm_below.specs.Keys.{Bytes, bytes_cmp}
 use Rattle.lsm_below.specs.Entries.{Entry, plain, kept_value}
+use Rattle.lsm_model.specs.Soundness.{Soundness}
 use Rattle.lsm_model.specs.Journal.{Event, Map, AgreesFrom, ReadAgrees, is_outside, IsKept, replay, next_number_after, floor_after, floor, next_number}
 use Rattle.lsm_model.specs.Views.{found_at}
 use Rattle.lsm_model.specs.Steps.{Wrote, Asked, Rotated, IsOpened}
@@ -19,9 +21,6 @@ use Rattle.lsm_model.specs.declared.journal.JournalEntry.TheVariants.{Write, Rea
 use Rattle.lsm_model.specs.declared.question.Question.{Question}
 use Rattle.lsm_model.specs.declared.question.Question.TheVariants.{Get}
 use Rattle.lsm_model.specs.declared.question.Answer.TheVariants.{Found, Pairs}
-use Rattle.lsm_model.proofs.Lists.{fold_push}
-use Rattle.lsm_model.proofs.Spared.{stays, step_spares, writes_spare}
-use Rattle.lsm_model.proofs.Runs.{opened_holds, step_holds, run_holds, reads_right, view_right, answered_view}
 use Rattle.lsm_parts.specs.declared.config.Config.{Config}
 use Rattle.lsm_parts.specs.declared.error.Error.{Error}
 use Rattle.lsm_parts.specs.declared.error.Error.TheVariants.{OutOfMemory, OutOfNumbers, KeyTooLong, ValueTooLong, DuplicateKey}
@@ -42,9 +41,9 @@ abbrev pub Marks : Type 0
 Marks = BTreeMap Bytes Mark
 
 -- the facts for callers follow from those that the next step goes on from
-recorded : (marks : Marks) (low : ℕ) (c : Core) (journal : List Event) → Holds [] empty (state_of journal c) → IsCounted c.seqno journal → low ≡ floor journal → ((k : Bytes) → mark_of marks k ≡ mark_in journal k) → IsRecorded marks low c journal
-recorded marks low c journal holds counted floored noted = record {
-  reads = reads_right [] empty (state_of journal c) holds;
+recorded : (theory : Soundness) (marks : Marks) (low : ℕ) (c : Core) (journal : List Event) → Holds [] empty (state_of journal c) → IsCounted c.seqno journal → low ≡ floor journal → ((k : Bytes) → mark_of marks k ≡ mark_in journal k) → IsRecorded marks low c journal
+recorded theory marks low c journal holds counted floored noted = record {
+  reads = theory.right.reads [] empty (state_of journal c) holds;
   holds = holds;
   order = counted.order;
   counted = counted.counted;
@@ -57,24 +56,24 @@ counted_of marks low c journal r = record { order = r.order; counted = r.counted
 
 -- ---- opening
 
-pub recorded_fresh : (marks : Marks) (c : Core) (journal : List Event) (config : Config) → marks.entries ≡ [] → c ≡ fresh_core config → IsOpened [] empty (state_of [] c) → journal ≡ [] → IsRecorded marks 0 c journal
-recorded_fresh marks c journal config none core opened is =
+pub recorded_fresh : (theory : Soundness) (marks : Marks) (c : Core) (journal : List Event) (config : Config) → marks.entries ≡ [] → c ≡ fresh_core config → IsOpened [] empty (state_of [] c) → journal ≡ [] → IsRecorded marks 0 c journal
+recorded_fresh theory marks c journal config none core opened is =
     subst (IsRecorded marks 0 c) (sym is)
-    (recorded marks 0 c [] (opened_holds [] empty (state_of [] c) opened) (record { order = tt; counted = omega arith }) refl (λ k. ap (λ es. unwrap_or (lookup (is_at (bytes_cmp k)) es) no_mark) none))
+    (recorded theory marks 0 c [] (theory.kept.opened [] empty (state_of [] c) opened) (record { order = tt; counted = omega arith }) refl (λ k. ap (λ es. unwrap_or (lookup (is_at (bytes_cmp k)) es) no_mark) none))
 
 -- ---- a single write
 
-pub recorded_write : (marks marks' : Marks) (low : ℕ) (old new : Core) (journal : List Event) (e : Entry) → IsRecorded marks low old journal → keeps_order journal old.seqno e ≡ true → IsWriteStep e old new → new.seqno ≡ old.seqno
+pub recorded_write : (theory : Soundness) (marks marks' : Marks) (low : ℕ) (old new : Core) (journal : List Event) (e : Entry) → IsRecorded marks low old journal → keeps_order journal old.seqno e ≡ true → IsWriteStep e old new → new.seqno ≡ old.seqno
     → ((q : Bytes) → mark_of marks' q ≡ marked_by e (mark_of marks) q) → IsRecorded marks' low new (journal ++ Write e ∷ [])
-recorded_write marks marks' low old new journal e r ok step counter noted =
+recorded_write theory marks marks' low old new journal e r ok step counter noted =
     let counted = write_counted old.seqno journal e ok (counted_of marks low old journal r) in
-    recorded marks' low new (journal ++ Write e ∷ []) (step_holds [] empty (state_of journal old) (Wrote e) (state_of (journal ++ Write e ∷ []) new) (step [] journal) counted.order r.holds)
+    recorded theory marks' low new (journal ++ Write e ∷ []) (theory.kept.step [] empty (state_of journal old) (Wrote e) (state_of (journal ++ Write e ∷ []) new) (step [] journal) counted.order r.holds)
     (subst (λ n. IsCounted n (journal ++ Write e ∷ [])) (sym counter) counted) (r.floored ∙ sym (floor-write journal e))
     (λ q. noted q ∙ marked_by_same (mark_of marks) (mark_in journal) e r.noted q ∙ sym (mark_in-write journal e q))
 
 -- it leaves what snapshots up to its number see
-pub write_spares : (marks : Marks) (low : ℕ) (old new : Core) (journal : List Event) (e : Entry) → IsRecorded marks low old journal → keeps_order journal old.seqno e ≡ true → IsWriteStep e old new → StaysTo e.key.seqno old new
-write_spares marks low old new journal e r ok step = λ s up. step_spares [] empty s (state_of journal old) (Wrote e) (state_of (journal ++ Write e ∷ []) new) (step [] journal) (write_counted old.seqno journal e ok (counted_of marks low old journal r)).order up r.holds
+pub write_spares : (theory : Soundness) (marks : Marks) (low : ℕ) (old new : Core) (journal : List Event) (e : Entry) → IsRecorded marks low old journal → keeps_order journal old.seqno e ≡ true → IsWriteStep e old new → StaysTo e.key.seqno old new
+write_spares theory marks low old new journal e r ok step = λ s up. theory.spares.step [] empty s (state_of journal old) (Wrote e) (state_of (journal ++ Write e ∷ []) new) (step [] journal) (write_counted old.seqno journal e ok (counted_of marks low old journal r)).order up r.holds
 
 -- a mark for which room was made stays what it is
 pub recorded_marks : (marks marks' : Marks) (low : ℕ) (c : Core) (journal : List Event) → IsRecorded marks low c journal → ((q : Bytes) → mark_of marks' q ≡ mark_of marks q) → IsRecorded marks' low c journal
@@ -121,13 +120,13 @@ batch_in_order marks low old new journal ops n r ok w =
     let before : IsCounted (old.seqno + 1) journal = record { order = r.order; counted = let a = r.counted in omega arith } in
     batch_counted (old.seqno + 1) es journal ok once before
 
-pub recorded_batch : (marks marks' : Marks) (low : ℕ) (old new : Core) (journal : List Event) (ops : List (Bytes × Op)) (n : ℕ) → IsRecorded marks low old journal → batch_keeps_order journal old.seqno ops ≡ true → WritesBatch ops (Ok n) old new
+pub recorded_batch : (theory : Soundness) (marks marks' : Marks) (low : ℕ) (old new : Core) (journal : List Event) (ops : List (Bytes × Op)) (n : ℕ) → IsRecorded marks low old journal → batch_keeps_order journal old.seqno ops ≡ true → WritesBatch ops (Ok n) old new
     → ((q : Bytes) → mark_of marks' q ≡ marked_all (op_entries old.seqno ops) (mark_of marks) q) → IsRecorded marks' low new (journal ++ map Write (op_entries old.seqno ops))
-recorded_batch marks marks' low old new journal ops n r ok w noted =
+recorded_batch theory marks marks' low old new journal ops n r ok w noted =
     let es = op_entries old.seqno ops in
     let counted = batch_in_order marks low old new journal ops n r ok w in
     let next : new.seqno ≡ old.seqno + 1 = ap (λ (c : Core). c.seqno) w.core in
-    recorded marks' low new (journal ++ map Write es) (run_holds [] empty (state_of journal old) (map Wrote es) (state_of (journal ++ map Write es) new) (w.run [] journal) counted.order r.holds)
+    recorded theory marks' low new (journal ++ map Write es) (theory.kept.run [] empty (state_of journal old) (map Wrote es) (state_of (journal ++ map Write es) new) (w.run [] journal) counted.order r.holds)
     (subst (λ m. IsCounted m (journal ++ map Write es)) (sym next) counted) (r.floored ∙ sym (floor-writes es journal))
     (λ q. noted q ∙ marked_all_same (mark_of marks) (mark_in journal) es r.noted q ∙ sym (mark_in-writes es journal q))
 
@@ -136,27 +135,27 @@ numbers_are n s [] up = tt
 numbers_are n s (p ∷ ops) up = (rw (seqno_is p.0 n p.1) up, numbers_are n s ops up)
 
 -- a batch leaves what snapshots up to its number see
-pub batch_spares : (marks : Marks) (low : ℕ) (old new : Core) (journal : List Event) (ops : List (Bytes × Op)) (n : ℕ) → IsRecorded marks low old journal → batch_keeps_order journal old.seqno ops ≡ true → WritesBatch ops (Ok n) old new → StaysTo old.seqno old new
-batch_spares marks low old new journal ops n r ok w = λ s up.
+pub batch_spares : (theory : Soundness) (marks : Marks) (low : ℕ) (old new : Core) (journal : List Event) (ops : List (Bytes × Op)) (n : ℕ) → IsRecorded marks low old journal → batch_keeps_order journal old.seqno ops ≡ true → WritesBatch ops (Ok n) old new → StaysTo old.seqno old new
+batch_spares theory marks low old new journal ops n r ok w = λ s up.
     let es = op_entries old.seqno ops in
-    writes_spare [] empty s es (state_of journal old) (state_of (journal ++ map Write es) new) (w.run [] journal) (batch_in_order marks low old new journal ops n r ok w).order (numbers_are old.seqno s ops up) r.holds
+    theory.spares.writes [] empty s es (state_of journal old) (state_of (journal ++ map Write es) new) (w.run [] journal) (batch_in_order marks low old new journal ops n r ok w).order (numbers_are old.seqno s ops up) r.holds
 
 -- ---- reads
 
-pub recorded_read : (marks : Marks) (low : ℕ) (c : Core) (journal : List Event) (k : Bytes) (s : ℕ) (v : Option Bytes) → IsRecorded marks low c journal → IsGetStep c k s v → IsRecorded marks low c (journal ++ Read s (Get k) (Found v) ∷ [])
-recorded_read marks low c journal k s v r step =
+pub recorded_read : (theory : Soundness) (marks : Marks) (low : ℕ) (c : Core) (journal : List Event) (k : Bytes) (s : ℕ) (v : Option Bytes) → IsRecorded marks low c journal → IsGetStep c k s v → IsRecorded marks low c (journal ++ Read s (Get k) (Found v) ∷ [])
+recorded_read theory marks low c journal k s v r step =
     let order = in_order_push [] journal (Read s (Get k) (Found v)) r.order tt in
-    let counted : next_number [] (journal ++ Read s (Get k) (Found v) ∷ []) ≤ c.seqno = rw (fold_push next_number_after 0 journal (Read s (Get k) (Found v))) r.counted in
-    recorded marks low c (journal ++ Read s (Get k) (Found v) ∷ []) (step_holds [] empty (state_of journal c) (Asked s (Get k)) (state_of (journal ++ Read s (Get k) (Found v) ∷ []) c) (step [] journal (omega arith)) order r.holds)
-    (record { order = order; counted = counted }) (r.floored ∙ sym (fold_push floor_after 0 journal (Read s (Get k) (Found v)))) (λ q. r.noted q ∙ sym (mark_in-read journal s (Get k) (Found v) q))
+    let counted : next_number [] (journal ++ Read s (Get k) (Found v) ∷ []) ≤ c.seqno = rw (fold-append next_number_after 0 journal (Read s (Get k) (Found v) ∷ [])) r.counted in
+    recorded theory marks low c (journal ++ Read s (Get k) (Found v) ∷ []) (theory.kept.step [] empty (state_of journal c) (Asked s (Get k)) (state_of (journal ++ Read s (Get k) (Found v) ∷ []) c) (step [] journal (omega arith)) order r.holds)
+    (record { order = order; counted = counted }) (r.floored ∙ sym (fold-append floor_after 0 journal (Read s (Get k) (Found v) ∷ []))) (λ q. r.noted q ∙ sym (mark_in-read journal s (Get k) (Found v) q))
 
-pub recorded_list : (marks : Marks) (low : ℕ) (c : Core) (journal : List Event) (question : Question) (s : ℕ) (pairs : List Pair) → IsRecorded marks low c journal → IsListStep c question s pairs → IsRecorded marks low c (journal ++ Read s question (Pairs pairs) ∷ [])
-recorded_list marks low c journal question s pairs r step =
+pub recorded_list : (theory : Soundness) (marks : Marks) (low : ℕ) (c : Core) (journal : List Event) (question : Question) (s : ℕ) (pairs : List Pair) → IsRecorded marks low c journal → IsListStep c question s pairs → IsRecorded marks low c (journal ++ Read s question (Pairs pairs) ∷ [])
+recorded_list theory marks low c journal question s pairs r step =
     let told = Pairs pairs in
     let order = in_order_push [] journal (Read s question told) r.order tt in
-    let counted : next_number [] (journal ++ Read s question told ∷ []) ≤ c.seqno = rw (fold_push next_number_after 0 journal (Read s question told)) r.counted in
-    recorded marks low c (journal ++ Read s question told ∷ []) (step_holds [] empty (state_of journal c) (Asked s question) (state_of (journal ++ Read s question told ∷ []) c) (step [] journal (omega arith) r.reads.ordered) order r.holds)
-    (record { order = order; counted = counted }) (r.floored ∙ sym (fold_push floor_after 0 journal (Read s question told))) (λ q. r.noted q ∙ sym (mark_in-read journal s question told q))
+    let counted : next_number [] (journal ++ Read s question told ∷ []) ≤ c.seqno = rw (fold-append next_number_after 0 journal (Read s question told ∷ [])) r.counted in
+    recorded theory marks low c (journal ++ Read s question told ∷ []) (theory.kept.step [] empty (state_of journal c) (Asked s question) (state_of (journal ++ Read s question told ∷ []) c) (step [] journal (omega arith) r.reads.ordered) order r.holds)
+    (record { order = order; counted = counted }) (r.floored ∙ sym (fold-append floor_after 0 journal (Read s question told ∷ []))) (λ q. r.noted q ∙ sym (mark_in-read journal s question told q))
 
 -- the last read of a journal agrees with the replay before it
 pub agrees_last : (start : Map) (before journal : List Event) (x : Event) → AgreesFrom start before (journal ++ x ∷ []) → ReadAgrees start (before ++ journal) x
@@ -167,11 +166,11 @@ found_cut : (v w : Option Bytes) → Found v ≡ Found w → v ≡ w
 found_cut v w e = cc e
 
 -- a get answers the replay
-pub answers_replay : (marks : Marks) (low : ℕ) (k : Bytes) (s : ℕ) (v : Option Bytes) (journal : List Event) (c : Core) → Gives c k s v → IsRecorded marks low c journal → is_outside k s journal ≡ true → v ≡ get (replay empty journal s) k
-answers_replay marks low k s v journal c g r out =
+pub answers_replay : (theory : Soundness) (marks : Marks) (low : ℕ) (k : Bytes) (s : ℕ) (v : Option Bytes) (journal : List Event) (c : Core) → Gives c k s v → IsRecorded marks low c journal → is_outside k s journal ≡ true → v ≡ get (replay empty journal s) k
+answers_replay theory marks low k s v journal c g r out =
     g.2
-    ∙ found_cut _ _ (answered_view [] empty (state_of journal c) r.holds s g.0 g.1 (Get k))
-    ∙ view_right [] empty (state_of journal c) r.holds s g.0 (omega arith) g.1 k out
+    ∙ found_cut _ _ (theory.right.answers [] empty (state_of journal c) r.holds s g.0 g.1 (Get k))
+    ∙ theory.right.views [] empty (state_of journal c) r.holds s g.0 (omega arith) g.1 k out
 
 not_none : {A : Type 0} (o : Option A) → is_some o ≡ true → o ≡ None → ⊥
 not_none None h e = cc h
@@ -183,25 +182,25 @@ kept_found marks low s journal c r kept none = not_none _ (r.reads.answered s ke
 
 -- ---- rotation
 
-pub recorded_rotate : (marks : Marks) (low : ℕ) (old new : Core) (journal : List Event) (i : Option ℕ) → IsRecorded marks low old journal → Rotates old i new → IsRecorded marks low new journal
-recorded_rotate marks low old new journal None r t = subst (λ c. IsRecorded marks low c journal) (sym t.1) r
-recorded_rotate marks low old new journal (Some id) r t =
-    recorded marks low new journal (step_holds [] empty (state_of journal old) (Rotated old.next_memtable) (state_of journal new) (t.3 [] journal) r.order r.holds)
+pub recorded_rotate : (theory : Soundness) (marks : Marks) (low : ℕ) (old new : Core) (journal : List Event) (i : Option ℕ) → IsRecorded marks low old journal → Rotates old i new → IsRecorded marks low new journal
+recorded_rotate theory marks low old new journal None r t = subst (λ c. IsRecorded marks low c journal) (sym t.1) r
+recorded_rotate theory marks low old new journal (Some id) r t =
+    recorded theory marks low new journal (theory.kept.step [] empty (state_of journal old) (Rotated old.next_memtable) (state_of journal new) (t.3 [] journal) r.order r.holds)
     (subst (λ n. IsCounted n journal) (sym (ap (λ (c : Core). c.seqno) t.2)) (counted_of marks low old journal r)) r.floored r.noted
 
 -- it leaves what each snapshot sees
-rotate_spares : (marks : Marks) (low : ℕ) (old new : Core) (journal : List Event) (i : Option ℕ) → IsRecorded marks low old journal → Rotates old i new → Stays old new
-rotate_spares marks low old new journal None r t = subst (Stays old) (sym t.1) (λ s. stays s (state_of [] old) (state_of [] old) refl refl refl)
-rotate_spares marks low old new journal (Some id) r t = λ s. step_spares [] empty s (state_of journal old) (Rotated old.next_memtable) (state_of journal new) (t.3 [] journal) r.order tt r.holds
+rotate_spares : (theory : Soundness) (marks : Marks) (low : ℕ) (old new : Core) (journal : List Event) (i : Option ℕ) → IsRecorded marks low old journal → Rotates old i new → Stays old new
+rotate_spares theory marks low old new journal None r t = subst (Stays old) (sym t.1) (λ s. theory.spares.same s (state_of [] old) (state_of [] old) refl refl refl)
+rotate_spares theory marks low old new journal (Some id) r t = λ s. theory.spares.step [] empty s (state_of journal old) (Rotated old.next_memtable) (state_of journal new) (t.3 [] journal) r.order tt r.holds
 
-pub rotate_any_spares : {S : Type 0} (r : Result (Option ℕ) Error) (old new : Seen S) (marks : Marks) (low : ℕ) (journal : List Event) → IfOk r (λ i. Rotates old.core i new.core) → OnErr r (new ≡ old) → IsRecorded marks low old.core journal → Stays old.core new.core
-rotate_any_spares (Ok i) old new marks low journal t e h = rotate_spares marks low old.core new.core journal i h t
-rotate_any_spares (Err x) old new marks low journal t e h = subst (λ z. Stays old.core z.core) (sym e) (λ s. stays s (state_of [] old.core) (state_of [] old.core) refl refl refl)
+pub rotate_any_spares : (theory : Soundness) → {S : Type 0} (r : Result (Option ℕ) Error) (old new : Seen S) (marks : Marks) (low : ℕ) (journal : List Event) → IfOk r (λ i. Rotates old.core i new.core) → OnErr r (new ≡ old) → IsRecorded marks low old.core journal → Stays old.core new.core
+rotate_any_spares theory (Ok i) old new marks low journal t e h = rotate_spares theory marks low old.core new.core journal i h t
+rotate_any_spares theory (Err x) old new marks low journal t e h = subst (λ z. Stays old.core z.core) (sym e) (λ s. theory.spares.same s (state_of [] old.core) (state_of [] old.core) refl refl refl)
 
 -- whatever it answers
-pub rotate_any : {S : Type 0} (r : Result (Option ℕ) Error) (old new : Seen S) (marks : Marks) (low : ℕ) (journal : List Event) → IfOk r (λ i. Rotates old.core i new.core) → OnErr r (new ≡ old) → IsRecorded marks low old.core journal → IsRecorded marks low new.core journal
-rotate_any (Ok i) old new marks low journal t e h = recorded_rotate marks low old.core new.core journal i h t
-rotate_any (Err x) old new marks low journal t e h = subst (λ s. IsRecorded marks low s.core journal) (sym e) h
+pub rotate_any : (theory : Soundness) → {S : Type 0} (r : Result (Option ℕ) Error) (old new : Seen S) (marks : Marks) (low : ℕ) (journal : List Event) → IfOk r (λ i. Rotates old.core i new.core) → OnErr r (new ≡ old) → IsRecorded marks low old.core journal → IsRecorded marks low new.core journal
+rotate_any theory (Ok i) old new marks low journal t e h = recorded_rotate theory marks low old.core new.core journal i h t
+rotate_any theory (Err x) old new marks low journal t e h = subst (λ s. IsRecorded marks low s.core journal) (sym e) h
 
 -- ---- entries
 

@@ -3,7 +3,7 @@ ghost use Rattle.std.specs.Prelude.{◌≡◌, ℕ, ◌+◌, ◌<◌, ◌≤◌,
 ghost use Rattle.std.specs.FinMap.{get as value_in, empty};
 ghost use Rattle.lsm_below.specs.Keys.{Bytes};
 ghost use Rattle.lsm_below.specs.Entries.{plain};
-ghost use Rattle.lsm_model.specs.Journal.{is_outside, replay, IsKept, Agrees};
+ghost use Rattle.lsm_model.specs.Journal.{is_outside, replay, IsKept, Agrees, InOrder, next_number};
 ghost use Rattle.lsm_model.specs.Ops.{op_entry, op_entries};
 ghost use Rattle.lsm_model.specs.Steps.{ReadsEqualReplay};
 ghost use Rattle.lsm_model.specs.Views.{found_at};
@@ -26,7 +26,7 @@ use crate::notes::{make_note, make_notes, mark_notes, put_notes, reserve_notes};
 use crate::pass::{Pass, make_room, note_entry, put_entry};
 use lsm_below::{InternalValue, MemtableId, SeqNo, UserKey, UserValue, ValueType, share};
 use lsm_journal::{copy_journal, read_entry};
-use lsm_model::{Answer, JournalEntry, Op, Question};
+use lsm_model::{Answer, JournalEntry, Op, Question, reads_are_sound};
 use lsm_parts::{Config, Error, LIMIT, SequenceNumberCounter};
 use lsm_state::TreeState;
 use lsm_store::{NoStore, Store};
@@ -115,6 +115,7 @@ impl Recorded<NoStore> {
         ensures journal { result.journal ≡ [] }
         ensures core { result.tree.core ≡ fresh_core config }
     {
+        reads_are_sound();
         Recorded {
             alloc,
             core: TreeState::open_in_memory(alloc, config),
@@ -129,9 +130,12 @@ impl<S: Store> Recorded<S> {
     ghost use Rattle.lsm_recorded.specs.Recorded.{OwnOr, Stays, StaysTo};
 
     /// The facts that the type keeps: every super version is ordered, each view equals the replay,
-    /// kept snapshots are answered, and each read of the journal agrees with the replay before it.
+    /// kept snapshots are answered, and each read of the journal agrees with the replay before it;
+    /// the journal is in order, and the counter stands above each of its sequence numbers.
     pub fn facts(&self)
-        ensures { ReadsEqualReplay [] empty (state_of self.now.journal self.now.tree.core) }
+        ensures reads { ReadsEqualReplay [] empty (state_of self.now.journal self.now.tree.core) }
+        ensures in_order { InOrder [] self.now.journal }
+        ensures counted { next_number [] self.now.journal ≤ self.now.tree.core.seqno }
     {
         let _ = &self.journal;
     }
@@ -174,6 +178,7 @@ impl<S: Store> Recorded<S> {
         ensures kept { IsKept snapshot self.old.journal → IfErr result (λ e. e ≡ Error.OutOfMemory) }
         ensures only { IfErr result (λ e. (e ≡ Error.SnapshotTooOld) ⊎ (e ≡ Error.OutOfMemory)) }
     {
+        reads_are_sound();
         let value = self.core.get(key.as_slice(), snapshot)?;
         let entry = read_entry(snapshot, key, &value)?;
         note_entry(self.alloc, &mut self.journal, &mut pass.entries, entry)?;
@@ -192,6 +197,7 @@ impl<S: Store> Recorded<S> {
         ensures told { LIMIT ≤ self.old.tree.core.next_memtable → IfOk result (λ _. first_entries self.old.tree.core.memtables ≡ []) }
         ensures only { IfErr result (λ e. (e ≡ Error.OutOfNumbers) ⊎ (e ≡ Error.OutOfMemory)) }
     {
+        reads_are_sound();
         let _ = pass;
         self.core.rotate_memtable()
     }
@@ -210,6 +216,7 @@ impl<S: Store> Recorded<S> {
         ensures views { OnOk result (StaysTo entry.key.seqno self.old.tree.core self.new.tree.core) }
         ensures err { OnErr result ((self.new ≡ self.old) × (pass.new ≡ pass.old)) }
     {
+        reads_are_sound();
         if !self.keeps_order(&entry) {
             return Err(Error::OutOfOrder);
         }
@@ -288,6 +295,7 @@ impl<S: Store> Recorded<S> {
         ensures views { OnOk result (StaysTo self.old.tree.core.seqno self.old.tree.core self.new.tree.core) }
         ensures err { OnErr result ((self.new ≡ self.old) × (pass.new ≡ pass.old)) }
     {
+        reads_are_sound();
         let number = self.core.seqno().get();
         if !self.batch_keeps_order(number, &ops) {
             return Err(Error::OutOfOrder);

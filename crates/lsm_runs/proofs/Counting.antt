@@ -4,7 +4,6 @@ use Rattle.lsm_below.specs.Entries.{Entry}
 use Rattle.lsm_model.specs.Journal.{Event, InOrder}
 use Rattle.lsm_model.specs.Counted.{Counted, events_of, InCountedOrder, CountedIsInOrder}
 use Rattle.lsm_model.specs.declared.journal.JournalEntry.TheVariants.{Write, Clear, Install, Dropped, Mark, Read}
-use Rattle.lsm_model.proofs.Counted.{counted_is_in_order}
 use Rattle.lsm_state.specs.Core.{Core}
 use Rattle.lsm_runs.specs.declared.steps.Step.{Step}
 use Rattle.lsm_runs.specs.Told.{Told}
@@ -38,11 +37,11 @@ events_run (x ∷ xs) [] journal old new r = absurd r
 events_run (x ∷ xs) (t ∷ ts) journal old new r =
     ap events_of r.3 ∙ events_append r.0.seqno t.entries r.1 ∙ ap (λ ys. t.entries ++ ys) (events_run xs ts r.1 r.0 new r.4)
 
-pub run_in_order : (xs : List Step) (ts : List Told) (old new : Core) → Ran xs ts old new → RunIsInOrder xs ts old new
-run_in_order xs ts old new r =
+pub run_in_order : CountedIsInOrder → (xs : List Step) (ts : List Told) (old new : Core) → Ran xs ts old new → RunIsInOrder xs ts old new
+run_in_order law xs ts old new r =
     let counted = counted_run xs ts old new r in
     record {
       counted = counted.0;
       ran = counted.1;
-      order = λ opened journal ran order. subst (InOrder opened) (events_run xs ts journal old new ran) (counted_is_in_order opened journal order);
+      order = λ opened journal ran order. subst (InOrder opened) (events_run xs ts journal old new ran) (law opened journal order);
     }

@@ -1,6 +1,7 @@
 -- Outcomes of reads of many keys.
 use Rattle.std.proofs.Common.{◌≡◌, ℕ, List, [], Option, Some, None, option_map, Result, Ok, Err, map, refl, ap, ◌⊎◌, ◌↔◌, ⊎_elim, inr, IfOk, IfErr, IsErrOf, subst, sym}
 use Rattle.std.specs.declared.ops.Bound.{Bound}
+use Rattle.std.proofs.lemmas.Result.{IfOk-weaker}
 use Rattle.lsm_below.specs.Keys.{Bytes}
 use Rattle.lsm_below.specs.Entries.{Entry}
 use Rattle.lsm_model.specs.Views.{found_at}
@@ -12,7 +13,7 @@ use Rattle.lsm_parts.specs.declared.error.Error.{Error}
 use Rattle.lsm_parts.specs.declared.error.Error.TheVariants.{OutOfMemory, SnapshotTooOld}
 use Rattle.lsm_state.specs.Core.{Core, latest_of, older_of}
 use Rattle.lsm_state.specs.Ranges.{Ranges, Prefixes, IsListStep, PairAt}
-use Rattle.lsm_state.proofs.Answered.{range_step, prefix_step, each_ok}
+use Rattle.lsm_state.specs.ListSteps.{ListsAreSteps}
 use Rattle.lsm_runs.specs.declared.steps.Reply.TheVariants.{Refused}
 use Rattle.lsm_runs.specs.ReadSteps.{IsReadRefusal, TakesPairs, TakesRange, TakesPrefix, TakesSilent, IsEndReply, ToldFound, told_pairs, told_end}
 use Rattle.lsm_state.specs.Listing.{Lists, ListsPrefix}
@@ -43,23 +44,23 @@ module _ (s : ℕ) (c : Core) where
   pairs_taken question (Err x) Right told right old only is = subst (λ (t : Told). TakesPairs question Right s t.reply t.entries c c) (sym is) (refl, refl, refusal x old only)
 
   -- the pairs within bounds
-  pub range_taken : {X : Type 0} (low high : Bound Bytes) (r : Result (List Entry) Error) (outcome : Result Told X) → IfOk r (Ranges c None low high s) → TellsTooOld r → RefusesOnly r
+  pub range_taken : ListsAreSteps → {X : Type 0} (low high : Bound Bytes) (r : Result (List Entry) Error) (outcome : Result Told X) → IfOk r (Ranges c None low high s) → TellsTooOld r → RefusesOnly r
       → IfOk outcome (ToldFound (Between low high) s r) → IfOk outcome (λ told. TakesRange low high s told.reply told.entries c c)
-  range_taken low high r outcome right old only h =
-      each_ok (ToldFound (Between low high) s r) (λ told. TakesRange low high s told.reply told.entries c c) outcome (λ told is. pairs_taken (Between low high) r (Lists c low high s) told (listed r right) old only is) h
+  range_taken law low high r outcome right old only h =
+      IfOk-weaker outcome (ToldFound (Between low high) s r) (λ told. TakesRange low high s told.reply told.entries c c) (λ told is. pairs_taken (Between low high) r (Lists c low high s) told (listed r right) old only is) h
     where
       listed : (r : Result (List Entry) Error) → IfOk r (Ranges c None low high s) → IfOk r (λ out. Lists c low high s (map pair_of out) × IsListStep c (Between low high) s (map pair_of out))
-      listed (Ok out) h = ((out, h, refl), range_step c low high s out h)
+      listed (Ok out) h = ((out, h, refl), law.range c low high s out h)
       listed (Err x) h = tt
 
   -- the pairs of the keys that begin so
-  pub prefix_taken : {X : Type 0} (prefix : Bytes) (r : Result (List Entry) Error) (outcome : Result Told X) → IfOk r (Prefixes c None prefix s) → TellsTooOld r → RefusesOnly r
+  pub prefix_taken : ListsAreSteps → {X : Type 0} (prefix : Bytes) (r : Result (List Entry) Error) (outcome : Result Told X) → IfOk r (Prefixes c None prefix s) → TellsTooOld r → RefusesOnly r
       → IfOk outcome (ToldFound (Prefix prefix) s r) → IfOk outcome (λ told. TakesPrefix prefix s told.reply told.entries c c)
-  prefix_taken prefix r outcome right old only h =
-      each_ok (ToldFound (Prefix prefix) s r) (λ told. TakesPrefix prefix s told.reply told.entries c c) outcome (λ told is. pairs_taken (Prefix prefix) r (ListsPrefix c prefix s) told (listed r right) old only is) h
+  prefix_taken law prefix r outcome right old only h =
+      IfOk-weaker outcome (ToldFound (Prefix prefix) s r) (λ told. TakesPrefix prefix s told.reply told.entries c c) (λ told is. pairs_taken (Prefix prefix) r (ListsPrefix c prefix s) told (listed r right) old only is) h
     where
       listed : (r : Result (List Entry) Error) → IfOk r (Prefixes c None prefix s) → IfOk r (λ out. ListsPrefix c prefix s (map pair_of out) × IsListStep c (Prefix prefix) s (map pair_of out))
-      listed (Ok out) h = ((out, h, refl), prefix_step c prefix s out h)
+      listed (Ok out) h = ((out, h, refl), law.prefix c prefix s out h)
       listed (Err x) h = tt
 
   -- the pair at an end

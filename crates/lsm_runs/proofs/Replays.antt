@@ -3,17 +3,17 @@ use Rattle.std.proofs.Common.{◌≡◌, ℕ, List, [], ◌∷◌, ◌++◌, Opt
 use Rattle.std.specs.declared.ops.Bound.TheVariants.{Unbounded}
 use Rattle.lsm_below.specs.Keys.{Bytes}
 use Rattle.lsm_below.specs.Entries.{Entry}
+use Rattle.lsm_model.specs.Soundness.{Soundness}
 use Rattle.lsm_model.specs.Journal.{Event, Map, InOrder}
 use Rattle.lsm_model.specs.Steps.{Wrote, Rotated}
 use Rattle.lsm_model.specs.Ops.{op_entries}
 use Rattle.lsm_model.specs.declared.op.Op.{Op}
 use Rattle.lsm_model.specs.declared.journal.JournalEntry.TheVariants.{Write as Noted}
 use Rattle.lsm_model.specs.declared.question.Question.TheVariants.{Between, Prefix as AskPrefix}
-use Rattle.lsm_model.proofs.Journals.{in_order_front}
-use Rattle.lsm_model.proofs.Runs.{step_holds, run_holds, opened_holds, reads_right}
 use Rattle.lsm_parts.specs.declared.tree_iter.End.TheVariants.{Front, Back}
 use Rattle.lsm_state.specs.Core.{Core, state_of}
 use Rattle.lsm_state.specs.Calls.{Rotates}
+use Rattle.lsm_state.specs.ListSteps.{ListsAreSteps}
 use Rattle.lsm_runs.specs.declared.steps.Counter.{Counter}
 use Rattle.lsm_runs.specs.declared.steps.Counter.TheVariants.{Seqno, Visible}
 use Rattle.lsm_runs.specs.declared.steps.Step.{Step as Call}
@@ -28,32 +28,32 @@ use Rattle.lsm_runs.proofs.ReadReplays.{Sound, same, takes_get, takes_get_entry,
 
 -- ---- each call keeps the tree sound
 
-takes_entry : (opened : List Entry) (start : Map) (e : Entry) (reply : Reply) (journal events : List Event) (old new : Core) → TakesEntry e reply events old new → InOrder opened (journal ++ events) → Sound opened start journal old → Sound opened start (journal ++ events) new
-takes_entry opened start e (Sizes size total) journal events old new t order h =
+takes_entry : (theory : Soundness) (opened : List Entry) (start : Map) (e : Entry) (reply : Reply) (journal events : List Event) (old new : Core) → TakesEntry e reply events old new → InOrder opened (journal ++ events) → Sound opened start journal old → Sound opened start (journal ++ events) new
+takes_entry theory opened start e (Sizes size total) journal events old new t order h =
     let is : without_low_reads opened (journal ++ events) ≡ without_low_reads opened journal ++ Noted e ∷ [] = ap (λ xs. without_low_reads opened (journal ++ xs)) t.0 ∙ without-append opened journal (Noted e ∷ []) in
-    rw is (step_holds opened start (state_of (without_low_reads opened journal) old) (Wrote e) (state_of (without_low_reads opened journal ++ Noted e ∷ []) new) (t.1.step opened (without_low_reads opened journal)) (rw is at (order_without opened (journal ++ events) order)) h)
-takes_entry opened start e (Refused x) journal events old new t order h = same opened start journal events old new t.0 t.1.unchanged h
-takes_entry opened start e reply journal events old new t order h = absurd t
+    rw is (theory.kept.step opened start (state_of (without_low_reads opened journal) old) (Wrote e) (state_of (without_low_reads opened journal ++ Noted e ∷ []) new) (t.1.step opened (without_low_reads opened journal)) (rw is at (order_without opened (journal ++ events) order)) h)
+takes_entry theory opened start e (Refused x) journal events old new t order h = same opened start journal events old new t.0 t.1.unchanged h
+takes_entry theory opened start e reply journal events old new t order h = absurd t
 
-takes_batch : (opened : List Entry) (start : Map) (ops : List (Bytes × Op)) (reply : Reply) (journal events : List Event) (old new : Core) → TakesBatch ops reply events old new → InOrder opened (journal ++ events) → Sound opened start journal old → Sound opened start (journal ++ events) new
-takes_batch opened start ops (Number n) journal events old new t order h =
+takes_batch : (theory : Soundness) (opened : List Entry) (start : Map) (ops : List (Bytes × Op)) (reply : Reply) (journal events : List Event) (old new : Core) → TakesBatch ops reply events old new → InOrder opened (journal ++ events) → Sound opened start journal old → Sound opened start (journal ++ events) new
+takes_batch theory opened start ops (Number n) journal events old new t order h =
     let es = op_entries old.seqno ops in
     let is : without_low_reads opened (journal ++ events) ≡ without_low_reads opened journal ++ map Noted es =
     ap (λ xs. without_low_reads opened (journal ++ xs)) (t.0 ∙ ap (λ m. map Noted (op_entries m ops)) t.1.number) ∙ without-append opened journal (map Noted es) ∙ ap (λ xs. without_low_reads opened journal ++ xs) (writes_without opened es) in
-    rw is (run_holds opened start (state_of (without_low_reads opened journal) old) (map Wrote es) (state_of (without_low_reads opened journal ++ map Noted es) new) (t.1.run opened (without_low_reads opened journal)) (rw is at (order_without opened (journal ++ events) order)) h)
-takes_batch opened start ops (Refused x) journal events old new t order h = same opened start journal events old new t.0 t.1.unchanged h
-takes_batch opened start ops reply journal events old new t order h = absurd t
+    rw is (theory.kept.run opened start (state_of (without_low_reads opened journal) old) (map Wrote es) (state_of (without_low_reads opened journal ++ map Noted es) new) (t.1.run opened (without_low_reads opened journal)) (rw is at (order_without opened (journal ++ events) order)) h)
+takes_batch theory opened start ops (Refused x) journal events old new t order h = same opened start journal events old new t.0 t.1.unchanged h
+takes_batch theory opened start ops reply journal events old new t order h = absurd t
 
-rotates : (opened : List Entry) (start : Map) (id : Option ℕ) (journal : List Event) (old new : Core) → Rotates old id new → InOrder opened (without_low_reads opened journal) → Sound opened start journal old → Sound opened start journal new
-rotates opened start None journal old new t order h = rw t.1 h
-rotates opened start (Some id) journal old new t order h = step_holds opened start (state_of (without_low_reads opened journal) old) (Rotated old.next_memtable) (state_of (without_low_reads opened journal) new) (t.3 opened (without_low_reads opened journal)) order h
+rotates : (theory : Soundness) (opened : List Entry) (start : Map) (id : Option ℕ) (journal : List Event) (old new : Core) → Rotates old id new → InOrder opened (without_low_reads opened journal) → Sound opened start journal old → Sound opened start journal new
+rotates theory opened start None journal old new t order h = rw t.1 h
+rotates theory opened start (Some id) journal old new t order h = theory.kept.step opened start (state_of (without_low_reads opened journal) old) (Rotated old.next_memtable) (state_of (without_low_reads opened journal) new) (t.3 opened (without_low_reads opened journal)) order h
 
-takes_rotate : (opened : List Entry) (start : Map) (reply : Reply) (journal events : List Event) (old new : Core) → TakesRotate reply events old new → InOrder opened (journal ++ events) → Sound opened start journal old → Sound opened start (journal ++ events) new
-takes_rotate opened start (Sealed id) journal events old new t order h =
-    let o : InOrder opened journal = in_order_front opened journal events order in
-    rw (t.0, append-nil journal) (rotates opened start id journal old new t.1 (order_without opened journal o) h)
-takes_rotate opened start (Refused x) journal events old new t order h = same opened start journal events old new t.0 t.1 h
-takes_rotate opened start reply journal events old new t order h = absurd t
+takes_rotate : (theory : Soundness) (opened : List Entry) (start : Map) (reply : Reply) (journal events : List Event) (old new : Core) → TakesRotate reply events old new → InOrder opened (journal ++ events) → Sound opened start journal old → Sound opened start (journal ++ events) new
+takes_rotate theory opened start (Sealed id) journal events old new t order h =
+    let o : InOrder opened journal = theory.kept.front opened journal events order in
+    rw (t.0, append-nil journal) (rotates theory opened start id journal old new t.1 (order_without opened journal o) h)
+takes_rotate theory opened start (Refused x) journal events old new t order h = same opened start journal events old new t.0 t.1 h
+takes_rotate theory opened start reply journal events old new t order h = absurd t
 
 -- the numbers of counters are no part of what the theory sees
 counter_apart : (opened : List Entry) (start : Map) (counter : Counter) (n : ℕ) (journal : List Event) (c : Core) → Sound opened start journal c → Sound opened start journal (with_counter counter n c)
@@ -72,59 +72,59 @@ takes_counter : (opened : List Entry) (start : Map) (counter : Counter) (n : ℕ
 takes_counter opened start counter n Done journal events old new t h = counter_put opened start counter n journal events old new t.0 t.1 h
 takes_counter opened start counter n reply journal events old new t h = absurd t
 
-pub takes_sound : (opened : List Entry) (start : Map) (x : Call) (reply : Reply) (journal events : List Event) (old new : Core) → Takes x reply events old new → InOrder opened (journal ++ events) → Sound opened start journal old → Sound opened start (journal ++ events) new
-takes_sound opened start (Insert k v n) reply journal events old new t order h = takes_entry opened start _ reply journal events old new t order h
-takes_sound opened start (Remove k n) reply journal events old new t order h = takes_entry opened start _ reply journal events old new t order h
-takes_sound opened start (RemoveWeak k n) reply journal events old new t order h = takes_entry opened start _ reply journal events old new t order h
-takes_sound opened start (AppendEntry e) reply journal events old new t order h = takes_entry opened start _ reply journal events old new t order h
-takes_sound opened start (Write ops) reply journal events old new t order h = takes_batch opened start ops reply journal events old new t order h
-takes_sound opened start (Get k s) reply journal events old new t order h = takes_get opened start k s reply journal events old new t order h
-takes_sound opened start (GetInternalEntry k s) reply journal events old new t order h = takes_get_entry opened start k s reply journal events old new t h
-takes_sound opened start (ContainsKey k s) reply journal events old new t order h = same opened start journal events old new t.0 t.1 h
-takes_sound opened start (SizeOf k s) reply journal events old new t order h = same opened start journal events old new t.0 t.1 h
-takes_sound opened start (Range low high s) reply journal events old new t order h = takes_pairs opened start (Between low high) (Lists old low high s) s reply journal events old new t order h
-takes_sound opened start (Iter s) reply journal events old new t order h = takes_pairs opened start (Between Unbounded Unbounded) (Lists old Unbounded Unbounded s) s reply journal events old new t order h
-takes_sound opened start (Prefix p s) reply journal events old new t order h = takes_pairs opened start (AskPrefix p) (ListsPrefix old p s) s reply journal events old new t order h
-takes_sound opened start (Len s) reply journal events old new t order h = same opened start journal events old new t.0 t.1 h
-takes_sound opened start (IsEmpty s) reply journal events old new t order h = same opened start journal events old new t.0 t.1 h
-takes_sound opened start (FirstKeyValue s) reply journal events old new t order h = same opened start journal events old new t.0 t.1 h
-takes_sound opened start (LastKeyValue s) reply journal events old new t order h = same opened start journal events old new t.0 t.1 h
-takes_sound opened start RotateMemtable reply journal events old new t order h = takes_rotate opened start reply journal events old new t order h
-takes_sound opened start (Next counter) reply journal events old new t order h = takes_next opened start counter reply journal events old new t h
-takes_sound opened start (Set counter n) reply journal events old new t order h = takes_counter opened start counter _ reply journal events old new t h
-takes_sound opened start (FetchMax counter n) reply journal events old new t order h = takes_counter opened start counter _ reply journal events old new t h
+pub takes_sound : (theory : Soundness) (opened : List Entry) (start : Map) (x : Call) (reply : Reply) (journal events : List Event) (old new : Core) → Takes x reply events old new → InOrder opened (journal ++ events) → Sound opened start journal old → Sound opened start (journal ++ events) new
+takes_sound theory opened start (Insert k v n) reply journal events old new t order h = takes_entry theory opened start _ reply journal events old new t order h
+takes_sound theory opened start (Remove k n) reply journal events old new t order h = takes_entry theory opened start _ reply journal events old new t order h
+takes_sound theory opened start (RemoveWeak k n) reply journal events old new t order h = takes_entry theory opened start _ reply journal events old new t order h
+takes_sound theory opened start (AppendEntry e) reply journal events old new t order h = takes_entry theory opened start _ reply journal events old new t order h
+takes_sound theory opened start (Write ops) reply journal events old new t order h = takes_batch theory opened start ops reply journal events old new t order h
+takes_sound theory opened start (Get k s) reply journal events old new t order h = takes_get theory opened start k s reply journal events old new t order h
+takes_sound theory opened start (GetInternalEntry k s) reply journal events old new t order h = takes_get_entry opened start k s reply journal events old new t h
+takes_sound theory opened start (ContainsKey k s) reply journal events old new t order h = same opened start journal events old new t.0 t.1 h
+takes_sound theory opened start (SizeOf k s) reply journal events old new t order h = same opened start journal events old new t.0 t.1 h
+takes_sound theory opened start (Range low high s) reply journal events old new t order h = takes_pairs theory opened start (Between low high) (Lists old low high s) s reply journal events old new t order h
+takes_sound theory opened start (Iter s) reply journal events old new t order h = takes_pairs theory opened start (Between Unbounded Unbounded) (Lists old Unbounded Unbounded s) s reply journal events old new t order h
+takes_sound theory opened start (Prefix p s) reply journal events old new t order h = takes_pairs theory opened start (AskPrefix p) (ListsPrefix old p s) s reply journal events old new t order h
+takes_sound theory opened start (Len s) reply journal events old new t order h = same opened start journal events old new t.0 t.1 h
+takes_sound theory opened start (IsEmpty s) reply journal events old new t order h = same opened start journal events old new t.0 t.1 h
+takes_sound theory opened start (FirstKeyValue s) reply journal events old new t order h = same opened start journal events old new t.0 t.1 h
+takes_sound theory opened start (LastKeyValue s) reply journal events old new t order h = same opened start journal events old new t.0 t.1 h
+takes_sound theory opened start RotateMemtable reply journal events old new t order h = takes_rotate theory opened start reply journal events old new t order h
+takes_sound theory opened start (Next counter) reply journal events old new t order h = takes_next opened start counter reply journal events old new t h
+takes_sound theory opened start (Set counter n) reply journal events old new t order h = takes_counter opened start counter _ reply journal events old new t h
+takes_sound theory opened start (FetchMax counter n) reply journal events old new t order h = takes_counter opened start counter _ reply journal events old new t h
 
-step_answers : (opened : List Entry) (start : Map) (x : Call) (reply : Reply) (journal events : List Event) (old new : Core) → Takes x reply events old new → Sound opened start journal old → StepAnswers opened start journal x reply
-step_answers opened start (Get k s) reply journal events old new t h = get_answers opened start k s reply journal events old new t h
-step_answers opened start (GetInternalEntry k s) reply journal events old new t h = get_entry_answers opened start k s reply journal events old new t h
-step_answers opened start (ContainsKey k s) reply journal events old new t h = contains_answers opened start k s reply journal old t.2 h
-step_answers opened start (SizeOf k s) reply journal events old new t h = size_answers opened start k s reply journal old t.2 h
-step_answers opened start (Range low high s) reply journal events old new t h = pairs_answer opened start (Between low high) (Lists old low high s) s reply journal events old new t h
-step_answers opened start (Iter s) reply journal events old new t h = pairs_answer opened start (Between Unbounded Unbounded) (Lists old Unbounded Unbounded s) s reply journal events old new t h
-step_answers opened start (Prefix p s) reply journal events old new t h = pairs_answer opened start (AskPrefix p) (ListsPrefix old p s) s reply journal events old new t h
-step_answers opened start (Len s) reply journal events old new t h = len_answers opened start s reply journal old t.2 h
-step_answers opened start (IsEmpty s) reply journal events old new t h = empty_answers opened start s reply journal old t.2 h
-step_answers opened start (FirstKeyValue s) reply journal events old new t h = end_answers opened start Front s reply journal old t.2 h
-step_answers opened start (LastKeyValue s) reply journal events old new t h = end_answers opened start Back s reply journal old t.2 h
-step_answers opened start step reply journal events old new t h = tt
+step_answers : (lists : ListsAreSteps) (theory : Soundness) (opened : List Entry) (start : Map) (x : Call) (reply : Reply) (journal events : List Event) (old new : Core) → Takes x reply events old new → Sound opened start journal old → StepAnswers opened start journal x reply
+step_answers lists theory opened start (Get k s) reply journal events old new t h = get_answers theory opened start k s reply journal events old new t h
+step_answers lists theory opened start (GetInternalEntry k s) reply journal events old new t h = get_entry_answers theory opened start k s reply journal events old new t h
+step_answers lists theory opened start (ContainsKey k s) reply journal events old new t h = contains_answers theory opened start k s reply journal old t.2 h
+step_answers lists theory opened start (SizeOf k s) reply journal events old new t h = size_answers theory opened start k s reply journal old t.2 h
+step_answers lists theory opened start (Range low high s) reply journal events old new t h = pairs_answer theory opened start (Between low high) (Lists old low high s) s reply journal events old new t h
+step_answers lists theory opened start (Iter s) reply journal events old new t h = pairs_answer theory opened start (Between Unbounded Unbounded) (Lists old Unbounded Unbounded s) s reply journal events old new t h
+step_answers lists theory opened start (Prefix p s) reply journal events old new t h = pairs_answer theory opened start (AskPrefix p) (ListsPrefix old p s) s reply journal events old new t h
+step_answers lists theory opened start (Len s) reply journal events old new t h = len_answers lists theory opened start s reply journal old t.2 h
+step_answers lists theory opened start (IsEmpty s) reply journal events old new t h = empty_answers lists theory opened start s reply journal old t.2 h
+step_answers lists theory opened start (FirstKeyValue s) reply journal events old new t h = end_answers lists theory opened start Front s reply journal old t.2 h
+step_answers lists theory opened start (LastKeyValue s) reply journal events old new t h = end_answers lists theory opened start Back s reply journal old t.2 h
+step_answers lists theory opened start step reply journal events old new t h = tt
 
 -- ---- the whole run
 
-ran_right : (opened : List Entry) (start : Map) (xs : List Call) (ts : List Told) (journal : List Event) (old new : Core) → Ran xs ts old new → InOrder opened (journal ++ journal_of ts) → Sound opened start journal old → EachAnswers opened start journal xs ts × Sound opened start (journal ++ journal_of ts) new
-ran_right opened start [] [] journal old new r order h = (tt, rw (r, append-nil journal) h)
-ran_right opened start [] (t ∷ ts) journal old new r order h = absurd r
-ran_right opened start (x ∷ xs) [] journal old new r order h = absurd r
-ran_right opened start (x ∷ xs) (t ∷ ts) journal old new r order h =
+ran_right : (lists : ListsAreSteps) (theory : Soundness) (opened : List Entry) (start : Map) (xs : List Call) (ts : List Told) (journal : List Event) (old new : Core) → Ran xs ts old new → InOrder opened (journal ++ journal_of ts) → Sound opened start journal old → EachAnswers opened start journal xs ts × Sound opened start (journal ++ journal_of ts) new
+ran_right lists theory opened start [] [] journal old new r order h = (tt, rw (r, append-nil journal) h)
+ran_right lists theory opened start [] (t ∷ ts) journal old new r order h = absurd r
+ran_right lists theory opened start (x ∷ xs) [] journal old new r order h = absurd r
+ran_right lists theory opened start (x ∷ xs) (t ∷ ts) journal old new r order h =
     let joined : (journal ++ t.entries) ++ journal_of ts ≡ journal ++ (t.entries ++ journal_of ts) = append_assoc journal t.entries (journal_of ts) in
     let order' : InOrder opened ((journal ++ t.entries) ++ journal_of ts) = subst (InOrder opened) (sym joined) order in
-    let here = takes_sound opened start x t.reply journal t.entries old r.0 r.1 (in_order_front opened (journal ++ t.entries) (journal_of ts) order') h in
-    let rest = ran_right opened start xs ts (journal ++ t.entries) r.0 new r.2 order' here in
-    ((step_answers opened start x t.reply journal t.entries old r.0 r.1 h, rest.0), subst (λ js. Sound opened start js new) joined rest.1)
+    let here = takes_sound theory opened start x t.reply journal t.entries old r.0 r.1 (theory.kept.front opened (journal ++ t.entries) (journal_of ts) order') h in
+    let rest = ran_right lists theory opened start xs ts (journal ++ t.entries) r.0 new r.2 order' here in
+    ((step_answers lists theory opened start x t.reply journal t.entries old r.0 r.1 h, rest.0), subst (λ js. Sound opened start js new) joined rest.1)
 
-pub run_replays : (opened : List Entry) (start : Map) (xs : List Call) (ts : List Told) (old new : Core) → Ran xs ts old new → RunEqualsReplay opened start xs ts old new
-run_replays opened start xs ts old new r is order =
-    let done = ran_right opened start xs ts [] old new r order (opened_holds opened start (state_of [] old) is) in
-    (done.0, reads_right opened start (state_of (without_low_reads opened (journal_of ts)) new) done.1)
+pub run_replays : (lists : ListsAreSteps) (theory : Soundness) (opened : List Entry) (start : Map) (xs : List Call) (ts : List Told) (old new : Core) → Ran xs ts old new → RunEqualsReplay opened start xs ts old new
+run_replays lists theory opened start xs ts old new r is order =
+    let done = ran_right lists theory opened start xs ts [] old new r order (theory.kept.opened opened start (state_of [] old) is) in
+    (done.0, theory.right.reads opened start (state_of (without_low_reads opened (journal_of ts)) new) done.1)
 
 -- one more step
 pub ran_more : (xs : List Call) (ts : List Told) (x : Call) (t : Told) (old mid new : Core) → Ran xs ts old mid → Takes x t.reply t.entries mid new → Ran (xs ++ x ∷ []) (ts ++ t ∷ []) old new

@@ -15,9 +15,9 @@ ghost use Rattle.lsm_runs.specs.Runs.{Takes, TakesEntry, TakesBatch, TakesRotate
 use crate::{Counter, Outcome, Reply, Step};
 use lsm_below::{InternalValue, SeqNo, UserKey, UserValue, ValueType, share};
 use lsm_journal::{entry_of, read_entry};
-use lsm_model::{Answer, JournalEntry, Op, Question};
+use lsm_model::{Answer, JournalEntry, Op, Question, counted_is_in_order, reads_are_sound};
 use lsm_parts::Error;
-use lsm_state::TreeState;
+use lsm_state::{TreeState, lists_are_steps};
 use lsm_store::Store;
 use std::alloc::{AllocError, Global};
 
@@ -392,6 +392,9 @@ pub fn run<S: Store>(alloc: Global, state: &mut TreeState<S>, steps: &[Step]) ->
     ensures in_order { RunIsInOrder (take (length result.items) steps.now) result.items state.old.core state.new.core }
     ensures store { state.new.store ≡ state.old.store }
 {
+    reads_are_sound();
+    lists_are_steps();
+    counted_is_in_order();
     take_steps(alloc, state, steps)
 }
 

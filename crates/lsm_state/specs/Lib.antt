@@ -5,3 +5,4 @@ pub mod Calls
 pub mod Lending
 pub mod Ranges
 pub mod Listing
+pub mod ListSteps

@@ -17,7 +17,7 @@ mod reads;
 mod tree;
 mod writes;
 
-pub use laws::ranges_are_overlaid;
+pub use laws::{lists_are_steps, ranges_are_overlaid};
 pub use memtables::Memtables;
 pub use tree::TreeState;
 pub use writes::{MAX_KEY_LEN, MAX_VALUE_LEN};

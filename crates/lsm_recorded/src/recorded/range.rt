@@ -16,7 +16,7 @@ use crate::pass::{Pass, note_entry};
 use crate::recorded::Recorded;
 use lsm_below::{KvPair, SeqNo, UserKey, share};
 use lsm_journal::{copy_bound, pairs_entry, share_pairs, take_pairs};
-use lsm_model::Question;
+use lsm_model::{Question, reads_are_sound};
 use lsm_parts::{Error, TreeIter};
 use lsm_store::Store;
 use std::ops::Bound;
@@ -84,6 +84,7 @@ impl<S: Store> Recorded<S> {
         ensures err { OnErr result ((self.new ≡ self.old) × (pass.new ≡ pass.old)) }
         ensures memory { IfErr result (λ e. e ≡ Error.OutOfMemory) }
     {
+        reads_are_sound();
         let pairs = take_pairs(self.alloc, iter)?;
         let kept = share_pairs(self.alloc, &pairs)?;
         let entry = pairs_entry(snapshot, question, &kept)?;

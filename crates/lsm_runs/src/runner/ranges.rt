@@ -10,7 +10,7 @@ use lsm_below::{KvPair, SeqNo, UserKey, share};
 use lsm_journal::{copy_bound, pairs_entry, take_pairs};
 use lsm_model::{KvPairs, Question};
 use lsm_parts::{Error, Guard, IterGuard, TreeIter};
-use lsm_state::TreeState;
+use lsm_state::{TreeState, lists_are_steps};
 use lsm_store::Store;
 use std::alloc::{AllocError, Global};
 use std::ops::Bound;
@@ -60,6 +60,7 @@ pub(super) fn range<S: Store>(
 ) -> Result<Outcome, AllocError>
     ensures { IfOk result (λ told. TakesRange low.now high.now snapshot told.reply told.entries state.now.core state.now.core) }
 {
+    lists_are_steps();
     let bounds = (copy_bound(low)?, copy_bound(high)?);
     let found = state.range(&bounds, snapshot, None);
     of_found(
@@ -77,6 +78,7 @@ pub(super) fn iter<S: Store>(
 ) -> Result<Outcome, AllocError>
     ensures { IfOk result (λ told. TakesRange Unbounded Unbounded snapshot told.reply told.entries state.now.core state.now.core) }
 {
+    lists_are_steps();
     let all = Question::Between(Bound::Unbounded, Bound::Unbounded);
     of_found(alloc, snapshot, all, state.iter(snapshot, None))
 }
@@ -89,6 +91,7 @@ pub(super) fn prefix<S: Store>(
 ) -> Result<Outcome, AllocError>
     ensures { IfOk result (λ told. TakesPrefix prefix.now snapshot told.reply told.entries state.now.core state.now.core) }
 {
+    lists_are_steps();
     let question = Question::Prefix(share(prefix)?);
     let found = state.prefix(prefix.as_slice(), snapshot, None);
     of_found(alloc, snapshot, question, found)

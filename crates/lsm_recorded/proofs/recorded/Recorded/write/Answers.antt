@@ -31,7 +31,7 @@ invariant_of-self-2 g c =
     let order : batch_keeps_order i.journal.items c.get-number.result c.deref.result.now ≡ true = rw (← c.self.view_is) at (sym c.batch_keeps_order.ensures ∙ c.if-not-batch_keeps_order.false) in
     let ordered : batch_keeps_order i.journal.items n ops ≡ true = sym (ap (λ m. batch_keeps_order i.journal.items m c.deref.result.now) first ∙ ap (batch_keeps_order i.journal.items n) c.deref.ensures.value) ∙ order in
     rw (c.put_notes.ensures.journal, c.in_ok-make_room.ensures.journal, journal_entries notes, entries)
-    (recorded_batch i.marks c.mark_notes.new.marks i.floor i.core.core c.write.new.self.core i.journal.items ops c.in_ok-number.number c.self.invariant ordered c.in_ok-number.ensures.writes
+    (recorded_batch c.reads_are_sound.ensures i.marks c.mark_notes.new.marks i.floor i.core.core c.write.new.self.core i.journal.items ops c.in_ok-number.number c.self.invariant ordered c.in_ok-number.ensures.writes
     (batch_marks (mark_of i.marks) (mark_of c.reserve_notes.new.marks) (mark_of c.mark_notes.new.marks) (entries_of c.deref-4.result.now) (op_entries n ops) (ap entries_of c.deref-4.ensures.value ∙ entries) c.in_ok-reserve_notes.ensures.same c.mark_notes.ensures))
 
 pub returns-clause-views : goal.returns-clause-views
@@ -42,7 +42,7 @@ returns-clause-views g c =
     let order : batch_keeps_order i.journal.items c.get-number.result c.deref.result.now ≡ true = rw (← c.self.view_is) at (sym c.batch_keeps_order.ensures ∙ c.if-not-batch_keeps_order.false) in
     let ordered : batch_keeps_order i.journal.items n c.args.ops.items ≡ true = sym (ap (λ m. batch_keeps_order i.journal.items m c.deref.result.now) first ∙ ap (batch_keeps_order i.journal.items n) c.deref.ensures.value) ∙ order in
     subst (λ t. StaysTo t.tree.core.seqno t.tree.core c.write.new.self.core) c.self.view_is
-    (batch_spares i.marks i.floor i.core.core c.write.new.self.core i.journal.items c.args.ops.items c.in_ok-number.number c.self.invariant ordered c.in_ok-number.ensures.writes)
+    (batch_spares c.reads_are_sound.ensures i.marks i.floor i.core.core c.write.new.self.core i.journal.items c.args.ops.items c.in_ok-number.number c.self.invariant ordered c.in_ok-number.ensures.writes)
 
 pub returns-clause-noted : goal.returns-clause-noted
 returns-clause-noted g c =
