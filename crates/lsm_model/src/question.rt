@@ -6,7 +6,7 @@ use std::marker::Model;
 use std::ops::Bound;
 
 /// Keys with their values, seen as a list.
-#[derive(Drop)]
+#[derive(Drop, Debug)]
 pub struct KvPairs {
     list: Vec<KvPair>,
 }
@@ -43,7 +43,7 @@ impl KvPairs {
 }
 
 /// What a read asks.
-#[derive(Drop)]
+#[derive(Drop, Debug)]
 pub enum Question {
     /// The value of a key.
     Get(UserKey),
@@ -54,7 +54,7 @@ pub enum Question {
 }
 
 /// What a read answers.
-#[derive(Drop)]
+#[derive(Drop, Debug)]
 pub enum Answer {
     /// Of a key: its value, or None.
     Found(Option<UserValue>),
