@@ -10,7 +10,7 @@ use std::cmp::Ordering;
 use std::marker::Model;
 
 /// The keys from `min` to `max`, both in it. `min` is never above `max`.
-#[derive(Drop)]
+#[derive(Drop, Debug)]
 pub struct KeyRange {
     min: UserKey,
     max: UserKey,

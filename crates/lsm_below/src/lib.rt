@@ -3,6 +3,7 @@
 //! | Module | Holds |
 //! |-|-|
 //! | `ids` | numbers that name things, and shared bytes |
+//! | `limits` | how long keys and values may be, and what an entry counts beside them |
 //! | `value_type` | what an entry does to its key |
 //! | `key` | a user key with its number, and the order of entries |
 //! | `value` | an entry: a key and its value |
@@ -21,6 +22,7 @@ mod compaction_stream;
 mod ids;
 mod key;
 mod key_range;
+mod limits;
 mod list_source;
 mod lookup;
 mod merger;
@@ -35,6 +37,7 @@ pub use compaction_stream::{CompactionStream, compact};
 pub use ids::{KvPair, MemtableId, SeqNo, TableId, TreeId, UserKey, UserValue, share};
 pub use key::InternalKey;
 pub use key_range::{KeyRange, Ranged};
+pub use limits::{ENTRY_OVERHEAD, MAX_KEY_LEN, MAX_VALUE_LEN};
 pub use list_source::ListSource;
 pub use lookup::{entries_within, first_visible};
 pub use merger::Merger;

@@ -6,7 +6,7 @@ use lsm_below::{InternalValue, KeyRange, SeqNo};
 use std::marker::Model;
 
 /// Ranges of keys, seen as a list.
-#[derive(Drop)]
+#[derive(Drop, Debug)]
 pub struct KeyRanges {
     list: Vec<KeyRange>,
 }
@@ -44,7 +44,7 @@ impl KeyRanges {
 }
 
 /// What a journal lists, in the order in which it happened.
-#[derive(Drop)]
+#[derive(Drop, Debug)]
 pub enum JournalEntry {
     /// A key was written: its entry.
     Write(InternalValue),

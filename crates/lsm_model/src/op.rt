@@ -1,7 +1,8 @@
 // What a write does to its key.
-ghost use Rattle.std.specs.Prelude.{◌≡◌};
+ghost use Rattle.std.specs.Prelude.{◌≡◌, IfOk};
 
-use lsm_below::{UserKey, UserValue};
+use lsm_below::{InternalValue, SeqNo, UserKey, UserValue, ValueType, share};
+use std::alloc::AllocError;
 use std::marker::Model;
 
 /// What a write does to its key.
@@ -15,8 +16,42 @@ pub enum Op {
     Weak,
 }
 
+impl Op {
+    ghost use Rattle.lsm_model.specs.Ops.{op_entry};
+
+    /// The entry of this write to a key, under a sequence number.
+    pub fn into_entry(self, key: UserKey, number: SeqNo) -> InternalValue
+        ensures { result ≡ op_entry key number self }
+    {
+        match self {
+            Op::Set(value) => InternalValue::from_components(key, value, number, ValueType::Value),
+            Op::Del => InternalValue::new_tombstone(key, number),
+            Op::Weak => InternalValue::new_weak_tombstone(key, number),
+        }
+    }
+
+    /// The entry of this write to a key, under a sequence number. It shares the bytes of both.
+    ///
+    /// # Errors
+    ///
+    /// Refused only for want of memory.
+    pub fn entry(&self, key: &UserKey, number: SeqNo) -> Result<InternalValue, AllocError>
+        ensures { IfOk result (λ e. e ≡ op_entry key.now number self.now) }
+    {
+        let key = share(key)?;
+        match self {
+            Op::Set(value) => {
+                let value = share(value)?;
+                Ok(InternalValue::from_components(key, value, number, ValueType::Value))
+            }
+            Op::Del => Ok(InternalValue::new_tombstone(key, number)),
+            Op::Weak => Ok(InternalValue::new_weak_tombstone(key, number)),
+        }
+    }
+}
+
 /// The writes of a batch, seen as a list.
-#[derive(Drop)]
+#[derive(Drop, Debug)]
 pub struct Ops {
     list: Vec<(UserKey, Op)>,
 }

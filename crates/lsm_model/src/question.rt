@@ -8,7 +8,7 @@ use std::ops::Bound;
 use std::sync::Arc;
 
 /// Keys with their values, seen as a list. Copies share the one list.
-#[derive(Drop)]
+#[derive(Drop, Debug)]
 pub struct KvPairs {
     list: Arc<Vec<KvPair>>,
 }
@@ -61,7 +61,7 @@ impl KvPairs {
 }
 
 /// What a read asks.
-#[derive(Drop)]
+#[derive(Drop, Debug)]
 pub enum Question {
     /// The value of a key.
     Get(UserKey),
@@ -72,7 +72,7 @@ pub enum Question {
 }
 
 /// What a read answers.
-#[derive(Drop)]
+#[derive(Drop, Debug)]
 pub enum Answer {
     /// Of a key: its value, or None.
     Found(Option<UserValue>),

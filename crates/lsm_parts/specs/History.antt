@@ -1,9 +1,9 @@
 -- Versions and super versions as callers see them, and what a snapshot finds.
 use Rattle.std.specs.Prelude.{ℕ, List, [], ◌∷◌, Option, Some, Bool, ◌||◌, filter, sum_by, nat_lt, ◌==◌, if◌then◌else◌}
-use Rattle.std.specs.List.{find, list_any}
+use Rattle.std.specs.List.{find, list_any, AllByRecursion}
 use Rattle.lsm_parts.specs.declared.version.super_version.SuperVersion.{SuperVersion}
 use Rattle.lsm_parts.specs.Memtables.{SeenMemtable, capped}
-use Rattle.lsm_parts.specs.Versions.{SeenVersion}
+use Rattle.lsm_parts.specs.Versions.{SeenVersion, IsLaid}
 
 -- a history: the newest super version, and the older ones, newest first
 pub record SeenHistory : Type 0 where
@@ -34,3 +34,7 @@ names i sv = i == sv.active_memtable || list_any (λ j. i == j) sv.sealed_memtab
 -- the sizes of the memtables that a history names, each once
 abbrev pub named_size : SeenHistory → List SeenMemtable → ℕ
 named_size h memtables = capped (sum_by (λ m. m.size) (filter (λ m. list_any (names m.id) (versions_of h)) memtables))
+
+-- the version of each is laid out
+abbrev pub AreLaid : List SuperVersion → Type 0
+AreLaid versions = AllByRecursion (λ sv. IsLaid sv.version) versions

@@ -112,6 +112,13 @@ impl Memtable {
         }
     }
 
+    /// What every memtable meets: its entries stand in order.
+    pub fn facts(&self)
+        ensures { Rises entry_cmp self.now.entries }
+    {
+        let _ = &self.id;
+    }
+
     /// The memtable's number.
     pub fn id(&self) -> MemtableId
         ensures { result ≡ self.now.id }

@@ -1,5 +1,6 @@
 pub mod Walks
 pub mod Steps
+pub mod Kept
 pub mod Repeats
 pub mod Answered
 pub mod Overlaid

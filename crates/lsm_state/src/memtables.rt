@@ -1,6 +1,8 @@
 // The memtables that are held, by id.
 ghost use Rattle.std.specs.Prelude.{◌≡◌, ℕ, ◌+◌, ◌∷◌, [], IfOk, IfErr, OnOk, OnErr, IsTrue, ◌↔◌, option_copied, MatchOption};
-ghost use Rattle.lsm_below.specs.Entries.{top};
+ghost use Rattle.std.specs.List.{AllByRecursion};
+ghost use Rattle.lsm_below.specs.Entries.{entry_cmp, top};
+ghost use Rattle.lsm_below.specs.Sorted.{Rises};
 ghost use Rattle.lsm_parts.specs.Memtables.{entry_size, new_memtable};
 ghost use Rattle.lsm_state.specs.Held.{entries_of, put_first, put_all_first, first_size, first_entries};
 
@@ -19,11 +21,16 @@ pub struct Memtables {
 
 impl Model for Memtables {
     ghost use Rattle.std.specs.Prelude.{List, ◌∷◌};
+    ghost use Rattle.std.specs.List.{AllByRecursion};
+    ghost use Rattle.lsm_below.specs.Entries.{entry_cmp};
+    ghost use Rattle.lsm_below.specs.Sorted.{Rises};
     ghost use Rattle.lsm_parts.specs.Memtables.{SeenMemtable};
 
     ghost Value = { List SeenMemtable };
 
     ghost view = { λ m. m.active ∷ m.sealed.items };
+
+    ghost invariant = { λ m. AllByRecursion (λ t. Rises entry_cmp t.entries) (m.active ∷ m.sealed.items) };
 }
 
 /// The memtable with this id. There are a handful of them.
@@ -47,6 +54,13 @@ impl Memtables {
             active: Memtable::new(alloc, id),
             sealed: Vec::new(alloc),
         }
+    }
+
+    /// What every such list meets: the entries of each memtable stand in order.
+    pub fn facts(&self)
+        ensures { AllByRecursion (λ t. Rises entry_cmp t.entries) self.now }
+    {
+        let _ = &self.sealed;
     }
 
     /// Whether nothing was written to the active memtable.
@@ -84,7 +98,9 @@ impl Memtables {
         ensures err { OnErr result (self.new ≡ self.old) }
         ensures memory { IfErr result (λ e. e ≡ Error.OutOfMemory) }
     {
-        self.active.insert(entry)
+        let sizes = self.active.insert(entry);
+        self.active.facts();
+        sizes
     }
 
     /// Puts all entries in their places in the active memtable, or none.
@@ -94,7 +110,9 @@ impl Memtables {
         ensures err { OnErr result (self.new ≡ self.old) }
         ensures memory { IfErr result (λ e. e ≡ Error.OutOfMemory) }
     {
-        self.active.insert_all(batch)
+        let done = self.active.insert_all(batch);
+        self.active.facts();
+        done
     }
 
     /// Seals the active memtable behind a new one. Refused only for want of memory, and then nothing changes.

@@ -34,15 +34,14 @@ pub struct TreeState<S: Store = NoStore> {
 }
 
 impl<S: Store> Model for TreeState<S> {
-    ghost use Rattle.std.specs.Prelude.{◌≡◌, ◌<◌};
     ghost use Rattle.lsm_state.specs.Core.{Seen};
-    ghost use Rattle.lsm_state.specs.Held.{HasFirst};
+    ghost use Rattle.lsm_state.specs.Kept.{KeepsIds};
 
     ghost Value = { Seen S };
 
     ghost view = { λ t. record { store = t.store; core = record { config = t.config; memtables = t.memtables; history = t.history; next_memtable = t.next_memtable; seqno = t.seqno; visible_seqno = t.visible_seqno } } };
 
-    ghost invariant = { λ t. HasFirst t.memtables (λ m. m.id ≡ t.history.latest.active_memtable) × (t.history.latest.active_memtable < t.next_memtable) };
+    ghost invariant = { λ t. KeepsIds t.memtables t.history t.next_memtable };
 }
 
 impl TreeState<NoStore> {
@@ -70,7 +69,17 @@ impl TreeState<NoStore> {
 
 impl<S: Store> TreeState<S> {
     ghost use Rattle.lsm_state.specs.Calls.{Rotates};
+    ghost use Rattle.lsm_state.specs.Kept.{IsKept};
     ghost use Rattle.lsm_state.specs.Lending.{LendsSeqno, LendsVisible};
+
+    /// What every tree meets: its memtables' entries stand in order, their ids fall and are those that
+    /// super versions name, and its versions are laid out.
+    pub fn facts(&self)
+        ensures { IsKept self.now.core }
+    {
+        self.memtables.facts();
+        self.history.facts();
+    }
 
     /// The counter of numbers.
     pub fn seqno(&self) -> &SequenceNumberCounter
@@ -122,6 +131,7 @@ impl<S: Store> TreeState<S> {
         ensures err { OnErr result (self.new ≡ self.old) }
         ensures out_of_numbers { IsErrOf result Error.OutOfNumbers → LIMIT ≤ self.old.core.next_memtable }
         ensures told { LIMIT ≤ self.old.core.next_memtable → IfOk result (λ _. first_entries self.old.core.memtables ≡ []) }
+        ensures empty { first_entries self.old.core.memtables ≡ [] → result ≡ Ok None }
         ensures only { IfErr result (λ e. (e ≡ Error.OutOfNumbers) ⊎ (e ≡ Error.OutOfMemory)) }
     {
         if self.memtables.is_active_empty() {

@@ -1,7 +1,7 @@
 // The history of super versions.
 ghost use Rattle.std.specs.Prelude.{◌≡◌, ℕ, ◌+◌, ◌-◌, ◌∷◌, ◌↔◌, [], None, length, IfOk, IfErr, OnOk, OnErr, IsErrOf, option_copied, nat_lt};
 ghost use Rattle.std.specs.List.{find, list_any};
-ghost use Rattle.lsm_parts.specs.History.{found_version, first_version, versions_of, names, named_size};
+ghost use Rattle.lsm_parts.specs.History.{found_version, first_version, versions_of, names, named_size, AreLaid};
 
 use crate::{Error, Memtable, SealedMemtables, SuperVersion, Version, seqno_filter};
 use lsm_below::{MemtableId, SeqNo};
@@ -18,11 +18,14 @@ pub struct SuperVersions {
 }
 
 impl Model for SuperVersions {
-    ghost use Rattle.lsm_parts.specs.History.{SeenHistory};
+    ghost use Rattle.std.specs.Prelude.{◌∷◌};
+    ghost use Rattle.lsm_parts.specs.History.{SeenHistory, AreLaid};
 
     ghost Value = { SeenHistory };
 
     ghost view = { λ h. record { latest = h.latest; older = h.older.items } };
+
+    ghost invariant = { λ h. AreLaid (h.latest ∷ h.older.items) };
 }
 
 /// The first of these that is numbered below a snapshot.
@@ -39,6 +42,7 @@ impl SuperVersions {
     pub fn new(alloc: Global, version: Version) -> SuperVersions
         ensures { result ≡ record { latest = first_version version; older = [] } }
     {
+        version.facts();
         SuperVersions {
             latest: SuperVersion {
                 active_memtable: 0,
@@ -48,6 +52,13 @@ impl SuperVersions {
             },
             older: VecDeque::new(alloc),
         }
+    }
+
+    /// What every history meets: each version is laid out in its seven levels.
+    pub fn facts(&self)
+        ensures { AreLaid (versions_of self.now) }
+    {
+        let _ = &self.older;
     }
 
     /// How many super versions there are.
@@ -71,6 +82,7 @@ impl SuperVersions {
         ensures memory { IfErr result (λ e. e ≡ Error.OutOfMemory) }
     {
         self.older.try_reserve(1)?;
+        version.version.facts();
         let replaced = std::mem::replace(&mut self.latest, version);
         self.older.push_front(replaced)?;
         Ok(())
@@ -80,6 +92,7 @@ impl SuperVersions {
     pub fn replace_latest_version(&mut self, version: SuperVersion)
         ensures { self.new ≡ record { latest = version; older = self.old.older } }
     {
+        version.version.facts();
         self.latest = version;
     }
 

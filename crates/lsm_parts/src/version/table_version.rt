@@ -1,7 +1,7 @@
 // A version: the tables of a tree, level by level.
 ghost use Rattle.std.specs.Prelude.{◌≡◌, map, option_copied, OnOk};
 ghost use Rattle.lsm_model.specs.Views.{walk, placed_from};
-ghost use Rattle.lsm_parts.specs.Versions.{empty_levels};
+ghost use Rattle.lsm_parts.specs.Versions.{empty_levels, IsLaid};
 ghost use Rattle.lsm_parts.specs.Reads.{at, tables_of};
 ghost use Rattle.lsm_parts.specs.Cuts.{PutsCuts};
 
@@ -34,6 +34,13 @@ impl Version {
         ensures { result ≡ record { id = id; levels = empty_levels } }
     {
         Version { id }
+    }
+
+    /// What every version meets: it has seven levels, and its tables are laid out in them.
+    pub fn facts(&self)
+        ensures { IsLaid self.now }
+    {
+        let _ = &self.id;
     }
 
     /// The version's number.
