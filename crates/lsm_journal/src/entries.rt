@@ -1,28 +1,12 @@
-// Entries that calls put into a journal, made of what their callers passed, whose bytes they share.
+// Entries that point reads add to a journal, made of what their callers passed, whose bytes they share.
 ghost use Rattle.std.specs.Prelude.{◌≡◌, IfOk};
-ghost use Rattle.lsm_model.specs.Ops.{op_entry};
 ghost use Rattle.lsm_model.specs.declared.journal.JournalEntry.TheVariants.{Read as ReadEntry};
 ghost use Rattle.lsm_model.specs.declared.question.Question.TheVariants.{Get as GetQuestion};
 ghost use Rattle.lsm_model.specs.declared.question.Answer.TheVariants.{Found};
 
-use lsm_below::{InternalValue, SeqNo, UserKey, UserValue, ValueType, share};
-use lsm_model::{Answer, JournalEntry, Op, Question};
+use lsm_below::{SeqNo, UserKey, UserValue, share};
+use lsm_model::{Answer, JournalEntry, Question};
 use std::alloc::AllocError;
-
-/// The entry of a write.
-pub fn entry_of(key: &UserKey, number: SeqNo, op: &Op) -> Result<InternalValue, AllocError>
-    ensures { IfOk result (λ e. e ≡ op_entry key.now number op.now) }
-{
-    let key = share(key)?;
-    match op {
-        Op::Set(value) => {
-            let value = share(value)?;
-            Ok(InternalValue::from_components(key, value, number, ValueType::Value))
-        }
-        Op::Del => Ok(InternalValue::new_tombstone(key, number)),
-        Op::Weak => Ok(InternalValue::new_weak_tombstone(key, number)),
-    }
-}
 
 /// A value that may be there, shared.
 pub fn share_value(value: &Option<UserValue>) -> Result<Option<UserValue>, AllocError>
@@ -34,7 +18,7 @@ pub fn share_value(value: &Option<UserValue>) -> Result<Option<UserValue>, Alloc
     }
 }
 
-/// What an answered get puts into a journal.
+/// What an answered get adds to a journal.
 pub fn read_entry(
     snapshot: SeqNo,
     key: &UserKey,

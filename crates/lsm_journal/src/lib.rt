@@ -3,7 +3,7 @@
 //!
 //! | Module | Holds |
 //! |-|-|
-//! | `entries` | entries of writes and of point reads |
+//! | `entries` | entries of point reads |
 //! | `pairs` | the pairs that reads of many keys answer, and their entries |
 //! | `copies` | copies of entries |
 //! | `same` | whether two entries are the same |
@@ -15,6 +15,6 @@ mod pairs;
 mod same;
 
 pub use copies::{copy_bound, copy_entry, copy_journal};
-pub use entries::{entry_of, read_entry};
+pub use entries::read_entry;
 pub use pairs::{pairs_entry, share_pairs, take_pairs};
 pub use same::same_entry;

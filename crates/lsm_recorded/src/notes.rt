@@ -11,7 +11,6 @@ ghost use Rattle.lsm_recorded.specs.Notes.{HasRoom, journal_entry, pass_entry, H
 use crate::marks::{Mark, mark_write, reserve_mark};
 use crate::pass::put_entry;
 use lsm_below::{InternalValue, SeqNo, UserKey, ValueType, share};
-use lsm_journal::entry_of;
 use lsm_model::{JournalEntry, Op};
 use std::alloc::{AllocError, Global};
 use std::collections::BTreeMap;
@@ -37,7 +36,7 @@ pub(crate) fn make_note(entry: &InternalValue) -> Result<Note, AllocError>
 fn note_of(key: &UserKey, number: SeqNo, op: &Op) -> Result<Note, AllocError>
     ensures { IfOk result (λ n. (n.entry ≡ op_entry key.now number op.now) × (n.copy ≡ op_entry key.now number op.now)) }
 {
-    let entry = entry_of(key, number, op)?;
+    let entry = op.entry(key, number)?;
     let copy = entry.copy()?;
     Ok(Note { entry, copy })
 }

@@ -45,10 +45,10 @@ each_entry s (e ∷ es) h = (h.0, each_entry s es h.1)
 batch_spares : (theory : Soundness) (opened : List Entry) (start : Map) (ops : List (Bytes × Op)) (reply : Reply) (journal events : List Event) (old new : Core) → TakesBatch ops reply events old new → InOrder opened (journal ++ events) → Sound opened start journal old → Spares events old new
 batch_spares theory opened start ops (Number n) journal events old new t order h = λ s each.
     let es = op_entries old.seqno ops in
-    let noted theory : events ≡ map Noted es = t.0 ∙ ap (λ m. map Noted (op_entries m ops)) t.1.number in
+    let noted : events ≡ map Noted es = t.0 ∙ ap (λ m. map Noted (op_entries m ops)) t.1.number in
     let is : without_low_reads opened (journal ++ events) ≡ without_low_reads opened journal ++ map Noted es =
-    ap (λ xs. without_low_reads opened (journal ++ xs)) noted theory ∙ without-append opened journal (map Noted es) ∙ ap (λ xs. without_low_reads opened journal ++ xs) (writes_without opened es) in
-    let low : AllByRecursion (IsSparedBy s) (map Noted es) = rw noted theory at each in
+    ap (λ xs. without_low_reads opened (journal ++ xs)) noted ∙ without-append opened journal (map Noted es) ∙ ap (λ xs. without_low_reads opened journal ++ xs) (writes_without opened es) in
+    let low : AllByRecursion (IsSparedBy s) (map Noted es) = rw noted at each in
     theory.spares.writes opened start s es (state_of (without_low_reads opened journal) old) (state_of (without_low_reads opened journal ++ map Noted es) new) (t.1.run opened (without_low_reads opened journal)) (rw is at (order_without opened (journal ++ events) order)) (each_entry s es low) h
 batch_spares theory opened start ops (Refused x) journal events old new t order h = still theory events old new t.1.unchanged
 batch_spares theory opened start ops reply journal events old new t order h = absurd t

@@ -14,7 +14,7 @@ ghost use Rattle.lsm_runs.specs.Runs.{Takes, TakesEntry, TakesBatch, TakesRotate
 
 use crate::{Counter, Outcome, Reply, Step};
 use lsm_below::{InternalValue, SeqNo, UserKey, UserValue, ValueType, share};
-use lsm_journal::{entry_of, read_entry};
+use lsm_journal::read_entry;
 use lsm_model::{Answer, JournalEntry, Op, Question, counted_is_in_order, reads_are_sound};
 use lsm_parts::Error;
 use lsm_state::{TreeState, lists_are_steps};
@@ -163,7 +163,7 @@ fn batch_entries(
 {
     let mut list = Vec::with_capacity(alloc, ops.len())?;
     for (key, op) in ops {
-        list.push(JournalEntry::Write(entry_of(key, seqno, op)?))?;
+        list.push(JournalEntry::Write(op.entry(key, seqno)?))?;
     }
     Ok(list)
 }

@@ -17,7 +17,7 @@ pub enum Counter {
 }
 
 /// A call on a tree, as data: each is the method of `TreeState` that it is named after.
-#[derive(Drop)]
+#[derive(Drop, Debug)]
 pub enum Step {
     /// Sets a key under a number.
     Insert(UserKey, UserValue, SeqNo),
@@ -62,7 +62,7 @@ pub enum Step {
 }
 
 /// What a step answers.
-#[derive(Drop)]
+#[derive(Drop, Debug)]
 pub enum Reply {
     /// Of an insert, a removal or an appended entry: the bytes that the entry counts, and those of the
     /// active memtable.
@@ -92,7 +92,7 @@ pub enum Reply {
 }
 
 /// A step's reply, and what it adds to the journal.
-#[derive(Drop)]
+#[derive(Drop, Debug)]
 pub struct Outcome {
     pub(crate) reply: Reply,
     pub(crate) entries: Vec<JournalEntry>,

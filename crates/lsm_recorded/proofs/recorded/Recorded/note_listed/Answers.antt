@@ -12,7 +12,7 @@ pub invariant_of-self-2 : goal.invariant_of-self-2
 invariant_of-self-2 g c =
     let i = c.self.inside in
     let step = subst (λ t. IsListStep t.tree.core c.args.question c.args.snapshot (map pair_of c.args.iter)) (sym c.self.view_is) c.requires in
-    rw (c.in_ok-note_entry.ensures.ok.behind, c.in_ok-entry.ensures, c.deref.ensures.value, c.in_ok-pairs.ensures.ok)
+    rw (c.in_ok-note_entry.ensures.ok.behind, c.in_ok-entry.ensures, c.in_ok-kept.ensures, c.deref.ensures.value, c.in_ok-pairs.ensures.ok)
     (recorded_list c.reads_are_sound.ensures i.marks i.floor i.core.core i.journal.items c.args.question c.args.snapshot (map pair_of c.args.iter) c.self.invariant step)
 
 pub returns-clause-replay : goal.returns-clause-replay
