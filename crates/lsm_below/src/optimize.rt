@@ -65,7 +65,7 @@ fn place_tables<T: Ranged + Drop>(
 fn place_runs<T: Ranged + Drop>(alloc: Global, runs: Vec<Run<T>>) -> Result<Vec<Run<T>>, AllocError>
     ensures { IfOk result (λ new. IsPlaced T.range (tables_of runs.items) new.items) }
 {
-    let mut placed = Vec::new(alloc);
+    let mut placed = Vec::with_capacity(alloc, runs.len())?;
     for run in runs {
         place_tables(alloc, &mut placed, run.into_tables())?;
     }

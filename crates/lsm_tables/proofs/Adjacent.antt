@@ -1,4 +1,5 @@
 -- Entries that rise one after the other rise all together, by tests and by facts.
+use Rattle.std.proofs.Math.Bool.{and-true, and_assoc}
 use Rattle.std.proofs.Common.{◌≡◌, ◌-◌, Bool, true, false, ◌&&◌, List, [], ◌∷◌, ◌++◌, length, Some, slice_get, refl, sym, ap, ◌∙◌, arith}
 use Rattle.std.specs.List.{All}
 use Rattle.std.specs.declared.cmp.Ordering.{Ordering}
@@ -44,17 +45,9 @@ pub rises_again : (es : List InternalValue) → Rises entry_cmp es → rises es 
 rises_again [] h = refl
 rises_again (e ∷ es) h = rises_after_again e es h
 
-and_assoc : (x y z : Bool) → (x && (y && z)) ≡ ((x && y) && z)
-and_assoc true y z = refl
-and_assoc false y z = refl
-
-and_true : (x : Bool) → (x && true) ≡ x
-and_true true = refl
-and_true false = refl
-
 rises_after_push : (e : InternalValue) (es : List InternalValue) (f : InternalValue) → rises_after e (es ++ f ∷ []) ≡ (rises_after e es && follows_after e es f)
-rises_after_push e [] f = and_true (is_before e f)
-rises_after_push e (g ∷ es) f = ap (λ (b : Bool). is_before e g && b) (rises_after_push g es f) ∙ and_assoc (is_before e g) (rises_after g es) (follows_after g es f)
+rises_after_push e [] f = and-true (is_before e f)
+rises_after_push e (g ∷ es) f = ap (λ (b : Bool). is_before e g && b) (rises_after_push g es f) ∙ sym (and_assoc (is_before e g) (rises_after g es) (follows_after g es f))
 
 -- entries with one more rise where they rose and it follows them
 pub rises_push : (es : List InternalValue) (f : InternalValue) → rises (es ++ f ∷ []) ≡ (rises es && follows es f)
@@ -75,7 +68,3 @@ follows_last (e ∷ es) f l h =
 pub and_when : (x y : Bool) → x ≡ true → (x && y) ≡ y
 and_when true y h = refl
 and_when false y h = absurd cc
-
-pub and_unless : (x y : Bool) → x ≡ false → (x && y) ≡ false
-and_unless true y h = absurd cc
-and_unless false y h = refl

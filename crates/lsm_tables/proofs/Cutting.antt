@@ -57,10 +57,6 @@ writable_take n es h = writable_left (take n es) (drop n es) (subst IsWritable (
 
 -- ---- the two sides of a cut
 
-pub each_both : {A : Type 0} (P Q R : A → Type 0) → ((x : A) → P x → Q x → R x) → (xs : List A) → AllByRecursion P xs → AllByRecursion Q xs → AllByRecursion R xs
-each_both P Q R f [] p q = tt
-each_both P Q R f (x ∷ xs) p q = (f x p.0 q.0, each_both P Q R f xs p.1 q.1)
-
 -- where the last key of one side is below the first key of the other, no key stands on both
 apart_from : KeysAreOrdered → EntriesAreOrdered → (x : Entry) (xs : List Entry) (y : Entry) (ys : List Entry) → Rises entry_cmp (x ∷ xs) → Rises entry_cmp (y ∷ ys) → is_below (last_key (x ∷ xs)) y.key.user_key ≡ true → IsApart (x ∷ xs) (y ∷ ys)
 apart_from keys entries x xs y ys hx hy lt =

@@ -1,4 +1,5 @@
 -- What is read is spelled so, and what is spelled so is read.
+use Rattle.lsm_tables.proofs.Lengths.{length_head}
 use Rattle.std.proofs.Common.{◌≡◌, ℕ, zero, suc, ◌+◌, ◌-◌, ◌^◌, ◌<◌, ◌≤◌, true, false, not, ◌&&◌, cond, eqb, ltb, List, [], ◌∷◌, ◌++◌, length, All, take, drop, slice_index, Result, Ok, Err, refl, sym, ap, subst, ◌∙◌, append_assoc, arith}
 use Rattle.std.specs.Prelude.{IfOk, IfErr}
 use Rattle.std.specs.Global.{Vec}
@@ -76,10 +77,6 @@ header_again a b k d rest ha hb hd =
     ap (λ (t : Result ValueType TableError). t >>= λ kind. header_ok n2 n8 kind n4) (type_again k)
     ∙ ap (λ (x : ℕ). header_ok x n8 k n4) e2 ∙ ap (λ (x : ℕ). header_ok a x k n4) e8 ∙ ap (λ (x : ℕ). header_ok a b k x) e4
 
-length-head : (a b : ℕ) (k : ValueType) (d : ℕ) → length (head a b k d) ≡ 15
-unfolding head
-length-head a b k d = refl
-
 -- ---- key and value
 
 may_found : (k : ValueType) (n : ℕ) (v : List ℕ) → may_have k n ≡ true → length v ≡ n → kept_value k v ≡ v
@@ -149,7 +146,7 @@ spelled_again e rest fits =
     let top : List ℕ = head a e.key.seqno e.key.value_type d in
     let behind : List ℕ = (e.key.user_key ++ e.value) ++ rest in
     let regrouped : spelled e ++ rest ≡ top ++ behind = append_assoc top (e.key.user_key ++ e.value) rest in
-    let len : length top ≡ 15 = length-head a e.key.seqno e.key.value_type d in
+    let len : length top ≡ 15 = length_head a e.key.seqno e.key.value_type d in
     let long : ltb (length (top ++ behind)) 15 ≡ false = le-ltb _ _ (omega (arith, length-append top behind)) in
     let cut : drop 15 (top ++ behind) ≡ behind = drop_at top behind 15 len in
     let h = header_again a e.key.seqno e.key.value_type d behind fits.key fits.seqno fits.value in
