@@ -1,26 +1,23 @@
 -- Where a run is cut by a key, and what a cut gives.
+use Rattle.std.proofs.Math.Bool.{and-false}
 use Rattle.std.proofs.Common.{◌≡◌, ℕ, zero, suc, ◌+◌, ◌-◌, ◌<◌, ◌≤◌, Bool, true, false, cond, not, ◌&&◌, List, [], ◌∷◌, length, get_or, take, drop, Some, None, refl, sym, ◌∙◌, ap, subst, arith, inl, inr}
-use Rattle.std.specs.List.{AllByRecursion, find, filter}
-use Rattle.std.proofs.lemmas.Bool.{cases_lt}
+use Rattle.std.specs.List.{find, filter}
+use Rattle.std.proofs.lemmas.Bool.{cases_lt, not-true, not_from_false}
 use Rattle.std.proofs.lemmas.List.{get_or_default}
 use Rattle.lsm_below.specs.Keys.{is_below}
 use Rattle.lsm_below.specs.Ranges.{Range, IsRange, in_range}
 use Rattle.lsm_below.specs.Runs.{IsRun, IsCut, stands, IsSpan}
 use Rattle.lsm_below.specs.declared.run.Side.{Side}
 use Rattle.lsm_below.specs.declared.run.Side.TheVariants.{EndsBefore, EndsAtOrBefore, StartsBefore, StartsAtOrBefore}
-use Rattle.lsm_below.proofs.Keys.{not_true, true_not, upto_trans, below_upto, below_then_upto, upto_then_below, below_trans, range_ends, in_by}
+use Rattle.lsm_below.specs.Each.{each_at}
+use Rattle.lsm_below.proofs.Keys.{upto_trans, below_upto, below_then_upto, upto_then_below, below_trans, range_ends, in_by}
 
 -- the range before one that stands so does too
 carried : (side : Side) (k : List ℕ) (r s : Range) → IsRange r → IsRange s → is_below r.max s.min ≡ true → stands side k s ≡ true → stands side k r ≡ true
 carried EndsBefore k r s vr vs b h = below_trans r.max s.max k (below_then_upto r.max s.min s.max b (range_ends s vs)) h
-carried EndsAtOrBefore k r s vr vs b h = true_not (is_below k r.max) (upto_trans r.max s.max k (below_upto r.max s.max (below_then_upto r.max s.min s.max b (range_ends s vs))) (not_true (is_below k s.max) h))
+carried EndsAtOrBefore k r s vr vs b h = not_from_false (is_below k r.max) (upto_trans r.max s.max k (below_upto r.max s.max (below_then_upto r.max s.min s.max b (range_ends s vs))) (not-true (is_below k s.max) h))
 carried StartsBefore k r s vr vs b h = below_trans r.min s.min k (upto_then_below r.min r.max s.min (range_ends r vr) b) h
-carried StartsAtOrBefore k r s vr vs b h = true_not (is_below k r.min) (upto_trans r.min s.min k (below_upto r.min s.min (upto_then_below r.min r.max s.min (range_ends r vr) b)) (not_true (is_below k s.min) h))
-
-pub each_at : {X : Type 0} (P : X → Type 0) (xs : List X) (j : ℕ) (d : X) → AllByRecursion P xs → j < length xs → P (get_or xs j d)
-each_at P [] j d h lt = absurd (omega arith)
-each_at P (x ∷ xs) zero d h lt = h.0
-each_at P (x ∷ xs) (suc j) d h lt = each_at P xs j d h.1 (omega arith)
+carried StartsAtOrBefore k r s vr vs b h = not_from_false (is_below k r.min) (upto_trans r.min s.min k (below_upto r.min s.min (upto_then_below r.min r.max s.min (range_ends r vr) b)) (not-true (is_below k s.min) h))
 
 module _ {T : Type 0} (range : T → Range) where
   pub run_at : (xs : List T) (i j : ℕ) (d : T) → IsRun range xs → i < j → j < length xs → is_below (range (get_or xs i d)).max (range (get_or xs j d)).min ≡ true
@@ -95,10 +92,6 @@ module _ {T : Type 0} (p q : T → Bool) where
   between (x ∷ xs) (suc lo) zero m cp cq le e = absurd (omega arith)
   between (x ∷ xs) (suc lo) (suc hi) m cp cq le e = rw (cp.before 0 x (omega arith)) (between xs lo hi m (cut_rest p x xs lo cp) (cut_rest q x xs hi cq) (omega arith) (omega arith))
 
-  and_false : (b : Bool) → (b && false) ≡ false
-  and_false true = refl
-  and_false false = refl
-
   pub span : (xs : List T) (lo hi : ℕ) → IsCut p xs lo → IsCut q xs hi → lo < hi → IsSpan (λ x. not (p x) && q x) xs lo (hi - 1)
   span xs lo hi cp cq lt = let m = cq.at_most in record {
     in_order = omega arith;
@@ -106,7 +99,7 @@ module _ {T : Type 0} (p q : T → Bool) where
     first_passes = λ d. rw (cp.behind lo d (omega arith) (omega arith), cq.before lo d lt) refl;
     last_passes = λ d. rw (cp.behind (hi - 1) d (omega arith) (omega arith), cq.before (hi - 1) d (omega arith)) refl;
     before = λ j d b. rw (cp.before j d b) refl;
-    behind = λ j d b l. rw (cq.behind j d (omega arith) l) (and_false (not (p (get_or xs j d))));
+    behind = λ j d b l. rw (cq.behind j d (omega arith) l) (and-false (not (p (get_or xs j d))));
   }
 
 -- ---- the first that passes
@@ -125,12 +118,8 @@ module _ {T : Type 0} (range : T → Range) (xs : List T) (run : IsRun range xs)
   has : T → Bool
   has t = in_range k (range t)
 
-  ends : (b : Bool) → (b && false) ≡ false
-  ends true = refl
-  ends false = refl
-
   before : (j : ℕ) (d : T) → j < at → in_range k (range (get_or xs j d)) ≡ false
-  before j d lt = in_by k (range (get_or xs j d)) ∙ rw (cut.before j d lt) (ends (not (is_below k (range (get_or xs j d)).min)))
+  before j d lt = in_by k (range (get_or xs j d)) ∙ rw (cut.before j d lt) (and-false (not (is_below k (range (get_or xs j d)).min)))
 
   pub none_past : length xs ≤ at → find (λ t. in_range k (range t)) xs ≡ None
   none_past le = find_none (λ t. in_range k (range t)) xs (λ j d lt. before j d (omega arith))

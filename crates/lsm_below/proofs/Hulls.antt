@@ -36,9 +36,6 @@ within_parts a b h = go (is_below a.min b.min) (is_below b.max a.max) (sym (with
     go false true h = absurd (cc h)
     go false false h = (refl, refl)
 
-pub within_itself : (a : Range) → is_within a a ≡ true
-within_itself a = within_of a a (below_itself a.min) (below_itself a.max)
-
 pub within_left : (a b : Range) → is_within a (hull a b) ≡ true
 within_left a b = within_of a (hull a b) (lesser_left a.min b.min) (greater_left a.max b.max)
 

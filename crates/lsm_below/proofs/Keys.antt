@@ -1,4 +1,6 @@
 -- The order of keys, and ranges by what is before what.
+use Rattle.std.proofs.Math.Bool.{and_comm}
+use Rattle.std.proofs.lemmas.Bool.{both_ways, not-true, not_from_false, true_from_ne_false}
 use Rattle.std.proofs.Common.{◌≡◌, ℕ, Bool, true, false, List, [], ◌∷◌, refl, sym, ap, ◌∙◌, not, ◌&&◌}
 use Rattle.std.specs.List.{filter}
 use Rattle.std.specs.Cmp.Lexicographic.{slice_cmp}
@@ -8,20 +10,6 @@ use Rattle.std.specs.declared.cmp.Ordering.TheVariants.{Less, Equal, Greater}
 use Rattle.std.proofs.lemmas.Cmp.{nat_list_cmp_total, upto, tied_itself}
 use Rattle.lsm_below.specs.Keys.{is_below}
 use Rattle.lsm_below.specs.Ranges.{Range, IsRange, in_range, overlap, is_within}
-
-pub not_true : (b : Bool) → not b ≡ true → b ≡ false
-not_true true h = absurd (cc h)
-not_true false h = refl
-
-pub true_not : (b : Bool) → b ≡ false → not b ≡ true
-true_not b h = ap not h
-
-pub not_false : (b : Bool) → (b ≡ false → ⊥) → b ≡ true
-not_false true h = refl
-not_false false h = absurd (h refl)
-
-pub both_false : (b : Bool) → b ≡ true → b ≡ false → ⊥
-both_false b t f = let z : true ≡ false = sym t ∙ f in cc z
 
 turned : (o : Ordering) → is_lt (ordering_reverse o) ≡ is_gt o
 turned Less = refl
@@ -51,11 +39,11 @@ below_itself a = ap is_lt (tied_itself nat_list_cmp_total a)
 
 -- a < b ≤ c
 pub below_then_upto : (a b c : List ℕ) → is_below a b ≡ true → is_below c b ≡ false → is_below a c ≡ true
-below_then_upto a b c p q = not_false (is_below a c) (λ n. both_false (is_below a b) p (upto_trans b c a q n))
+below_then_upto a b c p q = true_from_ne_false (is_below a c) (λ n. both_ways (is_below a b) (upto_trans b c a q n) p)
 
 -- a ≤ b < c
 pub upto_then_below : (a b c : List ℕ) → is_below b a ≡ false → is_below b c ≡ true → is_below a c ≡ true
-upto_then_below a b c p q = not_false (is_below a c) (λ n. both_false (is_below b c) q (upto_trans c a b n p))
+upto_then_below a b c p q = true_from_ne_false (is_below a c) (λ n. both_ways (is_below b c) (upto_trans c a b n p) q)
 
 pub below_trans : (a b c : List ℕ) → is_below a b ≡ true → is_below b c ≡ true → is_below a c ≡ true
 below_trans a b c p q = below_then_upto a b c p (below_upto b c q)
@@ -73,22 +61,16 @@ unfolding is_below
 le_not a b = turned_le (slice_cmp nat_cmp a b) ∙ ap (λ o. not (is_lt o)) (sym (nat_list_cmp_total.antisymm b a))
 
 pub range_ends : (r : Range) → IsRange r → is_below r.max r.min ≡ false
-range_ends r v = not_true (is_below r.max r.min) (sym (le_not r.min r.max) ∙ v)
+range_ends r v = not-true (is_below r.max r.min) (sym (le_not r.min r.max) ∙ v)
 
 pub ends_range : (r : Range) → is_below r.max r.min ≡ false → IsRange r
-ends_range r h = le_not r.min r.max ∙ true_not (is_below r.max r.min) h
-
-and_swap : (a b : Bool) → (a && b) ≡ (b && a)
-and_swap true true = refl
-and_swap true false = refl
-and_swap false true = refl
-and_swap false false = refl
+ends_range r h = le_not r.min r.max ∙ not_from_false (is_below r.max r.min) h
 
 pub in_by : (k : List ℕ) (r : Range) → in_range k r ≡ (not (is_below k r.min) && not (is_below r.max k))
 in_by k r = rw (le_not r.min k, le_not k r.max) refl
 
 pub overlap_by : (a b : Range) → overlap a b ≡ (not (is_below a.max b.min) && not (is_below b.max a.min))
-overlap_by a b = rw (le_not a.min b.max, le_not b.min a.max) (and_swap (not (is_below b.max a.min)) (not (is_below a.max b.min)))
+overlap_by a b = rw (le_not a.min b.max, le_not b.min a.max) (and_comm (not (is_below b.max a.min)) (not (is_below a.max b.min)))
 
 pub within_by : (a b : Range) → is_within a b ≡ (not (is_below a.min b.min) && not (is_below b.max a.max))
 within_by a b = rw (le_not b.min a.min, le_not a.max b.max) refl

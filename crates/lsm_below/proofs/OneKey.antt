@@ -1,4 +1,5 @@
 -- Entries of one key, in a list in order.
+use Rattle.std.specs.Cmp.{Equal-is}
 use Rattle.std.proofs.Common.{◌≡◌, ℕ, ◌<◌, ◌≤◌, true, false, cond, List, [], ◌∷◌, refl, sym, ap, ◌∙◌, arith}
 use Rattle.std.specs.List.{AllByRecursion}
 use Rattle.std.specs.Cmp.Lexicographic.{slice_cmp}
@@ -10,20 +11,15 @@ use Rattle.lsm_below.specs.declared.value.InternalValue.{InternalValue}
 use Rattle.lsm_below.specs.Entries.{entry_cmp, stack}
 use Rattle.lsm_below.specs.Streams.{IsInOrder, is_of}
 use Rattle.lsm_below.specs.Slots.{same_key}
-use Rattle.lsm_below.proofs.Each.{each_weaker}
+use Rattle.lsm_below.specs.Each.{each_weaker}
 
 -- the order of keys
 abbrev texts : List ℕ → List ℕ → Ordering
 texts = slice_cmp nat_cmp
 
-equal_is : (r : Ordering) → is_eq r ≡ true → r ≡ Equal
-equal_is Less h = absurd (cc h)
-equal_is Equal h = refl
-equal_is Greater h = absurd (cc h)
-
 -- entries of one key are of any key alike
 pub same_of : (k : List ℕ) (e f : InternalValue) → same_key e f ≡ true → is_of k f ≡ is_of k e
-same_of k e f h = ap is_eq (sym (alike_right nat_list_cmp_total e.key.user_key f.key.user_key k (equal_is (texts e.key.user_key f.key.user_key) h)))
+same_of k e f h = ap is_eq (sym (alike_right nat_list_cmp_total e.key.user_key f.key.user_key k ((Equal-is (texts e.key.user_key f.key.user_key)).0 h)))
 
 key_rises : (r : Ordering) (n : Ordering) → is_le (ordering_then r n) ≡ true → (r ≡ Equal → ⊥) → r ≡ Less
 key_rises Less n h apart = refl
@@ -43,7 +39,7 @@ less_on a b c Greater n h q le = absurd (cc le)
 
 apart : (k : List ℕ) (e g : InternalValue) → is_of k e ≡ true → texts e.key.user_key g.key.user_key ≡ Less → is_of k g ≡ false
 apart k e g ke less =
-    let up : texts k g.key.user_key ≡ Less = nat_list_cmp_total.congr k e.key.user_key g.key.user_key (equal_is (texts k e.key.user_key) ke) ∙ less in
+    let up : texts k g.key.user_key ≡ Less = nat_list_cmp_total.congr k e.key.user_key g.key.user_key ((Equal-is (texts k e.key.user_key)).0 ke) ∙ less in
     ap is_eq up
 
 -- once the key has changed, it doesn't come back
@@ -68,7 +64,7 @@ number_falls e f same le = falls (texts e.key.user_key f.key.user_key) e.key.seq
 
 -- two entries of one key
 pub same_from : (k : List ℕ) (e f : InternalValue) → is_of k e ≡ true → is_of k f ≡ true → same_key e f ≡ true
-same_from k e f ke kf = ap is_eq (sym (nat_list_cmp_total.congr k e.key.user_key f.key.user_key (equal_is (texts k e.key.user_key) ke))) ∙ kf
+same_from k e f ke kf = ap is_eq (sym (nat_list_cmp_total.congr k e.key.user_key f.key.user_key ((Equal-is (texts k e.key.user_key)).0 ke))) ∙ kf
 
 -- the numbers of a key's later entries
 pub stack_falls : (k : List ℕ) (e : InternalValue) (es : List InternalValue) → is_of k e ≡ true → AllByRecursion (λ g. is_le (entry_cmp e g) ≡ true) es → AllByRecursion (λ g. g.key.seqno ≤ e.key.seqno) (stack k es)

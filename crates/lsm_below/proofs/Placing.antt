@@ -1,4 +1,7 @@
 -- What placing one table more keeps.
+use Rattle.lsm_below.specs.Each.{each_weaker}
+use Rattle.std.proofs.Math.Bool.{and-false, and_assoc}
+use Rattle.std.proofs.lemmas.Bool.{both_ways, not-true, true_from_ne_false, and_parts}
 use Rattle.std.proofs.Common.{◌≡◌, ℕ, zero, suc, ◌-◌, ◌<◌, ◌≤◌, Bool, true, false, cond, not, ◌&&◌, List, [], ◌∷◌, ◌++◌, length, get_or, take, drop, set, refl, sym, ◌∙◌, ap, subst, arith}
 use Rattle.std.specs.List.{AllByRecursion, insert}
 use Rattle.std.specs.List.Sorted.{IsPermutation}
@@ -10,27 +13,19 @@ use Rattle.lsm_below.specs.Runs.{IsRun, IsCut, stands}
 use Rattle.lsm_below.specs.declared.run.Side.TheVariants.{EndsBefore}
 use Rattle.lsm_below.specs.Optimizes.{tables_of}
 use Rattle.lsm_below.specs.Greedy.{put, is_free, placed, starts_behind}
-use Rattle.lsm_below.proofs.Keys.{not_true, both_false, not_false, upto_trans, below_then_upto, below_trans, range_ends, in_by, overlap_by}
-
-pub and_parts : (a b : Bool) → (a && b) ≡ true → (a ≡ true) × (b ≡ true)
-and_parts true b h = (refl, h)
-and_parts false b h = absurd (cc h)
-
-pub not_both : (b : Bool) → b ≡ true → not b ≡ true → ⊥
-not_both true p q = cc q
-not_both false p q = cc p
+use Rattle.lsm_below.proofs.Keys.{upto_trans, below_then_upto, below_trans, range_ends, in_by, overlap_by}
 
 -- two ranges with a key in both overlap
 pub shared_overlaps : (k : List ℕ) (a b : Range) → in_range k a ≡ true → in_range k b ≡ true → overlap a b ≡ true
 shared_overlaps k a b h g =
     let p = and_parts (not (is_below k a.min)) (not (is_below a.max k)) (sym (in_by k a) ∙ h) in
     let q = and_parts (not (is_below k b.min)) (not (is_below b.max k)) (sym (in_by k b) ∙ g) in
-    let x : is_below a.max b.min ≡ false = upto_trans b.min k a.max (not_true (is_below k b.min) q.0) (not_true (is_below a.max k) p.1) in
-    let y : is_below b.max a.min ≡ false = upto_trans a.min k b.max (not_true (is_below k a.min) p.0) (not_true (is_below b.max k) q.1) in
+    let x : is_below a.max b.min ≡ false = upto_trans b.min k a.max (not-true (is_below k b.min) q.0) (not-true (is_below a.max k) p.1) in
+    let y : is_below b.max a.min ≡ false = upto_trans a.min k b.max (not-true (is_below k a.min) p.0) (not-true (is_below b.max k) q.1) in
     overlap_by a b ∙ rw (x, y) refl
 
 pub overlap_parts : (a b : Range) → overlap a b ≡ true → (is_below a.max b.min ≡ false) × (is_below b.max a.min ≡ false)
-overlap_parts a b h = let p = and_parts (not (is_below a.max b.min)) (not (is_below b.max a.min)) (sym (overlap_by a b) ∙ h) in (not_true (is_below a.max b.min) p.0, not_true (is_below b.max a.min) p.1)
+overlap_parts a b h = let p = and_parts (not (is_below a.max b.min)) (not (is_below b.max a.min)) (sym (overlap_by a b) ∙ h) in (not-true (is_below a.max b.min) p.0, not-true (is_below b.max a.min) p.1)
 
 module _ {T : Type 0} (range : T → Range) where
   -- ---- one run
@@ -48,10 +43,6 @@ module _ {T : Type 0} (range : T → Range) where
   put_all P t [] p h = (p, h)
   put_all P t (x ∷ xs) p h = elim (is_below (range x).max (range t).min) as (λ b. AllByRecursion P (cond b (x ∷ put range t xs) (t ∷ x ∷ xs))) [ true ↦ (h.0, put_all P t xs p h.1) | false ↦ (p, h) ]
 
-  each_weaker : (P Q : T → Type 0) → ((x : T) → P x → Q x) → (xs : List T) → AllByRecursion P xs → AllByRecursion Q xs
-  each_weaker P Q f [] h = tt
-  each_weaker P Q f (x ∷ xs) h = (f x h.0, each_weaker P Q f xs h.1)
-
   -- a run with a table put in stays a run, where none overlaps it
   pub put_run : (t : T) (xs : List T) → IsRange (range t) → IsRun range xs → is_free range (range t) xs ≡ true → IsRun range (put range t xs)
   put_run t [] v h free = (v, tt, tt)
@@ -60,7 +51,7 @@ module _ {T : Type 0} (range : T → Range) where
       elim (is_below (range x).max (range t).min) as (λ b. is_below (range x).max (range t).min ≡ b → IsRun range (cond b (x ∷ put range t xs) (t ∷ x ∷ xs))) [
         | true ↦ λ e. (h.0, put_all (λ y. is_below (range x).max (range y).min ≡ true) t xs e h.1, put_run t xs v h.2 f.1)
         | false ↦ λ e.
-            let apart : is_below (range t).max (range x).min ≡ true = not_false (is_below (range t).max (range x).min) (λ n. let o : overlap (range x) (range t) ≡ true = overlap_by (range x) (range t) ∙ rw (e, n) refl in not_both (overlap (range x) (range t)) o f.0) in
+            let apart : is_below (range t).max (range x).min ≡ true = true_from_ne_false (is_below (range t).max (range x).min) (λ n. let o : overlap (range x) (range t) ≡ true = overlap_by (range x) (range t) ∙ rw (e, n) refl in both_ways (overlap (range x) (range t)) (not-true (overlap (range x) (range t)) f.0) o) in
             (v, (apart, each_weaker (λ y. is_below (range x).max (range y).min ≡ true) (λ y. is_below (range t).max (range y).min ≡ true) (λ y l. below_trans (range t).max (range x).max (range y).min (below_then_upto (range t).max (range x).min (range x).max apart (range_ends (range x) h.0)) l) xs h.1), h)
       ] refl
 
@@ -90,11 +81,7 @@ module _ {T : Type 0} (range : T → Range) where
 
   all_behind : (r : Range) (xs : List T) → AllByRecursion (λ y. is_below r.max (range y).min ≡ true) xs → is_free range r xs ≡ true
   all_behind r [] h = refl
-  all_behind r (x ∷ xs) h = rw (overlap_by (range x) r, h.0, and_no (not (is_below (range x).max r.min))) (all_behind r xs h.1)
-    where
-      and_no : (b : Bool) → (b && false) ≡ false
-      and_no true = refl
-      and_no false = refl
+  all_behind r (x ∷ xs) h = rw (overlap_by (range x) r, h.0, and-false (not (is_below (range x).max r.min))) (all_behind r xs h.1)
 
   pub free_at : (r : Range) (xs : List T) (at : ℕ) (e : T) → IsRun range xs → IsCut (λ x. stands EndsBefore r.min (range x)) xs at → at < length xs → e ≡ get_or xs at e → is_free range r xs ≡ is_below r.max (range e).min
   free_at r [] at e run cut lt read = absurd (omega arith)
@@ -118,11 +105,7 @@ module _ {T : Type 0} (range : T → Range) where
 
   pub free_append : (r : Range) (xs ys : List T) → is_free range r (xs ++ ys) ≡ (is_free range r xs && is_free range r ys)
   free_append r [] ys = refl
-  free_append r (x ∷ xs) ys = rw (free_append r xs ys) (assoc (not (overlap (range x) r)) (is_free range r xs) (is_free range r ys))
-    where
-      assoc : (a b c : Bool) → (a && (b && c)) ≡ ((a && b) && c)
-      assoc true b c = refl
-      assoc false b c = refl
+  free_append r (x ∷ xs) ys = rw (free_append r xs ys) (sym (and_assoc (not (overlap (range x) r)) (is_free range r xs) (is_free range r ys)))
 
   -- one run earlier is free too
   pub free_from : (r : Range) (runs : List (List T)) (at next : ℕ) (run : List T) → next ≡ suc at → at < length runs → run ≡ get_or runs at run → is_free range r run ≡ true → is_free range r (tables_of (drop next runs)) ≡ true → is_free range r (tables_of (drop at runs)) ≡ true
@@ -140,14 +123,10 @@ module _ {T : Type 0} (range : T → Range) where
   free_member r (x ∷ runs) zero run lt read h = subst (λ y. is_free range r y ≡ true) (sym read) (and_parts (is_free range r x) (is_free range r (tables_of runs)) (sym (free_append r x (tables_of runs)) ∙ h)).0
   free_member r (x ∷ runs) (suc at) run lt read h = free_member r runs at run (omega arith) read h
 
-  and_no : (b : Bool) → (b && false) ≡ false
-  and_no true = refl
-  and_no false = refl
-
   busy_member : (r : Range) (runs : List (List T)) (at : ℕ) → at < length runs → is_free range r (get_or runs at []) ≡ false → is_free range r (tables_of runs) ≡ false
   busy_member r [] at lt f = absurd (omega arith)
   busy_member r (x ∷ runs) zero lt f = free_append r x (tables_of runs) ∙ rw f refl
-  busy_member r (x ∷ runs) (suc at) lt f = free_append r x (tables_of runs) ∙ rw (busy_member r runs at (omega arith) f) (and_no (is_free range r x))
+  busy_member r (x ∷ runs) (suc at) lt f = free_append r x (tables_of runs) ∙ rw (busy_member r runs at (omega arith) f) (and-false (is_free range r x))
 
   busy_front : (t : T) (r : List T) (rs : List (List T)) (at : ℕ) → at ≤ length rs → (0 < suc at → is_free range (range t) (get_or (r ∷ rs) (suc at - 1) []) ≡ false) → is_free range (range t) (r ++ tables_of rs) ≡ false
   busy_front t r rs at le b =
@@ -187,10 +166,6 @@ module _ {T : Type 0} (range : T → Range) where
   pub run_part : (xs : List T) → IsRun range xs → IsRun range (drop 1 xs)
   run_part [] h = tt
   run_part (y ∷ ys) h = h.2
-
-  pub not_run : (xs : List T) (x : T) → 0 < length xs → x ≡ get_or xs 0 x → starts_behind range (range x) (drop 1 xs) ≡ false → IsRun range xs → ⊥
-  not_run [] x some read b h = absurd (omega arith)
-  not_run (y ∷ ys) x some read b h = both_false (starts_behind range (range y) ys) (front_of_run y ys h) (subst (λ z. starts_behind range (range z) ys ≡ false) read b)
 
   pub tail_is : (xs : List T) → take (length xs - 1) (drop 1 xs) ≡ drop 1 xs
   tail_is [] = take_all 0 [] (omega arith)

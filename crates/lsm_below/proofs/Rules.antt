@@ -1,4 +1,5 @@
 -- Placing one table after another keeps the rules.
+use Rattle.std.proofs.lemmas.Bool.{and_parts, both_ways, not-true}
 use Rattle.std.proofs.Common.{◌≡◌, ℕ, zero, suc, ◌<◌, ◌≤◌, Bool, true, false, cond, not, ◌⊎◌, ⊎_elim, List, [], ◌∷◌, ◌++◌, length, refl, sym, ◌∙◌, ap, subst, arith, inl, inr, append_assoc, append-nil, fold}
 use Rattle.std.specs.List.{AllByRecursion, Contains, filter}
 use Rattle.std.specs.List.Sorted.{IsPermutation}
@@ -9,8 +10,8 @@ use Rattle.lsm_below.specs.Ranges.{Range, IsRange, in_range, overlap, greater_of
 use Rattle.lsm_below.specs.Runs.{IsRun}
 use Rattle.lsm_below.specs.Optimizes.{EachPair, tables_of, StandsIn, StandsBefore, Optimizes}
 use Rattle.lsm_below.specs.Greedy.{put, is_free, placed, IsPlaced}
-use Rattle.lsm_below.proofs.Keys.{both_false, below_upto, below_itself, range_ends, in_by}
-use Rattle.lsm_below.proofs.Placing.{and_parts, not_both, shared_overlaps, overlap_parts, put_run, put_some, put_same, free_append}
+use Rattle.lsm_below.proofs.Keys.{below_upto, below_itself, range_ends, in_by}
+use Rattle.lsm_below.proofs.Placing.{shared_overlaps, overlap_parts, put_run, put_some, put_same, free_append}
 
 module _ {T : Type 0} (range : T → Range) where
   Apart : T → T → Type 0
@@ -24,9 +25,6 @@ module _ {T : Type 0} (range : T → Range) where
         (IsPermutation-sym (r ++ t ∷ tables_of rs) (t ∷ (r ++ tables_of rs)) (IsPermutation-middle r t (tables_of rs)))
         (IsPermutation-append_right r (t ∷ tables_of rs) (tables_of (placed range t rs)) (placed_same t rs))
   ]
-
-  Good : List T → Type 0
-  Good r = IsRun range r × (0 < length r)
 
   placed_each : (t : T) (runs : List (List T)) → IsRange (range t) → AllByRecursion (λ r. IsRun range r × (0 < length r)) runs → AllByRecursion (λ r. IsRun range r × (0 < length r)) (placed range t runs)
   placed_each t [] v h = (((v, tt, tt), omega arith), tt)
@@ -45,7 +43,7 @@ module _ {T : Type 0} (range : T → Range) where
     none_has t (x ∷ xs) h f =
         let p = and_parts (not (overlap (range x) (range t))) (is_free range (range t) xs) f in
         elim (in_range k (range x)) as (λ b. in_range k (range x) ≡ b → cond b (x ∷ filter (λ x. in_range k (range x)) xs) (filter (λ x. in_range k (range x)) xs) ≡ []) [
-          | true ↦ λ q. absurd (not_both (overlap (range x) (range t)) (shared_overlaps k (range x) (range t) q h) p.0)
+          | true ↦ λ q. absurd (both_ways (overlap (range x) (range t)) (not-true (overlap (range x) (range t)) p.0) (shared_overlaps k (range x) (range t) q h))
           | false ↦ λ q. none_has t xs h p.1
         ] refl
 
@@ -120,9 +118,6 @@ module _ {T : Type 0} (range : T → Range) where
         let apart = All-permutation (λ x. overlap (range x) (range t) ≡ false) done (tables_of runs) h.same (All-from_recursion (λ x. overlap (range x) (range t) ≡ false) done parts.1) in
         placed_few t runs (h.joined parts.0) (all_free t (tables_of runs) (recursion_from_All (λ x. overlap (range x) (range t) ≡ false) (tables_of runs) apart));
   }
-
-  pub placed_none : IsPlaced range [] []
-  placed_none = record { same = IsPermutation-refl []; each = tt; keys = λ k. refl; joined = λ pairs. omega arith }
 
   pub placed_all : (ts done : List T) (runs : List (List T)) → AllByRecursion (λ t. IsRange (range t)) ts → IsPlaced range done runs → IsPlaced range (done ++ ts) (fold (λ rs t. placed range t rs) runs ts)
   placed_all [] done runs v h = rw (append-nil done) h
@@ -203,7 +198,7 @@ module _ {T : Type 0} (range : T → Range) where
   filter_in t [] x i h = i
   filter_in t (y ∷ xs) x i h = elim (t y) as (λ b. t y ≡ b → IsIn x (cond b (y ∷ filter t xs) (filter t xs))) [
     | true ↦ λ q. ⊎_elim (λ (e : y ≡ x). inl e) (λ (j : IsIn x xs). inr (filter_in t xs x j h)) i
-    | false ↦ λ q. ⊎_elim (λ (e : y ≡ x). absurd (both_false (t y) (ap t e ∙ h) q)) (λ (j : IsIn x xs). filter_in t xs x j h) i
+    | false ↦ λ q. ⊎_elim (λ (e : y ≡ x). absurd (both_ways (t y) q (ap t e ∙ h))) (λ (j : IsIn x xs). filter_in t xs x j h) i
   ] refl
 
   filter_before : (t : T → Bool) (xs : List T) (a b : T) → t a ≡ true → t b ≡ true → Before a b xs → Before a b (filter t xs)
@@ -211,7 +206,7 @@ module _ {T : Type 0} (range : T → Range) where
   filter_before t [] a b ha hb h = h
   filter_before t (y ∷ xs) a b ha hb h = elim (t y) as (λ c. t y ≡ c → Before a b (cond c (y ∷ filter t xs) (filter t xs))) [
     | true ↦ λ q. ⊎_elim (λ (e : (y ≡ a) × IsIn b xs). inl (e.0, filter_in t xs b e.1 hb)) (λ (k : Before a b xs). inr (filter_before t xs a b ha hb k)) h
-    | false ↦ λ q. ⊎_elim (λ (e : (y ≡ a) × IsIn b xs). absurd (both_false (t y) (ap t e.0 ∙ ha) q)) (λ (k : Before a b xs). filter_before t xs a b ha hb k) h
+    | false ↦ λ q. ⊎_elim (λ (e : (y ≡ a) × IsIn b xs). absurd (both_ways (t y) q (ap t e.0 ∙ ha))) (λ (k : Before a b xs). filter_before t xs a b ha hb k) h
   ] refl
 
   before_filter : (t : T → Bool) (xs : List T) (a b : T) → Before a b (filter t xs) → Before a b xs
@@ -229,7 +224,7 @@ module _ {T : Type 0} (range : T → Range) where
   not_in_run k (x ∷ xs) a b r ha hb h = ⊎_elim
       (λ (e : (x ≡ a) × IsIn b xs).
       let lt : is_below (range a).max (range b).min ≡ true = subst (λ y. is_below (range y).max (range b).min ≡ true) e.0 (each_in (λ y. is_below (range x).max (range y).min ≡ true) xs b r.1 e.1) in
-      both_false (is_below (range a).max (range b).min) lt (overlap_parts (range a) (range b) (shared_overlaps k (range a) (range b) ha hb)).0)
+      both_ways (is_below (range a).max (range b).min) (overlap_parts (range a) (range b) (shared_overlaps k (range a) (range b) ha hb)).0 lt)
       (λ (g : Before a b xs). not_in_run k xs a b r.2 ha hb g)
       h
 

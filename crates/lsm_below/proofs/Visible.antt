@@ -8,7 +8,7 @@ use Rattle.std.specs.List.{Contains}
 use Rattle.std.specs.List.Sorted.{IsPartitionedBy}
 use Rattle.std.proofs.lemmas.Cmp.{nat_list_cmp_total, ranked, tied_itself}
 use Rattle.std.proofs.lemmas.List.{get_or_default}
-use Rattle.std.proofs.lemmas.Bool.{cases_lt, lt-ltb, ltb-true}
+use Rattle.std.proofs.lemmas.Bool.{cases_lt, lt-ltb, ltb-true, both_ways}
 use Rattle.std.proofs.lemmas.Bool.Decides.{nat_tests}
 use Rattle.std.proofs.lemmas.List.Elements.{All-contains}
 use Rattle.lsm_below.specs.declared.value.InternalValue.{InternalValue}
@@ -132,11 +132,6 @@ same_texts (x ∷ xs) (y ∷ ys) tie = go (same_texts xs ys) (nat_cmp x y) refl 
     go rest Equal is t = let e : x ≡ y = ranked x y Equal (sym is) in ap (λ z. z ∷ xs) e ∙ ap (λ l. y ∷ l) (rest t)
     go rest Greater is t = absurd (cc t)
 
-is_eq_tie : (o : Ordering) → is_eq o ≡ true → o ≡ Equal
-is_eq_tie Less e = absurd (cc e)
-is_eq_tie Equal e = refl
-is_eq_tie Greater e = absurd (cc e)
-
 -- what `is_visible` says
 pub visible_parts : (key : List ℕ) (s : ℕ) (e : InternalValue) → is_visible key s e ≡ true → (e.key.user_key ≡ key) × (e.key.seqno < s)
 visible_parts key s e = go (slice_cmp nat_cmp e.key.user_key key) refl
@@ -148,9 +143,6 @@ visible_parts key s e = go (slice_cmp nat_cmp e.key.user_key key) refl
 
 visible_from : (key : List ℕ) (s : ℕ) (e : InternalValue) → e.key.user_key ≡ key → e.key.seqno < s → is_visible key s e ≡ true
 visible_from key s e same below = rw (same, tied_itself nat_list_cmp_total key) (lt-ltb e.key.seqno s below)
-
-not_both : (b : Bool) → b ≡ true → b ≡ false → ⊥
-not_both b t f = cc (t, f)
 
 -- an element is the first or in the rest
 contains_cases : (x : InternalValue) (xs : List InternalValue) (f : InternalValue) → Contains (x ∷ xs) f → (x ≡ f) ⊎ Contains xs f
@@ -171,7 +163,7 @@ has_none (x ∷ xs) key s none f there same below = go (λ h rest. has_none xs k
     go : (first (is_visible key s) xs ≡ None → Contains xs f → ⊥) → (b : Bool) → is_visible key s x ≡ b → cond b (Some x) (first (is_visible key s) xs) ≡ None → ⊥
     go later true is h = cc h
     go later false is h = elim (contains_cases x xs f there) [
-      | inl e ↦ not_both _ (visible_from key s x (ap (λ z. z.key.user_key) e ∙ same) (subst (λ z. z.key.seqno < s) (sym e) below)) is
+      | inl e ↦ both_ways _ is (visible_from key s x (ap (λ z. z.key.user_key) e ∙ same) (subst (λ z. z.key.seqno < s) (sym e) below))
       | inr rest ↦ later h rest
     ]
 
@@ -198,7 +190,7 @@ is_top (x ∷ xs) key s e rises found = go (λ h. is_top xs key s e rises.1 h) (
           key_is = top.key_is;
           below = top.below;
           greatest = λ f there f_key f_below. elim (contains_cases x xs f there) [
-            | inl e ↦ absurd (not_both _ (visible_from key s x (ap (λ z. z.key.user_key) e ∙ f_key) (subst (λ z. z.key.seqno < s) (sym e) f_below)) is)
+            | inl e ↦ absurd (both_ways _ is (visible_from key s x (ap (λ z. z.key.user_key) e ∙ f_key) (subst (λ z. z.key.seqno < s) (sym e) f_below)))
             | inr rest ↦ top.greatest f rest f_key f_below
           ];
         }

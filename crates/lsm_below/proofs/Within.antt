@@ -7,7 +7,7 @@ use Rattle.std.specs.declared.ops.Bound.TheVariants.{Included, Excluded, Unbound
 use Rattle.std.specs.Ordering.{nat_cmp, ordering_then, ordering_reverse, ordering_index, is_lt, is_le}
 use Rattle.std.specs.List.Sorted.{IsPartitionedBy, IsPartitionPoint, IsNonDecreasingBy}
 use Rattle.std.proofs.lemmas.Cmp.{nat_list_cmp_total}
-use Rattle.std.proofs.lemmas.Bool.{cases_lt}
+use Rattle.std.proofs.lemmas.Bool.{cases_lt, not-true, not-false}
 use Rattle.std.proofs.lemmas.List.{get_or-drop}
 use Rattle.lsm_below.specs.Keys.{Bytes, bytes_cmp}
 use Rattle.lsm_below.specs.Sorted.{Rises}
@@ -52,20 +52,12 @@ filter_both {X} p q (x ∷ xs) = go (filter_both p q xs) (p x)
     go rest true = ap (λ l. cond (q x) (x ∷ l) l) rest
     go rest false = rest
 
-was_not : (b : Bool) → not b ≡ true → b ≡ false
-was_not true h = sym h
-was_not false h = refl
-
-was : (b : Bool) → not b ≡ false → b ≡ true
-was true h = refl
-was false h = sym h
-
 -- what passes both tests stands between the places
 pub filter_between : {X : Type 0} (p q : X → Bool) (xs : List X) (start end : ℕ) → IsPartitionPoint (λ x. not (p x) ≡ true) (λ x. not (p x) ≡ false) xs start → IsPartitionPoint (λ x. q x ≡ true) (λ x. q x ≡ false) xs end
     → filter (λ x. p x && q x) xs ≡ take (end - start) (drop start xs)
 filter_between {X} p q xs start end low high =
     filter_both p q xs
-    ∙ (ap (filter q) (filter_behind p xs start (λ j d lt in_range. was_not _ (low.0 j d (omega arith) lt)) (λ j d le lt. was _ (low.1 j d le lt)))
+    ∙ (ap (filter q) (filter_behind p xs start (λ j d lt in_range. not-true _ (low.0 j d (omega arith) lt)) (λ j d le lt. not-false _ (low.1 j d le lt)))
     ∙ filter_before q (drop start xs) (end - start)
     (λ j d lt in_range. rw (get_or-drop start xs j d) (high.0 (start + j) d (omega arith) (omega arith)))
     (λ j d le lt. rw (get_or-drop start xs j d) (high.1 (start + j) d (omega arith) (omega (arith, length-drop start xs)))))

@@ -255,7 +255,7 @@ impl<T: Ranged> Run<T> {
         ensures { IfOk result (λ r. r ≡ table ∷ []) }
     {
         table.key_range().facts();
-        let mut tables = Vec::new(alloc);
+        let mut tables = Vec::with_capacity(alloc, 1)?;
         tables.push(table)?;
         Ok(Run { tables })
     }

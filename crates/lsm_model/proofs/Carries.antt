@@ -14,12 +14,14 @@ use Rattle.lsm_model.specs.Steps.{State, among, Action, Wrote, Rotated, Flushed,
 use Rattle.lsm_model.specs.Sound.{Holds}
 use Rattle.lsm_model.specs.Beginnings.{spoiled_after, Note, SealedAt, FlushedIds, ClearedTo, sealed_at, covered, noted_by}
 use Rattle.lsm_model.specs.declared.journal.JournalEntry.TheVariants.{Write, Clear, Install, Dropped, Mark, Read}
-use Rattle.lsm_model.proofs.Lists.{fold_push, each_append, each_weaker, Sublist, sub_itself, sub_none, sub_append}
+use Rattle.lsm_below.specs.Each.{each_append, each_weaker}
+use Rattle.lsm_model.proofs.Lists.{fold_push, Sublist, sub_itself, sub_none, sub_append}
 use Rattle.lsm_model.proofs.Stacks.{stack-append, keep_sub, single_right}
 use Rattle.lsm_model.proofs.Sound.{flat_map_same, written_other}
 use Rattle.lsm_model.proofs.Installs.{emptied_other}
 use Rattle.lsm_model.proofs.Merges.{of_tables, of_tables-append, parts_of, evicted_parts, rearranged_same}
-use Rattle.lsm_model.proofs.Commits.{stack_of, each_filter, around, sub_filter, left_alone}
+use Rattle.lsm_model.proofs.Commits.{stack_of, around, sub_filter, left_alone}
+use Rattle.lsm_below.specs.Each.{each_filter}
 use Rattle.lsm_model.proofs.Runs.{each_always}
 use Rattle.lsm_model.proofs.Beginnings.{begun, newest, Begins, is_spared_at, spared_all, spared_at_more, keep_newest_sub, Tails, Fall, fall_covered, fall_kept, tails_kept, flush_tails, flush_fall, ShowsBehind, begun_after}
 use Rattle.lsm_model.proofs.Wholes.{whole_begins}

@@ -12,7 +12,8 @@ use Rattle.lsm_model.specs.Sound.{FitsAt, HasIds, IsSound}
 use Rattle.lsm_model.specs.declared.journal.JournalEntry.TheVariants.{Clear, Install, Dropped, Mark, Read}
 use Rattle.lsm_model.specs.declared.question.Question.{Question}
 use Rattle.lsm_model.specs.declared.question.Answer.{Answer}
-use Rattle.lsm_model.proofs.Lists.{fold_push, each_append, each_left, each_weaker, Sublist, done, sub_itself, sub_none, sub_append}
+use Rattle.lsm_below.specs.Each.{each_append, each_left, each_weaker, each_filter}
+use Rattle.lsm_model.proofs.Lists.{fold_push, Sublist, done, sub_itself, sub_none, sub_append}
 use Rattle.lsm_model.proofs.Stacks.{stack-append, keep_sub, keep_same_behind}
 use Rattle.lsm_model.proofs.Installs.{ShowsSame, drop_sound, clear_sound, emptied_sound, emptied_here, below_next}
 use Rattle.lsm_model.proofs.Merges.{of_table, of_tables, of_tables-cons, of_tables-append, parts_of, evicted_parts, rearranged_same, none_outside}
@@ -70,11 +71,6 @@ flush_same opened start journal mems latest older new w job made next act sealed
     (rearranged_same k (made ++ latest.tables) new.tables laid' (each_append _ made latest.tables covers laid.covers) same ∙ of_tables-append k made latest.tables ∙ ap (λ es. es ++ of_tables k latest.tables) (kept k)))
     (λ k z. absurd (cc z))
     sound
-
--- chosen tables stay covered, as do the others
-pub each_filter : {A : Type 0} (P : A → Type 0) (t : A → Bool) (xs : List A) → AllByRecursion P xs → AllByRecursion P (filter t xs)
-each_filter P t [] h = tt
-each_filter P t (x ∷ xs) h = elim (t x) as (λ b. AllByRecursion P (cond b (x ∷ filter t xs) (filter t xs))) [ true ↦ (h.0, each_filter P t xs h.1) | false ↦ each_filter P t xs h.1 ]
 
 -- what a new run in place of chosen tables leaves to each key
 pub around : (k : Bytes) (d : ℕ) (chosen : ℕ → Bool) (old made new : List Placed) (es : List Entry) → IsLaidOut old → AllCover made → IsLaidOut new

@@ -8,7 +8,8 @@ use Rattle.lsm_model.specs.Journal.{Event, MayCome, InOrderFrom, sets_of, sets_a
 use Rattle.lsm_model.specs.Views.{EachPair}
 use Rattle.lsm_model.specs.declared.journal.JournalEntry.TheVariants.{Write, Clear, Install, Dropped, Mark, Read}
 use Rattle.lsm_model.specs.Counted.{Counted, events_of, counter_after, NeverFalls, IsDrawn, StandsAbove, OfWrite, removes_weakly, CountedIsInOrder}
-use Rattle.lsm_model.proofs.Lists.{fold_push, each_both}
+use Rattle.lsm_below.specs.Each.{each_both}
+use Rattle.lsm_model.proofs.Lists.{fold_push}
 use Rattle.lsm_model.proofs.Journals.{same_itself}
 
 -- ---- the counter stands above all numbers so far

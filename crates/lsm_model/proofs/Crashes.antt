@@ -12,7 +12,8 @@ use Rattle.lsm_model.specs.Steps.{State, among, Action, Flushed, Merged, Moved, 
 use Rattle.lsm_model.specs.Sound.{Holds}
 use Rattle.lsm_model.specs.Beginnings.{is_spared, Note, ClearLost, sealed_at, covered, SealedAt, FlushedIds, ClearedTo, shown_by, Stands, Recovers, Saved, versions, Deed, Done, Lost, is_commit, noted_by, noted_lost, told_lost, Does, Deeds, IsStart, EveryCrashRecovers, EachDeedRecovers, EveryDeedReadsRight, BeginningsAnswer, beginning, IsBeginning, DeedsJoin, DeedsSplit, CoverLasts, OpeningStarts, ShownAbove, IsFound, Life, LivesWell, AnyNumberOfCrashes}
 use Rattle.lsm_model.specs.declared.journal.JournalEntry.TheVariants.{Clear, Dropped}
-use Rattle.lsm_model.proofs.Lists.{fold_push, each_weaker}
+use Rattle.lsm_below.specs.Each.{each_weaker}
+use Rattle.lsm_model.proofs.Lists.{fold_push}
 use Rattle.lsm_model.proofs.Stacks.{falling_right, falling_sub, single_right, single_sub, top_first}
 use Rattle.lsm_model.proofs.Journals.{in_order_front}
 use Rattle.lsm_model.proofs.Merges.{of_tables}

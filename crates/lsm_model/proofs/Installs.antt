@@ -10,7 +10,8 @@ use Rattle.lsm_model.specs.Journal.{Event, in_any, value_after, replay_at, outsi
 use Rattle.lsm_model.specs.Views.{Memtables, SuperVersion, entries, lookup, seen, emptied, maintained}
 use Rattle.lsm_model.specs.Sound.{HasIds, FitsAt, IsSound}
 use Rattle.lsm_model.specs.declared.journal.JournalEntry.TheVariants.{Clear, Install, Dropped}
-use Rattle.lsm_model.proofs.Lists.{fold_push, each_weaker, each_found, each_both, Sublist, sub_none}
+use Rattle.lsm_below.specs.Each.{each_weaker, each_both}
+use Rattle.lsm_model.proofs.Lists.{fold_push, each_found, Sublist, sub_none}
 use Rattle.lsm_model.proofs.Journals.{next_of-le, floor-le}
 use Rattle.lsm_model.proofs.Sound.{fits_sub, flat_map_same}
 

@@ -1,4 +1,6 @@
 -- The replay at one key, and what one more event does.
+use Rattle.std.proofs.Math.Bool.{and-true, and-false}
+use Rattle.std.specs.Cmp.{Equal-is}
 use Rattle.std.proofs.Common.{◌≡◌, ℕ, ◌+◌, ◌<◌, ◌≤◌, max, Bool, true, false, cond, ◌&&◌, List, [], ◌∷◌, ◌++◌, None, fold, refl, sym, ap, ◌∙◌, subst, arith, append-nil, append_assoc, ltb, ltb-false, is_eq, Ordering, Less, Equal, Greater}
 use Rattle.std.specs.Cmp.Lexicographic.{nat_list_cmp_total}
 use Rattle.std.specs.FinMap.{get, empty, get-insert, get-remove, get-empty, slice_cmp-IsAntisymmetric, nat_cmp-IsAntisymmetric}
@@ -12,13 +14,8 @@ use Rattle.lsm_model.specs.Journal.{changed_by, Event, Map, changed, map_after, 
 use Rattle.lsm_model.specs.declared.journal.JournalEntry.TheVariants.{Write, Clear, Install, Dropped, Mark, Read}
 use Rattle.lsm_model.proofs.Lists.{fold_push}
 
-tied : (r : Ordering) → is_eq r ≡ true → r ≡ Equal
-tied Less h = absurd (cc h)
-tied Equal h = refl
-tied Greater h = absurd (cc h)
-
 pub same_key : (k q : Bytes) → is_same k q ≡ true → k ≡ q
-same_key k q h = slice_cmp-IsAntisymmetric nat_cmp-IsAntisymmetric k q (tied (bytes_cmp k q) h)
+same_key k q h = slice_cmp-IsAntisymmetric nat_cmp-IsAntisymmetric k q ((Equal-is (bytes_cmp k q)).0 h)
 
 pub same_itself : (k : Bytes) → is_same k k ≡ true
 same_itself k = ap is_eq (tied_itself nat_list_cmp_total k)
@@ -31,20 +28,12 @@ get-changed_by m q WeakTombstone v k = get-remove nat_list_cmp_total m q k
 pub get-changed : (m : Map) (e : Entry) (k : Bytes) → get (changed m e) k ≡ cond (is_same k e.key.user_key) (value_of e) (get m k)
 get-changed m e k = get-changed_by m e.key.user_key e.key.value_type e.value k
 
-pub and_true : (b : Bool) → (b && true) ≡ b
-and_true true = refl
-and_true false = refl
-
-pub and_false : (b : Bool) → (b && false) ≡ false
-and_false true = refl
-and_false false = refl
-
 -- one event, on the map and at a key
 get-map_after : (s : ℕ) (m : Map) (x : Event) (k : Bytes) → get (map_after s m x) k ≡ value_after k s (get m k) x
 get-map_after s m (Write e) k =
     elim (ltb e.key.seqno s) as (λ b. get (cond b (changed m e) m) k ≡ cond (is_same k e.key.user_key && b) (value_of e) (get m k)) [
-      | true ↦ rw (and_true (is_same k e.key.user_key)) (get-changed m e k)
-      | false ↦ rw (and_false (is_same k e.key.user_key)) refl
+      | true ↦ rw (and-true (is_same k e.key.user_key)) (get-changed m e k)
+      | false ↦ rw (and-false (is_same k e.key.user_key)) refl
     ]
 get-map_after s m (Clear n) k =
     elim (ltb n s) as (λ b. get (cond b empty m) k ≡ cond b None (get m k)) [ true ↦ get-empty bytes_cmp k | false ↦ refl ]
@@ -109,13 +98,6 @@ in_order_last opened journal x h = in_order_last_from opened [] journal x h
 
 pub in_order_front : (opened : List Entry) (journal more : List Event) → InOrder opened (journal ++ more) → InOrder opened journal
 in_order_front opened journal more h = in_order_front_from opened [] journal more h
-
--- a counter above all numbers so far stays so over writes numbered below it, and over a commit that draws it
-pub counted_write : (opened : List Entry) (journal : List Event) (e : Entry) (counter : ℕ) → next_number opened journal ≤ counter → e.key.seqno < counter → next_number opened (journal ++ Write e ∷ []) ≤ counter
-counted_write opened journal e counter h l = rw (fold_push next_number_after (above opened) journal (Write e)) (omega arith)
-
-pub counted_commit : (opened : List Entry) (journal : List Event) (counter : ℕ) → next_number opened journal ≤ counter → next_number opened (journal ++ Install counter ∷ []) ≤ counter + 1
-counted_commit opened journal counter h = rw (fold_push next_number_after (above opened) journal (Install counter)) (omega arith)
 
 not_kept : (s : ℕ) (more : List Event) → fold (kept_after s) false more ≡ false
 not_kept s [] = refl

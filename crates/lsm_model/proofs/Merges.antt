@@ -3,7 +3,7 @@ use Rattle.std.proofs.Common.{◌≡◌, ℕ, ◌<◌, ◌≤◌, Bool, true, fa
 use Rattle.std.specs.List.{AllByRecursion}
 use Rattle.std.specs.Cmp.Lexicographic.{nat_list_cmp_total}
 use Rattle.std.proofs.lemmas.Cmp.{upto}
-use Rattle.std.proofs.lemmas.Bool.{and_parts, and_from}
+use Rattle.std.proofs.lemmas.Bool.{and_parts, and_from, not-true}
 use Rattle.lsm_below.specs.Keys.{Bytes, bytes_cmp, is_same}
 use Rattle.lsm_below.specs.Ranges.{Range, in_range, overlap}
 use Rattle.lsm_below.specs.Entries.{Entry, stack}
@@ -87,15 +87,11 @@ module _ (k : Bytes) (d : ℕ) (chosen : ℕ → Bool) (evict : Bool) where
         (λ (j : in_range k q.table.range ≡ true).
         let parts = and_parts _ _ u in
         let pair = a.0 (overlap_at k p.table.range q.table.range i j) in
-        let no : chosen q.table.id ≡ false = unchosen (chosen q.table.id) parts.0 in
+        let no : chosen q.table.id ≡ false = not-true (chosen q.table.id) parts.0 in
         let l = pair.order_behind c no in let m = ltb-true q.level d parts.1 in absurd (omega arith))
         (empty_or_in k q v.0),
     behind_chosen p tables i c a.1 v.1,
   )
-    where
-      unchosen : (b : Bool) → not b ≡ true → b ≡ false
-      unchosen true h = sym h
-      unchosen false h = refl
 
   -- behind an unchosen table with the key at d or below no chosen one has it
   behind_lower : (p : Placed) (tables : List Placed) → in_range k p.table.range ≡ true → chosen p.table.id ≡ false → d ≤ p.level → AllByRecursion (Allows p) tables → AllByRecursion Covers tables → AllByRecursion (λ q. chosen q.table.id ≡ true → of_table k q ≡ []) tables

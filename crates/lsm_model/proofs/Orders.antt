@@ -4,7 +4,7 @@ use Rattle.std.specs.List.{AllByRecursion}
 use Rattle.lsm_below.specs.Ranges.{in_range}
 use Rattle.lsm_below.specs.Entries.{Entry, IsFalling}
 use Rattle.lsm_model.specs.Views.{EachPair, IsIn, Placed, Table, place_of, HasDistinctIds, IsReordered, IsRearranged, placed_from, placed_at}
-use Rattle.lsm_model.proofs.Lists.{each_weaker, each_append, each_both}
+use Rattle.lsm_below.specs.Each.{each_weaker, each_append, each_both}
 use Rattle.lsm_model.proofs.Merges.{overlap_at}
 
 each_in : {A : Type 0} (P : A → Type 0) (xs : List A) (x : A) → AllByRecursion P xs → IsIn x xs → P x
@@ -22,14 +22,6 @@ one_order R apart (x ∷ xs) (y ∷ ys) h k f g =
     let there : (z : _) → IsIn z xs → IsIn z ys = λ z i. ⊎_elim (λ (e : y ≡ z). absurd (let r = each_in (R x) xs z h.0 i in let q = subst (λ w. R x w) (sym e ∙ same) r in apart x x q q)) (λ (j : IsIn z ys). j) (f z (inr i)) in
     let back : (z : _) → IsIn z ys → IsIn z xs = λ z i. ⊎_elim (λ (e : x ≡ z). absurd (let r = each_in (R y) ys z k.0 i in let q = subst (λ w. R y w) (sym e ∙ sym same) r in apart y y q q)) (λ (j : IsIn z xs). j) (g z (inr i)) in
     ap₂ (λ v vs. v ∷ vs) (sym same) (one_order R apart xs ys h.1 k.1 there back)
-
-falling_pairs : (es : List Entry) → IsFalling es → EachPair (λ e f. f.key.seqno < e.key.seqno) es
-falling_pairs [] h = tt
-falling_pairs (e ∷ es) h = (h.0, falling_pairs es h.1)
-
--- one key's entries by falling number are settled by their members
-pub falling_unique : (xs ys : List Entry) → IsFalling xs → IsFalling ys → ((e : Entry) → IsIn e xs → IsIn e ys) → ((e : Entry) → IsIn e ys → IsIn e xs) → xs ≡ ys
-falling_unique xs ys h k f g = one_order (λ e f. f.key.seqno < e.key.seqno) (λ e f p q. omega arith) xs ys (falling_pairs xs h) (falling_pairs ys k) f g
 
 -- ---- runs that are joined
 

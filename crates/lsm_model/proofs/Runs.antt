@@ -16,9 +16,11 @@ use Rattle.lsm_model.specs.declared.journal.JournalEntry.TheVariants.{Write, Cle
 use Rattle.lsm_model.specs.declared.question.Question.{Question}
 use Rattle.lsm_model.specs.declared.question.Question.TheVariants.{Get, Between, Prefix}
 use Rattle.lsm_model.specs.declared.question.Answer.TheVariants.{Found}
-use Rattle.lsm_model.proofs.Lists.{fold_push, each_weaker, each_both, each_found, each_left}
+use Rattle.lsm_below.specs.Each.{each_weaker, each_both, each_left}
+use Rattle.lsm_model.proofs.Lists.{fold_push, each_found}
 use Rattle.lsm_model.proofs.Stacks.{stack-append, seen_first, seen_past, top_first, walk_top}
-use Rattle.lsm_model.proofs.Journals.{get-replay, above_stack, and_false, in_order_last, in_order_front}
+use Rattle.std.proofs.Math.Bool.{and-false}
+use Rattle.lsm_model.proofs.Journals.{get-replay, above_stack, in_order_last, in_order_front}
 use Rattle.lsm_model.proofs.Sound.{write_sound}
 use Rattle.lsm_model.proofs.Installs.{maintained_cases, same_sound, ShowsSame, rotate_sound, lookup_latest}
 use Rattle.lsm_model.proofs.Commits.{flush_same, merge_same, move_same, dropped_sound, cleared_sound, note_sound, mark_note, read_note, lost_note, forgotten_sound, some_still, IsNote}
@@ -69,7 +71,7 @@ seen_zero s [] z = refl
 seen_zero s (e ∷ es) z = seen_past s e es (omega arith) ∙ seen_zero s es z
 
 value_zero : (k : Bytes) (s : ℕ) (v : Option Bytes) (x : Event) → s ≡ 0 → value_after k s v x ≡ v
-value_zero k s v (Write e) z = rw (le-ltb e.key.seqno s (omega arith), and_false (is_same k e.key.user_key)) refl
+value_zero k s v (Write e) z = rw (le-ltb e.key.seqno s (omega arith), and-false (is_same k e.key.user_key)) refl
 value_zero k s v (Clear n) z = rw (le-ltb n s (omega arith)) refl
 value_zero k s v (Install n) z = refl
 value_zero k s v (Dropped ranges n) z = refl

@@ -11,9 +11,11 @@ use Rattle.lsm_model.specs.Journal.{Event, MayWrite, value_after, replay_at, out
 use Rattle.lsm_model.specs.Views.{Memtables, SuperVersion, held, entries, lookup, shown, seen, pushed, written}
 use Rattle.lsm_model.specs.Sound.{Fits, HasIds, FitsAt, IsSound}
 use Rattle.lsm_model.specs.declared.journal.JournalEntry.TheVariants.{Write}
-use Rattle.lsm_model.proofs.Lists.{fold_push, each_weaker, each_sub, each_both, Sublist}
+use Rattle.lsm_below.specs.Each.{each_weaker, each_both}
+use Rattle.lsm_model.proofs.Lists.{fold_push, each_sub, Sublist}
 use Rattle.lsm_model.proofs.Stacks.{stack-append, falling_sub, single_sub, values_sub, seen_first}
-use Rattle.lsm_model.proofs.Journals.{same_key, and_false}
+use Rattle.std.proofs.Math.Bool.{and-false}
+use Rattle.lsm_model.proofs.Journals.{same_key}
 
 pub fits_more : (n m c d : ℕ) (es : List Entry) → n ≤ m → c ≤ d → Fits n c es → Fits m d es
 fits_more n m c d es h q f = record { falling = f.falling; below = each_weaker _ _ (λ e b. omega arith) es f.below; single = f.single; few = let a = f.few in omega arith }
@@ -133,7 +135,7 @@ right_reached k s mems latest e v b ids h before out =
 -- a write that the snapshot doesn't reach
 right_past : (k : Bytes) (s : ℕ) (mems : Memtables) (a : ℕ) (sv : SuperVersion) (e : Entry) (v : Option Bytes) (b : Bool) → s ≤ e.key.seqno → (b ≡ true → seen s (stack k (entries mems sv)) ≡ v) → (is_same k e.key.user_key && ltb e.key.seqno s || b) ≡ true → seen s (stack k (entries (pushed mems a e) sv)) ≡ cond (is_same k e.key.user_key && ltb e.key.seqno s) (value_of e) v
 right_past k s mems a sv e v b h before out =
-    let no : (is_same k e.key.user_key && ltb e.key.seqno s) ≡ false = rw (le-ltb e.key.seqno s h) (and_false (is_same k e.key.user_key)) in
+    let no : (is_same k e.key.user_key && ltb e.key.seqno s) ≡ false = rw (le-ltb e.key.seqno s h) (and-false (is_same k e.key.user_key)) in
     seen_pushed k s mems a e sv h ∙ before (rw no at out) ∙ rw no refl
 
 right_write : (opened : List Entry) (start : Bytes → Option Bytes) (journal : List Event) (mems : Memtables) (latest : SuperVersion) (older : List SuperVersion) (e : Entry) → MayWrite opened journal e → IsSound opened start journal mems latest older → (k : Bytes) (s : ℕ) (sv : SuperVersion) → above opened ≤ s → is_outside k s (journal ++ Write e ∷ []) ≡ true → lookup s (latest ∷ older) ≡ Some sv → seen s (stack k (entries (pushed mems latest.active e) sv)) ≡ replay_at k s (start k) (journal ++ Write e ∷ [])

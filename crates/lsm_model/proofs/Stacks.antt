@@ -8,7 +8,8 @@ use Rattle.lsm_below.specs.Entries.{Entry, value_by, is_value_kind, is_del_kind,
 use Rattle.lsm_below.specs.declared.value_type.ValueType.{ValueType}
 use Rattle.lsm_below.specs.declared.value_type.ValueType.TheVariants.{Value, Tombstone, WeakTombstone}
 use Rattle.lsm_model.specs.Views.{shown, walk, seen}
-use Rattle.lsm_model.proofs.Lists.{each_left, each_right, each_sub, Sublist, done, kept, left, sub_none}
+use Rattle.lsm_below.specs.Each.{each_left, each_right}
+use Rattle.lsm_model.proofs.Lists.{each_sub, Sublist, done, kept, left, sub_none}
 
 pub falling_left : (xs ys : List Entry) → IsFalling (xs ++ ys) → IsFalling xs
 falling_left [] ys h = tt

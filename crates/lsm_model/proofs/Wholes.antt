@@ -11,8 +11,9 @@ use Rattle.lsm_model.specs.Steps.{State}
 use Rattle.lsm_model.specs.Sound.{Holds}
 use Rattle.lsm_model.specs.Beginnings.{call_after, beginning, spared_after, shown_by, Stands}
 use Rattle.lsm_model.specs.declared.journal.JournalEntry.TheVariants.{Write, Clear, Install, Dropped, Mark, Read}
-use Rattle.lsm_model.proofs.Lists.{each_weaker}
-use Rattle.lsm_model.proofs.Journals.{and_true, get-changed, above_stack, next_of-le, floor-le}
+use Rattle.lsm_below.specs.Each.{each_weaker}
+use Rattle.std.proofs.Math.Bool.{and-true}
+use Rattle.lsm_model.proofs.Journals.{get-changed, above_stack, next_of-le, floor-le}
 use Rattle.lsm_model.proofs.Installs.{lookup_latest}
 use Rattle.lsm_model.proofs.Merges.{of_tables}
 use Rattle.lsm_model.proofs.Answers.{get-map_of}
@@ -34,7 +35,7 @@ over [] = 0
 over (x ∷ journal) = max (number_in x + 1) (over journal)
 
 value_high : (k : Bytes) (s : ℕ) (v : Option Bytes) (x : Event) → number_in x < s → value_after k s v x ≡ begun_after k v x
-value_high k s v (Write e) h = rw (lt-ltb e.key.seqno s h, and_true (is_same k e.key.user_key)) refl
+value_high k s v (Write e) h = rw (lt-ltb e.key.seqno s h, and-true (is_same k e.key.user_key)) refl
 value_high k s v (Clear n) h = rw (lt-ltb n s h) refl
 value_high k s v (Install n) h = refl
 value_high k s v (Dropped ranges n) h = refl
@@ -42,7 +43,7 @@ value_high k s v (Mark w) h = refl
 value_high k s v (Read at question told) h = refl
 
 outside_high : (k : Bytes) (s : ℕ) (b : Bool) (x : Event) → number_in x < s → outside_after k s b x ≡ spared_after k b x
-outside_high k s b (Write e) h = rw (lt-ltb e.key.seqno s h, and_true (is_same k e.key.user_key)) refl
+outside_high k s b (Write e) h = rw (lt-ltb e.key.seqno s h, and-true (is_same k e.key.user_key)) refl
 outside_high k s b (Clear n) h = rw (lt-ltb n s h) refl
 outside_high k s b (Install n) h = refl
 outside_high k s b (Dropped ranges n) h = rw (lt-ltb n s h) refl

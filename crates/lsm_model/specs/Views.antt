@@ -12,6 +12,7 @@ use Rattle.lsm_model.specs.declared.question.Question.{Question}
 use Rattle.lsm_model.specs.declared.question.Question.TheVariants.{Get, Between, Prefix}
 use Rattle.lsm_model.specs.declared.question.Answer.{Answer}
 use Rattle.lsm_model.specs.declared.question.Answer.TheVariants.{Found}
+pub use Rattle.lsm_below.specs.Optimizes.{EachPair}
 
 -- ---- what entries show
 
@@ -120,11 +121,6 @@ emptied mems a = λ i. if i == a then [] else mems i
 
 -- ---- tables
 
--- a relation holds of each two elements, the earlier one first
-abbrev pub EachPair : {A : Type 0} → (A → A → Type 0) → List A → Type 0
-EachPair R [] = Unit {0}
-EachPair R (x ∷ xs) = AllByRecursion (R x) xs × EachPair R xs
-
 -- tables hold only keys of their ranges, and stand by rising level
 pub record IsLaidOut (tables : List Placed) : Type 0 where
   pub covers : AllByRecursion (λ p. AllByRecursion (λ e. in_range e.key.user_key p.table.range ≡ true) p.table.entries) tables
@@ -194,3 +190,11 @@ placed_at level t = record { level = level; table = t }
 abbrev pub placed_from : ℕ → List (List (List Table)) → List Placed
 placed_from level [] = []
 placed_from level (runs ∷ levels) = map (placed_at level) (flat_map (λ r. r) runs) ++ placed_from (level + 1) levels
+
+-- the rules for joined runs give what the reads need
+abbrev pub ReorderedIsRearranged : Type 0
+ReorderedIsRearranged = (old new : List Placed) → HasDistinctIds old → IsReordered old new → IsRearranged old new
+
+-- tables of levels stand by rising level
+abbrev pub LevelsRise : Type 0
+LevelsRise = (level : ℕ) (levels : List (List (List Table))) → EachPair (λ p q. p.level ≤ q.level) (placed_from level levels)

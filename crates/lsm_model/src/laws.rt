@@ -1,5 +1,6 @@
 // The theorems of the theory, each as the contract of a function that does nothing.
 ghost use Rattle.lsm_model.specs.Steps.{EveryRunReadsRight, StepsSpareAnswers};
+ghost use Rattle.lsm_model.specs.Views.{ReorderedIsRearranged, LevelsRise};
 ghost use Rattle.lsm_model.specs.Counted.{CountedIsInOrder};
 ghost use Rattle.lsm_model.specs.Soundness.{Soundness};
 ghost use Rattle.lsm_model.specs.Beginnings.{EveryCrashRecovers, EachDeedRecovers, EveryDeedReadsRight, BeginningsAnswer, DeedsJoin, DeedsSplit, CoverLasts, OpeningStarts, ShownAbove, AnyNumberOfCrashes};
@@ -68,4 +69,14 @@ pub fn tables_show_above()
 /// Through any number of crashes, each with an opening behind it, the reads are right and all that was acknowledged stays.
 pub fn any_number_of_crashes()
     ensures { AnyNumberOfCrashes }
+{}
+
+/// Runs that were joined by the rules show what they showed.
+pub fn joined_runs_show_the_same()
+    ensures { ReorderedIsRearranged }
+{}
+
+/// Levels, one behind the other, are tables by rising level.
+pub fn levels_rise()
+    ensures { LevelsRise }
 {}

@@ -61,7 +61,7 @@ impl KvPairs {
 }
 
 /// What a read asks.
-#[derive(Drop, Debug)]
+#[derive(Drop, Debug, PartialEq, Eq)]
 pub enum Question {
     /// The value of a key.
     Get(UserKey),

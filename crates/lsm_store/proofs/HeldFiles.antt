@@ -1,4 +1,5 @@
 -- One name's record among the others.
+use Rattle.std.proofs.lemmas.Bool.{true≢false}
 use Rattle.std.proofs.Common.{◌≡◌, ◌≢◌, ◌⊎◌, ℕ, Bool, true, false, cond, List, Option, Some, None, is_some, unwrap_or, inl, inr, refl, sym, ap, ◌∙◌, subst}
 use Rattle.std.specs.BTreeMap.{UpdatesBy, get_by_text}
 use Rattle.std.specs.Cmp.Lexicographic.{slice_cmp}
@@ -27,11 +28,8 @@ other_bytes xs ys ne = elim (split (bytes_eq xs ys)) [
 pub by_name : (P : List ℕ → Type 0) (name : List ℕ) → P name → ((n : List ℕ) → n ≢ name → P n) → (n : List ℕ) → P n
 by_name P name here other n = elim (split (bytes_eq n name)) [
   | inl same ↦ subst P (sym ((bytes_eq-Decides n name).0 same)) here
-  | inr differ ↦ other n (λ is. clash (sym ((bytes_eq-Decides n name).1 is) ∙ differ))
+  | inr differ ↦ other n (λ is. true≢false (sym ((bytes_eq-Decides n name).1 is) ∙ differ))
 ]
-  where
-    clash : true ≡ false → ⊥
-    clash e = cc
 
 -- what is held of a name that is found, and of one that isn't
 pub found : (files : Files) (name : List ℕ) (h : Held) → Some h ≡ get_by_text files name → h ≡ held_at files name

@@ -1,4 +1,5 @@
 -- What a crash leaves, record by record.
+use Rattle.std.proofs.lemmas.Bool.{true≢false}
 use Rattle.std.proofs.Common.{◌≡◌, ◌≢◌, inl, inr, ℕ, Bool, true, false, cond, ◌||◌, List, [], ◌∷◌, ◌++◌, Some, None, refl, sym, ◌∙◌, ap, subst}
 use Rattle.std.specs.Cmp.Lexicographic.{slice_cmp}
 use Rattle.std.specs.BTreeMap.{is_at}
@@ -53,12 +54,9 @@ module _ (image : Image) (es : List Entry) (e : Entry) (old : Files) (so_far : (
 unseen : (n : List ℕ) (es : List Entry) → seen n es ≡ false → lookup (is_at (λ k. slice_cmp nat_cmp n (string_bytes k))) es ≡ None
 unseen n [] out = refl
 unseen n (e ∷ es) out = elim (split (bytes_eq n (string_bytes e.0))) [
-  | inl same ↦ absurd (clash (sym (ap (λ b. b || seen n es) same) ∙ out))
+  | inl same ↦ absurd (true≢false (sym (ap (λ b. b || seen n es) same) ∙ out))
   | inr differ ↦ ap (λ b. cond b (Some e.1) (lookup (is_at (λ k. slice_cmp nat_cmp n (string_bytes k))) es)) (is_eq-slice_cmp n (string_bytes e.0) ∙ differ) ∙ unseen n es (sym (ap (λ b. b || seen n es) differ) ∙ out)
 ]
-  where
-    clash : true ≡ false → ⊥
-    clash x = cc
 
 -- all records are done
 pub left_all : (image : Image) (files left : Files) → IsImage (may_of files) image → ((n : List ℕ) → held_at left n ≡ left_among image files.entries n) → (n : List ℕ) → held_at left n ≡ fresh (image n)

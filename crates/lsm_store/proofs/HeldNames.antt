@@ -1,4 +1,5 @@
 -- The names of which reads give something, and the records that say so.
+use Rattle.std.proofs.lemmas.Bool.{true≢false}
 use Rattle.std.proofs.Common.{◌≡◌, ◌↔◌, ◌<◌, inl, inr, ⊎_elim, ℕ, zero, suc, Bool, true, false, cond, List, [], ◌∷◌, ◌++◌, length, map, get_or, Option, Some, is_some, IsSome, unwrap_or, Contains, refl, sym, ◌∙◌, ap, subst, arith}
 use Rattle.std.specs.declared.alloc.Global.{Global}
 use Rattle.std.specs.declared.cmp.Ordering.TheVariants.{Less}
@@ -74,10 +75,7 @@ not_among : (n k : List ℕ) (xs : List (List ℕ)) → AllByRecursion (λ y. by
 not_among n k xs all same (j, lt, is) =
     let differ : bytes_eq k n ≡ false = subst (λ y. bytes_eq k y ≡ false) is (element (λ y. bytes_eq k y ≡ false) xs j n all lt) in
     let equal : bytes_eq k n ≡ true = (bytes_eq-Decides k n).1 (sym ((bytes_eq-Decides n k).0 same)) in
-    clash (sym equal ∙ differ)
-  where
-    clash : true ≡ false → ⊥
-    clash e = cc
+    true≢false (sym equal ∙ differ)
 
 alone : (x n : List ℕ) → Contains (x ∷ []) n → x ≡ n
 alone x n (zero, lt, is) = is
@@ -88,10 +86,7 @@ there n k xs true same out = ((λ _. refl), (λ _. (0, omega arith, sym ((bytes_
 there n k xs false same out = ((λ has. absurd (out has)), (λ e. cc))
 
 behind : (n k : List ℕ) (xs : List (List ℕ)) (s : Bool) → bytes_eq n k ≡ false → Contains (cond s (k ∷ xs) xs) n ↔ Contains xs n
-behind n k xs true differ = ((λ has. ⊎_elim (λ head. absurd (clash (sym ((bytes_eq-Decides n k).1 (sym (alone k n head))) ∙ differ))) (λ tail. tail) (Contains-append_cases (k ∷ []) xs n has)), (λ has. Contains-append_right (k ∷ []) xs n has))
-  where
-    clash : true ≡ false → ⊥
-    clash e = cc
+behind n k xs true differ = ((λ has. ⊎_elim (λ head. absurd (true≢false (sym ((bytes_eq-Decides n k).1 (sym (alone k n head))) ∙ differ))) (λ tail. tail) (Contains-append_cases (k ∷ []) xs n has)), (λ has. Contains-append_right (k ∷ []) xs n has))
 behind n k xs false differ = ((λ has. has), (λ has. has))
 
 abbrev pub given_in : List Entry → List ℕ → Option (List ℕ)

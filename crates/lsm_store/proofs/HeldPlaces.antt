@@ -1,4 +1,5 @@
 -- Contents by their places.
+use Rattle.std.proofs.lemmas.Bool.{true≢false}
 use Rattle.std.proofs.Common.{◌≡◌, ◌<◌, ℕ, zero, suc, List, [], ◌∷◌, ◌++◌, Option, Some, None, MatchOption, Vec, length, slice_get, Bool, true, false, ◌||◌, ◌↔◌, ◌⊎◌, ⊎_elim, inl, inr, refl, sym, ap, ◌∙◌, arith}
 use Rattle.std.specs.declared.alloc.Global.{Global}
 use Rattle.std.specs.List.{list_any}
@@ -56,11 +57,8 @@ pub among : (vs : List (Vec ℕ Global)) (b : List ℕ) → (list_any (λ v. byt
 among [] b = ((λ e. cc), (λ none. absurd none))
 among (v ∷ vs) b = go (among vs b) (bytes_eq v.items b) refl
   where
-    clash : true ≡ false → ⊥
-    clash e = cc
-
     other : bytes_eq v.items b ≡ false → Some b ≡ Some v.items → ⊥
-    other is same = let e : b ≡ v.items = cc in clash (sym ((bytes_eq-Decides v.items b).1 (sym e)) ∙ is)
+    other is same = let e : b ≡ v.items = cc in true≢false (sym ((bytes_eq-Decides v.items b).1 (sym e)) ∙ is)
 
     go : (list_any (λ v. bytes_eq v.items b) vs ≡ true) ↔ IsOneOf (byte_lists vs) (Some b) → (s : Bool) → bytes_eq v.items b ≡ s
         → ((s || list_any (λ v. bytes_eq v.items b) vs) ≡ true) ↔ ((Some b ≡ Some v.items) ⊎ IsOneOf (byte_lists vs) (Some b))

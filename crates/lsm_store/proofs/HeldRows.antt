@@ -1,16 +1,14 @@
 -- What a call of a store in memory makes of what its name may have.
+use Rattle.std.proofs.lemmas.Bool.{false≢true}
 use Rattle.std.proofs.Common.{◌≡◌, ◌⊎◌, ◌↔◌, inl, inr, ⊎_elim, ℕ, Bool, true, false, List, [], ◌∷◌, ◌++◌, Option, Some, None, MatchOption, refl, sym, ◌∙◌, subst}
 use Rattle.lsm_store.specs.World.{OldOr}
 use Rattle.lsm_store.specs.declared.mem_store.file.Absence.{Absence}
 use Rattle.lsm_store.specs.declared.mem_store.file.Absence.TheVariants.{Never, Possible, Usual}
 use Rattle.lsm_store.specs.Held.{Held, MayHold, MayLack, IsOneOf, IsWhole, fresh, removed, offered, softened}
 
-clash : false ≡ true → ⊥
-clash e = cc
-
 pub row_fresh : (c x : Option (List ℕ)) → MayHold (fresh c) x ↔ (x ≡ c)
-row_fresh None x = ((λ may. elim may [ inl (inl is) ↦ is | inl (inr one) ↦ absurd one | inr (inl lack) ↦ lack.1 | inr (inr torn) ↦ absurd (clash torn) ]), λ is. inl (inl is))
-row_fresh (Some b) x = ((λ may. elim may [ inl (inl is) ↦ is | inl (inr (inl is)) ↦ is | inl (inr (inr none)) ↦ absurd none | inr (inl lack) ↦ absurd lack.0 | inr (inr torn) ↦ absurd (clash torn) ]), λ is. inl (inl is))
+row_fresh None x = ((λ may. elim may [ inl (inl is) ↦ is | inl (inr one) ↦ absurd one | inr (inl lack) ↦ lack.1 | inr (inr torn) ↦ absurd (false≢true torn) ]), λ is. inl (inl is))
+row_fresh (Some b) x = ((λ may. elim may [ inl (inl is) ↦ is | inl (inr (inl is)) ↦ is | inl (inr (inr none)) ↦ absurd none | inr (inl lack) ↦ absurd lack.0 | inr (inr torn) ↦ absurd (false≢true torn) ]), λ is. inl (inl is))
 
 given_by : (o : Option (List ℕ)) (cs : List (List ℕ)) (a : Absence) (x : Option (List ℕ)) → MatchOption o (MayLack a) (λ b. IsOneOf cs (Some b)) → x ≡ o → IsOneOf cs x ⊎ (MayLack a × (x ≡ None))
 given_by None cs a x whole is = inr (whole, is)
@@ -87,7 +85,7 @@ none_left h whole torn = ((λ lack. inr (inl (lack, refl))), back)
       | inl (inl is) ↦ ⊎_elim (λ one. absurd (one_some h.contents one)) (λ lack. lack.0) (given h None whole is)
       | inl (inr one) ↦ absurd (one_some h.contents one)
       | inr (inl lack) ↦ lack.0
-      | inr (inr is) ↦ absurd (clash (sym torn ∙ is))
+      | inr (inr is) ↦ absurd (false≢true (sym torn ∙ is))
     ]
 
 pub some_left : (h : Held) (b : List ℕ) → IsWhole h → h.torn ≡ false → IsOneOf h.contents (Some b) ↔ MayHold h (Some b)
@@ -101,5 +99,5 @@ some_left h b whole torn = ((λ one. inl (inr one)), back)
       | inl (inl is) ↦ ⊎_elim (λ one. one) (λ lack. absurd (not_none lack.1)) (given h (Some b) whole is)
       | inl (inr one) ↦ one
       | inr (inl lack) ↦ absurd (not_none lack.1)
-      | inr (inr is) ↦ absurd (clash (sym torn ∙ is))
+      | inr (inr is) ↦ absurd (false≢true (sym torn ∙ is))
     ]

@@ -19,12 +19,6 @@ alters_then name f g old mid new first second = record {
   elsewhere = λ n ne. second.elsewhere n ne ∙ first.elsewhere n ne;
 }
 
-pub alters_still : (name : List ℕ) (f : Held → Held) (old mid new : Files) → Alters name f old mid → HoldSame mid new → Alters name f old new
-alters_still name f old mid new first same = record {
-  here = same name ∙ first.here;
-  elsewhere = λ n ne. same n ∙ first.elsewhere n ne;
-}
-
 -- a fact of what a call leaves and answers, brought to what it is equal to
 pub brought : (P : Files → Past → Result (Unit {0}) StoreError → Type 0) (new mid : Files) (later past : Past) (r s : Result (Unit {0}) StoreError) → new ≡ mid → later ≡ past → r ≡ s → P mid past s → P new later r
 brought P new mid later past r s files moments is h = subst (λ (x : Files). P x later r) (sym files) (subst (λ (y : Past). P mid y r) (sym moments) (subst (λ (z : Result (Unit {0}) StoreError). P mid past z) (sym is) h))

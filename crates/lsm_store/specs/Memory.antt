@@ -5,6 +5,7 @@ use Rattle.std.specs.declared.snapshot.Snapshot.{Snapshot}
 use Rattle.lsm_store.specs.World.{Image, Outcomes, World, IsImage}
 use Rattle.lsm_store.specs.declared.store.StoreError.{StoreError}
 use Rattle.lsm_store.specs.declared.store.StoreError.TheVariants.{OutOfMemory, Fault}
+use Rattle.lsm_store.specs.declared.mem_store.MemStore.{MemStore}
 use Rattle.lsm_store.specs.declared.mem_store.plan.Outcome.{Outcome}
 use Rattle.lsm_store.specs.declared.mem_store.plan.Outcome.TheVariants.{Done, Fails, FailsDone}
 use Rattle.lsm_store.specs.Held.{Held, MayHold, fresh, written, doubted, offered}
@@ -37,6 +38,10 @@ memory_world files past failures = record {
   since = λ t image. IsImage (may_of files) image ⊎ HadBeen (drop t past) image;
   failures = failures;
 }
+
+-- the same of a store, as its callers see it
+abbrev pub world_of : MemStore → World
+world_of m = memory_world m.files m.past.items m.failures
 
 -- what each outcome of a call makes of what is held of its name
 

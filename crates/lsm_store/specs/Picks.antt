@@ -12,7 +12,7 @@ use Rattle.lsm_store.specs.World.{Image, IsImage, Begins}
 use Rattle.lsm_store.specs.Plans.{outcome_at}
 use Rattle.lsm_store.specs.Held.{Held, fresh}
 use Rattle.lsm_store.specs.Files.{Files, held_at}
-use Rattle.lsm_store.specs.Memory.{may_of, memory_world}
+use Rattle.lsm_store.specs.Memory.{may_of, world_of}
 
 abbrev pub Picks : Type 0
 Picks = List (Bor (List ℕ) × Pick)
@@ -41,7 +41,7 @@ picked files picks n = left_at (held_at files n) (pick_for picks n)
 
 -- a store that has this content, all of it on the disk, with no fault planned
 pub record Restarts (image : Image) (m : MemStore) : Type 0 where
-  pub world : Begins image (memory_world m.files m.past.items m.failures)
+  pub world : Begins image (world_of m)
   pub held : (n : List ℕ) → held_at m.files n ≡ fresh (image n)
   pub planned : (n : ℕ) → 1 ≤ n → outcome_at m.plan n ≡ Done
 

@@ -6,7 +6,7 @@ ghost use Rattle.lsm_store.specs.World.{Anything, Only, OldOr, Same, Changes, Co
 ghost use Rattle.lsm_store.specs.Plans.{outcome_at, has_effect, fails, answer_of, MovesOn, AsPlanned};
 ghost use Rattle.lsm_store.specs.Held.{removed};
 ghost use Rattle.lsm_store.specs.Files.{held_at};
-ghost use Rattle.lsm_store.specs.Memory.{HeldAs, written_by, synced_by, replaced_by, sync_outcome, gives_of, may_of, memory_world, KeepsMoment, gives_one, only_now};
+ghost use Rattle.lsm_store.specs.Memory.{HeldAs, written_by, synced_by, replaced_by, sync_outcome, gives_of, may_of, world_of, KeepsMoment, gives_one, only_now};
 ghost use Rattle.lsm_store.specs.Picks.{picked, Crashes, Restarts};
 
 mod file;
@@ -107,7 +107,7 @@ impl MemStore {
 impl Store for MemStore {
     ghost tells = { Unit {0} };
 
-    ghost world = { λ m. memory_world m.files m.past.items m.failures };
+    ghost world = { world_of };
 
     ghost gives_one = { λ _ m name. gives_one (held_at m.files name) };
 
@@ -117,8 +117,8 @@ impl Store for MemStore {
 
     fn list(&mut self, alloc: Global) -> Result<Vec<String>, StoreError>
         ensures names { IfOk result (λ names. Lists (gives_of self.old.files) (map string_bytes names.items)) }
-        ensures same { Same (memory_world self.old.files self.old.past.items self.old.failures) (memory_world self.new.files self.new.past.items self.new.failures) }
-        ensures counts { Counts (memory_world self.old.files self.old.past.items self.old.failures) (memory_world self.new.files self.new.past.items self.new.failures) result }
+        ensures same { Same (world_of self.old) (world_of self.new) }
+        ensures counts { Counts (world_of self.old) (world_of self.new) result }
         ensures held { self.new.files ≡ self.old.files }
         ensures planned { AsPlanned (outcome_at self.old.plan 1) self.old.plan self.new.plan result }
     {
@@ -130,8 +130,8 @@ impl Store for MemStore {
 
     fn read(&mut self, alloc: Global, name: &str) -> Result<Option<Vec<u8>>, StoreError>
         ensures content { IfOk result (λ found. option_map (λ v. v.items) found ≡ gives_of self.old.files name.now) }
-        ensures same { Same (memory_world self.old.files self.old.past.items self.old.failures) (memory_world self.new.files self.new.past.items self.new.failures) }
-        ensures counts { Counts (memory_world self.old.files self.old.past.items self.old.failures) (memory_world self.new.files self.new.past.items self.new.failures) result }
+        ensures same { Same (world_of self.old) (world_of self.new) }
+        ensures counts { Counts (world_of self.old) (world_of self.new) result }
         ensures held { self.new.files ≡ self.old.files }
         ensures planned { AsPlanned (outcome_at self.old.plan 1) self.old.plan self.new.plan result }
     {
@@ -142,8 +142,8 @@ impl Store for MemStore {
     }
 
     fn write(&mut self, name: &str, bytes: &[u8]) -> Result<(), StoreError>
-        ensures changes { Changes name.now Anything Anything (Some bytes.now) (memory_world self.old.files self.old.past.items self.old.failures) (memory_world self.new.files self.new.past.items self.new.failures) result }
-        ensures counts { Counts (memory_world self.old.files self.old.past.items self.old.failures) (memory_world self.new.files self.new.past.items self.new.failures) result }
+        ensures changes { Changes name.now Anything Anything (Some bytes.now) (world_of self.old) (world_of self.new) result }
+        ensures counts { Counts (world_of self.old) (world_of self.new) result }
         ensures held { HeldAs name.now (written_by (outcome_at self.old.plan 1) bytes.now) self.old.files self.new.files result }
         ensures planned { AsPlanned (outcome_at self.old.plan 1) self.old.plan self.new.plan result }
     {
@@ -153,8 +153,8 @@ impl Store for MemStore {
     }
 
     fn sync(&mut self, name: &str) -> Result<(), StoreError>
-        ensures changes { Changes name.now Anything (Only (gives_of self.old.files name.now)) (gives_of self.old.files name.now) (memory_world self.old.files self.old.past.items self.old.failures) (memory_world self.new.files self.new.past.items self.new.failures) result }
-        ensures counts { Counts (memory_world self.old.files self.old.past.items self.old.failures) (memory_world self.new.files self.new.past.items self.new.failures) result }
+        ensures changes { Changes name.now Anything (Only (gives_of self.old.files name.now)) (gives_of self.old.files name.now) (world_of self.old) (world_of self.new) result }
+        ensures counts { Counts (world_of self.old) (world_of self.new) result }
         ensures there { OnOk result (IsSome (gives_of self.old.files name.now)) }
         ensures held { HeldAs name.now (synced_by (sync_outcome (outcome_at self.old.plan 1) (gives_of self.old.files name.now))) self.old.files self.new.files result }
         ensures planned { AsPlanned (sync_outcome (outcome_at self.old.plan 1) (gives_of self.old.files name.now)) self.old.plan self.new.plan result }
@@ -168,8 +168,8 @@ impl Store for MemStore {
     }
 
     fn replace(&mut self, name: &str, bytes: &[u8]) -> Result<(), StoreError>
-        ensures changes { Changes name.now (OldOr (may_of self.old.files name.now) (Some bytes.now)) (Only (Some bytes.now)) (Some bytes.now) (memory_world self.old.files self.old.past.items self.old.failures) (memory_world self.new.files self.new.past.items self.new.failures) result }
-        ensures counts { Counts (memory_world self.old.files self.old.past.items self.old.failures) (memory_world self.new.files self.new.past.items self.new.failures) result }
+        ensures changes { Changes name.now (OldOr (may_of self.old.files name.now) (Some bytes.now)) (Only (Some bytes.now)) (Some bytes.now) (world_of self.old) (world_of self.new) result }
+        ensures counts { Counts (world_of self.old) (world_of self.new) result }
         ensures held { HeldAs name.now (replaced_by (outcome_at self.old.plan 1) bytes.now) self.old.files self.new.files result }
         ensures planned { AsPlanned (outcome_at self.old.plan 1) self.old.plan self.new.plan result }
     {
@@ -188,8 +188,8 @@ impl Store for MemStore {
     }
 
     fn remove(&mut self, name: &str) -> Result<(), StoreError>
-        ensures changes { Changes name.now (OldOr (may_of self.old.files name.now) None) (OldOr (may_of self.old.files name.now) None) None (memory_world self.old.files self.old.past.items self.old.failures) (memory_world self.new.files self.new.past.items self.new.failures) result }
-        ensures counts { Counts (memory_world self.old.files self.old.past.items self.old.failures) (memory_world self.new.files self.new.past.items self.new.failures) result }
+        ensures changes { Changes name.now (OldOr (may_of self.old.files name.now) None) (OldOr (may_of self.old.files name.now) None) None (world_of self.old) (world_of self.new) result }
+        ensures counts { Counts (world_of self.old) (world_of self.new) result }
         ensures memory { IsErrOf result StoreError.OutOfMemory → ⊥ }
         ensures held { HeldAs name.now (removed (has_effect (outcome_at self.old.plan 1))) self.old.files self.new.files result }
         ensures planned { AsPlanned (outcome_at self.old.plan 1) self.old.plan self.new.plan result }

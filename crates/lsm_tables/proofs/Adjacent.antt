@@ -1,4 +1,5 @@
 -- Entries that rise one after the other rise all together, by tests and by facts.
+use Rattle.std.proofs.Math.Bool.{and-true, and_assoc}
 use Rattle.std.proofs.Common.{◌≡◌, ◌-◌, Bool, true, false, ◌&&◌, List, [], ◌∷◌, ◌++◌, length, Some, slice_get, refl, sym, ap, ◌∙◌, arith}
 use Rattle.std.specs.List.{All}
 use Rattle.std.specs.declared.cmp.Ordering.{Ordering}
@@ -9,9 +10,9 @@ use Rattle.std.proofs.lemmas.List.Elements.{All-cons, All-head, All-nil, All-wea
 use Rattle.lsm_below.specs.declared.value.InternalValue.{InternalValue}
 use Rattle.lsm_below.specs.Entries.{entry_cmp}
 use Rattle.lsm_below.specs.Slots.{is_before}
+use Rattle.lsm_below.specs.Laws.{EntriesAreOrdered}
 use Rattle.lsm_below.specs.Sorted.{Rises}
 use Rattle.lsm_tables.specs.ImageReading.{rises_after, rises, follows_after, follows}
-use Rattle.lsm_below.proofs.Orders.{entry_total}
 
 -- a test of the order is a fact
 pub less_from_test : (o : Ordering) → is_lt o ≡ true → o ≡ Less
@@ -20,20 +21,20 @@ less_from_test Equal h = absurd (cc h)
 less_from_test Greater h = absurd (cc h)
 
 -- an entry before the first of a list that rises is before each
-pub below_rising : (e f : InternalValue) (es : List InternalValue) → entry_cmp e f ≡ Less → Rises entry_cmp (f ∷ es) → All (λ y. entry_cmp e y ≡ Less) (f ∷ es)
-below_rising e f es less h =
-    All-cons (λ y. entry_cmp e y ≡ Less) f es less (All-weaker (λ y. entry_cmp f y ≡ Less) (λ y. entry_cmp e y ≡ Less) (λ y l. entry_total.trans e f y less l) es h.0)
+pub below_rising : EntriesAreOrdered → (e f : InternalValue) (es : List InternalValue) → entry_cmp e f ≡ Less → Rises entry_cmp (f ∷ es) → All (λ y. entry_cmp e y ≡ Less) (f ∷ es)
+below_rising order e f es less h =
+    All-cons (λ y. entry_cmp e y ≡ Less) f es less (All-weaker (λ y. entry_cmp f y ≡ Less) (λ y. entry_cmp e y ≡ Less) (λ y l. order.total.trans e f y less l) es h.0)
 
-rises_after_found : (e : InternalValue) (es : List InternalValue) → rises_after e es ≡ true → Rises entry_cmp (e ∷ es)
-rises_after_found e [] h = (All-nil (λ y. entry_cmp e y ≡ Less), tt)
-rises_after_found e (f ∷ es) h =
+rises_after_found : EntriesAreOrdered → (e : InternalValue) (es : List InternalValue) → rises_after e es ≡ true → Rises entry_cmp (e ∷ es)
+rises_after_found order e [] h = (All-nil (λ y. entry_cmp e y ≡ Less), tt)
+rises_after_found order e (f ∷ es) h =
     let p = and_parts (is_before e f) (rises_after f es) h in
-    let rest = rises_after_found f es p.1 in
-    (below_rising e f es (less_from_test (entry_cmp e f) p.0) rest, rest)
+    let rest = rises_after_found order f es p.1 in
+    (below_rising order e f es (less_from_test (entry_cmp e f) p.0) rest, rest)
 
-pub rises_found : (es : List InternalValue) → rises es ≡ true → Rises entry_cmp es
-rises_found [] h = tt
-rises_found (e ∷ es) h = rises_after_found e es h
+pub rises_found : EntriesAreOrdered → (es : List InternalValue) → rises es ≡ true → Rises entry_cmp es
+rises_found order [] h = tt
+rises_found order (e ∷ es) h = rises_after_found order e es h
 
 rises_after_again : (e : InternalValue) (es : List InternalValue) → Rises entry_cmp (e ∷ es) → rises_after e es ≡ true
 rises_after_again e [] h = refl
@@ -44,17 +45,9 @@ pub rises_again : (es : List InternalValue) → Rises entry_cmp es → rises es 
 rises_again [] h = refl
 rises_again (e ∷ es) h = rises_after_again e es h
 
-and_assoc : (x y z : Bool) → (x && (y && z)) ≡ ((x && y) && z)
-and_assoc true y z = refl
-and_assoc false y z = refl
-
-and_true : (x : Bool) → (x && true) ≡ x
-and_true true = refl
-and_true false = refl
-
 rises_after_push : (e : InternalValue) (es : List InternalValue) (f : InternalValue) → rises_after e (es ++ f ∷ []) ≡ (rises_after e es && follows_after e es f)
-rises_after_push e [] f = and_true (is_before e f)
-rises_after_push e (g ∷ es) f = ap (λ (b : Bool). is_before e g && b) (rises_after_push g es f) ∙ and_assoc (is_before e g) (rises_after g es) (follows_after g es f)
+rises_after_push e [] f = and-true (is_before e f)
+rises_after_push e (g ∷ es) f = ap (λ (b : Bool). is_before e g && b) (rises_after_push g es f) ∙ sym (and_assoc (is_before e g) (rises_after g es) (follows_after g es f))
 
 -- entries with one more rise where they rose and it follows them
 pub rises_push : (es : List InternalValue) (f : InternalValue) → rises (es ++ f ∷ []) ≡ (rises es && follows es f)
@@ -75,7 +68,3 @@ follows_last (e ∷ es) f l h =
 pub and_when : (x y : Bool) → x ≡ true → (x && y) ≡ y
 and_when true y h = refl
 and_when false y h = absurd cc
-
-pub and_unless : (x y : Bool) → x ≡ false → (x && y) ≡ false
-and_unless true y h = absurd cc
-and_unless false y h = refl

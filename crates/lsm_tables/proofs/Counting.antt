@@ -17,10 +17,6 @@ count_bound p (x ∷ xs) = let h = count_bound p xs in let c = count_cons p x xs
   | false ↦ λ e. omega arith
 ] c
 
-pub reclaimable_cons : (e : Entry) (es : List Entry) → reclaimable (e ∷ es) ≡ reclaimable es + cond (stands_on_value e es) 1 0
-reclaimable_cons e [] = refl
-reclaimable_cons e (f ∷ es) = count_cons is_reclaimable (e, f) (neighbours (f ∷ es))
-
 neighbours_bound : (es : List Entry) → length (neighbours es) ≤ length es
 neighbours_bound [] = omega arith
 neighbours_bound (e ∷ []) = omega arith

@@ -8,7 +8,7 @@ use Rattle.lsm_below.specs.Entries.{Entry}
 use Rattle.lsm_tables.specs.Image.{head, front, spelled, image, entry_bytes}
 use Rattle.lsm_below.specs.declared.value_type.ValueType.{ValueType}
 
-length_head : (a b : ℕ) (k : ValueType) (d : ℕ) → length (head a b k d) ≡ 15
+pub length_head : (a b : ℕ) (k : ValueType) (d : ℕ) → length (head a b k d) ≡ 15
 unfolding head
 length_head a b k d = refl
 

@@ -151,7 +151,7 @@ pub fn content_of(alloc: Global, files: &Files, name: &str) -> Result<Option<Vec
 pub fn names_of(alloc: Global, files: &Files) -> Result<Vec<String>, AllocError>
     ensures { IfOk result (λ names. Lists (gives_of files.now) (map string_bytes names.items)) }
 {
-    let mut names = Vec::new(alloc);
+    let mut names = Vec::with_capacity(alloc, files.len())?;
     for (name, file) in files {
         if file.content().is_some() {
             names.push(String::from_str(alloc, name.as_str())?)?;

@@ -1,10 +1,11 @@
+use Rattle.std.proofs.lemmas.Bool.{and_left}
 use Rattle.std.proofs.Common.{◌≡◌, ◌++◌, ◌∷◌, [], sym, ap, ◌∙◌}
 use Rattle.std.proofs.lemmas.Result.{err_from_is_err_and}
 use Rattle.lsm_tables.specs.Reading.{many}
 use Rattle.lsm_tables.proofs.Spellings.{goes_on, is_done}
 use Rattle.lsm_tables.proofs.Images.{entry_fails}
 use Rattle.lsm_tables.specs.ImageReading.{spelled_at, rises, follows}
-use Rattle.lsm_tables.proofs.Adjacent.{rises_push, and_when, and_unless}
+use Rattle.lsm_tables.proofs.Adjacent.{rises_push, and_when}
 use Rattle.lsm_tables.proofs.image.reading.entries_of.Goals.{then-rising, else-rising}
 use Rattle.lsm_tables.proofs.image.reading.entries_of.Goals as goal
 
@@ -23,7 +24,7 @@ loop-preserved c =
       read = rw pushed (goes_on spelled_at es c.args.count c.loop.counter c.loop.bytes e c.entry_of.new.bytes (many spelled_at c.args.count c.args.bytes.now) c.loop-test.true c.in_ok-entry.ensures c.loop.invariant.read);
       rising = elim c.if-rising.branch [
         | then-rising w ↦ w.rising-is ∙ w.may_follow-rising.ensures ∙ ap (λ s. follows s e) w.deref.ensures.value ∙ sym (push ∙ rises_push es e ∙ and_when (rises es) (follows es e) (sym c.loop.invariant.rising ∙ w.if-rising.true))
-        | else-rising w ↦ w.rising-is ∙ w.if-rising.false ∙ sym (push ∙ rises_push es e ∙ and_unless (rises es) (follows es e) (sym c.loop.invariant.rising ∙ w.if-rising.false))
+        | else-rising w ↦ w.rising-is ∙ w.if-rising.false ∙ sym (push ∙ rises_push es e ∙ and_left (rises es) (follows es e) (sym c.loop.invariant.rising ∙ w.if-rising.false))
       ];
     }
 
