@@ -7,10 +7,19 @@ use lsm_store::NoStore;
 use std::alloc::{AllocError, Global};
 use std::sync::{Arc, Mutex};
 
-/// A tree that several callers share, behind one lock: each call of it takes the lock once.
+/// A tree that several callers share, behind one lock: each call takes the lock once.
 ///
 /// A clone is another handle on the same tree. After a call nothing is known of the tree but what its
 /// type keeps, since other callers may come between. A call blocks while another caller holds the lock.
+///
+/// # Examples
+///
+/// ```text
+/// let tree = Handle::new(alloc, TreeState::open_in_memory(alloc, Config::new(0, 0, 0)))?;
+/// let other = tree.clone()?;
+/// let number = tree.write(&rt, vec![in alloc; (key, Op::Set(value))]?)?;
+/// let found = other.get(&rt, b"a", number + 1)?;
+/// ```
 #[derive(Drop)]
 pub struct Handle<C> {
     pub(crate) shared: Arc<Mutex<C>>,
@@ -19,11 +28,24 @@ pub struct Handle<C> {
 /// A tree that several callers share.
 pub type Tree<S = NoStore> = Handle<TreeState<S>>;
 
-/// A tree with the journal of its calls, that several callers share.
+/// A tree with the journal of its calls, that several callers share; each caller has a `Pass` of its own.
+///
+/// # Examples
+///
+/// ```text
+/// let tree = Handle::new(alloc, Recorded::open_in_memory(alloc, Config::new(0, 0, 0)))?;
+/// let mut pass = Pass::new(alloc);
+/// tree.write(&rt, &mut pass, vec![in alloc; (key, Op::Set(value))]?)?;
+/// let journal = tree.close(&rt, vec![in alloc; pass]?);
+/// ```
 pub type RecordedTree<S = NoStore> = Handle<Recorded<S>>;
 
 impl<C: Drop + Send> Handle<C> {
-    /// The first handle on a tree. Refused only for want of memory.
+    /// The first handle on a tree.
+    ///
+    /// # Errors
+    ///
+    /// Only for want of memory.
     pub fn new(alloc: Global, core: C) -> Result<Handle<C>, AllocError> {
         Ok(Handle {
             shared: Arc::new(alloc, Mutex::new(core))?,

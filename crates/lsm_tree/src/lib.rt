@@ -6,9 +6,11 @@
 //! | `shared_tree` | the calls of a tree behind the lock |
 //! | `shared_ranges` | its reads of many keys |
 //! | `recorded_tree` | the calls of a tree with its journal, behind the lock |
+//! | `laws` | theorems as the contracts of functions that do nothing |
 #![tactic(auto)]
 
 mod handle;
+pub mod laws;
 mod recorded_tree;
 mod shared_ranges;
 mod shared_tree;
@@ -17,16 +19,18 @@ pub use handle::{Handle, RecordedTree, Tree};
 pub use lsm_below::{
     CompactionStream, InternalKey, InternalValue, KeyRange, KvPair, ListSource, MemtableId, Merger,
     MvccStream, Ranged, Run, SeqNo, Source, TableId, TreeId, UserKey, UserValue, ValueType,
-    compact, is_run, optimize_runs,
+    compact, entries_within, first_visible, has_same_key, is_run, optimize_runs, share,
 };
 pub use lsm_model::{Answer, JournalEntry, KeyRanges, KvPairs, Op, Ops, Question};
 pub use lsm_parts::{
-    Config, DEFAULT_LEVEL_COUNT, End, Error, Guard, IterGuard, IterState, Memtable, RangeItem,
-    SealedMemtables, SequenceNumberCounter, SuperVersion, SuperVersions, TreeIter, Version,
-    VersionId, prefix_to_range, seqno_filter, take_ends,
+    Config, DEFAULT_LEVEL_COUNT, End, Error, Guard, IterGuard, IterState, LIMIT, Memtable,
+    RangeItem, SealedMemtables, SequenceNumberCounter, SuperVersion, SuperVersions, TreeIter,
+    Version, VersionId, first_shown, last_shown, prefix_to_range, seqno_filter, take_ends,
 };
 pub use lsm_recorded::{Pass, Recorded};
 pub use lsm_runs::{Counter, Outcome, Reply, Step, run};
-pub use lsm_state::TreeState;
+pub use lsm_state::{MAX_KEY_LEN, MAX_VALUE_LEN, Memtables, TreeState};
 pub use lsm_store::{Fault, MemStore, NoStore, Pick, Store, StoreError};
-pub use lsm_tables::{Checksum, MultiWriter, Table, TableError, write_tables};
+pub use lsm_tables::{
+    Checksum, MultiWriter, Table, TableError, decode, encode, fits_image, is_writable, write_tables,
+};

@@ -9,9 +9,9 @@ ghost use Rattle.lsm_model.specs.declared.question.Question.TheVariants.{Get as 
 ghost use Rattle.lsm_model.specs.declared.question.Answer.TheVariants.{Found, Pairs as PairsAnswer};
 ghost use Rattle.lsm_model.specs.declared.op.Op.TheVariants.{Set, Del, Weak};
 ghost use Rattle.lsm_recorded.specs.Closing.{ListTogether};
-ghost use Rattle.lsm_state.specs.Calls.{Appends, WritesBatch};
+ghost use Rattle.lsm_state.specs.Calls.{Appends, WritesBatch, Rotates};
 ghost use Rattle.lsm_recorded.specs.Recorded.{OwnOr};
-ghost use Rattle.lsm_tree.specs.Shared.{OnSomeTree, Puts};
+ghost use Rattle.lsm_tree.specs.Shared.{OnSomeTree, RefusesRead, RefusesRotation, Puts};
 
 use crate::handle::Handle;
 use lsm_below::{InternalValue, KvPair, MemtableId, SeqNo, UserKey, UserValue};
@@ -22,7 +22,8 @@ use lsm_store::Store;
 use std::ops::Bound;
 use std::sync::Wait;
 
-/// What each call refuses stands at `Recorded`. A refused call puts nothing behind the pass.
+/// Each call does, refuses and costs what the one of the same name of `Recorded` does, on the tree as the
+/// lock finds it. An answered write or read appends its entries to the pass, a refused one none.
 impl<S: Store> Handle<Recorded<S>> {
     /// The value of a key at a snapshot, as `Recorded::get`.
     pub fn get(
@@ -32,14 +33,14 @@ impl<S: Store> Handle<Recorded<S>> {
         key: &UserKey,
         snapshot: SeqNo,
     ) -> Result<Option<UserValue>, Error>
-        ensures only { IfErr result (λ e. (e ≡ Error.SnapshotTooOld) ⊎ (e ≡ Error.OutOfMemory)) }
+        ensures refused { RefusesRead snapshot result }
         ensures noted { IfOk result (λ v. Puts (ReadEntry snapshot (GetQuestion key.now) (Found v) ∷ []) pass.old pass.new) }
         ensures err { OnErr result (pass.new ≡ pass.old) }
     {
         self.shared.lock(rt).get(pass, key, snapshot)
     }
 
-    /// The pairs that a snapshot shows within bounds, as `Recorded::range`.
+    /// The pairs in the bounds that a snapshot shows, as `Recorded::range`.
     pub fn range(
         &self,
         rt: &impl Wait,
@@ -47,7 +48,7 @@ impl<S: Store> Handle<Recorded<S>> {
         bounds: &(Bound<UserKey>, Bound<UserKey>),
         snapshot: SeqNo,
     ) -> Result<Vec<KvPair>, Error>
-        ensures only { IfErr result (λ e. (e ≡ Error.SnapshotTooOld) ⊎ (e ≡ Error.OutOfMemory)) }
+        ensures refused { RefusesRead snapshot result }
         ensures noted { IfOk result (λ pairs. Puts (ReadEntry snapshot (Between bounds.now.0 bounds.now.1) (PairsAnswer pairs.items) ∷ []) pass.old pass.new) }
         ensures err { OnErr result (pass.new ≡ pass.old) }
     {
@@ -62,7 +63,7 @@ impl<S: Store> Handle<Recorded<S>> {
         prefix: &UserKey,
         snapshot: SeqNo,
     ) -> Result<Vec<KvPair>, Error>
-        ensures only { IfErr result (λ e. (e ≡ Error.SnapshotTooOld) ⊎ (e ≡ Error.OutOfMemory)) }
+        ensures refused { RefusesRead snapshot result }
         ensures noted { IfOk result (λ pairs. Puts (ReadEntry snapshot (Prefix prefix.now) (PairsAnswer pairs.items) ∷ []) pass.old pass.new) }
         ensures err { OnErr result (pass.new ≡ pass.old) }
     {
@@ -75,13 +76,14 @@ impl<S: Store> Handle<Recorded<S>> {
         rt: &impl Wait,
         pass: &mut Pass,
     ) -> Result<Option<MemtableId>, Error>
-        ensures only { IfErr result (λ e. (e ≡ Error.OutOfNumbers) ⊎ (e ≡ Error.OutOfMemory)) }
+        ensures rotates { IfOk result (λ id. OnSomeTree (λ old new. Rotates old id new)) }
+        ensures refused { RefusesRotation result }
         ensures pass { pass.new ≡ pass.old }
     {
         self.shared.lock(rt).rotate_memtable(pass)
     }
 
-    /// Writes an entry under its own number, as `Recorded::append_entry`.
+    /// Writes an entry under its own sequence number, as `Recorded::append_entry`.
     pub fn append_entry(
         &self,
         rt: &impl Wait,
@@ -95,7 +97,7 @@ impl<S: Store> Handle<Recorded<S>> {
         self.shared.lock(rt).append_entry(pass, entry)
     }
 
-    /// Sets a key under a number, as `Recorded::insert`.
+    /// Sets a key under a sequence number, as `Recorded::insert`.
     pub fn insert(
         &self,
         rt: &impl Wait,
@@ -111,7 +113,7 @@ impl<S: Store> Handle<Recorded<S>> {
         self.shared.lock(rt).insert(pass, key, value, seqno)
     }
 
-    /// Removes a key under a number, as `Recorded::remove`.
+    /// Removes a key under a sequence number, as `Recorded::remove`.
     pub fn remove(
         &self,
         rt: &impl Wait,
@@ -141,7 +143,7 @@ impl<S: Store> Handle<Recorded<S>> {
         self.shared.lock(rt).remove_weak(pass, key, seqno)
     }
 
-    /// Writes a batch under the next number, which it answers, as `Recorded::write`.
+    /// Writes a batch under the next sequence number, which it returns, as `Recorded::write`.
     pub fn write(
         &self,
         rt: &impl Wait,

@@ -1,9 +1,9 @@
 // The reads of many keys of a tree behind the lock.
-ghost use Rattle.std.specs.Prelude.{◌≡◌, ◌⊎◌, IfOk, IfErr};
+ghost use Rattle.std.specs.Prelude.{IfOk};
 ghost use Rattle.std.specs.declared.ops.Bound.TheVariants.{Unbounded};
 ghost use Rattle.lsm_parts.specs.declared.tree_iter.End.TheVariants.{Front, Back};
 ghost use Rattle.lsm_state.specs.Ranges.{Ranges, Prefixes, Numbers, PairAt, TellsEmpty};
-ghost use Rattle.lsm_tree.specs.Shared.{AtSomeTree};
+ghost use Rattle.lsm_tree.specs.Shared.{AtSomeTree, RefusesRead};
 
 use crate::handle::Handle;
 use lsm_below::{SeqNo, UserKey};
@@ -13,77 +13,77 @@ use lsm_store::Store;
 use std::ops::Bound;
 use std::sync::Wait;
 
-/// Each call answers what the one of the same name of `TreeState` does, of the tree as the lock found it.
-/// The lock is given back before an iterator is asked for its first pair.
+/// Each call returns what the one of the same name of `TreeState` does, of the tree as the lock finds it.
+/// An iterator owns its pairs, so the lock is released before it is asked for the first one.
 impl<S: Store> Handle<TreeState<S>> {
-    /// What a snapshot shows within bounds, under an index, as `TreeState::create_internal_range`.
+    /// What a snapshot shows in the bounds, under an index, as `TreeState::create_internal_range`.
     pub fn create_internal_range(
         &self,
         rt: &impl Wait,
         bounds: &(Bound<UserKey>, Bound<UserKey>),
-        seqno: SeqNo,
+        snapshot: SeqNo,
         index: Option<(&Memtable, SeqNo)>,
     ) -> Result<TreeIter, Error>
-        ensures ok { IfOk result (λ iter. AtSomeTree (λ c. Ranges c index.entry bounds.now.0 bounds.now.1 seqno iter)) }
-        ensures only { IfErr result (λ e. (e ≡ Error.SnapshotTooOld) ⊎ (e ≡ Error.OutOfMemory)) }
+        ensures ok { IfOk result (λ iter. AtSomeTree (λ c. Ranges c index.entry bounds.now.0 bounds.now.1 snapshot iter)) }
+        ensures refused { RefusesRead snapshot result }
     {
         self.shared
             .lock(rt)
-            .create_internal_range(bounds, seqno, index)
+            .create_internal_range(bounds, snapshot, index)
     }
 
-    /// What a snapshot shows within bounds, as `TreeState::range`.
+    /// What a snapshot shows in the bounds, as `TreeState::range`.
     pub fn range(
         &self,
         rt: &impl Wait,
         bounds: &(Bound<UserKey>, Bound<UserKey>),
-        seqno: SeqNo,
+        snapshot: SeqNo,
         index: Option<(&Memtable, SeqNo)>,
     ) -> Result<TreeIter, Error>
-        ensures ok { IfOk result (λ iter. AtSomeTree (λ c. Ranges c index.entry bounds.now.0 bounds.now.1 seqno iter)) }
-        ensures only { IfErr result (λ e. (e ≡ Error.SnapshotTooOld) ⊎ (e ≡ Error.OutOfMemory)) }
+        ensures ok { IfOk result (λ iter. AtSomeTree (λ c. Ranges c index.entry bounds.now.0 bounds.now.1 snapshot iter)) }
+        ensures refused { RefusesRead snapshot result }
     {
-        self.shared.lock(rt).range(bounds, seqno, index)
+        self.shared.lock(rt).range(bounds, snapshot, index)
     }
 
-    /// The same once more, as `TreeState::create_range`.
+    /// The same, as `TreeState::create_range`.
     pub fn create_range(
         &self,
         rt: &impl Wait,
         bounds: &(Bound<UserKey>, Bound<UserKey>),
-        seqno: SeqNo,
+        snapshot: SeqNo,
         index: Option<(&Memtable, SeqNo)>,
     ) -> Result<TreeIter, Error>
-        ensures ok { IfOk result (λ iter. AtSomeTree (λ c. Ranges c index.entry bounds.now.0 bounds.now.1 seqno iter)) }
-        ensures only { IfErr result (λ e. (e ≡ Error.SnapshotTooOld) ⊎ (e ≡ Error.OutOfMemory)) }
+        ensures ok { IfOk result (λ iter. AtSomeTree (λ c. Ranges c index.entry bounds.now.0 bounds.now.1 snapshot iter)) }
+        ensures refused { RefusesRead snapshot result }
     {
-        self.shared.lock(rt).create_range(bounds, seqno, index)
+        self.shared.lock(rt).create_range(bounds, snapshot, index)
     }
 
     /// All that a snapshot shows, as `TreeState::iter`.
     pub fn iter(
         &self,
         rt: &impl Wait,
-        seqno: SeqNo,
+        snapshot: SeqNo,
         index: Option<(&Memtable, SeqNo)>,
     ) -> Result<TreeIter, Error>
-        ensures ok { IfOk result (λ iter. AtSomeTree (λ c. Ranges c index.entry Unbounded Unbounded seqno iter)) }
-        ensures only { IfErr result (λ e. (e ≡ Error.SnapshotTooOld) ⊎ (e ≡ Error.OutOfMemory)) }
+        ensures ok { IfOk result (λ iter. AtSomeTree (λ c. Ranges c index.entry Unbounded Unbounded snapshot iter)) }
+        ensures refused { RefusesRead snapshot result }
     {
-        self.shared.lock(rt).iter(seqno, index)
+        self.shared.lock(rt).iter(snapshot, index)
     }
 
-    /// The same once more, as `TreeState::create_iter`.
+    /// The same, as `TreeState::create_iter`.
     pub fn create_iter(
         &self,
         rt: &impl Wait,
-        seqno: SeqNo,
+        snapshot: SeqNo,
         index: Option<(&Memtable, SeqNo)>,
     ) -> Result<TreeIter, Error>
-        ensures ok { IfOk result (λ iter. AtSomeTree (λ c. Ranges c index.entry Unbounded Unbounded seqno iter)) }
-        ensures only { IfErr result (λ e. (e ≡ Error.SnapshotTooOld) ⊎ (e ≡ Error.OutOfMemory)) }
+        ensures ok { IfOk result (λ iter. AtSomeTree (λ c. Ranges c index.entry Unbounded Unbounded snapshot iter)) }
+        ensures refused { RefusesRead snapshot result }
     {
-        self.shared.lock(rt).create_iter(seqno, index)
+        self.shared.lock(rt).create_iter(snapshot, index)
     }
 
     /// What a snapshot shows of the keys that begin so, as `TreeState::prefix`.
@@ -91,78 +91,78 @@ impl<S: Store> Handle<TreeState<S>> {
         &self,
         rt: &impl Wait,
         prefix: &[u8],
-        seqno: SeqNo,
+        snapshot: SeqNo,
         index: Option<(&Memtable, SeqNo)>,
     ) -> Result<TreeIter, Error>
-        ensures ok { IfOk result (λ iter. AtSomeTree (λ c. Prefixes c index.entry prefix.now seqno iter)) }
-        ensures only { IfErr result (λ e. (e ≡ Error.SnapshotTooOld) ⊎ (e ≡ Error.OutOfMemory)) }
+        ensures ok { IfOk result (λ iter. AtSomeTree (λ c. Prefixes c index.entry prefix.now snapshot iter)) }
+        ensures refused { RefusesRead snapshot result }
     {
-        self.shared.lock(rt).prefix(prefix, seqno, index)
+        self.shared.lock(rt).prefix(prefix, snapshot, index)
     }
 
-    /// The same once more, as `TreeState::create_prefix`.
+    /// The same, as `TreeState::create_prefix`.
     pub fn create_prefix(
         &self,
         rt: &impl Wait,
         prefix: &[u8],
-        seqno: SeqNo,
+        snapshot: SeqNo,
         index: Option<(&Memtable, SeqNo)>,
     ) -> Result<TreeIter, Error>
-        ensures ok { IfOk result (λ iter. AtSomeTree (λ c. Prefixes c index.entry prefix.now seqno iter)) }
-        ensures only { IfErr result (λ e. (e ≡ Error.SnapshotTooOld) ⊎ (e ≡ Error.OutOfMemory)) }
+        ensures ok { IfOk result (λ iter. AtSomeTree (λ c. Prefixes c index.entry prefix.now snapshot iter)) }
+        ensures refused { RefusesRead snapshot result }
     {
-        self.shared.lock(rt).create_prefix(prefix, seqno, index)
+        self.shared.lock(rt).create_prefix(prefix, snapshot, index)
     }
 
     /// How many keys a snapshot shows, as `TreeState::len`.
     pub fn len(
         &self,
         rt: &impl Wait,
-        seqno: SeqNo,
+        snapshot: SeqNo,
         index: Option<(&Memtable, SeqNo)>,
     ) -> Result<usize, Error>
-        ensures ok { IfOk result (λ n. AtSomeTree (λ c. Numbers c index.entry seqno n)) }
-        ensures only { IfErr result (λ e. (e ≡ Error.SnapshotTooOld) ⊎ (e ≡ Error.OutOfMemory)) }
+        ensures ok { IfOk result (λ n. AtSomeTree (λ c. Numbers c index.entry snapshot n)) }
+        ensures refused { RefusesRead snapshot result }
     {
-        self.shared.lock(rt).len(seqno, index)
+        self.shared.lock(rt).len(snapshot, index)
     }
 
     /// Whether a snapshot shows nothing, as `TreeState::is_empty`.
     pub fn is_empty(
         &self,
         rt: &impl Wait,
-        seqno: SeqNo,
+        snapshot: SeqNo,
         index: Option<(&Memtable, SeqNo)>,
     ) -> Result<bool, Error>
-        ensures ok { IfOk result (λ b. AtSomeTree (λ c. TellsEmpty Front c index.entry seqno b)) }
-        ensures only { IfErr result (λ e. (e ≡ Error.SnapshotTooOld) ⊎ (e ≡ Error.OutOfMemory)) }
+        ensures ok { IfOk result (λ b. AtSomeTree (λ c. TellsEmpty Front c index.entry snapshot b)) }
+        ensures refused { RefusesRead snapshot result }
     {
-        self.shared.lock(rt).is_empty(seqno, index)
+        self.shared.lock(rt).is_empty(snapshot, index)
     }
 
     /// The pair with the least key that a snapshot shows, as `TreeState::first_key_value`.
     pub fn first_key_value(
         &self,
         rt: &impl Wait,
-        seqno: SeqNo,
+        snapshot: SeqNo,
         index: Option<(&Memtable, SeqNo)>,
     ) -> Result<Option<Guard>, Error>
-        ensures ok { IfOk result (λ pair. AtSomeTree (λ c. PairAt Front c index.entry seqno pair)) }
-        ensures only { IfErr result (λ e. (e ≡ Error.SnapshotTooOld) ⊎ (e ≡ Error.OutOfMemory)) }
+        ensures ok { IfOk result (λ pair. AtSomeTree (λ c. PairAt Front c index.entry snapshot pair)) }
+        ensures refused { RefusesRead snapshot result }
     {
-        self.shared.lock(rt).first_key_value(seqno, index)
+        self.shared.lock(rt).first_key_value(snapshot, index)
     }
 
     /// The pair with the greatest key that a snapshot shows, as `TreeState::last_key_value`.
     pub fn last_key_value(
         &self,
         rt: &impl Wait,
-        seqno: SeqNo,
+        snapshot: SeqNo,
         index: Option<(&Memtable, SeqNo)>,
     ) -> Result<Option<Guard>, Error>
-        ensures ok { IfOk result (λ pair. AtSomeTree (λ c. PairAt Back c index.entry seqno pair)) }
-        ensures only { IfErr result (λ e. (e ≡ Error.SnapshotTooOld) ⊎ (e ≡ Error.OutOfMemory)) }
+        ensures ok { IfOk result (λ pair. AtSomeTree (λ c. PairAt Back c index.entry snapshot pair)) }
+        ensures refused { RefusesRead snapshot result }
     {
-        self.shared.lock(rt).last_key_value(seqno, index)
+        self.shared.lock(rt).last_key_value(snapshot, index)
     }
 }

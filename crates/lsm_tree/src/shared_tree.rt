@@ -1,11 +1,11 @@
 // The calls of a tree behind the lock.
-ghost use Rattle.std.specs.Prelude.{◌≡◌, ◌<◌, ◌⊎◌, Option, IfOk, IfErr, is_some, option_map};
+ghost use Rattle.std.specs.Prelude.{◌≡◌, ◌<◌, ◌≤◌, Option, IfOk, IfErr, IsErrOf, is_some, option_map};
 ghost use Rattle.lsm_below.specs.Keys.{Bytes};
 ghost use Rattle.lsm_below.specs.Entries.{plain};
 ghost use Rattle.lsm_model.specs.Ops.{op_entry};
 ghost use Rattle.lsm_model.specs.declared.op.Op.TheVariants.{Set, Del, Weak};
 ghost use Rattle.lsm_state.specs.Calls.{Appends, WritesBatch, Gives, GivesEntry, Rotates, value_size};
-ghost use Rattle.lsm_tree.specs.Shared.{OnSomeTree, AtSomeTree};
+ghost use Rattle.lsm_tree.specs.Shared.{OnSomeTree, AtSomeTree, RefusesRead, RefusesLook, RefusesRotation};
 
 use crate::handle::Handle;
 use lsm_below::{InternalValue, MemtableId, SeqNo, UserKey, UserValue};
@@ -15,15 +15,20 @@ use lsm_state::TreeState;
 use lsm_store::Store;
 use std::sync::Wait;
 
-/// Each call does and refuses what the one of the same name of `TreeState` does and refuses, on the tree as
-/// the lock found it.
+/// Each call does, refuses and costs what the one of the same name of `TreeState` does, on the tree as the
+/// lock finds it. It holds the lock until it returns.
 impl<S: Store> Handle<TreeState<S>> {
     /// The value of a key at a snapshot, as `TreeState::get`.
-    pub fn get(&self, rt: &impl Wait, key: &[u8], seqno: SeqNo) -> Result<Option<UserValue>, Error>
-        ensures gives { IfOk result (λ v. AtSomeTree (λ c. Gives c key.now seqno v)) }
-        ensures only { IfErr result (λ e. (e ≡ Error.SnapshotTooOld) ⊎ (e ≡ Error.OutOfMemory)) }
+    pub fn get(
+        &self,
+        rt: &impl Wait,
+        key: &[u8],
+        snapshot: SeqNo,
+    ) -> Result<Option<UserValue>, Error>
+        ensures gives { IfOk result (λ v. AtSomeTree (λ c. Gives c key.now snapshot v)) }
+        ensures refused { RefusesRead snapshot result }
     {
-        self.shared.lock(rt).get(key, seqno)
+        self.shared.lock(rt).get(key, snapshot)
     }
 
     /// The entry that decides `get`, as `TreeState::get_internal_entry`.
@@ -31,46 +36,46 @@ impl<S: Store> Handle<TreeState<S>> {
         &self,
         rt: &impl Wait,
         key: &[u8],
-        seqno: SeqNo,
+        snapshot: SeqNo,
     ) -> Result<Option<InternalValue>, Error>
-        ensures gives { IfOk result (λ e. AtSomeTree (λ c. GivesEntry c key.now seqno e)) }
-        ensures only { IfErr result (λ e. (e ≡ Error.SnapshotTooOld) ⊎ (e ≡ Error.OutOfMemory)) }
+        ensures gives { IfOk result (λ e. AtSomeTree (λ c. GivesEntry c key.now snapshot e)) }
+        ensures refused { RefusesRead snapshot result }
     {
-        self.shared.lock(rt).get_internal_entry(key, seqno)
+        self.shared.lock(rt).get_internal_entry(key, snapshot)
     }
 
     /// Whether a key has a value at a snapshot, as `TreeState::contains_key`.
-    pub fn contains_key(&self, rt: &impl Wait, key: &[u8], seqno: SeqNo) -> Result<bool, Error>
-        ensures tells { IfOk result (λ b. AtSomeTree (λ c. (v : Option Bytes) × Gives c key.now seqno v × (b ≡ is_some v))) }
-        ensures only { IfErr result (λ e. e ≡ Error.SnapshotTooOld) }
+    pub fn contains_key(&self, rt: &impl Wait, key: &[u8], snapshot: SeqNo) -> Result<bool, Error>
+        ensures tells { IfOk result (λ b. AtSomeTree (λ c. (v : Option Bytes) × Gives c key.now snapshot v × (b ≡ is_some v))) }
+        ensures refused { RefusesLook snapshot result }
     {
-        self.shared.lock(rt).contains_key(key, seqno)
+        self.shared.lock(rt).contains_key(key, snapshot)
     }
 
     /// The bytes of a key's value at a snapshot, as `TreeState::size_of`.
-    pub fn size_of(&self, rt: &impl Wait, key: &[u8], seqno: SeqNo) -> Result<Option<u32>, Error>
-        ensures tells { IfOk result (λ n. AtSomeTree (λ c. (v : Option Bytes) × Gives c key.now seqno v × (n ≡ option_map value_size v))) }
-        ensures only { IfErr result (λ e. e ≡ Error.SnapshotTooOld) }
+    pub fn size_of(&self, rt: &impl Wait, key: &[u8], snapshot: SeqNo) -> Result<Option<u32>, Error>
+        ensures tells { IfOk result (λ n. AtSomeTree (λ c. (v : Option Bytes) × Gives c key.now snapshot v × (n ≡ option_map value_size v))) }
+        ensures refused { RefusesLook snapshot result }
     {
-        self.shared.lock(rt).size_of(key, seqno)
+        self.shared.lock(rt).size_of(key, snapshot)
     }
 
     /// Seals the active memtable, as `TreeState::rotate_memtable`.
     pub fn rotate_memtable(&self, rt: &impl Wait) -> Result<Option<MemtableId>, Error>
         ensures rotates { IfOk result (λ id. OnSomeTree (λ old new. Rotates old id new)) }
-        ensures only { IfErr result (λ e. (e ≡ Error.OutOfNumbers) ⊎ (e ≡ Error.OutOfMemory)) }
+        ensures refused { RefusesRotation result }
     {
         self.shared.lock(rt).rotate_memtable()
     }
 
-    /// Writes an entry under its own number, as `TreeState::append_entry`.
+    /// Writes an entry under its own sequence number, as `TreeState::append_entry`.
     pub fn append_entry(&self, rt: &impl Wait, entry: InternalValue) -> Result<(u64, u64), Error>
         ensures { OnSomeTree (λ old new. Appends (plain entry) result old new) }
     {
         self.shared.lock(rt).append_entry(entry)
     }
 
-    /// Sets a key under a number, as `TreeState::insert`.
+    /// Sets a key under a sequence number, as `TreeState::insert`.
     pub fn insert(
         &self,
         rt: &impl Wait,
@@ -83,7 +88,7 @@ impl<S: Store> Handle<TreeState<S>> {
         self.shared.lock(rt).insert(key, value, seqno)
     }
 
-    /// Removes a key under a number, as `TreeState::remove`.
+    /// Removes a key under a sequence number, as `TreeState::remove`.
     pub fn remove(&self, rt: &impl Wait, key: UserKey, seqno: SeqNo) -> Result<(u64, u64), Error>
         ensures { OnSomeTree (λ old new. Appends (op_entry key seqno Del) result old new) }
     {
@@ -102,17 +107,22 @@ impl<S: Store> Handle<TreeState<S>> {
         self.shared.lock(rt).remove_weak(key, seqno)
     }
 
-    /// Writes a batch under the next number, which it answers, as `TreeState::write`.
+    /// Writes a batch under the next sequence number, which it returns, as `TreeState::write`.
     pub fn write(&self, rt: &impl Wait, ops: Vec<(UserKey, Op)>) -> Result<SeqNo, Error>
         ensures { OnSomeTree (λ old new. WritesBatch ops.items result old new) }
     {
         self.shared.lock(rt).write(ops)
     }
 
-    /// Draws the next number, to write under it. `OutOfNumbers` from 2^63 on; then nothing changes.
+    /// Draws the next sequence number, to write under it.
+    ///
+    /// # Errors
+    ///
+    /// `OutOfNumbers` from 2^63 on; then nothing changes.
     pub fn next_seqno(&self, rt: &impl Wait) -> Result<SeqNo, Error>
         ensures below { IfOk result (λ n. n < LIMIT) }
         ensures only { IfErr result (λ e. e ≡ Error.OutOfNumbers) }
+        ensures out_of_numbers { IsErrOf result Error.OutOfNumbers → AtSomeTree (λ c. LIMIT ≤ c.seqno) }
     {
         self.shared.lock(rt).seqno_mut().next()
     }
@@ -124,7 +134,7 @@ impl<S: Store> Handle<TreeState<S>> {
         self.shared.lock(rt).visible_seqno().get()
     }
 
-    /// Raises the visible counter to a number, unless it stands at a greater one.
+    /// Raises the visible counter to a sequence number, unless it stands at a greater one.
     pub fn raise_visible(&self, rt: &impl Wait, seqno: SeqNo) {
         self.shared.lock(rt).visible_seqno_mut().fetch_max(seqno);
     }

@@ -1,0 +1,5 @@
+-- The tree that has no id left is the one that the lock guards.
+use Rattle.lsm_tree.proofs.shared_tree.Handle+TreeState+S.rotate_memtable.Goals as goal
+
+pub returns-clause-refused : goal.returns-clause-refused
+returns-clause-refused g c = record { only = c.rotate_memtable.ensures.only; out_of_numbers = λ h. (c.deref_mut.result.now.core, c.rotate_memtable.ensures.out_of_numbers h) }

@@ -1,0 +1,11 @@
+//! Theorems as the contracts of functions that do nothing: each is proved of the words that the contracts of
+//! other calls are made of.
+pub use lsm_model::{
+    any_number_of_crashes, beginnings_answer, counted_is_in_order, cover_lasts, deeds_join,
+    each_deed_recovers, every_crash_recovers, every_deed_reads_right, every_run_reads_right,
+    opening_starts, steps_spare_answers, tables_show_above,
+};
+pub use lsm_parts::shown_is_the_view;
+pub use lsm_state::ranges_are_overlaid;
+pub use lsm_store::runs_of_calls;
+pub use lsm_tables::{no_image_begins_another, sums_of_parts};
