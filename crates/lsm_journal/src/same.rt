@@ -17,7 +17,7 @@ fn same_type(left: ValueType, right: ValueType) -> bool
     left == right
 }
 
-/// An entry's order looks at its key and number alone, so its parts are compared one by one.
+/// An entry's order looks at its key and sequence number alone, so its parts are compared one by one.
 fn same_write(left: &InternalValue, right: &InternalValue) -> bool
     ensures { IsTrue result ↔ (left.now ≡ right.now) }
 {

@@ -9,6 +9,8 @@ use Rattle.std.proofs.lemmas.Bool.Decides.{nat_tests}
 use Rattle.std.specs.BTreeMap as tree
 use Rattle.std.specs.BTreeMap.{BTreeMap}
 use Rattle.std.proofs.lemmas.Grind.{fold-append}
+use Rattle.std.proofs.lemmas.Map.Text.{is_eq-slice_cmp}
+use Rattle.std.proofs.lemmas.Slice.Eq.{bytes_eq-Decides}
 use Rattle.lsm_below.specs.Keys.{Bytes, bytes_cmp, is_same}
 use Rattle.lsm_below.specs.Entries.{Entry, is_value, is_weak, is_value_kind, is_weak_kind}
 use Rattle.lsm_below.specs.declared.value_type.ValueType.{ValueType}
@@ -17,7 +19,6 @@ use Rattle.lsm_model.specs.Journal.{Event, next_after, next_of, sets_after, sets
 use Rattle.lsm_model.specs.declared.journal.JournalEntry.TheVariants.{Write, Read}
 use Rattle.lsm_model.specs.declared.question.Question.{Question}
 use Rattle.lsm_model.specs.declared.question.Answer.{Answer}
-use Rattle.lsm_model.proofs.Journals.{same_key}
 use Rattle.lsm_state.specs.Refusals.{repeats}
 use Rattle.lsm_recorded.specs.declared.marks.Mark.{Mark}
 use Rattle.lsm_recorded.specs.Marks.{mark_of, marked, marked_by, marked_all, no_mark, next_mark, mark_in, kind_allows, mark_allows, mark_tells_order}
@@ -27,6 +28,9 @@ turned : (o : Ordering) → is_eq (ordering_reverse o) ≡ is_eq o
 turned Less = refl
 turned Equal = refl
 turned Greater = refl
+
+same_key : (a b : Bytes) → is_same a b ≡ true → a ≡ b
+same_key a b h = (bytes_eq-Decides a b).0 (sym (is_eq-slice_cmp a b) ∙ h)
 
 pub same_swap : (a b : Bytes) → is_same a b ≡ is_same b a
 same_swap a b = ap is_eq (nat_list_cmp_total.antisymm a b) ∙ turned (bytes_cmp b a)

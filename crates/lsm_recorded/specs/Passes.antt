@@ -1,4 +1,4 @@
--- What one caller's calls put into a journal, each entry with its place.
+-- What one caller's calls add to a journal, each entry with its place.
 use Rattle.std.specs.Prelude.{◌≡◌, ℕ, ◌+◌, List, [], ◌∷◌, ◌++◌, length}
 use Rattle.lsm_model.specs.declared.journal.JournalEntry.{JournalEntry}
 
@@ -7,7 +7,7 @@ abbrev pub listed : ℕ → List JournalEntry → List (ℕ × JournalEntry)
 listed n [] = []
 listed n (x ∷ xs) = (n, x) ∷ listed (n + 1) xs
 
--- these entries, and nothing else, are put behind the journal, and with their places behind the pass
+-- these entries, and nothing else, are appended to the journal, and with their places to the pass
 pub record Notes (entries : List JournalEntry) (journal journal' : List JournalEntry) (pass pass' : List (ℕ × JournalEntry)) : Type 0 where
   pub behind : journal' ≡ journal ++ entries
   pub passed : pass' ≡ pass ++ listed (length journal) entries

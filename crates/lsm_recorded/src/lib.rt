@@ -3,7 +3,7 @@
 //! | Module | Holds |
 //! |-|-|
 //! | `recorded` | a tree with the journal of its calls |
-//! | `pass` | what one caller's calls put into a journal |
+//! | `pass` | what one caller's calls add to a journal |
 //! | `marks` | what was written to each key, by which a write in order is told |
 //! | `notes` | copies of the entries of a write, for the journal and a pass |
 //! | `closing` | whether passes list a journal |

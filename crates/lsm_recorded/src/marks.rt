@@ -8,7 +8,7 @@ use lsm_below::{InternalValue, SeqNo, UserKey, ValueType, share};
 use std::alloc::AllocError;
 use std::collections::BTreeMap;
 
-/// What was written to a key so far: the least number above, how many values (2 for more),
+/// What was written to a key so far: the least sequence number above, how many values (2 for more),
 /// and whether it was removed weakly.
 #[derive(Clone, Copy)]
 pub struct Mark {
@@ -50,7 +50,7 @@ pub(crate) fn reserve_mark(
     Ok(())
 }
 
-/// Whether a write of this number and type keeps the order of its key.
+/// Whether a write of this sequence number and type keeps the order of its key.
 pub(crate) fn is_allowed(mark: Mark, number: SeqNo, kind: ValueType) -> bool
     ensures { result ≡ mark_allows mark number kind }
 {
@@ -62,7 +62,7 @@ pub(crate) fn is_allowed(mark: Mark, number: SeqNo, kind: ValueType) -> bool
         }
 }
 
-/// The mark after a write of this number and type.
+/// The mark after a write of this sequence number and type.
 pub(crate) fn mark_after(mark: Mark, number: SeqNo, kind: ValueType) -> Mark
     requires { number + 1 < 2 ^ 64 }
     ensures { result ≡ next_mark mark number kind }

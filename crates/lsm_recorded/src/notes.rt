@@ -71,7 +71,7 @@ pub(crate) fn reserve_notes(
     Ok(())
 }
 
-/// Notes these writes in the marks of their keys, for which there is room. All have this number.
+/// Notes these writes in the marks of their keys, for which there is room. All have this sequence number.
 pub(crate) fn mark_notes(marks: &mut BTreeMap<UserKey, Mark>, number: SeqNo, notes: &[Note])
     requires there { HasRoom marks.old notes.now }
     requires numbered { HaveNumber number notes.now }
@@ -83,7 +83,7 @@ pub(crate) fn mark_notes(marks: &mut BTreeMap<UserKey, Mark>, number: SeqNo, not
     }
 }
 
-/// Puts these entries behind a journal, and their copies with their places behind a pass. There is room.
+/// Appends these entries to a journal, and their copies with their places to a pass. There is room.
 pub(crate) fn put_notes(
     journal: &mut Vec<JournalEntry>,
     pass: &mut Vec<(u64, JournalEntry)>,

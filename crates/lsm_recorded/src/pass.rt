@@ -1,4 +1,4 @@
-// What one caller's calls put into a journal.
+// What one caller's calls add to a journal.
 ghost use Rattle.std.specs.Prelude.{◌≡◌, [], ◌<◌, ◌≤◌, ◌+◌, ◌++◌, ◌∷◌, length, vec_len, vec_capacity, OnOk, OnErr};
 ghost use Rattle.lsm_recorded.specs.Passes.{Notes};
 
@@ -7,7 +7,19 @@ use lsm_model::JournalEntry;
 use std::alloc::{AllocError, Global};
 use std::marker::Model;
 
-/// The entries that one caller's calls put into a journal, each with its place there, counted from 0.
+/// The entries that one caller's calls added to a journal, each with its place there, counted from 0.
+///
+/// It grows with every call that it is given to: by an entry for each write and each answered read. Keys, values and
+/// lists of pairs are shared with the journal. A caller who will never ask for the journal may use a new pass for
+/// each call.
+///
+/// # Examples
+///
+/// ```text
+/// let mut pass = Pass::new(alloc);
+/// let number = tree.write(&mut pass, ops)?;
+/// let noted = pass.entries().len();
+/// ```
 #[derive(Drop)]
 pub struct Pass {
     pub(crate) entries: Vec<(u64, JournalEntry)>,
@@ -55,7 +67,7 @@ pub(crate) fn make_room(
     pass.try_reserve(count)
 }
 
-/// Puts an entry behind a journal, and a copy with its place behind a pass. There is room.
+/// Appends an entry to a journal, and a copy with its place to a pass. There is room.
 pub(crate) fn put_entry(
     journal: &mut Vec<JournalEntry>,
     pass: &mut Vec<(u64, JournalEntry)>,
@@ -80,7 +92,7 @@ pub(crate) fn put_entry(
     };
 }
 
-/// Puts an entry behind a journal, and a copy with its place behind a pass. Refused, it changes neither.
+/// Appends an entry to a journal, and a copy with its place to a pass. Refused, it changes neither.
 pub(crate) fn note_entry(
     alloc: Global,
     journal: &mut Vec<JournalEntry>,

@@ -34,7 +34,14 @@ use std::alloc::{AllocError, Global};
 use std::collections::BTreeMap;
 use std::marker::Model;
 
-/// A tree with the journal of its calls.
+/// A tree with the journal of its calls, a history in memory that its answers are proved against. It is no
+/// write-ahead log: nothing of it is stored.
+///
+/// The journal grows with every write and every answered read and is never cut: by an entry for each, and for a range
+/// by a list of its pairs. Keys and values share their bytes with the tree. A write costs what the tree's own costs and
+/// a look-up in the marks of all keys written so far, which is logarithmic in their number; a read what the tree's costs.
+///
+/// # Examples
 ///
 /// ```text
 /// let mut tree = Recorded::open_in_memory(alloc, Config::new(0, 0, 0));
@@ -43,9 +50,8 @@ use std::marker::Model;
 /// let found = tree.get(&mut pass, &key, number + 1)?;
 /// ```
 ///
-/// Every write is in order: its number is below the counter,
-/// not below an install or a clear, and above each earlier one of its key; a weakly removed key has
-/// at most one value.
+/// Every write is in order: its sequence number is below the counter, not below an install or a clear, and above each
+/// earlier one of its key; a weakly removed key has at most one value.
 ///
 /// Its type keeps three facts: each read of the journal answers what the replay of the journal before it
 /// does; what each snapshot sees is the replay at it; and a snapshot that is below no watermark is answered.
@@ -55,7 +61,7 @@ pub struct Recorded<S: Store = NoStore> {
     core: TreeState<S>,
     journal: Vec<JournalEntry>,
     marks: BTreeMap<UserKey, Mark>,
-    /// The greatest number of an install or a clear.
+    /// The greatest sequence number of an install or a clear.
     floor: SeqNo,
 }
 
@@ -69,7 +75,7 @@ impl<S: Store> Model for Recorded<S> {
     ghost invariant = { λ r. IsRecorded r.marks r.floor r.core.core r.journal.items };
 }
 
-/// Whether writes under this number keep the order of their keys, and of installs and clears.
+/// Whether writes under this sequence number keep the order of their keys, and of installs and clears.
 fn all_allowed(
     marks: &BTreeMap<UserKey, Mark>,
     floor: SeqNo,
@@ -147,7 +153,7 @@ impl<S: Store> Recorded<S> {
         &self.journal
     }
 
-    /// The counter of numbers.
+    /// The counter of sequence numbers.
     pub fn seqno(&self) -> &SequenceNumberCounter
         ensures { result.now ≡ self.now.tree.core.seqno }
     {
@@ -161,7 +167,7 @@ impl<S: Store> Recorded<S> {
         self.core.visible_seqno()
     }
 
-    /// The value of a key at a snapshot, as `TreeState::get`; and the read is put behind the journal and the pass.
+    /// The value of a key at a snapshot, as `TreeState::get`; and the read is appended to the journal and the pass.
     pub fn get(
         &mut self,
         pass: &mut Pass,
@@ -202,9 +208,9 @@ impl<S: Store> Recorded<S> {
         self.core.rotate_memtable()
     }
 
-    /// Writes an entry under its own number, as `TreeState::append_entry`, and puts it behind the journal
+    /// Writes an entry under its own sequence number, as `TreeState::append_entry`, and appends it to the journal
     /// and the pass. `OutOfOrder`, before all else, exactly where it would break the order. Refused, it changes nothing.
-    /// Snapshots up to its number see what they saw.
+    /// Snapshots up to its sequence number see what they saw.
     pub fn append_entry(
         &mut self,
         pass: &mut Pass,
@@ -235,7 +241,7 @@ impl<S: Store> Recorded<S> {
         Ok(sizes)
     }
 
-    /// Sets a key under a number, as `append_entry`.
+    /// Sets a key under a sequence number, as `append_entry`.
     pub fn insert(
         &mut self,
         pass: &mut Pass,
@@ -253,7 +259,7 @@ impl<S: Store> Recorded<S> {
         self.append_entry(pass, entry)
     }
 
-    /// Removes a key under a number, as `append_entry`.
+    /// Removes a key under a sequence number, as `append_entry`.
     pub fn remove(
         &mut self,
         pass: &mut Pass,
@@ -285,7 +291,7 @@ impl<S: Store> Recorded<S> {
         self.append_entry(pass, InternalValue::new_weak_tombstone(key, seqno))
     }
 
-    /// Writes a batch under the next number, as `TreeState::write`, and puts its entries behind the journal
+    /// Writes a batch under the next sequence number, as `TreeState::write`, and appends its entries to the journal
     /// and the pass. `OutOfOrder`, before all else, exactly where one of its writes would break the order.
     /// Refused, it changes nothing.
     pub fn write(&mut self, pass: &mut Pass, ops: Vec<(UserKey, Op)>) -> Result<SeqNo, Error>
@@ -336,7 +342,7 @@ impl<S: Store> Recorded<S> {
         Ok(Some(journal))
     }
 
-    /// Whether each write of a batch under this number, the counter's, keeps the order of the journal.
+    /// Whether each write of a batch under this sequence number, the counter's, keeps the order of the journal.
     fn batch_keeps_order(&self, number: SeqNo, ops: &[(UserKey, Op)]) -> bool
         requires { number ≡ self.now.tree.core.seqno }
         ensures { result ≡ batch_keeps_order self.now.journal number ops.now }

@@ -2,7 +2,7 @@
 //!
 //! | Module | Holds |
 //! |-|-|
-//! | `steps` | calls as data, and what each answers |
+//! | `steps` | calls as data, and what each replies |
 //! | `runner` | a list of calls on a tree, with the replay theorem |
 #![tactic(auto)]
 

@@ -346,7 +346,7 @@ fn take_step<S: Store>(
     }
 }
 
-/// Takes a step, and puts its outcome behind the others.
+/// Takes a step, and appends its outcome to the others.
 fn add_step<S: Store>(
     alloc: Global,
     state: &mut TreeState<S>,
@@ -379,11 +379,21 @@ fn take_steps<S: Store>(alloc: Global, state: &mut TreeState<S>, steps: &[Step])
     outcomes
 }
 
-/// Takes the steps in turn, and answers each one's outcome.
+/// Takes the steps in turn, and returns each one's outcome.
 ///
-/// A step that is refused has that as its reply, and the run goes on behind it. The run ends before a step
-/// for whose outcome, journal entries included, no memory is left: the tree is as it was before that step,
-/// and the outcomes are those of the steps that were taken.
+/// A step that is refused has that as its reply, and the run goes on with the next one. The run ends early only
+/// before a step for whose outcome, journal entries included, no memory is left: the tree is as it was before that
+/// step, and the outcomes are those of the steps that were taken. A step costs what its call costs, and a list of
+/// pairs is kept once, for the reply and the journal.
+///
+/// Without an index the replay theorem holds (`replays`), no step changes what it is not to change (`spares`), and
+/// the premise of both follows from the order that callers keep by the counter (`in_order`).
+///
+/// # Examples
+///
+/// ```text
+/// let outcomes = run(alloc, &mut tree, &[Step::Write(Ops::new(ops)), Step::Get(key, 1)]);
+/// ```
 pub fn run<S: Store>(alloc: Global, state: &mut TreeState<S>, steps: &[Step]) -> Vec<Outcome>
     ensures bound { length result.items ≤ length steps.now }
     ensures ran { Ran (take (length result.items) steps.now) result.items state.old.core state.new.core }

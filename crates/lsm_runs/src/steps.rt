@@ -1,4 +1,4 @@
-// Calls on a tree as data, and what each of them answers.
+// Calls on a tree as data, and what each of them replies.
 ghost use Rattle.std.specs.Prelude.{◌≡◌};
 
 use lsm_below::{InternalValue, KvPair, MemtableId, SeqNo, UserKey, UserValue};
@@ -10,7 +10,7 @@ use std::ops::Bound;
 /// A counter of a tree.
 #[derive(Clone, Copy, Debug, PartialEq, Eq)]
 pub enum Counter {
-    /// The counter of numbers.
+    /// The counter of sequence numbers.
     Seqno,
     /// The visible counter.
     Visible,
@@ -19,15 +19,15 @@ pub enum Counter {
 /// A call on a tree, as data: each is the method of `TreeState` that it is named after.
 #[derive(Drop, Debug)]
 pub enum Step {
-    /// Sets a key under a number.
+    /// Sets a key under a sequence number.
     Insert(UserKey, UserValue, SeqNo),
-    /// Removes a key under a number.
+    /// Removes a key under a sequence number.
     Remove(UserKey, SeqNo),
-    /// Removes a key, of which at most one value was ever written, under a number.
+    /// Removes a key, of which at most one value was ever written, under a sequence number.
     RemoveWeak(UserKey, SeqNo),
-    /// Writes an entry under its own number.
+    /// Writes an entry under its own sequence number.
     AppendEntry(InternalValue),
-    /// Writes a batch under the next number.
+    /// Writes a batch under the next sequence number.
     Write(Ops),
     /// Reads a key at a snapshot.
     Get(UserKey, SeqNo),
@@ -37,7 +37,7 @@ pub enum Step {
     ContainsKey(UserKey, SeqNo),
     /// Asks how many bytes a key's value has at a snapshot.
     SizeOf(UserKey, SeqNo),
-    /// Reads the pairs within bounds at a snapshot.
+    /// Reads the pairs in bounds at a snapshot.
     Range(Bound<UserKey>, Bound<UserKey>, SeqNo),
     /// Reads all pairs at a snapshot.
     Iter(SeqNo),
@@ -53,7 +53,7 @@ pub enum Step {
     LastKeyValue(SeqNo),
     /// Seals the active memtable.
     RotateMemtable,
-    /// Draws the counter's next number.
+    /// Draws the counter's next sequence number.
     Next(Counter),
     /// Has the counter go on from a number.
     Set(Counter, SeqNo),
@@ -61,13 +61,13 @@ pub enum Step {
     FetchMax(Counter, SeqNo),
 }
 
-/// What a step answers.
+/// What a step replies.
 #[derive(Drop, Debug)]
 pub enum Reply {
     /// Of an insert, a removal or an appended entry: the bytes that the entry counts, and those of the
     /// active memtable.
     Sizes(u64, u64),
-    /// Of a batch: the number that it was written under. Of a counter: the number that was drawn.
+    /// Of a batch: the sequence number that it was written under. Of a counter: the one that was drawn.
     Number(SeqNo),
     /// Of a read of a key: its value, or None.
     Value(Option<UserValue>),

@@ -22,8 +22,8 @@ use lsm_store::Store;
 use std::ops::Bound;
 
 impl<S: Store> Recorded<S> {
-    /// The pairs that a snapshot shows within bounds, as `TreeState::range`; and the read is put behind the
-    /// journal and the pass. Outside dropped ranges they are what the replay of the journal has there.
+    /// The pairs that a snapshot shows in bounds, as `TreeState::range`; and the read is appended to the
+    /// journal and the pass, which share one list of the pairs. Outside dropped ranges they are what the replay of the journal has there.
     pub fn range(
         &mut self,
         pass: &mut Pass,
@@ -67,7 +67,7 @@ impl<S: Store> Recorded<S> {
         self.note_listed(pass, snapshot, question, iter)
     }
 
-    /// The pairs of what a question was answered; and the read is put behind the journal and the pass.
+    /// The pairs of what a question was answered; and the read is appended to the journal and the pass.
     /// Refused only for want of memory.
     fn note_listed(
         &mut self,
