@@ -304,3 +304,47 @@ fn finds_both_ends(rt: HostRuntime) {
     assert!(rt; has_pair(alloc, Step::LastKeyValue(3), ("c", "zzz")));
     assert!(rt; has_none(alloc, Step::FirstKeyValue(0)));
 }
+
+/// Each kind of step that writes or counts.
+fn writing_kinds(alloc: Global) -> Result<Vec<Step>, AllocError> {
+    let tombstone = InternalValue::new_tombstone(text("d"), 3);
+    Ok(vec![in alloc;
+        batch(alloc, &[("a", "x")])?,
+        Step::Insert(text("b"), text("y"), 0),
+        Step::Remove(text("b"), 1),
+        Step::RemoveWeak(text("c"), 2),
+        Step::AppendEntry(tombstone),
+        Step::RotateMemtable,
+        Step::Next(Counter::Seqno),
+        Step::Set(Counter::Visible, 4),
+        Step::FetchMax(Counter::Seqno, 4),
+    ]?)
+}
+
+/// Each kind of step that reads.
+fn reading_kinds(alloc: Global) -> Result<Vec<Step>, AllocError> {
+    Ok(vec![in alloc;
+        Step::Get(text("a"), 1),
+        Step::GetInternalEntry(text("a"), 1),
+        Step::ContainsKey(text("a"), 1),
+        Step::SizeOf(text("a"), 1),
+        Step::Range(Bound::Unbounded, Bound::Unbounded, 1),
+        Step::Iter(1),
+        Step::Prefix(text("a"), 1),
+        Step::Len(1),
+        Step::IsEmpty(1),
+        Step::FirstKeyValue(1),
+        Step::LastKeyValue(1),
+    ]?)
+}
+
+fn count_outcomes(alloc: Global, steps: Result<Vec<Step>, AllocError>) -> usize {
+    run_new(alloc, or_none(alloc, steps)).len()
+}
+
+/// A run ends early for want of memory alone, which no contract can say.
+#[test]
+fn ends_behind_its_last_step(rt: HostRuntime) {
+    assert!(rt; count_outcomes(rt.alloc(), writing_kinds(rt.alloc())) == 9);
+    assert!(rt; count_outcomes(rt.alloc(), reading_kinds(rt.alloc())) == 11);
+}
