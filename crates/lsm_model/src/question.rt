@@ -6,6 +6,10 @@ use std::marker::Model;
 use std::ops::Bound;
 
 /// Keys with their values, seen as a list.
+///
+/// ```text
+/// for (key, value) in pairs.as_slice() { .. }
+/// ```
 #[derive(Drop, Debug)]
 pub struct KvPairs {
     list: Vec<KvPair>,
@@ -27,7 +31,7 @@ impl KvPairs {
         KvPairs { list }
     }
 
-    /// The pairs, as they were handed in.
+    /// The pairs, as they were passed.
     pub fn into_vec(self) -> Vec<KvPair>
         ensures { result.items ≡ self }
     {
@@ -43,17 +47,25 @@ impl KvPairs {
 }
 
 /// What a read asks.
+///
+/// ```text
+/// Question::Between(Bound::Included(low), Bound::Unbounded)
+/// ```
 #[derive(Drop, Debug, PartialEq, Eq)]
 pub enum Question {
     /// The value of a key.
     Get(UserKey),
-    /// The keys within these bounds, with their values.
+    /// The keys in these bounds, with their values.
     Between(Bound<UserKey>, Bound<UserKey>),
     /// The keys that begin so, with their values.
     Prefix(UserKey),
 }
 
 /// What a read answers.
+///
+/// ```text
+/// Answer::Found(None)
+/// ```
 #[derive(Drop, Debug)]
 pub enum Answer {
     /// Of a key: its value, or None.
