@@ -15,7 +15,11 @@ use std::marker::Model;
 
 /// What a compaction keeps of its source: of each key the entries that a snapshot at or above the watermark may read.
 ///
-/// The keys stay in order. No more than two entries are held.
+/// The keys stay in order. No more than two entries are held, and none is copied.
+///
+/// ```text
+/// for kept in compact(alloc, sources, watermark, true)? { .. }
+/// ```
 #[derive(Drop)]
 pub struct CompactionStream<S: Source> {
     pending: Option<InternalValue>,
@@ -34,7 +38,7 @@ impl<S: Source> Model for CompactionStream<S> {
     ghost view = { λ m. record { input = all_of m.pending (S.rest m.source).entries; watermark = m.watermark; evict = m.evict; over = m.over } };
 }
 
-/// Whether an entry goes that has nothing behind it.
+/// Whether an entry is dropped that has no older one of its key after it.
 fn drops_alone(entry: &InternalValue, evict: bool) -> bool
     ensures { result ≡ goes_alone evict entry.now }
 {
@@ -45,7 +49,7 @@ fn drops_alone(entry: &InternalValue, evict: bool) -> bool
         }
 }
 
-/// Whether an entry goes, where the one behind it is below the watermark.
+/// Whether an entry is dropped, where the next one of its key is below the watermark.
 fn drops_with(entry: &InternalValue, below: &InternalValue, evict: bool) -> bool
     ensures { result ≡ goes_with evict entry.now below.now }
 {
@@ -56,7 +60,7 @@ fn drops_with(entry: &InternalValue, below: &InternalValue, evict: bool) -> bool
     }
 }
 
-/// Whether the entry goes, and what comes after it.
+/// Whether the entry is dropped, and what comes after it.
 fn judge<S: Source>(
     source: &mut S,
     entry: &InternalValue,
@@ -130,7 +134,7 @@ impl<S: Source> CompactionStream<S> {
         }
     }
 
-    /// Whether tombstones go that hide nothing more: right where nothing older is outside the source.
+    /// Whether tombstones are evicted that hide nothing more: right where nothing older is outside the source.
     pub fn evict_tombstones(self, evict: bool) -> CompactionStream<S>
         requires in_order { IsInOrder self.input }
         requires open { self.over ≡ false }
@@ -154,10 +158,15 @@ impl<S: Source> CompactionStream<S> {
     }
 }
 
-/// What a compaction keeps of several sources, each in order. Refused only for want of memory.
+/// What a compaction keeps of several sources, each in order.
 ///
-/// It is what is kept of some merge of all their entries, whatever their numbers. Where of each key all numbers in an earlier source are above those in a later one, and fall within each, it is what is
-/// kept of the key's entries in all sources, one behind the other.
+/// Whatever the sequence numbers are, it is what is kept of some merge of all entries. Where of each key those in an
+/// earlier source are above those in a later one, and fall within each, it is what is kept of the key's entries in
+/// all sources, source by source.
+///
+/// # Errors
+///
+/// Refused only for want of memory.
 pub fn compact<S: Source>(
     alloc: Global,
     sources: Vec<S>,
@@ -171,7 +180,7 @@ pub fn compact<S: Source>(
     ensures merged { IfOk result
         (λ c. KeepsOfMerge watermark evict (map (λ s. (S.rest s).entries) sources.items) (left_of c).entries) }
 
-    // Where those of each key fall along the sources.
+    // Where they fall along the sources, key by key.
     ensures kept { IfOk result
         (λ c. (key : Bytes) → IsFalling (flat_map (λ s. stack key (S.rest s).entries) sources.items) → stack key (left_of c).entries ≡ keep watermark evict (flat_map (λ s. stack key (S.rest s).entries) sources.items)) }
     ensures ordered { IfOk result

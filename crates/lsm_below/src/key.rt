@@ -1,4 +1,4 @@
-// A user key with its number, and the order of entries.
+// A user key with its sequence number, and the order of entries.
 ghost use Rattle.std.specs.Prelude.{◌≡◌, IfOk, IsTrue, ◌↔◌, nat_eq};
 ghost use Rattle.std.proofs.Common.{rules};
 ghost use Rattle.std.specs.Cmp.{partial_order_from_own_ties};
@@ -11,10 +11,16 @@ use crate::{SeqNo, UserKey, ValueType};
 use std::alloc::AllocError;
 use std::cmp::Ordering;
 
-/// A user key with the number of its write, and what the write does.
+/// A user key with the sequence number of its write, and what the write does.
 ///
-/// Keys are ordered by user key, rising, and under one user key by number, falling: of one key
-/// the newest comes first. Two keys are equal if user key and number are; the type doesn't count.
+/// Keys are ordered by user key, rising, and under one user key by sequence number, falling: of one key
+/// the newest comes first. Two keys are equal if user key and sequence number are; the type doesn't count.
+///
+/// ```text
+/// let old = InternalKey::new(key.clone()?, 1, ValueType::Value);
+/// let new = InternalKey::new(key, 2, ValueType::Tombstone);
+/// new < old
+/// ```
 #[derive(Drop, Clone, Debug)]
 pub struct InternalKey {
     pub user_key: UserKey,

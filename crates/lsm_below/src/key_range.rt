@@ -10,6 +10,11 @@ use std::cmp::Ordering;
 use std::marker::Model;
 
 /// The keys from `min` to `max`, both in it. `min` is never above `max`.
+///
+/// ```text
+/// let range = KeyRange::new((least, greatest));
+/// if range.contains_key(b"key") { .. }
+/// ```
 #[derive(Drop, Debug)]
 pub struct KeyRange {
     min: UserKey,
@@ -114,7 +119,7 @@ impl KeyRange {
         let _ = &self.min;
     }
 
-    /// Whether the key lies in the range.
+    /// Whether the key is in the range.
     pub fn contains_key(&self, key: &[u8]) -> bool
         ensures { result ≡ in_range key.now self.now }
     {

@@ -2,16 +2,16 @@
 //!
 //! | Module | Holds |
 //! |-|-|
-//! | `ids` | numbers that name things, and shared bytes |
+//! | `ids` | sequence numbers, ids, and shared bytes |
 //! | `limits` | how long keys and values may be, and what an entry counts beside them |
 //! | `value_type` | what an entry does to its key |
-//! | `key` | a user key with its number, and the order of entries |
+//! | `key` | a user key with its sequence number, and the order of entries |
 //! | `value` | an entry: a key and its value |
 //! | `key_range` | all keys from a least to a greatest one, and what has such a range |
 //! | `run` | tables sorted by their keys, no two of which share one |
 //! | `optimize` | joins runs where their tables allow it |
 //! | `source` | what gives entries in order, one at a time |
-//! | `list_source` | entries in hand, as a source |
+//! | `list_source` | a list of entries, as a source |
 //! | `merger` | all entries of several sources, in order |
 //! | `mvcc_stream` | the first entry of each key |
 //! | `compaction_stream` | what a compaction keeps |

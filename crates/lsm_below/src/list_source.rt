@@ -1,4 +1,4 @@
-// Entries in hand, as a source.
+// A list of entries, as a source.
 
 ghost use Rattle.std.specs.Prelude.{MatchResult, cond, ◌≡◌, [], ◌∷◌, true, false, IfOk, OnErr, List};
 ghost use Rattle.lsm_below.specs.Streams.{Ascends-prop, IsInOrder, Rest, Gives};
@@ -10,7 +10,13 @@ use crate::source::{Source, stands_before};
 use std::alloc::{AllocError, Global};
 use std::collections::VecDeque;
 
-/// Entries in hand, in order, as a source. None of them is refused.
+/// A list of entries in order, as a source. None of them is refused, and none is copied.
+///
+/// ```text
+/// let mut source = ListSource::new(alloc);
+/// source.add_front(last)?;
+/// source.add_front(first)?;
+/// ```
 #[derive(Drop)]
 pub struct ListSource {
     entries: VecDeque<InternalValue>,
@@ -40,7 +46,9 @@ impl ListSource {
         }
     }
 
-    /// Puts an entry in front, if it may stand there, and answers whether it did.
+    /// Adds an entry in front, if that keeps the order, and returns whether it did.
+    ///
+    /// # Errors
     ///
     /// Refused only for want of memory: then the list is as it was.
     pub fn add_front(&mut self, entry: InternalValue) -> Result<bool, AllocError>

@@ -9,7 +9,7 @@ use crate::{InternalValue, SeqNo, UserKey};
 use std::cmp::Ordering;
 use std::ops::Bound;
 
-/// Whether the entry stands before each entry of the key that is numbered below this.
+/// Whether the entry comes before each entry of the key with a sequence number below this.
 fn stands_ahead(entry: &InternalValue, key: &[u8], number: SeqNo) -> bool
     ensures { result ≡ stands_before key.now number entry.now }
 {
@@ -20,7 +20,7 @@ fn stands_ahead(entry: &InternalValue, key: &[u8], number: SeqNo) -> bool
     }
 }
 
-/// How many entries stand before each entry of the key that is numbered below this.
+/// How many entries come before each entry of the key with a sequence number below this.
 fn place_below(entries: &[InternalValue], key: &[u8], number: SeqNo) -> usize
     requires { Rises entry_cmp entries.now }
     ensures bound { result ≤ length entries.now }
@@ -75,7 +75,7 @@ pub fn first_visible<'a>(
     find_visible(entries, key, snapshot)
 }
 
-/// Whether a key lies within a lower bound.
+/// Whether a key is within a lower bound.
 fn lies_from(bound: &Bound<UserKey>, key: &UserKey) -> bool
     ensures { result ≡ is_from bound.now key.now }
 {
@@ -86,7 +86,7 @@ fn lies_from(bound: &Bound<UserKey>, key: &UserKey) -> bool
     }
 }
 
-/// Whether a key lies within an upper bound.
+/// Whether a key is within an upper bound.
 fn lies_to(bound: &Bound<UserKey>, key: &UserKey) -> bool
     ensures { result ≡ is_to bound.now key.now }
 {
@@ -97,7 +97,7 @@ fn lies_to(bound: &Bound<UserKey>, key: &UserKey) -> bool
     }
 }
 
-/// The entries whose keys lie within the bounds: they stand together.
+/// The entries in the bounds: they are a part of the list. The cost is logarithmic in its length.
 pub fn entries_within<'a>(
     entries: &'a [InternalValue],
     lower: &Bound<UserKey>,

@@ -19,9 +19,14 @@ struct Slot<S> {
     source: S,
 }
 
-/// All entries of several sources, each as often as it came: keys rise, and under one key the numbers fall.
+/// All entries of several sources, each as often as it came: keys rise, and under one key the sequence numbers fall.
 ///
-/// Entries of one key and number come in any order. No more than one entry of each source is held.
+/// Entries of one key and sequence number come in any order. No more than one entry of each source is held,
+/// and none is copied. A call compares the first entries of all sources.
+///
+/// ```text
+/// for entry in Merger::new(alloc, sources)? { .. }
+/// ```
 #[derive(Drop)]
 pub struct Merger<S: Source> {
     slots: Vec<Slot<S>>,
@@ -134,8 +139,12 @@ fn slots_of<S: Source>(alloc: Global, sources: Vec<S>) -> Result<Vec<Slot<S>>, A
 impl<S: Source> Merger<S> {
     /// A merger of sources, each in order. Nothing is asked of them before the first entry is wanted.
     ///
-    /// Of each key it gives all entries of the sources, by falling number. Where each source's numbers of the key are
-    /// above those of the sources after it, these stand one behind the other. Refused only for want of memory.
+    /// Of each key it returns all entries of the sources, by falling sequence number. Where each source's sequence numbers
+    /// of the key are above those of the sources after it, their entries follow each other, source by source.
+    ///
+    /// # Errors
+    ///
+    /// Refused only for want of memory.
     pub fn new(alloc: Global, sources: Vec<S>) -> Result<Merger<S>, AllocError>
         requires { All (λ s. IsInOrder (S.rest s).entries) sources.items }
         ensures merges { IfOk result (λ m. Merges (map (λ s. (S.rest s).entries) sources.items) m.entries) }

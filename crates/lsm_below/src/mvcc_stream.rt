@@ -10,7 +10,11 @@ use std::marker::Model;
 
 /// The first entry of each key of its source, which is the newest. The keys stay in order.
 ///
-/// No more than two entries are held.
+/// No more than two entries are held, and none is copied.
+///
+/// ```text
+/// for newest in MvccStream::new(merger) { .. }
+/// ```
 #[derive(Drop)]
 pub struct MvccStream<S: Source> {
     pending: Option<InternalValue>,

@@ -9,7 +9,7 @@ ghost use Rattle.lsm_below.specs.Greedy.{is_free, placed, IsPlaced};
 use crate::{KeyRange, Ranged, Run};
 use std::alloc::{AllocError, Global};
 
-/// The place behind the last run that has an overlapping table.
+/// The place after the last run that has an overlapping table.
 fn place_behind<T: Ranged>(runs: &[Run<T>], range: &KeyRange) -> usize
     ensures bound { result ≤ length runs.now }
     ensures behind { is_free T.range range.now (tables_of (drop result runs.now)) ≡ true }
@@ -25,7 +25,7 @@ fn place_behind<T: Ranged>(runs: &[Run<T>], range: &KeyRange) -> usize
     place
 }
 
-/// Puts a table into the earliest run where it may stand.
+/// Adds a table to the earliest run that may have it.
 fn place_table<T: Ranged + Drop>(
     alloc: Global,
     runs: &mut Vec<Run<T>>,
@@ -81,7 +81,7 @@ fn facts_of_each<T: Ranged>(runs: &[Run<T>])
     }
 }
 
-/// Joins runs where their tables allow it: each table goes into the earliest run where it may stand.
+/// Joins runs where their tables allow it: each table goes into the earliest run that may have it.
 ///
 /// Fewer than two runs come back as they are.
 ///

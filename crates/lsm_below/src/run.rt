@@ -99,7 +99,7 @@ fn overlapping<'a, T: Ranged>(tables: &'a [T], range: &KeyRange) -> &'a [T]
     }
 }
 
-/// The tables that lie wholly in the range.
+/// The tables whose keys are all in the range.
 fn contained<'a, T: Ranged>(tables: &'a [T], range: &KeyRange) -> &'a [T]
     requires { IsRun T.range tables.now }
     ensures { result.now ≡ filter (λ t. is_within (T.range t) range.now) tables.now }
@@ -125,7 +125,7 @@ fn free_of<T: Ranged>(tables: &[T], range: &KeyRange) -> bool
     }
 }
 
-/// Puts a table in its place in a run that has none overlapping it.
+/// Inserts a table into a run that has none overlapping it.
 fn put_table<T: Ranged + Drop>(tables: &mut Vec<T>, table: T) -> Result<(), AllocError>
     requires { IsRun T.range tables.old.items }
     ensures ok { OnOk result (tables.new.items ≡ put T.range table tables.old.items) }
@@ -166,7 +166,7 @@ fn aggregate_of<T: Ranged>(tables: &[T]) -> Result<KeyRange, AllocError>
     Ok(hull)
 }
 
-/// Whether the first table begins behind a range.
+/// Whether the first table begins after a range ends.
 fn begins_behind<T: Ranged>(range: &KeyRange, tables: &[T]) -> bool
     ensures { result ≡ starts_behind T.range range.now tables.now }
 {
@@ -193,7 +193,12 @@ pub fn is_run<T: Ranged>(tables: &[T]) -> bool
     true
 }
 
-/// Tables sorted by their keys, at least one, no two of which share a key.
+/// Tables sorted by their keys, at least one, no two of which share a key. Look-ups are logarithmic in their number.
+///
+/// ```text
+/// let run = Run::new(tables)?;
+/// let table = run.get_for_key(b"key")?;
+/// ```
 #[derive(Drop)]
 pub struct Run<T: Ranged> {
     tables: Vec<T>,
@@ -267,7 +272,7 @@ impl<T: Ranged> Run<T> {
         free_of(&self.tables, range)
     }
 
-    /// Puts a table in its place, where none overlaps it.
+    /// Inserts a table, where none overlaps it.
     pub(crate) fn put(&mut self, table: T) -> Result<(), AllocError>
     where
         T: Drop,
@@ -300,7 +305,7 @@ impl<T: Ranged> Run<T> {
         overlapping(&self.tables, range)
     }
 
-    /// The tables that lie wholly in the range: a part of the run.
+    /// The tables whose keys are all in the range: a part of the run.
     pub fn get_contained(&self, range: &KeyRange) -> &[T]
         ensures { result.now ≡ filter (λ t. is_within (T.range t) range.now) self.now }
     {

@@ -8,7 +8,7 @@ ghost use Rattle.lsm_below.specs.Slots.{is_before, same_key, is_repeat, past, al
 
 use crate::InternalValue;
 
-/// What gives entries one at a time, each as it is asked for.
+/// A source of entries: it returns one at a time, as it is asked.
 ///
 /// Every source ends, and a refused entry ends it too. After its end it can be asked again, and
 /// answers `None`. What is left of it, and whether it has ended, is its ghost member `rest`; which
@@ -50,7 +50,7 @@ fn repeats(numbers: bool, entry: &InternalValue, other: &InternalValue) -> bool
     has_same_key(entry, other) && (!numbers || entry.key.seqno == other.key.seqno)
 }
 
-/// The next entry that doesn't repeat this one: its key, or also its number.
+/// The next entry that doesn't repeat this one: its key, or also its sequence number.
 pub fn next_past<S: Source>(
     source: &mut S,
     numbers: bool,
@@ -74,7 +74,7 @@ pub fn next_past<S: Source>(
     }
 }
 
-/// The entry in hand, or else the next one.
+/// The pending entry, or else the next one.
 pub fn take_next<S: Source>(
     pending: &mut Option<InternalValue>,
     source: &mut S,

@@ -1,4 +1,4 @@
-// An entry: a key with its number and type, and a value.
+// An entry: a key with its sequence number and type, and a value.
 ghost use Rattle.std.specs.Prelude.{◌≡◌, IfOk};
 ghost use Rattle.lsm_below.specs.Entries.{entry_at, tombstone_at, weak_tombstone_at, is_tombstone_type, kept_value, plain};
 
@@ -6,6 +6,11 @@ use crate::{InternalKey, SeqNo, UserKey, UserValue, ValueType};
 use std::alloc::AllocError;
 
 /// An entry: what a write leaves in memtables and tables. A tombstone's value is empty, of either kind.
+///
+/// ```text
+/// let set = InternalValue::from_components(key, value, 1, ValueType::Value);
+/// let removed = InternalValue::new_tombstone(other, 2);
+/// ```
 #[derive(Drop, Clone, Debug)]
 pub struct InternalValue {
     pub key: InternalKey,
@@ -13,7 +18,7 @@ pub struct InternalValue {
 }
 
 impl InternalValue {
-    /// An entry of these parts. A tombstone keeps no value: one that is handed in is dropped.
+    /// An entry of these parts. A tombstone keeps no value: one that is passed is dropped.
     pub fn from_components(
         user_key: UserKey,
         value: UserValue,

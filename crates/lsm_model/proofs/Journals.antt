@@ -1,7 +1,7 @@
 -- The replay at one key, and what one more event does.
 use Rattle.std.proofs.Math.Bool.{and-true, and-false}
 use Rattle.std.specs.Cmp.{Equal-is}
-use Rattle.std.proofs.Common.{◌≡◌, ℕ, ◌+◌, ◌<◌, ◌≤◌, max, Bool, true, false, cond, ◌&&◌, List, [], ◌∷◌, ◌++◌, None, fold, refl, sym, ap, ◌∙◌, subst, arith, append-nil, append_assoc, ltb, ltb-false, is_eq, Ordering, Less, Equal, Greater}
+use Rattle.std.proofs.Common.{◌≡◌, ℕ, ◌+◌, ◌≤◌, max, true, false, cond, ◌&&◌, List, [], ◌∷◌, ◌++◌, None, fold, refl, sym, ap, ◌∙◌, subst, arith, append-nil, append_assoc, ltb, ltb-false, is_eq}
 use Rattle.std.specs.Cmp.Lexicographic.{nat_list_cmp_total}
 use Rattle.std.specs.FinMap.{get, empty, get-insert, get-remove, get-empty, slice_cmp-IsAntisymmetric, nat_cmp-IsAntisymmetric}
 use Rattle.std.proofs.lemmas.Cmp.{tied_itself}
@@ -12,7 +12,6 @@ use Rattle.lsm_below.specs.declared.value_type.ValueType.{ValueType}
 use Rattle.lsm_below.specs.declared.value_type.ValueType.TheVariants.{Value, Tombstone, WeakTombstone}
 use Rattle.lsm_model.specs.Journal.{changed_by, Event, Map, changed, map_after, replay, value_after, replay_at, next_after, next_of, next_number_after, next_number, floor_after, floor, kept_after, is_kept, MayCome, InOrderFrom, InOrder}
 use Rattle.lsm_model.specs.declared.journal.JournalEntry.TheVariants.{Write, Clear, Install, Dropped, Mark, Read}
-use Rattle.lsm_model.proofs.Lists.{fold_push}
 
 pub same_key : (k q : Bytes) → is_same k q ≡ true → k ≡ q
 same_key k q h = slice_cmp-IsAntisymmetric nat_cmp-IsAntisymmetric k q ((Equal-is (bytes_cmp k q)).0 h)

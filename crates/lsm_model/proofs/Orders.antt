@@ -2,7 +2,6 @@
 use Rattle.std.proofs.Common.{◌≡◌, ℕ, ◌+◌, ◌<◌, ◌≤◌, Bool, true, false, cond, List, [], ◌∷◌, ◌++◌, map, flat_map, filter, refl, sym, ap, ◌∙◌, subst, arith, eqb, inl, inr, ⊎_elim, ap₂, eq-eqb}
 use Rattle.std.specs.List.{AllByRecursion}
 use Rattle.lsm_below.specs.Ranges.{in_range}
-use Rattle.lsm_below.specs.Entries.{Entry, IsFalling}
 use Rattle.lsm_model.specs.Views.{EachPair, IsIn, Placed, Table, place_of, HasDistinctIds, IsReordered, IsRearranged, placed_from, placed_at}
 use Rattle.lsm_below.specs.Each.{each_weaker, each_append, each_both}
 use Rattle.lsm_model.proofs.Merges.{overlap_at}

@@ -1,4 +1,7 @@
 // What a journal lists: calls, and what else matters to reads.
+//
+// A journal is the in-memory history of a tree's calls, of which the promises speak. It is no
+// write-ahead log: nothing of it is written to a file, and nothing is recovered from it.
 ghost use Rattle.std.specs.Prelude.{◌≡◌};
 
 use crate::{Answer, Question};
@@ -6,6 +9,10 @@ use lsm_below::{InternalValue, KeyRange, SeqNo};
 use std::marker::Model;
 
 /// Ranges of keys, seen as a list.
+///
+/// ```text
+/// let ranges = KeyRanges::new(vec![in alloc; range]?);
+/// ```
 #[derive(Drop, Debug)]
 pub struct KeyRanges {
     list: Vec<KeyRange>,
@@ -28,7 +35,7 @@ impl KeyRanges {
         KeyRanges { list }
     }
 
-    /// The ranges, as they were handed in.
+    /// The ranges, as they were passed.
     pub fn into_vec(self) -> Vec<KeyRange>
         ensures { result.items ≡ self }
     {
@@ -43,18 +50,24 @@ impl KeyRanges {
     }
 }
 
-/// What a journal lists, in the order in which it happened.
+/// An entry of a journal: what a tree's callers did, or what else matters to reads, in the order in which it happened.
+///
+/// A journal is the in-memory history of a tree's calls and not a write-ahead log.
+///
+/// ```text
+/// JournalEntry::Write(Op::Set(value).into_entry(key, 1))
+/// ```
 #[derive(Drop, Debug)]
 pub enum JournalEntry {
     /// A key was written: its entry.
     Write(InternalValue),
-    /// Everything was cleared, under this number.
+    /// Everything was cleared, under this sequence number.
     Clear(SeqNo),
-    /// A flush, merge, move or drop was installed under this number.
+    /// A flush, merge, move or drop was installed under this sequence number.
     Install(SeqNo),
     /// A drop of tables with these key ranges was installed, or may have been.
     Dropped(KeyRanges, SeqNo),
-    /// A watermark was named: no snapshot below it needs an answer any more.
+    /// A watermark was set: no snapshot below it needs an answer any more.
     Mark(SeqNo),
     /// A read at a snapshot: what it asked, and what it answered.
     Read(SeqNo, Question, Answer),

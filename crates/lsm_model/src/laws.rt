@@ -35,7 +35,7 @@ pub fn each_deed_recovers()
     ensures { EachDeedRecovers }
 {}
 
-/// After any deeds from an opened tree each view equals the replay, also behind a commit of unknown outcome.
+/// After any deeds from an opened tree each view equals the replay, also after a commit of unknown outcome.
 pub fn every_deed_reads_right()
     ensures { EveryDeedReadsRight }
 {}
@@ -45,7 +45,7 @@ pub fn beginnings_answer()
     ensures { BeginningsAnswer }
 {}
 
-/// Deeds behind deeds are deeds, and deeds can be cut anywhere.
+/// Deeds after deeds are deeds, and deeds can be cut anywhere.
 pub fn deeds_join()
     ensures joined { DeedsJoin }
     ensures cut { DeedsSplit }
@@ -61,12 +61,12 @@ pub fn opening_starts()
     ensures { OpeningStarts }
 {}
 
-/// Tables show the same at every snapshot above their numbers.
+/// Tables show the same at every snapshot above their sequence numbers.
 pub fn tables_show_above()
     ensures { ShownAbove }
 {}
 
-/// Through any number of crashes, each with an opening behind it, the reads are right and all that was acknowledged stays.
+/// Through any number of crashes, each with an opening after it, the reads are right and all that was acknowledged stays.
 pub fn any_number_of_crashes()
     ensures { AnyNumberOfCrashes }
 {}
@@ -76,7 +76,7 @@ pub fn joined_runs_show_the_same()
     ensures { ReorderedIsRearranged }
 {}
 
-/// Levels, one behind the other, are tables by rising level.
+/// The tables of all levels, level after level, are by rising level.
 pub fn levels_rise()
     ensures { LevelsRise }
 {}

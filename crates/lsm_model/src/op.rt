@@ -6,6 +6,10 @@ use std::alloc::AllocError;
 use std::marker::Model;
 
 /// What a write does to its key.
+///
+/// ```text
+/// let entry = Op::Set(value).into_entry(key, 1);
+/// ```
 #[derive(Drop, Debug)]
 pub enum Op {
     /// The key has this value.
@@ -51,6 +55,10 @@ impl Op {
 }
 
 /// The writes of a batch, seen as a list.
+///
+/// ```text
+/// let ops = Ops::new(vec![in alloc; (key, Op::Set(value)), (other, Op::Del)]?);
+/// ```
 #[derive(Drop, Debug)]
 pub struct Ops {
     list: Vec<(UserKey, Op)>,
@@ -73,7 +81,7 @@ impl Ops {
         Ops { list }
     }
 
-    /// The writes, as they were handed in.
+    /// The writes, as they were passed.
     pub fn into_vec(self) -> Vec<(UserKey, Op)>
         ensures { result.items ≡ self }
     {

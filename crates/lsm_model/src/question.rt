@@ -8,6 +8,12 @@ use std::ops::Bound;
 use std::sync::Arc;
 
 /// Keys with their values, seen as a list. Copies share the one list.
+///
+/// # Examples
+///
+/// ```text
+/// for (key, value) in pairs.as_slice() { .. }
+/// ```
 #[derive(Drop, Debug)]
 pub struct KvPairs {
     list: Arc<Vec<KvPair>>,
@@ -32,7 +38,7 @@ impl KvPairs {
         })
     }
 
-    /// The pairs, as they were handed in. Where a copy shares them they are given back.
+    /// The pairs, as they were passed. Where a copy shares them they are given back.
     pub fn into_vec(self) -> Result<Vec<KvPair>, KvPairs>
         ensures ok { IfOk result (λ list. list.items ≡ self) }
         ensures err { IfErr result (λ back. back ≡ self) }
@@ -61,17 +67,25 @@ impl KvPairs {
 }
 
 /// What a read asks.
+///
+/// ```text
+/// Question::Between(Bound::Included(low), Bound::Unbounded)
+/// ```
 #[derive(Drop, Debug, PartialEq, Eq)]
 pub enum Question {
     /// The value of a key.
     Get(UserKey),
-    /// The keys within these bounds, with their values.
+    /// The keys in these bounds, with their values.
     Between(Bound<UserKey>, Bound<UserKey>),
     /// The keys that begin so, with their values.
     Prefix(UserKey),
 }
 
 /// What a read answers.
+///
+/// ```text
+/// Answer::Found(None)
+/// ```
 #[derive(Drop, Debug)]
 pub enum Answer {
     /// Of a key: its value, or None.

@@ -7,7 +7,7 @@ use Rattle.lsm_store.specs.declared.mem_store.plan.Outcome.TheVariants.{Done, Fa
 use Rattle.lsm_store.specs.Plans.{answer_of, has_effect, MovesOn, AsPlanned}
 use Rattle.lsm_store.specs.declared.mem_store.plan.Plan.{Plan}
 use Rattle.lsm_store.specs.Held.{Held, MayHold, IsWhole, fresh, written, doubted, offered, removed}
-use Rattle.lsm_store.specs.Files.{Files, held_at, HoldSame, Alters}
+use Rattle.lsm_store.specs.Files.{Files, held_at, Alters}
 use Rattle.lsm_store.specs.Memory.{Past, may_of, gives_of, KeepsMoment, memory_world, written_by, synced_by, replaced_by, ended_by, sync_outcome, HeldAs}
 use Rattle.lsm_store.proofs.HeldRows.{row_fresh, row_removed, row_offered}
 use Rattle.lsm_store.proofs.Memories.{at_row, gives_elsewhere, grown, pushed}

@@ -25,6 +25,13 @@ use std::collections::BTreeMap;
 use std::snapshot::Snapshot;
 
 /// A store in memory that tells its content. Its calls fail where that is planned.
+///
+/// ```text
+/// let mut store = MemStore::new(alloc);
+/// store.fail(2, Fault::Once);
+/// store.write("1", bytes)?;
+/// let left = store.crash(&[("1", Pick::Absent)])?;
+/// ```
 #[derive(Drop)]
 pub struct MemStore {
     alloc: Global,

@@ -1,7 +1,7 @@
 -- Counts of entries, with one more in front.
-use Rattle.std.proofs.Common.{◌≡◌, ℕ, ◌+◌, ◌≤◌, ◌<◌, ◌^◌, Bool, true, false, cond, List, [], ◌∷◌, length, filter, refl, arith}
+use Rattle.std.proofs.Common.{◌≡◌, ℕ, ◌+◌, ◌≤◌, ◌<◌, ◌^◌, Bool, true, false, cond, List, [], ◌∷◌, length, filter, arith}
 use Rattle.lsm_below.specs.Entries.{Entry}
-use Rattle.lsm_tables.specs.Tables.{neighbours, is_reclaimable, stands_on_value, reclaimable}
+use Rattle.lsm_tables.specs.Tables.{neighbours, is_reclaimable, reclaimable}
 
 -- one more in front counts where it passes
 pub count_cons : {X : Type 0} (p : X → Bool) (x : X) (xs : List X) → length (filter p (x ∷ xs)) ≡ length (filter p xs) + cond (p x) 1 0

@@ -7,6 +7,11 @@ const PRIME: u128 = 1_099_511_628_211;
 
 /// The checksum of a file's bytes: `s`, from 0, with `s = (s * 1099511628211 + byte + 1) mod 2^128`
 /// for each byte in turn. It tells an honest mistake; no claim that damage is found rests on it.
+///
+/// ```text
+/// let sum = Checksum::of(bytes);
+/// sum == Checksum::from_raw(kept)
+/// ```
 #[derive(Clone, Copy, Debug, PartialEq, Eq)]
 pub struct Checksum(u128);
 

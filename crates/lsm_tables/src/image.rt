@@ -1,8 +1,8 @@
-// The image of a table: entries as the bytes of a file, and back.
+// The content of a table's file: entries as bytes, and back.
 //
 // It is the letters `LSMT`, made-at in nanoseconds (u64), the count of the entries (u64), and the
-// entries: key length (u16), number (u64), type (u8), value length (u32), key, value. Numbers are
-// little endian. Nothing follows.
+// entries: key length (u16), sequence number (u64), type (u8), value length (u32), key, value.
+// Numbers are little endian. Nothing follows.
 
 mod layout;
 mod limits;

@@ -1,9 +1,9 @@
-//! Entries as the bytes of files, and back: tables, their images, and where entries are cut into them.
+//! Entries as the content of files, and back: tables, their files' bytes, and where entries are cut into tables.
 //!
 //! | Module | Holds |
 //! |-|-|
 //! | `checksum` | the checksum of a file's bytes |
-//! | `image` | the bytes of a table's file |
+//! | `image` | the content of a table's file |
 //! | `table` | the entries of one file |
 //! | `multi_writer` | entries cut into tables |
 //! | `table_error` | what reading a table refuses |

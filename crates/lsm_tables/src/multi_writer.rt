@@ -7,7 +7,7 @@ use lsm_below::{InternalValue, entries_are_ordered, has_same_key, keys_are_order
 use std::alloc::{AllocError, AllocFailed, Global};
 use std::marker::Model;
 
-/// The bytes that an entry takes in an image, up to 2^64 - 1.
+/// The bytes that an entry takes in a table's file, up to 2^64 - 1.
 fn size_of_entry(entry: &InternalValue) -> u64
     ensures { result ≡ capped (15 + length entry.now.key.user_key + length entry.now.value) }
 {
@@ -35,11 +35,15 @@ fn first_end(entries: &[InternalValue], target: u64) -> usize
     end
 }
 
-/// The images of the tables into which entries are cut, made at this moment (in nanoseconds).
+/// The contents of the files of the tables into which entries are cut, made at this moment (in nanoseconds).
 ///
 /// A table ends only between two keys, so all versions of a key stand in one table; and it ends
 /// as soon as its entries have the target in bytes, where an entry has 15, its key's and its
-/// value's. No entries: no images. Refused only for want of memory.
+/// value's. No entries: no tables. The cost is linear in the bytes.
+///
+/// # Errors
+///
+/// Refused only for want of memory.
 pub fn write_tables(
     alloc: Global,
     target: u64,
@@ -61,7 +65,15 @@ pub fn write_tables(
     Ok(images)
 }
 
-/// Takes entries one by one, and makes images of tables of them, as `write_tables` does.
+/// Takes entries one by one, and writes tables of them, as `write_tables` does.
+///
+/// ```text
+/// let mut writer = MultiWriter::new(alloc, 64 * 1024 * 1024, made_at);
+/// if writer.may_write(&entry) {
+///     writer.write(entry)?;
+/// }
+/// for file in writer.finish()? { .. }
+/// ```
 #[derive(Drop)]
 pub struct MultiWriter {
     alloc: Global,
@@ -94,7 +106,7 @@ impl MultiWriter {
         }
     }
 
-    /// Whether an entry fits an image and stands behind those that were written.
+    /// Whether an entry fits a table's file and comes after those that were written.
     pub fn may_write(&self, entry: &InternalValue) -> bool
         ensures { IsTrue result ↔ IsWritable (self.now.written ++ entry.now ∷ []) }
     {
@@ -112,7 +124,7 @@ impl MultiWriter {
         self.entries.push(entry)
     }
 
-    /// The images of the tables into which the entries are cut. Refused only for want of memory;
+    /// The contents of the files of the tables into which the entries are cut. Refused only for want of memory;
     /// the writer keeps its entries.
     pub fn finish(&self) -> Result<Vec<Vec<u8>>, AllocError>
         ensures { IfOk result (λ images. AreImagesOf self.now.target self.now.made_at self.now.written (map (λ v. v.items) images.items)) }

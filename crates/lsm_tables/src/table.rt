@@ -36,7 +36,12 @@ struct TableInner {
 }
 
 /// The entries of one file, decoded: at least one, by rising key, and under one key by falling
-/// number. Keys and values share the bytes of the file's image, and copies share the entries.
+/// sequence number. Keys and values share the bytes of the file, and copies share the entries.
+///
+/// ```text
+/// let table = Table::recover(alloc, id, bytes)?;
+/// let newest = table.get(b"key", snapshot)?;
+/// ```
 #[derive(Drop)]
 pub struct Table {
     inner: Arc<TableInner>,
@@ -67,9 +72,12 @@ fn range_between(entries: &[InternalValue]) -> Result<KeyRange, AllocError>
 }
 
 impl Table {
-    /// The table of this number whose file has these bytes. Keys and values share them.
+    /// The table with this id whose file has these bytes. Keys and values share them. The cost is
+    /// linear in the bytes.
     ///
-    /// `BadTable` where the bytes are the image of no table, and only there; `OutOfMemory` where a
+    /// # Errors
+    ///
+    /// `BadTable` where the bytes are the content of no table's file, and only there; `OutOfMemory` where a
     /// growth was refused.
     pub fn recover(alloc: Global, id: TableId, bytes: Bytes) -> Result<Table, TableError>
         ensures id { IfOk result (λ t. t.id ≡ id) }
@@ -95,7 +103,7 @@ impl Table {
         })
     }
 
-    /// The table's number, which is also its file's name.
+    /// The table's id, which is also its file's name.
     pub fn id(&self) -> TableId
         ensures { result ≡ self.now.id }
     {
@@ -109,14 +117,14 @@ impl Table {
         self.inner.created_at
     }
 
-    /// The entries, by rising key, and under one key by falling number.
+    /// The entries, by rising key, and under one key by falling sequence number.
     pub fn entries(&self) -> &[InternalValue]
         ensures { result.now ≡ self.now.entries }
     {
         &self.inner.entries
     }
 
-    /// What every table meets: it has an entry at least, its entries rise and fit an image, and its
+    /// What every table meets: it has an entry at least, its entries rise and fit a file, and its
     /// range has their keys.
     pub fn facts(&self)
         ensures table { IsTable self.now.entries }
@@ -127,7 +135,8 @@ impl Table {
         let _ = &self.inner;
     }
 
-    /// The entry of a key with the greatest number below the snapshot. None only where there is none.
+    /// The entry of a key with the greatest sequence number below the snapshot. `None` only where there is none.
+    /// The cost is logarithmic in the number of entries.
     pub fn get(&self, key: &[u8], seqno: SeqNo) -> Option<&InternalValue>
         ensures is { option_copied result ≡ top key.now seqno self.now.entries }
         ensures greatest { IfSome result (λ e. IsTop self.now.entries key.now seqno e.now) }
@@ -136,7 +145,7 @@ impl Table {
         first_visible(&self.inner.entries, key, seqno)
     }
 
-    /// The entries whose keys lie within the bounds: a part of the table. There is none where the
+    /// The entries in the bounds: a part of the table, found in logarithmic time. There is none where the
     /// lower bound is above the upper one.
     pub fn range(&self, lower: &Bound<UserKey>, upper: &Bound<UserKey>) -> &[InternalValue]
         ensures { result.now ≡ within lower.now upper.now self.now.entries }
@@ -158,7 +167,7 @@ impl Table {
         self.inner.checksum
     }
 
-    /// The greatest number of an entry.
+    /// The greatest sequence number of an entry.
     pub fn get_highest_seqno(&self) -> SeqNo
         ensures { result ≡ greatest self.now.entries }
     {
@@ -193,7 +202,7 @@ impl Table {
         self.inner.counts.reclaimable
     }
 
-    /// What is added to the numbers of the entries: 0.
+    /// What is added to the sequence numbers of the entries: 0.
     pub fn global_seqno(&self) -> SeqNo
         ensures { result ≡ 0 }
     {

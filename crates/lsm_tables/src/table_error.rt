@@ -11,7 +11,7 @@ pub enum TableError {
     /// A growth was refused.
     #[error("a growth was refused")]
     OutOfMemory,
-    /// The bytes aren't the image of a table.
+    /// The bytes aren't the content of a table's file.
     #[error("the bytes aren't the image of a table")]
     BadTable,
 }

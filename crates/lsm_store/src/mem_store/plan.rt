@@ -58,7 +58,7 @@ impl Plan {
         }
     }
 
-    /// The plan behind the next call.
+    /// The plan after the next call.
     pub fn next(self) -> Plan
         ensures { (n : ℕ) → 1 ≤ n → outcome_at result n ≡ outcome_at self (n + 1) }
     {

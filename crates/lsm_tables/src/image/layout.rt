@@ -3,7 +3,7 @@
 /// The letters `LSMT`, with which a file begins, as a little-endian number.
 pub(super) const MAGIC: u32 = 0x544d_534c;
 
-/// Where made-at begins: behind the letters.
+/// Where made-at begins: after the letters.
 pub(super) const MADE_AT_PLACE: usize = 4;
 
 /// Where the count of the entries begins.
@@ -12,7 +12,7 @@ pub(super) const COUNT_PLACE: usize = 12;
 /// The bytes before the first entry: the letters, made-at and the count.
 pub(crate) const FRONT_LEN: usize = 20;
 
-/// Where an entry's sequence number begins: behind the length of its key.
+/// Where an entry's sequence number begins: after the length of its key.
 pub(super) const SEQNO_PLACE: usize = 2;
 
 /// Where an entry's type stands.

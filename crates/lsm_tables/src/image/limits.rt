@@ -1,4 +1,4 @@
-// What an image can spell.
+// Which entries a table's file can have.
 ghost use Rattle.std.specs.Prelude.{◌≡◌, ◌↔◌, ◌++◌, ◌∷◌, [], IsTrue};
 ghost use Rattle.lsm_below.specs.Entries.{kept_value};
 ghost use Rattle.lsm_tables.specs.Image.{Fits};
@@ -17,12 +17,12 @@ fn has_its_value(entry: &InternalValue) -> bool
     }
 }
 
-/// Whether an entry fits an image: its key has at most 65,535 bytes, its value at most 2^32 - 1,
-/// and a tombstone none.
+/// Whether an entry fits a table's file: its key has at most `MAX_KEY_LEN` bytes, its value at most
+/// `MAX_VALUE_LEN`, and a tombstone none.
 pub fn fits_image(entry: &InternalValue) -> bool
     ensures { IsTrue result ↔ Fits entry.now }
 {
-    // Any number fits.
+    // Any sequence number fits.
     let _number = entry.key.seqno;
     if entry.key.user_key.len() > MAX_KEY_LEN || entry.value.len() > MAX_VALUE_LEN {
         return false;
@@ -30,7 +30,7 @@ pub fn fits_image(entry: &InternalValue) -> bool
     has_its_value(entry)
 }
 
-/// Whether an entry fits an image and stands behind those that do.
+/// Whether an entry fits a table's file and comes after those that do.
 pub(crate) fn may_stand_behind(entries: &[InternalValue], entry: &InternalValue) -> bool
     requires { IsWritable entries.now }
     ensures { IsTrue result ↔ IsWritable (entries.now ++ entry.now ∷ []) }
@@ -39,7 +39,7 @@ pub(crate) fn may_stand_behind(entries: &[InternalValue], entry: &InternalValue)
     fits_image(entry) && may_follow(entries, entry)
 }
 
-/// Whether entries rise and each fits an image, so that tables can be written of them.
+/// Whether entries rise and each fits a table's file, so that tables can be written of them.
 pub fn is_writable(entries: &[InternalValue]) -> bool
     ensures { IsTrue result ↔ IsWritable entries.now }
 {

@@ -1,4 +1,4 @@
-// Reading an image.
+// Reading the content of a table's file.
 ghost use Rattle.std.specs.Prelude.{◌≡◌, ℕ, List, ◌≤◌, ◌<◌, ◌++◌, length, slice_index, IfOk, IfErr};
 ghost use Rattle.lsm_below.specs.Entries.{Entry};
 ghost use Rattle.lsm_tables.specs.Reading.{many};
@@ -16,7 +16,7 @@ use bytes::Bytes;
 use lsm_below::{InternalKey, InternalValue, SeqNo, ValueType, entries_are_ordered};
 use std::alloc::Global;
 
-/// What stands before an entry's key.
+/// What comes before an entry's key.
 #[derive(Drop)]
 struct Header {
     key_len: u16,
@@ -25,7 +25,7 @@ struct Header {
     value_len: u32,
 }
 
-/// What a slice of bytes contains are bytes.
+/// The elements of a slice of bytes are below 256.
 fn are_bytes(bytes: &[u8])
     ensures { (i : ℕ) → slice_index bytes.now i < 256 }
 {}
@@ -94,7 +94,7 @@ fn entry_of(bytes: &mut Bytes) -> Result<InternalValue, TableError>
     })
 }
 
-/// Whether the last of the entries stands before an entry.
+/// Whether the last of the entries comes before an entry.
 pub(super) fn may_follow(entries: &[InternalValue], entry: &InternalValue) -> bool
     ensures { result ≡ follows entries.now entry.now }
 {
@@ -104,7 +104,7 @@ pub(super) fn may_follow(entries: &[InternalValue], entry: &InternalValue) -> bo
     }
 }
 
-/// How many entries there can be, so that room is made once, and none for a count that lies.
+/// How many entries there can be, so that room is made once, and none for a count that is too great.
 fn room_for(count: u64, bytes: &Bytes) -> usize {
     let most = bytes.len() / HEAD_LEN;
     if count < most as u64 {
@@ -155,9 +155,12 @@ fn read_image(alloc: Global, bytes: Bytes) -> Result<(u64, Vec<InternalValue>), 
     Ok((made_at, entries))
 }
 
-/// Made-at (in nanoseconds) and the entries of an image, whose keys and values share its bytes.
+/// Made-at (in nanoseconds) and the entries of a table's file, whose keys and values share its bytes.
+/// The cost is linear in the bytes.
 ///
-/// `BadTable` where the bytes are the image of no table, and only there; `OutOfMemory` where a
+/// # Errors
+///
+/// `BadTable` where the bytes are the content of no table's file, and only there; `OutOfMemory` where a
 /// growth was refused.
 pub fn decode(alloc: Global, bytes: Bytes) -> Result<(u64, Vec<InternalValue>), TableError>
     ensures read { IfOk result (λ x. IsImageOf x.0 x.1.items bytes) }
@@ -168,7 +171,7 @@ pub fn decode(alloc: Global, bytes: Bytes) -> Result<(u64, Vec<InternalValue>), 
     read_image(alloc, bytes)
 }
 
-/// No image begins another one, so each table has one image alone.
+/// No table's content begins another one's, so a table has one content alone.
 pub fn no_image_begins_another()
     ensures { (m n : ℕ) (es fs : List Entry) (a b x y : List ℕ) → IsImageOf m es a → IsImageOf n fs b
         → a ++ x ≡ b ++ y → (m ≡ n) × (es ≡ fs) × (x ≡ y) }

@@ -1,4 +1,4 @@
-// Writing an image.
+// Writing the content of a table's file.
 ghost use Rattle.std.specs.Prelude.{◌≡◌, ◌++◌, length, OnOk, IfOk};
 ghost use Rattle.lsm_tables.specs.Image.{Fits, IsTable, type_code, head, front, spelled, image};
 
@@ -58,7 +58,7 @@ fn put_entry(out: &mut Vec<u8>, entry: &InternalValue) -> Result<(), AllocError>
     out.extend_from_slice(entry.value.as_slice())
 }
 
-/// How many bytes the image has, so that room is made once.
+/// How many bytes the content has, so that room is made once.
 fn size_of(entries: &[InternalValue]) -> usize {
     let mut size = FRONT_LEN;
     for entry in entries {
@@ -70,10 +70,14 @@ fn size_of(entries: &[InternalValue]) -> usize {
     size
 }
 
-/// The image of a table of these entries, made at this moment (in nanoseconds). There is one alone.
+/// The content of the file of a table of these entries, made at this moment (in nanoseconds).
 ///
-/// The entries rise, at least one; keys have at most 65,535 bytes, values at most 2^32 - 1, and
-/// tombstones none. Refused only for want of memory.
+/// The entries rise, at least one; keys have at most `MAX_KEY_LEN` bytes, values at most
+/// `MAX_VALUE_LEN`, and tombstones none. The cost is linear in the bytes.
+///
+/// # Errors
+///
+/// Refused only for want of memory.
 pub fn encode(alloc: Global, made_at: u64, entries: &[InternalValue]) -> Result<Vec<u8>, AllocError>
     requires { IsTable entries.now }
     ensures { IfOk result (λ v. v.items ≡ image made_at entries.now) }

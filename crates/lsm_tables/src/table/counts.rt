@@ -8,7 +8,7 @@ use lsm_below::{InternalValue, SeqNo, ValueType, has_same_key};
 /// What is counted of entries, in one walk over them.
 #[derive(Clone, Copy)]
 pub(super) struct Counts {
-    /// The greatest number, 0 where there is no entry.
+    /// The greatest sequence number, 0 where there is no entry.
     pub(super) highest: SeqNo,
     /// How many entries remove their key, weakly or not.
     pub(super) tombstones: usize,
