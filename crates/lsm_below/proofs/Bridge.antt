@@ -11,7 +11,8 @@ use Rattle.lsm_below.specs.Entries.{entry_cmp, IsFalling, stack, keep}
 use Rattle.lsm_below.specs.Streams.{IsInOrder, Merges, is_of, IsByKey, distinct, keep_distinct}
 use Rattle.lsm_below.specs.Slots.{merged, is_before}
 use Rattle.lsm_below.proofs.Keeping.{differs}
-use Rattle.lsm_below.proofs.Each.{each_weaker, filter_all}
+use Rattle.lsm_below.specs.Each.{each_weaker}
+use Rattle.lsm_below.proofs.Filters.{filter_all}
 use Rattle.lsm_below.proofs.Orders.{ascends_filter}
 use Rattle.lsm_below.proofs.OneKey.{stack_falls}
 use Rattle.lsm_below.proofs.Taking.{map_twice}

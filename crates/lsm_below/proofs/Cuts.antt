@@ -1,6 +1,6 @@
 -- Where a run is cut by a key, and what a cut gives.
 use Rattle.std.proofs.Common.{◌≡◌, ℕ, zero, suc, ◌+◌, ◌-◌, ◌<◌, ◌≤◌, Bool, true, false, cond, not, ◌&&◌, List, [], ◌∷◌, length, get_or, take, drop, Some, None, refl, sym, ◌∙◌, ap, subst, arith, inl, inr}
-use Rattle.std.specs.List.{AllByRecursion, find, filter}
+use Rattle.std.specs.List.{find, filter}
 use Rattle.std.proofs.lemmas.Bool.{cases_lt}
 use Rattle.std.proofs.lemmas.List.{get_or_default}
 use Rattle.lsm_below.specs.Keys.{is_below}
@@ -8,6 +8,7 @@ use Rattle.lsm_below.specs.Ranges.{Range, IsRange, in_range}
 use Rattle.lsm_below.specs.Runs.{IsRun, IsCut, stands, IsSpan}
 use Rattle.lsm_below.specs.declared.run.Side.{Side}
 use Rattle.lsm_below.specs.declared.run.Side.TheVariants.{EndsBefore, EndsAtOrBefore, StartsBefore, StartsAtOrBefore}
+use Rattle.lsm_below.specs.Each.{each_at}
 use Rattle.lsm_below.proofs.Keys.{not_true, true_not, upto_trans, below_upto, below_then_upto, upto_then_below, below_trans, range_ends, in_by}
 
 -- the range before one that stands so does too
@@ -16,11 +17,6 @@ carried EndsBefore k r s vr vs b h = below_trans r.max s.max k (below_then_upto 
 carried EndsAtOrBefore k r s vr vs b h = true_not (is_below k r.max) (upto_trans r.max s.max k (below_upto r.max s.max (below_then_upto r.max s.min s.max b (range_ends s vs))) (not_true (is_below k s.max) h))
 carried StartsBefore k r s vr vs b h = below_trans r.min s.min k (upto_then_below r.min r.max s.min (range_ends r vr) b) h
 carried StartsAtOrBefore k r s vr vs b h = true_not (is_below k r.min) (upto_trans r.min s.min k (below_upto r.min s.min (upto_then_below r.min r.max s.min (range_ends r vr) b)) (not_true (is_below k s.min) h))
-
-pub each_at : {X : Type 0} (P : X → Type 0) (xs : List X) (j : ℕ) (d : X) → AllByRecursion P xs → j < length xs → P (get_or xs j d)
-each_at P [] j d h lt = absurd (omega arith)
-each_at P (x ∷ xs) zero d h lt = h.0
-each_at P (x ∷ xs) (suc j) d h lt = each_at P xs j d h.1 (omega arith)
 
 module _ {T : Type 0} (range : T → Range) where
   pub run_at : (xs : List T) (i j : ℕ) (d : T) → IsRun range xs → i < j → j < length xs → is_below (range (get_or xs i d)).max (range (get_or xs j d)).min ≡ true

@@ -10,7 +10,7 @@ use Rattle.lsm_below.specs.declared.value.InternalValue.{InternalValue}
 use Rattle.lsm_below.specs.Entries.{entry_cmp, stack}
 use Rattle.lsm_below.specs.Streams.{IsInOrder, is_of}
 use Rattle.lsm_below.specs.Slots.{same_key}
-use Rattle.lsm_below.proofs.Each.{each_weaker}
+use Rattle.lsm_below.specs.Each.{each_weaker}
 
 -- the order of keys
 abbrev texts : List ℕ → List ℕ → Ordering

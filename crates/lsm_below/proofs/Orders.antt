@@ -8,7 +8,7 @@ use Rattle.std.specs.Ordering.{is_le, is_lt, is_gt, ordering_reverse}
 use Rattle.std.proofs.lemmas.Cmp.{on_total, then_total, back_total, nat_cmp_total, nat_list_cmp_total, upto}
 use Rattle.lsm_below.specs.Entries.{entry_cmp}
 use Rattle.lsm_below.specs.Streams.{Ascends}
-use Rattle.lsm_below.proofs.Each.{each_weaker, each_filter}
+use Rattle.lsm_below.specs.Each.{each_weaker, each_filter}
 
 pub entry_total : IsTotalOrder entry_cmp
 entry_total = on_total (λ e. e.key) (then_total (on_total (λ k. k.user_key) nat_list_cmp_total) (back_total (on_total (λ k. k.seqno) nat_cmp_total)))

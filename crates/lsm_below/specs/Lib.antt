@@ -1,4 +1,5 @@
 pub mod Keys
+pub mod Each
 pub mod Ranges
 pub mod Runs
 pub mod Optimizes
@@ -8,3 +9,4 @@ pub mod Entries
 pub mod Streams
 pub mod Slots
 pub mod Lookups
+pub mod Laws

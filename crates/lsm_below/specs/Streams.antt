@@ -66,6 +66,12 @@ unless goes e = cond goes [] (e ∷ [])
 abbrev pub keep_distinct : ℕ → Bool → List Entry → List Entry
 keep_distinct w evict es = keep w evict (distinct es)
 
+-- what a compaction keeps of lists, whatever their numbers: of each key, what is kept of some merge of all entries
+pub record KeepsOfMerge (w : ℕ) (evict : Bool) (lists : List (List Entry)) (out : List Entry) : Type 0 where
+  pub merged : List Entry
+  pub merges : Merges lists merged
+  pub kept : IsByKey (keep_distinct w evict) merged out
+
 -- ---- streams
 
 -- what a stream has left, and whether it has ended

@@ -4,7 +4,7 @@ ghost use Rattle.std.specs.Prelude.{IfErr, ◌≡◌, ◌≤◌, [], ◌∷◌, 
 ghost use Rattle.std.specs.List.{All};
 ghost use Rattle.lsm_below.specs.Keys.{Bytes};
 ghost use Rattle.lsm_below.specs.Entries.{IsFalling, IsOrdered, stack, keep};
-ghost use Rattle.lsm_below.specs.Streams.{Rest, Gives, RefusesOnly, IsInOrder, IsByKey, keep_distinct, goes_alone, goes_with, unless};
+ghost use Rattle.lsm_below.specs.Streams.{Gives, RefusesOnly, IsInOrder, IsByKey, KeepsOfMerge, keep_distinct, goes_alone, goes_with, unless};
 ghost use Rattle.lsm_below.specs.Slots.{all_of, compacted, left_of, calls_left};
 
 use crate::merger::Merger;
@@ -156,7 +156,7 @@ impl<S: Source> CompactionStream<S> {
 
 /// What a compaction keeps of several sources, each in order. Refused only for want of memory.
 ///
-/// Where of each key all numbers in an earlier source are above those in a later one, and fall within each, it is what is
+/// It is what is kept of some merge of all their entries, whatever their numbers. Where of each key all numbers in an earlier source are above those in a later one, and fall within each, it is what is
 /// kept of the key's entries in all sources, one behind the other.
 pub fn compact<S: Source>(
     alloc: Global,
@@ -166,6 +166,12 @@ pub fn compact<S: Source>(
 ) -> Result<CompactionStream<Merger<S>>, AllocError>
     requires { All (λ s. IsInOrder (S.rest s).entries) sources.items }
     ensures in_order { IfOk result (λ c. IsInOrder (left_of c).entries) }
+
+    // Whatever the sequence numbers are.
+    ensures merged { IfOk result
+        (λ c. KeepsOfMerge watermark evict (map (λ s. (S.rest s).entries) sources.items) (left_of c).entries) }
+
+    // Where those of each key fall along the sources.
     ensures kept { IfOk result
         (λ c. (key : Bytes) → IsFalling (flat_map (λ s. stack key (S.rest s).entries) sources.items) → stack key (left_of c).entries ≡ keep watermark evict (flat_map (λ s. stack key (S.rest s).entries) sources.items)) }
     ensures ordered { IfOk result

@@ -16,12 +16,14 @@
 //! | `mvcc_stream` | the first entry of each key |
 //! | `compaction_stream` | what a compaction keeps |
 //! | `lookup` | look-ups in entries that rise |
+//! | `laws` | what always holds of keys, entries and merges, each as the contract of a function |
 #![tactic(auto)]
 
 mod compaction_stream;
 mod ids;
 mod key;
 mod key_range;
+mod laws;
 mod limits;
 mod list_source;
 mod lookup;
@@ -37,6 +39,7 @@ pub use compaction_stream::{CompactionStream, compact};
 pub use ids::{KvPair, MemtableId, SeqNo, TableId, TreeId, UserKey, UserValue, share};
 pub use key::InternalKey;
 pub use key_range::{KeyRange, Ranged};
+pub use laws::{entries_are_ordered, first_visible_is_top, keys_are_ordered, merges_by_key};
 pub use limits::{ENTRY_OVERHEAD, MAX_KEY_LEN, MAX_VALUE_LEN};
 pub use list_source::ListSource;
 pub use lookup::{entries_within, first_visible};

@@ -1,9 +1,9 @@
 // Look-ups in entries that rise, by binary search.
-ghost use Rattle.std.specs.Prelude.{◌≡◌, ℕ, ◌<◌, ◌≤◌, length, true, false, option_copied, slice_index_or};
+ghost use Rattle.std.specs.Prelude.{◌≡◌, ℕ, ◌<◌, ◌≤◌, length, true, false, option_copied, slice_index_or, IfSome, IfNone};
 ghost use Rattle.lsm_below.specs.declared.value.InternalValue.{InternalValue};
-ghost use Rattle.lsm_below.specs.Entries.{entry_cmp};
+ghost use Rattle.lsm_below.specs.Entries.{entry_cmp, top};
 ghost use Rattle.lsm_below.specs.Sorted.{Rises, first};
-ghost use Rattle.lsm_below.specs.Lookups.{is_visible, stands_before, is_from, is_to, within};
+ghost use Rattle.lsm_below.specs.Lookups.{is_visible, stands_before, is_from, is_to, within, IsTop, HasNone};
 
 use crate::{InternalValue, SeqNo, UserKey};
 use std::cmp::Ordering;
@@ -40,8 +40,8 @@ fn place_below(entries: &[InternalValue], key: &[u8], number: SeqNo) -> usize
     low
 }
 
-/// The entry of a key with the greatest number below the snapshot.
-pub fn first_visible<'a>(
+/// The first entry of a key below the snapshot.
+fn find_visible<'a>(
     entries: &'a [InternalValue],
     key: &[u8],
     snapshot: SeqNo,
@@ -56,6 +56,23 @@ pub fn first_visible<'a>(
     } else {
         None
     }
+}
+
+/// The entry of a key with the greatest sequence number below the snapshot. `None` only where there is none.
+///
+/// The cost is logarithmic in the number of entries.
+pub fn first_visible<'a>(
+    entries: &'a [InternalValue],
+    key: &[u8],
+    snapshot: SeqNo,
+) -> Option<&'a InternalValue>
+    requires { Rises entry_cmp entries.now }
+    ensures first { option_copied result ≡ first (is_visible key.now snapshot) entries.now }
+    ensures is { option_copied result ≡ top key.now snapshot entries.now }
+    ensures greatest { IfSome result (λ e. IsTop entries.now key.now snapshot e.now) }
+    ensures none { IfNone result (HasNone entries.now key.now snapshot) }
+{
+    find_visible(entries, key, snapshot)
 }
 
 /// Whether a key lies within a lower bound.

@@ -72,7 +72,22 @@ fn place_runs<T: Ranged + Drop>(alloc: Global, runs: Vec<Run<T>>) -> Result<Vec<
     Ok(placed)
 }
 
+/// What holds of every run holds of each of these.
+fn facts_of_each<T: Ranged>(runs: &[Run<T>])
+    ensures { All (λ r. IsRun T.range r × (0 < length r)) runs.now }
+{
+    for run in runs {
+        run.facts();
+    }
+}
+
 /// Joins runs where their tables allow it: each table goes into the earliest run where it may stand.
+///
+/// Fewer than two runs come back as they are.
+///
+/// # Errors
+///
+/// Refused only for want of memory.
 pub fn optimize_runs<T: Ranged + Drop>(
     alloc: Global,
     runs: Vec<Run<T>>,
@@ -80,6 +95,10 @@ pub fn optimize_runs<T: Ranged + Drop>(
     ensures rules { IfOk result (λ new. Optimizes T.range runs.items new.items) }
     ensures keys { IfOk result (λ new. IsRearranged T.range (tables_of runs.items) (tables_of new.items)) }
 {
+    if runs.len() < 2 {
+        facts_of_each(&runs);
+        return Ok(runs);
+    }
     let new = place_runs(alloc, runs)?;
     Ok(new)
 }

@@ -11,7 +11,7 @@ use Rattle.std.specs.Cmp.Lexicographic.{nat_list_cmp_total}
 use Rattle.std.proofs.lemmas.List.Elements.{All-contains_itself, All-append, Contains-append_left, Contains-append_cases, All-contains, All-head, All-tail, All-cons, All-nil, All-weaker, All-from_recursion, filter-append, filter_passes}
 use Rattle.std.proofs.lemmas.Grind.{flat_map-append}
 use Rattle.std.specs.List.{find as find_entry}
-use Rattle.lsm_below.proofs.Each.{each_filter}
+use Rattle.lsm_below.specs.Each.{each_filter}
 use Rattle.lsm_model.specs.declared.question.Answer.TheVariants.{Pairs}
 use Rattle.lsm_below.specs.Keys.{Bytes, bytes_cmp, is_same}
 use Rattle.lsm_below.specs.Entries.{Entry, entry_cmp, above, stack, is_value_kind, value_of, value_by, top, later, IsFalling, IsOrdered}

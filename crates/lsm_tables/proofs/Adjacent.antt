@@ -9,9 +9,9 @@ use Rattle.std.proofs.lemmas.List.Elements.{All-cons, All-head, All-nil, All-wea
 use Rattle.lsm_below.specs.declared.value.InternalValue.{InternalValue}
 use Rattle.lsm_below.specs.Entries.{entry_cmp}
 use Rattle.lsm_below.specs.Slots.{is_before}
+use Rattle.lsm_below.specs.Laws.{EntriesAreOrdered}
 use Rattle.lsm_below.specs.Sorted.{Rises}
 use Rattle.lsm_tables.specs.ImageReading.{rises_after, rises, follows_after, follows}
-use Rattle.lsm_below.proofs.Orders.{entry_total}
 
 -- a test of the order is a fact
 pub less_from_test : (o : Ordering) → is_lt o ≡ true → o ≡ Less
@@ -20,20 +20,20 @@ less_from_test Equal h = absurd (cc h)
 less_from_test Greater h = absurd (cc h)
 
 -- an entry before the first of a list that rises is before each
-pub below_rising : (e f : InternalValue) (es : List InternalValue) → entry_cmp e f ≡ Less → Rises entry_cmp (f ∷ es) → All (λ y. entry_cmp e y ≡ Less) (f ∷ es)
-below_rising e f es less h =
-    All-cons (λ y. entry_cmp e y ≡ Less) f es less (All-weaker (λ y. entry_cmp f y ≡ Less) (λ y. entry_cmp e y ≡ Less) (λ y l. entry_total.trans e f y less l) es h.0)
+pub below_rising : EntriesAreOrdered → (e f : InternalValue) (es : List InternalValue) → entry_cmp e f ≡ Less → Rises entry_cmp (f ∷ es) → All (λ y. entry_cmp e y ≡ Less) (f ∷ es)
+below_rising order e f es less h =
+    All-cons (λ y. entry_cmp e y ≡ Less) f es less (All-weaker (λ y. entry_cmp f y ≡ Less) (λ y. entry_cmp e y ≡ Less) (λ y l. order.total.trans e f y less l) es h.0)
 
-rises_after_found : (e : InternalValue) (es : List InternalValue) → rises_after e es ≡ true → Rises entry_cmp (e ∷ es)
-rises_after_found e [] h = (All-nil (λ y. entry_cmp e y ≡ Less), tt)
-rises_after_found e (f ∷ es) h =
+rises_after_found : EntriesAreOrdered → (e : InternalValue) (es : List InternalValue) → rises_after e es ≡ true → Rises entry_cmp (e ∷ es)
+rises_after_found order e [] h = (All-nil (λ y. entry_cmp e y ≡ Less), tt)
+rises_after_found order e (f ∷ es) h =
     let p = and_parts (is_before e f) (rises_after f es) h in
-    let rest = rises_after_found f es p.1 in
-    (below_rising e f es (less_from_test (entry_cmp e f) p.0) rest, rest)
+    let rest = rises_after_found order f es p.1 in
+    (below_rising order e f es (less_from_test (entry_cmp e f) p.0) rest, rest)
 
-pub rises_found : (es : List InternalValue) → rises es ≡ true → Rises entry_cmp es
-rises_found [] h = tt
-rises_found (e ∷ es) h = rises_after_found e es h
+pub rises_found : EntriesAreOrdered → (es : List InternalValue) → rises es ≡ true → Rises entry_cmp es
+rises_found order [] h = tt
+rises_found order (e ∷ es) h = rises_after_found order e es h
 
 rises_after_again : (e : InternalValue) (es : List InternalValue) → Rises entry_cmp (e ∷ es) → rises_after e es ≡ true
 rises_after_again e [] h = refl

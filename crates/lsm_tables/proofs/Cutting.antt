@@ -1,17 +1,16 @@
 -- Entries that may be written, and what cutting off a first table leaves.
 use Rattle.std.proofs.Common.{◌≡◌, ℕ, ◌+◌, ◌-◌, ◌^◌, ◌<◌, true, false, List, [], ◌∷◌, ◌++◌, length, get_or, take, drop, map, refl, sym, ap, subst, ◌∙◌, append_assoc, arith, inl, inr}
 use Rattle.std.specs.List.{AllByRecursion, flat_map}
-use Rattle.std.specs.Ordering.{nat_cmp, ordering_then, is_eq, is_lt}
-use Rattle.std.specs.declared.cmp.Ordering.{Ordering}
-use Rattle.std.specs.declared.cmp.Ordering.TheVariants.{Less, Equal, Greater}
+use Rattle.std.specs.declared.cmp.Ordering.TheVariants.{Less}
 use Rattle.std.proofs.lemmas.Bool.{cases_lt, and_from, and_parts}
 use Rattle.std.proofs.lemmas.List.{append-nil, take-append-drop, length-append, length-take, length-drop, take_at, get_or_append_left, get_or-append-add, get_or-take, map-append}
 use Rattle.std.proofs.lemmas.List.Elements.{All-from_recursion, recursion_from_All}
 use Rattle.std.proofs.lemmas.List.Sums.{sum_by_more}
 use Rattle.std.proofs.lemmas.List.Concat.{flat_map-cons}
-use Rattle.lsm_below.specs.Keys.{Bytes, bytes_cmp, is_below}
+use Rattle.lsm_below.specs.Keys.{Bytes, is_below}
 use Rattle.lsm_below.specs.Entries.{Entry, entry_cmp}
 use Rattle.lsm_below.specs.Slots.{same_key}
+use Rattle.lsm_below.specs.Laws.{KeysAreOrdered, EntriesAreOrdered}
 use Rattle.lsm_below.specs.Sorted.{Rises}
 use Rattle.lsm_tables.specs.Image.{Fits, IsTable, image, entry_bytes}
 use Rattle.lsm_tables.specs.ImageReading.{rises, follows}
@@ -19,11 +18,8 @@ use Rattle.lsm_tables.specs.Cutting.{capped, IsWritable, IsApart, IsFilled, HasN
 use Rattle.lsm_tables.specs.Tables.{last_key}
 use Rattle.lsm_tables.proofs.Adjacent.{rises_found, rises_again, rises_push}
 use Rattle.lsm_tables.proofs.Covering.{below_first, upto_last, last_is}
-use Rattle.lsm_below.proofs.Cuts.{each_at}
-use Rattle.lsm_below.proofs.Each.{each_append, each_left, each_right, each_weaker}
-use Rattle.lsm_below.proofs.Keys.{below_then_upto, upto_then_below, below_itself}
-use Rattle.lsm_below.proofs.Orders.{entry_total}
-use Rattle.lsm_below.proofs.Rising.{rises_at}
+use Rattle.lsm_below.specs.Each.{each_at}
+use Rattle.lsm_below.specs.Each.{each_append, each_left, each_right, each_weaker}
 
 -- ---- parts of entries that rise
 
@@ -43,14 +39,11 @@ writable_left xs ys h = record { each = each_left Fits xs ys h.each; rises = ris
 pub writable_right : (xs ys : List Entry) → IsWritable (xs ++ ys) → IsWritable ys
 writable_right xs ys h = record { each = each_right Fits xs ys h.each; rises = rises_right xs ys h.rises }
 
-pub writable_none : IsWritable []
-writable_none = record { each = tt; rises = tt }
-
 -- one more entry may be written where it fits and stands behind the last one
-pub writable_push : (es : List Entry) (e : Entry) → IsWritable es → Fits e → follows es e ≡ true → IsWritable (es ++ e ∷ [])
-writable_push es e h fits f = record {
+pub writable_push : EntriesAreOrdered → (es : List Entry) (e : Entry) → IsWritable es → Fits e → follows es e ≡ true → IsWritable (es ++ e ∷ [])
+writable_push order es e h fits f = record {
   each = each_append Fits es (e ∷ []) h.each (fits, tt);
-  rises = rises_found (es ++ e ∷ []) (rises_push es e ∙ and_from (rises es) (follows es e) (rises_again es h.rises) f);
+  rises = rises_found order (es ++ e ∷ []) (rises_push es e ∙ and_from (rises es) (follows es e) (rises_again es h.rises) f);
 }
 
 pub pushed_fits : (es : List Entry) (e : Entry) → IsWritable (es ++ e ∷ []) → Fits e
@@ -68,33 +61,14 @@ pub each_both : {A : Type 0} (P Q R : A → Type 0) → ((x : A) → P x → Q x
 each_both P Q R f [] p q = tt
 each_both P Q R f (x ∷ xs) p q = (f x p.0 q.0, each_both P Q R f xs p.1 q.1)
 
-not_same : (o : Ordering) → is_lt o ≡ true → is_eq o ≡ false
-not_same Less h = refl
-not_same Equal h = absurd (cc h)
-not_same Greater h = absurd (cc h)
-
-below_not_same : (x y : Entry) → is_below x.key.user_key y.key.user_key ≡ true → same_key x y ≡ false
-unfolding is_below
-below_not_same x y h = not_same (bytes_cmp x.key.user_key y.key.user_key) h
-
-strictly : (r c : Ordering) → ordering_then r c ≡ Less → is_eq r ≡ false → is_lt r ≡ true
-strictly Less c h n = refl
-strictly Equal c h n = absurd (cc n)
-strictly Greater c h n = absurd (cc h)
-
--- of two entries in order with other keys, the first one's key is below the second one's
-below_strictly : (x y : Entry) → entry_cmp x y ≡ Less → same_key x y ≡ false → is_below x.key.user_key y.key.user_key ≡ true
-unfolding is_below
-below_strictly x y h n = strictly (bytes_cmp x.key.user_key y.key.user_key) (nat_cmp y.key.seqno x.key.seqno) h n
-
 -- where the last key of one side is below the first key of the other, no key stands on both
-apart_from : (x : Entry) (xs : List Entry) (y : Entry) (ys : List Entry) → Rises entry_cmp (x ∷ xs) → Rises entry_cmp (y ∷ ys) → is_below (last_key (x ∷ xs)) y.key.user_key ≡ true → IsApart (x ∷ xs) (y ∷ ys)
-apart_from x xs y ys hx hy lt =
-    let low = upto_last x xs hx in
-    let high : AllByRecursion (λ f. is_below f.key.user_key y.key.user_key ≡ false) (y ∷ ys) = (below_itself y.key.user_key, below_first y ys hy.0) in
+apart_from : KeysAreOrdered → EntriesAreOrdered → (x : Entry) (xs : List Entry) (y : Entry) (ys : List Entry) → Rises entry_cmp (x ∷ xs) → Rises entry_cmp (y ∷ ys) → is_below (last_key (x ∷ xs)) y.key.user_key ≡ true → IsApart (x ∷ xs) (y ∷ ys)
+apart_from keys entries x xs y ys hx hy lt =
+    let low = upto_last keys entries x xs hx in
+    let high : AllByRecursion (λ f. is_below f.key.user_key y.key.user_key ≡ false) (y ∷ ys) = (keys.itself y.key.user_key, below_first keys entries y ys hy.0) in
     each_weaker (λ f. is_below f.key.user_key y.key.user_key ≡ false) (λ f. AllByRecursion (λ e. same_key e f ≡ false) (x ∷ xs)) (λ f h.
     each_weaker (λ e. is_below (last_key (x ∷ xs)) e.key.user_key ≡ false) (λ e. same_key e f ≡ false) (λ e g.
-    below_not_same e f (below_then_upto e.key.user_key y.key.user_key f.key.user_key (upto_then_below e.key.user_key (last_key (x ∷ xs)) y.key.user_key g lt) h)) (x ∷ xs) low) (y ∷ ys) high
+    entries.apart e f (keys.then_upto e.key.user_key y.key.user_key f.key.user_key (keys.upto_then e.key.user_key (last_key (x ∷ xs)) y.key.user_key g lt) h)) (x ∷ xs) low) (y ∷ ys) high
 
 each_flat : {A : Type 0} (P : A → Type 0) (lists : List (List A)) → AllByRecursion P (flat_map (λ l. l) lists) → AllByRecursion (λ l. AllByRecursion P l) lists
 each_flat P [] h = tt
@@ -102,7 +76,7 @@ each_flat {A} P (l ∷ lists) h =
     let all = subst (λ (xs : List A). AllByRecursion P xs) (flat_map-cons (λ (x : List A). x) l lists) h in
     (each_left P l (flat_map (λ x. x) lists) all, each_flat P lists (each_right P l (flat_map (λ x. x) lists) all))
 
-module _ (target : ℕ) (es : List Entry) (end : ℕ) (writable : IsWritable es) (at : IsFirstEnd target es end) where
+module _ (keys : KeysAreOrdered) (entries : EntriesAreOrdered) (target : ℕ) (es : List Entry) (end : ℕ) (writable : IsWritable es) (at : IsFirstEnd target es end) where
   parts : take end es ++ drop end es ≡ es
   parts = take-append-drop end es
 
@@ -139,14 +113,14 @@ module _ (target : ℕ) (es : List Entry) (end : ℕ) (writable : IsWritable es)
       let more : end < length es = omega arith in
       let same_front : (get_or es (end - 1) y) ≡ get_or (x ∷ xs) (end - 1) y = sym (get_or-take end es (end - 1) y (omega arith)) ∙ ap (λ (l : List Entry). get_or l (end - 1) y) (sym ex) in
       let here : get_or es end y ≡ y = ap (λ (l : List Entry). get_or l end y) (sym parts) ∙ ap (λ (k : ℕ). get_or (take end es ++ drop end es) k y) (omega arith) ∙ get_or-append-add (take end es) (drop end es) 0 y ∙ ap (λ (l : List Entry). get_or l 0 y) (sym ey) in
-      let less = rises_at entry_total es (end - 1) end y writable.rises (omega arith) more in
-      let lt : is_below (get_or es (end - 1) y).key.user_key (get_or es end y).key.user_key ≡ true = below_strictly (get_or es (end - 1) y) (get_or es end y) less (at.apart y more) in
+      let less = entries.rises es (end - 1) end y writable.rises (omega arith) more in
+      let lt : is_below (get_or es (end - 1) y).key.user_key (get_or es end y).key.user_key ≡ true = entries.keys_apart (get_or es (end - 1) y) (get_or es end y) less (at.apart y more) in
       let last : (get_or (x ∷ xs) (end - 1) y).key.user_key ≡ last_key (x ∷ xs) = ap (λ (k : ℕ). (get_or (x ∷ xs) k y).key.user_key) (omega arith) ∙ last_is (x ∷ xs) y (omega arith) in
       let below : is_below (last_key (x ∷ xs)) y.key.user_key ≡ true =
       ap (λ (k : Bytes). is_below k y.key.user_key) (sym (ap (λ (e : Entry). e.key.user_key) same_front ∙ last)) ∙ ap (λ (e : Entry). is_below (get_or es (end - 1) y).key.user_key e.key.user_key) (sym here) ∙ lt in
       let rises_x : Rises entry_cmp (x ∷ xs) = subst (Rises entry_cmp) (sym ex) front_writable.rises in
       let rises_y : Rises entry_cmp (y ∷ ys) = subst (Rises entry_cmp) (sym ey) behind_writable.rises in
-      apart_from x xs y ys rises_x rises_y below
+      apart_from keys entries x xs y ys rises_x rises_y below
 
   no_earlier : HasNoEarlierEnd target (take end es)
   no_earlier xs ys y is some apart =
@@ -208,14 +182,14 @@ ends target made_at es images rest h none = record {
   spelled = h.spelled;
 }
 
-pub goes_on : (target made_at : ℕ) (es : List Entry) (images : List Bytes) (rest : List Entry) (end : ℕ) (bytes : Bytes) → IsUnderway target made_at es images rest → IsFirstEnd target rest end → end < 2 ^ 64 → bytes ≡ image made_at (take end rest)
+pub goes_on : KeysAreOrdered → EntriesAreOrdered → (target made_at : ℕ) (es : List Entry) (images : List Bytes) (rest : List Entry) (end : ℕ) (bytes : Bytes) → IsUnderway target made_at es images rest → IsFirstEnd target rest end → end < 2 ^ 64 → bytes ≡ image made_at (take end rest)
     → IsUnderway target made_at es (images ++ bytes ∷ []) (drop end rest)
-goes_on target made_at es images rest end bytes h at lt is = record {
+goes_on keys entries target made_at es images rest end bytes h at lt is = record {
   tables = h.tables ++ take end rest ∷ [];
   spelled = ap (λ (l : List Bytes). l ++ bytes ∷ []) h.spelled ∙ ap (λ (b : Bytes). map (image made_at) h.tables ++ b ∷ []) is ∙ sym (map-append (image made_at) h.tables (take end rest ∷ []));
-  each = each_append IsTable h.tables (take end rest ∷ []) h.each (front_table target rest end h.writable at lt, tt);
-  goes_on = λ later c. subst (λ (l : List (List Entry)). IsCutting target es l) (sym (append_assoc h.tables (take end rest ∷ []) later)) (h.goes_on (take end rest ∷ later) (cut_first target rest end h.writable at later c));
-  writable = behind_writable target rest end h.writable at;
+  each = each_append IsTable h.tables (take end rest ∷ []) h.each (front_table keys entries target rest end h.writable at lt, tt);
+  goes_on = λ later c. subst (λ (l : List (List Entry)). IsCutting target es l) (sym (append_assoc h.tables (take end rest ∷ []) later)) (h.goes_on (take end rest ∷ later) (cut_first keys entries target rest end h.writable at later c));
+  writable = behind_writable keys entries target rest end h.writable at;
 }
 
 -- ---- where a table ends

@@ -19,6 +19,7 @@ use Rattle.lsm_tables.specs.declared.image.reading.Header.{Header}
 use Rattle.lsm_below.specs.Entries.{kept_value}
 use Rattle.lsm_tables.specs.Image.{type_code, head, spelled, front, image, Fits, IsTable, IsImageOf, IsNoImage}
 use Rattle.lsm_tables.specs.ImageReading.{Gives, Fails, type_of, header_at, may_have, body_at, spelled_at, rises, ends_well, contents, image_at}
+use Rattle.lsm_below.specs.Laws.{EntriesAreOrdered}
 use Rattle.lsm_tables.proofs.Adjacent.{rises_found, rises_again}
 
 type_found : (n : ℕ) (k : ValueType) → type_of n ≡ Ok k → n ≡ type_code k
@@ -196,9 +197,9 @@ some_found (suc n) h = omega arith
 some_again : (n : ℕ) → 0 < n → not (eqb n 0) ≡ true
 some_again n h = not_from_false (eqb n 0) (ne_eqb n 0 (λ (e : n ≡ 0). omega arith))
 
-pub image_takes : (bytes : List ℕ) (x : ℕ × List InternalValue) → IsBytes bytes → image_at bytes ≡ Ok x → IsImageOf x.0 x.1 bytes
+pub image_takes : EntriesAreOrdered → (bytes : List ℕ) (x : ℕ × List InternalValue) → IsBytes bytes → image_at bytes ≡ Ok x → IsImageOf x.0 x.1 bytes
 unfolding image_at
-image_takes bytes x fits e =
+image_takes order bytes x fits e =
     let m : ℕ = little_number 8 (drop 4 bytes) in
     let c : ℕ = little_number 8 (drop 12 bytes) in
     let g = guard_then (ltb (length bytes) 20) BadTable (cond (eqb (little_number 4 bytes) 1414353740) (behind_front m (many spelled_at c (drop 20 bytes))) (Err BadTable)) x e in
@@ -215,7 +216,7 @@ image_takes bytes x fits e =
     let whole : bytes ≡ image m a.0.0 = first ∙ ap (λ (r : List ℕ). front m c ++ r) rest ∙ ap (λ (n : ℕ). front m n ++ flat_map spelled a.0.0) (sym second.1) in
     let below : c < 2 ^ 64 = little_from-lt 0 8 (drop 12 bytes) (IsBytes-drop 12 bytes fits) in
     subst (λ (y : ℕ × List InternalValue). IsImageOf y.0 y.1 bytes) (ok_is (m, a.0.0) x w.1)
-    (record { moment = little_from-lt 0 8 (drop 4 bytes) (IsBytes-drop 4 bytes fits); spelling = whole; table = record { some = some_found (length a.0.0) ends.1; count = omega (arith, second.1); each = second.2; rises = rises_found a.0.0 both.1 } })
+    (record { moment = little_from-lt 0 8 (drop 4 bytes) (IsBytes-drop 4 bytes fits); spelling = whole; table = record { some = some_found (length a.0.0) ends.1; count = omega (arith, second.1); each = second.2; rises = rises_found order a.0.0 both.1 } })
 
 pub image_again : (m : ℕ) (es : List InternalValue) → m < 2 ^ 64 → IsTable es → image_at (image m es) ≡ Ok (m, es)
 unfolding image_at
@@ -247,9 +248,9 @@ pub images_first : (m n : ℕ) (es fs : List InternalValue) (a b x y : List ℕ)
 images_first m n es fs a b x y i j e =
     image_first m n es fs x y i.moment j.moment i.table j.table (ap (λ (s : List ℕ). s ++ x) (sym i.spelling) ∙ e ∙ ap (λ (s : List ℕ). s ++ y) j.spelling)
 
-pub is_read : (bytes : List ℕ) (r : Result (ℕ × Vec InternalValue) TableError) → IsBytes bytes → Gives (λ x. contents x.0 x.1.items) r (image_at bytes) → IfOk r (λ x. IsImageOf x.0 x.1.items bytes)
-is_read bytes (Ok x) fits given = image_takes bytes (x.0, x.1.items) fits given
-is_read bytes (Err e) fits given = tt
+pub is_read : EntriesAreOrdered → (bytes : List ℕ) (r : Result (ℕ × Vec InternalValue) TableError) → IsBytes bytes → Gives (λ x. contents x.0 x.1.items) r (image_at bytes) → IfOk r (λ x. IsImageOf x.0 x.1.items bytes)
+is_read order bytes (Ok x) fits given = image_takes order bytes (x.0, x.1.items) fits given
+is_read order bytes (Err e) fits given = tt
 
 pub is_bad : (bytes : List ℕ) (r : Result (ℕ × Vec InternalValue) TableError) → Gives (λ x. contents x.0 x.1.items) r (image_at bytes) → IfErr r (λ e. e ≡ BadTable → IsNoImage bytes)
 is_bad bytes (Ok x) given = tt

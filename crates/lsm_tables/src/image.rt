@@ -4,10 +4,12 @@
 // entries: key length (u16), number (u64), type (u8), value length (u32), key, value. Numbers are
 // little endian. Nothing follows.
 
+mod layout;
 mod limits;
 mod reading;
 mod writing;
 
+pub(crate) use layout::{FRONT_LEN, HEAD_LEN};
 pub(crate) use limits::may_stand_behind;
 pub use limits::{fits_image, is_writable};
 pub use reading::{decode, no_image_begins_another};

@@ -2,8 +2,8 @@
 ghost use Rattle.std.specs.Prelude.{◌≡◌, ◌+◌, ◌++◌, ◌∷◌, [], ◌<◌, ◌↔◌, map, length, IfOk, IfErr, OnOk, OnErr, IsTrue};
 ghost use Rattle.lsm_tables.specs.Cutting.{IsWritable, IsFirstEnd, AreImagesOf, capped};
 
-use crate::image::{encode, may_stand_behind};
-use lsm_below::{InternalValue, has_same_key};
+use crate::image::{HEAD_LEN, encode, may_stand_behind};
+use lsm_below::{InternalValue, entries_are_ordered, has_same_key, keys_are_ordered};
 use std::alloc::{AllocError, AllocFailed, Global};
 use std::marker::Model;
 
@@ -11,7 +11,7 @@ use std::marker::Model;
 fn size_of_entry(entry: &InternalValue) -> u64
     ensures { result ≡ capped (15 + length entry.now.key.user_key + length entry.now.value) }
 {
-    15u64
+    (HEAD_LEN as u64)
         .saturating_add(entry.key.user_key.len() as u64)
         .saturating_add(entry.value.len() as u64)
 }
@@ -49,6 +49,8 @@ pub fn write_tables(
     requires { IsWritable entries.now }
     ensures { IfOk result (λ images. AreImagesOf target made_at entries.now (map (λ v. v.items) images.items)) }
 {
+    keys_are_ordered();
+    entries_are_ordered();
     let mut images = Vec::new(alloc);
     let mut rest = entries;
     while !rest.is_empty() {

@@ -15,7 +15,8 @@ use crate::{Checksum, TableError};
 use bytes::Bytes;
 use counts::{Counts, count};
 use lsm_below::{
-    InternalValue, KeyRange, Ranged, SeqNo, TableId, UserKey, entries_within, first_visible, share,
+    InternalValue, KeyRange, Ranged, SeqNo, TableId, UserKey, entries_are_ordered, entries_within,
+    first_visible, keys_are_ordered, share,
 };
 use std::alloc::{AllocError, Global};
 use std::marker::Model;
@@ -58,6 +59,8 @@ fn range_between(entries: &[InternalValue]) -> Result<KeyRange, AllocError>
     requires rises { Rises entry_cmp entries.now }
     ensures { IfOk result (λ r. r ≡ range_of entries.now) }
 {
+    keys_are_ordered();
+    entries_are_ordered();
     let first = &entries[0].key.user_key;
     let last = &entries[entries.len() - 1].key.user_key;
     Ok(KeyRange::new((share(first)?, share(last)?)))
@@ -119,6 +122,8 @@ impl Table {
         ensures table { IsTable self.now.entries }
         ensures covered { IsCovered self.now.entries (range_of self.now.entries) }
     {
+        keys_are_ordered();
+        entries_are_ordered();
         let _ = &self.inner;
     }
 

@@ -5,7 +5,7 @@ ghost use Rattle.lsm_tables.specs.Image.{Fits};
 ghost use Rattle.lsm_tables.specs.Cutting.{IsWritable};
 
 use super::reading::may_follow;
-use lsm_below::{InternalValue, ValueType};
+use lsm_below::{InternalValue, MAX_KEY_LEN, MAX_VALUE_LEN, ValueType, entries_are_ordered};
 
 /// Whether an entry has no value that a tombstone may not have.
 fn has_its_value(entry: &InternalValue) -> bool
@@ -24,7 +24,7 @@ pub fn fits_image(entry: &InternalValue) -> bool
 {
     // Any number fits.
     let _number = entry.key.seqno;
-    if entry.key.user_key.len() > 0xffff || entry.value.len() > 0xffff_ffff {
+    if entry.key.user_key.len() > MAX_KEY_LEN || entry.value.len() > MAX_VALUE_LEN {
         return false;
     }
     has_its_value(entry)
@@ -35,6 +35,7 @@ pub(crate) fn may_stand_behind(entries: &[InternalValue], entry: &InternalValue)
     requires { IsWritable entries.now }
     ensures { IsTrue result ↔ IsWritable (entries.now ++ entry.now ∷ []) }
 {
+    entries_are_ordered();
     fits_image(entry) && may_follow(entries, entry)
 }
 

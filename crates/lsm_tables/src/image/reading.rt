@@ -6,10 +6,14 @@ ghost use Rattle.lsm_tables.specs.Image.{IsImageOf, IsNoImage};
 ghost use Rattle.lsm_tables.specs.ImageReading.{Gives, type_of, header_at, may_have, spelled_at, follows, rises, contents, image_at};
 ghost use Rattle.lsm_tables.specs.declared.table_error.TableError.TheVariants.{BadTable};
 
+use super::layout::{
+    COUNT_PLACE, FRONT_LEN, HEAD_LEN, MADE_AT_PLACE, MAGIC, SEQNO_PLACE, TOMBSTONE_CODE,
+    TYPE_PLACE, VALUE_CODE, VALUE_LEN_PLACE, WEAK_TOMBSTONE_CODE,
+};
 use crate::TableError;
 use byteorder::{ByteOrder, LittleEndian};
 use bytes::Bytes;
-use lsm_below::{InternalKey, InternalValue, SeqNo, ValueType};
+use lsm_below::{InternalKey, InternalValue, SeqNo, ValueType, entries_are_ordered};
 use std::alloc::Global;
 
 /// What stands before an entry's key.
@@ -30,9 +34,9 @@ fn type_at(code: u8) -> Result<ValueType, TableError>
     ensures { Gives (λ x. x) result (type_of code) }
 {
     match code {
-        0 => Ok(ValueType::Value),
-        1 => Ok(ValueType::Tombstone),
-        2 => Ok(ValueType::WeakTombstone),
+        VALUE_CODE => Ok(ValueType::Value),
+        TOMBSTONE_CODE => Ok(ValueType::Tombstone),
+        WEAK_TOMBSTONE_CODE => Ok(ValueType::WeakTombstone),
         _ => Err(TableError::BadTable),
     }
 }
@@ -42,12 +46,12 @@ fn header_of(bytes: &[u8]) -> Result<Header, TableError>
     requires { 15 ≤ length bytes.now }
     ensures { Gives (λ x. x) result (header_at bytes.now) }
 {
-    let value_type = type_at(bytes[10])?;
+    let value_type = type_at(bytes[TYPE_PLACE])?;
     Ok(Header {
         key_len: LittleEndian::read_u16(bytes),
-        seqno: LittleEndian::read_u64(&bytes[2..]),
+        seqno: LittleEndian::read_u64(&bytes[SEQNO_PLACE..]),
         value_type,
-        value_len: LittleEndian::read_u32(&bytes[11..]),
+        value_len: LittleEndian::read_u32(&bytes[VALUE_LEN_PLACE..]),
     })
 }
 
@@ -65,13 +69,13 @@ fn may_have_value(value_type: ValueType, len: usize) -> bool
 fn entry_of(bytes: &mut Bytes) -> Result<InternalValue, TableError>
     ensures { Gives (λ e. (e, bytes.new)) result (spelled_at bytes.old) }
 {
-    if bytes.len() < 15 {
+    if bytes.len() < HEAD_LEN {
         return Err(TableError::BadTable);
     }
     let header = header_of(bytes.as_slice())?;
     let key_len = header.key_len as usize;
     let value_len = header.value_len as usize;
-    bytes.advance(15);
+    bytes.advance(HEAD_LEN);
     if bytes.len() < key_len + value_len {
         return Err(TableError::BadTable);
     }
@@ -102,7 +106,7 @@ pub(super) fn may_follow(entries: &[InternalValue], entry: &InternalValue) -> bo
 
 /// How many entries there can be, so that room is made once, and none for a count that lies.
 fn room_for(count: u64, bytes: &Bytes) -> usize {
-    let most = bytes.len() / 15;
+    let most = bytes.len() / HEAD_LEN;
     if count < most as u64 {
         count as usize
     } else {
@@ -134,16 +138,16 @@ fn read_image(alloc: Global, bytes: Bytes) -> Result<(u64, Vec<InternalValue>), 
     ensures { Gives (λ x. contents x.0 x.1.items) result (image_at bytes) }
 {
     let mut bytes = bytes;
-    if bytes.len() < 20 {
+    if bytes.len() < FRONT_LEN {
         return Err(TableError::BadTable);
     }
     let front = bytes.as_slice();
-    if LittleEndian::read_u32(front) != 0x544d_534c {
+    if LittleEndian::read_u32(front) != MAGIC {
         return Err(TableError::BadTable);
     }
-    let made_at = LittleEndian::read_u64(&front[4..]);
-    let count = LittleEndian::read_u64(&front[12..]);
-    bytes.advance(20);
+    let made_at = LittleEndian::read_u64(&front[MADE_AT_PLACE..]);
+    let count = LittleEndian::read_u64(&front[COUNT_PLACE..]);
+    bytes.advance(FRONT_LEN);
     let (entries, rising) = entries_of(alloc, count, &mut bytes)?;
     if !bytes.is_empty() || entries.is_empty() || !rising {
         return Err(TableError::BadTable);
@@ -160,6 +164,7 @@ pub fn decode(alloc: Global, bytes: Bytes) -> Result<(u64, Vec<InternalValue>), 
     ensures bad { IfErr result (λ e. e ≡ BadTable → IsNoImage bytes) }
 {
     are_bytes(bytes.as_slice());
+    entries_are_ordered();
     read_image(alloc, bytes)
 }
 

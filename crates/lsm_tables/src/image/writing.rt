@@ -2,6 +2,10 @@
 ghost use Rattle.std.specs.Prelude.{◌≡◌, ◌++◌, length, OnOk, IfOk};
 ghost use Rattle.lsm_tables.specs.Image.{Fits, IsTable, type_code, head, front, spelled, image};
 
+use super::layout::{
+    COUNT_PLACE, FRONT_LEN, HEAD_LEN, MADE_AT_PLACE, MAGIC, SEQNO_PLACE, TOMBSTONE_CODE,
+    TYPE_PLACE, VALUE_CODE, VALUE_LEN_PLACE, WEAK_TOMBSTONE_CODE,
+};
 use byteorder::{ByteOrder, LittleEndian};
 use lsm_below::{InternalValue, SeqNo, ValueType};
 use std::alloc::{AllocError, Global};
@@ -10,32 +14,32 @@ fn code_of(value_type: ValueType) -> u8
     ensures { result ≡ type_code value_type }
 {
     match value_type {
-        ValueType::Value => 0,
-        ValueType::Tombstone => 1,
-        ValueType::WeakTombstone => 2,
+        ValueType::Value => VALUE_CODE,
+        ValueType::Tombstone => TOMBSTONE_CODE,
+        ValueType::WeakTombstone => WEAK_TOMBSTONE_CODE,
     }
 }
 
 #[tactic(auto, unfolding(crate::specs::Image::head))]
-fn head_of(key_len: u16, seqno: SeqNo, value_type: ValueType, value_len: u32) -> [u8; 15]
+fn head_of(key_len: u16, seqno: SeqNo, value_type: ValueType, value_len: u32) -> [u8; HEAD_LEN]
     ensures { result ≡ head key_len seqno value_type value_len }
 {
-    let mut out = [0u8; 15];
+    let mut out = [0u8; HEAD_LEN];
     LittleEndian::write_u16(&mut out, key_len);
-    LittleEndian::write_u64(&mut out[2..], seqno);
-    out[10] = code_of(value_type);
-    LittleEndian::write_u32(&mut out[11..], value_len);
+    LittleEndian::write_u64(&mut out[SEQNO_PLACE..], seqno);
+    out[TYPE_PLACE] = code_of(value_type);
+    LittleEndian::write_u32(&mut out[VALUE_LEN_PLACE..], value_len);
     out
 }
 
 #[tactic(auto, unfolding(crate::specs::Image::front))]
-fn front_of(made_at: u64, count: u64) -> [u8; 20]
+fn front_of(made_at: u64, count: u64) -> [u8; FRONT_LEN]
     ensures { result ≡ front made_at count }
 {
-    let mut out = [0u8; 20];
-    LittleEndian::write_u32(&mut out, 0x544d_534c);
-    LittleEndian::write_u64(&mut out[4..], made_at);
-    LittleEndian::write_u64(&mut out[12..], count);
+    let mut out = [0u8; FRONT_LEN];
+    LittleEndian::write_u32(&mut out, MAGIC);
+    LittleEndian::write_u64(&mut out[MADE_AT_PLACE..], made_at);
+    LittleEndian::write_u64(&mut out[COUNT_PLACE..], count);
     out
 }
 
@@ -56,10 +60,10 @@ fn put_entry(out: &mut Vec<u8>, entry: &InternalValue) -> Result<(), AllocError>
 
 /// How many bytes the image has, so that room is made once.
 fn size_of(entries: &[InternalValue]) -> usize {
-    let mut size = 20usize;
+    let mut size = FRONT_LEN;
     for entry in entries {
         size = size
-            .saturating_add(15)
+            .saturating_add(HEAD_LEN)
             .saturating_add(entry.key.user_key.len())
             .saturating_add(entry.value.len());
     }

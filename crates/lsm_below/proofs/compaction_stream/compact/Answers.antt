@@ -14,3 +14,12 @@ returns-clause-kept g c = λ key h.
 
 pub returns-clause-ordered : goal.returns-clause-ordered
 returns-clause-ordered g c = λ o key. kept_of_all (λ s. (g.S.Source.rest s).entries) c.args.sources.items c.args.watermark c.args.evict key _ (returns-clause-kept g c key) (o key)
+
+pub returns-clause-merged : goal.returns-clause-merged
+returns-clause-merged g c =
+    let settings = c.new-stream.ensures.settings in
+    record {
+      merged = c.in_ok-merger.merger.entries;
+      merges = c.in_ok-merger.ensures.merges;
+      kept = rw (← ap (λ (m : Compacting). m.watermark) settings, ← ap (λ (m : Compacting). m.input) settings) c.evict_tombstones.ensures.kept;
+    }

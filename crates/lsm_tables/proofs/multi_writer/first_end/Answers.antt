@@ -1,10 +1,9 @@
-use Rattle.std.proofs.Common.{◌≡◌, ◌<◌, ◌-◌, ℕ, get_or, take, false, true, sym, ap, ◌∙◌, arith}
+use Rattle.std.proofs.Common.{◌≡◌, ◌<◌, ◌-◌, ℕ, get_or, take, false, true, ap, ◌∙◌, arith}
 use Rattle.std.proofs.lemmas.List.{get_or_read}
 use Rattle.lsm_below.specs.Entries.{Entry}
 use Rattle.lsm_below.specs.Slots.{same_key}
 use Rattle.lsm_tables.specs.Image.{entry_bytes}
 use Rattle.lsm_tables.proofs.Cutting.{none_earlier_more, held_more}
-use Rattle.lsm_below.proofs.Keys.{both_false}
 use Rattle.lsm_tables.proofs.multi_writer.first_end.Goals.{else-held-target-via-then-held-target+else-not-has_same_key, else-held-target-via-else-held-target}
 use Rattle.lsm_tables.proofs.multi_writer.first_end.Goals as goal
 
@@ -20,7 +19,7 @@ loop-end-preserved c =
           let ahead = get_or_read es (end - 1) w.index-entries-end-then-held-target.result (omega arith) w.index-entries-end-then-held-target.is d in
           let at = get_or_read es end c.index-entries-end.result lt c.index-entries-end.is d in
           let same : true ≡ same_key (get_or es (end - 1) d) (get_or es end d) = w.if-not-has_same_key.ensures ∙ ap (λ (e : Entry). same_key e c.index-entries-end.result) ahead ∙ ap (same_key (get_or es (end - 1) d)) at in
-          absurd (both_false (same_key (get_or es (end - 1) d) (get_or es end d)) (sym same) other)
+          cc (same, other)
       | else-held-target-via-else-held-target w ↦ λ d other. let below = w.if-held-target.false in let held = i.2 in let fits = c.ranges.target.fits in omega arith
     ] in (
       omega arith,

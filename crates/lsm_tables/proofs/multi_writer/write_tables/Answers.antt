@@ -9,7 +9,7 @@ use Rattle.lsm_tables.proofs.multi_writer.write_tables.Goals as goal
 
 pub encode-requires : goal.encode-requires
 encode-requires c =
-    subst IsTable (sym c.split_at.ensures.front) (front_table c.args.target c.loop-rest.rest.now c.first_end.result c.loop-rest.invariant.writable c.first_end.ensures c.first_end.type_inv)
+    subst IsTable (sym c.split_at.ensures.front) (front_table c.keys_are_ordered.ensures c.entries_are_ordered.ensures c.args.target c.loop-rest.rest.now c.first_end.result c.loop-rest.invariant.writable c.first_end.ensures c.first_end.type_inv)
 
 pub loop-rest-preserved : goal.loop-rest-preserved
 loop-rest-preserved c =
@@ -20,7 +20,7 @@ loop-rest-preserved c =
     let seen = λ (v : Vec ℕ). v.items in
     let before : List Bytes = map seen c.loop-rest.images.items in
     let pushed : map seen c.push.new.self.items ≡ before ++ bytes ∷ [] = ap (map seen) c.in_ok-push.ensures.items ∙ map-append seen c.loop-rest.images.items (c.in_ok-encode.field-0 ∷ []) in
-    let more = goes_on c.args.target c.args.made_at c.args.entries.now before rest end bytes c.loop-rest.invariant c.first_end.ensures c.first_end.type_inv is in
+    let more = goes_on c.keys_are_ordered.ensures c.entries_are_ordered.ensures c.args.target c.args.made_at c.args.entries.now before rest end bytes c.loop-rest.invariant c.first_end.ensures c.first_end.type_inv is in
     rw (pushed, c.split_at.ensures.back) more
 
 pub returns : goal.returns

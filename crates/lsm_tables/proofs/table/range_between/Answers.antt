@@ -12,7 +12,7 @@ new-requires c =
     let b = c.index-entries-entries.result in
     let first : c.in_ok-share.field-0 ≡ first_key es = c.in_ok-share.ensures ∙ first_is es a c.requires.some in
     let last : c.in_ok-share-2.field-0 ≡ last_key es = c.in_ok-share-2.ensures ∙ last_is es b c.requires.some in
-    rw (first, last) (is_range es c.requires.some c.requires.rises)
+    rw (first, last) (is_range c.keys_are_ordered.ensures c.entries_are_ordered.ensures es c.requires.some c.requires.rises)
 
 pub returns : goal.returns
 returns c =

@@ -1,0 +1,22 @@
+// What always holds of keys, entries and merges, each as the contract of a function that does nothing.
+ghost use Rattle.lsm_below.specs.Laws.{KeysAreOrdered, EntriesAreOrdered, FirstVisibleIsTop, MergesByKey};
+
+/// User keys are ordered.
+pub fn keys_are_ordered()
+    ensures { KeysAreOrdered }
+{}
+
+/// Entries are ordered: user keys rise, and under one key the sequence numbers fall.
+pub fn entries_are_ordered()
+    ensures { EntriesAreOrdered }
+{}
+
+/// Of entries that rise, the first that a snapshot sees of a key is the newest one below it.
+pub fn first_visible_is_top()
+    ensures { FirstVisibleIsTop }
+{}
+
+/// Lists in order are merged key by key, and of a list in order the first entries of each key are in order.
+pub fn merges_by_key()
+    ensures { MergesByKey }
+{}
