@@ -1,5 +1,5 @@
 -- What an iterator from both ends gives: the ends of one list, of which each entry comes once.
-use Rattle.std.specs.Prelude.{◌≡◌, List, [], ◌∷◌, ◌++◌, Option, Some, None, Result, Ok, Err}
+use Rattle.std.specs.Prelude.{◌≡◌, ℕ, length, List, [], ◌∷◌, ◌++◌, Option, Some, None, Result, Ok, Err}
 use Rattle.std.specs.declared.ops.Bound.{Bound}
 use Rattle.lsm_below.specs.Keys.{Bytes}
 use Rattle.lsm_below.specs.Entries.{Entry}
@@ -37,3 +37,7 @@ TakesEnds s (end ∷ ends) [] t = ⊥
 abbrev pub EndShown : End → Bound Bytes → Bound Bytes → List Entry → Option Entry → Type 0
 EndShown end low high es None = Shows low high es []
 EndShown end low high es (Some e) = (out : List Entry) × (rest : List Entry) × Shows low high es out × IsTaken end out e rest
+
+-- how many entries are shown within bounds
+abbrev pub NumberShown : Bound Bytes → Bound Bytes → List Entry → ℕ → Type 0
+NumberShown low high es n = (out : List Entry) × Shows low high es out × (n ≡ length out)

@@ -1,5 +1,5 @@
 -- Versions and super versions as callers see them, and what a snapshot finds.
-use Rattle.std.specs.Prelude.{ℕ, List, [], ◌∷◌, Option, Some, Bool, ◌||◌, filter, sum_by, nat_lt, ◌==◌, if◌then◌else◌}
+use Rattle.std.specs.Prelude.{ℕ, ◌≤◌, List, [], ◌∷◌, ◌++◌, Option, Some, Bool, ◌||◌, filter, sum_by, nat_lt, ◌==◌, if◌then◌else◌}
 use Rattle.std.specs.List.{find, list_any, AllByRecursion}
 use Rattle.lsm_parts.specs.declared.version.super_version.SuperVersion.{SuperVersion}
 use Rattle.lsm_parts.specs.Memtables.{SeenMemtable, capped}
@@ -38,3 +38,12 @@ named_size h memtables = capped (sum_by (λ m. m.size) (filter (λ m. list_any (
 -- the version of each is laid out
 abbrev pub AreLaid : List SuperVersion → Type 0
 AreLaid versions = AllByRecursion (λ sv. IsLaid sv.version) versions
+
+-- numbers never rise from the newest to the oldest, nor above this one
+abbrev pub NumbersFall : ℕ → List SuperVersion → Type 0
+NumbersFall n [] = Unit {0}
+NumbersFall n (sv ∷ older) = (sv.seqno ≤ n) × NumbersFall sv.seqno older
+
+-- the super version after a rotation: the active memtable is sealed in favour of another one
+abbrev pub rotated : ℕ → SuperVersion → SuperVersion
+rotated id sv = record { active_memtable = id; sealed_memtables = sv.sealed_memtables ++ sv.active_memtable ∷ []; version = sv.version; seqno = sv.seqno }

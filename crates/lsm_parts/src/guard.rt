@@ -41,7 +41,7 @@ pub trait IterGuard: Drop {
 }
 
 /// A pair that an iterator found, or why it found none.
-#[derive(Drop)]
+#[derive(Debug, Drop)]
 pub struct Guard {
     item: RangeItem,
 }

@@ -48,15 +48,15 @@ impl<'a> IterState<'a> {
         &self,
         alloc: Global,
         bounds: &(Bound<UserKey>, Bound<UserKey>),
-        seqno: SeqNo,
+        snapshot: SeqNo,
     ) -> Result<Vec<Cut<'a>>, AllocError>
         ensures { IfOk result
-            (λ cuts. AreCuts bounds.now.0 bounds.now.1 (parts_at seqno self.now) cuts.items) }
+            (λ cuts. AreCuts bounds.now.0 bounds.now.1 (parts_at snapshot self.now) cuts.items) }
     {
-        let mut cuts = Vec::new(alloc);
+        let mut cuts = Vec::with_capacity(alloc, self.memtables.len().saturating_add(1))?;
         push_overlay(&mut cuts, self.overlay, bounds)?;
-        push_memtables(&mut cuts, &self.memtables, bounds, seqno)?;
-        self.version.push_cuts(&mut cuts, bounds, seqno)?;
+        push_memtables(&mut cuts, &self.memtables, bounds, snapshot)?;
+        self.version.push_cuts(&mut cuts, bounds, snapshot)?;
         Ok(cuts)
     }
 }
@@ -66,13 +66,13 @@ fn push_memtables<'a>(
     cuts: &mut Vec<Cut<'a>>,
     memtables: &[&'a Memtable],
     bounds: &(Bound<UserKey>, Bound<UserKey>),
-    seqno: SeqNo,
+    snapshot: SeqNo,
 ) -> Result<(), AllocError>
     ensures { OnOk result
-        (PutsCuts bounds.now.0 bounds.now.1 (map (λ m. at seqno m.now.entries) memtables.now) cuts.old.items cuts.new.items) }
+        (PutsCuts bounds.now.0 bounds.now.1 (map (λ m. at snapshot m.now.entries) memtables.now) cuts.old.items cuts.new.items) }
 {
     for memtable in memtables {
-        cuts.push(Cut::new(memtable.as_slice(), bounds, seqno))?;
+        cuts.push(Cut::new(memtable.as_slice(), bounds, snapshot))?;
     }
     Ok(())
 }

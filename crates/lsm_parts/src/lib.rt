@@ -10,7 +10,7 @@
 //! | `prefix` | the bounds of the keys that begin alike |
 //! | `iter_state`, `cut` | what an iterator reads; what lies of a source within bounds |
 //! | `tree_iter` | an iterator over what a snapshot shows, from both ends |
-//! | `shown_ends` | the first and the last entry that a snapshot shows, without those between |
+//! | `shown_ends` | the first and the last entry that a snapshot shows, and how many there are, without a list |
 //! | `guard` | what an iterator over pairs hands out |
 //! | `laws` | what the list of what is shown is in the theory's words |
 #![tactic(auto)]
@@ -36,6 +36,6 @@ pub use laws::shown_is_the_view;
 pub use memtable::Memtable;
 pub use prefix::prefix_to_range;
 pub use seqno::{LIMIT, SequenceNumberCounter, seqno_filter};
-pub use shown_ends::{first_shown, last_shown};
+pub use shown_ends::{count_shown, first_shown, last_shown};
 pub use tree_iter::{End, TreeIter, take_ends};
 pub use version::{SealedMemtables, SuperVersion, SuperVersions, Version, VersionId};

@@ -8,7 +8,9 @@ ghost use Rattle.lsm_parts.specs.Memtables.{capped, entry_size, new_memtable, wi
 ghost use Rattle.lsm_parts.specs.Contents.{content_of, added, all_added};
 
 use crate::Error;
-use lsm_below::{InternalValue, MemtableId, SeqNo, UserKey, entries_within, first_visible};
+use lsm_below::{
+    ENTRY_OVERHEAD, InternalValue, MemtableId, SeqNo, UserKey, entries_within, first_visible,
+};
 use std::alloc::Global;
 use std::marker::Model;
 use std::ops::Bound;
@@ -50,7 +52,7 @@ fn size_of_entry(entry: &InternalValue) -> u64
 {
     (entry.key.user_key.len() as u64)
         .saturating_add(entry.value.len() as u64)
-        .saturating_add(48)
+        .saturating_add(ENTRY_OVERHEAD)
 }
 
 /// Puts an entry in its place, over one of the same key and number. There is room.
@@ -127,12 +129,12 @@ impl Memtable {
     }
 
     /// The entry of a key with the greatest number below the snapshot. None only where there is none.
-    pub fn get(&self, key: &[u8], seqno: SeqNo) -> Option<&InternalValue>
-        ensures is { option_copied result ≡ top key.now seqno self.now.entries }
-        ensures greatest { IfSome result (λ e. IsTop self.now.entries key.now seqno e.now) }
-        ensures none { IfNone result (HasNone self.now.entries key.now seqno) }
+    pub fn get(&self, key: &[u8], snapshot: SeqNo) -> Option<&InternalValue>
+        ensures is { option_copied result ≡ top key.now snapshot self.now.entries }
+        ensures greatest { IfSome result (λ e. IsTop self.now.entries key.now snapshot e.now) }
+        ensures none { IfNone result (HasNone self.now.entries key.now snapshot) }
     {
-        first_visible(&self.content.entries, key, seqno)
+        first_visible(&self.content.entries, key, snapshot)
     }
 
     /// The entries in order.
@@ -206,6 +208,7 @@ impl Memtable {
     pub fn insert(&mut self, item: InternalValue) -> Result<(u64, u64), Error>
         ensures sizes { IfOk result (λ r. (r.0 ≡ entry_size item) × (r.1 ≡ self.new.size)) }
         ensures ok { OnOk result (self.new ≡ with_entry item self.old) }
+        ensures id { self.new.id ≡ self.old.id }
         ensures err { OnErr result (self.new ≡ self.old) }
         ensures memory { IfErr result (λ e. e ≡ Error.OutOfMemory) }
     {
@@ -219,6 +222,7 @@ impl Memtable {
     /// Refused only for want of memory, and then nothing changes.
     pub fn insert_all(&mut self, batch: Vec<InternalValue>) -> Result<(), Error>
         ensures ok { OnOk result (self.new ≡ with_entries batch.items self.old) }
+        ensures id { self.new.id ≡ self.old.id }
         ensures err { OnErr result (self.new ≡ self.old) }
         ensures memory { IfErr result (λ e. e ≡ Error.OutOfMemory) }
     {

@@ -78,8 +78,8 @@ impl Default for SequenceNumberCounter {
 }
 
 /// Whether a snapshot sees what has this number.
-pub fn seqno_filter(item_seqno: SeqNo, seqno: SeqNo) -> bool
-    ensures { result ≡ nat_lt item_seqno seqno }
+pub fn seqno_filter(item_seqno: SeqNo, snapshot: SeqNo) -> bool
+    ensures { result ≡ nat_lt item_seqno snapshot }
 {
-    item_seqno < seqno
+    item_seqno < snapshot
 }

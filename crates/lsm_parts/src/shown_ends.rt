@@ -1,4 +1,4 @@
-// The first and the last entry that a snapshot shows, without those between.
+// The first and the last entry that a snapshot shows, and how many there are, without a list of them.
 ghost use Rattle.std.specs.Prelude.{◌≡◌, Bool, ◌∷◌, [], List, Some, None, filter, option_copied, length, IfOk, IfErr, MatchOption};
 ghost use Rattle.std.specs.List.{All};
 ghost use Rattle.lsm_below.specs.Entries.{Entry, entry_cmp, is_value};
@@ -7,7 +7,7 @@ ghost use Rattle.lsm_parts.specs.Memtables.{within};
 ghost use Rattle.lsm_parts.specs.Shown.{IsNewest, IsShown, IsHidden};
 ghost use Rattle.lsm_parts.specs.Reads.{counted_at};
 ghost use Rattle.lsm_parts.specs.Cuts.{IsFresh, IsGreatestOf, IsGreatestKey, with_greater_key, newer, held_in, counted_in, IsLastShown};
-ghost use Rattle.lsm_parts.specs.Ends.{EndShown};
+ghost use Rattle.lsm_parts.specs.Ends.{EndShown, NumberShown};
 ghost use Rattle.lsm_parts.specs.declared.error.Error.{Error};
 ghost use Rattle.std.specs.declared.ops.Bound.TheVariants.{Excluded, Unbounded};
 ghost use Rattle.lsm_parts.specs.declared.tree_iter.End.TheVariants.{Front, Back};
@@ -45,12 +45,50 @@ pub fn first_shown(
     alloc: Global,
     state: &IterState<'_>,
     bounds: &(Bound<UserKey>, Bound<UserKey>),
-    seqno: SeqNo,
+    snapshot: SeqNo,
 ) -> Result<Option<InternalValue>, Error>
-    ensures ok { IfOk result (EndShown Front bounds.now.0 bounds.now.1 (counted_at seqno state.now)) }
+    ensures ok { IfOk result (EndShown Front bounds.now.0 bounds.now.1 (counted_at snapshot state.now)) }
     ensures memory { IfErr result (λ e. e ≡ Error.OutOfMemory) }
 {
-    first_value(newest_of(alloc, state, bounds, seqno)?)
+    first_value(newest_of(alloc, state, bounds, snapshot)?)
+}
+
+/// How many values a source gives. Refused where the source is.
+fn count_values<S: Source<Error = Error>>(mut source: S) -> Result<usize, Error>
+    requires { (e : Error) → S.may_refuse e → e ≡ Error.OutOfMemory }
+    ensures ok { IfOk result (λ n. n ≡ length (filter is_value (S.rest source).entries)) }
+    ensures memory { IfErr result (λ e. e ≡ Error.OutOfMemory) }
+{
+    let mut count: usize = 0;
+    loop {
+        match source.next_entry() {
+            None => return Ok(count),
+            Some(Err(error)) => return Err(error),
+            Some(Ok(entry)) => {
+                if !entry.is_tombstone() {
+                    // No memory holds 2^64 entries.
+                    count = match count.checked_add(1) {
+                        Some(more) => more,
+                        None => return Err(Error::OutOfMemory),
+                    };
+                }
+            }
+        }
+    }
+}
+
+/// How many entries `create_range` would list, counted without a list.
+/// Refused only for want of memory.
+pub fn count_shown(
+    alloc: Global,
+    state: &IterState<'_>,
+    bounds: &(Bound<UserKey>, Bound<UserKey>),
+    snapshot: SeqNo,
+) -> Result<usize, Error>
+    ensures ok { IfOk result (NumberShown bounds.now.0 bounds.now.1 (counted_at snapshot state.now)) }
+    ensures memory { IfErr result (λ e. e ≡ Error.OutOfMemory) }
+{
+    count_values(newest_of(alloc, state, bounds, snapshot)?)
 }
 
 /// Of two entries the one with the greater key, the first one where equal.
@@ -185,11 +223,11 @@ pub fn last_shown(
     alloc: Global,
     state: &IterState<'_>,
     bounds: &(Bound<UserKey>, Bound<UserKey>),
-    seqno: SeqNo,
+    snapshot: SeqNo,
 ) -> Result<Option<InternalValue>, Error>
-    ensures ok { IfOk result (EndShown Back bounds.now.0 bounds.now.1 (counted_at seqno state.now)) }
+    ensures ok { IfOk result (EndShown Back bounds.now.0 bounds.now.1 (counted_at snapshot state.now)) }
     ensures memory { IfErr result (λ e. e ≡ Error.OutOfMemory) }
 {
-    let cuts = state.cuts(alloc, bounds, seqno)?;
+    let cuts = state.cuts(alloc, bounds, snapshot)?;
     Ok(last_value(&cuts)?)
 }

@@ -48,13 +48,13 @@ pub(crate) fn newest_of<'a>(
     alloc: Global,
     state: &IterState<'a>,
     bounds: &(Bound<UserKey>, Bound<UserKey>),
-    seqno: SeqNo,
+    snapshot: SeqNo,
 ) -> Result<MvccStream<Merger<Cut<'a>>>, AllocError>
     ensures shows { IfOk result
-        (λ stream. Shows bounds.now.0 bounds.now.1 (counted_at seqno state.now) (filter is_value stream.entries)) }
+        (λ stream. Shows bounds.now.0 bounds.now.1 (counted_at snapshot state.now) (filter is_value stream.entries)) }
     ensures open { IfOk result (λ stream. stream.over ≡ false) }
 {
-    let cuts = state.cuts(alloc, bounds, seqno)?;
+    let cuts = state.cuts(alloc, bounds, snapshot)?;
     let merger = Merger::new(alloc, cuts)?;
     Ok(MvccStream::new(merger))
 }
@@ -91,13 +91,13 @@ impl TreeIter {
         alloc: Global,
         state: &IterState<'_>,
         bounds: &(Bound<UserKey>, Bound<UserKey>),
-        seqno: SeqNo,
+        snapshot: SeqNo,
     ) -> Result<TreeIter, Error>
-        ensures shows { IfOk result (λ iter. Shows bounds.now.0 bounds.now.1 (counted_at seqno state.now) iter) }
+        ensures shows { IfOk result (λ iter. Shows bounds.now.0 bounds.now.1 (counted_at snapshot state.now) iter) }
         ensures bytes { IfOk result (All HasBytes) }
         ensures memory { IfErr result (λ e. e ≡ Error.OutOfMemory) }
     {
-        let stream = newest_of(alloc, state, bounds, seqno)?;
+        let stream = newest_of(alloc, state, bounds, snapshot)?;
         Ok(TreeIter {
             entries: values_of(alloc, stream)?,
         })
@@ -108,13 +108,13 @@ impl TreeIter {
         alloc: Global,
         state: &IterState<'_>,
         prefix: &[u8],
-        seqno: SeqNo,
+        snapshot: SeqNo,
     ) -> Result<TreeIter, Error>
-        ensures shows { IfOk result (λ iter. ShowsPrefix prefix.now (counted_at seqno state.now) iter) }
+        ensures shows { IfOk result (λ iter. ShowsPrefix prefix.now (counted_at snapshot state.now) iter) }
         ensures memory { IfErr result (λ e. e ≡ Error.OutOfMemory) }
     {
         let bounds = prefix_to_range(alloc, prefix)?;
-        let iter = TreeIter::create_range(alloc, state, &bounds, seqno)?;
+        let iter = TreeIter::create_range(alloc, state, &bounds, snapshot)?;
         Ok(iter)
     }
 

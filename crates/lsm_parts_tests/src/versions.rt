@@ -67,8 +67,9 @@ fn reads(history: &SuperVersions, snapshot: SeqNo, memtable: MemtableId) -> bool
     }
 }
 
-fn reads_each(rt: &impl Abort, history: &SuperVersions) {
-    for (snapshot, memtable) in [(0, 0), (1, 0), (5, 0), (6, 1), (9, 1), (10, 2)] {
+fn reads_each(rt: &impl Abort, history: &SuperVersions, cases: &[(SeqNo, MemtableId)]) {
+    for case in cases {
+        let (snapshot, memtable) = *case;
         assert!(rt; reads(history, snapshot, memtable), "at {snapshot}");
     }
 }
@@ -77,8 +78,32 @@ fn reads_each(rt: &impl Abort, history: &SuperVersions) {
 fn a_snapshot_reads_what_was_installed_before_it(rt: HostRuntime) {
     let mut history = SuperVersions::new(rt.alloc(), Version::new(0));
     assert!(rt; install_two(rt.alloc(), &mut history).is_ok());
-    reads_each(&rt, &history);
+    reads_each(
+        &rt,
+        &history,
+        &[(0, 0), (1, 0), (5, 0), (6, 1), (9, 1), (10, 2)],
+    );
     assert_eq!(rt; history.len(), 3);
+    drop(history);
+}
+
+/// Behind 5 and 9 a super version numbered 2, whose active memtable 3 is sealed then, and one numbered 7.
+fn install_lower(alloc: Global, history: &mut SuperVersions) -> Result<(), Error> {
+    install_two(alloc, history)?;
+    history.append_version(super_version(alloc, 3, 2))?;
+    history.rotate_latest(4)?;
+    history.append_version(super_version(alloc, 5, 7))
+}
+
+#[test]
+fn numbers_that_fall_back_are_found(rt: HostRuntime) {
+    let mut history = SuperVersions::new(rt.alloc(), Version::new(0));
+    assert!(rt; install_lower(rt.alloc(), &mut history).is_ok());
+    reads_each(
+        &rt,
+        &history,
+        &[(0, 0), (2, 0), (3, 4), (7, 4), (8, 5), (10, 5)],
+    );
     drop(history);
 }
 

@@ -1,13 +1,12 @@
 -- What each call keeps of the ids of memtables.
-use Rattle.std.proofs.Common.{◌≡◌, ℕ, ◌+◌, ◌<◌, Bool, true, false, ◌||◌, List, [], ◌∷◌, ◌++◌, refl, sym, ap, ◌∙◌, subst, arith, eqb, eq-eqb}
+use Rattle.std.proofs.Common.{◌≡◌, ℕ, ◌+◌, Bool, true, false, ◌||◌, List, [], ◌∷◌, ◌++◌, refl, sym, ap, ◌∙◌, subst, arith, eqb, eq-eqb}
 use Rattle.std.specs.List.{AllByRecursion}
 use Rattle.lsm_below.specs.Entries.{Entry}
 use Rattle.lsm_parts.specs.Memtables.{SeenMemtable, with_entry, with_entries, new_memtable}
 use Rattle.lsm_parts.specs.declared.version.super_version.SuperVersion.{SuperVersion}
-use Rattle.lsm_parts.specs.History.{SeenHistory, versions_of}
-use Rattle.lsm_state.specs.Held.{put_first, put_all_first, HasFirst}
-use Rattle.lsm_state.specs.Core.{rotated}
-use Rattle.lsm_state.specs.Kept.{ids_of, is_among, FallFrom, NameHeld, KeepsIds}
+use Rattle.lsm_parts.specs.History.{SeenHistory, versions_of, rotated}
+use Rattle.lsm_state.specs.Held.{put_all_first, HasFirst, ids_of, FallFrom}
+use Rattle.lsm_state.specs.Kept.{is_among, NameHeld, KeepsIds}
 
 -- ---- writes
 
@@ -33,10 +32,6 @@ same_ids ts us h n same k = record {
   fall = subst (FallFrom n) (sym same) k.fall;
   held = subst (λ ids. NameHeld ids (versions_of h)) (sym same) k.held;
 }
-
-pub kept_put : (e : Entry) (ts : List SeenMemtable) (h : SeenHistory) (n : ℕ) → KeepsIds ts h n → KeepsIds (put_first e ts) h n
-kept_put e [] h n k = k
-kept_put e (t ∷ ts) h n k = same_ids (t ∷ ts) (put_first e (t ∷ ts)) h n refl k
 
 pub kept_put_all : (es : List Entry) (ts : List SeenMemtable) (h : SeenHistory) (n : ℕ) → KeepsIds ts h n → KeepsIds (put_all_first es ts) h n
 kept_put_all es ts h n k = same_ids ts (put_all_first es ts) h n (ids_of-put_all es ts) k
@@ -71,11 +66,3 @@ kept_rotated ts h n k =
       fall = (omega arith, k.fall);
       held = ((among_first n (ids_of ts), all_push (λ i. is_among (n ∷ ids_of ts) i ≡ true) h.latest.sealed_memtables h.latest.active_memtable more.0.1 more.0.0), more.1);
     }
-
--- the active memtable's id is below the next one
-pub active_below : (ts : List SeenMemtable) (h : SeenHistory) (n : ℕ) → KeepsIds ts h n → h.latest.active_memtable < n
-active_below [] h n k = absurd k.active
-active_below (t ∷ ts) h n k =
-    let here : t.id ≡ h.latest.active_memtable = k.active in
-    let below : t.id < n = k.fall.0 in
-    omega arith

@@ -1,6 +1,7 @@
 pub mod Walks
 pub mod Steps
 pub mod Kept
+pub mod Finding
 pub mod Repeats
 pub mod Answered
 pub mod Overlaid

@@ -13,7 +13,7 @@ use Rattle.lsm_model.specs.declared.question.Question.TheVariants.{Get}
 use Rattle.lsm_model.specs.declared.question.Answer.TheVariants.{Found}
 use Rattle.lsm_model.specs.Ops.{op_entries}
 use Rattle.lsm_model.specs.declared.op.Op.{Op}
-use Rattle.lsm_parts.specs.Memtables.{SeenMemtable, entry_size, with_entry, with_entries}
+use Rattle.lsm_parts.specs.Memtables.{SeenMemtable, entry_size}
 use Rattle.lsm_parts.specs.declared.error.Error.{Error}
 use Rattle.lsm_parts.specs.declared.error.Error.TheVariants.{OutOfMemory}
 use Rattle.lsm_parts.specs.declared.config.Config.{Config}
@@ -108,15 +108,6 @@ rotate_step c h opened journal = (h, ap (λ l. record { journal = journal; mems 
 
 pub get_step : (c : Core) (k : Bytes) (s : ℕ) (v : Option Bytes) → Gives c k s v → IsGetStep c k s v
 get_step c k s v g opened journal low = (g.0, low, g.1, ap (λ w. state_of (journal ++ Read s (Get k) (Found w) ∷ []) c) g.2)
-
-with_entries-id : (es : List Entry) (t : SeenMemtable) → (with_entries es t).id ≡ t.id
-with_entries-id [] t = refl
-with_entries-id (e ∷ es) t = with_entries-id es (with_entry e t)
-
--- a batch leaves the first memtable the active one
-pub all_kept : (tables : List SeenMemtable) (es : List Entry) (i : ℕ) → HasFirst tables (λ t. t.id ≡ i) → HasFirst (put_all_first es tables) (λ t. t.id ≡ i)
-all_kept [] es i h = h
-all_kept (t ∷ tables) es i h = with_entries-id es t ∙ h
 
 -- a batch is written under the next number
 pub batch_written : (ops : List (Bytes × Op)) (c : Core) (n : ℕ) (tables : List SeenMemtable) (seqno visible : ℕ) → HasActive c → n ≡ c.seqno → batch_refusal n ops ≡ None

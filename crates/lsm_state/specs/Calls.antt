@@ -1,5 +1,5 @@
 -- What each call of a tree does and answers.
-use Rattle.std.specs.Prelude.{◌≡◌, ℕ, ◌≤◌, ◌-◌, ◌^◌, min, length, ◌⊎◌, List, [], ◌∷◌, ◌++◌, map, Option, Some, None, Result, Err, IfOk, IfErr, IfSome, OnOk, OnErr, if◌then◌else◌}
+use Rattle.std.specs.Prelude.{◌≡◌, ℕ, ◌≤◌, ◌-◌, ◌^◌, min, length, ◌⊎◌, List, [], ◌∷◌, ◌++◌, map, Option, Some, None, Result, Err, IfOk, IfErr, IfSome, OnOk, OnErr, IsErrOf, ◌↔◌, if◌then◌else◌}
 use Rattle.lsm_below.specs.Keys.{Bytes}
 use Rattle.lsm_below.specs.Entries.{Entry, above, is_tombstone_type}
 use Rattle.lsm_model.specs.Journal.{Event}
@@ -12,7 +12,7 @@ use Rattle.lsm_model.specs.declared.question.Question.TheVariants.{Get}
 use Rattle.lsm_model.specs.declared.question.Answer.TheVariants.{Found}
 use Rattle.lsm_parts.specs.Memtables.{entry_size}
 use Rattle.lsm_parts.specs.declared.error.Error.{Error}
-use Rattle.lsm_parts.specs.declared.error.Error.TheVariants.{OutOfMemory}
+use Rattle.lsm_parts.specs.declared.error.Error.TheVariants.{OutOfMemory, SnapshotTooOld}
 use Rattle.lsm_state.specs.Held.{entries_of, first_size, first_entries}
 use Rattle.lsm_state.specs.Core.{Core, state_of, latest_of, older_of, written_core, written_all, drawn_core, rotated_core}
 use Rattle.lsm_state.specs.Refusals.{entry_refusal, batch_refusal}
@@ -60,6 +60,16 @@ pub record WritesBatch (ops : List (Bytes × Op)) (r : Result ℕ Error) (old ne
   pub memory : batch_refusal old.seqno ops ≡ None → IfErr r (λ x. x ≡ OutOfMemory)
 
 -- ---- reads
+
+-- why a read is refused: `SnapshotTooOld` exactly where no super version is found for the snapshot, else only for want of memory
+pub record RefusesRead {A : Type 0} (c : Core) (s : ℕ) (r : Result A Error) : Type 0 where
+  pub too_old : IsErrOf r SnapshotTooOld ↔ (found_at s (latest_of c) (older_of c) ≡ None)
+  pub only : IfErr r (λ e. (e ≡ SnapshotTooOld) ⊎ (e ≡ OutOfMemory))
+
+-- the same of a read that takes no memory
+pub record RefusesOld {A : Type 0} (c : Core) (s : ℕ) (r : Result A Error) : Type 0 where
+  pub too_old : IsErrOf r SnapshotTooOld ↔ (found_at s (latest_of c) (older_of c) ≡ None)
+  pub only : IfErr r (λ e. e ≡ SnapshotTooOld)
 
 -- what a read of a key finds: the entry at which a walk over the sources of its super version stops
 abbrev pub Finds : Core → Bytes → ℕ → Option Entry → Type 0

@@ -1,5 +1,5 @@
 -- What callers see of a tree, and how the theory sees it.
-use Rattle.std.specs.Prelude.{ℕ, ◌+◌, max, List, [], ◌∷◌, ◌++◌, map, reverse}
+use Rattle.std.specs.Prelude.{ℕ, ◌+◌, max, List, [], ◌∷◌, map, reverse}
 use Rattle.lsm_below.specs.Entries.{Entry}
 use Rattle.lsm_model.specs.Journal.{Event}
 use Rattle.lsm_model.specs.Views.{SuperVersion as Shown, placed_from}
@@ -8,7 +8,7 @@ use Rattle.lsm_parts.specs.declared.config.Config.{Config}
 use Rattle.lsm_parts.specs.declared.version.super_version.SuperVersion.{SuperVersion}
 use Rattle.lsm_parts.specs.Memtables.{SeenMemtable, new_memtable}
 use Rattle.lsm_parts.specs.Versions.{empty_levels}
-use Rattle.lsm_parts.specs.History.{SeenHistory, first_version}
+use Rattle.lsm_parts.specs.History.{SeenHistory, first_version, rotated}
 use Rattle.lsm_state.specs.Held.{entries_of, put_first, put_all_first}
 
 -- a tree: its configuration, its memtables, the active one first, its super versions and its counters
@@ -56,10 +56,6 @@ written_all es c = record { config = c.config; memtables = put_all_first es c.me
 -- the next number is used, and visible
 abbrev pub drawn_core : Core → Core
 drawn_core c = record { config = c.config; memtables = c.memtables; history = c.history; next_memtable = c.next_memtable; seqno = c.seqno + 1; visible_seqno = max c.visible_seqno (c.seqno + 1) }
-
--- the super version after a rotation: the active memtable is sealed in favour of another one
-abbrev pub rotated : ℕ → SuperVersion → SuperVersion
-rotated id sv = record { active_memtable = id; sealed_memtables = sv.sealed_memtables ++ sv.active_memtable ∷ []; version = sv.version; seqno = sv.seqno }
 
 -- the tree after a rotation
 abbrev pub rotated_core : Core → Core

@@ -1,5 +1,5 @@
 -- The memtables that are held, as a list: the active one first.
-use Rattle.std.specs.Prelude.{ℕ, List, [], ◌∷◌, if◌then◌else◌, ◌==◌}
+use Rattle.std.specs.Prelude.{ℕ, ◌<◌, List, [], ◌∷◌, map, if◌then◌else◌, ◌==◌}
 use Rattle.lsm_below.specs.Entries.{Entry}
 use Rattle.lsm_parts.specs.Memtables.{SeenMemtable, with_entry, with_entries}
 use Rattle.lsm_model.specs.Views.{Memtables}
@@ -33,3 +33,12 @@ first_entries (t ∷ tables) = t.entries
 abbrev pub HasFirst : List SeenMemtable → (SeenMemtable → Type 0) → Type 0
 HasFirst [] P = ⊥
 HasFirst (t ∷ tables) P = P t
+
+-- the ids of memtables
+abbrev pub ids_of : List SeenMemtable → List ℕ
+ids_of memtables = map (λ m. m.id) memtables
+
+-- each id is below the one before it, and the first one below this number
+abbrev pub FallFrom : ℕ → List ℕ → Type 0
+FallFrom n [] = Unit {0}
+FallFrom n (i ∷ ids) = (i < n) × FallFrom i ids

@@ -1,22 +1,13 @@
 -- What always holds of a tree.
-use Rattle.std.specs.Prelude.{◌≡◌, ℕ, ◌<◌, true, Bool, List, [], ◌∷◌, map, ◌==◌}
+use Rattle.std.specs.Prelude.{◌≡◌, ℕ, true, Bool, List, ◌∷◌, ◌==◌}
 use Rattle.std.specs.List.{AllByRecursion, list_any}
 use Rattle.lsm_below.specs.Entries.{entry_cmp}
 use Rattle.lsm_below.specs.Sorted.{Rises}
 use Rattle.lsm_parts.specs.Memtables.{SeenMemtable}
 use Rattle.lsm_parts.specs.declared.version.super_version.SuperVersion.{SuperVersion}
 use Rattle.lsm_parts.specs.History.{SeenHistory, versions_of, AreLaid}
-use Rattle.lsm_state.specs.Held.{HasFirst}
+use Rattle.lsm_state.specs.Held.{HasFirst, ids_of, FallFrom}
 use Rattle.lsm_state.specs.Core.{Core}
-
--- the ids of memtables
-abbrev pub ids_of : List SeenMemtable → List ℕ
-ids_of memtables = map (λ m. m.id) memtables
-
--- each id is below the one before it, and the first one below this number
-abbrev pub FallFrom : ℕ → List ℕ → Type 0
-FallFrom n [] = Unit {0}
-FallFrom n (i ∷ ids) = (i < n) × FallFrom i ids
 
 -- is this id among those?
 abbrev pub is_among : List ℕ → ℕ → Bool

@@ -13,15 +13,16 @@ use Rattle.lsm_model.specs.declared.journal.JournalEntry.TheVariants.{Read}
 use Rattle.lsm_model.specs.declared.question.Question.{Question}
 use Rattle.lsm_model.specs.declared.question.Question.TheVariants.{Between, Prefix}
 use Rattle.lsm_model.specs.declared.question.Answer.TheVariants.{Pairs}
-use Rattle.lsm_model.specs.Views.{SuperVersion, entries, sources, found_at, view_at}
+use Rattle.lsm_model.specs.Views.{SuperVersion, entries, sources, found_at, view_at, EachPair}
 use Rattle.lsm_parts.specs.Memtables.{SeenMemtable}
-use Rattle.lsm_parts.specs.Shown.{ShowsOf, Shows, ShowsPrefix}
-use Rattle.lsm_parts.specs.Answers.{pairs_of, StandOnce, IsOnTop, overlaid}
+use Rattle.lsm_parts.specs.Shown.{ShowsOf, Shows, ShowsPrefix, lies_within, begins_with}
+use Rattle.lsm_parts.specs.Answers.{pairs_of, AreApart, StandOnce, IsOnTop, overlaid}
 use Rattle.lsm_parts.specs.Ends.{EndShown}
 use Rattle.lsm_parts.specs.Guards.{Pair, Item, pair_of}
 use Rattle.lsm_parts.specs.declared.tree_iter.End.{End}
 use Rattle.lsm_state.specs.Held.{entries_of}
 use Rattle.lsm_state.specs.Core.{Core, state_of, latest_of, older_of}
+use Rattle.lsm_state.specs.Kept.{IsKept}
 
 -- a memtable on top of the tree, with the number below which its entries count; or none
 abbrev pub Index : Type 0
@@ -82,3 +83,20 @@ abbrev pub CountingIsOverlaid : Type 0
 CountingIsOverlaid = (memtables : List SeenMemtable) (index : Index) (s : ℕ) (sv : SuperVersion) (m : Map) (test : Bytes → Bool) (out : List Entry)
     → ((k : Bytes) → get m k ≡ view_at k s (sources (entries_of memtables) sv)) → StandOnce (sources (entries_of memtables) sv) → IfSome index (λ p. IsOnTop p.0.now.entries (sources (entries_of memtables) sv))
     → ShowsOf test (counting memtables index s sv) out → map pair_of out ≡ pairs_of test (overlaid (index_entries index) m)
+
+-- where no key and number stand in two sources of the super version, and the index's numbers are above theirs, the list is that
+-- of their view by tops, with what counts of the index laid over it
+abbrev pub IsOverlaid : Core → Index → ℕ → SuperVersion → (Bytes → Bool) → List Entry → Type 0
+IsOverlaid c index s sv test out =
+    (m : Map) → ((k : Bytes) → get m k ≡ view_at k s (sources (entries_of c.memtables) sv)) → EachPair AreApart (sources (entries_of c.memtables) sv) → IfSome index (λ p. IsOnTop p.0.now.entries (sources (entries_of c.memtables) sv))
+    → map pair_of out ≡ pairs_of test (overlaid (index_entries index) m)
+
+-- of a tree's own ranges, since each of its sources is in order
+abbrev pub RangesAreOverlaid : Type 0
+RangesAreOverlaid = (c : Core) (index : Index) (low high : Bound Bytes) (s : ℕ) (sv : SuperVersion) (out : List Entry) → IsKept c → found_at s (latest_of c) (older_of c) ≡ Some sv
+    → Ranges c index low high s out → IsOverlaid c index s sv (lies_within low high) out
+
+-- and of its prefixes
+abbrev pub PrefixesAreOverlaid : Type 0
+PrefixesAreOverlaid = (c : Core) (index : Index) (prefix : Bytes) (s : ℕ) (sv : SuperVersion) (out : List Entry) → IsKept c → found_at s (latest_of c) (older_of c) ≡ Some sv
+    → Prefixes c index prefix s out → IsOverlaid c index s sv (begins_with prefix) out

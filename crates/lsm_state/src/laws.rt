@@ -1,10 +1,13 @@
 // What the list of a read over many keys is, as the contract of a function.
 ghost use Rattle.lsm_state.specs.ListSteps.{ListsAreSteps};
-ghost use Rattle.lsm_state.specs.Ranges.{CountingIsOverlaid};
+ghost use Rattle.lsm_state.specs.Ranges.{CountingIsOverlaid, RangesAreOverlaid, PrefixesAreOverlaid};
 
-/// The list of what a super version shows under an index is that of its view, with the index laid over it.
+/// The list of what a super version shows under an index is that of its view by tops, with the index laid over it.
+/// Of a tree, of which `TreeState::facts` holds, it is so where no key and number stand in two of its sources.
 pub fn ranges_are_overlaid()
-    ensures { CountingIsOverlaid }
+    ensures counting { CountingIsOverlaid }
+    ensures ranges { RangesAreOverlaid }
+    ensures prefixes { PrefixesAreOverlaid }
 {}
 
 /// Without an index, the list of what a snapshot shows is an answered read of the theory.

@@ -18,6 +18,6 @@ mod tree;
 mod writes;
 
 pub use laws::{lists_are_steps, ranges_are_overlaid};
-pub use memtables::Memtables;
+pub use lsm_below::{MAX_KEY_LEN, MAX_VALUE_LEN};
+use memtables::Memtables;
 pub use tree::TreeState;
-pub use writes::{MAX_KEY_LEN, MAX_VALUE_LEN};

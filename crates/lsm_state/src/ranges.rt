@@ -3,16 +3,18 @@ ghost use Rattle.std.specs.Prelude.{◌≡◌, ℕ, ◌↔◌, ◌⊎◌, ◌∷
 ghost use Rattle.std.specs.declared.ops.Bound.TheVariants.{Unbounded};
 ghost use Rattle.lsm_model.specs.Views.{found_at, sources};
 ghost use Rattle.lsm_parts.specs.declared.tree_iter.End.TheVariants.{Front, Back};
+ghost use Rattle.lsm_state.specs.Calls.{RefusesRead};
 ghost use Rattle.lsm_state.specs.Held.{entries_of};
 ghost use Rattle.lsm_state.specs.Core.{latest_of, older_of, shown_as};
 ghost use Rattle.lsm_state.specs.Ranges.{counting, Ranges, Prefixes, Numbers, PairAt, TellsEmpty, EndOf, IsRangeStep, IsPrefixStep};
 ghost use Rattle.lsm_parts.specs.Shown.{Shows, ShowsPrefix};
-ghost use Rattle.lsm_parts.specs.Ends.{EndShown};
+ghost use Rattle.lsm_parts.specs.Ends.{EndShown, NumberShown};
 
 use crate::{Memtables, TreeState};
 use lsm_below::{InternalValue, MemtableId, SeqNo, UserKey};
 use lsm_parts::{
-    End, Error, Guard, IterState, Memtable, SuperVersion, TreeIter, first_shown, last_shown,
+    End, Error, Guard, IterState, Memtable, SuperVersion, TreeIter, count_shown, first_shown,
+    last_shown,
 };
 use lsm_store::Store;
 use std::alloc::{AllocError, Global};
@@ -63,15 +65,15 @@ fn range_of(
     memtables: &Memtables,
     version: &SuperVersion,
     bounds: &(Bound<UserKey>, Bound<UserKey>),
-    seqno: SeqNo,
+    snapshot: SeqNo,
     index: Option<(&Memtable, SeqNo)>,
 ) -> Result<TreeIter, Error>
-    ensures shows { IfOk result (Shows bounds.now.0 bounds.now.1 (counting memtables.now index.entry seqno (shown_as version.now))) }
+    ensures shows { IfOk result (Shows bounds.now.0 bounds.now.1 (counting memtables.now index.entry snapshot (shown_as version.now))) }
     ensures memory { IfErr result (λ e. e ≡ Error.OutOfMemory) }
 {
     let list = memtables_of(alloc, memtables, version)?;
     let state = IterState::new(&version.version, list, index);
-    TreeIter::create_range(alloc, &state, bounds, seqno)
+    TreeIter::create_range(alloc, &state, bounds, snapshot)
 }
 
 /// What is shown of the keys that begin so by a super version, under an index.
@@ -80,15 +82,31 @@ fn prefix_of(
     memtables: &Memtables,
     version: &SuperVersion,
     prefix: &[u8],
-    seqno: SeqNo,
+    snapshot: SeqNo,
     index: Option<(&Memtable, SeqNo)>,
 ) -> Result<TreeIter, Error>
-    ensures shows { IfOk result (ShowsPrefix prefix.now (counting memtables.now index.entry seqno (shown_as version.now))) }
+    ensures shows { IfOk result (ShowsPrefix prefix.now (counting memtables.now index.entry snapshot (shown_as version.now))) }
     ensures memory { IfErr result (λ e. e ≡ Error.OutOfMemory) }
 {
     let list = memtables_of(alloc, memtables, version)?;
     let state = IterState::new(&version.version, list, index);
-    TreeIter::create_prefix(alloc, &state, prefix, seqno)
+    TreeIter::create_prefix(alloc, &state, prefix, snapshot)
+}
+
+/// How many keys are shown by a super version, under an index.
+fn count_of(
+    alloc: Global,
+    memtables: &Memtables,
+    version: &SuperVersion,
+    snapshot: SeqNo,
+    index: Option<(&Memtable, SeqNo)>,
+) -> Result<usize, Error>
+    ensures number { IfOk result (NumberShown Unbounded Unbounded (counting memtables.now index.entry snapshot (shown_as version.now))) }
+    ensures memory { IfErr result (λ e. e ≡ Error.OutOfMemory) }
+{
+    let list = memtables_of(alloc, memtables, version)?;
+    let state = IterState::new(&version.version, list, index);
+    count_shown(alloc, &state, &ALL, snapshot)
 }
 
 /// The entry at an end of all that is shown by a super version, under an index.
@@ -97,17 +115,17 @@ fn end_of(
     memtables: &Memtables,
     version: &SuperVersion,
     end: End,
-    seqno: SeqNo,
+    snapshot: SeqNo,
     index: Option<(&Memtable, SeqNo)>,
 ) -> Result<Option<InternalValue>, Error>
-    ensures shown { IfOk result (EndShown end Unbounded Unbounded (counting memtables.now index.entry seqno (shown_as version.now))) }
+    ensures shown { IfOk result (EndShown end Unbounded Unbounded (counting memtables.now index.entry snapshot (shown_as version.now))) }
     ensures memory { IfErr result (λ e. e ≡ Error.OutOfMemory) }
 {
     let list = memtables_of(alloc, memtables, version)?;
     let state = IterState::new(&version.version, list, index);
     match end {
-        End::Front => first_shown(alloc, &state, &ALL, seqno),
-        End::Back => last_shown(alloc, &state, &ALL, seqno),
+        End::Front => first_shown(alloc, &state, &ALL, snapshot),
+        End::Back => last_shown(alloc, &state, &ALL, snapshot),
     }
 }
 
@@ -120,16 +138,22 @@ impl<S: Store> TreeState<S> {
     pub fn create_internal_range(
         &self,
         bounds: &(Bound<UserKey>, Bound<UserKey>),
-        seqno: SeqNo,
+        snapshot: SeqNo,
         index: Option<(&Memtable, SeqNo)>,
     ) -> Result<TreeIter, Error>
-        ensures ok { IfOk result (Ranges self.now.core index.entry bounds.now.0 bounds.now.1 seqno) }
-        ensures step { index.entry ≡ None → IfOk result (IsRangeStep self.now.core bounds.now.0 bounds.now.1 seqno) }
-        ensures too_old { IsErrOf result Error.SnapshotTooOld ↔ (found_at seqno (latest_of self.now.core) (older_of self.now.core) ≡ None) }
-        ensures only { IfErr result (λ e. (e ≡ Error.SnapshotTooOld) ⊎ (e ≡ Error.OutOfMemory)) }
+        ensures ok { IfOk result (Ranges self.now.core index.entry bounds.now.0 bounds.now.1 snapshot) }
+        ensures step { index.entry ≡ None → IfOk result (IsRangeStep self.now.core bounds.now.0 bounds.now.1 snapshot) }
+        ensures refuses { RefusesRead self.now.core snapshot result }
     {
-        match self.version_at(seqno) {
-            Ok(version) => range_of(self.alloc, &self.memtables, version, bounds, seqno, index),
+        match self.version_at(snapshot) {
+            Ok(version) => range_of(
+                self.alloc,
+                &self.memtables,
+                version,
+                bounds,
+                snapshot,
+                index,
+            ),
             Err(error) => Err(error),
         }
     }
@@ -138,67 +162,73 @@ impl<S: Store> TreeState<S> {
     pub fn range(
         &self,
         bounds: &(Bound<UserKey>, Bound<UserKey>),
-        seqno: SeqNo,
+        snapshot: SeqNo,
         index: Option<(&Memtable, SeqNo)>,
     ) -> Result<TreeIter, Error>
-        ensures ok { IfOk result (Ranges self.now.core index.entry bounds.now.0 bounds.now.1 seqno) }
-        ensures step { index.entry ≡ None → IfOk result (IsRangeStep self.now.core bounds.now.0 bounds.now.1 seqno) }
-        ensures too_old { IsErrOf result Error.SnapshotTooOld ↔ (found_at seqno (latest_of self.now.core) (older_of self.now.core) ≡ None) }
-        ensures only { IfErr result (λ e. (e ≡ Error.SnapshotTooOld) ⊎ (e ≡ Error.OutOfMemory)) }
+        ensures ok { IfOk result (Ranges self.now.core index.entry bounds.now.0 bounds.now.1 snapshot) }
+        ensures step { index.entry ≡ None → IfOk result (IsRangeStep self.now.core bounds.now.0 bounds.now.1 snapshot) }
+        ensures refuses { RefusesRead self.now.core snapshot result }
     {
-        self.create_internal_range(bounds, seqno, index)
+        self.create_internal_range(bounds, snapshot, index)
     }
 
     /// The same once more, under the name that it has beside the other `create_` calls.
     pub fn create_range(
         &self,
         bounds: &(Bound<UserKey>, Bound<UserKey>),
-        seqno: SeqNo,
+        snapshot: SeqNo,
         index: Option<(&Memtable, SeqNo)>,
     ) -> Result<TreeIter, Error>
-        ensures ok { IfOk result (Ranges self.now.core index.entry bounds.now.0 bounds.now.1 seqno) }
-        ensures too_old { IsErrOf result Error.SnapshotTooOld ↔ (found_at seqno (latest_of self.now.core) (older_of self.now.core) ≡ None) }
-        ensures only { IfErr result (λ e. (e ≡ Error.SnapshotTooOld) ⊎ (e ≡ Error.OutOfMemory)) }
+        ensures ok { IfOk result (Ranges self.now.core index.entry bounds.now.0 bounds.now.1 snapshot) }
+        ensures refuses { RefusesRead self.now.core snapshot result }
     {
-        self.create_internal_range(bounds, seqno, index)
+        self.create_internal_range(bounds, snapshot, index)
     }
 
     /// All that a snapshot shows, as `range` with open bounds.
-    pub fn iter(&self, seqno: SeqNo, index: Option<(&Memtable, SeqNo)>) -> Result<TreeIter, Error>
-        ensures ok { IfOk result (Ranges self.now.core index.entry Unbounded Unbounded seqno) }
-        ensures too_old { IsErrOf result Error.SnapshotTooOld ↔ (found_at seqno (latest_of self.now.core) (older_of self.now.core) ≡ None) }
-        ensures only { IfErr result (λ e. (e ≡ Error.SnapshotTooOld) ⊎ (e ≡ Error.OutOfMemory)) }
+    pub fn iter(
+        &self,
+        snapshot: SeqNo,
+        index: Option<(&Memtable, SeqNo)>,
+    ) -> Result<TreeIter, Error>
+        ensures ok { IfOk result (Ranges self.now.core index.entry Unbounded Unbounded snapshot) }
+        ensures refuses { RefusesRead self.now.core snapshot result }
     {
-        self.create_internal_range(&ALL, seqno, index)
+        self.create_internal_range(&ALL, snapshot, index)
     }
 
     /// The same once more, beside the other `create_` calls.
     pub fn create_iter(
         &self,
-        seqno: SeqNo,
+        snapshot: SeqNo,
         index: Option<(&Memtable, SeqNo)>,
     ) -> Result<TreeIter, Error>
-        ensures ok { IfOk result (Ranges self.now.core index.entry Unbounded Unbounded seqno) }
-        ensures too_old { IsErrOf result Error.SnapshotTooOld ↔ (found_at seqno (latest_of self.now.core) (older_of self.now.core) ≡ None) }
-        ensures only { IfErr result (λ e. (e ≡ Error.SnapshotTooOld) ⊎ (e ≡ Error.OutOfMemory)) }
+        ensures ok { IfOk result (Ranges self.now.core index.entry Unbounded Unbounded snapshot) }
+        ensures refuses { RefusesRead self.now.core snapshot result }
     {
-        self.create_internal_range(&ALL, seqno, index)
+        self.create_internal_range(&ALL, snapshot, index)
     }
 
     /// What a snapshot shows of the keys that begin so, as `range` within the bounds of the prefix.
     pub fn create_prefix(
         &self,
         prefix: &[u8],
-        seqno: SeqNo,
+        snapshot: SeqNo,
         index: Option<(&Memtable, SeqNo)>,
     ) -> Result<TreeIter, Error>
-        ensures ok { IfOk result (Prefixes self.now.core index.entry prefix.now seqno) }
-        ensures step { index.entry ≡ None → IfOk result (IsPrefixStep self.now.core prefix.now seqno) }
-        ensures too_old { IsErrOf result Error.SnapshotTooOld ↔ (found_at seqno (latest_of self.now.core) (older_of self.now.core) ≡ None) }
-        ensures only { IfErr result (λ e. (e ≡ Error.SnapshotTooOld) ⊎ (e ≡ Error.OutOfMemory)) }
+        ensures ok { IfOk result (Prefixes self.now.core index.entry prefix.now snapshot) }
+        ensures step { index.entry ≡ None → IfOk result (IsPrefixStep self.now.core prefix.now snapshot) }
+        ensures refuses { RefusesRead self.now.core snapshot result }
     {
-        match self.version_at(seqno) {
-            Ok(version) => prefix_of(self.alloc, &self.memtables, version, prefix, seqno, index),
+        match self.version_at(snapshot) {
+            Ok(version) => prefix_of(
+                self.alloc,
+                &self.memtables,
+                version,
+                prefix,
+                snapshot,
+                index,
+            ),
             Err(error) => Err(error),
         }
     }
@@ -207,36 +237,37 @@ impl<S: Store> TreeState<S> {
     pub fn prefix(
         &self,
         prefix: &[u8],
-        seqno: SeqNo,
+        snapshot: SeqNo,
         index: Option<(&Memtable, SeqNo)>,
     ) -> Result<TreeIter, Error>
-        ensures ok { IfOk result (Prefixes self.now.core index.entry prefix.now seqno) }
-        ensures step { index.entry ≡ None → IfOk result (IsPrefixStep self.now.core prefix.now seqno) }
-        ensures too_old { IsErrOf result Error.SnapshotTooOld ↔ (found_at seqno (latest_of self.now.core) (older_of self.now.core) ≡ None) }
-        ensures only { IfErr result (λ e. (e ≡ Error.SnapshotTooOld) ⊎ (e ≡ Error.OutOfMemory)) }
+        ensures ok { IfOk result (Prefixes self.now.core index.entry prefix.now snapshot) }
+        ensures step { index.entry ≡ None → IfOk result (IsPrefixStep self.now.core prefix.now snapshot) }
+        ensures refuses { RefusesRead self.now.core snapshot result }
     {
-        self.create_prefix(prefix, seqno, index)
+        self.create_prefix(prefix, snapshot, index)
     }
 
     /// How many keys a snapshot shows. It walks over all of them.
-    pub fn len(&self, seqno: SeqNo, index: Option<(&Memtable, SeqNo)>) -> Result<usize, Error>
-        ensures ok { IfOk result (Numbers self.now.core index.entry seqno) }
-        ensures too_old { IsErrOf result Error.SnapshotTooOld ↔ (found_at seqno (latest_of self.now.core) (older_of self.now.core) ≡ None) }
-        ensures only { IfErr result (λ e. (e ≡ Error.SnapshotTooOld) ⊎ (e ≡ Error.OutOfMemory)) }
+    pub fn len(&self, snapshot: SeqNo, index: Option<(&Memtable, SeqNo)>) -> Result<usize, Error>
+        ensures ok { IfOk result (Numbers self.now.core index.entry snapshot) }
+        ensures refuses { RefusesRead self.now.core snapshot result }
     {
-        match self.iter(seqno, index) {
-            Ok(iter) => Ok(iter.len()),
+        match self.version_at(snapshot) {
+            Ok(version) => count_of(self.alloc, &self.memtables, version, snapshot, index),
             Err(error) => Err(error),
         }
     }
 
     /// Whether a snapshot shows nothing. It stops at the first pair that it finds.
-    pub fn is_empty(&self, seqno: SeqNo, index: Option<(&Memtable, SeqNo)>) -> Result<bool, Error>
-        ensures ok { IfOk result (TellsEmpty Front self.now.core index.entry seqno) }
-        ensures too_old { IsErrOf result Error.SnapshotTooOld ↔ (found_at seqno (latest_of self.now.core) (older_of self.now.core) ≡ None) }
-        ensures only { IfErr result (λ e. (e ≡ Error.SnapshotTooOld) ⊎ (e ≡ Error.OutOfMemory)) }
+    pub fn is_empty(
+        &self,
+        snapshot: SeqNo,
+        index: Option<(&Memtable, SeqNo)>,
+    ) -> Result<bool, Error>
+        ensures ok { IfOk result (TellsEmpty Front self.now.core index.entry snapshot) }
+        ensures refuses { RefusesRead self.now.core snapshot result }
     {
-        match self.end_entry(End::Front, seqno, index) {
+        match self.end_entry(End::Front, snapshot, index) {
             Ok(entry) => Ok(entry.is_none()),
             Err(error) => Err(error),
         }
@@ -245,41 +276,38 @@ impl<S: Store> TreeState<S> {
     /// The pair with the least key that a snapshot shows. It looks no further than to that pair.
     pub fn first_key_value(
         &self,
-        seqno: SeqNo,
+        snapshot: SeqNo,
         index: Option<(&Memtable, SeqNo)>,
     ) -> Result<Option<Guard>, Error>
-        ensures ok { IfOk result (PairAt Front self.now.core index.entry seqno) }
-        ensures too_old { IsErrOf result Error.SnapshotTooOld ↔ (found_at seqno (latest_of self.now.core) (older_of self.now.core) ≡ None) }
-        ensures only { IfErr result (λ e. (e ≡ Error.SnapshotTooOld) ⊎ (e ≡ Error.OutOfMemory)) }
+        ensures ok { IfOk result (PairAt Front self.now.core index.entry snapshot) }
+        ensures refuses { RefusesRead self.now.core snapshot result }
     {
-        self.end_pair(End::Front, seqno, index)
+        self.end_pair(End::Front, snapshot, index)
     }
 
     /// The pair with the greatest key that a snapshot shows. It looks no further than to that pair.
     pub fn last_key_value(
         &self,
-        seqno: SeqNo,
+        snapshot: SeqNo,
         index: Option<(&Memtable, SeqNo)>,
     ) -> Result<Option<Guard>, Error>
-        ensures ok { IfOk result (PairAt Back self.now.core index.entry seqno) }
-        ensures too_old { IsErrOf result Error.SnapshotTooOld ↔ (found_at seqno (latest_of self.now.core) (older_of self.now.core) ≡ None) }
-        ensures only { IfErr result (λ e. (e ≡ Error.SnapshotTooOld) ⊎ (e ≡ Error.OutOfMemory)) }
+        ensures ok { IfOk result (PairAt Back self.now.core index.entry snapshot) }
+        ensures refuses { RefusesRead self.now.core snapshot result }
     {
-        self.end_pair(End::Back, seqno, index)
+        self.end_pair(End::Back, snapshot, index)
     }
 
     /// The pair at an end of all that a snapshot shows, under an index.
     fn end_pair(
         &self,
         end: End,
-        seqno: SeqNo,
+        snapshot: SeqNo,
         index: Option<(&Memtable, SeqNo)>,
     ) -> Result<Option<Guard>, Error>
-        ensures ok { IfOk result (PairAt end self.now.core index.entry seqno) }
-        ensures too_old { IsErrOf result Error.SnapshotTooOld ↔ (found_at seqno (latest_of self.now.core) (older_of self.now.core) ≡ None) }
-        ensures only { IfErr result (λ e. (e ≡ Error.SnapshotTooOld) ⊎ (e ≡ Error.OutOfMemory)) }
+        ensures ok { IfOk result (PairAt end self.now.core index.entry snapshot) }
+        ensures refuses { RefusesRead self.now.core snapshot result }
     {
-        match self.end_entry(end, seqno, index) {
+        match self.end_entry(end, snapshot, index) {
             Ok(Some(entry)) => Ok(Some(Guard::of_entry(entry))),
             Ok(None) => Ok(None),
             Err(error) => Err(error),
@@ -290,15 +318,14 @@ impl<S: Store> TreeState<S> {
     fn end_entry(
         &self,
         end: End,
-        seqno: SeqNo,
+        snapshot: SeqNo,
         index: Option<(&Memtable, SeqNo)>,
     ) -> Result<Option<InternalValue>, Error>
-        ensures ok { IfOk result (EndOf end self.now.core index.entry seqno) }
-        ensures too_old { IsErrOf result Error.SnapshotTooOld ↔ (found_at seqno (latest_of self.now.core) (older_of self.now.core) ≡ None) }
-        ensures only { IfErr result (λ e. (e ≡ Error.SnapshotTooOld) ⊎ (e ≡ Error.OutOfMemory)) }
+        ensures ok { IfOk result (EndOf end self.now.core index.entry snapshot) }
+        ensures refuses { RefusesRead self.now.core snapshot result }
     {
-        match self.version_at(seqno) {
-            Ok(version) => end_of(self.alloc, &self.memtables, version, end, seqno, index),
+        match self.version_at(snapshot) {
+            Ok(version) => end_of(self.alloc, &self.memtables, version, end, snapshot, index),
             Err(error) => Err(error),
         }
     }

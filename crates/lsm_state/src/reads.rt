@@ -5,7 +5,7 @@ ghost use Rattle.lsm_model.specs.Views.{found_at, sources, walk as walk_sources,
 ghost use Rattle.lsm_below.specs.Keys.{Bytes};
 ghost use Rattle.lsm_state.specs.Held.{entries_of};
 ghost use Rattle.lsm_state.specs.Core.{latest_of, older_of, shown_as};
-ghost use Rattle.lsm_state.specs.Calls.{Finds, Gives, GivesEntry, IsGetStep, live, value_size};
+ghost use Rattle.lsm_state.specs.Calls.{Finds, Gives, GivesEntry, IsGetStep, RefusesRead, RefusesOld, live, value_size};
 
 use crate::{Memtables, TreeState};
 use lsm_below::{InternalValue, MemtableId, SeqNo, UserValue, ValueType};
@@ -29,13 +29,13 @@ fn walk_sealed<'a>(
     memtables: &'a Memtables,
     sealed: &[MemtableId],
     key: &[u8],
-    seqno: SeqNo,
+    snapshot: SeqNo,
 ) -> Option<&'a InternalValue>
-    ensures { option_copied result ≡ walk_sources key.now seqno (map (entries_of memtables.now) (reverse sealed.now)) }
+    ensures { option_copied result ≡ walk_sources key.now snapshot (map (entries_of memtables.now) (reverse sealed.now)) }
 {
     let mut rest = sealed;
     while let Some((id, older)) = rest.split_last() {
-        if let Some(entry) = memtables.search(*id, key, seqno) {
+        if let Some(entry) = memtables.search(*id, key, snapshot) {
             return Some(entry);
         }
         rest = older;
@@ -48,17 +48,22 @@ fn walk<'a>(
     memtables: &'a Memtables,
     version: &'a SuperVersion,
     key: &[u8],
-    seqno: SeqNo,
+    snapshot: SeqNo,
 ) -> Option<&'a InternalValue>
-    ensures { option_copied result ≡ walk_sources key.now seqno (sources (entries_of memtables.now) (shown_as version.now)) }
+    ensures { option_copied result ≡ walk_sources key.now snapshot (sources (entries_of memtables.now) (shown_as version.now)) }
 {
-    if let Some(entry) = memtables.search(version.active_memtable, key, seqno) {
+    if let Some(entry) = memtables.search(version.active_memtable, key, snapshot) {
         return Some(entry);
     }
-    if let Some(entry) = walk_sealed(memtables, version.sealed_memtables.as_slice(), key, seqno) {
+    if let Some(entry) = walk_sealed(
+        memtables,
+        version.sealed_memtables.as_slice(),
+        key,
+        snapshot,
+    ) {
         return Some(entry);
     }
-    version.version.get(key, seqno)
+    version.version.get(key, snapshot)
 }
 
 /// The bytes of the value that an entry gives its key, None for a tombstone.
@@ -86,13 +91,12 @@ impl<S: Store> TreeState<S> {
     /// The value of a key at a snapshot: that of its entry with the greatest number below the snapshot
     /// in the first source that has one. None for a tombstone, or where there is no entry.
     /// `SnapshotTooOld` exactly where no super version is found for the snapshot; else only memory may be missing.
-    pub fn get(&self, key: &[u8], seqno: SeqNo) -> Result<Option<UserValue>, Error>
-        ensures ok { IfOk result (λ v. Gives self.now.core key.now seqno v) }
-        ensures step { IfOk result (λ v. IsGetStep self.now.core key.now seqno v) }
-        ensures too_old { IsErrOf result Error.SnapshotTooOld ↔ (found_at seqno (latest_of self.now.core) (older_of self.now.core) ≡ None) }
-        ensures only { IfErr result (λ e. (e ≡ Error.SnapshotTooOld) ⊎ (e ≡ Error.OutOfMemory)) }
+    pub fn get(&self, key: &[u8], snapshot: SeqNo) -> Result<Option<UserValue>, Error>
+        ensures ok { IfOk result (λ v. Gives self.now.core key.now snapshot v) }
+        ensures step { IfOk result (λ v. IsGetStep self.now.core key.now snapshot v) }
+        ensures refuses { RefusesRead self.now.core snapshot result }
     {
-        match self.find(key, seqno)? {
+        match self.find(key, snapshot)? {
             Some(entry) => Ok(value_of(entry)?),
             None => Ok(None),
         }
@@ -102,60 +106,55 @@ impl<S: Store> TreeState<S> {
     pub fn get_internal_entry(
         &self,
         key: &[u8],
-        seqno: SeqNo,
+        snapshot: SeqNo,
     ) -> Result<Option<InternalValue>, Error>
-        ensures ok { IfOk result (λ e. GivesEntry self.now.core key.now seqno e) }
-        ensures too_old { IsErrOf result Error.SnapshotTooOld ↔ (found_at seqno (latest_of self.now.core) (older_of self.now.core) ≡ None) }
-        ensures only { IfErr result (λ e. (e ≡ Error.SnapshotTooOld) ⊎ (e ≡ Error.OutOfMemory)) }
+        ensures ok { IfOk result (λ e. GivesEntry self.now.core key.now snapshot e) }
+        ensures refuses { RefusesRead self.now.core snapshot result }
     {
-        match self.find(key, seqno)? {
+        match self.find(key, snapshot)? {
             Some(entry) => Ok(copy_live(entry)?),
             None => Ok(None),
         }
     }
 
     /// Whether a key has a value at a snapshot. `SnapshotTooOld` as `get`; it takes no memory.
-    pub fn contains_key(&self, key: &[u8], seqno: SeqNo) -> Result<bool, Error>
-        ensures ok { IfOk result (λ b. (v : Option Bytes) × Gives self.now.core key.now seqno v × (b ≡ is_some v)) }
-        ensures too_old { IsErrOf result Error.SnapshotTooOld ↔ (found_at seqno (latest_of self.now.core) (older_of self.now.core) ≡ None) }
-        ensures only { IfErr result (λ e. e ≡ Error.SnapshotTooOld) }
+    pub fn contains_key(&self, key: &[u8], snapshot: SeqNo) -> Result<bool, Error>
+        ensures ok { IfOk result (λ b. (v : Option Bytes) × Gives self.now.core key.now snapshot v × (b ≡ is_some v)) }
+        ensures refuses { RefusesOld self.now.core snapshot result }
     {
-        match self.find(key, seqno) {
+        match self.find(key, snapshot) {
             Ok(entry) => Ok(has_value(entry)),
             Err(error) => Err(error),
         }
     }
 
     /// The bytes of a key's value at a snapshot, None where it has none. `SnapshotTooOld` as `get`; it takes no memory.
-    pub fn size_of(&self, key: &[u8], seqno: SeqNo) -> Result<Option<u32>, Error>
-        ensures ok { IfOk result (λ n. (v : Option Bytes) × Gives self.now.core key.now seqno v × (n ≡ option_map value_size v)) }
-        ensures too_old { IsErrOf result Error.SnapshotTooOld ↔ (found_at seqno (latest_of self.now.core) (older_of self.now.core) ≡ None) }
-        ensures only { IfErr result (λ e. e ≡ Error.SnapshotTooOld) }
+    pub fn size_of(&self, key: &[u8], snapshot: SeqNo) -> Result<Option<u32>, Error>
+        ensures ok { IfOk result (λ n. (v : Option Bytes) × Gives self.now.core key.now snapshot v × (n ≡ option_map value_size v)) }
+        ensures refuses { RefusesOld self.now.core snapshot result }
     {
-        match self.find(key, seqno) {
+        match self.find(key, snapshot) {
             Ok(entry) => Ok(size_of_value(entry)),
             Err(error) => Err(error),
         }
     }
 
-    fn find(&self, key: &[u8], seqno: SeqNo) -> Result<Option<&InternalValue>, Error>
-        ensures ok { IfOk result (λ e. Finds self.now.core key.now seqno (option_copied e)) }
-        ensures too_old { IsErrOf result Error.SnapshotTooOld ↔ (found_at seqno (latest_of self.now.core) (older_of self.now.core) ≡ None) }
-        ensures only { IfErr result (λ e. e ≡ Error.SnapshotTooOld) }
+    fn find(&self, key: &[u8], snapshot: SeqNo) -> Result<Option<&InternalValue>, Error>
+        ensures ok { IfOk result (λ e. Finds self.now.core key.now snapshot (option_copied e)) }
+        ensures refuses { RefusesOld self.now.core snapshot result }
     {
-        match self.version_at(seqno) {
-            Ok(version) => Ok(walk(&self.memtables, version, key, seqno)),
+        match self.version_at(snapshot) {
+            Ok(version) => Ok(walk(&self.memtables, version, key, snapshot)),
             Err(error) => Err(error),
         }
     }
 
     /// The super version that a snapshot reads, in the theory's words.
-    pub(crate) fn version_at(&self, seqno: SeqNo) -> Result<&SuperVersion, Error>
-        ensures ok { IfOk result (λ sv. found_at seqno (latest_of self.now.core) (older_of self.now.core) ≡ Some (shown_as sv.now)) }
-        ensures too_old { IsErrOf result Error.SnapshotTooOld ↔ (found_at seqno (latest_of self.now.core) (older_of self.now.core) ≡ None) }
-        ensures only { IfErr result (λ e. e ≡ Error.SnapshotTooOld) }
+    pub(crate) fn version_at(&self, snapshot: SeqNo) -> Result<&SuperVersion, Error>
+        ensures ok { IfOk result (λ sv. found_at snapshot (latest_of self.now.core) (older_of self.now.core) ≡ Some (shown_as sv.now)) }
+        ensures refuses { RefusesOld self.now.core snapshot result }
     {
-        match self.history.get_version_for_snapshot(seqno) {
+        match self.history.get_version_for_snapshot(snapshot) {
             Ok(version) => Ok(version),
             Err(error) => Err(error),
         }

@@ -3,7 +3,6 @@ ghost use Rattle.std.specs.Prelude.{◌≡◌, ℕ, ◌+◌, ◌≤◌, ◌↔�
 ghost use Rattle.std.specs.Borrow.{sem};
 ghost use Rattle.lsm_parts.specs.History.{found_version};
 ghost use Rattle.lsm_state.specs.Held.{first_entries};
-ghost use Rattle.lsm_state.specs.Core.{rotated as rotated_version};
 
 use crate::Memtables;
 use lsm_below::{MemtableId, SeqNo};
@@ -113,12 +112,12 @@ impl<S: Store> TreeState<S> {
 
     /// The super version that a snapshot reads: at 0 the oldest, else the newest one numbered below it.
     /// Where there is none it is `SnapshotTooOld`, and only there.
-    pub fn get_version_for_snapshot(&self, seqno: SeqNo) -> Result<&SuperVersion, Error>
-        ensures ok { IfOk result (λ sv. found_version seqno self.now.core.history ≡ Some sv.now) }
-        ensures too_old { IsErrOf result Error.SnapshotTooOld ↔ (found_version seqno self.now.core.history ≡ None) }
+    pub fn get_version_for_snapshot(&self, snapshot: SeqNo) -> Result<&SuperVersion, Error>
+        ensures ok { IfOk result (λ sv. found_version snapshot self.now.core.history ≡ Some sv.now) }
+        ensures too_old { IsErrOf result Error.SnapshotTooOld ↔ (found_version snapshot self.now.core.history ≡ None) }
         ensures only { IfErr result (λ e. e ≡ Error.SnapshotTooOld) }
     {
-        self.history.get_version_for_snapshot(seqno)
+        self.history.get_version_for_snapshot(snapshot)
     }
 
     /// Seals the active memtable in favour of an empty one, and answers the id of the sealed one;
@@ -141,25 +140,13 @@ impl<S: Store> TreeState<S> {
         if id >= LIMIT {
             return Err(Error::OutOfNumbers);
         }
-        let latest = self.history.latest_version();
-        let sealed = latest.active_memtable;
-        let rotated = rotated(latest, id)?;
+        let sealed = self.history.latest_version().active_memtable;
         self.memtables.rotate(self.alloc, id)?;
-        self.history.replace_latest_version(rotated);
+        if let Err(error) = self.history.rotate_latest(id) {
+            self.memtables.take_back();
+            return Err(error);
+        }
         self.next_memtable.set(id + 1);
         Ok(Some(sealed))
     }
-}
-
-/// A super version whose active memtable is sealed in favour of another one.
-fn rotated(version: &SuperVersion, id: MemtableId) -> Result<SuperVersion, Error>
-    ensures ok { IfOk result (λ sv. sv ≡ rotated_version id version.now) }
-    ensures memory { IfErr result (λ e. e ≡ Error.OutOfMemory) }
-{
-    Ok(SuperVersion {
-        active_memtable: id,
-        sealed_memtables: version.sealed_memtables.add(version.active_memtable)?,
-        version: version.version.copy(),
-        seqno: version.seqno,
-    })
 }

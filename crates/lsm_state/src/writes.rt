@@ -9,18 +9,12 @@ ghost use Rattle.lsm_model.specs.declared.op.Op.TheVariants.{Set, Del, Weak};
 ghost use Rattle.lsm_state.specs.Calls.{Appends, WritesBatch};
 
 use crate::TreeState;
-use lsm_below::{InternalValue, SeqNo, UserKey, UserValue, ValueType, share};
+use lsm_below::{InternalValue, MAX_KEY_LEN, MAX_VALUE_LEN, SeqNo, UserKey, UserValue};
 use lsm_model::Op;
 use lsm_parts::{Error, LIMIT};
 use lsm_store::Store;
 use std::alloc::{AllocError, Global};
 use std::collections::BTreeSet;
-
-/// The most bytes that a key has.
-pub const MAX_KEY_LEN: usize = 65_535;
-
-/// The most bytes that a value has.
-pub const MAX_VALUE_LEN: usize = 4_294_967_295;
 
 fn is_key_too_long(key: &UserKey) -> bool
     ensures { result ≡ is_long_key key.now }
@@ -75,7 +69,7 @@ fn has_repeats(alloc: Global, ops: &[(UserKey, Op)]) -> Result<bool, AllocError>
     }
     let mut seen = BTreeSet::new(alloc);
     for (key, _) in ops {
-        let is_new = seen.insert(share(key)?)?;
+        let is_new = seen.insert(key.as_slice())?;
         if !is_new {
             return Ok(true);
         }
@@ -103,17 +97,6 @@ fn check_batch(alloc: Global, number: SeqNo, ops: &[(UserKey, Op)]) -> Result<()
     Ok(())
 }
 
-/// The entry of a write.
-fn make_entry(key: UserKey, number: SeqNo, op: Op) -> InternalValue
-    ensures { result ≡ op_entry key number op }
-{
-    match op {
-        Op::Set(value) => InternalValue::from_components(key, value, number, ValueType::Value),
-        Op::Del => InternalValue::new_tombstone(key, number),
-        Op::Weak => InternalValue::new_weak_tombstone(key, number),
-    }
-}
-
 /// The entries of a batch.
 fn make_entries(
     alloc: Global,
@@ -124,7 +107,7 @@ fn make_entries(
 {
     let mut entries = Vec::with_capacity(alloc, ops.len())?;
     for (key, op) in ops {
-        entries.push(make_entry(key, number, op))?;
+        entries.push(op.into_entry(key, number))?;
     }
     Ok(entries)
 }
@@ -145,7 +128,7 @@ impl<S: Store> TreeState<S> {
         ensures appends { Appends (op_entry key seqno (Set value)) result self.old.core self.new.core }
         ensures store { self.new.store ≡ self.old.store }
     {
-        self.append_entry(make_entry(key, seqno, Op::Set(value)))
+        self.append_entry(Op::Set(value).into_entry(key, seqno))
     }
 
     /// Removes a key under a number. Answers and refuses as `insert`.
@@ -153,7 +136,7 @@ impl<S: Store> TreeState<S> {
         ensures appends { Appends (op_entry key seqno Del) result self.old.core self.new.core }
         ensures store { self.new.store ≡ self.old.store }
     {
-        self.append_entry(make_entry(key, seqno, Op::Del))
+        self.append_entry(Op::Del.into_entry(key, seqno))
     }
 
     /// Removes a key, of which at most one value was ever written. Answers and refuses as `insert`.
@@ -161,7 +144,7 @@ impl<S: Store> TreeState<S> {
         ensures appends { Appends (op_entry key seqno Weak) result self.old.core self.new.core }
         ensures store { self.new.store ≡ self.old.store }
     {
-        self.append_entry(make_entry(key, seqno, Op::Weak))
+        self.append_entry(Op::Weak.into_entry(key, seqno))
     }
 
     /// Writes an entry under its own number; a tombstone's value is dropped. Answers and refuses as `insert`.

@@ -1,5 +1,5 @@
 // The ids of sealed memtables.
-ghost use Rattle.std.specs.Prelude.{◌≡◌, ◌≢◌, ◌+◌, ◌++◌, ◌∷◌, [], ◌==◌, not, filter, length, IfOk, IfErr};
+ghost use Rattle.std.specs.Prelude.{◌≡◌, ◌≢◌, ◌+◌, ◌++◌, ◌∷◌, [], ◌==◌, not, filter, length, IfOk, IfErr, OnOk, OnErr};
 ghost use Rattle.std.specs.List.{list_any};
 ghost use Rattle.std.specs.Slice.Iter.{iter_rest};
 
@@ -47,6 +47,16 @@ impl SealedMemtables {
             alloc: self.alloc,
             ids,
         })
+    }
+
+    /// Appends the id of one that is sealed now. Refused only for want of memory, and then nothing changes.
+    pub(crate) fn push(&mut self, id: MemtableId) -> Result<(), Error>
+        ensures ok { OnOk result (self.new ≡ self.old ++ id ∷ []) }
+        ensures err { OnErr result (self.new ≡ self.old) }
+        ensures memory { IfErr result (λ e. e ≡ Error.OutOfMemory) }
+    {
+        self.ids.push(id)?;
+        Ok(())
     }
 
     /// These without one. Refused only for want of memory.

@@ -1,7 +1,7 @@
 // The history of super versions.
-ghost use Rattle.std.specs.Prelude.{◌≡◌, ℕ, ◌+◌, ◌-◌, ◌∷◌, ◌↔◌, [], None, length, IfOk, IfErr, OnOk, OnErr, IsErrOf, option_copied, nat_lt};
+ghost use Rattle.std.specs.Prelude.{◌≡◌, ℕ, ◌+◌, ◌-◌, ◌∷◌, ◌↔◌, [], None, length, IfOk, IfErr, OnOk, OnErr, IsErrOf, option_copied, nat_lt, true};
 ghost use Rattle.std.specs.List.{find, list_any};
-ghost use Rattle.lsm_parts.specs.History.{found_version, first_version, versions_of, names, named_size, AreLaid};
+ghost use Rattle.lsm_parts.specs.History.{found_version, first_version, versions_of, names, named_size, rotated, AreLaid, NumbersFall};
 
 use crate::{Error, Memtable, SealedMemtables, SuperVersion, Version, seqno_filter};
 use lsm_below::{MemtableId, SeqNo};
@@ -10,31 +10,55 @@ use std::collections::VecDeque;
 use std::marker::Model;
 
 /// The history of super versions. There is always at least one.
+///
+/// A snapshot is looked up in logarithmic time, unless a super version was installed under a lesser number
+/// than the one before it: then it takes linear time.
 #[derive(Drop)]
 pub struct SuperVersions {
     latest: SuperVersion,
     /// The newest one first.
     older: VecDeque<SuperVersion>,
+    /// Whether each number is at most that of the next newer super version.
+    in_order: bool,
 }
 
 impl Model for SuperVersions {
-    ghost use Rattle.std.specs.Prelude.{◌∷◌};
-    ghost use Rattle.lsm_parts.specs.History.{SeenHistory, AreLaid};
+    ghost use Rattle.std.specs.Prelude.{◌≡◌, ◌∷◌, true};
+    ghost use Rattle.lsm_parts.specs.History.{SeenHistory, AreLaid, NumbersFall};
 
     ghost Value = { SeenHistory };
 
     ghost view = { λ h. record { latest = h.latest; older = h.older.items } };
 
-    ghost invariant = { λ h. AreLaid (h.latest ∷ h.older.items) };
+    ghost invariant = { λ h. AreLaid (h.latest ∷ h.older.items) × (h.in_order ≡ true → NumbersFall h.latest.seqno h.older.items) };
 }
 
-/// The first of these that is numbered below a snapshot.
-fn newest_below(older: &VecDeque<SuperVersion>, seqno: SeqNo) -> Option<&SuperVersion>
-    ensures { option_copied result ≡ find (λ sv. nat_lt sv.seqno seqno) older.now.items }
+/// The first of these that is numbered below a snapshot, found by bisection.
+fn bisect(older: &VecDeque<SuperVersion>, snapshot: SeqNo) -> Option<&SuperVersion>
+    requires { (n : ℕ) × NumbersFall n older.now.items }
+    ensures { option_copied result ≡ find (λ sv. nat_lt sv.seqno snapshot) older.now.items }
+{
+    let at = older.partition_point(|version| !seqno_filter(version.seqno, snapshot));
+    older.get(at)
+}
+
+/// The first of these that is numbered below a snapshot, whatever their order.
+fn walk(older: &VecDeque<SuperVersion>, snapshot: SeqNo) -> Option<&SuperVersion>
+    ensures { option_copied result ≡ find (λ sv. nat_lt sv.seqno snapshot) older.now.items }
 {
     older
         .iter()
-        .find(|version| seqno_filter(version.seqno, seqno))
+        .find(|version| seqno_filter(version.seqno, snapshot))
+}
+
+/// Whether a super version with this number may come before these.
+fn is_next(seqno: SeqNo, older: &VecDeque<SuperVersion>) -> bool
+    ensures { result ≡ true → (n : ℕ) → NumbersFall n older.now.items → NumbersFall seqno older.now.items }
+{
+    match older.front() {
+        Some(version) => version.seqno <= seqno,
+        None => true,
+    }
 }
 
 impl SuperVersions {
@@ -51,6 +75,7 @@ impl SuperVersions {
                 seqno: 0,
             },
             older: VecDeque::new(alloc),
+            in_order: true,
         }
     }
 
@@ -83,6 +108,7 @@ impl SuperVersions {
     {
         self.older.try_reserve(1)?;
         version.version.facts();
+        self.in_order = self.in_order && self.latest.seqno <= version.seqno;
         let replaced = std::mem::replace(&mut self.latest, version);
         self.older.push_front(replaced)?;
         Ok(())
@@ -93,7 +119,23 @@ impl SuperVersions {
         ensures { self.new ≡ record { latest = version; older = self.old.older } }
     {
         version.version.facts();
+        self.in_order = self.in_order && is_next(version.seqno, &self.older);
         self.latest = version;
+    }
+
+    /// Seals the active memtable of the latest super version in favour of another one; the super version
+    /// keeps its number. Refused only for want of memory, and then nothing changes.
+    /// It takes constant time, on average.
+    pub fn rotate_latest(&mut self, id: MemtableId) -> Result<(), Error>
+        ensures ok { OnOk result (self.new ≡ record { latest = rotated id self.old.latest; older = self.old.older }) }
+        ensures err { OnErr result (self.new ≡ self.old) }
+        ensures memory { IfErr result (λ e. e ≡ Error.OutOfMemory) }
+    {
+        self.latest
+            .sealed_memtables
+            .push(self.latest.active_memtable)?;
+        self.latest.active_memtable = id;
+        Ok(())
     }
 
     /// The newest super version.
@@ -105,12 +147,12 @@ impl SuperVersions {
 
     /// The super version that a snapshot reads: at 0 the oldest, else the newest one numbered below it.
     /// Where there is none it is `SnapshotTooOld`, and only there.
-    pub fn get_version_for_snapshot(&self, seqno: SeqNo) -> Result<&SuperVersion, Error>
-        ensures ok { IfOk result (λ sv. found_version seqno self.now ≡ Some sv.now) }
-        ensures too_old { IsErrOf result Error.SnapshotTooOld ↔ (found_version seqno self.now ≡ None) }
+    pub fn get_version_for_snapshot(&self, snapshot: SeqNo) -> Result<&SuperVersion, Error>
+        ensures ok { IfOk result (λ sv. found_version snapshot self.now ≡ Some sv.now) }
+        ensures too_old { IsErrOf result Error.SnapshotTooOld ↔ (found_version snapshot self.now ≡ None) }
         ensures only { IfErr result (λ e. e ≡ Error.SnapshotTooOld) }
     {
-        match self.find_version(seqno) {
+        match self.find_version(snapshot) {
             Some(version) => Ok(version),
             None => Err(Error::SnapshotTooOld),
         }
@@ -132,18 +174,22 @@ impl SuperVersions {
         self.latest.names(id) || self.older.iter().any(|version| version.names(id))
     }
 
-    fn find_version(&self, seqno: SeqNo) -> Option<&SuperVersion>
-        ensures { option_copied result ≡ found_version seqno self.now }
+    fn find_version(&self, snapshot: SeqNo) -> Option<&SuperVersion>
+        ensures { option_copied result ≡ found_version snapshot self.now }
     {
-        if seqno == 0 {
+        if snapshot == 0 {
             return match self.older.back() {
                 Some(version) => Some(version),
                 None => Some(&self.latest),
             };
         }
-        if seqno_filter(self.latest.seqno, seqno) {
+        if seqno_filter(self.latest.seqno, snapshot) {
             return Some(&self.latest);
         }
-        newest_below(&self.older, seqno)
+        if self.in_order {
+            bisect(&self.older, snapshot)
+        } else {
+            walk(&self.older, snapshot)
+        }
     }
 }

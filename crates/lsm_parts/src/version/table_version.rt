@@ -51,8 +51,8 @@ impl Version {
     }
 
     /// What a walk finds from table to table, level by level and run by run: the first visible entry of the key.
-    pub fn get(&self, _key: &[u8], _seqno: SeqNo) -> Option<&InternalValue>
-        ensures { option_copied result ≡ walk _key.now _seqno (map (λ p. p.table.entries) (placed_from 0 self.now.levels)) }
+    pub fn get(&self, _key: &[u8], _snapshot: SeqNo) -> Option<&InternalValue>
+        ensures { option_copied result ≡ walk _key.now _snapshot (map (λ p. p.table.entries) (placed_from 0 self.now.levels)) }
     {
         // No table was made yet.
         let _ = &self.id;
@@ -64,10 +64,10 @@ impl Version {
         &'a self,
         _cuts: &mut Vec<Cut<'a>>,
         _bounds: &(Bound<UserKey>, Bound<UserKey>),
-        _seqno: SeqNo,
+        _snapshot: SeqNo,
     ) -> Result<(), AllocError>
         ensures { OnOk result
-            (PutsCuts _bounds.now.0 _bounds.now.1 (map (at _seqno) (tables_of self.now)) _cuts.old.items _cuts.new.items) }
+            (PutsCuts _bounds.now.0 _bounds.now.1 (map (at _snapshot) (tables_of self.now)) _cuts.old.items _cuts.new.items) }
     {
         // No table was made yet.
         let _ = &self.id;

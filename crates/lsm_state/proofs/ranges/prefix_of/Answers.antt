@@ -6,6 +6,6 @@ use Rattle.lsm_state.proofs.ranges.prefix_of.Goals as goal
 
 pub returns-clause-shows : goal.returns-clause-shows
 returns-clause-shows c =
-    let s = c.args.seqno in
+    let s = c.args.snapshot in
     let counts = ap (counted_at s) c.new-state.ensures ∙ counted_is s c.args.version.now c.args.memtables.now c.in_ok-list.list.items c.in_ok-list.ensures c.args.index in
     subst (λ es. IfOk c.create_prefix.result (ShowsPrefix c.args.prefix.now es)) counts c.create_prefix.ensures.shows

@@ -7,6 +7,6 @@ use Rattle.lsm_state.proofs.ranges.range_of.Goals as goal
 pub returns-clause-shows : goal.returns-clause-shows
 returns-clause-shows c =
     let sv = c.args.version.now in
-    let s = c.args.seqno in
+    let s = c.args.snapshot in
     let counts = ap (counted_at s) c.new-state.ensures ∙ counted_is s sv c.args.memtables.now c.in_ok-list.list.items c.in_ok-list.ensures c.args.index in
     subst (λ es. IfOk c.create_range.result (Shows c.args.bounds.now.0 c.args.bounds.now.1 es)) counts c.create_range.ensures.shows

@@ -5,4 +5,4 @@ use Rattle.lsm_runs.proofs.runner.ranges.first_key_value.Goals as goal
 pub returns : goal.returns
 returns g c =
     let found = c.first_key_value.ensures in
-    end_taken c.args.snapshot c.args.state.now.core Front c.first_key_value.result c.of_end.result found.ok found.too_old found.only c.of_end.ensures
+    end_taken c.args.snapshot c.args.state.now.core Front c.first_key_value.result c.of_end.result found.ok found.refuses.too_old found.refuses.only c.of_end.ensures

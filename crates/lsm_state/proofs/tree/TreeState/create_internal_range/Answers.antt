@@ -10,7 +10,7 @@ returns-in-Ok-clause-step g c none =
     let core = c.args.self.now.core in
     let low = c.args.bounds.now.0 in
     let high = c.args.bounds.now.1 in
-    let s = c.args.seqno in
+    let s = c.args.snapshot in
     let sv = shown_as c.in-Ok.version.now in
     let mems = ap (λ t. t.core.memtables) c.self.view_is in
     each_ok (λ out. Shows low high (counting c.self.inside.memtables c.args.index s sv) out) (IsRangeStep core low high s) c.range_of.result

@@ -9,7 +9,7 @@ pub returns-in-Ok-clause-step : goal.returns-in-Ok-clause-step
 returns-in-Ok-clause-step g c none =
     let core = c.args.self.now.core in
     let prefix = c.args.prefix.now in
-    let s = c.args.seqno in
+    let s = c.args.snapshot in
     let sv = shown_as c.in-Ok.version.now in
     let mems = ap (λ t. t.core.memtables) c.self.view_is in
     each_ok (λ out. ShowsPrefix prefix (counting c.self.inside.memtables c.args.index s sv) out) (IsPrefixStep core prefix s) c.prefix_of.result

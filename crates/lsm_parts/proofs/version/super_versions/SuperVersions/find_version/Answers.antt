@@ -7,5 +7,5 @@ returns-in-Some c =
     let older = c.self.inside.older in
     let found = c.in-Some.version.now in
     rw (← c.self.view_is)
-    (sym (found_oldest c.args.seqno (record { latest = c.self.inside.latest; older = older.items }) found c.if-seqno-eq0.true
+    (sym (found_oldest c.args.snapshot (record { latest = c.self.inside.latest; older = older.items }) found c.if-snapshot-eq0.true
     (subst (λ n. 0 < n) older.ok.0 (c.in-Some.ensures.variant.0 refl)) (subst (λ n. found ≡ get_or older.items (n - 1) found) older.ok.0 c.in-Some.ensures.lookup)))
