@@ -1,19 +1,18 @@
 // A tree with the journal of its calls.
-ghost use Rattle.std.specs.Prelude.{◌≡◌, ℕ, ◌+◌, ◌<◌, ◌≤◌, ◌^◌, ◌∷◌, ◌++◌, [], true, false, None, IfOk, IfErr, IfSome, OnOk, OnErr, IsErrOf, IsTrue, ◌↔◌, ◌⊎◌, map};
+ghost use Rattle.std.specs.Prelude.{◌≡◌, ℕ, ◌+◌, ◌<◌, ◌≤◌, ◌^◌, ◌∷◌, ◌++◌, [], true, false, None, Ok, IfOk, IfErr, IfSome, OnOk, OnErr, IsErrOf, IsTrue, ◌↔◌, ◌⊎◌, map};
 ghost use Rattle.std.specs.FinMap.{get as value_in, empty};
 ghost use Rattle.lsm_below.specs.Keys.{Bytes};
 ghost use Rattle.lsm_below.specs.Entries.{plain};
 ghost use Rattle.lsm_model.specs.Journal.{is_outside, replay, IsKept, Agrees, InOrder, next_number};
 ghost use Rattle.lsm_model.specs.Ops.{op_entry, op_entries};
 ghost use Rattle.lsm_model.specs.Steps.{ReadsEqualReplay};
-ghost use Rattle.lsm_model.specs.Views.{found_at};
 ghost use Rattle.lsm_model.specs.declared.journal.JournalEntry.TheVariants.{Write as WriteEntry, Read as ReadEntry};
 ghost use Rattle.lsm_model.specs.declared.question.Question.TheVariants.{Get as GetQuestion};
 ghost use Rattle.lsm_model.specs.declared.question.Answer.TheVariants.{Found};
 ghost use Rattle.lsm_model.specs.declared.op.Op.TheVariants.{Set, Del, Weak};
 ghost use Rattle.lsm_state.specs.Held.{first_entries};
-ghost use Rattle.lsm_state.specs.Core.{fresh_core, state_of, latest_of, older_of};
-ghost use Rattle.lsm_state.specs.Calls.{Appends, WritesBatch, Gives, Rotates};
+ghost use Rattle.lsm_state.specs.Core.{fresh_core, state_of};
+ghost use Rattle.lsm_state.specs.Calls.{Appends, WritesBatch, Gives, Rotates, RefusesRead};
 ghost use Rattle.std.specs.List.{list_all};
 ghost use Rattle.lsm_recorded.specs.Marks.{mark_of, op_type, op_allowed};
 ghost use Rattle.lsm_recorded.specs.Order.{keeps_order, batch_keeps_order};
@@ -180,9 +179,8 @@ impl<S: Store> Recorded<S> {
         ensures tree { self.new.tree ≡ self.old.tree }
 
         ensures err { OnErr result ((self.new ≡ self.old) × (pass.new ≡ pass.old)) }
-        ensures too_old { IsErrOf result Error.SnapshotTooOld ↔ (found_at snapshot (latest_of self.old.tree.core) (older_of self.old.tree.core) ≡ None) }
+        ensures refuses { RefusesRead self.old.tree.core snapshot result }
         ensures kept { IsKept snapshot self.old.journal → IfErr result (λ e. e ≡ Error.OutOfMemory) }
-        ensures only { IfErr result (λ e. (e ≡ Error.SnapshotTooOld) ⊎ (e ≡ Error.OutOfMemory)) }
     {
         reads_are_sound();
         let value = self.core.get(key.as_slice(), snapshot)?;
@@ -191,8 +189,8 @@ impl<S: Store> Recorded<S> {
         Ok(value)
     }
 
-    /// Seals the active memtable, as `TreeState::rotate_memtable`. The journal and the pass stay, and so does
-    /// what each snapshot sees.
+    /// Seals the active memtable, as `TreeState::rotate_memtable`; None exactly where it is empty. The journal and the
+    /// pass stay, and so does what each snapshot sees.
     pub fn rotate_memtable(&mut self, pass: &mut Pass) -> Result<Option<MemtableId>, Error>
         ensures core { IfOk result (λ r. Rotates self.old.tree.core r self.new.tree.core) }
         ensures journal { self.new.journal ≡ self.old.journal }
@@ -201,6 +199,7 @@ impl<S: Store> Recorded<S> {
         ensures err { OnErr result (self.new ≡ self.old) }
         ensures out_of_numbers { IsErrOf result Error.OutOfNumbers → LIMIT ≤ self.old.tree.core.next_memtable }
         ensures told { LIMIT ≤ self.old.tree.core.next_memtable → IfOk result (λ _. first_entries self.old.tree.core.memtables ≡ []) }
+        ensures empty { first_entries self.old.tree.core.memtables ≡ [] → result ≡ Ok None }
         ensures only { IfErr result (λ e. (e ≡ Error.OutOfNumbers) ⊎ (e ≡ Error.OutOfMemory)) }
     {
         reads_are_sound();

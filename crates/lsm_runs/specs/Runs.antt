@@ -40,10 +40,10 @@ TakesBatch ops (Number n) events old new = (events ≡ map Wrote (op_entries n o
 TakesBatch ops (Refused x) events old new = (events ≡ []) × WritesBatch ops (Err x) old new
 TakesBatch ops reply events old new = ⊥
 
--- a rotation: where no id is left it is refused as that, or for want of memory, unless there is nothing to seal
+-- a rotation: where there is nothing to seal it is never refused, and where no id is left it is refused as that, or for want of memory
 abbrev pub TakesRotate : Reply → List Event → Core → Core → Type 0
 TakesRotate (Sealed id) events old new = (events ≡ []) × Rotates old id new × (2 ^ 63 ≤ old.next_memtable → first_entries old.memtables ≡ [])
-TakesRotate (Refused x) events old new = (events ≡ []) × (new ≡ old) × ((x ≡ OutOfNumbers) ⊎ (x ≡ OutOfMemory)) × (x ≡ OutOfNumbers → 2 ^ 63 ≤ old.next_memtable)
+TakesRotate (Refused x) events old new = (events ≡ []) × (new ≡ old) × ((x ≡ OutOfNumbers) ⊎ (x ≡ OutOfMemory)) × (x ≡ OutOfNumbers → 2 ^ 63 ≤ old.next_memtable) × (first_entries old.memtables ≡ [] → ⊥)
 TakesRotate reply events old new = ⊥
 
 -- where a counter stands

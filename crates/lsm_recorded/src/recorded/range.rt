@@ -1,13 +1,12 @@
 // Reads of many keys that a journal keeps.
-ghost use Rattle.std.specs.Prelude.{◌≡◌, ◌↔◌, ◌⊎◌, [], ◌∷◌, ◌++◌, None, map, IfOk, IfErr, OnErr, IsErrOf};
+ghost use Rattle.std.specs.Prelude.{◌≡◌, [], ◌∷◌, ◌++◌, map, IfOk, IfErr, OnErr};
 ghost use Rattle.std.specs.FinMap.{empty};
 ghost use Rattle.lsm_model.specs.Journal.{IsKept, ReadAgrees};
-ghost use Rattle.lsm_model.specs.Views.{found_at};
 ghost use Rattle.lsm_model.specs.declared.journal.JournalEntry.TheVariants.{Read as ReadEntry};
 ghost use Rattle.lsm_model.specs.declared.question.Question.TheVariants.{Between, Prefix};
 ghost use Rattle.lsm_model.specs.declared.question.Answer.TheVariants.{Pairs as PairsAnswer};
 ghost use Rattle.lsm_parts.specs.Guards.{pair_of};
-ghost use Rattle.lsm_state.specs.Core.{latest_of, older_of};
+ghost use Rattle.lsm_state.specs.Calls.{RefusesRead};
 ghost use Rattle.lsm_state.specs.Ranges.{IsListStep};
 ghost use Rattle.lsm_recorded.specs.Passes.{Notes};
 ghost use Rattle.lsm_state.specs.Listing.{Lists, ListsPrefix};
@@ -36,9 +35,8 @@ impl<S: Store> Recorded<S> {
         ensures tree { self.new.tree ≡ self.old.tree }
 
         ensures err { OnErr result ((self.new ≡ self.old) × (pass.new ≡ pass.old)) }
-        ensures too_old { IsErrOf result Error.SnapshotTooOld ↔ (found_at snapshot (latest_of self.old.tree.core) (older_of self.old.tree.core) ≡ None) }
+        ensures refuses { RefusesRead self.old.tree.core snapshot result }
         ensures kept { IsKept snapshot self.old.journal → IfErr result (λ e. e ≡ Error.OutOfMemory) }
-        ensures only { IfErr result (λ e. (e ≡ Error.SnapshotTooOld) ⊎ (e ≡ Error.OutOfMemory)) }
     {
         let iter = self.core.range(bounds, snapshot, None)?;
         let question = Question::Between(copy_bound(&bounds.0)?, copy_bound(&bounds.1)?);
@@ -58,9 +56,8 @@ impl<S: Store> Recorded<S> {
         ensures tree { self.new.tree ≡ self.old.tree }
 
         ensures err { OnErr result ((self.new ≡ self.old) × (pass.new ≡ pass.old)) }
-        ensures too_old { IsErrOf result Error.SnapshotTooOld ↔ (found_at snapshot (latest_of self.old.tree.core) (older_of self.old.tree.core) ≡ None) }
+        ensures refuses { RefusesRead self.old.tree.core snapshot result }
         ensures kept { IsKept snapshot self.old.journal → IfErr result (λ e. e ≡ Error.OutOfMemory) }
-        ensures only { IfErr result (λ e. (e ≡ Error.SnapshotTooOld) ⊎ (e ≡ Error.OutOfMemory)) }
     {
         let iter = self.core.prefix(prefix.as_slice(), snapshot, None)?;
         let question = Question::Prefix(share(prefix)?);
