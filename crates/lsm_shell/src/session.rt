@@ -2,17 +2,15 @@
 use crate::command::{Command, parse};
 use crate::reply::Reply;
 use lsm_below::{SeqNo, UserKey};
-use lsm_model::Op;
-use lsm_tree::{Config, Error, Pass, Recorded};
+use lsm_tree::{Config, Error, Op, Pass, Recorded};
 use std::alloc::Global;
 use std::ops::Bound;
 
-/// A tree with what its calls need, which answers lines.
+/// A tree that answers lines.
 #[derive(Drop)]
 pub struct Session {
     alloc: Global,
     tree: Recorded,
-    pass: Pass,
 }
 
 impl Session {
@@ -21,7 +19,6 @@ impl Session {
         Session {
             alloc,
             tree: Recorded::open_in_memory(alloc, Config::new(0, 0, 0)),
-            pass: Pass::new(alloc),
         }
     }
 
@@ -42,23 +39,35 @@ impl Session {
             Command::Get(key, snapshot) => self.get(&key, snapshot),
             Command::Range(low, high, snapshot) => self.range(&(low, high), snapshot),
             Command::Prefix(prefix, snapshot) => self.prefix(&prefix, snapshot),
-            Command::Rotate => Ok(match self.tree.rotate_memtable(&mut self.pass)? {
-                Some(id) => Reply::Rotated(id),
-                None => Reply::Nothing,
-            }),
+            Command::Rotate => self.rotate(),
         }
+    }
+
+    /// A pass for one call. Nobody closes the tree, so no pass outlives its call.
+    fn pass(&self) -> Pass {
+        Pass::new(self.alloc)
+    }
+
+    fn rotate(&mut self) -> Result<Reply, Error> {
+        let mut pass = self.pass();
+        Ok(match self.tree.rotate_memtable(&mut pass)? {
+            Some(id) => Reply::Rotated(id),
+            None => Reply::Nothing,
+        })
     }
 
     fn write(&mut self, key: UserKey, op: Op) -> Result<Reply, Error> {
         let Ok(ops) = vec![in self.alloc; (key, op)] else {
             return Err(Error::OutOfMemory);
         };
-        Ok(Reply::Written(self.tree.write(&mut self.pass, ops)?))
+        let mut pass = self.pass();
+        Ok(Reply::Written(self.tree.write(&mut pass, ops)?))
     }
 
     fn get(&mut self, key: &UserKey, snapshot: Option<SeqNo>) -> Result<Reply, Error> {
         let snapshot = self.snapshot_or_now(snapshot);
-        Ok(match self.tree.get(&mut self.pass, key, snapshot)? {
+        let mut pass = self.pass();
+        Ok(match self.tree.get(&mut pass, key, snapshot)? {
             Some(value) => Reply::Value(value),
             None => Reply::NoValue,
         })
@@ -70,14 +79,14 @@ impl Session {
         snapshot: Option<SeqNo>,
     ) -> Result<Reply, Error> {
         let snapshot = self.snapshot_or_now(snapshot);
-        let pairs = self.tree.range(&mut self.pass, bounds, snapshot)?;
-        Ok(Reply::Pairs(pairs))
+        let mut pass = self.pass();
+        Ok(Reply::Pairs(self.tree.range(&mut pass, bounds, snapshot)?))
     }
 
     fn prefix(&mut self, prefix: &UserKey, snapshot: Option<SeqNo>) -> Result<Reply, Error> {
         let snapshot = self.snapshot_or_now(snapshot);
-        let pairs = self.tree.prefix(&mut self.pass, prefix, snapshot)?;
-        Ok(Reply::Pairs(pairs))
+        let mut pass = self.pass();
+        Ok(Reply::Pairs(self.tree.prefix(&mut pass, prefix, snapshot)?))
     }
 
     /// The snapshot, or the one that sees every write so far.

@@ -3,42 +3,149 @@ use crate::shell::run_shell;
 use std::alloc::{AllocError, Global};
 use std::cell::Cell;
 use std::io::{self, ErrorKind, Read, Write};
-use std::process::Abort;
 use std::sync::Wait;
 use std::test::Fail;
 use std::thread::Threads;
 
+/// A line, and what is printed for it.
+type Row = (&'static [u8], &'static [u8]);
+
 /// A key is written, read, removed, and read at older snapshots.
-const REMOVED: &[u8] = b"put a x\nget a\ndel a\nget a\nget a 1\nget a 0\nrotate\nrotate\nget a 1\n";
+const REMOVED: [Row; 9] = [
+    (b"put a x", b"ok 0"),
+    (b"get a", b"value x"),
+    (b"del a", b"ok 1"),
+    (b"get a", b"none"),
+    (b"get a 1", b"value x"),
+    (b"get a 0", b"none"),
+    (b"rotate", b"rotated 0"),
+    (b"rotate", b"nothing"),
+    (b"get a 1", b"value x"),
+];
+
+const WEAKLY_REMOVED: [Row; 3] = [
+    (b"weak a", b"ok 0"),
+    (b"put a x", b"ok 1"),
+    (b"put a y", b"error 18 OutOfOrder"),
+];
+
+/// Any byte from 33 to 126 makes a word, and the greatest number is a snapshot.
+const EXTREMES: [Row; 3] = [
+    (b"put ! ~", b"ok 0"),
+    (b"get ! 18446744073709551615", b"value ~"),
+    (b"get ~ 0", b"none"),
+];
+
+const GOES_ON: [Row; 3] = [
+    (b"get a", b"none"),
+    (b"", b"error 0 Usage"),
+    (b"rotate", b"nothing"),
+];
+
+const LISTED: [Row; 11] = [
+    (b"put a 1", b"ok 0"),
+    (b"put b 2", b"ok 1"),
+    (b"put c 3", b"ok 2"),
+    (b"range a c", b"a 1\nb 2\nend 2"),
+    (b"range c a", b"end 0"),
+    (b"range - - 1", b"a 1\nend 1"),
+    (b"range b -", b"b 2\nc 3\nend 2"),
+    (b"range - b", b"a 1\nend 1"),
+    (b"prefix -", b"a 1\nb 2\nc 3\nend 3"),
+    (b"prefix b", b"b 2\nend 1"),
+    (b"prefix - 1", b"a 1\nend 1"),
+];
+
+/// Lines that ask nothing.
+const OTHERS: [&[u8]; 25] = [
+    b"",
+    b" ",
+    b"put a",
+    b"put a x y",
+    b"put a \x80",
+    b"put a \x7f",
+    b"put a\tx",
+    b"del",
+    b"del a b",
+    b"weak",
+    b"get",
+    b"get  a",
+    b"get a ",
+    b"get a\r",
+    b"get a 18446744073709551616",
+    b"get a 01",
+    b"get a +5",
+    b" rotate",
+    b"rotate x",
+    b"Rotate",
+    b"prefix",
+    b"prefix a 01",
+    b"range a",
+    b"range a c 01",
+    b"range a c 1 2",
+];
+
+/// Whether a run prints this, writes that to the errors, and ends with the status.
+fn ends<R: Threads + Wait + Sync, I: Read + Drop>(
+    rt: &R,
+    alloc: Global,
+    arguments: Option<&[String]>,
+    input: I,
+    told: (&[u8], &[u8], u8),
+) -> bool {
+    let mut printed = Vec::new(alloc);
+    let mut errors = Vec::new(alloc);
+    let status = run_shell(rt, alloc, arguments, input, &mut printed, &mut errors);
+    printed.as_slice() == told.0 && errors.as_slice() == told.1 && status == told.2
+}
+
+/// Whether a run without arguments prints this for the input, and ends with 0.
+fn prints<R: Threads + Wait + Sync>(rt: &R, alloc: Global, input: &[u8], printed: &[u8]) -> bool {
+    ends(rt, alloc, Some(&[]), input, (printed, b"", 0))
+}
+
+/// Appends a line with its end.
+fn push_line(text: &mut Vec<u8>, line: &[u8]) -> Result<(), AllocError> {
+    text.extend_from_slice(line)?;
+    text.extend_from_slice(b"\n")
+}
+
+/// Whether a run prints for each line what its row says.
+fn answers<R: Threads + Wait + Sync>(
+    rt: &R,
+    alloc: Global,
+    rows: &[Row],
+) -> Result<bool, AllocError> {
+    let mut input = Vec::new(alloc);
+    let mut printed = Vec::new(alloc);
+    for (line, answer) in rows {
+        push_line(&mut input, line)?;
+        push_line(&mut printed, answer)?;
+    }
+    Ok(prints(rt, alloc, &input, &printed))
+}
 
 #[test]
 fn answers_lines(rt: HostRuntime) -> Result<(), Fail> {
-    let table: [(&[u8], &[u8]); 6] = [
-        (b"", b""),
-        (
-            REMOVED,
-            b"ok 0\nvalue x\nok 1\nnone\nvalue x\nnone\nrotated 0\nnothing\nvalue x\n",
-        ),
-        (
-            b"weak a\nput a x\nput a y\n",
-            b"ok 0\nok 1\nerror 18 OutOfOrder\n",
-        ),
-        // The last line has no end.
-        (b"put a x\nget a", b"ok 0\nvalue x\n"),
-        // Any byte from 33 to 126 makes a word, and the greatest number is a snapshot.
-        (
-            b"put ! ~\nget ! 18446744073709551615\nget ~ 0\n",
-            b"ok 0\nvalue ~\nnone\n",
-        ),
-        (b"get a\n\nrotate\n", b"none\nerror 0 Usage\nnothing\n"),
+    let tables = [
+        REMOVED.as_slice(),
+        WEAKLY_REMOVED.as_slice(),
+        EXTREMES.as_slice(),
+        GOES_ON.as_slice(),
+        LISTED.as_slice(),
     ];
-    for (lines, wanted) in table {
-        let mut printed = Vec::new(rt.alloc());
-        let mut errors = Vec::new(rt.alloc());
-        let status = run_shell(&rt, rt.alloc(), Some(&[]), lines, &mut printed, &mut errors);
-        assert_eq!(rt; printed.as_slice(), wanted);
-        assert_eq!(rt; (status, errors.len()), (0, 0));
+    for (number, rows) in tables.iter().enumerate() {
+        assert!(rt; answers(&rt, rt.alloc(), rows)?, "table {number}");
     }
+    for line in OTHERS {
+        assert!(rt;
+            answers(&rt, rt.alloc(), &[(line, b"error 0 Usage")])?,
+            "at {line:?}"
+        );
+    }
+    assert!(rt; prints(&rt, rt.alloc(), b"", b""));
+    // The last line has no end.
+    assert!(rt; prints(&rt, rt.alloc(), b"put a x\nget a", b"ok 0\nvalue x\n"));
     Ok(())
 }
 
@@ -54,111 +161,8 @@ fn answers_long_lines(rt: HostRuntime) -> Result<(), Fail> {
     let mut wanted = Vec::from_slice(rt.alloc(), b"error 10 KeyTooLong\nok 0\nvalue ")?;
     wanted.extend_from_slice(&long)?;
     wanted.push(b'\n')?;
-    let mut printed = Vec::new(rt.alloc());
-    let mut errors = Vec::new(rt.alloc());
-    let input = lines.as_slice();
-    let status = run_shell(&rt, rt.alloc(), Some(&[]), input, &mut printed, &mut errors);
-    assert!(rt; printed.as_slice() == wanted.as_slice());
-    assert_eq!(rt; (status, errors.len()), (0, 0));
+    assert!(rt; prints(&rt, rt.alloc(), &lines, &wanted));
     Ok(())
-}
-
-#[test]
-fn refuses_other_lines(rt: HostRuntime) -> Result<(), Fail> {
-    let lines: [&[u8]; 20] = [
-        b"",
-        b" ",
-        b"put a",
-        b"put a x y",
-        b"put a \x80",
-        b"put a \x7f",
-        b"put a\tx",
-        b"del",
-        b"del a b",
-        b"weak",
-        b"get",
-        b"get  a",
-        b"get a ",
-        b"get a\r",
-        b"get a 18446744073709551616",
-        b"get a 01",
-        b"get a +5",
-        b" rotate",
-        b"rotate x",
-        b"Rotate",
-    ];
-    for line in lines {
-        let mut printed = Vec::new(rt.alloc());
-        let mut errors = Vec::new(rt.alloc());
-        let status = run_shell(
-            &rt,
-            rt.alloc(),
-            Some(&[]),
-            line.chain(b"\n".as_slice()),
-            &mut printed,
-            &mut errors,
-        );
-        assert_eq!(rt;
-            printed.as_slice(),
-            b"error 0 Usage\n".as_slice(),
-            "at {line:?}"
-        );
-        assert_eq!(rt; (status, errors.len()), (0, 0));
-    }
-    Ok(())
-}
-
-const PUT_THREE: &[u8] = b"put a 1\nput b 2\nput c 3\n";
-
-/// Whether lines behind those of `PUT_THREE` are answered so.
-fn answers<R: Threads + Wait + Sync>(rt: &R, alloc: Global, lines: &[u8], wanted: &[u8]) -> bool {
-    let mut printed = Vec::new(alloc);
-    let mut errors = Vec::new(alloc);
-    let input = PUT_THREE.chain(lines);
-    let status = run_shell(rt, alloc, Some(&[]), input, &mut printed, &mut errors);
-    let told = printed
-        .as_slice()
-        .strip_prefix(b"ok 0\nok 1\nok 2\n".as_slice());
-    status == 0 && errors.is_empty() && told == Some(wanted)
-}
-
-#[test]
-fn lists_ranges(rt: HostRuntime) {
-    let alloc = rt.alloc();
-    assert!(rt; answers(&rt, alloc, b"range a c\n", b"a 1\nb 2\nend 2\n"));
-    assert!(rt; answers(&rt, alloc, b"range c a\n", b"end 0\n"));
-    assert!(rt; answers(&rt, alloc, b"range - - 1\n", b"a 1\nend 1\n"));
-    assert!(rt;
-        answers(
-            &rt,
-            alloc,
-            b"range b -\nrange - b\n",
-            b"b 2\nc 3\nend 2\na 1\nend 1\n"
-        )
-    );
-}
-
-#[test]
-fn lists_prefixes(rt: HostRuntime) {
-    let alloc = rt.alloc();
-    assert!(rt; answers(&rt, alloc, b"prefix -\n", b"a 1\nb 2\nc 3\nend 3\n"));
-    assert!(rt; answers(&rt, alloc, b"prefix b\n", b"b 2\nend 1\n"));
-    assert!(rt; answers(&rt, alloc, b"prefix - 1\n", b"a 1\nend 1\n"));
-}
-
-#[test]
-fn refuses_other_prefixes(rt: HostRuntime) {
-    let alloc = rt.alloc();
-    assert!(rt; answers(&rt, alloc, b"prefix\n", b"error 0 Usage\n"));
-    assert!(rt; answers(&rt, alloc, b"prefix a 01\n", b"error 0 Usage\n"));
-}
-
-#[test]
-fn refuses_other_ranges(rt: HostRuntime) {
-    let alloc = rt.alloc();
-    assert!(rt; answers(&rt, alloc, b"range a\n", b"error 0 Usage\n"));
-    assert!(rt; answers(&rt, alloc, b"range a c 01\n", b"error 0 Usage\n"));
-    assert!(rt; answers(&rt, alloc, b"range a c 1 2\n", b"error 0 Usage\n"));
 }
 
 /// The arguments between single spaces, none for an empty text.
@@ -172,73 +176,34 @@ fn arguments_of(alloc: Global, text: &str) -> Result<Vec<String>, AllocError> {
     Ok(words)
 }
 
-#[test]
-fn takes_no_other_arguments(rt: HostRuntime) -> Result<(), Fail> {
-    let lines = [
-        "folder",
-        "threads",
-        "threads 0",
-        "threads 65",
-        "threads 02",
-        "threads +2",
-        "threads 2 3",
-        "Threads 2",
-    ];
-    for line in lines {
-        let arguments = arguments_of(rt.alloc(), line)?;
-        refuses_arguments(&rt, rt.alloc(), Some(&arguments));
-    }
-    refuses_arguments(&rt, rt.alloc(), None);
-    Ok(())
-}
-
-fn refuses_arguments<R: Abort + Threads + Wait + Sync>(
-    rt: &R,
-    alloc: Global,
-    arguments: Option<&[String]>,
-) {
-    let mut printed = Vec::new(alloc);
-    let mut errors = Vec::new(alloc);
-    let status = run_shell(rt, alloc, arguments, REMOVED, &mut printed, &mut errors);
-    assert_eq!(rt;
-        errors.as_slice(),
-        b"usage: lsm_shell [threads N]\n".as_slice()
-    );
-    assert_eq!(rt; (status, printed.len()), (2, 0));
-}
+/// What is told of arguments that ask nothing.
+const USAGE: (&[u8], &[u8], u8) = (b"", b"usage: lsm_shell [threads N]\n", 2);
 
 #[test]
-fn callers_share_a_tree(rt: HostRuntime) -> Result<(), Fail> {
-    let table: [(&str, &[u8]); 3] = [
-        ("threads 1", b"threads 1 entries 20 all equal\n"),
-        ("threads 2", b"threads 2 entries 40 all equal\n"),
-        ("threads 4", b"threads 4 entries 80 all equal\n"),
+fn takes_arguments(rt: HostRuntime) -> Result<(), Fail> {
+    let table: [(&str, (&[u8], &[u8], u8)); 11] = [
+        ("threads 1", (b"threads 1 entries 20 all equal\n", b"", 0)),
+        ("threads 2", (b"threads 2 entries 40 all equal\n", b"", 0)),
+        ("threads 4", (b"threads 4 entries 80 all equal\n", b"", 0)),
+        ("folder", USAGE),
+        ("threads", USAGE),
+        ("threads 0", USAGE),
+        ("threads 65", USAGE),
+        ("threads 02", USAGE),
+        ("threads +2", USAGE),
+        ("threads 2 3", USAGE),
+        ("Threads 2", USAGE),
     ];
-    for (line, wanted) in table {
+    let input = b"put a x\nget a\n".as_slice();
+    for (line, told) in table {
         let arguments = arguments_of(rt.alloc(), line)?;
-        prints_for_arguments(&rt, rt.alloc(), &arguments, wanted);
+        assert!(rt;
+            ends(&rt, rt.alloc(), Some(&arguments), input, told),
+            "at {line}"
+        );
     }
+    assert!(rt; ends(&rt, rt.alloc(), None, input, USAGE));
     Ok(())
-}
-
-fn prints_for_arguments<R: Abort + Threads + Wait + Sync>(
-    rt: &R,
-    alloc: Global,
-    arguments: &[String],
-    wanted: &[u8],
-) {
-    let mut printed = Vec::new(alloc);
-    let mut errors = Vec::new(alloc);
-    let status = run_shell(
-        rt,
-        alloc,
-        Some(arguments),
-        REMOVED,
-        &mut printed,
-        &mut errors,
-    );
-    assert_eq!(rt; printed.as_slice(), wanted);
-    assert_eq!(rt; (status, errors.len()), (0, 0));
 }
 
 /// Gives these bytes, and then fails.
@@ -269,24 +234,22 @@ impl Write for BrokenOutput {
 }
 
 #[test]
-fn ends_at_a_fault(rt: HostRuntime) -> Result<(), Fail> {
-    let mut printed = Vec::new(rt.alloc());
-    let mut errors = Vec::new(rt.alloc());
+fn ends_at_a_fault(rt: HostRuntime) {
     let input = BrokenInput(b"put a x\nget a\nget");
-    let status = run_shell(&rt, rt.alloc(), Some(&[]), input, &mut printed, &mut errors);
-    assert_eq!(rt; printed.as_slice(), b"ok 0\nvalue x\n".as_slice());
-    assert_eq!(rt; (status, errors.len()), (1, 0));
-
-    let status = run_shell(
-        &rt,
-        rt.alloc(),
-        Some(&[]),
-        REMOVED,
-        BrokenOutput,
-        &mut errors,
+    assert!(rt;
+        ends(
+            &rt,
+            rt.alloc(),
+            Some(&[]),
+            input,
+            (b"ok 0\nvalue x\n", b"", 1)
+        )
     );
+
+    let mut errors = Vec::new(rt.alloc());
+    let input = b"put a x\nget a\n".as_slice();
+    let status = run_shell(&rt, rt.alloc(), Some(&[]), input, BrokenOutput, &mut errors);
     assert_eq!(rt; (status, errors.len()), (1, 0));
-    Ok(())
 }
 
 /// Says two lines, then one, and then nothing, each time only once the answers to the earlier ones

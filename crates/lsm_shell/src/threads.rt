@@ -1,7 +1,6 @@
 // Callers in threads of their own, on one tree.
 use lsm_below::UserKey;
-use lsm_model::Op;
-use lsm_tree::{Config, Error, Handle, Pass, Recorded, RecordedTree};
+use lsm_tree::{Config, Error, Handle, Op, Pass, Recorded, RecordedTree};
 use std::alloc::{AllocError, Global};
 use std::sync::Wait;
 use std::thread::{self, Threads};
