@@ -1,5 +1,6 @@
 // The theorems of the theory, each as the contract of a function that does nothing.
 ghost use Rattle.lsm_model.specs.Steps.{EveryRunReadsRight, StepsSpareAnswers};
+ghost use Rattle.lsm_model.specs.Laws.{HoldsIsKept, HoldingReadsRight, HoldingSpares, MapsAreRead, PartsAreWhole};
 ghost use Rattle.lsm_model.specs.Views.{ReorderedIsRearranged, LevelsRise};
 ghost use Rattle.lsm_model.specs.Counted.{CountedIsInOrder};
 ghost use Rattle.lsm_model.specs.Beginnings.{EveryCrashRecovers, EachDeedRecovers, EveryDeedReadsRight, BeginningsAnswer, DeedsJoin, DeedsSplit, CoverLasts, OpeningStarts, ShownAbove, AnyNumberOfCrashes};
@@ -73,4 +74,29 @@ pub fn joined_runs_show_the_same()
 /// The tables of all levels, level after level, are by rising level.
 pub fn levels_rise()
     ensures { LevelsRise }
+{}
+
+/// What holds of an opened tree is kept by each step, and by a run of them.
+pub fn holds_is_kept()
+    ensures { HoldsIsKept }
+{}
+
+/// Where it holds, reads equal the replay.
+pub fn holding_reads_right()
+    ensures { HoldingReadsRight }
+{}
+
+/// Where it holds, steps spare the answers that they are to spare.
+pub fn holding_spares()
+    ensures { HoldingSpares }
+{}
+
+/// Maps are read key by key.
+pub fn maps_are_read()
+    ensures { MapsAreRead }
+{}
+
+/// Sequence numbers are below the next one, sources are entries, and a front of a journal in order is in order.
+pub fn parts_are_whole()
+    ensures { PartsAreWhole }
 {}
