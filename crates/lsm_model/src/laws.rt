@@ -1,5 +1,6 @@
 // The theorems of the theory, each as the contract of a function that does nothing.
 ghost use Rattle.lsm_model.specs.Steps.{EveryRunReadsRight, StepsSpareAnswers};
+ghost use Rattle.lsm_model.specs.Laws.{MapsAreRead, PartsAreWhole};
 ghost use Rattle.lsm_model.specs.Views.{ReorderedIsRearranged, LevelsRise};
 ghost use Rattle.lsm_model.specs.Counted.{CountedIsInOrder};
 ghost use Rattle.lsm_model.specs.Soundness.{Soundness};
@@ -79,4 +80,14 @@ pub fn joined_runs_show_the_same()
 /// The tables of all levels, level after level, are by rising level.
 pub fn levels_rise()
     ensures { LevelsRise }
+{}
+
+/// Maps are read key by key.
+pub fn maps_are_read()
+    ensures { MapsAreRead }
+{}
+
+/// Sequence numbers are below the next one, and sources are entries.
+pub fn parts_are_whole()
+    ensures { PartsAreWhole }
 {}

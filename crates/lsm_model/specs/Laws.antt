@@ -1,0 +1,19 @@
+-- What follows for maps, keys and sources: each the contract of a function in `laws.rt`.
+use Rattle.std.specs.Prelude.{◌≡◌, ℕ, ◌<◌, true, List, flat_map, if◌then◌else◌}
+use Rattle.std.specs.List.{AllByRecursion}
+use Rattle.std.specs.FinMap.{get}
+use Rattle.lsm_below.specs.Keys.{Bytes, is_same}
+use Rattle.lsm_below.specs.Entries.{Entry, above, stack, value_of}
+use Rattle.lsm_model.specs.Journal.{Map, changed}
+use Rattle.lsm_model.specs.Views.{Memtables, SuperVersion, entries, map_of, seen, sources}
+
+-- maps are read key by key, and a key is its bytes
+pub record MapsAreRead : Type 0 where
+  pub same_key : (k q : Bytes) → is_same k q ≡ true → k ≡ q
+  pub changed : (m : Map) (e : Entry) (k : Bytes) → get (changed m e) k ≡ (if is_same k e.key.user_key then value_of e else get m k)
+  pub map_of : (k : Bytes) (s : ℕ) (es : List Entry) → get (map_of s es) k ≡ seen s (stack k es)
+
+-- all entries are below `above`, and the sources of a super version are its entries
+pub record PartsAreWhole : Type 0 where
+  pub below : (es : List Entry) → AllByRecursion (λ e. e.key.seqno < above es) es
+  pub whole : (mems : Memtables) (sv : SuperVersion) → flat_map (λ (es : List Entry). es) (sources mems sv) ≡ entries mems sv
