@@ -155,10 +155,6 @@ module _ {T : Type 0} (range : T → Range) where
   run_front x [] v b h = (v, tt, tt)
   run_front x (y ∷ ys) v b h = (v, (b, each_weaker (λ z. is_below (range y).max (range z).min ≡ true) (λ z. is_below (range x).max (range z).min ≡ true) (λ z l. below_trans (range x).max (range y).max (range z).min (below_then_upto (range x).max (range y).min (range y).max b (range_ends (range y) h.0)) l) ys h.1), h)
 
-  pub front_of_run : (x : T) (xs : List T) → IsRun range (x ∷ xs) → starts_behind range (range x) xs ≡ true
-  front_of_run x [] h = refl
-  front_of_run x (y ∷ ys) h = h.1.0
-
   pub run_whole : (xs : List T) (x : T) → 0 < length xs → x ≡ get_or xs 0 x → IsRange (range x) → starts_behind range (range x) (drop 1 xs) ≡ true → IsRun range (drop 1 xs) → IsRun range xs
   run_whole [] x some read v b h = absurd (omega arith)
   run_whole (y ∷ ys) x some read v b h = subst (λ z. IsRun range (z ∷ ys)) read (run_front x ys v b h)

@@ -9,11 +9,11 @@ use Rattle.lsm_below.specs.declared.value.InternalValue.{InternalValue}
 use Rattle.lsm_below.specs.declared.value_type.ValueType.{ValueType}
 use Rattle.lsm_below.specs.declared.value_type.ValueType.TheVariants.{Value, Tombstone, WeakTombstone}
 
--- an entry: a key with its number and type, and a value
+-- an entry: a key with its sequence number and type, and a value
 abbrev pub Entry : Type 0
 Entry = InternalValue
 
--- the order of keys: user keys rise, and under one key the numbers fall
+-- the order of keys: user keys rise, and under one key the sequence numbers fall
 abbrev pub key_cmp : InternalKey → InternalKey → Ordering
 key_cmp = then_cmp (on (λ k. k.user_key) bytes_cmp) (flip_args (on (λ k. k.seqno) nat_cmp))
 
@@ -98,7 +98,7 @@ abbrev pub values : List Entry → ℕ
 values [] = 0
 values (e ∷ es) = (if is_value e then 1 else 0) + values es
 
--- the least number above all of these
+-- the least sequence number above all of these
 abbrev pub above : List Entry → ℕ
 above [] = 0
 above (e ∷ es) = max (e.key.seqno + 1) (above es)
@@ -108,26 +108,26 @@ abbrev pub later : Entry → Option Entry → Option Entry
 later e None = Some e
 later e (Some f) = if nat_lt e.key.seqno f.key.seqno then Some f else Some e
 
--- the entry of a key with the greatest number below the snapshot, in any order of the list
+-- the entry of a key with the greatest sequence number below the snapshot, in any order of the list
 abbrev pub top : Bytes → ℕ → List Entry → Option Entry
 top k s [] = None
 top k s (e ∷ es) = if is_same k e.key.user_key && nat_lt e.key.seqno s then later e (top k s es) else top k s es
 
--- numbers fall from each entry to all behind it
+-- sequence numbers fall from each entry to all after it
 abbrev pub IsFalling : List Entry → Type 0
 IsFalling [] = Unit {0}
 IsFalling (e ∷ es) = AllByRecursion (λ f. f.key.seqno < e.key.seqno) es × IsFalling es
 
--- for each key all numbers in an earlier source are above those in a later one, and fall within each
+-- for each key all sequence numbers in an earlier source are above those in a later one, and fall within each
 abbrev pub IsOrdered : List (List Entry) → Type 0
 IsOrdered sources = (k : Bytes) → IsFalling (stack k (flat_map (λ es. es) sources))
 
--- no weak tombstone has two values behind it
+-- no weak tombstone has two values after it
 abbrev pub IsSingle : List Entry → Type 0
 IsSingle [] = Unit {0}
 IsSingle (e ∷ es) = (is_weak e ≡ true → values es ≤ 1) × IsSingle es
 
--- what a compaction keeps of one key's entries, by falling number
+-- what a compaction keeps of one key's entries, by falling sequence number
 abbrev pub keep : ℕ → Bool → List Entry → List Entry
 keep w evict [] = []
 keep w evict (e ∷ []) = if evict && (is_del e || is_weak e) then [] else e ∷ []

@@ -17,7 +17,7 @@ abbrev pub is_free : {T : Type 0} → (T → Range) → Range → List T → Boo
 is_free range r [] = true
 is_free range r (x ∷ xs) = not (overlap (range x) r) && is_free range r xs
 
--- the runs with t in the run behind the last one that has an overlapping table
+-- the runs with t in the run after the last one that has an overlapping table
 abbrev pub placed : {T : Type 0} → (T → Range) → T → List (List T) → List (List T)
 placed range t [] = (t ∷ []) ∷ []
 placed range t (r ∷ rs) = if is_free range (range t) (tables_of (r ∷ rs)) then (put range t r ∷ rs) else (r ∷ placed range t rs)
@@ -29,7 +29,7 @@ pub record IsPlaced {T : Type 0} (range : T → Range) (done : List T) (runs : L
   pub keys : IsRearranged range done (tables_of runs)
   pub joined : EachPair (λ x y. overlap (range x) (range y) ≡ false) done → length runs ≤ 1
 
--- does the first table begin behind a range?
+-- does the first table begin after a range ends?
 abbrev pub starts_behind : {T : Type 0} → (T → Range) → Range → List T → Bool
 starts_behind range r [] = true
 starts_behind range r (x ∷ xs) = is_below r.max (range x).min

@@ -24,7 +24,7 @@ pub record KeysAreOrdered : Type 0 where
   pub range : (r : Range) → is_below r.max r.min ≡ false → IsRange r
   pub in_range : (k : Bytes) (r : Range) → is_below k r.min ≡ false → is_below r.max k ≡ false → in_range k r ≡ true
 
--- entries are ordered, by user key and under one key by falling number
+-- entries are ordered, by user key and under one key by falling sequence number
 pub record EntriesAreOrdered : Type 0 where
   pub total : IsTotalOrder entry_cmp
   pub rises : (es : List Entry) (i j : ℕ) (d : Entry) → Rises entry_cmp es → i < j → j < length es → entry_cmp (slice_index_or es i d) (slice_index_or es j d) ≡ Less

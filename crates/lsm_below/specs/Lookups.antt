@@ -8,22 +8,22 @@ use Rattle.lsm_below.specs.Keys.{Bytes, bytes_cmp}
 use Rattle.lsm_below.specs.Sorted.{by_ordering}
 use Rattle.lsm_below.specs.Entries.{Entry}
 
--- has the entry this key, and a number below the snapshot?
+-- has the entry this key, and a sequence number below the snapshot?
 abbrev pub is_visible : Bytes → ℕ → Entry → Bool
 is_visible key snapshot e = cond (is_eq (bytes_cmp e.key.user_key key)) (nat_lt e.key.seqno snapshot) false
 
--- does the entry stand before each entry of the key that is numbered below this?
+-- does the entry come before each entry of the key with a sequence number below this?
 abbrev pub stands_before : Bytes → ℕ → Entry → Bool
 stands_before key number e = by_ordering (bytes_cmp e.key.user_key key) true (nat_le number e.key.seqno) false
 
--- e is the entry of the key with the greatest number below the snapshot
+-- e is the entry of the key with the greatest sequence number below the snapshot
 pub record IsTop (entries : List Entry) (key : Bytes) (snapshot : ℕ) (e : Entry) : Type 0 where
   pub there : Contains entries e
   pub key_is : e.key.user_key ≡ key
   pub below : e.key.seqno < snapshot
   pub greatest : (f : Entry) → Contains entries f → f.key.user_key ≡ key → f.key.seqno < snapshot → f.key.seqno ≤ e.key.seqno
 
--- no entry of the key is numbered below the snapshot
+-- no entry of the key has a sequence number below the snapshot
 abbrev pub HasNone : List Entry → Bytes → ℕ → Type 0
 HasNone entries key snapshot = (f : Entry) → Contains entries f → f.key.user_key ≡ key → f.key.seqno < snapshot → ⊥
 

@@ -34,7 +34,7 @@ head_before None g = false
 head_before (Some e) None = true
 head_before (Some e) (Some f) = is_before e f
 
--- what stands in the hand and behind it
+-- a pending entry and what comes after it
 abbrev pub all_of : Option Entry → List Entry → List Entry
 all_of head es = option_to_list head ++ es
 
@@ -46,7 +46,7 @@ rest_of over es = cond over ended (record { entries = es; over = false })
 abbrev pub same_key : Entry → Entry → Bool
 same_key e f = is_of e.key.user_key f
 
--- whether f only repeats e: its key, or also its number
+-- whether f only repeats e: its key, or also its sequence number
 abbrev pub is_repeat : Bool → Entry → Entry → Bool
 is_repeat numbers e f = same_key e f && (not numbers || nat_eq e.key.seqno f.key.seqno)
 

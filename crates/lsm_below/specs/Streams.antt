@@ -21,7 +21,7 @@ pub Ascends-prop : {X : Type 0} (R : X → X → Ordering) (xs : List X) → IsP
 Ascends-prop R [] = Unit-prop
 Ascends-prop R (x ∷ xs) = ×_prop (AllByRecursion-prop _ (λ y. Bool-set _ _) xs) (Ascends-prop R xs)
 
--- keys rise, and under one key the numbers fall; entries of one key and number may stand side by side
+-- keys rise, and under one key the sequence numbers fall; entries of one key and sequence number may stand side by side
 abbrev pub IsInOrder : List Entry → Type 0
 IsInOrder es = Ascends entry_cmp es
 
@@ -45,16 +45,16 @@ first_of es = take 1 es
 
 -- ---- what a compaction keeps
 
--- of entries with equal numbers the first that comes
+-- of entries with equal sequence numbers the first that comes
 abbrev pub distinct : List Entry → List Entry
 distinct [] = []
 distinct (e ∷ es) = e ∷ filter (λ f. not (nat_eq e.key.seqno f.key.seqno)) (distinct es)
 
--- whether an entry goes that has nothing behind it
+-- whether an entry is dropped that has no older one of its key after it
 abbrev pub goes_alone : Bool → Entry → Bool
 goes_alone evict e = evict && (is_del e || is_weak e)
 
--- whether e goes, where f behind it is below the watermark
+-- whether e is dropped, where the next one, f, is below the watermark
 abbrev pub goes_with : Bool → Entry → Entry → Bool
 goes_with evict e f = evict && is_del e || is_weak e && is_value f
 
@@ -62,11 +62,11 @@ goes_with evict e f = evict && is_del e || is_weak e && is_value f
 abbrev pub unless : Bool → Entry → List Entry
 unless goes e = cond goes [] (e ∷ [])
 
--- what a compaction keeps of one key's entries, where numbers may be equal
+-- what a compaction keeps of one key's entries, where sequence numbers may be equal
 abbrev pub keep_distinct : ℕ → Bool → List Entry → List Entry
 keep_distinct w evict es = keep w evict (distinct es)
 
--- what a compaction keeps of lists, whatever their numbers: of each key, what is kept of some merge of all entries
+-- what a compaction keeps of lists, whatever the sequence numbers: of each key, what is kept of some merge of all entries
 pub record KeepsOfMerge (w : ℕ) (evict : Bool) (lists : List (List Entry)) (out : List Entry) : Type 0 where
   pub merged : List Entry
   pub merges : Merges lists merged

@@ -42,7 +42,7 @@ answer_of Done = Ok tt
 answer_of Fails = Err Failed
 answer_of FailsDone = Err Failed
 
--- the plan behind one call more
+-- the plan after one call more
 abbrev pub MovesOn : Plan → Plan → Type 0
 MovesOn old new = (n : ℕ) → 1 ≤ n → outcome_at new n ≡ outcome_at old (n + 1)
 

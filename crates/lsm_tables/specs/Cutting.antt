@@ -8,7 +8,7 @@ use Rattle.lsm_below.specs.Slots.{same_key}
 use Rattle.lsm_below.specs.Optimizes.{EachPair}
 use Rattle.lsm_tables.specs.Image.{Fits, IsTable, image, entry_bytes}
 
--- what may be cut into tables: entries that rise and fit an image
+-- what may be cut into tables: entries that rise and fit a table's file
 pub record IsWritable (es : List Entry) : Type 0 where
   pub each : AllByRecursion Fits es
   pub rises : Rises entry_cmp es
@@ -27,7 +27,7 @@ IsFilled target (t ∷ (u ∷ tables)) = (target ≤ entry_bytes t) × IsFilled 
 abbrev pub HasNoEarlierEnd : ℕ → List Entry → Type 0
 HasNoEarlierEnd target t = (xs ys : List Entry) (y : Entry) → t ≡ xs ++ y ∷ ys → 0 < length xs → IsApart xs (y ∷ []) → entry_bytes xs < target
 
--- the tables of a list: they hold it, one behind the other; no two have entries of one key; and each ends as soon as it has the target
+-- the tables of a list: they hold it, table after table; no two have entries of one key; and each ends as soon as it has the target
 pub record IsCutting (target : ℕ) (es : List Entry) (tables : List (List Entry)) : Type 0 where
   pub whole : flat_map (λ t. t) tables ≡ es
   pub some : AllByRecursion (λ t. 0 < length t) tables
@@ -35,7 +35,7 @@ pub record IsCutting (target : ℕ) (es : List Entry) (tables : List (List Entry
   pub filled : IsFilled target tables
   pub no_later : AllByRecursion (HasNoEarlierEnd target) tables
 
--- the images of the tables into which a list is cut
+-- the contents of the files of the tables into which a list is cut
 pub record AreImagesOf (target made_at : ℕ) (es : List Entry) (images : List Bytes) : Type 0 where
   pub tables : List (List Entry)
   pub cut : IsCutting target es tables

@@ -1,4 +1,4 @@
--- How the private functions of `image` read an image, from left to right.
+-- How the private functions of `image` read a table's file, from left to right.
 use Rattle.std.specs.Prelude.{◌≡◌, ℕ, zero, suc, ◌+◌, Bool, true, List, [], ◌∷◌, length, take, drop, slice_index, not, ◌&&◌, ◌==◌, nat_lt, Result, Ok, Err, if◌then◌else◌}
 use Rattle.byteorder.specs.Endian.{little_number}
 use Rattle.lsm_below.specs.Keys.{Bytes}

@@ -10,7 +10,7 @@ use Rattle.lsm_tables.specs.Sum.{sum_of}
 use Rattle.lsm_tables.specs.declared.table.counts.Counts.{Counts}
 use Rattle.lsm_tables.specs.declared.table.TableInner.{TableInner}
 
--- a table: its number, when it was made, and its entries
+-- a table: its id, when it was made, and its entries
 pub record SeenTable : Type 0 where
   pub id : ℕ
   pub created_at : ℕ
@@ -30,16 +30,16 @@ last_key (e ∷ (f ∷ es)) = last_key (f ∷ es)
 abbrev pub range_of : List Entry → Range
 range_of es = record { min = first_key es; max = last_key es }
 
--- each entry's key lies in the range
+-- each entry's key is in the range
 abbrev pub IsCovered : List Entry → Range → Type 0
 IsCovered es range = AllByRecursion (λ e. in_range e.key.user_key range ≡ true) es
 
--- the greatest number, 0 where there is no entry
+-- the greatest sequence number, 0 where there is no entry
 abbrev pub greatest : List Entry → ℕ
 greatest [] = 0
 greatest (e ∷ es) = max e.key.seqno (greatest es)
 
--- each entry but the last one, with the entry behind it
+-- each entry but the last one, with the entry after it
 abbrev pub neighbours : List Entry → List (Entry × Entry)
 neighbours [] = []
 neighbours (e ∷ []) = []
