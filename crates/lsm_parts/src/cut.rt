@@ -1,4 +1,4 @@
-// What lies of a source within bounds.
+// The entries of a source in the bounds.
 ghost use Rattle.std.specs.Prelude.{◌≡◌, [], ◌∷◌, filter, nat_lt, MatchOption};
 ghost use Rattle.lsm_below.specs.Entries.{entry_cmp};
 ghost use Rattle.lsm_below.specs.Sorted.{Rises};
@@ -11,7 +11,7 @@ use crate::{Error, Memtable};
 use lsm_below::{InternalValue, SeqNo, Source, UserKey, entries_within};
 use std::ops::Bound;
 
-/// What lies of a source within bounds, of which the entries below a number count.
+/// The entries of a source in the bounds, of which those below a sequence number count.
 /// As a source it gives these, each shared when its turn comes.
 #[derive(Drop)]
 pub(crate) struct Cut<'a> {
@@ -20,7 +20,7 @@ pub(crate) struct Cut<'a> {
     over: bool,
 }
 
-/// The first entry that counts, and what stands behind it.
+/// The first entry that counts, and those after it.
 fn next_counted(
     entries: &[InternalValue],
     below: SeqNo,
@@ -40,7 +40,7 @@ fn next_counted(
 }
 
 impl<'a> Cut<'a> {
-    /// What lies of entries in order within bounds, of which those below a number count.
+    /// Of entries in order those in the bounds, of which those below a sequence number count.
     pub(crate) fn new(
         entries: &'a [InternalValue],
         bounds: &(Bound<UserKey>, Bound<UserKey>),

@@ -1,4 +1,4 @@
-// What an iterator over pairs hands out.
+// What an iterator over pairs returns.
 ghost use Rattle.std.specs.Prelude.{◌≡◌, Some, None, Ok, Err, MatchResult, cond, Bool};
 ghost use Rattle.std.specs.Fn.{FnReturnsAt};
 ghost use Rattle.lsm_parts.specs.Guards.{Item, pair_of, key_of, size_of};
@@ -10,8 +10,8 @@ use std::marker::Model;
 /// A pair, or why there is none.
 pub type RangeItem = Result<KvPair, Error>;
 
-/// What an iterator over pairs hands out: a pair that is looked at as far as it is wanted.
-/// Where there is none, each call answers why.
+/// What an iterator over pairs returns: a pair that is looked at as far as it is wanted.
+/// Where there is none, each call returns why.
 pub trait IterGuard: Drop {
     ghost use Rattle.lsm_parts.specs.Guards.{Item, key_of, size_of};
 

@@ -11,7 +11,7 @@ use std::marker::Model;
 use std::ops::Bound;
 
 /// What an iterator reads: a version of tables, memtables, and maybe a memtable on top that is an index of
-/// its own. The entries of an index count below its own number, all others below the snapshot.
+/// its own. The entries of an index count below its own sequence number, all others below the snapshot.
 #[derive(Drop)]
 pub struct IterState<'a> {
     version: &'a Version,
@@ -28,7 +28,7 @@ impl<'a> Model for IterState<'a> {
 }
 
 impl<'a> IterState<'a> {
-    /// What is read: tables, memtables from the newest, and maybe an index with its own number.
+    /// What is read: tables, memtables from the newest, and maybe an index with its own sequence number.
     pub fn new(
         version: &'a Version,
         memtables: Vec<&'a Memtable>,
@@ -43,7 +43,7 @@ impl<'a> IterState<'a> {
         }
     }
 
-    /// What lies of each source within bounds, the newest source first. Refused only for want of memory.
+    /// The entries of each source in the bounds, the newest source first. Refused only for want of memory.
     pub(crate) fn cuts(
         &self,
         alloc: Global,
@@ -61,7 +61,7 @@ impl<'a> IterState<'a> {
     }
 }
 
-/// Puts what lies of each memtable within bounds behind the cuts that are there.
+/// Appends the entries of each memtable in the bounds to the cuts.
 fn push_memtables<'a>(
     cuts: &mut Vec<Cut<'a>>,
     memtables: &[&'a Memtable],
@@ -77,7 +77,7 @@ fn push_memtables<'a>(
     Ok(())
 }
 
-/// Puts what lies of an index within bounds behind the cuts that are there.
+/// Appends the entries of an index in the bounds to the cuts.
 fn push_overlay<'a>(
     cuts: &mut Vec<Cut<'a>>,
     overlay: Option<(&'a Memtable, SeqNo)>,

@@ -4,14 +4,14 @@
 //! |-|-|
 //! | `error` | what a call refuses, and why |
 //! | `config` | what a tree is opened with |
-//! | `seqno` | the counter of numbers, and which numbers a snapshot sees |
+//! | `seqno` | the counter of sequence numbers, and which of them a snapshot sees |
 //! | `memtable` | a sorted table of entries in memory |
 //! | `version` | versions of tables, super versions and their history |
 //! | `prefix` | the bounds of the keys that begin alike |
-//! | `iter_state`, `cut` | what an iterator reads; what lies of a source within bounds |
+//! | `iter_state`, `cut` | what an iterator reads; the entries of a source in the bounds |
 //! | `tree_iter` | an iterator over what a snapshot shows, from both ends |
 //! | `shown_ends` | the first and the last entry that a snapshot shows, and how many there are, without a list |
-//! | `guard` | what an iterator over pairs hands out |
+//! | `guard` | what an iterator over pairs returns |
 //! | `laws` | what the list of what is shown is in the theory's words |
 #![tactic(auto)]
 

@@ -16,8 +16,18 @@ use std::marker::Model;
 use std::ops::Bound;
 use std::slice::Iter;
 
-/// Entries by rising key, and under one key by falling number, of which each stands once.
-/// It takes any number, and any key and value.
+/// A sorted table of entries in memory: by rising key, and under one key by falling sequence number, of which
+/// each stands once. It takes any sequence number, and any key and value.
+///
+/// `get` is logarithmic; `insert` searches so too, and moves the entries after it.
+///
+/// # Examples
+///
+/// ```text
+/// let mut memtable = Memtable::new(alloc, 0);
+/// let (bytes, size) = memtable.insert(entry)?;
+/// let newest = memtable.get(b"key", snapshot);
+/// ```
 #[derive(Drop)]
 pub struct Memtable {
     id: MemtableId,
@@ -25,7 +35,7 @@ pub struct Memtable {
     flagged: bool,
 }
 
-/// The entries, the sizes of all accepted inserts, and the greatest number.
+/// The entries, the sizes of all accepted inserts, and the greatest sequence number.
 #[derive(Drop)]
 struct Content {
     entries: Vec<InternalValue>,
@@ -55,7 +65,7 @@ fn size_of_entry(entry: &InternalValue) -> u64
         .saturating_add(ENTRY_OVERHEAD)
 }
 
-/// Puts an entry in its place, over one of the same key and number. There is room.
+/// Puts an entry in its place, over one of the same key and sequence number. There is room.
 fn put_entry(entries: &mut Vec<InternalValue>, entry: InternalValue)
     requires sorted { Rises entry_cmp entries.old.items }
     requires room { vec_len entries.old < vec_capacity entries.old }
@@ -121,14 +131,14 @@ impl Memtable {
         let _ = &self.id;
     }
 
-    /// The memtable's number.
+    /// The memtable's id.
     pub fn id(&self) -> MemtableId
         ensures { result ≡ self.now.id }
     {
         self.id
     }
 
-    /// The entry of a key with the greatest number below the snapshot. None only where there is none.
+    /// The entry of a key with the greatest sequence number below the snapshot. None only where there is none.
     pub fn get(&self, key: &[u8], snapshot: SeqNo) -> Option<&InternalValue>
         ensures is { option_copied result ≡ top key.now snapshot self.now.entries }
         ensures greatest { IfSome result (λ e. IsTop self.now.entries key.now snapshot e.now) }
@@ -152,7 +162,7 @@ impl Memtable {
         &self.content.entries
     }
 
-    /// The entries in order whose keys lie within the bounds. There is none where the lower one is above the upper one.
+    /// The entries in the bounds, in order. There is none where the lower bound is above the upper one.
     pub fn range(&self, bounds: &(Bound<UserKey>, Bound<UserKey>)) -> Iter<'_, InternalValue>
         ensures { iter_rest result ≡ within bounds.now.0 bounds.now.1 self.now.entries }
     {
@@ -181,7 +191,7 @@ impl Memtable {
         self.content.entries.is_empty()
     }
 
-    /// The greatest number, None where there is no entry.
+    /// The greatest sequence number, None where there is no entry.
     pub fn get_highest_seqno(&self) -> Option<SeqNo>
         ensures { result ≡ highest_of self.now.entries }
     {
@@ -202,8 +212,8 @@ impl Memtable {
         self.flagged = true;
     }
 
-    /// Puts an entry in its place, over one of the same key and number, its type too.
-    /// Answers the bytes that it counts, and those of all inserts so far.
+    /// Puts an entry in its place, over one of the same key and sequence number, its type too.
+    /// Returns the bytes that it counts, and those of all inserts so far.
     /// Refused only for want of memory, and then nothing changes.
     pub fn insert(&mut self, item: InternalValue) -> Result<(u64, u64), Error>
         ensures sizes { IfOk result (λ r. (r.0 ≡ entry_size item) × (r.1 ≡ self.new.size)) }
@@ -218,7 +228,7 @@ impl Memtable {
         Ok((added, self.content.size))
     }
 
-    /// Puts each entry of a batch in its place, in turn, over one of the same key and number.
+    /// Puts each entry of a batch in its place, in turn, over one of the same key and sequence number.
     /// Refused only for want of memory, and then nothing changes.
     pub fn insert_all(&mut self, batch: Vec<InternalValue>) -> Result<(), Error>
         ensures ok { OnOk result (self.new ≡ with_entries batch.items self.old) }

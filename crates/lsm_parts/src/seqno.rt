@@ -1,14 +1,21 @@
-// The counter of numbers, and which numbers a snapshot sees.
+// The counter of sequence numbers, and which of them a snapshot sees.
 ghost use Rattle.std.specs.Prelude.{◌≡◌, ◌+◌, ◌<◌, ◌≤◌, ◌↔◌, max, nat_lt, IfOk, IfErr, OnOk, OnErr, IsErrOf};
 
 use crate::Error;
 use lsm_below::SeqNo;
 use std::marker::Model;
 
-/// No counter gives this number or a greater one, and no write has it.
+/// No counter gives this number or a greater one, and no write has it: 2^63.
 pub const LIMIT: SeqNo = 9_223_372_036_854_775_808;
 
-/// A counter of numbers: the next one that it gives.
+/// A counter of sequence numbers: the next one that it gives.
+///
+/// # Examples
+///
+/// ```text
+/// let mut counter = SequenceNumberCounter::new(5);
+/// let number = counter.next()?; // 5, and the counter stands at 6
+/// ```
 #[derive(Drop, Debug)]
 pub struct SequenceNumberCounter {
     next: SeqNo,
@@ -77,7 +84,7 @@ impl Default for SequenceNumberCounter {
     }
 }
 
-/// Whether a snapshot sees what has this number.
+/// Whether a snapshot sees what has this sequence number: it is below the snapshot.
 pub fn seqno_filter(item_seqno: SeqNo, snapshot: SeqNo) -> bool
     ensures { result ≡ nat_lt item_seqno snapshot }
 {

@@ -39,7 +39,7 @@ fn first_value<S: Source<Error = Error>>(mut source: S) -> Result<Option<Interna
     }
 }
 
-/// The first entry of what `create_range` would list, found without those behind it.
+/// The first entry of what `create_range` would list, found without those after it.
 /// Refused only for want of memory.
 pub fn first_shown(
     alloc: Global,

@@ -26,7 +26,7 @@ pub enum End {
     Back,
 }
 
-/// The keys and values that a snapshot shows within bounds, by rising key, from both ends.
+/// The keys and values that a snapshot shows in the bounds, by rising key, from both ends.
 /// It owns what it gives, with the bytes shared, and stands as of its making.
 #[derive(Drop)]
 pub struct TreeIter {
@@ -85,7 +85,7 @@ fn values_of<S: Source<Error = Error>>(
 }
 
 impl TreeIter {
-    /// What a snapshot shows within bounds: of each key the entry with the greatest number that counts, unless
+    /// What a snapshot shows within bounds: of each key the entry with the greatest sequence number that counts, unless
     /// that is a tombstone. Bounds that leave no room between them show nothing. Refused only for want of memory.
     pub fn create_range(
         alloc: Global,

@@ -5,7 +5,7 @@ use Rattle.std.specs.List.{AllWithin}
 use Rattle.std.specs.List.Sorted.{IsPartitionedBy}
 use Rattle.lsm_below.specs.Entries.{Entry}
 use Rattle.lsm_parts.specs.Memtables.{SeenMemtable}
-use Rattle.lsm_state.specs.Held.{entries_of, HasFirst, FallFrom, ids_of}
+use Rattle.lsm_state.specs.Held.{entries_of, FallFrom, ids_of}
 
 module _ (id : ℕ) where
   abbrev above : SeenMemtable → Bool
@@ -74,11 +74,6 @@ module _ (id : ℕ) where
   missed (u ∷ ts) n (suc i) t f h lt is low other =
       let over : id < u.id = is_above u.id (h 0 u (omega arith) (omega arith)) in
       at_other u.id u.entries (entries_of ts id) (λ e. absurd (omega arith)) ∙ missed ts u.id i t f.1 (λ k d lo high. h (suc k) d (omega arith) (omega arith)) (omega arith) is low other
-
--- the first id is below what all are below
-pub first_lower : (ts : List SeenMemtable) (n a : ℕ) → HasFirst ts (λ t. t.id ≡ a) → FallFrom n (ids_of ts) → HasFirst ts (λ t. t.id < n)
-first_lower [] n a h f = h
-first_lower (t ∷ ts) n a h f = f.0
 
 -- a place where nothing stands is past the end
 pub past_end : (i n m : ℕ) → n ≡ m → (i < n → false ≡ true) → m ≤ i

@@ -1,16 +1,13 @@
 -- Each call is a step of the theory.
-use Rattle.std.proofs.Common.{◌≡◌, ℕ, ◌+◌, ◌<◌, true, false, cond, List, [], ◌∷◌, ◌++◌, max, ◌⊎◌, Option, None, Result, Ok, Err, IfOk, IfErr, OnOk, OnErr, IfSome, map, refl, sym, ap, ◌∙◌, subst, eqb, append-nil, append_assoc}
+use Rattle.std.proofs.Common.{◌≡◌, ℕ, ◌+◌, true, false, cond, List, [], ◌∷◌, ◌++◌, max, ◌⊎◌, None, Result, Ok, Err, IfOk, IfErr, OnOk, OnErr, IfSome, map, refl, sym, ap, ◌∙◌, subst, eqb, append-nil, append_assoc}
 use Rattle.std.specs.FinMap.{empty, get-empty}
-use Rattle.std.proofs.lemmas.List.{reverse-append}
 use Rattle.lsm_below.specs.Keys.{Bytes, bytes_cmp}
 use Rattle.lsm_below.specs.Entries.{Entry, entry_cmp, stack}
 use Rattle.lsm_below.specs.Sorted.{put}
 use Rattle.lsm_model.specs.Journal.{Event}
 use Rattle.lsm_model.specs.Views.{written}
 use Rattle.lsm_model.specs.Steps.{Run, Wrote, IsOpened}
-use Rattle.lsm_model.specs.declared.journal.JournalEntry.TheVariants.{Write, Read}
-use Rattle.lsm_model.specs.declared.question.Question.TheVariants.{Get}
-use Rattle.lsm_model.specs.declared.question.Answer.TheVariants.{Found}
+use Rattle.lsm_model.specs.declared.journal.JournalEntry.TheVariants.{Write}
 use Rattle.lsm_model.specs.Ops.{op_entries}
 use Rattle.lsm_model.specs.declared.op.Op.{Op}
 use Rattle.lsm_parts.specs.Memtables.{SeenMemtable, entry_size}
@@ -18,9 +15,9 @@ use Rattle.lsm_parts.specs.declared.error.Error.{Error}
 use Rattle.lsm_parts.specs.declared.error.Error.TheVariants.{OutOfMemory}
 use Rattle.lsm_parts.specs.declared.config.Config.{Config}
 use Rattle.lsm_state.specs.Held.{entries_of, put_first, put_all_first, HasFirst, first_size}
-use Rattle.lsm_state.specs.Core.{Core, state_of, latest_of, older_of, fresh_core, written_core, written_all, drawn_core, rotated_core}
+use Rattle.lsm_state.specs.Core.{Core, state_of, fresh_core, written_core, written_all, drawn_core}
 use Rattle.lsm_state.specs.Refusals.{entry_refusal, batch_refusal}
-use Rattle.lsm_state.specs.Calls.{IsWriteStep, IsWriteRun, IsRotateStep, IsGetStep, Gives, Appends, WritesBatch}
+use Rattle.lsm_state.specs.Calls.{IsWriteStep, IsWriteRun, Appends, WritesBatch}
 
 -- ---- writes
 
@@ -87,7 +84,7 @@ appended e (Err x) c tables h none sizes ok err memory = record {
   memory = λ _. memory;
 }
 
--- ---- opening, rotation, reads
+-- ---- opening
 
 pub fresh_opened : (config : Config) → IsOpened [] empty (state_of [] (fresh_core config))
 fresh_opened config = record {
@@ -102,12 +99,6 @@ fresh_opened config = record {
   single = λ k. tt;
   starts = λ k. get-empty bytes_cmp k;
 }
-
-pub rotate_step : (c : Core) → c.history.latest.active_memtable < c.next_memtable → IsRotateStep c.next_memtable c (rotated_core c)
-rotate_step c h opened journal = (h, ap (λ l. record { journal = journal; mems = entries_of (rotated_core c).memtables; latest = record { number = (latest_of c).number; active = c.next_memtable; sealed = l; tables = (latest_of c).tables }; older = older_of c }) (reverse-append c.history.latest.sealed_memtables (c.history.latest.active_memtable ∷ [])))
-
-pub get_step : (c : Core) (k : Bytes) (s : ℕ) (v : Option Bytes) → Gives c k s v → IsGetStep c k s v
-get_step c k s v g opened journal low = (g.0, low, g.1, ap (λ w. state_of (journal ++ Read s (Get k) (Found w) ∷ []) c) g.2)
 
 -- a batch is written under the next number
 pub batch_written : (ops : List (Bytes × Op)) (c : Core) (n : ℕ) (tables : List SeenMemtable) (seqno visible : ℕ) → HasActive c → n ≡ c.seqno → batch_refusal n ops ≡ None

@@ -1,8 +1,7 @@
 -- What walks and lookups of the code are in the theory's words.
-use Rattle.std.proofs.Common.{◌≡◌, ℕ, true, false, List, [], ◌∷◌, ◌++◌, Option, Some, None, refl, sym, ap, ◌∙◌, map, reverse, cond, nat_lt, eqb}
+use Rattle.std.proofs.Common.{◌≡◌, ℕ, true, false, List, [], ◌∷◌, ◌++◌, Option, Some, None, refl, sym, ap, ◌∙◌, map, cond, nat_lt, eqb}
 use Rattle.std.specs.Option.{option_or, option_map}
 use Rattle.std.specs.List.{find}
-use Rattle.std.proofs.lemmas.List.{reverse-append}
 use Rattle.lsm_below.specs.Keys.{Bytes}
 use Rattle.lsm_below.specs.Entries.{Entry, top}
 use Rattle.lsm_model.specs.Views.{Memtables, walk, front, found_at, lookup}
@@ -18,10 +17,6 @@ walk-append k s (es ∷ xs) ys = ap (option_or (top k s es)) (walk-append k s xs
     or_assoc : (a b c : Option Entry) → option_or a (option_or b c) ≡ option_or (option_or a b) c
     or_assoc None b c = refl
     or_assoc (Some x) b c = refl
-
--- the last of the ids is walked first
-pub walk-last : (k : Bytes) (s : ℕ) (mems : Memtables) (ids : List ℕ) (i : ℕ) → walk k s (map mems (reverse (ids ++ i ∷ []))) ≡ option_or (top k s (mems i)) (walk k s (map mems (reverse ids)))
-walk-last k s mems ids i = ap (λ l. walk k s (map mems l)) (reverse-append ids (i ∷ []))
 
 module _ (s : ℕ) where
   find_shown : (older : List SuperVersion) → find (λ sv. nat_lt sv.number s) (map shown_as older) ≡ option_map shown_as (find (λ sv. nat_lt sv.seqno s) older)

@@ -94,7 +94,7 @@ impl Memtables {
         }
     }
 
-    /// Puts an entry in its place in the active memtable, and answers the bytes that it counts and those
+    /// Puts an entry in its place in the active memtable, and returns the bytes that it counts and those
     /// of the memtable. Refused only for want of memory, and then nothing changes.
     pub fn insert(&mut self, entry: InternalValue) -> Result<(u64, u64), Error>
         ensures sizes { IfOk result (λ r. (r.0 ≡ entry_size entry) × (r.1 ≡ first_size self.new)) }

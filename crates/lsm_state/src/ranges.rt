@@ -23,7 +23,7 @@ use std::ops::Bound;
 /// All keys.
 const ALL: (Bound<UserKey>, Bound<UserKey>) = (Bound::Unbounded, Bound::Unbounded);
 
-/// Puts the sealed memtables behind those that are there, the one that was sealed last before the others.
+/// Appends the sealed memtables to the list, the one that was sealed last before the others.
 fn push_sealed<'a>(
     list: &mut Vec<&'a Memtable>,
     memtables: &'a Memtables,
@@ -314,7 +314,7 @@ impl<S: Store> TreeState<S> {
         }
     }
 
-    /// The entry at an end of all that a snapshot shows, under an index, without those behind it.
+    /// The entry at an end of all that a snapshot shows, under an index, without those after it.
     fn end_entry(
         &self,
         end: End,

@@ -88,7 +88,7 @@ fn has_value(entry: Option<&InternalValue>) -> bool
 }
 
 impl<S: Store> TreeState<S> {
-    /// The value of a key at a snapshot: that of its entry with the greatest number below the snapshot
+    /// The value of a key at a snapshot: that of its entry with the greatest sequence number below the snapshot
     /// in the first source that has one. None for a tombstone, or where there is no entry.
     /// `SnapshotTooOld` exactly where no super version is found for the snapshot; else only memory may be missing.
     pub fn get(&self, key: &[u8], snapshot: SeqNo) -> Result<Option<UserValue>, Error>

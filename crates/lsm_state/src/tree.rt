@@ -13,7 +13,9 @@ use lsm_store::{NoStore, Store};
 use std::alloc::Global;
 use std::marker::Model;
 
-/// A tree with one owner.
+/// A tree with one owner. Reads of one key are logarithmic in each of its sources.
+///
+/// # Examples
 ///
 /// ```text
 /// let mut tree = TreeState::open_in_memory(alloc, Config::new(0, 0, 0));
@@ -80,14 +82,14 @@ impl<S: Store> TreeState<S> {
         self.history.facts();
     }
 
-    /// The counter of numbers.
+    /// The counter of sequence numbers.
     pub fn seqno(&self) -> &SequenceNumberCounter
         ensures { result.now ≡ self.now.core.seqno }
     {
         &self.seqno
     }
 
-    /// The counter of numbers, to be changed.
+    /// The counter of sequence numbers, to be changed.
     pub fn seqno_mut(&mut self) -> &mut SequenceNumberCounter
         ensures* lends { sem 𝓛 (LendsSeqno S.row S.Store self.entry result) }
         ensures value { result.now ≡ self.old.core.seqno }
@@ -120,7 +122,7 @@ impl<S: Store> TreeState<S> {
         self.history.get_version_for_snapshot(snapshot)
     }
 
-    /// Seals the active memtable in favour of an empty one, and answers the id of the sealed one;
+    /// Seals the active memtable in favour of an empty one, and returns the id of the sealed one;
     /// None where nothing was written to it. The id of the new one is drawn: at 2^63 it is
     /// `OutOfNumbers`. Refused, it changes nothing.
     pub fn rotate_memtable(&mut self) -> Result<Option<MemtableId>, Error>

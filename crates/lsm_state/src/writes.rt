@@ -77,7 +77,7 @@ fn has_repeats(alloc: Global, ops: &[(UserKey, Op)]) -> Result<bool, AllocError>
     Ok(false)
 }
 
-/// Why a batch is refused under a number.
+/// Why a batch is refused under a sequence number.
 fn check_batch(alloc: Global, number: SeqNo, ops: &[(UserKey, Op)]) -> Result<(), Error>
     ensures ok { OnOk result (batch_refusal number ops.now ≡ None) }
     ensures err { IfErr result (λ e. (batch_refusal number ops.now ≡ Some e) ⊎ (e ≡ Error.OutOfMemory)) }
@@ -113,10 +113,10 @@ fn make_entries(
 }
 
 impl<S: Store> TreeState<S> {
-    /// Sets a key under a number, in whatever order numbers come.
+    /// Sets a key under a sequence number, in whatever order they come.
     ///
-    /// Answers the bytes that the entry counts (its key's, its value's and 48) and those of the active
-    /// memtable. A write of the same key and number is replaced. `KeyTooLong` above 65,535 bytes,
+    /// Returns the bytes that the entry counts (its key's, its value's and 48) and those of the active
+    /// memtable. A write of the same key and sequence number is replaced. `KeyTooLong` above 65,535 bytes,
     /// `ValueTooLong` above 2^32 - 1, `NumberTooGreat` from 2^63 on; of several the first is told.
     /// Refused, it changes nothing.
     pub fn insert(
@@ -131,7 +131,7 @@ impl<S: Store> TreeState<S> {
         self.append_entry(Op::Set(value).into_entry(key, seqno))
     }
 
-    /// Removes a key under a number. Answers and refuses as `insert`.
+    /// Removes a key under a sequence number. Returns and refuses as `insert`.
     pub fn remove(&mut self, key: UserKey, seqno: SeqNo) -> Result<(u64, u64), Error>
         ensures appends { Appends (op_entry key seqno Del) result self.old.core self.new.core }
         ensures store { self.new.store ≡ self.old.store }
@@ -139,7 +139,7 @@ impl<S: Store> TreeState<S> {
         self.append_entry(Op::Del.into_entry(key, seqno))
     }
 
-    /// Removes a key, of which at most one value was ever written. Answers and refuses as `insert`.
+    /// Removes a key, of which at most one value was ever written. Returns and refuses as `insert`.
     pub fn remove_weak(&mut self, key: UserKey, seqno: SeqNo) -> Result<(u64, u64), Error>
         ensures appends { Appends (op_entry key seqno Weak) result self.old.core self.new.core }
         ensures store { self.new.store ≡ self.old.store }
@@ -147,7 +147,7 @@ impl<S: Store> TreeState<S> {
         self.append_entry(Op::Weak.into_entry(key, seqno))
     }
 
-    /// Writes an entry under its own number; a tombstone's value is dropped. Answers and refuses as `insert`.
+    /// Writes an entry under its own sequence number; a tombstone's value is dropped. Returns and refuses as `insert`.
     pub fn append_entry(&mut self, entry: InternalValue) -> Result<(u64, u64), Error>
         ensures appends { Appends (plain entry) result self.old.core self.new.core }
         ensures store { self.new.store ≡ self.old.store }
@@ -159,12 +159,12 @@ impl<S: Store> TreeState<S> {
         self.memtables.insert(entry)
     }
 
-    /// Writes a batch under the next number, all of it or none, makes the number visible, and answers it.
-    /// An empty batch uses a number too.
+    /// Writes a batch under the next sequence number, all of it or none, makes it visible, and returns it.
+    /// An empty batch uses a sequence number too.
     ///
     /// `OutOfNumbers` where the counter stands at 2^63 or above, `KeyTooLong` and `ValueTooLong` as
     /// `insert`, `DuplicateKey` where a key comes twice; of several the first is told.
-    /// Refused, it changes nothing and uses no number.
+    /// Refused, it changes nothing and uses no sequence number.
     pub fn write(&mut self, ops: Vec<(UserKey, Op)>) -> Result<SeqNo, Error>
         ensures writes { WritesBatch ops.items result self.old.core self.new.core }
         ensures store { self.new.store ≡ self.old.store }

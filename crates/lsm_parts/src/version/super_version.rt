@@ -14,7 +14,7 @@ pub struct SuperVersion {
     pub sealed_memtables: SealedMemtables,
     /// The tables.
     pub version: Version,
-    /// The number under which it was installed.
+    /// The sequence number under which it was installed.
     pub seqno: SeqNo,
 }
 

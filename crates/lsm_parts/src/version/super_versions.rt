@@ -11,14 +11,22 @@ use std::marker::Model;
 
 /// The history of super versions. There is always at least one.
 ///
-/// A snapshot is looked up in logarithmic time, unless a super version was installed under a lesser number
+/// A snapshot is looked up in logarithmic time, unless a super version was installed under a lesser sequence number
 /// than the one before it: then it takes linear time.
+///
+/// # Examples
+///
+/// ```text
+/// let mut history = SuperVersions::new(alloc, Version::new(0));
+/// history.append_version(version)?;
+/// let read = history.get_version_for_snapshot(snapshot)?;
+/// ```
 #[derive(Drop)]
 pub struct SuperVersions {
     latest: SuperVersion,
     /// The newest one first.
     older: VecDeque<SuperVersion>,
-    /// Whether each number is at most that of the next newer super version.
+    /// Whether each sequence number is at most that of the next newer super version.
     in_order: bool,
 }
 
@@ -51,7 +59,7 @@ fn walk(older: &VecDeque<SuperVersion>, snapshot: SeqNo) -> Option<&SuperVersion
         .find(|version| seqno_filter(version.seqno, snapshot))
 }
 
-/// Whether a super version with this number may come before these.
+/// Whether a super version with this sequence number may come before these.
 fn is_next(seqno: SeqNo, older: &VecDeque<SuperVersion>) -> bool
     ensures { result ≡ true → (n : ℕ) → NumbersFall n older.now.items → NumbersFall seqno older.now.items }
 {

@@ -11,7 +11,7 @@ use std::alloc::AllocError;
 use std::marker::Model;
 use std::ops::Bound;
 
-/// The number of a version.
+/// The id of a version.
 pub type VersionId = u64;
 
 /// The tables of a tree, level by level. No call makes a table yet, so all seven levels are empty.
@@ -43,7 +43,7 @@ impl Version {
         let _ = &self.id;
     }
 
-    /// The version's number.
+    /// The version's id.
     pub fn id(&self) -> VersionId
         ensures { result ≡ self.now.id }
     {
@@ -59,7 +59,7 @@ impl Version {
         None
     }
 
-    /// Puts what lies of each table within bounds behind the cuts that are there, in the order of a walk.
+    /// Appends the entries of each table in the bounds to the cuts, in the order of a walk.
     pub(crate) fn push_cuts<'a>(
         &'a self,
         _cuts: &mut Vec<Cut<'a>>,
