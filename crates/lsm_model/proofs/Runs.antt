@@ -1,5 +1,5 @@
 -- Opening, each step, and so each run.
-use Rattle.std.proofs.Common.{◌≡◌, ℕ, ◌<◌, ◌≤◌, Bool, true, false, cond, List, [], ◌∷◌, ◌++◌, Option, Some, None, map, refl, sym, ap, ◌∙◌, subst, arith, flat_map, ltb, le-ltb, eqb, eqb-true, append_assoc, is_some, append-nil, ap₂, ⊎_elim}
+use Rattle.std.proofs.Common.{◌≡◌, ℕ, ◌<◌, ◌≤◌, Bool, true, false, cond, List, [], ◌∷◌, ◌++◌, find, Option, Some, None, map, refl, sym, ap, ◌∙◌, subst, arith, flat_map, ltb, le-ltb, eqb, eqb-true, append_assoc, is_some, append-nil, ap₂, ⊎_elim}
 use Rattle.std.specs.List.{AllByRecursion}
 use Rattle.std.specs.FinMap.{get}
 use Rattle.std.proofs.lemmas.Grind.{flat_map-append}
@@ -174,6 +174,25 @@ write_pushed opened start old new e m o h k i = m.mems k i ∙ written_pushed op
 each_front : (P : SuperVersion → Type 0) (latest : SuperVersion) (older : List SuperVersion) → AllByRecursion P (latest ∷ older) → P (front latest older)
 each_front P latest [] h = h.0
 each_front P latest (sv ∷ older) h = each_front P sv older h.1
+
+-- the super version that a snapshot finds stands in the history
+front_there : (latest : SuperVersion) (older : List SuperVersion) → (newer : List SuperVersion) × (rest : List SuperVersion) × (latest ∷ older ≡ newer ++ front latest older ∷ rest)
+front_there latest [] = ([], [], refl)
+front_there latest (sv ∷ older) = let r = front_there sv older in (latest ∷ r.0, r.1, ap (λ l. latest ∷ l) r.2)
+
+find_there : (t : SuperVersion → Bool) (history : List SuperVersion) (sv : SuperVersion) → find t history ≡ Some sv → (newer : List SuperVersion) × (rest : List SuperVersion) × (history ≡ newer ++ sv ∷ rest)
+find_there t [] sv h = absurd (cc h)
+find_there t (v ∷ history) sv h = elim (t v) as (λ b. cond b (Some v) (find t history) ≡ Some sv → (newer : List SuperVersion) × (rest : List SuperVersion) × (v ∷ history ≡ newer ++ sv ∷ rest)) [
+  | true ↦ λ q. let is : v ≡ sv = cc q in ([], history, ap (λ w. w ∷ history) is)
+  | false ↦ λ q. let r = find_there t history sv q in (v ∷ r.0, r.1, ap (λ l. v ∷ l) r.2)
+] h
+
+pub found_there : (s : ℕ) (latest : SuperVersion) (older : List SuperVersion) (sv : SuperVersion) → found_at s latest older ≡ Some sv → (newer : List SuperVersion) × (rest : List SuperVersion) × (latest ∷ older ≡ newer ++ sv ∷ rest)
+found_there s latest older sv found =
+    elim (eqb s 0) as (λ b. cond b (Some (front latest older)) (lookup s (latest ∷ older)) ≡ Some sv → (newer : List SuperVersion) × (rest : List SuperVersion) × (latest ∷ older ≡ newer ++ sv ∷ rest)) [
+      | true ↦ λ f. let is : front latest older ≡ sv = cc f in subst (λ v. (newer : List SuperVersion) × (rest : List SuperVersion) × (latest ∷ older ≡ newer ++ v ∷ rest)) is (front_there latest older)
+      | false ↦ λ f. find_there (λ v. ltb v.number s) (latest ∷ older) sv f
+    ] found
 
 pub each_found_at : (P : SuperVersion → Type 0) (s : ℕ) (latest : SuperVersion) (older : List SuperVersion) (sv : SuperVersion) → found_at s latest older ≡ Some sv → AllByRecursion P (latest ∷ older) → P sv
 each_found_at P s latest older sv found h =

@@ -1,11 +1,11 @@
 -- What follows for maps, keys and sources: each the contract of a function in `laws.rt`.
-use Rattle.std.specs.Prelude.{◌≡◌, ℕ, ◌<◌, true, List, flat_map, if◌then◌else◌}
+use Rattle.std.specs.Prelude.{◌≡◌, ℕ, ◌<◌, true, List, ◌∷◌, ◌++◌, Some, flat_map, if◌then◌else◌}
 use Rattle.std.specs.List.{AllByRecursion}
 use Rattle.std.specs.FinMap.{get}
 use Rattle.lsm_below.specs.Keys.{Bytes, is_same}
 use Rattle.lsm_below.specs.Entries.{Entry, above, stack, value_of}
 use Rattle.lsm_model.specs.Journal.{Map, changed}
-use Rattle.lsm_model.specs.Views.{Memtables, SuperVersion, entries, map_of, seen, sources}
+use Rattle.lsm_model.specs.Views.{Memtables, SuperVersion, entries, found_at, map_of, seen, sources}
 
 -- maps are read key by key, and a key is its bytes
 pub record MapsAreRead : Type 0 where
@@ -13,7 +13,9 @@ pub record MapsAreRead : Type 0 where
   pub changed : (m : Map) (e : Entry) (k : Bytes) → get (changed m e) k ≡ (if is_same k e.key.user_key then value_of e else get m k)
   pub map_of : (k : Bytes) (s : ℕ) (es : List Entry) → get (map_of s es) k ≡ seen s (stack k es)
 
--- all entries are below `above`, and the sources of a super version are its entries
+-- all entries are below `above`, and the sources of a super version are its entries; what is found is there
 pub record PartsAreWhole : Type 0 where
   pub below : (es : List Entry) → AllByRecursion (λ e. e.key.seqno < above es) es
   pub whole : (mems : Memtables) (sv : SuperVersion) → flat_map (λ (es : List Entry). es) (sources mems sv) ≡ entries mems sv
+  -- the super version that a snapshot finds stands in the history
+  pub found : (s : ℕ) (latest : SuperVersion) (older : List SuperVersion) (sv : SuperVersion) → found_at s latest older ≡ Some sv → (newer : List SuperVersion) × (rest : List SuperVersion) × (latest ∷ older ≡ newer ++ sv ∷ rest)

@@ -1,28 +1,37 @@
 -- What is shown under an index is the view with the index laid over it.
-use Rattle.std.proofs.Common.{◌≡◌, ℕ, List, [], ◌∷◌, ◌++◌, true, false, cond, map, filter, Some, None, nat_lt, subst, sym, ◌∙◌, eqb}
+use Rattle.std.proofs.Common.{◌≡◌, ℕ, List, [], ◌∷◌, ◌++◌, true, false, cond, map, filter, Some, None, nat_lt, subst, sym, ap, ◌∙◌, append-nil, eqb}
 use Rattle.std.specs.List.{AllByRecursion}
 use Rattle.lsm_below.specs.Entries.{Entry, entry_cmp}
 use Rattle.lsm_below.specs.Sorted.{Rises}
 use Rattle.lsm_model.specs.Views.{sources, found_at, Placed, SuperVersion}
-use Rattle.lsm_model.proofs.Runs.{each_found_at, joined_sources}
+use Rattle.lsm_model.specs.Laws.{PartsAreWhole}
 use Rattle.lsm_parts.specs.Memtables.{SeenMemtable}
 use Rattle.lsm_parts.specs.declared.version.super_version.SuperVersion.{SuperVersion as Named}
 use Rattle.lsm_parts.specs.History.{AreLaid}
 use Rattle.lsm_parts.specs.Shown.{ShowsOf, lies_within, begins_with}
-use Rattle.lsm_parts.proofs.Answers.{is_view, overlaid_shown}
+use Rattle.lsm_parts.specs.Answers.{ShownIsView, ShownIsOverlaid, overlaid, pairs_of}
+use Rattle.lsm_parts.specs.Guards.{pair_of}
+use Rattle.lsm_parts.specs.Reads.{SeenState, all_counted, at}
 use Rattle.lsm_state.specs.Held.{entries_of}
 use Rattle.lsm_state.specs.Core.{Core, shown_as, latest_of, older_of}
 use Rattle.lsm_state.specs.Kept.{IsKept}
 use Rattle.lsm_state.specs.Ranges.{index_entries, counting, CountingIsOverlaid, RangesAreOverlaid, PrefixesAreOverlaid}
-use Rattle.lsm_state.proofs.Answered.{counts}
+use Rattle.lsm_state.proofs.Answered.{counts, of_found}
 
-pub is_overlaid : CountingIsOverlaid
-is_overlaid memtables None s sv m test out at_key once on_top h =
-    is_view s (sources (entries_of memtables) sv) m test out at_key once (subst (λ es. ShowsOf test es out) (counts (entries_of memtables) s sv) h)
-is_overlaid memtables (Some p) s sv m test out at_key once on_top h =
+-- the laws of lists that are shown
+pub record Laws : Type 0 where
+  pub parts : PartsAreWhole
+  pub view : ShownIsView
+  pub over : ShownIsOverlaid
+
+pub is_overlaid : Laws → CountingIsOverlaid
+is_overlaid laws memtables None s sv m test out at_key once on_top h =
+    laws.view s (sources (entries_of memtables) sv) m test out at_key once (subst (λ es. ShowsOf test es out) (counts laws.parts (entries_of memtables) s sv) h)
+is_overlaid laws memtables (Some p) s sv m test out at_key once on_top h =
     let mems = entries_of memtables in
-    overlaid_shown p.0.now.entries (sources mems sv) p.1 s on_top m test out at_key once
-    (subst (λ es. ShowsOf test (index_entries (Some p) ++ filter (λ e. nat_lt e.key.seqno s) es) out) (sym (joined_sources mems sv)) h)
+    let st : SeenState = record { overlay = Some (record { entries = p.0.now.entries; below = p.1 }); memtables = map mems (sv.active ∷ sv.sealed); tables = map (λ t. t.table.entries) sv.tables } in
+    let shown = subst (λ es. ShowsOf test (index_entries (Some p) ++ es) out) (counts laws.parts mems s sv) h in
+    laws.over s st m test out at_key once on_top shown ∙ ap (λ l. pairs_of test (overlaid l m)) (append-nil (index_entries (Some p)))
 
 -- ---- each source of a tree is in order
 
@@ -46,24 +55,24 @@ laid_rise : (versions : List Named) → AreLaid versions → AllByRecursion (λ 
 laid_rise [] h = tt
 laid_rise (sv ∷ versions) h = (h.0.rise, laid_rise versions h.1)
 
-sources_rise : (c : Core) (s : ℕ) (sv : SuperVersion) → IsKept c → found_at s (latest_of c) (older_of c) ≡ Some sv → AllByRecursion (Rises entry_cmp) (sources (entries_of c.memtables) sv)
-sources_rise c s sv kept found =
+sources_rise : PartsAreWhole → (c : Core) (s : ℕ) (sv : SuperVersion) → IsKept c → found_at s (latest_of c) (older_of c) ≡ Some sv → AllByRecursion (Rises entry_cmp) (sources (entries_of c.memtables) sv)
+sources_rise parts c s sv kept found =
     let laid = laid_rise (c.history.latest ∷ c.history.older) kept.laid in
     both_rise (map (entries_of c.memtables) (sv.active ∷ sv.sealed)) (map (λ p. p.table.entries) sv.tables)
     (memtables_rise c.memtables (sv.active ∷ sv.sealed) kept.rise)
-    (tables_rise sv.tables (each_found_at (λ v. AllByRecursion (λ p. Rises entry_cmp p.table.entries) v.tables) s (latest_of c) (older_of c) sv found laid))
+    (tables_rise sv.tables (of_found parts (λ v. AllByRecursion (λ p. Rises entry_cmp p.table.entries) v.tables) s c sv found laid))
 
 some_same : (a b : SuperVersion) → Some a ≡ Some b → a ≡ b
 some_same a b e = cc e
 
-pub ranges_overlaid : RangesAreOverlaid
-ranges_overlaid c index low high s sv out kept found h m at_key apart on_top =
+pub ranges_overlaid : Laws → RangesAreOverlaid
+ranges_overlaid laws c index low high s sv out kept found h m at_key apart on_top =
     let same : h.0 ≡ sv = some_same h.0 sv (sym h.1 ∙ found) in
-    is_overlaid c.memtables index s sv m (lies_within low high) out at_key (record { rise = sources_rise c s sv kept found; apart = apart }) on_top
+    is_overlaid laws c.memtables index s sv m (lies_within low high) out at_key (record { rise = sources_rise laws.parts c s sv kept found; apart = apart }) on_top
     (subst (λ v. ShowsOf (lies_within low high) (counting c.memtables index s v) out) same h.2)
 
-pub prefixes_overlaid : PrefixesAreOverlaid
-prefixes_overlaid c index prefix s sv out kept found h m at_key apart on_top =
+pub prefixes_overlaid : Laws → PrefixesAreOverlaid
+prefixes_overlaid laws c index prefix s sv out kept found h m at_key apart on_top =
     let same : h.0 ≡ sv = some_same h.0 sv (sym h.1 ∙ found) in
-    is_overlaid c.memtables index s sv m (begins_with prefix) out at_key (record { rise = sources_rise c s sv kept found; apart = apart }) on_top
+    is_overlaid laws c.memtables index s sv m (begins_with prefix) out at_key (record { rise = sources_rise laws.parts c s sv kept found; apart = apart }) on_top
     (subst (λ v. ShowsOf (begins_with prefix) (counting c.memtables index s v) out) same h.2)

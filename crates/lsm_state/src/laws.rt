@@ -2,15 +2,24 @@
 ghost use Rattle.lsm_state.specs.ListSteps.{ListsAreSteps};
 ghost use Rattle.lsm_state.specs.Ranges.{CountingIsOverlaid, RangesAreOverlaid, PrefixesAreOverlaid};
 
+use lsm_model::parts_are_whole;
+use lsm_parts::shown_is_the_view;
+
 /// The list of what a super version shows under an index is that of its view by tops, with the index laid over it.
 /// Of a tree, of which `TreeState::facts` holds, it is so where no key and number stand in two of its sources.
 pub fn ranges_are_overlaid()
     ensures counting { CountingIsOverlaid }
     ensures ranges { RangesAreOverlaid }
     ensures prefixes { PrefixesAreOverlaid }
-{}
+{
+    parts_are_whole();
+    shown_is_the_view();
+}
 
 /// Without an index, the list of what a snapshot shows is an answered read of the theory.
 pub fn lists_are_steps()
     ensures { ListsAreSteps }
-{}
+{
+    parts_are_whole();
+    shown_is_the_view();
+}

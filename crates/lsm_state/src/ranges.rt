@@ -10,7 +10,7 @@ ghost use Rattle.lsm_state.specs.Ranges.{counting, Ranges, Prefixes, Numbers, Pa
 ghost use Rattle.lsm_parts.specs.Shown.{Shows, ShowsPrefix};
 ghost use Rattle.lsm_parts.specs.Ends.{EndShown, NumberShown};
 
-use crate::{Memtables, TreeState};
+use crate::{Memtables, TreeState, lists_are_steps};
 use lsm_below::{InternalValue, MemtableId, SeqNo, UserKey};
 use lsm_parts::{
     End, Error, Guard, IterState, Memtable, SuperVersion, TreeIter, count_shown, first_shown,
@@ -145,6 +145,7 @@ impl<S: Store> TreeState<S> {
         ensures step { index.entry ≡ None → IfOk result (IsRangeStep self.now.core bounds.now.0 bounds.now.1 snapshot) }
         ensures refuses { RefusesRead self.now.core snapshot result }
     {
+        lists_are_steps();
         match self.version_at(snapshot) {
             Ok(version) => range_of(
                 self.alloc,
@@ -220,6 +221,7 @@ impl<S: Store> TreeState<S> {
         ensures step { index.entry ≡ None → IfOk result (IsPrefixStep self.now.core prefix.now snapshot) }
         ensures refuses { RefusesRead self.now.core snapshot result }
     {
+        lists_are_steps();
         match self.version_at(snapshot) {
             Ok(version) => prefix_of(
                 self.alloc,
