@@ -29,7 +29,7 @@ pub use lsm_parts::{
 };
 pub use lsm_recorded::{Pass, Recorded};
 pub use lsm_runs::{Counter, Outcome, Reply, Step, run};
-pub use lsm_state::{MAX_KEY_LEN, MAX_VALUE_LEN, Memtables, TreeState};
+pub use lsm_state::{MAX_KEY_LEN, MAX_VALUE_LEN, TreeState};
 pub use lsm_store::{Fault, MemStore, NoStore, Pick, Store, StoreError};
 pub use lsm_tables::{
     Checksum, MultiWriter, Table, TableError, decode, encode, fits_image, is_writable, write_tables,
