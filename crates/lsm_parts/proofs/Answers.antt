@@ -21,9 +21,7 @@ use Rattle.lsm_below.specs.Streams.{is_of}
 use Rattle.lsm_below.specs.Sorted.{Rises}
 use Rattle.lsm_model.specs.Journal.{Map}
 use Rattle.lsm_model.specs.Views.{view, view_at, seen, shown, EachPair}
-use Rattle.lsm_model.proofs.Journals.{get-changed, same_key}
-use Rattle.lsm_model.proofs.Answers.{get-map_of}
-use Rattle.lsm_model.proofs.Runs.{each_above}
+use Rattle.lsm_model.specs.Laws.{MapsAreRead, PartsAreWhole}
 use Rattle.lsm_parts.specs.Guards.{pair_of}
 use Rattle.lsm_parts.specs.Shown.{lies_within, begins_with, IsNewestOf, IsNewest, IsShown, by_key, ShowsOf}
 use Rattle.lsm_parts.specs.Reads.{Part, at, counted, all_counted, tree_of, counted_at}
@@ -55,17 +53,17 @@ rising : (out : List Entry) → Rises by_key out → is_sorted bytes_cmp (map pa
 rising [] h = refl
 rising (e ∷ out) h = ap (λ b. b && is_sorted bytes_cmp (map pair_of out)) (all_below e out h.0) ∙ rising out h.1
 
-none_outside : (test : Bytes → Bool) (es out : List Entry) → ShowsOf test es out → (k : Bytes) → test k ≡ false → (l : List Entry) → stack k out ≡ l → first_value l ≡ None
-none_outside test es out h k out_of [] is = refl
-none_outside test es out h k out_of (e ∷ l) is =
+none_outside : (maps : MapsAreRead) → (test : Bytes → Bool) (es out : List Entry) → ShowsOf test es out → (k : Bytes) → test k ≡ false → (l : List Entry) → stack k out ≡ l → first_value l ≡ None
+none_outside maps test es out h k out_of [] is = refl
+none_outside maps test es out h k out_of (e ∷ l) is =
     let here : Contains (stack k out) e = subst (λ x. Contains x e) (sym is) (contains_here e l) in
-    let same : k ≡ e.key.user_key = same_key k e.key.user_key (All-contains (λ x. is_of k x ≡ true) (stack k out) e (filter_passes (is_of k) out) here) in
+    let same : k ≡ e.key.user_key = maps.same_key k e.key.user_key (All-contains (λ x. is_of k x ≡ true) (stack k out) e (filter_passes (is_of k) out) here) in
     let inside = (All-contains (λ e. (test e.key.user_key ≡ true) × IsShown es e) out e h.each (filter_had (is_of k) out e here)).0 in
     absurd (let bad : false ≡ true = sym out_of ∙ (ap test same ∙ inside) in cc bad)
 
 -- what is shown is what a map has of the keys that pass, if it has the same at each of them
-shown_of_map : (test : Bytes → Bool) (es out : List Entry) (m : Map) → ShowsOf test es out → ((k : Bytes) → test k ≡ true → get m k ≡ first_value (stack k out)) → map pair_of out ≡ pairs_of test m
-shown_of_map p es out m h same =
+shown_of_map : (maps : MapsAreRead) → (test : Bytes → Bool) (es out : List Entry) (m : Map) → ShowsOf test es out → ((k : Bytes) → test k ≡ true → get m k ≡ first_value (stack k out)) → map pair_of out ≡ pairs_of test m
+shown_of_map maps p es out m h same =
     let part : Map = from_sorted {R = bytes_cmp} (filter (λ e. p e.0) (entries m)) in
     let cut_sorted = is_sorted-where_key bytes_cmp p (entries m) (entries_sorted m) in
     let list_sorted : T (is_sorted bytes_cmp (map pair_of out)) = subst T (sym (rising out h.rises)) tt in
@@ -77,7 +75,7 @@ shown_of_map p es out m h same =
     let both : whole ≡ part = same_map nat_list_cmp_total (slice_cmp-IsAntisymmetric nat_cmp-IsAntisymmetric) whole part (λ q.
     in_whole q ∙ (elim (p q) as (λ b. p q ≡ b → first_value (stack q out) ≡ cond b (get m q) None) [
       | true ↦ λ inside. sym (same q inside)
-      | false ↦ λ outside. none_outside p es out h q outside (stack q out) refl
+      | false ↦ λ outside. none_outside maps p es out h q outside (stack q out) refl
     ] refl) ∙ sym (in_part q)) in
     sym (entries-from_sorted bytes_cmp (map pair_of out) list_sorted) ∙ ap entries both ∙ entries-from_sorted bytes_cmp (filter (λ e. p e.0) (entries m)) cut_sorted
 
@@ -92,28 +90,28 @@ as_value Tombstone v h = absurd (cc h)
 as_value WeakTombstone v h = absurd (cc h)
 
 -- what is listed of a key is what its newest entry shows, where that is the only one
-value_shown : (test : Bytes → Bool) (es out : List Entry) → ShowsOf test es out → (k : Bytes) → test k ≡ true → IsOnly (stack k es) → (o : Option Entry) → IsNewest es k o → (l : List Entry) → stack k out ≡ l → first_value l ≡ shown o
-value_shown test es out h k inside only o newest [] none =
+value_shown : (maps : MapsAreRead) → (test : Bytes → Bool) (es out : List Entry) → ShowsOf test es out → (k : Bytes) → test k ≡ true → IsOnly (stack k es) → (o : Option Entry) → IsNewest es k o → (l : List Entry) → stack k out ≡ l → first_value l ≡ shown o
+value_shown maps test es out h k inside only o newest [] none =
     let hidden = h.rest k inside none in
     sym hidden.2 ∙ ap shown (only hidden.0 o hidden.1 newest)
-value_shown test es out h k inside only o newest (e ∷ l) is =
+value_shown maps test es out h k inside only o newest (e ∷ l) is =
     let here : Contains (stack k out) e = subst (λ x. Contains x e) (sym is) (contains_here e l) in
-    let same : k ≡ e.key.user_key = same_key k e.key.user_key (All-contains (λ x. is_of k x ≡ true) (stack k out) e (filter_passes (is_of k) out) here) in
+    let same : k ≡ e.key.user_key = maps.same_key k e.key.user_key (All-contains (λ x. is_of k x ≡ true) (stack k out) e (filter_passes (is_of k) out) here) in
     let listed = (All-contains (λ e. (test e.key.user_key ≡ true) × IsShown es e) out e h.each (filter_had (is_of k) out e here)).1 in
     sym (as_value e.key.value_type e.value listed.value) ∙ ap shown (only (Some e) o (subst (λ q. IsNewest es q (Some e)) (sym same) listed.newest) newest)
 
-shown_of_newest : (test : Bytes → Bool) (es out : List Entry) (m : Map) (newest : Bytes → Option Entry) → ((k : Bytes) → IsNewest es k (newest k)) → ((k : Bytes) → IsOnly (stack k es)) → ((k : Bytes) → get m k ≡ shown (newest k))
+shown_of_newest : (maps : MapsAreRead) → (test : Bytes → Bool) (es out : List Entry) (m : Map) (newest : Bytes → Option Entry) → ((k : Bytes) → IsNewest es k (newest k)) → ((k : Bytes) → IsOnly (stack k es)) → ((k : Bytes) → get m k ≡ shown (newest k))
     → ShowsOf test es out → map pair_of out ≡ pairs_of test m
-shown_of_newest test es out m newest is only same h =
-    shown_of_map test es out m h (λ k inside. same k ∙ sym (value_shown test es out h k inside (only k) (newest k) (is k) (stack k out) refl))
+shown_of_newest maps test es out m newest is only same h =
+    shown_of_map maps test es out m h (λ k inside. same k ∙ sym (value_shown maps test es out h k inside (only k) (newest k) (is k) (stack k out) refl))
 
 -- entries of one key and number are one and the same
 abbrev IsSingular : List Entry → Type 0
 IsSingular es = (e f : Entry) → Contains es e → Contains es f → e.key.user_key ≡ f.key.user_key → e.key.seqno ≡ f.key.seqno → e ≡ f
 
 -- where entries of one key and number are the same
-only_singular : (es : List Entry) → IsSingular es → (k : Bytes) → IsOnly (stack k es)
-only_singular es single k = go
+only_singular : (maps : MapsAreRead) → (es : List Entry) → IsSingular es → (k : Bytes) → IsOnly (stack k es)
+only_singular maps es single k = go
   where
     go : (o p : Option Entry) → IsNewestOf (stack k es) o → IsNewestOf (stack k es) p → o ≡ p
     go None None h q = refl
@@ -123,7 +121,7 @@ only_singular es single k = go
         let up : e.key.seqno ≤ f.key.seqno = All-contains (λ g. g.key.seqno ≤ f.key.seqno) (stack k es) e q.1 h.0 in
         let down : f.key.seqno ≤ e.key.seqno = All-contains (λ g. g.key.seqno ≤ e.key.seqno) (stack k es) f h.1 q.0 in
         let number : e.key.seqno ≡ f.key.seqno = omega arith in
-        ap (λ x. Some x) (single e f (filter_had (is_of k) es e h.0) (filter_had (is_of k) es f q.0) (newest_key es k e h ∙ sym (newest_key es k f q)) number)
+        ap (λ x. Some x) (single e f (filter_had (is_of k) es e h.0) (filter_had (is_of k) es f q.0) (newest_key maps es k e h ∙ sym (newest_key maps es k f q)) number)
 
 -- where numbers fall
 top_only : (e : Entry) (es : List Entry) → IsFalling (e ∷ es) → (o : Option Entry) → IsNewestOf (e ∷ es) o → o ≡ Some e
@@ -224,11 +222,11 @@ once_singular (es ∷ sources) rise apart = singular_append es (flat_map (λ es.
 singular_filter : (t : Entry → Bool) (es : List Entry) → IsSingular es → IsSingular (filter t es)
 singular_filter t es single = λ e f he hf. single e f (filter_had t es e he) (filter_had t es f hf)
 
-pub is_view : ShownIsView
-is_view s sources m test out at_key once h =
+pub is_view : (maps : MapsAreRead) → ShownIsView
+is_view maps s sources m test out at_key once h =
     let all = flat_map (λ (es : List Entry). es) sources in
     let counts = λ (e : Entry). ltb e.key.seqno s in
-    shown_of_newest test (filter counts all) out m (λ k. top k s all) (λ k. newest_top k s all) (only_singular (filter counts all) (singular_filter counts all (once_singular sources once.rise once.apart))) at_key
+    shown_of_newest maps test (filter counts all) out m (λ k. top k s all) (λ k. newest_top k s all) (only_singular maps (filter counts all) (singular_filter counts all (once_singular sources once.rise once.apart))) at_key
     (subst (λ es. ShowsOf test es out) (counted_flat s sources) h)
 
 -- ---- the view where numbers fall
@@ -246,11 +244,11 @@ over-append : (xs ys : List Entry) (b : Option Bytes) → over (xs ++ ys) b ≡ 
 over-append [] ys b = refl
 over-append (x ∷ xs) ys b = refl
 
-get-overlaid : (es : List Entry) (m : Map) (k : Bytes) → get (overlaid es m) k ≡ over (stack k es) (get m k)
-get-overlaid [] m k = refl
-get-overlaid (e ∷ es) m k = get-changed (overlaid es m) e k ∙ (elim (is_same k e.key.user_key) as (λ b. cond b (value_of e) (get (overlaid es m) k) ≡ over (cond b (e ∷ stack k es) (stack k es)) (get m k)) [
+get-overlaid : (maps : MapsAreRead) → (es : List Entry) (m : Map) (k : Bytes) → get (overlaid es m) k ≡ over (stack k es) (get m k)
+get-overlaid maps [] m k = refl
+get-overlaid maps (e ∷ es) m k = maps.changed (overlaid es m) e k ∙ (elim (is_same k e.key.user_key) as (λ b. cond b (value_of e) (get (overlaid es m) k) ≡ over (cond b (e ∷ stack k es) (stack k es)) (get m k)) [
   | true ↦ refl
-  | false ↦ get-overlaid es m k
+  | false ↦ get-overlaid maps es m k
 ])
 
 seen_over : (s : ℕ) (l : List Entry) → seen s l ≡ over (filter (λ e. ltb e.key.seqno s) l) None
@@ -260,14 +258,14 @@ seen_over s (e ∷ l) = elim (ltb e.key.seqno s) as (λ b. shown (cond b (Some e
   | false ↦ seen_over s l
 ]
 
-get-view_over : (s : ℕ) (sources : List (List Entry)) (k : Bytes) → get (view s sources) k ≡ over (stack k (all_counted (map (at s) sources))) None
-get-view_over s sources k =
+get-view_over : (maps : MapsAreRead) → (s : ℕ) (sources : List (List Entry)) (k : Bytes) → get (view s sources) k ≡ over (stack k (all_counted (map (at s) sources))) None
+get-view_over maps s sources k =
     let all = flat_map (λ (es : List Entry). es) sources in
-    get-map_of k s all ∙ seen_over s (stack k all) ∙ ap (λ l. over l None) (filter_swap (λ e. ltb e.key.seqno s) (is_of k) all ∙ ap (stack k) (sym (counted_flat s sources)))
+    maps.map_of k s all ∙ seen_over s (stack k all) ∙ ap (λ l. over l None) (filter_swap (λ e. ltb e.key.seqno s) (is_of k) all ∙ ap (stack k) (sym (counted_flat s sources)))
 
-shown_falling : (test : Bytes → Bool) (es out : List Entry) (m : Map) → ((k : Bytes) → IsFalling (stack k es)) → ((k : Bytes) → get m k ≡ over (stack k es) None) → ShowsOf test es out → map pair_of out ≡ pairs_of test m
-shown_falling test es out m fall same h =
-    shown_of_newest test es out m (λ k. first_item (stack k es)) (λ k. first_falling (stack k es) (fall k)) (λ k. only_falling (stack k es) (fall k)) (λ k. same k ∙ over_none (stack k es)) h
+shown_falling : (maps : MapsAreRead) → (test : Bytes → Bool) (es out : List Entry) (m : Map) → ((k : Bytes) → IsFalling (stack k es)) → ((k : Bytes) → get m k ≡ over (stack k es) None) → ShowsOf test es out → map pair_of out ≡ pairs_of test m
+shown_falling maps test es out m fall same h =
+    shown_of_newest maps test es out m (λ k. first_item (stack k es)) (λ k. first_falling (stack k es) (fall k)) (λ k. only_falling (stack k es) (fall k)) (λ k. same k ∙ over_none (stack k es)) h
 
 falling_filter : (t : Entry → Bool) (l : List Entry) → IsFalling l → IsFalling (filter t l)
 falling_filter t [] h = tt
@@ -283,33 +281,33 @@ counted_falls s sources ordered k =
     let counts = λ (e : Entry). ltb e.key.seqno s in
     subst IsFalling (filter_swap counts (is_of k) all ∙ ap (stack k) (sym (counted_flat s sources))) (falling_filter counts (stack k all) (ordered k))
 
-shown_ordered : (s : ℕ) (sources : List (List Entry)) (test : Bytes → Bool) (out : List Entry) → IsOrdered sources → ShowsOf test (all_counted (map (at s) sources)) out → map pair_of out ≡ pairs_of test (view s sources)
-shown_ordered s sources test out ordered h = shown_falling test (all_counted (map (at s) sources)) out (view s sources) (counted_falls s sources ordered) (get-view_over s sources) h
+shown_ordered : (maps : MapsAreRead) → (s : ℕ) (sources : List (List Entry)) (test : Bytes → Bool) (out : List Entry) → IsOrdered sources → ShowsOf test (all_counted (map (at s) sources)) out → map pair_of out ≡ pairs_of test (view s sources)
+shown_ordered maps s sources test out ordered h = shown_falling maps test (all_counted (map (at s) sources)) out (view s sources) (counted_falls s sources ordered) (get-view_over maps s sources) h
 
-pub is_answer : ShownIsAnswer
-is_answer s sources low high out ordered h = ap Pairs (sym (shown_ordered s sources (lies_within low high) out ordered h))
+pub is_answer : (maps : MapsAreRead) → ShownIsAnswer
+is_answer maps s sources low high out ordered h = ap Pairs (sym (shown_ordered maps s sources (lies_within low high) out ordered h))
 
-pub is_prefix_answer : ShownIsPrefixAnswer
-is_prefix_answer s sources prefix out ordered h = ap Pairs (sym (shown_ordered s sources (begins_with prefix) out ordered h))
+pub is_prefix_answer : (maps : MapsAreRead) → ShownIsPrefixAnswer
+is_prefix_answer maps s sources prefix out ordered h = ap Pairs (sym (shown_ordered maps s sources (begins_with prefix) out ordered h))
 
 -- ---- an index on top
 
 -- the entries of a key fall in a source
-rises_falling : (k : Bytes) (es : List Entry) → Rises entry_cmp es → IsFalling (stack k es)
-rises_falling k [] rises = tt
-rises_falling k (e ∷ es) rises = elim (is_same k e.key.user_key) as (λ b. is_same k e.key.user_key ≡ b → IsFalling (cond b (e ∷ stack k es) (stack k es))) [
-  | true ↦ λ same. (lower (same_key k e.key.user_key same) es rises.0, rises_falling k es rises.1)
-  | false ↦ λ same. rises_falling k es rises.1
+rises_falling : (maps : MapsAreRead) → (k : Bytes) (es : List Entry) → Rises entry_cmp es → IsFalling (stack k es)
+rises_falling maps k [] rises = tt
+rises_falling maps k (e ∷ es) rises = elim (is_same k e.key.user_key) as (λ b. is_same k e.key.user_key ≡ b → IsFalling (cond b (e ∷ stack k es) (stack k es))) [
+  | true ↦ λ same. (lower (maps.same_key k e.key.user_key same) es rises.0, rises_falling maps k es rises.1)
+  | false ↦ λ same. rises_falling maps k es rises.1
 ] refl
   where
     lower : k ≡ e.key.user_key → (l : List Entry) → All (λ f. entry_cmp e f ≡ Less) l → AllByRecursion (λ f. f.key.seqno < e.key.seqno) (stack k l)
     lower here [] h = tt
     lower here (f ∷ l) h = elim (is_same k f.key.user_key) as (λ b. is_same k f.key.user_key ≡ b → AllByRecursion (λ f. f.key.seqno < e.key.seqno) (cond b (f ∷ stack k l) (stack k l))) [
-      | true ↦ λ same. (behind_below e f (All-head (λ f. entry_cmp e f ≡ Less) f l h) (sym here ∙ same_key k f.key.user_key same), lower here l (All-tail (λ f. entry_cmp e f ≡ Less) f l h))
+      | true ↦ λ same. (behind_below e f (All-head (λ f. entry_cmp e f ≡ Less) f l h) (sym here ∙ maps.same_key k f.key.user_key same), lower here l (All-tail (λ f. entry_cmp e f ≡ Less) f l h))
       | false ↦ λ same. lower here l (All-tail (λ f. entry_cmp e f ≡ Less) f l h)
     ] refl
 
-module _ (index : List Entry) (sources : List (List Entry)) (below s : ℕ) (top_of : IsOnTop index sources) where
+module _ (maps : MapsAreRead) (parts : PartsAreWhole) (index : List Entry) (sources : List (List Entry)) (below s : ℕ) (top_of : IsOnTop index sources) where
   abbrev all : List Entry
   all = flat_map (λ es. es) sources
 
@@ -323,7 +321,7 @@ module _ (index : List Entry) (sources : List (List Entry)) (below s : ℕ) (top
   high_here e h = All-contains (λ e. above all ≤ e.key.seqno) index e (All-from_recursion (λ e. above all ≤ e.key.seqno) index top_of.high) (filter_had (λ e. ltb e.key.seqno below) index e h)
 
   low_there : (f : Entry) → Contains tree f → f.key.seqno < above all
-  low_there f h = All-contains (λ f. f.key.seqno < above all) all f (All-from_recursion (λ f. f.key.seqno < above all) all (each_above all)) (filter_had (λ e. ltb e.key.seqno s) all f h)
+  low_there f h = All-contains (λ f. f.key.seqno < above all) all f (All-from_recursion (λ f. f.key.seqno < above all) all (parts.below all)) (filter_had (λ e. ltb e.key.seqno s) all f h)
 
   index_apart : AreApart over_all tree
   index_apart e f he hf key number = let up = high_here e he in let low = low_there f hf in omega arith
@@ -334,7 +332,7 @@ module _ (index : List Entry) (sources : List (List Entry)) (below s : ℕ) (top
       go : (l : List Entry) → stack k over_all ≡ l → IsNewestOf (l ++ stack k tree) (option_or (first_item l) (top k s all))
       go [] is = newest_top k s all
       go (e ∷ l) is =
-          let falls : IsFalling (e ∷ l) = subst IsFalling (filter_swap (λ f. ltb f.key.seqno below) (is_of k) index ∙ is) (falling_filter (λ f. ltb f.key.seqno below) (stack k index) (rises_falling k index top_of.rises)) in
+          let falls : IsFalling (e ∷ l) = subst IsFalling (filter_swap (λ f. ltb f.key.seqno below) (is_of k) index ∙ is) (falling_filter (λ f. ltb f.key.seqno below) (stack k index) (rises_falling maps k index top_of.rises)) in
           let own = first_falling (e ∷ l) falls in
           let up : above all ≤ e.key.seqno = high_here e (filter_had (is_of k) over_all e (subst (λ x. Contains x e) (sym is) own.0)) in (
             Contains-append_left (e ∷ l) (stack k tree) e own.0,
@@ -343,7 +341,7 @@ module _ (index : List Entry) (sources : List (List Entry)) (below s : ℕ) (top
           )
 
   shown_over : (m : Map) (k : Bytes) → get m k ≡ shown (top k s all) → get (overlaid over_all m) k ≡ shown (option_or (first_item (stack k over_all)) (top k s all))
-  shown_over m k is = get-overlaid over_all m k ∙ ap (over (stack k over_all)) is ∙ go (stack k over_all)
+  shown_over m k is = get-overlaid maps over_all m k ∙ ap (over (stack k over_all)) is ∙ go (stack k over_all)
     where
       go : (l : List Entry) → over l (shown (top k s all)) ≡ shown (option_or (first_item l) (top k s all))
       go [] = refl
@@ -352,21 +350,21 @@ module _ (index : List Entry) (sources : List (List Entry)) (below s : ℕ) (top
   pub overlaid_shown : (m : Map) (test : Bytes → Bool) (out : List Entry) → ((k : Bytes) → get m k ≡ view_at k s sources) → StandOnce sources → ShowsOf test (over_all ++ tree) out → map pair_of out ≡ pairs_of test (overlaid over_all m)
   overlaid_shown m test out at_key once h =
       let single : IsSingular (over_all ++ tree) = singular_append over_all tree (singular_filter (λ e. ltb e.key.seqno below) index (rises_singular index top_of.rises)) (singular_filter (λ e. ltb e.key.seqno s) all (once_singular sources once.rise once.apart)) index_apart in
-      shown_of_newest test (over_all ++ tree) out (overlaid over_all m) (λ k. option_or (first_item (stack k over_all)) (top k s all))
+      shown_of_newest maps test (over_all ++ tree) out (overlaid over_all m) (λ k. option_or (first_item (stack k over_all)) (top k s all))
       (λ k. subst (λ l. IsNewestOf l (option_or (first_item (stack k over_all)) (top k s all))) (sym (filter-append (is_of k) over_all tree)) (newest_over k))
-      (only_singular (over_all ++ tree) single) (λ k. shown_over m k (at_key k)) h
+      (only_singular maps (over_all ++ tree) single) (λ k. shown_over m k (at_key k)) h
 
-pub is_overlaid : ShownIsOverlaid
-is_overlaid s st m test out at_key once on_top h = go st.overlay refl on_top
+pub is_overlaid : (maps : MapsAreRead) (parts : PartsAreWhole) → ShownIsOverlaid
+is_overlaid maps parts s st m test out at_key once on_top h = go st.overlay refl on_top
   where
-    parts : counted_at s st ≡ all_counted (option_to_list st.overlay) ++ filter (λ e. ltb e.key.seqno s) (flat_map (λ es. es) (tree_of st))
-    parts = flat_map-append counted (option_to_list st.overlay) (map (at s) (tree_of st)) ∙ ap (λ l. all_counted (option_to_list st.overlay) ++ l) (counted_flat s (tree_of st))
+    halves : counted_at s st ≡ all_counted (option_to_list st.overlay) ++ filter (λ e. ltb e.key.seqno s) (flat_map (λ es. es) (tree_of st))
+    halves = flat_map-append counted (option_to_list st.overlay) (map (at s) (tree_of st)) ∙ ap (λ l. all_counted (option_to_list st.overlay) ++ l) (counted_flat s (tree_of st))
 
     go : (o : Option Part) → st.overlay ≡ o → IfSome o (λ part. IsOnTop part.entries (tree_of st)) → map pair_of out ≡ pairs_of test (overlaid (all_counted (option_to_list o)) m)
-    go None is none = is_view s (tree_of st) m test out at_key once (subst (λ es. ShowsOf test es out) (parts ∙ ap (λ o. all_counted (option_to_list o) ++ filter (λ e. ltb e.key.seqno s) (flat_map (λ es. es) (tree_of st))) is ∙ sym (counted_flat s (tree_of st))) h)
+    go None is none = is_view maps s (tree_of st) m test out at_key once (subst (λ es. ShowsOf test es out) (halves ∙ ap (λ o. all_counted (option_to_list o) ++ filter (λ e. ltb e.key.seqno s) (flat_map (λ es. es) (tree_of st))) is ∙ sym (counted_flat s (tree_of st))) h)
     go (Some part) is some =
         let one : all_counted (part ∷ []) ≡ counted part = append-nil (counted part) in
         let whole : counted_at s st ≡ counted part ++ filter (λ e. ltb e.key.seqno s) (flat_map (λ es. es) (tree_of st)) =
-        parts ∙ ap (λ o. all_counted (option_to_list o) ++ filter (λ e. ltb e.key.seqno s) (flat_map (λ es. es) (tree_of st))) is ∙ ap (λ l. l ++ filter (λ e. ltb e.key.seqno s) (flat_map (λ es. es) (tree_of st))) one in
-        overlaid_shown part.entries (tree_of st) part.below s some m test out at_key once (subst (λ es. ShowsOf test es out) whole h)
+        halves ∙ ap (λ o. all_counted (option_to_list o) ++ filter (λ e. ltb e.key.seqno s) (flat_map (λ es. es) (tree_of st))) is ∙ ap (λ l. l ++ filter (λ e. ltb e.key.seqno s) (flat_map (λ es. es) (tree_of st))) one in
+        overlaid_shown maps parts part.entries (tree_of st) part.below s some m test out at_key once (subst (λ es. ShowsOf test es out) whole h)
         ∙ ap (λ l. pairs_of test (overlaid l m)) (sym one)

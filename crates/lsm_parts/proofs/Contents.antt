@@ -7,10 +7,10 @@ use Rattle.std.proofs.lemmas.Cmp.{ranked}
 use Rattle.lsm_below.specs.Keys.{bytes_cmp}
 use Rattle.lsm_below.specs.Sorted.{Rises, put, by_ordering}
 use Rattle.lsm_below.specs.Entries.{Entry, entry_cmp}
+use Rattle.lsm_below.specs.Laws.{EntriesAreOrdered}
 use Rattle.lsm_parts.specs.Memtables.{SeenMemtable, highest_of, with_entries}
 use Rattle.lsm_parts.specs.Contents.{SeenContent, added, all_added}
 use Rattle.lsm_parts.proofs.Sorted.{rises_put}
-use Rattle.lsm_below.proofs.Orders.{entry_total}
 
 -- entries that tie have one number
 tied_numbers : (r : Ordering) (n m : ℕ) → ordering_then r (nat_cmp n m) ≡ Equal → n ≡ m
@@ -29,18 +29,18 @@ highest_of-put e (x ∷ xs) = go (highest_of-put e xs) (entry_cmp x e) refl
     go later Greater is = ap Some (omega arith)
 
 -- an insert keeps the order, and the greatest number
-pub content_kept : (e : Entry) (old new : SeenContent) → Rises entry_cmp old.entries → old.highest ≡ highest_of old.entries → new ≡ added e old → Rises entry_cmp new.entries × (new.highest ≡ highest_of new.entries)
-content_kept e old new rises highest is = rw is (
-  rises_put entry_total e old.entries rises,
+pub content_kept : (entries : EntriesAreOrdered) → (e : Entry) (old new : SeenContent) → Rises entry_cmp old.entries → old.highest ≡ highest_of old.entries → new ≡ added e old → Rises entry_cmp new.entries × (new.highest ≡ highest_of new.entries)
+content_kept entries e old new rises highest is = rw is (
+  rises_put entries.total e old.entries rises,
   ap (λ o. Some (max (unwrap_or o 0) e.key.seqno)) highest ∙ sym (highest_of-put e old.entries),
 )
 
 -- so does an insert of each entry in turn
-pub contents_kept : (es : List Entry) (old new : SeenContent) → Rises entry_cmp old.entries → old.highest ≡ highest_of old.entries → new ≡ all_added es old → Rises entry_cmp new.entries × (new.highest ≡ highest_of new.entries)
-contents_kept [] old new rises highest is = rw is (rises, highest)
-contents_kept (e ∷ es) old new rises highest is =
-    let kept = content_kept e old (added e old) rises highest refl in
-    contents_kept es (added e old) new kept.0 kept.1 is
+pub contents_kept : (entries : EntriesAreOrdered) → (es : List Entry) (old new : SeenContent) → Rises entry_cmp old.entries → old.highest ≡ highest_of old.entries → new ≡ all_added es old → Rises entry_cmp new.entries × (new.highest ≡ highest_of new.entries)
+contents_kept entries [] old new rises highest is = rw is (rises, highest)
+contents_kept entries (e ∷ es) old new rises highest is =
+    let kept = content_kept entries e old (added e old) rises highest refl in
+    contents_kept entries es (added e old) new kept.0 kept.1 is
 
 -- a memtable of a content
 abbrev pub memtable_of : ℕ → Bool → SeenContent → SeenMemtable

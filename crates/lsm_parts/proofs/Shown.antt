@@ -18,9 +18,9 @@ use Rattle.lsm_below.specs.Streams.{IsInOrder, Merges, IsByKey, first_of, is_of}
 use Rattle.lsm_below.specs.Slots.{rest_of}
 use Rattle.lsm_below.specs.declared.value_type.ValueType.{ValueType}
 use Rattle.lsm_below.specs.declared.value_type.ValueType.TheVariants.{Value, Tombstone, WeakTombstone}
-use Rattle.lsm_below.proofs.OneKey.{number_falls, same_from}
-use Rattle.lsm_model.proofs.Journals.{same_key}
+use Rattle.lsm_below.specs.Laws.{EntriesAreOrdered}
 use Rattle.lsm_model.specs.Views.{shown}
+use Rattle.lsm_model.specs.Laws.{MapsAreRead}
 use Rattle.lsm_parts.specs.Memtables.{within}
 use Rattle.lsm_parts.specs.Shown.{lies_within, IsNewestOf, IsNewest, IsShown, by_key, Shows}
 use Rattle.lsm_parts.specs.Reads.{Part, cut, counted, all_counted}
@@ -116,17 +116,17 @@ abbrev pub first_item : List Entry → Option Entry
 first_item [] = None
 first_item (e ∷ es) = Some e
 
-lowers : (k : Bytes) (e : Entry) (es : List Entry) → is_of k e ≡ true → AllByRecursion (λ f. is_of k f ≡ true) es → AllByRecursion (λ f. is_le (entry_cmp e f) ≡ true) es → AllByRecursion (λ f. f.key.seqno ≤ e.key.seqno) es
-lowers k e [] ke of le = tt
-lowers k e (f ∷ es) ke of le = (number_falls e f (same_from k e f ke of.0) le.0, lowers k e es ke of.1 le.1)
+lowers : (entries : EntriesAreOrdered) → (k : Bytes) (e : Entry) (es : List Entry) → is_of k e ≡ true → AllByRecursion (λ f. is_of k f ≡ true) es → AllByRecursion (λ f. is_le (entry_cmp e f) ≡ true) es → AllByRecursion (λ f. f.key.seqno ≤ e.key.seqno) es
+lowers entries k e [] ke of le = tt
+lowers entries k e (f ∷ es) ke of le = (entries.number_falls e f (entries.alike k e f ke of.0) le.0, lowers entries k e es ke of.1 le.1)
 
 -- of one key's entries in order the first is the newest one
-pub newest_first : (k : Bytes) (all sorted : List Entry) → IsPermutation all sorted → IsInOrder sorted → AllByRecursion (λ f. is_of k f ≡ true) sorted → IsNewestOf all (first_item sorted)
-newest_first k all [] perm order of = nil_from_length all (sym (length_permutation all [] perm))
-newest_first k all (e ∷ es) perm order of =
+pub newest_first : (entries : EntriesAreOrdered) → (k : Bytes) (all sorted : List Entry) → IsPermutation all sorted → IsInOrder sorted → AllByRecursion (λ f. is_of k f ≡ true) sorted → IsNewestOf all (first_item sorted)
+newest_first entries k all [] perm order of = nil_from_length all (sym (length_permutation all [] perm))
+newest_first entries k all (e ∷ es) perm order of =
     let back = IsPermutation-sym all (e ∷ es) perm in
     let own : e.key.seqno ≤ e.key.seqno = omega arith in
-    (Contains-permutation (e ∷ es) all e back (contains_here e es), All-permutation (λ f. f.key.seqno ≤ e.key.seqno) (e ∷ es) all back (All-from_recursion (λ f. f.key.seqno ≤ e.key.seqno) (e ∷ es) (own, lowers k e es of.0 of.1 order.0)))
+    (Contains-permutation (e ∷ es) all e back (contains_here e es), All-permutation (λ f. f.key.seqno ≤ e.key.seqno) (e ∷ es) all back (All-from_recursion (λ f. f.key.seqno ≤ e.key.seqno) (e ∷ es) (own, lowers entries k e es of.0 of.1 order.0)))
 
 pub first_listed : (es : List Entry) → first_of es ≡ option_to_list (first_item es)
 first_listed [] = refl
@@ -134,36 +134,36 @@ first_listed (e ∷ es) = refl
 
 -- ---- cuts and keys
 
-module _ (low high : Bound Bytes) where
-  -- a key's entries of cuts
-  abbrev pub of_cuts : Bytes → List Part → List Entry
-  of_cuts k parts = flat_map (λ p. stack k (counted p)) (map (cut low high) parts)
+-- a key's entries of cuts
+abbrev pub of_cuts : Bound Bytes → Bound Bytes → Bytes → List Part → List Entry
+of_cuts low high k parts = flat_map (λ p. stack k (counted p)) (map (cut low high) parts)
 
-  pub inside : (k : Bytes) → lies_within low high k ≡ true → (parts : List Part) → of_cuts k parts ≡ stack k (all_counted parts)
+module _ (maps : MapsAreRead) (low high : Bound Bytes) where
+  pub inside : (k : Bytes) → lies_within low high k ≡ true → (parts : List Part) → of_cuts low high k parts ≡ stack k (all_counted parts)
   inside k h [] = refl
   inside k h (p ∷ parts) =
-      ap (λ l. l ++ flat_map (λ p. stack k (counted p)) (map (cut low high) parts)) (filter_inner (is_of k) (λ e. ltb e.key.seqno p.below) (λ e. lies_within low high e.key.user_key) (λ e q. ap (lies_within low high) (sym (same_key k e.key.user_key q)) ∙ h) p.entries)
+      ap (λ l. l ++ flat_map (λ p. stack k (counted p)) (map (cut low high) parts)) (filter_inner (is_of k) (λ e. ltb e.key.seqno p.below) (λ e. lies_within low high e.key.user_key) (λ e q. ap (lies_within low high) (sym (maps.same_key k e.key.user_key q)) ∙ h) p.entries)
       ∙ ap (λ l. stack k (counted p) ++ l) (inside k h parts) ∙ sym (filter-append (is_of k) (counted p) (all_counted parts))
 
-  pub outside : (k : Bytes) → lies_within low high k ≡ false → (parts : List Part) → of_cuts k parts ≡ []
+  pub outside : (k : Bytes) → lies_within low high k ≡ false → (parts : List Part) → of_cuts low high k parts ≡ []
   outside k h [] = refl
   outside k h (p ∷ parts) =
-      ap (λ l. l ++ flat_map (λ p. stack k (counted p)) (map (cut low high) parts)) (filter_outer (is_of k) (λ e. ltb e.key.seqno p.below) (λ e. lies_within low high e.key.user_key) (λ e q. ap (lies_within low high) (sym (same_key k e.key.user_key q)) ∙ h) p.entries)
+      ap (λ l. l ++ flat_map (λ p. stack k (counted p)) (map (cut low high) parts)) (filter_outer (is_of k) (λ e. ltb e.key.seqno p.below) (λ e. lies_within low high e.key.user_key) (λ e q. ap (lies_within low high) (sym (maps.same_key k e.key.user_key q)) ∙ h) p.entries)
       ∙ outside k h parts
 
 -- a key's entries of those within bounds
-pub only_within : (low high : Bound Bytes) (k : Bytes) → lies_within low high k ≡ true → (es : List Entry) → stack k (within low high es) ≡ stack k es
-only_within low high k h es =
-    sym (ap (filter (is_of k)) (filter_every (within low high es))) ∙ filter_inner (is_of k) (λ e. true) (λ e. lies_within low high e.key.user_key) (λ e q. ap (lies_within low high) (sym (same_key k e.key.user_key q)) ∙ h) es
+pub only_within : (maps : MapsAreRead) → (low high : Bound Bytes) (k : Bytes) → lies_within low high k ≡ true → (es : List Entry) → stack k (within low high es) ≡ stack k es
+only_within maps low high k h es =
+    sym (ap (filter (is_of k)) (filter_every (within low high es))) ∙ filter_inner (is_of k) (λ e. true) (λ e. lies_within low high e.key.user_key) (λ e q. ap (lies_within low high) (sym (maps.same_key k e.key.user_key q)) ∙ h) es
     ∙ ap (filter (is_of k)) (filter_every es)
   where
     filter_every : (xs : List Entry) → filter (λ e. true) xs ≡ xs
     filter_every [] = refl
     filter_every (x ∷ xs) = ap (λ l. x ∷ l) (filter_every xs)
 
-pub all_outside : (low high : Bound Bytes) (k : Bytes) → lies_within low high k ≡ false → (es : List Entry) → stack k (within low high es) ≡ []
-all_outside low high k h es =
-    sym (ap (filter (is_of k)) (filter_each (within low high es))) ∙ filter_outer (is_of k) (λ e. true) (λ e. lies_within low high e.key.user_key) (λ e q. ap (lies_within low high) (sym (same_key k e.key.user_key q)) ∙ h) es
+pub all_outside : (maps : MapsAreRead) → (low high : Bound Bytes) (k : Bytes) → lies_within low high k ≡ false → (es : List Entry) → stack k (within low high es) ≡ []
+all_outside maps low high k h es =
+    sym (ap (filter (is_of k)) (filter_each (within low high es))) ∙ filter_outer (is_of k) (λ e. true) (λ e. lies_within low high e.key.user_key) (λ e q. ap (lies_within low high) (sym (maps.same_key k e.key.user_key q)) ∙ h) es
   where
     filter_each : (xs : List Entry) → filter (λ e. true) xs ≡ xs
     filter_each [] = refl
@@ -186,20 +186,20 @@ first_none (e ∷ es) h = absurd (cc h)
 abbrev pub lists_of : Bytes → List Cut → List (List Entry)
 lists_of k cuts = map (λ c. stack k (rest_of c.over (counted (part_of c))).entries) cuts
 
-module _ (low high : Bound Bytes) (parts : List Part) (cuts : List Cut) (merged : List Entry) (are : AreCuts low high parts cuts) (merges : (k : Bytes) → Merges (lists_of k cuts) (stack k merged)) where
+module _ (entries : EntriesAreOrdered) (maps : MapsAreRead) (low high : Bound Bytes) (parts : List Part) (cuts : List Cut) (merged : List Entry) (are : AreCuts low high parts cuts) (merges : (k : Bytes) → Merges (lists_of k cuts) (stack k merged)) where
   same_lists : (k : Bytes) → flat_map (λ l. l) (lists_of k cuts) ≡ of_cuts low high k parts
   same_lists k = given k cuts are.fresh ∙ ap (flat_map (λ p. stack k (counted p))) are.same
 
   found : (k : Bytes) → IsNewestOf (flat_map (λ l. l) (lists_of k cuts)) (first_item (stack k merged))
-  found k = newest_first k (flat_map (λ l. l) (lists_of k cuts)) (stack k merged) (merges k).same (merges k).in_order (recursion_from_All (λ f. is_of k f ≡ true) (stack k merged) (filter_passes (is_of k) merged))
+  found k = newest_first entries k (flat_map (λ l. l) (lists_of k cuts)) (stack k merged) (merges k).same (merges k).in_order (recursion_from_All (λ f. is_of k f ≡ true) (stack k merged) (filter_passes (is_of k) merged))
 
   pub newest_of_cuts : (out : List Entry) → IsByKey first_of merged out → AreNewest low high (all_counted parts) out
   newest_of_cuts out by = record {
     in_order = by.in_order;
     newest = λ k. first_item (stack k merged);
     stacks = λ k. by.stacks k ∙ first_listed (stack k merged);
-    inner = λ k h. subst (λ l. IsNewestOf l (first_item (stack k merged))) (same_lists k ∙ inside low high k h parts) (found k);
-    outer = λ k h. first_none (stack k merged) (nil_from_length (stack k merged) (length_permutation (flat_map (λ l. l) (lists_of k cuts)) (stack k merged) (merges k).same ∙ ap length (same_lists k ∙ outside low high k h parts)));
+    inner = λ k h. subst (λ l. IsNewestOf l (first_item (stack k merged))) (same_lists k ∙ inside maps low high k h parts) (found k);
+    outer = λ k h. first_none (stack k merged) (nil_from_length (stack k merged) (length_permutation (flat_map (λ l. l) (lists_of k cuts)) (stack k merged) (merges k).same ∙ ap length (same_lists k ∙ outside maps low high k h parts)));
   }
 
 -- ---- a cut stands in order

@@ -14,11 +14,9 @@ use Rattle.lsm_below.specs.Entries.{Entry, stack, is_value}
 use Rattle.lsm_below.specs.Streams.{IsInOrder, is_of}
 use Rattle.lsm_below.specs.Slots.{merged, firsts}
 use Rattle.lsm_below.specs.Sorted.{Rises}
-use Rattle.lsm_below.proofs.Bridge.{stacks_merge}
-use Rattle.lsm_below.proofs.Keeping.{takes_firsts}
-use Rattle.lsm_below.proofs.Merging.{merges_merged}
-use Rattle.lsm_below.proofs.Orders.{le_trans, le_of_lt}
+use Rattle.lsm_below.specs.Laws.{KeysAreOrdered, EntriesAreOrdered, MergesByKey}
 use Rattle.lsm_model.specs.Journal.{is_from, is_to}
+use Rattle.lsm_model.specs.Laws.{MapsAreRead}
 use Rattle.lsm_parts.specs.Memtables.{within}
 use Rattle.lsm_parts.specs.Shown.{lies_within, IsNewestOf, IsShown, IsHidden, by_key, Shows}
 use Rattle.lsm_parts.specs.Reads.{Part, cut, counted, all_counted}
@@ -34,7 +32,7 @@ none_newest : (o : Option Entry) → IsNewestOf [] o → o ≡ None
 none_newest None h = refl
 none_newest (Some e) h = absurd (omega (arith, h.0.1))
 
-module _ (low high : Bound Bytes) (es : List Entry) where
+module _ (entries : EntriesAreOrdered) (merging : MergesByKey) (maps : MapsAreRead) (low high : Bound Bytes) (es : List Entry) where
   -- the entries within bounds, one list each
   abbrev singles : List Entry → List (List Entry)
   singles xs = map (λ e. e ∷ []) xs
@@ -55,16 +53,16 @@ module _ (low high : Bound Bytes) (es : List Entry) where
 
   newest_any : AreNewest low high es (firsts sorted)
   newest_any =
-      let by = takes_firsts sorted (merges_merged (singles (within low high es)) (in_order (within low high es))).in_order in
-      let merges = λ (k : Bytes). stacks_merge (singles (within low high es)) (in_order (within low high es)) k in
+      let by = merging.firsts sorted (merging.merges (singles (within low high es)) (in_order (within low high es))).in_order in
+      let merges = λ (k : Bytes). merging.stacks (singles (within low high es)) (in_order (within low high es)) k in
       let found : (k : Bytes) → IsNewestOf (stack k (within low high es)) (first_item (stack k sorted)) = λ k. subst (λ l. IsNewestOf l (first_item (stack k sorted))) (stacked k (within low high es))
-      (newest_first k (flat_map (λ l. l) (map (stack k) (singles (within low high es)))) (stack k sorted) (merges k).same (merges k).in_order (recursion_from_All (λ f. is_of k f ≡ true) (stack k sorted) (filter_passes (is_of k) sorted))) in
+      (newest_first entries k (flat_map (λ l. l) (map (stack k) (singles (within low high es)))) (stack k sorted) (merges k).same (merges k).in_order (recursion_from_All (λ f. is_of k f ≡ true) (stack k sorted) (filter_passes (is_of k) sorted))) in
       record {
         in_order = by.in_order;
         newest = λ k. first_item (stack k sorted);
         stacks = λ k. by.stacks k ∙ first_listed (stack k sorted);
-        inner = λ k h. subst (λ l. IsNewestOf l (first_item (stack k sorted))) (only_within low high k h es) (found k);
-        outer = λ k h. none_newest (first_item (stack k sorted)) (subst (λ l. IsNewestOf l (first_item (stack k sorted))) (all_outside low high k h es) (found k));
+        inner = λ k h. subst (λ l. IsNewestOf l (first_item (stack k sorted))) (only_within maps low high k h es) (found k);
+        outer = λ k h. none_newest (first_item (stack k sorted)) (subst (λ l. IsNewestOf l (first_item (stack k sorted))) (all_outside maps low high k h es) (found k));
       }
 
   pub shows_any : (out : List Entry) × Shows low high es out
@@ -83,25 +81,25 @@ is_less Equal h = absurd (cc h)
 is_less Greater h = absurd (cc h)
 
 -- what lies below a key within an upper bound lies within it
-to_down : (high : Bound Bytes) (k q : Bytes) → is_to high k ≡ true → is_lt (bytes_cmp q k) ≡ true → is_to high q ≡ true
-to_down (Included high) k q h lt = le_trans nat_list_cmp_total q k high (le_of_lt nat_list_cmp_total q k lt) h
-to_down (Excluded high) k q h lt = ap is_lt (nat_list_cmp_total.trans q k high (is_less (bytes_cmp q k) lt) (is_less (bytes_cmp k high) h))
-to_down Unbounded k q h lt = refl
+to_down : (keys : KeysAreOrdered) → (high : Bound Bytes) (k q : Bytes) → is_to high k ≡ true → is_lt (bytes_cmp q k) ≡ true → is_to high q ≡ true
+to_down keys (Included high) k q h lt = keys.le_trans q k high (keys.le_of_lt q k lt) h
+to_down keys (Excluded high) k q h lt = ap is_lt (nat_list_cmp_total.trans q k high (is_less (bytes_cmp q k) lt) (is_less (bytes_cmp k high) h))
+to_down keys Unbounded k q h lt = refl
 
 append_none : (xs ys : List Entry) → xs ++ ys ≡ [] → (xs ≡ []) × (ys ≡ [])
 append_none [] ys h = (refl, h)
 append_none (x ∷ xs) ys h = absurd (cc h)
 
-module _ (low high : Bound Bytes) (es : List Entry) (e : Entry) (within_bounds : lies_within low high e.key.user_key ≡ true) (shows : IsShown es e)
+module _ (keys : KeysAreOrdered) (entries : EntriesAreOrdered) (merging : MergesByKey) (maps : MapsAreRead) (low high : Bound Bytes) (es : List Entry) (e : Entry) (within_bounds : lies_within low high e.key.user_key ≡ true) (shows : IsShown es e)
     (past : (k : Bytes) → lies_within low high k ≡ true → bytes_cmp e.key.user_key k ≡ Less → IsHidden es k) where
   before : (out : List Entry) × Shows low (Excluded e.key.user_key) es out
-  before = shows_any low (Excluded e.key.user_key) es
+  before = shows_any entries merging maps low (Excluded e.key.user_key) es
 
   each_below : (f : Entry) → (lies_within low (Excluded e.key.user_key) f.key.user_key ≡ true) × IsShown es f → (lies_within low high f.key.user_key ≡ true) × IsShown es f
   each_below f h =
       let parts = and_parts (is_from low f.key.user_key) (is_to (Excluded e.key.user_key) f.key.user_key) h.0 in
       let own = and_parts (is_from low e.key.user_key) (is_to high e.key.user_key) within_bounds in
-      (and_from (is_from low f.key.user_key) (is_to high f.key.user_key) parts.0 (to_down high e.key.user_key f.key.user_key own.1 parts.1), h.1)
+      (and_from (is_from low f.key.user_key) (is_to high f.key.user_key) parts.0 (to_down keys high e.key.user_key f.key.user_key own.1 parts.1), h.1)
 
   below_last : (f : Entry) → (lies_within low (Excluded e.key.user_key) f.key.user_key ≡ true) × IsShown es f → by_key f e ≡ Less
   below_last f h = is_less (bytes_cmp f.key.user_key e.key.user_key) (and_parts (is_from low f.key.user_key) (is_to (Excluded e.key.user_key) f.key.user_key) h.0).1
@@ -132,7 +130,7 @@ module _ (low high : Bound Bytes) (es : List Entry) (e : Entry) (within_bounds :
 
 -- ---- from cuts to all entries
 
-module _ (low high : Bound Bytes) (parts : List Part) (cuts : List Cut) (are : AreCuts low high parts cuts) where
+module _ (keys : KeysAreOrdered) (entries : EntriesAreOrdered) (merging : MergesByKey) (maps : MapsAreRead) (low high : Bound Bytes) (parts : List Part) (cuts : List Cut) (are : AreCuts low high parts cuts) where
   stacked_parts : (k : Bytes) (ps : List Part) → stack k (all_counted ps) ≡ flat_map (λ p. stack k (counted p)) ps
   stacked_parts k [] = refl
   stacked_parts k (p ∷ ps) = filter-append (is_of k) (counted p) (all_counted ps) ∙ ap (λ l. stack k (counted p) ++ l) (stacked_parts k ps)
@@ -141,19 +139,19 @@ module _ (low high : Bound Bytes) (parts : List Part) (cuts : List Cut) (are : A
   of_all k = ap (λ ps. stack k (all_counted ps)) are.same ∙ stacked_parts k (map (cut low high) parts)
 
   inner : (k : Bytes) → lies_within low high k ≡ true → stack k (counted_in cuts) ≡ stack k (all_counted parts)
-  inner k h = of_all k ∙ inside low high k h parts
+  inner k h = of_all k ∙ inside maps low high k h parts
 
   hidden_all : (k : Bytes) → lies_within low high k ≡ true → IsHidden (counted_in cuts) k → IsHidden (all_counted parts) k
   hidden_all k h hidden = (hidden.0, subst (λ l. IsNewestOf l hidden.0) (inner k h) hidden.1, hidden.2)
 
   shown_inside : (e : Entry) → IsShown (counted_in cuts) e → (b : Bool) → lies_within low high e.key.user_key ≡ b → b ≡ true
   shown_inside e h true is = refl
-  shown_inside e h false is = absurd (omega (arith, (subst (λ l. Contains l e) (of_all e.key.user_key ∙ outside low high e.key.user_key is parts) h.newest.0).1))
+  shown_inside e h false is = absurd (omega (arith, (subst (λ l. Contains l e) (of_all e.key.user_key ∙ outside maps low high e.key.user_key is parts) h.newest.0).1))
 
   pub last_of_cuts : (r : Option Entry) → IsLastShown (counted_in cuts) r → EndShown Back low high (all_counted parts) r
-  last_of_cuts None h = record { rises = tt; each = All-nil (λ e. (lies_within low high e.key.user_key ≡ true) × IsShown (all_counted parts) e); rest = λ k inside none. hidden_all k inside (h k) }
+  last_of_cuts None h = record { rises = tt; each = All-nil (λ e. (lies_within low high e.key.user_key ≡ true) × IsShown (all_counted parts) e); rest = λ k lies none. hidden_all k lies (h k) }
   last_of_cuts (Some e) h =
       let within_bounds = shown_inside e h.0 (lies_within low high e.key.user_key) refl in
-      back_shown low high (all_counted parts) e within_bounds
+      back_shown keys entries merging maps low high (all_counted parts) e within_bounds
       (record { newest = subst (λ l. IsNewestOf l (Some e)) (inner e.key.user_key within_bounds) h.0.newest; value = h.0.value })
-      (λ k inside less. hidden_all k inside (h.1 k less))
+      (λ k lies less. hidden_all k lies (h.1 k less))

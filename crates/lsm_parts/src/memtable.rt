@@ -9,7 +9,8 @@ ghost use Rattle.lsm_parts.specs.Contents.{content_of, added, all_added};
 
 use crate::Error;
 use lsm_below::{
-    ENTRY_OVERHEAD, InternalValue, MemtableId, SeqNo, UserKey, entries_within, first_visible,
+    ENTRY_OVERHEAD, InternalValue, MemtableId, SeqNo, UserKey, entries_are_ordered, entries_within,
+    first_visible,
 };
 use std::alloc::Global;
 use std::marker::Model;
@@ -73,6 +74,7 @@ fn put_entry(entries: &mut Vec<InternalValue>, entry: InternalValue)
     ensures len { vec_len entries.new ≤ vec_len entries.old + 1 }
     ensures capacity { vec_capacity entries.old ≤ vec_capacity entries.new }
 {
+    entries_are_ordered();
     match entries.binary_search_by(|other| other.key.cmp(&entry.key)) {
         Ok(at) => entries[at] = entry,
         Err(at) => {
@@ -103,6 +105,7 @@ fn add_entries(content: &mut Content, batch: Vec<InternalValue>)
     requires room { vec_len content.old.entries + vec_len batch ≤ vec_capacity content.old.entries }
     ensures { content_of content.new ≡ all_added batch.items (content_of content.old) }
 {
+    entries_are_ordered();
     for entry in batch {
         add_entry(content, entry);
     }
@@ -222,6 +225,7 @@ impl Memtable {
         ensures err { OnErr result (self.new ≡ self.old) }
         ensures memory { IfErr result (λ e. e ≡ Error.OutOfMemory) }
     {
+        entries_are_ordered();
         self.content.entries.try_reserve(1)?;
         let added = size_of_entry(&item);
         add_entry(&mut self.content, item);
@@ -236,6 +240,7 @@ impl Memtable {
         ensures err { OnErr result (self.new ≡ self.old) }
         ensures memory { IfErr result (λ e. e ≡ Error.OutOfMemory) }
     {
+        entries_are_ordered();
         self.content.entries.try_reserve(batch.len())?;
         add_entries(&mut self.content, batch);
         Ok(())

@@ -15,7 +15,11 @@ ghost use Rattle.lsm_parts.specs.declared.tree_iter.End.TheVariants.{Front, Back
 use crate::cut::Cut;
 use crate::tree_iter::newest_of;
 use crate::{Error, IterState};
-use lsm_below::{InternalValue, SeqNo, Source, UserKey, entries_within, first_visible, share};
+use lsm_below::{
+    InternalValue, SeqNo, Source, UserKey, entries_are_ordered, entries_within, first_visible,
+    first_visible_is_top, keys_are_ordered, merges_by_key, share,
+};
+use lsm_model::maps_are_read;
 use std::alloc::{AllocError, Global};
 use std::ops::Bound;
 
@@ -150,6 +154,7 @@ fn greatest_key(
     requires { All IsFresh cuts.now }
     ensures { IfOk result (IsGreatestKey (within bounds.now.0 bounds.now.1 (held_in cuts.now))) }
 {
+    keys_are_ordered();
     let mut greatest = None;
     for cut in cuts {
         let within = entries_within(cut.entries, &bounds.0, &bounds.1);
@@ -166,6 +171,8 @@ fn newest_at<'a>(cuts: &[Cut<'a>], key: &UserKey) -> Option<&'a InternalValue>
     requires { All IsFresh cuts.now }
     ensures { IsNewest (counted_in cuts.now) key.now (option_copied result) }
 {
+    first_visible_is_top();
+    maps_are_read();
     let mut newest = None;
     for cut in cuts {
         newest = newer_of(
@@ -183,6 +190,7 @@ fn shown_at<'a>(cuts: &[Cut<'a>], key: &UserKey) -> Option<&'a InternalValue>
         (IsHidden (counted_in cuts.now) key.now)
         (λ e. IsShown (counted_in cuts.now) e.now × (e.now.key.user_key ≡ key.now)) }
 {
+    maps_are_read();
     let entry = newest_at(cuts, key)?;
     if entry.is_tombstone() {
         return None;
@@ -203,6 +211,8 @@ fn last_value(cuts: &[Cut<'_>]) -> Result<Option<InternalValue>, AllocError>
     requires { All IsFresh cuts.now }
     ensures { IfOk result (IsLastShown (counted_in cuts.now)) }
 {
+    keys_are_ordered();
+    maps_are_read();
     let Some(mut key) = greatest_key(cuts, &(Bound::Unbounded, Bound::Unbounded))? else {
         return Ok(None);
     };
@@ -228,6 +238,10 @@ pub fn last_shown(
     ensures ok { IfOk result (EndShown Back bounds.now.0 bounds.now.1 (counted_at snapshot state.now)) }
     ensures memory { IfErr result (λ e. e ≡ Error.OutOfMemory) }
 {
+    keys_are_ordered();
+    entries_are_ordered();
+    merges_by_key();
+    maps_are_read();
     let cuts = state.cuts(alloc, bounds, snapshot)?;
     Ok(last_value(&cuts)?)
 }

@@ -13,7 +13,8 @@ ghost use Rattle.lsm_parts.specs.declared.tree_iter.End.TheVariants.{Front, Back
 use crate::cut::Cut;
 use crate::prefix::{key_has_bytes, prefix_to_range};
 use crate::{Error, Guard, IterState};
-use lsm_below::{InternalValue, Merger, MvccStream, SeqNo, Source, UserKey};
+use lsm_below::{InternalValue, Merger, MvccStream, SeqNo, Source, UserKey, entries_are_ordered};
+use lsm_model::maps_are_read;
 use std::alloc::{AllocError, Global};
 use std::collections::VecDeque;
 use std::marker::Model;
@@ -54,6 +55,8 @@ pub(crate) fn newest_of<'a>(
         (λ stream. Shows bounds.now.0 bounds.now.1 (counted_at snapshot state.now) (filter is_value stream.entries)) }
     ensures open { IfOk result (λ stream. stream.over ≡ false) }
 {
+    entries_are_ordered();
+    maps_are_read();
     let cuts = state.cuts(alloc, bounds, snapshot)?;
     let merger = Merger::new(alloc, cuts)?;
     Ok(MvccStream::new(merger))

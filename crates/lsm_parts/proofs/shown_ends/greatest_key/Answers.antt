@@ -14,5 +14,5 @@ greatest_of-requires c =
 
 pub loop-cut-preserved : goal.loop-cut-preserved
 loop-cut-preserved c =
-    greatest_step c.args.bounds.now.0 c.args.bounds.now.1 c.args.cuts.now c.loop-cut.cut-index c.cut-item.result (option_copied c.loop-cut.greatest) (option_copied c.greatest_of.result) (option_copied c.with_greater-greatest.result) c.loop-cut-test.true c.cut-item.is c.loop-cut.invariant
+    greatest_step c.keys_are_ordered.ensures c.args.bounds.now.0 c.args.bounds.now.1 c.args.cuts.now c.loop-cut.cut-index c.cut-item.result (option_copied c.loop-cut.greatest) (option_copied c.greatest_of.result) (option_copied c.with_greater-greatest.result) c.loop-cut-test.true c.cut-item.is c.loop-cut.invariant
     (subst (λ l. IsGreatestOf l (option_copied c.greatest_of.result)) c.entries_within-within.ensures c.greatest_of.ensures) c.with_greater-greatest.ensures

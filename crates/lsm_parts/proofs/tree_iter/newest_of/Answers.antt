@@ -12,4 +12,4 @@ new-requires c = All-weaker IsFresh (λ c. IsInOrder (rest_of c.over (counted (p
 pub returns-clause-shows : goal.returns-clause-shows
 returns-clause-shows c =
     shows_newest c.args.bounds.now.0 c.args.bounds.now.1 (counted_at c.args.snapshot c.args.state.now) c.new-2.result.entries
-    (newest_of_cuts c.args.bounds.now.0 c.args.bounds.now.1 (parts_at c.args.snapshot c.args.state.now) c.in_ok-cuts.cuts.items c.in_ok-merger.merger.entries c.in_ok-cuts.ensures c.in_ok-merger.ensures.by_key c.new-2.result.entries c.new-2.ensures.firsts)
+    (newest_of_cuts c.entries_are_ordered.ensures c.maps_are_read.ensures c.args.bounds.now.0 c.args.bounds.now.1 (parts_at c.args.snapshot c.args.state.now) c.in_ok-cuts.cuts.items c.in_ok-merger.merger.entries c.in_ok-cuts.ensures c.in_ok-merger.ensures.by_key c.new-2.result.entries c.new-2.ensures.firsts)

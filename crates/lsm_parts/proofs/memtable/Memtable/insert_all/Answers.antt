@@ -8,7 +8,7 @@ pub invariant_of-self-2 : goal.invariant_of-self-2
 invariant_of-self-2 c =
     let old = c.self.inside.content in
     let start = c.in_ok-try_reserve.ensures.items in
-    contents_kept c.args.batch.items (record { entries = c.try_reserve.new.self.items; size = old.size; highest = old.highest }) (content_of c.add_entries.new.content) (rw start c.self.invariant.0) (rw start c.self.invariant.1) c.add_entries.ensures
+    contents_kept c.entries_are_ordered.ensures c.args.batch.items (record { entries = c.try_reserve.new.self.items; size = old.size; highest = old.highest }) (content_of c.add_entries.new.content) (rw start c.self.invariant.0) (rw start c.self.invariant.1) c.add_entries.ensures
 
 pub returns-clause-ok : goal.returns-clause-ok
 returns-clause-ok c =
