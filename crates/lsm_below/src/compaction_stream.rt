@@ -1,6 +1,6 @@
 // What a compaction keeps.
 
-ghost use Rattle.std.specs.Prelude.{IfErr, ◌≡◌, ◌≤◌, [], ◌∷◌, ◌++◌, length, false, IfOk, MatchOption, MatchResult, ℕ, List, flat_map, map};
+ghost use Rattle.std.specs.Prelude.{IfErr, ◌≡◌, ◌≤◌, [], ◌∷◌, ◌++◌, length, false, IfOk, MatchOption, ℕ, flat_map, map};
 ghost use Rattle.std.specs.List.{All};
 ghost use Rattle.lsm_below.specs.Keys.{Bytes};
 ghost use Rattle.lsm_below.specs.Entries.{IsFalling, IsOrdered, stack, keep};

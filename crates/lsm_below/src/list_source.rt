@@ -1,7 +1,7 @@
 // A list of entries, as a source.
 
-ghost use Rattle.std.specs.Prelude.{MatchResult, cond, ◌≡◌, [], ◌∷◌, true, false, IfOk, OnErr, List};
-ghost use Rattle.lsm_below.specs.Streams.{Ascends-prop, IsInOrder, Rest, Gives};
+ghost use Rattle.std.specs.Prelude.{MatchResult, cond, ◌≡◌, [], ◌∷◌, true, false, IfOk};
+ghost use Rattle.lsm_below.specs.Streams.{Ascends-prop, IsInOrder};
 ghost use Rattle.lsm_below.specs.Slots.{rest_of, fits_front};
 ghost use Rattle.lsm_below.specs.Entries.{entry_cmp};
 

@@ -1,9 +1,8 @@
 // What gives entries in order, one at a time.
 
-ghost use Rattle.std.specs.Prelude.{◌≡◌, IfErr, ℕ, true, false, option_to_list, IfOk, ◌++◌, ◌≤◌, ◌+◌, length, MatchOption, [], ◌∷◌, None, IfNone};
-ghost use Rattle.std.specs.Ordering.{nat_cmp, is_lt, is_eq};
-ghost use Rattle.lsm_below.specs.Entries.{entry_cmp};
-ghost use Rattle.lsm_below.specs.Streams.{Rest, Gives, RefusesOnly, is_of};
+ghost use Rattle.std.specs.Prelude.{◌≡◌, IfErr, ℕ, true, IfOk, ◌++◌, ◌≤◌, ◌+◌, MatchOption, [], ◌∷◌, None, IfNone};
+ghost use Rattle.std.specs.Ordering.{is_lt, is_eq};
+ghost use Rattle.lsm_below.specs.Streams.{Rest, Gives, RefusesOnly};
 ghost use Rattle.lsm_below.specs.Slots.{is_before, same_key, is_repeat, past, all_of};
 
 use crate::InternalValue;

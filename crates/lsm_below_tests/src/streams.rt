@@ -4,7 +4,7 @@
 
 ghost use Rattle.std.specs.Prelude.{◌≡◌, false, IfOk};
 ghost use Rattle.std.specs.Iterator.{IsFinite};
-ghost use Rattle.lsm_below.specs.Streams.{IsInOrder, Rest, Gives};
+ghost use Rattle.lsm_below.specs.Streams.{IsInOrder};
 
 use crate::samples::{T, V, W, entry};
 use lsm_below::{

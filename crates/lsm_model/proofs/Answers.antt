@@ -1,6 +1,6 @@
 -- Answers from maps that agree on some keys, and journals whose reads agree.
 use Rattle.std.proofs.Common.{◌≡◌, ℕ, Bool, true, false, cond, ◌&&◌, List, [], ◌∷◌, ◌++◌, Some, None, filter, refl, sym, ap, ◌∙◌, subst, ltb, append_assoc, Equal, append-nil}
-use Rattle.std.specs.FinMap.{FinMap, get, entries, empty, get-empty, entries_sorted, get-entries, from_sorted, entries-from_sorted, get-from_sorted, same_map, find, is_sorted, slice_cmp-IsAntisymmetric, nat_cmp-IsAntisymmetric}
+use Rattle.std.specs.FinMap.{get, entries, get-empty, entries_sorted, get-entries, from_sorted, entries-from_sorted, get-from_sorted, same_map, find, slice_cmp-IsAntisymmetric, nat_cmp-IsAntisymmetric}
 use Rattle.std.specs.FinMap.Entries.{is_sorted-where_key, find-where_key}
 use Rattle.std.specs.Cmp.Lexicographic.{nat_list_cmp_total}
 use Rattle.lsm_below.specs.Keys.{Bytes, bytes_cmp, is_same}

@@ -3,7 +3,7 @@ ghost use Rattle.std.specs.Prelude.{◌≡◌, [], ◌∷◌, filter, nat_lt, Ma
 ghost use Rattle.lsm_below.specs.Entries.{entry_cmp};
 ghost use Rattle.lsm_below.specs.Sorted.{Rises};
 ghost use Rattle.lsm_below.specs.Slots.{rest_of};
-ghost use Rattle.lsm_parts.specs.Reads.{Part, counted, cut};
+ghost use Rattle.lsm_parts.specs.Reads.{counted, cut};
 ghost use Rattle.lsm_parts.specs.Cuts.{part_of, IsFresh};
 ghost use Rattle.lsm_parts.specs.declared.error.Error.TheVariants.{OutOfMemory};
 

@@ -1,10 +1,10 @@
 // A sorted table of entries in memory.
-ghost use Rattle.std.specs.Prelude.{◌≡◌, ℕ, ◌+◌, ◌-◌, ◌<◌, ◌≤◌, ◌↔◌, [], length, IsTrue, IfOk, IfErr, OnOk, OnErr, IfSome, IfNone, option_copied, true, false, slice_index_or, vec_len, vec_capacity};
+ghost use Rattle.std.specs.Prelude.{◌≡◌, ℕ, ◌+◌, ◌-◌, ◌<◌, ◌≤◌, ◌↔◌, [], length, IsTrue, IfOk, IfErr, OnOk, OnErr, IfSome, IfNone, option_copied, true, false, vec_len, vec_capacity};
 ghost use Rattle.std.specs.Slice.Iter.{iter_rest};
 ghost use Rattle.lsm_below.specs.declared.value.InternalValue.{InternalValue};
 ghost use Rattle.lsm_below.specs.Entries.{entry_cmp, top};
-ghost use Rattle.lsm_below.specs.Sorted.{Rises, put, first};
-ghost use Rattle.lsm_parts.specs.Memtables.{capped, entry_size, new_memtable, with_entry, with_entries, highest_of, is_visible, stands_before, within, IsTop, HasNone};
+ghost use Rattle.lsm_below.specs.Sorted.{Rises, put};
+ghost use Rattle.lsm_parts.specs.Memtables.{entry_size, new_memtable, with_entry, with_entries, highest_of, within, IsTop, HasNone};
 ghost use Rattle.lsm_parts.specs.Contents.{content_of, added, all_added};
 
 use crate::Error;

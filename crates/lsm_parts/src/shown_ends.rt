@@ -1,5 +1,5 @@
 // The first and the last entry that a snapshot shows, and how many there are, without a list of them.
-ghost use Rattle.std.specs.Prelude.{◌≡◌, Bool, ◌∷◌, [], List, Some, None, filter, option_copied, length, IfOk, IfErr, MatchOption};
+ghost use Rattle.std.specs.Prelude.{◌≡◌, ◌∷◌, [], List, Some, None, filter, option_copied, length, IfOk, IfErr, MatchOption};
 ghost use Rattle.std.specs.List.{All};
 ghost use Rattle.lsm_below.specs.Entries.{Entry, entry_cmp, is_value};
 ghost use Rattle.lsm_below.specs.Sorted.{Rises};

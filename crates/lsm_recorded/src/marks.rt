@@ -1,8 +1,8 @@
 // What was written to each key so far, by which a write in order is told without the journal.
-ghost use Rattle.std.specs.Prelude.{◌≡◌, ℕ, ◌+◌, ◌^◌, ◌<◌, ◌≤◌, IfOk, IfErr, OnOk, OnErr, IsSome, ◌&&◌, nat_le};
+ghost use Rattle.std.specs.Prelude.{◌≡◌, ℕ, ◌+◌, ◌^◌, ◌<◌, ◌≤◌, OnOk, IsSome, ◌&&◌};
 ghost use Rattle.std.specs.BTreeMap as tree;
 ghost use Rattle.lsm_below.specs.Keys.{Bytes, bytes_cmp};
-ghost use Rattle.lsm_recorded.specs.Marks.{mark_of, marked, marked_by, mark_allows, next_mark};
+ghost use Rattle.lsm_recorded.specs.Marks.{mark_of, marked_by, mark_allows, next_mark};
 
 use lsm_below::{InternalValue, SeqNo, UserKey, ValueType, share};
 use std::alloc::AllocError;

@@ -1,7 +1,7 @@
 // Copies of the entries of a write, for the journal and for a pass, which share their bytes.
-ghost use Rattle.std.specs.Prelude.{◌≡◌, ℕ, ◌+◌, ◌^◌, ◌<◌, ◌≤◌, ◌++◌, IfOk, OnOk, IsSome, map, length, slice_index_or, vec_len, vec_capacity};
+ghost use Rattle.std.specs.Prelude.{◌≡◌, ℕ, ◌+◌, ◌^◌, ◌<◌, ◌≤◌, ◌++◌, IfOk, OnOk, map, length, vec_len, vec_capacity};
 ghost use Rattle.std.specs.BTreeMap as tree;
-ghost use Rattle.lsm_below.specs.Keys.{Bytes, bytes_cmp};
+ghost use Rattle.lsm_below.specs.Keys.{Bytes};
 ghost use Rattle.lsm_model.specs.Ops.{op_entry, op_entries};
 ghost use Rattle.lsm_recorded.specs.declared.notes.Note.{Note};
 ghost use Rattle.lsm_recorded.specs.Marks.{mark_of, marked_all};

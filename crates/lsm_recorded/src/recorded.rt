@@ -1,7 +1,6 @@
 // A tree with the journal of its calls.
 ghost use Rattle.std.specs.Prelude.{◌≡◌, ℕ, ◌+◌, ◌<◌, ◌≤◌, ◌^◌, ◌∷◌, ◌++◌, [], true, false, None, Ok, IfOk, IfErr, IfSome, OnOk, OnErr, IsErrOf, IsTrue, ◌↔◌, ◌⊎◌, map};
 ghost use Rattle.std.specs.FinMap.{get as value_in, empty};
-ghost use Rattle.lsm_below.specs.Keys.{Bytes};
 ghost use Rattle.lsm_below.specs.Entries.{plain};
 ghost use Rattle.lsm_model.specs.Journal.{is_outside, replay, IsKept, Agrees, InOrder, next_number};
 ghost use Rattle.lsm_model.specs.Ops.{op_entry, op_entries};

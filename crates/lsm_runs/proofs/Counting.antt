@@ -1,8 +1,7 @@
 -- The journal of a run beside the counter is its journal, so an order told by the counter is the journal's order.
-use Rattle.std.proofs.Common.{◌≡◌, ℕ, List, [], ◌∷◌, ◌++◌, map, refl, sym, ap, ◌∙◌, subst}
-use Rattle.lsm_below.specs.Entries.{Entry}
+use Rattle.std.proofs.Common.{◌≡◌, ℕ, List, [], ◌∷◌, ◌++◌, map, refl, ap, ◌∙◌, subst}
 use Rattle.lsm_model.specs.Journal.{Event, InOrder}
-use Rattle.lsm_model.specs.Counted.{Counted, events_of, InCountedOrder, CountedIsInOrder}
+use Rattle.lsm_model.specs.Counted.{Counted, events_of, CountedIsInOrder}
 use Rattle.lsm_model.specs.declared.journal.JournalEntry.TheVariants.{Write, Clear, Install, Dropped, Mark, Read}
 use Rattle.lsm_state.specs.Core.{Core}
 use Rattle.lsm_runs.specs.declared.steps.Step.{Step}

@@ -1,5 +1,5 @@
 // Words, numbers, and the words of a line.
-ghost use Rattle.std.specs.Prelude.{◌≡◌, ℕ, ◌^◌, ◌<◌, List, [], ◌∷◌, length, IfSome, MatchOption, decimal};
+ghost use Rattle.std.specs.Prelude.{◌≡◌, ℕ, ◌^◌, ◌<◌, [], ◌∷◌, IfSome, MatchOption, decimal};
 ghost use Rattle.lsm_shell.specs.Word.{is_word, parts_of, words_of, number_of};
 ghost use Rattle.lsm_shell.specs.Words.{list_of_words, HasNoFewWords};
 

@@ -1,5 +1,5 @@
 -- What is shown under an index is the view with the index laid over it.
-use Rattle.std.proofs.Common.{◌≡◌, ℕ, List, [], ◌∷◌, ◌++◌, true, false, cond, map, filter, Some, None, nat_lt, subst, sym, ap, ◌∙◌, append-nil, eqb}
+use Rattle.std.proofs.Common.{◌≡◌, ℕ, List, [], ◌∷◌, ◌++◌, true, false, cond, map, Some, None, subst, sym, ap, ◌∙◌, append-nil, eqb}
 use Rattle.std.specs.List.{AllByRecursion}
 use Rattle.lsm_below.specs.Entries.{Entry, entry_cmp}
 use Rattle.lsm_below.specs.Sorted.{Rises}
@@ -10,8 +10,7 @@ use Rattle.lsm_parts.specs.declared.version.super_version.SuperVersion.{SuperVer
 use Rattle.lsm_parts.specs.History.{AreLaid}
 use Rattle.lsm_parts.specs.Shown.{ShowsOf, lies_within, begins_with}
 use Rattle.lsm_parts.specs.Answers.{ShownIsView, ShownIsOverlaid, overlaid, pairs_of}
-use Rattle.lsm_parts.specs.Guards.{pair_of}
-use Rattle.lsm_parts.specs.Reads.{SeenState, all_counted, at}
+use Rattle.lsm_parts.specs.Reads.{SeenState}
 use Rattle.lsm_state.specs.Held.{entries_of}
 use Rattle.lsm_state.specs.Core.{Core, shown_as, latest_of, older_of}
 use Rattle.lsm_state.specs.Kept.{IsKept}

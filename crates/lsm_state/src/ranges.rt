@@ -1,11 +1,10 @@
 // The tree's reads over many keys.
-ghost use Rattle.std.specs.Prelude.{◌≡◌, ℕ, ◌↔◌, ◌⊎◌, ◌∷◌, ◌++◌, None, Some, map, reverse, flat_map, length, IfOk, IfErr, OnOk, IsErrOf, IsTrue};
+ghost use Rattle.std.specs.Prelude.{◌≡◌, ℕ, ◌↔◌, ◌⊎◌, ◌∷◌, ◌++◌, None, Some, reverse, flat_map, IfOk, IfErr, OnOk};
 ghost use Rattle.std.specs.declared.ops.Bound.TheVariants.{Unbounded};
-ghost use Rattle.lsm_model.specs.Views.{found_at, sources};
 ghost use Rattle.lsm_parts.specs.declared.tree_iter.End.TheVariants.{Front, Back};
 ghost use Rattle.lsm_state.specs.Calls.{RefusesRead};
 ghost use Rattle.lsm_state.specs.Held.{entries_of};
-ghost use Rattle.lsm_state.specs.Core.{latest_of, older_of, shown_as};
+ghost use Rattle.lsm_state.specs.Core.{shown_as};
 ghost use Rattle.lsm_state.specs.Ranges.{counting, Ranges, Prefixes, Numbers, PairAt, TellsEmpty, EndOf, IsRangeStep, IsPrefixStep};
 ghost use Rattle.lsm_parts.specs.Shown.{Shows, ShowsPrefix};
 ghost use Rattle.lsm_parts.specs.Ends.{EndShown, NumberShown};

@@ -1,5 +1,5 @@
 // Writing the content of a table's file.
-ghost use Rattle.std.specs.Prelude.{◌≡◌, ◌++◌, length, OnOk, IfOk};
+ghost use Rattle.std.specs.Prelude.{◌≡◌, ◌++◌, OnOk, IfOk};
 ghost use Rattle.lsm_tables.specs.Image.{Fits, IsTable, type_code, head, front, spelled, image};
 
 use super::layout::{
