@@ -29,11 +29,6 @@ put_cut low high parts cuts p c is fresh h = record {
   fresh = All-push IsFresh cuts c h.fresh fresh;
 }
 
--- the same behind several
-pub put_more : (low high : Bound Bytes) (before parts : List Part) (cuts : List Cut) (p : Part) (c : Cut) → part_of c ≡ cut low high p → IsFresh c → AreCuts low high (before ++ parts) cuts → AreCuts low high (before ++ (parts ++ p ∷ [])) (cuts ++ c ∷ [])
-put_more low high before parts cuts p c is fresh h =
-    subst (λ l. AreCuts low high l (cuts ++ c ∷ [])) (append_assoc before parts (p ∷ [])) (put_cut low high (before ++ parts) cuts p c is fresh h)
-
 pub no_cuts : (low high : Bound Bytes) → AreCuts low high [] []
 no_cuts low high = record { same = refl; fresh = All-nil IsFresh }
 
