@@ -9,9 +9,6 @@ use Rattle.std.proofs.lemmas.Bool.Decides.{nat_tests}
 abbrev pub IsFull : List ℕ → Type 0
 IsFull t = AllByRecursion (λ b. b ≡ 255) t
 
-Small : List ℕ → Type 0
-Small k = AllByRecursion (λ b. b < 256) k
-
 -- bytes that aren't below bytes 255 begin with them
 full_begins : (t k : List ℕ) → IsFull t → AllByRecursion (λ b. b < 256) k → is_le (slice_cmp nat_cmp t k) ≡ starts_with eqb k t
 full_begins [] [] f s = refl
