@@ -2,16 +2,16 @@
 use Rattle.std.proofs.Common.{◌≡◌, ℕ, Option, option_to_list, Bool, true, false, cond, List, [], ◌∷◌, ◌++◌, filter, map, refl, sym, ap, ◌∙◌, subst, append_assoc}
 use Rattle.std.specs.declared.cmp.Ordering.{Ordering}
 use Rattle.std.specs.declared.cmp.Ordering.TheVariants.{Less}
-use Rattle.std.proofs.lemmas.List.Elements.{All-filter, All-push, All-nil}
+use Rattle.std.proofs.lemmas.List.Elements.{All-filter, All-nil}
 use Rattle.std.proofs.lemmas.List.{map-append}
 use Rattle.std.specs.declared.ops.Bound.{Bound}
 use Rattle.lsm_below.specs.Keys.{Bytes}
 use Rattle.lsm_below.specs.Sorted.{Rises}
 use Rattle.std.specs.Borrow.{Bor}
 use Rattle.lsm_parts.specs.Memtables.{SeenMemtable}
-use Rattle.lsm_parts.specs.Reads.{Part, cut, at, parts_at, state_of, index_of, tables_of}
+use Rattle.lsm_parts.specs.Reads.{at, parts_at, state_of, index_of, tables_of}
 use Rattle.lsm_parts.specs.Versions.{SeenVersion}
-use Rattle.lsm_parts.specs.Cuts.{part_of, IsFresh, AreCuts}
+use Rattle.lsm_parts.specs.Cuts.{IsFresh, AreCuts}
 use Rattle.lsm_parts.specs.declared.cut.Cut.{Cut}
 
 -- what passes a test rises as all did
@@ -21,18 +21,6 @@ rises_filter R p (x ∷ xs) h = elim (p x) as (λ b. Rises R (cond b (x ∷ filt
   | true ↦ (All-filter p (λ y. R x y ≡ Less) xs h.0, rises_filter R p xs h.1)
   | false ↦ rises_filter R p xs h.1
 ]
-
--- one cut more
-pub put_cut : (low high : Bound Bytes) (parts : List Part) (cuts : List Cut) (p : Part) (c : Cut) → part_of c ≡ cut low high p → IsFresh c → AreCuts low high parts cuts → AreCuts low high (parts ++ p ∷ []) (cuts ++ c ∷ [])
-put_cut low high parts cuts p c is fresh h = record {
-  same = map-append part_of cuts (c ∷ []) ∙ ap (λ l. l ++ part_of c ∷ []) h.same ∙ ap (λ x. map (cut low high) parts ++ x ∷ []) is ∙ sym (map-append (cut low high) parts (p ∷ []));
-  fresh = All-push IsFresh cuts c h.fresh fresh;
-}
-
--- the same behind several
-pub put_more : (low high : Bound Bytes) (before parts : List Part) (cuts : List Cut) (p : Part) (c : Cut) → part_of c ≡ cut low high p → IsFresh c → AreCuts low high (before ++ parts) cuts → AreCuts low high (before ++ (parts ++ p ∷ [])) (cuts ++ c ∷ [])
-put_more low high before parts cuts p c is fresh h =
-    subst (λ l. AreCuts low high l (cuts ++ c ∷ [])) (append_assoc before parts (p ∷ [])) (put_cut low high (before ++ parts) cuts p c is fresh h)
 
 pub no_cuts : (low high : Bound Bytes) → AreCuts low high [] []
 no_cuts low high = record { same = refl; fresh = All-nil IsFresh }

@@ -1,16 +1,13 @@
 -- Keys that begin alike stand between two bounds.
 use Rattle.std.proofs.Common.{◌≡◌, ℕ, ◌+◌, ◌<◌, Bool, true, false, ◌&&◌, List, [], ◌∷◌, ◌++◌, length, refl, ◌∙◌, arith, eqb}
 use Rattle.std.specs.List.{AllByRecursion, starts_with}
-use Rattle.std.specs.Ordering.{nat_cmp, is_le, is_lt, ordering_then}
+use Rattle.std.specs.Ordering.{nat_cmp, is_le, is_lt}
 use Rattle.std.specs.Cmp.Lexicographic.{slice_cmp}
 use Rattle.std.proofs.lemmas.Bool.Decides.{nat_tests}
 
 -- each byte is 255
 abbrev pub IsFull : List ℕ → Type 0
 IsFull t = AllByRecursion (λ b. b ≡ 255) t
-
-Small : List ℕ → Type 0
-Small k = AllByRecursion (λ b. b < 256) k
 
 -- bytes that aren't below bytes 255 begin with them
 full_begins : (t k : List ℕ) → IsFull t → AllByRecursion (λ b. b < 256) k → is_le (slice_cmp nat_cmp t k) ≡ starts_with eqb k t
@@ -22,9 +19,6 @@ full_begins (b ∷ t) (c ∷ k) f s =
     let h : b ≡ 255 = f.0 in
     let l : c < 256 = s.0 in
     grind (arith, nat_tests)
-
-at_raised : (b : ℕ) (k : List ℕ) → is_lt (ordering_then (nat_cmp b (b + 1)) (slice_cmp nat_cmp k [])) ≡ true
-at_raised b k = grind (arith, nat_tests)
 
 none_below : (k : List ℕ) → is_lt (slice_cmp nat_cmp k []) ≡ false
 none_below [] = refl
