@@ -1,11 +1,12 @@
 -- Calls of a tree behind a lock: what it was before is not known, nor what it is later.
-use Rattle.std.specs.Prelude.{◌≡◌, ℕ, ◌≤◌, ◌⊎◌, List, ◌++◌, None, Result, IfErr, IsErrOf, IsOk}
+use Rattle.std.specs.Prelude.{◌≡◌, ℕ, ◌≤◌, ◌⊎◌, List, [], ◌++◌, None, Result, IfErr, IsErrOf, IsOk}
 use Rattle.lsm_model.specs.declared.journal.JournalEntry.{JournalEntry}
 use Rattle.lsm_model.specs.Views.{found_at}
 use Rattle.lsm_parts.specs.declared.error.Error.{Error}
 use Rattle.lsm_parts.specs.declared.error.Error.TheVariants.{OutOfMemory, OutOfNumbers, SnapshotTooOld}
 use Rattle.lsm_parts.specs.declared.seqno.TheConstants.{LIMIT}
 use Rattle.lsm_state.specs.Core.{Core, latest_of, older_of}
+use Rattle.lsm_state.specs.Held.{first_entries}
 use Rattle.lsm_recorded.specs.Passes.{listed}
 
 -- a call that took some tree to another
@@ -17,22 +18,22 @@ abbrev pub AtSomeTree : (Core → Type 0) → Type 0
 AtSomeTree P = (c : Core) × P c
 
 -- a read is refused as too old, where the tree has no super version for its snapshot, or for want of memory
-pub record RefusesRead {A : Type 0} (snapshot : ℕ) (r : Result A Error) : Type 0 where
+pub record RefusesSharedRead {A : Type 0} (snapshot : ℕ) (r : Result A Error) : Type 0 where
   pub only : IfErr r (λ e. (e ≡ SnapshotTooOld) ⊎ (e ≡ OutOfMemory))
   pub too_old : IsErrOf r SnapshotTooOld → AtSomeTree (λ c. found_at snapshot (latest_of c) (older_of c) ≡ None)
   -- snapshot 0 is never too old
   pub at_zero : snapshot ≡ 0 → IfErr r (λ e. e ≡ OutOfMemory)
 
 -- the same of a read that takes no memory
-pub record RefusesLook {A : Type 0} (snapshot : ℕ) (r : Result A Error) : Type 0 where
+pub record RefusesSharedLook {A : Type 0} (snapshot : ℕ) (r : Result A Error) : Type 0 where
   pub only : IfErr r (λ e. e ≡ SnapshotTooOld)
   pub too_old : IsErrOf r SnapshotTooOld → AtSomeTree (λ c. found_at snapshot (latest_of c) (older_of c) ≡ None)
   pub at_zero : snapshot ≡ 0 → IsOk r
 
--- a rotation is refused where no id is left, or for want of memory
-pub record RefusesRotation {A : Type 0} (r : Result A Error) : Type 0 where
+-- a rotation is refused where no id is left to replace an active memtable that is not empty, or for want of memory
+pub record RefusesSharedRotation {A : Type 0} (r : Result A Error) : Type 0 where
   pub only : IfErr r (λ e. (e ≡ OutOfNumbers) ⊎ (e ≡ OutOfMemory))
-  pub out_of_numbers : IsErrOf r OutOfNumbers → AtSomeTree (λ c. LIMIT ≤ c.next_memtable)
+  pub out_of_numbers : IsErrOf r OutOfNumbers → AtSomeTree (λ c. (LIMIT ≤ c.next_memtable) × (first_entries c.memtables ≡ [] → ⊥))
 
 -- these entries, and nothing else, are appended to a pass, with places that follow each other
 abbrev pub Puts : List JournalEntry → List (ℕ × JournalEntry) → List (ℕ × JournalEntry) → Type 0

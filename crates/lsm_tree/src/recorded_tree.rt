@@ -11,7 +11,7 @@ ghost use Rattle.lsm_model.specs.declared.op.Op.TheVariants.{Set, Del, Weak};
 ghost use Rattle.lsm_recorded.specs.Closing.{ListTogether};
 ghost use Rattle.lsm_state.specs.Calls.{Appends, WritesBatch, Rotates};
 ghost use Rattle.lsm_recorded.specs.Recorded.{OwnOr};
-ghost use Rattle.lsm_tree.specs.Shared.{OnSomeTree, RefusesRead, RefusesRotation, Puts};
+ghost use Rattle.lsm_tree.specs.Shared.{OnSomeTree, RefusesSharedRead, RefusesSharedRotation, Puts};
 
 use crate::handle::Handle;
 use lsm_below::{InternalValue, KvPair, MemtableId, SeqNo, UserKey, UserValue};
@@ -33,7 +33,7 @@ impl<S: Store> Handle<Recorded<S>> {
         key: &UserKey,
         snapshot: SeqNo,
     ) -> Result<Option<UserValue>, Error>
-        ensures refused { RefusesRead snapshot result }
+        ensures refused { RefusesSharedRead snapshot result }
         ensures noted { IfOk result (λ v. Puts (ReadEntry snapshot (GetQuestion key.now) (Found v) ∷ []) pass.old pass.new) }
         ensures err { OnErr result (pass.new ≡ pass.old) }
     {
@@ -48,7 +48,7 @@ impl<S: Store> Handle<Recorded<S>> {
         bounds: &(Bound<UserKey>, Bound<UserKey>),
         snapshot: SeqNo,
     ) -> Result<Vec<KvPair>, Error>
-        ensures refused { RefusesRead snapshot result }
+        ensures refused { RefusesSharedRead snapshot result }
         ensures noted { IfOk result (λ pairs. Puts (ReadEntry snapshot (Between bounds.now.0 bounds.now.1) (PairsAnswer pairs.items) ∷ []) pass.old pass.new) }
         ensures err { OnErr result (pass.new ≡ pass.old) }
     {
@@ -63,7 +63,7 @@ impl<S: Store> Handle<Recorded<S>> {
         prefix: &UserKey,
         snapshot: SeqNo,
     ) -> Result<Vec<KvPair>, Error>
-        ensures refused { RefusesRead snapshot result }
+        ensures refused { RefusesSharedRead snapshot result }
         ensures noted { IfOk result (λ pairs. Puts (ReadEntry snapshot (Prefix prefix.now) (PairsAnswer pairs.items) ∷ []) pass.old pass.new) }
         ensures err { OnErr result (pass.new ≡ pass.old) }
     {
@@ -77,7 +77,7 @@ impl<S: Store> Handle<Recorded<S>> {
         pass: &mut Pass,
     ) -> Result<Option<MemtableId>, Error>
         ensures rotates { IfOk result (λ id. OnSomeTree (λ old new. Rotates old id new)) }
-        ensures refused { RefusesRotation result }
+        ensures refused { RefusesSharedRotation result }
         ensures pass { pass.new ≡ pass.old }
     {
         self.shared.lock(rt).rotate_memtable(pass)

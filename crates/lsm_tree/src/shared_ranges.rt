@@ -3,7 +3,7 @@ ghost use Rattle.std.specs.Prelude.{IfOk};
 ghost use Rattle.std.specs.declared.ops.Bound.TheVariants.{Unbounded};
 ghost use Rattle.lsm_parts.specs.declared.tree_iter.End.TheVariants.{Front, Back};
 ghost use Rattle.lsm_state.specs.Ranges.{Ranges, Prefixes, Numbers, PairAt, TellsEmpty};
-ghost use Rattle.lsm_tree.specs.Shared.{AtSomeTree, RefusesRead};
+ghost use Rattle.lsm_tree.specs.Shared.{AtSomeTree, RefusesSharedRead};
 
 use crate::handle::Handle;
 use lsm_below::{SeqNo, UserKey};
@@ -25,7 +25,7 @@ impl<S: Store> Handle<TreeState<S>> {
         index: Option<(&Memtable, SeqNo)>,
     ) -> Result<TreeIter, Error>
         ensures ok { IfOk result (λ iter. AtSomeTree (λ c. Ranges c index.entry bounds.now.0 bounds.now.1 snapshot iter)) }
-        ensures refused { RefusesRead snapshot result }
+        ensures refused { RefusesSharedRead snapshot result }
     {
         self.shared
             .lock(rt)
@@ -41,7 +41,7 @@ impl<S: Store> Handle<TreeState<S>> {
         index: Option<(&Memtable, SeqNo)>,
     ) -> Result<TreeIter, Error>
         ensures ok { IfOk result (λ iter. AtSomeTree (λ c. Ranges c index.entry bounds.now.0 bounds.now.1 snapshot iter)) }
-        ensures refused { RefusesRead snapshot result }
+        ensures refused { RefusesSharedRead snapshot result }
     {
         self.shared.lock(rt).range(bounds, snapshot, index)
     }
@@ -55,7 +55,7 @@ impl<S: Store> Handle<TreeState<S>> {
         index: Option<(&Memtable, SeqNo)>,
     ) -> Result<TreeIter, Error>
         ensures ok { IfOk result (λ iter. AtSomeTree (λ c. Ranges c index.entry bounds.now.0 bounds.now.1 snapshot iter)) }
-        ensures refused { RefusesRead snapshot result }
+        ensures refused { RefusesSharedRead snapshot result }
     {
         self.shared.lock(rt).create_range(bounds, snapshot, index)
     }
@@ -68,7 +68,7 @@ impl<S: Store> Handle<TreeState<S>> {
         index: Option<(&Memtable, SeqNo)>,
     ) -> Result<TreeIter, Error>
         ensures ok { IfOk result (λ iter. AtSomeTree (λ c. Ranges c index.entry Unbounded Unbounded snapshot iter)) }
-        ensures refused { RefusesRead snapshot result }
+        ensures refused { RefusesSharedRead snapshot result }
     {
         self.shared.lock(rt).iter(snapshot, index)
     }
@@ -81,7 +81,7 @@ impl<S: Store> Handle<TreeState<S>> {
         index: Option<(&Memtable, SeqNo)>,
     ) -> Result<TreeIter, Error>
         ensures ok { IfOk result (λ iter. AtSomeTree (λ c. Ranges c index.entry Unbounded Unbounded snapshot iter)) }
-        ensures refused { RefusesRead snapshot result }
+        ensures refused { RefusesSharedRead snapshot result }
     {
         self.shared.lock(rt).create_iter(snapshot, index)
     }
@@ -95,7 +95,7 @@ impl<S: Store> Handle<TreeState<S>> {
         index: Option<(&Memtable, SeqNo)>,
     ) -> Result<TreeIter, Error>
         ensures ok { IfOk result (λ iter. AtSomeTree (λ c. Prefixes c index.entry prefix.now snapshot iter)) }
-        ensures refused { RefusesRead snapshot result }
+        ensures refused { RefusesSharedRead snapshot result }
     {
         self.shared.lock(rt).prefix(prefix, snapshot, index)
     }
@@ -109,7 +109,7 @@ impl<S: Store> Handle<TreeState<S>> {
         index: Option<(&Memtable, SeqNo)>,
     ) -> Result<TreeIter, Error>
         ensures ok { IfOk result (λ iter. AtSomeTree (λ c. Prefixes c index.entry prefix.now snapshot iter)) }
-        ensures refused { RefusesRead snapshot result }
+        ensures refused { RefusesSharedRead snapshot result }
     {
         self.shared.lock(rt).create_prefix(prefix, snapshot, index)
     }
@@ -122,7 +122,7 @@ impl<S: Store> Handle<TreeState<S>> {
         index: Option<(&Memtable, SeqNo)>,
     ) -> Result<usize, Error>
         ensures ok { IfOk result (λ n. AtSomeTree (λ c. Numbers c index.entry snapshot n)) }
-        ensures refused { RefusesRead snapshot result }
+        ensures refused { RefusesSharedRead snapshot result }
     {
         self.shared.lock(rt).len(snapshot, index)
     }
@@ -135,7 +135,7 @@ impl<S: Store> Handle<TreeState<S>> {
         index: Option<(&Memtable, SeqNo)>,
     ) -> Result<bool, Error>
         ensures ok { IfOk result (λ b. AtSomeTree (λ c. TellsEmpty Front c index.entry snapshot b)) }
-        ensures refused { RefusesRead snapshot result }
+        ensures refused { RefusesSharedRead snapshot result }
     {
         self.shared.lock(rt).is_empty(snapshot, index)
     }
@@ -148,7 +148,7 @@ impl<S: Store> Handle<TreeState<S>> {
         index: Option<(&Memtable, SeqNo)>,
     ) -> Result<Option<Guard>, Error>
         ensures ok { IfOk result (λ pair. AtSomeTree (λ c. PairAt Front c index.entry snapshot pair)) }
-        ensures refused { RefusesRead snapshot result }
+        ensures refused { RefusesSharedRead snapshot result }
     {
         self.shared.lock(rt).first_key_value(snapshot, index)
     }
@@ -161,7 +161,7 @@ impl<S: Store> Handle<TreeState<S>> {
         index: Option<(&Memtable, SeqNo)>,
     ) -> Result<Option<Guard>, Error>
         ensures ok { IfOk result (λ pair. AtSomeTree (λ c. PairAt Back c index.entry snapshot pair)) }
-        ensures refused { RefusesRead snapshot result }
+        ensures refused { RefusesSharedRead snapshot result }
     {
         self.shared.lock(rt).last_key_value(snapshot, index)
     }

@@ -5,7 +5,7 @@ ghost use Rattle.lsm_below.specs.Entries.{plain};
 ghost use Rattle.lsm_model.specs.Ops.{op_entry};
 ghost use Rattle.lsm_model.specs.declared.op.Op.TheVariants.{Set, Del, Weak};
 ghost use Rattle.lsm_state.specs.Calls.{Appends, WritesBatch, Gives, GivesEntry, Rotates, value_size};
-ghost use Rattle.lsm_tree.specs.Shared.{OnSomeTree, AtSomeTree, RefusesRead, RefusesLook, RefusesRotation};
+ghost use Rattle.lsm_tree.specs.Shared.{OnSomeTree, AtSomeTree, RefusesSharedRead, RefusesSharedLook, RefusesSharedRotation};
 
 use crate::handle::Handle;
 use lsm_below::{InternalValue, MemtableId, SeqNo, UserKey, UserValue};
@@ -26,7 +26,7 @@ impl<S: Store> Handle<TreeState<S>> {
         snapshot: SeqNo,
     ) -> Result<Option<UserValue>, Error>
         ensures gives { IfOk result (λ v. AtSomeTree (λ c. Gives c key.now snapshot v)) }
-        ensures refused { RefusesRead snapshot result }
+        ensures refused { RefusesSharedRead snapshot result }
     {
         self.shared.lock(rt).get(key, snapshot)
     }
@@ -39,7 +39,7 @@ impl<S: Store> Handle<TreeState<S>> {
         snapshot: SeqNo,
     ) -> Result<Option<InternalValue>, Error>
         ensures gives { IfOk result (λ e. AtSomeTree (λ c. GivesEntry c key.now snapshot e)) }
-        ensures refused { RefusesRead snapshot result }
+        ensures refused { RefusesSharedRead snapshot result }
     {
         self.shared.lock(rt).get_internal_entry(key, snapshot)
     }
@@ -47,7 +47,7 @@ impl<S: Store> Handle<TreeState<S>> {
     /// Whether a key has a value at a snapshot, as `TreeState::contains_key`.
     pub fn contains_key(&self, rt: &impl Wait, key: &[u8], snapshot: SeqNo) -> Result<bool, Error>
         ensures tells { IfOk result (λ b. AtSomeTree (λ c. (v : Option Bytes) × Gives c key.now snapshot v × (b ≡ is_some v))) }
-        ensures refused { RefusesLook snapshot result }
+        ensures refused { RefusesSharedLook snapshot result }
     {
         self.shared.lock(rt).contains_key(key, snapshot)
     }
@@ -55,7 +55,7 @@ impl<S: Store> Handle<TreeState<S>> {
     /// The bytes of a key's value at a snapshot, as `TreeState::size_of`.
     pub fn size_of(&self, rt: &impl Wait, key: &[u8], snapshot: SeqNo) -> Result<Option<u32>, Error>
         ensures tells { IfOk result (λ n. AtSomeTree (λ c. (v : Option Bytes) × Gives c key.now snapshot v × (n ≡ option_map value_size v))) }
-        ensures refused { RefusesLook snapshot result }
+        ensures refused { RefusesSharedLook snapshot result }
     {
         self.shared.lock(rt).size_of(key, snapshot)
     }
@@ -63,7 +63,7 @@ impl<S: Store> Handle<TreeState<S>> {
     /// Seals the active memtable, as `TreeState::rotate_memtable`.
     pub fn rotate_memtable(&self, rt: &impl Wait) -> Result<Option<MemtableId>, Error>
         ensures rotates { IfOk result (λ id. OnSomeTree (λ old new. Rotates old id new)) }
-        ensures refused { RefusesRotation result }
+        ensures refused { RefusesSharedRotation result }
     {
         self.shared.lock(rt).rotate_memtable()
     }
