@@ -63,7 +63,11 @@ fn copy_read(
     Ok(JournalEntry::Read(snapshot, question, answer))
 }
 
-fn copy_dropped(alloc: Global, ranges: &KeyRanges, number: SeqNo) -> Result<JournalEntry, AllocError>
+fn copy_dropped(
+    alloc: Global,
+    ranges: &KeyRanges,
+    number: SeqNo,
+) -> Result<JournalEntry, AllocError>
     ensures { IfOk result (λ copy. copy ≡ Dropped ranges.now number) }
 {
     let copies = copy_ranges(alloc, ranges.as_slice())?;
