@@ -10,6 +10,7 @@ ghost use Rattle.lsm_model.specs.declared.question.Question.TheVariants.{Get as 
 ghost use Rattle.lsm_model.specs.declared.question.Answer.TheVariants.{Found};
 ghost use Rattle.lsm_model.specs.declared.op.Op.TheVariants.{Set, Del, Weak};
 ghost use Rattle.lsm_state.specs.Held.{first_entries};
+ghost use Rattle.lsm_state.specs.Kept.{IsKept as IsKeptTree};
 ghost use Rattle.lsm_state.specs.Core.{fresh_core, state_of};
 ghost use Rattle.lsm_state.specs.Calls.{Appends, WritesBatch, Gives, Rotates, RefusesRead};
 ghost use Rattle.std.specs.List.{list_all};
@@ -135,13 +136,15 @@ impl<S: Store> Recorded<S> {
 
     /// The facts that the type keeps: every super version is ordered, each view equals the replay,
     /// kept snapshots are answered, and each read of the journal agrees with the replay before it;
-    /// the journal is in order, and the counter stands above each of its sequence numbers.
+    /// the journal is in order, and the counter stands above each of its sequence numbers. Of the tree holds what
+    /// `TreeState::facts` tells.
     pub fn facts(&self)
+        ensures tree { IsKeptTree self.now.tree.core }
         ensures reads { ReadsEqualReplay [] empty (state_of self.now.journal self.now.tree.core) }
         ensures in_order { InOrder [] self.now.journal }
         ensures counted { next_number [] self.now.journal ≤ self.now.tree.core.seqno }
     {
-        let _ = &self.journal;
+        self.core.facts();
     }
 
     /// The journal of the calls so far.

@@ -37,7 +37,10 @@ impl<S: Store> Handle<Recorded<S>> {
         ensures noted { IfOk result (λ v. Puts (ReadEntry snapshot (GetQuestion key.now) (Found v) ∷ []) pass.old pass.new) }
         ensures err { OnErr result (pass.new ≡ pass.old) }
     {
-        self.shared.lock(rt).get(pass, key, snapshot)
+        let mut tree = self.shared.lock(rt);
+        let tree = &mut *tree;
+        tree.facts();
+        tree.get(pass, key, snapshot)
     }
 
     /// The pairs in the bounds that a snapshot shows, as `Recorded::range`.
@@ -52,7 +55,10 @@ impl<S: Store> Handle<Recorded<S>> {
         ensures noted { IfOk result (λ pairs. Puts (ReadEntry snapshot (Between bounds.now.0 bounds.now.1) (PairsAnswer pairs.items) ∷ []) pass.old pass.new) }
         ensures err { OnErr result (pass.new ≡ pass.old) }
     {
-        self.shared.lock(rt).range(pass, bounds, snapshot)
+        let mut tree = self.shared.lock(rt);
+        let tree = &mut *tree;
+        tree.facts();
+        tree.range(pass, bounds, snapshot)
     }
 
     /// The pairs of the keys that begin so, as `Recorded::prefix`.
@@ -67,7 +73,10 @@ impl<S: Store> Handle<Recorded<S>> {
         ensures noted { IfOk result (λ pairs. Puts (ReadEntry snapshot (Prefix prefix.now) (PairsAnswer pairs.items) ∷ []) pass.old pass.new) }
         ensures err { OnErr result (pass.new ≡ pass.old) }
     {
-        self.shared.lock(rt).prefix(pass, prefix, snapshot)
+        let mut tree = self.shared.lock(rt);
+        let tree = &mut *tree;
+        tree.facts();
+        tree.prefix(pass, prefix, snapshot)
     }
 
     /// Seals the active memtable, as `Recorded::rotate_memtable`.
@@ -80,7 +89,12 @@ impl<S: Store> Handle<Recorded<S>> {
         ensures refused { RefusesSharedRotation result }
         ensures pass { pass.new ≡ pass.old }
     {
-        self.shared.lock(rt).rotate_memtable(pass)
+        let mut tree = self.shared.lock(rt);
+        let tree = &mut *tree;
+        tree.facts();
+        let told = tree.rotate_memtable(pass);
+        tree.facts();
+        told
     }
 
     /// Writes an entry under its own sequence number, as `Recorded::append_entry`.
@@ -94,7 +108,12 @@ impl<S: Store> Handle<Recorded<S>> {
         ensures noted { OnOk result (Puts (WriteEntry (plain entry) ∷ []) pass.old pass.new) }
         ensures err { OnErr result (pass.new ≡ pass.old) }
     {
-        self.shared.lock(rt).append_entry(pass, entry)
+        let mut tree = self.shared.lock(rt);
+        let tree = &mut *tree;
+        tree.facts();
+        let told = tree.append_entry(pass, entry);
+        tree.facts();
+        told
     }
 
     /// Sets a key under a sequence number, as `Recorded::insert`.
@@ -110,7 +129,12 @@ impl<S: Store> Handle<Recorded<S>> {
         ensures noted { OnOk result (Puts (WriteEntry (op_entry key seqno (Set value)) ∷ []) pass.old pass.new) }
         ensures err { OnErr result (pass.new ≡ pass.old) }
     {
-        self.shared.lock(rt).insert(pass, key, value, seqno)
+        let mut tree = self.shared.lock(rt);
+        let tree = &mut *tree;
+        tree.facts();
+        let told = tree.insert(pass, key, value, seqno);
+        tree.facts();
+        told
     }
 
     /// Removes a key under a sequence number, as `Recorded::remove`.
@@ -125,7 +149,12 @@ impl<S: Store> Handle<Recorded<S>> {
         ensures noted { OnOk result (Puts (WriteEntry (op_entry key seqno Del) ∷ []) pass.old pass.new) }
         ensures err { OnErr result (pass.new ≡ pass.old) }
     {
-        self.shared.lock(rt).remove(pass, key, seqno)
+        let mut tree = self.shared.lock(rt);
+        let tree = &mut *tree;
+        tree.facts();
+        let told = tree.remove(pass, key, seqno);
+        tree.facts();
+        told
     }
 
     /// Removes a key, of which at most one value was ever written, as `Recorded::remove_weak`.
@@ -140,7 +169,12 @@ impl<S: Store> Handle<Recorded<S>> {
         ensures noted { OnOk result (Puts (WriteEntry (op_entry key seqno Weak) ∷ []) pass.old pass.new) }
         ensures err { OnErr result (pass.new ≡ pass.old) }
     {
-        self.shared.lock(rt).remove_weak(pass, key, seqno)
+        let mut tree = self.shared.lock(rt);
+        let tree = &mut *tree;
+        tree.facts();
+        let told = tree.remove_weak(pass, key, seqno);
+        tree.facts();
+        told
     }
 
     /// Writes a batch under the next sequence number, which it returns, as `Recorded::write`.
@@ -154,7 +188,12 @@ impl<S: Store> Handle<Recorded<S>> {
         ensures noted { IfOk result (λ n. Puts (map WriteEntry (op_entries n ops.items)) pass.old pass.new) }
         ensures err { OnErr result (pass.new ≡ pass.old) }
     {
-        self.shared.lock(rt).write(pass, ops)
+        let mut tree = self.shared.lock(rt);
+        let tree = &mut *tree;
+        tree.facts();
+        let told = tree.write(pass, ops);
+        tree.facts();
+        told
     }
 
     /// A copy of the journal, where the passes together list it, else the passes; as `Recorded::close`.

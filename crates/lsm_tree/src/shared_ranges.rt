@@ -27,9 +27,10 @@ impl<S: Store> Handle<TreeState<S>> {
         ensures ok { IfOk result (λ iter. AtSomeTree (λ c. Ranges c index.entry bounds.now.0 bounds.now.1 snapshot iter)) }
         ensures refused { RefusesSharedRead snapshot result }
     {
-        self.shared
-            .lock(rt)
-            .create_internal_range(bounds, snapshot, index)
+        let tree = self.shared.lock(rt);
+        let tree = &*tree;
+        tree.facts();
+        tree.create_internal_range(bounds, snapshot, index)
     }
 
     /// What a snapshot shows in the bounds, as `TreeState::range`.
@@ -43,7 +44,10 @@ impl<S: Store> Handle<TreeState<S>> {
         ensures ok { IfOk result (λ iter. AtSomeTree (λ c. Ranges c index.entry bounds.now.0 bounds.now.1 snapshot iter)) }
         ensures refused { RefusesSharedRead snapshot result }
     {
-        self.shared.lock(rt).range(bounds, snapshot, index)
+        let tree = self.shared.lock(rt);
+        let tree = &*tree;
+        tree.facts();
+        tree.range(bounds, snapshot, index)
     }
 
     /// The same, as `TreeState::create_range`.
@@ -57,7 +61,10 @@ impl<S: Store> Handle<TreeState<S>> {
         ensures ok { IfOk result (λ iter. AtSomeTree (λ c. Ranges c index.entry bounds.now.0 bounds.now.1 snapshot iter)) }
         ensures refused { RefusesSharedRead snapshot result }
     {
-        self.shared.lock(rt).create_range(bounds, snapshot, index)
+        let tree = self.shared.lock(rt);
+        let tree = &*tree;
+        tree.facts();
+        tree.create_range(bounds, snapshot, index)
     }
 
     /// All that a snapshot shows, as `TreeState::iter`.
@@ -70,7 +77,10 @@ impl<S: Store> Handle<TreeState<S>> {
         ensures ok { IfOk result (λ iter. AtSomeTree (λ c. Ranges c index.entry Unbounded Unbounded snapshot iter)) }
         ensures refused { RefusesSharedRead snapshot result }
     {
-        self.shared.lock(rt).iter(snapshot, index)
+        let tree = self.shared.lock(rt);
+        let tree = &*tree;
+        tree.facts();
+        tree.iter(snapshot, index)
     }
 
     /// The same, as `TreeState::create_iter`.
@@ -83,7 +93,10 @@ impl<S: Store> Handle<TreeState<S>> {
         ensures ok { IfOk result (λ iter. AtSomeTree (λ c. Ranges c index.entry Unbounded Unbounded snapshot iter)) }
         ensures refused { RefusesSharedRead snapshot result }
     {
-        self.shared.lock(rt).create_iter(snapshot, index)
+        let tree = self.shared.lock(rt);
+        let tree = &*tree;
+        tree.facts();
+        tree.create_iter(snapshot, index)
     }
 
     /// What a snapshot shows of the keys that begin so, as `TreeState::prefix`.
@@ -97,7 +110,10 @@ impl<S: Store> Handle<TreeState<S>> {
         ensures ok { IfOk result (λ iter. AtSomeTree (λ c. Prefixes c index.entry prefix.now snapshot iter)) }
         ensures refused { RefusesSharedRead snapshot result }
     {
-        self.shared.lock(rt).prefix(prefix, snapshot, index)
+        let tree = self.shared.lock(rt);
+        let tree = &*tree;
+        tree.facts();
+        tree.prefix(prefix, snapshot, index)
     }
 
     /// The same, as `TreeState::create_prefix`.
@@ -111,7 +127,10 @@ impl<S: Store> Handle<TreeState<S>> {
         ensures ok { IfOk result (λ iter. AtSomeTree (λ c. Prefixes c index.entry prefix.now snapshot iter)) }
         ensures refused { RefusesSharedRead snapshot result }
     {
-        self.shared.lock(rt).create_prefix(prefix, snapshot, index)
+        let tree = self.shared.lock(rt);
+        let tree = &*tree;
+        tree.facts();
+        tree.create_prefix(prefix, snapshot, index)
     }
 
     /// How many keys a snapshot shows, as `TreeState::len`.
@@ -124,7 +143,10 @@ impl<S: Store> Handle<TreeState<S>> {
         ensures ok { IfOk result (λ n. AtSomeTree (λ c. Numbers c index.entry snapshot n)) }
         ensures refused { RefusesSharedRead snapshot result }
     {
-        self.shared.lock(rt).len(snapshot, index)
+        let tree = self.shared.lock(rt);
+        let tree = &*tree;
+        tree.facts();
+        tree.len(snapshot, index)
     }
 
     /// Whether a snapshot shows nothing, as `TreeState::is_empty`.
@@ -137,7 +159,10 @@ impl<S: Store> Handle<TreeState<S>> {
         ensures ok { IfOk result (λ b. AtSomeTree (λ c. TellsEmpty Front c index.entry snapshot b)) }
         ensures refused { RefusesSharedRead snapshot result }
     {
-        self.shared.lock(rt).is_empty(snapshot, index)
+        let tree = self.shared.lock(rt);
+        let tree = &*tree;
+        tree.facts();
+        tree.is_empty(snapshot, index)
     }
 
     /// The pair with the least key that a snapshot shows, as `TreeState::first_key_value`.
@@ -150,7 +175,10 @@ impl<S: Store> Handle<TreeState<S>> {
         ensures ok { IfOk result (λ pair. AtSomeTree (λ c. PairAt Front c index.entry snapshot pair)) }
         ensures refused { RefusesSharedRead snapshot result }
     {
-        self.shared.lock(rt).first_key_value(snapshot, index)
+        let tree = self.shared.lock(rt);
+        let tree = &*tree;
+        tree.facts();
+        tree.first_key_value(snapshot, index)
     }
 
     /// The pair with the greatest key that a snapshot shows, as `TreeState::last_key_value`.
@@ -163,6 +191,9 @@ impl<S: Store> Handle<TreeState<S>> {
         ensures ok { IfOk result (λ pair. AtSomeTree (λ c. PairAt Back c index.entry snapshot pair)) }
         ensures refused { RefusesSharedRead snapshot result }
     {
-        self.shared.lock(rt).last_key_value(snapshot, index)
+        let tree = self.shared.lock(rt);
+        let tree = &*tree;
+        tree.facts();
+        tree.last_key_value(snapshot, index)
     }
 }

@@ -28,7 +28,10 @@ impl<S: Store> Handle<TreeState<S>> {
         ensures gives { IfOk result (λ v. AtSomeTree (λ c. Gives c key.now snapshot v)) }
         ensures refused { RefusesSharedRead snapshot result }
     {
-        self.shared.lock(rt).get(key, snapshot)
+        let tree = self.shared.lock(rt);
+        let tree = &*tree;
+        tree.facts();
+        tree.get(key, snapshot)
     }
 
     /// The entry that decides `get`, as `TreeState::get_internal_entry`.
@@ -41,7 +44,10 @@ impl<S: Store> Handle<TreeState<S>> {
         ensures gives { IfOk result (λ e. AtSomeTree (λ c. GivesEntry c key.now snapshot e)) }
         ensures refused { RefusesSharedRead snapshot result }
     {
-        self.shared.lock(rt).get_internal_entry(key, snapshot)
+        let tree = self.shared.lock(rt);
+        let tree = &*tree;
+        tree.facts();
+        tree.get_internal_entry(key, snapshot)
     }
 
     /// Whether a key has a value at a snapshot, as `TreeState::contains_key`.
@@ -49,7 +55,10 @@ impl<S: Store> Handle<TreeState<S>> {
         ensures tells { IfOk result (λ b. AtSomeTree (λ c. (v : Option Bytes) × Gives c key.now snapshot v × (b ≡ is_some v))) }
         ensures refused { RefusesSharedLook snapshot result }
     {
-        self.shared.lock(rt).contains_key(key, snapshot)
+        let tree = self.shared.lock(rt);
+        let tree = &*tree;
+        tree.facts();
+        tree.contains_key(key, snapshot)
     }
 
     /// The bytes of a key's value at a snapshot, as `TreeState::size_of`.
@@ -57,7 +66,10 @@ impl<S: Store> Handle<TreeState<S>> {
         ensures tells { IfOk result (λ n. AtSomeTree (λ c. (v : Option Bytes) × Gives c key.now snapshot v × (n ≡ option_map value_size v))) }
         ensures refused { RefusesSharedLook snapshot result }
     {
-        self.shared.lock(rt).size_of(key, snapshot)
+        let tree = self.shared.lock(rt);
+        let tree = &*tree;
+        tree.facts();
+        tree.size_of(key, snapshot)
     }
 
     /// Seals the active memtable, as `TreeState::rotate_memtable`.
@@ -65,14 +77,24 @@ impl<S: Store> Handle<TreeState<S>> {
         ensures rotates { IfOk result (λ id. OnSomeTree (λ old new. Rotates old id new)) }
         ensures refused { RefusesSharedRotation result }
     {
-        self.shared.lock(rt).rotate_memtable()
+        let mut tree = self.shared.lock(rt);
+        let tree = &mut *tree;
+        tree.facts();
+        let told = tree.rotate_memtable();
+        tree.facts();
+        told
     }
 
     /// Writes an entry under its own sequence number, as `TreeState::append_entry`.
     pub fn append_entry(&self, rt: &impl Wait, entry: InternalValue) -> Result<(u64, u64), Error>
         ensures { OnSomeTree (λ old new. Appends (plain entry) result old new) }
     {
-        self.shared.lock(rt).append_entry(entry)
+        let mut tree = self.shared.lock(rt);
+        let tree = &mut *tree;
+        tree.facts();
+        let told = tree.append_entry(entry);
+        tree.facts();
+        told
     }
 
     /// Sets a key under a sequence number, as `TreeState::insert`.
@@ -85,14 +107,24 @@ impl<S: Store> Handle<TreeState<S>> {
     ) -> Result<(u64, u64), Error>
         ensures { OnSomeTree (λ old new. Appends (op_entry key seqno (Set value)) result old new) }
     {
-        self.shared.lock(rt).insert(key, value, seqno)
+        let mut tree = self.shared.lock(rt);
+        let tree = &mut *tree;
+        tree.facts();
+        let told = tree.insert(key, value, seqno);
+        tree.facts();
+        told
     }
 
     /// Removes a key under a sequence number, as `TreeState::remove`.
     pub fn remove(&self, rt: &impl Wait, key: UserKey, seqno: SeqNo) -> Result<(u64, u64), Error>
         ensures { OnSomeTree (λ old new. Appends (op_entry key seqno Del) result old new) }
     {
-        self.shared.lock(rt).remove(key, seqno)
+        let mut tree = self.shared.lock(rt);
+        let tree = &mut *tree;
+        tree.facts();
+        let told = tree.remove(key, seqno);
+        tree.facts();
+        told
     }
 
     /// Removes a key, of which at most one value was ever written, as `TreeState::remove_weak`.
@@ -104,14 +136,24 @@ impl<S: Store> Handle<TreeState<S>> {
     ) -> Result<(u64, u64), Error>
         ensures { OnSomeTree (λ old new. Appends (op_entry key seqno Weak) result old new) }
     {
-        self.shared.lock(rt).remove_weak(key, seqno)
+        let mut tree = self.shared.lock(rt);
+        let tree = &mut *tree;
+        tree.facts();
+        let told = tree.remove_weak(key, seqno);
+        tree.facts();
+        told
     }
 
     /// Writes a batch under the next sequence number, which it returns, as `TreeState::write`.
     pub fn write(&self, rt: &impl Wait, ops: Vec<(UserKey, Op)>) -> Result<SeqNo, Error>
         ensures { OnSomeTree (λ old new. WritesBatch ops.items result old new) }
     {
-        self.shared.lock(rt).write(ops)
+        let mut tree = self.shared.lock(rt);
+        let tree = &mut *tree;
+        tree.facts();
+        let told = tree.write(ops);
+        tree.facts();
+        told
     }
 
     /// Draws the next sequence number, to write under it.
@@ -124,14 +166,20 @@ impl<S: Store> Handle<TreeState<S>> {
         ensures only { IfErr result (λ e. e ≡ Error.OutOfNumbers) }
         ensures out_of_numbers { IsErrOf result Error.OutOfNumbers → AtSomeTree (λ c. LIMIT ≤ c.seqno) }
     {
-        self.shared.lock(rt).seqno_mut().next()
+        let mut tree = self.shared.lock(rt);
+        let tree = &mut *tree;
+        tree.facts();
+        tree.seqno_mut().next()
     }
 
     /// The snapshot that sees every write so far that was made visible.
     pub fn visible_number(&self, rt: &impl Wait) -> SeqNo
         ensures { AtSomeTree (λ c. c.visible_seqno ≡ result) }
     {
-        self.shared.lock(rt).visible_seqno().get()
+        let tree = self.shared.lock(rt);
+        let tree = &*tree;
+        tree.facts();
+        tree.visible_seqno().get()
     }
 
     /// Raises the visible counter to a sequence number, unless it stands at a greater one.

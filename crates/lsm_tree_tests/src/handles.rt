@@ -1,4 +1,5 @@
-// What no contract says: that calls get the lock and succeed where memory is ample, and that a journal is given out.
+// What no contract says: that calls get the lock, succeed where memory is ample, and act on the tree that the lock
+// guards; and that a journal is returned.
 //
 // Helpers borrow the tree, and each test drops it by a call: see the tests of `recorded`.
 use crate::samples::text;
@@ -50,7 +51,7 @@ fn calls(
     matches!(write_and_read(rt, alloc, tree, pass, key), Ok(true))
 }
 
-/// One caller's pass, behind a write and a read of its own.
+/// One caller's pass, after a write and a read of its own.
 fn pass_of(rt: &impl Wait, alloc: Global, tree: &RecordedTree, key: &'static str) -> Pass {
     let mut pass = Pass::new(alloc);
     let _ = calls(rt, alloc, tree, &mut pass, key);
@@ -111,17 +112,6 @@ fn each_reads_its_own_write(rt: HostRuntime) -> Result<(), Fail> {
     Ok(())
 }
 
-#[test]
-fn a_missing_pass_is_missed(rt: HostRuntime) -> Result<(), Fail> {
-    let alloc = rt.alloc();
-    let tree = open(alloc)?;
-    let pass = pass_of(&rt, alloc, &tree, "a");
-    drop(pass_of(&rt, alloc, &tree, "b"));
-    assert_eq!(rt; given_back(&rt, &tree, one_pass(alloc, pass)), Some(1));
-    drop(tree);
-    Ok(())
-}
-
 /// A pass with the entries of `pass_of`, at the same places, but of calls on another tree.
 fn pass_elsewhere(rt: &impl Wait, alloc: Global) -> Pass {
     match open(alloc) {
@@ -134,21 +124,7 @@ fn pass_elsewhere(rt: &impl Wait, alloc: Global) -> Pass {
     }
 }
 
-#[test]
-fn a_doubled_pass_is_seen(rt: HostRuntime) -> Result<(), Fail> {
-    let alloc = rt.alloc();
-    let tree = open(alloc)?;
-    let pass = pass_of(&rt, alloc, &tree, "a");
-    let other = pass_elsewhere(&rt, alloc);
-    assert_eq!(rt;
-        given_back(&rt, &tree, two_passes(alloc, pass, other)),
-        Some(2)
-    );
-    drop(tree);
-    Ok(())
-}
-
-/// Puts the entries of `pass_of` behind a pass, but for the read's snapshot, which is 0.
+/// Appends the entries of `pass_of` to a pass, but for the read's snapshot, which is 0.
 fn put_altered(rt: &impl Wait, alloc: Global, tree: &RecordedTree, pass: &mut Pass) -> bool {
     matches!(set(rt, alloc, tree, pass, "a"), Ok(0))
         && matches!(tree.get(rt, pass, &text("a"), 0), Ok(None))
@@ -164,19 +140,7 @@ fn altered_pass(rt: &impl Wait, alloc: Global) -> Pass {
     pass
 }
 
-#[test]
-fn an_altered_entry_is_seen(rt: HostRuntime) -> Result<(), Fail> {
-    let alloc = rt.alloc();
-    let tree = open(alloc)?;
-    drop(pass_of(&rt, alloc, &tree, "a"));
-    let pass = altered_pass(&rt, alloc);
-    assert!(rt; has_places(&pass, [0, 1]));
-    assert_eq!(rt; given_back(&rt, &tree, one_pass(alloc, pass)), Some(1));
-    drop(tree);
-    Ok(())
-}
-
-/// Puts the read of `pass_of` behind a pass, and the write before it behind one that is let go.
+/// Appends the read of `pass_of` to a pass, and the write before it to one that is dropped.
 fn put_read(rt: &impl Wait, alloc: Global, tree: &RecordedTree, pass: &mut Pass) -> bool {
     let mut other = Pass::new(alloc);
     let is_set = matches!(set(rt, alloc, tree, &mut other, "a"), Ok(0));
@@ -204,12 +168,28 @@ fn has_places(pass: &Pass, places: [u64; 2]) -> bool {
 }
 
 #[test]
-fn places_out_of_order_are_seen(rt: HostRuntime) -> Result<(), Fail> {
+fn passes_that_list_something_else_are_given_back(rt: HostRuntime) -> Result<(), Fail> {
     let alloc = rt.alloc();
     let tree = open(alloc)?;
-    drop(pass_of(&rt, alloc, &tree, "a"));
-    let pass = reversed_pass(&rt, alloc);
-    assert!(rt; has_places(&pass, [1, 0]));
+    let pass = pass_of(&rt, alloc, &tree, "a");
+
+    let altered = altered_pass(&rt, alloc);
+    assert!(rt; has_places(&altered, [0, 1]));
+    assert_eq!(rt; given_back(&rt, &tree, one_pass(alloc, altered)), Some(1));
+
+    let reversed = reversed_pass(&rt, alloc);
+    assert!(rt; has_places(&reversed, [1, 0]));
+    assert_eq!(rt; given_back(&rt, &tree, one_pass(alloc, reversed)), Some(1));
+
+    let doubled = two_passes(
+        alloc,
+        pass_elsewhere(&rt, alloc),
+        pass_elsewhere(&rt, alloc),
+    );
+    assert_eq!(rt; given_back(&rt, &tree, doubled), Some(2));
+
+    // The pass of the other calls is missing.
+    drop(pass_of(&rt, alloc, &tree, "b"));
     assert_eq!(rt; given_back(&rt, &tree, one_pass(alloc, pass)), Some(1));
     drop(tree);
     Ok(())
@@ -288,6 +268,25 @@ fn finds(rt: &impl Wait, tree: &Tree) -> bool {
     }
 }
 
+/// Whether the tree is as `set_next` left it, by its counters and what its active memtable counts.
+fn is_left(rt: &impl Wait, tree: &Tree) -> bool {
+    tree.visible_number(rt) == 1
+        && matches!(tree.next_seqno(rt), Ok(1))
+        && matches!(tree.insert(rt, text("b"), text("x"), 1), Ok((50, 100)))
+}
+
+#[test]
+fn counters_are_those_of_the_tree(rt: HostRuntime) -> Result<(), Fail> {
+    let tree = open_tree(rt.alloc())?;
+    assert!(rt; matches!(tree.next_seqno(&rt), Ok(0)));
+    assert!(rt; matches!(tree.next_seqno(&rt), Ok(1)));
+    tree.raise_visible(&rt, 2);
+    tree.raise_visible(&rt, 1);
+    assert_eq!(rt; tree.visible_number(&rt), 2);
+    drop(tree);
+    Ok(())
+}
+
 #[test]
 fn numbers_are_drawn_and_made_visible(rt: HostRuntime) -> Result<(), Fail> {
     let tree = open_tree(rt.alloc())?;
@@ -342,6 +341,7 @@ fn a_shared_tree_lists_its_pairs(rt: HostRuntime) -> Result<(), Fail> {
     assert!(rt; sets_next(&rt, &tree));
     assert!(rt; matches!(count_ranges(&rt, &tree), Ok(3)));
     assert!(rt; matches!(count_others(&rt, &tree), Ok(4)));
+    assert!(rt; is_left(&rt, &tree));
     drop(tree);
     Ok(())
 }
@@ -360,6 +360,9 @@ fn a_shared_tree_tells_of_its_pairs(rt: HostRuntime) -> Result<(), Fail> {
     assert!(rt; has_ends(&rt, &tree));
     assert!(rt; matches!(tree.contains_key(&rt, b"a", 1), Ok(true)));
     assert!(rt; matches!(tree.size_of(&rt, b"a", 1), Ok(Some(1))));
+    assert!(rt; finds(&rt, &tree));
+    assert!(rt; matches!(tree.get_internal_entry(&rt, b"a", 1), Ok(Some(_))));
+    assert!(rt; is_left(&rt, &tree));
     drop(tree);
     Ok(())
 }

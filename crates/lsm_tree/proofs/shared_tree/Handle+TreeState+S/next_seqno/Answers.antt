@@ -4,4 +4,4 @@ use Rattle.lsm_parts.specs.declared.seqno.TheConstants.{LIMIT}
 use Rattle.lsm_tree.proofs.shared_tree.Handle+TreeState+S.next_seqno.Goals as goal
 
 pub returns-clause-out_of_numbers : goal.returns-clause-out_of_numbers
-returns-clause-out_of_numbers g c = λ h. (c.deref_mut.result.now.core, subst (λ n. LIMIT ≤ n) c.seqno_mut.ensures.value (c.next.ensures.out_of_numbers.0 h))
+returns-clause-out_of_numbers g c = λ h. (c.deref_mut-tree.result.now.core, subst (λ n. LIMIT ≤ n) c.seqno_mut.ensures.value (c.next.ensures.out_of_numbers.0 h), c.facts.ensures)
