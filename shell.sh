@@ -53,7 +53,7 @@ build() {
 # it prints nothing, and says why in a line that begins with `checked:`.
 try() {
     require_rt
-    say 'a quick build, of which nothing is proved; it answers at the end of the input, after some 20 seconds,'
+    say 'a quick build, of which nothing is proved; it answers at the end of the input, after some 40 seconds,'
     say 'and takes no more than a minute and 1 MiB of output; ./shell.sh --build makes the proved program'
     kept=$(mktemp)
     trap 'rm -f "$kept"' EXIT
