@@ -54,13 +54,6 @@ recorded theory marks low c journal holds counted floored noted = record {
 counted_of : (marks : Marks) (low : ℕ) (c : Core) (journal : List Event) → IsRecorded marks low c journal → IsCounted c.seqno journal
 counted_of marks low c journal r = record { order = r.order; counted = r.counted }
 
--- ---- opening
-
-pub recorded_fresh : (theory : Soundness) (marks : Marks) (c : Core) (journal : List Event) (config : Config) → marks.entries ≡ [] → c ≡ fresh_core config → IsOpened [] empty (state_of [] c) → journal ≡ [] → IsRecorded marks 0 c journal
-recorded_fresh theory marks c journal config none core opened is =
-    subst (IsRecorded marks 0 c) (sym is)
-    (recorded theory marks 0 c [] (theory.kept.opened [] empty (state_of [] c) opened) (record { order = tt; counted = omega arith }) refl (λ k. ap (λ es. unwrap_or (lookup (is_at (bytes_cmp k)) es) no_mark) none))
-
 -- ---- a single write
 
 pub recorded_write : (theory : Soundness) (marks marks' : Marks) (low : ℕ) (old new : Core) (journal : List Event) (e : Entry) → IsRecorded marks low old journal → keeps_order journal old.seqno e ≡ true → IsWriteStep e old new → new.seqno ≡ old.seqno
@@ -74,10 +67,6 @@ recorded_write theory marks marks' low old new journal e r ok step counter noted
 -- it leaves what snapshots up to its number see
 pub write_spares : (theory : Soundness) (marks : Marks) (low : ℕ) (old new : Core) (journal : List Event) (e : Entry) → IsRecorded marks low old journal → keeps_order journal old.seqno e ≡ true → IsWriteStep e old new → StaysTo e.key.seqno old new
 write_spares theory marks low old new journal e r ok step = λ s up. theory.spares.step [] empty s (state_of journal old) (Wrote e) (state_of (journal ++ Write e ∷ []) new) (step [] journal) (write_counted old.seqno journal e ok (counted_of marks low old journal r)).order up r.holds
-
--- a mark for which room was made stays what it is
-pub recorded_marks : (marks marks' : Marks) (low : ℕ) (c : Core) (journal : List Event) → IsRecorded marks low c journal → ((q : Bytes) → mark_of marks' q ≡ mark_of marks q) → IsRecorded marks' low c journal
-recorded_marks marks marks' low c journal r same = record { reads = r.reads; holds = r.holds; order = r.order; counted = r.counted; floored = r.floored; noted = λ q. same q ∙ r.noted q }
 
 -- ---- a batch
 

@@ -1,5 +1,5 @@
 -- A reply that is the journal's own or the tree's, where the tree's means more.
-use Rattle.std.proofs.Common.{◌≡◌, Result, Err, ◌⊎◌, ⊎_elim, inl, inr}
+use Rattle.std.proofs.Common.{Result, ⊎_elim, inl, inr}
 use Rattle.lsm_parts.specs.declared.error.Error.{Error}
 use Rattle.lsm_recorded.specs.Recorded.{OwnOr}
 
