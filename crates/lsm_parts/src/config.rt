@@ -7,6 +7,13 @@ use lsm_below::{SeqNo, TreeId};
 pub const DEFAULT_LEVEL_COUNT: u8 = 7;
 
 /// What a tree is opened with: its id, and where its counters start.
+///
+/// # Examples
+///
+/// ```text
+/// let config = Config::new(0, 0, 0); // tree 0, both counters at 0
+/// let tree = TreeState::open_in_memory(alloc, config);
+/// ```
 #[derive(Clone, Copy, Debug, PartialEq, Eq)]
 pub struct Config {
     pub id: TreeId,

@@ -41,6 +41,14 @@ pub trait IterGuard: Drop {
 }
 
 /// A pair that an iterator found, or why it found none.
+///
+/// # Examples
+///
+/// ```text
+/// for pair in tree.iter(snapshot, None)? {
+///     let (key, value) = pair.into_inner()?;
+/// }
+/// ```
 #[derive(Debug, Drop)]
 pub struct Guard {
     item: RangeItem,

@@ -12,6 +12,13 @@ use std::ops::Bound;
 
 /// What an iterator reads: a version of tables, memtables, and maybe a memtable on top that is an index of
 /// its own. The entries of an index count below its own sequence number, all others below the snapshot.
+///
+/// # Examples
+///
+/// ```text
+/// let state = IterState::new(&version, memtables, None);
+/// let iter = TreeIter::create_range(alloc, &state, &bounds, snapshot)?;
+/// ```
 #[derive(Drop)]
 pub struct IterState<'a> {
     version: &'a Version,

@@ -29,6 +29,16 @@ pub enum End {
 
 /// The keys and values that a snapshot shows in the bounds, by rising key, from both ends.
 /// It owns what it gives, with the bytes shared, and stands as of its making.
+///
+/// Making it merges all entries in the bounds, and keeps those that are shown; a step takes constant time.
+///
+/// # Examples
+///
+/// ```text
+/// let mut iter = tree.range(&bounds, snapshot, None)?;
+/// let least = iter.next();
+/// let greatest = iter.next_back();
+/// ```
 #[derive(Drop)]
 pub struct TreeIter {
     entries: VecDeque<InternalValue>,
