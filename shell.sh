@@ -40,7 +40,7 @@ is_current() {
 
 build() {
     require_rt
-    say 'proving each crate and building the program; from nothing that takes some 20 minutes on four cores'
+    say 'proving each crate and building the program; from nothing that may take half an hour on four cores'
     kept=$(mktemp)
     trap 'rm -f "$kept"' EXIT
     (cd "$crate" && rt run < /dev/null)
