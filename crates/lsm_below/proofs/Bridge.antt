@@ -27,7 +27,7 @@ record Same {X : Type 0} (xs ys : List X) : Type 1 where
 same_from : {X : Type 0} (xs ys : List X) → IsPermutation xs ys → Same xs ys
 same_from xs ys p = record { sums = λ f. sum_by-IsPermutation f xs ys p; each = λ P h. recursion_from_All P ys (All-permutation P xs ys p (All-from_recursion P xs h)) }
 
--- numbers don't rise
+-- sequence numbers don't rise
 abbrev Lowers : List InternalValue → Type 0
 Lowers [] = Unit {0}
 Lowers (e ∷ es) = AllByRecursion (λ f. f.key.seqno ≤ e.key.seqno) es × Lowers es
@@ -57,7 +57,7 @@ none_from n (e ∷ es) h = go (λ z. none_from n es z) (nat_eq n e.key.seqno) re
 one_at : (e : InternalValue) (es : List InternalValue) → sum_by (at_number e.key.seqno) (e ∷ es) ≡ 1 + sum_by (at_number e.key.seqno) es
 one_at e es = sum_by-cons (at_number e.key.seqno) e es ∙ ap (λ b. cond b 1 0 + sum_by (at_number e.key.seqno) es) (is_at e.key.seqno)
 
--- numbers that fall are found again in one order alone
+-- sequence numbers that fall are found again in one order alone
 same_falling : (xs ys : List InternalValue) → IsFalling xs → Lowers ys → Same xs ys → ys ≡ xs
 same_falling [] [] h k s = refl
 same_falling [] (y ∷ ys) h k s = let q = s.sums (λ _. 1) in let r = sum_by-cons (λ _. 1) y ys in absurd (omega arith)
@@ -108,7 +108,7 @@ stacks_merge lists h k = record {
   in_order = ascends_filter entry_cmp (is_of k) (merged lists) (merges_merged lists h).in_order;
 }
 
--- where all numbers of an earlier list are above those of a later one, one list's entries stand behind the other's
+-- where all numbers of an earlier list are above those of a later one, one list's entries come after the other's
 pub stacks_follow : (lists : List (List InternalValue)) → AllByRecursion IsInOrder lists → (k : List ℕ) → IsFalling (flat_map (stack k) lists) → stack k (merged lists) ≡ flat_map (stack k) lists
 stacks_follow lists h k f =
     same_falling (flat_map (stack k) lists) (stack k (merged lists)) f (lowers_stack k (merged lists) (merges_merged lists h).in_order)
@@ -131,14 +131,14 @@ module _ {S : Type 0} (f : S → List InternalValue) (sources : List S) (lists :
       let same = ap (flat_map (stack k)) is ∙ joined k sources in
       stacks_follow lists in_order k (subst IsFalling (sym same) h) ∙ same
 
--- where numbers fall, none are equal
+-- where sequence numbers fall, none are equal
 distinct_falling : (es : List InternalValue) → IsFalling es → distinct es ≡ es
 distinct_falling [] h = refl
 distinct_falling (e ∷ es) h =
     ap (λ l. e ∷ filter (λ f. not (nat_eq e.key.seqno f.key.seqno)) l) (distinct_falling es h.1)
     ∙ ap (λ l. e ∷ l) (filter_all (λ f. not (nat_eq e.key.seqno f.key.seqno)) es (each_weaker (λ f. f.key.seqno < e.key.seqno) (λ f. not (nat_eq e.key.seqno f.key.seqno) ≡ true) (λ f l. differs e.key.seqno f.key.seqno l) es h.0))
 
--- a key's entries in all sources are those in each, one behind the other
+-- a key's entries in all sources are those in each, one after the other
 stacks_of : {S : Type 0} (f : S → List InternalValue) (k : List ℕ) (xs : List S) → stack k (flat_map f xs) ≡ flat_map (λ s. stack k (f s)) xs
 stacks_of f k [] = refl
 stacks_of f k (x ∷ xs) = filter-append (is_of k) (f x) (flat_map f xs) ∙ ap (λ l. stack k (f x) ++ l) (stacks_of f k xs)
@@ -151,6 +151,6 @@ lists_joined f (x ∷ xs) = ap (λ l. f x ++ l) (lists_joined f xs)
 pub kept_of_all : {S : Type 0} (f : S → List InternalValue) (xs : List S) (w : ℕ) (v : Bool) (k : List ℕ) (out : List InternalValue) → (IsFalling (flat_map (λ s. stack k (f s)) xs) → out ≡ keep w v (flat_map (λ s. stack k (f s)) xs)) → IsFalling (stack k (flat_map (λ l. l) (map f xs))) → out ≡ keep w v (stack k (flat_map f xs))
 kept_of_all f xs w v k out h o = h (subst IsFalling (ap (stack k) (lists_joined f xs) ∙ stacks_of f k xs) o) ∙ ap (keep w v) (sym (stacks_of f k xs))
 
--- what a compaction keeps of lists that stand one behind the other
+-- what a compaction keeps of lists that stand one after the other
 pub kept_in_turn : (w : ℕ) (v : Bool) (input out joined : List InternalValue) (k : List ℕ) → IsByKey (keep_distinct w v) input out → stack k input ≡ joined → IsFalling joined → stack k out ≡ keep w v joined
 kept_in_turn w v input out joined k by is h = by.stacks k ∙ ap (λ l. keep w v (distinct l)) is ∙ ap (keep w v) (distinct_falling joined h)

@@ -5,7 +5,8 @@ use Rattle.lsm_below.specs.declared.value.InternalValue.{InternalValue}
 use Rattle.lsm_below.specs.Entries.{entry_cmp}
 use Rattle.lsm_below.specs.Streams.{IsInOrder}
 use Rattle.lsm_below.specs.Slots.{is_before, fits_front}
-use Rattle.lsm_below.proofs.Orders.{entry_total, le_of_not_lt, below_all}
+use Rattle.lsm_below.specs.Orders.{le_of_not_lt}
+use Rattle.lsm_below.proofs.Orders.{entry_total, below_all}
 
 pub fits_none : (e : InternalValue) (es : List InternalValue) → length es ≡ 0 → true ≡ fits_front e es
 fits_none e [] h = refl

@@ -13,7 +13,7 @@ use Rattle.lsm_below.specs.Each.{each_append, each_weaker, each_filter}
 use Rattle.lsm_below.proofs.Filters.{filter_none, filter_all, filter_twice}
 use Rattle.lsm_below.proofs.OneKey.{same_of, none_later, number_falls, stack_falls}
 
--- ---- equal numbers
+-- ---- equal sequence numbers
 
 each_distinct : (P : InternalValue → Type 0) (es : List InternalValue) → AllByRecursion P es → AllByRecursion P (distinct es)
 each_distinct P [] h = tt
@@ -286,7 +286,7 @@ firsts_step e (f ∷ es) = elim (same_key e f) as (λ b. cond b (changes e es) (
   | false ↦ refl
 ]
 
--- ---- the same, as the code comes by it: o is the entry after those that repeat e, and rest what is behind it
+-- ---- the same, as the code comes by it: o is the entry after those that repeat e, and rest what comes after it
 
 module _ (w : ℕ) (v : Bool) (e : InternalValue) (es rest : List InternalValue) (o : Option InternalValue) (is : all_of o rest ≡ past true e es) where
   pub judge_end : o ≡ None → IfNone o (rest ≡ []) → (g : Bool) → g ≡ goes_alone v e → kept_from w v false e es ≡ unless g e ++ compacted w v rest

@@ -9,7 +9,8 @@ use Rattle.std.proofs.lemmas.List.Sorted.{IsPermutation-refl, IsPermutation-cons
 use Rattle.lsm_below.specs.declared.value.InternalValue.{InternalValue}
 use Rattle.lsm_below.specs.Streams.{Ascends, IsInOrder, Merges}
 use Rattle.lsm_below.specs.Slots.{place_front, merge, merged_by, merged, is_before, head_before}
-use Rattle.lsm_below.proofs.Orders.{entry_total, le_of_lt, le_of_not_lt, below_all}
+use Rattle.lsm_below.specs.Orders.{le_of_lt, le_of_not_lt}
+use Rattle.lsm_below.proofs.Orders.{entry_total, below_all}
 
 abbrev pub OnFirst : {X : Type 0} → (X → Type 0) → List X → Type 0
 OnFirst P [] = Unit {0}

@@ -58,7 +58,7 @@ falls Equal m n q h = go (nat_cmp n m) refl h
     go Greater e h = absurd (cc h)
 falls Greater m n q h = absurd (cc q)
 
--- under one key the numbers fall
+-- under one key the sequence numbers fall
 pub number_falls : (e f : InternalValue) → same_key e f ≡ true → is_le (entry_cmp e f) ≡ true → f.key.seqno ≤ e.key.seqno
 number_falls e f same le = falls (texts e.key.user_key f.key.user_key) e.key.seqno f.key.seqno same le
 

@@ -9,42 +9,14 @@ use Rattle.std.proofs.lemmas.Cmp.{on_total, then_total, back_total, nat_cmp_tota
 use Rattle.lsm_below.specs.Entries.{entry_cmp}
 use Rattle.lsm_below.specs.Streams.{Ascends}
 use Rattle.lsm_below.specs.Each.{each_weaker, each_filter}
+use Rattle.lsm_below.specs.Orders.{le_trans}
 
 pub entry_total : IsTotalOrder entry_cmp
 entry_total = on_total (λ e. e.key) (then_total (on_total (λ k. k.user_key) nat_list_cmp_total) (back_total (on_total (λ k. k.seqno) nat_cmp_total)))
 
-gt_from_le : (r : Ordering) → is_le r ≡ true → is_gt r ≡ false
-gt_from_le Less h = refl
-gt_from_le Equal h = refl
-gt_from_le Greater h = absurd (cc h)
-
-le_from_gt : (r : Ordering) → is_gt r ≡ false → is_le r ≡ true
-le_from_gt Less h = refl
-le_from_gt Equal h = refl
-le_from_gt Greater h = absurd (cc h)
-
-le_from_lt : (r : Ordering) → is_lt r ≡ true → is_le r ≡ true
-le_from_lt Less h = refl
-le_from_lt Equal h = refl
-le_from_lt Greater h = absurd (cc h)
-
-le_reversed : (r : Ordering) → is_lt r ≡ false → is_le (ordering_reverse r) ≡ true
-le_reversed Less h = absurd (cc h)
-le_reversed Equal h = refl
-le_reversed Greater h = refl
-
 module _ {X : Type 0} {R : X → X → Ordering} (o : IsTotalOrder R) where
-  pub le_trans : (x y z : X) → is_le (R x y) ≡ true → is_le (R y z) ≡ true → is_le (R x z) ≡ true
-  le_trans x y z h k = le_from_gt (R x z) (upto o x y z (gt_from_le (R x y) h) (gt_from_le (R y z) k))
-
-  pub le_of_lt : (x y : X) → is_lt (R x y) ≡ true → is_le (R x y) ≡ true
-  le_of_lt x y h = le_from_lt (R x y) h
-
-  pub le_of_not_lt : (x y : X) → is_lt (R y x) ≡ false → is_le (R x y) ≡ true
-  le_of_not_lt x y h = ap is_le (o.antisymm x y) ∙ le_reversed (R y x) h
-
   pub below_all : (x y : X) (xs : List X) → is_le (R x y) ≡ true → AllByRecursion (λ z. is_le (R y z) ≡ true) xs → AllByRecursion (λ z. is_le (R x z) ≡ true) xs
-  below_all x y xs h k = each_weaker (λ z. is_le (R y z) ≡ true) (λ z. is_le (R x z) ≡ true) (λ z l. le_trans x y z h l) xs k
+  below_all x y xs h k = each_weaker (λ z. is_le (R y z) ≡ true) (λ z. is_le (R x z) ≡ true) (λ z l. le_trans o x y z h l) xs k
 
 pub ascends_filter : {X : Type 0} (R : X → X → Ordering) (t : X → Bool) (xs : List X) → Ascends R xs → Ascends R (filter t xs)
 ascends_filter R t [] h = tt

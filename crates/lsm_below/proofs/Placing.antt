@@ -139,7 +139,7 @@ module _ {T : Type 0} (range : T → Range) where
       let e : suc at - 1 ≡ suc (at - 1) = omega arith in
       subst (λ n. is_free range (range t) (get_or (r ∷ rs) n []) ≡ false) e (b (omega arith))
 
-  -- the place behind the last run that isn't free is where `placed` puts a table
+  -- the place after the last run that isn't free is where `placed` puts a table
   pub placed_at : (t : T) (runs : List (List T)) (at : ℕ) → at < length runs → is_free range (range t) (tables_of (drop at runs)) ≡ true → (0 < at → is_free range (range t) (get_or runs (at - 1) []) ≡ false) → placed range t runs ≡ set runs at (put range t (get_or runs at []))
   placed_at t [] at lt f b = absurd (omega arith)
   placed_at t (r ∷ rs) zero lt f b = rw f refl

@@ -9,6 +9,7 @@ use Rattle.lsm_below.specs.Keys.{is_below}
 use Rattle.lsm_below.specs.Ranges.{Range, IsRange, in_range, overlap, greater_of}
 use Rattle.lsm_below.specs.Runs.{IsRun}
 use Rattle.lsm_below.specs.Optimizes.{EachPair, tables_of, StandsIn, StandsBefore, Optimizes}
+use Rattle.lsm_below.specs.Members.{IsIn, each_in, in_filter, filter_in}
 use Rattle.lsm_below.specs.Greedy.{put, is_free, placed, IsPlaced}
 use Rattle.lsm_below.proofs.Keys.{below_upto, below_itself, range_ends, in_by}
 use Rattle.lsm_below.proofs.Placing.{shared_overlaps, overlap_parts, put_run, put_some, put_same, free_append}
@@ -125,44 +126,30 @@ module _ {T : Type 0} (range : T → Range) where
 
   -- ---- the rules
 
-  IsIn : T → List T → Type 0
-  IsIn x [] = ⊥
-  IsIn x (y ∷ ys) = (y ≡ x) ⊎ IsIn x ys
-
   Before : T → T → List T → Type 0
   Before a b [] = ⊥
   Before a b (x ∷ xs) = ((x ≡ a) × IsIn b xs) ⊎ Before a b xs
 
   in_from : (x : T) (xs : List T) → Contains xs x → IsIn x xs
-  unfolding IsIn
   in_from x [] (at, lt, is) = absurd (omega (arith, lt))
   in_from x (y ∷ ys) (zero, lt, is) = inl is
   in_from x (y ∷ ys) (suc at, lt, is) = inr (in_from x ys (at, omega (arith, lt), is))
 
   to_in : (x : T) (xs : List T) → IsIn x xs → Contains xs x
-  unfolding IsIn
   to_in x [] i = absurd i
   to_in x (y ∷ ys) i = ⊎_elim (λ (e : y ≡ x). (0, omega arith, e)) (λ (j : IsIn x ys). let r : Contains ys x = to_in x ys j in (suc r.0, omega (arith, r.1), r.2)) i
 
   in_left : (x : T) (xs ys : List T) → IsIn x xs → IsIn x (xs ++ ys)
-  unfolding IsIn
   in_left x [] ys i = absurd i
   in_left x (z ∷ xs) ys i = ⊎_elim (λ (e : z ≡ x). inl e) (λ (j : IsIn x xs). inr (in_left x xs ys j)) i
 
   in_right : (x : T) (xs ys : List T) → IsIn x ys → IsIn x (xs ++ ys)
-  unfolding IsIn
   in_right x [] ys i = i
   in_right x (z ∷ xs) ys i = inr (in_right x xs ys i)
 
   in_cases : (x : T) (xs ys : List T) → IsIn x (xs ++ ys) → IsIn x xs ⊎ IsIn x ys
-  unfolding IsIn
   in_cases x [] ys i = inr i
   in_cases x (z ∷ xs) ys i = ⊎_elim (λ (e : z ≡ x). inl (inl e)) (λ (j : IsIn x (xs ++ ys)). ⊎_elim (λ (p : IsIn x xs). inl (inr p)) (λ (q : IsIn x ys). inr q) (in_cases x xs ys j)) i
-
-  each_in : (P : T → Type 0) (xs : List T) (x : T) → AllByRecursion P xs → IsIn x xs → P x
-  unfolding IsIn
-  each_in P [] x h i = absurd i
-  each_in P (y ∷ xs) x h i = ⊎_elim (λ (e : y ≡ x). subst P e h.0) (λ (j : IsIn x xs). each_in P xs x h.1 j) i
 
   in_tables : (runs : List (List T)) (i : ℕ) (x : T) → StandsIn runs i x → IsIn x (tables_of runs)
   in_tables [] i x h = absurd (omega (arith, h.1))
@@ -175,7 +162,7 @@ module _ {T : Type 0} (range : T → Range) where
   before_right a b (x ∷ xs) ys h = inr (before_right a b xs ys h)
 
   before_across : (a b : T) (xs ys : List T) → IsIn a xs → IsIn b ys → Before a b (xs ++ ys)
-  unfolding Before IsIn
+  unfolding Before
   before_across a b [] ys i j = absurd i
   before_across a b (x ∷ xs) ys i j = ⊎_elim (λ (e : x ≡ a). inl (e, in_right b xs ys j)) (λ (k : IsIn a xs). inr (before_across a b xs ys k j)) i
 
@@ -184,22 +171,6 @@ module _ {T : Type 0} (range : T → Range) where
   before_tables (r ∷ rs) i zero a b lt h k = absurd (omega arith)
   before_tables (r ∷ rs) zero (suc j) a b lt h k = before_across a b r (tables_of rs) (in_from a r h) (in_tables rs j b k)
   before_tables (r ∷ rs) (suc i) (suc j) a b lt h k = before_right a b r (tables_of rs) (before_tables rs i j a b (omega arith) h k)
-
-  in_filter : (t : T → Bool) (xs : List T) (x : T) → IsIn x (filter t xs) → IsIn x xs
-  unfolding IsIn
-  in_filter t [] x i = i
-  in_filter t (y ∷ xs) x i = elim (t y) as (λ b. IsIn x (cond b (y ∷ filter t xs) (filter t xs)) → (y ≡ x) ⊎ IsIn x xs) [
-    | true ↦ λ j. ⊎_elim (λ (e : y ≡ x). inl e) (λ (k : IsIn x (filter t xs)). inr (in_filter t xs x k)) j
-    | false ↦ λ j. inr (in_filter t xs x j)
-  ] i
-
-  filter_in : (t : T → Bool) (xs : List T) (x : T) → IsIn x xs → t x ≡ true → IsIn x (filter t xs)
-  unfolding IsIn
-  filter_in t [] x i h = i
-  filter_in t (y ∷ xs) x i h = elim (t y) as (λ b. t y ≡ b → IsIn x (cond b (y ∷ filter t xs) (filter t xs))) [
-    | true ↦ λ q. ⊎_elim (λ (e : y ≡ x). inl e) (λ (j : IsIn x xs). inr (filter_in t xs x j h)) i
-    | false ↦ λ q. ⊎_elim (λ (e : y ≡ x). absurd (both_ways (t y) q (ap t e ∙ h))) (λ (j : IsIn x xs). filter_in t xs x j h) i
-  ] refl
 
   filter_before : (t : T → Bool) (xs : List T) (a b : T) → t a ≡ true → t b ≡ true → Before a b xs → Before a b (filter t xs)
   unfolding Before
@@ -213,7 +184,7 @@ module _ {T : Type 0} (range : T → Range) where
   unfolding Before
   before_filter t [] a b h = h
   before_filter t (y ∷ xs) a b h = elim (t y) as (λ c. Before a b (cond c (y ∷ filter t xs) (filter t xs)) → ((y ≡ a) × IsIn b xs) ⊎ Before a b xs) [
-    | true ↦ λ j. ⊎_elim (λ (e : (y ≡ a) × IsIn b (filter t xs)). inl (e.0, in_filter t xs b e.1)) (λ (k : Before a b (filter t xs)). inr (before_filter t xs a b k)) j
+    | true ↦ λ j. ⊎_elim (λ (e : (y ≡ a) × IsIn b (filter t xs)). inl (e.0, (in_filter t xs b e.1).0)) (λ (k : Before a b (filter t xs)). inr (before_filter t xs a b k)) j
     | false ↦ λ j. inr (before_filter t xs a b j)
   ] h
 
@@ -229,7 +200,7 @@ module _ {T : Type 0} (range : T → Range) where
       h
 
   split : (a b : T) (xs ys : List T) → Before a b (xs ++ ys) → Before a b xs ⊎ ((IsIn a xs × IsIn b ys) ⊎ Before a b ys)
-  unfolding Before IsIn
+  unfolding Before
   split a b [] ys h = inr (inr h)
   split a b (x ∷ xs) ys h = ⊎_elim
       (λ (e : (x ≡ a) × IsIn b (xs ++ ys)). ⊎_elim (λ (p : IsIn b xs). inl (inl (e.0, p))) (λ (q : IsIn b ys). inr (inl (inl e.0, q))) (in_cases b xs ys e.1))
@@ -240,7 +211,6 @@ module _ {T : Type 0} (range : T → Range) where
       h
 
   place_of : (runs : List (List T)) (x : T) → IsIn x (tables_of runs) → (i : ℕ) × StandsIn runs i x
-  unfolding IsIn
   place_of [] x i = absurd i
   place_of (r ∷ rs) x i = ⊎_elim (λ (p : IsIn x r). (0, to_in x r p)) (λ (q : IsIn x (tables_of rs)). let s : (i : ℕ) × StandsIn rs i x = place_of rs x q in (suc s.0, s.1)) (in_cases x r (tables_of rs) i)
 

@@ -29,7 +29,7 @@ module _ {X : Type 0} (p : X → Bool) where
   first_none [] none = refl
   first_none (x ∷ xs) none = ap (λ b. cond b (Some x) (first p xs)) (none 0 x (omega arith)) ∙ first_none xs (λ j d lt. none (suc j) d (omega arith))
 
--- of two entries in order, what stands behind the first part has no entry of it behind
+-- of two entries in order, what comes after the first part has no entry of it after
 before_cases : (a b k : List ℕ) (m n s : ℕ) (r q : Ordering) → slice_cmp nat_cmp a b ≡ r → slice_cmp nat_cmp b k ≡ q → ordering_then r (nat_cmp n m) ≡ Less → by_ordering q true (nat_le s n) false ≡ true
     → by_ordering (slice_cmp nat_cmp a k) true (nat_le s m) false ≡ true
 before_cases a b k m n s Less Less ab bk less here = ap (λ o. by_ordering o true (nat_le s m) false) (nat_list_cmp_total.trans a b k ab bk)

@@ -19,7 +19,7 @@ use Rattle.lsm_below.proofs.Orders.{entry_total}
 -- ---- filters of a list that two places part
 
 module _ {X : Type 0} (p : X → Bool) where
-  -- what passes stands behind a place
+  -- what passes comes after a place
   filter_behind : (xs : List X) (at : ℕ) → ((j : ℕ) (d : X) → j < at → j < length xs → p (get_or xs j d) ≡ false) → ((j : ℕ) (d : X) → at ≤ j → j < length xs → p (get_or xs j d) ≡ true)
       → filter p xs ≡ drop at xs
   filter_behind [] zero fail pass = refl
@@ -62,7 +62,7 @@ filter_between {X} p q xs start end low high =
     (λ j d lt in_range. rw (get_or-drop start xs j d) (high.0 (start + j) d (omega arith) (omega arith)))
     (λ j d le lt. rw (get_or-drop start xs j d) (high.1 (start + j) d (omega arith) (omega (arith, length-drop start xs)))))
 
--- a part that would begin behind its end is empty
+-- a part that would begin after its end is empty
 pub part_from_min : {X : Type 0} (xs : List X) (start end : ℕ) → take (end - min start end) (drop (min start end) xs) ≡ take (end - start) (drop start xs)
 part_from_min xs start end =
     elim (cases_lt start end) [

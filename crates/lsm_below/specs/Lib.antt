@@ -1,5 +1,7 @@
 pub mod Keys
 pub mod Each
+pub mod Members
+pub mod Orders
 pub mod Ranges
 pub mod Runs
 pub mod Optimizes

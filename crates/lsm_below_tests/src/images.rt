@@ -72,7 +72,7 @@ fn a_part_is_bad(rt: HostRuntime) -> Result<(), Fail> {
     Ok(())
 }
 
-/// Counts that lie, and a byte behind an image.
+/// Counts that lie, and a byte after an image.
 #[test]
 fn counts_and_ends(rt: HostRuntime) -> Result<(), Fail> {
     for bytes in [
@@ -85,7 +85,7 @@ fn counts_and_ends(rt: HostRuntime) -> Result<(), Fail> {
     Ok(())
 }
 
-/// An entry of the key a: its number, its type, and its value, which is x or none.
+/// An entry of the key a: its sequence number, its type, and its value, which is x or none.
 type Row = (u8, u8, &'static [u8]);
 
 fn put(out: &mut Vec<u8>, row: Row) -> Result<(), AllocError> {

@@ -1,6 +1,6 @@
 // The store in memory: its calls, and crashes of it.
 //
-// What owns a store borrows it to a helper, and has no `?` behind: a deep value that is dropped is long to prove.
+// What owns a store borrows it to a helper, and has no `?` after: a deep value that is dropped is long to prove.
 
 mod looks;
 mod scripts;

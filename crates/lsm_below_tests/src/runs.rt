@@ -1,6 +1,6 @@
 // Runs of tables.
 //
-// What owns a run borrows it to a helper, and has no `?` behind: a deep value that is dropped is long to prove.
+// What owns a run borrows it to a helper, and has no `?` after: a deep value that is dropped is long to prove.
 
 use crate::samples::{range, run_of};
 use lsm_below::{KeyRange, Ranged, Run, UserKey, optimize_runs};

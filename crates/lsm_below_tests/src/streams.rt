@@ -1,6 +1,6 @@
 // Streams of entries: what a merger gives, the first entry of each key, and what a compaction keeps.
 //
-// What owns a stream hands it on, or asks it and has no `?` behind: a deep value that is dropped is long to prove.
+// What owns a stream hands it on, or asks it and has no `?` after: a deep value that is dropped is long to prove.
 
 ghost use Rattle.std.specs.Prelude.{◌≡◌, false, IfOk};
 ghost use Rattle.std.specs.Iterator.{IsFinite};
@@ -67,7 +67,7 @@ fn merged_two(
     Merger::new(alloc, two(alloc, first, second)?)
 }
 
-/// Whether the next entry is there and has this number.
+/// Whether the next entry is there and has this sequence number.
 fn gives_next<S: Source>(source: &mut S, number: SeqNo) -> bool {
     match source.next_entry() {
         Some(Ok(entry)) => entry.key.seqno == number,
@@ -80,7 +80,7 @@ fn is_over<S: Source>(source: &mut S) -> bool {
     source.next_entry().is_none() && source.next_entry().is_none()
 }
 
-/// Whether a stream gives the entries of just these numbers, and then nothing, however often it is asked.
+/// Whether a stream gives the entries of just these sequence numbers, and then nothing, however often it is asked.
 fn gives<S: Source>(mut source: S, numbers: &[SeqNo]) -> bool {
     for number in numbers {
         if !gives_next(&mut source, *number) {
@@ -90,7 +90,7 @@ fn gives<S: Source>(mut source: S, numbers: &[SeqNo]) -> bool {
     is_over(&mut source)
 }
 
-/// Whether a compaction keeps the entries of just these numbers, of one key's entries.
+/// Whether a compaction keeps the entries of just these sequence numbers, of one key's entries.
 fn keeps(
     alloc: Global,
     entries: &[(SeqNo, ValueType)],

@@ -1,4 +1,4 @@
--- What stands in and behind each sealed memtable shows a beginning of the calls. At one key.
+-- What stands in and after each sealed memtable shows a beginning of the calls. At one key.
 use Rattle.std.proofs.Common.{◌≡◌, ℕ, ◌<◌, ◌≤◌, Bool, true, false, cond, List, [], ◌∷◌, ◌++◌, Option, None, fold, take, drop, length, refl, sym, ap, ap₂, ◌∙◌, subst, arith, flat_map, append_assoc}
 use Rattle.std.specs.List.{AllByRecursion}
 use Rattle.std.proofs.lemmas.List.{take-append-le, drop-append-le}
@@ -14,7 +14,7 @@ use Rattle.lsm_model.proofs.Stacks.{stack-append, seen_first, keep_same_behind, 
 use Rattle.lsm_model.proofs.Merges.{of_tables}
 use Rattle.lsm_model.proofs.Runs.{each_above}
 
--- a key's value after an event; every call counts, whatever its number
+-- a key's value after an event; every call counts, whatever its sequence number
 abbrev pub begun_after : Bytes → Option Bytes → Event → Option Bytes
 begun_after k v (Write e) = cond (is_same k e.key.user_key) (value_of e) v
 begun_after k v (Clear n) = None
@@ -115,7 +115,7 @@ stack_same : (k : Bytes) (mems other : Memtables) (ids : List ℕ) → AllByRecu
 stack_same k mems other [] h = refl
 stack_same k mems other (m ∷ ids) h = stack-append k (other m) (flat_map other ids) ∙ ap₂ (λ (xs ys : List Entry). xs ++ ys) h.0 (stack_same k mems other ids h.1) ∙ sym (stack-append k (mems m) (flat_map mems ids))
 
--- what is behind any entries shows the same in the new tables, for keys that are spared at the place
+-- what is after any entries shows the same in the new tables, for keys that are spared at the place
 abbrev pub ShowsBehind : Bytes → List Event → ℕ → List Placed → List Placed → Type 0
 ShowsBehind k journal upto old new = (place : ℕ) (before : List Entry) → place ≤ upto → is_spared_at k journal place ≡ true → IsSingle (before ++ of_tables k old) → newest (before ++ of_tables k new) ≡ newest (before ++ of_tables k old)
 

@@ -126,7 +126,7 @@ flush_puts opened start old w job made new notes more m h c =
     mem_parts k e =
         ap (λ ids. stack k (flat_map old.mems (old.latest.active ∷ ids))) e ∙ ap (stack k) (flat_map-append old.mems (old.latest.active ∷ new.latest.sealed) job) ∙ stack-append k (flat_map old.mems (old.latest.active ∷ new.latest.sealed)) (flat_map old.mems job)
 
--- the sealed memtables stay, and tables show the same behind any of them
+-- the sealed memtables stay, and tables show the same after any of them
 same_puts : (opened : List Entry) (start : Map) (old : State) (notes : List Note) (more : List Event) (latest : SuperVersion) → latest.sealed ≡ old.latest.sealed → IsLaidOut latest.tables
     → ((k : Bytes) → ShowsBehind k (old.journal ++ more) (length old.journal) old.latest.tables latest.tables)
     → ((k : Bytes) → Sublist (of_tables k latest.tables) (stack k (entries old.mems old.latest)))
@@ -205,7 +205,7 @@ puts_carry start old notes other more latest p = record {
   fall = fall_kept other other (length old.journal) (length (old.journal ++ more)) latest.sealed (longer old.journal more) refl (each_always _ (λ m. refl) latest.sealed) p.fall;
 }
 
--- A clear: nothing is left, and the place behind it is covered.
+-- A clear: nothing is left, and the place after it is covered.
 clear_carries : (start : Map) (old : State) (n a : ℕ) (mems : Memtables) (notes : List Note) → Carries start old.journal old.mems old.latest notes
     → Carries start (old.journal ++ Clear n ∷ []) mems (record { number = n; active = a; sealed = []; tables = [] }) (ClearedTo (length old.journal + 1) ∷ notes)
 clear_carries start old n a mems notes c =
@@ -250,7 +250,7 @@ step_carries opened start old (Maintained w) new notes m h c =
     let same = quiet_carries opened start old [] notes new.mems (each_weaker _ _ (λ i e k. ap (stack k) e) old.latest.sealed mems.1) h c in
     subst (λ sv. Carries start new.journal new.mems sv notes) latest (rw m.journal (subst (λ j. Carries start j new.mems old.latest notes) (append-nil old.journal) same))
 
--- events that lie behind change nothing of it
+-- events that lie after change nothing of it
 pub lost_carries : (opened : List Entry) (start : Map) (old : State) (more : List Event) (notes other : List Note) → covered other ≡ covered notes → ((m : ℕ) → sealed_at other m ≡ sealed_at notes m) → Holds opened start old → Carries start old.journal old.mems old.latest notes → Carries start (old.journal ++ more) old.mems old.latest other
 lost_carries opened start old more notes other same places h c = record {
   tails = λ k. tails_kept k (get start k) old.journal more notes other old.mems old.mems old.latest.tables old.latest.tables (length old.journal) old.latest.sealed (omega arith) same

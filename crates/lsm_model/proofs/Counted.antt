@@ -12,7 +12,7 @@ use Rattle.lsm_below.specs.Each.{each_both}
 use Rattle.lsm_model.proofs.Lists.{fold_push}
 use Rattle.lsm_model.proofs.Journals.{same_itself}
 
--- ---- the counter stands above all numbers so far
+-- ---- the counter stands above all sequence numbers so far
 
 counter_above : (x : Event) (n c d : ℕ) → n ≤ c → c ≤ d → IsDrawn x d → next_number_after n x ≤ counter_after x d
 counter_above (Write e) n c d h l q = omega arith
@@ -22,7 +22,7 @@ counter_above (Dropped ranges m) n c d h l q = omega arith
 counter_above (Mark w) n c d h l q = omega arith
 counter_above (Read at question answer) n c d h l q = omega arith
 
--- ---- a write's number is above what the journal before it asks
+-- ---- a write's sequence number is above what the journal before it asks
 
 pub record IsAbove (opened : List Entry) (before : List Event) (e : Entry) : Type 0 where
   pub installs : floor before ≤ e.key.seqno

@@ -96,7 +96,7 @@ example_lives = any_number [] (stands_of [] tt (record { covers = tt; by_level =
 covered_before_counts : (covered a2.notes ≡ 0) × (covered a3.notes ≡ 1) × (newest (of_tables key []) ≡ None) × (begun key None (take 1 a3.state.journal) ≡ Some (7 ∷ [])) × (begun key None (take 2 a3.state.journal) ≡ Some (7 ∷ []))
 covered_before_counts = (refl, refl, refl, refl, refl)
 
--- A flushed set, a drop of its table, and a set behind it that is not flushed: nothing is left, place 1 is covered.
+-- A flushed set, a drop of its table, and a set after it that is not flushed: nothing is left, place 1 is covered.
 -- Measured by the key's last call in the whole journal the key is outside, and no beginning from place 1 on shows nothing.
 -- Measured by its last call before the place it is in the dropped range.
 abbrev dropped_then_set : List Event
@@ -105,7 +105,7 @@ dropped_then_set = Write set0 ∷ (Install 1 ∷ (Dropped (record { min = key; m
 last_call_before_the_place : (is_outside key 9 dropped_then_set ≡ true) × (begun key None (take 1 dropped_then_set) ≡ Some (7 ∷ [])) × (begun key None (take 4 dropped_then_set) ≡ Some (7 ∷ [])) × (begun key None (take 5 dropped_then_set) ≡ Some (8 ∷ [])) × (is_spared key (take 1 dropped_then_set) (drop 1 dropped_then_set) ≡ false) × (is_spared key (take 4 dropped_then_set) (drop 4 dropped_then_set) ≡ false)
 last_call_before_the_place = (refl, refl, refl, refl, refl, refl)
 
--- Nor do drops at the front alone suffice: the beginning at place 1 has the set, and the drop stands behind that place.
+-- Nor do drops at the front alone suffice: the beginning at place 1 has the set, and the drop comes after that place.
 drops_behind_count : (is_spared key (take 1 dropped_then_set) [] ≡ true) × (newest (of_tables key []) ≡ None)
 drops_behind_count = (refl, refl)
 

@@ -13,6 +13,7 @@ use Rattle.lsm_model.specs.Sound.{Holds}
 use Rattle.lsm_model.specs.Beginnings.{is_spared, Note, ClearLost, sealed_at, covered, SealedAt, FlushedIds, ClearedTo, shown_by, Stands, Recovers, Saved, versions, Deed, Done, Lost, is_commit, noted_by, noted_lost, told_lost, Does, Deeds, IsStart, EveryCrashRecovers, EachDeedRecovers, EveryDeedReadsRight, BeginningsAnswer, beginning, IsBeginning, DeedsJoin, DeedsSplit, CoverLasts, OpeningStarts, ShownAbove, IsFound, Life, LivesWell, AnyNumberOfCrashes}
 use Rattle.lsm_model.specs.declared.journal.JournalEntry.TheVariants.{Clear, Dropped}
 use Rattle.lsm_below.specs.Each.{each_weaker}
+use Rattle.lsm_below.specs.Members.{each_in}
 use Rattle.lsm_model.proofs.Lists.{fold_push}
 use Rattle.lsm_model.proofs.Stacks.{falling_right, falling_sub, single_right, single_sub, top_first}
 use Rattle.lsm_model.proofs.Journals.{in_order_front}
@@ -255,19 +256,15 @@ start_begun opened start t s =
         let all : opened ++ [] ≡ opened = append-nil opened in
         ap (λ es. shown (top k (above opened) es)) all ∙ ap shown (top_first k (above opened) opened (rw all at (o.ordered k)))
 
-each_in : (P : List Placed → Type 0) (left : List Placed) (xs : List (List Placed)) → AllByRecursion P xs → IsIn left xs → P left
-each_in P left [] h i = absurd i
-each_in P left (x ∷ xs) h i = ⊎_elim (λ (e : x ≡ left). subst P e h.0) (λ (j : IsIn left xs). each_in P left xs h.1 j) i
-
 -- what is found, at each moment of the call
 found_recovers : (opened : List Entry) (start : Map) (old : Saved) (call : List Deed) (new : Saved) (done : Deeds opened old call new) (least : ℕ) (left : List Placed) → InOrder opened new.state.journal → least ≤ covered old.notes → IsBegun opened start old → IsFound left opened old call new done → Recovers start new.state.journal new.notes least left
-found_recovers opened start old [] new d least left o l b i = each_in _ left (versions old) (versions_recover opened start old new least (deeds_grow opened old [] new d) l b) i
+found_recovers opened start old [] new d least left o l b i = each_in _ (versions old) left (versions_recover opened start old new least (deeds_grow opened old [] new d) l b) i
 found_recovers opened start old (deed ∷ call) new d least left o l b i =
     let g = does_grow opened old deed d.0 d.1 in
     let rest = deeds_grow opened d.0 call new d.2 in
     let m : covered old.notes ≤ covered d.0.notes = rw g.notes (more_covered g.extra old.notes) in
     ⊎_elim
-    (λ (j : IsIn left (versions old)). each_in _ left (versions old) (versions_recover opened start old new least (grows_on old d.0 new g rest) l b) j)
+    (λ (j : IsIn left (versions old)). each_in _ (versions old) left (versions_recover opened start old new least (grows_on old d.0 new g rest) l b) j)
     (λ (j : IsFound left opened d.0 call new d.2). found_recovers opened start d.0 call new d.2 least left o (omega arith) (does_begun opened start old deed d.0 d.1 (grown_order opened d.0 new rest o) b) j)
     i
 

@@ -165,7 +165,7 @@ two_sets_come_back : (seen 9 (twice ++ set0 ∷ []) ≡ None) × (seen 9 (keep 5
 two_sets_come_back = (refl, refl)
 
 -- One set for each weak tombstone is not enough either where tables are dropped: Set, Weak, a drop of the weak tombstone's table alone,
--- Set, Weak. The last call stands behind the drop, and yet a flush of the last two shows the first value.
+-- Set, Weak. The last call comes after the drop, and yet a flush of the last two shows the first value.
 abbrev later_two : List Entry
 later_two = weak_tombstone_at key 5 ∷ (entry_at key 4 Value (8 ∷ []) ∷ [])
 

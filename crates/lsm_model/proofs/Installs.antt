@@ -15,7 +15,7 @@ use Rattle.lsm_model.proofs.Lists.{fold_push, each_found, Sublist, sub_none}
 use Rattle.lsm_model.proofs.Journals.{next_of-le, floor-le}
 use Rattle.lsm_model.proofs.Sound.{fits_sub, flat_map_same}
 
--- the latest super version, where the snapshot is above its number, or an older one
+-- the latest super version, where the snapshot is above its sequence number, or an older one
 pub lookup_cases : (s : ℕ) (latest sv : SuperVersion) (older : List SuperVersion) → lookup s (latest ∷ older) ≡ Some sv → ((latest.number < s) × (latest ≡ sv)) ⊎ ((s ≤ latest.number) × (lookup s older ≡ Some sv))
 lookup_cases s latest sv older e =
     ⊎_elim
@@ -53,7 +53,7 @@ emptied_sound opened start journal mems latest older a h sound = record {
   kept = sound.kept;
 }
 
--- ---- the latest super version, replaced under its number by one that shows the same
+-- ---- the latest super version, replaced under its sequence number by one that shows the same
 
 pub ids_more : (a b : ℕ) (svs : List SuperVersion) → a ≤ b → AllByRecursion (HasIds a) svs → AllByRecursion (HasIds b) svs
 ids_more a b svs h ids = each_weaker _ _ (λ sv i. (let l = i.0 in omega arith, each_weaker _ _ (λ m q. omega arith) sv.sealed i.1)) svs ids
@@ -151,11 +151,11 @@ drop_quiet n ranges = record {
   floors = λ m. omega arith;
 }
 
--- numbers in the latest super version are below what comes next
+-- sequence numbers in the latest super version are below what comes next
 pub below_next : (opened : List Entry) (journal : List Event) (mems : Memtables) (k : Bytes) (sv : SuperVersion) (n s : ℕ) → next_number opened journal ≤ n → n < s → FitsAt opened journal mems k sv → AllByRecursion (λ e. e.key.seqno < s) (stack k (entries mems sv))
 below_next opened journal mems k sv n s h l f = each_weaker _ _ (λ e q. let r = next_of-le k opened journal in omega arith) _ f.below
 
--- A flush, a merge or a move: the new super version has only entries of the latest one, and above its number it shows the same.
+-- A flush, a merge or a move: the new super version has only entries of the latest one, and above its sequence number it shows the same.
 pub record ShowsSame (opened : List Entry) (journal : List Event) (mems : Memtables) (latest new : SuperVersion) : Type 0 where
   pub next : next_number opened journal ≤ new.number
   pub act : latest.active ≤ new.active

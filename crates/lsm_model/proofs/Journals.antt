@@ -64,7 +64,7 @@ next_steps : (k : Bytes) (n m : ℕ) (journal : List Event) → n ≤ m → fold
 next_steps k n m [] h = h
 next_steps k n m (x ∷ journal) h = next_steps k (next_after k n x) (next_number_after m x) journal (next_step k n m x h)
 
--- no key's numbers pass those of all
+-- no key's sequence numbers pass those of all
 pub next_of-le : (k : Bytes) (opened : List Entry) (journal : List Event) → next_of k opened journal ≤ next_number opened journal
 next_of-le k opened journal = next_steps k _ _ journal (above_stack k opened)
 

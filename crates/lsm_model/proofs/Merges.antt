@@ -2,33 +2,20 @@
 use Rattle.std.proofs.Common.{◌≡◌, ℕ, ◌<◌, ◌≤◌, Bool, true, false, cond, not, ◌&&◌, List, [], ◌∷◌, ◌++◌, filter, refl, sym, ap, ◌∙◌, arith, ltb, ltb-true, ltb-false, ◌⊎◌, inl, inr, ⊎_elim, append_assoc, Ordering, Less, Equal, Greater, is_le, is_gt}
 use Rattle.std.specs.List.{AllByRecursion}
 use Rattle.std.specs.Cmp.Lexicographic.{nat_list_cmp_total}
-use Rattle.std.proofs.lemmas.Cmp.{upto}
 use Rattle.std.proofs.lemmas.Bool.{and_parts, and_from, not-true}
 use Rattle.lsm_below.specs.Keys.{Bytes, bytes_cmp, is_same}
+use Rattle.lsm_below.specs.Orders.{le_trans}
 use Rattle.lsm_below.specs.Ranges.{Range, in_range, overlap}
 use Rattle.lsm_below.specs.Entries.{Entry, stack}
 use Rattle.lsm_model.specs.Views.{Placed, held, IsLaidOut, PairAllowed, IsAllowed, chosen_of, upper_of, lower_of, IsRearranged}
 use Rattle.lsm_model.proofs.Stacks.{stack-append}
 use Rattle.lsm_model.proofs.Journals.{same_key}
 
-is_gt-is_le : (r : Ordering) → is_le r ≡ true → is_gt r ≡ false
-is_gt-is_le Less h = refl
-is_gt-is_le Equal h = refl
-is_gt-is_le Greater h = absurd (cc h)
-
-is_le-is_gt : (r : Ordering) → is_gt r ≡ false → is_le r ≡ true
-is_le-is_gt Less h = refl
-is_le-is_gt Equal h = refl
-is_le-is_gt Greater h = absurd (cc h)
-
-le_through : (a k b : Bytes) → is_le (bytes_cmp a k) ≡ true → is_le (bytes_cmp k b) ≡ true → is_le (bytes_cmp a b) ≡ true
-le_through a k b h q = is_le-is_gt (bytes_cmp a b) (upto nat_list_cmp_total a k b (is_gt-is_le (bytes_cmp a k) h) (is_gt-is_le (bytes_cmp k b) q))
-
 -- two ranges that share a key overlap
 pub overlap_at : (k : Bytes) (a b : Range) → in_range k a ≡ true → in_range k b ≡ true → overlap a b ≡ true
 overlap_at k a b h q =
     let x = and_parts _ _ h in let y = and_parts _ _ q in
-    and_from _ _ (le_through a.min k b.max x.0 y.1) (le_through b.min k a.max y.0 x.1)
+    and_from _ _ (le_trans nat_list_cmp_total a.min k b.max x.0 y.1) (le_trans nat_list_cmp_total b.min k a.max y.0 x.1)
 
 -- a key's entries in a table, and in tables
 abbrev pub of_table : Bytes → Placed → List Entry
@@ -77,7 +64,7 @@ module _ (k : Bytes) (d : ℕ) (chosen : ℕ → Bool) (evict : Bool) where
   Allows : Placed → Placed → Type 0
   Allows p q = overlap p.table.range q.table.range ≡ true → PairAllowed d chosen evict p q
 
-  -- behind a chosen table with the key no unchosen one above d has it
+  -- after a chosen table with the key no unchosen one above d has it
   behind_chosen : (p : Placed) (tables : List Placed) → in_range k p.table.range ≡ true → chosen p.table.id ≡ true → AllByRecursion (Allows p) tables → AllByRecursion Covers tables → AllByRecursion (λ q. (not (chosen q.table.id) && ltb q.level d) ≡ true → of_table k q ≡ []) tables
   unfolding Allows
   behind_chosen p [] i c a v = tt
@@ -93,7 +80,7 @@ module _ (k : Bytes) (d : ℕ) (chosen : ℕ → Bool) (evict : Bool) where
     behind_chosen p tables i c a.1 v.1,
   )
 
-  -- behind an unchosen table with the key at d or below no chosen one has it
+  -- after an unchosen table with the key at d or below no chosen one has it
   behind_lower : (p : Placed) (tables : List Placed) → in_range k p.table.range ≡ true → chosen p.table.id ≡ false → d ≤ p.level → AllByRecursion (Allows p) tables → AllByRecursion Covers tables → AllByRecursion (λ q. chosen q.table.id ≡ true → of_table k q ≡ []) tables
   unfolding Allows
   behind_lower p [] i c l a v = tt
@@ -112,7 +99,7 @@ module _ (k : Bytes) (d : ℕ) (chosen : ℕ → Bool) (evict : Bool) where
   no_upper p [] l h = tt
   no_upper p (q ∷ tables) l h = (λ u. let m : q.level < d = ltb-true q.level d (and_parts (not (chosen q.table.id)) (ltb q.level d) u).1 in let n = h.0 in absurd (omega arith), no_upper p tables l h.1)
 
-  -- behind a chosen table with the key, where tombstones are evicted, no unchosen one has it
+  -- after a chosen table with the key, where tombstones are evicted, no unchosen one has it
   behind_evicted : (p : Placed) (tables : List Placed) → evict ≡ true → in_range k p.table.range ≡ true → chosen p.table.id ≡ true → AllByRecursion (Allows p) tables → AllByRecursion Covers tables → AllByRecursion (λ q. (not (chosen q.table.id) && not (ltb q.level d)) ≡ true → of_table k q ≡ []) tables
   unfolding Allows
   behind_evicted p [] e i c a v = tt

@@ -3,12 +3,9 @@ use Rattle.std.proofs.Common.{◌≡◌, ℕ, ◌+◌, ◌<◌, ◌≤◌, Bool,
 use Rattle.std.specs.List.{AllByRecursion}
 use Rattle.lsm_below.specs.Ranges.{in_range}
 use Rattle.lsm_model.specs.Views.{EachPair, IsIn, Placed, Table, place_of, HasDistinctIds, IsReordered, IsRearranged, placed_from, placed_at}
+use Rattle.lsm_below.specs.Members.{each_in, in_filter, filter_in}
 use Rattle.lsm_below.specs.Each.{each_weaker, each_append, each_both}
 use Rattle.lsm_model.proofs.Merges.{overlap_at}
-
-each_in : {A : Type 0} (P : A → Type 0) (xs : List A) (x : A) → AllByRecursion P xs → IsIn x xs → P x
-each_in P [] x h i = absurd i
-each_in P (y ∷ xs) x h i = ⊎_elim (λ (e : y ≡ x). subst P e h.0) (λ (j : IsIn x xs). each_in P xs x h.1 j) i
 
 -- two lists in one asymmetric order, with the same members
 pub one_order : {A : Type 0} (R : A → A → Type 0) → ((x y : A) → R x y → R y x → ⊥) → (xs ys : List A) → EachPair R xs → EachPair R ys → ((x : A) → IsIn x xs → IsIn x ys) → ((x : A) → IsIn x ys → IsIn x xs) → xs ≡ ys
@@ -24,22 +21,6 @@ one_order R apart (x ∷ xs) (y ∷ ys) h k f g =
 
 -- ---- runs that are joined
 
-in_filter : {A : Type 0} (t : A → Bool) (xs : List A) (x : A) → IsIn x (filter t xs) → IsIn x xs × (t x ≡ true)
-in_filter t [] x i = absurd i
-in_filter t (y ∷ xs) x i =
-    elim (t y) as (λ b. t y ≡ b → IsIn x (cond b (y ∷ filter t xs) (filter t xs)) → IsIn x (y ∷ xs) × (t x ≡ true)) [
-      | true ↦ λ h j. ⊎_elim (λ (e : y ≡ x). (inl e, subst (λ z. t z ≡ true) e h)) (λ (k : IsIn x (filter t xs)). let r = in_filter t xs x k in (inr r.0, r.1)) j
-      | false ↦ λ h j. let r = in_filter t xs x j in (inr r.0, r.1)
-    ] refl i
-
-filter_in : {A : Type 0} (t : A → Bool) (xs : List A) (x : A) → IsIn x xs → t x ≡ true → IsIn x (filter t xs)
-filter_in t [] x i h = absurd i
-filter_in t (y ∷ xs) x i h =
-    elim (t y) as (λ b. t y ≡ b → IsIn x (cond b (y ∷ filter t xs) (filter t xs))) [
-      | true ↦ λ q. ⊎_elim (λ (e : y ≡ x). inl e) (λ (j : IsIn x xs). inr (filter_in t xs x j h)) i
-      | false ↦ λ q. ⊎_elim (λ (e : y ≡ x). let z : true ≡ false = sym h ∙ (ap t (sym e) ∙ q) in absurd (cc z)) (λ (j : IsIn x xs). filter_in t xs x j h) i
-    ] refl
-
 each_filtered : {A : Type 0} (P : A → Type 0) (Q : A → Type 0) (t : A → Bool) → ((x : A) → t x ≡ true → P x → Q x) → (xs : List A) → AllByRecursion P xs → AllByRecursion Q (filter t xs)
 each_filtered P Q t f [] h = tt
 each_filtered P Q t f (x ∷ xs) h = elim (t x) as (λ b. t x ≡ b → AllByRecursion Q (cond b (x ∷ filter t xs) (filter t xs))) [ true ↦ λ q. (f x q h.0, each_filtered P Q t f xs h.1) | false ↦ λ q. each_filtered P Q t f xs h.1 ] refl
@@ -52,7 +33,7 @@ pairs_weaker : {A : Type 0} (R S : A → A → Type 0) → ((x y : A) → R x y 
 pairs_weaker R S f [] h = tt
 pairs_weaker R S f (x ∷ xs) h = (each_weaker (R x) (S x) (f x) xs h.0, pairs_weaker R S f xs h.1)
 
--- each table's place is behind the places of those before it
+-- each table's place is after the places of those before it
 own_order : (tables : List Placed) → HasDistinctIds tables → EachPair (λ p q. place_of tables p.table.id < place_of tables q.table.id) tables
 own_order [] h = tt
 own_order (t ∷ tables) h = (

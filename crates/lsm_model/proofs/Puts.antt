@@ -15,7 +15,7 @@ greater a b Less is h = let l = ranked a b Less is in absurd (omega arith)
 greater a b Equal is h = let l = ranked a b Equal is in absurd (omega arith)
 greater a b Greater is h = refl
 
--- an entry of the same key with a lower number stands behind
+-- an entry of the same key with a lower sequence number comes after
 stands_behind : (x e : Entry) → e.key.user_key ≡ x.key.user_key → x.key.seqno < e.key.seqno → entry_cmp x e ≡ Greater
 stands_behind x e same h =
     ap (λ o. ordering_then o (nat_cmp e.key.seqno x.key.seqno)) (ap (λ k. bytes_cmp x.key.user_key k) same ∙ tied_itself nat_list_cmp_total x.key.user_key)
@@ -33,7 +33,7 @@ put_stack k e (x ∷ xs) below = by_place (put_stack k e xs (tail (is_same e.key
     tail true h = h.1
     tail false h = h
 
-    -- what does not stand behind has another key
+    -- what does not come after has another key
     other : (r : Ordering) → entry_cmp x e ≡ r → (r ≡ Greater → ⊥) → is_same e.key.user_key x.key.user_key ≡ false
     other r is not = elim (is_same e.key.user_key x.key.user_key) as (λ b. is_same e.key.user_key x.key.user_key ≡ b → Below e (cond b (x ∷ stack e.key.user_key xs) (stack e.key.user_key xs)) → b ≡ false) [
       | true ↦ λ q h. absurd (not (sym is ∙ stands_behind x e (same_key e.key.user_key x.key.user_key q) h.0))

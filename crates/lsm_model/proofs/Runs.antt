@@ -31,7 +31,7 @@ pub joined_map : {A : Type 0} (f : A → List Entry) (xs : List A) → flat_map 
 joined_map f [] = refl
 joined_map f (x ∷ xs) = ap (λ es. f x ++ es) (joined_map f xs)
 
--- the sources' entries, one source behind the other
+-- the sources' entries, one source after the other
 pub joined_sources : (mems : Memtables) (sv : SuperVersion) → flat_map (λ (es : List Entry). es) (sources mems sv) ≡ entries mems sv
 joined_sources mems sv =
     flat_map-append (λ (es : List Entry). es) (map mems (sv.active ∷ sv.sealed)) (map (λ p. p.table.entries) sv.tables)
@@ -41,7 +41,7 @@ pub each_above : (es : List Entry) → AllByRecursion (λ e. e.key.seqno < above
 each_above [] = tt
 each_above (e ∷ es) = (omega arith, each_weaker _ _ (λ f q. omega arith) es (each_above es))
 
--- above all numbers it is all one
+-- above all sequence numbers it is all one
 seen_all : (s t : ℕ) (es : List Entry) → AllByRecursion (λ e. e.key.seqno < s) es → AllByRecursion (λ e. e.key.seqno < t) es → seen s es ≡ seen t es
 seen_all s t [] h q = refl
 seen_all s t (e ∷ es) h q = seen_first s e es h.0 ∙ sym (seen_first t e es q.0)
@@ -217,7 +217,7 @@ committed opened start events old new c s a h = record { sound = rw (c.journal, 
 noted : (opened : List Entry) (start : Map) (old : State) (x : Event) → IsNote x → ReadAgrees start old.journal x → Holds opened start old → Holds opened start (record { journal = old.journal ++ x ∷ []; mems = old.mems; latest = old.latest; older = old.older })
 noted opened start old x note a h = record { sound = note_sound opened (get start) old.journal old.mems old.latest old.older x note h.sound; laid = h.laid; agrees = agrees_push start old.journal x h.agrees a; zero = h.zero }
 
--- what order says of a commit's number
+-- what order says of a commit's sequence number
 number_of : (opened : List Entry) (old new : State) → IsCommit (Install new.latest.number ∷ []) old new → InOrder opened new.journal → next_number opened old.journal ≤ new.latest.number
 number_of opened old new c o = in_order_last opened old.journal (Install new.latest.number) (rw c.journal at o)
 

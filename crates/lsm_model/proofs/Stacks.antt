@@ -1,4 +1,4 @@
--- The entries of one key, by falling number: the first visible one is the top.
+-- The entries of one key, by falling sequence number: the first visible one is the top.
 use Rattle.std.proofs.Common.{◌≡◌, ℕ, ◌+◌, ◌<◌, ◌≤◌, Bool, true, false, cond, ◌&&◌, ◌||◌, List, [], ◌∷◌, ◌++◌, Some, None, refl, sym, ap, ◌∙◌, arith, flat_map, ltb, lt-ltb, le-ltb}
 use Rattle.std.specs.List.{find, AllByRecursion}
 use Rattle.std.proofs.lemmas.List.Elements.{filter-append}
@@ -43,7 +43,7 @@ later_first s e (f ∷ es) h =
       | false ↦ later_first s e es h.1
     ]
 
--- the top is the first visible entry, where numbers fall
+-- the top is the first visible entry, where sequence numbers fall
 pub top_first : (k : Bytes) (s : ℕ) (es : List Entry) → IsFalling (stack k es) → top k s es ≡ find (λ e. ltb e.key.seqno s) (stack k es)
 top_first k s [] h = refl
 top_first k s (e ∷ es) h =
@@ -109,7 +109,7 @@ seen_none s (e ∷ es) h =
     not_a_value Tombstone v q = refl
     not_a_value WeakTombstone v q = refl
 
--- where a tombstone hides what is behind it and goes with it, nothing shows either
+-- where a tombstone hides what comes after it and goes with it, nothing shows either
 hidden : (c d : ValueType) (v : Bytes) (evict : Bool) (n : ℕ) → (evict && is_del_kind c || is_weak_kind c && is_value_kind d) ≡ true → (evict ≡ true → n ≡ 0) → (is_weak_kind c ≡ true → cond (is_value_kind d) 1 0 + n ≤ 1) → (value_by c v ≡ None) × (n ≡ 0)
 hidden Value d v true n h q w = absurd (cc h)
 hidden Value d v false n h q w = absurd (cc h)
@@ -134,8 +134,8 @@ pub values-append : (xs ys : List Entry) → values (xs ++ ys) ≡ values xs + v
 values-append [] ys = omega arith
 values-append (x ∷ xs) ys = let ih = values-append xs ys in omega arith
 
--- What a compaction keeps shows what it was given, at snapshots above all its numbers, whatever the watermark:
--- no weak tombstone has two values behind it, and where tombstones are evicted no value stands behind the part.
+-- What a compaction keeps shows what it was given, at snapshots above all its sequence numbers, whatever the watermark:
+-- no weak tombstone has two values after it, and where tombstones are evicted no value comes after the part.
 pub keep_same : (s w : ℕ) (evict : Bool) (es rest : List Entry) → IsSingle (es ++ rest) → AllByRecursion (λ e. e.key.seqno < s) (es ++ rest) → (evict ≡ true → values rest ≡ 0) → seen s (keep w evict es ++ rest) ≡ seen s (es ++ rest)
 keep_same s w evict [] rest single below q = refl
 keep_same s w evict (e ∷ []) rest single below q =

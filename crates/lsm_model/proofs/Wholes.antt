@@ -20,7 +20,7 @@ use Rattle.lsm_model.proofs.Answers.{get-map_of}
 use Rattle.lsm_model.proofs.Runs.{each_above, joined_map}
 use Rattle.lsm_model.proofs.Beginnings.{begun_after, begun, newest, newest_seen, Begins}
 
--- ---- a snapshot above all numbers
+-- ---- a snapshot above all sequence numbers
 
 abbrev pub number_in : Event → ℕ
 number_in (Write e) = e.key.seqno
@@ -50,7 +50,7 @@ outside_high k s b (Dropped ranges n) h = rw (lt-ltb n s h) refl
 outside_high k s b (Mark w) h = refl
 outside_high k s b (Read at question told) h = refl
 
--- above all numbers the replay counts every call
+-- above all sequence numbers the replay counts every call
 replay_high : (k : Bytes) (s : ℕ) (v : Option Bytes) (journal : List Event) → over journal ≤ s → replay_at k s v journal ≡ begun k v journal
 replay_high k s v [] h = refl
 replay_high k s v (x ∷ journal) h = ap (λ w. replay_at k s w journal) (value_high k s v x (omega arith)) ∙ replay_high k s (begun_after k v x) journal (omega arith)

@@ -11,7 +11,7 @@ use Rattle.lsm_model.specs.declared.question.Question.{Question}
 
 -- ---- beginnings
 
--- a map after an event; every call counts, whatever its number
+-- a map after an event; every call counts, whatever its sequence number
 abbrev pub call_after : Map → Event → Map
 call_after m (Write e) = changed m e
 call_after m (Clear n) = empty
@@ -42,7 +42,7 @@ spoiled_after k b (Dropped ranges n) = if in_any k ranges then false else b
 spoiled_after k b (Mark w) = b
 spoiled_after k b (Read s question told) = b
 
--- is the key in no range of a drop, at the front or behind it, that stands behind its last call at the front?
+-- is the key in no range of a drop, at the front or after it, that comes after its last call at the front?
 abbrev pub is_spared : Bytes → List Event → List Event → Bool
 is_spared k front back = fold (spoiled_after k) (fold (spared_after k) true front) back
 
@@ -54,9 +54,9 @@ pub data Note : Type 0 where
   SealedAt : ℕ → ℕ → Note
   -- a flush of these memtables was installed
   FlushedIds : List ℕ → Note
-  -- a clear was answered: the place behind it
+  -- a clear was answered: the place after it
   ClearedTo : ℕ → Note
-  -- a clear of unknown outcome: its number, and its place
+  -- a clear of unknown outcome: its sequence number, and its place
   ClearLost : ℕ → ℕ → Note
 
 -- the place that the journal had reached when a memtable was sealed
@@ -86,7 +86,7 @@ IsFront journal notes place front = (front ≡ take place journal) ⊎ ((n : ℕ
 
 -- ---- what tables stand for
 
--- what tables alone show, above all their numbers
+-- what tables alone show, above all their sequence numbers
 abbrev pub shown_by : List Placed → Map
 shown_by tables = view (above (held tables)) (map (λ p. p.table.entries) tables)
 
@@ -167,7 +167,7 @@ abbrev pub is_lost : Action → Bool
 is_lost (LostDrop ranges n) = true
 is_lost other = false
 
--- an action that is answered; no commit comes behind one of unknown outcome
+-- an action that is answered; no commit follows one of unknown outcome
 pub record IsDone (opened : List Entry) (old : Saved) (action : Action) (new : Saved) : Type 0 where
   pub answered : is_lost action ≡ false
   pub certain : is_commit action ≡ true → old.others ≡ []
@@ -191,7 +191,7 @@ abbrev pub Does : List Entry → Saved → Deed → Saved → Type 0
 Does opened old (Done action) new = IsDone opened old action new
 Does opened old (Lost action would) new = IsLost opened old action would new
 
--- deeds, one behind the other, lead from one state to another
+-- deeds, one after the other, lead from one state to another
 abbrev pub Deeds : List Entry → Saved → List Deed → Saved → Type 0
 Deeds opened old [] new = new ≡ old
 Deeds opened old (deed ∷ deeds) new = (mid : Saved) × Does opened old deed mid × Deeds opened mid deeds new
@@ -215,7 +215,7 @@ abbrev pub EveryCrashRecovers : Type 0
 EveryCrashRecovers = (opened : List Entry) (start : Map) (first old new : Saved) (earlier call : List Deed) → IsStart opened start first → Deeds opened first earlier old → (done : Deeds opened old call new) → InOrder opened new.state.journal
     → (left : List Placed) → IsFound left opened old call new done → Recovers start new.state.journal new.notes (covered old.notes) left
 
--- after any deeds from an opened tree the reads are right, also behind a commit of unknown outcome
+-- after any deeds from an opened tree the reads are right, also after a commit of unknown outcome
 abbrev pub EveryDeedReadsRight : Type 0
 EveryDeedReadsRight = (opened : List Entry) (start : Map) (first new : Saved) (deeds : List Deed) → IsStart opened start first → Deeds opened first deeds new → InOrder opened new.state.journal → ReadsEqualReplay opened start new.state
 
@@ -224,7 +224,7 @@ abbrev pub EachDeedRecovers : Type 0
 EachDeedRecovers = (opened : List Entry) (start : Map) (first old new : Saved) (earlier : List Deed) (deed : Deed) → IsStart opened start first → Deeds opened first earlier old → Does opened old deed new → InOrder opened new.state.journal
     → (left : List Placed) → IsIn left (versions old) ⊎ IsIn left (versions new) → Recovers start new.state.journal new.notes (covered old.notes) left
 
--- deeds behind deeds are deeds, in which all that is found in either is found
+-- deeds after deeds are deeds, in which all that is found in either is found
 abbrev pub DeedsJoin : Type 0
 DeedsJoin = (opened : List Entry) (old mid new : Saved) (xs ys : List Deed) (d : Deeds opened old xs mid) (e : Deeds opened mid ys new)
     → (both : Deeds opened old (xs ++ ys) new) × ((left : List Placed) → IsFound left opened old xs mid d ⊎ IsFound left opened mid ys new e → IsFound left opened old (xs ++ ys) new both)
@@ -255,7 +255,7 @@ pub record IsFresh (first : List Placed) (t : Saved) : Type 0 where
 abbrev pub OpeningStarts : Type 0
 OpeningStarts = (tables : List Placed) (t : Saved) → Stands tables → IsFresh tables t → IsStart (held tables) (shown_by tables) t
 
--- at every snapshot above their numbers tables show the same
+-- at every snapshot above their sequence numbers tables show the same
 abbrev pub ShownAbove : Type 0
 ShownAbove = (tables : List Placed) (s : ℕ) → above (held tables) ≤ s → view s (map (λ p. p.table.entries) tables) ≡ shown_by tables
 
@@ -277,7 +277,7 @@ pub record LivesWell (first left : List Placed) (life : Life first left) : Type 
   pub reads : ReadsEqualReplay (held first) (shown_by first) life.new.state
   pub recovers : Recovers (shown_by first) life.new.state.journal life.new.notes (covered life.old.notes) left
 
--- one life behind the other, each opened on what the one before left
+-- one life after the other, each opened on what the one before left
 abbrev pub Lives : List Placed → List (List Placed) → Type 0
 Lives first [] = Unit {0}
 Lives first (left ∷ more) = Life first left × Lives left more
@@ -287,6 +287,6 @@ abbrev pub AllLiveWell : (first : List Placed) (lefts : List (List Placed)) → 
 AllLiveWell first [] lives = Unit {0}
 AllLiveWell first (left ∷ more) lives = LivesWell first left lives.0 × AllLiveWell left more lives.1
 
--- from tables that stand, life behind life goes well, whatever each crash leaves
+-- from tables that stand, life after life goes well, whatever each crash leaves
 abbrev pub AnyNumberOfCrashes : Type 0
 AnyNumberOfCrashes = (first : List Placed) → Stands first → (lefts : List (List Placed)) (lives : Lives first lefts) → AllLiveWell first lefts lives

@@ -18,7 +18,7 @@ events_of journal = map (λ x. x.event) journal
 
 -- ---- the counter
 
--- where the counter stands behind an event: an install or a clear drew the number at which it stood
+-- where the counter stands after an event: an install or a clear drew the sequence number at which it stood
 abbrev pub counter_after : Event → ℕ → ℕ
 counter_after (Write e) c = c
 counter_after (Clear n) c = c + 1
@@ -27,12 +27,12 @@ counter_after (Dropped ranges n) c = c
 counter_after (Mark w) c = c
 counter_after (Read at question answer) c = c
 
--- from this number on the counter never falls
+-- from this sequence number on the counter never falls
 abbrev pub NeverFalls : ℕ → List Counted → Type 0
 NeverFalls c [] = Unit {0}
 NeverFalls c (x ∷ journal) = (c ≤ x.counter) × NeverFalls (counter_after x.event x.counter) journal
 
--- a write's number is below the counter, that of an install or a clear is the counter's
+-- a write's sequence number is below the counter, that of an install or a clear is the counter's
 abbrev pub IsDrawn : Event → ℕ → Type 0
 IsDrawn (Write e) c = e.key.seqno < c
 IsDrawn (Clear n) c = n ≡ c
@@ -43,7 +43,7 @@ IsDrawn (Read at question answer) c = Unit {0}
 
 -- ---- a write, and what came earlier
 
--- an entry's number is not below an earlier install or clear, and above an earlier write of its key
+-- an entry's sequence number is not below an earlier install or clear, and above an earlier write of its key
 abbrev pub StandsAbove : Event → Entry → Type 0
 StandsAbove (Write f) e = is_same e.key.user_key f.key.user_key ≡ true → f.key.seqno < e.key.seqno
 StandsAbove (Clear n) e = n ≤ e.key.seqno
@@ -72,12 +72,12 @@ removes_weakly k (Read at question answer) = false
 
 -- ---- the order
 
--- a journal in the order that counter and keys ask for; numbers and values that were opened count as earlier ones
+-- a journal in the order that counter and keys ask for; sequence numbers and values that were opened count as earlier ones
 pub record InCountedOrder (opened : List Entry) (journal : List Counted) : Type 0 where
-  -- the counter stands above all numbers that were opened, and never falls
+  -- the counter stands above all sequence numbers that were opened, and never falls
   pub counter : NeverFalls (above opened) journal
   pub drawn : AllByRecursion (λ x. IsDrawn x.event x.counter) journal
-  -- each write's number is not below any earlier install or clear, and above each earlier number of its key
+  -- each write's sequence number is not below any earlier install or clear, and above each earlier one of its key
   pub earlier : EachPair (λ x y. OfWrite (StandsAbove x.event) y.event) journal
   pub over_opened : AllByRecursion (λ x. OfWrite (λ e. above (stack e.key.user_key opened) ≤ e.key.seqno) x.event) journal
   -- a key that is ever removed weakly is set once at most

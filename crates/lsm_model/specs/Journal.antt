@@ -101,9 +101,9 @@ is_kept s journal = fold (kept_after s) true journal
 abbrev pub IsKept : ℕ → List Event → Type 0
 IsKept s journal = (s ≡ 0) ⊎ (is_kept s journal ≡ true)
 
--- ---- numbers
+-- ---- sequence numbers
 
--- the least number above those of a key, after an event
+-- the least sequence number above those of a key, after an event
 abbrev pub next_after : Bytes → ℕ → Event → ℕ
 next_after k n (Write e) = if is_same k e.key.user_key then max n (e.key.seqno + 1) else n
 next_after k n (Clear m) = n
@@ -112,11 +112,11 @@ next_after k n (Dropped ranges m) = n
 next_after k n (Mark w) = n
 next_after k n (Read at question answer) = n
 
--- the least number above all that a key had so far, in writes and in what was opened
+-- the least sequence number above all that a key had so far, in writes and in what was opened
 abbrev pub next_of : Bytes → List Entry → List Event → ℕ
 next_of k opened journal = fold (next_after k) (above (stack k opened)) journal
 
--- the least number above all, after an event
+-- the least sequence number above all, after an event
 abbrev pub next_number_after : ℕ → Event → ℕ
 next_number_after n (Write e) = max n (e.key.seqno + 1)
 next_number_after n (Clear m) = max n (m + 1)
@@ -125,11 +125,11 @@ next_number_after n (Dropped ranges m) = n
 next_number_after n (Mark w) = n
 next_number_after n (Read at question answer) = n
 
--- the least number above all so far, in calls, in installs and in what was opened
+-- the least sequence number above all so far, in calls, in installs and in what was opened
 abbrev pub next_number : List Entry → List Event → ℕ
 next_number opened journal = fold next_number_after (above opened) journal
 
--- the greatest number of an install or a clear, after an event
+-- the greatest sequence number of an install or a clear, after an event
 abbrev pub floor_after : ℕ → Event → ℕ
 floor_after n (Write e) = n
 floor_after n (Clear m) = max n m
@@ -138,7 +138,7 @@ floor_after n (Dropped ranges m) = n
 floor_after n (Mark w) = n
 floor_after n (Read at question answer) = n
 
--- the greatest number of an install or a clear so far, or 0
+-- the greatest sequence number of an install or a clear so far, or 0
 abbrev pub floor : List Event → ℕ
 floor journal = fold floor_after 0 journal
 
@@ -163,7 +163,7 @@ pub record MayWrite (opened : List Entry) (journal : List Event) (e : Entry) : T
   pub after_own : next_of e.key.user_key opened journal ≤ e.key.seqno
   pub single : is_weak e ≡ true → sets_of e.key.user_key opened journal ≤ 1
 
--- an event that may come next: a write in its order, a clear or an install above all numbers, anything else at any time
+-- an event that may come next: a write in its order, a clear or an install above all sequence numbers, anything else at any time
 abbrev pub MayCome : List Entry → List Event → Event → Type 0
 MayCome opened journal (Write e) = MayWrite opened journal e
 MayCome opened journal (Clear n) = next_number opened journal ≤ n
@@ -172,7 +172,7 @@ MayCome opened journal (Dropped ranges n) = Unit {0}
 MayCome opened journal (Mark w) = Unit {0}
 MayCome opened journal (Read at question answer) = Unit {0}
 
--- each of the events may come where it stands, behind those before
+-- each of the events may come where it stands, after those before
 abbrev pub InOrderFrom : List Entry → List Event → List Event → Type 0
 InOrderFrom opened before [] = Unit {0}
 InOrderFrom opened before (x ∷ events) = MayCome opened before x × InOrderFrom opened (before ++ x ∷ []) events

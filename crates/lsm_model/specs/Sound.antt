@@ -10,7 +10,7 @@ use Rattle.lsm_model.specs.Steps.{State}
 
 -- ---- one super version
 
--- the entries of one key fall from below the key's next number, and hold no more values than were set
+-- the entries of one key fall from below the key's next sequence number, and hold no more values than were set
 pub record Fits (next sets : ℕ) (es : List Entry) : Type 0 where
   pub falling : IsFalling es
   pub below : AllByRecursion (λ e. e.key.seqno < next) es

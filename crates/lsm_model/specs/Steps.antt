@@ -45,10 +45,10 @@ pub data Action : Type 0 where
   -- the level, the tables chosen, and the same in the order of their run
   Moved : ℕ → List ℕ → List Placed → Action
   DroppedTables : List ℕ → Action
-  -- its number, and the id of the new memtable
+  -- its sequence number, and the id of the new memtable
   Cleared : ℕ → ℕ → Action
   Marked : ℕ → Action
-  -- a drop whose outcome is unknown: its ranges and its number
+  -- a drop whose outcome is unknown: its ranges and its sequence number
   LostDrop : List Range → ℕ → Action
   Asked : ℕ → Question → Action
   Maintained : ℕ → Action
@@ -124,7 +124,7 @@ Step opened old (LostDrop ranges n) new = new ≡ record { journal = old.journal
 Step opened old (Asked s question) new = (sv : SuperVersion) × (above opened ≤ s) × (found_at s old.latest old.older ≡ Some sv) × (new ≡ record { journal = old.journal ++ Read s question (answered s (sources old.mems sv) question) ∷ []; mems = old.mems; latest = old.latest; older = old.older })
 Step opened old (Maintained w) new = IsMaintained w old new
 
--- actions, one behind the other, lead from one state of a tree to another
+-- actions, one after the other, lead from one state of a tree to another
 abbrev pub Run : List Entry → State → List Action → State → Type 0
 Run opened old [] new = new ≡ old
 Run opened old (action ∷ actions) new = (mid : State) × Step opened old action mid × Run opened mid actions new
@@ -187,7 +187,7 @@ abbrev pub StepsSpareAnswers : Type 0
 StepsSpareAnswers = (opened : List Entry) (start : Map) (first old new : State) (actions : List Action) (action : Action) (s : ℕ)
     → IsOpened opened start first → Run opened first actions old → Step opened old action new → InOrder opened new.journal → Spares action new s → StaysAt s old new
 
--- by what the journal tells: a write, a clear or a drop leaves what snapshots see that aren't above its number, all else leaves all
+-- by what the journal tells: a write, a clear or a drop leaves what snapshots see that aren't above its sequence number, all else leaves all
 abbrev pub IsSparedBy : ℕ → Event → Type 0
 IsSparedBy s (Write e) = s ≤ e.key.seqno
 IsSparedBy s (Clear n) = s ≤ n

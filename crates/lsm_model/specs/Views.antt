@@ -1,4 +1,4 @@
--- What a tree keeps for its reads: sources, newest first, behind super versions, newest first.
+-- What a tree keeps for its reads: sources, newest first, after super versions, newest first.
 use Rattle.std.specs.Prelude.{◌≡◌, ℕ, ◌+◌, ◌<◌, ◌≤◌, Bool, true, false, ◌&&◌, ◌⊎◌, not, filter, List, [], ◌∷◌, ◌++◌, Option, Some, None, map, flat_map, if◌then◌else◌, nat_lt, ◌==◌}
 use Rattle.std.specs.List.{find, AllByRecursion}
 use Rattle.std.specs.Option.{option_or}
@@ -12,6 +12,7 @@ use Rattle.lsm_model.specs.declared.question.Question.{Question}
 use Rattle.lsm_model.specs.declared.question.Question.TheVariants.{Get, Between, Prefix}
 use Rattle.lsm_model.specs.declared.question.Answer.{Answer}
 use Rattle.lsm_model.specs.declared.question.Answer.TheVariants.{Found}
+pub use Rattle.lsm_below.specs.Members.{IsIn}
 pub use Rattle.lsm_below.specs.Optimizes.{EachPair}
 
 -- ---- what entries show
@@ -21,7 +22,7 @@ abbrev pub shown : Option Entry → Option Bytes
 shown None = None
 shown (Some e) = value_of e
 
--- the value of a key at a snapshot, by the visible entry with the greatest number in any source
+-- the value of a key at a snapshot, by the visible entry with the greatest sequence number in any source
 abbrev pub view_at : Bytes → ℕ → List (List Entry) → Option Bytes
 view_at k s sources = shown (top k s (flat_map (λ es. es) sources))
 
@@ -60,7 +61,7 @@ pub record Placed : Type 0 where
   pub level : ℕ
   pub table : Table
 
--- the entries of some tables, one table behind the other
+-- the entries of some tables, one table after the other
 abbrev pub held : List Placed → List Entry
 held tables = flat_map (λ p. p.table.entries) tables
 
@@ -75,7 +76,7 @@ pub record SuperVersion : Type 0 where
 abbrev pub sources : Memtables → SuperVersion → List (List Entry)
 sources mems sv = map mems (sv.active ∷ sv.sealed) ++ map (λ p. p.table.entries) sv.tables
 
--- the entries of a super version, one source behind the other
+-- the entries of a super version, one source after the other
 abbrev pub entries : Memtables → SuperVersion → List Entry
 entries mems sv = flat_map mems (sv.active ∷ sv.sealed) ++ held sv.tables
 
@@ -107,7 +108,7 @@ answered s sources (Prefix p) = answer (view s sources) (Prefix p)
 
 -- ---- memtables
 
--- memtables after a write, which takes its place in one of them, over an entry of the same key and number
+-- memtables after a write, which takes its place in one of them, over an entry of the same key and sequence number
 abbrev pub written : Memtables → ℕ → Entry → Memtables
 written mems a e = λ i. if i == a then put entry_cmp e (mems i) else mems i
 
@@ -162,11 +163,6 @@ IsRearranged old new = (k : Bytes) → filter (λ p. in_range k p.table.range) n
 
 -- ---- orders of tables
 
--- an element is one of a list
-abbrev pub IsIn : {A : Type 0} → A → List A → Type 0
-IsIn x [] = ⊥
-IsIn x (y ∷ ys) = (y ≡ x) ⊎ IsIn x ys
-
 -- the place of a table by its id
 abbrev pub place_of : List Placed → ℕ → ℕ
 place_of [] i = 0
@@ -186,7 +182,7 @@ pub record IsReordered (old new : List Placed) : Type 0 where
 abbrev pub placed_at : ℕ → Table → Placed
 placed_at level t = record { level = level; table = t }
 
--- levels of runs of tables, one behind the other, as placed tables
+-- levels of runs of tables, one after the other, as placed tables
 abbrev pub placed_from : ℕ → List (List (List Table)) → List Placed
 placed_from level [] = []
 placed_from level (runs ∷ levels) = map (placed_at level) (flat_map (λ r. r) runs) ++ placed_from (level + 1) levels

@@ -105,11 +105,11 @@ shown_of_newest : (maps : MapsAreRead) → (test : Bytes → Bool) (es out : Lis
 shown_of_newest maps test es out m newest is only same h =
     shown_of_map maps test es out m h (λ k inside. same k ∙ sym (value_shown maps test es out h k inside (only k) (newest k) (is k) (stack k out) refl))
 
--- entries of one key and number are one and the same
+-- entries of one key and sequence number are one and the same
 abbrev IsSingular : List Entry → Type 0
 IsSingular es = (e f : Entry) → Contains es e → Contains es f → e.key.user_key ≡ f.key.user_key → e.key.seqno ≡ f.key.seqno → e ≡ f
 
--- where entries of one key and number are the same
+-- where entries of one key and sequence number are the same
 only_singular : (maps : MapsAreRead) → (es : List Entry) → IsSingular es → (k : Bytes) → IsOnly (stack k es)
 only_singular maps es single k = go
   where
@@ -123,7 +123,7 @@ only_singular maps es single k = go
         let number : e.key.seqno ≡ f.key.seqno = omega arith in
         ap (λ x. Some x) (single e f (filter_had (is_of k) es e h.0) (filter_had (is_of k) es f q.0) (newest_key maps es k e h ∙ sym (newest_key maps es k f q)) number)
 
--- where numbers fall
+-- where sequence numbers fall
 top_only : (e : Entry) (es : List Entry) → IsFalling (e ∷ es) → (o : Option Entry) → IsNewestOf (e ∷ es) o → o ≡ Some e
 top_only e es fall None h = absurd (cc h)
 top_only e es fall (Some f) h = elim (contains_split e es f h.0) [
@@ -168,9 +168,9 @@ counted_flat : (s : ℕ) (sources : List (List Entry)) → all_counted (map (at 
 counted_flat s [] = refl
 counted_flat s (es ∷ sources) = ap (λ l. filter (λ e. ltb e.key.seqno s) es ++ l) (counted_flat s sources) ∙ sym (filter-append (λ e. ltb e.key.seqno s) es (flat_map (λ es. es) sources))
 
--- ---- sources in which each key and number stands once
+-- ---- sources in which each key and sequence number stands once
 
--- what comes later under a key has a lesser number
+-- what comes later under a key has a lesser sequence number
 behind_below : (x f : Entry) → entry_cmp x f ≡ Less → x.key.user_key ≡ f.key.user_key → f.key.seqno < x.key.seqno
 behind_below x f less same =
     let tie : bytes_cmp x.key.user_key f.key.user_key ≡ Equal = rw same (tied_itself nat_list_cmp_total f.key.user_key) in
@@ -202,7 +202,7 @@ apart_flat es (l ∷ sources) h = λ e f he hf key number. ⊎_elim
     (λ (q : Contains (flat_map (λ l. l) sources) f). apart_flat es sources h.1 e f he q key number)
     (Contains-append_cases l (flat_map (λ l. l) sources) f hf)
 
--- two lists that have no key and number in common
+-- two lists that have no key and sequence number in common
 singular_append : (xs ys : List Entry) → IsSingular xs → IsSingular ys → AreApart xs ys → IsSingular (xs ++ ys)
 singular_append xs ys one two apart = λ e f he hf key number. ⊎_elim
     (λ (p : Contains xs e). ⊎_elim
@@ -229,7 +229,7 @@ is_view maps s sources m test out at_key once h =
     shown_of_newest maps test (filter counts all) out m (λ k. top k s all) (λ k. newest_top k s all) (only_singular maps (filter counts all) (singular_filter counts all (once_singular sources once.rise once.apart))) at_key
     (subst (λ es. ShowsOf test es out) (counted_flat s sources) h)
 
--- ---- the view where numbers fall
+-- ---- the view where sequence numbers fall
 
 -- what the first entry of a list shows, over this
 abbrev over : List Entry → Option Bytes → Option Bytes

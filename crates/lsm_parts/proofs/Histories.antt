@@ -30,7 +30,7 @@ fold-capped (x ∷ xs) a =
 
 -- ---- bisection
 
--- no number is above this one
+-- no sequence number is above this one
 falls_below : (xs : List SuperVersion) (n j : ℕ) (d : SuperVersion) → NumbersFall n xs → j < length xs → (get_or xs j d).seqno ≤ n
 falls_below [] n j d h lt = absurd (omega arith)
 falls_below (x ∷ xs) n zero d h lt = h.0
@@ -39,7 +39,7 @@ falls_below (x ∷ xs) n (suc j) d h lt =
     let here : x.seqno ≤ n = h.0 in
     omega arith
 
--- from the newest to the oldest no number that is not below a snapshot comes after one that is
+-- from the newest to the oldest no sequence number that is not below a snapshot comes after one that is
 pub above_first : (s n : ℕ) (xs : List SuperVersion) → NumbersFall n xs → IsPartitionedBy (λ sv. not (nat_lt sv.seqno s)) xs
 above_first s n [] h i j d le lt is = absurd (omega arith)
 above_first s n (x ∷ xs) h zero zero d le lt is = is

@@ -45,7 +45,7 @@ pub full_only : (p rest t k : List ℕ) → p ≡ rest ++ t → length rest ≡ 
 full_only p [] t k is none f s = and_true (is_le (slice_cmp nat_cmp p k)) ∙ rw is (full_begins t k f s)
 full_only p (x ∷ rest) t k is none f s = absurd (omega (arith, none))
 
--- ---- whatever its numbers
+-- ---- whatever its sequence numbers
 
 begins_from : (t k : List ℕ) → starts_with eqb k t ≡ true → is_le (slice_cmp nat_cmp t k) ≡ true
 begins_from [] [] h = refl

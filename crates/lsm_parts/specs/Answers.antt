@@ -18,16 +18,16 @@ use Rattle.lsm_parts.specs.Reads.{SeenState, at, all_counted, tree_of, counted_a
 abbrev pub pairs_of : (Bytes → Bool) → Map → List Pair
 pairs_of test m = filter (λ p. test p.0) (entries m)
 
--- no key and number stand in both lists
+-- no key and sequence number stand in both lists
 abbrev pub AreApart : List Entry → List Entry → Type 0
 AreApart xs ys = (e f : Entry) → Contains xs e → Contains ys f → e.key.user_key ≡ f.key.user_key → e.key.seqno ≡ f.key.seqno → ⊥
 
--- each source is in order, and no key and number stand in two sources
+-- each source is in order, and no key and sequence number stand in two sources
 pub record StandOnce (sources : List (List Entry)) : Type 0 where
   pub rise : AllByRecursion (Rises entry_cmp) sources
   pub apart : EachPair AreApart sources
 
--- the index is in order, and all its numbers are above those of the sources
+-- the index is in order, and all its sequence numbers are above those of the sources
 pub record IsOnTop (index : List Entry) (sources : List (List Entry)) : Type 0 where
   pub rises : Rises entry_cmp index
   pub high : AllByRecursion (λ e. above (flat_map (λ es. es) sources) ≤ e.key.seqno) index
@@ -37,12 +37,12 @@ abbrev pub overlaid : List Entry → Map → Map
 overlaid [] m = m
 overlaid (e ∷ es) m = changed (overlaid es m) e
 
--- where no key and number stand in two sources, the list of what is shown is that of the sources' view by tops
+-- where no key and sequence number stand in two sources, the list of what is shown is that of the sources' view by tops
 abbrev pub ShownIsView : Type 0
 ShownIsView = (s : ℕ) (sources : List (List Entry)) (m : Map) (test : Bytes → Bool) (out : List Entry) → ((k : Bytes) → get m k ≡ view_at k s sources) → StandOnce sources
     → ShowsOf test (all_counted (map (at s) sources)) out → map pair_of out ≡ pairs_of test m
 
--- where each key's numbers fall along the sources, it is what the theory's view answers
+-- where each key's sequence numbers fall along the sources, it is what the theory's view answers
 abbrev pub ShownIsAnswer : Type 0
 ShownIsAnswer = (s : ℕ) (sources : List (List Entry)) (low high : Bound Bytes) (out : List Entry) → IsOrdered sources
     → Shows low high (all_counted (map (at s) sources)) out → answer (view s sources) (Between low high) ≡ Pairs (map pair_of out)
@@ -52,7 +52,7 @@ abbrev pub ShownIsPrefixAnswer : Type 0
 ShownIsPrefixAnswer = (s : ℕ) (sources : List (List Entry)) (prefix : Bytes) (out : List Entry) → IsOrdered sources
     → ShowsPrefix prefix (all_counted (map (at s) sources)) out → answer (view s sources) (Prefix prefix) ≡ Pairs (map pair_of out)
 
--- under an index with numbers above the tree's, it is that of the tree's view by tops, with what counts of the index laid over it
+-- under an index with sequence numbers above the tree's, it is that of the tree's view by tops, with what counts of the index laid over it
 abbrev pub ShownIsOverlaid : Type 0
 ShownIsOverlaid = (s : ℕ) (st : SeenState) (m : Map) (test : Bytes → Bool) (out : List Entry) → ((k : Bytes) → get m k ≡ view_at k s (tree_of st)) → StandOnce (tree_of st) → IfSome st.overlay (λ part. IsOnTop part.entries (tree_of st))
     → ShowsOf test (counted_at s st) out → map pair_of out ≡ pairs_of test (overlaid (all_counted (option_to_list st.overlay)) m)

@@ -26,7 +26,7 @@ pub record AreCuts (low high : Bound Bytes) (parts : List Part) (cuts : List Cut
   pub same : map part_of cuts ≡ map (cut low high) parts
   pub fresh : All IsFresh cuts
 
--- cuts of these parts came behind those that were there
+-- cuts of these parts came after those that were there
 abbrev pub PutsCuts : Bound Bytes → Bound Bytes → List Part → List Cut → List Cut → Type 0
 PutsCuts low high parts old new = (before : List Part) → AreCuts low high before old → AreCuts low high (before ++ parts) new
 

@@ -39,7 +39,7 @@ named_size h memtables = capped (sum_by (λ m. m.size) (filter (λ m. list_any (
 abbrev pub AreLaid : List SuperVersion → Type 0
 AreLaid versions = AllByRecursion (λ sv. IsLaid sv.version) versions
 
--- numbers never rise from the newest to the oldest, nor above this one
+-- sequence numbers never rise from the newest to the oldest, nor above this one
 abbrev pub NumbersFall : ℕ → List SuperVersion → Type 0
 NumbersFall n [] = Unit {0}
 NumbersFall n (sv ∷ older) = (sv.seqno ≤ n) × NumbersFall sv.seqno older

@@ -1,4 +1,4 @@
--- What a read looks at: sources, newest first, of each of which the entries below a number count.
+-- What a read looks at: sources, newest first, of each of which the entries below a sequence number count.
 use Rattle.std.specs.Prelude.{ℕ, List, ◌++◌, map, flat_map, filter, Option, option_map, nat_lt, option_to_list}
 use Rattle.std.specs.declared.ops.Bound.{Bound}
 use Rattle.lsm_below.specs.Keys.{Bytes}
@@ -8,7 +8,7 @@ use Rattle.lsm_parts.specs.Memtables.{SeenMemtable, within}
 use Rattle.lsm_parts.specs.Versions.{SeenVersion}
 use Rattle.std.specs.Borrow.{Bor}
 
--- entries, and the number below which they count
+-- entries, and the sequence number below which they count
 pub record Part : Type 0 where
   pub entries : List Entry
   pub below : ℕ
@@ -21,7 +21,7 @@ counted part = filter (λ e. nat_lt e.key.seqno part.below) part.entries
 abbrev pub all_counted : List Part → List Entry
 all_counted parts = flat_map counted parts
 
--- what is read: maybe an index, of which the entries below its own number count; the memtables, newest first; the tables, in the order of a walk
+-- what is read: maybe an index, of which the entries below its own sequence number count; the memtables, newest first; the tables, in the order of a walk
 pub record SeenState : Type 0 where
   pub overlay : Option Part
   pub memtables : List (List Entry)
@@ -51,11 +51,11 @@ cut low high part = record { entries = within low high part.entries; below = par
 abbrev pub tables_of : SeenVersion → List (List Entry)
 tables_of version = map (λ p. p.table.entries) (placed_from 0 version.levels)
 
--- an index with its own number, as a part
+-- an index with its own sequence number, as a part
 abbrev pub index_of : Option (Bor SeenMemtable × ℕ) → Option Part
 index_of overlay = option_map (λ p. record { entries = p.0.now.entries; below = p.1 }) overlay
 
--- a version, memtables from the newest, and maybe an index with its own number, as what is read
+-- a version, memtables from the newest, and maybe an index with its own sequence number, as what is read
 abbrev pub state_of : SeenVersion → List (Bor SeenMemtable) → Option (Bor SeenMemtable × ℕ) → SeenState
 state_of version memtables overlay = record {
   overlay = index_of overlay;

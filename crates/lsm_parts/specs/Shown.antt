@@ -14,7 +14,7 @@ use Rattle.lsm_model.specs.Views.{shown}
 abbrev pub lies_within : Bound Bytes → Bound Bytes → Bytes → Bool
 lies_within low high k = is_from low k && is_to high k
 
--- an entry of the list than which none has a greater number; none where the list is empty
+-- an entry of the list than which none has a greater sequence number; none where the list is empty
 abbrev pub IsNewestOf : List Entry → Option Entry → Type 0
 IsNewestOf es None = es ≡ []
 IsNewestOf es (Some e) = Contains es e × All (λ f. f.key.seqno ≤ e.key.seqno) es

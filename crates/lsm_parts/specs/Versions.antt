@@ -14,7 +14,7 @@ pub record SeenVersion : Type 0 where
 abbrev pub empty_levels : List (List (List Table))
 empty_levels = [] ∷ ([] ∷ ([] ∷ ([] ∷ ([] ∷ ([] ∷ ([] ∷ []))))))
 
--- a version has seven levels, whose tables hold only keys of their ranges, each key and number once and in order
+-- a version has seven levels, whose tables hold only keys of their ranges, each key and sequence number once and in order
 pub record IsLaid (v : SeenVersion) : Type 0 where
   pub seven : length v.levels ≡ 7
   pub laid : IsLaidOut (placed_from 0 v.levels)

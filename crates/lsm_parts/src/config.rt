@@ -22,7 +22,7 @@ pub struct Config {
 }
 
 impl Config {
-    /// A configuration of these parts: `seqno` is the first number that a write draws,
+    /// A configuration of these parts: `seqno` is the first sequence number that a write draws,
     /// `visible_seqno` the first snapshot that callers are to take.
     pub fn new(id: TreeId, seqno: SeqNo, visible_seqno: SeqNo) -> Config
         ensures { result ≡ record { id = id; seqno = seqno; visible_seqno = visible_seqno } }

@@ -5,7 +5,7 @@ use crate::Error;
 use lsm_below::SeqNo;
 use std::marker::Model;
 
-/// No counter gives this number or a greater one, and no write has it: 2^63.
+/// No counter gives this sequence number or a greater one, and no write has it: 2^63.
 pub const LIMIT: SeqNo = 9_223_372_036_854_775_808;
 
 /// A counter of sequence numbers: the next one that it gives.
@@ -30,14 +30,14 @@ impl Model for SequenceNumberCounter {
 }
 
 impl SequenceNumberCounter {
-    /// A counter that starts at a number.
+    /// A counter that starts at a sequence number.
     pub fn new(prev: SeqNo) -> SequenceNumberCounter
         ensures { result ≡ prev }
     {
         SequenceNumberCounter { next: prev }
     }
 
-    /// The number that `next` would give.
+    /// The sequence number that `next` would give.
     pub fn get(&self) -> SeqNo
         ensures { result ≡ self.now }
     {
@@ -61,14 +61,14 @@ impl SequenceNumberCounter {
         Ok(number)
     }
 
-    /// Goes on from a number, which may be a lower one.
+    /// Goes on from a sequence number, which may be a lower one.
     pub fn set(&mut self, seqno: SeqNo)
         ensures { self.new ≡ seqno }
     {
         self.next = seqno;
     }
 
-    /// Goes on from a number, unless it stands at a greater one.
+    /// Goes on from a sequence number, unless it stands at a greater one.
     pub fn fetch_max(&mut self, seqno: SeqNo)
         ensures { self.new ≡ max self.old seqno }
     {

@@ -80,7 +80,7 @@ fn both_ends_of_one_list(rt: HostRuntime) {
     drop(table);
 }
 
-/// Whether an entry of this number was given.
+/// Whether an entry of this sequence number was given.
 fn has_number(entry: Option<Result<InternalValue, Error>>, seqno: SeqNo) -> bool {
     match entry {
         Some(Ok(entry)) => entry.key.seqno == seqno,
@@ -239,7 +239,7 @@ fn set_a_b(table: &mut Memtable) -> Result<(), Error> {
     set(table, "b", "y", 1)
 }
 
-/// Whether this is shown at 2 of a memtable, under what an index has below a number.
+/// Whether this is shown at 2 of a memtable, under what an index has below a sequence number.
 fn shows_under<'a>(
     alloc: Global,
     version: &'a Version,
@@ -266,7 +266,7 @@ fn an_index_counts_below_its_own_number(rt: HostRuntime) {
 
 // ---- the ends alone
 
-/// Whether an entry of this number was found, or none.
+/// Whether an entry of this sequence number was found, or none.
 fn is_numbered(entry: Result<Option<InternalValue>, Error>, seqno: Option<SeqNo>) -> bool {
     match entry {
         Ok(entry) => entry.map(|entry| entry.key.seqno) == seqno,
@@ -274,7 +274,7 @@ fn is_numbered(entry: Result<Option<InternalValue>, Error>, seqno: Option<SeqNo>
     }
 }
 
-/// Whether the first and the last entry that are shown have these numbers.
+/// Whether the first and the last entry that are shown have these sequence numbers.
 fn ends_are(
     alloc: Global,
     state: Result<IterState<'_>, Error>,
@@ -315,7 +315,7 @@ fn the_ends_are_found_alone(rt: HostRuntime) {
     drop(tree);
 }
 
-/// Whether the ends that a snapshot shows of a memtable have these numbers.
+/// Whether the ends that a snapshot shows of a memtable have these sequence numbers.
 fn ends_of<'a>(
     alloc: Global,
     version: &'a Version,

@@ -78,7 +78,7 @@ pub fn gives(guard: Option<Guard>, name: &[u8]) -> bool {
     }
 }
 
-/// The keys and values that are given, one behind the other.
+/// The keys and values that are given, one after the other.
 fn listed(alloc: Global, iter: TreeIter) -> Result<Vec<u8>, Error> {
     let mut bytes = Vec::new(alloc);
     for guard in iter {

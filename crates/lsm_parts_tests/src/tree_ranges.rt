@@ -67,7 +67,7 @@ fn counts_keys_and_finds_the_ends(rt: HostRuntime) {
 
 // ---- sizes
 
-/// Sets a and removes it, and says whether the sizes were told: 1 + 8 + 48, and 1 + 48 behind it.
+/// Sets a and removes it, and says whether the sizes were told: 1 + 8 + 48, and 1 + 48 after it.
 fn put_and_remove(tree: &mut TreeState) -> bool {
     matches!(tree.insert(key("a"), value("my_value"), 0), Ok((57, 57)))
         && matches!(tree.remove(key("a"), 1), Ok((49, 106)))
@@ -120,7 +120,7 @@ fn put_two(tree: &mut TreeState) -> Result<(), Error> {
     put(tree, "b", "y", 1)
 }
 
-/// Whether both calls for all keys give these, under what the index has below a number.
+/// Whether both calls for all keys give these, under what the index has below a sequence number.
 fn iter_lists(alloc: Global, tree: &TreeState, index: (&Memtable, SeqNo), want: &str) -> bool {
     lists(alloc, tree.iter(2, Some(index)), want)
         && lists(alloc, tree.create_iter(2, Some(index)), want)

@@ -15,7 +15,7 @@ fn set(alloc: Global, tree: &mut TreeState) -> bool {
     matches!(write(alloc, tree, Op::Set(value("x"))), Ok(0))
 }
 
-/// Removes the key at 1, and says whether the sizes were told: 1 + 48, behind 1 + 1 + 48.
+/// Removes the key at 1, and says whether the sizes were told: 1 + 48, after 1 + 1 + 48.
 fn remove(tree: &mut TreeState) -> bool {
     matches!(tree.remove(key("a"), 1), Ok((49, 99)))
 }

@@ -34,7 +34,7 @@ module _ (journal : List Event) (n : ℕ) where
   below : nat_lt n (n + 1) ≡ true
   below = lt-ltb n (n + 1) (omega arith)
 
-  -- a write under the counter's number
+  -- a write under the counter's sequence number
   one : (marks : Bytes → Mark) (low : ℕ) (k : Bytes) (op : Op) → ((q : Bytes) → marks q ≡ mark_in journal q) → low ≡ floor journal → op_allowed marks low n (k, op) ≡ keeps_order journal (n + 1) (op_entry k n op)
   one marks low k op same least =
       ap (λ m. nat_le low n && mark_allows m n (op_type op)) (same k) ∙ ap (λ l. nat_le l n && mark_allows (mark_in journal k) n (op_type op)) least ∙ ap (λ b. b && nat_le (floor journal) n && mark_allows (mark_in journal k) n (op_type op)) (sym below) ∙ typed op ∙ sym (order_told journal (n + 1) (op_entry k n op))
@@ -72,7 +72,7 @@ seqno_is k n (Set value) = refl
 seqno_is k n Del = refl
 seqno_is k n Weak = refl
 
--- the entries of a batch have its number
+-- the entries of a batch have its sequence number
 pub numbered : (n : ℕ) (notes : List Note) (ops : List (Bytes × Op)) → entries_of notes ≡ op_entries n ops → HaveNumber n notes
 numbered n [] ops is i d lt = absurd (omega arith)
 numbered n (x ∷ notes) [] is i d lt = absurd (cc is)

@@ -52,7 +52,7 @@ finds_all_more xs i d old t u h len f g q lt =
     let more : times q (take (i + 1) xs) ≡ times q (take i xs) + times_in q (get_or xs i d) = sum_by_more (times_in q) xs i d h in
     omega arith
 
--- where nothing was ticked before, and all is behind the passes, they list each place once
+-- where nothing was ticked before, and all is after the passes, they list each place once
 pub once : (xs : List (List Noted)) (old new : List Bool) → length new ≡ length old → All (λ t. t ≡ false) old → All (λ t. t ≡ true) new → FindsAll xs old new → (q : ℕ) → q < length old → times q xs ≡ 1
 once xs old new len none all f q lt =
     let at = f q lt in

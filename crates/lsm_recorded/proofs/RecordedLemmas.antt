@@ -1,4 +1,4 @@
--- What each call keeps of a tree behind its journal.
+-- What each call keeps of a tree with its journal.
 use Rattle.std.proofs.Common.{cond, ◌≡◌, ℕ, ◌+◌, ◌<◌, ◌≤◌, Bool, true, false, List, [], ◌∷◌, ◌++◌, Option, Some, None, Result, Ok, Err, IfOk, OnErr, unwrap_or, map, refl, sym, ap, ◌∙◌, subst, arith, ◌⊎◌, ⊎_elim, is_some, IfSome, append-nil, append_assoc}
 use Rattle.std.specs.BTreeMap.{BTreeMap, is_at}
 use Rattle.std.specs.Map.{lookup}
@@ -64,7 +64,7 @@ recorded_write theory marks marks' low old new journal e r ok step counter noted
     (subst (λ n. IsCounted n (journal ++ Write e ∷ [])) (sym counter) counted) (r.floored ∙ sym (floor-write journal e))
     (λ q. noted q ∙ marked_by_same (mark_of marks) (mark_in journal) e r.noted q ∙ sym (mark_in-write journal e q))
 
--- it leaves what snapshots up to its number see
+-- it leaves what snapshots up to its sequence number see
 pub write_spares : (theory : Soundness) (marks : Marks) (low : ℕ) (old new : Core) (journal : List Event) (e : Entry) → IsRecorded marks low old journal → keeps_order journal old.seqno e ≡ true → IsWriteStep e old new → StaysTo e.key.seqno old new
 write_spares theory marks low old new journal e r ok step = λ s up. theory.spares.step [] empty s (state_of journal old) (Wrote e) (state_of (journal ++ Write e ∷ []) new) (step [] journal) (write_counted old.seqno journal e ok (counted_of marks low old journal r)).order up r.holds
 
@@ -94,7 +94,7 @@ refused_doubles false false true d h = absurd (cc h)
 refused_doubles false false false true h = absurd (cc h)
 refused_doubles false false false false h = (refl, refl)
 
--- so its number is below the limit, and no key comes twice
+-- so its sequence number is below the limit, and no key comes twice
 pub accepted_parts : (ops : List (Bytes × Op)) (n : ℕ) → batch_refusal n ops ≡ None → (n < 9223372036854775808) × (repeats (keys_of ops) ≡ false)
 accepted_parts ops n h =
     let parts = refused_doubles (is_great n) (list_any (λ p. is_long_key p.0) ops) (list_any (λ p. is_long_value (op_value p.1)) ops) (repeats (keys_of ops)) h in (below parts.0, parts.1)
@@ -123,7 +123,7 @@ numbers_are : (n s : ℕ) (ops : List (Bytes × Op)) → s ≤ n → AllByRecurs
 numbers_are n s [] up = tt
 numbers_are n s (p ∷ ops) up = (rw (seqno_is p.0 n p.1) up, numbers_are n s ops up)
 
--- a batch leaves what snapshots up to its number see
+-- a batch leaves what snapshots up to its sequence number see
 pub batch_spares : (theory : Soundness) (marks : Marks) (low : ℕ) (old new : Core) (journal : List Event) (ops : List (Bytes × Op)) (n : ℕ) → IsRecorded marks low old journal → batch_keeps_order journal old.seqno ops ≡ true → WritesBatch ops (Ok n) old new → StaysTo old.seqno old new
 batch_spares theory marks low old new journal ops n r ok w = λ s up.
     let es = op_entries old.seqno ops in

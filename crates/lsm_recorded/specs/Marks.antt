@@ -30,11 +30,11 @@ kind_allows m Value = not m.is_weak || (m.sets == 0)
 kind_allows m Tombstone = true
 kind_allows m WeakTombstone = nat_lt m.sets 2
 
--- does a write of this number and type? Its number is above each earlier one of its key.
+-- does a write of this sequence number and type? Its sequence number is above each earlier one of its key.
 abbrev pub mark_allows : Mark → ℕ → ValueType → Bool
 mark_allows m n kind = nat_le m.next n && kind_allows m kind
 
--- the mark after a write of this number and type
+-- the mark after a write of this sequence number and type
 abbrev pub next_mark : Mark → ℕ → ValueType → Mark
 next_mark m n Value = record { next = max m.next (n + 1); sets = min (m.sets + 1) 2; is_weak = m.is_weak }
 next_mark m n Tombstone = record { next = max m.next (n + 1); sets = m.sets; is_weak = m.is_weak }
@@ -63,6 +63,6 @@ op_type (Set value) = Value
 op_type Del = Tombstone
 op_type Weak = WeakTombstone
 
--- does a write of a batch, under this number, keep the order that marks and a least number tell?
+-- does a write of a batch, under this sequence number, keep the order that marks and a least sequence number tell?
 abbrev pub op_allowed : (Bytes → Mark) → ℕ → ℕ → Bytes × Op → Bool
 op_allowed marks low n p = nat_le low n && mark_allows (marks p.0) n (op_type p.1)

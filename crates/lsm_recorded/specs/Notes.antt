@@ -20,6 +20,6 @@ pass_entry n = Write n.copy
 abbrev pub HasRoom : BTreeMap Bytes Mark → List Note → Type 0
 HasRoom marks notes = (i : ℕ) (d : Note) → i < length notes → IsSome (tree.get bytes_cmp marks (slice_index_or notes i d).entry.key.user_key)
 
--- each entry has this number
+-- each entry has this sequence number
 abbrev pub HaveNumber : ℕ → List Note → Type 0
 HaveNumber n notes = (i : ℕ) (d : Note) → i < length notes → (slice_index_or notes i d).entry.key.seqno ≡ n

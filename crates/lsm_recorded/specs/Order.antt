@@ -23,18 +23,18 @@ weak_after k b (Read at question answer) = b
 abbrev pub weak_of : Bytes → List Event → Bool
 weak_of k journal = fold (weak_after k) false journal
 
--- may a write of this type come behind the journal? A key that was removed weakly is set only if it never was, and one
+-- may a write of this type come after the journal? A key that was removed weakly is set only if it never was, and one
 -- that was set more than once isn't removed weakly.
 abbrev pub kind_keeps : List Event → Bytes → ValueType → Bool
 kind_keeps journal k Value = not (weak_of k journal) || (sets_of k [] journal == 0)
 kind_keeps journal k Tombstone = true
 kind_keeps journal k WeakTombstone = nat_le (sets_of k [] journal) 1
 
--- Does a write of the entry keep the order of the journal, under a counter? Its number is below the counter, not below
+-- Does a write of the entry keep the order of the journal, under a counter? Its sequence number is below the counter, not below
 -- an install or a clear, and above each earlier one of its key; and its type keeps to the rule of weak removals.
 abbrev pub keeps_order : List Event → ℕ → Entry → Bool
 keeps_order journal counter e = nat_lt e.key.seqno counter && nat_le (floor journal) e.key.seqno && nat_le (next_of e.key.user_key [] journal) e.key.seqno && kind_keeps journal e.key.user_key e.key.value_type
 
--- does each write of a batch, under the number that it draws?
+-- does each write of a batch, under the sequence number that it draws?
 abbrev pub batch_keeps_order : List Event → ℕ → List (Bytes × Op) → Bool
 batch_keeps_order journal n ops = list_all (keeps_order journal (n + 1)) (op_entries n ops)

@@ -18,7 +18,7 @@ pub record SeenRecorded (S : Type 0) : Type 0 where
   pub tree : Seen S
   pub journal : List JournalEntry
 
--- what always holds of a tree behind its journal
+-- what always holds of a tree with its journal
 pub record IsRecorded (marks : BTreeMap Bytes Mark) (low : ℕ) (c : Core) (journal : List Event) : Type 0 where
   -- every read so far agrees with the replay, every view equals it, and kept snapshots are answered
   pub reads : ReadsEqualReplay [] empty (state_of journal c)
@@ -39,6 +39,6 @@ OwnOr r P = (r ≡ Err OutOfOrder) ⊎ ((r ≡ Err OutOfMemory) ⊎ P)
 abbrev pub Stays : Core → Core → Type 0
 Stays old new = (s : ℕ) → StaysAt s (state_of [] old) (state_of [] new)
 
--- the same of the snapshots up to a number
+-- the same of the snapshots up to a sequence number
 abbrev pub StaysTo : ℕ → Core → Core → Type 0
 StaysTo n old new = (s : ℕ) → s ≤ n → StaysAt s (state_of [] old) (state_of [] new)

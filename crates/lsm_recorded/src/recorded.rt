@@ -10,7 +10,7 @@ ghost use Rattle.lsm_model.specs.declared.question.Question.TheVariants.{Get as 
 ghost use Rattle.lsm_model.specs.declared.question.Answer.TheVariants.{Found};
 ghost use Rattle.lsm_model.specs.declared.op.Op.TheVariants.{Set, Del, Weak};
 ghost use Rattle.lsm_state.specs.Held.{first_entries};
-ghost use Rattle.lsm_state.specs.Kept.{IsKept as IsKeptTree};
+ghost use Rattle.lsm_state.specs.Kept.{IsKeptTree};
 ghost use Rattle.lsm_state.specs.Core.{fresh_core, state_of};
 ghost use Rattle.lsm_state.specs.Calls.{Appends, WritesBatch, Gives, Rotates, RefusesRead};
 ghost use Rattle.std.specs.List.{list_all};

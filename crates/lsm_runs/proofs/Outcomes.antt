@@ -17,11 +17,6 @@ pub entry_taken : (e : Entry) (r : Result (ℕ × ℕ) Error) (events : List Eve
 entry_taken e (Ok sizes) events old new noted a = (noted, a)
 entry_taken e (Err x) events old new noted a = (refl, a)
 
--- a write of a batch, of which the entries are noted under the number that it would get
-pub batch_taken : (ops : List (Bytes × Op)) (r : Result ℕ Error) (events : List Event) (old new : Core) → events ≡ map Write (op_entries old.seqno ops) → WritesBatch ops r old new → TakesBatch ops (told_batch events r).reply (told_batch events r).entries old new
-batch_taken ops (Ok n) events old new noted w = (rw w.number noted, w)
-batch_taken ops (Err x) events old new noted w = (refl, w)
-
 -- a write of copies, of which the entry of other copies is noted
 pub set_taken : (k v : Bytes) (n : ℕ) (k1 v1 k2 v2 : Bytes) (noted : Entry) (r : Result (ℕ × ℕ) Error) (events : List Event) (old new : Core)
     → k1 ≡ k → v1 ≡ v → k2 ≡ k → v2 ≡ v → noted ≡ op_entry k1 n (Set v1) → events ≡ Write noted ∷ []

@@ -30,7 +30,7 @@ module _ (s : ℕ) (c : Core) where
   refusal : {A : Type 0} (x : Error) → TellsTooOld {A = A} (Err x) → RefusesOnly {A = A} (Err x) → IsReadRefusal s c x
   refusal x old only = (only, ((λ q. old.0 (ap Err q)), (λ none. cc (old.1 none))))
 
-  -- memory may be missing behind an answer too
+  -- memory may be missing after an answer too
   memory : {A : Type 0} (a : A) → TellsTooOld (Ok a) → IsReadRefusal s c OutOfMemory
   memory a old = (inr refl, ((λ q. absurd (cc q)), (λ none. absurd (cc (old.1 none)))))
 

@@ -35,7 +35,7 @@ use Rattle.lsm_runs.specs.ReadSteps.{IsReadRefusal, TakesGet, TakesGetEntry, IsC
 use Rattle.lsm_runs.specs.Runs.{without_low_reads}
 use Rattle.lsm_runs.proofs.LowReads.{replay_without, outside_without, kept_without, without-append, order_without}
 
--- what holds of a tree behind a journal, of which reads below what was opened don't count
+-- what holds of a tree with a journal, of which reads below what was opened don't count
 abbrev pub Sound : List Entry → Map → List Event → Core → Type 0
 Sound opened start journal c = Holds opened start (state_of (without_low_reads opened journal) c)
 
@@ -69,7 +69,7 @@ takes_get_entry opened start k s (EntryOf e) journal events old new t h = same o
 takes_get_entry opened start k s (Refused x) journal events old new t h = same opened start journal events old new t.0 t.1 h
 takes_get_entry opened start k s reply journal events old new t h = absurd t
 
--- numbers fall under each key in every super version, so a read of pairs is a step
+-- sequence numbers fall under each key in every super version, so a read of pairs is a step
 pub takes_pairs : (theory : Soundness) (opened : List Entry) (start : Map) (question : Question) (Right : List Pair → Type 0) (s : ℕ) (reply : Reply) (journal events : List Event) (old new : Core) → TakesPairs question Right s reply events old new → InOrder opened (journal ++ events) → Sound opened start journal old → Sound opened start (journal ++ events) new
 takes_pairs theory opened start question Right s (Pairs pairs) journal events old new t order h =
     let ordered = (theory.right.reads opened start (state_of (without_low_reads opened journal) old) h).ordered in

@@ -9,7 +9,7 @@ use Rattle.lsm_runs.specs.declared.steps.Step.{Step}
 use Rattle.lsm_runs.specs.Told.{Told}
 use Rattle.lsm_runs.specs.Runs.{Takes, journal_of}
 
--- an event, and where the counter stood at its time: a batch has drawn its number by then, an install or a clear draws its own
+-- an event, and where the counter stood at its time: a batch has drawn its sequence number by then, an install or a clear draws its own
 abbrev pub counted_at : ℕ → Event → Counted
 counted_at c (Write e) = record { event = Write e; counter = c }
 counted_at c (Clear n) = record { event = Clear n; counter = n }

@@ -51,18 +51,18 @@ abbrev pub counter_of : Counter → Core → ℕ
 counter_of Seqno c = c.seqno
 counter_of Visible c = c.visible_seqno
 
--- a tree with another number in a counter
+-- a tree with another sequence number in a counter
 abbrev pub with_counter : Counter → ℕ → Core → Core
 with_counter Seqno n c = record { config = c.config; memtables = c.memtables; history = c.history; next_memtable = c.next_memtable; seqno = n; visible_seqno = c.visible_seqno }
 with_counter Visible n c = record { config = c.config; memtables = c.memtables; history = c.history; next_memtable = c.next_memtable; seqno = c.seqno; visible_seqno = n }
 
--- the draw of a counter's next number: refused exactly where the counter stands at 2^63 or above
+-- the draw of a counter's next sequence number: refused exactly where the counter stands at 2^63 or above
 abbrev pub TakesNext : Counter → Reply → List Event → Core → Core → Type 0
 TakesNext counter (Number n) events old new = (events ≡ []) × (n ≡ counter_of counter old) × (n < 2 ^ 63) × (new ≡ with_counter counter (n + 1) old)
 TakesNext counter (Refused x) events old new = (events ≡ []) × (x ≡ OutOfNumbers) × (2 ^ 63 ≤ counter_of counter old) × (new ≡ old)
 TakesNext counter reply events old new = ⊥
 
--- a counter is put at a number
+-- a counter is put at a sequence number
 abbrev pub TakesCounter : Counter → ℕ → Reply → List Event → Core → Core → Type 0
 TakesCounter counter n Done events old new = (events ≡ []) × (new ≡ with_counter counter n old)
 TakesCounter counter n reply events old new = ⊥
@@ -104,7 +104,7 @@ told_batch events (Err x) = record { reply = Refused x; entries = [] }
 
 -- ---- runs
 
--- the steps, one behind the other, lead from the old state to the new with these outcomes
+-- the steps, one after the other, lead from the old state to the new with these outcomes
 abbrev pub Ran : List Step → List Told → Core → Core → Type 0
 Ran [] [] old new = new ≡ old
 Ran (x ∷ xs) (t ∷ ts) old new = (mid : Core) × Takes x t.reply t.entries old mid × Ran xs ts mid new
@@ -133,7 +133,7 @@ StepAnswers opened start before (FirstKeyValue s) reply = EndAnswers opened star
 StepAnswers opened start before (LastKeyValue s) reply = EndAnswers opened start before Back s reply
 StepAnswers opened start before step reply = Unit {0}
 
--- each step answers right, behind this journal and the entries of the steps before it
+-- each step answers right, after this journal and the entries of the steps before it
 abbrev pub EachAnswers : List Entry → Map → List Event → List Step → List Told → Type 0
 EachAnswers opened start before (x ∷ xs) (t ∷ ts) = StepAnswers opened start before x t.reply × EachAnswers opened start (before ++ t.entries) xs ts
 EachAnswers opened start before [] ts = Unit {0}
@@ -170,6 +170,6 @@ RanSparing [] (t ∷ ts) old new = ⊥
 RanSparing (x ∷ xs) [] old new = ⊥
 
 -- From a tree as opening left it, whenever the journal is in order, no step changes what a snapshot sees that is
--- answered before and after, but a write, a clear or a drop at the snapshots above its number.
+-- answered before and after, but a write, a clear or a drop at the snapshots above its sequence number.
 abbrev pub RunSparesAnswers : (opened : List Entry) (start : Map) → List Step → List Told → Core → Core → Type 0
 RunSparesAnswers opened start steps told old new = IsOpened opened start (state_of [] old) → InOrder opened (journal_of told) → RanSparing steps told old new

@@ -55,9 +55,9 @@ pub enum Step {
     RotateMemtable,
     /// Draws the counter's next sequence number.
     Next(Counter),
-    /// Has the counter go on from a number.
+    /// Has the counter go on from a sequence number.
     Set(Counter, SeqNo),
-    /// Has the counter go on from a number, unless it stands at a greater one.
+    /// Has the counter go on from a sequence number, unless it stands at a greater one.
     FetchMax(Counter, SeqNo),
 }
 

@@ -1,4 +1,4 @@
--- A range is a step of the theory, where numbers fall under each key.
+-- A range is a step of the theory, where sequence numbers fall under each key.
 use Rattle.std.proofs.Common.{◌≡◌, ℕ, List, [], ◌∷◌, ◌++◌, map, filter, Some, None, nat_lt, sym, ap, subst, ◌∙◌}
 use Rattle.std.specs.List.{AllByRecursion}
 use Rattle.std.specs.declared.ops.Bound.{Bound}

@@ -25,7 +25,7 @@ module _ (s : ℕ) where
       ∙ sym (filter-append (λ e. nat_lt e.key.seqno s) es (flat_map (λ x. x) xs))
       ∙ ap visible (sym (flat_map-cons (λ x. x) es xs))
 
-  -- the memtables and the tables, one behind the other
+  -- the memtables and the tables, one after the other
   all_entries : (list : List (Bor SeenMemtable)) (tables : List Placed) → flat_map (λ es. es) (map (λ m. m.now.entries) list ++ map (λ p. p.table.entries) tables) ≡ flat_map (λ m. m.now.entries) list ++ held tables
   all_entries [] [] = refl
   all_entries [] (p ∷ tables) =

@@ -13,7 +13,7 @@ use Rattle.lsm_parts.specs.Answers.{ShownIsView, ShownIsOverlaid, overlaid, pair
 use Rattle.lsm_parts.specs.Reads.{SeenState}
 use Rattle.lsm_state.specs.Held.{entries_of}
 use Rattle.lsm_state.specs.Core.{Core, shown_as, latest_of, older_of}
-use Rattle.lsm_state.specs.Kept.{IsKept}
+use Rattle.lsm_state.specs.Kept.{IsKeptTree}
 use Rattle.lsm_state.specs.Ranges.{index_entries, counting, CountingIsOverlaid, RangesAreOverlaid, PrefixesAreOverlaid}
 use Rattle.lsm_state.proofs.Answered.{counts, of_found}
 
@@ -54,7 +54,7 @@ laid_rise : (versions : List Named) → AreLaid versions → AllByRecursion (λ 
 laid_rise [] h = tt
 laid_rise (sv ∷ versions) h = (h.0.rise, laid_rise versions h.1)
 
-sources_rise : PartsAreWhole → (c : Core) (s : ℕ) (sv : SuperVersion) → IsKept c → found_at s (latest_of c) (older_of c) ≡ Some sv → AllByRecursion (Rises entry_cmp) (sources (entries_of c.memtables) sv)
+sources_rise : PartsAreWhole → (c : Core) (s : ℕ) (sv : SuperVersion) → IsKeptTree c → found_at s (latest_of c) (older_of c) ≡ Some sv → AllByRecursion (Rises entry_cmp) (sources (entries_of c.memtables) sv)
 sources_rise parts c s sv kept found =
     let laid = laid_rise (c.history.latest ∷ c.history.older) kept.laid in
     both_rise (map (entries_of c.memtables) (sv.active ∷ sv.sealed)) (map (λ p. p.table.entries) sv.tables)

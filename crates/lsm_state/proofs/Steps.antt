@@ -100,7 +100,7 @@ fresh_opened config = record {
   starts = λ k. get-empty bytes_cmp k;
 }
 
--- a batch is written under the next number
+-- a batch is written under the next sequence number
 pub batch_written : (ops : List (Bytes × Op)) (c : Core) (n : ℕ) (tables : List SeenMemtable) (seqno visible : ℕ) → HasActive c → n ≡ c.seqno → batch_refusal n ops ≡ None
     → tables ≡ put_all_first (op_entries n ops) c.memtables → seqno ≡ n + 1 → visible ≡ max c.visible_seqno (n + 1)
     → WritesBatch ops (Ok n) c (record { config = c.config; memtables = tables; history = c.history; next_memtable = c.next_memtable; seqno = seqno; visible_seqno = visible })

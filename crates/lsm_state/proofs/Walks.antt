@@ -51,7 +51,7 @@ module _ (s : ℕ) (h : SeenHistory) where
       some_none q = cc q
 
 module _ (k : Bytes) (s : ℕ) (mems : Memtables) where
-  -- a walk goes on behind the memtables
+  -- a walk goes on after the memtables
   pub walked : (ids : List ℕ) (i : ℕ) (tables : List (List Entry)) (w : Option Entry) → None ≡ top k s (mems i) → w ≡ option_or (walk k s (map mems ids)) (walk k s tables) → w ≡ walk k s (map mems (i ∷ ids) ++ tables)
   walked ids i tables w nothing e = e ∙ sym (walk-append k s (map mems ids) tables) ∙ ap (λ o. option_or o (walk k s (map mems ids ++ tables))) nothing
 

@@ -48,12 +48,12 @@ pub record Appends (e : Entry) (r : Result (ℕ × ℕ) Error) (old new : Core) 
   pub told : IfSome (entry_refusal e) (λ x. r ≡ Err x)
   pub memory : entry_refusal e ≡ None → IfErr r (λ x. x ≡ OutOfMemory)
 
--- a write of a batch under the next number, all of it or none
+-- a write of a batch under the next sequence number, all of it or none
 pub record WritesBatch (ops : List (Bytes × Op)) (r : Result ℕ Error) (old new : Core) : Type 0 where
   pub number : IfOk r (λ n. n ≡ old.seqno)
   pub core : OnOk r (new ≡ drawn_core (written_all (op_entries old.seqno ops) old))
   pub run : OnOk r (IsWriteRun (op_entries old.seqno ops) old new)
-  -- refused, it changes nothing and uses no number
+  -- refused, it changes nothing and uses no sequence number
   pub unchanged : OnErr r (new ≡ old)
   -- where a reason holds the first one is told, unless memory is missing, and where none holds only memory may be
   pub told : IfSome (batch_refusal old.seqno ops) (λ x. (r ≡ Err x) ⊎ (r ≡ Err OutOfMemory))

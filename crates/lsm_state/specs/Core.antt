@@ -37,7 +37,7 @@ latest_of c = shown_as c.history.latest
 abbrev pub older_of : Core → List Shown
 older_of c = map shown_as c.history.older
 
--- the theory's state behind a journal
+-- the theory's state after a journal
 abbrev pub state_of : List Event → Core → State
 state_of journal c = record { journal = journal; mems = entries_of c.memtables; latest = latest_of c; older = older_of c }
 
@@ -53,7 +53,7 @@ written_core e c = record { config = c.config; memtables = put_first e c.memtabl
 abbrev pub written_all : List Entry → Core → Core
 written_all es c = record { config = c.config; memtables = put_all_first es c.memtables; history = c.history; next_memtable = c.next_memtable; seqno = c.seqno; visible_seqno = c.visible_seqno }
 
--- the next number is used, and visible
+-- the next sequence number is used, and visible
 abbrev pub drawn_core : Core → Core
 drawn_core c = record { config = c.config; memtables = c.memtables; history = c.history; next_memtable = c.next_memtable; seqno = c.seqno + 1; visible_seqno = max c.visible_seqno (c.seqno + 1) }
 

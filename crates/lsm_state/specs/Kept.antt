@@ -22,7 +22,7 @@ abbrev pub NameHeld : List ℕ → List SuperVersion → Type 0
 NameHeld ids versions = AllByRecursion (NamesHeld ids) versions
 
 -- what holds of every tree
-pub record IsKept (c : Core) : Type 0 where
+pub record IsKeptTree (c : Core) : Type 0 where
   -- the entries of each memtable stand in order
   pub rise : AllByRecursion (λ m. Rises entry_cmp m.entries) c.memtables
   -- the active memtable is the first one

@@ -6,15 +6,15 @@ use Rattle.lsm_parts.specs.contracts.seqno.SequenceNumberCounter.{the_row as cou
 use Rattle.lsm_state.specs.contracts.tree.TreeState.{the_row as tree_row}
 use Rattle.lsm_state.specs.Core.{Seen}
 
--- the tree with another number in its counter
+-- the tree with another sequence number in its counter
 abbrev pub with_seqno : {S : Type 0} → Seen S → ℕ → Seen S
 with_seqno t n = record { store = t.store; core = record { config = t.core.config; memtables = t.core.memtables; history = t.core.history; next_memtable = t.core.next_memtable; seqno = n; visible_seqno = t.core.visible_seqno } }
 
--- the tree with another number in its visible counter
+-- the tree with another sequence number in its visible counter
 abbrev pub with_visible : {S : Type 0} → Seen S → ℕ → Seen S
 with_visible t n = record { store = t.store; core = record { config = t.core.config; memtables = t.core.memtables; history = t.core.history; next_memtable = t.core.next_memtable; seqno = t.core.seqno; visible_seqno = n } }
 
--- the tree ends with its counter at the last number that the loan left there
+-- the tree ends with its counter at the last sequence number that the loan left there
 abbrev pub LendsSeqno : (S : RattleType) → Ghosts S.Denot → MutBor (Seen S.Denot) → MutBor ℕ → Fml
 LendsSeqno S store t r = Lends (tree_row S store) counter_row t r (with_seqno t.now)
 

@@ -22,9 +22,9 @@ use Rattle.lsm_parts.specs.Guards.{Pair, Item, pair_of}
 use Rattle.lsm_parts.specs.declared.tree_iter.End.{End}
 use Rattle.lsm_state.specs.Held.{entries_of}
 use Rattle.lsm_state.specs.Core.{Core, state_of, latest_of, older_of}
-use Rattle.lsm_state.specs.Kept.{IsKept}
+use Rattle.lsm_state.specs.Kept.{IsKeptTree}
 
--- a memtable on top of the tree, with the number below which its entries count; or none
+-- a memtable on top of the tree, with the sequence number below which its entries count; or none
 abbrev pub Index : Type 0
 Index = Option (Bor SeenMemtable × ℕ)
 
@@ -65,7 +65,7 @@ PairAt end c index s r = (e : Option Entry) × EndOf end c index s e × (r ≡ o
 abbrev pub TellsEmpty : End → Core → Index → ℕ → Bool → Type 0
 TellsEmpty end c index s b = (e : Option Entry) × EndOf end c index s e × (b ≡ is_none e)
 
--- whatever the journal, an answered question is a step, where numbers fall under each key in every super version
+-- whatever the journal, an answered question is a step, where sequence numbers fall under each key in every super version
 abbrev pub IsListStep : Core → Question → ℕ → List Pair → Type 0
 IsListStep c question s pairs = (opened : List Entry) (journal : List Event) → above opened ≤ s → AllByRecursion (λ sv. IsOrdered (sources (entries_of c.memtables) sv)) (latest_of c ∷ older_of c) → Step opened (state_of journal c) (Asked s question) (state_of (journal ++ Read s question (Pairs pairs) ∷ []) c)
 
@@ -77,14 +77,14 @@ IsRangeStep c low high s out = IsListStep c (Between low high) s (map pair_of ou
 abbrev pub IsPrefixStep : Core → Bytes → ℕ → List Entry → Type 0
 IsPrefixStep c prefix s out = IsListStep c (Prefix prefix) s (map pair_of out)
 
--- where each key and number stands once in the super version's sources, and the index's numbers are above theirs, the list
+-- where each key and sequence number stands once in the super version's sources, and the index's sequence numbers are above theirs, the list
 -- of what is shown is that of their view by tops, with what counts of the index laid over it
 abbrev pub CountingIsOverlaid : Type 0
 CountingIsOverlaid = (memtables : List SeenMemtable) (index : Index) (s : ℕ) (sv : SuperVersion) (m : Map) (test : Bytes → Bool) (out : List Entry)
     → ((k : Bytes) → get m k ≡ view_at k s (sources (entries_of memtables) sv)) → StandOnce (sources (entries_of memtables) sv) → IfSome index (λ p. IsOnTop p.0.now.entries (sources (entries_of memtables) sv))
     → ShowsOf test (counting memtables index s sv) out → map pair_of out ≡ pairs_of test (overlaid (index_entries index) m)
 
--- where no key and number stand in two sources of the super version, and the index's numbers are above theirs, the list is that
+-- where no key and sequence number stand in two sources of the super version, and the index's sequence numbers are above theirs, the list is that
 -- of their view by tops, with what counts of the index laid over it
 abbrev pub IsOverlaid : Core → Index → ℕ → SuperVersion → (Bytes → Bool) → List Entry → Type 0
 IsOverlaid c index s sv test out =
@@ -93,10 +93,10 @@ IsOverlaid c index s sv test out =
 
 -- of a tree's own ranges, since each of its sources is in order
 abbrev pub RangesAreOverlaid : Type 0
-RangesAreOverlaid = (c : Core) (index : Index) (low high : Bound Bytes) (s : ℕ) (sv : SuperVersion) (out : List Entry) → IsKept c → found_at s (latest_of c) (older_of c) ≡ Some sv
+RangesAreOverlaid = (c : Core) (index : Index) (low high : Bound Bytes) (s : ℕ) (sv : SuperVersion) (out : List Entry) → IsKeptTree c → found_at s (latest_of c) (older_of c) ≡ Some sv
     → Ranges c index low high s out → IsOverlaid c index s sv (lies_within low high) out
 
 -- and of its prefixes
 abbrev pub PrefixesAreOverlaid : Type 0
-PrefixesAreOverlaid = (c : Core) (index : Index) (prefix : Bytes) (s : ℕ) (sv : SuperVersion) (out : List Entry) → IsKept c → found_at s (latest_of c) (older_of c) ≡ Some sv
+PrefixesAreOverlaid = (c : Core) (index : Index) (prefix : Bytes) (s : ℕ) (sv : SuperVersion) (out : List Entry) → IsKeptTree c → found_at s (latest_of c) (older_of c) ≡ Some sv
     → Prefixes c index prefix s out → IsOverlaid c index s sv (begins_with prefix) out

@@ -42,7 +42,7 @@ repeats (k ∷ ks) = list_any (is_same k) ks || repeats ks
 abbrev pub keys_of : List (Bytes × Op) → List Bytes
 keys_of ops = map (λ p. p.0) ops
 
--- why a batch is refused, under the number that it would draw
+-- why a batch is refused, under the sequence number that it would draw
 abbrev pub batch_refusal : ℕ → List (Bytes × Op) → Option Error
 batch_refusal n ops =
     if is_great n then Some OutOfNumbers

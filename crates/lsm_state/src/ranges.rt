@@ -130,7 +130,7 @@ fn end_of(
 
 impl<S: Store> TreeState<S> {
     /// What a snapshot shows within bounds, under an index, from both ends: of each key the entry with the
-    /// greatest number that counts, unless that is a tombstone. The index's entries count below its own number,
+    /// greatest sequence number that counts, unless that is a tombstone. The index's entries count below its own sequence number,
     /// those of the tree below the snapshot. It stands as of its making. Bounds in the wrong order show nothing.
     ///
     /// `SnapshotTooOld` exactly where no super version is found for the snapshot; else only memory may be missing.

@@ -1,4 +1,4 @@
-// The tree: memtables by id behind a history of super versions, and its counters.
+// The tree: memtables by id, a history of super versions, and its counters.
 ghost use Rattle.std.specs.Prelude.{◌≡◌, ℕ, ◌+◌, ◌≤◌, ◌↔◌, ◌⊎◌, [], None, Some, IfOk, IfErr, OnErr, IsErrOf};
 ghost use Rattle.std.specs.Borrow.{sem};
 ghost use Rattle.lsm_parts.specs.History.{found_version};
@@ -70,13 +70,13 @@ impl TreeState<NoStore> {
 
 impl<S: Store> TreeState<S> {
     ghost use Rattle.lsm_state.specs.Calls.{Rotates};
-    ghost use Rattle.lsm_state.specs.Kept.{IsKept};
+    ghost use Rattle.lsm_state.specs.Kept.{IsKeptTree};
     ghost use Rattle.lsm_state.specs.Lending.{LendsSeqno, LendsVisible};
 
     /// What every tree meets: its memtables' entries stand in order, their ids fall and are those that
     /// super versions name, and its versions are laid out.
     pub fn facts(&self)
-        ensures { IsKept self.now.core }
+        ensures { IsKeptTree self.now.core }
     {
         self.memtables.facts();
         self.history.facts();

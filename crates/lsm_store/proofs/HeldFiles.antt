@@ -56,7 +56,7 @@ module _ (name : List ℕ) (old new : Files) (h : Held) (by : UpdatesBy string_c
   pub set_same : h ≡ held_at old name → HoldSame old new
   set_same is = by_name (λ n. held_at new n ≡ held_at old n) name (set_here ∙ is) set_elsewhere
 
-  -- another record, behind a room that was made
+  -- another record, after a room that was made
   pub set_alters : (before : Files) (f : Held → Held) → HoldSame before old → h ≡ f (held_at old name) → Alters name f before new
   set_alters before f room is = record {
     here = set_here ∙ is ∙ ap f (room name);

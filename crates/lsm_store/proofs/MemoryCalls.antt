@@ -12,7 +12,7 @@ use Rattle.lsm_store.specs.Memory.{Past, may_of, gives_of, KeepsMoment, memory_w
 use Rattle.lsm_store.proofs.HeldRows.{row_fresh, row_removed, row_offered}
 use Rattle.lsm_store.proofs.Memories.{at_row, gives_elsewhere, grown, pushed}
 
--- one change behind another
+-- one change after another
 pub alters_then : (name : List ℕ) (f g : Held → Held) (old mid new : Files) → Alters name f old mid → Alters name g mid new → Alters name (λ h. g (f h)) old new
 alters_then name f g old mid new first second = record {
   here = second.here ∙ ap g first.here;

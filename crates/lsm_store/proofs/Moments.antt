@@ -6,7 +6,7 @@ use Rattle.lsm_store.specs.World.{Image, Row, World, IsImage, At, Same, Becomes,
 pub started : (old : World) (P : Image → Type 0) → ((image : Image) → old.since old.moment image → P image) → LeavesOnly old old P
 started old P here = record { later = omega arith; each = here; before = λ t image le left. inl left }
 
--- a call without effect behind it
+-- a call without effect after it
 pub rests : (old mid new : World) (P : Image → Type 0) → LeavesOnly old mid P → Same mid new → LeavesOnly old new P
 rests old mid new P so_far same =
     let le : old.moment ≤ mid.moment = so_far.later in
@@ -17,7 +17,7 @@ rests old mid new P so_far same =
       before = λ t image early left. let early2 : t ≤ mid.moment = omega arith in so_far.before t image early ((same.since t image early2).0 left);
     }
 
--- a call behind it that changes one name, of which each image has P
+-- a call after it that changes one name, of which each image has P
 pub goes_on : (old mid new : World) (P : Image → Type 0) (name : List ℕ) (during after : Row) → LeavesOnly old mid P → Becomes name during after mid new
     → ((image : Image) → IsImage (At name during mid.may) image → P image) → LeavesOnly old new P
 goes_on old mid new P name during after so_far call here =

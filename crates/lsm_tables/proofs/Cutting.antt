@@ -39,7 +39,7 @@ writable_left xs ys h = record { each = each_left Fits xs ys h.each; rises = ris
 pub writable_right : (xs ys : List Entry) → IsWritable (xs ++ ys) → IsWritable ys
 writable_right xs ys h = record { each = each_right Fits xs ys h.each; rises = rises_right xs ys h.rises }
 
--- one more entry may be written where it fits and stands behind the last one
+-- one more entry may be written where it fits and comes after the last one
 pub writable_push : EntriesAreOrdered → (es : List Entry) (e : Entry) → IsWritable es → Fits e → follows es e ≡ true → IsWritable (es ++ e ∷ [])
 writable_push order es e h fits f = record {
   each = each_append Fits es (e ∷ []) h.each (fits, tt);
@@ -96,7 +96,7 @@ module _ (keys : KeysAreOrdered) (entries : EntriesAreOrdered) (target : ℕ) (e
     rises = front_writable.rises;
   }
 
-  -- the last entry of the table has another key than the one behind it
+  -- the last entry of the table has another key than the one after it
   apart_sides : (xs ys : List Entry) → xs ≡ take end es → ys ≡ drop end es → IsApart xs ys
   apart_sides xs [] ex ey = tt
   apart_sides [] (y ∷ ys) ex ey = let f = front_length in let n = ap length ex in let s = at.some in absurd (omega arith)
@@ -141,7 +141,7 @@ module _ (keys : KeysAreOrdered) (entries : EntriesAreOrdered) (target : ℕ) (e
       let s = some.0 in
       (at.filled (omega arith), h)
 
-  -- a first table, and the tables of what stands behind it
+  -- a first table, and the tables of what comes after it
   pub cut_first : (tables : List (List Entry)) → IsCutting target (drop end es) tables → IsCutting target es (take end es ∷ tables)
   cut_first tables h =
       let f = front_length in

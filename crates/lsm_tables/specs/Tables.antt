@@ -74,7 +74,7 @@ pub record IsCountOf (es : List Entry) (c : Counts) : Type 0 where
   pub reclaimable : c.reclaimable ≡ reclaimable es
 
 -- what is kept beside a table's entries is what follows from them
-pub record IsKept (inner : TableInner) : Type 0 where
+pub record IsKeptTable (inner : TableInner) : Type 0 where
   pub table : IsTable inner.entries.items
   pub range : inner.key_range ≡ range_of inner.entries.items
   pub size : inner.file_size ≡ 20 + entry_bytes inner.entries.items

@@ -49,13 +49,13 @@ pub struct Table {
 
 impl Model for Table {
     ghost use Rattle.std.specs.Arc.{arc_value};
-    ghost use Rattle.lsm_tables.specs.Tables.{SeenTable, IsKept};
+    ghost use Rattle.lsm_tables.specs.Tables.{SeenTable, IsKeptTable};
 
     ghost Value = { SeenTable };
 
     ghost view = { λ t. let inner = arc_value t.inner in record { id = inner.id; created_at = inner.created_at; entries = inner.entries.items } };
 
-    ghost invariant = { λ t. IsKept (arc_value t.inner) };
+    ghost invariant = { λ t. IsKeptTable (arc_value t.inner) };
 }
 
 /// The range from the first entry's key to the last one's.

@@ -7,16 +7,16 @@ use Rattle.lsm_parts.specs.declared.error.Error.TheVariants.{OutOfMemory, OutOfN
 use Rattle.lsm_parts.specs.declared.seqno.TheConstants.{LIMIT}
 use Rattle.lsm_state.specs.Core.{Core, latest_of, older_of}
 use Rattle.lsm_state.specs.Held.{first_entries}
-use Rattle.lsm_state.specs.Kept.{IsKept}
+use Rattle.lsm_state.specs.Kept.{IsKeptTree}
 use Rattle.lsm_recorded.specs.Passes.{listed}
 
 -- a call that took some tree to another; of both holds what holds of every tree
 abbrev pub OnSomeTree : (Core → Core → Type 0) → Type 0
-OnSomeTree P = (old : Core) × (new : Core) × P old new × IsKept old × IsKept new
+OnSomeTree P = (old : Core) × (new : Core) × P old new × IsKeptTree old × IsKeptTree new
 
 -- a call that looked at some tree, of which holds what holds of every tree
 abbrev pub AtSomeTree : (Core → Type 0) → Type 0
-AtSomeTree P = (c : Core) × P c × IsKept c
+AtSomeTree P = (c : Core) × P c × IsKeptTree c
 
 -- a read is refused as too old, where the tree has no super version for its snapshot, or for want of memory
 pub record RefusesSharedRead {A : Type 0} (snapshot : ℕ) (r : Result A Error) : Type 0 where

@@ -16,7 +16,7 @@ fn open(alloc: Global) -> Result<RecordedTree, AllocError> {
     Handle::new(alloc, Recorded::open_in_memory(alloc, Config::new(0, 0, 0)))
 }
 
-/// Sets a key to `x`, under the next number.
+/// Sets a key to `x`, under the next sequence number.
 fn set(
     rt: &impl Wait,
     alloc: Global,
@@ -249,7 +249,7 @@ fn open_tree(alloc: Global) -> Result<Tree, AllocError> {
     Handle::new(alloc, core)
 }
 
-/// A value under a drawn number, made visible.
+/// A value under a drawn sequence number, made visible.
 fn set_next(rt: &impl Wait, tree: &Tree) -> Result<(), Error> {
     let number = tree.next_seqno(rt)?;
     tree.insert(rt, text("a"), text("x"), number)?;

@@ -144,7 +144,7 @@ fn counts_and_refuses(rt: HostRuntime) {
     drop(outcomes);
 }
 
-/// Writes a and b under 0, c under 1 behind a rotation, and removes b under 2.
+/// Writes a and b under 0, c under 1 after a rotation, and removes b under 2.
 fn filling_steps(alloc: Global) -> Result<Vec<Step>, AllocError> {
     let mut steps = Vec::new(alloc);
     steps.push(batch(alloc, &[("a", "x"), ("b", "yy")])?)?;

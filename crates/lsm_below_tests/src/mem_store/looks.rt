@@ -13,7 +13,7 @@ fn make_all(store: &mut MemStore, calls: &[Call]) -> Result<(), StoreError> {
     Ok(())
 }
 
-/// A store behind these calls, the last of which has this fault, if one is given.
+/// A store after these calls, the last of which has this fault, if one is given.
 fn behind(alloc: Global, calls: &[Call], fault: Option<Fault>) -> Result<MemStore, StoreError> {
     let mut store = MemStore::new(alloc);
     if let Some(fault) = fault {
@@ -47,7 +47,7 @@ fn finds(alloc: Global, store: &MemStore, look: Look) -> Result<bool, StoreError
     }
 }
 
-/// Whether a look finds what it has to behind these calls, the last of which has this fault, if one is given.
+/// Whether a look finds what it has to after these calls, the last of which has this fault, if one is given.
 fn shows(
     alloc: Global,
     calls: &[Call],
@@ -60,7 +60,7 @@ fn shows(
     found
 }
 
-/// Takes each look behind these calls.
+/// Takes each look after these calls.
 fn check(
     rt: &impl Abort,
     alloc: Global,

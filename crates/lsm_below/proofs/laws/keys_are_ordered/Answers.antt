@@ -1,7 +1,7 @@
 use Rattle.std.proofs.Common.{◌∙◌, refl}
 use Rattle.std.proofs.lemmas.Cmp.{nat_list_cmp_total}
 use Rattle.lsm_below.proofs.Keys.{below_itself, upto_trans, below_then_upto, upto_then_below, ends_range, in_by}
-use Rattle.lsm_below.proofs.Orders.{le_trans, le_of_lt, le_of_not_lt}
+use Rattle.lsm_below.specs.Orders.{le_trans, le_of_lt, le_of_not_lt}
 use Rattle.lsm_below.proofs.laws.keys_are_ordered.Goals as goal
 
 pub returns : goal.returns

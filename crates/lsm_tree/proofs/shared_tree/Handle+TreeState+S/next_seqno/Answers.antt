@@ -1,4 +1,4 @@
--- The counter that has no number left is that of the tree that the lock guards.
+-- The counter that has no sequence number left is that of the tree that the lock guards.
 use Rattle.std.proofs.Common.{◌≤◌, subst}
 use Rattle.lsm_parts.specs.declared.seqno.TheConstants.{LIMIT}
 use Rattle.lsm_tree.proofs.shared_tree.Handle+TreeState+S.next_seqno.Goals as goal

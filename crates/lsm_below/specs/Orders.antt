@@ -1,0 +1,38 @@
+-- Laws of total orders, for proofs of every crate: a clause can't state them, since none ranges over orders.
+use Rattle.std.specs.Prelude.{◌≡◌, true, false}
+use Rattle.std.proofs.Common.{refl, ap, ◌∙◌}
+use Rattle.std.specs.Cmp.{IsTotalOrder}
+use Rattle.std.specs.declared.cmp.Ordering.{Ordering}
+use Rattle.std.specs.declared.cmp.Ordering.TheVariants.{Less, Equal, Greater}
+use Rattle.std.specs.Ordering.{is_le, is_lt, is_gt, ordering_reverse}
+use Rattle.std.proofs.lemmas.Cmp.{upto}
+
+gt_from_le : (r : Ordering) → is_le r ≡ true → is_gt r ≡ false
+gt_from_le Less h = refl
+gt_from_le Equal h = refl
+gt_from_le Greater h = absurd (cc h)
+
+le_from_gt : (r : Ordering) → is_gt r ≡ false → is_le r ≡ true
+le_from_gt Less h = refl
+le_from_gt Equal h = refl
+le_from_gt Greater h = absurd (cc h)
+
+le_from_lt : (r : Ordering) → is_lt r ≡ true → is_le r ≡ true
+le_from_lt Less h = refl
+le_from_lt Equal h = refl
+le_from_lt Greater h = absurd (cc h)
+
+le_reversed : (r : Ordering) → is_lt r ≡ false → is_le (ordering_reverse r) ≡ true
+le_reversed Less h = absurd (cc h)
+le_reversed Equal h = refl
+le_reversed Greater h = refl
+
+module _ {X : Type 0} {R : X → X → Ordering} (o : IsTotalOrder R) where
+  pub le_trans : (x y z : X) → is_le (R x y) ≡ true → is_le (R y z) ≡ true → is_le (R x z) ≡ true
+  le_trans x y z h k = le_from_gt (R x z) (upto o x y z (gt_from_le (R x y) h) (gt_from_le (R y z) k))
+
+  pub le_of_lt : (x y : X) → is_lt (R x y) ≡ true → is_le (R x y) ≡ true
+  le_of_lt x y h = le_from_lt (R x y) h
+
+  pub le_of_not_lt : (x y : X) → is_lt (R y x) ≡ false → is_le (R x y) ≡ true
+  le_of_not_lt x y h = ap is_le (o.antisymm x y) ∙ le_reversed (R y x) h
