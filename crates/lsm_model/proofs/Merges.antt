@@ -1,9 +1,9 @@
 -- What a merge, a move or a drop does to one key's entries.
-use Rattle.std.proofs.Common.{◌≡◌, ℕ, ◌<◌, ◌≤◌, Bool, true, false, cond, not, ◌&&◌, List, [], ◌∷◌, ◌++◌, filter, refl, sym, ap, ◌∙◌, arith, ltb, ltb-true, ltb-false, ◌⊎◌, inl, inr, ⊎_elim, append_assoc, Ordering, Less, Equal, Greater, is_le, is_gt}
+use Rattle.std.proofs.Common.{◌≡◌, ℕ, ◌<◌, ◌≤◌, Bool, true, false, cond, not, ◌&&◌, List, [], ◌∷◌, ◌++◌, filter, refl, sym, ap, ◌∙◌, arith, ltb, ltb-true, ltb-false, ◌⊎◌, inl, inr, ⊎_elim, append_assoc}
 use Rattle.std.specs.List.{AllByRecursion}
 use Rattle.std.specs.Cmp.Lexicographic.{nat_list_cmp_total}
 use Rattle.std.proofs.lemmas.Bool.{and_parts, and_from, not-true}
-use Rattle.lsm_below.specs.Keys.{Bytes, bytes_cmp, is_same}
+use Rattle.lsm_below.specs.Keys.{Bytes, is_same}
 use Rattle.lsm_below.specs.Orders.{le_trans}
 use Rattle.lsm_below.specs.Ranges.{Range, in_range, overlap}
 use Rattle.lsm_below.specs.Entries.{Entry, stack}

@@ -1,5 +1,5 @@
 -- Lists that are in one order and have the same members are equal: of a merger's output, and of runs that are joined.
-use Rattle.std.proofs.Common.{◌≡◌, ℕ, ◌+◌, ◌<◌, ◌≤◌, Bool, true, false, cond, List, [], ◌∷◌, ◌++◌, map, flat_map, filter, refl, sym, ap, ◌∙◌, subst, arith, eqb, inl, inr, ⊎_elim, ap₂, eq-eqb}
+use Rattle.std.proofs.Common.{◌≡◌, ℕ, ◌+◌, ◌<◌, ◌≤◌, Bool, true, false, cond, List, [], ◌∷◌, ◌++◌, map, flat_map, filter, refl, sym, ◌∙◌, subst, arith, eqb, inl, inr, ⊎_elim, ap₂, eq-eqb}
 use Rattle.std.specs.List.{AllByRecursion}
 use Rattle.lsm_below.specs.Ranges.{in_range}
 use Rattle.lsm_model.specs.Views.{EachPair, IsIn, Placed, Table, place_of, HasDistinctIds, IsReordered, IsRearranged, placed_from, placed_at}

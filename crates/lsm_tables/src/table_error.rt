@@ -12,7 +12,7 @@ pub enum TableError {
     #[error("a growth was refused")]
     OutOfMemory,
     /// The bytes aren't the content of a table's file.
-    #[error("the bytes aren't the image of a table")]
+    #[error("the bytes aren't the content of a table's file")]
     BadTable,
 }
 

@@ -344,7 +344,7 @@ fn count_outcomes(alloc: Global, steps: Result<Vec<Step>, AllocError>) -> usize 
 
 /// A run ends early for want of memory alone, which no contract can say.
 #[test]
-fn ends_behind_its_last_step(rt: HostRuntime) {
+fn ends_after_its_last_step(rt: HostRuntime) {
     assert!(rt; count_outcomes(rt.alloc(), writing_kinds(rt.alloc())) == 9);
     assert!(rt; count_outcomes(rt.alloc(), reading_kinds(rt.alloc())) == 11);
 }
