@@ -12,6 +12,8 @@
 //! | `optimize` | joins runs where their tables allow it |
 //! | `source` | what gives entries in order, one at a time |
 //! | `list_source` | a list of entries, as a source |
+//! | `slot` | a source and its first entry |
+//! | `heap` | the indexes of slots, as a heap |
 //! | `merger` | all entries of several sources, in order |
 //! | `mvcc_stream` | the first entry of each key |
 //! | `compaction_stream` | what a compaction keeps |
@@ -20,6 +22,7 @@
 #![tactic(auto)]
 
 mod compaction_stream;
+mod heap;
 mod ids;
 mod key;
 mod key_range;
@@ -31,6 +34,7 @@ mod merger;
 mod mvcc_stream;
 mod optimize;
 mod run;
+mod slot;
 mod source;
 mod value;
 mod value_type;

@@ -1,28 +1,25 @@
 // All entries of several sources, in order.
 
-ghost use Rattle.std.specs.Prelude.{IfErr, ◌≡◌, ℕ, ◌<◌, ◌≤◌, [], ◌∷◌, ◌++◌, length, map, flat_map, IfOk, OnOk, MatchOption, true, false};
-ghost use Rattle.std.specs.List.{All, IsFirstBest};
+ghost use Rattle.std.specs.Prelude.{IfErr, ◌≡◌, ℕ, ◌<◌, ◌≤◌, ◌+◌, [], ◌∷◌, ◌++◌, length, map, flat_map, IfOk, OnOk, OnSome, IfSome, MatchOption, true, false};
+ghost use Rattle.std.specs.List.{All};
+ghost use Rattle.std.proofs.Props.{props};
 ghost use Rattle.lsm_below.specs.Keys.{Bytes};
 ghost use Rattle.lsm_below.specs.Entries.{IsFalling, stack};
 ghost use Rattle.lsm_below.specs.Streams.{Gives, RefusesOnly, Merges, IsInOrder};
-ghost use Rattle.lsm_below.specs.Slots.{merged, head_before, all_of, calls_left};
+ghost use Rattle.lsm_below.specs.Slots.{merged, all_of, calls_left, IsQueue, IsOrder};
 
 use crate::InternalValue;
-use crate::source::{Source, stands_before};
+use crate::heap::sink;
+use crate::slot::{Slot, fill_slot};
+use crate::source::Source;
 use std::alloc::{AllocError, Global};
 use std::marker::Model;
-
-/// A source and its first entry, once that was asked for.
-#[derive(Drop)]
-struct Slot<S> {
-    head: Option<InternalValue>,
-    source: S,
-}
 
 /// All entries of several sources, each as often as it came: keys rise, and under one key the sequence numbers fall.
 ///
 /// Entries of one key and sequence number come in any order. No more than one entry of each source is held,
-/// and none is copied. A call compares the first entries of all sources.
+/// and none is copied. Their indexes are a heap: of k sources the first call compares some 2 k entries, and each further
+/// one asks one source and compares some 2 log2 k.
 ///
 /// ```text
 /// for entry in Merger::new(alloc, sources)? { .. }
@@ -30,7 +27,11 @@ struct Slot<S> {
 #[derive(Drop)]
 pub struct Merger<S: Source> {
     slots: Vec<Slot<S>>,
+    // The indexes of the slots: a heap, but that the slots at the first `waiting` places are still to be asked.
+    order: Vec<usize>,
+    waiting: usize,
     over: bool,
+    ghost queue: { over ≡ false → IsQueue (map (λ s. s.head) slots.items) (map (λ s. all_of s.head (S.rest s.source).entries) slots.items) order.items waiting } by { Prim.hlevel props },
 }
 
 impl<S: Source> Model for Merger<S> {
@@ -43,83 +44,78 @@ impl<S: Source> Model for Merger<S> {
     ghost view = { λ m. rest_of m.over (merged (map (λ s. all_of s.head (S.rest s.source).entries) m.slots.items)) };
 }
 
-fn goes_before(head: &Option<InternalValue>, other: &Option<InternalValue>) -> bool
-    ensures { result ≡ head_before head.now other.now }
-{
-    match (head, other) {
-        (None, _) => false,
-        (Some(_), None) => true,
-        (Some(entry), Some(other)) => stands_before(entry, other),
-    }
-}
-
-fn fill_slot<S: Source>(slot: &mut Slot<S>) -> Result<(), S::Error>
-    ensures same { OnOk result
-        (all_of slot.new.head (S.rest slot.new.source).entries ≡ all_of slot.old.head (S.rest slot.old.source).entries) }
-    ensures cause { IfErr result S.may_refuse }
-    ensures filled { OnOk result (MatchOption slot.new.head ((S.rest slot.new.source).entries ≡ []) (λ _. Unit {0})) }
-{
-    if slot.head.is_none() {
-        match slot.source.next_entry() {
-            None => {}
-            Some(Err(error)) => return Err(error),
-            Some(Ok(entry)) => slot.head = Some(entry),
-        }
-    }
-    Ok(())
-}
-
-fn fill<S: Source>(slots: &mut [Slot<S>]) -> Result<(), S::Error>
+/// Asks for the head of the slot at a place, and moves its index down to where it belongs.
+fn settle_place<S: Source>(
+    slots: &mut [Slot<S>],
+    order: &mut [usize],
+    place: usize,
+) -> Result<(), S::Error>
+    requires { IsQueue (map (λ s. s.head) slots.old) (map (λ s. all_of s.head (S.rest s.source).entries) slots.old) order.old (place + 1) }
     ensures same { OnOk result
         (map (λ s. all_of s.head (S.rest s.source).entries) slots.new ≡ map (λ s. all_of s.head (S.rest s.source).entries) slots.old) }
     ensures cause { IfErr result S.may_refuse }
-    ensures filled { OnOk result
-        (All (λ s. MatchOption s.head ((S.rest s.source).entries ≡ []) (λ _. Unit {0})) slots.new) }
+    ensures queue { OnOk result
+        (IsQueue (map (λ s. s.head) slots.new) (map (λ s. all_of s.head (S.rest s.source).entries) slots.new) order.new place) }
 {
-    for i in 0..slots.len() {
-        fill_slot(&mut slots[i])?;
+    fill_slot(&mut slots[order[place]])?;
+    sink(slots, order, place);
+    Ok(())
+}
+
+/// Asks for the heads of the slots at the first places, so many.
+fn settle<S: Source>(
+    slots: &mut [Slot<S>],
+    order: &mut [usize],
+    waiting: usize,
+) -> Result<(), S::Error>
+    requires { IsQueue (map (λ s. s.head) slots.old) (map (λ s. all_of s.head (S.rest s.source).entries) slots.old) order.old waiting }
+    ensures same { OnOk result
+        (map (λ s. all_of s.head (S.rest s.source).entries) slots.new ≡ map (λ s. all_of s.head (S.rest s.source).entries) slots.old) }
+    ensures cause { IfErr result S.may_refuse }
+    ensures queue { OnOk result
+        (IsQueue (map (λ s. s.head) slots.new) (map (λ s. all_of s.head (S.rest s.source).entries) slots.new) order.new 0) }
+{
+    let mut place = waiting;
+    while place > 0 {
+        place -= 1;
+        settle_place(slots, order, place)?;
     }
     Ok(())
 }
 
-/// The slot with the least head, the first of those that tie.
-fn least<S: Source>(slots: &[Slot<S>]) -> usize
-    requires { 0 < length slots.now }
-    ensures { IsFirstBest (λ s t. head_before s.head t.head) slots.now (length slots.now) result }
-{
-    let mut best = 0;
-    for i in 1..slots.len() {
-        if goes_before(&slots[i].head, &slots[best].head) {
-            best = i;
-        }
-    }
-    best
-}
-
-fn take_least<S: Source>(slots: &mut [Slot<S>]) -> Option<InternalValue>
-    requires { All (λ s. MatchOption s.head ((S.rest s.source).entries ≡ []) (λ _. Unit {0})) slots.old }
-    ensures { MatchOption result
+/// Takes the head at the top.
+fn take_least<S: Source>(slots: &mut [Slot<S>], order: &[usize]) -> Option<InternalValue>
+    requires { IsQueue (map (λ s. s.head) slots.old) (map (λ s. all_of s.head (S.rest s.source).entries) slots.old) order.now 0 }
+    ensures least { MatchOption result
         (merged (map (λ s. all_of s.head (S.rest s.source).entries) slots.old) ≡ [])
         (λ e. merged (map (λ s. all_of s.head (S.rest s.source).entries) slots.old) ≡ e ∷ merged (map (λ s. all_of s.head (S.rest s.source).entries) slots.new)) }
+    ensures queue { OnSome result
+        (IsQueue (map (λ s. s.head) slots.new) (map (λ s. all_of s.head (S.rest s.source).entries) slots.new) order.now 1) }
 {
-    if slots.is_empty() {
+    if order.is_empty() {
         return None;
     }
-    let best = least(slots);
-    slots[best].head.take()
+    slots[order[0]].head.take()
 }
 
 /// The least of what the sources have left.
-fn pull<S: Source>(slots: &mut [Slot<S>]) -> Option<Result<InternalValue, S::Error>>
+fn pull<S: Source>(
+    slots: &mut [Slot<S>],
+    order: &mut [usize],
+    waiting: usize,
+) -> Option<Result<InternalValue, S::Error>>
+    requires { IsQueue (map (λ s. s.head) slots.old) (map (λ s. all_of s.head (S.rest s.source).entries) slots.old) order.old waiting }
     ensures cause { RefusesOnly S.may_refuse result }
     ensures entry { MatchOption result
         (merged (map (λ s. all_of s.head (S.rest s.source).entries) slots.old) ≡ [])
         (λ r. IfOk r (λ e. merged (map (λ s. all_of s.head (S.rest s.source).entries) slots.old) ≡ e ∷ merged (map (λ s. all_of s.head (S.rest s.source).entries) slots.new))) }
+    ensures queue { IfSome result (λ r. OnOk r
+        (IsQueue (map (λ s. s.head) slots.new) (map (λ s. all_of s.head (S.rest s.source).entries) slots.new) order.new 1)) }
 {
-    if let Err(error) = fill(slots) {
+    if let Err(error) = settle(slots, order, waiting) {
         return Some(Err(error));
     }
-    match take_least(slots) {
+    match take_least(slots, order) {
         Some(entry) => Some(Ok(entry)),
         None => None,
     }
@@ -134,6 +130,15 @@ fn slots_of<S: Source>(alloc: Global, sources: Vec<S>) -> Result<Vec<Slot<S>>, A
         .into_iter()
         .map(|source| Slot { head: None, source })
         .collect(alloc)
+}
+
+/// The numbers below this one, from the last.
+fn indexes(alloc: Global, count: usize) -> Result<Vec<usize>, AllocError>
+    ensures { IfOk result (λ order. IsOrder count order.items) }
+{
+    let mut order: Vec<usize> = (0..count).collect(alloc)?;
+    order.reverse();
+    Ok(order)
 }
 
 impl<S: Source> Merger<S> {
@@ -154,8 +159,15 @@ impl<S: Source> Merger<S> {
         ensures in_turn { IfOk result
             (λ m. (key : Bytes) → IsFalling (flat_map (λ s. stack key (S.rest s).entries) sources.items) → stack key m.entries ≡ flat_map (λ s. stack key (S.rest s).entries) sources.items) }
     {
+        let order = indexes(alloc, sources.len())?;
         let slots = slots_of(alloc, sources)?;
-        Ok(Merger { slots, over: false })
+        let waiting = order.len();
+        Ok(Merger {
+            slots,
+            order,
+            waiting,
+            over: false,
+        })
     }
 }
 
@@ -170,8 +182,11 @@ impl<S: Source> Source for Merger<S> {
         if self.over {
             return None;
         }
-        match pull(&mut self.slots) {
-            Some(Ok(entry)) => Some(Ok(entry)),
+        match pull(&mut self.slots, &mut self.order, self.waiting) {
+            Some(Ok(entry)) => {
+                self.waiting = 1;
+                Some(Ok(entry))
+            }
             Some(Err(error)) => {
                 self.over = true;
                 Some(Err(error))

@@ -1,12 +1,37 @@
-use Rattle.std.proofs.Common.{ap, sym, ◌∙◌, get_or, ◌∷◌}
+use Rattle.std.proofs.Common.{◌<◌, ap, sym, ◌∙◌, length, get_or, [], ◌∷◌, Option, Some, None, OnSome, map, arith}
+use Rattle.std.proofs.lemmas.Bool.{eqb-false}
+use Rattle.std.proofs.lemmas.List.{map-set, get_or-set_other}
+use Rattle.lsm_below.specs.declared.slot.Slot.{Slot}
 use Rattle.lsm_below.specs.Slots.{all_of}
-use Rattle.lsm_below.proofs.Taking.{head_is, head_taken, taken}
+use Rattle.lsm_below.proofs.Taking.{head_taken, taken}
+use Rattle.lsm_below.proofs.Queues.{top_is_first, none_due, head_is_first, queue_taken}
 use Rattle.lsm_below.proofs.merger.take_least.Goals as goal
 
-pub returns : goal.returns
-returns g c =
+pub returns-clause-least : goal.returns-clause-least
+returns-clause-least g c =
     let slots = c.args.slots.now in
-    let d = c.index-slots-best.result in
-    taken (λ s. all_of s.head (g.S.Source.rest s.source).entries) (λ s. s.head) slots c.least-best.result d _ (λ k lt. head_is (get_or slots k d).head (g.S.Source.rest (get_or slots k d).source).entries (c.requires k d lt)) c.least-best.ensures
+    let order = c.args.order.now in
+    let d = c.index-slots-order.result in
+    let i = get_or order 0 0 in
+    let some : 0 < length order = omega (arith, eqb-false (length order) 0 (sym c.is_empty.ensures ∙ c.if-is_empty.false)) in
+    taken (λ s. all_of s.head (g.S.Source.rest s.source).entries) (λ s. s.head) slots i d _
+    (λ k lt. head_is_first (get_or slots k d).head (g.S.Source.rest (get_or slots k d).source).entries (none_due (λ s. s.head) (λ s. all_of s.head (g.S.Source.rest s.source).entries) slots order some c.requires k d lt))
+    (top_is_first (λ s. s.head) (λ s. all_of s.head (g.S.Source.rest s.source).entries) slots order some c.requires)
     c.take.result c.take.ensures.value
-    (λ e is. head_taken (get_or slots c.least-best.result d).head (g.S.Source.rest (get_or slots c.least-best.result d).source).entries e is ∙ ap (λ o. e ∷ all_of o (g.S.Source.rest (get_or slots c.least-best.result d).source).entries) (sym c.take.ensures.after))
+    (λ e is. head_taken (get_or slots i d).head (g.S.Source.rest (get_or slots i d).source).entries e is ∙ ap (λ o. e ∷ all_of o (g.S.Source.rest (get_or slots i d).source).entries) (sym c.take.ensures.after))
+
+on_some : {X P : Type 0} (r : Option X) → P → OnSome r P
+on_some None p = tt
+on_some (Some x) p = p
+
+pub returns-clause-queue : goal.returns-clause-queue
+returns-clause-queue g c =
+    let slots = c.args.slots.now in
+    let order = c.args.order.now in
+    let i = get_or order 0 0 in
+    let some : 0 < length order = omega (arith, eqb-false (length order) 0 (sym c.is_empty.ensures ∙ c.if-is_empty.false)) in
+    let slot : Slot _ = record { head = c.take.new.self; source = (get_or slots i c.index-slots-order.result).source } in
+    let heads = map-set (λ s. s.head) slots i slot in
+    let lists = map-set (λ s. all_of s.head (g.S.Source.rest s.source).entries) slots i slot in
+    on_some c.take.result (rw (heads, lists, c.take.ensures.after) (queue_taken (map (λ s. s.head) slots) (map (λ s. all_of s.head (g.S.Source.rest s.source).entries) slots) _ order some c.requires
+    (λ j d. get_or-set_other (map (λ s. all_of s.head (g.S.Source.rest s.source).entries) slots) i j _ [] d)))

@@ -1,0 +1,42 @@
+// A source and the entry that it gave last.
+
+ghost use Rattle.std.specs.Prelude.{◌≡◌, IfErr, OnOk, OnErr, MatchOption, [], length};
+ghost use Rattle.lsm_below.specs.Slots.{head_before, all_of};
+
+use crate::InternalValue;
+use crate::source::{Source, stands_before};
+
+/// A source and its first entry, once that was asked for.
+#[derive(Drop)]
+pub struct Slot<S> {
+    pub head: Option<InternalValue>,
+    pub source: S,
+}
+
+/// Whether an entry stands before another one; one that is there stands before none.
+pub fn goes_before(head: &Option<InternalValue>, other: &Option<InternalValue>) -> bool
+    ensures { result ≡ head_before head.now other.now }
+{
+    match (head, other) {
+        (None, _) => false,
+        (Some(_), None) => true,
+        (Some(entry), Some(other)) => stands_before(entry, other),
+    }
+}
+
+/// Asks the source for its next entry, where there is no head.
+pub fn fill_slot<S: Source>(slot: &mut Slot<S>) -> Result<(), S::Error>
+    ensures same { OnOk result
+        (all_of slot.new.head (S.rest slot.new.source).entries ≡ all_of slot.old.head (S.rest slot.old.source).entries) }
+    ensures cause { IfErr result S.may_refuse }
+    ensures filled { OnOk result (MatchOption slot.new.head ((S.rest slot.new.source).entries ≡ []) (λ _. Unit {0})) }
+{
+    if slot.head.is_none() {
+        match slot.source.next_entry() {
+            None => {}
+            Some(Err(error)) => return Err(error),
+            Some(Ok(entry)) => slot.head = Some(entry),
+        }
+    }
+    Ok(())
+}
