@@ -8,7 +8,7 @@ use Rattle.std.specs.declared.ops.Bound.{Bound}
 use Rattle.lsm_below.specs.Keys.{Bytes}
 use Rattle.lsm_below.specs.Sorted.{Rises}
 use Rattle.std.specs.Borrow.{Bor}
-use Rattle.lsm_parts.specs.Memtables.{SeenMemtable}
+use Rattle.lsm_memtable.specs.Memtables.{SeenMemtable}
 use Rattle.lsm_parts.specs.Reads.{at, parts_at, state_of, index_of, tables_of}
 use Rattle.lsm_parts.specs.Versions.{SeenVersion}
 use Rattle.lsm_parts.specs.Cuts.{IsFresh, AreCuts}

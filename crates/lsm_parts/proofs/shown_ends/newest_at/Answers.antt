@@ -1,6 +1,6 @@
 use Rattle.std.proofs.Common.{option_copied, ap, ◌∙◌}
 use Rattle.lsm_below.specs.Sorted.{first}
-use Rattle.lsm_parts.specs.Memtables.{is_visible}
+use Rattle.lsm_memtable.specs.Memtables.{is_visible}
 use Rattle.lsm_parts.specs.Cuts.{part_of}
 use Rattle.lsm_parts.proofs.Last.{newest_step, visible_newest, fresh_at}
 use Rattle.lsm_parts.proofs.shown_ends.newest_at.Goals as goal
