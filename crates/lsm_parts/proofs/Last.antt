@@ -1,5 +1,5 @@
 -- The greatest key, the newest entry of a key, and the last entry that is shown.
-use Rattle.std.proofs.Common.{◌≡◌, ℕ, ◌+◌, ◌<◌, ◌≤◌, Bool, true, false, cond, ◌&&◌, List, [], ◌∷◌, ◌++◌, length, filter, map, Option, Some, None, option_map, get_or, take, not, refl, sym, ap, ◌∙◌, subst, arith, inl, inr, ltb, append-nil}
+use Rattle.std.proofs.Common.{◌≡◌, ℕ, ◌+◌, ◌<◌, ◌≤◌, Bool, true, false, cond, ◌&&◌, List, [], ◌∷◌, ◌++◌, length, filter, map, Option, Some, None, option_map, get_or, take, not, refl, sym, ap, ◌∙◌, subst, arith, inl, inr, ltb, append-nil, Bor, option_copied}
 use Rattle.std.specs.List.{All, Contains}
 use Rattle.std.specs.declared.cmp.Ordering.{Ordering}
 use Rattle.std.specs.declared.cmp.Ordering.TheVariants.{Less, Equal, Greater}
@@ -20,6 +20,7 @@ use Rattle.lsm_below.specs.Sorted.{Rises, first}
 use Rattle.lsm_below.specs.Laws.{KeysAreOrdered, FirstVisibleIsTop}
 use Rattle.lsm_model.specs.Journal.{is_from, is_to}
 use Rattle.lsm_model.specs.Laws.{MapsAreRead}
+use Rattle.lsm_memtable.specs.Iters.{TakesLast}
 use Rattle.lsm_memtable.specs.Memtables.{is_visible, within}
 use Rattle.lsm_parts.specs.Shown.{lies_within, IsNewestOf, IsNewest, IsShown, IsHidden}
 use Rattle.lsm_parts.specs.Reads.{Part, counted, all_counted}
@@ -59,11 +60,16 @@ before_last (y ∷ xs) x h =
     (before_last xs x h.1)
 
 -- the last of a list in order
-pub last_greatest : (es front : List Entry) (x : Entry) → Rises entry_cmp es → es ≡ front ++ x ∷ [] → IsGreatestOf es (Some x)
+last_greatest : (es front : List Entry) (x : Entry) → Rises entry_cmp es → es ≡ front ++ x ∷ [] → IsGreatestOf es (Some x)
 last_greatest es front x rises is =
     let own : is_le (bytes_cmp x.key.user_key x.key.user_key) ≡ true = ap is_le (tied_itself nat_list_cmp_total x.key.user_key) in
     subst (λ l. IsGreatestOf l (Some x)) (sym is)
     (Contains-push front x, All-push (λ f. is_le (bytes_cmp f.key.user_key x.key.user_key) ≡ true) front x (before_last front x (subst (Rises entry_cmp) is rises)) own)
+
+-- what was taken from the back of a list in order
+pub last_taken : (es front : List Entry) (r : Option (Bor Entry)) → Rises entry_cmp es → TakesLast es r front → IsGreatestOf es (option_copied r)
+last_taken es front None rises none = none.0
+last_taken es front (Some e) rises taken = last_greatest es front e.now rises taken
 
 -- one cut more
 pub held_more : (low high : Bound Bytes) (cuts : List Cut) (c : Cut) → within low high (held_in (cuts ++ c ∷ [])) ≡ within low high (held_in cuts) ++ within low high c.entries
@@ -142,8 +148,8 @@ pub newest_step : (k : Bytes) (cuts : List Cut) (i : ℕ) (c : Cut) (o p r : Opt
 newest_step k cuts i c o p r lt is h q same =
     subst (λ l. IsNewest (counted_in l) k r) (sym (cuts_more cuts i c lt is)) (subst (IsNewest (counted_in (take i cuts ++ c ∷ [])) k) (sym same) (newest_more k (take i cuts) c o p h q))
 
-pub fresh_at : (cuts : List Cut) (i : ℕ) (c : Cut) → i < length cuts → c ≡ get_or cuts i c → All IsFresh cuts → Rises entry_cmp c.entries
-fresh_at cuts i c lt is h = (subst IsFresh (sym is) (All-get_or IsFresh cuts i c lt h)).rises
+pub fresh_at : (cuts : List Cut) (i : ℕ) (c : Cut) → i < length cuts → c ≡ get_or cuts i c → All IsFresh cuts → IsFresh c
+fresh_at cuts i c lt is h = subst IsFresh (sym is) (All-get_or IsFresh cuts i c lt h)
 
 -- ---- what a key shows
 

@@ -139,7 +139,7 @@ fn newer_of<'a>(
 /// The entry with the greatest key.
 fn greatest_of(mut entries: Iter<'_>) -> Option<&InternalValue>
     requires { Rises entry_cmp entries }
-    ensures { IsGreatestOf entries (option_copied result) }
+    ensures { IsGreatestOf entries.entry (option_copied result) }
 {
     entries.next_back()
 }

@@ -1,4 +1,4 @@
-use Rattle.std.proofs.Common.{refl, sym, ◌∙◌}
+use Rattle.std.proofs.Common.{refl, sym}
 use Rattle.lsm_parts.proofs.cut.Cut.new.Goals as goal
 
 pub returns-clause-fresh : goal.returns-clause-fresh
