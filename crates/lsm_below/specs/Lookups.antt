@@ -1,5 +1,5 @@
 -- What a look-up finds in entries that rise.
-use Rattle.std.specs.Prelude.{◌≡◌, ℕ, ◌<◌, ◌≤◌, Bool, true, false, List, nat_le, nat_lt, cond, filter, ◌&&◌}
+use Rattle.std.specs.Prelude.{◌≡◌, ℕ, ◌<◌, ◌≤◌, Bool, true, false, List, length, slice_index_or, nat_le, nat_lt, cond, filter, ◌&&◌}
 use Rattle.std.specs.List.{Contains}
 use Rattle.std.specs.Ordering.{is_eq, is_le, is_lt}
 use Rattle.std.specs.declared.ops.Bound.{Bound}
@@ -15,6 +15,11 @@ is_visible key snapshot e = cond (is_eq (bytes_cmp e.key.user_key key)) (nat_lt 
 -- does the entry come before each entry of the key with a sequence number below this?
 abbrev pub stands_before : Bytes → ℕ → Entry → Bool
 stands_before key number e = by_ordering (bytes_cmp e.key.user_key key) true (nat_le number e.key.seqno) false
+
+-- at a place end the entries that come before each entry of the key with a sequence number below this
+pub record IsParting (entries : List Entry) (key : Bytes) (number at : ℕ) : Type 0 where
+  pub before : (j : ℕ) (d : Entry) → j < at → stands_before key number (slice_index_or entries j d) ≡ true
+  pub behind : (j : ℕ) (d : Entry) → at ≤ j → j < length entries → stands_before key number (slice_index_or entries j d) ≡ false
 
 -- e is the entry of the key with the greatest sequence number below the snapshot
 pub record IsTop (entries : List Entry) (key : Bytes) (snapshot : ℕ) (e : Entry) : Type 0 where

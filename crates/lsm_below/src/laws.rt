@@ -1,5 +1,5 @@
 // What always holds of keys, entries and merges, each as the contract of a function that does nothing.
-ghost use Rattle.lsm_below.specs.Laws.{KeysAreOrdered, EntriesAreOrdered, FirstVisibleIsTop, MergesByKey};
+ghost use Rattle.lsm_below.specs.Laws.{KeysAreOrdered, EntriesAreOrdered, FirstVisibleIsTop, EntriesAreParted, MergesByKey};
 
 /// User keys are ordered.
 pub fn keys_are_ordered()
@@ -14,6 +14,11 @@ pub fn entries_are_ordered()
 /// Of entries that rise, the first that a snapshot sees of a key is the newest one below it.
 pub fn first_visible_is_top()
     ensures { FirstVisibleIsTop }
+{}
+
+/// A place parts entries that rise: a look-up there finds what a walk would, and so do two places for bounds.
+pub fn entries_are_parted()
+    ensures { EntriesAreParted }
 {}
 
 /// Lists in order are merged key by key, and of a list in order the first entries of each key are in order.

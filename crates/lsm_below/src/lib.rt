@@ -43,7 +43,9 @@ pub use compaction_stream::{CompactionStream, compact};
 pub use ids::{KvPair, MemtableId, SeqNo, TableId, TreeId, UserKey, UserValue, share};
 pub use key::InternalKey;
 pub use key_range::{KeyRange, Ranged};
-pub use laws::{entries_are_ordered, first_visible_is_top, keys_are_ordered, merges_by_key};
+pub use laws::{
+    entries_are_ordered, entries_are_parted, first_visible_is_top, keys_are_ordered, merges_by_key,
+};
 pub use limits::{ENTRY_OVERHEAD, MAX_KEY_LEN, MAX_VALUE_LEN};
 pub use list_source::ListSource;
 pub use lookup::{entries_within, first_visible};

@@ -1,5 +1,5 @@
 -- The greatest key, the newest entry of a key, and the last entry that is shown.
-use Rattle.std.proofs.Common.{◌≡◌, ℕ, ◌+◌, ◌<◌, ◌≤◌, Bool, true, false, cond, ◌&&◌, List, [], ◌∷◌, ◌++◌, length, filter, map, Option, Some, None, option_map, get_or, take, not, refl, sym, ap, ◌∙◌, subst, arith, inl, inr, ltb, append-nil}
+use Rattle.std.proofs.Common.{◌≡◌, ℕ, ◌+◌, ◌<◌, ◌≤◌, Bool, true, false, cond, ◌&&◌, List, [], ◌∷◌, ◌++◌, length, filter, map, Option, Some, None, option_map, get_or, take, not, refl, sym, ap, ◌∙◌, subst, arith, inl, inr, ltb, append-nil, Bor, option_copied}
 use Rattle.std.specs.List.{All, Contains}
 use Rattle.std.specs.declared.cmp.Ordering.{Ordering}
 use Rattle.std.specs.declared.cmp.Ordering.TheVariants.{Less, Equal, Greater}
@@ -20,7 +20,8 @@ use Rattle.lsm_below.specs.Sorted.{Rises, first}
 use Rattle.lsm_below.specs.Laws.{KeysAreOrdered, FirstVisibleIsTop}
 use Rattle.lsm_model.specs.Journal.{is_from, is_to}
 use Rattle.lsm_model.specs.Laws.{MapsAreRead}
-use Rattle.lsm_parts.specs.Memtables.{is_visible, within}
+use Rattle.lsm_memtable.specs.Iters.{TakesLast}
+use Rattle.lsm_memtable.specs.Memtables.{is_visible, within}
 use Rattle.lsm_parts.specs.Shown.{lies_within, IsNewestOf, IsNewest, IsShown, IsHidden}
 use Rattle.lsm_parts.specs.Reads.{Part, counted, all_counted}
 use Rattle.lsm_parts.specs.Cuts.{part_of, IsFresh, IsGreatestOf, IsGreatestKey, with_greater_key, newer, held_in, counted_in}
@@ -59,20 +60,25 @@ before_last (y ∷ xs) x h =
     (before_last xs x h.1)
 
 -- the last of a list in order
-pub last_greatest : (es front : List Entry) (x : Entry) → Rises entry_cmp es → es ≡ front ++ x ∷ [] → IsGreatestOf es (Some x)
+last_greatest : (es front : List Entry) (x : Entry) → Rises entry_cmp es → es ≡ front ++ x ∷ [] → IsGreatestOf es (Some x)
 last_greatest es front x rises is =
     let own : is_le (bytes_cmp x.key.user_key x.key.user_key) ≡ true = ap is_le (tied_itself nat_list_cmp_total x.key.user_key) in
     subst (λ l. IsGreatestOf l (Some x)) (sym is)
     (Contains-push front x, All-push (λ f. is_le (bytes_cmp f.key.user_key x.key.user_key) ≡ true) front x (before_last front x (subst (Rises entry_cmp) is rises)) own)
 
--- one cut more
-pub held_more : (low high : Bound Bytes) (cuts : List Cut) (c : Cut) → within low high (held_in (cuts ++ c ∷ [])) ≡ within low high (held_in cuts) ++ within low high c.entries.now
-held_more low high cuts c =
-    ap (within low high) (flat_map-append (λ c. c.entries.now) cuts (c ∷ []) ∙ ap (λ l. held_in cuts ++ l) (append-nil c.entries.now))
-    ∙ filter-append (λ e. is_from low e.key.user_key && is_to high e.key.user_key) (held_in cuts) c.entries.now
+-- what was taken from the back of a list in order
+pub last_taken : (es front : List Entry) (r : Option (Bor Entry)) → Rises entry_cmp es → TakesLast es r front → IsGreatestOf es (option_copied r)
+last_taken es front None rises none = none.0
+last_taken es front (Some e) rises taken = last_greatest es front e.now rises taken
 
-pub greatest_more : (keys : KeysAreOrdered) → (low high : Bound Bytes) (cuts : List Cut) (c : Cut) (o p : Option Entry) → IsGreatestOf (within low high (held_in cuts)) o → IsGreatestOf (within low high c.entries.now) p → IsGreatestOf (within low high (held_in (cuts ++ c ∷ []))) (with_greater_key o p)
-greatest_more keys low high cuts c o p h k = subst (λ l. IsGreatestOf l (with_greater_key o p)) (sym (held_more low high cuts c)) (greatest_join keys (within low high (held_in cuts)) (within low high c.entries.now) o p h k)
+-- one cut more
+pub held_more : (low high : Bound Bytes) (cuts : List Cut) (c : Cut) → within low high (held_in (cuts ++ c ∷ [])) ≡ within low high (held_in cuts) ++ within low high c.entries
+held_more low high cuts c =
+    ap (within low high) (flat_map-append (λ c. c.entries) cuts (c ∷ []) ∙ ap (λ l. held_in cuts ++ l) (append-nil c.entries))
+    ∙ filter-append (λ e. is_from low e.key.user_key && is_to high e.key.user_key) (held_in cuts) c.entries
+
+pub greatest_more : (keys : KeysAreOrdered) → (low high : Bound Bytes) (cuts : List Cut) (c : Cut) (o p : Option Entry) → IsGreatestOf (within low high (held_in cuts)) o → IsGreatestOf (within low high c.entries) p → IsGreatestOf (within low high (held_in (cuts ++ c ∷ []))) (with_greater_key o p)
+greatest_more keys low high cuts c o p h k = subst (λ l. IsGreatestOf l (with_greater_key o p)) (sym (held_more low high cuts c)) (greatest_join keys (within low high (held_in cuts)) (within low high c.entries) o p h k)
 
 -- ---- the newest entry
 
@@ -133,7 +139,7 @@ cuts_more : (cuts : List Cut) (i : ℕ) (c : Cut) → i < length cuts → c ≡ 
 cuts_more cuts i c lt is = take_more cuts i c lt ∙ ap (λ d. take i cuts ++ d ∷ []) (sym is)
 
 pub greatest_step : (keys : KeysAreOrdered) → (low high : Bound Bytes) (cuts : List Cut) (i : ℕ) (c : Cut) (o p r : Option Entry) → i < length cuts → c ≡ get_or cuts i c
-    → IsGreatestOf (within low high (held_in (take i cuts))) o → IsGreatestOf (within low high c.entries.now) p → r ≡ with_greater_key o p → IsGreatestOf (within low high (held_in (take (i + 1) cuts))) r
+    → IsGreatestOf (within low high (held_in (take i cuts))) o → IsGreatestOf (within low high c.entries) p → r ≡ with_greater_key o p → IsGreatestOf (within low high (held_in (take (i + 1) cuts))) r
 greatest_step keys low high cuts i c o p r lt is h k same =
     subst (λ l. IsGreatestOf (within low high (held_in l)) r) (sym (cuts_more cuts i c lt is)) (subst (IsGreatestOf (within low high (held_in (take i cuts ++ c ∷ [])))) (sym same) (greatest_more keys low high (take i cuts) c o p h k))
 
@@ -142,8 +148,8 @@ pub newest_step : (k : Bytes) (cuts : List Cut) (i : ℕ) (c : Cut) (o p r : Opt
 newest_step k cuts i c o p r lt is h q same =
     subst (λ l. IsNewest (counted_in l) k r) (sym (cuts_more cuts i c lt is)) (subst (IsNewest (counted_in (take i cuts ++ c ∷ [])) k) (sym same) (newest_more k (take i cuts) c o p h q))
 
-pub fresh_at : (cuts : List Cut) (i : ℕ) (c : Cut) → i < length cuts → c ≡ get_or cuts i c → All IsFresh cuts → Rises entry_cmp c.entries.now
-fresh_at cuts i c lt is h = (subst IsFresh (sym is) (All-get_or IsFresh cuts i c lt h)).rises
+pub fresh_at : (cuts : List Cut) (i : ℕ) (c : Cut) → i < length cuts → c ≡ get_or cuts i c → All IsFresh cuts → IsFresh c
+fresh_at cuts i c lt is h = subst IsFresh (sym is) (All-get_or IsFresh cuts i c lt h)
 
 -- ---- what a key shows
 
@@ -169,8 +175,8 @@ newest_shown maps es k e h value =
 counted_held : (cuts : List Cut) (f : Entry) → Contains (counted_in cuts) f → Contains (held_in cuts) f
 counted_held [] f h = h
 counted_held (c ∷ cuts) f h = elim (Contains-append_cases (counted (part_of c)) (counted_in cuts) f h) [
-  | inl here ↦ Contains-append_left c.entries.now (held_in cuts) f (filter_had (λ e. ltb e.key.seqno c.below) c.entries.now f here)
-  | inr there ↦ Contains-append_right c.entries.now (held_in cuts) f (counted_held cuts f there)
+  | inl here ↦ Contains-append_left c.entries (held_in cuts) f (filter_had (λ e. ltb e.key.seqno c.below) c.entries f here)
+  | inr there ↦ Contains-append_right c.entries (held_in cuts) f (counted_held cuts f there)
 ]
 
 -- a key within bounds of which no entry is held

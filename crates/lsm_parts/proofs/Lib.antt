@@ -1,5 +1,3 @@
-pub mod Sorted
-pub mod Contents
 pub mod Histories
 pub mod Prefixes
 pub mod Cuts

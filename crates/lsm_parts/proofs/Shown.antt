@@ -21,7 +21,7 @@ use Rattle.lsm_below.specs.declared.value_type.ValueType.TheVariants.{Value, Tom
 use Rattle.lsm_below.specs.Laws.{EntriesAreOrdered}
 use Rattle.lsm_model.specs.Views.{shown}
 use Rattle.lsm_model.specs.Laws.{MapsAreRead}
-use Rattle.lsm_parts.specs.Memtables.{within}
+use Rattle.lsm_memtable.specs.Memtables.{within}
 use Rattle.lsm_parts.specs.Shown.{lies_within, IsNewestOf, IsNewest, IsShown, by_key, Shows}
 use Rattle.lsm_parts.specs.Reads.{Part, cut, counted, all_counted}
 use Rattle.lsm_parts.specs.Cuts.{part_of, IsFresh, AreCuts, AreNewest}
@@ -209,7 +209,7 @@ ascends [] h = tt
 ascends (e ∷ es) h = (recursion_from_All (λ f. is_le (entry_cmp e f) ≡ true) es (All-weaker (λ f. entry_cmp e f ≡ Less) (λ f. is_le (entry_cmp e f) ≡ true) (λ f l. ap is_le l) es h.0), ascends es h.1)
 
 pub fresh_in_order : (c : Cut) → IsFresh c → IsInOrder (rest_of c.over (counted (part_of c))).entries
-fresh_in_order c h = subst (λ b. IsInOrder (rest_of b (counted (part_of c))).entries) (sym h.going) (ascends (counted (part_of c)) (rises_filter entry_cmp (λ e. ltb e.key.seqno c.below) c.entries.now h.rises))
+fresh_in_order c h = subst (λ b. IsInOrder (rest_of b (counted (part_of c))).entries) (sym h.going) (ascends (counted (part_of c)) (rises_filter entry_cmp (λ e. ltb e.key.seqno c.below) c.entries h.rises))
 
 -- ---- the list that is shown
 

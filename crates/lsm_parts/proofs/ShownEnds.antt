@@ -17,7 +17,7 @@ use Rattle.lsm_below.specs.Sorted.{Rises}
 use Rattle.lsm_below.specs.Laws.{KeysAreOrdered, EntriesAreOrdered, MergesByKey}
 use Rattle.lsm_model.specs.Journal.{is_from, is_to}
 use Rattle.lsm_model.specs.Laws.{MapsAreRead}
-use Rattle.lsm_parts.specs.Memtables.{within}
+use Rattle.lsm_memtable.specs.Memtables.{within}
 use Rattle.lsm_parts.specs.Shown.{lies_within, IsNewestOf, IsShown, IsHidden, by_key, Shows}
 use Rattle.lsm_parts.specs.Reads.{Part, cut, counted, all_counted}
 use Rattle.lsm_parts.specs.Cuts.{AreCuts, counted_in, IsLastShown, AreNewest}

@@ -14,11 +14,12 @@ use Rattle.lsm_parts.specs.declared.cut.Cut.{Cut}
 
 -- what a cut has left
 abbrev pub part_of : Cut → Part
-part_of c = record { entries = c.entries.now; below = c.below }
+part_of c = record { entries = c.entries; below = c.below }
 
--- a cut that nothing was asked of yet: its entries stand in order
+-- a cut that nothing was asked of yet: its entries stand in order, and all are left
 pub record IsFresh (c : Cut) : Type 0 where
-  pub rises : Rises entry_cmp c.entries.now
+  pub rises : Rises entry_cmp c.entries
+  pub whole : c.span ≡ c.entries
   pub going : c.over ≡ false
 
 -- these cuts are what lies of the parts within bounds
@@ -60,7 +61,7 @@ newer (Some e) o = later e o
 
 -- all entries of cuts
 abbrev pub held_in : List Cut → List Entry
-held_in cuts = flat_map (λ c. c.entries.now) cuts
+held_in cuts = flat_map (λ c. c.entries) cuts
 
 -- those that count
 abbrev pub counted_in : List Cut → List Entry

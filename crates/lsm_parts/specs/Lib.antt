@@ -1,7 +1,4 @@
-pub mod Errors
-pub mod Memtables
 pub mod Versions
-pub mod Contents
 pub mod History
 pub mod Shown
 pub mod Prefixes

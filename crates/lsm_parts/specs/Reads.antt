@@ -4,7 +4,7 @@ use Rattle.std.specs.declared.ops.Bound.{Bound}
 use Rattle.lsm_below.specs.Keys.{Bytes}
 use Rattle.lsm_below.specs.Entries.{Entry}
 use Rattle.lsm_model.specs.Views.{placed_from}
-use Rattle.lsm_parts.specs.Memtables.{SeenMemtable, within}
+use Rattle.lsm_memtable.specs.Memtables.{SeenMemtable, within}
 use Rattle.lsm_parts.specs.Versions.{SeenVersion}
 use Rattle.std.specs.Borrow.{Bor}
 

@@ -1,57 +1,55 @@
 // The entries of a source in the bounds.
 ghost use Rattle.std.specs.Prelude.{◌≡◌, [], ◌∷◌, filter, nat_lt, MatchOption};
-ghost use Rattle.lsm_below.specs.Entries.{entry_cmp};
-ghost use Rattle.lsm_below.specs.Sorted.{Rises};
 ghost use Rattle.lsm_below.specs.Slots.{rest_of};
 ghost use Rattle.lsm_parts.specs.Reads.{counted, cut};
 ghost use Rattle.lsm_parts.specs.Cuts.{part_of, IsFresh};
-ghost use Rattle.lsm_parts.specs.declared.error.Error.TheVariants.{OutOfMemory};
+ghost use Rattle.lsm_memtable.specs.declared.error.Error.TheVariants.{OutOfMemory};
 
-use crate::{Error, Memtable};
-use lsm_below::{InternalValue, SeqNo, Source, UserKey, entries_within};
+use lsm_below::{InternalValue, SeqNo, Source, UserKey};
+use lsm_memtable::{Error, Iter, Span};
 use std::ops::Bound;
 
 /// The entries of a source in the bounds, of which those below a sequence number count.
 /// As a source it gives these, each shared when its turn comes.
 #[derive(Drop)]
 pub(crate) struct Cut<'a> {
-    pub(crate) entries: &'a [InternalValue],
+    /// The entries that are left.
+    pub(crate) entries: Iter<'a>,
+    /// All its entries, which may be cut again.
+    pub(crate) span: Span<'a>,
     pub(crate) below: SeqNo,
     over: bool,
 }
 
-/// The first entry that counts, and those after it.
-fn next_counted(
-    entries: &[InternalValue],
-    below: SeqNo,
-) -> Option<(&InternalValue, &[InternalValue])>
+/// Takes entries up to the first one that counts.
+fn next_counted<'a>(entries: &mut Iter<'a>, below: SeqNo) -> Option<&'a InternalValue>
     ensures { MatchOption result
-        (filter (λ e. nat_lt e.key.seqno below) entries.now ≡ [])
-        (λ p. filter (λ e. nat_lt e.key.seqno below) entries.now ≡ p.0.now ∷ filter (λ e. nat_lt e.key.seqno below) p.1.now) }
+        (filter (λ e. nat_lt e.key.seqno below) entries.old ≡ [])
+        (λ e. filter (λ e. nat_lt e.key.seqno below) entries.old ≡ e.now ∷ filter (λ e. nat_lt e.key.seqno below) entries.new) }
 {
-    let mut rest = entries;
-    while let Some((entry, behind)) = rest.split_first() {
+    while let Some(entry) = entries.next() {
         if entry.key.seqno < below {
-            return Some((entry, behind));
+            return Some(entry);
         }
-        rest = behind;
     }
     None
 }
 
 impl<'a> Cut<'a> {
-    /// Of entries in order those in the bounds, of which those below a sequence number count.
+    /// Of entries those in the bounds, of which those below a sequence number count.
     pub(crate) fn new(
-        entries: &'a [InternalValue],
+        entries: &Span<'a>,
         bounds: &(Bound<UserKey>, Bound<UserKey>),
         below: SeqNo,
     ) -> Cut<'a>
-        requires { Rises entry_cmp entries.now }
         ensures is { part_of result ≡ cut bounds.now.0 bounds.now.1 (record { entries = entries.now; below = below }) }
         ensures fresh { IsFresh result }
     {
+        let span = entries.within(bounds);
+        span.facts();
         Cut {
-            entries: entries_within(entries, &bounds.0, &bounds.1),
+            entries: span.iter(),
+            span,
             below,
             over: false,
         }
@@ -69,15 +67,12 @@ impl Source for Cut<'_> {
         if self.over {
             return None;
         }
-        let Some((entry, behind)) = next_counted(self.entries, self.below) else {
+        let Some(entry) = next_counted(&mut self.entries, self.below) else {
             self.over = true;
             return None;
         };
         match entry.copy() {
-            Ok(copy) => {
-                self.entries = behind;
-                Some(Ok(copy))
-            }
+            Ok(copy) => Some(Ok(copy)),
             Err(_) => {
                 self.over = true;
                 Some(Err(Error::OutOfMemory))

@@ -79,7 +79,7 @@ fn push_memtables<'a>(
         (PutsCuts bounds.now.0 bounds.now.1 (map (λ m. at snapshot m.now.entries) memtables.now) cuts.old.items cuts.new.items) }
 {
     for memtable in memtables {
-        cuts.push(Cut::new(memtable.as_slice(), bounds, snapshot))?;
+        cuts.push(Cut::new(&memtable.span(), bounds, snapshot))?;
     }
     Ok(())
 }
@@ -94,7 +94,7 @@ fn push_overlay<'a>(
         (PutsCuts bounds.now.0 bounds.now.1 (option_to_list (index_of overlay.entry)) cuts.old.items cuts.new.items) }
 {
     match overlay {
-        Some((index, below)) => cuts.push(Cut::new(index.as_slice(), bounds, below))?,
+        Some((index, below)) => cuts.push(Cut::new(&index.span(), bounds, below))?,
         None => {}
     }
     Ok(())

@@ -2,10 +2,8 @@
 //!
 //! | Module | Holds |
 //! |-|-|
-//! | `error` | what a call refuses, and why |
 //! | `config` | what a tree is opened with |
 //! | `seqno` | the counter of sequence numbers, and which of them a snapshot sees |
-//! | `memtable` | a sorted table of entries in memory |
 //! | `version` | versions of tables, super versions and their history |
 //! | `prefix` | the bounds of the keys that begin alike |
 //! | `iter_state`, `cut` | what an iterator reads; the entries of a source in the bounds |
@@ -17,11 +15,9 @@
 
 mod config;
 mod cut;
-mod error;
 mod guard;
 mod iter_state;
 mod laws;
-mod memtable;
 mod prefix;
 mod seqno;
 mod shown_ends;
@@ -29,11 +25,10 @@ mod tree_iter;
 mod version;
 
 pub use config::{Config, DEFAULT_LEVEL_COUNT};
-pub use error::Error;
 pub use guard::{Guard, IterGuard, RangeItem};
 pub use iter_state::IterState;
 pub use laws::shown_is_the_view;
-pub use memtable::Memtable;
+pub use lsm_memtable::{Error, Iter, Memtable, Span, Steps};
 pub use prefix::prefix_to_range;
 pub use seqno::{LIMIT, SequenceNumberCounter, seqno_filter};
 pub use shown_ends::{count_shown, first_shown, last_shown};

@@ -3,12 +3,12 @@ ghost use Rattle.std.specs.Prelude.{◌≡◌, ◌∷◌, [], List, Some, None, 
 ghost use Rattle.std.specs.List.{All};
 ghost use Rattle.lsm_below.specs.Entries.{Entry, entry_cmp, is_value};
 ghost use Rattle.lsm_below.specs.Sorted.{Rises};
-ghost use Rattle.lsm_parts.specs.Memtables.{within};
+ghost use Rattle.lsm_memtable.specs.Memtables.{within};
 ghost use Rattle.lsm_parts.specs.Shown.{IsNewest, IsShown, IsHidden};
 ghost use Rattle.lsm_parts.specs.Reads.{counted_at};
 ghost use Rattle.lsm_parts.specs.Cuts.{IsFresh, IsGreatestOf, IsGreatestKey, with_greater_key, newer, held_in, counted_in, IsLastShown};
 ghost use Rattle.lsm_parts.specs.Ends.{EndShown, NumberShown};
-ghost use Rattle.lsm_parts.specs.declared.error.Error.{Error};
+ghost use Rattle.lsm_memtable.specs.declared.error.Error.{Error};
 ghost use Rattle.std.specs.declared.ops.Bound.TheVariants.{Excluded, Unbounded};
 ghost use Rattle.lsm_parts.specs.declared.tree_iter.End.TheVariants.{Front, Back};
 
@@ -16,9 +16,10 @@ use crate::cut::Cut;
 use crate::tree_iter::newest_of;
 use crate::{Error, IterState};
 use lsm_below::{
-    InternalValue, SeqNo, Source, UserKey, entries_are_ordered, entries_within, first_visible,
-    first_visible_is_top, keys_are_ordered, merges_by_key, share,
+    InternalValue, SeqNo, Source, UserKey, entries_are_ordered, first_visible_is_top,
+    keys_are_ordered, merges_by_key, share,
 };
+use lsm_memtable::Iter;
 use lsm_model::maps_are_read;
 use std::alloc::{AllocError, Global};
 use std::ops::Bound;
@@ -136,14 +137,11 @@ fn newer_of<'a>(
 }
 
 /// The entry with the greatest key.
-fn greatest_of(entries: &[InternalValue]) -> Option<&InternalValue>
-    requires { Rises entry_cmp entries.now }
-    ensures { IsGreatestOf entries.now (option_copied result) }
+fn greatest_of(mut entries: Iter<'_>) -> Option<&InternalValue>
+    requires { Rises entry_cmp entries }
+    ensures { IsGreatestOf entries.entry (option_copied result) }
 {
-    match entries.split_last() {
-        None => None,
-        Some((last, _)) => Some(last),
-    }
+    entries.next_back()
 }
 
 /// The greatest key of entries of cuts within bounds. Refused only for want of memory.
@@ -157,8 +155,9 @@ fn greatest_key(
     keys_are_ordered();
     let mut greatest = None;
     for cut in cuts {
-        let within = entries_within(cut.entries, &bounds.0, &bounds.1);
-        greatest = with_greater(greatest, greatest_of(within));
+        let within = cut.span.within(bounds);
+        within.facts();
+        greatest = with_greater(greatest, greatest_of(within.iter()));
     }
     match greatest {
         None => Ok(None),
@@ -175,10 +174,7 @@ fn newest_at<'a>(cuts: &[Cut<'a>], key: &UserKey) -> Option<&'a InternalValue>
     maps_are_read();
     let mut newest = None;
     for cut in cuts {
-        newest = newer_of(
-            newest,
-            first_visible(cut.entries, key.as_slice(), cut.below),
-        );
+        newest = newer_of(newest, cut.span.first_visible(key.as_slice(), cut.below));
     }
     newest
 }

@@ -1,7 +1,7 @@
-// Look-ups, sizes and bounds of a memtable.
+// Look-ups, sizes and bounds of a memtable, and how many steps its calls take.
 use crate::samples::{Bounds, all, entry, excluded, included, set, tombstone};
 use lsm_below::{InternalValue, SeqNo};
-use lsm_parts::{Error, Memtable};
+use lsm_parts::{Error, Memtable, Steps};
 use std::alloc::Global;
 use std::process::Abort;
 
@@ -107,5 +107,80 @@ fn lends_what_lies_within_bounds(rt: HostRuntime) {
     assert!(rt; lends(&table, (excluded("a"), included("b")), 1, Some(1)));
     assert!(rt; lends(&table, (included("b"), included("a")), 0, None));
     assert!(rt; ends_with_b(&table));
+    drop(table);
+}
+
+// ---- steps
+
+/// Whether each of so many inserts, each before all others, moves at most 64 entries.
+fn moves_few(table: &mut Memtable, count: SeqNo) -> bool {
+    for seqno in 0..count {
+        let mut steps = Steps::new();
+        let done = table.insert_counted(entry("a", "", seqno), &mut steps);
+        if done.is_err() || steps.moved > 64 {
+            return false;
+        }
+    }
+    true
+}
+
+/// Whether a look-up at each snapshot finds the entry below it with at most so many comparisons.
+fn compares_few(table: &Memtable, count: SeqNo, most: u64) -> bool {
+    for seqno in 0..count {
+        let mut steps = Steps::new();
+        let found = table.get_counted(b"a", seqno.saturating_add(1), &mut steps);
+        if found.map(|entry| entry.key.seqno) != Some(seqno) || steps.compared > most {
+            return false;
+        }
+    }
+    true
+}
+
+// 200 entries stand in at most 6 blocks, and 6 has three binary digits.
+#[test]
+fn takes_few_steps(rt: HostRuntime) {
+    let mut table = Memtable::new(rt.alloc(), 0);
+    assert!(rt; compares_few(&table, 0, 8));
+    assert!(rt; moves_few(&mut table, 200));
+    assert!(rt; compares_few(&table, 200, 11));
+    assert_eq!(rt; table.len(), 200);
+    drop(table);
+}
+
+#[test]
+fn counts_stop_at_the_greatest_number(rt: HostRuntime) {
+    let mut steps = Steps {
+        compared: u64::MAX,
+        moved: u64::MAX - 1,
+    };
+    steps.tick_compared();
+    steps.tick_moved();
+    assert_eq!(rt; (steps.compared, steps.moved), (u64::MAX, u64::MAX));
+}
+
+/// Whether a part between bounds gives this many entries, and so many once it is cut again.
+fn cuts_again(table: &Memtable, bounds: &Bounds, count: usize, again: &Bounds, left: usize) -> bool {
+    let part = table.span().within(bounds);
+    part.iter().count() == count && part.within(again).iter().count() == left
+}
+
+/// Whether a part finds an entry of the key below the snapshot.
+fn part_finds(table: &Memtable, bounds: &Bounds, key: &[u8], snapshot: SeqNo) -> bool {
+    table
+        .span()
+        .within(bounds)
+        .first_visible(key, snapshot)
+        .is_some()
+}
+
+#[test]
+fn cuts_a_part_again(rt: HostRuntime) {
+    let mut table = Memtable::new(rt.alloc(), 0);
+    assert!(rt; set_batch(rt.alloc(), &mut table).is_ok());
+    let low = (included("a"), excluded("b"));
+    assert!(rt; cuts_again(&table, &all(), 3, &low, 2));
+    assert!(rt; cuts_again(&table, &low, 2, &(included("b"), included("b")), 0));
+    assert!(rt; part_finds(&table, &low, b"a", 2));
+    assert!(rt; !part_finds(&table, &low, b"b", 2));
     drop(table);
 }

@@ -22,8 +22,8 @@ use Rattle.lsm_model.specs.declared.question.Question.{Question}
 use Rattle.lsm_model.specs.declared.question.Question.TheVariants.{Get}
 use Rattle.lsm_model.specs.declared.question.Answer.TheVariants.{Found, Pairs}
 use Rattle.lsm_parts.specs.declared.config.Config.{Config}
-use Rattle.lsm_parts.specs.declared.error.Error.{Error}
-use Rattle.lsm_parts.specs.declared.error.Error.TheVariants.{OutOfMemory, OutOfNumbers, KeyTooLong, ValueTooLong, DuplicateKey}
+use Rattle.lsm_memtable.specs.declared.error.Error.{Error}
+use Rattle.lsm_memtable.specs.declared.error.Error.TheVariants.{OutOfMemory, OutOfNumbers, KeyTooLong, ValueTooLong, DuplicateKey}
 use Rattle.lsm_state.specs.Core.{Core, Seen, state_of, latest_of, older_of, fresh_core}
 use Rattle.lsm_state.specs.Calls.{IsWriteStep, IsGetStep, Gives, Rotates, WritesBatch}
 use Rattle.lsm_state.specs.Ranges.{IsListStep}

@@ -7,7 +7,7 @@ use Rattle.lsm_model.specs.Ops.{op_entry, op_entries}
 use Rattle.lsm_model.specs.declared.op.Op.{Op}
 use Rattle.lsm_model.specs.declared.op.Op.TheVariants.{Set}
 use Rattle.lsm_model.specs.declared.journal.JournalEntry.TheVariants.{Write}
-use Rattle.lsm_parts.specs.declared.error.Error.{Error}
+use Rattle.lsm_memtable.specs.declared.error.Error.{Error}
 use Rattle.lsm_state.specs.Core.{Core}
 use Rattle.lsm_state.specs.Calls.{Appends, WritesBatch}
 use Rattle.lsm_runs.specs.Runs.{TakesEntry, TakesBatch, told_entry, told_batch}

@@ -2,7 +2,7 @@
 use Rattle.std.proofs.Common.{◌≡◌, ℕ, ◌+◌, Bool, true, false, ◌||◌, List, [], ◌∷◌, ◌++◌, refl, sym, ap, ◌∙◌, subst, arith, eqb, eq-eqb}
 use Rattle.std.specs.List.{AllByRecursion}
 use Rattle.lsm_below.specs.Entries.{Entry}
-use Rattle.lsm_parts.specs.Memtables.{SeenMemtable, with_entry, with_entries, new_memtable}
+use Rattle.lsm_memtable.specs.Memtables.{SeenMemtable, with_entry, with_entries, new_memtable}
 use Rattle.lsm_parts.specs.declared.version.super_version.SuperVersion.{SuperVersion}
 use Rattle.lsm_parts.specs.History.{SeenHistory, versions_of, rotated}
 use Rattle.lsm_state.specs.Held.{put_all_first, HasFirst, ids_of, FallFrom}

@@ -5,7 +5,7 @@ use Rattle.lsm_below.specs.Entries.{Entry, entry_cmp}
 use Rattle.lsm_below.specs.Sorted.{Rises}
 use Rattle.lsm_model.specs.Views.{sources, found_at, Placed, SuperVersion}
 use Rattle.lsm_model.specs.Laws.{PartsAreWhole}
-use Rattle.lsm_parts.specs.Memtables.{SeenMemtable}
+use Rattle.lsm_memtable.specs.Memtables.{SeenMemtable}
 use Rattle.lsm_parts.specs.declared.version.super_version.SuperVersion.{SuperVersion as Named}
 use Rattle.lsm_parts.specs.History.{AreLaid}
 use Rattle.lsm_parts.specs.Shown.{ShowsOf, lies_within, begins_with}

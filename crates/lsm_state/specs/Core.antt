@@ -6,7 +6,7 @@ use Rattle.lsm_model.specs.Views.{SuperVersion as Shown, placed_from}
 use Rattle.lsm_model.specs.Steps.{State}
 use Rattle.lsm_parts.specs.declared.config.Config.{Config}
 use Rattle.lsm_parts.specs.declared.version.super_version.SuperVersion.{SuperVersion}
-use Rattle.lsm_parts.specs.Memtables.{SeenMemtable, new_memtable}
+use Rattle.lsm_memtable.specs.Memtables.{SeenMemtable, new_memtable}
 use Rattle.lsm_parts.specs.Versions.{empty_levels}
 use Rattle.lsm_parts.specs.History.{SeenHistory, first_version, rotated}
 use Rattle.lsm_state.specs.Held.{entries_of, put_first, put_all_first}

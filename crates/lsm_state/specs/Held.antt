@@ -1,7 +1,7 @@
 -- The memtables that are held, as a list: the active one first.
 use Rattle.std.specs.Prelude.{ℕ, ◌<◌, List, [], ◌∷◌, map, if◌then◌else◌, ◌==◌}
 use Rattle.lsm_below.specs.Entries.{Entry}
-use Rattle.lsm_parts.specs.Memtables.{SeenMemtable, with_entry, with_entries}
+use Rattle.lsm_memtable.specs.Memtables.{SeenMemtable, with_entry, with_entries}
 use Rattle.lsm_model.specs.Views.{Memtables}
 
 -- the entries of the memtable with this id: none where no such one is held

@@ -3,7 +3,7 @@ use Rattle.std.specs.Prelude.{◌≡◌, ℕ, true, Bool, List, ◌∷◌, ◌==
 use Rattle.std.specs.List.{AllByRecursion, list_any}
 use Rattle.lsm_below.specs.Entries.{entry_cmp}
 use Rattle.lsm_below.specs.Sorted.{Rises}
-use Rattle.lsm_parts.specs.Memtables.{SeenMemtable}
+use Rattle.lsm_memtable.specs.Memtables.{SeenMemtable}
 use Rattle.lsm_parts.specs.declared.version.super_version.SuperVersion.{SuperVersion}
 use Rattle.lsm_parts.specs.History.{SeenHistory, versions_of, AreLaid}
 use Rattle.lsm_state.specs.Held.{HasFirst, ids_of, FallFrom}

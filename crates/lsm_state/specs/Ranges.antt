@@ -14,7 +14,7 @@ use Rattle.lsm_model.specs.declared.question.Question.{Question}
 use Rattle.lsm_model.specs.declared.question.Question.TheVariants.{Between, Prefix}
 use Rattle.lsm_model.specs.declared.question.Answer.TheVariants.{Pairs}
 use Rattle.lsm_model.specs.Views.{SuperVersion, entries, sources, found_at, view_at, EachPair}
-use Rattle.lsm_parts.specs.Memtables.{SeenMemtable}
+use Rattle.lsm_memtable.specs.Memtables.{SeenMemtable}
 use Rattle.lsm_parts.specs.Shown.{ShowsOf, Shows, ShowsPrefix, lies_within, begins_with}
 use Rattle.lsm_parts.specs.Answers.{pairs_of, AreApart, StandOnce, IsOnTop, overlaid}
 use Rattle.lsm_parts.specs.Ends.{EndShown}

@@ -3,7 +3,7 @@ ghost use Rattle.std.specs.Prelude.{◌≡◌, ℕ, ◌+◌, ◌<◌, ◌∷◌,
 ghost use Rattle.std.specs.List.{AllByRecursion};
 ghost use Rattle.lsm_below.specs.Entries.{entry_cmp, top};
 ghost use Rattle.lsm_below.specs.Sorted.{Rises};
-ghost use Rattle.lsm_parts.specs.Memtables.{entry_size, new_memtable};
+ghost use Rattle.lsm_memtable.specs.Memtables.{entry_size, new_memtable};
 ghost use Rattle.lsm_state.specs.Held.{entries_of, put_first, put_all_first, first_size, first_entries, HasFirst, FallFrom, ids_of};
 
 use lsm_below::{InternalValue, MemtableId, SeqNo};
@@ -26,7 +26,7 @@ impl Model for Memtables {
     ghost use Rattle.std.specs.List.{AllByRecursion};
     ghost use Rattle.lsm_below.specs.Entries.{entry_cmp};
     ghost use Rattle.lsm_below.specs.Sorted.{Rises};
-    ghost use Rattle.lsm_parts.specs.Memtables.{SeenMemtable};
+    ghost use Rattle.lsm_memtable.specs.Memtables.{SeenMemtable};
     ghost use Rattle.lsm_state.specs.Held.{FallFrom, ids_of};
 
     ghost Value = { List SeenMemtable };

@@ -21,10 +21,11 @@ pub use lsm_below::{
     MvccStream, Ranged, Run, SeqNo, Source, TableId, TreeId, UserKey, UserValue, ValueType,
     compact, entries_within, first_visible, has_same_key, is_run, optimize_runs, share,
 };
+pub use lsm_memtable::{Error, Iter, Memtable, Span, Steps};
 pub use lsm_model::{Answer, JournalEntry, KeyRanges, KvPairs, Op, Ops, Question};
 pub use lsm_parts::{
-    Config, DEFAULT_LEVEL_COUNT, End, Error, Guard, IterGuard, IterState, LIMIT, Memtable,
-    RangeItem, SealedMemtables, SequenceNumberCounter, SuperVersion, SuperVersions, TreeIter,
+    Config, DEFAULT_LEVEL_COUNT, End, Guard, IterGuard, IterState, LIMIT, RangeItem,
+    SealedMemtables, SequenceNumberCounter, SuperVersion, SuperVersions, TreeIter,
     Version, VersionId, first_shown, last_shown, prefix_to_range, seqno_filter, take_ends,
 };
 pub use lsm_recorded::{Pass, Recorded};

@@ -1,5 +1,5 @@
 use Rattle.std.proofs.Common.{take, option_copied}
-use Rattle.lsm_parts.specs.Memtables.{within}
+use Rattle.lsm_memtable.specs.Memtables.{within}
 use Rattle.lsm_parts.specs.Cuts.{IsGreatestOf, held_in}
 use Rattle.lsm_parts.proofs.shown_ends.greatest_key.Given as goal
 

@@ -1,6 +1,6 @@
 use Rattle.std.proofs.Common.{refl, subst}
 use Rattle.std.specs.declared.ops.Bound.TheVariants.{Unbounded, Excluded}
-use Rattle.lsm_parts.specs.Memtables.{within}
+use Rattle.lsm_memtable.specs.Memtables.{within}
 use Rattle.lsm_parts.specs.Cuts.{IsGreatestKey, held_in}
 use Rattle.lsm_parts.proofs.Last.{all_hidden, key_there, past_key, none_below, past_next, fewer_left}
 use Rattle.lsm_parts.proofs.shown_ends.last_value.Goals as goal

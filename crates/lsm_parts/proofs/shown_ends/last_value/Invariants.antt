@@ -4,7 +4,7 @@ use Rattle.std.specs.declared.cmp.Ordering.TheVariants.{Less}
 use Rattle.std.specs.declared.ops.Bound.TheVariants.{Included, Unbounded}
 use Rattle.lsm_below.specs.Keys.{Bytes, bytes_cmp}
 use Rattle.lsm_below.specs.Entries.{Entry}
-use Rattle.lsm_parts.specs.Memtables.{within}
+use Rattle.lsm_memtable.specs.Memtables.{within}
 use Rattle.lsm_parts.specs.Shown.{IsHidden}
 use Rattle.lsm_parts.specs.Cuts.{held_in, counted_in}
 use Rattle.lsm_parts.proofs.shown_ends.last_value.Given as goal

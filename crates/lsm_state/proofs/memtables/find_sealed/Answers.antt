@@ -1,6 +1,6 @@
 use Rattle.std.proofs.Common.{refl, false, ◌≡◌, rules, tests, nat_lt, subst, sym, ◌∙◌, arith, length, ◌<◌}
 use Rattle.std.proofs.lemmas.List.Sorted.{IsPartitionPoint-from_clause}
-use Rattle.lsm_parts.specs.Memtables.{SeenMemtable}
+use Rattle.lsm_memtable.specs.Memtables.{SeenMemtable}
 use Rattle.lsm_state.proofs.Finding.{above_first, none_above, found, missed, past_end}
 use Rattle.lsm_state.proofs.memtables.find_sealed.Goals as goal
 

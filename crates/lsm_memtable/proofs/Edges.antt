@@ -1,0 +1,87 @@
+-- Where bounds part the entries of blocks.
+use Rattle.std.proofs.Common.{◌≡◌, ℕ, suc, ◌+◌, ◌-◌, ◌<◌, ◌^◌, Bool, true, false, not, nat_le, List, [], length, get_or, take, drop, refl, ◌∙◌, ap, arith}
+use Rattle.std.specs.declared.cmp.Ordering.{Ordering}
+use Rattle.std.specs.declared.cmp.Ordering.TheVariants.{Less, Equal, Greater}
+use Rattle.std.specs.declared.ops.Bound.{Bound}
+use Rattle.std.specs.declared.ops.Bound.TheVariants.{Included, Excluded}
+use Rattle.std.specs.Ordering.{ordering_reverse, is_lt, is_le}
+use Rattle.std.proofs.lemmas.Cmp.{nat_list_cmp_total}
+use Rattle.std.proofs.lemmas.Bool.Decides.{nat_tests}
+use Rattle.lsm_below.specs.Keys.{Bytes}
+use Rattle.lsm_below.specs.Sorted.{by_ordering}
+use Rattle.lsm_below.specs.Entries.{Entry}
+use Rattle.lsm_below.specs.Lookups.{stands_before, is_from, is_to, within}
+use Rattle.lsm_below.specs.Laws.{EntriesAreParted}
+use Rattle.lsm_memtable.specs.Blocks.{joined, spot, IsPlace, IsEdge}
+use Rattle.lsm_memtable.proofs.Joined.{block_within, drop_past}
+
+lt_as : (o : Ordering) → not (is_le (ordering_reverse o)) ≡ is_lt o
+lt_as Less = refl
+lt_as Equal = refl
+lt_as Greater = refl
+
+le_as : (o : Ordering) → not (is_lt (ordering_reverse o)) ≡ is_le o
+le_as Less = refl
+le_as Equal = refl
+le_as Greater = refl
+
+-- all entries of the key are below a number above all
+before_all : (o : Ordering) (n : ℕ) → n < 2 ^ 64 → is_lt o ≡ by_ordering o true (nat_le (2 ^ 64) n) false
+before_all Less n lt = refl
+before_all Equal n lt = grind (arith, nat_tests)
+before_all Greater n lt = refl
+
+-- none is below 0
+before_none : (o : Ordering) (n : ℕ) → is_le o ≡ by_ordering o true (nat_le 0 n) false
+before_none Less n = refl
+before_none Equal n = grind (arith, nat_tests)
+before_none Greater n = refl
+
+pub from_included : (low : Bytes) (e : Entry) → e.key.seqno < 2 ^ 64 → not (is_from (Included low) e.key.user_key) ≡ stands_before low (2 ^ 64) e
+from_included low e lt = ap (λ o. not (is_le o)) (nat_list_cmp_total.antisymm low e.key.user_key) ∙ (lt_as _ ∙ before_all _ e.key.seqno lt)
+
+pub from_excluded : (low : Bytes) (e : Entry) → not (is_from (Excluded low) e.key.user_key) ≡ stands_before low 0 e
+from_excluded low e = ap (λ o. not (is_lt o)) (nat_list_cmp_total.antisymm low e.key.user_key) ∙ (le_as _ ∙ before_none _ e.key.seqno)
+
+pub to_included : (high : Bytes) (e : Entry) → is_to (Included high) e.key.user_key ≡ stands_before high 0 e
+to_included high e = before_none _ e.key.seqno
+
+pub to_excluded : (high : Bytes) (e : Entry) → e.key.seqno < 2 ^ 64 → is_to (Excluded high) e.key.user_key ≡ stands_before high (2 ^ 64) e
+to_excluded high e lt = before_all _ e.key.seqno lt
+
+module _ (bs : List (List Entry)) where
+  -- a place that was found is an edge of a test that says the same
+  pub edge_of : (key : Bytes) (s b i : ℕ) (p : Entry → Bool) → ((j : ℕ) (d : Entry) → j < length (joined bs) → p (get_or (joined bs) j d) ≡ stands_before key s (get_or (joined bs) j d)) → IsPlace bs key s b i → IsEdge p bs b i
+  edge_of key s b i p same found =
+      let total = block_within bs b [] found.block_in in
+      let at_in = found.at_in in
+      record {
+        place = (found.block_in, found.at_in);
+        before = λ j d lt. same j d (omega arith) ∙ found.before j d lt;
+        behind = λ j d le lt. same j d lt ∙ found.behind j d le lt;
+      }
+
+  pub edge_first : (p : Entry → Bool) → ((e : Entry) → p e ≡ false) → 0 < length bs → IsEdge p bs 0 0
+  edge_first p fails some = record {
+    place = (some, omega arith);
+    before = λ j d lt. absurd (omega arith);
+    behind = λ j d le lt. fails _;
+  }
+
+  pub edge_last : (p : Entry → Bool) (b i : ℕ) → ((e : Entry) → p e ≡ true) → b + 1 ≡ length bs → i ≡ length (get_or bs b []) → IsEdge p bs b i
+  edge_last p b i passes last end =
+      let total = block_within bs b [] (omega arith) in
+      let past = drop_past bs (suc b) (omega arith) in
+      record {
+        place = (omega arith, omega arith);
+        before = λ j d lt. passes _;
+        behind = λ j d le lt. absurd (omega arith);
+      }
+
+  -- what lies within both bounds stands between the edges
+  pub within_is : EntriesAreParted → (low high : Bound Bytes) (b i c j : ℕ) → IsEdge (λ e. not (is_from low e.key.user_key)) bs b i → IsEdge (λ e. is_to high e.key.user_key) bs c j
+      → within low high (joined bs) ≡ take (spot bs c j - spot bs b i) (drop (spot bs b i) (joined bs))
+  within_is parts low high b i c j from to =
+      parts.within (joined bs) low high (spot bs b i) (spot bs c j)
+      (λ k d _ lt. from.before k d lt, λ k d le lt. from.behind k d le lt)
+      (λ k d _ lt. to.before k d lt, λ k d le lt. to.behind k d le lt)

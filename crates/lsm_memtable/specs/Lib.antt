@@ -1,0 +1,7 @@
+pub mod Errors
+pub mod Memtables
+pub mod Heads
+pub mod Blocks
+pub mod Contents
+pub mod Iters
+pub mod Spans

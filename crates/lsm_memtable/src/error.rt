@@ -1,0 +1,151 @@
+// What a call refuses, and why.
+ghost use Rattle.std.specs.Prelude.{◌≡◌, ◌≤◌};
+ghost use Rattle.lsm_memtable.specs.Errors.{number_of, name_of};
+ghost use Rattle.lsm_memtable.specs.declared.error.Error.TheVariants.{OutOfMemory};
+
+use std::alloc::{AllocError, AllocFailed};
+use thiserror::Error;
+
+/// What a call refuses. Each error has a number, by which the program prints it, and a name.
+#[derive(Debug, Drop, Error)]
+pub enum Error {
+    /// 1: a growth was refused in this call.
+    #[error("a growth was refused")]
+    OutOfMemory,
+    /// 2: a store call failed in this call; nothing was installed.
+    #[error("a store call failed")]
+    Store,
+    /// 3: replacing `current` failed in this call: whether the commit stands is unknown.
+    #[error("replacing `current` failed")]
+    CommitUnknown,
+    /// 4: files are damaged or foreign; or a commit was asked for after one of unknown outcome.
+    #[error("the files can't be used")]
+    Unrecoverable,
+    /// 5: the format byte isn't 3; 1 where a file `version` is there.
+    #[error("format byte {0}")]
+    InvalidVersion(u8),
+    /// 6: a type byte isn't 0.
+    #[error("{0}: type byte {1}")]
+    InvalidTag(&'static str, u8),
+    /// 7: `current` isn't of its form, or a tree type isn't known.
+    #[error("{0} isn't of its form")]
+    InvalidHeader(&'static str),
+    /// 8: the snapshot is above 0, and no super version in the history is numbered below it.
+    #[error("the snapshot is too old")]
+    SnapshotTooOld,
+    /// 9: a counter of numbers, ids or jobs is at 2^63 or above.
+    #[error("a counter has no number left")]
+    OutOfNumbers,
+    /// 10: a key has more than 65,535 bytes.
+    #[error("the key is too long")]
+    KeyTooLong,
+    /// 11: a value has more than 2^32 - 1 bytes.
+    #[error("the value is too long")]
+    ValueTooLong,
+    /// 12: a write is numbered 2^63 or more.
+    #[error("the number is too great")]
+    NumberTooGreat,
+    /// 13: a flush is open.
+    #[error("a flush is open")]
+    FlushOpen,
+    /// 14: a level would have 256 runs, or a run 2^32 tables.
+    #[error("there are too many runs")]
+    TooManyRuns,
+    /// 15: level 0 has several runs where one is asked for.
+    #[error("level 0 has several runs")]
+    NotDisjoint,
+    /// 16: a table of level 0 is in use.
+    #[error("a table of level 0 is in use")]
+    Busy,
+    /// 17: the commit stands, the clean-up after it failed.
+    #[error("the commit stands, the clean-up failed")]
+    AfterCommit,
+    /// 18: the call would break the order in which calls may come.
+    #[error("the call is out of order")]
+    OutOfOrder,
+    /// 19: a batch names a key twice.
+    #[error("a key is named twice")]
+    DuplicateKey,
+    /// 20: a file differs from its stored sum.
+    #[error("a checksum differs")]
+    ChecksumMismatch,
+    /// 21: a caller's strategy refused.
+    #[error("the strategy refused")]
+    Strategy,
+}
+
+impl Error {
+    /// The error's number, 1 to 21.
+    pub fn number(&self) -> u8
+        ensures { result ≡ number_of self.now }
+    {
+        match self {
+            Error::OutOfMemory => 1,
+            Error::Store => 2,
+            Error::CommitUnknown => 3,
+            Error::Unrecoverable => 4,
+            Error::InvalidVersion(_) => 5,
+            Error::InvalidTag(_, _) => 6,
+            Error::InvalidHeader(_) => 7,
+            Error::SnapshotTooOld => 8,
+            Error::OutOfNumbers => 9,
+            Error::KeyTooLong => 10,
+            Error::ValueTooLong => 11,
+            Error::NumberTooGreat => 12,
+            Error::FlushOpen => 13,
+            Error::TooManyRuns => 14,
+            Error::NotDisjoint => 15,
+            Error::Busy => 16,
+            Error::AfterCommit => 17,
+            Error::OutOfOrder => 18,
+            Error::DuplicateKey => 19,
+            Error::ChecksumMismatch => 20,
+            Error::Strategy => 21,
+        }
+    }
+
+    /// The error's bare name, whatever it carries.
+    pub fn name(&self) -> &'static str
+        ensures { result.now ≡ name_of self.now }
+    {
+        match self {
+            Error::OutOfMemory => "OutOfMemory",
+            Error::Store => "Store",
+            Error::CommitUnknown => "CommitUnknown",
+            Error::Unrecoverable => "Unrecoverable",
+            Error::InvalidVersion(_) => "InvalidVersion",
+            Error::InvalidTag(_, _) => "InvalidTag",
+            Error::InvalidHeader(_) => "InvalidHeader",
+            Error::SnapshotTooOld => "SnapshotTooOld",
+            Error::OutOfNumbers => "OutOfNumbers",
+            Error::KeyTooLong => "KeyTooLong",
+            Error::ValueTooLong => "ValueTooLong",
+            Error::NumberTooGreat => "NumberTooGreat",
+            Error::FlushOpen => "FlushOpen",
+            Error::TooManyRuns => "TooManyRuns",
+            Error::NotDisjoint => "NotDisjoint",
+            Error::Busy => "Busy",
+            Error::AfterCommit => "AfterCommit",
+            Error::OutOfOrder => "OutOfOrder",
+            Error::DuplicateKey => "DuplicateKey",
+            Error::ChecksumMismatch => "ChecksumMismatch",
+            Error::Strategy => "Strategy",
+        }
+    }
+}
+
+impl From<AllocError> for Error {
+    ghost from_gives = { λ _ e. e ≡ OutOfMemory };
+
+    fn from(_: AllocError) -> Self {
+        Error::OutOfMemory
+    }
+}
+
+impl<T: Drop> From<AllocFailed<T>> for Error {
+    ghost from_gives = { λ _ e. e ≡ OutOfMemory };
+
+    fn from(_: AllocFailed<T>) -> Self {
+        Error::OutOfMemory
+    }
+}

@@ -1,0 +1,28 @@
+//! The memtable, and what calls of the tree refuse.
+//!
+//! | Module | Holds |
+//! |-|-|
+//! | `error` | what a call refuses, and why |
+//! | `steps` | counts of comparisons and moves |
+//! | `block` | up to 64 entries in order, with the heads of their keys |
+//! | `blocks` | blocks that together are one list: search, insert, split |
+//! | `bounds` | where bounds cut blocks |
+//! | `iter` | the entries between two places, from both ends |
+//! | `span` | a part of a memtable between two places, which may be cut again |
+//! | `memtable` | a sorted table of entries in memory |
+#![tactic(auto)]
+
+mod block;
+mod blocks;
+mod bounds;
+mod error;
+mod iter;
+mod memtable;
+mod span;
+mod steps;
+
+pub use error::Error;
+pub use iter::Iter;
+pub use memtable::Memtable;
+pub use span::Span;
+pub use steps::Steps;

@@ -1,0 +1,296 @@
+// A sorted table of entries in memory.
+ghost use Rattle.std.specs.Prelude.{◌≡◌, ℕ, ◌+◌, ◌-◌, ◌<◌, ◌≤◌, ◌^◌, ◌↔◌, [], List, length, IsTrue, IfOk, IfErr, OnOk, OnErr, IfSome, IfNone, option_copied, vec_len, true, false};
+ghost use Rattle.lsm_below.specs.declared.value.InternalValue.{InternalValue};
+ghost use Rattle.lsm_below.specs.Entries.{Entry, entry_cmp, top};
+ghost use Rattle.lsm_below.specs.Sorted.{Rises};
+ghost use Rattle.lsm_memtable.specs.Memtables.{capped, entry_size, new_memtable, with_entry, with_entries, highest_of, within, IsTop, HasNone};
+ghost use Rattle.lsm_memtable.specs.Blocks.{AreBlocksOf, CountsDigits};
+ghost use Rattle.lsm_memtable.specs.Contents.{content_of, added, all_added, IsContent, HasRoom};
+
+use crate::blocks::{Blocks, first_visible, make_room, put_entry, trim};
+use crate::bounds::blocks_within;
+use crate::iter::whole;
+use crate::span::span_of;
+use crate::{Error, Iter, Span, Steps};
+use lsm_below::{
+    ENTRY_OVERHEAD, InternalValue, MemtableId, SeqNo, UserKey, entries_are_ordered,
+    entries_are_parted, first_visible_is_top,
+};
+use std::alloc::{AllocError, Global};
+use std::marker::Model;
+use std::ops::Bound;
+
+/// A sorted table of entries in memory: by rising key, and under one key by falling sequence number, of which
+/// each stands once. It takes any sequence number, and any key and value.
+///
+/// The entries stand in blocks of at most 64. `get` and `insert` are logarithmic, and `insert` moves at most 64
+/// of the entries that are there.
+///
+/// # Examples
+///
+/// ```text
+/// let mut memtable = Memtable::new(alloc, 0);
+/// let (bytes, size) = memtable.insert(entry)?;
+/// let newest = memtable.get(b"key", snapshot);
+/// ```
+#[derive(Drop)]
+pub struct Memtable {
+    id: MemtableId,
+    alloc: Global,
+    content: Content,
+    flagged: bool,
+}
+
+/// The entries, how many there are, the sizes of all accepted inserts, and the greatest sequence number.
+#[derive(Drop)]
+struct Content {
+    blocks: Blocks,
+    count: usize,
+    size: u64,
+    highest: Option<SeqNo>,
+}
+
+impl Model for Memtable {
+    ghost use Rattle.std.specs.Prelude.{◌≡◌};
+    ghost use Rattle.lsm_memtable.specs.Memtables.{SeenMemtable};
+    ghost use Rattle.lsm_memtable.specs.Contents.{entries_of, IsContent};
+
+    ghost Value = { SeenMemtable };
+
+    ghost view = { λ t. record { id = t.id; entries = entries_of t.content.blocks; size = t.content.size; flagged = t.flagged } };
+
+    ghost invariant = { λ t. IsContent t.content };
+}
+
+/// The bytes that an entry counts: those of its key and value, and 48.
+fn size_of_entry(entry: &InternalValue) -> u64
+    ensures { result ≡ entry_size entry.now }
+{
+    (entry.key.user_key.len() as u64)
+        .saturating_add(entry.value.len() as u64)
+        .saturating_add(ENTRY_OVERHEAD)
+}
+
+/// Puts an entry in its place. There is room for one more block.
+fn add_entry(content: &mut Content, entry: InternalValue, steps: &mut Steps)
+    requires sound { IsContent content.old }
+    requires room { HasRoom 1 content.old.blocks }
+    requires count { content.old.count < 2 ^ 64 - 1 }
+    ensures added { content_of content.new ≡ added entry (content_of content.old) }
+    ensures sound { IsContent content.new }
+    ensures room { (n : ℕ) → HasRoom (n + 1) content.old.blocks → HasRoom n content.new.blocks }
+    ensures count { content.new.count ≤ content.old.count + 1 }
+    ensures compared { CountsDigits (length content.old.blocks.list.items) 8 steps.old.compared steps.new.compared }
+    ensures moved { steps.new.moved ≤ steps.old.moved + 64 }
+{
+    content.size = content.size.saturating_add(size_of_entry(&entry));
+    let highest = content.highest.unwrap_or(0).max(entry.key.seqno);
+    content.highest = Some(highest);
+    if put_entry(&mut content.blocks, entry, steps) {
+        content.count += 1;
+    }
+}
+
+/// Puts each entry in its place, in turn. There is room for one more block for each.
+fn add_entries(content: &mut Content, batch: Vec<InternalValue>, steps: &mut Steps)
+    requires sound { IsContent content.old }
+    requires room { HasRoom (vec_len batch) content.old.blocks }
+    requires count { content.old.count + vec_len batch ≤ 2 ^ 64 - 1 }
+    ensures added { content_of content.new ≡ all_added batch.items (content_of content.old) }
+    ensures sound { IsContent content.new }
+{
+    for entry in batch {
+        add_entry(content, entry, steps);
+    }
+}
+
+/// Makes room for so many more entries. Refused for want of memory, also where there would be 2^64.
+fn prepare(content: &mut Content, alloc: Global, more: usize) -> Result<(), AllocError>
+    requires { IsContent content.old }
+    ensures same { content_of content.new ≡ content_of content.old }
+    ensures blocks { content.new.blocks.list.items ≡ content.old.blocks.list.items }
+    ensures sound { IsContent content.new }
+    ensures room { OnOk result (HasRoom more content.new.blocks) }
+    ensures count { OnOk result (content.new.count + more ≤ 2 ^ 64 - 1) }
+{
+    if usize::MAX - content.count < more {
+        return Err(AllocError);
+    }
+    make_room(&mut content.blocks, alloc, more)
+}
+
+impl Memtable {
+    /// An empty memtable.
+    pub fn new(alloc: Global, id: MemtableId) -> Memtable
+        ensures { result ≡ new_memtable id }
+    {
+        Memtable {
+            id,
+            alloc,
+            content: Content {
+                blocks: Blocks {
+                    list: Vec::new(alloc),
+                    spare: Vec::new(alloc),
+                },
+                count: 0,
+                size: 0,
+                highest: None,
+            },
+            flagged: false,
+        }
+    }
+
+    /// What every memtable meets: its entries stand in order.
+    pub fn facts(&self)
+        ensures { Rises entry_cmp self.now.entries }
+    {
+        let _ = &self.id;
+    }
+
+    /// The memtable's id.
+    pub fn id(&self) -> MemtableId
+        ensures { result ≡ self.now.id }
+    {
+        self.id
+    }
+
+    /// The entry of a key with the greatest sequence number below the snapshot. None only where there is none.
+    pub fn get(&self, key: &[u8], snapshot: SeqNo) -> Option<&InternalValue>
+        ensures is { option_copied result ≡ top key.now snapshot self.now.entries }
+        ensures greatest { IfSome result (λ e. IsTop self.now.entries key.now snapshot e.now) }
+        ensures none { IfNone result (HasNone self.now.entries key.now snapshot) }
+    {
+        self.get_counted(key, snapshot, &mut Steps::new())
+    }
+
+    /// `get`, with a count of its steps: it compares keys at most as many times as the number of blocks has
+    /// binary digits, and 8 times more.
+    pub fn get_counted(
+        &self,
+        key: &[u8],
+        snapshot: SeqNo,
+        steps: &mut Steps,
+    ) -> Option<&InternalValue>
+        ensures is { option_copied result ≡ top key.now snapshot self.now.entries }
+        ensures greatest { IfSome result (λ e. IsTop self.now.entries key.now snapshot e.now) }
+        ensures none { IfNone result (HasNone self.now.entries key.now snapshot) }
+        ensures compared { (blocks : List (List Entry)) × AreBlocksOf self.now.entries blocks × CountsDigits (length blocks) 8 steps.old.compared steps.new.compared }
+        ensures moved { steps.new.moved ≡ steps.old.moved }
+    {
+        entries_are_parted();
+        first_visible_is_top();
+        first_visible(&self.content.blocks.list, key, snapshot, steps)
+    }
+
+    /// The entries in order.
+    pub fn iter(&self) -> Iter<'_>
+        ensures { result ≡ self.now.entries }
+    {
+        whole(&self.content.blocks.list)
+    }
+
+    /// The entries in order, as a part that may be cut.
+    pub fn span(&self) -> Span<'_>
+        ensures { result ≡ self.now.entries }
+    {
+        span_of(&self.content.blocks.list)
+    }
+
+    /// The entries in the bounds, in order. There is none where the lower bound is above the upper one.
+    pub fn range(&self, bounds: &(Bound<UserKey>, Bound<UserKey>)) -> Iter<'_>
+        ensures { result ≡ within bounds.now.0 bounds.now.1 self.now.entries }
+    {
+        blocks_within(&self.content.blocks.list, &bounds.0, &bounds.1)
+    }
+
+    /// The bytes of all accepted inserts, replaced ones counted again, up to 2^64 - 1.
+    /// An entry counts its key's and its value's bytes, and 48.
+    pub fn size(&self) -> u64
+        ensures { result ≡ self.now.size }
+    {
+        self.content.size
+    }
+
+    /// How many entries there are.
+    pub fn len(&self) -> usize
+        ensures { result ≡ length self.now.entries }
+    {
+        self.content.count
+    }
+
+    /// Whether there is none.
+    pub fn is_empty(&self) -> bool
+        ensures { IsTrue result ↔ (self.now.entries ≡ []) }
+    {
+        self.content.count == 0
+    }
+
+    /// The greatest sequence number, None where there is no entry.
+    pub fn get_highest_seqno(&self) -> Option<SeqNo>
+        ensures { result ≡ highest_of self.now.entries }
+    {
+        self.content.highest
+    }
+
+    /// Whether `flag_rotated` was called.
+    pub fn is_flagged_for_rotation(&self) -> bool
+        ensures { result ≡ self.now.flagged }
+    {
+        self.flagged
+    }
+
+    /// Notes that the memtable is to be rotated.
+    pub fn flag_rotated(&mut self)
+        ensures { self.new ≡ record self.old { flagged = true } }
+    {
+        self.flagged = true;
+    }
+
+    /// Puts an entry in its place, over one of the same key and sequence number, its type too.
+    /// Returns the bytes that it counts, and those of all inserts so far.
+    /// Refused only for want of memory, and then nothing changes.
+    pub fn insert(&mut self, item: InternalValue) -> Result<(u64, u64), Error>
+        ensures sizes { IfOk result (λ r. (r.0 ≡ entry_size item) × (r.1 ≡ self.new.size)) }
+        ensures ok { OnOk result (self.new ≡ with_entry item self.old) }
+        ensures id { self.new.id ≡ self.old.id }
+        ensures err { OnErr result (self.new ≡ self.old) }
+        ensures memory { IfErr result (λ e. e ≡ Error.OutOfMemory) }
+    {
+        self.insert_counted(item, &mut Steps::new())
+    }
+
+    /// `insert`, with a count of its steps: it moves at most 64 entries that were there. A refused one takes none.
+    pub fn insert_counted(
+        &mut self,
+        item: InternalValue,
+        steps: &mut Steps,
+    ) -> Result<(u64, u64), Error>
+        ensures sizes { IfOk result (λ r. (r.0 ≡ entry_size item) × (r.1 ≡ self.new.size)) }
+        ensures ok { OnOk result (self.new ≡ with_entry item self.old) }
+        ensures id { self.new.id ≡ self.old.id }
+        ensures err { OnErr result (self.new ≡ self.old) }
+        ensures memory { IfErr result (λ e. e ≡ Error.OutOfMemory) }
+        ensures compared { (blocks : List (List Entry)) × AreBlocksOf self.old.entries blocks × CountsDigits (length blocks) 8 steps.old.compared steps.new.compared }
+        ensures moved { steps.new.moved ≤ steps.old.moved + 64 }
+        ensures untaken { OnErr result (steps.new ≡ steps.old) }
+    {
+        prepare(&mut self.content, self.alloc, 1)?;
+        let added = size_of_entry(&item);
+        add_entry(&mut self.content, item, steps);
+        Ok((added, self.content.size))
+    }
+
+    /// Puts each entry of a batch in its place, in turn, over one of the same key and sequence number.
+    /// Refused only for want of memory, and then nothing changes.
+    pub fn insert_all(&mut self, batch: Vec<InternalValue>) -> Result<(), Error>
+        ensures ok { OnOk result (self.new ≡ with_entries batch.items self.old) }
+        ensures id { self.new.id ≡ self.old.id }
+        ensures err { OnErr result (self.new ≡ self.old) }
+        ensures memory { IfErr result (λ e. e ≡ Error.OutOfMemory) }
+    {
+        prepare(&mut self.content, self.alloc, batch.len())?;
+        add_entries(&mut self.content, batch, &mut Steps::new());
+        trim(&mut self.content.blocks);
+        Ok(())
+    }
+}

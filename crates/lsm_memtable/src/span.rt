@@ -1,0 +1,171 @@
+// A part of a memtable between two places, which may be cut again.
+ghost use Rattle.std.specs.Prelude.{◌≡◌, option_copied, ◌≤◌, max, min, true, false};
+ghost use Rattle.lsm_below.specs.Lookups.{within, is_visible};
+ghost use Rattle.lsm_below.specs.Entries.{entry_cmp};
+ghost use Rattle.lsm_below.specs.Sorted.{Rises, first};
+ghost use Rattle.lsm_memtable.specs.Blocks.{joined, spot, AreBlocks, HasPlace};
+
+use crate::block::Block;
+use crate::blocks::{Place, find};
+use crate::bounds::{lower_place, upper_place};
+use crate::iter::{between, whole};
+use crate::{Iter, Steps};
+use lsm_below::{InternalValue, SeqNo, UserKey, entries_are_parted};
+use std::marker::Model;
+use std::ops::Bound;
+
+/// The entries of a memtable between two places. It borrows the memtable, and may be cut again.
+///
+/// # Examples
+///
+/// ```text
+/// let span = memtable.span().within(&bounds);
+/// let greatest = span.iter().next_back();
+/// ```
+#[derive(Drop)]
+pub struct Span<'a> {
+    blocks: &'a [Block],
+    from: Place,
+    to: Place,
+}
+
+impl<'a> Model for Span<'a> {
+    ghost use Rattle.std.specs.Prelude.{List};
+    ghost use Rattle.lsm_below.specs.Entries.{Entry};
+    ghost use Rattle.lsm_memtable.specs.Blocks.{AreBlocks};
+    ghost use Rattle.lsm_memtable.specs.Spans.{between, ArePlaces};
+
+    ghost Value = { List Entry };
+
+    ghost view = { λ s. between s.blocks.now s.from.block s.from.at s.to.block s.to.at };
+
+    ghost invariant = { λ s. AreBlocks s.blocks.now × ArePlaces s.blocks.now s.from.block s.from.at s.to.block s.to.at };
+}
+
+/// Whether a place stands before another one.
+fn is_before(blocks: &[Block], left: Place, right: Place) -> bool
+    requires left { HasPlace blocks.now left.block left.at }
+    requires right { HasPlace blocks.now right.block right.at }
+    ensures before { result ≡ true → spot blocks.now left.block left.at ≤ spot blocks.now right.block right.at }
+    ensures behind { result ≡ false → spot blocks.now right.block right.at ≤ spot blocks.now left.block left.at }
+{
+    let _ = blocks;
+    if left.block < right.block {
+        return true;
+    }
+    if right.block < left.block {
+        return false;
+    }
+    left.at < right.at
+}
+
+/// The later one of two places.
+fn later(blocks: &[Block], left: Place, right: Place) -> Place
+    requires left { HasPlace blocks.now left.block left.at }
+    requires right { HasPlace blocks.now right.block right.at }
+    ensures place { HasPlace blocks.now result.block result.at }
+    ensures spot { spot blocks.now result.block result.at ≡ max (spot blocks.now left.block left.at) (spot blocks.now right.block right.at) }
+{
+    if is_before(blocks, left, right) {
+        right
+    } else {
+        left
+    }
+}
+
+/// The earlier one of two places.
+fn earlier(blocks: &[Block], left: Place, right: Place) -> Place
+    requires left { HasPlace blocks.now left.block left.at }
+    requires right { HasPlace blocks.now right.block right.at }
+    ensures place { HasPlace blocks.now result.block result.at }
+    ensures spot { spot blocks.now result.block result.at ≡ min (spot blocks.now left.block left.at) (spot blocks.now right.block right.at) }
+{
+    if is_before(blocks, left, right) {
+        left
+    } else {
+        right
+    }
+}
+
+/// All entries of blocks.
+pub(crate) fn span_of(blocks: &[Block]) -> Span<'_>
+    requires { AreBlocks blocks.now }
+    ensures { result ≡ joined blocks.now }
+{
+    let from = Place { block: 0, at: 0 };
+    match blocks.split_last() {
+        None => Span {
+            blocks,
+            from,
+            to: from,
+        },
+        Some((last, before)) => Span {
+            blocks,
+            from,
+            to: Place {
+                block: before.len(),
+                at: last.len(),
+            },
+        },
+    }
+}
+
+impl<'a> Span<'a> {
+    /// What every such part meets: its entries stand in order.
+    pub fn facts(&self)
+        ensures { Rises entry_cmp self.now }
+    {
+        let _ = &self.from;
+    }
+
+    /// The entries in order, from both ends.
+    pub fn iter(&self) -> Iter<'a>
+        ensures { result ≡ self.now }
+    {
+        if self.blocks.is_empty() {
+            return whole(self.blocks);
+        }
+        between(self.blocks, self.from, self.to)
+    }
+
+    /// The entries in the bounds. The cost is logarithmic.
+    pub fn within(&self, bounds: &(Bound<UserKey>, Bound<UserKey>)) -> Span<'a>
+        ensures { result ≡ within bounds.now.0 bounds.now.1 self.now }
+    {
+        entries_are_parted();
+        if self.blocks.is_empty() {
+            return Span {
+                blocks: self.blocks,
+                from: self.from,
+                to: self.to,
+            };
+        }
+        let from = later(self.blocks, self.from, lower_place(self.blocks, &bounds.0));
+        let to = earlier(self.blocks, self.to, upper_place(self.blocks, &bounds.1));
+        Span {
+            blocks: self.blocks,
+            from,
+            to,
+        }
+    }
+
+    /// The first entry of a key below the snapshot. The cost is logarithmic.
+    pub fn first_visible(&self, key: &[u8], snapshot: SeqNo) -> Option<&'a InternalValue>
+        ensures { option_copied result ≡ first (is_visible key.now snapshot) self.now }
+    {
+        entries_are_parted();
+        if self.blocks.is_empty() {
+            return None;
+        }
+        let place = find(self.blocks, key, snapshot as u128, &mut Steps::new());
+        let from = later(self.blocks, self.from, place);
+        let Some(entry) = between(self.blocks, from, self.to).next() else {
+            return None;
+        };
+        if entry.key.user_key.as_slice() == key {
+            Some(entry)
+        } else {
+            None
+        }
+    }
+}
