@@ -6,7 +6,7 @@ use Rattle.std.proofs.lemmas.Grind.{flat_map-append}
 use Rattle.std.proofs.lemmas.Bool.{eqb-false}
 use Rattle.lsm_below.specs.Keys.{Bytes, is_same}
 use Rattle.lsm_below.specs.Ranges.{Range}
-use Rattle.lsm_below.specs.Entries.{Entry, above, stack, top, IsFalling, entry_cmp}
+use Rattle.lsm_below.specs.Entries.{Entry, above, stack, top, IsFalling, IsOrdered, entry_cmp}
 use Rattle.lsm_below.specs.Sorted.{put}
 use Rattle.lsm_model.specs.Journal.{Event, answer, Agrees, ReadAgrees, is_outside, value_after, Map, replay, replay_at, is_kept, InOrder, next_number, next_number_after, MayWrite, cut}
 use Rattle.lsm_model.specs.Views.{view, found_at, front, view_at, shown, seen, Memtables, Placed, SuperVersion, sources, entries, lookup, maintained, ranges_of, held, pushed, written, answered}
@@ -228,11 +228,15 @@ drop_number_of opened ranges old new c o =
     let q = in_order_last opened (old.journal ++ Dropped ranges n ∷ []) (Install n) p in
     rw (fold_push next_number_after (above opened) old.journal (Dropped ranges n)) at q
 
+-- in a tree that reads right sequence numbers fall
+pub latest_ordered : (opened : List Entry) (start : Map) (t : State) → Holds opened start t → IsOrdered (sources t.mems t.latest)
+latest_ordered opened start t h k = subst (λ es. IsFalling (stack k es)) (sym (joined_sources t.mems t.latest)) (h.sound.fits k).0.falling
+
 pub flushed : (opened : List Entry) (start : Map) (old : State) (w : ℕ) (job : List ℕ) (made : List Placed) (new : State) → IsFlush w job made old new → InOrder opened new.journal → Holds opened start old → ShowsSame opened old.journal old.mems old.latest new.latest
-flushed opened start old w job made new m o h = flush_same opened (get start) old.journal old.mems old.latest old.older new.latest w job made (number_of opened old new m.commit o) m.commit.active m.sealed h.laid m.covers m.commit.laid m.placed m.kept h.sound
+flushed opened start old w job made new m o h = flush_same opened (get start) old.journal old.mems old.latest old.older new.latest w job made (number_of opened old new m.commit o) m.commit.active m.sealed h.laid m.covers m.commit.laid m.placed (m.kept (latest_ordered opened start old h)) h.sound
 
 pub merged : (opened : List Entry) (start : Map) (old : State) (w d : ℕ) (ids : List ℕ) (evict : Bool) (made : List Placed) (new : State) → IsMerge w d ids evict made old new → InOrder opened new.journal → Holds opened start old → ShowsSame opened old.journal old.mems old.latest new.latest
-merged opened start old w d ids evict made new m o h = merge_same opened (get start) old.journal old.mems old.latest old.older new.latest w d (among ids) evict made (number_of opened old new m.commit o) m.commit.active m.sealed h.laid m.covers m.commit.laid m.allowed m.placed m.kept h.sound
+merged opened start old w d ids evict made new m o h = merge_same opened (get start) old.journal old.mems old.latest old.older new.latest w d (among ids) evict made (number_of opened old new m.commit o) m.commit.active m.sealed h.laid m.covers m.commit.laid m.allowed m.placed (m.kept (latest_ordered opened start old h)) h.sound
 
 pub moved : (opened : List Entry) (start : Map) (old : State) (d : ℕ) (ids : List ℕ) (placed : List Placed) (new : State) → IsMove d ids placed old new → InOrder opened new.journal → Holds opened start old → ShowsSame opened old.journal old.mems old.latest new.latest
 moved opened start old d ids placed new m o h = move_same opened (get start) old.journal old.mems old.latest old.older new.latest d (among ids) placed (number_of opened old new m.commit o) m.commit.active m.sealed h.laid m.covers m.commit.laid m.allowed m.placed m.same h.sound
