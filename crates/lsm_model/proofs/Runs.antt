@@ -1,5 +1,5 @@
 -- Opening, each step, and so each run.
-use Rattle.std.proofs.Common.{◌≡◌, ℕ, ◌<◌, ◌≤◌, Bool, true, false, cond, List, [], ◌∷◌, ◌++◌, find, Option, Some, None, map, refl, sym, ap, ◌∙◌, subst, arith, flat_map, ltb, le-ltb, eqb, eqb-true, append_assoc, is_some, append-nil, ap₂, ⊎_elim}
+use Rattle.std.proofs.Common.{◌≡◌, ℕ, ◌<◌, ◌≤◌, Bool, true, false, cond, List, [], ◌∷◌, ◌++◌, find, filter, Option, Some, None, map, refl, sym, ap, ◌∙◌, subst, arith, flat_map, ltb, le-ltb, eqb, eqb-true, append_assoc, is_some, append-nil, ap₂, ⊎_elim}
 use Rattle.std.specs.List.{AllByRecursion}
 use Rattle.std.specs.FinMap.{get}
 use Rattle.std.proofs.lemmas.Grind.{flat_map-append}
@@ -18,12 +18,12 @@ use Rattle.lsm_model.specs.declared.question.Question.TheVariants.{Get, Between,
 use Rattle.lsm_model.specs.declared.question.Answer.TheVariants.{Found}
 use Rattle.lsm_below.specs.Each.{each_weaker, each_both, each_left}
 use Rattle.lsm_model.proofs.Lists.{fold_push, each_found}
-use Rattle.lsm_model.proofs.Stacks.{stack-append, seen_first, seen_past, top_first, walk_top}
+use Rattle.lsm_model.proofs.Stacks.{stack-append, falling_right, falling_sub, seen_first, seen_past, top_first, walk_top}
 use Rattle.std.proofs.Math.Bool.{and-false}
 use Rattle.lsm_model.proofs.Journals.{get-replay, above_stack, in_order_last, in_order_front}
 use Rattle.lsm_model.proofs.Sound.{write_sound}
 use Rattle.lsm_model.proofs.Installs.{maintained_cases, same_sound, ShowsSame, rotate_sound, lookup_latest}
-use Rattle.lsm_model.proofs.Commits.{flush_same, merge_same, move_same, dropped_sound, cleared_sound, note_sound, mark_note, read_note, lost_note, forgotten_sound, some_still, IsNote}
+use Rattle.lsm_model.proofs.Commits.{sub_filter, flush_same, merge_same, move_same, dropped_sound, cleared_sound, note_sound, mark_note, read_note, lost_note, forgotten_sound, some_still, IsNote}
 use Rattle.lsm_model.proofs.Answers.{answers_agree, get-map_of, agrees_push}
 use Rattle.lsm_model.proofs.Puts.{put_stack}
 
@@ -328,3 +328,10 @@ opened_holds opened start old o = record {
 
 pub every_run : EveryRunReadsRight
 every_run opened start old new actions o r order = reads_right opened start new (run_holds opened start old actions new r order (opened_holds opened start old o))
+
+-- where sequence numbers fall along the sources, they fall along any of the tables
+pub part_falls : (k : Bytes) (t : Placed → Bool) (mems : Memtables) (sv : SuperVersion) → IsOrdered (sources mems sv) → IsFalling (stack k (held (filter t sv.tables)))
+part_falls k t mems sv ordered =
+    let front = flat_map mems (sv.active ∷ sv.sealed) in
+    let all : IsFalling (stack k front ++ stack k (held sv.tables)) = subst IsFalling (ap (stack k) (joined_sources mems sv) ∙ stack-append k front (held sv.tables)) (ordered k) in
+    falling_sub (sub_filter k t sv.tables) (falling_right (stack k front) (stack k (held sv.tables)) all)
