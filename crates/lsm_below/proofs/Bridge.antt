@@ -4,7 +4,7 @@ use Rattle.std.specs.List.{AllByRecursion, sum_by}
 use Rattle.std.specs.List.Sorted.{IsPermutation}
 use Rattle.std.proofs.lemmas.Bool.Decides.{nat_tests}
 use Rattle.std.proofs.lemmas.List.Elements.{All-from_recursion, recursion_from_All, filter-append}
-use Rattle.std.proofs.lemmas.List.Sorted.{sum_by-IsPermutation, All-permutation}
+use Rattle.std.proofs.lemmas.List.Sorted.{sum_by-IsPermutation, All-permutation, IsPermutation-sym, IsPermutation-trans}
 use Rattle.std.proofs.lemmas.List.Sums.{sum_by-cons}
 use Rattle.lsm_below.specs.declared.value.InternalValue.{InternalValue}
 use Rattle.lsm_below.specs.Entries.{entry_cmp, IsFalling, stack, keep}
@@ -143,7 +143,7 @@ stacks_of : {S : Type 0} (f : S → List InternalValue) (k : List ℕ) (xs : Lis
 stacks_of f k [] = refl
 stacks_of f k (x ∷ xs) = filter-append (is_of k) (f x) (flat_map f xs) ∙ ap (λ l. stack k (f x) ++ l) (stacks_of f k xs)
 
-lists_joined : {S : Type 0} (f : S → List InternalValue) (xs : List S) → flat_map (λ l. l) (map f xs) ≡ flat_map f xs
+pub lists_joined : {S : Type 0} (f : S → List InternalValue) (xs : List S) → flat_map (λ l. l) (map f xs) ≡ flat_map f xs
 lists_joined f [] = refl
 lists_joined f (x ∷ xs) = ap (λ l. f x ++ l) (lists_joined f xs)
 
@@ -154,3 +154,8 @@ kept_of_all f xs w v k out h o = h (subst IsFalling (ap (stack k) (lists_joined 
 -- what a compaction keeps of lists that stand one after the other
 pub kept_in_turn : (w : ℕ) (v : Bool) (input out joined : List InternalValue) (k : List ℕ) → IsByKey (keep_distinct w v) input out → stack k input ≡ joined → IsFalling joined → stack k out ≡ keep w v joined
 kept_in_turn w v input out joined k by is h = by.stacks k ∙ ap (λ l. keep w v (distinct l)) is ∙ ap (keep w v) (distinct_falling joined h)
+
+-- whatever the order of the lists, a merge gives each key's entries as they fall
+pub settled : (k : List ℕ) (es : List InternalValue) (lists : List (List InternalValue)) (xs : List InternalValue) → IsInOrder es → Merges lists (stack k es) → IsFalling xs → IsPermutation (flat_map (λ l. l) lists) xs → stack k es ≡ xs
+settled k es lists xs in_order merges falls same =
+    same_falling xs (stack k es) falls (lowers_stack k es in_order) (same_from xs (stack k es) (IsPermutation-trans xs (flat_map (λ l. l) lists) (stack k es) (IsPermutation-sym (flat_map (λ l. l) lists) xs same) merges.same))

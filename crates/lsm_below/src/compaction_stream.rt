@@ -1,7 +1,9 @@
 // What a compaction keeps.
 
-ghost use Rattle.std.specs.Prelude.{IfErr, ◌≡◌, ◌≤◌, [], ◌∷◌, ◌++◌, length, false, IfOk, MatchOption, ℕ, flat_map, map};
+ghost use Rattle.std.specs.Prelude.{IfErr, ◌≡◌, ◌≤◌, [], ◌∷◌, ◌++◌, length, false, IfOk, MatchOption, ℕ, List, flat_map, map};
 ghost use Rattle.std.specs.List.{All};
+ghost use Rattle.std.specs.List.Sorted.{IsPermutation};
+ghost use Rattle.lsm_below.specs.declared.value.InternalValue.{InternalValue};
 ghost use Rattle.lsm_below.specs.Keys.{Bytes};
 ghost use Rattle.lsm_below.specs.Entries.{IsFalling, IsOrdered, stack, keep};
 ghost use Rattle.lsm_below.specs.Streams.{Gives, RefusesOnly, IsInOrder, IsByKey, KeepsOfMerge, keep_distinct, goes_alone, goes_with, unless};
@@ -162,7 +164,8 @@ impl<S: Source> CompactionStream<S> {
 ///
 /// Whatever the sequence numbers are, it is what is kept of some merge of all entries. Where of each key those in an
 /// earlier source are above those in a later one, and fall within each, it is what is kept of the key's entries in
-/// all sources, source by source.
+/// all sources, source by source; and whatever the order of the sources, where the entries of a key can be put into
+/// one order in which their sequence numbers fall, it is what is kept of them in that order.
 ///
 /// # Errors
 ///
@@ -185,6 +188,10 @@ pub fn compact<S: Source>(
         (λ c. (key : Bytes) → IsFalling (flat_map (λ s. stack key (S.rest s).entries) sources.items) → stack key (left_of c).entries ≡ keep watermark evict (flat_map (λ s. stack key (S.rest s).entries) sources.items)) }
     ensures ordered { IfOk result
         (λ c. IsOrdered (map (λ s. (S.rest s).entries) sources.items) → (key : Bytes) → stack key (left_of c).entries ≡ keep watermark evict (stack key (flat_map (λ s. (S.rest s).entries) sources.items))) }
+
+    // In whatever order the sources are, what is kept is that of the key's entries as they fall.
+    ensures in_any_order { IfOk result
+        (λ c. (key : Bytes) (es : List InternalValue) → IsFalling es → IsPermutation (flat_map (λ s. stack key (S.rest s).entries) sources.items) es → stack key (left_of c).entries ≡ keep watermark evict es) }
 {
     let merger = Merger::new(alloc, sources)?;
     let stream = CompactionStream::new(merger, watermark);

@@ -22,7 +22,7 @@ use Rattle.lsm_model.proofs.Installs.{emptied_other}
 use Rattle.lsm_model.proofs.Merges.{of_tables, of_tables-append, parts_of, evicted_parts, rearranged_same}
 use Rattle.lsm_model.proofs.Commits.{stack_of, around, sub_filter, left_alone}
 use Rattle.lsm_below.specs.Each.{each_filter}
-use Rattle.lsm_model.proofs.Runs.{each_always}
+use Rattle.lsm_model.proofs.Runs.{each_always, latest_ordered}
 use Rattle.lsm_model.proofs.Beginnings.{begun, newest, Begins, is_spared_at, spared_all, spared_at_more, keep_newest_sub, Tails, Fall, fall_covered, fall_kept, tails_kept, flush_tails, flush_fall, ShowsBehind, begun_after}
 use Rattle.lsm_model.proofs.Wholes.{whole_begins}
 
@@ -109,7 +109,7 @@ sub_tables k mems latest es s = rw (stack_of k mems latest) (sub_append {xs = []
 pub flush_puts : (opened : List Entry) (start : Map) (old : State) (w : ℕ) (job : List ℕ) (made : List Placed) (new : State) (notes : List Note) (more : List Event) → IsFlush w job made old new → Holds opened start old → Carries start old.journal old.mems old.latest notes → Puts start old notes (FlushedIds job ∷ notes) more new.latest
 flush_puts opened start old w job made new notes more m h c =
     let is : (k : Bytes) → of_tables k new.latest.tables ≡ keep w false (stack k (flat_map old.mems job)) ++ of_tables k old.latest.tables = λ k.
-    rearranged_same k (made ++ old.latest.tables) new.latest.tables m.commit.laid (each_append _ made old.latest.tables m.covers h.laid.covers) m.placed ∙ of_tables-append k made old.latest.tables ∙ ap (λ es. es ++ of_tables k old.latest.tables) (m.kept k) in
+    rearranged_same k (made ++ old.latest.tables) new.latest.tables m.commit.laid (each_append _ made old.latest.tables m.covers h.laid.covers) m.placed ∙ of_tables-append k made old.latest.tables ∙ ap (λ es. es ++ of_tables k old.latest.tables) (m.kept (latest_ordered opened start old h) k) in
     let fall : Fall notes (length old.journal) (new.latest.sealed ++ job) = rw m.sealed at c.fall in
     record {
       tails = λ k. flush_tails k (get start k) old.journal more notes old.mems old.latest.tables new.latest.tables w (length old.journal) new.latest.sealed job (omega arith) (is k)
@@ -157,7 +157,7 @@ merge_puts opened start old w d ids evict made new notes more m h c =
     let part = λ (k : Bytes). of_tables k (chosen_of (among ids) tables) in
     let low = λ (k : Bytes). of_tables k (lower_of d (among ids) tables) in
     let was : (k : Bytes) → of_tables k tables ≡ up k ++ (part k ++ low k) = λ k. parts_of k d (among ids) evict tables h.laid m.allowed in
-    let is : (k : Bytes) → of_tables k new.latest.tables ≡ up k ++ (keep w evict (part k) ++ low k) = λ k. around k d (among ids) tables made new.latest.tables (keep w evict (part k)) h.laid m.covers m.commit.laid m.placed (m.kept k) in
+    let is : (k : Bytes) → of_tables k new.latest.tables ≡ up k ++ (keep w evict (part k) ++ low k) = λ k. around k d (among ids) tables made new.latest.tables (keep w evict (part k)) h.laid m.covers m.commit.laid m.placed (m.kept (latest_ordered opened start old h) k) in
     same_puts opened start old notes more new.latest m.sealed m.commit.laid
     (λ k place before b safe single.
     let front = before ++ up k in

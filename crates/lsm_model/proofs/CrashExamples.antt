@@ -65,7 +65,7 @@ lives = (
     new = a3;
     done = (
       a3,
-      record { answered = refl; certain = λ h. refl; step = record { commit = record { journal = refl; mems = refl; active = refl; older = refl; laid = record { covers = ((refl, tt), tt); by_level = (tt, tt) } }; sealed = refl; covers = ((refl, tt), tt); placed = λ k. refl; kept = λ k. kept_one k set0 0 }; distinct = (tt, tt); notes = refl; others = refl },
+      record { answered = refl; certain = λ h. refl; step = record { commit = record { journal = refl; mems = refl; active = refl; older = refl; laid = record { covers = ((refl, tt), tt); by_level = (tt, tt) } }; sealed = refl; covers = ((refl, tt), tt); placed = λ k. refl; kept = λ o k. kept_one k set0 0 }; distinct = (tt, tt); notes = refl; others = refl },
       refl,
     );
     order = (record { after_installs = omega arith; after_own = omega arith; single = λ w. omega arith }, (omega arith, tt));

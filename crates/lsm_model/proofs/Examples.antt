@@ -105,7 +105,7 @@ run = (
     (omega arith, refl),
     (
       state j2 m2 (sv 1 1 [] (table 0 set0 ∷ [])) (sv0 ∷ []),
-      record { commit = record { journal = refl; mems = refl; active = refl; older = refl; laid = record { covers = ((refl, tt), tt); by_level = (tt, tt) } }; sealed = refl; covers = ((refl, tt), tt); placed = λ k. refl; kept = λ k. kept_one k set0 0 },
+      record { commit = record { journal = refl; mems = refl; active = refl; older = refl; laid = record { covers = ((refl, tt), tt); by_level = (tt, tt) } }; sealed = refl; covers = ((refl, tt), tt); placed = λ k. refl; kept = λ o k. kept_one k set0 0 },
       (
         state (j2 ++ Write weak2 ∷ []) m3 (sv 1 1 [] (table 0 set0 ∷ [])) (sv0 ∷ []),
         record { journal = refl; mems = λ k i. refl; latest = refl; older = refl },
@@ -114,10 +114,10 @@ run = (
           (omega arith, refl),
           (
             state j4 m4 sv3 (sv1 ∷ (sv0 ∷ [])),
-            record { commit = record { journal = refl; mems = refl; active = refl; older = refl; laid = record { covers = ((refl, tt), ((refl, tt), tt)); by_level = ((omega arith, tt), (tt, tt)) } }; sealed = refl; covers = ((refl, tt), tt); placed = λ k. refl; kept = λ k. kept_one k weak2 0 },
+            record { commit = record { journal = refl; mems = refl; active = refl; older = refl; laid = record { covers = ((refl, tt), ((refl, tt), tt)); by_level = ((omega arith, tt), (tt, tt)) } }; sealed = refl; covers = ((refl, tt), tt); placed = λ k. refl; kept = λ o k. kept_one k weak2 0 },
             (
               state (j4 ++ Install 4 ∷ []) m4 (sv 4 2 [] []) (sv3 ∷ (sv1 ∷ (sv0 ∷ []))),
-              record { commit = record { journal = refl; mems = refl; active = refl; older = refl; laid = record { covers = tt; by_level = tt } }; sealed = refl; allowed = allowed; covers = tt; placed = λ k. refl; kept = kept_none },
+              record { commit = record { journal = refl; mems = refl; active = refl; older = refl; laid = record { covers = tt; by_level = tt } }; sealed = refl; allowed = allowed; covers = tt; placed = λ k. refl; kept = λ o. kept_none },
               (
                 last,
                 (sv 4 2 [] [], omega arith, refl, refl),

@@ -1,12 +1,12 @@
 -- Opening, each step, and so each run.
-use Rattle.std.proofs.Common.{◌≡◌, ℕ, ◌<◌, ◌≤◌, Bool, true, false, cond, List, [], ◌∷◌, ◌++◌, find, Option, Some, None, map, refl, sym, ap, ◌∙◌, subst, arith, flat_map, ltb, le-ltb, eqb, eqb-true, append_assoc, is_some, append-nil, ap₂, ⊎_elim}
+use Rattle.std.proofs.Common.{◌≡◌, ℕ, ◌<◌, ◌≤◌, Bool, true, false, cond, List, [], ◌∷◌, ◌++◌, find, filter, Option, Some, None, map, refl, sym, ap, ◌∙◌, subst, arith, flat_map, ltb, le-ltb, eqb, eqb-true, append_assoc, is_some, append-nil, ap₂, ⊎_elim}
 use Rattle.std.specs.List.{AllByRecursion}
 use Rattle.std.specs.FinMap.{get}
 use Rattle.std.proofs.lemmas.Grind.{flat_map-append}
 use Rattle.std.proofs.lemmas.Bool.{eqb-false}
 use Rattle.lsm_below.specs.Keys.{Bytes, is_same}
 use Rattle.lsm_below.specs.Ranges.{Range}
-use Rattle.lsm_below.specs.Entries.{Entry, above, stack, top, IsFalling, entry_cmp}
+use Rattle.lsm_below.specs.Entries.{Entry, above, stack, top, IsFalling, IsOrdered, entry_cmp}
 use Rattle.lsm_below.specs.Sorted.{put}
 use Rattle.lsm_model.specs.Journal.{Event, answer, Agrees, ReadAgrees, is_outside, value_after, Map, replay, replay_at, is_kept, InOrder, next_number, next_number_after, MayWrite, cut}
 use Rattle.lsm_model.specs.Views.{view, found_at, front, view_at, shown, seen, Memtables, Placed, SuperVersion, sources, entries, lookup, maintained, ranges_of, held, pushed, written, answered}
@@ -18,12 +18,12 @@ use Rattle.lsm_model.specs.declared.question.Question.TheVariants.{Get, Between,
 use Rattle.lsm_model.specs.declared.question.Answer.TheVariants.{Found}
 use Rattle.lsm_below.specs.Each.{each_weaker, each_both, each_left}
 use Rattle.lsm_model.proofs.Lists.{fold_push, each_found}
-use Rattle.lsm_model.proofs.Stacks.{stack-append, seen_first, seen_past, top_first, walk_top}
+use Rattle.lsm_model.proofs.Stacks.{stack-append, falling_right, falling_sub, seen_first, seen_past, top_first, walk_top}
 use Rattle.std.proofs.Math.Bool.{and-false}
 use Rattle.lsm_model.proofs.Journals.{get-replay, above_stack, in_order_last, in_order_front}
 use Rattle.lsm_model.proofs.Sound.{write_sound}
 use Rattle.lsm_model.proofs.Installs.{maintained_cases, same_sound, ShowsSame, rotate_sound, lookup_latest}
-use Rattle.lsm_model.proofs.Commits.{flush_same, merge_same, move_same, dropped_sound, cleared_sound, note_sound, mark_note, read_note, lost_note, forgotten_sound, some_still, IsNote}
+use Rattle.lsm_model.proofs.Commits.{sub_filter, flush_same, merge_same, move_same, dropped_sound, cleared_sound, note_sound, mark_note, read_note, lost_note, forgotten_sound, some_still, IsNote}
 use Rattle.lsm_model.proofs.Answers.{answers_agree, get-map_of, agrees_push}
 use Rattle.lsm_model.proofs.Puts.{put_stack}
 
@@ -228,11 +228,15 @@ drop_number_of opened ranges old new c o =
     let q = in_order_last opened (old.journal ++ Dropped ranges n ∷ []) (Install n) p in
     rw (fold_push next_number_after (above opened) old.journal (Dropped ranges n)) at q
 
+-- in a tree that reads right sequence numbers fall
+pub latest_ordered : (opened : List Entry) (start : Map) (t : State) → Holds opened start t → IsOrdered (sources t.mems t.latest)
+latest_ordered opened start t h k = subst (λ es. IsFalling (stack k es)) (sym (joined_sources t.mems t.latest)) (h.sound.fits k).0.falling
+
 pub flushed : (opened : List Entry) (start : Map) (old : State) (w : ℕ) (job : List ℕ) (made : List Placed) (new : State) → IsFlush w job made old new → InOrder opened new.journal → Holds opened start old → ShowsSame opened old.journal old.mems old.latest new.latest
-flushed opened start old w job made new m o h = flush_same opened (get start) old.journal old.mems old.latest old.older new.latest w job made (number_of opened old new m.commit o) m.commit.active m.sealed h.laid m.covers m.commit.laid m.placed m.kept h.sound
+flushed opened start old w job made new m o h = flush_same opened (get start) old.journal old.mems old.latest old.older new.latest w job made (number_of opened old new m.commit o) m.commit.active m.sealed h.laid m.covers m.commit.laid m.placed (m.kept (latest_ordered opened start old h)) h.sound
 
 pub merged : (opened : List Entry) (start : Map) (old : State) (w d : ℕ) (ids : List ℕ) (evict : Bool) (made : List Placed) (new : State) → IsMerge w d ids evict made old new → InOrder opened new.journal → Holds opened start old → ShowsSame opened old.journal old.mems old.latest new.latest
-merged opened start old w d ids evict made new m o h = merge_same opened (get start) old.journal old.mems old.latest old.older new.latest w d (among ids) evict made (number_of opened old new m.commit o) m.commit.active m.sealed h.laid m.covers m.commit.laid m.allowed m.placed m.kept h.sound
+merged opened start old w d ids evict made new m o h = merge_same opened (get start) old.journal old.mems old.latest old.older new.latest w d (among ids) evict made (number_of opened old new m.commit o) m.commit.active m.sealed h.laid m.covers m.commit.laid m.allowed m.placed (m.kept (latest_ordered opened start old h)) h.sound
 
 pub moved : (opened : List Entry) (start : Map) (old : State) (d : ℕ) (ids : List ℕ) (placed : List Placed) (new : State) → IsMove d ids placed old new → InOrder opened new.journal → Holds opened start old → ShowsSame opened old.journal old.mems old.latest new.latest
 moved opened start old d ids placed new m o h = move_same opened (get start) old.journal old.mems old.latest old.older new.latest d (among ids) placed (number_of opened old new m.commit o) m.commit.active m.sealed h.laid m.covers m.commit.laid m.allowed m.placed m.same h.sound
@@ -324,3 +328,10 @@ opened_holds opened start old o = record {
 
 pub every_run : EveryRunReadsRight
 every_run opened start old new actions o r order = reads_right opened start new (run_holds opened start old actions new r order (opened_holds opened start old o))
+
+-- where sequence numbers fall along the sources, they fall along any of the tables
+pub part_falls : (k : Bytes) (t : Placed → Bool) (mems : Memtables) (sv : SuperVersion) → IsOrdered (sources mems sv) → IsFalling (stack k (held (filter t sv.tables)))
+part_falls k t mems sv ordered =
+    let front = flat_map mems (sv.active ∷ sv.sealed) in
+    let all : IsFalling (stack k front ++ stack k (held sv.tables)) = subst IsFalling (ap (stack k) (joined_sources mems sv) ∙ stack-append k front (held sv.tables)) (ordered k) in
+    falling_sub (sub_filter k t sv.tables) (falling_right (stack k front) (stack k (held sv.tables)) all)

@@ -74,7 +74,8 @@ pub record IsFlush (w : ℕ) (job : List ℕ) (made : List Placed) (old new : St
   pub sealed : old.latest.sealed ≡ new.latest.sealed ++ job
   pub covers : AllCover made
   pub placed : IsRearranged (made ++ old.latest.tables) new.latest.tables
-  pub kept : (k : Bytes) → stack k (held made) ≡ keep w false (stack k (flat_map old.mems job))
+  -- where sequence numbers fall, as they do in every tree that reads right
+  pub kept : IsOrdered (sources old.mems old.latest) → (k : Bytes) → stack k (held made) ≡ keep w false (stack k (flat_map old.mems job))
 
 -- chosen tables gave way to a first run of level d, which holds what a compaction keeps of them
 pub record IsMerge (w d : ℕ) (ids : List ℕ) (evict : Bool) (made : List Placed) (old new : State) : Type 0 where
@@ -83,7 +84,8 @@ pub record IsMerge (w d : ℕ) (ids : List ℕ) (evict : Bool) (made : List Plac
   pub allowed : IsAllowed d (among ids) evict old.latest.tables
   pub covers : AllCover made
   pub placed : IsRearranged (upper_of d (among ids) old.latest.tables ++ (made ++ lower_of d (among ids) old.latest.tables)) new.latest.tables
-  pub kept : (k : Bytes) → stack k (held made) ≡ keep w evict (stack k (held (chosen_of (among ids) old.latest.tables)))
+  -- where sequence numbers fall, as they do in every tree that reads right
+  pub kept : IsOrdered (sources old.mems old.latest) → (k : Bytes) → stack k (held made) ≡ keep w evict (stack k (held (chosen_of (among ids) old.latest.tables)))
 
 -- chosen tables became a first run of level d, with the same entries
 pub record IsMove (d : ℕ) (ids : List ℕ) (moved : List Placed) (old new : State) : Type 0 where

@@ -1,6 +1,6 @@
 // The theorems of the theory, each as the contract of a function that does nothing.
 ghost use Rattle.lsm_model.specs.Steps.{EveryRunReadsRight, StepsSpareAnswers};
-ghost use Rattle.lsm_model.specs.Laws.{MapsAreRead, PartsAreWhole};
+ghost use Rattle.lsm_model.specs.Laws.{MapsAreRead, PartsAreWhole, TablesArePlaced};
 ghost use Rattle.lsm_model.specs.Views.{ReorderedIsRearranged, LevelsRise};
 ghost use Rattle.lsm_model.specs.Counted.{CountedIsInOrder};
 ghost use Rattle.lsm_model.specs.Soundness.{Soundness};
@@ -90,4 +90,9 @@ pub fn maps_are_read()
 /// Sequence numbers are below the next one, and sources are entries.
 pub fn parts_are_whole()
     ensures { PartsAreWhole }
+{}
+
+/// What tables hold of a key is theirs, wherever they stand.
+pub fn tables_are_placed()
+    ensures { TablesArePlaced }
 {}

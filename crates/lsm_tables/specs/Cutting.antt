@@ -5,8 +5,10 @@ use Rattle.lsm_below.specs.Keys.{Bytes}
 use Rattle.lsm_below.specs.Entries.{Entry, entry_cmp}
 use Rattle.lsm_below.specs.Sorted.{Rises}
 use Rattle.lsm_below.specs.Slots.{same_key}
+use Rattle.lsm_below.specs.Runs.{IsRun}
 use Rattle.lsm_below.specs.Optimizes.{EachPair}
 use Rattle.lsm_tables.specs.Image.{Fits, IsTable, image, entry_bytes}
+use Rattle.lsm_tables.specs.Tables.{range_of}
 
 -- what may be cut into tables: entries that rise and fit a table's file
 pub record IsWritable (es : List Entry) : Type 0 where
@@ -34,6 +36,10 @@ pub record IsCutting (target : ℕ) (es : List Entry) (tables : List (List Entry
   pub apart : EachPair IsApart tables
   pub filled : IsFilled target tables
   pub no_later : AllByRecursion (HasNoEarlierEnd target) tables
+
+-- the tables into which a list is cut are a run
+abbrev pub CutsAreRuns : Type 0
+CutsAreRuns = (target : ℕ) (es : List Entry) (tables : List (List Entry)) → Rises entry_cmp es → IsCutting target es tables → IsRun range_of tables
 
 -- the contents of the files of the tables into which a list is cut
 pub record AreImagesOf (target made_at : ℕ) (es : List Entry) (images : List Bytes) : Type 0 where

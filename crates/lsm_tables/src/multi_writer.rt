@@ -1,6 +1,6 @@
 // Entries cut into tables.
 ghost use Rattle.std.specs.Prelude.{◌≡◌, ◌+◌, ◌++◌, ◌∷◌, [], ◌<◌, ◌↔◌, map, length, IfOk, IfErr, OnOk, OnErr, IsTrue};
-ghost use Rattle.lsm_tables.specs.Cutting.{IsWritable, IsFirstEnd, AreImagesOf, capped};
+ghost use Rattle.lsm_tables.specs.Cutting.{IsWritable, IsFirstEnd, AreImagesOf, CutsAreRuns, capped};
 
 use crate::image::{HEAD_LEN, encode, may_stand_behind};
 use lsm_below::{InternalValue, entries_are_ordered, has_same_key, keys_are_ordered};
@@ -33,6 +33,14 @@ fn first_end(entries: &[InternalValue], target: u64) -> usize
         end += 1;
     }
     end
+}
+
+/// The tables into which a list is cut are a run: their keys rise, and no two share one.
+pub fn cuts_are_runs()
+    ensures { CutsAreRuns }
+{
+    keys_are_ordered();
+    entries_are_ordered();
 }
 
 /// The contents of the files of the tables into which entries are cut, made at this moment (in nanoseconds).
