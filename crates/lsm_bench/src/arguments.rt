@@ -1,0 +1,58 @@
+// What the program's arguments ask.
+ghost use Rattle.std.specs.Prelude.{◌≡◌, ◌≤◌, [], IfOk, Ok};
+
+use thiserror::Error;
+
+/// The greatest number of keys.
+const MOST_KEYS: usize = 100_000_000;
+
+/// What a run does.
+#[derive(Clone, Copy, PartialEq, Eq)]
+pub struct Plan {
+    /// How many keys each workload is on.
+    pub keys: usize,
+    /// Whether the lines have seconds.
+    pub with_times: bool,
+}
+
+/// The run without arguments. What it prints is the same on every machine.
+pub const CHECKS: Plan = Plan {
+    keys: 1_000,
+    with_times: false,
+};
+
+/// Why arguments ask nothing that the program does.
+#[derive(Debug, PartialEq, Eq, Drop, Error)]
+pub enum BadArguments {
+    #[error("the arguments can't be read, or are no text")]
+    Unreadable,
+    #[error("N, the number of keys, is to be from 1 to 100000000")]
+    NoNumber,
+    #[error("one argument at most is taken: no workload has a use for a folder")]
+    TooMany,
+}
+
+/// What these arguments ask.
+pub fn parse_arguments(words: &[String]) -> Result<Plan, BadArguments>
+    ensures none { words.now ≡ [] → result ≡ Ok CHECKS }
+    ensures keys { IfOk result (λ plan. (1 ≤ plan.keys) × (plan.keys ≤ MOST_KEYS)) }
+{
+    match words {
+        [] => Ok(CHECKS),
+        [count] => parse_count(count.as_str()),
+        _ => Err(BadArguments::TooMany),
+    }
+}
+
+/// A run with times on so many keys.
+fn parse_count(count: &str) -> Result<Plan, BadArguments>
+    ensures { IfOk result (λ plan. (1 ≤ plan.keys) × (plan.keys ≤ MOST_KEYS)) }
+{
+    match count.parse::<usize>() {
+        Ok(keys) if 1 <= keys && keys <= MOST_KEYS => Ok(Plan {
+            keys,
+            with_times: true,
+        }),
+        _ => Err(BadArguments::NoNumber),
+    }
+}

@@ -1,0 +1,78 @@
+// What no contract says: which arguments are taken, which order a seed gives, and the bytes of a key.
+use crate::arguments::{BadArguments, CHECKS, Plan, parse_arguments};
+use crate::keys::{absent_key_of, key_of};
+use crate::orders::shuffled;
+use crate::resident::find_resident;
+use rand_core::{Rng, SeedableRng};
+use rand_xoshiro::SplitMix64;
+use std::alloc::{AllocError, Global};
+use std::test::Fail;
+
+/// The words between single spaces, none for an empty text.
+fn words_of(alloc: Global, text: &str) -> Result<Vec<String>, AllocError> {
+    let mut words = Vec::new(alloc);
+    for word in text.split(' ') {
+        if !word.is_empty() {
+            words.push(String::from_str(alloc, word)?)?;
+        }
+    }
+    Ok(words)
+}
+
+#[test]
+fn takes_arguments(rt: HostRuntime) -> Result<(), Fail> {
+    let timed = |keys| Ok(Plan {
+        keys,
+        with_times: true,
+    });
+    let table = [
+        ("", Ok(CHECKS)),
+        ("1", timed(1)),
+        ("100000000", timed(100_000_000)),
+        ("0", Err(BadArguments::NoNumber)),
+        ("100000001", Err(BadArguments::NoNumber)),
+        ("18446744073709551616", Err(BadArguments::NoNumber)),
+        ("-1", Err(BadArguments::NoNumber)),
+        ("1k", Err(BadArguments::NoNumber)),
+        ("folder", Err(BadArguments::NoNumber)),
+        ("1000 folder", Err(BadArguments::TooMany)),
+    ];
+    for (text, told) in table {
+        let words = words_of(rt.alloc(), text)?;
+        assert!(rt; parse_arguments(&words) == told, "at {text}");
+    }
+    Ok(())
+}
+
+/// The numbers are those of other programs that have this generator and this shuffle.
+#[test]
+fn shuffles_by_the_seed(rt: HostRuntime) -> Result<(), Fail> {
+    assert_eq!(rt;
+        SplitMix64::seed_from_u64(0).next_u64(),
+        0xE220_A839_7B1D_CDAF
+    );
+    let puts = shuffled(rt.alloc(), 10, 1)?;
+    assert_eq!(rt; puts.as_slice(), [9, 2, 6, 8, 0, 7, 3, 1, 5, 4].as_slice());
+    let reads = shuffled(rt.alloc(), 10, 2)?;
+    assert_eq!(rt; reads.as_slice(), [1, 5, 8, 3, 0, 4, 7, 2, 6, 9].as_slice());
+    Ok(())
+}
+
+#[test]
+fn makes_keys(rt: HostRuntime) {
+    assert_eq!(rt;
+        &key_of(123_456),
+        b"\0\0\0\0\0\0\x04\xd2\0\0\0\0\0\x01\xe2\x40"
+    );
+    assert_eq!(rt;
+        &absent_key_of(123_456),
+        b"\x01\0\0\0\0\0\x04\xd2\0\0\0\0\0\x01\xe2\x40"
+    );
+}
+
+#[test]
+fn finds_the_resident_bytes(rt: HostRuntime) {
+    assert_eq!(rt; find_resident("705 768 689 7 0 108 0\n"), Some(3_145_728));
+    assert_eq!(rt; find_resident("705"), None);
+    assert_eq!(rt; find_resident("705 x 689"), None);
+}
