@@ -100,12 +100,6 @@ module _ {before : ℕ → ℕ → Bool} (o : IsStrictWeakOrder before) where
       ((p k : ℕ) → low ≤ p → p ≢ at → p * 2 + 1 ≤ k → k ≤ p * 2 + 2 → k < n → before (f k) (f p) ≡ false)
       × ((p k : ℕ) → low ≤ p → p * 2 + 1 ≤ at → at ≤ p * 2 + 2 → at * 2 + 1 ≤ k → k ≤ at * 2 + 2 → k < n → before (f k) (f p) ≡ false)
 
-  pub heap_but : (f : ℕ → ℕ) (n low : ℕ) → HeapFrom f n (low + 1) → HeapBut f n low low
-  heap_but f n low h = (λ p k l d a b c. h p k (omega arith) a b c, λ p k l a b c d e. absurd (omega arith))
-
-  pub heap_at_leaf : (f : ℕ → ℕ) (n low at : ℕ) → n ≤ at * 2 + 1 → HeapBut f n low at → HeapFrom f n low
-  heap_at_leaf f n low at leaf h p k l a b c = h.0 p k l (omega arith) a b c
-
   pub heap_at_rest : (f : ℕ → ℕ) (n low at c : ℕ) → before (f c) (f at) ≡ false → FirstBelow f n at c → HeapBut f n low at → HeapFrom f n low
   heap_at_rest f n low at c rests first h p k l a b lt = by_same p at
       (λ e. moved (f k) (f p) (f k) (f at) refl (ap f e) (o.chain (f k) (f c) (f at) (first k (omega arith) (omega arith) lt) rests))

@@ -27,11 +27,6 @@ chain (Some e) (Some f) (Some g) h k = before_order.chain e f g h k
 pub heads_order : {S : Type 0} (h : S → Option InternalValue) → IsStrictWeakOrder (λ s t. head_before (h s) (h t))
 heads_order h = record { one_way = λ s t. one_way (h s) (h t); chain = λ s t u. chain (h s) (h t) (h u) }
 
--- a head that stands for the first entry
-pub head_is : (head : Option InternalValue) (es : List InternalValue) → MatchOption head (es ≡ []) (λ _. Unit {0}) → head ≡ first_item (all_of head es)
-head_is None es h = ap first_item (sym h)
-head_is (Some e) es h = refl
-
 pub head_taken : (head : Option InternalValue) (es : List InternalValue) (e : InternalValue) → head ≡ Some e → all_of head es ≡ e ∷ es
 head_taken head es e h = ap (λ o. all_of o es) h
 

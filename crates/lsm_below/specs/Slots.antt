@@ -1,6 +1,6 @@
 -- What the streams' fields stand for.
-use Rattle.std.specs.Prelude.{◌≡◌, ◌≢◌, Bool, true, false, not, ◌&&◌, ◌||◌, cond, List, [], ◌∷◌, ◌++◌, Option, Some, None, option_to_list, nat_lt, nat_eq, ℕ, ◌+◌, ◌*◌, ◌<◌, ◌≤◌, length, slice_index, slice_index_or}
-use Rattle.std.specs.List.{All, IsDistinct}
+use Rattle.std.specs.Prelude.{◌≡◌, Bool, true, false, not, ◌&&◌, ◌||◌, cond, List, [], ◌∷◌, ◌++◌, Option, Some, None, option_to_list, is_some, nat_lt, nat_eq, ℕ, ◌+◌, ◌*◌, ◌<◌, ◌≤◌, length, slice_index, slice_index_or}
+use Rattle.std.specs.List.{All, IsDistinct, list_any}
 use Rattle.std.specs.Iterator.{Count, at_most}
 use Rattle.std.specs.Ordering.{is_lt}
 use Rattle.lsm_below.specs.Entries.{Entry, entry_cmp}
@@ -39,12 +39,6 @@ head_before (Some e) (Some f) = is_before e f
 abbrev pub all_of : Option Entry → List Entry → List Entry
 all_of head es = option_to_list head ++ es
 
--- whether a head has to be asked for: there is none, though entries are left
-abbrev pub is_due : Option Entry → List Entry → Bool
-is_due (Some e) es = false
-is_due None [] = false
-is_due None (e ∷ es) = true
-
 -- whether the slot at a stands before the one at b: by their heads, and where these tie, by the indexes
 abbrev pub slot_before : List (Option Entry) → ℕ → ℕ → Bool
 slot_before heads a b =
@@ -54,17 +48,14 @@ slot_before heads a b =
 abbrev pub IsHeapFrom : (ℕ → ℕ → Bool) → ℕ → List ℕ → Type 0
 IsHeapFrom before low order = (p k : ℕ) → low ≤ p → p * 2 + 1 ≤ k → k ≤ p * 2 + 2 → k < length order → before (slice_index order k) (slice_index order p) ≡ false
 
--- each number below n, once
-abbrev pub IsOrder : ℕ → List ℕ → Type 0
-IsOrder n order = IsDistinct nat_eq order × All (λ i. i < n) order × (length order ≡ n)
-
--- the slots' indexes are a heap, and no head is due, but for those at the first places, so many
+-- the indexes of slots are a heap, once the heads at its first places, so many, are there; slots outside have nothing left
 abbrev pub IsQueue : List (Option Entry) → List (List Entry) → List ℕ → ℕ → Type 0
 IsQueue heads lists order waiting =
-    IsOrder (length heads) order
+    (IsDistinct nat_eq order × All (λ i. i < length heads) order)
     × (waiting ≤ length order)
     × IsHeapFrom (slot_before heads) waiting order
-    × ((i : ℕ) → i < length heads → ((p : ℕ) → p < waiting → slice_index order p ≢ i) → is_due (slice_index_or heads i None) (slice_index_or lists i []) ≡ false)
+    × ((p : ℕ) → waiting ≤ p → p < length order → is_some (slice_index_or heads (slice_index order p) None) ≡ true)
+    × ((i : ℕ) → i < length heads → list_any (nat_eq i) order ≡ false → length (slice_index_or lists i []) ≡ 0)
 
 -- a stream over what is left
 abbrev pub rest_of : Bool → List Entry → Rest

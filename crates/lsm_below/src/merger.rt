@@ -1,12 +1,13 @@
 // All entries of several sources, in order.
 
-ghost use Rattle.std.specs.Prelude.{IfErr, ◌≡◌, ℕ, ◌<◌, ◌≤◌, ◌+◌, [], ◌∷◌, ◌++◌, length, map, flat_map, IfOk, OnOk, OnSome, IfSome, MatchOption, true, false};
-ghost use Rattle.std.specs.List.{All};
+ghost use Rattle.std.specs.Prelude.{IfErr, ◌≡◌, ◌+◌, [], ◌∷◌, ◌++◌, length, map, flat_map, IfOk, OnOk, OnSome, IfSome, MatchOption, true, false};
+ghost use Rattle.std.specs.List.{All, range_with_len};
+ghost use Rattle.std.specs.List.Sorted.{IsPermutation};
 ghost use Rattle.std.proofs.Props.{props};
 ghost use Rattle.lsm_below.specs.Keys.{Bytes};
 ghost use Rattle.lsm_below.specs.Entries.{IsFalling, stack};
 ghost use Rattle.lsm_below.specs.Streams.{Gives, RefusesOnly, Merges, IsInOrder};
-ghost use Rattle.lsm_below.specs.Slots.{merged, all_of, calls_left, IsQueue, IsOrder};
+ghost use Rattle.lsm_below.specs.Slots.{merged, all_of, calls_left, IsQueue};
 
 use crate::InternalValue;
 use crate::heap::sink;
@@ -27,7 +28,7 @@ use std::marker::Model;
 #[derive(Drop)]
 pub struct Merger<S: Source> {
     slots: Vec<Slot<S>>,
-    // The indexes of the slots: a heap, but that the slots at the first `waiting` places are still to be asked.
+    // The indexes of the slots whose sources haven't ended: a heap, once those at the first `waiting` places were asked.
     order: Vec<usize>,
     waiting: usize,
     over: bool,
@@ -44,20 +45,25 @@ impl<S: Source> Model for Merger<S> {
     ghost view = { λ m. rest_of m.over (merged (map (λ s. all_of s.head (S.rest s.source).entries) m.slots.items)) };
 }
 
-/// Asks for the head of the slot at a place, and moves its index down to where it belongs.
+/// Asks for the head of the slot at a place, and moves its index down to where it belongs. Where the source has ended, its
+/// index leaves the heap.
 fn settle_place<S: Source>(
     slots: &mut [Slot<S>],
-    order: &mut [usize],
+    order: &mut Vec<usize>,
     place: usize,
 ) -> Result<(), S::Error>
-    requires { IsQueue (map (λ s. s.head) slots.old) (map (λ s. all_of s.head (S.rest s.source).entries) slots.old) order.old (place + 1) }
+    requires { IsQueue (map (λ s. s.head) slots.old) (map (λ s. all_of s.head (S.rest s.source).entries) slots.old) order.old.items (place + 1) }
     ensures same { OnOk result
         (map (λ s. all_of s.head (S.rest s.source).entries) slots.new ≡ map (λ s. all_of s.head (S.rest s.source).entries) slots.old) }
     ensures cause { IfErr result S.may_refuse }
     ensures queue { OnOk result
-        (IsQueue (map (λ s. s.head) slots.new) (map (λ s. all_of s.head (S.rest s.source).entries) slots.new) order.new place) }
+        (IsQueue (map (λ s. s.head) slots.new) (map (λ s. all_of s.head (S.rest s.source).entries) slots.new) order.new.items place) }
 {
-    fill_slot(&mut slots[order[place]])?;
+    let index = order[place];
+    let found = fill_slot(&mut slots[index])?;
+    if !found {
+        order.swap_remove(place);
+    }
     sink(slots, order, place);
     Ok(())
 }
@@ -65,15 +71,15 @@ fn settle_place<S: Source>(
 /// Asks for the heads of the slots at the first places, so many.
 fn settle<S: Source>(
     slots: &mut [Slot<S>],
-    order: &mut [usize],
+    order: &mut Vec<usize>,
     waiting: usize,
 ) -> Result<(), S::Error>
-    requires { IsQueue (map (λ s. s.head) slots.old) (map (λ s. all_of s.head (S.rest s.source).entries) slots.old) order.old waiting }
+    requires { IsQueue (map (λ s. s.head) slots.old) (map (λ s. all_of s.head (S.rest s.source).entries) slots.old) order.old.items waiting }
     ensures same { OnOk result
         (map (λ s. all_of s.head (S.rest s.source).entries) slots.new ≡ map (λ s. all_of s.head (S.rest s.source).entries) slots.old) }
     ensures cause { IfErr result S.may_refuse }
     ensures queue { OnOk result
-        (IsQueue (map (λ s. s.head) slots.new) (map (λ s. all_of s.head (S.rest s.source).entries) slots.new) order.new 0) }
+        (IsQueue (map (λ s. s.head) slots.new) (map (λ s. all_of s.head (S.rest s.source).entries) slots.new) order.new.items 0) }
 {
     let mut place = waiting;
     while place > 0 {
@@ -101,16 +107,16 @@ fn take_least<S: Source>(slots: &mut [Slot<S>], order: &[usize]) -> Option<Inter
 /// The least of what the sources have left.
 fn pull<S: Source>(
     slots: &mut [Slot<S>],
-    order: &mut [usize],
+    order: &mut Vec<usize>,
     waiting: usize,
 ) -> Option<Result<InternalValue, S::Error>>
-    requires { IsQueue (map (λ s. s.head) slots.old) (map (λ s. all_of s.head (S.rest s.source).entries) slots.old) order.old waiting }
+    requires { IsQueue (map (λ s. s.head) slots.old) (map (λ s. all_of s.head (S.rest s.source).entries) slots.old) order.old.items waiting }
     ensures cause { RefusesOnly S.may_refuse result }
     ensures entry { MatchOption result
         (merged (map (λ s. all_of s.head (S.rest s.source).entries) slots.old) ≡ [])
         (λ r. IfOk r (λ e. merged (map (λ s. all_of s.head (S.rest s.source).entries) slots.old) ≡ e ∷ merged (map (λ s. all_of s.head (S.rest s.source).entries) slots.new))) }
     ensures queue { IfSome result (λ r. OnOk r
-        (IsQueue (map (λ s. s.head) slots.new) (map (λ s. all_of s.head (S.rest s.source).entries) slots.new) order.new 1)) }
+        (IsQueue (map (λ s. s.head) slots.new) (map (λ s. all_of s.head (S.rest s.source).entries) slots.new) order.new.items 1)) }
 {
     if let Err(error) = settle(slots, order, waiting) {
         return Some(Err(error));
@@ -134,7 +140,7 @@ fn slots_of<S: Source>(alloc: Global, sources: Vec<S>) -> Result<Vec<Slot<S>>, A
 
 /// The numbers below this one, from the last.
 fn indexes(alloc: Global, count: usize) -> Result<Vec<usize>, AllocError>
-    ensures { IfOk result (λ order. IsOrder count order.items) }
+    ensures { IfOk result (λ order. IsPermutation (range_with_len 0 count) order.items) }
 {
     let mut order: Vec<usize> = (0..count).collect(alloc)?;
     order.reverse();

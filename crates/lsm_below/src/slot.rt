@@ -1,6 +1,6 @@
 // A source and the entry that it gave last.
 
-ghost use Rattle.std.specs.Prelude.{◌≡◌, IfErr, OnOk, OnErr, MatchOption, [], length};
+ghost use Rattle.std.specs.Prelude.{◌≡◌, IfOk, IfErr, OnOk, MatchOption, is_some, []};
 ghost use Rattle.lsm_below.specs.Slots.{head_before, all_of};
 
 use crate::InternalValue;
@@ -24,19 +24,20 @@ pub fn goes_before(head: &Option<InternalValue>, other: &Option<InternalValue>) 
     }
 }
 
-/// Asks the source for its next entry, where there is no head.
-pub fn fill_slot<S: Source>(slot: &mut Slot<S>) -> Result<(), S::Error>
+/// Asks the source for its next entry, where there is no head. Returns whether there is one now.
+pub fn fill_slot<S: Source>(slot: &mut Slot<S>) -> Result<bool, S::Error>
     ensures same { OnOk result
         (all_of slot.new.head (S.rest slot.new.source).entries ≡ all_of slot.old.head (S.rest slot.old.source).entries) }
-    ensures cause { IfErr result S.may_refuse }
+    ensures found { IfOk result (λ found. is_some slot.new.head ≡ found) }
     ensures filled { OnOk result (MatchOption slot.new.head ((S.rest slot.new.source).entries ≡ []) (λ _. Unit {0})) }
+    ensures cause { IfErr result S.may_refuse }
 {
     if slot.head.is_none() {
         match slot.source.next_entry() {
-            None => {}
+            None => return Ok(false),
             Some(Err(error)) => return Err(error),
             Some(Ok(entry)) => slot.head = Some(entry),
         }
     }
-    Ok(())
+    Ok(true)
 }

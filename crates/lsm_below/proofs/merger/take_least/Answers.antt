@@ -1,11 +1,16 @@
-use Rattle.std.proofs.Common.{◌<◌, ap, sym, ◌∙◌, length, get_or, [], ◌∷◌, Option, Some, None, OnSome, map, arith}
-use Rattle.std.proofs.lemmas.Bool.{eqb-false}
+use Rattle.std.proofs.Common.{◌≡◌, ◌<◌, ap, sym, ◌∙◌, length, get_or, [], ◌∷◌, Option, Some, None, OnSome, map, arith}
+use Rattle.std.proofs.lemmas.Bool.{eqb-false, eqb-true}
 use Rattle.std.proofs.lemmas.List.{map-set, get_or-set_other}
 use Rattle.lsm_below.specs.declared.slot.Slot.{Slot}
 use Rattle.lsm_below.specs.Slots.{all_of}
 use Rattle.lsm_below.proofs.Taking.{head_taken, taken}
-use Rattle.lsm_below.proofs.Queues.{top_is_first, none_due, head_is_first, queue_taken}
+use Rattle.lsm_below.proofs.Queues.{none_left, top_is_first, head_is_first, queue_taken}
 use Rattle.lsm_below.proofs.merger.take_least.Goals as goal
+
+pub returns-then-is_empty-clause-least : goal.returns-then-is_empty-clause-least
+returns-then-is_empty-clause-least g c =
+    let none : length c.args.order.now ≡ 0 = eqb-true (length c.args.order.now) 0 (sym c.is_empty.ensures ∙ c.if-is_empty.true) in
+    none_left (λ s. s.head) (λ s. (g.S.Source.rest s.source).entries) c.args.slots.now c.args.order.now c.requires none
 
 pub returns-clause-least : goal.returns-clause-least
 returns-clause-least g c =
@@ -15,8 +20,8 @@ returns-clause-least g c =
     let i = get_or order 0 0 in
     let some : 0 < length order = omega (arith, eqb-false (length order) 0 (sym c.is_empty.ensures ∙ c.if-is_empty.false)) in
     taken (λ s. all_of s.head (g.S.Source.rest s.source).entries) (λ s. s.head) slots i d _
-    (λ k lt. head_is_first (get_or slots k d).head (g.S.Source.rest (get_or slots k d).source).entries (none_due (λ s. s.head) (λ s. all_of s.head (g.S.Source.rest s.source).entries) slots order some c.requires k d lt))
-    (top_is_first (λ s. s.head) (λ s. all_of s.head (g.S.Source.rest s.source).entries) slots order some c.requires)
+    (λ k lt. head_is_first (λ s. s.head) (λ s. (g.S.Source.rest s.source).entries) slots order c.requires k d lt)
+    (top_is_first (λ s. s.head) (λ s. (g.S.Source.rest s.source).entries) slots order c.requires some)
     c.take.result c.take.ensures.value
     (λ e is. head_taken (get_or slots i d).head (g.S.Source.rest (get_or slots i d).source).entries e is ∙ ap (λ o. e ∷ all_of o (g.S.Source.rest (get_or slots i d).source).entries) (sym c.take.ensures.after))
 

@@ -1,9 +1,11 @@
 use Rattle.std.proofs.Common.{◌≡◌, ℕ, ap, sym, ◌∙◌, arith, length, map, subst, None, List}
 use Rattle.std.proofs.lemmas.List.{length-map}
 use Rattle.std.proofs.lemmas.List.Elements.{All-map, recursion_from_All}
+use Rattle.std.specs.List.{range_with_len}
+use Rattle.std.specs.List.Sorted.{IsPermutation}
 use Rattle.lsm_below.specs.declared.value.InternalValue.{InternalValue}
 use Rattle.lsm_below.specs.Streams.{Merges, IsInOrder}
-use Rattle.lsm_below.specs.Slots.{all_of, merged, IsOrder}
+use Rattle.lsm_below.specs.Slots.{all_of, merged}
 use Rattle.lsm_below.proofs.Merging.{merges_merged}
 use Rattle.lsm_below.proofs.Taking.{map_twice}
 use Rattle.lsm_below.proofs.Bridge.{sources_merge, sources_follow}
@@ -38,4 +40,4 @@ invariant_of-result g c =
     let long : c.len-waiting.result ≡ length order = omega arith in
     let each : length slots ≡ length c.args.sources.items = ap length c.in_ok-slots.ensures ∙ length-map _ _ in
     let many : c.len.result ≡ length (map (λ s. s.head) slots) = omega (arith, length-map slots (λ s. s.head), each) in
-    (λ _. rw long (queue_unasked (map (λ s. s.head) slots) (map (λ s. all_of s.head (g.S.Source.rest s.source).entries) slots) order (subst (λ (n : ℕ). IsOrder n order) many c.in_ok-order.ensures)), tt)
+    (λ _. rw long (queue_unasked (map (λ s. s.head) slots) (map (λ s. all_of s.head (g.S.Source.rest s.source).entries) slots) order (subst (λ (n : ℕ). IsPermutation (range_with_len 0 n) order) many c.in_ok-order.ensures)), tt)
