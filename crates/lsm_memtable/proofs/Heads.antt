@@ -1,6 +1,6 @@
 -- What heads say of keys.
-use Rattle.std.proofs.Common.{◌≡◌, ℕ, zero, suc, ◌+◌, ◌-◌, ◌*◌, ◌^◌, ◌<◌, true, false, nat_le, List, [], ◌∷◌, length, get_or, take, drop, map, refl, sym, ◌∙◌, ap, arith, inl, inr, ◌⊎◌, add-one}
-use Rattle.std.specs.List.{All, insert}
+use Rattle.std.proofs.Common.{◌≡◌, ℕ, zero, suc, ◌+◌, ◌-◌, ◌*◌, ◌^◌, ◌<◌, ◌++◌, min, subst, true, false, nat_le, List, [], ◌∷◌, length, get_or, take, drop, map, refl, sym, ◌∙◌, ap, arith, inl, inr, ◌⊎◌, add-one}
+use Rattle.std.specs.List.{All, insert, remove}
 use Rattle.std.specs.Ordering.{nat_cmp, ordering_then, ordering_reverse}
 use Rattle.std.specs.Cmp.Lexicographic.{slice_cmp}
 use Rattle.std.specs.declared.cmp.Ordering.TheVariants.{Less, Equal}
@@ -8,11 +8,12 @@ use Rattle.std.proofs.Math.Nat.{pow-suc, pow-le-pow_right}
 use Rattle.std.proofs.lemmas.Bool.{cases_lt}
 use Rattle.std.proofs.lemmas.Bool.Decides.{nat_tests}
 use Rattle.std.proofs.lemmas.Cmp.{nat_list_cmp_total}
-use Rattle.std.proofs.lemmas.List.{drop_more, drop_all, get_or_past}
+use Rattle.std.proofs.lemmas.List.{drop_more, drop_all, get_or_past, length-map}
 use Rattle.std.proofs.lemmas.List.Elements.{All-append, All-take, All-drop, All-cons}
 use Rattle.lsm_below.specs.declared.value.InternalValue.{InternalValue}
 use Rattle.lsm_below.specs.Sorted.{by_ordering}
 use Rattle.lsm_below.specs.Lookups.{stands_before}
+use Rattle.lsm_memtable.proofs.Dealt.{same_lower, same_upper, all_lower, all_upper}
 use Rattle.lsm_memtable.specs.Heads.{head_from, key_head, entry_head, IsBytes, HasBytes}
 
 less_is : (x y : ℕ) → x < y → nat_cmp x y ≡ Less
@@ -109,15 +110,11 @@ module _ {X Y : Type 0} (f : X → Y) where
   map_insert (y ∷ xs) zero x = refl
   map_insert (y ∷ xs) (suc i) x = ap (λ l. f y ∷ l) (map_insert xs i x)
 
-  pub map_take : (n : ℕ) (xs : List X) → map f (take n xs) ≡ take n (map f xs)
-  map_take zero xs = refl
-  map_take (suc n) [] = refl
-  map_take (suc n) (x ∷ xs) = ap (λ l. f x ∷ l) (map_take n xs)
-
-  pub map_drop : (n : ℕ) (xs : List X) → map f (drop n xs) ≡ drop n (map f xs)
-  map_drop zero xs = refl
-  map_drop (suc n) [] = refl
-  map_drop (suc n) (x ∷ xs) = map_drop n xs
+  pub map_remove : (xs : List X) (i : ℕ) → map f (remove xs i) ≡ remove (map f xs) i
+  map_remove [] zero = refl
+  map_remove [] (suc i) = refl
+  map_remove (y ∷ xs) zero = refl
+  map_remove (y ∷ xs) (suc i) = ap (λ l. f y ∷ l) (map_remove xs i)
 
   pub get_or-map : (xs : List X) (i : ℕ) (d : X) (e : Y) → i < length xs → get_or (map f xs) i e ≡ f (get_or xs i d)
   get_or-map [] i d e lt = absurd (omega arith)
@@ -126,6 +123,29 @@ module _ {X Y : Type 0} (f : X → Y) where
 
 pub All_insert : {X : Type 0} (P : X → Type 0) (xs : List X) (i : ℕ) (x : X) → P x → All P xs → All P (insert xs i x)
 All_insert P xs i x p all = All-append P (take i xs) (x ∷ drop i xs) (All-take P i xs all) (All-cons P x (drop i xs) p (All-drop P i xs all))
+
+pub All_remove : {X : Type 0} (P : X → Type 0) (xs : List X) (i : ℕ) → All P xs → All P (remove xs i)
+All_remove P xs i all = All-append P (take i xs) (drop (suc i) xs) (All-take P i xs all) (All-drop P (suc i) xs all)
+
+-- heads and entries that were dealt alike, with one more
+module _ (xs : List InternalValue) (hs : List ℕ) (place keep head : ℕ) (e : InternalValue) (lower_heads upper_heads : List ℕ) (lower upper : List InternalValue) (same : hs ≡ map entry_head xs) (head_is : head ≡ entry_head e)
+    (heads_dealt : lower_heads ++ upper_heads ≡ insert hs place head) (dealt : lower ++ upper ≡ insert xs place e) (heads_len : length lower_heads ≡ min keep (length hs + 1)) (len : length lower ≡ min keep (length xs + 1)) where
+  both_parts : lower_heads ++ upper_heads ≡ map entry_head (lower ++ upper)
+  both_parts = heads_dealt ∙ (ap (λ l. insert l place head) same ∙ (ap (λ h. insert (map entry_head xs) place h) head_is ∙ (sym (map_insert entry_head xs place e) ∙ ap (map entry_head) (sym dealt))))
+
+  both_lens : length lower_heads ≡ length lower
+  both_lens = heads_len ∙ (ap (λ n. min keep (n + 1)) (ap (λ (l : List ℕ). length l) same ∙ length-map xs entry_head) ∙ sym len)
+
+  pub heads_lower : lower_heads ≡ map entry_head lower
+  heads_lower = same_lower entry_head lower_heads upper_heads lower upper both_parts both_lens
+
+  pub heads_upper : upper_heads ≡ map entry_head upper
+  heads_upper = same_upper entry_head lower_heads upper_heads lower upper both_parts both_lens
+
+  pub bytes_dealt : All HasBytes xs → HasBytes e → All HasBytes lower × All HasBytes upper
+  bytes_dealt all own =
+      let whole = subst (λ l. All HasBytes l) (sym dealt) (All_insert HasBytes xs place e own all) in
+      (all_lower HasBytes lower upper whole, all_upper HasBytes lower upper whole)
 
 -- a head that was read is that of the entry
 pub head_read : (entries : List InternalValue) (heads : List ℕ) (place other : ℕ) (d : InternalValue) → place < length entries → heads ≡ map entry_head entries → other ≡ get_or heads place other → other ≡ entry_head (get_or entries place d)

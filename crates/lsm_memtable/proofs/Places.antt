@@ -140,6 +140,15 @@ ahead_less Less n m h = refl
 ahead_less Equal n m h = grind (arith, nat_tests)
 ahead_less Greater n m h = absurd (cc h)
 
+less_before : (o : Ordering) (n m : ℕ) → ordering_then o (nat_cmp n m) ≡ Less → by_ordering o true (nat_le (n + 1) m) false ≡ true
+less_before Less n m h = refl
+less_before Equal n m h = let lt : n < m = ranked n m Less (sym h) in grind (arith, nat_tests)
+less_before Greater n m h = absurd (cc h)
+
+-- what is less than an entry stands before it
+pub less_ahead : (x e : InternalValue) → entry_cmp x e ≡ Less → stands_before e.key.user_key (e.key.seqno + 1) x ≡ true
+less_ahead x e less = less_before _ e.key.seqno x.key.seqno less
+
 behind_not_less : (o : Ordering) (n m : ℕ) → by_ordering o true (nat_le (n + 1) m) false ≡ false → ordering_then o (nat_cmp n m) ≡ Less → ⊥
 behind_not_less Less n m h less = cc h
 behind_not_less Equal n m h less = let lt : n < m = ranked n m Less (sym less) in grind (arith, nat_tests)

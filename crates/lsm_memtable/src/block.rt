@@ -1,6 +1,6 @@
 // Up to 64 entries in order, with the heads of their keys.
-ghost use Rattle.std.specs.Prelude.{◌≡◌, ℕ, ◌+◌, ◌-◌, ◌<◌, ◌≤◌, [], length, take, drop, IfOk, true, false, slice_index_or, slice_set, vec_capacity};
-ghost use Rattle.std.specs.List.{insert};
+ghost use Rattle.std.specs.Prelude.{◌≡◌, ℕ, ◌+◌, ◌-◌, ◌<◌, ◌≤◌, [], ◌∷◌, ◌++◌, length, min, IfOk, OnOk, OnErr, true, false, slice_index_or, slice_set};
+ghost use Rattle.std.specs.List.{insert, remove};
 ghost use Rattle.std.specs.Ordering.{is_eq};
 ghost use Rattle.lsm_below.specs.declared.value.InternalValue.{InternalValue};
 ghost use Rattle.lsm_below.specs.Entries.{entry_cmp, key_cmp};
@@ -11,6 +11,7 @@ ghost use Rattle.lsm_memtable.specs.Heads.{key_head, IsBytes};
 ghost use Rattle.lsm_memtable.specs.Blocks.{CountsDigits};
 
 use crate::Steps;
+use crate::spread::spread;
 use lsm_below::{InternalKey, InternalValue, UserKey, entries_are_parted};
 use std::alloc::{AllocError, Global};
 use std::cmp::Ordering;
@@ -20,10 +21,13 @@ use std::mem;
 /// How many entries a block has at most.
 pub(crate) const MOST: usize = 64;
 
-/// How many entries a full block keeps when it is split.
-pub(crate) const HALF: usize = 32;
+/// How many entries a full block keeps at least when it is split.
+const HALF: usize = 32;
 
-/// Entries in order, and the head of each one's key. There is room for as many as a block may have, so that none is ever moved by a growth.
+/// For how many more entries a block has room when it was made or has grown.
+const STEP: usize = 8;
+
+/// Entries in order, and the head of each one's key, which most comparisons need alone.
 #[derive(Drop)]
 pub(crate) struct Block {
     heads: Vec<u128>,
@@ -31,7 +35,7 @@ pub(crate) struct Block {
 }
 
 impl Model for Block {
-    ghost use Rattle.std.specs.Prelude.{◌≡◌, List, ◌≤◌, map, vec_capacity};
+    ghost use Rattle.std.specs.Prelude.{◌≡◌, List, map};
     ghost use Rattle.std.specs.List.{All};
     ghost use Rattle.lsm_below.specs.declared.value.InternalValue.{InternalValue};
     ghost use Rattle.lsm_memtable.specs.Heads.{entry_head, HasBytes};
@@ -40,7 +44,7 @@ impl Model for Block {
 
     ghost view = { λ b. b.entries.items };
 
-    ghost invariant = { λ b. (64 ≤ vec_capacity b.entries) × (64 ≤ vec_capacity b.heads) × (b.heads.items ≡ map entry_head b.entries.items) × All HasBytes b.entries.items };
+    ghost invariant = { λ b. (b.heads.items ≡ map entry_head b.entries.items) × All HasBytes b.entries.items };
 }
 
 /// A byte of the key, and zero behind its end.
@@ -73,39 +77,18 @@ fn stands_ahead(entry: &InternalValue, key: &[u8], number: u128) -> bool
     }
 }
 
-/// What stands in the place of an entry that moves away.
-fn hollow() -> InternalValue {
-    InternalValue::new_tombstone(UserKey::new(), 0)
-}
-
-/// Moves the upper half of 64 entries to an empty vector that has room.
-fn move_upper(entries: &mut Vec<InternalValue>, upper: &mut Vec<InternalValue>, steps: &mut Steps)
-    requires full { length entries.old.items ≡ 64 }
-    requires empty { upper.old.items ≡ [] }
-    requires room { 64 ≤ vec_capacity upper.old }
-    ensures lower { entries.new.items ≡ take 32 entries.old.items }
-    ensures upper { upper.new.items ≡ drop 32 entries.old.items }
-    ensures capacity { vec_capacity entries.new ≡ vec_capacity entries.old }
-    ensures room { 64 ≤ vec_capacity upper.new }
-    ensures moved { steps.new.moved ≡ capped (steps.old.moved + 32) }
-    ensures compared { steps.new.compared ≡ steps.old.compared }
-{
-    for place in HALF..MOST {
-        let entry = mem::replace(&mut entries[place], hollow());
-        steps.tick_moved();
-        upper.push(entry).unwrap();
-    }
-    entries.truncate(HALF);
-}
-
 impl Block {
-    pub(crate) fn with_room(alloc: Global) -> Result<Block, AllocError>
-        ensures { IfOk result (λ b. b ≡ []) }
+    /// A block of one entry. Refused only for want of memory.
+    pub(crate) fn of(alloc: Global, entry: InternalValue) -> Result<Block, AllocError>
+        ensures { IfOk result (λ b. b ≡ entry ∷ []) }
     {
-        Ok(Block {
-            heads: Vec::with_capacity(alloc, MOST)?,
-            entries: Vec::with_capacity(alloc, MOST)?,
-        })
+        let mut heads = Vec::with_capacity(alloc, STEP)?;
+        let mut entries = Vec::with_capacity(alloc, STEP)?;
+        heads
+            .push(head_of(entry.key.user_key.as_slice()))
+            .unwrap();
+        entries.push(entry).unwrap();
+        Ok(Block { heads, entries })
     }
 
     pub(crate) fn len(&self) -> usize
@@ -185,41 +168,111 @@ impl Block {
         self.entries[place].key.cmp(key).is_eq()
     }
 
-    /// Puts the entry over the one there.
-    pub(crate) fn replace(&mut self, place: usize, entry: InternalValue)
+    /// Puts the entry over the one there, which it returns.
+    pub(crate) fn replace(&mut self, place: usize, entry: InternalValue) -> InternalValue
         requires { place < length self.old }
-        ensures { self.new ≡ slice_set self.old place entry }
+        ensures entries { self.new ≡ slice_set self.old place entry }
+        ensures replaced { result ≡ slice_index_or self.old place result }
     {
         self.heads[place] = head_of(entry.key.user_key.as_slice());
-        self.entries[place] = entry;
+        mem::replace(&mut self.entries[place], entry)
     }
 
-    /// Puts the entry there, and moves those behind.
-    pub(crate) fn insert(&mut self, place: usize, entry: InternalValue, steps: &mut Steps)
+    /// Takes the entry there out, and moves those behind.
+    pub(crate) fn remove(&mut self, place: usize)
+        requires { place < length self.old }
+        ensures { self.new ≡ remove self.old place }
+    {
+        self.heads.remove(place);
+        self.entries.remove(place);
+    }
+
+    /// Puts the entry there, and moves those behind; where there is no room, all move to a larger place.
+    /// Refused only for want of memory, and then nothing changes.
+    pub(crate) fn insert(
+        &mut self,
+        alloc: Global,
+        place: usize,
+        entry: InternalValue,
+        steps: &mut Steps,
+    ) -> Result<(), AllocError>
         requires place { place ≤ length self.old }
-        requires room { length self.old < 64 }
-        ensures entries { self.new ≡ insert self.old place entry }
-        ensures moved { steps.new.moved ≡ capped (steps.old.moved + (length self.old - place)) }
+        requires few { length self.old < 64 }
+        ensures ok { OnOk result (self.new ≡ insert self.old place entry) }
+        ensures err { OnErr result ((self.new ≡ self.old) × (steps.new ≡ steps.old)) }
+        ensures moved { steps.new.moved ≤ steps.old.moved + 64 }
         ensures compared { steps.new.compared ≡ steps.old.compared }
     {
-        steps.tick_moves(self.entries.len() - place);
-        self.heads
-            .insert(place, head_of(entry.key.user_key.as_slice()))
-            .unwrap();
-        self.entries.insert(place, entry).unwrap();
+        let len = self.entries.len();
+        if len < self.heads.capacity() && len < self.entries.capacity() {
+            steps.tick_moves(len - place);
+            self.heads
+                .insert(place, head_of(entry.key.user_key.as_slice()))
+                .unwrap();
+            self.entries.insert(place, entry).unwrap();
+            return Ok(());
+        }
+        let room = (len + STEP).min(MOST);
+        self.rebuild(alloc, room, room, place, entry, steps)?;
+        Ok(())
     }
 
-    /// Moves the upper half of a full block to an empty one.
-    pub(crate) fn split(&mut self, upper: &mut Block, steps: &mut Steps)
+    /// Puts the entry at a place of a full block, of which it keeps half; the other half is returned.
+    /// Refused only for want of memory, and then nothing changes.
+    pub(crate) fn split(
+        &mut self,
+        alloc: Global,
+        place: usize,
+        entry: InternalValue,
+        steps: &mut Steps,
+    ) -> Result<Block, AllocError>
+        requires place { place ≤ length self.old }
         requires full { length self.old ≡ 64 }
-        requires empty { upper.old ≡ [] }
-        ensures lower { self.new ≡ take 32 self.old }
-        ensures upper { upper.new ≡ drop 32 self.old }
-        ensures moved { steps.new.moved ≡ capped (steps.old.moved + 32) }
+        ensures ok { IfOk result (λ upper. (self.new ++ upper ≡ insert self.old place entry) × (length self.new ≡ 32)) }
+        ensures err { OnErr result ((self.new ≡ self.old) × (steps.new ≡ steps.old)) }
+        ensures moved { steps.new.moved ≤ steps.old.moved + 64 }
         ensures compared { steps.new.compared ≡ steps.old.compared }
     {
-        move_upper(&mut self.entries, &mut upper.entries, steps);
-        upper.heads.extend_from_slice(&self.heads[HALF..]).unwrap();
-        self.heads.truncate(HALF);
+        self.rebuild(alloc, HALF, HALF + STEP, place, entry, steps)
+    }
+
+    /// Puts the entry at a place: all entries move once, the first ones to new vectors with this room, up to
+    /// a length, and the rest to another block. Refused only for want of memory, and then nothing changes.
+    fn rebuild(
+        &mut self,
+        alloc: Global,
+        keep: usize,
+        room: usize,
+        place: usize,
+        entry: InternalValue,
+        steps: &mut Steps,
+    ) -> Result<Block, AllocError>
+        requires place { place ≤ length self.old }
+        requires few { length self.old ≤ 64 }
+        requires keep { keep ≤ room }
+        requires room { length self.old + 1 ≤ keep + room }
+        ensures ok { IfOk result (λ rest. (self.new ++ rest ≡ insert self.old place entry) × (length self.new ≡ min keep (length self.old + 1))) }
+        ensures err { OnErr result ((self.new ≡ self.old) × (steps.new ≡ steps.old)) }
+        ensures moved { steps.new.moved ≤ steps.old.moved + length self.old }
+        ensures compared { steps.new.compared ≡ steps.old.compared }
+    {
+        let len = self.entries.len();
+        let left = if len < keep { 0 } else { room };
+        let mut heads = Vec::with_capacity(alloc, room)?;
+        let mut entries = Vec::with_capacity(alloc, room)?;
+        let mut upper_heads = Vec::with_capacity(alloc, left)?;
+        let mut upper = Vec::with_capacity(alloc, left)?;
+        steps.tick_moves(len);
+        let head = head_of(entry.key.user_key.as_slice());
+        let old_heads = mem::replace(&mut self.heads, Vec::new(alloc));
+        spread(old_heads, place, head, &mut heads, keep, &mut upper_heads);
+        let old_entries = mem::replace(&mut self.entries, Vec::new(alloc));
+        spread(old_entries, place, entry, &mut entries, keep, &mut upper);
+        self.heads = heads;
+        self.entries = entries;
+        Ok(Block {
+            heads: upper_heads,
+            entries: upper,
+        })
     }
 }

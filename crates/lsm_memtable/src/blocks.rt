@@ -1,27 +1,19 @@
-// Blocks that together are one list.
-ghost use Rattle.std.specs.Prelude.{◌≡◌, ℕ, ◌+◌, ◌-◌, ◌<◌, ◌≤◌, [], length, OnOk, option_copied, true, false, slice_index_or, slice_set, vec_len, vec_capacity, take};
-ghost use Rattle.std.specs.List.{All, insert};
+// Blocks that together are one list: search, insert, split.
+ghost use Rattle.std.specs.Prelude.{◌≡◌, ℕ, ◌+◌, ◌-◌, ◌<◌, ◌≤◌, [], length, List, IfOk, OnOk, OnErr, option_copied, true, false, slice_index_or, slice_set, take};
+ghost use Rattle.std.specs.List.{All, insert, remove};
 ghost use Rattle.std.specs.Ordering.{is_eq};
 ghost use Rattle.lsm_below.specs.declared.value.InternalValue.{InternalValue};
-ghost use Rattle.lsm_below.specs.Entries.{entry_cmp};
+ghost use Rattle.lsm_below.specs.Entries.{entry_cmp, key_cmp};
 ghost use Rattle.lsm_below.specs.Sorted.{put, first};
 ghost use Rattle.lsm_below.specs.Lookups.{is_visible, stands_before};
-ghost use Rattle.lsm_memtable.specs.Memtables.{capped};
 ghost use Rattle.lsm_memtable.specs.Heads.{key_head};
-ghost use Rattle.lsm_memtable.specs.Blocks.{joined, spot, AreBlocks, AreHalves, IsFilled, IsEmpty, IsPlace, IsSplit, CountsDigits};
-ghost use Rattle.lsm_memtable.specs.Contents.{entries_of, IsSound, HasRoom};
+ghost use Rattle.lsm_memtable.specs.Blocks.{joined, spot, AreBlocks, IsFilled, IsPlace, CountsDigits};
+ghost use Rattle.lsm_memtable.specs.Undo.{Undoes, AreUndone, undo_of};
 
 use crate::Steps;
-use crate::block::{Block, HALF, MOST, head_of};
-use lsm_below::{InternalValue, SeqNo, entries_are_ordered, entries_are_parted};
+use crate::block::{Block, MOST, head_of};
+use lsm_below::{InternalKey, InternalValue, SeqNo, entries_are_ordered, entries_are_parted};
 use std::alloc::{AllocError, Global};
-
-/// Blocks that together are one list, and spare ones that are empty, for the splits to come.
-#[derive(Drop)]
-pub(crate) struct Blocks {
-    pub(crate) list: Vec<Block>,
-    pub(crate) spare: Vec<Block>,
-}
 
 /// The block where the entries of the key that are numbered below this begin, or the last one.
 fn block_for(blocks: &[Block], head: u128, key: &[u8], number: u128, steps: &mut Steps) -> usize
@@ -101,132 +93,12 @@ pub(crate) fn first_visible<'a>(
     }
 }
 
-/// Takes one of the empty blocks.
-fn take_spare(spare: &mut Vec<Block>) -> Block
-    requires empty { All IsEmpty spare.old.items }
-    requires some { 0 < vec_len spare.old }
-    ensures empty { IsEmpty result }
-    ensures rest { All IsEmpty spare.new.items }
-    ensures len { vec_len spare.new + 1 ≡ vec_len spare.old }
-{
-    let Some(block) = spare.pop() else {
-        unreachable!()
-    };
-    block
-}
-
-/// Splits a full block into two halves, of which the upper one goes to an empty block. There is room for it.
-fn split_block(blocks: &mut Vec<Block>, mut upper: Block, block: usize, steps: &mut Steps)
-    requires block { block < length blocks.old.items }
-    requires full { length (slice_index_or blocks.old.items block []) ≡ 64 }
-    requires empty { IsEmpty upper }
-    requires filled { All IsFilled blocks.old.items }
-    requires halves { AreHalves blocks.old.items }
-    requires room { vec_len blocks.old < vec_capacity blocks.old }
-    ensures split { IsSplit blocks.old.items blocks.new.items block }
-    ensures filled { All IsFilled blocks.new.items }
-    ensures halves { AreHalves blocks.new.items }
-    ensures moved { steps.new.moved ≤ steps.old.moved + 32 }
-    ensures compared { steps.new.compared ≡ steps.old.compared }
-    ensures len { vec_len blocks.new ≡ vec_len blocks.old + 1 }
-    ensures capacity { vec_capacity blocks.old ≤ vec_capacity blocks.new }
-{
-    blocks[block].split(&mut upper, steps);
-    blocks.insert(block + 1, upper).unwrap();
-}
-
-/// Puts an entry into a block that has room.
-fn insert_in(blocks: &mut Vec<Block>, place: Place, entry: InternalValue, steps: &mut Steps)
-    requires block { place.block < length blocks.old.items }
-    requires at { place.at ≤ length (slice_index_or blocks.old.items place.block []) }
-    requires room { length (slice_index_or blocks.old.items place.block []) < 64 }
-    requires filled { All IsFilled blocks.old.items }
-    requires halves { AreHalves blocks.old.items }
-    ensures ok { joined blocks.new.items ≡ insert (joined blocks.old.items) (spot blocks.old.items place.block place.at) entry }
-    ensures filled { All IsFilled blocks.new.items }
-    ensures halves { AreHalves blocks.new.items }
-    ensures moved { steps.new.moved ≡ capped (steps.old.moved + (length (slice_index_or blocks.old.items place.block []) - place.at)) }
-    ensures compared { steps.new.compared ≡ steps.old.compared }
-    ensures len { vec_len blocks.new ≡ vec_len blocks.old }
-    ensures capacity { vec_capacity blocks.new ≡ vec_capacity blocks.old }
-{
-    blocks[place.block].insert(place.at, entry, steps);
-}
-
-/// Puts an entry at a place between entries. A full block is split first, for which there is an empty block.
-fn insert_at(
-    blocks: &mut Vec<Block>,
-    spare: &mut Vec<Block>,
-    place: Place,
-    entry: InternalValue,
-    steps: &mut Steps,
-)
-    requires block { place.block < length blocks.old.items }
-    requires at { place.at ≤ length (slice_index_or blocks.old.items place.block []) }
-    requires filled { All IsFilled blocks.old.items }
-    requires halves { AreHalves blocks.old.items }
-    requires empty { All IsEmpty spare.old.items }
-    requires some { 0 < vec_len spare.old }
-    requires room { vec_len blocks.old < vec_capacity blocks.old }
-    ensures entries { joined blocks.new.items ≡ insert (joined blocks.old.items) (spot blocks.old.items place.block place.at) entry }
-    ensures filled { All IsFilled blocks.new.items }
-    ensures halves { AreHalves blocks.new.items }
-    ensures empty { All IsEmpty spare.new.items }
-    ensures moved { steps.new.moved ≤ steps.old.moved + 64 }
-    ensures compared { steps.new.compared ≡ steps.old.compared }
-    ensures len { vec_len blocks.new ≤ vec_len blocks.old + 1 }
-    ensures capacity { vec_capacity blocks.old ≤ vec_capacity blocks.new }
-    ensures rest { vec_len spare.old ≤ vec_len spare.new + 1 }
-{
-    if blocks[place.block].len() < MOST {
-        insert_in(blocks, place, entry, steps);
-        return;
-    }
-    let upper = take_spare(spare);
-    split_block(blocks, upper, place.block, steps);
-    if place.at <= HALF {
-        insert_in(blocks, place, entry, steps);
-    } else {
-        let upper = Place {
-            block: place.block + 1,
-            at: place.at - HALF,
-        };
-        insert_in(blocks, upper, entry, steps);
-    }
-}
-
-/// Puts a first entry, for which there is an empty block.
-fn insert_first(
-    blocks: &mut Vec<Block>,
-    spare: &mut Vec<Block>,
-    entry: InternalValue,
-    steps: &mut Steps,
-)
-    requires none { length blocks.old.items ≡ 0 }
-    requires empty { All IsEmpty spare.old.items }
-    requires some { 0 < vec_len spare.old }
-    requires room { vec_len blocks.old < vec_capacity blocks.old }
-    ensures entries { joined blocks.new.items ≡ put entry_cmp entry (joined blocks.old.items) }
-    ensures filled { All IsFilled blocks.new.items }
-    ensures halves { AreHalves blocks.new.items }
-    ensures empty { All IsEmpty spare.new.items }
-    ensures moved { steps.new.moved ≤ steps.old.moved }
-    ensures compared { steps.new.compared ≡ steps.old.compared }
-    ensures len { vec_len blocks.new ≤ vec_len blocks.old + 1 }
-    ensures capacity { vec_capacity blocks.old ≤ vec_capacity blocks.new }
-    ensures rest { vec_len spare.old ≤ vec_len spare.new + 1 }
-{
-    let mut block = take_spare(spare);
-    block.insert(0, entry, steps);
-    blocks.push(block).unwrap();
-}
-
-/// Whether an entry of the same key and number stands at the entry's place.
-fn is_taken(blocks: &[Block], place: Place, entry: &InternalValue, steps: &mut Steps) -> bool
-    requires { IsPlace blocks.now entry.now.key.user_key (entry.now.key.seqno + 1) place.block place.at }
+/// Whether an entry of the key and sequence number stands at their place.
+fn is_taken(blocks: &[Block], place: Place, key: &InternalKey, steps: &mut Steps) -> bool
+    requires { IsPlace blocks.now key.now.user_key (key.now.seqno + 1) place.block place.at }
     ensures inside { result ≡ true → place.at < length (slice_index_or blocks.now place.block []) }
-    ensures same { (d : InternalValue) → result ≡ true → is_eq (entry_cmp (slice_index_or (joined blocks.now) (spot blocks.now place.block place.at) d) entry.now) ≡ true }
-    ensures other { (d : InternalValue) → result ≡ false → spot blocks.now place.block place.at < length (joined blocks.now) → is_eq (entry_cmp (slice_index_or (joined blocks.now) (spot blocks.now place.block place.at) d) entry.now) ≡ false }
+    ensures same { (d : InternalValue) → result ≡ true → is_eq (key_cmp (slice_index_or (joined blocks.now) (spot blocks.now place.block place.at) d).key key.now) ≡ true }
+    ensures other { (d : InternalValue) → result ≡ false → spot blocks.now place.block place.at < length (joined blocks.now) → is_eq (key_cmp (slice_index_or (joined blocks.now) (spot blocks.now place.block place.at) d).key key.now) ≡ false }
     ensures compared { steps.new.compared ≤ steps.old.compared + 1 }
     ensures moved { steps.new.moved ≡ steps.old.moved }
 {
@@ -235,80 +107,196 @@ fn is_taken(blocks: &[Block], place: Place, entry: &InternalValue, steps: &mut S
         return false;
     }
     steps.tick_compared();
-    block.is_same(place.at, &entry.key)
+    block.is_same(place.at, key)
 }
 
-/// Puts the entry over the one there.
-fn replace_at(blocks: &mut Vec<Block>, place: Place, entry: InternalValue)
+/// Puts an entry into a block that isn't full. Refused only for want of memory, and then nothing changes.
+fn insert_in(
+    blocks: &mut Vec<Block>,
+    alloc: Global,
+    place: Place,
+    entry: InternalValue,
+    steps: &mut Steps,
+) -> Result<(), AllocError>
     requires block { place.block < length blocks.old.items }
-    requires at { place.at < length (slice_index_or blocks.old.items place.block []) }
+    requires at { place.at ≤ length (slice_index_or blocks.old.items place.block []) }
+    requires few { length (slice_index_or blocks.old.items place.block []) < 64 }
     requires filled { All IsFilled blocks.old.items }
-    requires halves { AreHalves blocks.old.items }
-    ensures entries { joined blocks.new.items ≡ slice_set (joined blocks.old.items) (spot blocks.old.items place.block place.at) entry }
+    ensures ok { OnOk result (joined blocks.new.items ≡ insert (joined blocks.old.items) (spot blocks.old.items place.block place.at) entry) }
+    ensures err { OnErr result (blocks.new.items ≡ blocks.old.items) }
     ensures filled { All IsFilled blocks.new.items }
-    ensures halves { AreHalves blocks.new.items }
-    ensures len { vec_len blocks.new ≡ vec_len blocks.old }
-    ensures capacity { vec_capacity blocks.new ≡ vec_capacity blocks.old }
-{
-    blocks[place.block].replace(place.at, entry);
-}
-
-/// Puts an entry in its place, over one of the same key and number. There is room for a block more.
-/// Answers whether there is an entry more now.
-pub(crate) fn put_entry(blocks: &mut Blocks, entry: InternalValue, steps: &mut Steps) -> bool
-    requires sound { IsSound blocks.old }
-    requires room { HasRoom 1 blocks.old }
-    ensures entries { entries_of blocks.new ≡ put entry_cmp entry (entries_of blocks.old) }
-    ensures more { result ≡ true → length (entries_of blocks.new) ≡ length (entries_of blocks.old) + 1 }
-    ensures same { result ≡ false → length (entries_of blocks.new) ≡ length (entries_of blocks.old) }
-    ensures sound { IsSound blocks.new }
-    ensures room { (n : ℕ) → HasRoom (n + 1) blocks.old → HasRoom n blocks.new }
-    ensures compared { CountsDigits (length blocks.old.list.items) 8 steps.old.compared steps.new.compared }
     ensures moved { steps.new.moved ≤ steps.old.moved + 64 }
+    ensures unmoved { OnErr result (steps.new.moved ≡ steps.old.moved) }
+    ensures compared { steps.new.compared ≡ steps.old.compared }
 {
-    entries_are_ordered();
-    if blocks.list.is_empty() {
-        insert_first(&mut blocks.list, &mut blocks.spare, entry, steps);
-        return true;
-    }
-    let number = entry.key.seqno as u128 + 1;
-    let place = find(&blocks.list, entry.key.user_key.as_slice(), number, steps);
-    if is_taken(&blocks.list, place, &entry, steps) {
-        replace_at(&mut blocks.list, place, entry);
-        return false;
-    }
-    insert_at(&mut blocks.list, &mut blocks.spare, place, entry, steps);
-    true
-}
-
-/// Makes spare blocks until there are so many. Refused only for want of memory.
-fn make_spares(spare: &mut Vec<Block>, alloc: Global, count: usize) -> Result<(), AllocError>
-    requires { All IsEmpty spare.old.items }
-    ensures empty { All IsEmpty spare.new.items }
-    ensures enough { OnOk result (count ≤ vec_len spare.new) }
-{
-    while spare.len() < count {
-        spare.push(Block::with_room(alloc)?)?;
-    }
+    blocks[place.block].insert(alloc, place.at, entry, steps)?;
     Ok(())
 }
 
-/// Makes room for so many blocks more. Refused only for want of memory.
-pub(crate) fn make_room(blocks: &mut Blocks, alloc: Global, count: usize) -> Result<(), AllocError>
-    requires { IsSound blocks.old }
-    ensures same { blocks.new.list.items ≡ blocks.old.list.items }
-    ensures sound { IsSound blocks.new }
-    ensures room { OnOk result (HasRoom count blocks.new) }
+/// Splits a full block into two, with an entry more. Refused only for want of memory, and then nothing changes.
+fn split_in(
+    blocks: &mut Vec<Block>,
+    alloc: Global,
+    place: Place,
+    entry: InternalValue,
+    steps: &mut Steps,
+) -> Result<(), AllocError>
+    requires block { place.block < length blocks.old.items }
+    requires at { place.at ≤ length (slice_index_or blocks.old.items place.block []) }
+    requires full { length (slice_index_or blocks.old.items place.block []) ≡ 64 }
+    requires filled { All IsFilled blocks.old.items }
+    ensures ok { OnOk result (joined blocks.new.items ≡ insert (joined blocks.old.items) (spot blocks.old.items place.block place.at) entry) }
+    ensures err { OnErr result (blocks.new.items ≡ blocks.old.items) }
+    ensures filled { All IsFilled blocks.new.items }
+    ensures moved { steps.new.moved ≤ steps.old.moved + 64 }
+    ensures unmoved { OnErr result (steps.new.moved ≡ steps.old.moved) }
+    ensures compared { steps.new.compared ≡ steps.old.compared }
 {
-    blocks.list.reserve(count)?;
-    make_spares(&mut blocks.spare, alloc, count)
+    blocks.reserve(1)?;
+    let upper = blocks[place.block].split(alloc, place.at, entry, steps)?;
+    blocks.insert(place.block + 1, upper).unwrap();
+    Ok(())
 }
 
-/// Lets spare blocks go, but for one.
-pub(crate) fn trim(blocks: &mut Blocks)
-    requires { IsSound blocks.old }
-    ensures same { blocks.new.list.items ≡ blocks.old.list.items }
-    ensures sound { IsSound blocks.new }
+/// Puts an entry behind all others, in a block of its own. Refused only for want of memory, and then nothing
+/// changes.
+fn push_block(
+    blocks: &mut Vec<Block>,
+    alloc: Global,
+    entry: InternalValue,
+) -> Result<(), AllocError>
+    requires filled { All IsFilled blocks.old.items }
+    ensures ok { OnOk result (joined blocks.new.items ≡ insert (joined blocks.old.items) (length (joined blocks.old.items)) entry) }
+    ensures err { OnErr result (blocks.new.items ≡ blocks.old.items) }
+    ensures filled { All IsFilled blocks.new.items }
 {
-    blocks.spare.truncate(1);
+    blocks.reserve(1)?;
+    let block = Block::of(alloc, entry)?;
+    blocks.push(block).unwrap();
+    Ok(())
+}
+
+/// Puts an entry at a place between entries. A full block is split, but where the entry goes behind all others a
+/// new block begins with it, so that keys that rise leave full blocks.
+/// Refused only for want of memory, and then nothing changes.
+fn insert_at(
+    blocks: &mut Vec<Block>,
+    alloc: Global,
+    place: Place,
+    entry: InternalValue,
+    steps: &mut Steps,
+) -> Result<(), AllocError>
+    requires block { place.block < length blocks.old.items }
+    requires at { place.at ≤ length (slice_index_or blocks.old.items place.block []) }
+    requires edge { place.at ≡ length (slice_index_or blocks.old.items place.block []) → spot blocks.old.items place.block place.at ≡ length (joined blocks.old.items) }
+    requires filled { All IsFilled blocks.old.items }
+    ensures ok { OnOk result (joined blocks.new.items ≡ insert (joined blocks.old.items) (spot blocks.old.items place.block place.at) entry) }
+    ensures err { OnErr result (blocks.new.items ≡ blocks.old.items) }
+    ensures filled { All IsFilled blocks.new.items }
+    ensures moved { steps.new.moved ≤ steps.old.moved + 64 }
+    ensures unmoved { OnErr result (steps.new.moved ≡ steps.old.moved) }
+    ensures compared { steps.new.compared ≡ steps.old.compared }
+{
+    let len = blocks[place.block].len();
+    if len < MOST {
+        return insert_in(blocks, alloc, place, entry, steps);
+    }
+    if place.at == len {
+        return push_block(blocks, alloc, entry);
+    }
+    split_in(blocks, alloc, place, entry, steps)
+}
+
+/// Puts the entry over the one there, which it returns.
+fn replace_at(blocks: &mut Vec<Block>, place: Place, entry: InternalValue) -> InternalValue
+    requires block { place.block < length blocks.old.items }
+    requires at { place.at < length (slice_index_or blocks.old.items place.block []) }
+    requires filled { All IsFilled blocks.old.items }
+    ensures entries { joined blocks.new.items ≡ slice_set (joined blocks.old.items) (spot blocks.old.items place.block place.at) entry }
+    ensures replaced { result ≡ slice_index_or (joined blocks.old.items) (spot blocks.old.items place.block place.at) result }
+    ensures filled { All IsFilled blocks.new.items }
+{
+    blocks[place.block].replace(place.at, entry)
+}
+
+/// Takes out the entry there, and its block where it was the only one.
+fn remove_at(blocks: &mut Vec<Block>, place: Place)
+    requires block { place.block < length blocks.old.items }
+    requires at { place.at < length (slice_index_or blocks.old.items place.block []) }
+    requires filled { All IsFilled blocks.old.items }
+    ensures entries { joined blocks.new.items ≡ remove (joined blocks.old.items) (spot blocks.old.items place.block place.at) }
+    ensures filled { All IsFilled blocks.new.items }
+{
+    if blocks[place.block].len() == 1 {
+        blocks.remove(place.block);
+        return;
+    }
+    blocks[place.block].remove(place.at);
+}
+
+/// Puts an entry in its place, over one of the same key and sequence number, which it returns.
+/// Refused only for want of memory, and then nothing changes.
+pub(crate) fn put_entry(
+    blocks: &mut Vec<Block>,
+    alloc: Global,
+    entry: InternalValue,
+    steps: &mut Steps,
+) -> Result<Option<InternalValue>, AllocError>
+    requires { AreBlocks blocks.old.items }
+    ensures ok { OnOk result (joined blocks.new.items ≡ put entry_cmp entry (joined blocks.old.items)) }
+    ensures undo { IfOk result (λ replaced. Undoes (undo_of entry.key replaced) (joined blocks.old.items) (joined blocks.new.items)) }
+    ensures err { OnErr result (blocks.new.items ≡ blocks.old.items) }
+    ensures sound { AreBlocks blocks.new.items }
+    ensures compared { CountsDigits (length blocks.old.items) 8 steps.old.compared steps.new.compared }
+    ensures moved { steps.new.moved ≤ steps.old.moved + 64 }
+    ensures unmoved { OnErr result (steps.new.moved ≡ steps.old.moved) }
+{
+    entries_are_ordered();
+    if blocks.is_empty() {
+        push_block(blocks, alloc, entry)?;
+        return Ok(None);
+    }
+    let number = entry.key.seqno as u128 + 1;
+    let place = find(blocks, entry.key.user_key.as_slice(), number, steps);
+    if is_taken(blocks, place, &entry.key, steps) {
+        return Ok(Some(replace_at(blocks, place, entry)));
+    }
+    insert_at(blocks, alloc, place, entry, steps)?;
+    Ok(None)
+}
+
+/// What takes a put back: its key, and the entry that it replaced.
+#[derive(Drop)]
+pub(crate) struct Undo {
+    pub(crate) key: InternalKey,
+    pub(crate) replaced: Option<InternalValue>,
+}
+
+/// Takes a put back.
+fn take_back(blocks: &mut Vec<Block>, undo: Undo)
+    requires sound { AreBlocks blocks.old.items }
+    requires made { (before : List InternalValue) × Undoes undo before (joined blocks.old.items) }
+    ensures same { (before : List InternalValue) → Undoes undo before (joined blocks.old.items) → joined blocks.new.items ≡ before }
+    ensures sound { AreBlocks blocks.new.items }
+{
+    entries_are_ordered();
+    let Undo { key, replaced } = undo;
+    let number = key.seqno as u128 + 1;
+    let place = find(blocks, key.user_key.as_slice(), number, &mut Steps::new());
+    match replaced {
+        Some(entry) => drop(replace_at(blocks, place, entry)),
+        None => remove_at(blocks, place),
+    }
+}
+
+/// Takes puts back, the last one first.
+pub(crate) fn take_all_back(blocks: &mut Vec<Block>, mut log: Vec<Undo>)
+    requires sound { AreBlocks blocks.old.items }
+    requires made { (before : List InternalValue) × AreUndone log.items before (joined blocks.old.items) }
+    ensures same { (before : List InternalValue) → AreUndone log.items before (joined blocks.old.items) → joined blocks.new.items ≡ before }
+    ensures sound { AreBlocks blocks.new.items }
+{
+    while let Some(undo) = log.pop() {
+        take_back(blocks, undo);
+    }
 }

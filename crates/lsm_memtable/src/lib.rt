@@ -4,6 +4,7 @@
 //! |-|-|
 //! | `error` | what a call refuses, and why |
 //! | `steps` | counts of comparisons and moves |
+//! | `spread` | items that move to two vectors, with one more at a place |
 //! | `block` | up to 64 entries in order, with the heads of their keys |
 //! | `blocks` | blocks that together are one list: search, insert, split |
 //! | `bounds` | where bounds cut blocks |
@@ -19,6 +20,7 @@ mod error;
 mod iter;
 mod memtable;
 mod span;
+mod spread;
 mod steps;
 
 pub use error::Error;

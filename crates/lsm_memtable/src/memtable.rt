@@ -1,13 +1,15 @@
 // A sorted table of entries in memory.
-ghost use Rattle.std.specs.Prelude.{◌≡◌, ℕ, ◌+◌, ◌-◌, ◌<◌, ◌≤◌, ◌^◌, ◌↔◌, [], List, length, IsTrue, IfOk, IfErr, OnOk, OnErr, IfSome, IfNone, option_copied, vec_len, true, false};
+ghost use Rattle.std.specs.Prelude.{◌≡◌, ◌+◌, ◌<◌, ◌≤◌, ◌↔◌, [], List, length, IsTrue, IfOk, IfErr, OnOk, OnErr, IfSome, IfNone, option_copied, vec_len, vec_capacity, true, MatchOption};
 ghost use Rattle.lsm_below.specs.declared.value.InternalValue.{InternalValue};
 ghost use Rattle.lsm_below.specs.Entries.{Entry, entry_cmp, top};
 ghost use Rattle.lsm_below.specs.Sorted.{Rises};
 ghost use Rattle.lsm_memtable.specs.Memtables.{capped, entry_size, new_memtable, with_entry, with_entries, highest_of, within, IsTop, HasNone};
 ghost use Rattle.lsm_memtable.specs.Blocks.{AreBlocksOf, CountsDigits};
-ghost use Rattle.lsm_memtable.specs.Contents.{content_of, added, all_added, IsContent, HasRoom};
+ghost use Rattle.lsm_memtable.specs.Contents.{content_of, entries_of, added, all_added, IsContent};
+ghost use Rattle.lsm_memtable.specs.Undo.{Undoes, AreUndone, undo_of};
 
-use crate::blocks::{Blocks, first_visible, make_room, put_entry, trim};
+use crate::block::Block;
+use crate::blocks::{Undo, first_visible, put_entry, take_all_back};
 use crate::bounds::blocks_within;
 use crate::iter::whole;
 use crate::span::span_of;
@@ -44,7 +46,7 @@ pub struct Memtable {
 /// The entries, how many there are, the sizes of all accepted inserts, and the greatest sequence number.
 #[derive(Drop)]
 struct Content {
-    blocks: Blocks,
+    blocks: Vec<Block>,
     count: usize,
     size: u64,
     highest: Option<SeqNo>,
@@ -57,7 +59,7 @@ impl Model for Memtable {
 
     ghost Value = { SeenMemtable };
 
-    ghost view = { λ t. record { id = t.id; entries = entries_of t.content.blocks; size = t.content.size; flagged = t.flagged } };
+    ghost view = { λ t. record { id = t.id; entries = entries_of t.content; size = t.content.size; flagged = t.flagged } };
 
     ghost invariant = { λ t. IsContent t.content };
 }
@@ -71,52 +73,108 @@ fn size_of_entry(entry: &InternalValue) -> u64
         .saturating_add(ENTRY_OVERHEAD)
 }
 
-/// Puts an entry in its place. There is room for one more block.
-fn add_entry(content: &mut Content, entry: InternalValue, steps: &mut Steps)
-    requires sound { IsContent content.old }
-    requires room { HasRoom 1 content.old.blocks }
-    requires count { content.old.count < 2 ^ 64 - 1 }
-    ensures added { content_of content.new ≡ added entry (content_of content.old) }
-    ensures sound { IsContent content.new }
-    ensures room { (n : ℕ) → HasRoom (n + 1) content.old.blocks → HasRoom n content.new.blocks }
-    ensures count { content.new.count ≤ content.old.count + 1 }
-    ensures compared { CountsDigits (length content.old.blocks.list.items) 8 steps.old.compared steps.new.compared }
-    ensures moved { steps.new.moved ≤ steps.old.moved + 64 }
+/// How many entries there are after a put: one more, or as many where an entry was replaced.
+fn count_after(count: usize, more: usize, replaced: &Option<InternalValue>) -> usize
+    ensures { MatchOption replaced.now (result ≡ more) (λ _. result ≡ count) }
 {
-    content.size = content.size.saturating_add(size_of_entry(&entry));
-    let highest = content.highest.unwrap_or(0).max(entry.key.seqno);
-    content.highest = Some(highest);
-    if put_entry(&mut content.blocks, entry, steps) {
-        content.count += 1;
+    match replaced {
+        None => more,
+        Some(_) => count,
     }
 }
 
-/// Puts each entry in its place, in turn. There is room for one more block for each.
-fn add_entries(content: &mut Content, batch: Vec<InternalValue>, steps: &mut Steps)
-    requires sound { IsContent content.old }
-    requires room { HasRoom (vec_len batch) content.old.blocks }
-    requires count { content.old.count + vec_len batch ≤ 2 ^ 64 - 1 }
-    ensures added { content_of content.new ≡ all_added batch.items (content_of content.old) }
+/// Puts an entry in its place, and returns the one that it replaces. Refused only for want of memory, also where
+/// there are 2^64 - 1 entries, and then nothing changes.
+fn add_entry(
+    content: &mut Content,
+    alloc: Global,
+    entry: InternalValue,
+    steps: &mut Steps,
+) -> Result<Option<InternalValue>, AllocError>
+    requires { IsContent content.old }
+    ensures ok { OnOk result (content_of content.new ≡ added entry (content_of content.old)) }
+    ensures undo { IfOk result (λ replaced. Undoes (undo_of entry.key replaced) (entries_of content.old) (entries_of content.new)) }
+    ensures err { OnErr result (content_of content.new ≡ content_of content.old) }
     ensures sound { IsContent content.new }
+    ensures compared { CountsDigits (length content.old.blocks.items) 8 steps.old.compared steps.new.compared }
+    ensures moved { steps.new.moved ≤ steps.old.moved + 64 }
+    ensures unmoved { OnErr result (steps.new.moved ≡ steps.old.moved) }
+{
+    let Some(more) = content.count.checked_add(1) else {
+        return Err(AllocError);
+    };
+    let size = content.size.saturating_add(size_of_entry(&entry));
+    let highest = content.highest.unwrap_or(0).max(entry.key.seqno);
+    let replaced = put_entry(&mut content.blocks, alloc, entry, steps)?;
+    content.count = count_after(content.count, more, &replaced);
+    content.size = size;
+    content.highest = Some(highest);
+    Ok(replaced)
+}
+
+/// Puts an entry in its place, and notes how that is taken back. There is room for the note.
+/// Refused only for want of memory, and then nothing changes.
+fn add_noted(
+    content: &mut Content,
+    alloc: Global,
+    entry: InternalValue,
+    log: &mut Vec<Undo>,
+) -> Result<(), AllocError>
+    requires sound { IsContent content.old }
+    requires room { vec_len log.old < vec_capacity log.old }
+    ensures ok { OnOk result (content_of content.new ≡ added entry (content_of content.old)) }
+    ensures sound { IsContent content.new }
+    ensures noted { (before : List InternalValue) → AreUndone log.old.items before (entries_of content.old) → AreUndone log.new.items before (entries_of content.new) }
+    ensures len { vec_len log.new ≤ vec_len log.old + 1 }
+    ensures capacity { vec_capacity log.old ≤ vec_capacity log.new }
+{
+    let key = entry.key.copy()?;
+    let replaced = add_entry(content, alloc, entry, &mut Steps::new())?;
+    log.push(Undo { key, replaced }).unwrap();
+    Ok(())
+}
+
+/// Puts each entry in its place, in turn, and notes how that is taken back. There is room for the notes.
+/// Refused only for want of memory.
+fn add_entries(
+    content: &mut Content,
+    alloc: Global,
+    batch: Vec<InternalValue>,
+    log: &mut Vec<Undo>,
+) -> Result<(), AllocError>
+    requires sound { IsContent content.old }
+    requires room { vec_len log.old + vec_len batch ≤ vec_capacity log.old }
+    ensures ok { OnOk result (content_of content.new ≡ all_added batch.items (content_of content.old)) }
+    ensures sound { IsContent content.new }
+    ensures noted { (before : List InternalValue) → AreUndone log.old.items before (entries_of content.old) → AreUndone log.new.items before (entries_of content.new) }
 {
     for entry in batch {
-        add_entry(content, entry, steps);
+        add_noted(content, alloc, entry, log)?;
     }
+    Ok(())
 }
 
-/// Makes room for so many more entries. Refused for want of memory, also where there would be 2^64.
-fn prepare(content: &mut Content, alloc: Global, more: usize) -> Result<(), AllocError>
+/// Puts each entry in its place, in turn. Refused only for want of memory, and then nothing changes.
+fn add_all(
+    content: &mut Content,
+    alloc: Global,
+    batch: Vec<InternalValue>,
+) -> Result<(), AllocError>
     requires { IsContent content.old }
-    ensures same { content_of content.new ≡ content_of content.old }
-    ensures blocks { content.new.blocks.list.items ≡ content.old.blocks.list.items }
+    ensures ok { OnOk result (content_of content.new ≡ all_added batch.items (content_of content.old)) }
+    ensures err { OnErr result (content_of content.new ≡ content_of content.old) }
     ensures sound { IsContent content.new }
-    ensures room { OnOk result (HasRoom more content.new.blocks) }
-    ensures count { OnOk result (content.new.count + more ≤ 2 ^ 64 - 1) }
 {
-    if usize::MAX - content.count < more {
-        return Err(AllocError);
-    }
-    make_room(&mut content.blocks, alloc, more)
+    let (count, size, highest) = (content.count, content.size, content.highest);
+    let mut log = Vec::with_capacity(alloc, batch.len())?;
+    let Err(error) = add_entries(content, alloc, batch, &mut log) else {
+        return Ok(());
+    };
+    take_all_back(&mut content.blocks, log);
+    content.count = count;
+    content.size = size;
+    content.highest = highest;
+    Err(error)
 }
 
 impl Memtable {
@@ -128,10 +186,7 @@ impl Memtable {
             id,
             alloc,
             content: Content {
-                blocks: Blocks {
-                    list: Vec::new(alloc),
-                    spare: Vec::new(alloc),
-                },
+                blocks: Vec::new(alloc),
                 count: 0,
                 size: 0,
                 highest: None,
@@ -179,28 +234,28 @@ impl Memtable {
     {
         entries_are_parted();
         first_visible_is_top();
-        first_visible(&self.content.blocks.list, key, snapshot, steps)
+        first_visible(&self.content.blocks, key, snapshot, steps)
     }
 
     /// The entries in order.
     pub fn iter(&self) -> Iter<'_>
         ensures { result ≡ self.now.entries }
     {
-        whole(&self.content.blocks.list)
+        whole(&self.content.blocks)
     }
 
     /// The entries in order, as a part that may be cut.
     pub fn span(&self) -> Span<'_>
         ensures { result ≡ self.now.entries }
     {
-        span_of(&self.content.blocks.list)
+        span_of(&self.content.blocks)
     }
 
     /// The entries in the bounds, in order. There is none where the lower bound is above the upper one.
     pub fn range(&self, bounds: &(Bound<UserKey>, Bound<UserKey>)) -> Iter<'_>
         ensures { result ≡ within bounds.now.0 bounds.now.1 self.now.entries }
     {
-        blocks_within(&self.content.blocks.list, &bounds.0, &bounds.1)
+        blocks_within(&self.content.blocks, &bounds.0, &bounds.1)
     }
 
     /// The bytes of all accepted inserts, replaced ones counted again, up to 2^64 - 1.
@@ -259,7 +314,8 @@ impl Memtable {
         self.insert_counted(item, &mut Steps::new())
     }
 
-    /// `insert`, with a count of its steps: it moves at most 64 entries that were there. A refused one takes none.
+    /// `insert`, with a count of its steps: it moves at most 64 entries that were there, also
+    /// where a block grows or is split; a refused one moves none.
     pub fn insert_counted(
         &mut self,
         item: InternalValue,
@@ -272,11 +328,10 @@ impl Memtable {
         ensures memory { IfErr result (λ e. e ≡ Error.OutOfMemory) }
         ensures compared { (blocks : List (List Entry)) × AreBlocksOf self.old.entries blocks × CountsDigits (length blocks) 8 steps.old.compared steps.new.compared }
         ensures moved { steps.new.moved ≤ steps.old.moved + 64 }
-        ensures untaken { OnErr result (steps.new ≡ steps.old) }
+        ensures unmoved { OnErr result (steps.new.moved ≡ steps.old.moved) }
     {
-        prepare(&mut self.content, self.alloc, 1)?;
         let added = size_of_entry(&item);
-        add_entry(&mut self.content, item, steps);
+        add_entry(&mut self.content, self.alloc, item, steps)?;
         Ok((added, self.content.size))
     }
 
@@ -288,9 +343,7 @@ impl Memtable {
         ensures err { OnErr result (self.new ≡ self.old) }
         ensures memory { IfErr result (λ e. e ≡ Error.OutOfMemory) }
     {
-        prepare(&mut self.content, self.alloc, batch.len())?;
-        add_entries(&mut self.content, batch, &mut Steps::new());
-        trim(&mut self.content.blocks);
+        add_all(&mut self.content, self.alloc, batch)?;
         Ok(())
     }
 }

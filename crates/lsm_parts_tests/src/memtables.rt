@@ -1,7 +1,7 @@
 // Look-ups, sizes and bounds of a memtable, and how many steps its calls take.
 use crate::samples::{Bounds, all, entry, excluded, included, set, tombstone};
 use lsm_below::{InternalValue, SeqNo};
-use lsm_parts::{Error, Memtable, Steps};
+use lsm_parts::{Error, Iter, Memtable, Steps};
 use std::alloc::Global;
 use std::process::Abort;
 
@@ -85,9 +85,17 @@ fn set_batch(alloc: Global, table: &mut Memtable) -> Result<(), Error> {
     table.insert_all(batch)
 }
 
+fn number_of(entries: Iter<'_>) -> usize {
+    let mut count: usize = 0;
+    for _ in entries {
+        count = count.saturating_add(1);
+    }
+    count
+}
+
 /// Whether so many entries lie within bounds, the first one with this number.
 fn lends(table: &Memtable, bounds: Bounds, count: usize, first: Option<SeqNo>) -> bool {
-    table.range(&bounds).count() == count
+    number_of(table.range(&bounds)) == count
         && table.range(&bounds).next().map(|entry| entry.key.seqno) == first
 }
 
@@ -161,7 +169,7 @@ fn counts_stop_at_the_greatest_number(rt: HostRuntime) {
 /// Whether a part between bounds gives this many entries, and so many once it is cut again.
 fn cuts_again(table: &Memtable, bounds: &Bounds, count: usize, again: &Bounds, left: usize) -> bool {
     let part = table.span().within(bounds);
-    part.iter().count() == count && part.within(again).iter().count() == left
+    number_of(part.iter()) == count && number_of(part.within(again).iter()) == left
 }
 
 /// Whether a part finds an entry of the key below the snapshot.

@@ -6,12 +6,12 @@ use Rattle.lsm_memtable.proofs.memtable.Memtable.get_counted.Goals as goal
 pub returns-clause-is : goal.returns-clause-is
 returns-clause-is c =
     rw (← c.self.view_is, ← c.deref.ensures.value)
-    (c.first_visible.ensures.found ∙ c.entries_are_parted.ensures.newest (joined c.deref.result.now) c.args.key.now c.args.snapshot (rw c.deref.ensures.value c.self.invariant.sound.blocks.rises))
+    (c.first_visible.ensures.found ∙ c.entries_are_parted.ensures.newest (joined c.deref.result.now) c.args.key.now c.args.snapshot (rw c.deref.ensures.value c.self.invariant.blocks.rises))
 
 pub returns-clause-greatest : goal.returns-clause-greatest
 returns-clause-greatest c =
     rw (← c.self.view_is, ← c.deref.ensures.value)
-    (found_top c.first_visible_is_top.ensures (joined c.deref.result.now) c.args.key.now c.args.snapshot _ (rw c.deref.ensures.value c.self.invariant.sound.blocks.rises) c.first_visible.ensures.found)
+    (found_top c.first_visible_is_top.ensures (joined c.deref.result.now) c.args.key.now c.args.snapshot _ (rw c.deref.ensures.value c.self.invariant.blocks.rises) c.first_visible.ensures.found)
 
 pub returns-clause-none : goal.returns-clause-none
 returns-clause-none c =
