@@ -1,6 +1,6 @@
 // All entries of several sources, in order.
 
-ghost use Rattle.std.specs.Prelude.{IfErr, ◌≡◌, ◌+◌, [], ◌∷◌, ◌++◌, length, map, flat_map, IfOk, OnOk, OnSome, IfSome, MatchOption, true, false};
+ghost use Rattle.std.specs.Prelude.{IfErr, ◌≡◌, ◌+◌, [], ◌∷◌, map, flat_map, IfOk, OnOk, OnSome, IfSome, MatchOption, true, false};
 ghost use Rattle.std.specs.List.{All, range_with_len};
 ghost use Rattle.std.specs.List.Sorted.{IsPermutation};
 ghost use Rattle.std.proofs.Props.{props};
