@@ -23,6 +23,9 @@ eqb_flips a b = by_same a b (λ e. eq-eqb a b e ∙ sym (eq-eqb b a (sym e))) (�
 pub once_permuted : (n : ℕ) (xs ys : List ℕ) → IsPermutation xs ys → IsDistinct eqb xs × All (λ i. i < n) xs → IsDistinct eqb ys × All (λ i. i < n) ys
 once_permuted n xs ys same h = (IsDistinct-IsPermutation eqb eqb_flips xs ys same h.0, All-permutation (λ i. i < n) xs ys same h.1)
 
+pub below_left : (n x : ℕ) (xs rest : List ℕ) → IsPermutation xs (x ∷ rest) → All (λ i. i < n) xs → All (λ i. i < n) rest
+below_left n x xs rest same h k d lt = All-permutation (λ i. i < n) xs (x ∷ rest) same h (suc k) d (omega arith)
+
 not_in_range : (i a n : ℕ) → i < a → AllByRecursion (λ j. eqb i j ≡ false) (range_with_len a n)
 not_in_range i a zero lt = tt
 not_in_range i a (suc n) lt = (ne_eqb i a (λ e. absurd (omega arith)), not_in_range i (a + 1) n (omega arith))
@@ -131,7 +134,7 @@ asked_ended heads lists order rest place h q nothing same long here there =
     let len : length (set heads i h) ≡ length heads = length-set heads i h in
     let once = once_permuted (length heads) order (i ∷ rest) same q.0 in
     let fits = q.1 in (
-      rw len (once.0.1, λ k d lt. once.1 (suc k) d (omega arith)),
+      rw len (once.0.1, below_left (length heads) i order rest same q.0.1),
       omega arith,
       λ p k l a b m.
           let e : get_or rest p 0 ≡ get_or order p 0 = there p (omega arith) (omega arith) in

@@ -1,6 +1,6 @@
 // All entries of several sources, in order.
 
-ghost use Rattle.std.specs.Prelude.{IfErr, ◌≡◌, ◌+◌, [], ◌∷◌, ◌++◌, length, map, flat_map, IfOk, OnOk, OnSome, IfSome, MatchOption, true, false};
+ghost use Rattle.std.specs.Prelude.{IfErr, ◌≡◌, ◌+◌, [], ◌∷◌, map, flat_map, IfOk, OnOk, OnSome, IfSome, MatchOption, true, false};
 ghost use Rattle.std.specs.List.{All, range_with_len};
 ghost use Rattle.std.specs.List.Sorted.{IsPermutation};
 ghost use Rattle.std.proofs.Props.{props};
@@ -19,8 +19,8 @@ use std::marker::Model;
 /// All entries of several sources, each as often as it came: keys rise, and under one key the sequence numbers fall.
 ///
 /// Entries of one key and sequence number come in any order. No more than one entry of each source is held,
-/// and none is copied. Their indexes are a heap: of k sources the first call compares some 2 k entries, and each further
-/// one asks one source and compares some 2 log2 k.
+/// and none is copied. The sources stand in a heap, which they leave as they end: the first call asks all k of them and
+/// makes 2 k comparisons at most, and each further one asks one of them and makes some 2 log2 k.
 ///
 /// ```text
 /// for entry in Merger::new(alloc, sources)? { .. }
@@ -45,8 +45,8 @@ impl<S: Source> Model for Merger<S> {
     ghost view = { λ m. rest_of m.over (merged (map (λ s. all_of s.head (S.rest s.source).entries) m.slots.items)) };
 }
 
-/// Asks for the head of the slot at a place, and moves its index down to where it belongs. Where the source has ended, its
-/// index leaves the heap.
+/// Asks for the head of the slot at a place, and moves its index down to where it belongs. The index of a source that has
+/// ended leaves the heap.
 fn settle_place<S: Source>(
     slots: &mut [Slot<S>],
     order: &mut Vec<usize>,

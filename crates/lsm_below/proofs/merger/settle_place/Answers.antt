@@ -1,12 +1,27 @@
-use Rattle.std.proofs.Common.{◌≡◌, ◌<◌, ◌-◌, ◌∙◌, sym, ap, map, length, get_or, set, drop, [], ◌∷◌, IsPermutation, arith}
+use Rattle.std.proofs.Common.{◌≡◌, ◌<◌, ◌-◌, ◌∙◌, sym, ap, map, length, get_or, set, drop, [], ◌∷◌, IsPermutation, All, arith}
 use Rattle.std.proofs.Math.Seq.{map-set_same}
 use Rattle.std.proofs.lemmas.Grind.{get_or_default_zero}
-use Rattle.std.proofs.lemmas.List.{get_or-map, map-set, length-map}
+use Rattle.std.proofs.lemmas.List.{get_or-map, map-set, length-map, length-set}
 use Rattle.std.proofs.lemmas.List.Sorted.{IsPermutation-swap_remove}
 use Rattle.lsm_below.specs.Slots.{all_of}
-use Rattle.lsm_below.proofs.Queues.{IsAsked, asked_found, asked_ended, nothing_left_in, queue_sunk, written_back}
+use Rattle.lsm_below.proofs.Queues.{IsAsked, below_left, asked_found, asked_ended, nothing_left_in, queue_sunk, written_back}
 use Rattle.lsm_below.proofs.merger.settle_place.Goals as goal
 use Rattle.lsm_below.proofs.merger.settle_place.Goals.{then-not-found, else-not-found}
+
+pub sink-requires : goal.sink-requires
+sink-requires g c =
+    let slots = c.args.slots.now in
+    let order = c.args.order.now.items in
+    let fits : c.args.place < length order = omega arith in
+    let inside : All (λ i. i < length slots) order = λ k d lt. omega (arith, c.requires.0.1 k d lt, length-map slots (λ s. s.head)) in
+    let left : All (λ i. i < length slots) c.if-not-found.order.items = elim c.if-not-found.branch [
+      | then-not-found w ↦
+          let gone = w.swap_remove.ensures in
+          let same : IsPermutation order (w.swap_remove.result ∷ w.swap_remove.new.self.items) = rw gone.items (IsPermutation-swap_remove order c.args.place w.swap_remove.result fits gone.value) in
+          rw w.order-is (below_left (length slots) w.swap_remove.result order w.swap_remove.new.self.items same inside)
+      | else-not-found w ↦ rw w.order-is inside
+    ] in
+    rw (c.deref_mut.ensures.value, length-set slots c.index-index.result.now c.fill_slot.new.slot) left
 
 pub returns-clause-same : goal.returns-clause-same
 returns-clause-same g c =
