@@ -24,8 +24,8 @@ pub const CHECKS: Plan = Plan {
 /// Why arguments ask nothing that the program does.
 #[derive(Debug, PartialEq, Eq, Drop, Error)]
 pub enum BadArguments {
-    #[error("the arguments can't be read, or are no text")]
-    Unreadable,
+    #[error("an argument is no text")]
+    NoText,
     #[error("N, the number of keys, is to be from 1 to 100000000")]
     NoNumber,
     #[error("one argument at most is taken: no workload has a use for a folder")]

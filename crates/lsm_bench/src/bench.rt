@@ -39,6 +39,11 @@ where
     Ok(())
 }
 
+/// How many of so many bytes a key has.
+fn per_key(bytes: u64, keys: usize) -> u64 {
+    bytes.checked_div(keys as u64).unwrap_or(0)
+}
+
 /// A tree into which keys were put.
 #[derive(Drop)]
 struct Filled {
@@ -169,12 +174,11 @@ impl Bench {
 
     /// How many bytes a key the tree's puts added to this process. It takes no time.
     fn weigh(&self, filled: &Filled) -> Figures {
+        let ops = self.plan.keys;
+        let check = per_key(filled.added, ops);
         Figures {
-            tally: Tally {
-                ops: self.plan.keys,
-                check: filled.added.checked_div(self.plan.keys as u64).unwrap_or(0),
-            },
-            time: Duration::from_secs(0),
+            tally: Tally { ops, check },
+            time: Duration::ZERO,
         }
     }
 }

@@ -4,6 +4,9 @@
 //! depends on every answer, so that no call can be left out unseen. Without arguments N is 1,000 and no line has
 //! seconds, so that the lines are the same on every machine. docs/PERFORMANCE.md says what each workload does.
 //!
+//! It ends with status 0; with 1 where memory, the clock or the output failed it, and says so; and with 2 where its
+//! arguments ask nothing.
+//!
 //! | Module | Holds |
 //! |-|-|
 //! | `arguments` | what the program's arguments ask |
@@ -31,9 +34,11 @@ mod resident;
 mod trees;
 mod workloads;
 
+use anyhow::Error;
 use arguments::{BadArguments, Plan, parse_arguments};
 use bench::run_workloads;
 use progress::Progress;
+use std::io::ErrorKind;
 use std::process::ExitCode;
 use std::rt::Env;
 use std::{env, io};
@@ -42,35 +47,42 @@ const USAGE: u8 = 2;
 
 fn main(rt: HostRuntime) -> ExitCode {
     let plan = match plan_run(&rt) {
-        Ok(plan) => plan,
-        Err(error) => {
-            // Nothing is left to be told where even this can't be written.
-            let _ = eprintln!(rt; "lsm_bench: {error}\nusage: lsm_bench [N]");
-            return ExitCode::from(USAGE);
-        }
+        Ok(Ok(plan)) => plan,
+        Ok(Err(error)) => return tell_usage(&rt, error),
+        Err(error) => return tell_fault(&rt, Error::from(error)),
     };
     let mut progress = Progress::new(rt.stderr());
     match run_workloads(&rt, &mut progress, plan) {
         Ok(()) => ExitCode::SUCCESS,
-        Err(error) => {
-            let _ = eprintln!(rt; "lsm_bench: {error:#}");
-            ExitCode::FAILURE
-        }
+        Err(error) => tell_fault(&rt, error),
     }
 }
 
-/// What the program's arguments ask.
-fn plan_run<R: Env + AllocGlobal>(rt: &R) -> Result<Plan, BadArguments> {
+/// What the program's arguments ask, or why they ask nothing.
+fn plan_run<R: Env + AllocGlobal>(rt: &R) -> io::Result<Result<Plan, BadArguments>> {
     match list_arguments(rt) {
-        Ok(words) => parse_arguments(&words),
-        Err(_) => Err(BadArguments::Unreadable),
+        Ok(words) => Ok(parse_arguments(&words)),
+        Err(error) if error.kind() == ErrorKind::InvalidData => Ok(Err(BadArguments::NoText)),
+        Err(error) => Err(error),
     }
 }
 
-/// The program's arguments, without its name.
+/// The program's arguments, without its name. One that is no text is an error of the kind `InvalidData`.
 fn list_arguments<R: Env + AllocGlobal>(rt: &R) -> io::Result<Vec<String>> {
     let words = env::args(rt)?.skip(1).collect(rt.alloc())?;
     Ok(words)
+}
+
+/// Says why the arguments ask nothing. Nothing is left to be told where even this can't be written.
+fn tell_usage(rt: &impl Eprint, error: BadArguments) -> ExitCode {
+    let _ = eprintln!(rt; "lsm_bench: {error}\nusage: lsm_bench [N]");
+    ExitCode::from(USAGE)
+}
+
+/// Says what ended a run.
+fn tell_fault(rt: &impl Eprint, error: Error) -> ExitCode {
+    let _ = eprintln!(rt; "lsm_bench: {error:#}");
+    ExitCode::FAILURE
 }
 
 #[cfg(test)]
