@@ -12,7 +12,7 @@ module _ {X : Type 0} where
   pub dealt_lower : (lower upper : List X) (x : X) → upper ≡ [] → (lower ++ x ∷ []) ++ upper ≡ (lower ++ upper) ++ x ∷ []
   dealt_lower lower upper x none = ap (λ l. (lower ++ x ∷ []) ++ l) none ∙ (append-nil (lower ++ x ∷ []) ∙ ap (λ l. l ++ x ∷ []) (sym (append-nil lower) ∙ ap (λ l. lower ++ l) (sym none)))
 
-  -- an item put behind the first part, the rest behind it
+  -- an item put after the first part, the rest after it
   pub dealt_at : (front rest xs all : List X) (n : ℕ) (x : X) → front ++ rest ≡ xs → length front ≡ n → all ≡ (front ++ x ∷ []) ++ rest → all ≡ insert xs n x
   dealt_at front rest xs all n x whole len is =
       let here : n - n ≡ 0 = omega arith in

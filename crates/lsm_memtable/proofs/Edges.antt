@@ -25,7 +25,7 @@ le_as Less = refl
 le_as Equal = refl
 le_as Greater = refl
 
--- all entries of the key are below a number above all
+-- all entries of the key are below a sequence number above all
 before_all : (o : Ordering) (n : ℕ) → n < 2 ^ 64 → is_lt o ≡ by_ordering o true (nat_le (2 ^ 64) n) false
 before_all Less n lt = refl
 before_all Equal n lt = grind (arith, nat_tests)

@@ -172,7 +172,7 @@ above_next entries x y e less above =
 module _ (entries : EntriesAreOrdered) (xs : List InternalValue) (rises : Rises entry_cmp xs) (e : InternalValue) (at : ℕ)
     (before : (j : ℕ) (d : InternalValue) → j < at → stands_before e.key.user_key (e.key.seqno + 1) (get_or xs j d) ≡ true)
     (behind : (j : ℕ) (d : InternalValue) → at ≤ j → j < length xs → stands_before e.key.user_key (e.key.seqno + 1) (get_or xs j d) ≡ false) where
-  -- over the entry of the same key and number
+  -- over the entry of the same key and sequence number
   pub put_over : (d : InternalValue) → at < length xs → is_eq (entry_cmp (get_or xs at d) e) ≡ true → put entry_cmp e xs ≡ set xs at e
   put_over d in_range same = put_set entries.total e xs at d rises in_range (is_eq_tie _ same)
 

@@ -47,14 +47,14 @@ impl Model for Block {
     ghost invariant = { λ b. (b.heads.items ≡ map entry_head b.entries.items) × All HasBytes b.entries.items };
 }
 
-/// A byte of the key, and zero behind its end.
+/// A byte of the key, and zero after its end.
 fn byte_at(key: &[u8], place: usize) -> u8
     ensures { result ≡ slice_index_or key.now place 0 }
 {
     if place < key.len() { key[place] } else { 0 }
 }
 
-/// The first 16 bytes of the key as a number, big endian, with zeros behind a short key.
+/// The first 16 bytes of the key as a number, big endian, with zeros after a short key.
 pub(crate) fn head_of(key: &[u8]) -> u128
     ensures head { result ≡ key_head key.now }
     ensures bytes { IsBytes key.now }
@@ -160,7 +160,7 @@ impl Block {
         low
     }
 
-    /// Whether the entry there has this key and number.
+    /// Whether the entry there has this key and sequence number.
     pub(crate) fn is_same(&self, place: usize, key: &InternalKey) -> bool
         requires { place < length self.now }
         ensures { (d : InternalValue) → result ≡ is_eq (key_cmp (slice_index_or self.now place d).key key.now) }
@@ -178,7 +178,7 @@ impl Block {
         mem::replace(&mut self.entries[place], entry)
     }
 
-    /// Takes the entry there out, and moves those behind.
+    /// Takes the entry there out, and moves those after.
     pub(crate) fn remove(&mut self, place: usize)
         requires { place < length self.old }
         ensures { self.new ≡ remove self.old place }
@@ -187,7 +187,7 @@ impl Block {
         self.entries.remove(place);
     }
 
-    /// Puts the entry there, and moves those behind; where there is no room, all move to a larger place.
+    /// Puts the entry there, and moves those after; where there is no room, all move to a larger place.
     /// Refused only for want of memory, and then nothing changes.
     pub(crate) fn insert(
         &mut self,

@@ -63,7 +63,7 @@ pub(crate) fn find(blocks: &[Block], key: &[u8], number: u128, steps: &mut Steps
     Place { block, at }
 }
 
-/// The entry of a key with the greatest number below the snapshot.
+/// The entry of a key with the greatest sequence number below the snapshot.
 pub(crate) fn first_visible<'a>(
     blocks: &'a [Block],
     key: &[u8],
@@ -158,7 +158,7 @@ fn split_in(
     Ok(())
 }
 
-/// Puts an entry behind all others, in a block of its own. Refused only for want of memory, and then nothing
+/// Puts an entry after all others, in a block of its own. Refused only for want of memory, and then nothing
 /// changes.
 fn push_block(
     blocks: &mut Vec<Block>,
@@ -176,7 +176,7 @@ fn push_block(
     Ok(())
 }
 
-/// Puts an entry at a place between entries. A full block is split, but where the entry goes behind all others a
+/// Puts an entry at a place between entries. A full block is split, but where the entry goes after all others a
 /// new block begins with it, so that keys that rise leave full blocks.
 /// Refused only for want of memory, and then nothing changes.
 fn insert_at(

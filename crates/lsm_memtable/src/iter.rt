@@ -40,7 +40,7 @@ impl<'a> Model for Iter<'a> {
     ghost invariant = { λ s. All IsFilled s.middle.now };
 }
 
-/// The first entry, and what is behind it.
+/// The first entry, and what comes after it.
 fn split_front<'a>(
     front: &'a [InternalValue],
     middle: &'a [Block],

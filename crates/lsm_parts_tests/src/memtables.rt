@@ -16,7 +16,7 @@ fn set_two_keys(table: &mut Memtable) -> Result<(), Error> {
     Ok(())
 }
 
-/// Whether a look-up finds this number and value, or nothing.
+/// Whether a look-up finds this sequence number and value, or nothing.
 fn finds(table: &Memtable, key: &str, snapshot: SeqNo, want: Option<(SeqNo, &str)>) -> bool {
     match (table.get(key.as_bytes(), snapshot), want) {
         (Some(entry), Some((seqno, value))) => {
@@ -93,7 +93,7 @@ fn number_of(entries: Iter<'_>) -> usize {
     count
 }
 
-/// Whether so many entries lie within bounds, the first one with this number.
+/// Whether so many entries lie within bounds, the first one with this sequence number.
 fn lends(table: &Memtable, bounds: Bounds, count: usize, first: Option<SeqNo>) -> bool {
     number_of(table.range(&bounds)) == count
         && table.range(&bounds).next().map(|entry| entry.key.seqno) == first
