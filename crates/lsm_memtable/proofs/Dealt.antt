@@ -1,17 +1,11 @@
 -- Items that were dealt to two lists.
-use Rattle.std.proofs.Common.{◌≡◌, ◌+◌, ◌-◌, ℕ, min, List, [], ◌∷◌, ◌++◌, length, map, refl, sym, ◌∙◌, ap, arith, append_assoc, append-nil, inl, inr}
+use Rattle.std.proofs.Common.{◌≡◌, ◌+◌, ◌-◌, ℕ, List, [], ◌∷◌, ◌++◌, length, map, refl, sym, ◌∙◌, ap, arith, append_assoc, append-nil}
 use Rattle.std.specs.List.{All, insert}
-use Rattle.std.proofs.lemmas.Bool.{cases_lt}
 use Rattle.std.proofs.lemmas.List.{length-append, nil_from_length}
 use Rattle.std.proofs.lemmas.List.Edits.{insert-append_right}
 use Rattle.std.proofs.lemmas.List.Elements.{All-cons, All-head, All-tail, All-nil}
-use Rattle.lsm_memtable.specs.Blocks.{AreDealt}
 
 module _ {X : Type 0} where
-  -- one more at the end of the lower list, where the upper one is empty
-  pub dealt_lower : (lower upper : List X) (x : X) → upper ≡ [] → (lower ++ x ∷ []) ++ upper ≡ (lower ++ upper) ++ x ∷ []
-  dealt_lower lower upper x none = ap (λ l. (lower ++ x ∷ []) ++ l) none ∙ (append-nil (lower ++ x ∷ []) ∙ ap (λ l. l ++ x ∷ []) (sym (append-nil lower) ∙ ap (λ l. lower ++ l) (sym none)))
-
   -- an item put after the first part, the rest after it
   pub dealt_at : (front rest xs all : List X) (n : ℕ) (x : X) → front ++ rest ≡ xs → length front ≡ n → all ≡ (front ++ x ∷ []) ++ rest → all ≡ insert xs n x
   dealt_at front rest xs all n x whole len is =
@@ -19,16 +13,6 @@ module _ {X : Type 0} where
       is
       ∙ (append_assoc front (x ∷ []) rest
       ∙ sym (ap (λ l. insert l n x) (sym whole) ∙ (insert-append_right front rest n n x len (omega arith) ∙ ap (λ k. front ++ insert rest k x) here)))
-
-  -- how long the lower list is
-  pub dealt_len : (keep : ℕ) (lower upper : List X) (n : ℕ) → AreDealt keep lower upper → length (lower ++ upper) ≡ n → length lower ≡ min keep n
-  dealt_len keep lower upper n dealt len = elim (cases_lt (length lower) keep) [
-    | inl less ↦
-        let all : length lower ≡ n = sym (ap (λ (l : List X). length l) (ap (λ l. lower ++ l) (dealt.1 less) ∙ append-nil lower)) ∙ len in
-        let most = dealt.0 in
-        omega arith
-    | inr full ↦ let most = dealt.0 in let both = length-append lower upper in omega arith
-  ]
 
   -- nothing was dealt to the upper list
   pub all_kept : (lower upper xs : List X) → lower ++ upper ≡ xs → length lower ≡ length xs → lower ≡ xs

@@ -43,9 +43,6 @@ from_included low e lt = ap (λ o. not (is_le o)) (nat_list_cmp_total.antisymm l
 pub from_excluded : (low : Bytes) (e : Entry) → not (is_from (Excluded low) e.key.user_key) ≡ stands_before low 0 e
 from_excluded low e = ap (λ o. not (is_lt o)) (nat_list_cmp_total.antisymm low e.key.user_key) ∙ (le_as _ ∙ before_none _ e.key.seqno)
 
-pub to_included : (high : Bytes) (e : Entry) → is_to (Included high) e.key.user_key ≡ stands_before high 0 e
-to_included high e = before_none _ e.key.seqno
-
 pub to_excluded : (high : Bytes) (e : Entry) → e.key.seqno < 2 ^ 64 → is_to (Excluded high) e.key.user_key ≡ stands_before high (2 ^ 64) e
 to_excluded high e lt = before_all _ e.key.seqno lt
 
@@ -60,13 +57,6 @@ module _ (bs : List (List Entry)) where
         before = λ j d lt. same j d (omega arith) ∙ found.before j d lt;
         behind = λ j d le lt. same j d lt ∙ found.behind j d le lt;
       }
-
-  pub edge_first : (p : Entry → Bool) → ((e : Entry) → p e ≡ false) → 0 < length bs → IsEdge p bs 0 0
-  edge_first p fails some = record {
-    place = (some, omega arith);
-    before = λ j d lt. absurd (omega arith);
-    behind = λ j d le lt. fails _;
-  }
 
   pub edge_last : (p : Entry → Bool) (b i : ℕ) → ((e : Entry) → p e ≡ true) → b + 1 ≡ length bs → i ≡ length (get_or bs b []) → IsEdge p bs b i
   edge_last p b i passes last end =

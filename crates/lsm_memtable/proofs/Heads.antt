@@ -127,6 +127,12 @@ All_insert P xs i x p all = All-append P (take i xs) (x ∷ drop i xs) (All-take
 pub All_remove : {X : Type 0} (P : X → Type 0) (xs : List X) (i : ℕ) → All P xs → All P (remove xs i)
 All_remove P xs i all = All-append P (take i xs) (drop (suc i) xs) (All-take P i xs all) (All-drop P (suc i) xs all)
 
+-- the head of the last entry
+pub last_read : (entries : List InternalValue) (heads : List ℕ) (last : ℕ) (d : InternalValue) → 0 < length entries → heads ≡ map entry_head entries → last ≡ get_or heads (length heads - 1) 0 → last ≡ entry_head (get_or entries (length entries - 1) d)
+last_read entries heads last d some same is =
+    let len : length heads ≡ length entries = ap (λ (l : List ℕ). length l) same ∙ length-map entries entry_head in
+    is ∙ (ap (λ n. get_or heads (n - 1) 0) len ∙ (ap (λ l. get_or l (length entries - 1) 0) same ∙ get_or-map entry_head entries (length entries - 1) d 0 (omega arith)))
+
 -- heads and entries that were dealt alike, with one more
 module _ (xs : List InternalValue) (hs : List ℕ) (place keep head : ℕ) (e : InternalValue) (lower_heads upper_heads : List ℕ) (lower upper : List InternalValue) (same : hs ≡ map entry_head xs) (head_is : head ≡ entry_head e)
     (heads_dealt : lower_heads ++ upper_heads ≡ insert hs place head) (dealt : lower ++ upper ≡ insert xs place e) (heads_len : length lower_heads ≡ min keep (length hs + 1)) (len : length lower ≡ min keep (length xs + 1)) where

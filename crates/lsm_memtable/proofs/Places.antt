@@ -107,10 +107,9 @@ module _ (bs : List (List InternalValue)) (b : ℕ) (block : List InternalValue)
   read_block = read ∙ get_or_default bs b block [] lt
 
   -- what was answered of its last entry
-  pub at_last : (key : List ℕ) (s n : ℕ) (t u : Bool) → n ≡ length block → ((d : InternalValue) → t ≡ stands_before key s (get_or block (n - 1) d)) → t ≡ u
+  pub at_last : (key : List ℕ) (s : ℕ) (t u : Bool) → ((d : InternalValue) → t ≡ stands_before key s (get_or block (length block - 1) d)) → t ≡ u
       → (d : InternalValue) → stands_before key s (get_or (get_or bs b []) (length (get_or bs b []) - 1) d) ≡ u
-  at_last key s n t u len is answer d =
-      subst (λ (x : List InternalValue). stands_before key s (get_or x (length x - 1) d) ≡ u) read_block (subst (λ k. stands_before key s (get_or block (k - 1) d) ≡ u) len (sym (is d) ∙ answer))
+  at_last key s t u is answer d = subst (λ (x : List InternalValue). stands_before key s (get_or x (length x - 1) d) ≡ u) read_block (sym (is d) ∙ answer)
 
   pub placed_read : EntriesAreParted → AreBlocks bs → (key : List ℕ) (s i : ℕ)
       → ((j : ℕ) (d : InternalValue) → j < length (joined (take b bs)) → stands_before key s (get_or (joined bs) j d) ≡ true)

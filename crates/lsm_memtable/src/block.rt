@@ -27,24 +27,35 @@ const HALF: usize = 32;
 /// For how many more entries a block has room when it was made or has grown.
 const STEP: usize = 8;
 
-/// Entries in order, and the head of each one's key, which most comparisons need alone.
+/// Entries in order, and the head of each one's key, which most comparisons need alone. The last head stands
+/// beside them, since a search among blocks needs nothing else of most.
 #[derive(Drop)]
 pub(crate) struct Block {
+    last: u128,
     heads: Vec<u128>,
     entries: Vec<InternalValue>,
 }
 
 impl Model for Block {
-    ghost use Rattle.std.specs.Prelude.{◌≡◌, List, map};
-    ghost use Rattle.std.specs.List.{All};
+    ghost use Rattle.std.specs.Prelude.{◌≡◌, ◌-◌, List, length, slice_index_or};
     ghost use Rattle.lsm_below.specs.declared.value.InternalValue.{InternalValue};
-    ghost use Rattle.lsm_memtable.specs.Heads.{entry_head, HasBytes};
+    ghost use Rattle.lsm_memtable.specs.Heads.{AreHeads};
 
     ghost Value = { List InternalValue };
 
     ghost view = { λ b. b.entries.items };
 
-    ghost invariant = { λ b. (b.heads.items ≡ map entry_head b.entries.items) × All HasBytes b.entries.items };
+    ghost invariant = { λ b. AreHeads b.heads.items b.entries.items × (b.last ≡ slice_index_or b.heads.items (length b.heads.items - 1) 0) };
+}
+
+/// The last head, 0 where there is none.
+fn last_of(heads: &[u128]) -> u128
+    ensures { result ≡ slice_index_or heads.now (length heads.now - 1) 0 }
+{
+    match heads.last() {
+        Some(head) => *head,
+        None => 0,
+    }
 }
 
 /// A byte of the key, and zero after its end.
@@ -66,7 +77,7 @@ pub(crate) fn head_of(key: &[u8]) -> u128
     head
 }
 
-/// Whether the entry stands before each entry of the key that is numbered below this.
+/// Whether the entry comes before each entry of the key with a sequence number below this.
 fn stands_ahead(entry: &InternalValue, key: &[u8], number: u128) -> bool
     ensures { result ≡ stands_before key.now number entry.now }
 {
@@ -84,11 +95,14 @@ impl Block {
     {
         let mut heads = Vec::with_capacity(alloc, STEP)?;
         let mut entries = Vec::with_capacity(alloc, STEP)?;
-        heads
-            .push(head_of(entry.key.user_key.as_slice()))
-            .unwrap();
+        let last = head_of(entry.key.user_key.as_slice());
+        heads.push(last).unwrap();
         entries.push(entry).unwrap();
-        Ok(Block { heads, entries })
+        Ok(Block {
+            last,
+            heads,
+            entries,
+        })
     }
 
     pub(crate) fn len(&self) -> usize
@@ -110,7 +124,8 @@ impl Block {
         &self.entries[place]
     }
 
-    /// Whether the entry there stands before each entry of the key that is numbered below this. It is one comparison.
+    /// Whether the entry there comes before each entry of the key with a sequence number below this. It is one
+    /// comparison.
     pub(crate) fn is_ahead(
         &self,
         place: usize,
@@ -136,7 +151,33 @@ impl Block {
         stands_ahead(&self.entries[place], key, number)
     }
 
-    /// How many entries stand before each entry of the key that is numbered below this.
+    /// `is_ahead` for the last entry. Where the heads differ it looks at nothing else.
+    pub(crate) fn is_last_ahead(
+        &self,
+        head: u128,
+        key: &[u8],
+        number: u128,
+        steps: &mut Steps,
+    ) -> bool
+        requires some { 0 < length self.now }
+        requires head { head ≡ key_head key.now }
+        ensures is { (d : InternalValue) → result ≡ stands_before key.now number (slice_index_or self.now (length self.now - 1) d) }
+        ensures compared { steps.new.compared ≡ capped (steps.old.compared + 1) }
+        ensures moved { steps.new.moved ≡ steps.old.moved }
+    {
+        steps.tick_compared();
+        let last = self.last;
+        if last < head {
+            return true;
+        }
+        if head < last {
+            return false;
+        }
+        let at = self.entries.len() - 1;
+        stands_ahead(&self.entries[at], key, number)
+    }
+
+    /// How many entries come before each entry of the key with a sequence number below this.
     pub(crate) fn place(&self, head: u128, key: &[u8], number: u128, steps: &mut Steps) -> usize
         requires rises { Rises entry_cmp self.now }
         requires head { head ≡ key_head key.now }
@@ -175,6 +216,7 @@ impl Block {
         ensures replaced { result ≡ slice_index_or self.old place result }
     {
         self.heads[place] = head_of(entry.key.user_key.as_slice());
+        self.last = last_of(&self.heads);
         mem::replace(&mut self.entries[place], entry)
     }
 
@@ -184,7 +226,9 @@ impl Block {
         ensures { self.new ≡ remove self.old place }
     {
         self.heads.remove(place);
-        self.entries.remove(place);
+        self.last = last_of(&self.heads);
+        let taken = self.entries.remove(place);
+        drop(taken);
     }
 
     /// Puts the entry there, and moves those after; where there is no room, all move to a larger place.
@@ -200,6 +244,7 @@ impl Block {
         requires few { length self.old < 64 }
         ensures ok { OnOk result (self.new ≡ insert self.old place entry) }
         ensures err { OnErr result ((self.new ≡ self.old) × (steps.new ≡ steps.old)) }
+        ensures counted { OnOk result (capped (steps.old.moved + (length self.old - place)) ≤ steps.new.moved) }
         ensures moved { steps.new.moved ≤ steps.old.moved + 64 }
         ensures compared { steps.new.compared ≡ steps.old.compared }
     {
@@ -210,6 +255,7 @@ impl Block {
                 .insert(place, head_of(entry.key.user_key.as_slice()))
                 .unwrap();
             self.entries.insert(place, entry).unwrap();
+            self.last = last_of(&self.heads);
             return Ok(());
         }
         let room = (len + STEP).min(MOST);
@@ -229,6 +275,7 @@ impl Block {
         requires place { place ≤ length self.old }
         requires full { length self.old ≡ 64 }
         ensures ok { IfOk result (λ upper. (self.new ++ upper ≡ insert self.old place entry) × (length self.new ≡ 32)) }
+        ensures counted { OnOk result (steps.new.moved ≡ capped (steps.old.moved + 64)) }
         ensures err { OnErr result ((self.new ≡ self.old) × (steps.new ≡ steps.old)) }
         ensures moved { steps.new.moved ≤ steps.old.moved + 64 }
         ensures compared { steps.new.compared ≡ steps.old.compared }
@@ -252,6 +299,7 @@ impl Block {
         requires keep { keep ≤ room }
         requires room { length self.old + 1 ≤ keep + room }
         ensures ok { IfOk result (λ rest. (self.new ++ rest ≡ insert self.old place entry) × (length self.new ≡ min keep (length self.old + 1))) }
+        ensures counted { OnOk result (steps.new.moved ≡ capped (steps.old.moved + length self.old)) }
         ensures err { OnErr result ((self.new ≡ self.old) × (steps.new ≡ steps.old)) }
         ensures moved { steps.new.moved ≤ steps.old.moved + length self.old }
         ensures compared { steps.new.compared ≡ steps.old.compared }
@@ -268,9 +316,11 @@ impl Block {
         spread(old_heads, place, head, &mut heads, keep, &mut upper_heads);
         let old_entries = mem::replace(&mut self.entries, Vec::new(alloc));
         spread(old_entries, place, entry, &mut entries, keep, &mut upper);
+        self.last = last_of(&heads);
         self.heads = heads;
         self.entries = entries;
         Ok(Block {
+            last: last_of(&upper_heads),
             heads: upper_heads,
             entries: upper,
         })

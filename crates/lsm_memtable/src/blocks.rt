@@ -15,7 +15,7 @@ use crate::block::{Block, MOST, head_of};
 use lsm_below::{InternalKey, InternalValue, SeqNo, entries_are_ordered, entries_are_parted};
 use std::alloc::{AllocError, Global};
 
-/// The block where the entries of the key that are numbered below this begin, or the last one.
+/// The block where the entries of the key with a sequence number below this begin, or the last one.
 fn block_for(blocks: &[Block], head: u128, key: &[u8], number: u128, steps: &mut Steps) -> usize
     requires some { 0 < length blocks.now }
     requires head { head ≡ key_head key.now }
@@ -31,8 +31,7 @@ fn block_for(blocks: &[Block], head: u128, key: &[u8], number: u128, steps: &mut
     let mut high = blocks.len() - 1;
     while low < high {
         let mid = low + (high - low) / 2;
-        let block = &blocks[mid];
-        if block.is_ahead(block.len() - 1, head, key, number, steps) {
+        if blocks[mid].is_last_ahead(head, key, number, steps) {
             low = mid + 1;
         } else {
             high = mid;
@@ -48,7 +47,7 @@ pub(crate) struct Place {
     pub(crate) at: usize,
 }
 
-/// Where the entries of the key that are numbered below this begin.
+/// Where the entries of the key with a sequence number below this begin.
 pub(crate) fn find(blocks: &[Block], key: &[u8], number: u128, steps: &mut Steps) -> Place
     requires some { 0 < length blocks.now }
     requires blocks { AreBlocks blocks.now }
@@ -63,7 +62,7 @@ pub(crate) fn find(blocks: &[Block], key: &[u8], number: u128, steps: &mut Steps
     Place { block, at }
 }
 
-/// The entry of a key with the greatest sequence number below the snapshot.
+/// The first entry of a key below the snapshot.
 pub(crate) fn first_visible<'a>(
     blocks: &'a [Block],
     key: &[u8],

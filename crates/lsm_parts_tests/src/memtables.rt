@@ -167,7 +167,13 @@ fn counts_stop_at_the_greatest_number(rt: HostRuntime) {
 }
 
 /// Whether a part between bounds gives this many entries, and so many once it is cut again.
-fn cuts_again(table: &Memtable, bounds: &Bounds, count: usize, again: &Bounds, left: usize) -> bool {
+fn cuts_again(
+    table: &Memtable,
+    bounds: &Bounds,
+    count: usize,
+    again: &Bounds,
+    left: usize,
+) -> bool {
     let part = table.span().within(bounds);
     number_of(part.iter()) == count && number_of(part.within(again).iter()) == left
 }

@@ -25,8 +25,8 @@ pub use lsm_memtable::{Error, Iter, Memtable, Span, Steps};
 pub use lsm_model::{Answer, JournalEntry, KeyRanges, KvPairs, Op, Ops, Question};
 pub use lsm_parts::{
     Config, DEFAULT_LEVEL_COUNT, End, Guard, IterGuard, IterState, LIMIT, RangeItem,
-    SealedMemtables, SequenceNumberCounter, SuperVersion, SuperVersions, TreeIter,
-    Version, VersionId, first_shown, last_shown, prefix_to_range, seqno_filter, take_ends,
+    SealedMemtables, SequenceNumberCounter, SuperVersion, SuperVersions, TreeIter, Version,
+    VersionId, first_shown, last_shown, prefix_to_range, seqno_filter, take_ends,
 };
 pub use lsm_recorded::{Pass, Recorded};
 pub use lsm_runs::{Counter, Outcome, Reply, Step, run};

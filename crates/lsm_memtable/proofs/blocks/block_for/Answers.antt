@@ -3,19 +3,19 @@ use Rattle.lsm_memtable.proofs.Places.{ahead_to, at_last}
 use Rattle.lsm_memtable.proofs.Paid.{paid_step}
 use Rattle.lsm_memtable.proofs.blocks.block_for.Goals as goal
 
-pub loop-low-preserved-then-is_ahead : goal.loop-low-preserved-then-is_ahead
-loop-low-preserved-then-is_ahead c =
+pub loop-low-preserved-then-is_last_ahead : goal.loop-low-preserved-then-is_last_ahead
+loop-low-preserved-then-is_last_ahead c =
     let i = c.loop-low.invariant in
     let t = c.loop-low-test.true in
     let mid = c.loop-low.low + (c.loop-low.high - c.loop-low.low) / 2 in
     let bs = c.args.blocks.now in
-    let last = at_last bs mid c.index-blocks-mid.result (omega arith) c.index-blocks-mid.is c.args.key.now c.args.number c.len.result c.is_ahead.result true c.len.ensures c.is_ahead.ensures.is c.if-is_ahead.true in (
+    let last = at_last bs mid c.index-blocks-mid.result (omega arith) c.index-blocks-mid.is c.args.key.now c.args.number c.is_last_ahead.result true c.is_last_ahead.ensures.is c.if-is_last_ahead.true in (
       omega arith,
       i.1,
       ahead_to c.entries_are_parted.ensures bs c.requires.blocks c.args.key.now c.args.number mid (omega arith) last,
       i.3,
-      paid_step (c.loop-low.high - c.loop-low.low) (c.loop-low.high - (mid + 1)) (length bs) c.args.steps.now.compared c.loop-low.steps.compared c.is_ahead.new.steps.compared i.4 (omega arith) (omega arith) (omega (arith, c.is_ahead.ensures.compared)),
-      c.is_ahead.ensures.moved ∙ i.5,
+      paid_step (c.loop-low.high - c.loop-low.low) (c.loop-low.high - (mid + 1)) (length bs) c.args.steps.now.compared c.loop-low.steps.compared c.is_last_ahead.new.steps.compared i.4 (omega arith) (omega arith) (omega (arith, c.is_last_ahead.ensures.compared)),
+      c.is_last_ahead.ensures.moved ∙ i.5,
     )
 
 pub loop-low-preserved : goal.loop-low-preserved
@@ -27,7 +27,7 @@ loop-low-preserved c =
       omega arith,
       omega arith,
       i.2,
-      λ d more. at_last bs mid c.index-blocks-mid.result (omega arith) c.index-blocks-mid.is c.args.key.now c.args.number c.len.result c.is_ahead.result false c.len.ensures c.is_ahead.ensures.is c.if-is_ahead.false d,
-      paid_step (c.loop-low.high - c.loop-low.low) (mid - c.loop-low.low) (length bs) c.args.steps.now.compared c.loop-low.steps.compared c.is_ahead.new.steps.compared i.4 (omega arith) (omega arith) (omega (arith, c.is_ahead.ensures.compared)),
-      c.is_ahead.ensures.moved ∙ i.5,
+      λ d more. at_last bs mid c.index-blocks-mid.result (omega arith) c.index-blocks-mid.is c.args.key.now c.args.number c.is_last_ahead.result false c.is_last_ahead.ensures.is c.if-is_last_ahead.false d,
+      paid_step (c.loop-low.high - c.loop-low.low) (mid - c.loop-low.low) (length bs) c.args.steps.now.compared c.loop-low.steps.compared c.is_last_ahead.new.steps.compared i.4 (omega arith) (omega arith) (omega (arith, c.is_last_ahead.ensures.compared)),
+      c.is_last_ahead.ensures.moved ∙ i.5,
     )

@@ -1,4 +1,4 @@
-use Rattle.std.proofs.Common.{◌+◌, min, length, subst, ap, ◌∙◌}
+use Rattle.std.proofs.Common.{◌+◌, ◌-◌, get_or, min, length, subst, ap, ◌∙◌}
 use Rattle.std.specs.List.{insert}
 use Rattle.lsm_memtable.specs.Heads.{key_head, IsBytes}
 use Rattle.lsm_memtable.proofs.Heads.{heads_lower, heads_upper, bytes_dealt}
@@ -15,8 +15,8 @@ invariant_of-result c =
     let heads_len = c.spread.ensures.len ∙ ap (λ l. min c.args.keep (length l + 1)) (ap (λ v. v.items) c.replace-old_heads.ensures.value) in
     let len = c.spread-2.ensures.len ∙ ap (λ l. min c.args.keep (length l + 1)) (ap (λ v. v.items) c.replace-old_entries.ensures.value) in
     let own = subst (λ k. IsBytes k) c.as_slice.ensures c.head_of-head.ensures.bytes in
-    let parts = bytes_dealt xs c.self.inside.heads.items c.args.place c.args.keep c.head_of-head.result e c.spread.new.lower.items c.spread.new.upper.items c.spread-2.new.lower.items c.spread-2.new.upper.items i.0 head heads entries heads_len len i.1 own in
-    (heads_upper xs c.self.inside.heads.items c.args.place c.args.keep c.head_of-head.result e c.spread.new.lower.items c.spread.new.upper.items c.spread-2.new.lower.items c.spread-2.new.upper.items i.0 head heads entries heads_len len, parts.1)
+    let parts = bytes_dealt xs c.self.inside.heads.items c.args.place c.args.keep c.head_of-head.result e c.spread.new.lower.items c.spread.new.upper.items c.spread-2.new.lower.items c.spread-2.new.upper.items i.0.0 head heads entries heads_len len i.0.1 own in
+    ((heads_upper xs c.self.inside.heads.items c.args.place c.args.keep c.head_of-head.result e c.spread.new.lower.items c.spread.new.upper.items c.spread-2.new.lower.items c.spread-2.new.upper.items i.0.0 head heads entries heads_len len, parts.1), c.last_of.ensures ∙ ap (λ l. get_or l (length l - 1) 0) c.deref-2.ensures.value)
 
 pub invariant_of-self : goal.invariant_of-self
 invariant_of-self c =
@@ -29,5 +29,5 @@ invariant_of-self c =
     let heads_len = c.spread.ensures.len ∙ ap (λ l. min c.args.keep (length l + 1)) (ap (λ v. v.items) c.replace-old_heads.ensures.value) in
     let len = c.spread-2.ensures.len ∙ ap (λ l. min c.args.keep (length l + 1)) (ap (λ v. v.items) c.replace-old_entries.ensures.value) in
     let own = subst (λ k. IsBytes k) c.as_slice.ensures c.head_of-head.ensures.bytes in
-    let parts = bytes_dealt xs c.self.inside.heads.items c.args.place c.args.keep c.head_of-head.result e c.spread.new.lower.items c.spread.new.upper.items c.spread-2.new.lower.items c.spread-2.new.upper.items i.0 head heads entries heads_len len i.1 own in
-    (heads_lower xs c.self.inside.heads.items c.args.place c.args.keep c.head_of-head.result e c.spread.new.lower.items c.spread.new.upper.items c.spread-2.new.lower.items c.spread-2.new.upper.items i.0 head heads entries heads_len len, parts.0)
+    let parts = bytes_dealt xs c.self.inside.heads.items c.args.place c.args.keep c.head_of-head.result e c.spread.new.lower.items c.spread.new.upper.items c.spread-2.new.lower.items c.spread-2.new.upper.items i.0.0 head heads entries heads_len len i.0.1 own in
+    ((heads_lower xs c.self.inside.heads.items c.args.place c.args.keep c.head_of-head.result e c.spread.new.lower.items c.spread.new.upper.items c.spread-2.new.lower.items c.spread-2.new.upper.items i.0.0 head heads entries heads_len len, parts.0), c.last_of-self-inside.ensures ∙ ap (λ l. get_or l (length l - 1) 0) c.deref.ensures.value)

@@ -1,4 +1,4 @@
-use Rattle.std.proofs.Common.{map, subst, sym, ap, ◌∙◌}
+use Rattle.std.proofs.Common.{map, subst, sym, ap, ◌∙◌, get_or, length, ◌-◌}
 use Rattle.std.specs.List.{All, remove}
 use Rattle.lsm_memtable.specs.Heads.{entry_head, HasBytes}
 use Rattle.lsm_memtable.proofs.Heads.{map_remove, All_remove}
@@ -9,7 +9,10 @@ invariant_of-self c =
     let i = c.self.invariant in
     let p = c.args.place in
     let xs = c.self.inside.entries.items in
-    let es = c.remove-2.ensures.items in (
-      c.remove.ensures.items ∙ (ap (λ l. remove l p) i.0 ∙ (sym (map_remove entry_head xs p) ∙ ap (λ l. map entry_head l) (sym es))),
-      subst (λ l. All HasBytes l) (sym es) (All_remove HasBytes xs p i.1),
+    let es = c.remove-taken.ensures.items in (
+      (
+        c.remove-self-inside.ensures.items ∙ (ap (λ l. remove l p) i.0.0 ∙ (sym (map_remove entry_head xs p) ∙ ap (λ l. map entry_head l) (sym es))),
+        subst (λ l. All HasBytes l) (sym es) (All_remove HasBytes xs p i.0.1),
+      ),
+      c.last_of-self-inside.ensures ∙ ap (λ l. get_or l (length l - 1) 0) c.deref.ensures.value,
     )
