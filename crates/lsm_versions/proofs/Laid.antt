@@ -1,0 +1,92 @@
+-- The tables of a version stand as the theory wants it.
+use Rattle.std.proofs.Common.{◌≡◌, ℕ, ◌+◌, ◌≤◌, Bool, true, false, cond, List, [], ◌∷◌, ◌++◌, map, flat_map, filter, sym, ap, ap₂, subst, refl, ◌∙◌, append_assoc, arith}
+use Rattle.std.specs.List.{AllByRecursion}
+use Rattle.std.proofs.lemmas.List.Elements.{filter-append}
+use Rattle.lsm_below.specs.Keys.{Bytes}
+use Rattle.lsm_below.specs.Entries.{stack}
+use Rattle.lsm_below.specs.Ranges.{in_range}
+use Rattle.lsm_below.specs.Optimizes.{tables_of, IsRearranged as KeepsOrder}
+use Rattle.lsm_tables.specs.Tables.{SeenTable}
+use Rattle.lsm_model.specs.Views.{Placed, placed_at, placed_from, held, chosen_of, EachPair, IsLaidOut}
+use Rattle.lsm_model.specs.Steps.{AllCover, among}
+use Rattle.lsm_below.specs.Each.{each_append, each_left, each_right}
+use Rattle.lsm_model.specs.Laws.{TablesArePlaced}
+use Rattle.lsm_model.specs.Views.{LevelsRise}
+use Rattle.lsm_versions.specs.Levels.{Levels, range, AreCovered, shown_table, shown_levels, placed_of, placed_in, chosen_in}
+use Rattle.lsm_versions.proofs.Placed.{placed_cons, filter_map}
+
+-- placed tables are covered as the tables are
+pub made_cover : (level : ℕ) (ts : List SeenTable) → AreCovered ts → AllCover (placed_in level ts)
+made_cover level [] h = tt
+made_cover level (t ∷ ts) h = (h.0, made_cover level ts h.1)
+
+flat_parts : {A : Type 0} (P : A → Type 0) (xss : List (List A)) (rest : List A) → AllByRecursion P (tables_of xss ++ rest) → AllByRecursion P (tables_of xss) × AllByRecursion P rest
+flat_parts P xss rest h = (each_left P (tables_of xss) rest h, each_right P (tables_of xss) rest h)
+
+pub flat_append : (xss yss : List (List SeenTable)) → tables_of (xss ++ yss) ≡ tables_of xss ++ tables_of yss
+flat_append [] yss = refl
+flat_append (xs ∷ xss) yss = ap (λ l. xs ++ l) (flat_append xss yss) ∙ sym (append_assoc xs (tables_of xss) (tables_of yss))
+
+levels_cover : (n : ℕ) (levels : Levels) → AreCovered (tables_of (tables_of levels)) → AllCover (placed_from n (shown_levels levels))
+levels_cover n [] h = tt
+levels_cover n (runs ∷ levels) h =
+    let parts = flat_parts _ runs (tables_of (tables_of levels)) (subst AreCovered (flat_append runs (tables_of levels)) h) in
+    subst AllCover (sym (placed_cons n runs levels))
+    (each_append _ (placed_in n (tables_of runs)) (placed_from (n + 1) (shown_levels levels)) (made_cover n (tables_of runs) parts.0) (levels_cover (n + 1) levels parts.1))
+
+pub laid_out : LevelsRise → (levels : Levels) → AreCovered (tables_of (tables_of levels)) → IsLaidOut (placed_of levels)
+laid_out rise levels h = record { covers = levels_cover 0 levels h; by_level = rise 0 (shown_levels levels) }
+
+-- ---- a move keeps each key's entries
+
+pub entries_of_placed : (level : ℕ) (ts : List SeenTable) → held (placed_in level ts) ≡ flat_map (λ t. t.entries) ts
+entries_of_placed level [] = refl
+entries_of_placed level (t ∷ ts) = ap (λ es. t.entries ++ es) (entries_of_placed level ts)
+
+flat_both : (xs ys : List SeenTable) → flat_map (λ t. t.entries) (xs ++ ys) ≡ flat_map (λ t. t.entries) xs ++ flat_map (λ t. t.entries) ys
+flat_both [] ys = refl
+flat_both (x ∷ xs) ys = ap (λ es. x.entries ++ es) (flat_both xs ys) ∙ sym (append_assoc x.entries (flat_map (λ t. t.entries) xs) (flat_map (λ t. t.entries) ys))
+
+held_both : (xs ys : List Placed) → held (xs ++ ys) ≡ held xs ++ held ys
+held_both [] ys = refl
+held_both (x ∷ xs) ys = ap (λ es. x.table.entries ++ es) (held_both xs ys) ∙ sym (append_assoc x.table.entries (held xs) (held ys))
+
+pub held_chosen : (ids : List ℕ) (n : ℕ) (levels : Levels) → held (chosen_of (among ids) (placed_from n (shown_levels levels))) ≡ flat_map (λ t. t.entries) (chosen_in ids (tables_of (tables_of levels)))
+held_chosen ids n [] = refl
+held_chosen ids n (runs ∷ levels) =
+    let f = λ (t : SeenTable). placed_at n (shown_table t) in
+    let rest = placed_from (n + 1) (shown_levels levels) in
+    let ts = tables_of runs in
+    let more = tables_of (tables_of levels) in
+    ap (λ ps. held (chosen_of (among ids) ps)) (placed_cons n runs levels)
+    ∙ ap held (filter-append (λ p. among ids p.table.id) (placed_in n ts) rest)
+    ∙ held_both (chosen_of (among ids) (placed_in n ts)) (chosen_of (among ids) rest)
+    ∙ ap₂ (λ a b. a ++ b) (ap held (filter_map f (λ p. among ids p.table.id) ts) ∙ entries_of_placed n (chosen_in ids ts)) (held_chosen ids (n + 1) levels)
+    ∙ sym (flat_both (chosen_in ids ts) (chosen_in ids more))
+    ∙ ap (flat_map (λ t. t.entries)) (sym (ap (chosen_in ids) (flat_append runs (tables_of levels)) ∙ filter-append (λ t. among ids t.id) ts more))
+
+one_level : (n : ℕ) (ts : List SeenTable) → EachPair (λ p q. p.level ≤ q.level) (placed_in n ts)
+one_level n [] = tt
+one_level n (t ∷ ts) = (same_level ts, one_level n ts)
+  where
+    same_level : (us : List SeenTable) → AllByRecursion (λ q. n ≤ q.level) (placed_in n us)
+    same_level [] = tt
+    same_level (u ∷ us) = (omega arith, same_level us)
+
+-- tables in another order, in which each key's keep theirs, hold the same of each key
+pub same_stacks : TablesArePlaced → (level : ℕ) (old new : List SeenTable) → AreCovered old → AreCovered new → KeepsOrder range old new → (k : Bytes) → stack k (held (placed_in level new)) ≡ stack k (held (placed_in level old))
+same_stacks law level old new covered cover keys k =
+    let f = λ (t : SeenTable). placed_at level (shown_table t) in
+    law.same k (placed_in level old) (placed_in level new) (made_cover level old covered) (record { covers = made_cover level new cover; by_level = one_level level new })
+    (λ k. filter_map f (λ p. in_range k p.table.range) new ∙ ap (map f) (keys k) ∙ sym (filter_map f (λ p. in_range k p.table.range) old))
+
+covered_part : (t : SeenTable → Bool) (xs : List SeenTable) → AreCovered xs → AreCovered (filter t xs)
+covered_part t [] h = tt
+covered_part t (x ∷ xs) h = elim (t x) as (λ b. AreCovered (cond b (x ∷ filter t xs) (filter t xs))) [ true ↦ (h.0, covered_part t xs h.1) | false ↦ covered_part t xs h.1 ]
+
+-- a run of the chosen tables holds of each key what these do
+pub moved_same : TablesArePlaced → (ids : List ℕ) (to : ℕ) (levels : Levels) (run : List SeenTable) → AreCovered (tables_of (tables_of levels)) → AreCovered run → KeepsOrder range (chosen_in ids (tables_of (tables_of levels))) run → (k : Bytes) → stack k (held (placed_in to run)) ≡ stack k (held (chosen_of (among ids) (placed_of levels)))
+moved_same law ids to levels run covered cover keys k =
+    let chosen = chosen_in ids (tables_of (tables_of levels)) in
+    same_stacks law to chosen run (covered_part (λ t. among ids t.id) (tables_of (tables_of levels)) covered) cover keys k
+    ∙ ap (stack k) (entries_of_placed to chosen ∙ sym (held_chosen ids 0 levels))

@@ -1,0 +1,39 @@
+// What installs of versions are to the theory, each law as the contract of a function that does nothing.
+ghost use Rattle.lsm_versions.specs.Installs.{FlushesAreSteps, MergesAreSteps, MovesAreSteps, DropsAreSteps, MergesOfInputsAreSteps, CutTablesAreRuns};
+
+use lsm_model::tables_are_placed;
+use lsm_tables::cuts_are_runs;
+
+/// The install of a version with a new run in front is a flush.
+pub fn flushes_are_steps()
+    ensures { FlushesAreSteps }
+{}
+
+/// The install of a version with a run in place of an allowed choice is a merge.
+pub fn merges_are_steps()
+    ensures { MergesAreSteps }
+{}
+
+/// The install of a version with an allowed choice as one run is a move.
+pub fn moves_are_steps()
+    ensures { MovesAreSteps }
+{}
+
+/// The install of a version without chosen tables is a drop.
+pub fn drops_are_steps()
+    ensures { DropsAreSteps }
+{}
+
+/// The same of a merge whose inputs were read before, and still hold what the chosen tables do.
+pub fn merges_of_inputs_are_steps()
+    ensures { MergesOfInputsAreSteps }
+{
+    tables_are_placed();
+}
+
+/// The tables into which a list is cut are a run.
+pub fn cut_tables_are_runs()
+    ensures { CutTablesAreRuns }
+{
+    cuts_are_runs();
+}

@@ -1,0 +1,16 @@
+//! Versions: levels of runs of tables, how they change, and which choices of tables may change them.
+#![tactic(auto)]
+
+mod choice;
+mod laws;
+mod level;
+mod same;
+mod version;
+
+pub use choice::{Kind, Why, first_reason, last_reason};
+pub use laws::{
+    cut_tables_are_runs, drops_are_steps, flushes_are_steps, merges_are_steps,
+    merges_of_inputs_are_steps, moves_are_steps,
+};
+pub use level::{GenericLevel, Level, has_id};
+pub use version::{DEFAULT_LEVEL_COUNT, Version, VersionError, VersionId};

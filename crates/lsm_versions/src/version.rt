@@ -1,0 +1,308 @@
+// Versions of a tree's tables.
+ghost use Rattle.std.specs.Prelude.{◌≡◌, ℕ, true, ◌+◌, ◌-◌, ◌^◌, ◌<◌, [], length, false, IfOk, IfErr, ◌⊎◌, ◌++◌, List, option_copied, slice_get, slice_index_or};
+ghost use Rattle.lsm_below.specs.Runs.{IsRun};
+ghost use Rattle.lsm_below.specs.Optimizes.{tables_of};
+ghost use Rattle.lsm_tables.specs.Tables.{SeenTable};
+ghost use Rattle.lsm_model.specs.Views.{IsLaidOut, IsRearranged, left_of};
+ghost use Rattle.lsm_model.specs.Steps.{among, AllCover};
+ghost use Rattle.lsm_versions.specs.Levels.{SeenVersion, range, placed_of, placed_in, AreApart, AreCovered, HasOwnIds, AreNew, all_of, left_in, fits, IsVersion, IsNext, IsOneRun, chosen_from, PutBetween, Moves};
+ghost use Rattle.lsm_versions.specs.Refusals.{IsRefusedFor};
+ghost use Rattle.lsm_versions.specs.declared.version.VersionError.TheVariants.{OutOfMemory};
+
+use crate::Level;
+use crate::level::see_run;
+use lsm_below::{Run, TableId, optimize_runs};
+use lsm_model::{levels_rise, tables_are_placed};
+use lsm_tables::Table;
+use std::alloc::{AllocError, AllocFailed, Global};
+use std::marker::Model;
+
+/// The id of a version.
+pub type VersionId = u64;
+
+/// How many levels a version has.
+pub const DEFAULT_LEVEL_COUNT: usize = 7;
+
+/// Why a next version is refused.
+#[derive(Debug, Drop)]
+pub enum VersionError {
+    /// A growth was refused.
+    OutOfMemory,
+    /// There is no id after the version's own.
+    OutOfNumbers,
+    /// A level has more than 255 runs, or a run 2^32 tables or more.
+    TooManyRuns,
+}
+
+impl From<AllocError> for VersionError {
+    ghost use Rattle.std.specs.Prelude.{◌≡◌};
+    ghost use Rattle.lsm_versions.specs.declared.version.VersionError.TheVariants.{OutOfMemory};
+
+    ghost from_gives = { λ _ e. e ≡ OutOfMemory };
+
+    fn from(_: AllocError) -> Self {
+        VersionError::OutOfMemory
+    }
+}
+
+impl<T: Drop> From<AllocFailed<T>> for VersionError {
+    ghost use Rattle.std.specs.Prelude.{◌≡◌};
+    ghost use Rattle.lsm_versions.specs.declared.version.VersionError.TheVariants.{OutOfMemory};
+
+    ghost from_gives = { λ _ e. e ≡ OutOfMemory };
+
+    fn from(_: AllocFailed<T>) -> Self {
+        VersionError::OutOfMemory
+    }
+}
+
+/// Seven levels of runs of tables, with an id.
+///
+/// Tables are shared between versions: a next version copies none of their entries.
+///
+/// ```text
+/// let next = version.with_new_l0_run(alloc, &tables)?;
+/// ```
+#[derive(Drop)]
+pub struct Version {
+    id: VersionId,
+    levels: Vec<Level>,
+}
+
+impl Model for Version {
+    ghost use Rattle.lsm_versions.specs.Levels.{SeenVersion, IsVersion};
+
+    ghost Value = { SeenVersion };
+
+    ghost view = { λ v. record { id = v.id; levels = v.levels.items } };
+
+    ghost invariant = { λ v. IsVersion v.levels.items };
+}
+
+/// Tables of which no two overlap, as one run.
+fn one_run(alloc: Global, runs: Vec<Run<Table>>) -> Result<Vec<Table>, AllocError>
+    requires { AreApart (tables_of runs.items) }
+    ensures { IfOk result (λ v. IsOneRun (tables_of runs.items) v.items) }
+{
+    let mut joined = optimize_runs(alloc, runs)?;
+    match joined.pop() {
+        Some(run) => Ok(run.into_tables()),
+        None => Ok(Vec::new(alloc)),
+    }
+}
+
+/// What every table of several levels meets.
+fn see_levels(levels: &[Level])
+    ensures { AreCovered (all_of levels.now) }
+{
+    for level in levels {
+        level.see_tables();
+    }
+}
+
+/// The tables of these ids, each as a run of its own.
+fn chosen_runs(
+    alloc: Global,
+    ids: &[TableId],
+    levels: &[Level],
+) -> Result<Vec<Run<Table>>, AllocError>
+    ensures { IfOk result (λ v. tables_of v.items ≡ chosen_from ids.now levels.now) }
+{
+    let mut runs = Vec::new(alloc);
+    for level in levels {
+        level.push_chosen(alloc, ids, &mut runs)?;
+    }
+    Ok(runs)
+}
+
+/// Whether a manifest can write the levels.
+fn levels_fit(levels: &[Level]) -> bool
+    ensures { result ≡ fits levels.now }
+{
+    levels.iter().all(|level| level.fits())
+}
+
+impl Version {
+    /// The version's id.
+    pub fn id(&self) -> VersionId
+        ensures { result ≡ self.now.id }
+    {
+        self.id
+    }
+
+    /// A version of seven levels of at most 255 runs, each of fewer than 2^32 tables, no two of one id.
+    pub fn from_levels(id: VersionId, levels: Vec<Level>) -> Version
+        requires seven { length levels.items ≡ 7 }
+        requires fits { fits levels.items ≡ true }
+        requires own_ids { HasOwnIds (all_of levels.items) }
+        ensures { result ≡ record { id = id; levels = levels.items } }
+    {
+        see_levels(&levels);
+        Version { id, levels }
+    }
+
+    /// What every version meets, and that its tables stand as reads want them.
+    pub fn facts(&self)
+        ensures is { IsVersion self.now.levels }
+        ensures laid { IsLaidOut (placed_of self.now.levels) }
+    {
+        levels_rise();
+        let _ = &self.levels;
+    }
+
+    /// The levels, from the first one on.
+    pub fn levels(&self) -> &[Level]
+        ensures { result.now ≡ self.now.levels }
+    {
+        &self.levels
+    }
+
+    /// A level by its index, from 0 on.
+    pub fn level(&self, n: usize) -> Option<&Level>
+        ensures { option_copied result ≡ slice_get self.now.levels n }
+    {
+        self.levels.get(n)
+    }
+
+    /// The first level, where new tables come.
+    pub fn l0(&self) -> &Level
+        ensures { result.now ≡ slice_index_or self.now.levels 0 [] }
+    {
+        &self.levels[0]
+    }
+
+    /// How many levels there are.
+    pub fn level_count(&self) -> usize
+        ensures { result ≡ 7 }
+    {
+        self.levels.len()
+    }
+
+    /// A copy, which shares the tables. Refused only for want of memory.
+    pub fn copy(&self, alloc: Global) -> Result<Version, AllocError>
+        ensures { IfOk result (λ v. v ≡ self.now) }
+    {
+        let mut levels = Vec::with_capacity(alloc, self.levels.len())?;
+        for level in &self.levels {
+            levels.push(level.copy(alloc)?)?;
+        }
+        Ok(Version {
+            id: self.id,
+            levels,
+        })
+    }
+
+    /// The next version: the tables of these ids go, and a run comes to the front of a level.
+    fn changed(
+        &self,
+        alloc: Global,
+        ids: &[TableId],
+        front: &[Table],
+        to: usize,
+    ) -> Result<Version, VersionError>
+        requires run { IsRun range front.now }
+        requires level { to < 7 }
+        requires own_ids { HasOwnIds (front.now ++ left_in ids.now (all_of self.now.levels)) }
+        ensures ok { IfOk result (IsNext ids.now front.now to self.now) }
+        ensures numbers { IfOk result (λ _. self.now.id < 2 ^ 64 - 1) }
+        ensures err { IfErr result (IsRefusedFor ids.now front.now to self.now) }
+    {
+        self.facts();
+        let id = self.id();
+        if id == u64::MAX {
+            return Err(VersionError::OutOfNumbers);
+        }
+        let old = self.levels();
+        let mut levels = Vec::with_capacity(alloc, old.len())?;
+        for (i, level) in old.iter().enumerate() {
+            let run = if i == to { front } else { &[] };
+            levels.push(level.changed(alloc, ids, run)?)?;
+        }
+        if !levels_fit(&levels) {
+            return Err(VersionError::TooManyRuns);
+        }
+        see_levels(&levels);
+        Ok(Version { id: id + 1, levels })
+    }
+
+    /// The next version with a new run before those of the first level.
+    pub fn with_new_l0_run(&self, alloc: Global, tables: &[Table]) -> Result<Version, VersionError>
+        requires run { IsRun range tables.now }
+        requires new { AreNew tables.now self.now.levels }
+        ensures ok { IfOk result (IsNext [] tables.now 0 self.now) }
+        ensures covers { IfOk result (λ _. AllCover (placed_in 0 tables.now)) }
+        ensures placed { IfOk result (λ v. IsRearranged (placed_in 0 tables.now ++ placed_of self.now.levels) (placed_of v.levels)) }
+        ensures laid { IfOk result (λ v. IsLaidOut (placed_of v.levels)) }
+        ensures numbers { IfOk result (λ _. self.now.id < 2 ^ 64 - 1) }
+        ensures err { IfErr result (IsRefusedFor [] tables.now 0 self.now) }
+    {
+        self.facts();
+        let next = self.changed(alloc, &[], tables, 0)?;
+        see_run(tables);
+        next.facts();
+        Ok(next)
+    }
+
+    /// The next version without these tables.
+    pub fn with_dropped(&self, alloc: Global, ids: &[TableId]) -> Result<Version, VersionError>
+        ensures ok { IfOk result (IsNext ids.now [] 0 self.now) }
+        ensures placed { IfOk result (λ v. IsRearranged (left_of (among ids.now) (placed_of self.now.levels)) (placed_of v.levels)) }
+        ensures laid { IfOk result (λ v. IsLaidOut (placed_of v.levels)) }
+        ensures numbers { IfOk result (λ _. self.now.id < 2 ^ 64 - 1) }
+        ensures err { IfErr result (IsRefusedFor ids.now [] 0 self.now) }
+    {
+        self.facts();
+        let next = self.changed(alloc, ids, &[], 0)?;
+        next.facts();
+        Ok(next)
+    }
+
+    /// The next version, with a run in place of these tables.
+    pub fn with_merge(
+        &self,
+        alloc: Global,
+        ids: &[TableId],
+        tables: &[Table],
+        to: usize,
+    ) -> Result<Version, VersionError>
+        requires run { IsRun range tables.now }
+        requires new { AreNew tables.now self.now.levels }
+        requires level { to < 7 }
+        ensures ok { IfOk result (IsNext ids.now tables.now to self.now) }
+        ensures covers { IfOk result (λ _. AllCover (placed_in to tables.now)) }
+        ensures placed { IfOk result (λ v. PutBetween ids.now tables.now to self.now.levels v.levels) }
+        ensures laid { IfOk result (λ v. IsLaidOut (placed_of v.levels)) }
+        ensures numbers { IfOk result (λ _. self.now.id < 2 ^ 64 - 1) }
+        ensures err { IfErr result (IsRefusedFor ids.now tables.now to self.now) }
+    {
+        self.facts();
+        let next = self.changed(alloc, ids, tables, to)?;
+        see_run(tables);
+        next.facts();
+        Ok(next)
+    }
+
+    /// The next version, with these tables as one run of another level.
+    pub fn with_moved(
+        &self,
+        alloc: Global,
+        ids: &[TableId],
+        to: usize,
+    ) -> Result<Version, VersionError>
+        requires apart { AreApart (chosen_from ids.now self.now.levels) }
+        requires level { to < 7 }
+        ensures ok { IfOk result (Moves ids.now to self.now) }
+        ensures laid { IfOk result (λ v. IsLaidOut (placed_of v.levels)) }
+        ensures numbers { IfOk result (λ _. self.now.id < 2 ^ 64 - 1) }
+        ensures err { IfErr result (λ e. ((run : List SeenTable) × IsOneRun (chosen_from ids.now self.now.levels) run × IsRefusedFor ids.now run to self.now e) ⊎ (e ≡ OutOfMemory)) }
+    {
+        self.facts();
+        tables_are_placed();
+        let chosen = chosen_runs(alloc, ids, self.levels())?;
+        let run = one_run(alloc, chosen)?;
+        let next = self.changed(alloc, ids, &run, to)?;
+        next.facts();
+        see_run(&run);
+        Ok(next)
+    }
+}
