@@ -3,7 +3,7 @@ ghost use Rattle.std.specs.Prelude.{◌≡◌, ◌+◌, ◌<◌, ◌≤◌, ◌�
 ghost use Rattle.lsm_below.specs.declared.value.InternalValue.{InternalValue};
 ghost use Rattle.lsm_below.specs.Entries.{Entry, entry_cmp, top};
 ghost use Rattle.lsm_below.specs.Sorted.{Rises};
-ghost use Rattle.lsm_memtable.specs.Memtables.{capped, entry_size, new_memtable, with_entry, with_entries, highest_of, within, IsTop, HasNone};
+ghost use Rattle.lsm_memtable.specs.Memtables.{entry_size, new_memtable, with_entry, with_entries, highest_of, within, IsTop, HasNone};
 ghost use Rattle.lsm_memtable.specs.Blocks.{AreBlocksOf, CountsDigits};
 ghost use Rattle.lsm_memtable.specs.Contents.{content_of, entries_of, added, all_added, IsContent};
 ghost use Rattle.lsm_memtable.specs.Undo.{Undoes, AreUndone, undo_of};

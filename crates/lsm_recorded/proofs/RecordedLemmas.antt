@@ -1,18 +1,17 @@
 -- What each call keeps of a tree with its journal.
-use Rattle.std.proofs.Common.{cond, ◌≡◌, ℕ, ◌+◌, ◌<◌, ◌≤◌, Bool, true, false, List, [], ◌∷◌, ◌++◌, Option, Some, None, Result, Ok, Err, IfOk, OnErr, unwrap_or, map, refl, sym, ap, ◌∙◌, subst, arith, ◌⊎◌, ⊎_elim, is_some, IfSome, append-nil, append_assoc}
-use Rattle.std.specs.BTreeMap.{BTreeMap, is_at}
-use Rattle.std.specs.Map.{lookup}
+use Rattle.std.proofs.Common.{cond, ◌≡◌, ℕ, ◌+◌, ◌<◌, ◌≤◌, Bool, true, false, List, [], ◌∷◌, ◌++◌, Option, Some, None, Result, Ok, Err, IfOk, OnErr, map, refl, sym, ap, ◌∙◌, subst, arith, ◌⊎◌, ⊎_elim, is_some, IfSome, append-nil, append_assoc}
+use Rattle.std.specs.BTreeMap.{BTreeMap}
 use Rattle.std.specs.FinMap.{get, empty}
 use Rattle.std.specs.List.{list_any, AllByRecursion}
 use Rattle.std.proofs.lemmas.Bool.Decides.{nat_tests}
 use Rattle.std.proofs.lemmas.Grind.{fold-append}
 use Rattle.lsm_below.specs.declared.value_type.ValueType.TheVariants.{Value, Tombstone, WeakTombstone}
-use Rattle.lsm_below.specs.Keys.{Bytes, bytes_cmp}
+use Rattle.lsm_below.specs.Keys.{Bytes}
 use Rattle.lsm_below.specs.Entries.{Entry, plain, kept_value}
 use Rattle.lsm_model.specs.Soundness.{Soundness}
 use Rattle.lsm_model.specs.Journal.{Event, Map, AgreesFrom, ReadAgrees, is_outside, IsKept, replay, next_number_after, floor_after, floor, next_number}
 use Rattle.lsm_model.specs.Views.{found_at}
-use Rattle.lsm_model.specs.Steps.{Wrote, Asked, Rotated, IsOpened}
+use Rattle.lsm_model.specs.Steps.{Wrote, Asked, Rotated}
 use Rattle.lsm_model.specs.Sound.{Holds}
 use Rattle.lsm_model.specs.Ops.{op_entry, op_entries}
 use Rattle.lsm_model.specs.declared.op.Op.{Op}
@@ -21,16 +20,15 @@ use Rattle.lsm_model.specs.declared.journal.JournalEntry.TheVariants.{Write, Rea
 use Rattle.lsm_model.specs.declared.question.Question.{Question}
 use Rattle.lsm_model.specs.declared.question.Question.TheVariants.{Get}
 use Rattle.lsm_model.specs.declared.question.Answer.TheVariants.{Found, Pairs}
-use Rattle.lsm_parts.specs.declared.config.Config.{Config}
 use Rattle.lsm_memtable.specs.declared.error.Error.{Error}
 use Rattle.lsm_memtable.specs.declared.error.Error.TheVariants.{OutOfMemory, OutOfNumbers, KeyTooLong, ValueTooLong, DuplicateKey}
-use Rattle.lsm_state.specs.Core.{Core, Seen, state_of, latest_of, older_of, fresh_core}
+use Rattle.lsm_state.specs.Core.{Core, Seen, state_of, latest_of, older_of}
 use Rattle.lsm_state.specs.Calls.{IsWriteStep, IsGetStep, Gives, Rotates, WritesBatch}
 use Rattle.lsm_state.specs.Ranges.{IsListStep}
 use Rattle.lsm_parts.specs.Guards.{Pair}
 use Rattle.lsm_state.specs.Refusals.{batch_refusal, repeats, keys_of, is_great, is_long_key, is_long_value, op_value}
 use Rattle.lsm_recorded.specs.declared.marks.Mark.{Mark}
-use Rattle.lsm_recorded.specs.Marks.{mark_of, mark_in, marked_by, marked_all, no_mark}
+use Rattle.lsm_recorded.specs.Marks.{mark_of, mark_in, marked_by, marked_all}
 use Rattle.lsm_recorded.specs.Order.{keeps_order, batch_keeps_order}
 use Rattle.lsm_recorded.specs.Recorded.{IsRecorded, Stays, StaysTo}
 use Rattle.lsm_recorded.proofs.BatchLemmas.{seqno_is}

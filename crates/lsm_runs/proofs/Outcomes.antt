@@ -1,16 +1,15 @@
 -- Outcomes of writes.
-use Rattle.std.proofs.Common.{◌≡◌, ℕ, List, [], ◌∷◌, Result, Ok, Err, map, refl, ap, ◌∙◌, subst}
+use Rattle.std.proofs.Common.{◌≡◌, ℕ, List, [], ◌∷◌, Result, Ok, Err, refl, ap, ◌∙◌, subst}
 use Rattle.lsm_below.specs.Keys.{Bytes}
 use Rattle.lsm_below.specs.Entries.{Entry}
 use Rattle.lsm_model.specs.Journal.{Event}
-use Rattle.lsm_model.specs.Ops.{op_entry, op_entries}
-use Rattle.lsm_model.specs.declared.op.Op.{Op}
+use Rattle.lsm_model.specs.Ops.{op_entry}
 use Rattle.lsm_model.specs.declared.op.Op.TheVariants.{Set}
 use Rattle.lsm_model.specs.declared.journal.JournalEntry.TheVariants.{Write}
 use Rattle.lsm_memtable.specs.declared.error.Error.{Error}
 use Rattle.lsm_state.specs.Core.{Core}
-use Rattle.lsm_state.specs.Calls.{Appends, WritesBatch}
-use Rattle.lsm_runs.specs.Runs.{TakesEntry, TakesBatch, told_entry, told_batch}
+use Rattle.lsm_state.specs.Calls.{Appends}
+use Rattle.lsm_runs.specs.Runs.{TakesEntry, told_entry}
 
 -- a write of one entry, of which the entry is noted
 pub entry_taken : (e : Entry) (r : Result (ℕ × ℕ) Error) (events : List Event) (old new : Core) → events ≡ Write e ∷ [] → Appends e r old new → TakesEntry e (told_entry events r).reply (told_entry events r).entries old new

@@ -1,5 +1,5 @@
 // Versions of a tree's tables.
-ghost use Rattle.std.specs.Prelude.{◌≡◌, ℕ, true, ◌+◌, ◌-◌, ◌^◌, ◌<◌, [], length, false, IfOk, IfErr, ◌⊎◌, ◌++◌, List, option_copied, slice_get, slice_index_or};
+ghost use Rattle.std.specs.Prelude.{◌≡◌, true, ◌+◌, ◌-◌, ◌^◌, ◌<◌, [], length, IfOk, IfErr, ◌⊎◌, ◌++◌, List, option_copied, slice_get, slice_index_or};
 ghost use Rattle.lsm_below.specs.Runs.{IsRun};
 ghost use Rattle.lsm_below.specs.Optimizes.{tables_of};
 ghost use Rattle.lsm_tables.specs.Tables.{SeenTable};
