@@ -218,8 +218,8 @@ impl Memtable {
         self.get_counted(key, snapshot, &mut Steps::new())
     }
 
-    /// `get`, with a count of its steps: it compares keys at most as many times as the number of blocks has
-    /// binary digits, and 8 times more.
+    /// `get`, with a count of its steps: it counts at most as many comparisons of keys as the number of blocks, of 1 to
+    /// 64 entries each, that make up the entries has binary digits, and 8 more.
     pub fn get_counted(
         &self,
         key: &[u8],
