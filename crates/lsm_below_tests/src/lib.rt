@@ -1,4 +1,4 @@
-//! The tests of what stands below the tree: entries and their streams, tables, and the store in memory.
+//! The tests of what stands below the tree: entries and their streams, tables, and stores.
 //!
 //! | Module | Tests |
 //! |-|-|
@@ -11,6 +11,7 @@
 //! | `tables` | tables |
 //! | `multi_writer` | where entries are cut into tables |
 //! | `mem_store` | the store in memory: its faults and its crashes |
+//! | `folder_store` | the store over a folder |
 //! | `samples` | holds no test: what the others make entries, ranges and runs by |
 #![tactic(auto)]
 
@@ -18,6 +19,8 @@
 mod checksums;
 #[cfg(test)]
 mod entries;
+#[cfg(test)]
+mod folder_store;
 #[cfg(test)]
 mod images;
 #[cfg(test)]

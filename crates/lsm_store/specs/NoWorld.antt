@@ -1,13 +1,17 @@
 -- A store of which nothing is known but its failures.
-use Rattle.std.specs.Prelude.{◌^◌, ◌-◌, None}
+use Rattle.std.specs.Prelude.{ℕ, ◌^◌, ◌-◌, None}
 use Rattle.lsm_store.specs.World.{World}
 
--- each call of it has failed
-abbrev pub no_world : World
-no_world = record {
+-- this many calls of it have failed
+abbrev pub untold : ℕ → World
+untold n = record {
   gives = λ name. None;
   may = λ name c. ⊥;
   moment = 0;
   since = λ t image. ⊥;
-  failures = 2 ^ 64 - 1;
+  failures = n;
 }
+
+-- each call of it has failed
+abbrev pub no_world : World
+no_world = untold (2 ^ 64 - 1)

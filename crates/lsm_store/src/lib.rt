@@ -4,10 +4,13 @@
 //! |-|-|
 //! | `store` | the calls of a store, and what a crash may leave of its files |
 //! | `mem_store` | a store in memory, with planned faults and picked crashes |
+//! | `folder_store` | a folder of the file system, as a store |
 #![tactic(auto)]
 
+mod folder_store;
 mod mem_store;
 mod store;
 
+pub use folder_store::FolderStore;
 pub use mem_store::{Fault, MemStore, Pick};
 pub use store::{NoStore, Store, StoreError, runs_of_calls};
