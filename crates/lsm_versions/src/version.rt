@@ -15,6 +15,7 @@ use lsm_below::{Run, TableId, optimize_runs};
 use lsm_model::{levels_rise, tables_are_placed};
 use lsm_tables::Table;
 use std::alloc::{AllocError, AllocFailed, Global};
+use std::collections::HashSet;
 use std::marker::Model;
 
 /// The id of a version.
@@ -103,10 +104,10 @@ fn see_levels(levels: &[Level])
 /// The tables of these ids, each as a run of its own.
 fn chosen_runs(
     alloc: Global,
-    ids: &[TableId],
+    ids: &HashSet<TableId>,
     levels: &[Level],
 ) -> Result<Vec<Run<Table>>, AllocError>
-    ensures { IfOk result (λ v. tables_of v.items ≡ chosen_from ids.now levels.now) }
+    ensures { IfOk result (λ v. tables_of v.items ≡ chosen_from ids.now.keys levels.now) }
 {
     let mut runs = Vec::new(alloc);
     for level in levels {
@@ -196,16 +197,16 @@ impl Version {
     fn changed(
         &self,
         alloc: Global,
-        ids: &[TableId],
+        ids: &HashSet<TableId>,
         front: &[Table],
         to: usize,
     ) -> Result<Version, VersionError>
         requires run { IsRun range front.now }
         requires level { to < 7 }
-        requires own_ids { HasOwnIds (front.now ++ left_in ids.now (all_of self.now.levels)) }
-        ensures ok { IfOk result (IsNext ids.now front.now to self.now) }
+        requires own_ids { HasOwnIds (front.now ++ left_in ids.now.keys (all_of self.now.levels)) }
+        ensures ok { IfOk result (IsNext ids.now.keys front.now to self.now) }
         ensures numbers { IfOk result (λ _. self.now.id < 2 ^ 64 - 1) }
-        ensures err { IfErr result (IsRefusedFor ids.now front.now to self.now) }
+        ensures err { IfErr result (IsRefusedFor ids.now.keys front.now to self.now) }
     {
         self.facts();
         let id = self.id();
@@ -237,19 +238,24 @@ impl Version {
         ensures err { IfErr result (IsRefusedFor [] tables.now 0 self.now) }
     {
         self.facts();
-        let next = self.changed(alloc, &[], tables, 0)?;
+        let none = HashSet::new(alloc);
+        let next = self.changed(alloc, &none, tables, 0)?;
         see_run(tables);
         next.facts();
         Ok(next)
     }
 
     /// The next version without these tables.
-    pub fn with_dropped(&self, alloc: Global, ids: &[TableId]) -> Result<Version, VersionError>
-        ensures ok { IfOk result (IsNext ids.now [] 0 self.now) }
-        ensures placed { IfOk result (λ v. IsRearranged (left_of (among ids.now) (placed_of self.now.levels)) (placed_of v.levels)) }
+    pub fn with_dropped(
+        &self,
+        alloc: Global,
+        ids: &HashSet<TableId>,
+    ) -> Result<Version, VersionError>
+        ensures ok { IfOk result (IsNext ids.now.keys [] 0 self.now) }
+        ensures placed { IfOk result (λ v. IsRearranged (left_of (among ids.now.keys) (placed_of self.now.levels)) (placed_of v.levels)) }
         ensures laid { IfOk result (λ v. IsLaidOut (placed_of v.levels)) }
         ensures numbers { IfOk result (λ _. self.now.id < 2 ^ 64 - 1) }
-        ensures err { IfErr result (IsRefusedFor ids.now [] 0 self.now) }
+        ensures err { IfErr result (IsRefusedFor ids.now.keys [] 0 self.now) }
     {
         self.facts();
         let next = self.changed(alloc, ids, &[], 0)?;
@@ -261,19 +267,19 @@ impl Version {
     pub fn with_merge(
         &self,
         alloc: Global,
-        ids: &[TableId],
+        ids: &HashSet<TableId>,
         tables: &[Table],
         to: usize,
     ) -> Result<Version, VersionError>
         requires run { IsRun range tables.now }
         requires new { AreNew tables.now self.now.levels }
         requires level { to < 7 }
-        ensures ok { IfOk result (IsNext ids.now tables.now to self.now) }
+        ensures ok { IfOk result (IsNext ids.now.keys tables.now to self.now) }
         ensures covers { IfOk result (λ _. AllCover (placed_in to tables.now)) }
-        ensures placed { IfOk result (λ v. PutBetween ids.now tables.now to self.now.levels v.levels) }
+        ensures placed { IfOk result (λ v. PutBetween ids.now.keys tables.now to self.now.levels v.levels) }
         ensures laid { IfOk result (λ v. IsLaidOut (placed_of v.levels)) }
         ensures numbers { IfOk result (λ _. self.now.id < 2 ^ 64 - 1) }
-        ensures err { IfErr result (IsRefusedFor ids.now tables.now to self.now) }
+        ensures err { IfErr result (IsRefusedFor ids.now.keys tables.now to self.now) }
     {
         self.facts();
         let next = self.changed(alloc, ids, tables, to)?;
@@ -286,15 +292,15 @@ impl Version {
     pub fn with_moved(
         &self,
         alloc: Global,
-        ids: &[TableId],
+        ids: &HashSet<TableId>,
         to: usize,
     ) -> Result<Version, VersionError>
-        requires apart { AreApart (chosen_from ids.now self.now.levels) }
+        requires apart { AreApart (chosen_from ids.now.keys self.now.levels) }
         requires level { to < 7 }
-        ensures ok { IfOk result (Moves ids.now to self.now) }
+        ensures ok { IfOk result (Moves ids.now.keys to self.now) }
         ensures laid { IfOk result (λ v. IsLaidOut (placed_of v.levels)) }
         ensures numbers { IfOk result (λ _. self.now.id < 2 ^ 64 - 1) }
-        ensures err { IfErr result (λ e. ((run : List SeenTable) × IsOneRun (chosen_from ids.now self.now.levels) run × IsRefusedFor ids.now run to self.now e) ⊎ (e ≡ OutOfMemory)) }
+        ensures err { IfErr result (λ e. ((run : List SeenTable) × IsOneRun (chosen_from ids.now.keys self.now.levels) run × IsRefusedFor ids.now.keys run to self.now e) ⊎ (e ≡ OutOfMemory)) }
     {
         self.facts();
         tables_are_placed();
