@@ -2,10 +2,13 @@
 #![tactic(auto)]
 
 mod choice;
+mod gaps;
 mod hidden_set;
 mod input;
 mod laws;
 mod level;
+mod lookup;
+mod parted_run;
 mod same;
 mod version;
 

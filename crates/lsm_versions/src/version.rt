@@ -5,7 +5,7 @@ ghost use Rattle.lsm_below.specs.Optimizes.{tables_of};
 ghost use Rattle.lsm_tables.specs.Tables.{SeenTable};
 ghost use Rattle.lsm_model.specs.Views.{IsLaidOut, IsRearranged, left_of};
 ghost use Rattle.lsm_model.specs.Steps.{among, AllCover};
-ghost use Rattle.lsm_versions.specs.Levels.{SeenVersion, range, placed_of, placed_in, AreApart, AreCovered, HasOwnIds, AreNew, all_of, left_in, fits, IsVersion, IsNext, IsOneRun, chosen_from, PutBetween, Moves};
+ghost use Rattle.lsm_versions.specs.Levels.{SeenVersion, range, placed_of, placed_in, AreApart, AreCovered, AreRuns, HasOwnIds, AreNew, all_of, left_in, fits, IsVersion, IsNext, IsOneRun, chosen_from, PutBetween, Moves};
 ghost use Rattle.lsm_versions.specs.Refusals.{IsRefusedFor};
 ghost use Rattle.lsm_versions.specs.declared.version.VersionError.TheVariants.{OutOfMemory};
 
@@ -92,9 +92,10 @@ fn one_run(alloc: Global, runs: Vec<Run<Table>>) -> Result<Vec<Table>, AllocErro
     }
 }
 
-/// What every table of several levels meets.
+/// What every table and every run of several levels meets.
 fn see_levels(levels: &[Level])
-    ensures { AreCovered (all_of levels.now) }
+    ensures covered { AreCovered (all_of levels.now) }
+    ensures runs { AreRuns levels.now }
 {
     for level in levels {
         level.see_tables();
@@ -102,7 +103,7 @@ fn see_levels(levels: &[Level])
 }
 
 /// The tables of these ids, each as a run of its own.
-fn chosen_runs(
+pub(crate) fn chosen_runs(
     alloc: Global,
     ids: &HashSet<TableId>,
     levels: &[Level],

@@ -7,7 +7,7 @@ use Rattle.lsm_versions.proofs.hidden_set.HiddenSet.hide.Goals as goal
 
 pub loop-id-preserved : goal.loop-id-preserved
 loop-id-preserved c = record {
-  hidden = λ i. put_more c.loop-id.yielded c.in-Some.id i (among c.insert.new.self.keys i) (among c.loop-id.self-inside.ids.keys i) (among c.reserve.new.self.keys i) (c.in_ok-insert.ensures.updates.0 i) (c.loop-id.invariant.hidden i);
+  hidden = λ i. put_more (λ (x : Bor ℕ). x.now) c.loop-id.yielded c.in-Some.id i (among c.insert.new.self.keys i) (among c.loop-id.self-inside.ids.keys i) (among c.reserve.new.self.keys i) (c.in_ok-insert.ensures.updates.0 i) (c.loop-id.invariant.hidden i);
   room = omega (arith, c.loop-id.invariant.room, c.insert.ensures.spare, length_push c.loop-id.yielded c.in-Some.id);
 }
 
