@@ -20,4 +20,4 @@ pub use laws::{
     merges_of_inputs_are_steps, moves_are_steps,
 };
 pub use level::{GenericLevel, Level};
-pub use version::{DEFAULT_LEVEL_COUNT, Version, VersionError, VersionId};
+pub use version::{DEFAULT_LEVEL_COUNT, Version, VersionId};

@@ -7,14 +7,14 @@ ghost use Rattle.lsm_model.specs.Views.{IsLaidOut, IsRearranged, left_of};
 ghost use Rattle.lsm_model.specs.Steps.{among, AllCover};
 ghost use Rattle.lsm_versions.specs.Levels.{SeenVersion, range, placed_of, placed_in, AreApart, AreCovered, AreRuns, HasOwnIds, AreNew, all_of, left_in, fits, IsVersion, IsNext, IsOneRun, chosen_from, PutBetween, Moves};
 ghost use Rattle.lsm_versions.specs.Refusals.{IsRefusedFor};
-ghost use Rattle.lsm_versions.specs.declared.version.VersionError.TheVariants.{OutOfMemory};
+ghost use Rattle.lsm_below.specs.declared.error.Error.TheVariants.{OutOfMemory};
 
 use crate::Level;
 use crate::level::see_run;
-use lsm_below::{Run, TableId, optimize_runs};
+use lsm_below::{Error, Run, TableId, optimize_runs};
 use lsm_model::{levels_rise, tables_are_placed};
 use lsm_tables::Table;
-use std::alloc::{AllocError, AllocFailed, Global};
+use std::alloc::{AllocError, Global};
 use std::collections::HashSet;
 use std::marker::Model;
 
@@ -23,39 +23,6 @@ pub type VersionId = u64;
 
 /// How many levels a version has.
 pub const DEFAULT_LEVEL_COUNT: usize = 7;
-
-/// Why a next version is refused.
-#[derive(Debug, Drop)]
-pub enum VersionError {
-    /// A growth was refused.
-    OutOfMemory,
-    /// There is no id after the version's own.
-    OutOfNumbers,
-    /// A level has more than 255 runs, or a run 2^32 tables or more.
-    TooManyRuns,
-}
-
-impl From<AllocError> for VersionError {
-    ghost use Rattle.std.specs.Prelude.{◌≡◌};
-    ghost use Rattle.lsm_versions.specs.declared.version.VersionError.TheVariants.{OutOfMemory};
-
-    ghost from_gives = { λ _ e. e ≡ OutOfMemory };
-
-    fn from(_: AllocError) -> Self {
-        VersionError::OutOfMemory
-    }
-}
-
-impl<T: Drop> From<AllocFailed<T>> for VersionError {
-    ghost use Rattle.std.specs.Prelude.{◌≡◌};
-    ghost use Rattle.lsm_versions.specs.declared.version.VersionError.TheVariants.{OutOfMemory};
-
-    ghost from_gives = { λ _ e. e ≡ OutOfMemory };
-
-    fn from(_: AllocFailed<T>) -> Self {
-        VersionError::OutOfMemory
-    }
-}
 
 /// Seven levels of runs of tables, with an id.
 ///
@@ -201,7 +168,7 @@ impl Version {
         ids: &HashSet<TableId>,
         front: &[Table],
         to: usize,
-    ) -> Result<Version, VersionError>
+    ) -> Result<Version, Error>
         requires run { IsRun range front.now }
         requires level { to < 7 }
         requires own_ids { HasOwnIds (front.now ++ left_in ids.now.keys (all_of self.now.levels)) }
@@ -212,7 +179,7 @@ impl Version {
         self.facts();
         let id = self.id();
         if id == u64::MAX {
-            return Err(VersionError::OutOfNumbers);
+            return Err(Error::OutOfNumbers);
         }
         let old = self.levels();
         let mut levels = Vec::with_capacity(alloc, old.len())?;
@@ -221,14 +188,14 @@ impl Version {
             levels.push(level.changed(alloc, ids, run)?)?;
         }
         if !levels_fit(&levels) {
-            return Err(VersionError::TooManyRuns);
+            return Err(Error::TooManyRuns);
         }
         see_levels(&levels);
         Ok(Version { id: id + 1, levels })
     }
 
     /// The next version with a new run before those of the first level.
-    pub fn with_new_l0_run(&self, alloc: Global, tables: &[Table]) -> Result<Version, VersionError>
+    pub fn with_new_l0_run(&self, alloc: Global, tables: &[Table]) -> Result<Version, Error>
         requires run { IsRun range tables.now }
         requires new { AreNew tables.now self.now.levels }
         ensures ok { IfOk result (IsNext [] tables.now 0 self.now) }
@@ -247,11 +214,7 @@ impl Version {
     }
 
     /// The next version without these tables.
-    pub fn with_dropped(
-        &self,
-        alloc: Global,
-        ids: &HashSet<TableId>,
-    ) -> Result<Version, VersionError>
+    pub fn with_dropped(&self, alloc: Global, ids: &HashSet<TableId>) -> Result<Version, Error>
         ensures ok { IfOk result (IsNext ids.now.keys [] 0 self.now) }
         ensures placed { IfOk result (λ v. IsRearranged (left_of (among ids.now.keys) (placed_of self.now.levels)) (placed_of v.levels)) }
         ensures laid { IfOk result (λ v. IsLaidOut (placed_of v.levels)) }
@@ -271,7 +234,7 @@ impl Version {
         ids: &HashSet<TableId>,
         tables: &[Table],
         to: usize,
-    ) -> Result<Version, VersionError>
+    ) -> Result<Version, Error>
         requires run { IsRun range tables.now }
         requires new { AreNew tables.now self.now.levels }
         requires level { to < 7 }
@@ -295,7 +258,7 @@ impl Version {
         alloc: Global,
         ids: &HashSet<TableId>,
         to: usize,
-    ) -> Result<Version, VersionError>
+    ) -> Result<Version, Error>
         requires apart { AreApart (chosen_from ids.now.keys self.now.levels) }
         requires level { to < 7 }
         ensures ok { IfOk result (Moves ids.now.keys to self.now) }
