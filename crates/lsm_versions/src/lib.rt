@@ -11,6 +11,7 @@ mod lookup;
 mod parted_run;
 mod same;
 mod version;
+mod walk;
 
 pub use choice::{Kind, Why, first_reason, last_reason};
 pub use hidden_set::HiddenSet;

@@ -5,7 +5,7 @@ ghost use Rattle.lsm_below.specs.Optimizes.{tables_of};
 ghost use Rattle.lsm_tables.specs.Tables.{SeenTable};
 ghost use Rattle.lsm_model.specs.Views.{IsLaidOut, IsRearranged, left_of};
 ghost use Rattle.lsm_model.specs.Steps.{among, AllCover};
-ghost use Rattle.lsm_versions.specs.Levels.{SeenVersion, range, placed_of, placed_in, AreApart, AreCovered, AreRuns, HasOwnIds, AreNew, all_of, left_in, fits, IsVersion, IsNext, IsOneRun, chosen_from, PutBetween, Moves};
+ghost use Rattle.lsm_versions.specs.Levels.{SeenVersion, range, placed_of, placed_in, AreApart, AreCovered, AreRising, AreRuns, HasOwnIds, AreNew, all_of, left_in, fits, IsVersion, IsNext, IsOneRun, chosen_from, PutBetween, Moves};
 ghost use Rattle.lsm_versions.specs.Refusals.{IsRefusedFor};
 ghost use Rattle.lsm_below.specs.declared.error.Error.TheVariants.{OutOfMemory};
 
@@ -62,6 +62,7 @@ fn one_run(alloc: Global, runs: Vec<Run<Table>>) -> Result<Vec<Table>, AllocErro
 /// What every table and every run of several levels meets.
 fn see_levels(levels: &[Level])
     ensures covered { AreCovered (all_of levels.now) }
+    ensures rising { AreRising (all_of levels.now) }
     ensures runs { AreRuns levels.now }
 {
     for level in levels {
