@@ -1,5 +1,5 @@
 -- Which choices of tables may be merged, moved or dropped.
-use Rattle.std.specs.Prelude.{◌≡◌, ℕ, Bool, true, false, ◌&&◌, ◌||◌, not, List, [], ◌∷◌, map, flat_map, ◌==◌, nat_lt, nat_le, Option, Some, None, MatchOption, if◌then◌else◌, ◌↔◌}
+use Rattle.std.specs.Prelude.{◌≡◌, ℕ, ◌<◌, length, slice_index_or, Bool, true, false, ◌&&◌, ◌||◌, not, List, [], ◌∷◌, map, flat_map, ◌==◌, nat_lt, nat_le, Option, Some, None, MatchOption, if◌then◌else◌, ◌↔◌}
 use Rattle.std.specs.List.{list_any, AllByRecursion}
 use Rattle.std.specs.List.Sorted.{IsPermutation}
 use Rattle.lsm_below.specs.Keys.{Bytes}
@@ -139,3 +139,21 @@ pub record IsMovable (to : ℕ) (ids : List ℕ) (levels : Levels) : Type 0 wher
 -- a look-up by id finds a table of these exactly where one has the id
 abbrev pub IsIndex : List SeenTable → (ℕ → Option SeenTable) → Type 0
 IsIndex ts find = (i : ℕ) → MatchOption (find i) (list_any (λ t. t.id == i) ts ≡ false) (λ t. IsIn t ts × (t.id ≡ i))
+
+-- ---- places in a run
+
+-- no table has one of these ids
+abbrev pub HasNone : List ℕ → List SeenTable → Type 0
+HasNone ids ts = (j : ℕ) (d : SeenTable) → j < length ts → among ids (slice_index_or ts j d).id ≡ false
+
+-- the table at this place has one of these ids, and none before it
+pub record IsFirstOf (ids : List ℕ) (ts : List SeenTable) (at : ℕ) : Type 0 where
+  pub within : at < length ts
+  pub passes : (d : SeenTable) → among ids (slice_index_or ts at d).id ≡ true
+  pub before : (j : ℕ) (d : SeenTable) → j < at → among ids (slice_index_or ts j d).id ≡ false
+
+-- the table at this place has one of these ids, and none behind it
+pub record IsLastOf (ids : List ℕ) (ts : List SeenTable) (at : ℕ) : Type 0 where
+  pub within : at < length ts
+  pub passes : (d : SeenTable) → among ids (slice_index_or ts at d).id ≡ true
+  pub behind : (j : ℕ) (d : SeenTable) → at < j → j < length ts → among ids (slice_index_or ts j d).id ≡ false

@@ -4,6 +4,7 @@
 mod choice;
 mod gaps;
 mod hidden_set;
+mod indexes;
 mod input;
 mod laws;
 mod level;
@@ -15,10 +16,11 @@ mod walk;
 
 pub use choice::{Kind, Why, first_reason, last_reason};
 pub use hidden_set::HiddenSet;
+pub use indexes::pick_run_indexes;
 pub use input::Input;
 pub use laws::{
     cut_tables_are_runs, drops_are_steps, flushes_are_steps, merges_are_steps,
     merges_of_inputs_are_steps, moves_are_steps,
 };
 pub use level::{GenericLevel, Level};
-pub use version::{DEFAULT_LEVEL_COUNT, Version, VersionId};
+pub use version::{DEFAULT_LEVEL_COUNT, TreeType, Version, VersionId};

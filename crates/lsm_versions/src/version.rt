@@ -1,25 +1,36 @@
 // Versions of a tree's tables.
 ghost use Rattle.std.specs.Prelude.{◌≡◌, true, ◌+◌, ◌-◌, ◌^◌, ◌<◌, [], length, IfOk, IfErr, ◌⊎◌, ◌++◌, List, option_copied, slice_get, slice_index_or};
 ghost use Rattle.lsm_below.specs.Runs.{IsRun};
+ghost use Rattle.std.specs.Slice.Iter.{iter_rest};
 ghost use Rattle.lsm_below.specs.Optimizes.{tables_of};
+ghost use Rattle.lsm_below.specs.Sums.{capped};
+ghost use Rattle.lsm_versions.specs.declared.version.TreeType.TheVariants.{Standard};
 ghost use Rattle.lsm_tables.specs.Tables.{SeenTable};
 ghost use Rattle.lsm_model.specs.Views.{IsLaidOut, IsRearranged, left_of};
 ghost use Rattle.lsm_model.specs.Steps.{among, AllCover};
-ghost use Rattle.lsm_versions.specs.Levels.{SeenVersion, range, placed_of, placed_in, AreApart, AreCovered, AreRising, AreRuns, HasOwnIds, AreNew, all_of, left_in, fits, IsVersion, IsNext, IsOneRun, chosen_from, PutBetween, Moves};
+ghost use Rattle.lsm_versions.specs.Levels.{SeenVersion, empty_levels, range, placed_of, placed_in, AreApart, AreCovered, AreRising, AreRuns, HasOwnIds, AreNew, all_of, left_in, fits, IsVersion, IsNext, IsOneRun, is_busy, chosen_from, PutBetween, Moves};
 ghost use Rattle.lsm_versions.specs.Refusals.{IsRefusedFor};
 ghost use Rattle.lsm_below.specs.declared.error.Error.TheVariants.{OutOfMemory};
 
-use crate::Level;
 use crate::level::see_run;
+use crate::{HiddenSet, Level};
 use lsm_below::{Error, Run, TableId, optimize_runs};
 use lsm_model::{levels_rise, tables_are_placed};
 use lsm_tables::Table;
 use std::alloc::{AllocError, Global};
 use std::collections::HashSet;
 use std::marker::Model;
+use std::slice::Iter;
 
 /// The id of a version.
 pub type VersionId = u64;
+
+/// What kind of tree a version is of.
+#[derive(Clone, Copy, Debug, PartialEq, Eq)]
+pub enum TreeType {
+    /// Keys and values stand in tables.
+    Standard,
+}
 
 /// How many levels a version has.
 pub const DEFAULT_LEVEL_COUNT: usize = 7;
@@ -34,7 +45,7 @@ pub const DEFAULT_LEVEL_COUNT: usize = 7;
 #[derive(Drop)]
 pub struct Version {
     id: VersionId,
-    levels: Vec<Level>,
+    levels: [Level; DEFAULT_LEVEL_COUNT],
 }
 
 impl Model for Version {
@@ -42,9 +53,9 @@ impl Model for Version {
 
     ghost Value = { SeenVersion };
 
-    ghost view = { λ v. record { id = v.id; levels = v.levels.items } };
+    ghost view = { λ v. record { id = v.id; levels = v.levels } };
 
-    ghost invariant = { λ v. IsVersion v.levels.items };
+    ghost invariant = { λ v. IsVersion v.levels };
 }
 
 /// Tables of which no two overlap, as one run.
@@ -85,6 +96,17 @@ pub(crate) fn chosen_runs(
     Ok(runs)
 }
 
+/// How many tables levels have.
+fn count_tables(levels: &[Level]) -> usize
+    ensures { result ≡ capped (length (all_of levels.now)) }
+{
+    let mut count: usize = 0;
+    for level in levels {
+        count = count.saturating_add(level.table_count());
+    }
+    count
+}
+
 /// Whether a manifest can write the levels.
 fn levels_fit(levels: &[Level]) -> bool
     ensures { result ≡ fits levels.now }
@@ -92,7 +114,36 @@ fn levels_fit(levels: &[Level]) -> bool
     levels.iter().all(|level| level.fits())
 }
 
+/// Seven levels, off the list that they were collected in.
+fn seven(levels: Vec<Level>) -> [Level; DEFAULT_LEVEL_COUNT]
+    requires { length levels.items ≡ 7 }
+    ensures { result ≡ levels.items }
+{
+    match <[Level; DEFAULT_LEVEL_COUNT]>::try_from(levels) {
+        Ok(levels) => levels,
+        Err(_) => unreachable!(),
+    }
+}
+
 impl Version {
+    /// A version of no tables. It takes no memory.
+    pub fn new(alloc: Global, id: VersionId) -> Version
+        ensures { result ≡ record { id = id; levels = empty_levels } }
+    {
+        Version {
+            id,
+            levels: [
+                Level::empty(alloc),
+                Level::empty(alloc),
+                Level::empty(alloc),
+                Level::empty(alloc),
+                Level::empty(alloc),
+                Level::empty(alloc),
+                Level::empty(alloc),
+            ],
+        }
+    }
+
     /// The version's id.
     pub fn id(&self) -> VersionId
         ensures { result ≡ self.now.id }
@@ -108,7 +159,10 @@ impl Version {
         ensures { result ≡ record { id = id; levels = levels.items } }
     {
         see_levels(&levels);
-        Version { id, levels }
+        Version {
+            id,
+            levels: seven(levels),
+        }
     }
 
     /// What every version meets, and that its tables stand as reads want them.
@@ -148,6 +202,37 @@ impl Version {
         self.levels.len()
     }
 
+    /// What kind of tree the version is of: always a standard one.
+    pub fn tree_type(&self) -> TreeType
+        ensures { result ≡ Standard }
+    {
+        TreeType::Standard
+    }
+
+    /// The levels, one after the other.
+    pub fn iter_levels(&self) -> Iter<'_, Level>
+        ensures { iter_rest result ≡ self.now.levels }
+    {
+        self.levels.iter()
+    }
+
+    /// How many tables there are; a count past 2^64 - 1 stands there.
+    pub fn table_count(&self) -> usize
+        ensures { result ≡ capped (length (all_of self.now.levels)) }
+    {
+        count_tables(&self.levels)
+    }
+
+    /// Whether a table of a level is hidden; of no level from 7 on.
+    pub fn level_is_busy(&self, n: usize, hidden: &HiddenSet) -> bool
+        ensures { result ≡ is_busy hidden.now (slice_index_or self.now.levels n []) }
+    {
+        match self.levels.get(n) {
+            Some(level) => level.is_busy(hidden),
+            None => false,
+        }
+    }
+
     /// A copy, which shares the tables. Refused only for want of memory.
     pub fn copy(&self, alloc: Global) -> Result<Version, AllocError>
         ensures { IfOk result (λ v. v ≡ self.now) }
@@ -158,7 +243,7 @@ impl Version {
         }
         Ok(Version {
             id: self.id,
-            levels,
+            levels: seven(levels),
         })
     }
 
@@ -191,8 +276,7 @@ impl Version {
         if !levels_fit(&levels) {
             return Err(Error::TooManyRuns);
         }
-        see_levels(&levels);
-        Ok(Version { id: id + 1, levels })
+        Ok(Version::from_levels(id + 1, levels))
     }
 
     /// The next version with a new run before those of the first level.
