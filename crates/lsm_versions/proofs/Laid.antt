@@ -6,19 +6,22 @@ use Rattle.lsm_below.specs.Keys.{Bytes}
 use Rattle.lsm_below.specs.Entries.{stack}
 use Rattle.lsm_below.specs.Ranges.{in_range}
 use Rattle.lsm_below.specs.Optimizes.{tables_of, IsRearranged as KeepsOrder}
-use Rattle.lsm_tables.specs.Tables.{SeenTable}
+use Rattle.lsm_tables.specs.Tables.{SeenTable, IsCovered}
 use Rattle.lsm_model.specs.Views.{Placed, placed_at, placed_from, held, chosen_of, EachPair, IsLaidOut}
 use Rattle.lsm_model.specs.Steps.{AllCover, among}
 use Rattle.lsm_below.specs.Each.{each_append, each_left, each_right}
 use Rattle.lsm_model.specs.Laws.{TablesArePlaced}
 use Rattle.lsm_model.specs.Views.{LevelsRise}
-use Rattle.lsm_versions.specs.Levels.{Levels, range, AreCovered, shown_table, shown_levels, placed_of, placed_in, chosen_in}
+use Rattle.lsm_versions.specs.Levels.{Levels, all_of, range, AreCovered, shown_table, shown_levels, placed_of, placed_in, chosen_in}
 use Rattle.lsm_versions.proofs.Placed.{placed_cons, filter_map}
+
+each_made : (Q : SeenTable → Type 0) (P : Placed → Type 0) → ((n : ℕ) (t : SeenTable) → Q t → P (placed_at n (shown_table t))) → (level : ℕ) (ts : List SeenTable) → AllByRecursion Q ts → AllByRecursion P (placed_in level ts)
+each_made Q P gives level [] h = tt
+each_made Q P gives level (t ∷ ts) h = (gives level t h.0, each_made Q P gives level ts h.1)
 
 -- placed tables are covered as the tables are
 pub made_cover : (level : ℕ) (ts : List SeenTable) → AreCovered ts → AllCover (placed_in level ts)
-made_cover level [] h = tt
-made_cover level (t ∷ ts) h = (h.0, made_cover level ts h.1)
+made_cover = each_made (λ t. IsCovered t.entries (range t)) (λ p. IsCovered p.table.entries p.table.range) (λ n t h. h)
 
 flat_parts : {A : Type 0} (P : A → Type 0) (xss : List (List A)) (rest : List A) → AllByRecursion P (tables_of xss ++ rest) → AllByRecursion P (tables_of xss) × AllByRecursion P rest
 flat_parts P xss rest h = (each_left P (tables_of xss) rest h, each_right P (tables_of xss) rest h)
@@ -27,12 +30,16 @@ pub flat_append : (xss yss : List (List SeenTable)) → tables_of (xss ++ yss) �
 flat_append [] yss = refl
 flat_append (xs ∷ xss) yss = ap (λ l. xs ++ l) (flat_append xss yss) ∙ sym (append_assoc xs (tables_of xss) (tables_of yss))
 
-levels_cover : (n : ℕ) (levels : Levels) → AreCovered (tables_of (tables_of levels)) → AllCover (placed_from n (shown_levels levels))
-levels_cover n [] h = tt
-levels_cover n (runs ∷ levels) h =
-    let parts = flat_parts _ runs (tables_of (tables_of levels)) (subst AreCovered (flat_append runs (tables_of levels)) h) in
-    subst AllCover (sym (placed_cons n runs levels))
-    (each_append _ (placed_in n (tables_of runs)) (placed_from (n + 1) (shown_levels levels)) (made_cover n (tables_of runs) parts.0) (levels_cover (n + 1) levels parts.1))
+-- what each table has, each placed one has
+pub each_placed : (Q : SeenTable → Type 0) (P : Placed → Type 0) → ((n : ℕ) (t : SeenTable) → Q t → P (placed_at n (shown_table t))) → (n : ℕ) (levels : Levels) → AllByRecursion Q (all_of levels) → AllByRecursion P (placed_from n (shown_levels levels))
+each_placed Q P gives n [] h = tt
+each_placed Q P gives n (runs ∷ levels) h =
+    let parts = flat_parts _ runs (all_of levels) (subst (AllByRecursion Q) (flat_append runs (tables_of levels)) h) in
+    subst (AllByRecursion P) (sym (placed_cons n runs levels))
+    (each_append _ (placed_in n (tables_of runs)) (placed_from (n + 1) (shown_levels levels)) (each_made Q P gives n (tables_of runs) parts.0) (each_placed Q P gives (n + 1) levels parts.1))
+
+levels_cover : (n : ℕ) (levels : Levels) → AreCovered (all_of levels) → AllCover (placed_from n (shown_levels levels))
+levels_cover = each_placed (λ t. IsCovered t.entries (range t)) (λ p. IsCovered p.table.entries p.table.range) (λ n t h. h)
 
 pub laid_out : LevelsRise → (levels : Levels) → AreCovered (tables_of (tables_of levels)) → IsLaidOut (placed_of levels)
 laid_out rise levels h = record { covers = levels_cover 0 levels h; by_level = rise 0 (shown_levels levels) }

@@ -1,5 +1,8 @@
 // Versions of a tree's tables.
 ghost use Rattle.std.specs.Prelude.{◌≡◌, true, ◌+◌, ◌-◌, ◌^◌, ◌<◌, [], length, IfOk, IfErr, ◌⊎◌, ◌++◌, List, option_copied, slice_get, slice_index_or};
+ghost use Rattle.std.specs.List.{AllByRecursion};
+ghost use Rattle.lsm_below.specs.Entries.{entry_cmp};
+ghost use Rattle.lsm_below.specs.Sorted.{Rises};
 ghost use Rattle.lsm_below.specs.Runs.{IsRun};
 ghost use Rattle.std.specs.Slice.Iter.{iter_rest};
 ghost use Rattle.lsm_below.specs.Optimizes.{tables_of};
@@ -169,6 +172,7 @@ impl Version {
     pub fn facts(&self)
         ensures is { IsVersion self.now.levels }
         ensures laid { IsLaidOut (placed_of self.now.levels) }
+        ensures rise { AllByRecursion (λ p. Rises entry_cmp p.table.entries) (placed_of self.now.levels) }
     {
         levels_rise();
         let _ = &self.levels;
