@@ -138,6 +138,19 @@ impl<'a> DoubleEndedIterator for Iter<'a> {
     }
 }
 
+impl<'a> Iter<'a> {
+    /// The entries of a slice.
+    pub fn of_slice(entries: &'a [InternalValue]) -> Iter<'a>
+        ensures { result ≡ entries.now }
+    {
+        Iter {
+            front: entries,
+            middle: &[],
+            back: &[],
+        }
+    }
+}
+
 /// No entry.
 fn nothing<'a>() -> Iter<'a>
     ensures { result ≡ [] }

@@ -11,6 +11,13 @@ use Rattle.lsm_below.specs.Sorted.{Rises}
 use Rattle.lsm_parts.specs.Reads.{Part, cut, all_counted}
 use Rattle.lsm_parts.specs.Shown.{lies_within, IsNewest, IsShown, IsHidden}
 use Rattle.lsm_parts.specs.declared.cut.Cut.{Cut}
+use Rattle.lsm_parts.specs.declared.entries.Place.{Place}
+use Rattle.lsm_parts.specs.declared.entries.Place.TheVariants.{Memtable, Table}
+
+-- the entries that stand in a place
+abbrev pub entries_in : Place → List Entry
+entries_in (Memtable span) = span
+entries_in (Table es) = es.now
 
 -- what a cut has left
 abbrev pub part_of : Cut → Part
@@ -19,7 +26,7 @@ part_of c = record { entries = c.entries; below = c.below }
 -- a cut that nothing was asked of yet: its entries stand in order, and all are left
 pub record IsFresh (c : Cut) : Type 0 where
   pub rises : Rises entry_cmp c.entries
-  pub whole : c.span ≡ c.entries
+  pub whole : c.all ≡ c.entries
   pub going : c.over ≡ false
 
 -- these cuts are what lies of the parts within bounds

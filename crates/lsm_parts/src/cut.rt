@@ -5,8 +5,9 @@ ghost use Rattle.lsm_parts.specs.Reads.{counted, cut};
 ghost use Rattle.lsm_parts.specs.Cuts.{part_of, IsFresh};
 ghost use Rattle.lsm_below.specs.declared.error.Error.TheVariants.{OutOfMemory};
 
+use crate::entries::Entries;
 use lsm_below::{Error, InternalValue, SeqNo, Source, UserKey};
-use lsm_memtable::{Iter, Span};
+use lsm_memtable::Iter;
 use std::ops::Bound;
 
 /// The entries of a source in the bounds, of which those below a sequence number count.
@@ -16,7 +17,7 @@ pub(crate) struct Cut<'a> {
     /// The entries that are left.
     pub(crate) entries: Iter<'a>,
     /// All its entries, which may be cut again.
-    pub(crate) span: Span<'a>,
+    pub(crate) all: Entries<'a>,
     pub(crate) below: SeqNo,
     over: bool,
 }
@@ -38,18 +39,18 @@ fn next_counted<'a>(entries: &mut Iter<'a>, below: SeqNo) -> Option<&'a Internal
 impl<'a> Cut<'a> {
     /// Of entries those in the bounds, of which those below a sequence number count.
     pub(crate) fn new(
-        entries: &Span<'a>,
+        entries: &Entries<'a>,
         bounds: &(Bound<UserKey>, Bound<UserKey>),
         below: SeqNo,
     ) -> Cut<'a>
         ensures is { part_of result ≡ cut bounds.now.0 bounds.now.1 (record { entries = entries.now; below = below }) }
         ensures fresh { IsFresh result }
     {
-        let span = entries.within(bounds);
-        span.facts();
+        let all = entries.within(bounds);
+        all.facts();
         Cut {
-            entries: span.iter(),
-            span,
+            entries: all.iter(),
+            all,
             below,
             over: false,
         }

@@ -6,7 +6,7 @@
 //! | `seqno` | the counter of sequence numbers, and which of them a snapshot sees |
 //! | `version` | versions of tables, super versions and their history |
 //! | `prefix` | the bounds of the keys that begin alike |
-//! | `iter_state`, `cut` | what an iterator reads; the entries of a source in the bounds |
+//! | `iter_state`, `entries`, `cut` | what an iterator reads; the entries of a source; those in the bounds |
 //! | `tree_iter` | an iterator over what a snapshot shows, from both ends |
 //! | `shown_ends` | the first and the last entry that a snapshot shows, and how many there are, without a list |
 //! | `guard` | what an iterator over pairs returns |
@@ -15,6 +15,7 @@
 
 mod config;
 mod cut;
+mod entries;
 mod guard;
 mod iter_state;
 mod laws;

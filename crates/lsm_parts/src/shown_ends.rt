@@ -155,7 +155,7 @@ fn greatest_key(
     keys_are_ordered();
     let mut greatest = None;
     for cut in cuts {
-        let within = cut.span.within(bounds);
+        let within = cut.all.within(bounds);
         within.facts();
         greatest = with_greater(greatest, greatest_of(within.iter()));
     }
@@ -174,7 +174,7 @@ fn newest_at<'a>(cuts: &[Cut<'a>], key: &UserKey) -> Option<&'a InternalValue>
     maps_are_read();
     let mut newest = None;
     for cut in cuts {
-        newest = newer_of(newest, cut.span.first_visible(key.as_slice(), cut.below));
+        newest = newer_of(newest, cut.all.first_visible(key.as_slice(), cut.below));
     }
     newest
 }
