@@ -11,6 +11,7 @@ mod level;
 mod lookup;
 mod parted_run;
 mod same;
+mod tables;
 mod version;
 
 pub use choice::{Kind, Why, first_reason, last_reason};
@@ -22,4 +23,5 @@ pub use laws::{
     merges_of_inputs_are_steps, moves_are_steps,
 };
 pub use level::{GenericLevel, Level};
+pub use tables::Tables;
 pub use version::{DEFAULT_LEVEL_COUNT, TreeType, Version, VersionId};
