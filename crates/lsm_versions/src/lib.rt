@@ -14,7 +14,7 @@ mod same;
 mod tables;
 mod version;
 
-pub use choice::{Kind, Why, first_reason, last_reason};
+pub use choice::{Kind, Why, first_reason, last_reason, last_reason_by_ids};
 pub use hidden_set::HiddenSet;
 pub use indexes::pick_run_indexes;
 pub use input::Input;
