@@ -11,7 +11,7 @@ use Rattle.lsm_tables.specs.Tables.{SeenTable}
 use Rattle.lsm_model.specs.Views.{Table, IsIn, held, chosen_of}
 use Rattle.lsm_model.specs.Steps.{among}
 use Rattle.lsm_versions.specs.Levels.{Levels, HasOwnIds, all_of, chosen_from, shown_table, placed_of}
-use Rattle.lsm_versions.specs.Choices.{IsAmong, AllStand, HoldSame}
+use Rattle.lsm_versions.specs.Choices.{IsAmong, AllStand, HoldSame, AreIdsOf}
 use Rattle.lsm_versions.proofs.Placed.{map_map, filter_map, filter_same, filter_none}
 use Rattle.lsm_versions.proofs.Ids.{front_moves, flips}
 use Rattle.lsm_versions.proofs.Laid.{held_chosen}
@@ -89,15 +89,20 @@ stack_flat k (t ∷ ts) = filter-append (λ e. is_same k e.key.user_key) t.entri
 shown_own : (ts : List SeenTable) → HasOwnIds ts → Distinct (map shown_table ts)
 shown_own ts h = subst (IsDistinct eqb) (sym (map_map (λ t. t.id) shown_table ts)) h
 
+each_id : (is ids : List ℕ) → ((i : ℕ) → among is i ≡ among ids i) → (ts : List Table) → AllByRecursion (λ t. among is t.id ≡ among ids t.id) ts
+each_id is ids same [] = tt
+each_id is ids same (t ∷ ts) = (same t.id, each_id is ids same ts)
+
 -- inputs that are still there hold of each key what the tables of their ids do
-pub hold_same : (ids : List ℕ) (inputs : List SeenTable) (levels : Levels) → ids ≡ map (λ t. t.id) inputs → HasOwnIds inputs → HasOwnIds (all_of levels) → AllStand levels inputs → HoldSame inputs ids levels
+pub hold_same : (ids : List ℕ) (inputs : List SeenTable) (levels : Levels) → AreIdsOf ids inputs → HasOwnIds inputs → HasOwnIds (all_of levels) → AllStand levels inputs → HoldSame inputs ids levels
 hold_same ids inputs levels are own own_all stand k =
     let f = λ (t : Table). stack k t.entries in
     let all = all_of levels in
     let same = chosen_same f (map shown_table inputs) (map shown_table all) (shown_own inputs own) (shown_own all own_all) (all_shown all inputs stand) in
-    let is_ids : map (λ t. t.id) (map shown_table inputs) ≡ ids = map_map (λ t. t.id) shown_table inputs ∙ sym are in
+    let is = map (λ t. t.id) (map shown_table inputs) in
+    let is_ids : (i : ℕ) → among is i ≡ among ids i = λ i. ap (λ l. among l i) (map_map (λ t. t.id) shown_table inputs) ∙ sym (are i) in
     let right : flat_map f (filter (λ t. among (map (λ t. t.id) (map shown_table inputs)) t.id) (map shown_table all)) ≡ stack k (held (chosen_of (among ids) (placed_of levels))) =
-    ap (λ is. flat_map f (filter (λ t. among is t.id) (map shown_table all))) is_ids
+    ap (flat_map f) (filter_same (λ t. among is t.id) (λ t. among ids t.id) (map shown_table all) (each_id is ids is_ids (map shown_table all)))
     ∙ ap (flat_map f) (filter_map shown_table (λ t. among ids t.id) all)
     ∙ shown_flat f (chosen_from ids levels)
     ∙ sym (stack_flat k (chosen_from ids levels))

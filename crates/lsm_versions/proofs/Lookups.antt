@@ -1,6 +1,6 @@
 -- A look-up of tables by their ids.
-use Rattle.std.proofs.Common.{◌≡◌, ℕ, ◌+◌, ◌<◌, Bool, true, false, cond, ◌||◌, eqb, List, [], ◌∷◌, ◌++◌, length, map, filter, get_or, take, not, Option, Some, None, MatchOption, inl, inr, ⊎_elim, refl, sym, ◌∙◌, ap, subst, eq-eqb, arith, suc}
-use Rattle.std.specs.List.{AllByRecursion, list_any, IsDistinct}
+use Rattle.std.proofs.Common.{◌≡◌, ℕ, ◌+◌, ◌<◌, Bool, true, false, cond, ◌||◌, eqb, List, [], ◌∷◌, ◌++◌, length, map, filter, get_or, take, not, Option, Some, None, MatchOption, inl, inr, ⊎_elim, refl, sym, ◌∙◌, ap, subst, eq-eqb, arith, suc, ◌&&◌, IsTrue, ◌↔◌}
+use Rattle.std.specs.List.{AllByRecursion, list_any, list_all, IsDistinct}
 use Rattle.std.proofs.lemmas.List.{take_more}
 use Rattle.std.proofs.lemmas.List.Folds.{list_any-append}
 use Rattle.std.proofs.lemmas.Bool.Decides.{nat_tests}
@@ -10,7 +10,7 @@ use Rattle.lsm_tables.specs.Tables.{SeenTable}
 use Rattle.lsm_model.specs.Views.{Table}
 use Rattle.lsm_model.specs.Steps.{among}
 use Rattle.lsm_versions.specs.Levels.{Levels, range, shown_table, all_of, HasOwnIds}
-use Rattle.lsm_versions.specs.Choices.{IsAmong, is_there}
+use Rattle.lsm_versions.specs.Choices.{IsAmong, AllStand, AreOneById, is_there}
 use Rattle.lsm_versions.proofs.Choosing.{from_eqb}
 use Rattle.lsm_versions.proofs.Ids.{flips}
 use Rattle.lsm_versions.proofs.Parting.{overlap_back}
@@ -73,6 +73,48 @@ has_id u (t ∷ ts) i = ⊎_elim (λ (e : t ≡ u). ap (λ b. b || list_any (λ 
     or_true true = refl
     or_true false = refl
 
+-- ---- where an id names one table
+
+-- what is found is the table of that id, if its entries are the same
+pub found_among : (ts : List SeenTable) (t u : SeenTable) → IsIn u ts → u.id ≡ t.id → u.entries ≡ t.entries → IsAmong ts t
+found_among ts t u i e f = subst (λ (s : Table). IsIn s (map shown_table ts)) (same u t e f) (in_shown u ts i)
+  where
+    same : (u t : SeenTable) → u.id ≡ t.id → u.entries ≡ t.entries → shown_table u ≡ shown_table t
+    same u t e f = cc
+
+and_parts : (a b : Bool) → (a && b) ≡ true → (a ≡ true) × (b ≡ true)
+and_parts true b h = (refl, h)
+and_parts false b h = absurd (cc h)
+
+find_id : (i : ℕ) (ts : List SeenTable) → list_any (λ t. eqb t.id i) ts ≡ true → (u : SeenTable) × IsIn u ts × (u.id ≡ i)
+find_id i [] h = absurd (cc h)
+find_id i (t ∷ ts) h =
+    elim (eqb t.id i) as (λ b. eqb t.id i ≡ b → (b || list_any (λ t. eqb t.id i) ts) ≡ true → (u : SeenTable) × IsIn u (t ∷ ts) × (u.id ≡ i)) [
+      | true ↦ λ q k. (t, inl refl, from_eqb t.id i q)
+      | false ↦ λ q k. let r = find_id i ts k in (r.0, inr r.1, r.2)
+    ] refl h
+
+module _ (there : List ℕ) (levels : Levels) (ids : (i : ℕ) → among there i ≡ among (map (λ t. t.id) (all_of levels)) i) where
+  here_shown : (i : ℕ) → among there i ≡ list_any (λ t. eqb t.id i) (all_of levels)
+  here_shown i = ids i ∙ ids_there i (all_of levels)
+
+  all_here : (inputs : List SeenTable) → AreOneById inputs levels → list_all (λ t. among there t.id) inputs ≡ true → AllStand levels inputs
+  all_here [] one h = tt
+  all_here (t ∷ inputs) one h =
+      let p = and_parts (among there t.id) (list_all (λ t. among there t.id) inputs) h in
+      let r = find_id t.id (all_of levels) (sym (here_shown t.id) ∙ p.0) in
+      (found_among (all_of levels) t r.0 r.1 r.2 (one t r.0 (inl refl) r.1 r.2), all_here inputs (λ t u i j e. one t u (inr i) j e) p.1)
+
+  here_all : (inputs : List SeenTable) → AllStand levels inputs → list_all (λ t. among there t.id) inputs ≡ true
+  here_all [] h = refl
+  here_all (t ∷ inputs) h =
+      let r = from_shown t (all_of levels) h.0 in
+      let yes : among there t.id ≡ true = here_shown t.id ∙ (ap (λ (i : ℕ). list_any (λ u. eqb u.id i) (all_of levels)) (sym (ap (λ (s : Table). s.id) r.2)) ∙ has_id r.0 (all_of levels) r.1) in
+      ap (λ b. b && list_all (λ t. among there t.id) inputs) yes ∙ here_all inputs h.1
+
+  pub ids_tell : (inputs : List SeenTable) (b : Bool) → AreOneById inputs levels → b ≡ list_all (λ t. among there t.id) inputs → IsTrue b ↔ AllStand levels inputs
+  ids_tell inputs b one e = (λ y. all_here inputs one (sym e ∙ y), λ h. e ∙ here_all inputs h)
+
 -- ---- the look-up
 
 abbrev pub Row : List SeenTable → ℕ → Option SeenTable → Type 0
@@ -95,13 +137,6 @@ pub index_more : (ts : List SeenTable) (n i : ℕ) (t : SeenTable) (new old : Op
 index_more ts n i t new old lt read step h =
     let e : take n ts ++ t ∷ [] ≡ take (n + 1) ts = ap (λ x. take n ts ++ x ∷ []) read ∙ sym (take_more ts n t lt) in
     subst (λ l. Row l i new) e (row_more (take n ts) t i new old step h)
-
--- what is found is the table of that id, if its entries are the same
-pub found_among : (ts : List SeenTable) (t u : SeenTable) → IsIn u ts → u.id ≡ t.id → u.entries ≡ t.entries → IsAmong ts t
-found_among ts t u i e f = subst (λ (s : Table). IsIn s (map shown_table ts)) (same u t e f) (in_shown u ts i)
-  where
-    same : (u t : SeenTable) → u.id ≡ t.id → u.entries ≡ t.entries → shown_table u ≡ shown_table t
-    same u t e f = cc
 
 pub found_same : (ts : List SeenTable) (t u : SeenTable) → HasOwnIds ts → IsIn u ts → u.id ≡ t.id → IsAmong ts t → u.entries ≡ t.entries
 found_same ts t u own i e among_them =

@@ -121,6 +121,14 @@ IsAmong ts t = IsIn (shown_table t) (map shown_table ts)
 abbrev pub AllStand : Levels → List SeenTable → Type 0
 AllStand levels inputs = AllByRecursion (IsAmong (all_of levels)) inputs
 
+-- these are the ids of these tables
+abbrev pub AreIdsOf : List ℕ → List SeenTable → Type 0
+AreIdsOf ids ts = (i : ℕ) → among ids i ≡ among (map (λ t. t.id) ts) i
+
+-- an id that stands both among these tables and in the levels is that of tables with the same entries
+abbrev pub AreOneById : List SeenTable → Levels → Type 0
+AreOneById ts levels = (t u : SeenTable) → IsIn t ts → IsIn u (all_of levels) → u.id ≡ t.id → u.entries ≡ t.entries
+
 -- tables hold of each key what those of these ids hold, in whatever order
 abbrev pub HoldSame : List SeenTable → List ℕ → Levels → Type 0
 HoldSame inputs ids levels = (k : Bytes) → IsPermutation (flat_map (λ t. stack k t.entries) inputs) (stack k (held (chosen_of (among ids) (placed_of levels))))

@@ -11,10 +11,11 @@ mod level;
 mod lookup;
 mod parted_run;
 mod same;
+mod tables;
 mod version;
 mod walk;
 
-pub use choice::{Kind, Why, first_reason, last_reason};
+pub use choice::{Kind, Why, first_reason, last_reason, last_reason_by_ids};
 pub use hidden_set::HiddenSet;
 pub use indexes::pick_run_indexes;
 pub use input::Input;
@@ -23,4 +24,5 @@ pub use laws::{
     merges_of_inputs_are_steps, moves_are_steps,
 };
 pub use level::{GenericLevel, Level};
+pub use tables::Tables;
 pub use version::{DEFAULT_LEVEL_COUNT, TreeType, Version, VersionId};

@@ -1,13 +1,15 @@
 // Look-ups of a version's tables by their ids.
 ghost use Rattle.std.specs.Prelude.{◌≡◌, ℕ, ◌++◌, nat_eq, List, map, IfOk, OnOk, IsTrue, ◌↔◌};
 ghost use Rattle.std.specs.HashMap.{get};
+ghost use Rattle.std.specs.List.{list_all};
 ghost use Rattle.lsm_below.specs.Optimizes.{tables_of};
 ghost use Rattle.lsm_tables.specs.Tables.{SeenTable};
 ghost use Rattle.lsm_model.specs.Steps.{among};
 ghost use Rattle.lsm_versions.specs.Levels.{all_of, HasOwnIds};
-ghost use Rattle.lsm_versions.specs.Choices.{IsIndex, IsAmong, AllStand};
+ghost use Rattle.lsm_versions.specs.Choices.{IsIndex, IsAmong, AllStand, AreOneById};
 
 use crate::Level;
+use crate::level::has_id;
 use crate::same::same_entries;
 use lsm_below::{Run, TableId};
 use lsm_tables::Table;
@@ -92,4 +94,25 @@ pub(crate) fn all_stand(
         }
     }
     Ok(true)
+}
+
+fn are_there(there: &HashSet<TableId>, inputs: &[Table]) -> bool
+    ensures { result ≡ list_all (λ t. among there.now.keys t.id) inputs.now }
+{
+    inputs.iter().all(|input| has_id(there, input.id()))
+}
+
+/// Whether each of the inputs is among the tables of levels, where an id names one table. The cost is
+/// linear in the tables.
+pub(crate) fn ids_stand(
+    alloc: Global,
+    inputs: &[Table],
+    levels: &[Level],
+) -> Result<bool, AllocError>
+    requires { AreOneById inputs.now levels.now }
+    ensures { IfOk result (λ b. IsTrue b ↔ AllStand levels.now inputs.now) }
+{
+    let there = ids_of_levels(alloc, levels)?;
+    let stands = are_there(&there, inputs);
+    Ok(stands)
 }

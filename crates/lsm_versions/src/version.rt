@@ -16,7 +16,8 @@ ghost use Rattle.lsm_versions.specs.Refusals.{IsRefusedFor};
 ghost use Rattle.lsm_below.specs.declared.error.Error.TheVariants.{OutOfMemory};
 
 use crate::level::see_run;
-use crate::{HiddenSet, Level};
+use crate::tables::tables_in;
+use crate::{HiddenSet, Level, Tables};
 use lsm_below::{Error, Run, TableId, optimize_runs};
 use lsm_model::{levels_rise, tables_are_placed};
 use lsm_tables::Table;
@@ -218,6 +219,13 @@ impl Version {
         ensures { iter_rest result ≡ self.now.levels }
     {
         self.levels.iter()
+    }
+
+    /// The tables, level by level and run by run.
+    pub fn iter_tables(&self) -> Tables<'_>
+        ensures { result ≡ all_of self.now.levels }
+    {
+        tables_in(&self.levels)
     }
 
     /// How many tables there are; a count past 2^64 - 1 stands there.
