@@ -10,7 +10,7 @@ use Rattle.lsm_below.specs.Sorted.{Rises}
 use Rattle.std.specs.Borrow.{Bor}
 use Rattle.lsm_memtable.specs.Memtables.{SeenMemtable}
 use Rattle.lsm_parts.specs.Reads.{Part, cut, at, parts_at, state_of, index_of, tables_of}
-use Rattle.lsm_parts.specs.Versions.{SeenVersion}
+use Rattle.lsm_versions.specs.Levels.{SeenVersion}
 use Rattle.lsm_parts.specs.Cuts.{part_of, IsFresh, AreCuts}
 use Rattle.lsm_parts.specs.declared.cut.Cut.{Cut}
 

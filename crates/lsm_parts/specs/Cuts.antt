@@ -11,13 +11,6 @@ use Rattle.lsm_below.specs.Sorted.{Rises}
 use Rattle.lsm_parts.specs.Reads.{Part, cut, all_counted}
 use Rattle.lsm_parts.specs.Shown.{lies_within, IsNewest, IsShown, IsHidden}
 use Rattle.lsm_parts.specs.declared.cut.Cut.{Cut}
-use Rattle.lsm_parts.specs.declared.entries.Place.{Place}
-use Rattle.lsm_parts.specs.declared.entries.Place.TheVariants.{Memtable, Table}
-
--- the entries that stand in a place
-abbrev pub entries_in : Place → List Entry
-entries_in (Memtable span) = span
-entries_in (Table es) = es.now
 
 -- what a cut has left
 abbrev pub part_of : Cut → Part

@@ -4,6 +4,7 @@ pub mod Shown
 pub mod Prefixes
 pub mod Guards
 pub mod Reads
+pub mod Places
 pub mod Cuts
 pub mod Ends
 pub mod Answers

@@ -3,9 +3,8 @@ use Rattle.std.specs.Prelude.{ℕ, List, ◌++◌, map, flat_map, filter, Option
 use Rattle.std.specs.declared.ops.Bound.{Bound}
 use Rattle.lsm_below.specs.Keys.{Bytes}
 use Rattle.lsm_below.specs.Entries.{Entry}
-use Rattle.lsm_model.specs.Views.{placed_from}
 use Rattle.lsm_memtable.specs.Memtables.{SeenMemtable, within}
-use Rattle.lsm_parts.specs.Versions.{SeenVersion}
+use Rattle.lsm_versions.specs.Levels.{SeenVersion, tables_shown}
 use Rattle.std.specs.Borrow.{Bor}
 
 -- entries, and the sequence number below which they count
@@ -49,7 +48,7 @@ cut low high part = record { entries = within low high part.entries; below = par
 
 -- the entries of a version's tables, level by level and run by run
 abbrev pub tables_of : SeenVersion → List (List Entry)
-tables_of version = map (λ p. p.table.entries) (placed_from 0 version.levels)
+tables_of version = tables_shown version.levels
 
 -- an index with its own sequence number, as a part
 abbrev pub index_of : Option (Bor SeenMemtable × ℕ) → Option Part

@@ -3,7 +3,7 @@ ghost use Rattle.std.specs.Prelude.{◌≡◌, option_copied};
 ghost use Rattle.lsm_below.specs.Entries.{entry_cmp};
 ghost use Rattle.lsm_below.specs.Sorted.{Rises, first};
 ghost use Rattle.lsm_memtable.specs.Memtables.{is_visible, within};
-ghost use Rattle.lsm_parts.specs.Cuts.{entries_in};
+ghost use Rattle.lsm_parts.specs.Places.{entries_in};
 
 use lsm_below::{InternalValue, SeqNo, UserKey, entries_within, first_visible};
 use lsm_memtable::{Iter, Memtable, Span};
@@ -28,7 +28,7 @@ impl<'a> Model for Entries<'a> {
     ghost use Rattle.std.specs.Prelude.{List};
     ghost use Rattle.lsm_below.specs.Entries.{Entry, entry_cmp};
     ghost use Rattle.lsm_below.specs.Sorted.{Rises};
-    ghost use Rattle.lsm_parts.specs.Cuts.{entries_in};
+    ghost use Rattle.lsm_parts.specs.Places.{entries_in};
 
     ghost Value = { List Entry };
 
@@ -80,11 +80,18 @@ impl<'a> Entries<'a> {
     pub(crate) fn within(&self, bounds: &(Bound<UserKey>, Bound<UserKey>)) -> Entries<'a>
         ensures { result ≡ within bounds.now.0 bounds.now.1 self.now }
     {
-        let place = match &self.place {
-            Place::Memtable(span) => Place::Memtable(span.within(bounds)),
-            Place::Table(entries) => Place::Table(entries_within(entries, &bounds.0, &bounds.1)),
-        };
-        Entries { place }
+        match &self.place {
+            Place::Memtable(span) => {
+                let part = span.within(bounds);
+                part.facts();
+                Entries {
+                    place: Place::Memtable(part),
+                }
+            }
+            Place::Table(entries) => Entries {
+                place: Place::Table(entries_within(entries, &bounds.0, &bounds.1)),
+            },
+        }
     }
 
     /// The first entry of a key below the snapshot. The cost is logarithmic.

@@ -1,9 +1,10 @@
 // What an iterator reads.
 ghost use Rattle.std.specs.Prelude.{◌≡◌, map, OnOk, IfOk, option_to_list};
-ghost use Rattle.lsm_parts.specs.Reads.{parts_at, at, state_of, index_of};
+ghost use Rattle.lsm_parts.specs.Reads.{parts_at, at, state_of, index_of, tables_of};
 ghost use Rattle.lsm_parts.specs.Cuts.{AreCuts, PutsCuts};
 
 use crate::cut::Cut;
+use crate::entries::Entries;
 use crate::{Memtable, Version};
 use lsm_below::{SeqNo, UserKey};
 use std::alloc::{AllocError, Global};
@@ -63,7 +64,7 @@ impl<'a> IterState<'a> {
         let mut cuts = Vec::with_capacity(alloc, self.memtables.len().saturating_add(1))?;
         push_overlay(&mut cuts, self.overlay, bounds)?;
         push_memtables(&mut cuts, &self.memtables, bounds, snapshot)?;
-        self.version.push_cuts(&mut cuts, bounds, snapshot)?;
+        push_tables(&mut cuts, self.version, bounds, snapshot)?;
         Ok(cuts)
     }
 }
@@ -79,7 +80,28 @@ fn push_memtables<'a>(
         (PutsCuts bounds.now.0 bounds.now.1 (map (λ m. at snapshot m.now.entries) memtables.now) cuts.old.items cuts.new.items) }
 {
     for memtable in memtables {
-        cuts.push(Cut::new(&memtable.span(), bounds, snapshot))?;
+        cuts.push(Cut::new(
+            &Entries::of_memtable(memtable),
+            bounds,
+            snapshot,
+        ))?;
+    }
+    Ok(())
+}
+
+/// Appends the entries of each table in the bounds to the cuts, in the order of a walk.
+fn push_tables<'a>(
+    cuts: &mut Vec<Cut<'a>>,
+    version: &'a Version,
+    bounds: &(Bound<UserKey>, Bound<UserKey>),
+    snapshot: SeqNo,
+) -> Result<(), AllocError>
+    ensures { OnOk result
+        (PutsCuts bounds.now.0 bounds.now.1 (map (at snapshot) (tables_of version.now)) cuts.old.items cuts.new.items) }
+{
+    let mut tables = version.iter_tables();
+    while let Some(table) = tables.next() {
+        cuts.push(Cut::new(&Entries::of_table(table), bounds, snapshot))?;
     }
     Ok(())
 }
@@ -94,7 +116,9 @@ fn push_overlay<'a>(
         (PutsCuts bounds.now.0 bounds.now.1 (option_to_list (index_of overlay.entry)) cuts.old.items cuts.new.items) }
 {
     match overlay {
-        Some((index, below)) => cuts.push(Cut::new(&index.span(), bounds, below))?,
+        Some((index, below)) => {
+            cuts.push(Cut::new(&Entries::of_memtable(index), bounds, below))?;
+        }
         None => {}
     }
     Ok(())

@@ -35,4 +35,5 @@ pub use prefix::prefix_to_range;
 pub use seqno::{LIMIT, SequenceNumberCounter, seqno_filter};
 pub use shown_ends::{count_shown, first_shown, last_shown};
 pub use tree_iter::{End, TreeIter, take_ends};
-pub use version::{SealedMemtables, SuperVersion, SuperVersions, Version, VersionId};
+pub use lsm_versions::{Version, VersionId};
+pub use version::{SealedMemtables, SuperVersion, SuperVersions};

@@ -73,7 +73,7 @@ fn gives_both_ends(alloc: Global, iter: Result<TreeIter, Error>) -> bool {
 
 #[test]
 fn both_ends_of_one_list(rt: HostRuntime) {
-    let version = Version::new(0);
+    let version = Version::new(rt.alloc(), 0);
     let mut table = Memtable::new(rt.alloc(), 0);
     assert!(rt; set_odd(&mut table).is_ok());
     assert!(rt; gives_both_ends(rt.alloc(), iter_over(rt.alloc(), &version, &table, 3)));
@@ -104,7 +104,7 @@ fn is_stepped_over(iter: Result<TreeIter, Error>) -> bool {
 
 #[test]
 fn steps_from_either_end(rt: HostRuntime) {
-    let version = Version::new(0);
+    let version = Version::new(rt.alloc(), 0);
     let mut table = Memtable::new(rt.alloc(), 0);
     assert!(rt; set_odd(&mut table).is_ok());
     assert!(rt; is_stepped_over(iter_over(rt.alloc(), &version, &table, 3)));
@@ -128,7 +128,7 @@ fn shows<'a>(
 
 #[test]
 fn a_snapshot_sees_what_is_below_it(rt: HostRuntime) {
-    let version = Version::new(0);
+    let version = Version::new(rt.alloc(), 0);
     let mut table = Memtable::new(rt.alloc(), 0);
     assert!(rt; set_odd(&mut table).is_ok());
     assert!(rt; shows(rt.alloc(), &version, &table, all(), 3, "1x3y5z"));
@@ -139,7 +139,7 @@ fn a_snapshot_sees_what_is_below_it(rt: HostRuntime) {
 
 #[test]
 fn bounds_take_their_keys_in_or_leave_them_out(rt: HostRuntime) {
-    let version = Version::new(0);
+    let version = Version::new(rt.alloc(), 0);
     let mut table = Memtable::new(rt.alloc(), 0);
     assert!(rt; set_odd(&mut table).is_ok());
     let inner = (excluded("1"), included("3"));
@@ -178,7 +178,7 @@ fn shows_prefix<'a>(
 
 #[test]
 fn a_prefix_lists_what_begins_so(rt: HostRuntime) {
-    let version = Version::new(0);
+    let version = Version::new(rt.alloc(), 0);
     let mut table = Memtable::new(rt.alloc(), 0);
     assert!(rt; set_odd(&mut table).is_ok());
     assert!(rt; shows_prefix(rt.alloc(), &version, &table, b"3", "3y"));
@@ -219,7 +219,7 @@ fn two_show<'a>(
 
 #[test]
 fn the_newest_source_is_no_matter_but_the_number_is(rt: HostRuntime) {
-    let version = Version::new(0);
+    let version = Version::new(rt.alloc(), 0);
     let mut older = Memtable::new(rt.alloc(), 0);
     let mut newer = Memtable::new(rt.alloc(), 1);
     assert!(rt; set_odd(&mut older).is_ok());
@@ -253,7 +253,7 @@ fn shows_under<'a>(
 
 #[test]
 fn an_index_counts_below_its_own_number(rt: HostRuntime) {
-    let version = Version::new(0);
+    let version = Version::new(rt.alloc(), 0);
     let mut tree = Memtable::new(rt.alloc(), 0);
     let mut index = Memtable::new(rt.alloc(), 1);
     assert!(rt; set_a_b(&mut tree).is_ok());
@@ -305,7 +305,7 @@ fn ends_are_found<'a>(
 
 #[test]
 fn the_ends_are_found_alone(rt: HostRuntime) {
-    let version = Version::new(0);
+    let version = Version::new(rt.alloc(), 0);
     let mut tree = Memtable::new(rt.alloc(), 0);
     let mut index = Memtable::new(rt.alloc(), 1);
     assert!(rt; set_a_b(&mut tree).is_ok());
@@ -328,7 +328,7 @@ fn ends_of<'a>(
 
 #[test]
 fn the_ends_of_nothing_are_none(rt: HostRuntime) {
-    let version = Version::new(0);
+    let version = Version::new(rt.alloc(), 0);
     let mut tree = Memtable::new(rt.alloc(), 0);
     assert!(rt; set_a_b(&mut tree).is_ok());
     assert!(rt; ends_of(rt.alloc(), &version, &tree, 0, (None, None)));

@@ -9,7 +9,7 @@ fn super_version(alloc: Global, active: MemtableId, seqno: SeqNo) -> SuperVersio
     SuperVersion {
         active_memtable: active,
         sealed_memtables: SealedMemtables::new(alloc),
-        version: Version::new(0),
+        version: Version::new(alloc, 0),
         seqno,
     }
 }
@@ -76,7 +76,7 @@ fn reads_each(rt: &impl Abort, history: &SuperVersions, cases: &[(SeqNo, Memtabl
 
 #[test]
 fn a_snapshot_reads_what_was_installed_before_it(rt: HostRuntime) {
-    let mut history = SuperVersions::new(rt.alloc(), Version::new(0));
+    let mut history = SuperVersions::new(rt.alloc(), Version::new(rt.alloc(), 0));
     assert!(rt; install_two(rt.alloc(), &mut history).is_ok());
     reads_each(
         &rt,
@@ -97,7 +97,7 @@ fn install_lower(alloc: Global, history: &mut SuperVersions) -> Result<(), Error
 
 #[test]
 fn numbers_that_fall_back_are_found(rt: HostRuntime) {
-    let mut history = SuperVersions::new(rt.alloc(), Version::new(0));
+    let mut history = SuperVersions::new(rt.alloc(), Version::new(rt.alloc(), 0));
     assert!(rt; install_lower(rt.alloc(), &mut history).is_ok());
     reads_each(
         &rt,
@@ -116,7 +116,7 @@ fn is_too_old(history: &SuperVersions, snapshot: SeqNo) -> bool {
 
 #[test]
 fn a_snapshot_below_all_is_too_old(rt: HostRuntime) {
-    let mut late = SuperVersions::new(rt.alloc(), Version::new(0));
+    let mut late = SuperVersions::new(rt.alloc(), Version::new(rt.alloc(), 0));
     late.replace_latest_version(super_version(rt.alloc(), 1, 5));
     assert!(rt; is_too_old(&late, 5));
     assert!(rt; reads(&late, 0, 1));
@@ -158,7 +158,7 @@ fn sums_named(alloc: Global, history: &mut SuperVersions, memtables: &Vec<Memtab
 #[test]
 fn sums_the_memtables_that_are_named(rt: HostRuntime) {
     let mut memtables = Vec::new(rt.alloc());
-    let mut history = SuperVersions::new(rt.alloc(), Version::new(0));
+    let mut history = SuperVersions::new(rt.alloc(), Version::new(rt.alloc(), 0));
     assert!(rt; push_three(rt.alloc(), &mut memtables).is_ok());
     assert!(rt; sums_named(rt.alloc(), &mut history, &memtables));
     drop(history);

@@ -4,7 +4,8 @@ use Rattle.std.proofs.lemmas.List.Concat.{flat_map-cons}
 use Rattle.std.proofs.lemmas.List.Elements.{filter-append}
 use Rattle.std.specs.Borrow.{Bor}
 use Rattle.lsm_below.specs.Entries.{Entry}
-use Rattle.lsm_model.specs.Views.{placed_from, held, Placed, entries}
+use Rattle.lsm_model.specs.Views.{held, Placed, entries}
+use Rattle.lsm_versions.specs.Levels.{placed_of}
 use Rattle.lsm_memtable.specs.Memtables.{SeenMemtable}
 use Rattle.lsm_parts.specs.Reads.{at, counted, all_counted, counted_at, state_of}
 use Rattle.lsm_parts.specs.declared.version.super_version.SuperVersion.{SuperVersion}
@@ -40,7 +41,7 @@ module _ (s : ℕ) where
 
   module _ (sv : SuperVersion) (mems : List SeenMemtable) (list : List (Bor SeenMemtable)) (h : flat_map (λ m. m.now.entries) list ≡ flat_map (entries_of mems) ((shown_as sv).active ∷ (shown_as sv).sealed)) where
     abbrev tables : List Placed
-    tables = placed_from 0 sv.version.levels
+    tables = placed_of sv.version.levels
 
     abbrev tree : List (List Entry)
     tree = map (λ m. m.now.entries) list ++ map (λ p. p.table.entries) tables

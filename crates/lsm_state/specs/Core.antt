@@ -2,12 +2,12 @@
 use Rattle.std.specs.Prelude.{ℕ, ◌+◌, max, List, [], ◌∷◌, map, reverse}
 use Rattle.lsm_below.specs.Entries.{Entry}
 use Rattle.lsm_model.specs.Journal.{Event}
-use Rattle.lsm_model.specs.Views.{SuperVersion as Shown, placed_from}
+use Rattle.lsm_model.specs.Views.{SuperVersion as Shown}
 use Rattle.lsm_model.specs.Steps.{State}
 use Rattle.lsm_parts.specs.declared.config.Config.{Config}
 use Rattle.lsm_parts.specs.declared.version.super_version.SuperVersion.{SuperVersion}
 use Rattle.lsm_memtable.specs.Memtables.{SeenMemtable, new_memtable}
-use Rattle.lsm_parts.specs.Versions.{empty_levels}
+use Rattle.lsm_versions.specs.Levels.{empty_levels, placed_of}
 use Rattle.lsm_parts.specs.History.{SeenHistory, first_version, rotated}
 use Rattle.lsm_state.specs.Held.{entries_of, put_first, put_all_first}
 
@@ -27,7 +27,7 @@ pub record Seen (S : Type 0) : Type 0 where
 
 -- a super version as the theory sees it: sealed memtables from the newest, tables level by level
 abbrev pub shown_as : SuperVersion → Shown
-shown_as sv = record { number = sv.seqno; active = sv.active_memtable; sealed = reverse sv.sealed_memtables; tables = placed_from 0 sv.version.levels }
+shown_as sv = record { number = sv.seqno; active = sv.active_memtable; sealed = reverse sv.sealed_memtables; tables = placed_of sv.version.levels }
 
 -- the latest super version, as the theory sees it
 abbrev pub latest_of : Core → Shown

@@ -60,7 +60,7 @@ impl TreeState<NoStore> {
             store: NoStore,
             config,
             memtables: Memtables::new(alloc, 0),
-            history: SuperVersions::new(alloc, Version::new(0)),
+            history: SuperVersions::new(alloc, Version::new(alloc, 0)),
             next_memtable: SequenceNumberCounter::new(1),
             seqno: SequenceNumberCounter::new(config.seqno),
             visible_seqno: SequenceNumberCounter::new(config.visible_seqno),

@@ -1,5 +1,5 @@
 // Versions of a tree's tables.
-ghost use Rattle.std.specs.Prelude.{◌≡◌, true, ◌+◌, ◌-◌, ◌^◌, ◌<◌, [], length, IfOk, IfErr, ◌⊎◌, ◌++◌, List, option_copied, slice_get, slice_index_or};
+ghost use Rattle.std.specs.Prelude.{map, ◌≡◌, true, ◌+◌, ◌-◌, ◌^◌, ◌<◌, [], length, IfOk, IfErr, ◌⊎◌, ◌++◌, List, option_copied, slice_get, slice_index_or};
 ghost use Rattle.std.specs.List.{AllByRecursion};
 ghost use Rattle.lsm_below.specs.Entries.{entry_cmp};
 ghost use Rattle.lsm_below.specs.Sorted.{Rises};
@@ -11,7 +11,7 @@ ghost use Rattle.lsm_versions.specs.declared.version.TreeType.TheVariants.{Stand
 ghost use Rattle.lsm_tables.specs.Tables.{SeenTable};
 ghost use Rattle.lsm_model.specs.Views.{IsLaidOut, IsRearranged, left_of};
 ghost use Rattle.lsm_model.specs.Steps.{among, AllCover};
-ghost use Rattle.lsm_versions.specs.Levels.{SeenVersion, empty_levels, range, placed_of, placed_in, AreApart, AreCovered, AreRising, AreRuns, HasOwnIds, AreNew, all_of, left_in, fits, IsVersion, IsNext, IsOneRun, is_busy, chosen_from, PutBetween, Moves};
+ghost use Rattle.lsm_versions.specs.Levels.{SeenVersion, empty_levels, range, placed_of, tables_shown, placed_in, AreApart, AreCovered, AreRising, AreRuns, HasOwnIds, AreNew, all_of, left_in, fits, IsVersion, IsNext, IsOneRun, is_busy, chosen_from, PutBetween, Moves};
 ghost use Rattle.lsm_versions.specs.Refusals.{IsRefusedFor};
 ghost use Rattle.lsm_below.specs.declared.error.Error.TheVariants.{OutOfMemory};
 
@@ -223,7 +223,8 @@ impl Version {
 
     /// The tables, level by level and run by run.
     pub fn iter_tables(&self) -> Tables<'_>
-        ensures { result ≡ all_of self.now.levels }
+        ensures tables { result ≡ all_of self.now.levels }
+        ensures shown { map (λ t. t.entries) result ≡ tables_shown self.now.levels }
     {
         tables_in(&self.levels)
     }

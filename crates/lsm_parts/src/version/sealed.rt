@@ -35,6 +35,11 @@ impl SealedMemtables {
         }
     }
 
+    /// What gives it memory.
+    pub(crate) fn allocator(&self) -> Global {
+        self.alloc
+    }
+
     /// These and one that was sealed after them. Refused only for want of memory.
     pub fn add(&self, id: MemtableId) -> Result<SealedMemtables, Error>
         ensures ok { IfOk result (λ list. list ≡ self.now ++ id ∷ []) }

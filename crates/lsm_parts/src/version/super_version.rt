@@ -34,7 +34,7 @@ impl SuperVersion {
         Ok(SuperVersion {
             active_memtable: self.active_memtable,
             sealed_memtables: self.sealed_memtables.copy()?,
-            version: self.version.copy(),
+            version: self.version.copy(self.sealed_memtables.allocator())?,
             seqno: self.seqno,
         })
     }

@@ -10,8 +10,8 @@ returns c =
     let high = c.args.bounds.now.1 in
     let version = c.self.inside.version.now in
     let overlay = c.self.inside.overlay in
-    let cuts = c.push_cuts.new._cuts.items in
-    let all = c.in_ok-push_cuts.ensures _ (c.in_ok-push_memtables.ensures _ (c.in_ok-push_overlay.ensures [] (subst (AreCuts low high []) (sym c.in_ok-cuts.ensures.items) (no_cuts low high)))) in
+    let cuts = c.push_tables.new.cuts.items in
+    let all = c.in_ok-push_tables.ensures _ (c.in_ok-push_memtables.ensures _ (c.in_ok-push_overlay.ensures [] (subst (AreCuts low high []) (sym c.in_ok-cuts.ensures.items) (no_cuts low high)))) in
     subst (λ st. AreCuts low high (parts_at c.args.snapshot st) cuts) c.self.view_is
     (subst (λ memtables. AreCuts low high (parts_at c.args.snapshot (state_of version memtables overlay)) cuts) c.deref.ensures.value
     (all_cuts low high c.args.snapshot version c.deref.result.now overlay cuts all))
