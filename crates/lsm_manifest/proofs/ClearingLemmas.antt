@@ -14,7 +14,7 @@ use Rattle.lsm_store.specs.declared.store.StoreError.TheVariants as store
 use Rattle.std.proofs.lemmas.Bool.{false_from_ne_true, both_ways}
 use Rattle.lsm_store.proofs.Moments.{started, rests, joined}
 use Rattle.lsm_manifest.proofs.Stages.{called, weakened}
-use Rattle.lsm_manifest.specs.Clearing.{IsCleared, Clears}
+use Rattle.lsm_manifest.specs.Clearing.{IsCleared, Clears, Removes}
 
 by_test : (n m : List ℕ) (b : Bool) → bytes_eq n m ≡ b → (n ≡ m) ⊎ (n ≢ m)
 by_test n m true e = inl ((bytes_eq-Decides n m).0 e)
@@ -170,3 +170,17 @@ orphans_gone p q old mid new names all first second on_first on_second n is =
 
     gone_by : (r : List ℕ → Bool) (w : World) → ((m : List ℕ) → old.gives m ≡ None → w.gives m ≡ None) → ((j : ℕ) (d : String Global) → j < length names → r (string_bytes (get_or names j d)) ≡ true → w.gives (string_bytes (get_or names j d)) ≡ None) → r n ≡ true → w.gives n ≡ None
     gone_by r w on gone found = by_content r w on (λ at. gone_named r w names gone n at found) (old.gives n) refl
+
+-- ---- what an answered removal has done
+
+pub removes_behind : (p q : List ℕ → Bool) (old mid new : World) → p ≡ q → Same old mid → Clears p mid new → ((n : List ℕ) → p n ≡ true → new.gives n ≡ None) → Removes q old new
+removes_behind p q old mid new are same clears gone =
+    let cleared = subst (λ (o : List ℕ → Bool). Clears o mid new) are clears in
+    record {
+      clears = record {
+        may = λ n c may. ⊎_elim (λ was. inl ((same.may n c).0 was)) (λ none. inr none) (cleared.may n c may);
+        kept = λ n c not may. cleared.kept n c not ((same.may n c).1 may);
+        gives = λ n not. cleared.gives n not ∙ same.gives n;
+      };
+      gone = λ n is. gone n (ap (λ (o : List ℕ → Bool). o n) are ∙ is);
+    }

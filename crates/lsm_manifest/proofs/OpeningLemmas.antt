@@ -1,24 +1,28 @@
 -- What is found where a tree is opened.
-use Rattle.std.proofs.Common.{◌≡◌, inl, inr, ⊎_elim, ℕ, Bool, true, false, List, Option, Some, None, Result, Ok, Err, refl, sym, ap, subst, ◌∙◌}
+use Rattle.std.proofs.Common.{◌≡◌, inl, inr, ⊎_elim, ℕ, Bool, true, false, not, ◌||◌, eqb, List, Option, Some, None, Result, Ok, Err, refl, sym, ap, subst, ◌∙◌}
 use Rattle.std.specs.Prelude.{IsSome}
 use Rattle.std.specs.Str.{bytes_eq}
+use Rattle.std.specs.List.Sorted.{IsPermutation}
+use Rattle.std.proofs.lemmas.List.Sorted.{IsPermutation-sym, list_any-IsPermutation}
 use Rattle.std.proofs.lemmas.Slice.Eq.{bytes_eq-Decides}
 use Rattle.std.proofs.lemmas.Bool.{both_ways}
 use Rattle.lsm_tables.proofs.Spellings.{ok_is}
 use Rattle.lsm_store.specs.World.{Image, World, Lists, IsImage, Same, LeavesOnly}
+use Rattle.lsm_versions.specs.Levels.{Levels as SeenLevels}
 use Rattle.lsm_manifest.specs.declared.fault.Fault.{Fault}
 use Rattle.lsm_manifest.specs.declared.fault.Fault.TheVariants.{Unrecoverable, InvalidVersion}
 use Rattle.lsm_manifest.specs.declared.fault.OpenError.{OpenError}
 use Rattle.lsm_manifest.specs.declared.fault.OpenError.TheVariants as opening
 use Rattle.lsm_manifest.specs.declared.kinds.NameKind.{NameKind}
 use Rattle.lsm_manifest.specs.declared.kinds.NameKind.TheVariants.{VersionFile, TableFile, Skipped, Refused, Other}
-use Rattle.lsm_manifest.specs.Kinds.{kind_of, is_orphan}
+use Rattle.lsm_manifest.specs.Kinds.{kind_of, is_old_version, is_stray, is_orphan}
 use Rattle.lsm_manifest.specs.Spelling.{ids_of}
 use Rattle.lsm_manifest.specs.Recovery.{Levels, IsNamed, version_of, StoreOnly}
 use Rattle.lsm_manifest.specs.Names.{current_name}
-use Rattle.lsm_manifest.specs.Persist.{IsPersisted, IsOldOrNew, version_file, seven_levels}
+use Rattle.lsm_manifest.specs.Persist.{IsPersisted, IsOldOrNew}
+use Rattle.lsm_manifest.specs.Versions.{file_of, first_version}
 use Rattle.lsm_store.proofs.Moments.{started, rests, joined}
-use Rattle.lsm_manifest.specs.Standing.{SeenLevels, AreTablesAt}
+use Rattle.lsm_manifest.specs.Standing.{AreTablesAt}
 use Rattle.lsm_manifest.specs.Clearing.{IsCleared}
 use Rattle.lsm_manifest.specs.Opening.{is_refused, FindsAny, LevelsFault, FilesFault, BadName, BadLevels, IsFound, ChecksLevels, ChecksFiles, OpensFiles, OpensNew, OnlyFault}
 use Rattle.lsm_manifest.specs.declared.opening.Opened.{Opened}
@@ -55,10 +59,21 @@ named_once image i j ls ms a b =
     let same = ok_is (version_of i ls) (version_of j ms) (sym (recovery_back image i ls a) ∙ recovery_back image j ms b) in
     (ap (λ (x : ℕ × Levels). x.0) same, ap (λ (x : ℕ × Levels). x.1) same)
 
+stray_permuted : (xs ys : List ℕ) (k : NameKind) → IsPermutation xs ys → is_stray xs k ≡ is_stray ys k
+stray_permuted xs ys VersionFile p = refl
+stray_permuted xs ys (TableFile i) p = ap not (list_any-IsPermutation (λ m. eqb m i) xs ys p)
+stray_permuted xs ys Skipped p = refl
+stray_permuted xs ys Refused p = refl
+stray_permuted xs ys Other p = refl
+
+-- in what order the ids stand makes no difference
+orphan_permuted : (id : ℕ) (xs ys n : List ℕ) → IsPermutation xs ys → is_orphan id xs n ≡ is_orphan id ys n
+orphan_permuted id xs ys n p = ap (λ (b : Bool). is_old_version id n (kind_of n) || b) (stray_permuted xs ys (kind_of n) p)
+
 pub found_orphans : (image : Image) (id : ℕ) (ts : SeenLevels) (next : ℕ) (ids : List ℕ) (i : ℕ) (ls : Levels) → IsFound image id ts next ids → IsNamed image i ls → (n : List ℕ) → is_orphan id ids n ≡ is_orphan i (ids_of ls) n
 found_orphans image id ts next ids i ls found named n =
     let once = named_once image id i found.layout ls found.named named in
-    ap (λ (m : List ℕ). is_orphan id m n) (found.ids_are ∙ ap ids_of once.1) ∙ ap (λ (k : ℕ). is_orphan k (ids_of ls) n) once.0
+    orphan_permuted id ids (ids_of found.layout) n (IsPermutation-sym (ids_of found.layout) ids found.ids_are) ∙ ap (λ (l : Levels). is_orphan id (ids_of l) n) once.1 ∙ ap (λ (k : ℕ). is_orphan k (ids_of ls) n) once.0
 
 pub not_opened : (image : Image) (e : OpenError) → StoreOnly {T = Unit {0}} (Err e) → OpensFiles image (Err e)
 not_opened image opening.OutOfMemory h = tt
@@ -90,11 +105,13 @@ Only w = (image : Image) → w.since w.moment image → IsImage w.may image
 pub before_removal : (old mid : World) (i : ℕ) (ls : Levels) → Only old → Same old mid → LeavesOnly old mid (IsCleared (is_orphan i (ids_of ls)) old)
 before_removal old mid i ls only same = cleared_same (is_orphan i (ids_of ls)) old mid only same
 
-pub in_removal : (old mid new : World) (id : ℕ) (ts : SeenLevels) (next : ℕ) (ids jds : List ℕ) (i : ℕ) (ls : Levels) → jds ≡ ids → Only old → IsFound old.gives id ts next ids → IsNamed old.gives i ls → Same old mid
-    → LeavesOnly mid new (IsCleared (is_orphan id jds) mid) → LeavesOnly old new (IsCleared (is_orphan i (ids_of ls)) old)
-in_removal old mid new id ts next ids jds i ls is only found named same after =
-    let orphans : is_orphan id jds ≡ is_orphan i (ids_of ls) = ap (λ (x : List ℕ). is_orphan id x) is ∙ (λ k n. found_orphans old.gives id ts next ids i ls found named n k) in
-    cleared_behind (is_orphan i (ids_of ls)) old mid new only same (subst (λ (o : List ℕ → Bool). LeavesOnly mid new (IsCleared o mid)) orphans after)
+-- the orphans beside what was found are those beside what is named
+pub orphans_are : (image : Image) (id : ℕ) (ts : SeenLevels) (next : ℕ) (ids : List ℕ) (i : ℕ) (ls : Levels) (jd : ℕ) (jds : List ℕ) → jd ≡ id → jds ≡ ids → IsFound image id ts next ids → IsNamed image i ls → is_orphan jd jds ≡ is_orphan i (ids_of ls)
+orphans_are image id ts next ids i ls jd jds same is found named =
+    ap (λ (k : ℕ). is_orphan k jds) same ∙ ap (λ (x : List ℕ). is_orphan id x) is ∙ (λ k n. found_orphans image id ts next ids i ls found named n k)
+
+pub in_removal : (p q : List ℕ → Bool) (old mid new : World) → p ≡ q → Only old → Same old mid → LeavesOnly mid new (IsCleared p mid) → LeavesOnly old new (IsCleared q old)
+in_removal p q old mid new are only same after = cleared_behind q old mid new only same (subst (λ (o : List ℕ → Bool). LeavesOnly mid new (IsCleared o mid)) are after)
 
 -- ---- names that are looked for
 
@@ -146,7 +163,7 @@ persisted_on id bytes old mid new same p = record {
 }
 
 pub new_on : (old mid new : World) (r : Result Opened OpenError) → Same old mid → OpensNew mid new r → OpensNew old new r
-new_on old mid new (Ok o) same is = record { version_id = is.version_id; levels = is.levels; next = is.next; persisted = persisted_on 0 (version_file seven_levels) old mid new same is.persisted; reads = is.reads }
+new_on old mid new (Ok o) same is = record { version = is.version; next = is.next; persisted = persisted_on 0 (file_of first_version) old mid new same is.persisted; names = is.names }
 new_on old mid new (Err opening.OutOfMemory) same is = tt
 new_on old mid new (Err opening.Store) same is = tt
 new_on old mid new (Err opening.CommitUnknown) same is = tt

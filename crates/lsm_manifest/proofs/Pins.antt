@@ -8,13 +8,14 @@ use Rattle.std.proofs.lemmas.List.Concat.{flat_map-cons}
 use Rattle.std.proofs.lemmas.List.Folds.{list_any-append}
 use Rattle.lsm_store.specs.World.{Image, World}
 use Rattle.lsm_tables.specs.Tables.{SeenTable}
+use Rattle.lsm_versions.specs.Levels.{Levels as SeenLevels}
 use Rattle.lsm_manifest.specs.declared.recovered_table.RecoveredTable.{RecoveredTable}
 use Rattle.lsm_manifest.specs.declared.kinds.NameKind.TheVariants.{VersionFile, TableFile, Skipped, Other}
 use Rattle.lsm_manifest.specs.Names.{current_name, version_name, table_name}
 use Rattle.lsm_manifest.specs.Kinds.{kind_in_tables, kind_of, is_old_version, is_stray, is_orphan}
 use Rattle.lsm_manifest.specs.Spelling.{ids_of_run, ids_of_level, ids_of, IsNamedTable, IsRun, IsLevel}
 use Rattle.lsm_manifest.specs.Recovery.{Levels}
-use Rattle.lsm_manifest.specs.Standing.{Pairwise, IsTableAt, SeenLevels, StandsFor}
+use Rattle.lsm_manifest.specs.Standing.{Pairwise, IsTableAt, StandsFor}
 use Rattle.lsm_manifest.specs.Clearing.{IsCleared}
 use Rattle.lsm_manifest.specs.Pinned.{IsFixed, IsPinned}
 use Rattle.lsm_manifest.proofs.Number.{number_of-decimal}

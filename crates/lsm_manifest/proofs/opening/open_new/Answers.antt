@@ -1,0 +1,32 @@
+use Rattle.std.proofs.Common.{subst, refl}
+use Rattle.lsm_store.specs.World.{LeavesOnly}
+use Rattle.lsm_versions.specs.Levels.{SeenVersion}
+use Rattle.lsm_manifest.specs.Persist.{IsPersisted, IsOldOrNew}
+use Rattle.lsm_manifest.specs.Spelling.{IsVersionFile}
+use Rattle.lsm_manifest.specs.Versions.{named_levels, file_of}
+use Rattle.lsm_manifest.proofs.opening.open_new.Goals as goal
+
+pub returns-in-Ok-clause-opens : goal.returns-in-Ok-clause-opens
+returns-in-Ok-clause-opens g c tells all =
+    let w = g.S.Store.world in
+    record {
+      version = c.in_ok-version.ensures;
+      next = refl;
+      persisted = subst (λ (v : SeenVersion). IsPersisted v.id (file_of v) (w c.args.store.now) (w c.persist_version.new.store)) c.in_ok-version.ensures (c.in-Ok.ensures.persists tells);
+      names = subst (λ (v : SeenVersion). IsVersionFile (named_levels v.levels) (file_of v)) c.in_ok-version.ensures c.in-Ok.ensures.names;
+    }
+
+pub returns-in-Err-OutOfMemory-clause-any_moment : goal.returns-in-Err-OutOfMemory-clause-any_moment
+returns-in-Err-OutOfMemory-clause-any_moment g c tells =
+    let w = g.S.Store.world in
+    subst (λ (v : SeenVersion). LeavesOnly (w c.args.store.now) (w c.persist_version.new.store) (IsOldOrNew v.id (file_of v) (w c.args.store.now))) c.in_ok-version.ensures (c.persist_version.ensures.any_moment tells)
+
+pub returns-in-Err-Store-clause-any_moment : goal.returns-in-Err-Store-clause-any_moment
+returns-in-Err-Store-clause-any_moment g c tells =
+    let w = g.S.Store.world in
+    subst (λ (v : SeenVersion). LeavesOnly (w c.args.store.now) (w c.persist_version.new.store) (IsOldOrNew v.id (file_of v) (w c.args.store.now))) c.in_ok-version.ensures (c.persist_version.ensures.any_moment tells)
+
+pub returns-clause-any_moment : goal.returns-clause-any_moment
+returns-clause-any_moment g c tells =
+    let w = g.S.Store.world in
+    subst (λ (v : SeenVersion). LeavesOnly (w c.args.store.now) (w c.persist_version.new.store) (IsOldOrNew v.id (file_of v) (w c.args.store.now))) c.in_ok-version.ensures (c.persist_version.ensures.any_moment tells)
