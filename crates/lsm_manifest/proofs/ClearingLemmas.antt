@@ -1,27 +1,18 @@
 -- Orphans are removed one by one.
 use Rattle.std.proofs.Common.{◌≡◌, ◌≢◌, ◌⊎◌, inl, inr, ⊎_elim, ℕ, zero, suc, ◌+◌, ◌<◌, Bool, true, false, List, [], ◌∷◌, length, map, get_or, Option, Some, None, Result, Ok, Err, refl, sym, ap, subst, ◌∙◌, arith}
-use Rattle.std.specs.Str.{bytes_eq}
 use Rattle.std.specs.Prelude.{IsSome}
 use Rattle.std.specs.List.{Contains}
 use Rattle.std.specs.String.{string_bytes}
 use Rattle.std.specs.declared.string.String.{String}
 use Rattle.std.specs.declared.alloc.Global.{Global}
 use Rattle.std.proofs.lemmas.List.{length-map, get_or-map}
-use Rattle.std.proofs.lemmas.Slice.Eq.{bytes_eq-Decides}
 use Rattle.lsm_store.specs.World.{Image, World, Row, OldOr, IsImage, At, Same, Becomes, Changes, Lists, LeavesOnly}
 use Rattle.lsm_store.specs.declared.store.StoreError.{StoreError}
 use Rattle.lsm_store.specs.declared.store.StoreError.TheVariants as store
 use Rattle.std.proofs.lemmas.Bool.{false_from_ne_true, both_ways}
-use Rattle.lsm_store.proofs.Moments.{started, rests, joined}
-use Rattle.lsm_manifest.proofs.Stages.{called, weakened}
+use Rattle.lsm_store.specs.Moments.{started, rests, joined}
+use Rattle.lsm_store.specs.Moments.{called, weakened, same_or_not}
 use Rattle.lsm_manifest.specs.Clearing.{IsCleared, Clears, Removes}
-
-by_test : (n m : List ℕ) (b : Bool) → bytes_eq n m ≡ b → (n ≡ m) ⊎ (n ≢ m)
-by_test n m true e = inl ((bytes_eq-Decides n m).0 e)
-by_test n m false e = inr (λ same. both_ways (bytes_eq n m) e ((bytes_eq-Decides n m).1 same))
-
-pub same_or_not : (n m : List ℕ) → (n ≡ m) ⊎ (n ≢ m)
-same_or_not n m = by_test n m (bytes_eq n m) refl
 
 module _ (orphan : List ℕ → Bool) (old mid new : World) (name : List ℕ) where
   abbrev row : Row

@@ -21,13 +21,13 @@ use Rattle.lsm_manifest.specs.Recovery.{Levels, IsNamed, version_of, StoreOnly}
 use Rattle.lsm_manifest.specs.Names.{current_name}
 use Rattle.lsm_manifest.specs.Persist.{IsPersisted, IsOldOrNew}
 use Rattle.lsm_manifest.specs.Versions.{file_of, first_version}
-use Rattle.lsm_store.proofs.Moments.{started, rests, joined}
+use Rattle.lsm_store.specs.Moments.{started, rests, joined}
 use Rattle.lsm_manifest.specs.Standing.{AreTablesAt}
 use Rattle.lsm_manifest.specs.Clearing.{IsCleared}
 use Rattle.lsm_manifest.specs.Opening.{is_refused, FindsAny, LevelsFault, FilesFault, BadName, BadLevels, IsFound, ChecksLevels, ChecksFiles, OpensFiles, OpensNew, OnlyFault}
 use Rattle.lsm_manifest.specs.declared.opening.Opened.{Opened}
 use Rattle.lsm_manifest.proofs.Recovering.{recovery_back}
-use Rattle.lsm_manifest.proofs.LoadingLemmas.{image_same}
+use Rattle.lsm_store.specs.Moments.{image_same}
 use Rattle.lsm_manifest.proofs.ClearingLemmas.{cleared_behind, cleared_same}
 
 refused_is : (k : NameKind) → is_refused k ≡ true → k ≡ Refused

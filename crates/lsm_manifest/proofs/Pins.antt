@@ -1,5 +1,5 @@
 -- What stands is no orphan, so a crash while orphans are removed leaves it.
-use Rattle.std.proofs.Common.{◌≡◌, ⊎_elim, ℕ, Bool, true, false, not, ◌||◌, cond, eqb, List, [], ◌∷◌, ◌<◌, ◌^◌, Option, None, refl, ap, ◌∙◌, codes, decimal}
+use Rattle.std.proofs.Common.{◌≡◌, ⊎_elim, ℕ, Bool, true, false, not, ◌||◌, cond, eqb, List, [], ◌∷◌, ◌<◌, ◌^◌, Option, None, refl, ap, ◌∙◌, codes}
 use Rattle.std.specs.Prelude.{bytes_eq}
 use Rattle.std.specs.List.{AllByRecursion, list_any}
 use Rattle.std.proofs.lemmas.Bool.{or_left, or_right, eq-eqb, both_ways}
@@ -18,7 +18,7 @@ use Rattle.lsm_manifest.specs.Recovery.{Levels}
 use Rattle.lsm_manifest.specs.Standing.{Pairwise, IsTableAt, StandsFor}
 use Rattle.lsm_manifest.specs.Clearing.{IsCleared}
 use Rattle.lsm_manifest.specs.Pinned.{IsFixed, IsPinned}
-use Rattle.lsm_manifest.proofs.Number.{number_of-decimal}
+use Rattle.lsm_below.specs.Numbers.{PlainNumbersAreRead}
 
 -- ---- what stands is no orphan
 
@@ -38,13 +38,13 @@ table_kind : (id i : ℕ) (ids n : List ℕ) (b : Bool) → list_any (λ m. eqb 
 table_kind id i ids n true e = refl
 table_kind id i ids n false e = rw e refl
 
-pub table_stays : (id i : ℕ) (ids : List ℕ) → i < 2 ^ 64 → list_any (λ m. eqb m i) ids ≡ true → is_orphan id ids (table_name i) ≡ false
+pub table_stays : PlainNumbersAreRead → (id i : ℕ) (ids : List ℕ) → i < 2 ^ 64 → list_any (λ m. eqb m i) ids ≡ true → is_orphan id ids (table_name i) ≡ false
 unfolding kind_of kind_in_tables
-table_stays id i ids small named = rw (number_of-decimal (decimal i) i small refl) (table_kind id i ids (table_name i) _ named)
+table_stays read id i ids small named = rw (read i small) (table_kind id i ids (table_name i) _ named)
 
 -- ---- the tables of a layout are among its numbers
 
-module _ (id : ℕ) (ids : List ℕ) where
+module _ (read : PlainNumbersAreRead) (id : ℕ) (ids : List ℕ) where
   abbrev In : ℕ → Type 0
   In i = list_any (λ m. eqb m i) ids ≡ true
 
@@ -54,7 +54,7 @@ module _ (id : ℕ) (ids : List ℕ) where
   run_stays : (ts : List RecoveredTable) → ((i : ℕ) → list_any (λ m. eqb m i) (ids_of_run ts) ≡ true → In i) → AllByRecursion IsNamedTable ts → AllByRecursion Stays ts
   run_stays [] within fits = tt
   run_stays (t ∷ ts) within fits = (
-    table_stays id t.id ids fits.0.id (within t.id (or_left (eqb t.id t.id) (list_any (λ m. eqb m t.id) (ids_of_run ts)) (eq-eqb t.id t.id refl))),
+    table_stays read id t.id ids fits.0.id (within t.id (or_left (eqb t.id t.id) (list_any (λ m. eqb m t.id) (ids_of_run ts)) (eq-eqb t.id t.id refl))),
     run_stays ts (λ i is. within i (or_right (eqb t.id i) (list_any (λ m. eqb m i) (ids_of_run ts)) is)) fits.1,
   )
 
@@ -93,12 +93,12 @@ over S F R Q f [] (y ∷ ys) s p r = absurd r
 over S F R Q f (x ∷ xs) [] s p r = absurd r
 over S F R Q f (x ∷ xs) (y ∷ ys) s p r = (f x y s.0 p.0 r.0, over S F R Q f xs ys s.1 p.1 r.1)
 
-pub pinned_stands : (old : World) (id : ℕ) (ls : Levels) (ts : SeenLevels) (image : Image) → StandsFor old.gives id ls ts → IsPinned old id ls → IsCleared (is_orphan id (ids_of ls)) old image → StandsFor image id ls ts
-pinned_stands old id ls ts image stands pin left =
+pub pinned_stands : PlainNumbersAreRead → (old : World) (id : ℕ) (ls : Levels) (ts : SeenLevels) (image : Image) → StandsFor old.gives id ls ts → IsPinned old id ls → IsCleared (is_orphan id (ids_of ls)) old image → StandsFor image id ls ts
+pinned_stands read old id ls ts image stands pin left =
     let ids = ids_of ls in
     let Stay = λ (t : RecoveredTable). is_orphan id ids (table_name t.id) ≡ false in
     let Fix = λ (t : RecoveredTable). IsFixed old (table_name t.id) in
-    let stay = layout_stays id ids ls (λ i is. is) stands.named.reads.is.laid_out.each in
+    let stay = layout_stays read id ids ls (λ i is. is) stands.named.reads.is.laid_out.each in
     let one = over Stay Fix (IsTableAt old.gives) (IsTableAt image) (table_at old id ids image left) in
     let two = over (λ r. AllByRecursion Stay r) (λ r. AllByRecursion Fix r) (Pairwise (IsTableAt old.gives)) (Pairwise (IsTableAt image)) one in
     record {

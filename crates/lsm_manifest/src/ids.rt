@@ -17,10 +17,7 @@ fn put_ids_of_run(out: &mut Vec<TableId>, run: &[RecoveredTable]) -> Result<(), 
     Ok(())
 }
 
-fn put_ids_of_level(
-    out: &mut Vec<TableId>,
-    level: &[Vec<RecoveredTable>],
-) -> Result<(), AllocError>
+fn put_ids_of_level(out: &mut Vec<TableId>, level: &[Vec<RecoveredTable>]) -> Result<(), AllocError>
     ensures { OnOk result (out.new.items ≡ out.old.items ++ ids_of_level (runs_in level.now)) }
 {
     for run in level {

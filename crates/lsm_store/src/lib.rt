@@ -3,11 +3,14 @@
 //! | Module | Holds |
 //! |-|-|
 //! | `store` | the calls of a store, and what a crash may leave of its files |
+//! | `synced` | a file that is written and synced |
 //! | `mem_store` | a store in memory, with planned faults and picked crashes |
 #![tactic(auto)]
 
 mod mem_store;
 mod store;
+mod synced;
 
 pub use mem_store::{Fault, MemStore, Pick};
 pub use store::{NoStore, Store, StoreError, runs_of_calls};
+pub use synced::write_synced;

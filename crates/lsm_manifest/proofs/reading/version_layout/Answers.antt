@@ -1,7 +1,6 @@
-use Rattle.std.proofs.Common.{subst, arith}
-use Rattle.lsm_manifest.specs.Fields.{Gives}
+use Rattle.std.proofs.Common.{arith}
 use Rattle.lsm_manifest.specs.Spelling.{levels_in}
-use Rattle.lsm_manifest.proofs.Whole.{is_found, version_again}
+use Rattle.lsm_manifest.proofs.Whole.{is_found}
 use Rattle.lsm_manifest.proofs.reading.version_layout.Goals as goal
 
 pub returns-clause-read : goal.returns-clause-read
