@@ -1,22 +1,20 @@
 -- Which choices of tables may be merged, moved or dropped.
-use Rattle.std.specs.Prelude.{◌≡◌, ℕ, ◌+◌, Bool, true, false, ◌&&◌, ◌||◌, not, List, [], ◌∷◌, ◌++◌, map, flat_map, ◌==◌, nat_lt, nat_le, Option, Some, None, if◌then◌else◌, ◌↔◌}
+use Rattle.std.specs.Prelude.{◌≡◌, ℕ, ◌<◌, length, slice_index_or, Bool, true, false, ◌&&◌, ◌||◌, not, List, [], ◌∷◌, map, flat_map, ◌==◌, nat_lt, nat_le, Option, Some, None, MatchOption, if◌then◌else◌, ◌↔◌}
 use Rattle.std.specs.List.{list_any, AllByRecursion}
 use Rattle.std.specs.List.Sorted.{IsPermutation}
 use Rattle.lsm_below.specs.Keys.{Bytes}
 use Rattle.lsm_below.specs.Entries.{stack}
 use Rattle.lsm_below.specs.Ranges.{overlap}
-use Rattle.lsm_below.specs.Optimizes.{tables_of}
 use Rattle.lsm_tables.specs.Tables.{SeenTable}
-use Rattle.lsm_model.specs.Views.{Placed, placed_at, IsAllowed, IsIn, held, chosen_of}
+use Rattle.lsm_model.specs.Views.{Placed, IsAllowed, IsIn, held, chosen_of}
 use Rattle.lsm_model.specs.Steps.{among}
-use Rattle.lsm_versions.specs.Levels.{Levels, shown_table, placed_of, AreApart, chosen_from}
+use Rattle.lsm_versions.specs.Levels.{Levels, range, shown_table, all_of, placed_of, AreApart, chosen_from}
 use Rattle.lsm_versions.specs.declared.choice.Kind.{Kind}
 use Rattle.lsm_versions.specs.declared.choice.Kind.TheVariants.{Merge, Move, Drop}
-use Rattle.lsm_versions.specs.declared.choice.Fault.{Fault}
-use Rattle.lsm_versions.specs.declared.choice.Fault.TheVariants.{Overlaps, OutOfOrder, StandsBelow}
+use Rattle.lsm_versions.specs.declared.parted_run.Fault.{Fault}
+use Rattle.lsm_versions.specs.declared.parted_run.Fault.TheVariants.{OutOfOrder, StandsBelow}
 use Rattle.lsm_versions.specs.declared.choice.Why.{Why}
 use Rattle.lsm_versions.specs.declared.choice.Why.TheVariants.{Hidden, Missing, NoSuchLevel, Overlap, Gap, Order, Eviction, Stale}
-use Rattle.lsm_versions.specs.declared.choice.Standing.{Standing}
 
 -- ---- pairs of tables
 
@@ -28,9 +26,8 @@ any_pair R (x ∷ xs) = list_any (R x) xs || any_pair R xs
 abbrev pub is_chosen : List ℕ → Placed → Bool
 is_chosen ids p = among ids p.table.id
 
--- what may be wrong between two overlapping tables, of which p stands before q
+-- what may be wrong between two overlapping tables, a chosen one and another, of which p stands before q
 abbrev pub is_fault : Fault → ℕ → List ℕ → Placed → Placed → Bool
-is_fault Overlaps to ids p q = is_chosen ids p && is_chosen ids q
 is_fault OutOfOrder to ids p q = (not (is_chosen ids p) && is_chosen ids q && nat_le to p.level) || (is_chosen ids p && not (is_chosen ids q) && nat_lt q.level to)
 is_fault StandsBelow to ids p q = to == 6 && (is_chosen ids p && not (is_chosen ids q) && q.level == 6)
 
@@ -40,6 +37,13 @@ is_bad fault to ids p q = overlap p.table.range q.table.range && is_fault fault 
 -- is something wrong between some two tables of a version?
 abbrev pub any_bad : Fault → ℕ → List ℕ → Levels → Bool
 any_bad fault to ids levels = any_pair (is_bad fault to ids) (placed_of levels)
+
+-- are both chosen, and do they share a key?
+abbrev pub is_clash : List ℕ → SeenTable → SeenTable → Bool
+is_clash ids t u = overlap (range t) (range u) && (among ids t.id && among ids u.id)
+
+abbrev pub any_clash : List ℕ → Levels → Bool
+any_clash ids levels = any_pair (is_clash ids) (all_of levels)
 
 -- ---- gaps
 
@@ -59,7 +63,7 @@ any_gap ids levels = list_any (λ runs. list_any (has_gap ids) runs) levels
 -- ---- tables that are there
 
 abbrev pub is_there : Levels → ℕ → Bool
-is_there levels id = list_any (λ t. t.id == id) (tables_of (tables_of levels))
+is_there levels id = list_any (λ t. t.id == id) (all_of levels)
 
 -- ---- reasons
 
@@ -89,7 +93,7 @@ reasons_of kind ids to hidden levels =
     (list_any (among hidden) ids, Hidden)
     ∷ (list_any (λ id. not (is_there levels id)) ids, Missing)
     ∷ (not (is_drop kind) && nat_le 7 to, NoSuchLevel)
-    ∷ (is_move kind && any_bad Overlaps to ids levels, Overlap)
+    ∷ (is_move kind && any_clash ids levels, Overlap)
     ∷ (is_merge kind && any_gap ids levels, Gap)
     ∷ (not (is_drop kind) && any_bad OutOfOrder to ids levels, Order)
     ∷ (not (is_drop kind) && any_bad StandsBelow to ids levels, Eviction)
@@ -115,7 +119,7 @@ IsAmong ts t = IsIn (shown_table t) (map shown_table ts)
 
 -- each of these is still there, with its entries
 abbrev pub AllStand : Levels → List SeenTable → Type 0
-AllStand levels inputs = AllByRecursion (IsAmong (tables_of (tables_of levels))) inputs
+AllStand levels inputs = AllByRecursion (IsAmong (all_of levels)) inputs
 
 -- tables hold of each key what those of these ids hold, in whatever order
 abbrev pub HoldSame : List SeenTable → List ℕ → Levels → Type 0
@@ -130,20 +134,26 @@ pub record IsMovable (to : ℕ) (ids : List ℕ) (levels : Levels) : Type 0 wher
   pub apart : AreApart (chosen_from ids levels)
   pub allowed : IsAllowed to (among ids) false (placed_of levels)
 
--- ---- tables in order
+-- ---- look-ups
 
--- a table at a level
-abbrev pub stands_at : ℕ → SeenTable → Standing
-stands_at level t = record { level = level; table = t }
+-- a look-up by id finds a table of these exactly where one has the id
+abbrev pub IsIndex : List SeenTable → (ℕ → Option SeenTable) → Type 0
+IsIndex ts find = (i : ℕ) → MatchOption (find i) (list_any (λ t. t.id == i) ts ≡ false) (λ t. IsIn t ts × (t.id ≡ i))
 
--- levels of runs of tables, one table after the other
-abbrev pub standing_from : ℕ → Levels → List Standing
-standing_from n [] = []
-standing_from n (runs ∷ levels) = map (stands_at n) (tables_of runs) ++ standing_from (n + 1) levels
+-- ---- places in a run
 
--- a table as it stands, as the theory sees it
-abbrev pub shown_standing : Standing → Placed
-shown_standing s = placed_at s.level (shown_table s.table)
+-- no table has one of these ids
+abbrev pub HasNone : List ℕ → List SeenTable → Type 0
+HasNone ids ts = (j : ℕ) (d : SeenTable) → j < length ts → among ids (slice_index_or ts j d).id ≡ false
 
-abbrev pub bad_pair : Fault → ℕ → List ℕ → Standing → Standing → Bool
-bad_pair fault to ids p q = is_bad fault to ids (shown_standing p) (shown_standing q)
+-- the table at this place has one of these ids, and none before it
+pub record IsFirstOf (ids : List ℕ) (ts : List SeenTable) (at : ℕ) : Type 0 where
+  pub within : at < length ts
+  pub passes : (d : SeenTable) → among ids (slice_index_or ts at d).id ≡ true
+  pub before : (j : ℕ) (d : SeenTable) → j < at → among ids (slice_index_or ts j d).id ≡ false
+
+-- the table at this place has one of these ids, and none behind it
+pub record IsLastOf (ids : List ℕ) (ts : List SeenTable) (at : ℕ) : Type 0 where
+  pub within : at < length ts
+  pub passes : (d : SeenTable) → among ids (slice_index_or ts at d).id ≡ true
+  pub behind : (j : ℕ) (d : SeenTable) → at < j → j < length ts → among ids (slice_index_or ts j d).id ≡ false

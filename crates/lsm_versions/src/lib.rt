@@ -2,15 +2,24 @@
 #![tactic(auto)]
 
 mod choice;
+mod gaps;
+mod hidden_set;
+mod indexes;
+mod input;
 mod laws;
 mod level;
+mod lookup;
+mod parted_run;
 mod same;
 mod version;
 
 pub use choice::{Kind, Why, first_reason, last_reason};
+pub use hidden_set::HiddenSet;
+pub use indexes::pick_run_indexes;
+pub use input::Input;
 pub use laws::{
     cut_tables_are_runs, drops_are_steps, flushes_are_steps, merges_are_steps,
     merges_of_inputs_are_steps, moves_are_steps,
 };
-pub use level::{GenericLevel, Level, has_id};
-pub use version::{DEFAULT_LEVEL_COUNT, Version, VersionError, VersionId};
+pub use level::{GenericLevel, Level};
+pub use version::{DEFAULT_LEVEL_COUNT, TreeType, Version, VersionId};

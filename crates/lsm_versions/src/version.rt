@@ -1,60 +1,39 @@
 // Versions of a tree's tables.
 ghost use Rattle.std.specs.Prelude.{◌≡◌, true, ◌+◌, ◌-◌, ◌^◌, ◌<◌, [], length, IfOk, IfErr, ◌⊎◌, ◌++◌, List, option_copied, slice_get, slice_index_or};
 ghost use Rattle.lsm_below.specs.Runs.{IsRun};
+ghost use Rattle.std.specs.Slice.Iter.{iter_rest};
 ghost use Rattle.lsm_below.specs.Optimizes.{tables_of};
+ghost use Rattle.lsm_below.specs.Sums.{capped};
+ghost use Rattle.lsm_versions.specs.declared.version.TreeType.TheVariants.{Standard};
 ghost use Rattle.lsm_tables.specs.Tables.{SeenTable};
 ghost use Rattle.lsm_model.specs.Views.{IsLaidOut, IsRearranged, left_of};
 ghost use Rattle.lsm_model.specs.Steps.{among, AllCover};
-ghost use Rattle.lsm_versions.specs.Levels.{SeenVersion, range, placed_of, placed_in, AreApart, AreCovered, HasOwnIds, AreNew, all_of, left_in, fits, IsVersion, IsNext, IsOneRun, chosen_from, PutBetween, Moves};
+ghost use Rattle.lsm_versions.specs.Levels.{SeenVersion, empty_levels, range, placed_of, placed_in, AreApart, AreCovered, AreRuns, HasOwnIds, AreNew, all_of, left_in, fits, IsVersion, IsNext, IsOneRun, is_busy, chosen_from, PutBetween, Moves};
 ghost use Rattle.lsm_versions.specs.Refusals.{IsRefusedFor};
-ghost use Rattle.lsm_versions.specs.declared.version.VersionError.TheVariants.{OutOfMemory};
+ghost use Rattle.lsm_below.specs.declared.error.Error.TheVariants.{OutOfMemory};
 
-use crate::Level;
 use crate::level::see_run;
-use lsm_below::{Run, TableId, optimize_runs};
+use crate::{HiddenSet, Level};
+use lsm_below::{Error, Run, TableId, optimize_runs};
 use lsm_model::{levels_rise, tables_are_placed};
 use lsm_tables::Table;
-use std::alloc::{AllocError, AllocFailed, Global};
+use std::alloc::{AllocError, Global};
+use std::collections::HashSet;
 use std::marker::Model;
+use std::slice::Iter;
 
 /// The id of a version.
 pub type VersionId = u64;
 
+/// What kind of tree a version is of.
+#[derive(Clone, Copy, Debug, PartialEq, Eq)]
+pub enum TreeType {
+    /// Keys and values stand in tables.
+    Standard,
+}
+
 /// How many levels a version has.
 pub const DEFAULT_LEVEL_COUNT: usize = 7;
-
-/// Why a next version is refused.
-#[derive(Debug, Drop)]
-pub enum VersionError {
-    /// A growth was refused.
-    OutOfMemory,
-    /// There is no id after the version's own.
-    OutOfNumbers,
-    /// A level has more than 255 runs, or a run 2^32 tables or more.
-    TooManyRuns,
-}
-
-impl From<AllocError> for VersionError {
-    ghost use Rattle.std.specs.Prelude.{◌≡◌};
-    ghost use Rattle.lsm_versions.specs.declared.version.VersionError.TheVariants.{OutOfMemory};
-
-    ghost from_gives = { λ _ e. e ≡ OutOfMemory };
-
-    fn from(_: AllocError) -> Self {
-        VersionError::OutOfMemory
-    }
-}
-
-impl<T: Drop> From<AllocFailed<T>> for VersionError {
-    ghost use Rattle.std.specs.Prelude.{◌≡◌};
-    ghost use Rattle.lsm_versions.specs.declared.version.VersionError.TheVariants.{OutOfMemory};
-
-    ghost from_gives = { λ _ e. e ≡ OutOfMemory };
-
-    fn from(_: AllocFailed<T>) -> Self {
-        VersionError::OutOfMemory
-    }
-}
 
 /// Seven levels of runs of tables, with an id.
 ///
@@ -66,7 +45,7 @@ impl<T: Drop> From<AllocFailed<T>> for VersionError {
 #[derive(Drop)]
 pub struct Version {
     id: VersionId,
-    levels: Vec<Level>,
+    levels: [Level; DEFAULT_LEVEL_COUNT],
 }
 
 impl Model for Version {
@@ -74,9 +53,9 @@ impl Model for Version {
 
     ghost Value = { SeenVersion };
 
-    ghost view = { λ v. record { id = v.id; levels = v.levels.items } };
+    ghost view = { λ v. record { id = v.id; levels = v.levels } };
 
-    ghost invariant = { λ v. IsVersion v.levels.items };
+    ghost invariant = { λ v. IsVersion v.levels };
 }
 
 /// Tables of which no two overlap, as one run.
@@ -91,9 +70,10 @@ fn one_run(alloc: Global, runs: Vec<Run<Table>>) -> Result<Vec<Table>, AllocErro
     }
 }
 
-/// What every table of several levels meets.
+/// What every table and every run of several levels meets.
 fn see_levels(levels: &[Level])
-    ensures { AreCovered (all_of levels.now) }
+    ensures covered { AreCovered (all_of levels.now) }
+    ensures runs { AreRuns levels.now }
 {
     for level in levels {
         level.see_tables();
@@ -101,18 +81,29 @@ fn see_levels(levels: &[Level])
 }
 
 /// The tables of these ids, each as a run of its own.
-fn chosen_runs(
+pub(crate) fn chosen_runs(
     alloc: Global,
-    ids: &[TableId],
+    ids: &HashSet<TableId>,
     levels: &[Level],
 ) -> Result<Vec<Run<Table>>, AllocError>
-    ensures { IfOk result (λ v. tables_of v.items ≡ chosen_from ids.now levels.now) }
+    ensures { IfOk result (λ v. tables_of v.items ≡ chosen_from ids.now.keys levels.now) }
 {
     let mut runs = Vec::new(alloc);
     for level in levels {
         level.push_chosen(alloc, ids, &mut runs)?;
     }
     Ok(runs)
+}
+
+/// How many tables levels have.
+fn count_tables(levels: &[Level]) -> usize
+    ensures { result ≡ capped (length (all_of levels.now)) }
+{
+    let mut count: usize = 0;
+    for level in levels {
+        count = count.saturating_add(level.table_count());
+    }
+    count
 }
 
 /// Whether a manifest can write the levels.
@@ -122,7 +113,36 @@ fn levels_fit(levels: &[Level]) -> bool
     levels.iter().all(|level| level.fits())
 }
 
+/// Seven levels, off the list that they were collected in.
+fn seven(levels: Vec<Level>) -> [Level; DEFAULT_LEVEL_COUNT]
+    requires { length levels.items ≡ 7 }
+    ensures { result ≡ levels.items }
+{
+    match <[Level; DEFAULT_LEVEL_COUNT]>::try_from(levels) {
+        Ok(levels) => levels,
+        Err(_) => unreachable!(),
+    }
+}
+
 impl Version {
+    /// A version of no tables. It takes no memory.
+    pub fn new(alloc: Global, id: VersionId) -> Version
+        ensures { result ≡ record { id = id; levels = empty_levels } }
+    {
+        Version {
+            id,
+            levels: [
+                Level::empty(alloc),
+                Level::empty(alloc),
+                Level::empty(alloc),
+                Level::empty(alloc),
+                Level::empty(alloc),
+                Level::empty(alloc),
+                Level::empty(alloc),
+            ],
+        }
+    }
+
     /// The version's id.
     pub fn id(&self) -> VersionId
         ensures { result ≡ self.now.id }
@@ -138,7 +158,10 @@ impl Version {
         ensures { result ≡ record { id = id; levels = levels.items } }
     {
         see_levels(&levels);
-        Version { id, levels }
+        Version {
+            id,
+            levels: seven(levels),
+        }
     }
 
     /// What every version meets, and that its tables stand as reads want them.
@@ -178,6 +201,37 @@ impl Version {
         self.levels.len()
     }
 
+    /// What kind of tree the version is of: always a standard one.
+    pub fn tree_type(&self) -> TreeType
+        ensures { result ≡ Standard }
+    {
+        TreeType::Standard
+    }
+
+    /// The levels, one after the other.
+    pub fn iter_levels(&self) -> Iter<'_, Level>
+        ensures { iter_rest result ≡ self.now.levels }
+    {
+        self.levels.iter()
+    }
+
+    /// How many tables there are; a count past 2^64 - 1 stands there.
+    pub fn table_count(&self) -> usize
+        ensures { result ≡ capped (length (all_of self.now.levels)) }
+    {
+        count_tables(&self.levels)
+    }
+
+    /// Whether a table of a level is hidden; of no level from 7 on.
+    pub fn level_is_busy(&self, n: usize, hidden: &HiddenSet) -> bool
+        ensures { result ≡ is_busy hidden.now (slice_index_or self.now.levels n []) }
+    {
+        match self.levels.get(n) {
+            Some(level) => level.is_busy(hidden),
+            None => false,
+        }
+    }
+
     /// A copy, which shares the tables. Refused only for want of memory.
     pub fn copy(&self, alloc: Global) -> Result<Version, AllocError>
         ensures { IfOk result (λ v. v ≡ self.now) }
@@ -188,7 +242,7 @@ impl Version {
         }
         Ok(Version {
             id: self.id,
-            levels,
+            levels: seven(levels),
         })
     }
 
@@ -196,21 +250,21 @@ impl Version {
     fn changed(
         &self,
         alloc: Global,
-        ids: &[TableId],
+        ids: &HashSet<TableId>,
         front: &[Table],
         to: usize,
-    ) -> Result<Version, VersionError>
+    ) -> Result<Version, Error>
         requires run { IsRun range front.now }
         requires level { to < 7 }
-        requires own_ids { HasOwnIds (front.now ++ left_in ids.now (all_of self.now.levels)) }
-        ensures ok { IfOk result (IsNext ids.now front.now to self.now) }
+        requires own_ids { HasOwnIds (front.now ++ left_in ids.now.keys (all_of self.now.levels)) }
+        ensures ok { IfOk result (IsNext ids.now.keys front.now to self.now) }
         ensures numbers { IfOk result (λ _. self.now.id < 2 ^ 64 - 1) }
-        ensures err { IfErr result (IsRefusedFor ids.now front.now to self.now) }
+        ensures err { IfErr result (IsRefusedFor ids.now.keys front.now to self.now) }
     {
         self.facts();
         let id = self.id();
         if id == u64::MAX {
-            return Err(VersionError::OutOfNumbers);
+            return Err(Error::OutOfNumbers);
         }
         let old = self.levels();
         let mut levels = Vec::with_capacity(alloc, old.len())?;
@@ -219,14 +273,13 @@ impl Version {
             levels.push(level.changed(alloc, ids, run)?)?;
         }
         if !levels_fit(&levels) {
-            return Err(VersionError::TooManyRuns);
+            return Err(Error::TooManyRuns);
         }
-        see_levels(&levels);
-        Ok(Version { id: id + 1, levels })
+        Ok(Version::from_levels(id + 1, levels))
     }
 
     /// The next version with a new run before those of the first level.
-    pub fn with_new_l0_run(&self, alloc: Global, tables: &[Table]) -> Result<Version, VersionError>
+    pub fn with_new_l0_run(&self, alloc: Global, tables: &[Table]) -> Result<Version, Error>
         requires run { IsRun range tables.now }
         requires new { AreNew tables.now self.now.levels }
         ensures ok { IfOk result (IsNext [] tables.now 0 self.now) }
@@ -237,19 +290,20 @@ impl Version {
         ensures err { IfErr result (IsRefusedFor [] tables.now 0 self.now) }
     {
         self.facts();
-        let next = self.changed(alloc, &[], tables, 0)?;
+        let none = HashSet::new(alloc);
+        let next = self.changed(alloc, &none, tables, 0)?;
         see_run(tables);
         next.facts();
         Ok(next)
     }
 
     /// The next version without these tables.
-    pub fn with_dropped(&self, alloc: Global, ids: &[TableId]) -> Result<Version, VersionError>
-        ensures ok { IfOk result (IsNext ids.now [] 0 self.now) }
-        ensures placed { IfOk result (λ v. IsRearranged (left_of (among ids.now) (placed_of self.now.levels)) (placed_of v.levels)) }
+    pub fn with_dropped(&self, alloc: Global, ids: &HashSet<TableId>) -> Result<Version, Error>
+        ensures ok { IfOk result (IsNext ids.now.keys [] 0 self.now) }
+        ensures placed { IfOk result (λ v. IsRearranged (left_of (among ids.now.keys) (placed_of self.now.levels)) (placed_of v.levels)) }
         ensures laid { IfOk result (λ v. IsLaidOut (placed_of v.levels)) }
         ensures numbers { IfOk result (λ _. self.now.id < 2 ^ 64 - 1) }
-        ensures err { IfErr result (IsRefusedFor ids.now [] 0 self.now) }
+        ensures err { IfErr result (IsRefusedFor ids.now.keys [] 0 self.now) }
     {
         self.facts();
         let next = self.changed(alloc, ids, &[], 0)?;
@@ -261,19 +315,19 @@ impl Version {
     pub fn with_merge(
         &self,
         alloc: Global,
-        ids: &[TableId],
+        ids: &HashSet<TableId>,
         tables: &[Table],
         to: usize,
-    ) -> Result<Version, VersionError>
+    ) -> Result<Version, Error>
         requires run { IsRun range tables.now }
         requires new { AreNew tables.now self.now.levels }
         requires level { to < 7 }
-        ensures ok { IfOk result (IsNext ids.now tables.now to self.now) }
+        ensures ok { IfOk result (IsNext ids.now.keys tables.now to self.now) }
         ensures covers { IfOk result (λ _. AllCover (placed_in to tables.now)) }
-        ensures placed { IfOk result (λ v. PutBetween ids.now tables.now to self.now.levels v.levels) }
+        ensures placed { IfOk result (λ v. PutBetween ids.now.keys tables.now to self.now.levels v.levels) }
         ensures laid { IfOk result (λ v. IsLaidOut (placed_of v.levels)) }
         ensures numbers { IfOk result (λ _. self.now.id < 2 ^ 64 - 1) }
-        ensures err { IfErr result (IsRefusedFor ids.now tables.now to self.now) }
+        ensures err { IfErr result (IsRefusedFor ids.now.keys tables.now to self.now) }
     {
         self.facts();
         let next = self.changed(alloc, ids, tables, to)?;
@@ -286,15 +340,15 @@ impl Version {
     pub fn with_moved(
         &self,
         alloc: Global,
-        ids: &[TableId],
+        ids: &HashSet<TableId>,
         to: usize,
-    ) -> Result<Version, VersionError>
-        requires apart { AreApart (chosen_from ids.now self.now.levels) }
+    ) -> Result<Version, Error>
+        requires apart { AreApart (chosen_from ids.now.keys self.now.levels) }
         requires level { to < 7 }
-        ensures ok { IfOk result (Moves ids.now to self.now) }
+        ensures ok { IfOk result (Moves ids.now.keys to self.now) }
         ensures laid { IfOk result (λ v. IsLaidOut (placed_of v.levels)) }
         ensures numbers { IfOk result (λ _. self.now.id < 2 ^ 64 - 1) }
-        ensures err { IfErr result (λ e. ((run : List SeenTable) × IsOneRun (chosen_from ids.now self.now.levels) run × IsRefusedFor ids.now run to self.now e) ⊎ (e ≡ OutOfMemory)) }
+        ensures err { IfErr result (λ e. ((run : List SeenTable) × IsOneRun (chosen_from ids.now.keys self.now.levels) run × IsRefusedFor ids.now.keys run to self.now e) ⊎ (e ≡ OutOfMemory)) }
     {
         self.facts();
         tables_are_placed();

@@ -8,7 +8,7 @@ use Rattle.lsm_versions.proofs.version.Version.with_moved.Goals as goal
 
 pub returns-clause-ok : goal.returns-clause-ok
 returns-clause-ok c =
-    let ids = c.args.ids.now in
+    let ids = c.args.ids.now.keys in
     let to = c.args.to in
     let run = c.in_ok-run.run'.items in
     let old = c.args.self.now.levels in
@@ -30,7 +30,7 @@ returns-clause-ok c =
 
 pub changed-requires-clause-own_ids : goal.changed-requires-clause-own_ids
 changed-requires-clause-own_ids c =
-    let ids = c.args.ids.now in
+    let ids = c.args.ids.now.keys in
     let old = c.args.self.now.levels in
     let run = c.in_ok-run.run'.items in
     let chosen : tables_of c.in_ok-chosen.chosen.items ≡ chosen_from ids old = c.in_ok-chosen.ensures ∙ ap (chosen_from ids) c.levels.ensures in
