@@ -9,13 +9,13 @@ use Rattle.std.proofs.lemmas.List.Concat.{flat_map-cons}
 use Rattle.lsm_below.specs.Optimizes.{tables_of}
 use Rattle.lsm_store.specs.World.{Image}
 use Rattle.lsm_tables.specs.Tables.{SeenTable}
-use Rattle.lsm_versions.specs.Levels.{Levels as SeenLevels, SeenVersion, all_of, level_fits, fits}
+use Rattle.lsm_versions.specs.Levels.{Levels as SeenLevels, SeenVersion, all_of, level_fits, fits, AreRuns}
 use Rattle.lsm_manifest.specs.declared.recovered_table.RecoveredTable.{RecoveredTable}
 use Rattle.lsm_manifest.specs.declared.fault.OpenError.{OpenError}
 use Rattle.lsm_manifest.specs.declared.fault.OpenError.TheVariants as opening
 use Rattle.lsm_manifest.specs.Spelling.{ids_of_run, ids_of_level, ids_of, IsRun, IsLevel, IsLayout, AreDistinct}
 use Rattle.lsm_manifest.specs.Recovery.{Levels}
-use Rattle.lsm_manifest.specs.Standing.{Pairwise, IsOf, AreNamed, AreTablesAt, AreRuns, HasSmallNumbers}
+use Rattle.lsm_manifest.specs.Standing.{Pairwise, IsOf, AreNamed, AreTablesAt, HasSmallNumbers}
 use Rattle.lsm_manifest.specs.Opening.{IsFilled, IsComplete, IsAbove, MakesVersion, ChecksLevels, NoRun, TooGreat, next_id}
 
 pairwise_length : {A B : Type 0} (R : A → B → Type 0) (xs : List A) (ys : List B) → Pairwise R xs ys → length ys ≡ length xs

@@ -3,9 +3,9 @@
 use crate::samples::{File, NO_TABLE, ONE_TABLE, Told, bytes_of, file, is_told};
 use lsm_below::Error;
 use lsm_manifest::{
-    FormatVersion, Manifest, TreeType, decode_layout, no_version_begins_another, read_current,
-    write_current,
+    FormatVersion, Manifest, decode_layout, no_version_begins_another, read_current, write_current,
 };
+use lsm_versions::TreeType;
 use std::alloc::{AllocError, Global};
 use std::test::Fail;
 

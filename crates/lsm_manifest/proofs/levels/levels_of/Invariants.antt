@@ -1,7 +1,8 @@
 use Rattle.std.proofs.Common.{◌≡◌, ◌++◌}
 use Rattle.std.specs.List.{AllByRecursion}
 use Rattle.std.specs.Vec.Iter.{into_iter_items}
-use Rattle.lsm_manifest.specs.Standing.{AreRuns, seen_levels}
+use Rattle.lsm_versions.specs.Levels.{AreRuns}
+use Rattle.lsm_manifest.specs.Standing.{seen_levels}
 use Rattle.lsm_manifest.specs.Opening.{IsFilled}
 use Rattle.lsm_manifest.proofs.levels.levels_of.Given as goal
 

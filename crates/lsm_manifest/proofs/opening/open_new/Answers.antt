@@ -10,23 +10,23 @@ pub returns-in-Ok-clause-opens : goal.returns-in-Ok-clause-opens
 returns-in-Ok-clause-opens g c tells all =
     let w = g.S.Store.world in
     record {
-      version = c.in_ok-version.ensures;
+      version = c.new-version.ensures;
       next = refl;
-      persisted = subst (λ (v : SeenVersion). IsPersisted v.id (file_of v) (w c.args.store.now) (w c.persist.new.store)) c.in_ok-version.ensures (c.in-Ok.ensures.persists tells);
-      names = subst (λ (v : SeenVersion). IsVersionFile (named_levels v.levels) (file_of v)) c.in_ok-version.ensures c.in-Ok.ensures.names;
+      persisted = subst (λ (v : SeenVersion). IsPersisted v.id (file_of v) (w c.args.store.now) (w c.persist.new.store)) c.new-version.ensures (c.in-Ok.ensures.persists tells);
+      names = subst (λ (v : SeenVersion). IsVersionFile (named_levels v.levels) (file_of v)) c.new-version.ensures c.in-Ok.ensures.names;
     }
 
 pub returns-in-Err-OutOfMemory-clause-any_moment : goal.returns-in-Err-OutOfMemory-clause-any_moment
 returns-in-Err-OutOfMemory-clause-any_moment g c tells =
     let w = g.S.Store.world in
-    subst (λ (v : SeenVersion). LeavesOnly (w c.args.store.now) (w c.persist.new.store) (IsOldOrNew v.id (file_of v) (w c.args.store.now))) c.in_ok-version.ensures (c.persist.ensures.any_moment tells)
+    subst (λ (v : SeenVersion). LeavesOnly (w c.args.store.now) (w c.persist.new.store) (IsOldOrNew v.id (file_of v) (w c.args.store.now))) c.new-version.ensures (c.persist.ensures.any_moment tells)
 
 pub returns-in-Err-Store-clause-any_moment : goal.returns-in-Err-Store-clause-any_moment
 returns-in-Err-Store-clause-any_moment g c tells =
     let w = g.S.Store.world in
-    subst (λ (v : SeenVersion). LeavesOnly (w c.args.store.now) (w c.persist.new.store) (IsOldOrNew v.id (file_of v) (w c.args.store.now))) c.in_ok-version.ensures (c.persist.ensures.any_moment tells)
+    subst (λ (v : SeenVersion). LeavesOnly (w c.args.store.now) (w c.persist.new.store) (IsOldOrNew v.id (file_of v) (w c.args.store.now))) c.new-version.ensures (c.persist.ensures.any_moment tells)
 
 pub returns-clause-any_moment : goal.returns-clause-any_moment
 returns-clause-any_moment g c tells =
     let w = g.S.Store.world in
-    subst (λ (v : SeenVersion). LeavesOnly (w c.args.store.now) (w c.persist.new.store) (IsOldOrNew v.id (file_of v) (w c.args.store.now))) c.in_ok-version.ensures (c.persist.ensures.any_moment tells)
+    subst (λ (v : SeenVersion). LeavesOnly (w c.args.store.now) (w c.persist.new.store) (IsOldOrNew v.id (file_of v) (w c.args.store.now))) c.new-version.ensures (c.persist.ensures.any_moment tells)
