@@ -1,6 +1,6 @@
 // The bytes of versions' files, and what they tell.
 
-use crate::samples::{File, NO_TABLE, ONE_TABLE, Told, bytes_of, file, is_told};
+use crate::samples::{NO_TABLE, ONE_TABLE, Sections, Told, bytes_of, file, is_told};
 use lsm_below::Error;
 use lsm_manifest::{
     FormatVersion, Manifest, decode_layout, no_version_begins_another, read_current, write_current,
@@ -35,7 +35,7 @@ fn current_is_spelled(rt: HostRuntime) -> Result<(), Fail> {
 }
 
 /// Whether the file tells its format, or is refused so.
-fn decodes(alloc: Global, file: &File<'_>, wanted: Option<Told>) -> Result<bool, AllocError> {
+fn decodes(alloc: Global, file: &Sections<'_>, wanted: Option<Told>) -> Result<bool, AllocError> {
     let bytes = bytes_of(alloc, file)?;
     Ok(match Manifest::decode_from(&bytes) {
         Ok(manifest) => {
@@ -56,11 +56,32 @@ fn formats_are_told(rt: HostRuntime) -> Result<(), Fail> {
     let good = file(&ONE_TABLE);
     let rows = [
         (good, None),
-        (File { format: 2, tree: 1, ..good }, Some(Told::Version(2))),
-        (File { tree: 1, levels: 6, ..good }, Some(Told::Tag("TreeType", 1))),
-        (File { levels: 6, ..good }, Some(Told::Number(4))),
-        (File { filter: 1, ..good }, Some(Told::Number(4))),
-        (File { format: 2, tail: &[0], ..good }, Some(Told::Number(4))),
+        (
+            Sections {
+                format: 2,
+                tree: 1,
+                ..good
+            },
+            Some(Told::Version(2)),
+        ),
+        (
+            Sections {
+                tree: 1,
+                levels: 6,
+                ..good
+            },
+            Some(Told::Tag("TreeType", 1)),
+        ),
+        (Sections { levels: 6, ..good }, Some(Told::Number(4))),
+        (Sections { filter: 1, ..good }, Some(Told::Number(4))),
+        (
+            Sections {
+                format: 2,
+                tail: &[0],
+                ..good
+            },
+            Some(Told::Number(4)),
+        ),
     ];
     for (file, wanted) in rows {
         assert!(rt; decodes(rt.alloc(), &file, wanted)?);
@@ -69,14 +90,16 @@ fn formats_are_told(rt: HostRuntime) -> Result<(), Fail> {
 }
 
 /// The ids that the file names. None where they are refused so.
-fn names(alloc: Global, file: &File<'_>, id: u64) -> Result<bool, Error> {
+fn names(alloc: Global, file: &Sections<'_>, id: u64) -> Result<bool, Error> {
     let bytes = bytes_of(alloc, file)?;
     let levels = decode_layout(alloc, &bytes)?;
-    Ok(levels.len() == 7
-        && levels[0].len() == 1
-        && levels[0][0].len() == 1
-        && levels[0][0][0].id == id
-        && levels[1].is_empty())
+    Ok(
+        levels.len() == 7
+            && levels[0].len() == 1
+            && levels[0][0].len() == 1
+            && levels[0][0][0].id == id
+            && levels[1].is_empty(),
+    )
 }
 
 #[test]

@@ -1,6 +1,6 @@
 // What is opened, what is removed, and each refusal.
 
-use crate::samples::{File, NO_TABLE, ONE_TABLE, TABLE, Told, bytes_of, file, is_told};
+use crate::samples::{NO_TABLE, ONE_TABLE, Sections, TABLE, Told, bytes_of, file, is_told};
 use lsm_below::Error;
 use lsm_manifest::{
     get_current_version, open_files, persist_version, recover, table_name, version_name,
@@ -34,17 +34,17 @@ fn has(
 }
 
 /// Version 5 with this file, which `current` names with its own sum, and table 3.
-fn fill(alloc: Global, store: &mut MemStore, file: &File<'_>) -> Result<(), StoreError> {
+fn fill(alloc: Global, store: &mut MemStore, file: &Sections<'_>) -> Result<(), StoreError> {
     let bytes = bytes_of(alloc, file)?;
     store.replace("v5", &bytes)?;
-    store.replace("current", &write_current(5, Checksum::of(&bytes).into_u128()))?;
+    store.replace(
+        "current",
+        &write_current(5, Checksum::of(&bytes).into_u128()),
+    )?;
     store.replace("tables/3", &TABLE)
 }
 
-fn change(
-    store: &mut MemStore,
-    changes: &[(&str, Option<&[u8]>)],
-) -> Result<(), StoreError> {
+fn change(store: &mut MemStore, changes: &[(&str, Option<&[u8]>)]) -> Result<(), StoreError> {
     for (name, bytes) in changes {
         match bytes {
             Some(bytes) => store.replace(name, bytes)?,
@@ -63,9 +63,11 @@ fn is_opened(
     tables: usize,
 ) -> Result<bool, Error> {
     let opened = open_files(alloc, store)?;
-    Ok(opened.version.id() == id
-        && opened.next_table_id == next
-        && opened.version.l0().run_count() == tables)
+    Ok(
+        opened.version.id() == id
+            && opened.next_table_id == next
+            && opened.version.l0().run_count() == tables,
+    )
 }
 
 /// Whether the store is refused so.
@@ -79,11 +81,13 @@ fn is_refused(alloc: Global, store: &mut MemStore, wanted: Told) -> bool {
 fn new_tree(alloc: Global, store: &mut MemStore) -> Result<bool, Fail> {
     let opened = is_opened(alloc, store, 0, 0, 0)?;
     let bytes = bytes_of(alloc, &file(&NO_TABLE))?;
-    Ok(opened
-        && has(alloc, store, "v0", Some(&bytes))?
-        && has(alloc, store, "current", Some(&FIRST))?
-        && get_current_version(alloc, store)? == 0
-        && is_opened(alloc, store, 0, 1, 0)?)
+    Ok(
+        opened
+            && has(alloc, store, "v0", Some(&bytes))?
+            && has(alloc, store, "current", Some(&FIRST))?
+            && get_current_version(alloc, store)? == 0
+            && is_opened(alloc, store, 0, 1, 0)?,
+    )
 }
 
 #[test]
@@ -147,7 +151,7 @@ const TYPED: [u8; 45] = [
 fn refuses(
     alloc: Global,
     store: &mut MemStore,
-    file: &File<'_>,
+    file: &Sections<'_>,
     changes: &[(&str, Option<&[u8]>)],
     wanted: Told,
 ) -> Result<bool, Fail> {
@@ -159,7 +163,7 @@ fn refuses(
 
 fn row(
     alloc: Global,
-    file: &File<'_>,
+    file: &Sections<'_>,
     changes: &[(&str, Option<&[u8]>)],
     wanted: Told,
 ) -> Result<bool, Fail> {
@@ -173,12 +177,30 @@ fn row(
 fn damaged_manifests_are_refused(rt: HostRuntime) -> Result<(), Fail> {
     let good = file(&ONE_TABLE);
     let rows = [
-        (File { tail: &[0], ..good }, Told::Number(4)),
-        (File { layout: &TWICE, ..good }, Told::Number(4)),
-        (File { layout: &TYPED, ..good }, Told::Tag("ChecksumType", 1)),
-        (File { layout: &ONE_TABLE[..44], ..good }, Told::Number(4)),
-        (File { format: 2, ..good }, Told::Version(2)),
-        (File { tree: 1, ..good }, Told::Header("TreeType")),
+        (Sections { tail: &[0], ..good }, Told::Number(4)),
+        (
+            Sections {
+                layout: &TWICE,
+                ..good
+            },
+            Told::Number(4),
+        ),
+        (
+            Sections {
+                layout: &TYPED,
+                ..good
+            },
+            Told::Tag("ChecksumType", 1),
+        ),
+        (
+            Sections {
+                layout: &ONE_TABLE[..44],
+                ..good
+            },
+            Told::Number(4),
+        ),
+        (Sections { format: 2, ..good }, Told::Version(2)),
+        (Sections { tree: 1, ..good }, Told::Header("TreeType")),
     ];
     for (file, wanted) in rows {
         assert!(rt; row(rt.alloc(), &file, &[], wanted)?);

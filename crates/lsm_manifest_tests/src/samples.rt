@@ -20,7 +20,7 @@ pub const ONE_TABLE: [u8; 45] = [
 
 /// What a version's file has in its sections, and behind them.
 #[derive(Clone, Copy)]
-pub struct File<'a> {
+pub struct Sections<'a> {
     pub format: u8,
     pub tree: u8,
     pub levels: u8,
@@ -30,8 +30,8 @@ pub struct File<'a> {
 }
 
 /// A file with this layout.
-pub fn file(layout: &[u8]) -> File<'_> {
-    File {
+pub fn file(layout: &[u8]) -> Sections<'_> {
+    Sections {
         format: 3,
         tree: 0,
         levels: 7,
@@ -47,13 +47,25 @@ fn put(out: &mut Vec<u8>, head: &[u8], content: &[u8]) -> Result<(), AllocError>
 }
 
 /// The bytes of a version's file: each section's name behind its length, and the length of its content.
-pub fn bytes_of(alloc: Global, file: &File<'_>) -> Result<Vec<u8>, AllocError> {
+pub fn bytes_of(alloc: Global, file: &Sections<'_>) -> Result<Vec<u8>, AllocError> {
     let mut out = Vec::new(alloc);
-    put(&mut out, b"\x0eformat_version\x01\0\0\0\0\0\0\0", &[file.format])?;
+    put(
+        &mut out,
+        b"\x0eformat_version\x01\0\0\0\0\0\0\0",
+        &[file.format],
+    )?;
     put(&mut out, b"\x0dcrate_version\x06\0\0\0\0\0\0\0", b"3.1.10")?;
     put(&mut out, b"\x09tree_type\x01\0\0\0\0\0\0\0", &[file.tree])?;
-    put(&mut out, b"\x0blevel_count\x01\0\0\0\0\0\0\0", &[file.levels])?;
-    put(&mut out, b"\x10filter_hash_type\x01\0\0\0\0\0\0\0", &[file.filter])?;
+    put(
+        &mut out,
+        b"\x0blevel_count\x01\0\0\0\0\0\0\0",
+        &[file.levels],
+    )?;
+    put(
+        &mut out,
+        b"\x10filter_hash_type\x01\0\0\0\0\0\0\0",
+        &[file.filter],
+    )?;
     let len = (file.layout.len() as u64).to_le_bytes();
     out.extend_from_slice(b"\x06tables")?;
     put(&mut out, &len, file.layout)?;
