@@ -21,10 +21,10 @@ use Rattle.lsm_manifest.specs.Recovery.{Levels, IsNamed, version_of, StoreOnly}
 use Rattle.lsm_manifest.specs.Names.{current_name}
 use Rattle.lsm_manifest.specs.Persist.{IsPersisted, IsOldOrNew}
 use Rattle.lsm_manifest.specs.Versions.{file_of, first_version}
-use Rattle.lsm_store.specs.Moments.{started, rests, joined}
+use Rattle.lsm_store.specs.Moments.{started, rests, joined, same_then}
 use Rattle.lsm_manifest.specs.Standing.{AreTablesAt}
 use Rattle.lsm_manifest.specs.Clearing.{IsCleared}
-use Rattle.lsm_manifest.specs.Opening.{is_refused, FindsAny, LevelsFault, FilesFault, BadName, BadLevels, IsFound, ChecksLevels, ChecksFiles, OpensFiles, OpensNew, OnlyFault}
+use Rattle.lsm_manifest.specs.Opening.{is_refused, FindsAny, LevelsFault, FilesFault, BadName, BadLevels, IsFound, ChecksLevels, ChecksFiles, OpensFiles, OpensNew, OnlyFault, KeepsFiles, IsUnnamed}
 use Rattle.lsm_manifest.specs.declared.opening.Opened.{Opened}
 use Rattle.lsm_manifest.proofs.Recovering.{recovery_back}
 use Rattle.lsm_store.specs.Moments.{image_same}
@@ -177,3 +177,27 @@ new_moment_on id bytes old mid new only same after =
 
 pub named_on : (old mid : Image) (id : ℕ) (ls : Levels) → ((n : List ℕ) → mid n ≡ old n) → IsNamed old id ls → IsNamed mid id ls
 named_on old mid id ls same named = subst (λ (image : Image). IsNamed image id ls) (sym (image_same old mid same)) named
+
+-- ---- what a refusal leaves
+
+pub keeps_any : (old new : World) (e : OpenError) → Same old new → KeepsFiles {T = Opened} old new (Err e)
+keeps_any old new opening.OutOfMemory same = tt
+keeps_any old new opening.Store same = tt
+keeps_any old new opening.CommitUnknown same = tt
+keeps_any old new (opening.Fault f) same = same
+
+pub keeps_no_fault : (old new : World) (e : OpenError) → StoreOnly {T = Unit {0}} (Err e) → KeepsFiles {T = Opened} old new (Err e)
+keeps_no_fault old new opening.OutOfMemory h = tt
+keeps_no_fault old new opening.Store h = tt
+keeps_no_fault old new opening.CommitUnknown h = tt
+keeps_no_fault old new (opening.Fault f) h = absurd h
+
+pub keeps_on : (old mid new : World) (r : Result Opened OpenError) → Same old mid → KeepsFiles mid new r → KeepsFiles old new r
+keeps_on old mid new (Ok o) same keeps = tt
+keeps_on old mid new (Err opening.OutOfMemory) same keeps = tt
+keeps_on old mid new (Err opening.Store) same keeps = tt
+keeps_on old mid new (Err opening.CommitUnknown) same keeps = tt
+keeps_on old mid new (Err (opening.Fault f)) same keeps = same_then old mid new same keeps
+
+pub unnamed_on : (old mid : Image) → ((n : List ℕ) → mid n ≡ old n) → IsUnnamed old → IsUnnamed mid
+unnamed_on old mid same none = subst (λ (image : Image). IsUnnamed image) (sym (image_same old mid same)) none

@@ -72,6 +72,10 @@ weakened old new P Q all f = record {
 pub image_same : (old mid : Image) → ((n : List ℕ) → mid n ≡ old n) → mid ≡ old
 image_same old mid same = λ i n. same n i
 
+-- nothing is done
+pub same_none : (w : World) → Same w w
+same_none w = record { gives = λ n. refl; may = λ n c. (λ may. may, λ may. may); moment = refl; since = λ t image le. (λ left. left, λ left. left) }
+
 pub same_then : (old mid new : World) → Same old mid → Same mid new → Same old new
 same_then old mid new a b =
     let e : mid.moment ≡ old.moment = a.moment in

@@ -1,5 +1,6 @@
 use Rattle.std.proofs.Common.{subst, refl}
 use Rattle.lsm_store.specs.World.{LeavesOnly}
+use Rattle.lsm_store.specs.Moments.{same_none}
 use Rattle.lsm_versions.specs.Levels.{SeenVersion}
 use Rattle.lsm_manifest.specs.Persist.{IsPersisted, IsOldOrNew}
 use Rattle.lsm_manifest.specs.Spelling.{IsVersionFile}
@@ -30,3 +31,6 @@ pub returns-clause-any_moment : goal.returns-clause-any_moment
 returns-clause-any_moment g c tells =
     let w = g.S.Store.world in
     subst (λ (v : SeenVersion). LeavesOnly (w c.args.store.now) (w c.persist.new.store) (IsOldOrNew v.id (file_of v) (w c.args.store.now))) c.new-version.ensures (c.persist.ensures.any_moment tells)
+
+pub returns-then-finds_any-clause-keeps : goal.returns-then-finds_any-clause-keeps
+returns-then-finds_any-clause-keeps g c tells = same_none (g.S.Store.world c.args.store.now)
