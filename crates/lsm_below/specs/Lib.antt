@@ -14,3 +14,4 @@ pub mod Slots
 pub mod Lookups
 pub mod Laws
 pub mod Errors
+pub mod Numbers

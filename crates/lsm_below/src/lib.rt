@@ -19,6 +19,7 @@
 //! | `mvcc_stream` | the first entry of each key |
 //! | `compaction_stream` | what a compaction keeps |
 //! | `lookup` | look-ups in entries that rise |
+//! | `number` | numbers as they are printed |
 //! | `laws` | what always holds of keys, entries and merges, each as the contract of a function |
 #![tactic(auto)]
 
@@ -34,6 +35,7 @@ mod list_source;
 mod lookup;
 mod merger;
 mod mvcc_stream;
+mod number;
 mod optimize;
 mod run;
 mod slot;
@@ -54,6 +56,7 @@ pub use list_source::ListSource;
 pub use lookup::{entries_within, first_visible};
 pub use merger::Merger;
 pub use mvcc_stream::MvccStream;
+pub use number::{parse_number, plain_numbers_are_read};
 pub use optimize::optimize_runs;
 pub use run::{Run, is_run};
 pub use source::{Source, has_same_key};

@@ -6,4 +6,3 @@ pub mod HeldPicks
 pub mod HeldLeft
 pub mod Memories
 pub mod MemoryCalls
-pub mod Moments

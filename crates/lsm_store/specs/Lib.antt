@@ -5,3 +5,5 @@ pub mod Held
 pub mod Files
 pub mod Memory
 pub mod Picks
+pub mod Synced
+pub mod Moments

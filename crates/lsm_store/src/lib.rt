@@ -3,6 +3,7 @@
 //! | Module | Holds |
 //! |-|-|
 //! | `store` | the calls of a store, and what a crash may leave of its files |
+//! | `synced` | a file that is written and synced |
 //! | `mem_store` | a store in memory, with planned faults and picked crashes |
 //! | `folder_store` | a folder of the file system, as a store |
 #![tactic(auto)]
@@ -10,7 +11,9 @@
 mod folder_store;
 mod mem_store;
 mod store;
+mod synced;
 
 pub use folder_store::FolderStore;
 pub use mem_store::{Fault, MemStore, Pick};
 pub use store::{NoStore, Store, StoreError, runs_of_calls};
+pub use synced::write_synced;

@@ -1,5 +1,5 @@
 use Rattle.std.proofs.Common.{IsTrue}
-use Rattle.lsm_store.proofs.Moments.{started, rests, goes_on, joined}
+use Rattle.lsm_store.specs.Moments.{started, rests, goes_on, joined}
 use Rattle.lsm_store.proofs.store.runs_of_calls.Goals as goal
 
 pub returns-clause-begins : goal.returns-clause-begins

@@ -1,0 +1,203 @@
+-- What is found where a tree is opened.
+use Rattle.std.proofs.Common.{◌≡◌, inl, inr, ⊎_elim, ℕ, Bool, true, false, not, ◌||◌, eqb, List, Option, Some, None, Result, Ok, Err, refl, sym, ap, subst, ◌∙◌}
+use Rattle.std.specs.Prelude.{IsSome}
+use Rattle.std.specs.Str.{bytes_eq}
+use Rattle.std.specs.List.Sorted.{IsPermutation}
+use Rattle.std.proofs.lemmas.List.Sorted.{IsPermutation-sym, list_any-IsPermutation}
+use Rattle.std.proofs.lemmas.Slice.Eq.{bytes_eq-Decides}
+use Rattle.std.proofs.lemmas.Bool.{both_ways}
+use Rattle.lsm_tables.proofs.Spellings.{ok_is}
+use Rattle.lsm_store.specs.World.{Image, World, Lists, IsImage, Same, LeavesOnly}
+use Rattle.lsm_versions.specs.Levels.{Levels as SeenLevels}
+use Rattle.lsm_manifest.specs.declared.fault.Fault.{Fault}
+use Rattle.lsm_manifest.specs.declared.fault.Fault.TheVariants.{Unrecoverable, InvalidVersion}
+use Rattle.lsm_manifest.specs.declared.fault.OpenError.{OpenError}
+use Rattle.lsm_manifest.specs.declared.fault.OpenError.TheVariants as opening
+use Rattle.lsm_manifest.specs.declared.kinds.NameKind.{NameKind}
+use Rattle.lsm_manifest.specs.declared.kinds.NameKind.TheVariants.{VersionFile, TableFile, Skipped, Refused, Other}
+use Rattle.lsm_manifest.specs.Kinds.{kind_of, is_old_version, is_stray, is_orphan}
+use Rattle.lsm_manifest.specs.Spelling.{ids_of}
+use Rattle.lsm_manifest.specs.Recovery.{Levels, IsNamed, version_of, StoreOnly}
+use Rattle.lsm_manifest.specs.Names.{current_name}
+use Rattle.lsm_manifest.specs.Persist.{IsPersisted, IsOldOrNew}
+use Rattle.lsm_manifest.specs.Versions.{file_of, first_version}
+use Rattle.lsm_store.specs.Moments.{started, rests, joined, same_then}
+use Rattle.lsm_manifest.specs.Standing.{AreTablesAt}
+use Rattle.lsm_manifest.specs.Clearing.{IsCleared}
+use Rattle.lsm_manifest.specs.Opening.{is_refused, FindsAny, LevelsFault, FilesFault, BadName, BadLevels, IsFound, ChecksLevels, ChecksFiles, OpensFiles, OpensNew, OnlyFault, KeepsFiles, IsUnnamed}
+use Rattle.lsm_manifest.specs.declared.opening.Opened.{Opened}
+use Rattle.lsm_manifest.proofs.Recovering.{recovery_back}
+use Rattle.lsm_store.specs.Moments.{image_same}
+use Rattle.lsm_manifest.proofs.ClearingLemmas.{cleared_behind, cleared_same}
+
+refused_is : (k : NameKind) → is_refused k ≡ true → k ≡ Refused
+refused_is VersionFile e = absurd cc
+refused_is (TableFile i) e = absurd cc
+refused_is Skipped e = absurd cc
+refused_is Refused e = refl
+refused_is Other e = absurd cc
+
+-- a refused name is there
+pub bad_name : (gives : Image) (names : List (List ℕ)) (id : ℕ) (ls : Levels) → Lists gives names → IsNamed gives id ls → FindsAny (λ n. is_refused (kind_of n)) names true → FilesFault gives Unrecoverable
+bad_name gives names id ls all named found = BadName id ls found.0 named ((all.each found.0).0 found.1) (refused_is (kind_of found.0) found.2) refl
+
+-- no refused name is there
+pub good_names : (gives : Image) (names : List (List ℕ)) → Lists gives names → FindsAny (λ n. is_refused (kind_of n)) names false → (n : List ℕ) → kind_of n ≡ Refused → gives n ≡ None
+good_names gives names all found n bad = by_content (gives n) refl
+  where
+    by_content : (o : Option (List ℕ)) → gives n ≡ o → gives n ≡ None
+    by_content None e = e
+    by_content (Some x) e = absurd (both_ways (is_refused (kind_of n)) (found n ((all.each n).1 (subst (λ (c : Option (List ℕ)). IsSome c) (sym e) refl))) (ap is_refused bad))
+
+-- the faults of levels, read from a store that gives the same
+pub bad_levels : (old mid : Image) (id : ℕ) (ls : Levels) (f : Fault) → ((n : List ℕ) → mid n ≡ old n) → IsNamed old id ls → ((n : List ℕ) → kind_of n ≡ Refused → old n ≡ None) → LevelsFault mid ls f → FilesFault old f
+bad_levels old mid id ls f same named good bad = BadLevels id ls named good (subst (λ (image : Image). LevelsFault image ls f) (image_same old mid same) bad)
+
+-- two versions that are named are one
+pub named_once : (image : Image) (i j : ℕ) (ls ms : Levels) → IsNamed image i ls → IsNamed image j ms → (i ≡ j) × (ls ≡ ms)
+named_once image i j ls ms a b =
+    let same = ok_is (version_of i ls) (version_of j ms) (sym (recovery_back image i ls a) ∙ recovery_back image j ms b) in
+    (ap (λ (x : ℕ × Levels). x.0) same, ap (λ (x : ℕ × Levels). x.1) same)
+
+stray_permuted : (xs ys : List ℕ) (k : NameKind) → IsPermutation xs ys → is_stray xs k ≡ is_stray ys k
+stray_permuted xs ys VersionFile p = refl
+stray_permuted xs ys (TableFile i) p = ap not (list_any-IsPermutation (λ m. eqb m i) xs ys p)
+stray_permuted xs ys Skipped p = refl
+stray_permuted xs ys Refused p = refl
+stray_permuted xs ys Other p = refl
+
+-- in what order the ids stand makes no difference
+orphan_permuted : (id : ℕ) (xs ys n : List ℕ) → IsPermutation xs ys → is_orphan id xs n ≡ is_orphan id ys n
+orphan_permuted id xs ys n p = ap (λ (b : Bool). is_old_version id n (kind_of n) || b) (stray_permuted xs ys (kind_of n) p)
+
+pub found_orphans : (image : Image) (id : ℕ) (ts : SeenLevels) (next : ℕ) (ids : List ℕ) (i : ℕ) (ls : Levels) → IsFound image id ts next ids → IsNamed image i ls → (n : List ℕ) → is_orphan id ids n ≡ is_orphan i (ids_of ls) n
+found_orphans image id ts next ids i ls found named n =
+    let once = named_once image id i found.layout ls found.named named in
+    orphan_permuted id ids (ids_of found.layout) n (IsPermutation-sym (ids_of found.layout) ids found.ids_are) ∙ ap (λ (l : Levels). is_orphan id (ids_of l) n) once.1 ∙ ap (λ (k : ℕ). is_orphan k (ids_of ls) n) once.0
+
+pub not_opened : (image : Image) (e : OpenError) → StoreOnly {T = Unit {0}} (Err e) → OpensFiles image (Err e)
+not_opened image opening.OutOfMemory h = tt
+not_opened image opening.Store h = tt
+not_opened image opening.CommitUnknown h = h
+not_opened image (opening.Fault f) h = absurd h
+
+-- what a refused reading of the tables says
+refuses : {X : Type 0} (view : X → SeenLevels) (old mid : Image) (id : ℕ) (ls : Levels) (e : OpenError) → ((n : List ℕ) → mid n ≡ old n) → IsNamed old id ls → ((n : List ℕ) → kind_of n ≡ Refused → old n ≡ None)
+    → ChecksLevels {X = X} mid view ls (Err e) → ChecksFiles old (Err e)
+refuses view old mid id ls opening.OutOfMemory same named good bad = tt
+refuses view old mid id ls opening.Store same named good bad = tt
+refuses view old mid id ls opening.CommitUnknown same named good bad = bad
+refuses view old mid id ls (opening.Fault f) same named good bad = bad_levels old mid id ls f same named good bad
+
+pub levels_refuse : {X : Type 0} (view : X → SeenLevels) (old mid : Image) (id : ℕ) (ls ms : Levels) (e : OpenError) → ms ≡ ls → ((n : List ℕ) → mid n ≡ old n) → IsNamed old id ls → ((n : List ℕ) → kind_of n ≡ Refused → old n ≡ None)
+    → ChecksLevels {X = X} mid view ms (Err e) → ChecksFiles old (Err e)
+levels_refuse {X} view old mid id ls ms e is same named good bad = refuses {X = X} view old mid id ls e same named good (subst (λ (l : Levels). ChecksLevels {X = X} mid view l (Err e)) is bad)
+
+pub tables_same : (old mid : Image) (ls ms : Levels) (ts : SeenLevels) → ((n : List ℕ) → mid n ≡ old n) → ms ≡ ls → AreTablesAt mid ms ts → AreTablesAt old ls ts
+tables_same old mid ls ms ts same is at = subst (λ (l : Levels). AreTablesAt old l ts) is (subst (λ (image : Image). AreTablesAt image ms ts) (image_same old mid same) at)
+
+-- ---- any moment of it
+
+abbrev Only : World → Type 0
+Only w = (image : Image) → w.since w.moment image → IsImage w.may image
+
+-- refused before anything is removed
+pub before_removal : (old mid : World) (i : ℕ) (ls : Levels) → Only old → Same old mid → LeavesOnly old mid (IsCleared (is_orphan i (ids_of ls)) old)
+before_removal old mid i ls only same = cleared_same (is_orphan i (ids_of ls)) old mid only same
+
+-- the orphans beside what was found are those beside what is named
+pub orphans_are : (image : Image) (id : ℕ) (ts : SeenLevels) (next : ℕ) (ids : List ℕ) (i : ℕ) (ls : Levels) (jd : ℕ) (jds : List ℕ) → jd ≡ id → jds ≡ ids → IsFound image id ts next ids → IsNamed image i ls → is_orphan jd jds ≡ is_orphan i (ids_of ls)
+orphans_are image id ts next ids i ls jd jds same is found named =
+    ap (λ (k : ℕ). is_orphan k jds) same ∙ ap (λ (x : List ℕ). is_orphan id x) is ∙ (λ k n. found_orphans image id ts next ids i ls found named n k)
+
+pub in_removal : (p q : List ℕ → Bool) (old mid new : World) → p ≡ q → Only old → Same old mid → LeavesOnly mid new (IsCleared p mid) → LeavesOnly old new (IsCleared q old)
+in_removal p q old mid new are only same after = cleared_behind q old mid new only same (subst (λ (o : List ℕ → Bool). LeavesOnly mid new (IsCleared o mid)) are after)
+
+-- ---- names that are looked for
+
+pub found_there : (gives : Image) (names : List (List ℕ)) (m : List ℕ) → Lists gives names → FindsAny (λ n. bytes_eq n m) names true → IsSome (gives m)
+found_there gives names m all found = subst (λ (n : List ℕ). IsSome (gives n)) ((bytes_eq-Decides found.0 m).0 found.2) ((all.each found.0).0 found.1)
+
+pub found_not : (gives : Image) (names : List (List ℕ)) (m : List ℕ) → Lists gives names → FindsAny (λ n. bytes_eq n m) names false → gives m ≡ None
+found_not gives names m all found = by_content (gives m) refl
+  where
+    by_content : (o : Option (List ℕ)) → gives m ≡ o → gives m ≡ None
+    by_content None e = e
+    by_content (Some x) e = absurd (both_ways (bytes_eq m m) (found m ((all.each m).1 (subst (λ (c : Option (List ℕ)). IsSome c) (sym e) refl))) ((bytes_eq-Decides m m).1 refl))
+
+pub some_not_none : (o : Option (List ℕ)) → IsSome o → o ≡ None → ⊥
+some_not_none None some none = absurd cc
+some_not_none (Some x) some none = absurd cc
+
+pub named_there : (image : Image) (id : ℕ) (ls : Levels) → IsNamed image id ls → IsSome (image current_name)
+named_there image id ls named = subst (λ (o : Option (List ℕ)). IsSome o) (sym named.current) refl
+
+-- ---- behind a call without effect
+
+pub not_version : (e : OpenError) → StoreOnly {T = Unit {0}} (Err e) → OnlyFault {T = Opened} (InvalidVersion 1) (Err e)
+not_version opening.OutOfMemory h = tt
+not_version opening.Store h = tt
+not_version opening.CommitUnknown h = h
+not_version (opening.Fault f) h = absurd h
+
+pub not_new : (old new : World) (e : OpenError) → StoreOnly {T = Unit {0}} (Err e) → OpensNew old new (Err e)
+not_new old new opening.OutOfMemory h = tt
+not_new old new opening.Store h = tt
+not_new old new opening.CommitUnknown h = absurd h
+not_new old new (opening.Fault f) h = absurd h
+
+pub listed_on : (old mid : Image) (names : List (List ℕ)) → ((n : List ℕ) → mid n ≡ old n) → Lists old names → Lists mid names
+listed_on old mid names same all = subst (λ (image : Image). Lists image names) (sym (image_same old mid same)) all
+
+pub opens_on : (old mid : Image) (r : Result Opened OpenError) → ((n : List ℕ) → mid n ≡ old n) → OpensFiles mid r → OpensFiles old r
+opens_on old mid r same opens = subst (λ (image : Image). OpensFiles image r) (image_same old mid same) opens
+
+persisted_on : (id : ℕ) (bytes : List ℕ) (old mid new : World) → Same old mid → IsPersisted id bytes mid new → IsPersisted id bytes old new
+persisted_on id bytes old mid new same p = record {
+  rest = record {
+    may = λ n c v d. (λ may. (same.may n c).0 ((p.rest.may n c v d).0 may), λ may. (p.rest.may n c v d).1 ((same.may n c).1 may));
+    gives = λ n v d. p.rest.gives n v d ∙ same.gives n;
+  };
+  current = p.current;
+  version = p.version;
+}
+
+pub new_on : (old mid new : World) (r : Result Opened OpenError) → Same old mid → OpensNew mid new r → OpensNew old new r
+new_on old mid new (Ok o) same is = record { version = is.version; next = is.next; persisted = persisted_on 0 (file_of first_version) old mid new same is.persisted; names = is.names }
+new_on old mid new (Err opening.OutOfMemory) same is = tt
+new_on old mid new (Err opening.Store) same is = tt
+new_on old mid new (Err opening.CommitUnknown) same is = tt
+new_on old mid new (Err (opening.Fault f)) same is = (is.0, (is.1.0, is.1.1, subst (λ (o : Option (List ℕ)). IsSome o) (same.gives is.1.0) is.1.2))
+
+pub new_moment_on : (id : ℕ) (bytes : List ℕ) (old mid new : World) → Only old → Same old mid → LeavesOnly mid new (IsOldOrNew id bytes mid) → LeavesOnly old new (IsOldOrNew id bytes old)
+new_moment_on id bytes old mid new only same after =
+    joined old mid new (IsOldOrNew id bytes old) (IsOldOrNew id bytes mid) (IsOldOrNew id bytes old)
+    (rests old old mid (IsOldOrNew id bytes old) (started old (IsOldOrNew id bytes old) (λ image left. record { elsewhere = λ n v d. only image left n; named = inl (only image left current_name) })) same)
+    after (λ image is. is) (λ image is. record { elsewhere = λ n v d. (same.may n (image n)).0 (is.elsewhere n v d); named = ⊎_elim (λ was. inl ((same.may current_name (image current_name)).0 was)) (λ new. inr new) is.named })
+
+pub named_on : (old mid : Image) (id : ℕ) (ls : Levels) → ((n : List ℕ) → mid n ≡ old n) → IsNamed old id ls → IsNamed mid id ls
+named_on old mid id ls same named = subst (λ (image : Image). IsNamed image id ls) (sym (image_same old mid same)) named
+
+-- ---- what a refusal leaves
+
+pub keeps_any : (old new : World) (e : OpenError) → Same old new → KeepsFiles {T = Opened} old new (Err e)
+keeps_any old new opening.OutOfMemory same = tt
+keeps_any old new opening.Store same = tt
+keeps_any old new opening.CommitUnknown same = tt
+keeps_any old new (opening.Fault f) same = same
+
+pub keeps_no_fault : (old new : World) (e : OpenError) → StoreOnly {T = Unit {0}} (Err e) → KeepsFiles {T = Opened} old new (Err e)
+keeps_no_fault old new opening.OutOfMemory h = tt
+keeps_no_fault old new opening.Store h = tt
+keeps_no_fault old new opening.CommitUnknown h = tt
+keeps_no_fault old new (opening.Fault f) h = absurd h
+
+pub keeps_on : (old mid new : World) (r : Result Opened OpenError) → Same old mid → KeepsFiles mid new r → KeepsFiles old new r
+keeps_on old mid new (Ok o) same keeps = tt
+keeps_on old mid new (Err opening.OutOfMemory) same keeps = tt
+keeps_on old mid new (Err opening.Store) same keeps = tt
+keeps_on old mid new (Err opening.CommitUnknown) same keeps = tt
+keeps_on old mid new (Err (opening.Fault f)) same keeps = same_then old mid new same keeps
+
+pub unnamed_on : (old mid : Image) → ((n : List ℕ) → mid n ≡ old n) → IsUnnamed old → IsUnnamed mid
+unnamed_on old mid same none = subst (λ (image : Image). IsUnnamed image) (sym (image_same old mid same)) none

@@ -1,0 +1,15 @@
+//! The tests of the files that say which tables a tree has.
+//!
+//! | Module | Tests |
+//! |-|-|
+//! | `manifests` | the bytes of versions' files, and what they tell |
+//! | `opening` | what is opened, what is removed, and each refusal |
+//! | `samples` | holds no test: files, byte by byte |
+#![tactic(auto)]
+
+#[cfg(test)]
+mod manifests;
+#[cfg(test)]
+mod opening;
+#[cfg(test)]
+mod samples;

@@ -1,0 +1,102 @@
+// Files, byte by byte, and the errors that they are refused with.
+
+use lsm_below::Error;
+use std::alloc::{AllocError, Global};
+
+/// The table a = x at 0, made at 0.
+pub const TABLE: [u8; 37] = [
+    0x4c, 0x53, 0x4d, 0x54, 0, 0, 0, 0, 0, 0, 0, 0, 1, 0, 0, 0, 0, 0, 0, 0, 1, 0, 0, 0, 0, 0, 0, 0,
+    0, 0, 0, 1, 0, 0, 0, 0x61, 0x78,
+];
+
+/// Seven levels with no run.
+pub const NO_TABLE: [u8; 8] = [7, 0, 0, 0, 0, 0, 0, 0];
+
+/// One run of one table, with id 3, in the first level.
+pub const ONE_TABLE: [u8; 45] = [
+    7, 1, 1, 0, 0, 0, 3, 0, 0, 0, 0, 0, 0, 0, 0, 0xb7, 0x2e, 0x25, 0xe2, 0xac, 0x01, 0x46, 0x38,
+    0x51, 0xbb, 0x09, 0x02, 0x2a, 0xf9, 0x67, 0x5b, 0, 0, 0, 0, 0, 0, 0, 0, 0, 0, 0, 0, 0, 0,
+];
+
+/// What a version's file has in its sections, and behind them.
+#[derive(Clone, Copy)]
+pub struct Sections<'a> {
+    pub format: u8,
+    pub tree: u8,
+    pub levels: u8,
+    pub filter: u8,
+    pub layout: &'a [u8],
+    pub tail: &'a [u8],
+}
+
+/// A file with this layout.
+pub fn file(layout: &[u8]) -> Sections<'_> {
+    Sections {
+        format: 3,
+        tree: 0,
+        levels: 7,
+        filter: 0,
+        layout,
+        tail: &[],
+    }
+}
+
+fn put(out: &mut Vec<u8>, head: &[u8], content: &[u8]) -> Result<(), AllocError> {
+    out.extend_from_slice(head)?;
+    out.extend_from_slice(content)
+}
+
+/// The bytes of a version's file: each section's name behind its length, and the length of its content.
+pub fn bytes_of(alloc: Global, file: &Sections<'_>) -> Result<Vec<u8>, AllocError> {
+    let mut out = Vec::new(alloc);
+    put(
+        &mut out,
+        b"\x0eformat_version\x01\0\0\0\0\0\0\0",
+        &[file.format],
+    )?;
+    put(&mut out, b"\x0dcrate_version\x06\0\0\0\0\0\0\0", b"3.1.10")?;
+    put(&mut out, b"\x09tree_type\x01\0\0\0\0\0\0\0", &[file.tree])?;
+    put(
+        &mut out,
+        b"\x0blevel_count\x01\0\0\0\0\0\0\0",
+        &[file.levels],
+    )?;
+    put(
+        &mut out,
+        b"\x10filter_hash_type\x01\0\0\0\0\0\0\0",
+        &[file.filter],
+    )?;
+    let len = (file.layout.len() as u64).to_le_bytes();
+    out.extend_from_slice(b"\x06tables")?;
+    put(&mut out, &len, file.layout)?;
+    out.extend_from_slice(file.tail)?;
+    Ok(out)
+}
+
+/// An error, with what it carries.
+#[derive(Clone, Copy)]
+pub enum Told {
+    Number(u8),
+    Version(u8),
+    Tag(&'static str, u8),
+    Header(&'static str),
+}
+
+/// Whether the error is this one.
+pub fn is_told(error: &Error, wanted: Told) -> bool {
+    match wanted {
+        Told::Number(number) => error.number() == number,
+        Told::Version(wanted) => match error {
+            Error::InvalidVersion(byte) => *byte == wanted,
+            _ => false,
+        },
+        Told::Tag(text, wanted) => match error {
+            Error::InvalidTag(name, byte) => *name == text && *byte == wanted,
+            _ => false,
+        },
+        Told::Header(text) => match error {
+            Error::InvalidHeader(name) => *name == text,
+            _ => false,
+        },
+    }
+}

@@ -1,0 +1,20 @@
+// Files that are on the disk when they are answered.
+ghost use Rattle.lsm_store.specs.World.{LeavesOnly, Counts};
+ghost use Rattle.lsm_store.specs.Synced.{IsBeside, Puts};
+
+use crate::store::{Store, StoreError};
+
+/// Writes a file, and syncs it. After Ok a crash leaves it whole; each other name is as it was, also after a refusal.
+///
+/// # Errors
+///
+/// `OutOfMemory` where a growth was refused, `Fault` where the store failed: of this name a crash may then leave
+/// anything.
+pub fn write_synced<S: Store>(store: &mut S, name: &str, bytes: &[u8]) -> Result<(), StoreError>
+    ensures any_moment { S.tells → LeavesOnly (S.world store.old) (S.world store.new) (IsBeside name.now (S.world store.old)) }
+    ensures puts { S.tells → Puts name.now bytes.now (S.world store.old) (S.world store.new) result }
+    ensures counts { Counts (S.world store.old) (S.world store.new) result }
+{
+    store.write(name, bytes)?;
+    store.sync(name)
+}
