@@ -7,7 +7,7 @@ ghost use Rattle.lsm_below.specs.Entries.{entry_cmp, key_cmp};
 ghost use Rattle.lsm_below.specs.Sorted.{Rises};
 ghost use Rattle.lsm_below.specs.Lookups.{stands_before};
 ghost use Rattle.lsm_memtable.specs.Memtables.{capped};
-ghost use Rattle.lsm_memtable.specs.Heads.{key_head, IsBytes};
+ghost use Rattle.lsm_memtable.specs.Heads.{key_head, IsBytes, IsBody};
 ghost use Rattle.lsm_memtable.specs.Blocks.{CountsDigits};
 
 use crate::Steps;
@@ -27,25 +27,31 @@ const HALF: usize = 32;
 /// For how many more entries a block has room when it was made or has grown.
 const STEP: usize = 8;
 
+/// Entries in order. It is a pointer, so that a list of blocks with one more moves 8 bytes for each block behind.
+#[derive(Drop)]
+pub(crate) struct Block {
+    body: Box<Body>,
+}
+
 /// Entries in order, and the head of each one's key, which most comparisons need alone. The last head stands
 /// beside them, since a search among blocks needs nothing else of most.
 #[derive(Drop)]
-pub(crate) struct Block {
+struct Body {
     last: u128,
     heads: Vec<u128>,
     entries: Vec<InternalValue>,
 }
 
 impl Model for Block {
-    ghost use Rattle.std.specs.Prelude.{◌≡◌, ◌-◌, List, length, slice_index_or};
+    ghost use Rattle.std.specs.Prelude.{List};
     ghost use Rattle.lsm_below.specs.declared.value.InternalValue.{InternalValue};
-    ghost use Rattle.lsm_memtable.specs.Heads.{AreHeads};
+    ghost use Rattle.lsm_memtable.specs.Heads.{IsBody};
 
     ghost Value = { List InternalValue };
 
-    ghost view = { λ b. b.entries.items };
+    ghost view = { λ b. b.body.value.entries.items };
 
-    ghost invariant = { λ b. AreHeads b.heads.items b.entries.items × (b.last ≡ slice_index_or b.heads.items (length b.heads.items - 1) 0) };
+    ghost invariant = { λ b. IsBody b.body.value };
 }
 
 /// The last head, 0 where there is none.
@@ -98,30 +104,33 @@ impl Block {
         let last = head_of(entry.key.user_key.as_slice());
         heads.push(last).unwrap();
         entries.push(entry).unwrap();
-        Ok(Block {
+        let body = Body {
             last,
             heads,
             entries,
+        };
+        Ok(Block {
+            body: Box::new(alloc, body)?,
         })
     }
 
     pub(crate) fn len(&self) -> usize
         ensures { result ≡ length self.now }
     {
-        self.entries.len()
+        self.body.entries.len()
     }
 
     pub(crate) fn as_slice(&self) -> &[InternalValue]
         ensures { result.now ≡ self.now }
     {
-        &self.entries
+        &self.body.entries
     }
 
     pub(crate) fn at(&self, place: usize) -> &InternalValue
         requires { place < length self.now }
         ensures { result.now ≡ slice_index_or self.now place result.now }
     {
-        &self.entries[place]
+        &self.body.entries[place]
     }
 
     /// Whether the entry there comes before each entry of the key with a sequence number below this. It is one
@@ -141,14 +150,15 @@ impl Block {
         ensures moved { steps.new.moved ≡ steps.old.moved }
     {
         steps.tick_compared();
-        let other = self.heads[place];
+        let body = &*self.body;
+        let other = body.heads[place];
         if other < head {
             return true;
         }
         if head < other {
             return false;
         }
-        stands_ahead(&self.entries[place], key, number)
+        stands_ahead(&body.entries[place], key, number)
     }
 
     /// `is_ahead` for the last entry. Where the heads differ it looks at nothing else.
@@ -166,15 +176,16 @@ impl Block {
         ensures moved { steps.new.moved ≡ steps.old.moved }
     {
         steps.tick_compared();
-        let last = self.last;
+        let body = &*self.body;
+        let last = body.last;
         if last < head {
             return true;
         }
         if head < last {
             return false;
         }
-        let at = self.entries.len() - 1;
-        stands_ahead(&self.entries[at], key, number)
+        let at = body.entries.len() - 1;
+        stands_ahead(&body.entries[at], key, number)
     }
 
     /// How many entries come before each entry of the key with a sequence number below this.
@@ -206,7 +217,7 @@ impl Block {
         requires { place < length self.now }
         ensures { (d : InternalValue) → result ≡ is_eq (key_cmp (slice_index_or self.now place d).key key.now) }
     {
-        self.entries[place].key.cmp(key).is_eq()
+        self.body.entries[place].key.cmp(key).is_eq()
     }
 
     /// Puts the entry over the one there, which it returns.
@@ -215,9 +226,10 @@ impl Block {
         ensures entries { self.new ≡ slice_set self.old place entry }
         ensures replaced { result ≡ slice_index_or self.old place result }
     {
-        self.heads[place] = head_of(entry.key.user_key.as_slice());
-        self.last = last_of(&self.heads);
-        mem::replace(&mut self.entries[place], entry)
+        let body = &mut *self.body;
+        body.heads[place] = head_of(entry.key.user_key.as_slice());
+        body.last = last_of(&body.heads);
+        mem::replace(&mut body.entries[place], entry)
     }
 
     /// Takes the entry there out, and moves those after.
@@ -225,9 +237,10 @@ impl Block {
         requires { place < length self.old }
         ensures { self.new ≡ remove self.old place }
     {
-        self.heads.remove(place);
-        self.last = last_of(&self.heads);
-        let taken = self.entries.remove(place);
+        let body = &mut *self.body;
+        body.heads.remove(place);
+        body.last = last_of(&body.heads);
+        let taken = body.entries.remove(place);
         drop(taken);
     }
 
@@ -248,14 +261,15 @@ impl Block {
         ensures moved { steps.new.moved ≤ steps.old.moved + 64 }
         ensures compared { steps.new.compared ≡ steps.old.compared }
     {
-        let len = self.entries.len();
-        if len < self.heads.capacity() && len < self.entries.capacity() {
+        let len = self.len();
+        if len < self.body.heads.capacity() && len < self.body.entries.capacity() {
             steps.tick_moves(len - place);
-            self.heads
+            let body = &mut *self.body;
+            body.heads
                 .insert(place, head_of(entry.key.user_key.as_slice()))
                 .unwrap();
-            self.entries.insert(place, entry).unwrap();
-            self.last = last_of(&self.heads);
+            body.entries.insert(place, entry).unwrap();
+            body.last = last_of(&body.heads);
             return Ok(());
         }
         let room = (len + STEP).min(MOST);
@@ -280,11 +294,18 @@ impl Block {
         ensures moved { steps.new.moved ≤ steps.old.moved + 64 }
         ensures compared { steps.new.compared ≡ steps.old.compared }
     {
-        self.rebuild(alloc, HALF, HALF + STEP, place, entry, steps)
+        let nothing = Body {
+            last: 0,
+            heads: Vec::new(alloc),
+            entries: Vec::new(alloc),
+        };
+        let mut upper = Box::new(alloc, nothing)?;
+        *upper = self.rebuild(alloc, HALF, HALF + STEP, place, entry, steps)?;
+        Ok(Block { body: upper })
     }
 
     /// Puts the entry at a place: all entries move once, the first ones to new vectors with this room, up to
-    /// a length, and the rest to another block. Refused only for want of memory, and then nothing changes.
+    /// a length, and the rest to those of another block, which are returned. Refused only for want of memory, and then nothing changes.
     fn rebuild(
         &mut self,
         alloc: Global,
@@ -293,33 +314,35 @@ impl Block {
         place: usize,
         entry: InternalValue,
         steps: &mut Steps,
-    ) -> Result<Block, AllocError>
+    ) -> Result<Body, AllocError>
         requires place { place ≤ length self.old }
         requires few { length self.old ≤ 64 }
         requires keep { keep ≤ room }
         requires room { length self.old + 1 ≤ keep + room }
-        ensures ok { IfOk result (λ rest. (self.new ++ rest ≡ insert self.old place entry) × (length self.new ≡ min keep (length self.old + 1))) }
+        ensures ok { IfOk result (λ rest. (self.new ++ rest.entries.items ≡ insert self.old place entry) × (length self.new ≡ min keep (length self.old + 1))) }
+        ensures sound { IfOk result (λ rest. IsBody rest) }
         ensures counted { OnOk result (steps.new.moved ≡ capped (steps.old.moved + length self.old)) }
         ensures err { OnErr result ((self.new ≡ self.old) × (steps.new ≡ steps.old)) }
         ensures moved { steps.new.moved ≤ steps.old.moved + length self.old }
         ensures compared { steps.new.compared ≡ steps.old.compared }
     {
-        let len = self.entries.len();
+        let len = self.body.entries.len();
         let left = if len < keep { 0 } else { room };
         let mut heads = Vec::with_capacity(alloc, room)?;
         let mut entries = Vec::with_capacity(alloc, room)?;
         let mut upper_heads = Vec::with_capacity(alloc, left)?;
         let mut upper = Vec::with_capacity(alloc, left)?;
         steps.tick_moves(len);
+        let body = &mut *self.body;
         let head = head_of(entry.key.user_key.as_slice());
-        let old_heads = mem::replace(&mut self.heads, Vec::new(alloc));
+        let old_heads = mem::replace(&mut body.heads, Vec::new(alloc));
         spread(old_heads, place, head, &mut heads, keep, &mut upper_heads);
-        let old_entries = mem::replace(&mut self.entries, Vec::new(alloc));
+        let old_entries = mem::replace(&mut body.entries, Vec::new(alloc));
         spread(old_entries, place, entry, &mut entries, keep, &mut upper);
-        self.last = last_of(&heads);
-        self.heads = heads;
-        self.entries = entries;
-        Ok(Block {
+        body.last = last_of(&heads);
+        body.heads = heads;
+        body.entries = entries;
+        Ok(Body {
             last: last_of(&upper_heads),
             heads: upper_heads,
             entries: upper,
