@@ -1,33 +1,22 @@
 -- In a sorted list the first visible entry is the newest one.
 use Rattle.std.proofs.Common.{◌≡◌, ℕ, Bool, true, false, cond, ltb, ◌&&◌, List, [], ◌∷◌, Some, None, Option, refl, sym, ◌∙◌, ap, le-ltb}
-use Rattle.std.specs.declared.cmp.Ordering.{Ordering}
-use Rattle.std.specs.declared.cmp.Ordering.TheVariants.{Less, Equal, Greater}
-use Rattle.std.specs.Ordering.{nat_cmp, is_eq, ordering_reverse}
-use Rattle.std.specs.Cmp.Lexicographic.{slice_cmp}
-use Rattle.std.proofs.lemmas.Cmp.{nat_list_cmp_total}
+use Rattle.std.specs.declared.cmp.Ordering.TheVariants.{Less}
 use Rattle.std.proofs.lemmas.List.Elements.{All-contains}
 use Rattle.lsm_below.specs.declared.value.InternalValue.{InternalValue}
 use Rattle.lsm_below.specs.Entries.{entry_cmp}
 use Rattle.lsm_below.specs.Lookups.{is_visible}
 use Rattle.lsm_below.specs.Sorted.{Rises, first}
 use Rattle.lsm_below.specs.Keys.{is_same}
+use Rattle.lsm_below.specs.Orders.{same_swap}
 use Rattle.lsm_below.specs.Entries.{top, later}
 use Rattle.lsm_below.proofs.Visible.{behind_lower, visible_parts, is_top}
-
-turned : (o : Ordering) → is_eq (ordering_reverse o) ≡ is_eq o
-turned Less = refl
-turned Equal = refl
-turned Greater = refl
-
-same_turned : (a k : List ℕ) → is_eq (slice_cmp nat_cmp a k) ≡ is_same k a
-same_turned a k = ap is_eq (nat_list_cmp_total.antisymm a k) ∙ turned (slice_cmp nat_cmp k a)
 
 as_both : (b c : Bool) → cond b c false ≡ (b && c)
 as_both true c = refl
 as_both false c = refl
 
 visible_as : (key : List ℕ) (s : ℕ) (e : InternalValue) → is_visible key s e ≡ (is_same key e.key.user_key && ltb e.key.seqno s)
-visible_as key s e = ap (λ b. cond b (ltb e.key.seqno s) false) (same_turned e.key.user_key key) ∙ as_both (is_same key e.key.user_key) (ltb e.key.seqno s)
+visible_as key s e = ap (λ b. cond b (ltb e.key.seqno s) false) (same_swap e.key.user_key key) ∙ as_both (is_same key e.key.user_key) (ltb e.key.seqno s)
 
 pub first_top : (xs : List InternalValue) (key : List ℕ) (s : ℕ) → Rises entry_cmp xs → first (is_visible key s) xs ≡ top key s xs
 first_top [] key s rises = refl

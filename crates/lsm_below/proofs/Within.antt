@@ -4,11 +4,12 @@ use Rattle.std.specs.declared.cmp.Ordering.{Ordering}
 use Rattle.std.specs.declared.cmp.Ordering.TheVariants.{Less, Equal, Greater}
 use Rattle.std.specs.declared.ops.Bound.{Bound}
 use Rattle.std.specs.declared.ops.Bound.TheVariants.{Included, Excluded, Unbounded}
-use Rattle.std.specs.Ordering.{nat_cmp, ordering_then, ordering_reverse, ordering_index, is_lt, is_le}
+use Rattle.std.specs.Ordering.{nat_cmp, ordering_then, ordering_index, is_lt, is_le}
 use Rattle.std.specs.List.Sorted.{IsPartitionedBy, IsPartitionPoint, IsNonDecreasingBy}
 use Rattle.std.proofs.lemmas.Cmp.{nat_list_cmp_total}
 use Rattle.std.proofs.lemmas.Bool.{cases_lt, not-true, not-false}
 use Rattle.std.proofs.lemmas.List.{get_or-drop}
+use Rattle.lsm_below.specs.Orders.{not_le_reversed, not_lt_reversed}
 use Rattle.lsm_below.specs.Keys.{Bytes, bytes_cmp}
 use Rattle.lsm_below.specs.Sorted.{Rises}
 use Rattle.lsm_below.specs.Entries.{Entry, entry_cmp}
@@ -105,26 +106,16 @@ le_down Greater Less le h = absurd (omega arith)
 le_down Greater Equal le h = absurd (omega arith)
 le_down Greater Greater le h = h
 
-lt_as : (o : Ordering) → not (is_le (ordering_reverse o)) ≡ is_lt o
-lt_as Less = refl
-lt_as Equal = refl
-lt_as Greater = refl
-
-le_as : (o : Ordering) → not (is_lt (ordering_reverse o)) ≡ is_le o
-le_as Less = refl
-le_as Equal = refl
-le_as Greater = refl
-
 -- what lies outside a lower bound stands before what lies within it
 pub outside_first : (low : Bound Bytes) (xs : List Entry) → Rises entry_cmp xs → IsPartitionedBy (λ e. not (is_from low e.key.user_key)) xs
 outside_first (Included low) xs rises i j d le in_range outside = turned _ ∙ lt_down _ _ (keys_rise xs low rises i j d le in_range) (sym (turned _) ∙ outside)
   where
     turned : (k : Bytes) → not (is_le (bytes_cmp low k)) ≡ is_lt (bytes_cmp k low)
-    turned k = ap (λ o. not (is_le o)) (nat_list_cmp_total.antisymm low k) ∙ lt_as (bytes_cmp k low)
+    turned k = ap (λ o. not (is_le o)) (nat_list_cmp_total.antisymm low k) ∙ not_le_reversed (bytes_cmp k low)
 outside_first (Excluded low) xs rises i j d le in_range outside = turned _ ∙ le_down _ _ (keys_rise xs low rises i j d le in_range) (sym (turned _) ∙ outside)
   where
     turned : (k : Bytes) → not (is_lt (bytes_cmp low k)) ≡ is_le (bytes_cmp k low)
-    turned k = ap (λ o. not (is_lt o)) (nat_list_cmp_total.antisymm low k) ∙ le_as (bytes_cmp k low)
+    turned k = ap (λ o. not (is_lt o)) (nat_list_cmp_total.antisymm low k) ∙ not_lt_reversed (bytes_cmp k low)
 outside_first Unbounded xs rises i j d le in_range outside = absurd (cc outside)
 
 -- what lies within an upper bound stands before what lies outside it

@@ -3,7 +3,7 @@ use Rattle.std.specs.Prelude.{◌≡◌, ℕ, ◌+◌, ◌<◌, ◌≤◌, max, 
 use Rattle.std.specs.Ordering.{nat_cmp, on, flip_args, then_cmp}
 use Rattle.std.specs.declared.cmp.Ordering.{Ordering}
 use Rattle.std.specs.List.{AllByRecursion}
-use Rattle.lsm_below.specs.Keys.{Bytes, bytes_cmp, is_same}
+use Rattle.lsm_below.specs.Keys.{Bytes, AreBytes, bytes_cmp, is_same}
 use Rattle.lsm_below.specs.declared.key.InternalKey.{InternalKey}
 use Rattle.lsm_below.specs.declared.value.InternalValue.{InternalValue}
 use Rattle.lsm_below.specs.declared.value_type.ValueType.{ValueType}
@@ -12,6 +12,10 @@ use Rattle.lsm_below.specs.declared.value_type.ValueType.TheVariants.{Value, Tom
 -- an entry: a key with its sequence number and type, and a value
 abbrev pub Entry : Type 0
 Entry = InternalValue
+
+-- the key of an entry has the numbers of bytes
+abbrev pub HasBytes : Entry → Type 0
+HasBytes e = AreBytes e.key.user_key
 
 -- the order of keys: user keys rise, and under one key the sequence numbers fall
 abbrev pub key_cmp : InternalKey → InternalKey → Ordering

@@ -1,5 +1,5 @@
 -- User keys: lists of bytes, ordered as texts are.
-use Rattle.std.specs.Prelude.{ℕ, Bool, List}
+use Rattle.std.specs.Prelude.{ℕ, ◌<◌, Bool, List, slice_index_or}
 use Rattle.std.specs.Ordering.{eq_by_cmp, is_lt, nat_cmp}
 use Rattle.std.specs.declared.cmp.Ordering.{Ordering}
 use Rattle.std.specs.Cmp.Lexicographic.{slice_cmp}
@@ -7,6 +7,10 @@ use Rattle.std.specs.Cmp.Lexicographic.{slice_cmp}
 -- a key or a value
 abbrev pub Bytes : Type 0
 Bytes = List ℕ
+
+-- numbers that bytes have
+abbrev pub AreBytes : Bytes → Type 0
+AreBytes key = (i : ℕ) → slice_index_or key i 0 < 256
 
 -- the order of user keys, byte by byte
 abbrev pub bytes_cmp : Bytes → Bytes → Ordering

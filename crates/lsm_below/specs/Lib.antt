@@ -7,8 +7,10 @@ pub mod Runs
 pub mod Optimizes
 pub mod Greedy
 pub mod Sorted
+pub mod Sums
 pub mod Entries
 pub mod Streams
 pub mod Slots
 pub mod Lookups
 pub mod Laws
+pub mod Errors

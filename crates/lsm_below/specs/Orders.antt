@@ -1,11 +1,12 @@
--- Laws of total orders, for proofs of every crate: a clause can't state them, since none ranges over orders.
-use Rattle.std.specs.Prelude.{◌≡◌, true, false}
+-- Laws of orders and of reversed comparisons, for proofs of every crate: a clause can't state those that range over orders.
+use Rattle.std.specs.Prelude.{◌≡◌, true, false, not}
 use Rattle.std.proofs.Common.{refl, ap, ◌∙◌}
 use Rattle.std.specs.Cmp.{IsTotalOrder}
 use Rattle.std.specs.declared.cmp.Ordering.{Ordering}
 use Rattle.std.specs.declared.cmp.Ordering.TheVariants.{Less, Equal, Greater}
-use Rattle.std.specs.Ordering.{is_le, is_lt, is_gt, ordering_reverse}
-use Rattle.std.proofs.lemmas.Cmp.{upto}
+use Rattle.std.specs.Ordering.{is_le, is_lt, is_gt, is_eq, ordering_reverse}
+use Rattle.std.proofs.lemmas.Cmp.{upto, nat_list_cmp_total}
+use Rattle.lsm_below.specs.Keys.{Bytes, bytes_cmp, is_same}
 
 gt_from_le : (r : Ordering) → is_le r ≡ true → is_gt r ≡ false
 gt_from_le Less h = refl
@@ -36,3 +37,22 @@ module _ {X : Type 0} {R : X → X → Ordering} (o : IsTotalOrder R) where
 
   pub le_of_not_lt : (x y : X) → is_lt (R y x) ≡ false → is_le (R x y) ≡ true
   le_of_not_lt x y h = ap is_le (o.antisymm x y) ∙ le_reversed (R y x) h
+
+eq_reversed : (o : Ordering) → is_eq (ordering_reverse o) ≡ is_eq o
+eq_reversed Less = refl
+eq_reversed Equal = refl
+eq_reversed Greater = refl
+
+pub not_le_reversed : (o : Ordering) → not (is_le (ordering_reverse o)) ≡ is_lt o
+not_le_reversed Less = refl
+not_le_reversed Equal = refl
+not_le_reversed Greater = refl
+
+pub not_lt_reversed : (o : Ordering) → not (is_lt (ordering_reverse o)) ≡ is_le o
+not_lt_reversed Less = refl
+not_lt_reversed Equal = refl
+not_lt_reversed Greater = refl
+
+-- two keys are the same in either order
+pub same_swap : (a b : Bytes) → is_same a b ≡ is_same b a
+same_swap a b = ap is_eq (nat_list_cmp_total.antisymm a b) ∙ eq_reversed (bytes_cmp b a)

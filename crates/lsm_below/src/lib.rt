@@ -4,6 +4,7 @@
 //! |-|-|
 //! | `ids` | sequence numbers, ids, and shared bytes |
 //! | `limits` | how long keys and values may be, and what an entry counts beside them |
+//! | `error` | what a call of the tree refuses, and why |
 //! | `value_type` | what an entry does to its key |
 //! | `key` | a user key with its sequence number, and the order of entries |
 //! | `value` | an entry: a key and its value |
@@ -22,6 +23,7 @@
 #![tactic(auto)]
 
 mod compaction_stream;
+mod error;
 mod heap;
 mod ids;
 mod key;
@@ -40,6 +42,7 @@ mod value;
 mod value_type;
 
 pub use compaction_stream::{CompactionStream, compact};
+pub use error::Error;
 pub use ids::{KvPair, MemtableId, SeqNo, TableId, TreeId, UserKey, UserValue, share};
 pub use key::InternalKey;
 pub use key_range::{KeyRange, Ranged};

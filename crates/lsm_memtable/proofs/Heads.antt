@@ -14,7 +14,9 @@ use Rattle.lsm_below.specs.declared.value.InternalValue.{InternalValue}
 use Rattle.lsm_below.specs.Sorted.{by_ordering}
 use Rattle.lsm_below.specs.Lookups.{stands_before}
 use Rattle.lsm_memtable.proofs.Dealt.{same_lower, same_upper, all_lower, all_upper}
-use Rattle.lsm_memtable.specs.Heads.{head_from, key_head, entry_head, IsBytes, HasBytes}
+use Rattle.lsm_below.specs.Keys.{AreBytes}
+use Rattle.lsm_below.specs.Entries.{HasBytes}
+use Rattle.lsm_memtable.specs.Heads.{head_from, key_head, entry_head}
 
 less_is : (x y : ℕ) → x < y → nat_cmp x y ≡ Less
 less_is x y lt = grind (arith, nat_tests)
@@ -27,7 +29,7 @@ no_less [] h = cc h
 no_less (x ∷ xs) h = cc h
 
 -- a lesser number comes from a lesser start, or from the same start and a lesser key
-head_order : (n a b : ℕ) (xs ys : List ℕ) → IsBytes xs → IsBytes ys → head_from a n xs < head_from b n ys → (a < b) ⊎ ((a ≡ b) × (slice_cmp nat_cmp xs ys ≡ Less))
+head_order : (n a b : ℕ) (xs ys : List ℕ) → AreBytes xs → AreBytes ys → head_from a n xs < head_from b n ys → (a < b) ⊎ ((a ≡ b) × (slice_cmp nat_cmp xs ys ≡ Less))
 unfolding head_from
 head_order zero a b xs ys hx hy lt = inl lt
 head_order (suc n) a b [] [] hx hy lt = elim (head_order n (a * 256) (b * 256) [] [] hx hy lt) [
@@ -59,16 +61,16 @@ head_order (suc n) a b (x ∷ xs) (y ∷ ys) hx hy lt =
     ]
 
 -- the lesser head has the lesser key
-pub head_less : (xs ys : List ℕ) → IsBytes xs → IsBytes ys → key_head xs < key_head ys → slice_cmp nat_cmp xs ys ≡ Less
+pub head_less : (xs ys : List ℕ) → AreBytes xs → AreBytes ys → key_head xs < key_head ys → slice_cmp nat_cmp xs ys ≡ Less
 head_less xs ys hx hy lt = elim (head_order 16 0 0 xs ys hx hy lt) [
   | inl less ↦ absurd (omega arith)
   | inr h ↦ h.1
 ]
 
-pub head_ahead : (e : InternalValue) (key : List ℕ) (s : ℕ) → HasBytes e → IsBytes key → key_head e.key.user_key < key_head key → true ≡ stands_before key s e
+pub head_ahead : (e : InternalValue) (key : List ℕ) (s : ℕ) → HasBytes e → AreBytes key → key_head e.key.user_key < key_head key → true ≡ stands_before key s e
 head_ahead e key s he hk lt = sym (ap (λ o. by_ordering o true (nat_le s e.key.seqno) false) (head_less e.key.user_key key he hk lt))
 
-pub head_behind : (e : InternalValue) (key : List ℕ) (s : ℕ) → HasBytes e → IsBytes key → key_head key < key_head e.key.user_key → false ≡ stands_before key s e
+pub head_behind : (e : InternalValue) (key : List ℕ) (s : ℕ) → HasBytes e → AreBytes key → key_head key < key_head e.key.user_key → false ≡ stands_before key s e
 head_behind e key s he hk lt = sym (ap (λ o. by_ordering o true (nat_le s e.key.seqno) false) (nat_list_cmp_total.antisymm e.key.user_key key ∙ ap ordering_reverse (head_less key e.key.user_key hk he lt)))
 
 here : (a n x : ℕ) (xs : List ℕ) → head_from a (suc n) (x ∷ xs) ≡ head_from (a * 256 + x) n xs

@@ -1,4 +1,3 @@
-pub mod Errors
 pub mod Memtables
 pub mod Heads
 pub mod Blocks

@@ -6,8 +6,9 @@ ghost use Rattle.lsm_below.specs.declared.value.InternalValue.{InternalValue};
 ghost use Rattle.lsm_below.specs.Entries.{entry_cmp, key_cmp};
 ghost use Rattle.lsm_below.specs.Sorted.{Rises};
 ghost use Rattle.lsm_below.specs.Lookups.{stands_before};
-ghost use Rattle.lsm_memtable.specs.Memtables.{capped};
-ghost use Rattle.lsm_memtable.specs.Heads.{key_head, IsBytes, IsBody};
+ghost use Rattle.lsm_below.specs.Sums.{capped};
+ghost use Rattle.lsm_below.specs.Keys.{AreBytes};
+ghost use Rattle.lsm_memtable.specs.Heads.{key_head, IsBody};
 ghost use Rattle.lsm_memtable.specs.Blocks.{CountsDigits};
 
 use crate::Steps;
@@ -74,7 +75,7 @@ fn byte_at(key: &[u8], place: usize) -> u8
 /// The first 16 bytes of the key as a number, big endian, with zeros after a short key.
 pub(crate) fn head_of(key: &[u8]) -> u128
     ensures head { result ≡ key_head key.now }
-    ensures bytes { IsBytes key.now }
+    ensures bytes { AreBytes key.now }
 {
     let mut head: u128 = 0;
     for place in 0..16usize {

@@ -1,8 +1,7 @@
-//! The memtable, and what calls of the tree refuse.
+//! The memtable: the sorted table of entries in memory.
 //!
 //! | Module | Holds |
 //! |-|-|
-//! | `error` | what a call refuses, and why |
 //! | `steps` | counts of comparisons and moves |
 //! | `spread` | items that move to two vectors, with one more at a place |
 //! | `block` | up to 64 entries in order, with the heads of their keys |
@@ -16,14 +15,12 @@
 mod block;
 mod blocks;
 mod bounds;
-mod error;
 mod iter;
 mod memtable;
 mod span;
 mod spread;
 mod steps;
 
-pub use error::Error;
 pub use iter::Iter;
 pub use memtable::Memtable;
 pub use span::Span;

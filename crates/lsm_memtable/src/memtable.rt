@@ -13,9 +13,9 @@ use crate::blocks::{Undo, first_visible, put_entry, take_all_back};
 use crate::bounds::blocks_within;
 use crate::iter::whole;
 use crate::span::span_of;
-use crate::{Error, Iter, Span, Steps};
+use crate::{Iter, Span, Steps};
 use lsm_below::{
-    ENTRY_OVERHEAD, InternalValue, MemtableId, SeqNo, UserKey, entries_are_ordered,
+    ENTRY_OVERHEAD, Error, InternalValue, MemtableId, SeqNo, UserKey, entries_are_ordered,
     entries_are_parted, first_visible_is_top,
 };
 use std::alloc::{AllocError, Global};

@@ -1,6 +1,6 @@
 // Counts of what a call does.
 ghost use Rattle.std.specs.Prelude.{◌≡◌, ◌+◌};
-ghost use Rattle.lsm_memtable.specs.Memtables.{capped};
+ghost use Rattle.lsm_below.specs.Sums.{capped};
 
 /// How many keys were compared, and how many entries moved that were there. Each count stops at 2^64 - 1.
 ///

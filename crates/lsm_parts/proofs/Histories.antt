@@ -5,7 +5,8 @@ use Rattle.std.specs.Borrow.{Bor}
 use Rattle.std.specs.List.{find, fold, AllWithin}
 use Rattle.std.specs.List.Sorted.{IsPartitionedBy, IsPartitionPoint}
 use Rattle.lsm_parts.specs.declared.version.super_version.SuperVersion.{SuperVersion}
-use Rattle.lsm_memtable.specs.Memtables.{SeenMemtable, capped}
+use Rattle.lsm_below.specs.Sums.{capped}
+use Rattle.lsm_memtable.specs.Memtables.{SeenMemtable}
 use Rattle.lsm_parts.specs.History.{SeenHistory, oldest, found_version, versions_of, NumbersFall}
 
 -- the last one is the oldest

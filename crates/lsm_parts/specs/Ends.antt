@@ -5,7 +5,7 @@ use Rattle.lsm_below.specs.Keys.{Bytes}
 use Rattle.lsm_below.specs.Entries.{Entry}
 use Rattle.lsm_parts.specs.Shown.{Shows}
 use Rattle.lsm_parts.specs.Guards.{Item, pair_of}
-use Rattle.lsm_memtable.specs.declared.error.Error.{Error}
+use Rattle.lsm_below.specs.declared.error.Error.{Error}
 use Rattle.lsm_parts.specs.declared.tree_iter.End.{End}
 use Rattle.lsm_parts.specs.declared.tree_iter.End.TheVariants.{Front, Back}
 

@@ -2,7 +2,7 @@
 use Rattle.std.specs.Prelude.{ℕ, ◌-◌, ◌^◌, min, length, Result, Ok, Err}
 use Rattle.lsm_below.specs.Keys.{Bytes}
 use Rattle.lsm_below.specs.Entries.{Entry}
-use Rattle.lsm_memtable.specs.declared.error.Error.{Error}
+use Rattle.lsm_below.specs.declared.error.Error.{Error}
 
 -- a key and its value
 abbrev pub Pair : Type 0

@@ -2,7 +2,8 @@
 use Rattle.std.specs.Prelude.{ℕ, ◌≤◌, List, [], ◌∷◌, ◌++◌, Option, Some, Bool, ◌||◌, filter, sum_by, nat_lt, ◌==◌, if◌then◌else◌}
 use Rattle.std.specs.List.{find, list_any, AllByRecursion}
 use Rattle.lsm_parts.specs.declared.version.super_version.SuperVersion.{SuperVersion}
-use Rattle.lsm_memtable.specs.Memtables.{SeenMemtable, capped}
+use Rattle.lsm_below.specs.Sums.{capped}
+use Rattle.lsm_memtable.specs.Memtables.{SeenMemtable}
 use Rattle.lsm_parts.specs.Versions.{SeenVersion, IsLaid}
 
 -- a history: the newest super version, and the older ones, newest first

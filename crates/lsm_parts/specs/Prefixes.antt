@@ -1,20 +1,10 @@
 -- Keys that begin alike.
-use Rattle.std.specs.Prelude.{◌≡◌, ◌<◌, true, ◌&&◌}
-use Rattle.std.specs.List.{All}
+use Rattle.std.specs.Prelude.{◌≡◌, true, ◌&&◌}
 use Rattle.std.specs.Ordering.{is_le}
 use Rattle.std.specs.declared.ops.Bound.{Bound}
-use Rattle.lsm_below.specs.Keys.{Bytes, bytes_cmp}
-use Rattle.lsm_below.specs.Entries.{Entry}
+use Rattle.lsm_below.specs.Keys.{Bytes, AreBytes, bytes_cmp}
 use Rattle.lsm_model.specs.Journal.{is_to}
 use Rattle.lsm_parts.specs.Shown.{begins_with}
-
--- numbers from 0 to 255
-abbrev pub AreBytes : Bytes → Type 0
-AreBytes key = All (λ b. b < 256) key
-
--- the key of an entry has such numbers
-abbrev pub HasBytes : Entry → Type 0
-HasBytes e = AreBytes e.key.user_key
 
 -- of the keys that aren't below the prefix, those within the upper bound begin with it
 abbrev pub Follows : Bytes → Bound Bytes → Type 0

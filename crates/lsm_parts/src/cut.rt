@@ -3,10 +3,10 @@ ghost use Rattle.std.specs.Prelude.{◌≡◌, [], ◌∷◌, filter, nat_lt, Ma
 ghost use Rattle.lsm_below.specs.Slots.{rest_of};
 ghost use Rattle.lsm_parts.specs.Reads.{counted, cut};
 ghost use Rattle.lsm_parts.specs.Cuts.{part_of, IsFresh};
-ghost use Rattle.lsm_memtable.specs.declared.error.Error.TheVariants.{OutOfMemory};
+ghost use Rattle.lsm_below.specs.declared.error.Error.TheVariants.{OutOfMemory};
 
-use lsm_below::{InternalValue, SeqNo, Source, UserKey};
-use lsm_memtable::{Error, Iter, Span};
+use lsm_below::{Error, InternalValue, SeqNo, Source, UserKey};
+use lsm_memtable::{Iter, Span};
 use std::ops::Bound;
 
 /// The entries of a source in the bounds, of which those below a sequence number count.

@@ -1,7 +1,7 @@
 // The bounds of the keys that begin alike.
 ghost use Rattle.std.specs.Prelude.{◌≡◌, ℕ, ◌+◌, ◌<◌, ◌∷◌, ◌++◌, [], true, IfOk, IfErr, slice_index};
-ghost use Rattle.lsm_below.specs.Keys.{Bytes};
-ghost use Rattle.lsm_parts.specs.Prefixes.{AreBytes, Follows, LetsIn};
+ghost use Rattle.lsm_below.specs.Keys.{Bytes, AreBytes};
+ghost use Rattle.lsm_parts.specs.Prefixes.{Follows, LetsIn};
 ghost use Rattle.lsm_parts.specs.Shown.{lies_within, begins_with};
 
 use crate::Error;

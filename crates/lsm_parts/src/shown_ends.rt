@@ -8,7 +8,7 @@ ghost use Rattle.lsm_parts.specs.Shown.{IsNewest, IsShown, IsHidden};
 ghost use Rattle.lsm_parts.specs.Reads.{counted_at};
 ghost use Rattle.lsm_parts.specs.Cuts.{IsFresh, IsGreatestOf, IsGreatestKey, with_greater_key, newer, held_in, counted_in, IsLastShown};
 ghost use Rattle.lsm_parts.specs.Ends.{EndShown, NumberShown};
-ghost use Rattle.lsm_memtable.specs.declared.error.Error.{Error};
+ghost use Rattle.lsm_below.specs.declared.error.Error.{Error};
 ghost use Rattle.std.specs.declared.ops.Bound.TheVariants.{Excluded, Unbounded};
 ghost use Rattle.lsm_parts.specs.declared.tree_iter.End.TheVariants.{Front, Back};
 

@@ -2,10 +2,9 @@
 ghost use Rattle.std.specs.Prelude.{◌≡◌, ◌↔◌, [], false, filter, length, IfOk, IfErr, OnErr, IsTrue};
 ghost use Rattle.std.specs.List.{All};
 ghost use Rattle.std.specs.Iterator.{at_most};
-ghost use Rattle.lsm_below.specs.Entries.{is_value};
+ghost use Rattle.lsm_below.specs.Entries.{is_value, HasBytes};
 ghost use Rattle.lsm_parts.specs.Shown.{Shows, ShowsPrefix};
-ghost use Rattle.lsm_parts.specs.Prefixes.{HasBytes};
-ghost use Rattle.lsm_memtable.specs.declared.error.Error.{Error};
+ghost use Rattle.lsm_below.specs.declared.error.Error.{Error};
 ghost use Rattle.lsm_parts.specs.Reads.{counted_at};
 ghost use Rattle.lsm_parts.specs.Ends.{TakesEntry, TakesPair, TakesEnds};
 ghost use Rattle.lsm_parts.specs.declared.tree_iter.End.TheVariants.{Front, Back};

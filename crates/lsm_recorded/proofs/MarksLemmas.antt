@@ -1,16 +1,13 @@
 -- Marks agree with the journal.
 use Rattle.std.proofs.Common.{Option, None, is_some, ◌≡◌, ℕ, zero, suc, not, ◌==◌, ◌+◌, ◌<◌, ◌≤◌, max, min, Bool, true, false, cond, ◌&&◌, ◌||◌, nat_lt, nat_le, List, [], ◌∷◌, ◌++◌, Some, unwrap_or, refl, sym, ap, ◌∙◌, subst, arith, map, append-nil, append_assoc, ltb-true, is_eq}
-use Rattle.std.specs.declared.cmp.Ordering.{Ordering}
-use Rattle.std.specs.declared.cmp.Ordering.TheVariants.{Less, Equal, Greater}
-use Rattle.std.specs.Ordering.{ordering_reverse}
 use Rattle.std.specs.List.{list_any, list_all}
-use Rattle.std.proofs.lemmas.Cmp.{nat_list_cmp_total}
 use Rattle.std.proofs.lemmas.Bool.Decides.{nat_tests}
 use Rattle.std.specs.BTreeMap as tree
 use Rattle.std.specs.BTreeMap.{BTreeMap}
 use Rattle.std.proofs.lemmas.Grind.{fold-append}
 use Rattle.std.proofs.lemmas.Map.Text.{is_eq-slice_cmp}
 use Rattle.std.proofs.lemmas.Slice.Eq.{bytes_eq-Decides}
+use Rattle.lsm_below.specs.Orders.{same_swap}
 use Rattle.lsm_below.specs.Keys.{Bytes, bytes_cmp, is_same}
 use Rattle.lsm_below.specs.Entries.{Entry, is_value, is_weak, is_value_kind, is_weak_kind}
 use Rattle.lsm_below.specs.declared.value_type.ValueType.{ValueType}
@@ -24,16 +21,8 @@ use Rattle.lsm_recorded.specs.declared.marks.Mark.{Mark}
 use Rattle.lsm_recorded.specs.Marks.{mark_of, marked, marked_by, marked_all, no_mark, next_mark, mark_in, kind_allows, mark_allows, mark_tells_order}
 use Rattle.lsm_recorded.specs.Order.{weak_after, weak_of, kind_keeps, keeps_order}
 
-turned : (o : Ordering) → is_eq (ordering_reverse o) ≡ is_eq o
-turned Less = refl
-turned Equal = refl
-turned Greater = refl
-
 same_key : (a b : Bytes) → is_same a b ≡ true → a ≡ b
 same_key a b h = (bytes_eq-Decides a b).0 (sym (is_eq-slice_cmp a b) ∙ h)
-
-pub same_swap : (a b : Bytes) → is_same a b ≡ is_same b a
-same_swap a b = ap is_eq (nat_list_cmp_total.antisymm a b) ∙ turned (bytes_cmp b a)
 
 pub mark_set : (old new : BTreeMap Bytes Mark) (k : Bytes) (m : Mark) (q : Bytes) → tree.get bytes_cmp new q ≡ cond (is_same k q) (Some m) (tree.get bytes_cmp old q) → mark_of new q ≡ marked (mark_of old) k m q
 mark_set old new k m q e =

@@ -7,8 +7,8 @@ use Rattle.lsm_model.specs.declared.journal.JournalEntry.{JournalEntry}
 use Rattle.lsm_model.specs.Journal.{Event, InOrder, next_number, floor}
 use Rattle.lsm_model.specs.Steps.{ReadsEqualReplay, StaysAt}
 use Rattle.lsm_model.specs.Sound.{Holds}
-use Rattle.lsm_memtable.specs.declared.error.Error.{Error}
-use Rattle.lsm_memtable.specs.declared.error.Error.TheVariants.{OutOfMemory, OutOfOrder}
+use Rattle.lsm_below.specs.declared.error.Error.{Error}
+use Rattle.lsm_below.specs.declared.error.Error.TheVariants.{OutOfMemory, OutOfOrder}
 use Rattle.lsm_state.specs.Core.{Core, Seen, state_of}
 use Rattle.lsm_recorded.specs.declared.marks.Mark.{Mark}
 use Rattle.lsm_recorded.specs.Marks.{mark_of, mark_in}

@@ -6,7 +6,7 @@ use Rattle.lsm_model.specs.Journal.{Event}
 use Rattle.lsm_model.specs.Ops.{op_entry}
 use Rattle.lsm_model.specs.declared.op.Op.TheVariants.{Set}
 use Rattle.lsm_model.specs.declared.journal.JournalEntry.TheVariants.{Write}
-use Rattle.lsm_memtable.specs.declared.error.Error.{Error}
+use Rattle.lsm_below.specs.declared.error.Error.{Error}
 use Rattle.lsm_state.specs.Core.{Core}
 use Rattle.lsm_state.specs.Calls.{Appends}
 use Rattle.lsm_runs.specs.Runs.{TakesEntry, told_entry}

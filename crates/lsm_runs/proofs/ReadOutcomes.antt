@@ -9,8 +9,8 @@ use Rattle.lsm_model.specs.declared.question.Question.{Question}
 use Rattle.lsm_model.specs.declared.question.Question.TheVariants.{Between, Prefix}
 use Rattle.lsm_parts.specs.Guards.{Pair, Item, pair_of}
 use Rattle.lsm_parts.specs.declared.tree_iter.End.{End}
-use Rattle.lsm_memtable.specs.declared.error.Error.{Error}
-use Rattle.lsm_memtable.specs.declared.error.Error.TheVariants.{OutOfMemory, SnapshotTooOld}
+use Rattle.lsm_below.specs.declared.error.Error.{Error}
+use Rattle.lsm_below.specs.declared.error.Error.TheVariants.{OutOfMemory, SnapshotTooOld}
 use Rattle.lsm_state.specs.Core.{Core, latest_of, older_of}
 use Rattle.lsm_state.specs.Ranges.{Ranges, Prefixes, IsListStep, PairAt}
 use Rattle.lsm_state.specs.ListSteps.{ListsAreSteps}

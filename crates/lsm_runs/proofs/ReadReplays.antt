@@ -22,8 +22,8 @@ use Rattle.lsm_parts.specs.Shown.{Shows}
 use Rattle.lsm_parts.specs.Ends.{EndShown}
 use Rattle.lsm_parts.specs.declared.tree_iter.End.{End}
 use Rattle.lsm_parts.specs.declared.tree_iter.End.TheVariants.{Front, Back}
-use Rattle.lsm_memtable.specs.declared.error.Error.{Error}
-use Rattle.lsm_memtable.specs.declared.error.Error.TheVariants.{OutOfMemory, SnapshotTooOld}
+use Rattle.lsm_below.specs.declared.error.Error.{Error}
+use Rattle.lsm_below.specs.declared.error.Error.TheVariants.{OutOfMemory, SnapshotTooOld}
 use Rattle.lsm_state.specs.Held.{entries_of}
 use Rattle.lsm_state.specs.Core.{Core, state_of, latest_of, older_of}
 use Rattle.lsm_state.specs.Calls.{Gives, live, value_size}

@@ -13,8 +13,8 @@ use Rattle.lsm_model.specs.declared.question.Answer.TheVariants.{Found, Pairs as
 use Rattle.lsm_parts.specs.Guards.{Pair, Item, pair_of}
 use Rattle.lsm_parts.specs.declared.tree_iter.End.{End}
 use Rattle.lsm_parts.specs.declared.tree_iter.End.TheVariants.{Front, Back}
-use Rattle.lsm_memtable.specs.declared.error.Error.{Error}
-use Rattle.lsm_memtable.specs.declared.error.Error.TheVariants.{OutOfMemory, SnapshotTooOld}
+use Rattle.lsm_below.specs.declared.error.Error.{Error}
+use Rattle.lsm_below.specs.declared.error.Error.TheVariants.{OutOfMemory, SnapshotTooOld}
 use Rattle.lsm_state.specs.Core.{Core, latest_of, older_of}
 use Rattle.lsm_state.specs.Calls.{Gives, GivesEntry, IsGetStep, value_size}
 use Rattle.lsm_state.specs.Ranges.{IsListStep, Numbers, TellsEmpty, PairAt}

@@ -12,8 +12,8 @@ use Rattle.lsm_model.specs.declared.op.Op.TheVariants.{Set as SetTo, Del, Weak}
 use Rattle.lsm_model.specs.declared.journal.JournalEntry.TheVariants.{Write as Wrote, Read}
 use Rattle.lsm_model.specs.declared.question.Question.TheVariants.{Between, Prefix as AskPrefix}
 use Rattle.lsm_parts.specs.declared.tree_iter.End.TheVariants.{Front, Back}
-use Rattle.lsm_memtable.specs.declared.error.Error.{Error}
-use Rattle.lsm_memtable.specs.declared.error.Error.TheVariants.{OutOfMemory, OutOfNumbers}
+use Rattle.lsm_below.specs.declared.error.Error.{Error}
+use Rattle.lsm_below.specs.declared.error.Error.TheVariants.{OutOfMemory, OutOfNumbers}
 use Rattle.lsm_state.specs.Held.{first_entries}
 use Rattle.lsm_state.specs.Core.{Core, state_of}
 use Rattle.lsm_state.specs.Calls.{Appends, WritesBatch, Rotates}

@@ -11,8 +11,8 @@ use Rattle.lsm_model.specs.declared.journal.JournalEntry.TheVariants.{Write}
 use Rattle.lsm_model.specs.Ops.{op_entries}
 use Rattle.lsm_model.specs.declared.op.Op.{Op}
 use Rattle.lsm_memtable.specs.Memtables.{SeenMemtable, entry_size}
-use Rattle.lsm_memtable.specs.declared.error.Error.{Error}
-use Rattle.lsm_memtable.specs.declared.error.Error.TheVariants.{OutOfMemory}
+use Rattle.lsm_below.specs.declared.error.Error.{Error}
+use Rattle.lsm_below.specs.declared.error.Error.TheVariants.{OutOfMemory}
 use Rattle.lsm_parts.specs.declared.config.Config.{Config}
 use Rattle.lsm_state.specs.Held.{entries_of, put_first, put_all_first, HasFirst, first_size}
 use Rattle.lsm_state.specs.Core.{Core, state_of, fresh_core, written_core, written_all, drawn_core}

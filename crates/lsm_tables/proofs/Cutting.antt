@@ -14,7 +14,8 @@ use Rattle.lsm_below.specs.Laws.{KeysAreOrdered, EntriesAreOrdered}
 use Rattle.lsm_below.specs.Sorted.{Rises}
 use Rattle.lsm_tables.specs.Image.{Fits, IsTable, image, entry_bytes}
 use Rattle.lsm_tables.specs.ImageReading.{rises, follows}
-use Rattle.lsm_tables.specs.Cutting.{capped, IsWritable, IsApart, IsFilled, HasNoEarlierEnd, IsCutting, AreImagesOf, IsFirstEnd}
+use Rattle.lsm_below.specs.Sums.{capped}
+use Rattle.lsm_tables.specs.Cutting.{IsWritable, IsApart, IsFilled, HasNoEarlierEnd, IsCutting, AreImagesOf, IsFirstEnd}
 use Rattle.lsm_tables.specs.Tables.{last_key}
 use Rattle.lsm_tables.proofs.Adjacent.{rises_found, rises_again, rises_push}
 use Rattle.lsm_tables.proofs.Covering.{below_first, upto_last, last_is}

@@ -12,7 +12,8 @@ use Rattle.byteorder.specs.Numbers.{little_number-reads_back, little_from-lt}
 use Rattle.lsm_tables.specs.declared.table_error.TableError.{TableError}
 use Rattle.lsm_tables.specs.declared.table_error.TableError.TheVariants.{OutOfMemory, BadTable}
 use Rattle.lsm_tables.specs.Reading.{◌>>=◌, many}
-use Rattle.lsm_tables.proofs.Spellings.{with_front, ends, IsBytes, IsBytes-drop, bind_ok, guard_then, guard_wants, ok_is, Takes, number_splits, Spells, many_takes, many_again}
+use Rattle.lsm_below.specs.Keys.{AreBytes}
+use Rattle.lsm_tables.proofs.Spellings.{with_front, ends, AreBytes-drop, bind_ok, guard_then, guard_wants, ok_is, Takes, number_splits, Spells, many_takes, many_again}
 use Rattle.lsm_below.specs.declared.value.InternalValue.{InternalValue}
 use Rattle.lsm_below.specs.declared.value_type.ValueType.{ValueType}
 use Rattle.lsm_below.specs.declared.value_type.ValueType.TheVariants.{Value, Tombstone, WeakTombstone}
@@ -48,7 +49,7 @@ record HeaderTakes (bytes : List ℕ) (h : Header) : Type 0 where
   pub seqno : h.seqno < 2 ^ 64
   pub value_len : h.value_len < 2 ^ 32
 
-header_takes : (bytes : List ℕ) (h : Header) → IsBytes bytes → 15 ≤ length bytes → header_at bytes ≡ Ok h → HeaderTakes bytes h
+header_takes : (bytes : List ℕ) (h : Header) → AreBytes bytes → 15 ≤ length bytes → header_at bytes ≡ Ok h → HeaderTakes bytes h
 unfolding header_at head
 header_takes bytes h fits long e =
     let a = bind_ok (type_of (slice_index bytes 10)) (λ kind. Ok (record { key_len = little_number 2 bytes; seqno = little_number 8 (drop 2 bytes); value_type = kind; value_len = little_number 4 (drop 11 bytes) })) h e in
@@ -57,12 +58,12 @@ header_takes bytes h fits long e =
     let n8 : ℕ = little_number 8 (drop 2 bytes) in
     let n4 : ℕ = little_number 4 (drop 11 bytes) in
     let s2 : bytes ≡ little_bytes 2 n2 ++ drop 2 bytes = number_splits 2 bytes (omega arith) fits in
-    let s8 : drop 2 bytes ≡ little_bytes 8 n8 ++ drop 10 bytes = number_splits 8 (drop 2 bytes) (omega (arith, length-drop 2 bytes)) (IsBytes-drop 2 bytes fits) ∙ ap (λ (r : List ℕ). little_bytes 8 n8 ++ r) (drop-drop 8 2 bytes) in
+    let s8 : drop 2 bytes ≡ little_bytes 8 n8 ++ drop 10 bytes = number_splits 8 (drop 2 bytes) (omega (arith, length-drop 2 bytes)) (AreBytes-drop 2 bytes fits) ∙ ap (λ (r : List ℕ). little_bytes 8 n8 ++ r) (drop-drop 8 2 bytes) in
     let s1 : drop 10 bytes ≡ type_code k ∷ drop 11 bytes = drop_more bytes 10 0 (omega arith) ∙ ap (λ (c : ℕ). c ∷ drop 11 bytes) (type_found (slice_index bytes 10) k a.1) in
-    let s4 : drop 11 bytes ≡ little_bytes 4 n4 ++ drop 15 bytes = number_splits 4 (drop 11 bytes) (omega (arith, length-drop 11 bytes)) (IsBytes-drop 11 bytes fits) ∙ ap (λ (r : List ℕ). little_bytes 4 n4 ++ r) (drop-drop 4 11 bytes) in
+    let s4 : drop 11 bytes ≡ little_bytes 4 n4 ++ drop 15 bytes = number_splits 4 (drop 11 bytes) (omega (arith, length-drop 11 bytes)) (AreBytes-drop 11 bytes fits) ∙ ap (λ (r : List ℕ). little_bytes 4 n4 ++ r) (drop-drop 4 11 bytes) in
     let whole : bytes ≡ head n2 n8 k n4 ++ drop 15 bytes = s2 ∙ ap (λ (r : List ℕ). little_bytes 2 n2 ++ r) (s8 ∙ ap (λ (r : List ℕ). little_bytes 8 n8 ++ r) (s1 ∙ ap (λ (r : List ℕ). type_code k ∷ r) s4)) in
     subst (λ (x : Header). HeaderTakes bytes x) (ok_is (header n2 n8 k n4) h a.2)
-    (record { parts = whole; key_len = little_from-lt 0 2 bytes fits; seqno = little_from-lt 0 8 (drop 2 bytes) (IsBytes-drop 2 bytes fits); value_len = little_from-lt 0 4 (drop 11 bytes) (IsBytes-drop 11 bytes fits) })
+    (record { parts = whole; key_len = little_from-lt 0 2 bytes fits; seqno = little_from-lt 0 8 (drop 2 bytes) (AreBytes-drop 2 bytes fits); value_len = little_from-lt 0 4 (drop 11 bytes) (AreBytes-drop 11 bytes fits) })
 
 header_again : (a b : ℕ) (k : ValueType) (d : ℕ) (rest : List ℕ) → a < 2 ^ 16 → b < 2 ^ 64 → d < 2 ^ 32 → header_at (head a b k d ++ rest) ≡ Ok (header a b k d)
 unfolding header_at head
@@ -91,14 +92,14 @@ may_again WeakTombstone v h = eq-eqb (length v) 0 (ap length (sym h))
 
 record BodyTakes (h : Header) (bytes : List ℕ) (x : InternalValue × List ℕ) : Type 0 where
   pub parts : bytes ≡ (x.0.key.user_key ++ x.0.value) ++ x.1
-  pub rest_fits : IsBytes x.1
+  pub rest_fits : AreBytes x.1
   pub key_len : h.key_len ≡ length x.0.key.user_key
   pub seqno : h.seqno ≡ x.0.key.seqno
   pub value_type : h.value_type ≡ x.0.key.value_type
   pub value_len : h.value_len ≡ length x.0.value
   pub empty : kept_value x.0.key.value_type x.0.value ≡ x.0.value
 
-body_takes : (h : Header) (bytes : List ℕ) (x : InternalValue × List ℕ) → IsBytes bytes → body_at h bytes ≡ Ok x → BodyTakes h bytes x
+body_takes : (h : Header) (bytes : List ℕ) (x : InternalValue × List ℕ) → AreBytes bytes → body_at h bytes ≡ Ok x → BodyTakes h bytes x
 unfolding body_at
 body_takes h bytes x fits e =
     let key : List ℕ = take h.key_len bytes in
@@ -113,7 +114,7 @@ body_takes h bytes x fits e =
     let l2 : length value ≡ h.value_len = omega (arith, length-take h.value_len behind, length-drop h.key_len bytes) in
     let whole : bytes ≡ (key ++ value) ++ rest = sym (append_assoc key value rest ∙ ap (λ (r : List ℕ). key ++ r) (take-append-drop h.value_len behind) ∙ take-append-drop h.key_len bytes) in
     subst (λ (y : InternalValue × List ℕ). BodyTakes h bytes y) (ok_is made x m.1)
-    (record { parts = whole; rest_fits = IsBytes-drop h.value_len behind (IsBytes-drop h.key_len bytes fits); key_len = sym l1; seqno = refl; value_type = refl; value_len = sym l2; empty = may_found h.value_type h.value_len value m.0 l2 })
+    (record { parts = whole; rest_fits = AreBytes-drop h.value_len behind (AreBytes-drop h.key_len bytes fits); key_len = sym l1; seqno = refl; value_type = refl; value_len = sym l2; empty = may_found h.value_type h.value_len value m.0 l2 })
 
 body_again : (e : InternalValue) (rest : List ℕ) → kept_value e.key.value_type e.value ≡ e.value → body_at (header (length e.key.user_key) e.key.seqno e.key.value_type (length e.value)) ((e.key.user_key ++ e.value) ++ rest) ≡ Ok (e, rest)
 unfolding body_at
@@ -124,14 +125,14 @@ body_again e rest h =
 
 -- ---- an entry
 
-spelled_takes : (bytes : List ℕ) (x : InternalValue × List ℕ) → IsBytes bytes → spelled_at bytes ≡ Ok x → Takes bytes (spelled x.0) x.1 × Fits x.0
+spelled_takes : (bytes : List ℕ) (x : InternalValue × List ℕ) → AreBytes bytes → spelled_at bytes ≡ Ok x → Takes bytes (spelled x.0) x.1 × Fits x.0
 unfolding spelled_at
 spelled_takes bytes x fits e =
     let g = guard_then (ltb (length bytes) 15) BadTable (header_at bytes >>= λ h. body_at h (drop 15 bytes)) x e in
     let long : 15 ≤ length bytes = ltb-false _ _ g.0 in
     let a = bind_ok (header_at bytes) (λ h. body_at h (drop 15 bytes)) x g.1 in
     let first = header_takes bytes a.0 fits long a.1 in
-    let second = body_takes a.0 (drop 15 bytes) x (IsBytes-drop 15 bytes fits) a.2 in
+    let second = body_takes a.0 (drop 15 bytes) x (AreBytes-drop 15 bytes fits) a.2 in
     let same : head a.0.key_len a.0.seqno a.0.value_type a.0.value_len ≡ head (length x.0.key.user_key) x.0.key.seqno x.0.key.value_type (length x.0.value) = rw (second.key_len, second.seqno, second.value_type, second.value_len) refl in
     let top : List ℕ = head (length x.0.key.user_key) x.0.key.seqno x.0.key.value_type (length x.0.value) in
     let whole : bytes ≡ (top ++ (x.0.key.user_key ++ x.0.value)) ++ x.1 =
@@ -177,14 +178,14 @@ front_again m c rest hm hc = record {
   cut = refl;
 }
 
-front_splits : (bytes : List ℕ) → IsBytes bytes → 20 ≤ length bytes → little_number 4 bytes ≡ 1414353740 → bytes ≡ front (little_number 8 (drop 4 bytes)) (little_number 8 (drop 12 bytes)) ++ drop 20 bytes
+front_splits : (bytes : List ℕ) → AreBytes bytes → 20 ≤ length bytes → little_number 4 bytes ≡ 1414353740 → bytes ≡ front (little_number 8 (drop 4 bytes)) (little_number 8 (drop 12 bytes)) ++ drop 20 bytes
 unfolding front
 front_splits bytes fits long magic =
     let m : ℕ = little_number 8 (drop 4 bytes) in
     let c : ℕ = little_number 8 (drop 12 bytes) in
     let s4 : bytes ≡ little_bytes 4 1414353740 ++ drop 4 bytes = number_splits 4 bytes (omega arith) fits ∙ ap (λ (n : ℕ). little_bytes 4 n ++ drop 4 bytes) magic in
-    let sm : drop 4 bytes ≡ little_bytes 8 m ++ drop 12 bytes = number_splits 8 (drop 4 bytes) (omega (arith, length-drop 4 bytes)) (IsBytes-drop 4 bytes fits) ∙ ap (λ (r : List ℕ). little_bytes 8 m ++ r) (drop-drop 8 4 bytes) in
-    let sc : drop 12 bytes ≡ little_bytes 8 c ++ drop 20 bytes = number_splits 8 (drop 12 bytes) (omega (arith, length-drop 12 bytes)) (IsBytes-drop 12 bytes fits) ∙ ap (λ (r : List ℕ). little_bytes 8 c ++ r) (drop-drop 8 12 bytes) in
+    let sm : drop 4 bytes ≡ little_bytes 8 m ++ drop 12 bytes = number_splits 8 (drop 4 bytes) (omega (arith, length-drop 4 bytes)) (AreBytes-drop 4 bytes fits) ∙ ap (λ (r : List ℕ). little_bytes 8 m ++ r) (drop-drop 8 4 bytes) in
+    let sc : drop 12 bytes ≡ little_bytes 8 c ++ drop 20 bytes = number_splits 8 (drop 12 bytes) (omega (arith, length-drop 12 bytes)) (AreBytes-drop 12 bytes fits) ∙ ap (λ (r : List ℕ). little_bytes 8 c ++ r) (drop-drop 8 12 bytes) in
     s4 ∙ ap (λ (r : List ℕ). little_bytes 4 1414353740 ++ r) (sm ∙ ap (λ (r : List ℕ). little_bytes 8 m ++ r) sc)
 
 some_found : (n : ℕ) → not (eqb n 0) ≡ true → 0 < n
@@ -194,7 +195,7 @@ some_found (suc n) h = omega arith
 some_again : (n : ℕ) → 0 < n → not (eqb n 0) ≡ true
 some_again n h = not_from_false (eqb n 0) (ne_eqb n 0 (λ (e : n ≡ 0). omega arith))
 
-pub image_takes : EntriesAreOrdered → (bytes : List ℕ) (x : ℕ × List InternalValue) → IsBytes bytes → image_at bytes ≡ Ok x → IsImageOf x.0 x.1 bytes
+pub image_takes : EntriesAreOrdered → (bytes : List ℕ) (x : ℕ × List InternalValue) → AreBytes bytes → image_at bytes ≡ Ok x → IsImageOf x.0 x.1 bytes
 unfolding image_at
 image_takes order bytes x fits e =
     let m : ℕ = little_number 8 (drop 4 bytes) in
@@ -208,12 +209,12 @@ image_takes order bytes x fits e =
     let ends = and_parts (eqb (length a.0.1) 0) (not (eqb (length a.0.0) 0)) both.0 in
     let nothing : a.0.1 ≡ [] = nil_from_length a.0.1 (eqb-true _ _ ends.0) in
     let first = front_splits bytes fits long (eqb-true _ _ t.0) in
-    let second = many_takes spelled_at spelled Fits entry_spells c (drop 20 bytes) a.0 (IsBytes-drop 20 bytes fits) a.1 in
+    let second = many_takes spelled_at spelled Fits entry_spells c (drop 20 bytes) a.0 (AreBytes-drop 20 bytes fits) a.1 in
     let rest : drop 20 bytes ≡ flat_map spelled a.0.0 = second.0.parts ∙ ap (λ (r : List ℕ). flat_map spelled a.0.0 ++ r) nothing ∙ append-nil (flat_map spelled a.0.0) in
     let whole : bytes ≡ image m a.0.0 = first ∙ ap (λ (r : List ℕ). front m c ++ r) rest ∙ ap (λ (n : ℕ). front m n ++ flat_map spelled a.0.0) (sym second.1) in
-    let below : c < 2 ^ 64 = little_from-lt 0 8 (drop 12 bytes) (IsBytes-drop 12 bytes fits) in
+    let below : c < 2 ^ 64 = little_from-lt 0 8 (drop 12 bytes) (AreBytes-drop 12 bytes fits) in
     subst (λ (y : ℕ × List InternalValue). IsImageOf y.0 y.1 bytes) (ok_is (m, a.0.0) x w.1)
-    (record { moment = little_from-lt 0 8 (drop 4 bytes) (IsBytes-drop 4 bytes fits); spelling = whole; table = record { some = some_found (length a.0.0) ends.1; count = omega (arith, second.1); each = second.2; rises = rises_found order a.0.0 both.1 } })
+    (record { moment = little_from-lt 0 8 (drop 4 bytes) (AreBytes-drop 4 bytes fits); spelling = whole; table = record { some = some_found (length a.0.0) ends.1; count = omega (arith, second.1); each = second.2; rises = rises_found order a.0.0 both.1 } })
 
 pub image_again : (m : ℕ) (es : List InternalValue) → m < 2 ^ 64 → IsTable es → image_at (image m es) ≡ Ok (m, es)
 unfolding image_at
@@ -245,7 +246,7 @@ pub images_first : (m n : ℕ) (es fs : List InternalValue) (a b x y : List ℕ)
 images_first m n es fs a b x y i j e =
     image_first m n es fs x y i.moment j.moment i.table j.table (ap (λ (s : List ℕ). s ++ x) (sym i.spelling) ∙ e ∙ ap (λ (s : List ℕ). s ++ y) j.spelling)
 
-pub is_read : EntriesAreOrdered → (bytes : List ℕ) (r : Result (ℕ × Vec InternalValue) TableError) → IsBytes bytes → Gives (λ x. contents x.0 x.1.items) r (image_at bytes) → IfOk r (λ x. IsImageOf x.0 x.1.items bytes)
+pub is_read : EntriesAreOrdered → (bytes : List ℕ) (r : Result (ℕ × Vec InternalValue) TableError) → AreBytes bytes → Gives (λ x. contents x.0 x.1.items) r (image_at bytes) → IfOk r (λ x. IsImageOf x.0 x.1.items bytes)
 is_read order bytes (Ok x) fits given = image_takes order bytes (x.0, x.1.items) fits given
 is_read order bytes (Err e) fits given = tt
 

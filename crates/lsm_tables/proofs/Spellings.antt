@@ -7,16 +7,14 @@ use Rattle.std.proofs.lemmas.List.{append-nil, take-append-drop, get_or-drop}
 use Rattle.std.proofs.lemmas.List.Concat.{flat_map-cons}
 use Rattle.byteorder.specs.Endian.{little_from, little_number, little_bytes}
 use Rattle.byteorder.specs.Numbers.{little_from-cons}
+use Rattle.lsm_below.specs.Keys.{AreBytes}
 use Rattle.lsm_tables.specs.Reading.{◌>>=◌, many}
 
-abbrev pub IsBytes : List ℕ → Type 0
-IsBytes bytes = (i : ℕ) → get_or bytes i 0 < 256
+pub AreBytes-drop : (n : ℕ) (bytes : List ℕ) → AreBytes bytes → AreBytes (drop n bytes)
+AreBytes-drop n bytes h i = rw get_or-drop (h (n + i))
 
-pub IsBytes-drop : (n : ℕ) (bytes : List ℕ) → IsBytes bytes → IsBytes (drop n bytes)
-IsBytes-drop n bytes h i = rw get_or-drop (h (n + i))
-
-pub IsBytes-rest : (b : ℕ) (bytes : List ℕ) → IsBytes (b ∷ bytes) → IsBytes bytes
-IsBytes-rest b bytes h i = h (suc i)
+pub AreBytes-rest : (b : ℕ) (bytes : List ℕ) → AreBytes (b ∷ bytes) → AreBytes bytes
+AreBytes-rest b bytes h i = h (suc i)
 
 -- the value of a step that did not fail
 pub bind_ok : {A B E : Type 0} (r : Result A E) (f : A → Result B E) (y : B) → (r >>= f) ≡ Ok y → (x : A) × (r ≡ Ok x) × (f x ≡ Ok y)
@@ -41,7 +39,7 @@ ok_is x y e = cc
 -- what a reader took from the front
 pub record Takes (bytes text rest : List ℕ) : Type 0 where
   pub parts : bytes ≡ text ++ rest
-  pub rest_fits : IsBytes rest
+  pub rest_fits : AreBytes rest
 
 pub Takes-then : (a x b y c : List ℕ) → Takes a x b → Takes b y c → Takes a (x ++ y) c
 Takes-then a x b y c p q = record { parts = p.parts ∙ ap (λ (t : List ℕ). x ++ t) q.parts ∙ sym (append_assoc x y c); rest_fits = q.rest_fits }
@@ -63,13 +61,13 @@ bytes_above j zero x = refl
 bytes_above j (suc n) x = rw (byte_above j x, bytes_above (suc j) n x) refl
 
 -- the bytes of the number that bytes spell are those bytes
-pub number_back : (n : ℕ) (bytes : List ℕ) → n ≤ length bytes → IsBytes bytes → little_bytes n (little_number n bytes) ≡ take n bytes
+pub number_back : (n : ℕ) (bytes : List ℕ) → n ≤ length bytes → AreBytes bytes → little_bytes n (little_number n bytes) ≡ take n bytes
 number_back zero bytes le fits = refl
 number_back (suc n) [] le fits = absurd (omega arith)
 number_back (suc n) (b ∷ bytes) le fits =
     let small : b < 256 = fits 0 in
     let high = little_from-cons 0 n b bytes in
-    let ih = number_back n bytes (omega arith) (IsBytes-rest b bytes fits) in
+    let ih = number_back n bytes (omega arith) (AreBytes-rest b bytes fits) in
     let y : ℕ = b + 256 * little_from 0 n bytes in
     let low : y % 256 ≡ b = omega arith in
     let up : y / 256 ≡ little_from 0 n bytes = omega arith in
@@ -77,18 +75,18 @@ number_back (suc n) (b ∷ bytes) le fits =
     ap (λ (h : ℕ). bytes_low_first 0 (suc n) (b + 256 * h)) high ∙ split
 
 -- the bytes are those of the number, and the rest
-pub number_splits : (n : ℕ) (bytes : List ℕ) → n ≤ length bytes → IsBytes bytes → bytes ≡ little_bytes n (little_number n bytes) ++ drop n bytes
+pub number_splits : (n : ℕ) (bytes : List ℕ) → n ≤ length bytes → AreBytes bytes → bytes ≡ little_bytes n (little_number n bytes) ++ drop n bytes
 number_splits n bytes le fits = rw (number_back n bytes le fits) (sym (take-append-drop n bytes))
 
 -- ---- what stands so many times
 
 -- a reader and the spelling of what it reads
 pub record Spells {A E : Type 0} (read : List ℕ → Result (A × List ℕ) E) (text : A → List ℕ) (Fits : A → Type 0) : Type 0 where
-  pub takes : (bytes : List ℕ) (x : A × List ℕ) → IsBytes bytes → read bytes ≡ Ok x → Takes bytes (text x.0) x.1 × Fits x.0
+  pub takes : (bytes : List ℕ) (x : A × List ℕ) → AreBytes bytes → read bytes ≡ Ok x → Takes bytes (text x.0) x.1 × Fits x.0
   pub again : (a : A) (rest : List ℕ) → Fits a → read (text a ++ rest) ≡ Ok (a, rest)
 
 pub many_takes : {A E : Type 0} (read : List ℕ → Result (A × List ℕ) E) (text : A → List ℕ) (Fits : A → Type 0) → Spells read text Fits
-    → (n : ℕ) (bytes : List ℕ) (x : List A × List ℕ) → IsBytes bytes → many read n bytes ≡ Ok x → Takes bytes (flat_map text x.0) x.1 × (length x.0 ≡ n) × AllByRecursion Fits x.0
+    → (n : ℕ) (bytes : List ℕ) (x : List A × List ℕ) → AreBytes bytes → many read n bytes ≡ Ok x → Takes bytes (flat_map text x.0) x.1 × (length x.0 ≡ n) × AllByRecursion Fits x.0
 unfolding many
 many_takes {A} {E} read text Fits s zero bytes x fits e =
     subst (λ (y : List A × List ℕ). Takes bytes (flat_map text y.0) y.1 × (length y.0 ≡ 0) × AllByRecursion Fits y.0) (ok_is ([], bytes) x e) (record { parts = refl; rest_fits = fits }, refl, tt)

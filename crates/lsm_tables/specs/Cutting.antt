@@ -1,5 +1,5 @@
 -- How a list of entries is cut into tables.
-use Rattle.std.specs.Prelude.{◌≡◌, ℕ, ◌-◌, ◌^◌, ◌<◌, ◌≤◌, min, false, List, [], ◌∷◌, ◌++◌, length, take, map, slice_index_or}
+use Rattle.std.specs.Prelude.{◌≡◌, ℕ, ◌-◌, ◌<◌, ◌≤◌, false, List, [], ◌∷◌, ◌++◌, length, take, map, slice_index_or}
 use Rattle.std.specs.List.{AllByRecursion, flat_map}
 use Rattle.lsm_below.specs.Keys.{Bytes}
 use Rattle.lsm_below.specs.Entries.{Entry, entry_cmp}
@@ -47,10 +47,6 @@ pub record AreImagesOf (target made_at : ℕ) (es : List Entry) (images : List B
   pub cut : IsCutting target es tables
   pub each : AllByRecursion IsTable tables
   pub spelled : images ≡ map (image made_at) tables
-
--- a sum that stands at the greatest number
-abbrev pub capped : ℕ → ℕ
-capped n = min n (2 ^ 64 - 1)
 
 -- where the first table of a list ends
 pub record IsFirstEnd (target : ℕ) (es : List Entry) (end : ℕ) : Type 0 where

@@ -1,6 +1,7 @@
 // Entries cut into tables.
 ghost use Rattle.std.specs.Prelude.{◌≡◌, ◌+◌, ◌++◌, ◌∷◌, [], ◌<◌, ◌↔◌, map, length, IfOk, IfErr, OnOk, OnErr, IsTrue};
-ghost use Rattle.lsm_tables.specs.Cutting.{IsWritable, IsFirstEnd, AreImagesOf, CutsAreRuns, capped};
+ghost use Rattle.lsm_below.specs.Sums.{capped};
+ghost use Rattle.lsm_tables.specs.Cutting.{IsWritable, IsFirstEnd, AreImagesOf, CutsAreRuns};
 
 use crate::image::{HEAD_LEN, encode, may_stand_behind};
 use lsm_below::{InternalValue, entries_are_ordered, has_same_key, keys_are_ordered};

@@ -17,11 +17,11 @@ mod shared_tree;
 
 pub use handle::{Handle, RecordedTree, Tree};
 pub use lsm_below::{
-    CompactionStream, InternalKey, InternalValue, KeyRange, KvPair, ListSource, MemtableId, Merger,
+    CompactionStream, Error, InternalKey, InternalValue, KeyRange, KvPair, ListSource, MemtableId, Merger,
     MvccStream, Ranged, Run, SeqNo, Source, TableId, TreeId, UserKey, UserValue, ValueType,
     compact, entries_within, first_visible, has_same_key, is_run, optimize_runs, share,
 };
-pub use lsm_memtable::{Error, Iter, Memtable, Span, Steps};
+pub use lsm_memtable::{Iter, Memtable, Span, Steps};
 pub use lsm_model::{Answer, JournalEntry, KeyRanges, KvPairs, Op, Ops, Question};
 pub use lsm_parts::{
     Config, DEFAULT_LEVEL_COUNT, End, Guard, IterGuard, IterState, LIMIT, RangeItem,

@@ -1,7 +1,7 @@
 use Rattle.std.proofs.Common.{◌∷◌, [], subst, sym, arith, append_assoc}
 use Rattle.std.specs.List.{All}
+use Rattle.lsm_below.specs.Entries.{HasBytes}
 use Rattle.std.proofs.lemmas.List.Elements.{All-append, All-cons, All-nil}
-use Rattle.lsm_parts.specs.Prefixes.{HasBytes}
 use Rattle.lsm_parts.proofs.tree_iter.values_of.Goals as goal
 
 pub loop-list-preserved-in-Continue-1 : goal.loop-list-preserved-in-Continue-1

@@ -1,7 +1,6 @@
 use Rattle.std.proofs.Common.{◌≡◌, ◌++◌, filter, length}
 use Rattle.std.specs.List.{All}
-use Rattle.lsm_below.specs.Entries.{is_value}
-use Rattle.lsm_parts.specs.Prefixes.{HasBytes}
+use Rattle.lsm_below.specs.Entries.{is_value, HasBytes}
 use Rattle.lsm_parts.proofs.tree_iter.values_of.Given as goal
 
 abbrev pub invariant-loop-list : goal.invariant-loop-list

@@ -2,7 +2,7 @@ use Rattle.std.proofs.Common.{◌≡◌, ℕ, ◌<◌, ◌≤◌, ◌-◌, false
 use Rattle.lsm_below.specs.Entries.{Entry}
 use Rattle.lsm_below.specs.Slots.{same_key}
 use Rattle.lsm_tables.specs.Image.{entry_bytes}
-use Rattle.lsm_tables.specs.Cutting.{capped}
+use Rattle.lsm_below.specs.Sums.{capped}
 use Rattle.lsm_tables.proofs.multi_writer.first_end.Given as goal
 
 abbrev pub invariant-loop-end : goal.invariant-loop-end

@@ -1,6 +1,7 @@
 use Rattle.std.proofs.Common.{◌<◌, ◌-◌, length, map, get_or, subst, ap, ◌∙◌, arith, sym}
 use Rattle.std.specs.List.{All}
-use Rattle.lsm_memtable.specs.Heads.{entry_head, HasBytes, IsBody}
+use Rattle.lsm_below.specs.Entries.{HasBytes}
+use Rattle.lsm_memtable.specs.Heads.{entry_head, IsBody}
 use Rattle.lsm_memtable.proofs.Heads.{last_read, head_ahead, head_behind}
 use Rattle.lsm_memtable.proofs.block.Block.is_last_ahead.Goals as goal
 

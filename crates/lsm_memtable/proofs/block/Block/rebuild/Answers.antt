@@ -1,6 +1,7 @@
 use Rattle.std.proofs.Common.{◌+◌, ◌-◌, get_or, min, length, subst, ap, ◌∙◌, sym}
 use Rattle.std.specs.List.{insert}
-use Rattle.lsm_memtable.specs.Heads.{key_head, IsBytes, IsBody}
+use Rattle.lsm_below.specs.Keys.{AreBytes}
+use Rattle.lsm_memtable.specs.Heads.{key_head, IsBody}
 use Rattle.lsm_memtable.proofs.Heads.{heads_lower, heads_upper, bytes_dealt}
 use Rattle.lsm_memtable.proofs.block.Block.rebuild.Goals as goal
 
@@ -14,7 +15,7 @@ returns-clause-sound c =
     let entries = c.spread-2.ensures.items ∙ ap (λ l. insert l c.args.place e) (ap (λ v. v.items) c.replace-old_entries.ensures.value) in
     let heads_len = c.spread.ensures.len ∙ ap (λ l. min c.args.keep (length l + 1)) (ap (λ v. v.items) c.replace-old_heads.ensures.value) in
     let len = c.spread-2.ensures.len ∙ ap (λ l. min c.args.keep (length l + 1)) (ap (λ v. v.items) c.replace-old_entries.ensures.value) in
-    let own = subst (λ k. IsBytes k) c.as_slice.ensures c.head_of-head.ensures.bytes in
+    let own = subst (λ k. AreBytes k) c.as_slice.ensures c.head_of-head.ensures.bytes in
     let parts = bytes_dealt xs c.deref_mut-body.result.now.heads.items c.args.place c.args.keep c.head_of-head.result e c.spread.new.lower.items c.spread.new.upper.items c.spread-2.new.lower.items c.spread-2.new.upper.items i.0.0 head heads entries heads_len len i.0.1 own in
     ((heads_upper xs c.deref_mut-body.result.now.heads.items c.args.place c.args.keep c.head_of-head.result e c.spread.new.lower.items c.spread.new.upper.items c.spread-2.new.lower.items c.spread-2.new.upper.items i.0.0 head heads entries heads_len len, parts.1), c.last_of.ensures ∙ ap (λ l. get_or l (length l - 1) 0) c.deref-3.ensures.value)
 
@@ -28,6 +29,6 @@ invariant_of-self c =
     let entries = c.spread-2.ensures.items ∙ ap (λ l. insert l c.args.place e) (ap (λ v. v.items) c.replace-old_entries.ensures.value) in
     let heads_len = c.spread.ensures.len ∙ ap (λ l. min c.args.keep (length l + 1)) (ap (λ v. v.items) c.replace-old_heads.ensures.value) in
     let len = c.spread-2.ensures.len ∙ ap (λ l. min c.args.keep (length l + 1)) (ap (λ v. v.items) c.replace-old_entries.ensures.value) in
-    let own = subst (λ k. IsBytes k) c.as_slice.ensures c.head_of-head.ensures.bytes in
+    let own = subst (λ k. AreBytes k) c.as_slice.ensures c.head_of-head.ensures.bytes in
     let parts = bytes_dealt xs c.deref_mut-body.result.now.heads.items c.args.place c.args.keep c.head_of-head.result e c.spread.new.lower.items c.spread.new.upper.items c.spread-2.new.lower.items c.spread-2.new.upper.items i.0.0 head heads entries heads_len len i.0.1 own in
     ((heads_lower xs c.deref_mut-body.result.now.heads.items c.args.place c.args.keep c.head_of-head.result e c.spread.new.lower.items c.spread.new.upper.items c.spread-2.new.lower.items c.spread-2.new.upper.items i.0.0 head heads entries heads_len len, parts.0), c.last_of-body.ensures ∙ ap (λ l. get_or l (length l - 1) 0) c.deref-2.ensures.value)

@@ -1,6 +1,7 @@
 use Rattle.std.proofs.Common.{map, subst, sym, ap, ◌∙◌, get_or, length, ◌-◌}
 use Rattle.std.specs.List.{All, remove}
-use Rattle.lsm_memtable.specs.Heads.{entry_head, HasBytes, IsBody}
+use Rattle.lsm_below.specs.Entries.{HasBytes}
+use Rattle.lsm_memtable.specs.Heads.{entry_head, IsBody}
 use Rattle.lsm_memtable.proofs.Heads.{map_remove, All_remove}
 use Rattle.lsm_memtable.proofs.block.Block.remove.Goals as goal
 

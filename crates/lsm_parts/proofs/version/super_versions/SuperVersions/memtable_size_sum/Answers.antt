@@ -2,7 +2,8 @@ use Rattle.std.proofs.Common.{rules, tests, ◌+◌, filter, ◌∙◌}
 use Rattle.std.proofs.lemmas.Iterator.{YieldsList-from_slice}
 use Rattle.std.proofs.lemmas.Iterator.Consumers.{YieldsList-at, YieldsList-from_filter, fold_from_yields_List}
 use Rattle.std.specs.List.{list_any}
-use Rattle.lsm_memtable.specs.Memtables.{SeenMemtable, capped}
+use Rattle.lsm_below.specs.Sums.{capped}
+use Rattle.lsm_memtable.specs.Memtables.{SeenMemtable}
 use Rattle.lsm_parts.specs.History.{names, versions_of}
 use Rattle.lsm_parts.proofs.Histories.{fold-capped}
 use Rattle.lsm_parts.proofs.version.super_versions.SuperVersions.memtable_size_sum.Goals as goal

@@ -1,7 +1,7 @@
 // What a call refuses, and why.
-ghost use Rattle.std.specs.Prelude.{◌≡◌, ◌≤◌};
-ghost use Rattle.lsm_memtable.specs.Errors.{number_of, name_of};
-ghost use Rattle.lsm_memtable.specs.declared.error.Error.TheVariants.{OutOfMemory};
+ghost use Rattle.std.specs.Prelude.{◌≡◌};
+ghost use Rattle.lsm_below.specs.Errors.{number_of, name_of};
+ghost use Rattle.lsm_below.specs.declared.error.Error.TheVariants.{OutOfMemory};
 
 use std::alloc::{AllocError, AllocFailed};
 use thiserror::Error;

@@ -1,7 +1,7 @@
 -- Errors and their numbers.
 use Rattle.std.specs.Prelude.{ℕ, List, codes}
-use Rattle.lsm_memtable.specs.declared.error.Error.{Error}
-use Rattle.lsm_memtable.specs.declared.error.Error.TheVariants.{OutOfMemory, Store, CommitUnknown, Unrecoverable, InvalidVersion, InvalidTag, InvalidHeader, SnapshotTooOld, OutOfNumbers, KeyTooLong, ValueTooLong, NumberTooGreat, FlushOpen, TooManyRuns, NotDisjoint, Busy, AfterCommit, OutOfOrder, DuplicateKey, ChecksumMismatch, Strategy}
+use Rattle.lsm_below.specs.declared.error.Error.{Error}
+use Rattle.lsm_below.specs.declared.error.Error.TheVariants.{OutOfMemory, Store, CommitUnknown, Unrecoverable, InvalidVersion, InvalidTag, InvalidHeader, SnapshotTooOld, OutOfNumbers, KeyTooLong, ValueTooLong, NumberTooGreat, FlushOpen, TooManyRuns, NotDisjoint, Busy, AfterCommit, OutOfOrder, DuplicateKey, ChecksumMismatch, Strategy}
 
 -- the number by which an error is told
 abbrev pub number_of : Error → ℕ
