@@ -8,7 +8,7 @@ ghost use Rattle.lsm_below.specs.Sorted.{Rises};
 ghost use Rattle.lsm_below.specs.Lookups.{stands_before};
 ghost use Rattle.lsm_below.specs.Sums.{capped};
 ghost use Rattle.lsm_below.specs.Keys.{AreBytes};
-ghost use Rattle.lsm_memtable.specs.Heads.{key_head, IsBody};
+ghost use Rattle.lsm_memtable.specs.Heads.{key_head, AreHeads};
 ghost use Rattle.lsm_memtable.specs.Blocks.{CountsDigits};
 
 use crate::Steps;
@@ -28,31 +28,31 @@ const HALF: usize = 32;
 /// For how many more entries a block has room when it was made or has grown.
 const STEP: usize = 8;
 
-/// Entries in order. It is a pointer, so that a list of blocks with one more moves 8 bytes for each block behind.
+/// Entries in order. The head of the last one's key is all that a search among blocks reads of most, so it stands in the
+/// list of blocks itself; what else a block has lies behind a pointer, so that a list with one more moves little.
 #[derive(Drop)]
 pub(crate) struct Block {
+    last: u128,
     body: Box<Body>,
 }
 
-/// Entries in order, and the head of each one's key, which most comparisons need alone. The last head stands
-/// beside them, since a search among blocks needs nothing else of most.
+/// Entries in order, and the head of each one's key, which most comparisons need alone.
 #[derive(Drop)]
 struct Body {
-    last: u128,
     heads: Vec<u128>,
     entries: Vec<InternalValue>,
 }
 
 impl Model for Block {
-    ghost use Rattle.std.specs.Prelude.{List};
+    ghost use Rattle.std.specs.Prelude.{◌≡◌, ◌-◌, List, length, slice_index_or};
     ghost use Rattle.lsm_below.specs.declared.value.InternalValue.{InternalValue};
-    ghost use Rattle.lsm_memtable.specs.Heads.{IsBody};
+    ghost use Rattle.lsm_memtable.specs.Heads.{AreHeads};
 
     ghost Value = { List InternalValue };
 
     ghost view = { λ b. b.body.value.entries.items };
 
-    ghost invariant = { λ b. IsBody b.body.value };
+    ghost invariant = { λ b. AreHeads b.body.value.heads.items b.body.value.entries.items × (b.last ≡ slice_index_or b.body.value.heads.items (length b.body.value.heads.items - 1) 0) };
 }
 
 /// The last head, 0 where there is none.
@@ -105,14 +105,8 @@ impl Block {
         let last = head_of(entry.key.user_key.as_slice());
         heads.push(last).unwrap();
         entries.push(entry).unwrap();
-        let body = Body {
-            last,
-            heads,
-            entries,
-        };
-        Ok(Block {
-            body: Box::new(alloc, body)?,
-        })
+        let body = Box::new(alloc, Body { heads, entries })?;
+        Ok(Block { last, body })
     }
 
     pub(crate) fn len(&self) -> usize
@@ -177,16 +171,15 @@ impl Block {
         ensures moved { steps.new.moved ≡ steps.old.moved }
     {
         steps.tick_compared();
-        let body = &*self.body;
-        let last = body.last;
+        let last = self.last;
         if last < head {
             return true;
         }
         if head < last {
             return false;
         }
-        let at = body.entries.len() - 1;
-        stands_ahead(&body.entries[at], key, number)
+        let at = self.body.entries.len() - 1;
+        stands_ahead(&self.body.entries[at], key, number)
     }
 
     /// How many entries come before each entry of the key with a sequence number below this.
@@ -229,7 +222,7 @@ impl Block {
     {
         let body = &mut *self.body;
         body.heads[place] = head_of(entry.key.user_key.as_slice());
-        body.last = last_of(&body.heads);
+        self.last = last_of(&body.heads);
         mem::replace(&mut body.entries[place], entry)
     }
 
@@ -240,7 +233,7 @@ impl Block {
     {
         let body = &mut *self.body;
         body.heads.remove(place);
-        body.last = last_of(&body.heads);
+        self.last = last_of(&body.heads);
         let taken = body.entries.remove(place);
         drop(taken);
     }
@@ -270,7 +263,7 @@ impl Block {
                 .insert(place, head_of(entry.key.user_key.as_slice()))
                 .unwrap();
             body.entries.insert(place, entry).unwrap();
-            body.last = last_of(&body.heads);
+            self.last = last_of(&body.heads);
             return Ok(());
         }
         let room = (len + STEP).min(MOST);
@@ -296,13 +289,13 @@ impl Block {
         ensures compared { steps.new.compared ≡ steps.old.compared }
     {
         let nothing = Body {
-            last: 0,
             heads: Vec::new(alloc),
             entries: Vec::new(alloc),
         };
-        let mut upper = Box::new(alloc, nothing)?;
-        *upper = self.rebuild(alloc, HALF, HALF + STEP, place, entry, steps)?;
-        Ok(Block { body: upper })
+        let mut body = Box::new(alloc, nothing)?;
+        *body = self.rebuild(alloc, HALF, HALF + STEP, place, entry, steps)?;
+        let last = last_of(&body.heads);
+        Ok(Block { last, body })
     }
 
     /// Puts the entry at a place: all entries move once, the first ones to new vectors with this room, up to
@@ -321,7 +314,7 @@ impl Block {
         requires keep { keep ≤ room }
         requires room { length self.old + 1 ≤ keep + room }
         ensures ok { IfOk result (λ rest. (self.new ++ rest.entries.items ≡ insert self.old place entry) × (length self.new ≡ min keep (length self.old + 1))) }
-        ensures sound { IfOk result (λ rest. IsBody rest) }
+        ensures heads { IfOk result (λ rest. AreHeads rest.heads.items rest.entries.items) }
         ensures counted { OnOk result (steps.new.moved ≡ capped (steps.old.moved + length self.old)) }
         ensures err { OnErr result ((self.new ≡ self.old) × (steps.new ≡ steps.old)) }
         ensures moved { steps.new.moved ≤ steps.old.moved + length self.old }
@@ -340,11 +333,10 @@ impl Block {
         spread(old_heads, place, head, &mut heads, keep, &mut upper_heads);
         let old_entries = mem::replace(&mut body.entries, Vec::new(alloc));
         spread(old_entries, place, entry, &mut entries, keep, &mut upper);
-        body.last = last_of(&heads);
+        self.last = last_of(&heads);
         body.heads = heads;
         body.entries = entries;
         Ok(Body {
-            last: last_of(&upper_heads),
             heads: upper_heads,
             entries: upper,
         })
