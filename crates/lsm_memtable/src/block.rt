@@ -3,12 +3,12 @@ ghost use Rattle.std.specs.Prelude.{◌≡◌, ℕ, ◌+◌, ◌-◌, ◌<◌, �
 ghost use Rattle.std.specs.List.{insert, remove};
 ghost use Rattle.std.specs.Ordering.{is_eq};
 ghost use Rattle.lsm_below.specs.declared.value.InternalValue.{InternalValue};
-ghost use Rattle.lsm_below.specs.Entries.{entry_cmp, key_cmp};
+ghost use Rattle.lsm_below.specs.Entries.{entry_cmp, key_cmp, HasBytes};
 ghost use Rattle.lsm_below.specs.Sorted.{Rises};
 ghost use Rattle.lsm_below.specs.Lookups.{stands_before};
 ghost use Rattle.lsm_below.specs.Sums.{capped};
 ghost use Rattle.lsm_below.specs.Keys.{AreBytes};
-ghost use Rattle.lsm_memtable.specs.Heads.{key_head, AreHeads};
+ghost use Rattle.lsm_memtable.specs.Heads.{key_head, entry_head, AreHeads};
 ghost use Rattle.lsm_memtable.specs.Blocks.{CountsDigits};
 
 use crate::Steps;
@@ -24,6 +24,9 @@ pub(crate) const MOST: usize = 64;
 
 /// How many entries a full block keeps at least when it is split.
 const HALF: usize = 32;
+
+/// How many bytes of a key its head holds.
+const HEAD: usize = 16;
 
 /// For how many more entries a block has room when it was made or has grown.
 const STEP: usize = 8;
@@ -78,17 +81,25 @@ pub(crate) fn head_of(key: &[u8]) -> u128
     ensures bytes { AreBytes key.now }
 {
     let mut head: u128 = 0;
-    for place in 0..16usize {
+    for place in 0..HEAD {
         head = head * 256 + byte_at(key, place) as u128;
     }
     head
 }
 
-/// Whether the entry comes before each entry of the key with a sequence number below this.
+/// Whether the entry comes before each entry of the key with a sequence number below this. Their keys have one head, so
+/// that two of one length which the head holds whole are the same, and no byte of them is read.
 fn stands_ahead(entry: &InternalValue, key: &[u8], number: u128) -> bool
+    requires own { HasBytes entry.now }
+    requires bytes { AreBytes key.now }
+    requires head { entry_head entry.now ≡ key_head key.now }
     ensures { result ≡ stands_before key.now number entry.now }
 {
-    match entry.key.user_key.as_slice().cmp(key) {
+    let own = entry.key.user_key.as_slice();
+    if own.len() == key.len() && key.len() <= HEAD {
+        return entry.key.seqno as u128 >= number;
+    }
+    match own.cmp(key) {
         Ordering::Less => true,
         Ordering::Equal => entry.key.seqno as u128 >= number,
         Ordering::Greater => false,
