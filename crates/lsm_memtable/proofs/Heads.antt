@@ -1,9 +1,10 @@
 -- What heads say of keys.
-use Rattle.std.proofs.Common.{◌≡◌, ℕ, zero, suc, ◌+◌, ◌-◌, ◌*◌, ◌^◌, ◌<◌, ◌++◌, min, subst, true, false, nat_le, List, [], ◌∷◌, length, get_or, take, drop, map, refl, sym, ◌∙◌, ap, arith, inl, inr, ◌⊎◌, add-one}
+use Rattle.std.proofs.Common.{◌≡◌, ℕ, zero, suc, ◌+◌, ◌-◌, ◌*◌, ◌^◌, ◌<◌, ◌≤◌, ◌++◌, min, subst, true, false, nat_le, List, [], ◌∷◌, length, get_or, take, drop, map, refl, sym, ◌∙◌, ap, arith, inl, inr, ◌⊎◌, add-one}
 use Rattle.std.specs.List.{All, insert, remove}
 use Rattle.std.specs.Ordering.{nat_cmp, ordering_then, ordering_reverse}
 use Rattle.std.specs.Cmp.Lexicographic.{slice_cmp}
-use Rattle.std.specs.declared.cmp.Ordering.TheVariants.{Less, Equal}
+use Rattle.std.specs.declared.cmp.Ordering.{Ordering}
+use Rattle.std.specs.declared.cmp.Ordering.TheVariants.{Less, Equal, Greater}
 use Rattle.std.proofs.Math.Nat.{pow-suc, pow-le-pow_right}
 use Rattle.std.proofs.lemmas.Bool.{cases_lt}
 use Rattle.std.proofs.lemmas.Bool.Decides.{nat_tests}
@@ -72,6 +73,35 @@ head_ahead e key s he hk lt = sym (ap (λ o. by_ordering o true (nat_le s e.key.
 
 pub head_behind : (e : InternalValue) (key : List ℕ) (s : ℕ) → HasBytes e → AreBytes key → key_head key < key_head e.key.user_key → false ≡ stands_before key s e
 head_behind e key s he hk lt = sym (ap (λ o. by_ordering o true (nat_le s e.key.seqno) false) (nat_list_cmp_total.antisymm e.key.user_key key ∙ ap ordering_reverse (head_less key e.key.user_key hk he lt)))
+
+-- keys of one length which their equal numbers hold whole
+same_keys : (n a b : ℕ) (xs ys : List ℕ) → AreBytes xs → AreBytes ys → length xs ≡ length ys → length ys ≤ n → head_from a n xs ≡ head_from b n ys → (a ≡ b) × (xs ≡ ys)
+unfolding head_from
+same_keys zero a b [] [] hx hy len le e = (e, refl)
+same_keys zero a b [] (y ∷ ys) hx hy len le e = absurd (omega arith)
+same_keys zero a b (x ∷ xs) ys hx hy len le e = absurd (omega arith)
+same_keys (suc n) a b [] [] hx hy len le e = let h = (same_keys n (a * 256) (b * 256) [] [] hx hy refl (omega arith) e).0 in (omega arith, refl)
+same_keys (suc n) a b [] (y ∷ ys) hx hy len le e = absurd (omega arith)
+same_keys (suc n) a b (x ∷ xs) [] hx hy len le e = absurd (omega arith)
+same_keys (suc n) a b (x ∷ xs) (y ∷ ys) hx hy len le e =
+    let x_in : x < 256 = hx 0 in
+    let y_in : y < 256 = hy 0 in
+    let h = same_keys n (a * 256 + x) (b * 256 + y) xs ys (λ i. hx (suc i)) (λ i. hy (suc i)) (omega arith) (omega arith) e in
+    let start = h.0 in
+    let first : x ≡ y = omega arith in
+    (omega arith, ap (λ z. z ∷ xs) first ∙ ap (λ l. y ∷ l) h.1)
+
+its_own_reverse : (o : Ordering) → o ≡ ordering_reverse o → o ≡ Equal
+its_own_reverse Less e = absurd (cc e)
+its_own_reverse Equal e = refl
+its_own_reverse Greater e = absurd (cc e)
+
+-- the entry's key is this one, so that its number decides
+pub head_same : (e : InternalValue) (key : List ℕ) (s : ℕ) → HasBytes e → AreBytes key → entry_head e ≡ key_head key → length e.key.user_key ≡ length key → length key ≤ 16 → nat_le s e.key.seqno ≡ stands_before key s e
+head_same e key s he hk head len le =
+    let same = (same_keys 16 0 0 e.key.user_key key he hk len le head).1 in
+    let tie = ap (λ k. slice_cmp nat_cmp k key) same ∙ its_own_reverse (slice_cmp nat_cmp key key) (nat_list_cmp_total.antisymm key key) in
+    sym (ap (λ o. by_ordering o true (nat_le s e.key.seqno) false) tie)
 
 here : (a n x : ℕ) (xs : List ℕ) → head_from a (suc n) (x ∷ xs) ≡ head_from (a * 256 + x) n xs
 unfolding head_from

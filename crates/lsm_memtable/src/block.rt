@@ -3,12 +3,12 @@ ghost use Rattle.std.specs.Prelude.{◌≡◌, ℕ, ◌+◌, ◌-◌, ◌<◌, �
 ghost use Rattle.std.specs.List.{insert, remove};
 ghost use Rattle.std.specs.Ordering.{is_eq};
 ghost use Rattle.lsm_below.specs.declared.value.InternalValue.{InternalValue};
-ghost use Rattle.lsm_below.specs.Entries.{entry_cmp, key_cmp};
+ghost use Rattle.lsm_below.specs.Entries.{entry_cmp, key_cmp, HasBytes};
 ghost use Rattle.lsm_below.specs.Sorted.{Rises};
 ghost use Rattle.lsm_below.specs.Lookups.{stands_before};
 ghost use Rattle.lsm_below.specs.Sums.{capped};
 ghost use Rattle.lsm_below.specs.Keys.{AreBytes};
-ghost use Rattle.lsm_memtable.specs.Heads.{key_head};
+ghost use Rattle.lsm_memtable.specs.Heads.{key_head, entry_head, AreHeads};
 ghost use Rattle.lsm_memtable.specs.Blocks.{CountsDigits};
 
 use crate::Steps;
@@ -25,14 +25,23 @@ pub(crate) const MOST: usize = 64;
 /// How many entries a full block keeps at least when it is split.
 const HALF: usize = 32;
 
+/// How many bytes of a key its head holds.
+const HEAD: usize = 16;
+
 /// For how many more entries a block has room when it was made or has grown.
 const STEP: usize = 8;
 
-/// Entries in order, and the head of each one's key, which most comparisons need alone. The last head stands
-/// beside them, since a search among blocks needs nothing else of most.
+/// Entries in order. The head of the last one's key is all that a search among blocks reads of most, so it stands in the
+/// list of blocks itself; what else a block has lies behind a pointer, so that a list with one more moves little.
 #[derive(Drop)]
 pub(crate) struct Block {
     last: u128,
+    body: Box<Body>,
+}
+
+/// Entries in order, and the head of each one's key, which most comparisons need alone.
+#[derive(Drop)]
+struct Body {
     heads: Vec<u128>,
     entries: Vec<InternalValue>,
 }
@@ -44,9 +53,9 @@ impl Model for Block {
 
     ghost Value = { List InternalValue };
 
-    ghost view = { λ b. b.entries.items };
+    ghost view = { λ b. b.body.value.entries.items };
 
-    ghost invariant = { λ b. AreHeads b.heads.items b.entries.items × (b.last ≡ slice_index_or b.heads.items (length b.heads.items - 1) 0) };
+    ghost invariant = { λ b. AreHeads b.body.value.heads.items b.body.value.entries.items × (b.last ≡ slice_index_or b.body.value.heads.items (length b.body.value.heads.items - 1) 0) };
 }
 
 /// The last head, 0 where there is none.
@@ -72,17 +81,25 @@ pub(crate) fn head_of(key: &[u8]) -> u128
     ensures bytes { AreBytes key.now }
 {
     let mut head: u128 = 0;
-    for place in 0..16usize {
+    for place in 0..HEAD {
         head = head * 256 + byte_at(key, place) as u128;
     }
     head
 }
 
-/// Whether the entry comes before each entry of the key with a sequence number below this.
+/// Whether the entry comes before each entry of the key with a sequence number below this. Their keys have one head, so
+/// that two of one length which the head holds whole are the same, and no byte of them is read.
 fn stands_ahead(entry: &InternalValue, key: &[u8], number: u128) -> bool
+    requires own { HasBytes entry.now }
+    requires bytes { AreBytes key.now }
+    requires head { entry_head entry.now ≡ key_head key.now }
     ensures { result ≡ stands_before key.now number entry.now }
 {
-    match entry.key.user_key.as_slice().cmp(key) {
+    let own = entry.key.user_key.as_slice();
+    if own.len() == key.len() && key.len() <= HEAD {
+        return entry.key.seqno as u128 >= number;
+    }
+    match own.cmp(key) {
         Ordering::Less => true,
         Ordering::Equal => entry.key.seqno as u128 >= number,
         Ordering::Greater => false,
@@ -99,30 +116,27 @@ impl Block {
         let last = head_of(entry.key.user_key.as_slice());
         heads.push(last).unwrap();
         entries.push(entry).unwrap();
-        Ok(Block {
-            last,
-            heads,
-            entries,
-        })
+        let body = Box::new(alloc, Body { heads, entries })?;
+        Ok(Block { last, body })
     }
 
     pub(crate) fn len(&self) -> usize
         ensures { result ≡ length self.now }
     {
-        self.entries.len()
+        self.body.entries.len()
     }
 
     pub(crate) fn as_slice(&self) -> &[InternalValue]
         ensures { result.now ≡ self.now }
     {
-        &self.entries
+        &self.body.entries
     }
 
     pub(crate) fn at(&self, place: usize) -> &InternalValue
         requires { place < length self.now }
         ensures { result.now ≡ slice_index_or self.now place result.now }
     {
-        &self.entries[place]
+        &self.body.entries[place]
     }
 
     /// Whether the entry there comes before each entry of the key with a sequence number below this. It is one
@@ -142,14 +156,15 @@ impl Block {
         ensures moved { steps.new.moved ≡ steps.old.moved }
     {
         steps.tick_compared();
-        let other = self.heads[place];
+        let body = &*self.body;
+        let other = body.heads[place];
         if other < head {
             return true;
         }
         if head < other {
             return false;
         }
-        stands_ahead(&self.entries[place], key, number)
+        stands_ahead(&body.entries[place], key, number)
     }
 
     /// `is_ahead` for the last entry. Where the heads differ it looks at nothing else.
@@ -174,8 +189,8 @@ impl Block {
         if head < last {
             return false;
         }
-        let at = self.entries.len() - 1;
-        stands_ahead(&self.entries[at], key, number)
+        let at = self.body.entries.len() - 1;
+        stands_ahead(&self.body.entries[at], key, number)
     }
 
     /// How many entries come before each entry of the key with a sequence number below this.
@@ -207,7 +222,7 @@ impl Block {
         requires { place < length self.now }
         ensures { (d : InternalValue) → result ≡ is_eq (key_cmp (slice_index_or self.now place d).key key.now) }
     {
-        self.entries[place].key.cmp(key).is_eq()
+        self.body.entries[place].key.cmp(key).is_eq()
     }
 
     /// Puts the entry over the one there, which it returns.
@@ -216,9 +231,10 @@ impl Block {
         ensures entries { self.new ≡ slice_set self.old place entry }
         ensures replaced { result ≡ slice_index_or self.old place result }
     {
-        self.heads[place] = head_of(entry.key.user_key.as_slice());
-        self.last = last_of(&self.heads);
-        mem::replace(&mut self.entries[place], entry)
+        let body = &mut *self.body;
+        body.heads[place] = head_of(entry.key.user_key.as_slice());
+        self.last = last_of(&body.heads);
+        mem::replace(&mut body.entries[place], entry)
     }
 
     /// Takes the entry there out, and moves those after.
@@ -226,9 +242,10 @@ impl Block {
         requires { place < length self.old }
         ensures { self.new ≡ remove self.old place }
     {
-        self.heads.remove(place);
-        self.last = last_of(&self.heads);
-        let taken = self.entries.remove(place);
+        let body = &mut *self.body;
+        body.heads.remove(place);
+        self.last = last_of(&body.heads);
+        let taken = body.entries.remove(place);
         drop(taken);
     }
 
@@ -249,14 +266,15 @@ impl Block {
         ensures moved { steps.new.moved ≤ steps.old.moved + 64 }
         ensures compared { steps.new.compared ≡ steps.old.compared }
     {
-        let len = self.entries.len();
-        if len < self.heads.capacity() && len < self.entries.capacity() {
+        let len = self.len();
+        if len < self.body.heads.capacity() && len < self.body.entries.capacity() {
             steps.tick_moves(len - place);
-            self.heads
+            let body = &mut *self.body;
+            body.heads
                 .insert(place, head_of(entry.key.user_key.as_slice()))
                 .unwrap();
-            self.entries.insert(place, entry).unwrap();
-            self.last = last_of(&self.heads);
+            body.entries.insert(place, entry).unwrap();
+            self.last = last_of(&body.heads);
             return Ok(());
         }
         let room = (len + STEP).min(MOST);
@@ -281,11 +299,18 @@ impl Block {
         ensures moved { steps.new.moved ≤ steps.old.moved + 64 }
         ensures compared { steps.new.compared ≡ steps.old.compared }
     {
-        self.rebuild(alloc, HALF, HALF + STEP, place, entry, steps)
+        let nothing = Body {
+            heads: Vec::new(alloc),
+            entries: Vec::new(alloc),
+        };
+        let mut body = Box::new(alloc, nothing)?;
+        *body = self.rebuild(alloc, HALF, HALF + STEP, place, entry, steps)?;
+        let last = last_of(&body.heads);
+        Ok(Block { last, body })
     }
 
     /// Puts the entry at a place: all entries move once, the first ones to new vectors with this room, up to
-    /// a length, and the rest to another block. Refused only for want of memory, and then nothing changes.
+    /// a length, and the rest to those of another block, which are returned. Refused only for want of memory, and then nothing changes.
     fn rebuild(
         &mut self,
         alloc: Global,
@@ -294,34 +319,35 @@ impl Block {
         place: usize,
         entry: InternalValue,
         steps: &mut Steps,
-    ) -> Result<Block, AllocError>
+    ) -> Result<Body, AllocError>
         requires place { place ≤ length self.old }
         requires few { length self.old ≤ 64 }
         requires keep { keep ≤ room }
         requires room { length self.old + 1 ≤ keep + room }
-        ensures ok { IfOk result (λ rest. (self.new ++ rest ≡ insert self.old place entry) × (length self.new ≡ min keep (length self.old + 1))) }
+        ensures ok { IfOk result (λ rest. (self.new ++ rest.entries.items ≡ insert self.old place entry) × (length self.new ≡ min keep (length self.old + 1))) }
+        ensures heads { IfOk result (λ rest. AreHeads rest.heads.items rest.entries.items) }
         ensures counted { OnOk result (steps.new.moved ≡ capped (steps.old.moved + length self.old)) }
         ensures err { OnErr result ((self.new ≡ self.old) × (steps.new ≡ steps.old)) }
         ensures moved { steps.new.moved ≤ steps.old.moved + length self.old }
         ensures compared { steps.new.compared ≡ steps.old.compared }
     {
-        let len = self.entries.len();
+        let len = self.body.entries.len();
         let left = if len < keep { 0 } else { room };
         let mut heads = Vec::with_capacity(alloc, room)?;
         let mut entries = Vec::with_capacity(alloc, room)?;
         let mut upper_heads = Vec::with_capacity(alloc, left)?;
         let mut upper = Vec::with_capacity(alloc, left)?;
         steps.tick_moves(len);
+        let body = &mut *self.body;
         let head = head_of(entry.key.user_key.as_slice());
-        let old_heads = mem::replace(&mut self.heads, Vec::new(alloc));
+        let old_heads = mem::replace(&mut body.heads, Vec::new(alloc));
         spread(old_heads, place, head, &mut heads, keep, &mut upper_heads);
-        let old_entries = mem::replace(&mut self.entries, Vec::new(alloc));
+        let old_entries = mem::replace(&mut body.entries, Vec::new(alloc));
         spread(old_entries, place, entry, &mut entries, keep, &mut upper);
         self.last = last_of(&heads);
-        self.heads = heads;
-        self.entries = entries;
-        Ok(Block {
-            last: last_of(&upper_heads),
+        body.heads = heads;
+        body.entries = entries;
+        Ok(Body {
             heads: upper_heads,
             entries: upper,
         })

@@ -157,26 +157,59 @@ fn split_in(
     Ok(())
 }
 
-/// Puts an entry after all others, in a block of its own. Refused only for want of memory, and then nothing
-/// changes.
-fn push_block(
+/// Puts an entry in a block of its own, before the blocks from a place on. Refused only for want of memory, and then
+/// nothing changes.
+fn begin_block(
     blocks: &mut Vec<Block>,
     alloc: Global,
+    block: usize,
     entry: InternalValue,
 ) -> Result<(), AllocError>
+    requires block { block ≤ length blocks.old.items }
     requires filled { All IsFilled blocks.old.items }
-    ensures ok { OnOk result (joined blocks.new.items ≡ insert (joined blocks.old.items) (length (joined blocks.old.items)) entry) }
+    ensures ok { OnOk result (joined blocks.new.items ≡ insert (joined blocks.old.items) (spot blocks.old.items block 0) entry) }
     ensures err { OnErr result (blocks.new.items ≡ blocks.old.items) }
     ensures filled { All IsFilled blocks.new.items }
 {
     blocks.reserve(1)?;
-    let block = Block::of(alloc, entry)?;
-    blocks.push(block).unwrap();
+    let new = Block::of(alloc, entry)?;
+    blocks.insert(block, new).unwrap();
     Ok(())
 }
 
-/// Puts an entry at a place between entries. A full block is split, but where the entry goes after all others a
-/// new block begins with it, so that keys that rise leave full blocks.
+/// Puts an entry before a block that is full: behind the block before it where that isn't full, else in a block of its
+/// own. Refused only for want of memory, and then nothing changes.
+fn insert_before(
+    blocks: &mut Vec<Block>,
+    alloc: Global,
+    block: usize,
+    entry: InternalValue,
+    steps: &mut Steps,
+) -> Result<(), AllocError>
+    requires block { block ≤ length blocks.old.items }
+    requires filled { All IsFilled blocks.old.items }
+    ensures ok { OnOk result (joined blocks.new.items ≡ insert (joined blocks.old.items) (spot blocks.old.items block 0) entry) }
+    ensures err { OnErr result (blocks.new.items ≡ blocks.old.items) }
+    ensures filled { All IsFilled blocks.new.items }
+    ensures moved { steps.new.moved ≤ steps.old.moved + 64 }
+    ensures unmoved { OnErr result (steps.new.moved ≡ steps.old.moved) }
+    ensures compared { steps.new.compared ≡ steps.old.compared }
+{
+    if 0 < block {
+        let at = blocks[block - 1].len();
+        if at < MOST {
+            let place = Place {
+                block: block - 1,
+                at,
+            };
+            return insert_in(blocks, alloc, place, entry, steps);
+        }
+    }
+    begin_block(blocks, alloc, block, entry)
+}
+
+/// Puts an entry at a place between entries. A full block is split, but at an edge of it the entry goes to the block
+/// before or begins a new one, so that keys that rise, and versions of one key, leave full blocks.
 /// Refused only for want of memory, and then nothing changes.
 fn insert_at(
     blocks: &mut Vec<Block>,
@@ -187,7 +220,6 @@ fn insert_at(
 ) -> Result<(), AllocError>
     requires block { place.block < length blocks.old.items }
     requires at { place.at ≤ length (slice_index_or blocks.old.items place.block []) }
-    requires edge { place.at ≡ length (slice_index_or blocks.old.items place.block []) → spot blocks.old.items place.block place.at ≡ length (joined blocks.old.items) }
     requires filled { All IsFilled blocks.old.items }
     ensures ok { OnOk result (joined blocks.new.items ≡ insert (joined blocks.old.items) (spot blocks.old.items place.block place.at) entry) }
     ensures err { OnErr result (blocks.new.items ≡ blocks.old.items) }
@@ -200,8 +232,11 @@ fn insert_at(
     if len < MOST {
         return insert_in(blocks, alloc, place, entry, steps);
     }
+    if place.at == 0 {
+        return insert_before(blocks, alloc, place.block, entry, steps);
+    }
     if place.at == len {
-        return push_block(blocks, alloc, entry);
+        return begin_block(blocks, alloc, place.block + 1, entry);
     }
     split_in(blocks, alloc, place, entry, steps)
 }
@@ -252,7 +287,7 @@ pub(crate) fn put_entry(
 {
     entries_are_ordered();
     if blocks.is_empty() {
-        push_block(blocks, alloc, entry)?;
+        begin_block(blocks, alloc, 0, entry)?;
         return Ok(None);
     }
     let number = entry.key.seqno as u128 + 1;

@@ -1,13 +1,14 @@
 // The tree's writes.
-ghost use Rattle.std.specs.Prelude.{◌≡◌, ℕ, ◌<◌, ◌≤◌, ◌⊎◌, Some, None, IfOk, IfErr, OnOk};
+ghost use Rattle.std.specs.Prelude.{◌≡◌, ℕ, ◌<◌, ◌≤◌, ◌⊎◌, Some, None, IfOk, IfErr, OnOk, OnErr};
 ghost use Rattle.std.specs.List.{list_any};
 ghost use Rattle.lsm_below.specs.Entries.{plain};
 ghost use Rattle.lsm_model.specs.Ops.{op_entry, op_entries};
 ghost use Rattle.lsm_state.specs.Refusals.{entry_refusal, batch_refusal, is_long_key, is_long_value, op_value, repeats, keys_of};
 ghost use Rattle.lsm_model.specs.declared.op.Op.TheVariants.{Set, Del, Weak};
+ghost use Rattle.lsm_state.specs.Held.{put_all_first};
 ghost use Rattle.lsm_state.specs.Calls.{Appends, WritesBatch};
 
-use crate::TreeState;
+use crate::{Memtables, TreeState};
 use lsm_below::{InternalValue, MAX_KEY_LEN, MAX_VALUE_LEN, SeqNo, UserKey, UserValue};
 use lsm_model::Op;
 use lsm_parts::{Error, LIMIT};
@@ -111,6 +112,27 @@ fn make_entries(
     Ok(entries)
 }
 
+/// Puts the entries of a batch into the active memtable, or none. One alone needs no list of them, and nothing by
+/// which it is taken back. Refused only for want of memory, and then nothing changes.
+fn put_batch(
+    memtables: &mut Memtables,
+    alloc: Global,
+    number: SeqNo,
+    mut ops: Vec<(UserKey, Op)>,
+) -> Result<(), Error>
+    ensures ok { OnOk result (memtables.new ≡ put_all_first (op_entries number ops.items) memtables.old) }
+    ensures err { OnErr result (memtables.new ≡ memtables.old) }
+    ensures memory { IfErr result (λ e. e ≡ Error.OutOfMemory) }
+{
+    if ops.len() != 1 {
+        return memtables.insert_all(make_entries(alloc, number, ops)?);
+    }
+    if let Some((key, op)) = ops.pop() {
+        memtables.insert(op.into_entry(key, number))?;
+    }
+    Ok(())
+}
+
 impl<S: Store> TreeState<S> {
     /// Sets a key under a sequence number, in whatever order they come.
     ///
@@ -170,8 +192,7 @@ impl<S: Store> TreeState<S> {
     {
         let number = self.seqno.get();
         check_batch(self.alloc, number, &ops)?;
-        let entries = make_entries(self.alloc, number, ops)?;
-        self.memtables.insert_all(entries)?;
+        put_batch(&mut self.memtables, self.alloc, number, ops)?;
         self.seqno.set(number + 1);
         self.visible_seqno.fetch_max(number + 1);
         Ok(number)
