@@ -7,3 +7,4 @@ pub mod Lending
 pub mod Ranges
 pub mod Listing
 pub mod ListSteps
+pub mod Opened

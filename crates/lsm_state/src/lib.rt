@@ -3,7 +3,8 @@
 //! | Module | Holds |
 //! |-|-|
 //! | `memtables` | the memtables that are held, by id |
-//! | `tree` | the tree: how it is opened, its counters, rotation |
+//! | `tree` | the tree: its counters, rotation |
+//! | `opening` | how it is opened over a store, and what it says of its version |
 //! | `writes` | its writes |
 //! | `reads` | its reads of one key |
 //! | `ranges` | its reads of many keys |
@@ -12,6 +13,7 @@
 
 mod laws;
 mod memtables;
+mod opening;
 mod ranges;
 mod reads;
 mod tree;

@@ -25,11 +25,12 @@ use std::marker::Model;
 #[derive(Drop)]
 pub struct TreeState<S: Store = NoStore> {
     pub(crate) alloc: Global,
-    store: S,
-    config: Config,
+    pub(crate) store: S,
+    pub(crate) config: Config,
     pub(crate) memtables: Memtables,
     pub(crate) history: SuperVersions,
-    next_memtable: SequenceNumberCounter,
+    pub(crate) next_memtable: SequenceNumberCounter,
+    pub(crate) next_table: SequenceNumberCounter,
     pub(crate) seqno: SequenceNumberCounter,
     pub(crate) visible_seqno: SequenceNumberCounter,
 }
@@ -40,7 +41,7 @@ impl<S: Store> Model for TreeState<S> {
 
     ghost Value = { Seen S };
 
-    ghost view = { λ t. record { store = t.store; core = record { config = t.config; memtables = t.memtables; history = t.history; next_memtable = t.next_memtable; seqno = t.seqno; visible_seqno = t.visible_seqno } } };
+    ghost view = { λ t. record { store = t.store; core = record { config = t.config; memtables = t.memtables; history = t.history; next_memtable = t.next_memtable; next_table = t.next_table; seqno = t.seqno; visible_seqno = t.visible_seqno } } };
 
     ghost invariant = { λ t. KeepsIds t.memtables t.history t.next_memtable };
 }
@@ -62,6 +63,7 @@ impl TreeState<NoStore> {
             memtables: Memtables::new(alloc, 0),
             history: SuperVersions::new(alloc, Version::new(alloc, 0)),
             next_memtable: SequenceNumberCounter::new(1),
+            next_table: SequenceNumberCounter::new(0),
             seqno: SequenceNumberCounter::new(config.seqno),
             visible_seqno: SequenceNumberCounter::new(config.visible_seqno),
         }
