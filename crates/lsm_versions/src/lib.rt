@@ -23,5 +23,6 @@ pub use laws::{
     merges_of_inputs_are_steps, moves_are_steps,
 };
 pub use level::{GenericLevel, Level};
+pub use lookup::ids_are_own;
 pub use tables::Tables;
 pub use version::{DEFAULT_LEVEL_COUNT, TreeType, Version, VersionId};
