@@ -25,4 +25,4 @@ pub use laws::{
 pub use level::{GenericLevel, Level};
 pub use lookup::ids_are_own;
 pub use tables::Tables;
-pub use version::{DEFAULT_LEVEL_COUNT, TreeType, Version, VersionId};
+pub use version::{DEFAULT_LEVEL_COUNT, TreeType, Version, VersionId, levels_fit};
