@@ -1,4 +1,19 @@
 //! Versions: levels of runs of tables, how they change, and which choices of tables may change them.
+//!
+//! | Module | Holds |
+//! |-|-|
+//! | `level` | a level: runs of tables, the newest first |
+//! | `version` | seven levels with an id, and the four ways to make a next version |
+//! | `tables` | the tables of a version, one after the other |
+//! | `lookup` | look-ups of a version's tables by their ids |
+//! | `hidden_set` | the tables that open jobs work on |
+//! | `input` | what a choice of tables names |
+//! | `choice` | why a choice of tables is declined |
+//! | `parted_run` | runs, parted by a choice |
+//! | `gaps` | gaps in what a choice takes of a run |
+//! | `indexes` | what a compaction takes of a run |
+//! | `same` | whether two lists of entries are the same |
+//! | `laws` | what installs of versions are to the theory, each law as the contract of a function |
 #![tactic(auto)]
 
 mod choice;
