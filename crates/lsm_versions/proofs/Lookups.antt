@@ -1,5 +1,5 @@
 -- A look-up of tables by their ids.
-use Rattle.std.proofs.Common.{◌≡◌, ℕ, ◌+◌, ◌<◌, Bool, true, false, cond, ◌||◌, eqb, List, [], ◌∷◌, ◌++◌, length, map, filter, get_or, take, not, Option, Some, None, MatchOption, inl, inr, ⊎_elim, refl, sym, ◌∙◌, ap, subst, eq-eqb, arith, suc, ◌&&◌, IsTrue, ◌↔◌}
+use Rattle.std.proofs.Common.{◌≡◌, ℕ, ◌+◌, ◌<◌, Bool, true, false, cond, ◌||◌, eqb, List, [], ◌∷◌, ◌++◌, length, map, filter, get_or, take, not, Option, Some, None, MatchOption, inl, inr, ⊎_elim, refl, sym, ◌∙◌, ap, subst, eq-eqb, arith, suc, ◌&&◌, IsTrue, ◌↔◌, zero}
 use Rattle.std.specs.List.{AllByRecursion, list_any, list_all, IsDistinct}
 use Rattle.std.proofs.lemmas.List.{take_more}
 use Rattle.std.proofs.lemmas.List.Folds.{list_any-append}
@@ -12,7 +12,10 @@ use Rattle.lsm_model.specs.Steps.{among}
 use Rattle.lsm_versions.specs.Levels.{Levels, range, shown_table, all_of, HasOwnIds}
 use Rattle.lsm_versions.specs.Choices.{IsAmong, AllStand, AreOneById, is_there}
 use Rattle.lsm_versions.proofs.Choosing.{from_eqb}
+use Rattle.std.proofs.lemmas.Map.Keys.{IsDistinct-push}
+use Rattle.std.specs.Cmp.{nat_eq_equiv}
 use Rattle.lsm_versions.proofs.Ids.{flips}
+use Rattle.lsm_versions.proofs.Placed.{map_append}
 use Rattle.lsm_versions.proofs.Parting.{overlap_back}
 
 -- ---- ids
@@ -72,6 +75,31 @@ has_id u (t ∷ ts) i = ⊎_elim (λ (e : t ≡ u). ap (λ b. b || list_any (λ 
     or_true : (b : Bool) → (b || true) ≡ true
     or_true true = refl
     or_true false = refl
+
+-- ---- ids that stand once
+
+in_at : (ts : List SeenTable) (n : ℕ) (t : SeenTable) → n < length ts → t ≡ get_or ts n t → IsIn t ts
+in_at [] n t lt read = absurd (omega arith)
+in_at (x ∷ ts) zero t lt read = inl (sym read)
+in_at (x ∷ ts) (suc n) t lt read = inr (in_at ts n t (omega arith) read)
+
+-- an id that stands before too stands twice
+pub stands_twice : (ts : List SeenTable) (n : ℕ) (t : SeenTable) → n < length ts → t ≡ get_or ts n t → among (map (λ t. t.id) (take n ts)) t.id ≡ true → HasOwnIds ts → ⊥
+unfolding IsDistinct
+stands_twice [] n t lt read there own = omega arith
+stands_twice (x ∷ ts) zero t lt read there own = cc there
+stands_twice (x ∷ ts) (suc n) t lt read there own =
+    elim (eqb t.id x.id) as (λ b. eqb t.id x.id ≡ b → (b || among (map (λ t. t.id) (take n ts)) t.id) ≡ true → ⊥) [
+      | true ↦ λ q h. let z : true ≡ false = sym q ∙ flips t.id x.id ∙ no_id x.id t ts own.0 (in_at ts n t (omega arith) read) in cc z
+      | false ↦ λ q h. stands_twice ts n t (omega arith) read h own.1
+    ] refl there
+
+-- one more table, with an id of its own
+pub own_more : (ts : List SeenTable) (n : ℕ) (t : SeenTable) → n < length ts → t ≡ get_or ts n t → among (map (λ t. t.id) (take n ts)) t.id ≡ false → HasOwnIds (take n ts) → HasOwnIds (take (n + 1) ts)
+own_more ts n t lt read new own =
+    let f = λ (t : SeenTable). t.id in
+    let e : take n ts ++ t ∷ [] ≡ take (n + 1) ts = ap (λ x. take n ts ++ x ∷ []) read ∙ sym (take_more ts n t lt) in
+    subst HasOwnIds e (subst (IsDistinct eqb) (sym (map_append f (take n ts) (t ∷ []))) (IsDistinct-push nat_eq_equiv (map f (take n ts)) t.id own new))
 
 -- ---- where an id names one table
 

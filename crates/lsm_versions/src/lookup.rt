@@ -45,15 +45,53 @@ fn push_level(all: &mut Vec<Table>, runs: &[Run<Table>]) -> Result<(), AllocErro
     Ok(())
 }
 
+/// Appends copies of all tables.
+fn push_levels(all: &mut Vec<Table>, levels: &[Level]) -> Result<(), AllocError>
+    ensures { OnOk result (all.new.items ≡ all.old.items ++ all_of levels.now) }
+{
+    for level in levels {
+        push_level(all, level.as_slice())?;
+    }
+    Ok(())
+}
+
 /// Copies of all tables.
 fn all_tables(alloc: Global, levels: &[Level]) -> Result<Vec<Table>, AllocError>
     ensures { IfOk result (λ v. v.items ≡ all_of levels.now) }
 {
     let mut all = Vec::new(alloc);
-    for level in levels {
-        push_level(&mut all, level.as_slice())?;
-    }
+    push_levels(&mut all, levels)?;
     Ok(all)
+}
+
+/// Whether no id stands twice among tables.
+fn own_ids(alloc: Global, tables: &[Table]) -> Result<bool, AllocError>
+    ensures { IfOk result (λ b. IsTrue b ↔ HasOwnIds tables.now) }
+{
+    let mut seen = HashSet::new(alloc);
+    for table in tables {
+        let is_new = seen.insert(table.id())?;
+        if !is_new {
+            return Ok(false);
+        }
+    }
+    Ok(true)
+}
+
+/// Whether no id stands twice among tables and those of levels, as a version asks it of its levels
+/// (with no tables beside), and a next version of the tables that come to it. The cost is linear.
+///
+/// # Errors
+///
+/// Refused only for want of memory.
+pub fn ids_are_own(alloc: Global, tables: &[Table], levels: &[Level]) -> Result<bool, AllocError>
+    ensures { IfOk result (λ b. IsTrue b ↔ HasOwnIds (tables.now ++ all_of levels.now)) }
+{
+    let mut all = Vec::new(alloc);
+    push_run(&mut all, tables)?;
+    push_levels(&mut all, levels)?;
+    let own = own_ids(alloc, &all)?;
+    Ok(own)
 }
 
 /// The tables by their ids.

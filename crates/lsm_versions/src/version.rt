@@ -111,8 +111,8 @@ fn count_tables(levels: &[Level]) -> usize
     count
 }
 
-/// Whether a manifest can write the levels.
-fn levels_fit(levels: &[Level]) -> bool
+/// Whether a manifest can write the levels: at most 255 runs in each, of fewer than 2^32 tables.
+pub fn levels_fit(levels: &[Level]) -> bool
     ensures { result ≡ fits levels.now }
 {
     levels.iter().all(|level| level.fits())

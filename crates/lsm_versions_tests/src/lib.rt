@@ -1,0 +1,18 @@
+//! Tests of `lsm_versions`, and nothing else: a crate with tests is proved twice, with and without them.
+//!
+//! | Module | Tests |
+//! |-|-|
+//! | `choices` | why a choice of tables is declined, when it begins and when it ends |
+//! | `versions` | next versions, and what a version tells of its tables |
+//! | `hidden_sets` | hidden tables |
+//! | `samples` | holds no test: what the others make tables and versions by |
+#![tactic(auto)]
+
+#[cfg(test)]
+mod choices;
+#[cfg(test)]
+mod hidden_sets;
+#[cfg(test)]
+mod samples;
+#[cfg(test)]
+mod versions;
