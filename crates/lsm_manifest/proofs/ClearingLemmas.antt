@@ -9,9 +9,9 @@ use Rattle.std.proofs.lemmas.List.{length-map, get_or-map}
 use Rattle.lsm_store.specs.World.{Image, World, Row, OldOr, IsImage, At, Same, Becomes, Changes, Lists, LeavesOnly}
 use Rattle.lsm_store.specs.declared.store.StoreError.{StoreError}
 use Rattle.lsm_store.specs.declared.store.StoreError.TheVariants as store
-use Rattle.std.proofs.lemmas.Bool.{false_from_ne_true, both_ways}
+use Rattle.std.proofs.lemmas.Bool.{both_ways}
 use Rattle.lsm_store.specs.Moments.{started, rests, joined}
-use Rattle.lsm_store.specs.Moments.{called, weakened, same_or_not}
+use Rattle.lsm_store.specs.Moments.{called, same_or_not}
 use Rattle.lsm_manifest.specs.Clearing.{IsCleared, Clears, Removes}
 
 module _ (orphan : List ℕ → Bool) (old mid new : World) (name : List ℕ) where
@@ -49,9 +49,6 @@ module _ (orphan : List ℕ → Bool) (old mid new : World) (name : List ℕ) wh
   pub cleared_more : {T : Type 0} (r : Result T StoreError) → LeavesOnly old mid (IsCleared orphan old) → Clears orphan old mid → orphan name ≡ true → Changes name row row None mid new r → LeavesOnly old new (IsCleared orphan old)
   cleared_more {T} r so_far clears is call = called {T = T} old mid new (IsCleared orphan old) name row row None r so_far call (λ image at n. here_may clears is n (image n) (at n))
 
-pub clears_none : (orphan : List ℕ → Bool) (w : World) → Clears orphan w w
-clears_none orphan w = record { may = λ n c may. inl may; kept = λ n c not may. may; gives = λ n not. refl }
-
 pub cleared_none : (orphan : List ℕ → Bool) (w : World) → ((image : Image) → w.since w.moment image → IsImage w.may image) → LeavesOnly w w (IsCleared orphan w)
 cleared_none orphan w only = started w (IsCleared orphan w) (λ image left n. inl (only image left n))
 
@@ -80,37 +77,6 @@ gone_on orphan w at k not so_far j lt found =
 pub absent_on : (mid new : World) (during done : Row) (name : List ℕ) → Becomes name during done mid new × (new.gives name ≡ None) → (n : List ℕ) → mid.gives n ≡ None → new.gives n ≡ None
 absent_on mid new during done name call n none = ⊎_elim (λ same. ap new.gives same ∙ call.1) (λ other. call.0.elsewhere n other ∙ none) (same_or_not n name)
 
--- ---- two passes, one behind the other
-
-module _ (p q both : List ℕ → Bool) (some : (n : List ℕ) → p n ≡ true → both n ≡ true) (other : (n : List ℕ) → q n ≡ true → both n ≡ true) where
-  neither_first : (n : List ℕ) → both n ≡ false → p n ≡ false
-  neither_first n none = false_from_ne_true (p n) (λ is. both_ways (both n) none (some n is))
-
-  neither_second : (n : List ℕ) → both n ≡ false → q n ≡ false
-  neither_second n none = false_from_ne_true (q n) (λ is. both_ways (both n) none (other n is))
-
-  pub clears_both : (old mid new : World) → Clears p old mid → Clears q mid new → Clears both old new
-  clears_both old mid new a b = record {
-    may = λ n c may. ⊎_elim (λ was. ⊎_elim (λ early. inl early) (λ gone. inr (gone.0, some n gone.1)) (a.may n c was)) (λ gone. inr (gone.0, other n gone.1)) (b.may n c may);
-    kept = λ n c none may. b.kept n c (neither_second n none) (a.kept n c (neither_first n none) may);
-    gives = λ n none. b.gives n (neither_second n none) ∙ a.gives n (neither_first n none);
-  }
-
-  pub clears_first : (old mid : World) → Clears p old mid → Clears both old mid
-  clears_first old mid a = record {
-    may = λ n c may. ⊎_elim (λ early. inl early) (λ gone. inr (gone.0, some n gone.1)) (a.may n c may);
-    kept = λ n c none may. a.kept n c (neither_first n none) may;
-    gives = λ n none. a.gives n (neither_first n none);
-  }
-
-  pub cleared_first : (old mid : World) → LeavesOnly old mid (IsCleared p old) → LeavesOnly old mid (IsCleared both old)
-  cleared_first old mid a = weakened old mid (IsCleared p old) (IsCleared both old) a (λ image is n. ⊎_elim (λ early. inl early) (λ gone. inr (gone.0, some n gone.1)) (is n))
-
-  pub cleared_both : (old mid new : World) → LeavesOnly old mid (IsCleared p old) → Clears p old mid → LeavesOnly mid new (IsCleared q mid) → LeavesOnly old new (IsCleared both old)
-  cleared_both old mid new a c b = joined old mid new (IsCleared p old) (IsCleared q mid) (IsCleared both old) a b
-      (λ image is n. ⊎_elim (λ early. inl early) (λ gone. inr (gone.0, some n gone.1)) (is n))
-      (λ image is n. ⊎_elim (λ was. ⊎_elim (λ early. inl early) (λ gone. inr (gone.0, some n gone.1)) (c.may n (image n) was)) (λ gone. inr (gone.0, other n gone.1)) (is n))
-
 -- a run of calls without effect before it
 pub cleared_behind : (orphan : List ℕ → Bool) (old mid new : World) → ((image : Image) → old.since old.moment image → IsImage old.may image) → Same old mid → LeavesOnly mid new (IsCleared orphan mid) → LeavesOnly old new (IsCleared orphan old)
 cleared_behind orphan old mid new only same b =
@@ -121,18 +87,6 @@ pub cleared_same : (orphan : List ℕ → Bool) (old mid : World) → ((image : 
 cleared_same orphan old mid only same = rests old old mid (IsCleared orphan old) (cleared_none orphan old only) same
 
 -- ---- what is left of orphans
-
-none_if : (o : Option (List ℕ)) → (IsSome o → ⊥) → o ≡ None
-none_if None never = refl
-none_if (Some x) never = absurd (never refl)
-
--- a name is absent where it isn't listed
-pub listed_or_absent : (gives : Image) (names : List (List ℕ)) → Lists gives names → (n : List ℕ) → (Contains names n → gives n ≡ None) → gives n ≡ None
-listed_or_absent gives names all n if_listed = none_by (gives n) refl
-  where
-    none_by : (o : Option (List ℕ)) → gives n ≡ o → gives n ≡ None
-    none_by None e = e
-    none_by (Some x) e = if_listed ((all.each n).1 (subst (λ (p : Option (List ℕ)). IsSome p) (sym e) refl))
 
 -- the places of a list of names, and the names
 pub gone_named : (orphan : List ℕ → Bool) (w : World) (names : List (String Global)) → ((j : ℕ) (d : String Global) → j < length names → orphan (string_bytes (get_or names j d)) ≡ true → w.gives (string_bytes (get_or names j d)) ≡ None)

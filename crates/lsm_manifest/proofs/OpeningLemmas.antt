@@ -6,7 +6,7 @@ use Rattle.std.specs.List.Sorted.{IsPermutation}
 use Rattle.std.proofs.lemmas.List.Sorted.{IsPermutation-sym, list_any-IsPermutation}
 use Rattle.std.proofs.lemmas.Slice.Eq.{bytes_eq-Decides}
 use Rattle.std.proofs.lemmas.Bool.{both_ways}
-use Rattle.lsm_tables.proofs.Spellings.{ok_is}
+use Rattle.lsm_tables.specs.Spellings.{ok_is}
 use Rattle.lsm_store.specs.World.{Image, World, Lists, IsImage, Same, LeavesOnly}
 use Rattle.lsm_versions.specs.Levels.{Levels as SeenLevels}
 use Rattle.lsm_manifest.specs.declared.fault.Fault.{Fault}

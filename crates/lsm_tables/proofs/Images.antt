@@ -13,7 +13,7 @@ use Rattle.lsm_tables.specs.declared.table_error.TableError.{TableError}
 use Rattle.lsm_tables.specs.declared.table_error.TableError.TheVariants.{OutOfMemory, BadTable}
 use Rattle.lsm_tables.specs.Reading.{◌>>=◌, many}
 use Rattle.lsm_below.specs.Keys.{AreBytes}
-use Rattle.lsm_tables.proofs.Spellings.{with_front, ends, AreBytes-drop, bind_ok, guard_then, guard_wants, ok_is, Takes, number_splits, Spells, many_takes, many_again}
+use Rattle.lsm_tables.specs.Spellings.{with_front, ends, AreBytes-drop, bind_ok, guard_then, guard_wants, ok_is, Takes, number_splits, Spells, many_takes, many_again}
 use Rattle.lsm_below.specs.declared.value.InternalValue.{InternalValue}
 use Rattle.lsm_below.specs.declared.value_type.ValueType.{ValueType}
 use Rattle.lsm_below.specs.declared.value_type.ValueType.TheVariants.{Value, Tombstone, WeakTombstone}

@@ -1,6 +1,5 @@
 pub mod Modular
 pub mod SumParts
-pub mod Spellings
 pub mod Adjacent
 pub mod Images
 pub mod Counting

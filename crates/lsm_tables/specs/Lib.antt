@@ -4,3 +4,4 @@ pub mod Image
 pub mod ImageReading
 pub mod Tables
 pub mod Cutting
+pub mod Spellings

@@ -2,7 +2,7 @@ use Rattle.std.proofs.lemmas.Bool.{and_left}
 use Rattle.std.proofs.Common.{◌≡◌, ◌++◌, ◌∷◌, [], sym, ap, ◌∙◌}
 use Rattle.std.proofs.lemmas.Result.{err_from_is_err_and}
 use Rattle.lsm_tables.specs.Reading.{many}
-use Rattle.lsm_tables.proofs.Spellings.{goes_on, is_done}
+use Rattle.lsm_tables.specs.Spellings.{goes_on, is_done}
 use Rattle.lsm_tables.proofs.Images.{entry_fails}
 use Rattle.lsm_tables.specs.ImageReading.{spelled_at, rises, follows}
 use Rattle.lsm_tables.proofs.Adjacent.{rises_push, and_when}

@@ -1,6 +1,6 @@
 use Rattle.std.proofs.Common.{◌≡◌, ◌-◌}
 use Rattle.lsm_tables.specs.Reading.{many}
-use Rattle.lsm_tables.proofs.Spellings.{with_front}
+use Rattle.lsm_tables.specs.Spellings.{with_front}
 use Rattle.lsm_tables.specs.ImageReading.{spelled_at, rises}
 use Rattle.lsm_tables.proofs.image.reading.entries_of.Given as goal
 
