@@ -8,7 +8,7 @@ ghost use Rattle.lsm_below.specs.Sorted.{Rises};
 ghost use Rattle.lsm_below.specs.Lookups.{stands_before};
 ghost use Rattle.lsm_below.specs.Sums.{capped};
 ghost use Rattle.lsm_below.specs.Keys.{AreBytes};
-ghost use Rattle.lsm_memtable.specs.Heads.{key_head, entry_head, AreHeads};
+ghost use Rattle.lsm_memtable.specs.Heads.{key_head, entry_head};
 ghost use Rattle.lsm_memtable.specs.Blocks.{CountsDigits};
 
 use crate::Steps;
@@ -31,17 +31,11 @@ const HEAD: usize = 16;
 /// For how many more entries a block has room when it was made or has grown.
 const STEP: usize = 8;
 
-/// Entries in order. The head of the last one's key is all that a search among blocks reads of most, so it stands in the
-/// list of blocks itself; what else a block has lies behind a pointer, so that a list with one more moves little.
+/// Entries in order, and the head of each one's key, which most comparisons need alone. The last head stands
+/// beside them, since a search among blocks needs nothing else of most.
 #[derive(Drop)]
 pub(crate) struct Block {
     last: u128,
-    body: Box<Body>,
-}
-
-/// Entries in order, and the head of each one's key, which most comparisons need alone.
-#[derive(Drop)]
-struct Body {
     heads: Vec<u128>,
     entries: Vec<InternalValue>,
 }
@@ -53,9 +47,9 @@ impl Model for Block {
 
     ghost Value = { List InternalValue };
 
-    ghost view = { λ b. b.body.value.entries.items };
+    ghost view = { λ b. b.entries.items };
 
-    ghost invariant = { λ b. AreHeads b.body.value.heads.items b.body.value.entries.items × (b.last ≡ slice_index_or b.body.value.heads.items (length b.body.value.heads.items - 1) 0) };
+    ghost invariant = { λ b. AreHeads b.heads.items b.entries.items × (b.last ≡ slice_index_or b.heads.items (length b.heads.items - 1) 0) };
 }
 
 /// The last head, 0 where there is none.
@@ -116,27 +110,30 @@ impl Block {
         let last = head_of(entry.key.user_key.as_slice());
         heads.push(last).unwrap();
         entries.push(entry).unwrap();
-        let body = Box::new(alloc, Body { heads, entries })?;
-        Ok(Block { last, body })
+        Ok(Block {
+            last,
+            heads,
+            entries,
+        })
     }
 
     pub(crate) fn len(&self) -> usize
         ensures { result ≡ length self.now }
     {
-        self.body.entries.len()
+        self.entries.len()
     }
 
     pub(crate) fn as_slice(&self) -> &[InternalValue]
         ensures { result.now ≡ self.now }
     {
-        &self.body.entries
+        &self.entries
     }
 
     pub(crate) fn at(&self, place: usize) -> &InternalValue
         requires { place < length self.now }
         ensures { result.now ≡ slice_index_or self.now place result.now }
     {
-        &self.body.entries[place]
+        &self.entries[place]
     }
 
     /// Whether the entry there comes before each entry of the key with a sequence number below this. It is one
@@ -156,15 +153,14 @@ impl Block {
         ensures moved { steps.new.moved ≡ steps.old.moved }
     {
         steps.tick_compared();
-        let body = &*self.body;
-        let other = body.heads[place];
+        let other = self.heads[place];
         if other < head {
             return true;
         }
         if head < other {
             return false;
         }
-        stands_ahead(&body.entries[place], key, number)
+        stands_ahead(&self.entries[place], key, number)
     }
 
     /// `is_ahead` for the last entry. Where the heads differ it looks at nothing else.
@@ -189,8 +185,8 @@ impl Block {
         if head < last {
             return false;
         }
-        let at = self.body.entries.len() - 1;
-        stands_ahead(&self.body.entries[at], key, number)
+        let at = self.entries.len() - 1;
+        stands_ahead(&self.entries[at], key, number)
     }
 
     /// How many entries come before each entry of the key with a sequence number below this.
@@ -222,7 +218,7 @@ impl Block {
         requires { place < length self.now }
         ensures { (d : InternalValue) → result ≡ is_eq (key_cmp (slice_index_or self.now place d).key key.now) }
     {
-        self.body.entries[place].key.cmp(key).is_eq()
+        self.entries[place].key.cmp(key).is_eq()
     }
 
     /// Puts the entry over the one there, which it returns.
@@ -231,10 +227,9 @@ impl Block {
         ensures entries { self.new ≡ slice_set self.old place entry }
         ensures replaced { result ≡ slice_index_or self.old place result }
     {
-        let body = &mut *self.body;
-        body.heads[place] = head_of(entry.key.user_key.as_slice());
-        self.last = last_of(&body.heads);
-        mem::replace(&mut body.entries[place], entry)
+        self.heads[place] = head_of(entry.key.user_key.as_slice());
+        self.last = last_of(&self.heads);
+        mem::replace(&mut self.entries[place], entry)
     }
 
     /// Takes the entry there out, and moves those after.
@@ -242,10 +237,9 @@ impl Block {
         requires { place < length self.old }
         ensures { self.new ≡ remove self.old place }
     {
-        let body = &mut *self.body;
-        body.heads.remove(place);
-        self.last = last_of(&body.heads);
-        let taken = body.entries.remove(place);
+        self.heads.remove(place);
+        self.last = last_of(&self.heads);
+        let taken = self.entries.remove(place);
         drop(taken);
     }
 
@@ -266,15 +260,14 @@ impl Block {
         ensures moved { steps.new.moved ≤ steps.old.moved + 64 }
         ensures compared { steps.new.compared ≡ steps.old.compared }
     {
-        let len = self.len();
-        if len < self.body.heads.capacity() && len < self.body.entries.capacity() {
+        let len = self.entries.len();
+        if len < self.heads.capacity() && len < self.entries.capacity() {
             steps.tick_moves(len - place);
-            let body = &mut *self.body;
-            body.heads
+            self.heads
                 .insert(place, head_of(entry.key.user_key.as_slice()))
                 .unwrap();
-            body.entries.insert(place, entry).unwrap();
-            self.last = last_of(&body.heads);
+            self.entries.insert(place, entry).unwrap();
+            self.last = last_of(&self.heads);
             return Ok(());
         }
         let room = (len + STEP).min(MOST);
@@ -299,18 +292,11 @@ impl Block {
         ensures moved { steps.new.moved ≤ steps.old.moved + 64 }
         ensures compared { steps.new.compared ≡ steps.old.compared }
     {
-        let nothing = Body {
-            heads: Vec::new(alloc),
-            entries: Vec::new(alloc),
-        };
-        let mut body = Box::new(alloc, nothing)?;
-        *body = self.rebuild(alloc, HALF, HALF + STEP, place, entry, steps)?;
-        let last = last_of(&body.heads);
-        Ok(Block { last, body })
+        self.rebuild(alloc, HALF, HALF + STEP, place, entry, steps)
     }
 
     /// Puts the entry at a place: all entries move once, the first ones to new vectors with this room, up to
-    /// a length, and the rest to those of another block, which are returned. Refused only for want of memory, and then nothing changes.
+    /// a length, and the rest to another block. Refused only for want of memory, and then nothing changes.
     fn rebuild(
         &mut self,
         alloc: Global,
@@ -319,35 +305,34 @@ impl Block {
         place: usize,
         entry: InternalValue,
         steps: &mut Steps,
-    ) -> Result<Body, AllocError>
+    ) -> Result<Block, AllocError>
         requires place { place ≤ length self.old }
         requires few { length self.old ≤ 64 }
         requires keep { keep ≤ room }
         requires room { length self.old + 1 ≤ keep + room }
-        ensures ok { IfOk result (λ rest. (self.new ++ rest.entries.items ≡ insert self.old place entry) × (length self.new ≡ min keep (length self.old + 1))) }
-        ensures heads { IfOk result (λ rest. AreHeads rest.heads.items rest.entries.items) }
+        ensures ok { IfOk result (λ rest. (self.new ++ rest ≡ insert self.old place entry) × (length self.new ≡ min keep (length self.old + 1))) }
         ensures counted { OnOk result (steps.new.moved ≡ capped (steps.old.moved + length self.old)) }
         ensures err { OnErr result ((self.new ≡ self.old) × (steps.new ≡ steps.old)) }
         ensures moved { steps.new.moved ≤ steps.old.moved + length self.old }
         ensures compared { steps.new.compared ≡ steps.old.compared }
     {
-        let len = self.body.entries.len();
+        let len = self.entries.len();
         let left = if len < keep { 0 } else { room };
         let mut heads = Vec::with_capacity(alloc, room)?;
         let mut entries = Vec::with_capacity(alloc, room)?;
         let mut upper_heads = Vec::with_capacity(alloc, left)?;
         let mut upper = Vec::with_capacity(alloc, left)?;
         steps.tick_moves(len);
-        let body = &mut *self.body;
         let head = head_of(entry.key.user_key.as_slice());
-        let old_heads = mem::replace(&mut body.heads, Vec::new(alloc));
+        let old_heads = mem::replace(&mut self.heads, Vec::new(alloc));
         spread(old_heads, place, head, &mut heads, keep, &mut upper_heads);
-        let old_entries = mem::replace(&mut body.entries, Vec::new(alloc));
+        let old_entries = mem::replace(&mut self.entries, Vec::new(alloc));
         spread(old_entries, place, entry, &mut entries, keep, &mut upper);
         self.last = last_of(&heads);
-        body.heads = heads;
-        body.entries = entries;
-        Ok(Body {
+        self.heads = heads;
+        self.entries = entries;
+        Ok(Block {
+            last: last_of(&upper_heads),
             heads: upper_heads,
             entries: upper,
         })

@@ -1,14 +1,14 @@
-use Rattle.std.proofs.Common.{◌+◌, ◌-◌, get_or, min, length, subst, ap, ◌∙◌, sym}
+use Rattle.std.proofs.Common.{◌+◌, ◌-◌, get_or, min, length, subst, ap, ◌∙◌}
 use Rattle.std.specs.List.{insert}
 use Rattle.lsm_below.specs.Keys.{AreBytes}
-use Rattle.lsm_memtable.specs.Heads.{key_head, AreHeads}
+use Rattle.lsm_memtable.specs.Heads.{key_head}
 use Rattle.lsm_memtable.proofs.Heads.{heads_lower, heads_upper, bytes_dealt}
 use Rattle.lsm_memtable.proofs.block.Block.rebuild.Goals as goal
 
-pub returns-clause-heads : goal.returns-clause-heads
-returns-clause-heads c =
-    let i = subst (λ b. AreHeads b.heads.items b.entries.items) (sym c.deref_mut-body.ensures.value) c.self.invariant.0 in
-    let xs = c.deref_mut-body.result.now.entries.items in
+pub invariant_of-result : goal.invariant_of-result
+invariant_of-result c =
+    let i = c.self.invariant in
+    let xs = c.self.inside.entries.items in
     let e = c.args.entry in
     let head = c.head_of-head.ensures.head ∙ ap (λ k. key_head k) c.as_slice.ensures in
     let heads = c.spread.ensures.items ∙ ap (λ l. insert l c.args.place c.head_of-head.result) (ap (λ v. v.items) c.replace-old_heads.ensures.value) in
@@ -16,13 +16,13 @@ returns-clause-heads c =
     let heads_len = c.spread.ensures.len ∙ ap (λ l. min c.args.keep (length l + 1)) (ap (λ v. v.items) c.replace-old_heads.ensures.value) in
     let len = c.spread-2.ensures.len ∙ ap (λ l. min c.args.keep (length l + 1)) (ap (λ v. v.items) c.replace-old_entries.ensures.value) in
     let own = subst (λ k. AreBytes k) c.as_slice.ensures c.head_of-head.ensures.bytes in
-    let parts = bytes_dealt xs c.deref_mut-body.result.now.heads.items c.args.place c.args.keep c.head_of-head.result e c.spread.new.lower.items c.spread.new.upper.items c.spread-2.new.lower.items c.spread-2.new.upper.items i.0 head heads entries heads_len len i.1 own in
-    (heads_upper xs c.deref_mut-body.result.now.heads.items c.args.place c.args.keep c.head_of-head.result e c.spread.new.lower.items c.spread.new.upper.items c.spread-2.new.lower.items c.spread-2.new.upper.items i.0 head heads entries heads_len len, parts.1)
+    let parts = bytes_dealt xs c.self.inside.heads.items c.args.place c.args.keep c.head_of-head.result e c.spread.new.lower.items c.spread.new.upper.items c.spread-2.new.lower.items c.spread-2.new.upper.items i.0.0 head heads entries heads_len len i.0.1 own in
+    ((heads_upper xs c.self.inside.heads.items c.args.place c.args.keep c.head_of-head.result e c.spread.new.lower.items c.spread.new.upper.items c.spread-2.new.lower.items c.spread-2.new.upper.items i.0.0 head heads entries heads_len len, parts.1), c.last_of.ensures ∙ ap (λ l. get_or l (length l - 1) 0) c.deref-2.ensures.value)
 
 pub invariant_of-self : goal.invariant_of-self
 invariant_of-self c =
-    let i = subst (λ b. AreHeads b.heads.items b.entries.items) (sym c.deref_mut-body.ensures.value) c.self.invariant.0 in
-    let xs = c.deref_mut-body.result.now.entries.items in
+    let i = c.self.invariant in
+    let xs = c.self.inside.entries.items in
     let e = c.args.entry in
     let head = c.head_of-head.ensures.head ∙ ap (λ k. key_head k) c.as_slice.ensures in
     let heads = c.spread.ensures.items ∙ ap (λ l. insert l c.args.place c.head_of-head.result) (ap (λ v. v.items) c.replace-old_heads.ensures.value) in
@@ -30,5 +30,5 @@ invariant_of-self c =
     let heads_len = c.spread.ensures.len ∙ ap (λ l. min c.args.keep (length l + 1)) (ap (λ v. v.items) c.replace-old_heads.ensures.value) in
     let len = c.spread-2.ensures.len ∙ ap (λ l. min c.args.keep (length l + 1)) (ap (λ v. v.items) c.replace-old_entries.ensures.value) in
     let own = subst (λ k. AreBytes k) c.as_slice.ensures c.head_of-head.ensures.bytes in
-    let parts = bytes_dealt xs c.deref_mut-body.result.now.heads.items c.args.place c.args.keep c.head_of-head.result e c.spread.new.lower.items c.spread.new.upper.items c.spread-2.new.lower.items c.spread-2.new.upper.items i.0 head heads entries heads_len len i.1 own in
-    ((heads_lower xs c.deref_mut-body.result.now.heads.items c.args.place c.args.keep c.head_of-head.result e c.spread.new.lower.items c.spread.new.upper.items c.spread-2.new.lower.items c.spread-2.new.upper.items i.0 head heads entries heads_len len, parts.0), c.last_of-self-inside.ensures ∙ ap (λ l. get_or l (length l - 1) 0) c.deref-2.ensures.value)
+    let parts = bytes_dealt xs c.self.inside.heads.items c.args.place c.args.keep c.head_of-head.result e c.spread.new.lower.items c.spread.new.upper.items c.spread-2.new.lower.items c.spread-2.new.upper.items i.0.0 head heads entries heads_len len i.0.1 own in
+    ((heads_lower xs c.self.inside.heads.items c.args.place c.args.keep c.head_of-head.result e c.spread.new.lower.items c.spread.new.upper.items c.spread-2.new.lower.items c.spread-2.new.upper.items i.0.0 head heads entries heads_len len, parts.0), c.last_of-self-inside.ensures ∙ ap (λ l. get_or l (length l - 1) 0) c.deref.ensures.value)
