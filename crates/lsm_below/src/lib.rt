@@ -11,6 +11,7 @@
 //! | `key_range` | all keys from a least to a greatest one, and what has such a range |
 //! | `run` | tables sorted by their keys, no two of which share one |
 //! | `optimize` | joins runs where their tables allow it |
+//! | `same` | whether two entries are the same in all their parts |
 //! | `source` | what gives entries in order, one at a time |
 //! | `list_source` | a list of entries, as a source |
 //! | `slot` | a source and its first entry |
@@ -38,6 +39,7 @@ mod mvcc_stream;
 mod number;
 mod optimize;
 mod run;
+mod same;
 mod slot;
 mod source;
 mod value;
@@ -59,6 +61,7 @@ pub use mvcc_stream::MvccStream;
 pub use number::{parse_number, plain_numbers_are_read};
 pub use optimize::optimize_runs;
 pub use run::{Run, is_run};
+pub use same::has_same_parts;
 pub use source::{Source, has_same_key};
 pub use value::InternalValue;
 pub use value_type::ValueType;

@@ -1,7 +1,7 @@
 // Whether two entries of a journal are the same in all their parts.
 ghost use Rattle.std.specs.Prelude.{◌≡◌, IsTrue, ◌↔◌};
 
-use lsm_below::{InternalValue, KeyRange, KvPair, UserKey, ValueType};
+use lsm_below::{KeyRange, KvPair, UserKey, has_same_parts};
 use lsm_model::{Answer, JournalEntry, Question};
 use std::ops::Bound;
 
@@ -9,22 +9,6 @@ fn same_bytes(left: &UserKey, right: &UserKey) -> bool
     ensures { IsTrue result ↔ (left.now ≡ right.now) }
 {
     left == right
-}
-
-fn same_type(left: ValueType, right: ValueType) -> bool
-    ensures { IsTrue result ↔ (left ≡ right) }
-{
-    left == right
-}
-
-/// An entry's order looks at its key and sequence number alone, so its parts are compared one by one.
-fn same_write(left: &InternalValue, right: &InternalValue) -> bool
-    ensures { IsTrue result ↔ (left.now ≡ right.now) }
-{
-    left.key.seqno == right.key.seqno
-        && same_type(left.key.value_type, right.key.value_type)
-        && same_bytes(&left.key.user_key, &right.key.user_key)
-        && same_bytes(&left.value, &right.value)
 }
 
 fn same_range(left: &KeyRange, right: &KeyRange) -> bool
@@ -109,7 +93,7 @@ pub fn same_entry(left: &JournalEntry, right: &JournalEntry) -> bool
     ensures { IsTrue result ↔ (left.now ≡ right.now) }
 {
     match (left, right) {
-        (JournalEntry::Write(left), JournalEntry::Write(right)) => same_write(left, right),
+        (JournalEntry::Write(left), JournalEntry::Write(right)) => has_same_parts(left, right),
         (JournalEntry::Clear(left), JournalEntry::Clear(right))
         | (JournalEntry::Install(left), JournalEntry::Install(right))
         | (JournalEntry::Mark(left), JournalEntry::Mark(right)) => left == right,

@@ -1,5 +1,5 @@
 // The ids that a version's file names.
-ghost use Rattle.std.specs.Prelude.{◌≡◌, ◌↔◌, ◌+◌, ◌-◌, ◌^◌, ◌++◌, min, IfOk, OnOk, IsTrue};
+ghost use Rattle.std.specs.Prelude.{◌≡◌, ◌↔◌, ◌+◌, ◌-◌, ◌++◌, IfOk, OnOk, IsTrue};
 ghost use Rattle.std.specs.List.Sorted.{IsStrictlyIncreasing};
 ghost use Rattle.lsm_manifest.specs.Spelling.{runs_in, levels_in, ids_of_run, ids_of_level, ids_of, distinct};
 ghost use Rattle.lsm_manifest.specs.Opening.{next_id};

@@ -2,9 +2,7 @@
 ghost use Rattle.std.specs.Prelude.{◌≡◌};
 
 use lsm_below::{SeqNo, TreeId};
-
-/// The levels of every tree.
-pub const DEFAULT_LEVEL_COUNT: u8 = 7;
+use lsm_versions::DEFAULT_LEVEL_COUNT;
 
 /// What a tree is opened with: its id, and where its counters start.
 ///

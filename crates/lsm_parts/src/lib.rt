@@ -25,7 +25,7 @@ mod shown_ends;
 mod tree_iter;
 mod version;
 
-pub use config::{Config, DEFAULT_LEVEL_COUNT};
+pub use config::Config;
 pub use guard::{Guard, IterGuard, RangeItem};
 pub use iter_state::IterState;
 pub use laws::shown_is_the_view;
@@ -35,5 +35,5 @@ pub use prefix::prefix_to_range;
 pub use seqno::{LIMIT, SequenceNumberCounter, seqno_filter};
 pub use shown_ends::{count_shown, first_shown, last_shown};
 pub use tree_iter::{End, TreeIter, take_ends};
-pub use lsm_versions::{Version, VersionId};
+pub use lsm_versions::{DEFAULT_LEVEL_COUNT, Version, VersionId};
 pub use version::{SealedMemtables, SuperVersion, SuperVersions};

@@ -31,7 +31,15 @@ pub use lsm_parts::{
 pub use lsm_recorded::{Pass, Recorded};
 pub use lsm_runs::{Counter, Outcome, Reply, Step, run};
 pub use lsm_state::{MAX_KEY_LEN, MAX_VALUE_LEN, TreeState};
-pub use lsm_store::{Fault, MemStore, NoStore, Pick, Store, StoreError};
+pub use lsm_manifest::{
+    FileName, FormatVersion, Manifest, Opened, RecoveredTable, Recovery, get_current_version,
+    open_files, persist_version, recover, table_name, version_name,
+};
+pub use lsm_store::{FolderStore, Fault, MemStore, NoStore, Pick, Store, StoreError};
 pub use lsm_tables::{
     Checksum, MultiWriter, Table, TableError, decode, encode, fits_image, is_writable, write_tables,
+};
+pub use lsm_versions::{
+    GenericLevel, HiddenSet, Input, Kind, Level, Tables, TreeType, Why, first_reason, ids_are_own,
+    last_reason, last_reason_by_ids, levels_fit, pick_run_indexes,
 };

@@ -1,5 +1,6 @@
 -- Tables that are still there are those of their ids.
-use Rattle.std.proofs.Common.{◌≡◌, ℕ, true, false, cond, ◌||◌, List, [], ◌∷◌, ◌++◌, map, flat_map, filter, refl, sym, ◌∙◌, ap, subst, append_assoc, eqb, eq-eqb, ◌⊎◌, inl, inr, ⊎_elim}
+use Rattle.std.proofs.Common.{◌≡◌, ℕ, true, false, cond, ◌||◌, List, [], ◌∷◌, ◌++◌, map, flat_map, filter, refl, sym, ◌∙◌, ap, subst, eqb, eq-eqb, ◌⊎◌, inl, inr, ⊎_elim}
+use Rattle.std.proofs.lemmas.Grind.{flat_map-append}
 use Rattle.std.specs.List.{AllByRecursion, IsDistinct}
 use Rattle.std.specs.List.Sorted.{IsPermutation}
 use Rattle.std.proofs.lemmas.List.Elements.{filter-append}
@@ -43,10 +44,6 @@ no_difference : (i : ℕ) (ids : List ℕ) (ts : List Table) → Others i ts →
 no_difference i ids [] o = tt
 no_difference i ids (t ∷ ts) o = (ap (λ b. b || among ids t.id) (flips t.id i ∙ o.0), no_difference i ids ts o.1)
 
-flat_both : {B : Type 0} (f : Table → List B) (xs ys : List Table) → flat_map f (xs ++ ys) ≡ flat_map f xs ++ flat_map f ys
-flat_both f [] ys = refl
-flat_both f (x ∷ xs) ys = ap (λ l. f x ++ l) (flat_both f xs ys) ∙ sym (append_assoc (f x) (flat_map f xs) (flat_map f ys))
-
 module _ {B : Type 0} (f : Table → List B) where
   -- what tables of a list hold is what those of their ids hold
   chosen_same : (inputs all : List Table) → Distinct inputs → Distinct all → AllByRecursion (λ t. IsIn t all) inputs → IsPermutation (flat_map f inputs) (flat_map f (filter (λ t. among (map (λ t. t.id) inputs) t.id) all))
@@ -67,8 +64,8 @@ module _ {B : Type 0} (f : Table → List B) where
       let same : filter (λ u. among ids u.id) (front ++ behind) ≡ filter t front ++ filter t behind = sym (filter_same t (λ u. among ids u.id) (front ++ behind) (no_difference x.id ids (front ++ behind) e_apart.0)) ∙ filter-append t front behind in
       let first : t x ≡ true = ap (λ b. b || among ids x.id) (eq-eqb x.id x.id refl) in
       let whole : flat_map f (filter t all) ≡ flat_map f (filter t front) ++ (f x ++ flat_map f (filter t behind)) =
-      ap (λ ts. flat_map f (filter t ts)) s.2 ∙ ap (flat_map f) (filter-append t front (x ∷ behind)) ∙ flat_both f (filter t front) (filter t (x ∷ behind)) ∙ ap (λ b. flat_map f (filter t front) ++ flat_map f (cond b (x ∷ filter t behind) (filter t behind))) first in
-      let rest : IsPermutation (flat_map f inputs) (flat_map f (filter t front) ++ flat_map f (filter t behind)) = subst (IsPermutation (flat_map f inputs)) (ap (flat_map f) same ∙ flat_both f (filter t front) (filter t behind)) ih in
+      ap (λ ts. flat_map f (filter t ts)) s.2 ∙ ap (flat_map f) (filter-append t front (x ∷ behind)) ∙ flat_map-append f (filter t front) (filter t (x ∷ behind)) ∙ ap (λ b. flat_map f (filter t front) ++ flat_map f (cond b (x ∷ filter t behind) (filter t behind))) first in
+      let rest : IsPermutation (flat_map f inputs) (flat_map f (filter t front) ++ flat_map f (filter t behind)) = subst (IsPermutation (flat_map f inputs)) (ap (flat_map f) same ∙ flat_map-append f (filter t front) (filter t behind)) ih in
       subst (IsPermutation (f x ++ flat_map f inputs)) (sym whole)
       (IsPermutation-trans _ _ _ (IsPermutation-append_right (f x) (flat_map f inputs) (flat_map f (filter t front) ++ flat_map f (filter t behind)) rest) (front_moves (f x) (flat_map f (filter t front)) (flat_map f (filter t behind))))
 

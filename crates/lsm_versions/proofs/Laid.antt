@@ -1,5 +1,6 @@
 -- The tables of a version stand as the theory wants it.
 use Rattle.std.proofs.Common.{◌≡◌, ℕ, ◌+◌, ◌≤◌, Bool, true, false, cond, List, [], ◌∷◌, ◌++◌, map, flat_map, filter, sym, ap, ap₂, subst, refl, ◌∙◌, append_assoc, arith}
+use Rattle.std.proofs.lemmas.Grind.{flat_map-append}
 use Rattle.std.specs.List.{AllByRecursion}
 use Rattle.std.proofs.lemmas.List.Elements.{filter-append}
 use Rattle.lsm_below.specs.Keys.{Bytes}
@@ -50,10 +51,6 @@ pub entries_of_placed : (level : ℕ) (ts : List SeenTable) → held (placed_in 
 entries_of_placed level [] = refl
 entries_of_placed level (t ∷ ts) = ap (λ es. t.entries ++ es) (entries_of_placed level ts)
 
-flat_both : (xs ys : List SeenTable) → flat_map (λ t. t.entries) (xs ++ ys) ≡ flat_map (λ t. t.entries) xs ++ flat_map (λ t. t.entries) ys
-flat_both [] ys = refl
-flat_both (x ∷ xs) ys = ap (λ es. x.entries ++ es) (flat_both xs ys) ∙ sym (append_assoc x.entries (flat_map (λ t. t.entries) xs) (flat_map (λ t. t.entries) ys))
-
 held_both : (xs ys : List Placed) → held (xs ++ ys) ≡ held xs ++ held ys
 held_both [] ys = refl
 held_both (x ∷ xs) ys = ap (λ es. x.table.entries ++ es) (held_both xs ys) ∙ sym (append_assoc x.table.entries (held xs) (held ys))
@@ -69,7 +66,7 @@ held_chosen ids n (runs ∷ levels) =
     ∙ ap held (filter-append (λ p. among ids p.table.id) (placed_in n ts) rest)
     ∙ held_both (chosen_of (among ids) (placed_in n ts)) (chosen_of (among ids) rest)
     ∙ ap₂ (λ a b. a ++ b) (ap held (filter_map f (λ p. among ids p.table.id) ts) ∙ entries_of_placed n (chosen_in ids ts)) (held_chosen ids (n + 1) levels)
-    ∙ sym (flat_both (chosen_in ids ts) (chosen_in ids more))
+    ∙ sym (flat_map-append (λ t. t.entries) (chosen_in ids ts) (chosen_in ids more))
     ∙ ap (flat_map (λ t. t.entries)) (sym (ap (chosen_in ids) (flat_append runs (tables_of levels)) ∙ filter-append (λ t. among ids t.id) ts more))
 
 one_level : (n : ℕ) (ts : List SeenTable) → EachPair (λ p q. p.level ≤ q.level) (placed_in n ts)

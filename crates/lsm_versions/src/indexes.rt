@@ -1,5 +1,5 @@
 // What a compaction takes of a run.
-ghost use Rattle.std.specs.Prelude.{◌≡◌, ℕ, ◌<◌, ◌≤◌, true, false, length, slice_index_or, MatchOption};
+ghost use Rattle.std.specs.Prelude.{◌<◌, MatchOption};
 ghost use Rattle.lsm_below.specs.Runs.{IsSpan};
 ghost use Rattle.lsm_model.specs.Steps.{among};
 ghost use Rattle.lsm_versions.specs.Choices.{HasNone, IsFirstOf, IsLastOf};

@@ -6,6 +6,7 @@
 //! | `version` | seven levels with an id, and the four ways to make a next version |
 //! | `tables` | the tables of a version, one after the other |
 //! | `lookup` | look-ups of a version's tables by their ids |
+//! | `walk` | look-ups of a key in a version's tables |
 //! | `hidden_set` | the tables that open jobs work on |
 //! | `input` | what a choice of tables names |
 //! | `choice` | why a choice of tables is declined |

@@ -1,9 +1,8 @@
 // Runs, parted by a choice of tables.
-ghost use Rattle.std.specs.Prelude.{◌≡◌, ◌++◌, ◌==◌, ◌&&◌, [], not, map, filter, IfOk, OnOk, unwrap_or};
-ghost use Rattle.std.specs.List.{list_any, AllByRecursion};
+ghost use Rattle.std.specs.Prelude.{◌≡◌, ◌++◌, ◌==◌, ◌&&◌, [], map, IfOk, OnOk, unwrap_or};
+ghost use Rattle.std.specs.List.{list_any};
 ghost use Rattle.lsm_below.specs.Ranges.{overlap};
-ghost use Rattle.lsm_model.specs.Steps.{among};
-ghost use Rattle.lsm_versions.specs.Levels.{range, chosen_in, left_in};
+ghost use Rattle.lsm_versions.specs.Levels.{range, chosen_in};
 ghost use Rattle.lsm_versions.specs.Choices.{any_pair};
 ghost use Rattle.lsm_versions.specs.Parted.{part_of, parted_from, meets, is_wrong};
 

@@ -37,7 +37,10 @@ pub enum TreeType {
 }
 
 /// How many levels a version has.
-pub const DEFAULT_LEVEL_COUNT: usize = 7;
+pub const DEFAULT_LEVEL_COUNT: u8 = 7;
+
+/// The same, as a length.
+pub(crate) const LEVELS: usize = DEFAULT_LEVEL_COUNT as usize;
 
 /// Seven levels of runs of tables, with an id.
 ///
@@ -49,7 +52,7 @@ pub const DEFAULT_LEVEL_COUNT: usize = 7;
 #[derive(Drop)]
 pub struct Version {
     id: VersionId,
-    levels: [Level; DEFAULT_LEVEL_COUNT],
+    levels: [Level; LEVELS],
 }
 
 impl Model for Version {
@@ -119,11 +122,11 @@ pub fn levels_fit(levels: &[Level]) -> bool
 }
 
 /// Seven levels, off the list that they were collected in.
-fn seven(levels: Vec<Level>) -> [Level; DEFAULT_LEVEL_COUNT]
+fn seven(levels: Vec<Level>) -> [Level; LEVELS]
     requires { length levels.items ≡ 7 }
     ensures { result ≡ levels.items }
 {
-    match <[Level; DEFAULT_LEVEL_COUNT]>::try_from(levels) {
+    match <[Level; LEVELS]>::try_from(levels) {
         Ok(levels) => levels,
         Err(_) => unreachable!(),
     }

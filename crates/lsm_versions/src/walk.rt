@@ -22,11 +22,7 @@ fn walk_run<'a>(run: &'a Run<Table>, key: &[u8], snapshot: SeqNo) -> Option<&'a 
 }
 
 /// What a walk finds in the runs of a level, the newest first.
-fn walk_runs<'a>(
-    runs: &'a [Run<Table>],
-    key: &[u8],
-    snapshot: SeqNo,
-) -> Option<&'a InternalValue>
+fn walk_runs<'a>(runs: &'a [Run<Table>], key: &[u8], snapshot: SeqNo) -> Option<&'a InternalValue>
     requires { AreCovered (tables_of runs.now) }
     ensures { option_copied result ≡ walk key.now snapshot (map (λ t. t.entries) (tables_of runs.now)) }
 {
@@ -41,11 +37,7 @@ fn walk_runs<'a>(
 }
 
 /// What a walk finds in levels, from the first one on.
-fn walk_levels<'a>(
-    levels: &'a [Level],
-    key: &[u8],
-    snapshot: SeqNo,
-) -> Option<&'a InternalValue>
+fn walk_levels<'a>(levels: &'a [Level], key: &[u8], snapshot: SeqNo) -> Option<&'a InternalValue>
     requires { AreCovered (all_of levels.now) }
     ensures { option_copied result ≡ walk key.now snapshot (map (λ t. t.entries) (all_of levels.now)) }
 {

@@ -21,9 +21,9 @@ returns-in-Some-walk_runs c =
     let here = split_levels c.loop-level.rest.now c.in-Some.level.now c.as_slice.result.now c.in-Some.lower.now c.in-Some.ensures.cases.0 (sym c.as_slice.ensures) in
     let first = sym c.walk_runs.ensures ∙ ap option_copied c.in-Some-walk_runs.is in
     sym (c.loop-level.invariant.0
-      ∙ ap (λ l. walk k s (entries_of l)) here
-      ∙ walk_on k s (tables_of c.as_slice.result.now) lower
-      ∙ ap (λ o. option_or o (walk k s (entries_of lower))) first)
+    ∙ ap (λ l. walk k s (entries_of l)) here
+    ∙ walk_on k s (tables_of c.as_slice.result.now) lower
+    ∙ ap (λ o. option_or o (walk k s (entries_of lower))) first)
 
 pub loop-level-preserved : goal.loop-level-preserved
 loop-level-preserved c =
@@ -31,9 +31,10 @@ loop-level-preserved c =
     let s = c.args.snapshot in
     let lower = all_of c.in-Some.lower.now in
     let here = split_levels c.loop-level.rest.now c.in-Some.level.now c.as_slice.result.now c.in-Some.lower.now c.in-Some.ensures.cases.0 (sym c.as_slice.ensures) in
-    let none = sym c.walk_runs.ensures ∙ ap option_copied c.in_default-walk_runs.is in
-    (c.loop-level.invariant.0
-      ∙ ap (λ l. walk k s (entries_of l)) here
-      ∙ walk_on k s (tables_of c.as_slice.result.now) lower
-      ∙ ap (λ o. option_or o (walk k s (entries_of lower))) none,
-     each_right _ (tables_of c.as_slice.result.now) lower (subst AreCovered here c.loop-level.invariant.1))
+    let none = sym c.walk_runs.ensures ∙ ap option_copied c.in_default-walk_runs.is in (
+      c.loop-level.invariant.0
+          ∙ ap (λ l. walk k s (entries_of l)) here
+          ∙ walk_on k s (tables_of c.as_slice.result.now) lower
+          ∙ ap (λ o. option_or o (walk k s (entries_of lower))) none,
+      each_right _ (tables_of c.as_slice.result.now) lower (subst AreCovered here c.loop-level.invariant.1),
+    )

@@ -1,4 +1,4 @@
-use Rattle.std.proofs.Common.{◌≡◌, map, length}
+use Rattle.std.proofs.Common.{◌≡◌, length}
 use Rattle.lsm_model.specs.Views.{walk}
 use Rattle.lsm_versions.specs.Levels.{all_of, AreCovered}
 use Rattle.lsm_versions.proofs.Walks.{entries_of}

@@ -1,4 +1,4 @@
-use Rattle.std.proofs.Common.{◌≡◌, map, length}
+use Rattle.std.proofs.Common.{◌≡◌, length}
 use Rattle.lsm_below.specs.Optimizes.{tables_of}
 use Rattle.lsm_model.specs.Views.{walk}
 use Rattle.lsm_versions.specs.Levels.{AreCovered}

@@ -1,5 +1,5 @@
-use Rattle.std.proofs.Common.{◌≡◌, sym, ap, ◌∙◌}
-use Rattle.lsm_versions.specs.Levels.{SeenVersion, all_of, tables_shown}
+use Rattle.std.proofs.Common.{sym, ap, ◌∙◌}
+use Rattle.lsm_versions.specs.Levels.{SeenVersion, tables_shown}
 use Rattle.lsm_versions.proofs.Walks.{entries_of, shown_all}
 use Rattle.lsm_versions.proofs.version.Version.iter_tables.Goals as goal
 
