@@ -80,11 +80,7 @@ fn push_memtables<'a>(
         (PutsCuts bounds.now.0 bounds.now.1 (map (λ m. at snapshot m.now.entries) memtables.now) cuts.old.items cuts.new.items) }
 {
     for memtable in memtables {
-        cuts.push(Cut::new(
-            &Entries::of_memtable(memtable),
-            bounds,
-            snapshot,
-        ))?;
+        cuts.push(Cut::new(&Entries::of_memtable(memtable), bounds, snapshot))?;
     }
     Ok(())
 }
