@@ -4,6 +4,7 @@
 //! |-|-|
 //! | `manifests` | the bytes of versions' files, and what they tell |
 //! | `opening` | what is opened, what is removed, and each refusal |
+//! | `trees` | a tree that is opened over a store, its reads and writes |
 //! | `samples` | holds no test: files, byte by byte |
 #![tactic(auto)]
 
@@ -13,3 +14,5 @@ mod manifests;
 mod opening;
 #[cfg(test)]
 mod samples;
+#[cfg(test)]
+mod trees;

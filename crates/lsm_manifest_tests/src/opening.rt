@@ -1,13 +1,13 @@
 // What is opened, what is removed, and each refusal.
 
-use crate::samples::{NO_TABLE, ONE_TABLE, Sections, TABLE, Told, bytes_of, file, is_told};
+use crate::samples::{
+    NO_TABLE, ONE_TABLE, Sections, TABLE, Told, bytes_of, file, fill, is_told,
+};
 use lsm_below::Error;
 use lsm_manifest::{
     get_current_version, open_files, persist_version, recover, table_name, version_name,
-    write_current,
 };
 use lsm_store::{Fault, MemStore, Store, StoreError};
-use lsm_tables::Checksum;
 use std::alloc::Global;
 use std::test::Fail;
 
@@ -31,17 +31,6 @@ fn has(
         },
         None => bytes.is_none(),
     })
-}
-
-/// Version 5 with this file, which `current` names with its own sum, and table 3.
-fn fill(alloc: Global, store: &mut MemStore, file: &Sections<'_>) -> Result<(), StoreError> {
-    let bytes = bytes_of(alloc, file)?;
-    store.replace("v5", &bytes)?;
-    store.replace(
-        "current",
-        &write_current(5, Checksum::of(&bytes).into_u128()),
-    )?;
-    store.replace("tables/3", &TABLE)
 }
 
 fn change(store: &mut MemStore, changes: &[(&str, Option<&[u8]>)]) -> Result<(), StoreError> {

@@ -1,6 +1,9 @@
 // Files, byte by byte, and the errors that they are refused with.
 
 use lsm_below::Error;
+use lsm_manifest::write_current;
+use lsm_store::{MemStore, Store, StoreError};
+use lsm_tables::Checksum;
 use std::alloc::{AllocError, Global};
 
 /// The table a = x at 0, made at 0.
@@ -99,4 +102,15 @@ pub fn is_told(error: &Error, wanted: Told) -> bool {
             _ => false,
         },
     }
+}
+
+/// Version 5 with this file, which `current` names with its own sum, and table 3.
+pub fn fill(alloc: Global, store: &mut MemStore, file: &Sections<'_>) -> Result<(), StoreError> {
+    let bytes = bytes_of(alloc, file)?;
+    store.replace("v5", &bytes)?;
+    store.replace(
+        "current",
+        &write_current(5, Checksum::of(&bytes).into_u128()),
+    )?;
+    store.replace("tables/3", &TABLE)
 }
