@@ -1,8 +1,6 @@
 // What is opened, what is removed, and each refusal.
 
-use crate::samples::{
-    NO_TABLE, ONE_TABLE, Sections, TABLE, Told, bytes_of, file, fill, is_told,
-};
+use crate::samples::{NO_TABLE, ONE_TABLE, Sections, TABLE, Told, bytes_of, file, fill, is_told};
 use lsm_below::Error;
 use lsm_manifest::{
     get_current_version, open_files, persist_version, recover, table_name, version_name,

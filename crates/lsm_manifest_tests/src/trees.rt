@@ -1,7 +1,7 @@
 // A tree that is opened reads what its tables hold.
 
 use crate::samples::{ONE_TABLE, file, fill};
-use lsm_below::UserKey;
+use lsm_below::{Error, UserKey};
 use lsm_model::Op;
 use lsm_parts::{Config, IterGuard};
 use lsm_state::TreeState;
@@ -23,7 +23,7 @@ fn reads(
     key: &[u8],
     snapshot: u64,
     wanted: Option<&[u8]>,
-) -> Result<bool, Fail> {
+) -> Result<bool, Error> {
     Ok(match (tree.get(key, snapshot)?, wanted) {
         (Some(value), Some(wanted)) => value.as_slice() == wanted,
         (None, None) => true,
@@ -32,7 +32,7 @@ fn reads(
 }
 
 /// Whether all pairs at a snapshot are just these keys.
-fn lists(tree: &TreeState<MemStore>, snapshot: u64, wanted: &[&[u8]]) -> Result<bool, Fail> {
+fn lists(tree: &TreeState<MemStore>, snapshot: u64, wanted: &[&[u8]]) -> Result<bool, Error> {
     let mut pairs = tree.range(&(Bound::Unbounded, Bound::Unbounded), snapshot, None)?;
     for key in wanted {
         let Some(guard) = pairs.next() else {
@@ -51,38 +51,42 @@ fn tells(tree: &TreeState<MemStore>) -> bool {
 }
 
 /// Whether what is written lies over the tables.
-fn writes(alloc: Global, tree: &mut TreeState<MemStore>) -> Result<bool, Fail> {
+fn writes(alloc: Global, tree: &mut TreeState<MemStore>) -> Result<bool, Error> {
     let key = UserKey::from_static(b"b");
     let value = UserKey::from_static(b"y");
     let number = tree.write(vec![in alloc; (key, Op::Set(value))]?)?;
     let gone = tree.write(vec![in alloc; (UserKey::from_static(b"a"), Op::Del)]?)?;
-    Ok(number == 10
-        && gone == 11
-        && reads(tree, b"a", 11, Some(b"x"))?
-        && reads(tree, b"a", 12, None)?
-        && lists(tree, 10, &[b"a"])?
-        && lists(tree, 11, &[b"a", b"b"])?
-        && lists(tree, 12, &[b"b"])?)
+    Ok(
+        number == 10
+            && gone == 11
+            && reads(tree, b"a", 11, Some(b"x"))?
+            && reads(tree, b"a", 12, None)?
+            && lists(tree, 10, &[b"a"])?
+            && lists(tree, 11, &[b"a", b"b"])?
+            && lists(tree, 12, &[b"b"])?,
+    )
 }
 
-fn reads_and_writes(alloc: Global, tree: &mut TreeState<MemStore>) -> Result<bool, Fail> {
-    Ok(tells(tree)
-        && reads(tree, b"a", 10, Some(b"x"))?
-        && reads(tree, b"b", 10, None)?
-        && writes(alloc, tree)?)
+fn reads_and_writes(alloc: Global, tree: &mut TreeState<MemStore>) -> Result<bool, Error> {
+    Ok(
+        tells(tree)
+            && reads(tree, b"a", 10, Some(b"x"))?
+            && reads(tree, b"b", 10, None)?
+            && writes(alloc, tree)?,
+    )
 }
 
 /// Whether the store has just the files of the version.
-fn is_cleared(alloc: Global, store: &mut MemStore) -> Result<bool, Fail> {
+fn is_cleared(alloc: Global, store: &mut MemStore) -> Result<bool, StoreError> {
     let names = store.list(alloc)?;
-    Ok(names.len() == 3
-        && names
-            .iter()
-            .all(|name| ["current", "tables/3", "v5"].contains(&name.as_str())))
+    Ok(
+        names.len() == 3
+            && names.iter().all(|name| ["current", "tables/3", "v5"].contains(&name.as_str())),
+    )
 }
 
 /// The store of a tree that was opened over it and written to, and whether the tree was as it has to be.
-fn take_turn(alloc: Global, store: MemStore) -> (MemStore, Result<bool, Fail>) {
+fn take_turn(alloc: Global, store: MemStore) -> (MemStore, Result<bool, Error>) {
     match TreeState::open(alloc, Config::new(0, 10, 10), store) {
         Ok(mut tree) => {
             let well = reads_and_writes(alloc, &mut tree);
@@ -106,7 +110,7 @@ fn an_opened_tree_reads_its_tables(rt: HostRuntime) -> Result<(), Fail> {
 }
 
 /// Whether the store comes back with the error, as it was.
-fn comes_back(alloc: Global, store: MemStore) -> Result<bool, Fail> {
+fn comes_back(alloc: Global, store: MemStore) -> Result<bool, StoreError> {
     match TreeState::open(alloc, Config::new(0, 10, 10), store) {
         Ok(_) => Ok(false),
         Err((error, mut store)) => {
@@ -121,7 +125,8 @@ fn comes_back(alloc: Global, store: MemStore) -> Result<bool, Fail> {
 fn a_refused_tree_gives_its_store_back(rt: HostRuntime) -> Result<(), Fail> {
     let mut store = MemStore::new(rt.alloc());
     let filled = fill_more(rt.alloc(), &mut store);
-    let changed = store.replace("tables/3", b"1").is_ok() && store.replace("tables/x", b"1").is_ok();
+    let changed = store.replace("tables/3", b"1").is_ok()
+        && store.replace("tables/x", b"1").is_ok();
     let removed = store.remove("tables/7").is_ok();
     let well = comes_back(rt.alloc(), store);
     filled?;

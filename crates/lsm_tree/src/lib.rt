@@ -15,31 +15,115 @@ mod recorded_tree;
 mod shared_ranges;
 mod shared_tree;
 
-pub use handle::{Handle, RecordedTree, Tree};
-pub use lsm_below::{
-    CompactionStream, Error, InternalKey, InternalValue, KeyRange, KvPair, ListSource, MemtableId, Merger,
-    MvccStream, Ranged, Run, SeqNo, Source, TableId, TreeId, UserKey, UserValue, ValueType,
-    compact, entries_within, first_visible, has_same_key, is_run, optimize_runs, share,
-};
-pub use lsm_memtable::{Iter, Memtable, Span, Steps};
-pub use lsm_model::{Answer, JournalEntry, KeyRanges, KvPairs, Op, Ops, Question};
-pub use lsm_parts::{
-    Config, DEFAULT_LEVEL_COUNT, End, Guard, IterGuard, IterState, LIMIT, RangeItem,
-    SealedMemtables, SequenceNumberCounter, SuperVersion, SuperVersions, TreeIter, Version,
-    VersionId, first_shown, last_shown, prefix_to_range, seqno_filter, take_ends,
-};
-pub use lsm_recorded::{Pass, Recorded};
-pub use lsm_runs::{Counter, Outcome, Reply, Step, run};
-pub use lsm_state::{MAX_KEY_LEN, MAX_VALUE_LEN, TreeState};
-pub use lsm_manifest::{
-    FileName, FormatVersion, Manifest, Opened, RecoveredTable, Recovery, get_current_version,
-    open_files, persist_version, recover, table_name, version_name,
-};
-pub use lsm_store::{FolderStore, Fault, MemStore, NoStore, Pick, Store, StoreError};
-pub use lsm_tables::{
-    Checksum, MultiWriter, Table, TableError, decode, encode, fits_image, is_writable, write_tables,
-};
-pub use lsm_versions::{
-    GenericLevel, HiddenSet, Input, Kind, Level, Tables, TreeType, Why, first_reason, ids_are_own,
-    last_reason, last_reason_by_ids, levels_fit, pick_run_indexes,
-};
+pub use handle::Handle;
+pub use handle::RecordedTree;
+pub use handle::Tree;
+pub use lsm_below::CompactionStream;
+pub use lsm_below::Error;
+pub use lsm_below::InternalKey;
+pub use lsm_below::InternalValue;
+pub use lsm_below::KeyRange;
+pub use lsm_below::KvPair;
+pub use lsm_below::ListSource;
+pub use lsm_below::MemtableId;
+pub use lsm_below::Merger;
+pub use lsm_below::MvccStream;
+pub use lsm_below::Ranged;
+pub use lsm_below::Run;
+pub use lsm_below::SeqNo;
+pub use lsm_below::Source;
+pub use lsm_below::TableId;
+pub use lsm_below::TreeId;
+pub use lsm_below::UserKey;
+pub use lsm_below::UserValue;
+pub use lsm_below::ValueType;
+pub use lsm_below::compact;
+pub use lsm_below::entries_within;
+pub use lsm_below::first_visible;
+pub use lsm_below::has_same_key;
+pub use lsm_below::is_run;
+pub use lsm_below::optimize_runs;
+pub use lsm_below::share;
+pub use lsm_manifest::FileName;
+pub use lsm_manifest::FormatVersion;
+pub use lsm_manifest::Manifest;
+pub use lsm_manifest::Opened;
+pub use lsm_manifest::RecoveredTable;
+pub use lsm_manifest::Recovery;
+pub use lsm_manifest::get_current_version;
+pub use lsm_manifest::open_files;
+pub use lsm_manifest::persist_version;
+pub use lsm_manifest::recover;
+pub use lsm_manifest::table_name;
+pub use lsm_manifest::version_name;
+pub use lsm_memtable::Iter;
+pub use lsm_memtable::Memtable;
+pub use lsm_memtable::Span;
+pub use lsm_memtable::Steps;
+pub use lsm_model::Answer;
+pub use lsm_model::JournalEntry;
+pub use lsm_model::KeyRanges;
+pub use lsm_model::KvPairs;
+pub use lsm_model::Op;
+pub use lsm_model::Ops;
+pub use lsm_model::Question;
+pub use lsm_parts::Config;
+pub use lsm_parts::DEFAULT_LEVEL_COUNT;
+pub use lsm_parts::End;
+pub use lsm_parts::Guard;
+pub use lsm_parts::IterGuard;
+pub use lsm_parts::IterState;
+pub use lsm_parts::LIMIT;
+pub use lsm_parts::RangeItem;
+pub use lsm_parts::SealedMemtables;
+pub use lsm_parts::SequenceNumberCounter;
+pub use lsm_parts::SuperVersion;
+pub use lsm_parts::SuperVersions;
+pub use lsm_parts::TreeIter;
+pub use lsm_parts::Version;
+pub use lsm_parts::VersionId;
+pub use lsm_parts::first_shown;
+pub use lsm_parts::last_shown;
+pub use lsm_parts::prefix_to_range;
+pub use lsm_parts::seqno_filter;
+pub use lsm_parts::take_ends;
+pub use lsm_recorded::Pass;
+pub use lsm_recorded::Recorded;
+pub use lsm_runs::Counter;
+pub use lsm_runs::Outcome;
+pub use lsm_runs::Reply;
+pub use lsm_runs::Step;
+pub use lsm_runs::run;
+pub use lsm_state::MAX_KEY_LEN;
+pub use lsm_state::MAX_VALUE_LEN;
+pub use lsm_state::TreeState;
+pub use lsm_store::Fault;
+pub use lsm_store::FolderStore;
+pub use lsm_store::MemStore;
+pub use lsm_store::NoStore;
+pub use lsm_store::Pick;
+pub use lsm_store::Store;
+pub use lsm_store::StoreError;
+pub use lsm_tables::Checksum;
+pub use lsm_tables::MultiWriter;
+pub use lsm_tables::Table;
+pub use lsm_tables::TableError;
+pub use lsm_tables::decode;
+pub use lsm_tables::encode;
+pub use lsm_tables::fits_image;
+pub use lsm_tables::is_writable;
+pub use lsm_tables::write_tables;
+pub use lsm_versions::GenericLevel;
+pub use lsm_versions::HiddenSet;
+pub use lsm_versions::Input;
+pub use lsm_versions::Kind;
+pub use lsm_versions::Level;
+pub use lsm_versions::Tables;
+pub use lsm_versions::TreeType;
+pub use lsm_versions::Why;
+pub use lsm_versions::first_reason;
+pub use lsm_versions::ids_are_own;
+pub use lsm_versions::last_reason;
+pub use lsm_versions::last_reason_by_ids;
+pub use lsm_versions::levels_fit;
+pub use lsm_versions::pick_run_indexes;
