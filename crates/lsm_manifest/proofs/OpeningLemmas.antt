@@ -132,7 +132,7 @@ some_not_none (Some x) some none = absurd cc
 pub named_there : (image : Image) (id : ℕ) (ls : Levels) → IsNamed image id ls → IsSome (image current_name)
 named_there image id ls named = subst (λ (o : Option (List ℕ)). IsSome o) (sym named.current) refl
 
--- ---- behind a call without effect
+-- ---- after a call without effect
 
 pub not_version : (e : OpenError) → StoreOnly {T = Unit {0}} (Err e) → OnlyFault {T = Opened} (InvalidVersion 1) (Err e)
 not_version opening.OutOfMemory h = tt

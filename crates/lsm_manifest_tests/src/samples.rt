@@ -21,7 +21,7 @@ pub const ONE_TABLE: [u8; 45] = [
     0x51, 0xbb, 0x09, 0x02, 0x2a, 0xf9, 0x67, 0x5b, 0, 0, 0, 0, 0, 0, 0, 0, 0, 0, 0, 0, 0, 0,
 ];
 
-/// What a version's file has in its sections, and behind them.
+/// What a version's file has in its sections, and after them.
 #[derive(Clone, Copy)]
 pub struct Sections<'a> {
     pub format: u8,
@@ -49,7 +49,7 @@ fn put(out: &mut Vec<u8>, head: &[u8], content: &[u8]) -> Result<(), AllocError>
     out.extend_from_slice(content)
 }
 
-/// The bytes of a version's file: each section's name behind its length, and the length of its content.
+/// The bytes of a version's file: each section's name after its length, and the length of its content.
 pub fn bytes_of(alloc: Global, file: &Sections<'_>) -> Result<Vec<u8>, AllocError> {
     let mut out = Vec::new(alloc);
     put(

@@ -1,4 +1,4 @@
--- A gap shows at the first table that isn't chosen behind one that is.
+-- A gap shows at the first table that isn't chosen after one that is.
 use Rattle.std.proofs.Common.{◌≡◌, ℕ, Bool, true, false, ◌&&◌, ◌||◌, not, List, [], ◌∷◌, refl, sym, ◌∙◌, ap, ◌≤◌, ◌-◌, length, get_or, take, drop, arith}
 use Rattle.std.specs.List.{list_any}
 use Rattle.std.proofs.Math.Seq.{drop-cons}

@@ -104,6 +104,6 @@ shown_all n (runs ∷ levels) =
     placed_entries n [] = refl
     placed_entries n (t ∷ ts) = ap (λ l. t.entries ∷ l) (placed_entries n ts)
 
--- the tables of levels: those of the first one, and those behind it
+-- the tables of levels: those of the first one, and those after it
 pub split_levels : (levels : Levels) (level runs : List (List SeenTable)) (lower : Levels) → levels ≡ level ∷ lower → level ≡ runs → all_of levels ≡ tables_of runs ++ all_of lower
 split_levels levels level runs lower is same = ap all_of is ∙ flat_append level (tables_of lower) ∙ ap (λ l. tables_of l ++ all_of lower) same

@@ -160,7 +160,7 @@ pub record IsFirstOf (ids : List ℕ) (ts : List SeenTable) (at : ℕ) : Type 0 
   pub passes : (d : SeenTable) → among ids (slice_index_or ts at d).id ≡ true
   pub before : (j : ℕ) (d : SeenTable) → j < at → among ids (slice_index_or ts j d).id ≡ false
 
--- the table at this place has one of these ids, and none behind it
+-- the table at this place has one of these ids, and none after it
 pub record IsLastOf (ids : List ℕ) (ts : List SeenTable) (at : ℕ) : Type 0 where
   pub within : at < length ts
   pub passes : (d : SeenTable) → among ids (slice_index_or ts at d).id ≡ true

@@ -97,7 +97,7 @@ impl PartedRun {
         }
     }
 
-    /// Whether something is wrong between this run and one that stands behind it.
+    /// Whether something is wrong between this run and one that stands after it.
     fn is_wrong_with(&self, fault: Fault, to: usize, behind: &PartedRun) -> bool
         ensures { result ≡ is_wrong fault to self.now behind.now }
     {

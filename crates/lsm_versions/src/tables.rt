@@ -32,7 +32,7 @@ impl<'a> Model for Tables<'a> {
     ghost view = { λ s. s.tables.now ++ (tables_of s.runs.now ++ all_of s.levels.now) };
 }
 
-/// A run and what stands behind it.
+/// A run and what stands after it.
 #[derive(Drop)]
 struct FrontRun<'a> {
     run: &'a Run<Table>,
@@ -40,7 +40,7 @@ struct FrontRun<'a> {
     levels: &'a [Level],
 }
 
-/// The first run of a level's rest or of the levels behind it.
+/// The first run of a level's rest or of the levels after it.
 fn front_run<'a>(runs: &'a [Run<Table>], levels: &'a [Level]) -> Option<FrontRun<'a>>
     ensures { MatchOption result
         (tables_of runs.now ++ all_of levels.now ≡ [])
