@@ -177,7 +177,7 @@ fn begin_block(
     Ok(())
 }
 
-/// Puts an entry before a block that is full: at the end of the block before it where that isn't full, else in a block of its
+/// Puts an entry before a full block: at the end of the block before it where that isn't full, else in a block of its
 /// own. Refused only for want of memory, and then nothing changes.
 fn insert_before(
     blocks: &mut Vec<Block>,
