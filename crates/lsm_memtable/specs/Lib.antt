@@ -3,5 +3,6 @@ pub mod Heads
 pub mod Blocks
 pub mod Contents
 pub mod Undo
+pub mod Parts
 pub mod Iters
 pub mod Spans

@@ -74,6 +74,17 @@ pub(crate) fn head_of(key: &[u8]) -> u128
     ensures head { result ≡ key_head key.now }
     ensures bytes { AreBytes key.now }
 {
+    match key.first_chunk::<HEAD>() {
+        Some(bytes) => u128::from_be_bytes(*bytes),
+        None => padded_head(key),
+    }
+}
+
+/// `head_of`, byte by byte.
+fn padded_head(key: &[u8]) -> u128
+    ensures head { result ≡ key_head key.now }
+    ensures bytes { AreBytes key.now }
+{
     let mut head: u128 = 0;
     for place in 0..HEAD {
         head = head * 256 + byte_at(key, place) as u128;

@@ -12,26 +12,36 @@ ghost use Rattle.lsm_memtable.specs.Undo.{Undoes, AreUndone, undo_of};
 
 use crate::Steps;
 use crate::block::{Block, MOST, head_of};
+use crate::part::Part;
 use lsm_below::{InternalKey, InternalValue, SeqNo, entries_are_ordered, entries_are_parted};
 use std::alloc::{AllocError, Global};
+use std::collections::VecDeque;
 
 /// The block where the entries of the key with a sequence number below this begin, or the last one.
-fn block_for(blocks: &[Block], head: u128, key: &[u8], number: u128, steps: &mut Steps) -> usize
-    requires some { 0 < length blocks.now }
+fn block_for(
+    blocks: &VecDeque<Block>,
+    head: u128,
+    key: &[u8],
+    number: u128,
+    steps: &mut Steps,
+) -> usize
+    requires some { 0 < length blocks.now.items }
     requires head { head ≡ key_head key.now }
-    requires blocks { AreBlocks blocks.now }
-    ensures bound { result < length blocks.now }
-    ensures before { (j : ℕ) (d : InternalValue) → j < length (joined (take result blocks.now)) → stands_before key.now number (slice_index_or (joined blocks.now) j d) ≡ true }
-    ensures edge { (d : InternalValue) → result + 1 < length blocks.now → stands_before key.now number (slice_index_or (slice_index_or blocks.now result []) (length (slice_index_or blocks.now result []) - 1) d) ≡ false }
-    ensures compared { CountsDigits (length blocks.now) 0 steps.old.compared steps.new.compared }
+    requires blocks { AreBlocks blocks.now.items }
+    ensures bound { result < length blocks.now.items }
+    ensures before { (j : ℕ) (d : InternalValue) → j < length (joined (take result blocks.now.items)) → stands_before key.now number (slice_index_or (joined blocks.now.items) j d) ≡ true }
+    ensures edge { (d : InternalValue) → result + 1 < length blocks.now.items → stands_before key.now number (slice_index_or (slice_index_or blocks.now.items result []) (length (slice_index_or blocks.now.items result []) - 1) d) ≡ false }
+    ensures compared { CountsDigits (length blocks.now.items) 0 steps.old.compared steps.new.compared }
     ensures moved { steps.new.moved ≡ steps.old.moved }
 {
     entries_are_parted();
+    // A ring would look at each step where it goes on at the start of its memory.
+    let all = Part::all(blocks);
     let mut low = 0;
     let mut high = blocks.len() - 1;
     while low < high {
         let mid = low + (high - low) / 2;
-        if blocks[mid].is_last_ahead(head, key, number, steps) {
+        if all.at(mid).is_last_ahead(head, key, number, steps) {
             low = mid + 1;
         } else {
             high = mid;
@@ -48,11 +58,11 @@ pub(crate) struct Place {
 }
 
 /// Where the entries of the key with a sequence number below this begin.
-pub(crate) fn find(blocks: &[Block], key: &[u8], number: u128, steps: &mut Steps) -> Place
-    requires some { 0 < length blocks.now }
-    requires blocks { AreBlocks blocks.now }
-    ensures place { IsPlace blocks.now key.now number result.block result.at }
-    ensures compared { CountsDigits (length blocks.now) 7 steps.old.compared steps.new.compared }
+pub(crate) fn find(blocks: &VecDeque<Block>, key: &[u8], number: u128, steps: &mut Steps) -> Place
+    requires some { 0 < length blocks.now.items }
+    requires blocks { AreBlocks blocks.now.items }
+    ensures place { IsPlace blocks.now.items key.now number result.block result.at }
+    ensures compared { CountsDigits (length blocks.now.items) 7 steps.old.compared steps.new.compared }
     ensures moved { steps.new.moved ≡ steps.old.moved }
 {
     entries_are_parted();
@@ -64,14 +74,14 @@ pub(crate) fn find(blocks: &[Block], key: &[u8], number: u128, steps: &mut Steps
 
 /// The first entry of a key below the snapshot.
 pub(crate) fn first_visible<'a>(
-    blocks: &'a [Block],
+    blocks: &'a VecDeque<Block>,
     key: &[u8],
     snapshot: SeqNo,
     steps: &mut Steps,
 ) -> Option<&'a InternalValue>
-    requires { AreBlocks blocks.now }
-    ensures found { option_copied result ≡ first (is_visible key.now snapshot) (joined blocks.now) }
-    ensures compared { CountsDigits (length blocks.now) 8 steps.old.compared steps.new.compared }
+    requires { AreBlocks blocks.now.items }
+    ensures found { option_copied result ≡ first (is_visible key.now snapshot) (joined blocks.now.items) }
+    ensures compared { CountsDigits (length blocks.now.items) 8 steps.old.compared steps.new.compared }
     ensures moved { steps.new.moved ≡ steps.old.moved }
 {
     entries_are_parted();
@@ -93,11 +103,11 @@ pub(crate) fn first_visible<'a>(
 }
 
 /// Whether an entry of the key and sequence number stands at their place.
-fn is_taken(blocks: &[Block], place: Place, key: &InternalKey, steps: &mut Steps) -> bool
-    requires { IsPlace blocks.now key.now.user_key (key.now.seqno + 1) place.block place.at }
-    ensures inside { result ≡ true → place.at < length (slice_index_or blocks.now place.block []) }
-    ensures same { (d : InternalValue) → result ≡ true → is_eq (key_cmp (slice_index_or (joined blocks.now) (spot blocks.now place.block place.at) d).key key.now) ≡ true }
-    ensures other { (d : InternalValue) → result ≡ false → spot blocks.now place.block place.at < length (joined blocks.now) → is_eq (key_cmp (slice_index_or (joined blocks.now) (spot blocks.now place.block place.at) d).key key.now) ≡ false }
+fn is_taken(blocks: &VecDeque<Block>, place: Place, key: &InternalKey, steps: &mut Steps) -> bool
+    requires { IsPlace blocks.now.items key.now.user_key (key.now.seqno + 1) place.block place.at }
+    ensures inside { result ≡ true → place.at < length (slice_index_or blocks.now.items place.block []) }
+    ensures same { (d : InternalValue) → result ≡ true → is_eq (key_cmp (slice_index_or (joined blocks.now.items) (spot blocks.now.items place.block place.at) d).key key.now) ≡ true }
+    ensures other { (d : InternalValue) → result ≡ false → spot blocks.now.items place.block place.at < length (joined blocks.now.items) → is_eq (key_cmp (slice_index_or (joined blocks.now.items) (spot blocks.now.items place.block place.at) d).key key.now) ≡ false }
     ensures compared { steps.new.compared ≤ steps.old.compared + 1 }
     ensures moved { steps.new.moved ≡ steps.old.moved }
 {
@@ -111,7 +121,7 @@ fn is_taken(blocks: &[Block], place: Place, key: &InternalKey, steps: &mut Steps
 
 /// Puts an entry into a block that isn't full. Refused only for want of memory, and then nothing changes.
 fn insert_in(
-    blocks: &mut Vec<Block>,
+    blocks: &mut VecDeque<Block>,
     alloc: Global,
     place: Place,
     entry: InternalValue,
@@ -134,7 +144,7 @@ fn insert_in(
 
 /// Splits a full block into two, with an entry more. Refused only for want of memory, and then nothing changes.
 fn split_in(
-    blocks: &mut Vec<Block>,
+    blocks: &mut VecDeque<Block>,
     alloc: Global,
     place: Place,
     entry: InternalValue,
@@ -160,7 +170,7 @@ fn split_in(
 /// Puts an entry in a block of its own, before the blocks from a place on. Refused only for want of memory, and then
 /// nothing changes.
 fn begin_block(
-    blocks: &mut Vec<Block>,
+    blocks: &mut VecDeque<Block>,
     alloc: Global,
     block: usize,
     entry: InternalValue,
@@ -180,7 +190,7 @@ fn begin_block(
 /// Puts an entry before a full block: at the end of the block before it where that isn't full, else in a block of its
 /// own. Refused only for want of memory, and then nothing changes.
 fn insert_before(
-    blocks: &mut Vec<Block>,
+    blocks: &mut VecDeque<Block>,
     alloc: Global,
     block: usize,
     entry: InternalValue,
@@ -212,7 +222,7 @@ fn insert_before(
 /// before or begins a new one, so that keys that rise, and versions of one key, leave full blocks.
 /// Refused only for want of memory, and then nothing changes.
 fn insert_at(
-    blocks: &mut Vec<Block>,
+    blocks: &mut VecDeque<Block>,
     alloc: Global,
     place: Place,
     entry: InternalValue,
@@ -242,7 +252,7 @@ fn insert_at(
 }
 
 /// Puts the entry over the one there, which it returns.
-fn replace_at(blocks: &mut Vec<Block>, place: Place, entry: InternalValue) -> InternalValue
+fn replace_at(blocks: &mut VecDeque<Block>, place: Place, entry: InternalValue) -> InternalValue
     requires block { place.block < length blocks.old.items }
     requires at { place.at < length (slice_index_or blocks.old.items place.block []) }
     requires filled { All IsFilled blocks.old.items }
@@ -254,7 +264,7 @@ fn replace_at(blocks: &mut Vec<Block>, place: Place, entry: InternalValue) -> In
 }
 
 /// Takes out the entry there, and its block where it was the only one.
-fn remove_at(blocks: &mut Vec<Block>, place: Place)
+fn remove_at(blocks: &mut VecDeque<Block>, place: Place)
     requires block { place.block < length blocks.old.items }
     requires at { place.at < length (slice_index_or blocks.old.items place.block []) }
     requires filled { All IsFilled blocks.old.items }
@@ -262,7 +272,7 @@ fn remove_at(blocks: &mut Vec<Block>, place: Place)
     ensures filled { All IsFilled blocks.new.items }
 {
     if blocks[place.block].len() == 1 {
-        blocks.remove(place.block);
+        drop(blocks.remove(place.block).unwrap());
         return;
     }
     blocks[place.block].remove(place.at);
@@ -271,7 +281,7 @@ fn remove_at(blocks: &mut Vec<Block>, place: Place)
 /// Puts an entry in its place, over one of the same key and sequence number, which it returns.
 /// Refused only for want of memory, and then nothing changes.
 pub(crate) fn put_entry(
-    blocks: &mut Vec<Block>,
+    blocks: &mut VecDeque<Block>,
     alloc: Global,
     entry: InternalValue,
     steps: &mut Steps,
@@ -307,7 +317,7 @@ pub(crate) struct Undo {
 }
 
 /// Takes a put back.
-fn take_back(blocks: &mut Vec<Block>, undo: Undo)
+fn take_back(blocks: &mut VecDeque<Block>, undo: Undo)
     requires sound { AreBlocks blocks.old.items }
     requires made { (before : List InternalValue) × Undoes undo before (joined blocks.old.items) }
     ensures same { (before : List InternalValue) → Undoes undo before (joined blocks.old.items) → joined blocks.new.items ≡ before }
@@ -324,7 +334,7 @@ fn take_back(blocks: &mut Vec<Block>, undo: Undo)
 }
 
 /// Takes puts back, the last one first.
-pub(crate) fn take_all_back(blocks: &mut Vec<Block>, mut log: Vec<Undo>)
+pub(crate) fn take_all_back(blocks: &mut VecDeque<Block>, mut log: Vec<Undo>)
     requires sound { AreBlocks blocks.old.items }
     requires made { (before : List InternalValue) × AreUndone log.items before (joined blocks.old.items) }
     ensures same { (before : List InternalValue) → AreUndone log.items before (joined blocks.old.items) → joined blocks.new.items ≡ before }

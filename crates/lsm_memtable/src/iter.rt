@@ -3,11 +3,14 @@ ghost use Rattle.std.specs.Prelude.{◌≡◌, ◌+◌, ◌-◌, ◌<◌, ◌≤
 ghost use Rattle.std.specs.List.{All};
 ghost use Rattle.std.specs.Iterator.{at_most};
 ghost use Rattle.lsm_memtable.specs.Blocks.{joined, spot, IsFilled, HasPlace};
+ghost use Rattle.lsm_memtable.specs.Parts.{blocks_of};
 ghost use Rattle.lsm_memtable.specs.Iters.{TakesFirst, TakesLast};
 
 use crate::block::Block;
 use crate::blocks::Place;
+use crate::part::Part;
 use lsm_below::InternalValue;
+use std::collections::VecDeque;
 use std::marker::Model;
 
 /// The entries of a memtable between two places, in order, from both ends: what is left of a first block, the
@@ -23,7 +26,7 @@ use std::marker::Model;
 #[derive(Drop)]
 pub struct Iter<'a> {
     front: &'a [InternalValue],
-    middle: &'a [Block],
+    middle: Part<'a>,
     back: &'a [InternalValue],
 }
 
@@ -32,24 +35,25 @@ impl<'a> Model for Iter<'a> {
     ghost use Rattle.std.specs.List.{All};
     ghost use Rattle.lsm_below.specs.Entries.{Entry};
     ghost use Rattle.lsm_memtable.specs.Blocks.{joined, IsFilled};
+    ghost use Rattle.lsm_memtable.specs.Parts.{blocks_of};
 
     ghost Value = { List Entry };
 
-    ghost view = { λ s. s.front.now ++ (joined s.middle.now ++ s.back.now) };
+    ghost view = { λ s. s.front.now ++ (joined (blocks_of s.middle) ++ s.back.now) };
 
-    ghost invariant = { λ s. All IsFilled s.middle.now };
+    ghost invariant = { λ s. All IsFilled (blocks_of s.middle) };
 }
 
 /// The first entry, and what comes after it.
 fn split_front<'a>(
     front: &'a [InternalValue],
-    middle: &'a [Block],
+    middle: Part<'a>,
     back: &'a [InternalValue],
 ) -> Option<(&'a InternalValue, Iter<'a>)>
-    requires { All IsFilled middle.now }
+    requires { All IsFilled (blocks_of middle) }
     ensures { MatchOption result
-        (front.now ++ (joined middle.now ++ back.now) ≡ [])
-        (λ p. front.now ++ (joined middle.now ++ back.now) ≡ p.0.now ∷ p.1) }
+        (front.now ++ (joined (blocks_of middle.entry) ++ back.now) ≡ [])
+        (λ p. front.now ++ (joined (blocks_of middle.entry) ++ back.now) ≡ p.0.now ∷ p.1) }
 {
     if let Some((entry, front)) = front.split_first() {
         let rest = Iter {
@@ -80,13 +84,13 @@ fn split_front<'a>(
 /// The last entry, and what is before it.
 fn split_back<'a>(
     front: &'a [InternalValue],
-    middle: &'a [Block],
+    middle: Part<'a>,
     back: &'a [InternalValue],
 ) -> Option<(&'a InternalValue, Iter<'a>)>
-    requires { All IsFilled middle.now }
+    requires { All IsFilled (blocks_of middle) }
     ensures { MatchOption result
-        (front.now ++ (joined middle.now ++ back.now) ≡ [])
-        (λ p. front.now ++ (joined middle.now ++ back.now) ≡ p.1 ++ p.0.now ∷ []) }
+        (front.now ++ (joined (blocks_of middle.entry) ++ back.now) ≡ [])
+        (λ p. front.now ++ (joined (blocks_of middle.entry) ++ back.now) ≡ p.1 ++ p.0.now ∷ []) }
 {
     if let Some((entry, back)) = back.split_last() {
         let rest = Iter {
@@ -145,7 +149,7 @@ impl<'a> Iter<'a> {
     {
         Iter {
             front: entries,
-            middle: &[],
+            middle: Part::empty(),
             back: &[],
         }
     }
@@ -157,59 +161,59 @@ fn nothing<'a>() -> Iter<'a>
 {
     Iter {
         front: &[],
-        middle: &[],
+        middle: Part::empty(),
         back: &[],
     }
 }
 
 /// All entries of blocks.
-pub(crate) fn whole(blocks: &[Block]) -> Iter<'_>
-    requires { All IsFilled blocks.now }
-    ensures { result ≡ joined blocks.now }
+pub(crate) fn whole(blocks: &VecDeque<Block>) -> Iter<'_>
+    requires { All IsFilled blocks.now.items }
+    ensures { result ≡ joined blocks.now.items }
 {
     Iter {
         front: &[],
-        middle: blocks,
+        middle: Part::all(blocks),
         back: &[],
     }
 }
 
 /// The entries from a place on in one block, up to a place in a later one.
-fn across<'a>(blocks: &'a [Block], from: Place, to: Place) -> Iter<'a>
-    requires filled { All IsFilled blocks.now }
-    requires from { HasPlace blocks.now from.block from.at }
-    requires to { HasPlace blocks.now to.block to.at }
+fn across<'a>(blocks: &'a VecDeque<Block>, from: Place, to: Place) -> Iter<'a>
+    requires filled { All IsFilled blocks.now.items }
+    requires from { HasPlace blocks.now.items from.block from.at }
+    requires to { HasPlace blocks.now.items to.block to.at }
     requires order { from.block < to.block }
-    ensures { result ≡ take (spot blocks.now to.block to.at - spot blocks.now from.block from.at) (drop (spot blocks.now from.block from.at) (joined blocks.now)) }
+    ensures { result ≡ take (spot blocks.now.items to.block to.at - spot blocks.now.items from.block from.at) (drop (spot blocks.now.items from.block from.at) (joined blocks.now.items)) }
 {
     Iter {
         front: &blocks[from.block].as_slice()[from.at..],
-        middle: &blocks[from.block + 1..to.block],
+        middle: Part::of(blocks, from.block + 1, to.block),
         back: &blocks[to.block].as_slice()[..to.at],
     }
 }
 
 /// The entries between two places of a block.
-fn inside<'a>(blocks: &'a [Block], from: Place, to: Place) -> Iter<'a>
-    requires from { HasPlace blocks.now from.block from.at }
-    requires to { HasPlace blocks.now to.block to.at }
+fn inside<'a>(blocks: &'a VecDeque<Block>, from: Place, to: Place) -> Iter<'a>
+    requires from { HasPlace blocks.now.items from.block from.at }
+    requires to { HasPlace blocks.now.items to.block to.at }
     requires same { from.block ≡ to.block }
     requires order { from.at ≤ to.at }
-    ensures { result ≡ take (spot blocks.now to.block to.at - spot blocks.now from.block from.at) (drop (spot blocks.now from.block from.at) (joined blocks.now)) }
+    ensures { result ≡ take (spot blocks.now.items to.block to.at - spot blocks.now.items from.block from.at) (drop (spot blocks.now.items from.block from.at) (joined blocks.now.items)) }
 {
     Iter {
         front: &blocks[from.block].as_slice()[from.at..to.at],
-        middle: &[],
+        middle: Part::empty(),
         back: &[],
     }
 }
 
 /// The entries from a place on, up to another one. There is none where that stands before the first one.
-pub(crate) fn between<'a>(blocks: &'a [Block], from: Place, to: Place) -> Iter<'a>
-    requires filled { All IsFilled blocks.now }
-    requires from { HasPlace blocks.now from.block from.at }
-    requires to { HasPlace blocks.now to.block to.at }
-    ensures { result ≡ take (spot blocks.now to.block to.at - spot blocks.now from.block from.at) (drop (spot blocks.now from.block from.at) (joined blocks.now)) }
+pub(crate) fn between<'a>(blocks: &'a VecDeque<Block>, from: Place, to: Place) -> Iter<'a>
+    requires filled { All IsFilled blocks.now.items }
+    requires from { HasPlace blocks.now.items from.block from.at }
+    requires to { HasPlace blocks.now.items to.block to.at }
+    ensures { result ≡ take (spot blocks.now.items to.block to.at - spot blocks.now.items from.block from.at) (drop (spot blocks.now.items from.block from.at) (joined blocks.now.items)) }
 {
     if from.block < to.block {
         return across(blocks, from, to);

@@ -6,6 +6,7 @@
 //! | `spread` | items that move to two vectors, with one more at a place |
 //! | `block` | up to 64 entries in order, with the heads of their keys |
 //! | `blocks` | blocks that together are one list: search, insert, split |
+//! | `part` | blocks that follow each other, in the two slices that a ring has of them |
 //! | `bounds` | where bounds cut blocks |
 //! | `iter` | the entries between two places, from both ends |
 //! | `span` | a part of a memtable between two places, which may be cut again |
@@ -17,6 +18,7 @@ mod blocks;
 mod bounds;
 mod iter;
 mod memtable;
+mod part;
 mod span;
 mod spread;
 mod steps;

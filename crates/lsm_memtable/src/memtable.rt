@@ -19,6 +19,7 @@ use lsm_below::{
     entries_are_parted, first_visible_is_top,
 };
 use std::alloc::{AllocError, Global};
+use std::collections::VecDeque;
 use std::marker::Model;
 use std::ops::Bound;
 
@@ -46,7 +47,7 @@ pub struct Memtable {
 /// The entries, how many there are, the sizes of all accepted inserts, and the greatest sequence number.
 #[derive(Drop)]
 struct Content {
-    blocks: Vec<Block>,
+    blocks: VecDeque<Block>,
     count: usize,
     size: u64,
     highest: Option<SeqNo>,
@@ -186,7 +187,7 @@ impl Memtable {
             id,
             alloc,
             content: Content {
-                blocks: Vec::new(alloc),
+                blocks: VecDeque::new(alloc),
                 count: 0,
                 size: 0,
                 highest: None,

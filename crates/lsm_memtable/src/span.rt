@@ -11,6 +11,7 @@ use crate::bounds::{lower_place, upper_place};
 use crate::iter::{between, whole};
 use crate::{Iter, Steps};
 use lsm_below::{InternalValue, SeqNo, UserKey, entries_are_parted};
+use std::collections::VecDeque;
 use std::marker::Model;
 use std::ops::Bound;
 
@@ -24,7 +25,7 @@ use std::ops::Bound;
 /// ```
 #[derive(Drop)]
 pub struct Span<'a> {
-    blocks: &'a [Block],
+    blocks: &'a VecDeque<Block>,
     from: Place,
     to: Place,
 }
@@ -37,17 +38,17 @@ impl<'a> Model for Span<'a> {
 
     ghost Value = { List Entry };
 
-    ghost view = { λ s. between s.blocks.now s.from.block s.from.at s.to.block s.to.at };
+    ghost view = { λ s. between s.blocks.now.items s.from.block s.from.at s.to.block s.to.at };
 
-    ghost invariant = { λ s. AreBlocks s.blocks.now × ArePlaces s.blocks.now s.from.block s.from.at s.to.block s.to.at };
+    ghost invariant = { λ s. AreBlocks s.blocks.now.items × ArePlaces s.blocks.now.items s.from.block s.from.at s.to.block s.to.at };
 }
 
 /// Whether a place stands before another one.
-fn is_before(blocks: &[Block], left: Place, right: Place) -> bool
-    requires left { HasPlace blocks.now left.block left.at }
-    requires right { HasPlace blocks.now right.block right.at }
-    ensures before { result ≡ true → spot blocks.now left.block left.at ≤ spot blocks.now right.block right.at }
-    ensures behind { result ≡ false → spot blocks.now right.block right.at ≤ spot blocks.now left.block left.at }
+fn is_before(blocks: &VecDeque<Block>, left: Place, right: Place) -> bool
+    requires left { HasPlace blocks.now.items left.block left.at }
+    requires right { HasPlace blocks.now.items right.block right.at }
+    ensures before { result ≡ true → spot blocks.now.items left.block left.at ≤ spot blocks.now.items right.block right.at }
+    ensures behind { result ≡ false → spot blocks.now.items right.block right.at ≤ spot blocks.now.items left.block left.at }
 {
     let _ = blocks;
     if left.block < right.block {
@@ -60,11 +61,11 @@ fn is_before(blocks: &[Block], left: Place, right: Place) -> bool
 }
 
 /// The later one of two places.
-fn later(blocks: &[Block], left: Place, right: Place) -> Place
-    requires left { HasPlace blocks.now left.block left.at }
-    requires right { HasPlace blocks.now right.block right.at }
-    ensures place { HasPlace blocks.now result.block result.at }
-    ensures spot { spot blocks.now result.block result.at ≡ max (spot blocks.now left.block left.at) (spot blocks.now right.block right.at) }
+fn later(blocks: &VecDeque<Block>, left: Place, right: Place) -> Place
+    requires left { HasPlace blocks.now.items left.block left.at }
+    requires right { HasPlace blocks.now.items right.block right.at }
+    ensures place { HasPlace blocks.now.items result.block result.at }
+    ensures spot { spot blocks.now.items result.block result.at ≡ max (spot blocks.now.items left.block left.at) (spot blocks.now.items right.block right.at) }
 {
     if is_before(blocks, left, right) {
         right
@@ -74,11 +75,11 @@ fn later(blocks: &[Block], left: Place, right: Place) -> Place
 }
 
 /// The earlier one of two places.
-fn earlier(blocks: &[Block], left: Place, right: Place) -> Place
-    requires left { HasPlace blocks.now left.block left.at }
-    requires right { HasPlace blocks.now right.block right.at }
-    ensures place { HasPlace blocks.now result.block result.at }
-    ensures spot { spot blocks.now result.block result.at ≡ min (spot blocks.now left.block left.at) (spot blocks.now right.block right.at) }
+fn earlier(blocks: &VecDeque<Block>, left: Place, right: Place) -> Place
+    requires left { HasPlace blocks.now.items left.block left.at }
+    requires right { HasPlace blocks.now.items right.block right.at }
+    ensures place { HasPlace blocks.now.items result.block result.at }
+    ensures spot { spot blocks.now.items result.block result.at ≡ min (spot blocks.now.items left.block left.at) (spot blocks.now.items right.block right.at) }
 {
     if is_before(blocks, left, right) {
         left
@@ -88,25 +89,24 @@ fn earlier(blocks: &[Block], left: Place, right: Place) -> Place
 }
 
 /// All entries of blocks.
-pub(crate) fn span_of(blocks: &[Block]) -> Span<'_>
-    requires { AreBlocks blocks.now }
-    ensures { result ≡ joined blocks.now }
+pub(crate) fn span_of(blocks: &VecDeque<Block>) -> Span<'_>
+    requires { AreBlocks blocks.now.items }
+    ensures { result ≡ joined blocks.now.items }
 {
     let from = Place { block: 0, at: 0 };
-    match blocks.split_last() {
-        None => Span {
+    if blocks.is_empty() {
+        return Span {
             blocks,
             from,
             to: from,
-        },
-        Some((last, before)) => Span {
-            blocks,
-            from,
-            to: Place {
-                block: before.len(),
-                at: last.len(),
-            },
-        },
+        };
+    }
+    let block = blocks.len() - 1;
+    let at = blocks[block].len();
+    Span {
+        blocks,
+        from,
+        to: Place { block, at },
     }
 }
 

@@ -8,16 +8,16 @@ use Rattle.lsm_memtable.proofs.blocks.find.Goals as goal
 pub place-at-requires-clause-rises : goal.place-at-requires-clause-rises
 place-at-requires-clause-rises c =
     let f = c.block_for-block in
-    subst (λ x. Rises entry_cmp x) (sym (read_block c.args.blocks.now f.result c.index-blocks-block.result f.ensures.bound c.index-blocks-block.is)) (rises_block entry_cmp c.args.blocks.now f.result [] f.ensures.bound c.requires.blocks.rises)
+    subst (λ x. Rises entry_cmp x) (sym (read_block c.args.blocks.now.items f.result c.index.result.now f.ensures.bound c.index.ensures)) (rises_block entry_cmp c.args.blocks.now.items f.result [] f.ensures.bound c.requires.blocks.rises)
 
 pub returns-clause-place : goal.returns-clause-place
 returns-clause-place c =
     let f = c.block_for-block in
     let p = c.place-at.ensures in
-    placed_read c.args.blocks.now f.result c.index-blocks-block.result f.ensures.bound c.index-blocks-block.is c.entries_are_parted.ensures c.requires.blocks c.args.key.now c.args.number c.place-at.result f.ensures.before f.ensures.edge p.bound p.before p.behind
+    placed_read c.args.blocks.now.items f.result c.index.result.now f.ensures.bound c.index.ensures c.entries_are_parted.ensures c.requires.blocks c.args.key.now c.args.number c.place-at.result f.ensures.before f.ensures.edge p.bound p.before p.behind
 
 pub returns-clause-compared : goal.returns-clause-compared
 returns-clause-compared c = λ d h.
     let f = c.block_for-block in
-    let filled = filled_read c.args.blocks.now f.result c.index-blocks-block.result f.ensures.bound c.index-blocks-block.is c.requires.blocks in
+    let filled = filled_read c.args.blocks.now.items f.result c.index.result.now f.ensures.bound c.index.ensures c.requires.blocks in
     omega (arith, f.ensures.compared d h, c.place-at.ensures.compared 7 (omega (arith, filled.1)))

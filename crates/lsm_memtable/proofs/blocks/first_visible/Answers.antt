@@ -7,37 +7,37 @@ use Rattle.lsm_memtable.proofs.blocks.first_visible.Goals as goal
 
 pub returns-then-place-len-clause-found : goal.returns-then-place-len-clause-found
 returns-then-place-len-clause-found c =
-    let bs = c.args.blocks.now in
+    let bs = c.args.blocks.now.items in
     let b = c.find-place.result.block in
     let i = c.find-place.result.at in
     let place : IsPlace bs c.args.key.now c.args.snapshot b i = c.find-place.ensures.place in
-    let past = place.edge (c.if-place-len.true ∙ (c.len.ensures ∙ ap (λ x. length x) (read_block bs b c.index-blocks-place.result place.block_in c.index-blocks-place.is))) in
+    let past = place.edge (c.if-place-len.true ∙ (c.len.ensures ∙ ap (λ x. length x) (read_block bs b c.index-block.result.now place.block_in c.index-block.ensures))) in
     sym (c.entries_are_parted.ensures.past_end (joined bs) c.args.key.now c.args.snapshot (spot bs b i) c.requires.rises (record { before = place.before; behind = place.behind }) (omega (arith, past)))
 
 pub returns-then-eq-clause-found : goal.returns-then-eq-clause-found
 returns-then-eq-clause-found c =
-    let bs = c.args.blocks.now in
+    let bs = c.args.blocks.now.items in
     let b = c.find-place.result.block in
     let i = c.find-place.result.at in
     let e = c.at-entry.result.now in
-    let block = c.index-blocks-place.result in
+    let block = c.index-block.result.now in
     let place : IsPlace bs c.args.key.now c.args.snapshot b i = c.find-place.ensures.place in
-    let same = ap (λ x. length x) (read_block bs b block place.block_in c.index-blocks-place.is) in
+    let same = ap (λ x. length x) (read_block bs b block place.block_in c.index-block.ensures) in
     let within : i < length block = grind (arith, place.at_in) in
-    sym (c.entries_are_parted.ensures.found (joined bs) c.args.key.now c.args.snapshot (spot bs b i) e c.requires.rises (record { before = place.before; behind = place.behind }) (spot_within bs b block place.block_in c.index-blocks-place.is i within)
-    (c.at-entry.ensures ∙ sym (spot_read bs b block place.block_in c.index-blocks-place.is i e within))
+    sym (c.entries_are_parted.ensures.found (joined bs) c.args.key.now c.args.snapshot (spot bs b i) e c.requires.rises (record { before = place.before; behind = place.behind }) (spot_within bs b block place.block_in c.index-block.ensures i within)
+    (c.at-entry.ensures ∙ sym (spot_read bs b block place.block_in c.index-block.ensures i e within))
     (ap (λ x. is_eq (slice_cmp nat_cmp x c.args.key.now)) (sym c.as_slice.ensures) ∙ (sym (texts_ties c.as_slice.result.now c.args.key.now) ∙ sym c.if-eq.ensures)))
 
 pub returns-else-eq-clause-found : goal.returns-else-eq-clause-found
 returns-else-eq-clause-found c =
-    let bs = c.args.blocks.now in
+    let bs = c.args.blocks.now.items in
     let b = c.find-place.result.block in
     let i = c.find-place.result.at in
     let e = c.at-entry.result.now in
-    let block = c.index-blocks-place.result in
+    let block = c.index-block.result.now in
     let place : IsPlace bs c.args.key.now c.args.snapshot b i = c.find-place.ensures.place in
-    let same = ap (λ x. length x) (read_block bs b block place.block_in c.index-blocks-place.is) in
+    let same = ap (λ x. length x) (read_block bs b block place.block_in c.index-block.ensures) in
     let within : i < length block = grind (arith, place.at_in) in
-    sym (c.entries_are_parted.ensures.other (joined bs) c.args.key.now c.args.snapshot (spot bs b i) e c.requires.rises (record { before = place.before; behind = place.behind }) (spot_within bs b block place.block_in c.index-blocks-place.is i within)
-    (c.at-entry.ensures ∙ sym (spot_read bs b block place.block_in c.index-blocks-place.is i e within))
+    sym (c.entries_are_parted.ensures.other (joined bs) c.args.key.now c.args.snapshot (spot bs b i) e c.requires.rises (record { before = place.before; behind = place.behind }) (spot_within bs b block place.block_in c.index-block.ensures i within)
+    (c.at-entry.ensures ∙ sym (spot_read bs b block place.block_in c.index-block.ensures i e within))
     (ap (λ x. is_eq (slice_cmp nat_cmp x c.args.key.now)) (sym c.as_slice.ensures) ∙ (sym (texts_ties c.as_slice.result.now c.args.key.now) ∙ sym c.if-eq.ensures)))

@@ -11,7 +11,8 @@ returns-then-len-eq1-clause-entries c =
     let b = c.args.place.block in
     let len = ap (λ l. length l) (read_block bs b c.index.result.now c.requires.block c.index.ensures) in
     let one : length (get_or bs b []) ≡ 1 = omega (arith, len, c.len.ensures, c.if-len-eq1.true) in
-    ap joined c.remove.ensures.items ∙ emptied bs b c.args.place.at [] c.requires.block one c.requires.at
+    let items = rw c.unwrap.ensures at c.remove.ensures.items in
+    ap joined items ∙ emptied bs b c.args.place.at [] c.requires.block one c.requires.at
 
 pub returns-clause-entries : goal.returns-clause-entries
 returns-clause-entries c =

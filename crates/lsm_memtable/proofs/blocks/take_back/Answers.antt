@@ -1,4 +1,4 @@
-use Rattle.std.proofs.Common.{◌+◌, ◌<◌, ◌^◌, ◌∙◌, length, subst, sym}
+use Rattle.std.proofs.Common.{◌+◌, ◌<◌, ◌^◌, ◌∙◌, subst, sym}
 use Rattle.std.specs.List.{All}
 use Rattle.lsm_below.specs.Entries.{entry_cmp}
 use Rattle.lsm_below.specs.Sorted.{Rises}
@@ -9,7 +9,7 @@ use Rattle.lsm_memtable.proofs.blocks.take_back.Goals as goal
 pub find-place-requires-clause-some : goal.find-place-requires-clause-some
 find-place-requires-clause-some c =
     let m = c.requires.made in
-    subst (λ l. 0 < length l) (sym c.deref.ensures.value) (some_blocks c.entries_are_ordered.ensures c.args.blocks.now.items c.requires.sound c.args.undo m.0 m.1)
+    some_blocks c.entries_are_ordered.ensures c.args.blocks.now.items c.requires.sound c.args.undo m.0 m.1
 
 pub replace_at-requires-clause-at : goal.replace_at-requires-clause-at
 replace_at-requires-clause-at c =
@@ -18,7 +18,7 @@ replace_at-requires-clause-at c =
     let b = c.find-place.result.block in
     let i = c.find-place.result.at in
     let m = c.requires.made in
-    let place : IsPlace bs u.key.user_key (u.key.seqno + 1) b i = rw (c.deref.ensures.value, c.as_slice.ensures) at c.find-place.ensures.place in
+    let place : IsPlace bs u.key.user_key (u.key.seqno + 1) b i = rw c.as_slice.ensures at c.find-place.ensures.place in
     found_inside c.entries_are_ordered.ensures bs c.requires.sound u m.0 m.1 b i place
 
 pub remove_at-requires-clause-at : goal.remove_at-requires-clause-at
@@ -28,7 +28,7 @@ remove_at-requires-clause-at c =
     let b = c.find-place.result.block in
     let i = c.find-place.result.at in
     let m = c.requires.made in
-    let place : IsPlace bs u.key.user_key (u.key.seqno + 1) b i = rw (c.deref.ensures.value, c.as_slice.ensures) at c.find-place.ensures.place in
+    let place : IsPlace bs u.key.user_key (u.key.seqno + 1) b i = rw c.as_slice.ensures at c.find-place.ensures.place in
     found_inside c.entries_are_ordered.ensures bs c.requires.sound u m.0 m.1 b i place
 
 pub returns-in-Some-clause-same : goal.returns-in-Some-clause-same
@@ -38,7 +38,7 @@ returns-in-Some-clause-same c = λ before made.
     let b = c.find-place.result.block in
     let i = c.find-place.result.at in
     let m = c.requires.made in
-    let place : IsPlace bs u.key.user_key (u.key.seqno + 1) b i = rw (c.deref.ensures.value, c.as_slice.ensures) at c.find-place.ensures.place in
+    let place : IsPlace bs u.key.user_key (u.key.seqno + 1) b i = rw c.as_slice.ensures at c.find-place.ensures.place in
     c.replace_at.ensures.entries ∙ back_replaced c.entries_are_ordered.ensures bs c.requires.sound u before made b i place c.in-Some.entry c.in-Some.is
 
 pub returns-in-Some-clause-sound : goal.returns-in-Some-clause-sound
@@ -58,7 +58,7 @@ returns-clause-same c = λ before made.
     let b = c.find-place.result.block in
     let i = c.find-place.result.at in
     let m = c.requires.made in
-    let place : IsPlace bs u.key.user_key (u.key.seqno + 1) b i = rw (c.deref.ensures.value, c.as_slice.ensures) at c.find-place.ensures.place in
+    let place : IsPlace bs u.key.user_key (u.key.seqno + 1) b i = rw c.as_slice.ensures at c.find-place.ensures.place in
     c.remove_at.ensures.entries ∙ back_removed c.entries_are_ordered.ensures bs c.requires.sound u before made b i place c.in-None.is
 
 pub returns-clause-sound : goal.returns-clause-sound

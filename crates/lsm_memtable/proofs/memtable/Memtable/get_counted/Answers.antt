@@ -5,15 +5,15 @@ use Rattle.lsm_memtable.proofs.memtable.Memtable.get_counted.Goals as goal
 
 pub returns-clause-is : goal.returns-clause-is
 returns-clause-is c =
-    rw (← c.self.view_is, ← c.deref.ensures.value)
-    (c.first_visible.ensures.found ∙ c.entries_are_parted.ensures.newest (joined c.deref.result.now) c.args.key.now c.args.snapshot (rw c.deref.ensures.value c.self.invariant.blocks.rises))
+    rw (← c.self.view_is)
+    (c.first_visible.ensures.found ∙ c.entries_are_parted.ensures.newest (joined c.self.inside.content.blocks.items) c.args.key.now c.args.snapshot c.self.invariant.blocks.rises)
 
 pub returns-clause-greatest : goal.returns-clause-greatest
 returns-clause-greatest c =
-    rw (← c.self.view_is, ← c.deref.ensures.value)
-    (found_top c.first_visible_is_top.ensures (joined c.deref.result.now) c.args.key.now c.args.snapshot _ (rw c.deref.ensures.value c.self.invariant.blocks.rises) c.first_visible.ensures.found)
+    rw (← c.self.view_is)
+    (found_top c.first_visible_is_top.ensures (joined c.self.inside.content.blocks.items) c.args.key.now c.args.snapshot _ c.self.invariant.blocks.rises c.first_visible.ensures.found)
 
 pub returns-clause-none : goal.returns-clause-none
 returns-clause-none c =
-    rw (← c.self.view_is, ← c.deref.ensures.value)
-    (found_none c.first_visible_is_top.ensures (joined c.deref.result.now) c.args.key.now c.args.snapshot _ c.first_visible.ensures.found)
+    rw (← c.self.view_is)
+    (found_none c.first_visible_is_top.ensures (joined c.self.inside.content.blocks.items) c.args.key.now c.args.snapshot _ c.first_visible.ensures.found)

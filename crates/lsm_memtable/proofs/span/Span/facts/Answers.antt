@@ -8,6 +8,6 @@ use Rattle.lsm_memtable.proofs.span.Span.facts.Goals as goal
 pub returns : goal.returns
 returns c =
     let s = c.self.inside in
-    let bs = s.blocks.now in
+    let bs = s.blocks.now.items in
     let start = spot bs s.from.block s.from.at in
     subst (Rises entry_cmp) c.self.view_is (rises_part (joined bs) (spot bs s.to.block s.to.at - start) start c.self.invariant.0.rises)

@@ -10,10 +10,10 @@ use Rattle.lsm_memtable.proofs.span.Span.first_visible.Goals as goal
 pub returns-in_default : goal.returns-in_default
 returns-in_default c =
     let s = c.self.inside in
-    let bs = s.blocks.now in
+    let bs = s.blocks.now.items in
     let key = c.args.key.now in
     let n = c.args.snapshot in
-    let some : 0 < length bs = omega (arith, c.if-is_empty.false) in
+    let some : 0 < length bs = omega arith in
     let places = places_of bs s.from.block s.from.at s.to.block s.to.at some c.self.invariant.1 in
     let found = c.find-place.ensures.place in
     let f = c.find-place.result in
@@ -29,10 +29,10 @@ returns-in_default c =
 pub returns-then-eq : goal.returns-then-eq
 returns-then-eq c =
     let s = c.self.inside in
-    let bs = s.blocks.now in
+    let bs = s.blocks.now.items in
     let key = c.args.key.now in
     let n = c.args.snapshot in
-    let some : 0 < length bs = omega (arith, c.if-is_empty.false) in
+    let some : 0 < length bs = omega arith in
     let places = places_of bs s.from.block s.from.at s.to.block s.to.at some c.self.invariant.1 in
     let found = c.find-place.ensures.place in
     let f = c.find-place.result in
@@ -48,10 +48,10 @@ returns-then-eq c =
 pub returns-else-eq : goal.returns-else-eq
 returns-else-eq c =
     let s = c.self.inside in
-    let bs = s.blocks.now in
+    let bs = s.blocks.now.items in
     let key = c.args.key.now in
     let n = c.args.snapshot in
-    let some : 0 < length bs = omega (arith, c.if-is_empty.false) in
+    let some : 0 < length bs = omega arith in
     let places = places_of bs s.from.block s.from.at s.to.block s.to.at some c.self.invariant.1 in
     let found = c.find-place.ensures.place in
     let f = c.find-place.result in
