@@ -1,6 +1,6 @@
 // What a compaction keeps.
 
-ghost use Rattle.std.specs.Prelude.{IfErr, ◌≡◌, ◌≤◌, [], ◌∷◌, ◌++◌, length, false, IfOk, MatchOption, ℕ, List, flat_map, map};
+ghost use Rattle.std.specs.Prelude.{IfErr, ◌≡◌, ◌≤◌, [], ◌∷◌, ◌++◌, length, false, IfOk, MatchOption, List, flat_map, map};
 ghost use Rattle.std.specs.List.{All};
 ghost use Rattle.std.specs.List.Sorted.{IsPermutation};
 ghost use Rattle.lsm_below.specs.declared.value.InternalValue.{InternalValue};

@@ -1,5 +1,5 @@
 // A user key with its sequence number, and the order of entries.
-ghost use Rattle.std.specs.Prelude.{◌≡◌, IfOk, ◌↔◌, nat_eq};
+ghost use Rattle.std.specs.Prelude.{◌≡◌, IfOk, nat_eq};
 ghost use Rattle.std.proofs.Common.{rules};
 ghost use Rattle.std.specs.Cmp.{partial_order_from_own_ties};
 ghost use Rattle.std.specs.Cmp.Rules.{comparing};

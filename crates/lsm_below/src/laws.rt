@@ -1,5 +1,11 @@
 // What always holds of keys, entries and merges, each as the contract of a function that does nothing.
+ghost use Rattle.lsm_below.specs.Keys.{AreBytes};
 ghost use Rattle.lsm_below.specs.Laws.{KeysAreOrdered, EntriesAreOrdered, FirstVisibleIsTop, EntriesAreParted, MergesByKey};
+
+/// Each number of a slice of bytes is below 256.
+pub fn slices_hold_bytes(bytes: &[u8])
+    ensures { AreBytes bytes.now }
+{}
 
 /// User keys are ordered.
 pub fn keys_are_ordered()

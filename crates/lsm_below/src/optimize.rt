@@ -1,5 +1,5 @@
 // Runs are joined where their tables allow it.
-ghost use Rattle.std.specs.Prelude.{◌≡◌, ℕ, ◌+◌, ◌-◌, ◌<◌, ◌≤◌, ◌⊎◌, ◌++◌, true, false, [], ◌∷◌, length, IfOk, OnOk, slice_index_or, drop, fold};
+ghost use Rattle.std.specs.Prelude.{◌≡◌, ◌+◌, ◌-◌, ◌<◌, ◌≤◌, true, false, [], length, IfOk, OnOk, slice_index_or, drop, fold};
 ghost use Rattle.std.specs.List.{All};
 ghost use Rattle.lsm_below.specs.Ranges.{IsRange};
 ghost use Rattle.lsm_below.specs.Runs.{IsRun};

@@ -1,5 +1,5 @@
 // Tables sorted by their keys, no two of which share one.
-ghost use Rattle.std.specs.Prelude.{◌≡◌, ℕ, ◌+◌, ◌-◌, ◌<◌, ◌≤◌, ◌&&◌, true, false, [], ◌∷◌, length, IfOk, OnOk, OnErr, IfSome, IfNone, MatchOption, option_copied, IsTrue, ◌↔◌};
+ghost use Rattle.std.specs.Prelude.{◌≡◌, ◌+◌, ◌-◌, ◌<◌, true, false, [], ◌∷◌, length, IfOk, OnOk, OnErr, IfSome, IfNone, MatchOption, option_copied, IsTrue, ◌↔◌};
 ghost use Rattle.std.specs.List.{find, filter};
 ghost use Rattle.lsm_below.specs.Ranges.{in_range, overlap, is_within, IsRange, IsHull};
 ghost use Rattle.lsm_below.specs.Runs.{IsRun, IsCut, IsSpan, stands, is_short_of, starts_in, is_touched};

@@ -1,6 +1,6 @@
 // What gives entries in order, one at a time.
 
-ghost use Rattle.std.specs.Prelude.{◌≡◌, IfErr, ℕ, true, IfOk, ◌++◌, ◌≤◌, ◌+◌, MatchOption, [], ◌∷◌, None, IfNone};
+ghost use Rattle.std.specs.Prelude.{◌≡◌, IfErr, true, IfOk, MatchOption, [], ◌∷◌, None, IfNone};
 ghost use Rattle.std.specs.Ordering.{is_lt, is_eq};
 ghost use Rattle.lsm_below.specs.Streams.{Rest, Gives, RefusesOnly};
 ghost use Rattle.lsm_below.specs.Slots.{is_before, same_key, is_repeat, past, all_of};

@@ -1,5 +1,5 @@
 -- A store of which nothing is known but its failures.
-use Rattle.std.specs.Prelude.{ℕ, ◌^◌, ◌-◌, None}
+use Rattle.std.specs.Prelude.{ℕ, None}
 use Rattle.lsm_store.specs.World.{World}
 
 -- this many calls of it have failed
@@ -11,7 +11,3 @@ untold n = record {
   since = λ t image. ⊥;
   failures = n;
 }
-
--- each call of it has failed
-abbrev pub no_world : World
-no_world = untold (2 ^ 64 - 1)

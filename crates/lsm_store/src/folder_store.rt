@@ -1,5 +1,5 @@
 // A folder of the file system, as a store.
-ghost use Rattle.std.specs.Prelude.{◌≡◌, ◌+◌, ◌-◌, ◌^◌, min, IfOk, IfErr, IsErrOf, Result, Ok, Err};
+ghost use Rattle.std.specs.Prelude.{◌≡◌, ◌+◌, ◌-◌, IfOk, IsErrOf, Result, Ok, Err};
 ghost use Rattle.lsm_store.specs.declared.store.StoreError.TheVariants.{OutOfMemory, Fault};
 ghost use Rattle.lsm_store.specs.NoWorld.{untold};
 ghost use Rattle.lsm_store.specs.World.{Counts};

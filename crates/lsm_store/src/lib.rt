@@ -15,5 +15,5 @@ mod synced;
 
 pub use folder_store::FolderStore;
 pub use mem_store::{Fault, MemStore, Pick};
-pub use store::{NoStore, Store, StoreError, runs_of_calls};
+pub use store::{Store, StoreError, runs_of_calls};
 pub use synced::write_synced;

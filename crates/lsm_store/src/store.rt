@@ -1,9 +1,8 @@
 // What a tree keeps its files in, and what a crash may leave of them.
-ghost use Rattle.std.specs.Prelude.{◌≡◌, ◌≤◌, List, ℕ, Some, None, Err, IfOk, OnOk, IsErrOf, IsSome, IsTrue, Bool, Option, option_map, map};
+ghost use Rattle.std.specs.Prelude.{◌≡◌, ◌≤◌, List, ℕ, Some, None, IfOk, OnOk, IsErrOf, IsSome, IsTrue, Bool, Option, option_map, map};
 ghost use Rattle.std.specs.String.{string_bytes};
 ghost use Rattle.lsm_store.specs.declared.store.StoreError.TheVariants.{OutOfMemory, Fault};
 ghost use Rattle.lsm_store.specs.World.{Image, World, Anything, Only, OldOr, IsImage, At, Same, Becomes, Changes, Counts, Lists, LeavesOnly};
-ghost use Rattle.lsm_store.specs.NoWorld.{no_world};
 
 use std::alloc::{AllocError, AllocFailed, Global};
 use thiserror::Error;
@@ -113,59 +112,3 @@ pub fn runs_of_calls<S: Store>(old: &S, mid: &S, new: &S)
     ensures joins { (p q r : Image → Bool) → LeavesOnly (S.world old.now) (S.world mid.now) (λ image. IsTrue (p image)) → LeavesOnly (S.world mid.now) (S.world new.now) (λ image. IsTrue (q image))
         → ((image : Image) → IsTrue (p image) → IsTrue (r image)) → ((image : Image) → IsTrue (q image) → IsTrue (r image)) → LeavesOnly (S.world old.now) (S.world new.now) (λ image. IsTrue (r image)) }
 {}
-
-/// No store: every call of it fails, and its count of failures stands at 2^64 - 1.
-#[derive(Drop, Debug)]
-pub struct NoStore;
-
-impl Store for NoStore {
-    ghost tells = { ⊥ };
-
-    ghost world = { λ _. no_world };
-
-    ghost gives_one = { λ no store name. absurd no };
-
-    ghost counts_now = { λ no store t image le now. absurd no };
-
-    ghost only_now = { λ no store image left. absurd no };
-
-    fn list(&mut self, _: Global) -> Result<Vec<String>, StoreError>
-        ensures { result ≡ Err Fault }
-    {
-        Err(StoreError::Fault)
-    }
-
-    fn read(&mut self, _: Global, _: &str) -> Result<Option<Vec<u8>>, StoreError>
-        ensures { result ≡ Err Fault }
-    {
-        Err(StoreError::Fault)
-    }
-
-    fn write(&mut self, _: &str, _: &[u8]) -> Result<(), StoreError>
-        ensures { result ≡ Err Fault }
-    {
-        Err(StoreError::Fault)
-    }
-
-    fn sync(&mut self, _: &str) -> Result<(), StoreError>
-        ensures { result ≡ Err Fault }
-    {
-        Err(StoreError::Fault)
-    }
-
-    fn replace(&mut self, _: &str, _: &[u8]) -> Result<(), StoreError>
-        ensures { result ≡ Err Fault }
-    {
-        Err(StoreError::Fault)
-    }
-
-    fn remove(&mut self, _: &str) -> Result<(), StoreError>
-        ensures { result ≡ Err Fault }
-    {
-        Err(StoreError::Fault)
-    }
-
-    fn failures(&self) -> u64 {
-        u64::MAX
-    }
-}

@@ -1,7 +1,7 @@
 // Looks at what single crashes leave, and at what calls answer.
 
 use super::{A, B, Call, SCRIPT, is_content, leaves, make, refuses};
-use lsm_store::{Fault, MemStore, NoStore, Pick, Store, StoreError};
+use lsm_store::{Fault, MemStore, Pick, Store, StoreError};
 use std::alloc::Global;
 use std::process::Abort;
 use std::test::Fail;
@@ -248,18 +248,5 @@ fn a_removal_needs_no_memory(rt: HostRuntime) -> Result<(), Fail> {
         }
         Err(error) => assert!(rt; matches!(error, StoreError::OutOfMemory)),
     }
-    Ok(())
-}
-
-#[test]
-fn no_store_refuses_everything(rt: HostRuntime) -> Result<(), Fail> {
-    let mut store = NoStore;
-    assert!(rt; store.list(rt.alloc()).is_err());
-    assert!(rt; store.read(rt.alloc(), A).is_err());
-    assert!(rt; store.write(A, b"1").is_err());
-    assert!(rt; store.sync(A).is_err());
-    assert!(rt; store.replace(A, b"1").is_err());
-    assert!(rt; store.remove(A).is_err());
-    assert_eq!(rt; store.failures(), u64::MAX);
     Ok(())
 }

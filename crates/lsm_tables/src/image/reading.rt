@@ -1,5 +1,5 @@
 // Reading the content of a table's file.
-ghost use Rattle.std.specs.Prelude.{◌≡◌, ℕ, List, ◌≤◌, ◌<◌, ◌++◌, length, slice_index, IfOk, IfErr};
+ghost use Rattle.std.specs.Prelude.{◌≡◌, ℕ, List, ◌≤◌, ◌<◌, ◌++◌, length, IfOk, IfErr};
 ghost use Rattle.lsm_below.specs.Entries.{Entry};
 ghost use Rattle.lsm_tables.specs.Reading.{many};
 ghost use Rattle.lsm_tables.specs.Image.{IsImageOf, IsNoImage};
@@ -13,7 +13,9 @@ use super::layout::{
 use crate::TableError;
 use byteorder::{ByteOrder, LittleEndian};
 use bytes::Bytes;
-use lsm_below::{InternalKey, InternalValue, SeqNo, ValueType, entries_are_ordered};
+use lsm_below::{
+    InternalKey, InternalValue, SeqNo, ValueType, entries_are_ordered, slices_hold_bytes,
+};
 use std::alloc::Global;
 
 /// What comes before an entry's key.
@@ -24,11 +26,6 @@ struct Header {
     value_type: ValueType,
     value_len: u32,
 }
-
-/// The elements of a slice of bytes are below 256.
-fn are_bytes(bytes: &[u8])
-    ensures { (i : ℕ) → slice_index bytes.now i < 256 }
-{}
 
 fn type_at(code: u8) -> Result<ValueType, TableError>
     ensures { Gives (λ x. x) result (type_of code) }
@@ -166,7 +163,7 @@ pub fn decode(alloc: Global, bytes: Bytes) -> Result<(u64, Vec<InternalValue>), 
     ensures read { IfOk result (λ x. IsImageOf x.0 x.1.items bytes) }
     ensures bad { IfErr result (λ e. e ≡ BadTable → IsNoImage bytes) }
 {
-    are_bytes(bytes.as_slice());
+    slices_hold_bytes(bytes.as_slice());
     entries_are_ordered();
     read_image(alloc, bytes)
 }

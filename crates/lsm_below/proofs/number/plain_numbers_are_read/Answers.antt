@@ -1,5 +1,5 @@
 use Rattle.std.proofs.Common.{refl, decimal}
-use Rattle.lsm_below.proofs.PlainNumbers.{plain_number-decimal}
+use Rattle.lsm_below.specs.Numbers.{plain_number-decimal}
 use Rattle.lsm_below.proofs.number.plain_numbers_are_read.Goals as goal
 
 pub returns : goal.returns
