@@ -1,15 +1,13 @@
 -- Each install of a changed version is a step.
-use Rattle.std.proofs.Common.{◌≡◌, ℕ, false, List, [], ◌∷◌, ◌++◌, refl, sym, subst, ap, ◌∙◌}
+use Rattle.std.proofs.Common.{◌≡◌, ℕ, false, List, [], ◌∷◌, ◌++◌, refl, sym, subst, ap}
 use Rattle.lsm_below.specs.Keys.{Bytes}
-use Rattle.lsm_below.specs.Entries.{stack, keep, IsFalling, IsOrdered}
+use Rattle.lsm_below.specs.Entries.{stack, keep, IsOrdered}
 use Rattle.lsm_model.specs.Journal.{Event}
 use Rattle.lsm_model.specs.Views.{Placed, sources, held, chosen_of, upper_of, lower_of, left_of, ranges_of, IsAllowed, IsLaidOut, IsRearranged}
 use Rattle.lsm_model.specs.Steps.{State, IsCommit, among}
 use Rattle.lsm_model.specs.declared.journal.JournalEntry.TheVariants.{Install, Dropped}
-use Rattle.lsm_model.specs.Laws.{TablesArePlaced}
 use Rattle.lsm_versions.specs.Levels.{Levels, placed_of, placed_in}
-use Rattle.lsm_versions.specs.Installs.{installed, FlushesAreSteps, MergesAreSteps, MovesAreSteps, DropsAreSteps, MergesOfInputsAreSteps}
-use Rattle.lsm_versions.proofs.Laid.{entries_of_placed}
+use Rattle.lsm_versions.specs.Installs.{installed, FlushesAreSteps, MergesAreSteps, MovesAreSteps, DropsAreSteps}
 
 committed : (n : ℕ) (sealed : List ℕ) (next : Levels) (events : List Event) (old : State) → IsLaidOut (placed_of next) → IsCommit events old (installed n sealed next events old)
 committed n sealed next events old laid = record { journal = refl; mems = refl; active = refl; older = refl; laid = laid }
@@ -51,9 +49,3 @@ drops_are_steps opened n ids old levels next tables placed laid =
       sealed = refl;
       placed = subst (λ ps. IsRearranged (left_of (among ids) ps) (placed_of next)) (sym tables) placed;
     }
-
-pub merges_of_inputs_are_steps : TablesArePlaced → MergesOfInputsAreSteps
-merges_of_inputs_are_steps placed_law opened w n to ids evict inputs run old levels next tables allowed covers placed laid same keeps =
-    merges_are_steps opened w n to ids evict run old levels next tables allowed covers placed laid (λ ordered k.
-    let falls = subst (λ ps. IsFalling (stack k (held (chosen_of (among ids) ps)))) tables (placed_law.falls k (λ p. among ids p.table.id) old.mems old.latest ordered) in
-    ap (stack k) (entries_of_placed to run) ∙ keeps k (stack k (held (chosen_of (among ids) (placed_of levels)))) falls (same k))

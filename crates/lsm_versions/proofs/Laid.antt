@@ -1,8 +1,6 @@
 -- The tables of a version stand as the theory wants it.
-use Rattle.std.proofs.Common.{◌≡◌, ℕ, ◌+◌, ◌≤◌, Bool, true, false, cond, List, [], ◌∷◌, ◌++◌, map, flat_map, filter, sym, ap, ap₂, subst, refl, ◌∙◌, append_assoc, arith}
-use Rattle.std.proofs.lemmas.Grind.{flat_map-append}
+use Rattle.std.proofs.Common.{◌≡◌, ℕ, ◌+◌, ◌≤◌, Bool, true, false, cond, List, [], ◌∷◌, ◌++◌, map, filter, sym, ap, subst, ◌∙◌, arith}
 use Rattle.std.specs.List.{AllByRecursion}
-use Rattle.std.proofs.lemmas.List.Elements.{filter-append}
 use Rattle.lsm_below.specs.Keys.{Bytes}
 use Rattle.lsm_below.specs.Entries.{stack}
 use Rattle.lsm_below.specs.Ranges.{in_range}
@@ -14,7 +12,7 @@ use Rattle.lsm_below.specs.Each.{each_append, each_left, each_right}
 use Rattle.lsm_model.specs.Laws.{TablesArePlaced}
 use Rattle.lsm_model.specs.Views.{LevelsRise}
 use Rattle.lsm_versions.specs.Levels.{Levels, all_of, range, AreCovered, shown_table, shown_levels, placed_of, placed_in, chosen_in}
-use Rattle.lsm_versions.proofs.Placed.{placed_cons, filter_map}
+use Rattle.lsm_versions.specs.TableLists.{filter_map, placed_cons, flat_append, entries_of_placed, held_chosen}
 
 each_made : (Q : SeenTable → Type 0) (P : Placed → Type 0) → ((n : ℕ) (t : SeenTable) → Q t → P (placed_at n (shown_table t))) → (level : ℕ) (ts : List SeenTable) → AllByRecursion Q ts → AllByRecursion P (placed_in level ts)
 each_made Q P gives level [] h = tt
@@ -26,10 +24,6 @@ made_cover = each_made (λ t. IsCovered t.entries (range t)) (λ p. IsCovered p.
 
 flat_parts : {A : Type 0} (P : A → Type 0) (xss : List (List A)) (rest : List A) → AllByRecursion P (tables_of xss ++ rest) → AllByRecursion P (tables_of xss) × AllByRecursion P rest
 flat_parts P xss rest h = (each_left P (tables_of xss) rest h, each_right P (tables_of xss) rest h)
-
-pub flat_append : (xss yss : List (List SeenTable)) → tables_of (xss ++ yss) ≡ tables_of xss ++ tables_of yss
-flat_append [] yss = refl
-flat_append (xs ∷ xss) yss = ap (λ l. xs ++ l) (flat_append xss yss) ∙ sym (append_assoc xs (tables_of xss) (tables_of yss))
 
 -- what each table has, each placed one has
 pub each_placed : (Q : SeenTable → Type 0) (P : Placed → Type 0) → ((n : ℕ) (t : SeenTable) → Q t → P (placed_at n (shown_table t))) → (n : ℕ) (levels : Levels) → AllByRecursion Q (all_of levels) → AllByRecursion P (placed_from n (shown_levels levels))
@@ -46,28 +40,6 @@ pub laid_out : LevelsRise → (levels : Levels) → AreCovered (tables_of (table
 laid_out rise levels h = record { covers = levels_cover 0 levels h; by_level = rise 0 (shown_levels levels) }
 
 -- ---- a move keeps each key's entries
-
-pub entries_of_placed : (level : ℕ) (ts : List SeenTable) → held (placed_in level ts) ≡ flat_map (λ t. t.entries) ts
-entries_of_placed level [] = refl
-entries_of_placed level (t ∷ ts) = ap (λ es. t.entries ++ es) (entries_of_placed level ts)
-
-held_both : (xs ys : List Placed) → held (xs ++ ys) ≡ held xs ++ held ys
-held_both [] ys = refl
-held_both (x ∷ xs) ys = ap (λ es. x.table.entries ++ es) (held_both xs ys) ∙ sym (append_assoc x.table.entries (held xs) (held ys))
-
-pub held_chosen : (ids : List ℕ) (n : ℕ) (levels : Levels) → held (chosen_of (among ids) (placed_from n (shown_levels levels))) ≡ flat_map (λ t. t.entries) (chosen_in ids (tables_of (tables_of levels)))
-held_chosen ids n [] = refl
-held_chosen ids n (runs ∷ levels) =
-    let f = λ (t : SeenTable). placed_at n (shown_table t) in
-    let rest = placed_from (n + 1) (shown_levels levels) in
-    let ts = tables_of runs in
-    let more = tables_of (tables_of levels) in
-    ap (λ ps. held (chosen_of (among ids) ps)) (placed_cons n runs levels)
-    ∙ ap held (filter-append (λ p. among ids p.table.id) (placed_in n ts) rest)
-    ∙ held_both (chosen_of (among ids) (placed_in n ts)) (chosen_of (among ids) rest)
-    ∙ ap₂ (λ a b. a ++ b) (ap held (filter_map f (λ p. among ids p.table.id) ts) ∙ entries_of_placed n (chosen_in ids ts)) (held_chosen ids (n + 1) levels)
-    ∙ sym (flat_map-append (λ t. t.entries) (chosen_in ids ts) (chosen_in ids more))
-    ∙ ap (flat_map (λ t. t.entries)) (sym (ap (chosen_in ids) (flat_append runs (tables_of levels)) ∙ filter-append (λ t. among ids t.id) ts more))
 
 one_level : (n : ℕ) (ts : List SeenTable) → EachPair (λ p q. p.level ≤ q.level) (placed_in n ts)
 one_level n [] = tt

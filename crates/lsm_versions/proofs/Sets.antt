@@ -1,57 +1,15 @@
 -- Ids that are put into a set, or taken out, one after the other.
-use Rattle.std.proofs.Common.{◌≡◌, ℕ, ◌+◌, ◌<◌, Bool, true, false, cond, ◌&&◌, ◌||◌, not, List, [], ◌∷◌, ◌++◌, length, get_or, take, map, refl, sym, ◌∙◌, ap, ap₂, eqb, append_assoc}
+use Rattle.std.proofs.Common.{◌≡◌, ℕ, ◌+◌, ◌<◌, Bool, true, false, cond, ◌||◌, List, [], ◌∷◌, ◌++◌, length, get_or, take, map, refl, sym, ◌∙◌, ap, eqb, append_assoc}
 use Rattle.std.proofs.lemmas.List.{take_more}
-use Rattle.std.proofs.lemmas.List.Folds.{list_any-append}
 use Rattle.lsm_below.specs.Optimizes.{tables_of}
 use Rattle.lsm_tables.specs.Tables.{SeenTable}
 use Rattle.lsm_model.specs.Steps.{among}
 use Rattle.lsm_versions.specs.Levels.{Levels, all_of}
-use Rattle.lsm_versions.proofs.Ids.{flips}
-use Rattle.lsm_versions.proofs.Laid.{flat_append}
-use Rattle.lsm_versions.proofs.Placed.{map_append}
-
-or_none : (b : Bool) → (b || false) ≡ b
-or_none true = refl
-or_none false = refl
+use Rattle.lsm_versions.specs.TableLists.{flat_append, among_append, put_more}
 
 or_assoc : (a b c : Bool) → (a || (b || c)) ≡ ((a || b) || c)
 or_assoc true b c = refl
 or_assoc false b c = refl
-
-put_cases : (t a b : Bool) → cond t true (a || b) ≡ (a || (b || t))
-put_cases true true b = refl
-put_cases true false true = refl
-put_cases true false false = refl
-put_cases false true b = refl
-put_cases false false true = refl
-put_cases false false false = refl
-
-take_cases : (t a b : Bool) → cond t false (a && not b) ≡ (a && not (b || t))
-take_cases true true true = refl
-take_cases true true false = refl
-take_cases true false b = refl
-take_cases false true true = refl
-take_cases false true false = refl
-take_cases false false b = refl
-
-module _ {A : Type 0} (f : A → ℕ) where
-  pub among_append : (xs ys : List A) (i : ℕ) → among (map f (xs ++ ys)) i ≡ (among (map f xs) i || among (map f ys) i)
-  among_append xs ys i = ap (λ l. among l i) (map_append f xs ys) ∙ list_any-append (eqb i) (map f xs) (map f ys)
-
-  among_push : (xs : List A) (x : A) (i : ℕ) → among (map f (xs ++ x ∷ [])) i ≡ (among (map f xs) i || eqb i (f x))
-  among_push xs x i = among_append xs (x ∷ []) i ∙ ap (λ b. among (map f xs) i || b) (or_none (eqb i (f x)))
-
-  -- one more is put in
-  pub put_more : (xs : List A) (x : A) (i : ℕ) (new now old : Bool) → new ≡ cond (eqb (f x) i) true now → now ≡ (old || among (map f xs) i) → new ≡ (old || among (map f (xs ++ x ∷ [])) i)
-  put_more xs x i new now old step so_far =
-      let b = among (map f xs) i in
-      step ∙ ap₂ (λ t m. cond t true m) (flips (f x) i) so_far ∙ put_cases (eqb i (f x)) old b ∙ ap (λ m. old || m) (sym (among_push xs x i))
-
-  -- one more is taken out
-  pub take_more_out : (xs : List A) (x : A) (i : ℕ) (new now old : Bool) → new ≡ cond (eqb (f x) i) false now → now ≡ (old && not (among (map f xs) i)) → new ≡ (old && not (among (map f (xs ++ x ∷ [])) i))
-  take_more_out xs x i new now old step so_far =
-      let b = among (map f xs) i in
-      step ∙ ap₂ (λ t m. cond t false m) (flips (f x) i) so_far ∙ take_cases (eqb i (f x)) old b ∙ ap (λ m. old && not m) (sym (among_push xs x i))
 
 -- the id of one more table
 pub id_more : (ts : List SeenTable) (n i : ℕ) (t : SeenTable) (new now old : Bool) → n < length ts → t ≡ get_or ts n t → new ≡ cond (eqb t.id i) true now → now ≡ (old || among (map (λ t. t.id) (take n ts)) i) → new ≡ (old || among (map (λ t. t.id) (take (n + 1) ts)) i)

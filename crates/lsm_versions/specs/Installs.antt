@@ -1,8 +1,7 @@
 -- What a changed version is to the theory: each install of one is a step.
 use Rattle.std.specs.Prelude.{◌≡◌, ℕ, Bool, false, List, [], ◌∷◌, ◌++◌, map, flat_map}
 use Rattle.lsm_below.specs.Keys.{Bytes}
-use Rattle.std.specs.List.Sorted.{IsPermutation}
-use Rattle.lsm_below.specs.Entries.{Entry, entry_cmp, stack, keep, IsFalling, IsOrdered}
+use Rattle.lsm_below.specs.Entries.{Entry, entry_cmp, stack, keep, IsOrdered}
 use Rattle.lsm_below.specs.Runs.{IsRun}
 use Rattle.lsm_below.specs.Sorted.{Rises}
 use Rattle.lsm_tables.specs.Cutting.{IsCutting}
@@ -12,7 +11,6 @@ use Rattle.lsm_model.specs.Views.{sources, held, chosen_of, left_of, ranges_of, 
 use Rattle.lsm_model.specs.Steps.{State, Step, Flushed, Merged, Moved, DroppedTables, AllCover, among}
 use Rattle.lsm_model.specs.declared.journal.JournalEntry.TheVariants.{Install, Dropped}
 use Rattle.lsm_versions.specs.Levels.{Levels, range, placed_of, placed_in, PutBetween, IsMoved}
-use Rattle.lsm_versions.specs.Choices.{HoldSame}
 
 -- a state after the install of a version under a sequence number: its tables and sealed memtables stand in a new super version
 abbrev pub installed : ℕ → List ℕ → Levels → List Event → State → State
@@ -47,18 +45,6 @@ DropsAreSteps = (opened : List Entry) (n : ℕ) (ids : List ℕ) (old : State) (
     → old.latest.tables ≡ placed_of levels
     → IsRearranged (left_of (among ids) (placed_of levels)) (placed_of next) → IsLaidOut (placed_of next)
     → Step opened old (DroppedTables ids) (installed n old.latest.sealed next (Dropped (ranges_of (among ids) (placed_of levels)) n ∷ (Install n ∷ [])) old)
-
--- a run holds of each key what a compaction keeps of these tables, in whatever order they come
-abbrev pub Keeps : ℕ → Bool → List SeenTable → List SeenTable → Type 0
-Keeps w evict inputs run = (k : Bytes) (es : List Entry) → IsFalling es → IsPermutation (flat_map (λ t. stack k t.entries) inputs) es → stack k (flat_map (λ t. t.entries) run) ≡ keep w evict es
-
--- the same of a merge whose inputs were read before, and still hold what the chosen tables do
-abbrev pub MergesOfInputsAreSteps : Type 0
-MergesOfInputsAreSteps = (opened : List Entry) (w n to : ℕ) (ids : List ℕ) (evict : Bool) (inputs run : List SeenTable) (old : State) (levels next : Levels)
-    → old.latest.tables ≡ placed_of levels → IsAllowed to (among ids) evict (placed_of levels)
-    → AllCover (placed_in to run) → PutBetween ids run to levels next → IsLaidOut (placed_of next)
-    → HoldSame inputs ids levels → Keeps w evict inputs run
-    → Step opened old (Merged w to ids evict (placed_in to run)) (installed n old.latest.sealed next (Install n ∷ []) old)
 
 -- the tables into which a list is cut are a run
 abbrev pub CutTablesAreRuns : Type 0

@@ -1,9 +1,12 @@
 // The tables that open jobs work on.
-ghost use Rattle.std.specs.Prelude.{◌≡◌, ℕ, ◌&&◌, ◌||◌, not, [], IfOk, OnOk, OnErr, length, ◌==◌};
+ghost use Rattle.std.specs.Prelude.{◌≡◌, ℕ, ◌&&◌, ◌||◌, not, [], IfOk, OnOk, OnErr, length, slice_index_or, ◌==◌};
 ghost use Rattle.std.specs.List.{list_any};
 ghost use Rattle.lsm_model.specs.Steps.{among};
+ghost use Rattle.lsm_versions.specs.Levels.{is_busy};
 
-use lsm_below::TableId;
+use crate::Version;
+use lsm_below::{Run, TableId};
+use lsm_tables::Table;
 use std::alloc::{AllocError, Global};
 use std::collections::HashSet;
 use std::marker::Model;
@@ -97,5 +100,29 @@ impl HiddenSet {
         Ok(HiddenSet {
             ids: self.ids.clone()?,
         })
+    }
+}
+
+fn run_is_busy(tables: &[Table], hidden: &HiddenSet) -> bool
+    ensures { result ≡ list_any (λ t. among hidden.now t.id) tables.now }
+{
+    tables.iter().any(|table| hidden.is_hidden(table.id()))
+}
+
+fn runs_are_busy(runs: &[Run<Table>], hidden: &HiddenSet) -> bool
+    ensures { result ≡ is_busy hidden.now runs.now }
+{
+    runs.iter().any(|run| run_is_busy(run.as_slice(), hidden))
+}
+
+impl Version {
+    /// Whether a table of a level is hidden; of no level from 7 on. The cost is linear in the level's tables.
+    pub fn level_is_busy(&self, n: usize, hidden: &HiddenSet) -> bool
+        ensures { result ≡ is_busy hidden.now (slice_index_or self.now.levels n []) }
+    {
+        match self.levels().get(n) {
+            Some(level) => runs_are_busy(level.as_slice(), hidden),
+            None => false,
+        }
     }
 }

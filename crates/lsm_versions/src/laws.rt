@@ -1,7 +1,6 @@
 // What installs of versions are to the theory, each law as the contract of a function that does nothing.
-ghost use Rattle.lsm_versions.specs.Installs.{FlushesAreSteps, MergesAreSteps, MovesAreSteps, DropsAreSteps, MergesOfInputsAreSteps, CutTablesAreRuns};
+ghost use Rattle.lsm_versions.specs.Installs.{FlushesAreSteps, MergesAreSteps, MovesAreSteps, DropsAreSteps, CutTablesAreRuns};
 
-use lsm_model::tables_are_placed;
 use lsm_tables::cuts_are_runs;
 
 /// The install of a version with a new run in front is a flush.
@@ -23,13 +22,6 @@ pub fn moves_are_steps()
 pub fn drops_are_steps()
     ensures { DropsAreSteps }
 {}
-
-/// The same of a merge whose inputs were read before, and still hold what the chosen tables do.
-pub fn merges_of_inputs_are_steps()
-    ensures { MergesOfInputsAreSteps }
-{
-    tables_are_placed();
-}
 
 /// The tables into which a list is cut are a run.
 pub fn cut_tables_are_runs()

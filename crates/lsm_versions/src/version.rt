@@ -11,13 +11,13 @@ ghost use Rattle.lsm_versions.specs.declared.version.TreeType.TheVariants.{Stand
 ghost use Rattle.lsm_tables.specs.Tables.{SeenTable};
 ghost use Rattle.lsm_model.specs.Views.{IsLaidOut, IsRearranged, left_of};
 ghost use Rattle.lsm_model.specs.Steps.{among, AllCover};
-ghost use Rattle.lsm_versions.specs.Levels.{SeenVersion, empty_levels, range, placed_of, tables_shown, placed_in, AreApart, AreCovered, AreRising, AreRuns, HasOwnIds, AreNew, all_of, left_in, fits, IsVersion, IsNext, IsOneRun, is_busy, chosen_from, PutBetween, Moves};
+ghost use Rattle.lsm_versions.specs.Levels.{SeenVersion, empty_levels, range, placed_of, tables_shown, placed_in, AreApart, AreCovered, AreRising, AreRuns, HasOwnIds, AreNew, all_of, left_in, fits, IsVersion, IsNext, IsOneRun, chosen_from, PutBetween, Moves};
 ghost use Rattle.lsm_versions.specs.Refusals.{IsRefusedFor};
 ghost use Rattle.lsm_below.specs.declared.error.Error.TheVariants.{OutOfMemory};
 
 use crate::level::see_run;
 use crate::tables::tables_in;
-use crate::{HiddenSet, Level, Tables};
+use crate::{Level, Tables};
 use lsm_below::{Error, Run, TableId, optimize_runs};
 use lsm_model::{levels_rise, tables_are_placed};
 use lsm_tables::Table;
@@ -40,7 +40,7 @@ pub enum TreeType {
 pub const DEFAULT_LEVEL_COUNT: u8 = 7;
 
 /// The same, as a length.
-pub(crate) const LEVELS: usize = DEFAULT_LEVEL_COUNT as usize;
+const LEVELS: usize = DEFAULT_LEVEL_COUNT as usize;
 
 /// Seven levels of runs of tables, with an id.
 ///
@@ -88,8 +88,8 @@ fn see_levels(levels: &[Level])
     }
 }
 
-/// The tables of these ids, each as a run of its own.
-pub(crate) fn chosen_runs(
+/// The tables of these ids, each as a run of its own. Refused only for want of memory.
+pub fn chosen_runs(
     alloc: Global,
     ids: &HashSet<TableId>,
     levels: &[Level],
@@ -237,16 +237,6 @@ impl Version {
         ensures { result ≡ capped (length (all_of self.now.levels)) }
     {
         count_tables(&self.levels)
-    }
-
-    /// Whether a table of a level is hidden; of no level from 7 on.
-    pub fn level_is_busy(&self, n: usize, hidden: &HiddenSet) -> bool
-        ensures { result ≡ is_busy hidden.now (slice_index_or self.now.levels n []) }
-    {
-        match self.levels.get(n) {
-            Some(level) => level.is_busy(hidden),
-            None => false,
-        }
     }
 
     /// A copy, which shares the tables. Refused only for want of memory.

@@ -1,8 +1,9 @@
 // Why a choice of tables is declined.
 use crate::samples::{Row, hidden, ids, table, version};
 use lsm_below::TableId;
+use lsm_choices::{Kind, Why, first_reason, last_reason};
 use lsm_tables::Table;
-use lsm_versions::{Kind, Version, Why, first_reason, last_reason};
+use lsm_versions::Version;
 use std::alloc::Global;
 use std::process::Abort;
 use std::test::Fail;

@@ -1,13 +1,16 @@
-//! Tests of `lsm_versions`, and nothing else: a crate with tests is proved twice, with and without them.
+//! Tests of `lsm_versions` and `lsm_choices`, and nothing else: a crate with tests is proved twice, with and without them.
 //!
 //! | Module | Tests |
 //! |-|-|
 //! | `choices` | why a choice of tables is declined, when it begins and when it ends |
+//! | `changes` | merged and moved tables, and when there is no next version |
 //! | `versions` | next versions, and what a version tells of its tables |
 //! | `hidden_sets` | hidden tables |
 //! | `samples` | holds no test: what the others make tables and versions by |
 #![tactic(auto)]
 
+#[cfg(test)]
+mod changes;
 #[cfg(test)]
 mod choices;
 #[cfg(test)]

@@ -1,7 +1,8 @@
 // Next versions, and what a version tells of its tables.
 use crate::samples::{Row, hidden, ids, table, version};
 use lsm_below::{TableId, is_run};
-use lsm_versions::{Version, ids_are_own, pick_run_indexes};
+use lsm_choices::pick_run_indexes;
+use lsm_versions::{Version, ids_are_own};
 use std::alloc::Global;
 use std::process::Abort;
 use std::test::Fail;
@@ -37,6 +38,42 @@ fn what_it_tells(rt: HostRuntime) -> Result<(), Fail> {
     let order = has_ids(&version, &[2, 1, 0]);
     drop(version);
     assert!(rt; tells? && order);
+    Ok(())
+}
+
+/// Whether a level's tables have keys from the first to the last of these, or there are none.
+fn spans(
+    alloc: Global,
+    version: &Version,
+    at: usize,
+    ends: Option<(&str, &str)>,
+) -> Result<bool, Fail> {
+    let Some(level) = version.level(at) else {
+        return Ok(false);
+    };
+    Ok(match (level.aggregate_key_range(alloc)?, ends) {
+        (Some(range), Some((min, max))) => {
+            range.min().as_slice() == min.as_bytes() && range.max().as_slice() == max.as_bytes()
+        }
+        (None, None) => true,
+        _ => false,
+    })
+}
+
+fn all_span(alloc: Global, version: &Version) -> Result<bool, Fail> {
+    Ok(
+        spans(alloc, version, 0, Some(("a", "b")))?
+            && spans(alloc, version, 1, None)?
+            && spans(alloc, version, 6, Some(("a", "a")))?,
+    )
+}
+
+#[test]
+fn levels_have_ranges(rt: HostRuntime) -> Result<(), Fail> {
+    let version = version(&rt, rt.alloc(), &THREE)?;
+    let span = all_span(rt.alloc(), &version);
+    drop(version);
+    assert!(rt; span?);
     Ok(())
 }
 

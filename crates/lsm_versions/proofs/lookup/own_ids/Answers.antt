@@ -1,6 +1,6 @@
 use Rattle.std.proofs.Common.{◌≡◌, ℕ, Bool, true, false, cond, eqb, not, ◌∙◌, sym, ap, subst, arith}
 use Rattle.lsm_model.specs.Steps.{among}
-use Rattle.lsm_versions.proofs.Lookups.{stands_twice, own_more}
+use Rattle.lsm_versions.proofs.OwnIds.{stands_twice, own_more}
 use Rattle.lsm_versions.proofs.Sets.{id_more}
 use Rattle.lsm_versions.proofs.lookup.own_ids.Goals as goal
 

@@ -2,8 +2,8 @@ use Rattle.std.proofs.Common.{◌≡◌, ℕ, ◌||◌, List, Bor, map, arith, a
 use Rattle.std.proofs.lemmas.List.{length_push}
 use Rattle.std.proofs.lemmas.Map.Iter.{iter_end}
 use Rattle.lsm_model.specs.Steps.{among}
-use Rattle.lsm_versions.proofs.Sets.{put_more}
 use Rattle.lsm_versions.proofs.hidden_set.HiddenSet.hide.Goals as goal
+use Rattle.lsm_versions.specs.TableLists.{put_more}
 
 pub loop-id-preserved : goal.loop-id-preserved
 loop-id-preserved c = record {

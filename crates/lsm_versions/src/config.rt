@@ -1,0 +1,41 @@
+// What a tree is opened with.
+ghost use Rattle.std.specs.Prelude.{◌≡◌};
+
+use crate::DEFAULT_LEVEL_COUNT;
+use lsm_below::{SeqNo, TreeId};
+
+/// What a tree is opened with: its id, and where its counters start.
+///
+/// # Examples
+///
+/// ```text
+/// let config = Config::new(0, 0, 0); // tree 0, both counters at 0
+/// let opened = TreeState::open(alloc, config, MemStore::new(alloc));
+/// ```
+#[derive(Clone, Copy, Debug, PartialEq, Eq)]
+pub struct Config {
+    pub id: TreeId,
+    pub seqno: SeqNo,
+    pub visible_seqno: SeqNo,
+}
+
+impl Config {
+    /// A configuration of these parts: `seqno` is the first sequence number that a write draws,
+    /// `visible_seqno` the first snapshot that callers are to take.
+    pub fn new(id: TreeId, seqno: SeqNo, visible_seqno: SeqNo) -> Config
+        ensures { result ≡ record { id = id; seqno = seqno; visible_seqno = visible_seqno } }
+    {
+        Config {
+            id,
+            seqno,
+            visible_seqno,
+        }
+    }
+
+    /// The number of levels, always `DEFAULT_LEVEL_COUNT`.
+    pub fn level_count(&self) -> u8
+        ensures { result ≡ 7 }
+    {
+        DEFAULT_LEVEL_COUNT
+    }
+}
