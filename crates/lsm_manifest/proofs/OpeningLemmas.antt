@@ -1,5 +1,5 @@
 -- What is found where a tree is opened.
-use Rattle.std.proofs.Common.{◌≡◌, inl, inr, ⊎_elim, ℕ, Bool, true, false, not, ◌||◌, eqb, List, Option, Some, None, Result, Ok, Err, refl, sym, ap, subst, ◌∙◌}
+use Rattle.std.proofs.Common.{◌≡◌, inl, inr, ⊎_elim, ℕ, Bool, true, false, not, ◌||◌, eqb, List, Option, Some, None, Err, refl, sym, ap, subst, ◌∙◌}
 use Rattle.std.specs.Prelude.{IsSome}
 use Rattle.std.specs.Str.{bytes_eq}
 use Rattle.std.specs.List.Sorted.{IsPermutation}
@@ -10,7 +10,7 @@ use Rattle.lsm_tables.specs.Spellings.{ok_is}
 use Rattle.lsm_store.specs.World.{Image, World, Lists, IsImage, Same, LeavesOnly}
 use Rattle.lsm_versions.specs.Levels.{Levels as SeenLevels}
 use Rattle.lsm_manifest.specs.declared.fault.Fault.{Fault}
-use Rattle.lsm_manifest.specs.declared.fault.Fault.TheVariants.{Unrecoverable, InvalidVersion}
+use Rattle.lsm_manifest.specs.declared.fault.Fault.TheVariants.{Unrecoverable}
 use Rattle.lsm_manifest.specs.declared.fault.OpenError.{OpenError}
 use Rattle.lsm_manifest.specs.declared.fault.OpenError.TheVariants as opening
 use Rattle.lsm_manifest.specs.declared.kinds.NameKind.{NameKind}
@@ -20,17 +20,14 @@ use Rattle.lsm_manifest.specs.Spelling.{ids_of}
 use Rattle.lsm_manifest.specs.Recovery.{Levels, IsNamed, version_of, StoreOnly}
 use Rattle.lsm_manifest.specs.Names.{current_name}
 use Rattle.lsm_manifest.specs.Persist.{IsPersisted, IsOldOrNew}
-use Rattle.lsm_manifest.specs.Versions.{file_of, first_version}
-use Rattle.lsm_store.specs.Moments.{started, rests, joined, same_then}
+use Rattle.lsm_store.specs.Moments.{started, rests, joined}
 use Rattle.lsm_manifest.specs.Standing.{AreTablesAt}
-use Rattle.lsm_manifest.specs.Clearing.{IsCleared}
-use Rattle.lsm_manifest.specs.Opening.{is_refused, FindsAny, LevelsFault, FilesFault, BadName, BadLevels, IsFound, ChecksLevels, ChecksFiles, OpensFiles, OpensNew, OnlyFault, KeepsFiles, IsUnnamed}
+use Rattle.lsm_manifest.specs.Opening.{is_refused, FindsAny, LevelsFault, FilesFault, BadName, BadLevels, IsFound, ChecksLevels, ChecksFiles, OpensFiles, KeepsFiles}
 use Rattle.lsm_manifest.specs.declared.opening.Opened.{Opened}
 use Rattle.lsm_manifest.proofs.Recovering.{recovery_back}
 use Rattle.lsm_store.specs.Moments.{image_same}
-use Rattle.lsm_manifest.proofs.ClearingLemmas.{cleared_behind, cleared_same}
 
-refused_is : (k : NameKind) → is_refused k ≡ true → k ≡ Refused
+pub refused_is : (k : NameKind) → is_refused k ≡ true → k ≡ Refused
 refused_is VersionFile e = absurd cc
 refused_is (TableFile i) e = absurd cc
 refused_is Skipped e = absurd cc
@@ -98,20 +95,13 @@ tables_same old mid ls ms ts same is at = subst (λ (l : Levels). AreTablesAt ol
 
 -- ---- any moment of it
 
-abbrev Only : World → Type 0
+abbrev pub Only : World → Type 0
 Only w = (image : Image) → w.since w.moment image → IsImage w.may image
-
--- refused before anything is removed
-pub before_removal : (old mid : World) (i : ℕ) (ls : Levels) → Only old → Same old mid → LeavesOnly old mid (IsCleared (is_orphan i (ids_of ls)) old)
-before_removal old mid i ls only same = cleared_same (is_orphan i (ids_of ls)) old mid only same
 
 -- the orphans beside what was found are those beside what is named
 pub orphans_are : (image : Image) (id : ℕ) (ts : SeenLevels) (next : ℕ) (ids : List ℕ) (i : ℕ) (ls : Levels) (jd : ℕ) (jds : List ℕ) → jd ≡ id → jds ≡ ids → IsFound image id ts next ids → IsNamed image i ls → is_orphan jd jds ≡ is_orphan i (ids_of ls)
 orphans_are image id ts next ids i ls jd jds same is found named =
     ap (λ (k : ℕ). is_orphan k jds) same ∙ ap (λ (x : List ℕ). is_orphan id x) is ∙ (λ k n. found_orphans image id ts next ids i ls found named n k)
-
-pub in_removal : (p q : List ℕ → Bool) (old mid new : World) → p ≡ q → Only old → Same old mid → LeavesOnly mid new (IsCleared p mid) → LeavesOnly old new (IsCleared q old)
-in_removal p q old mid new are only same after = cleared_behind q old mid new only same (subst (λ (o : List ℕ → Bool). LeavesOnly mid new (IsCleared o mid)) are after)
 
 -- ---- names that are looked for
 
@@ -134,25 +124,10 @@ named_there image id ls named = subst (λ (o : Option (List ℕ)). IsSome o) (sy
 
 -- ---- after a call without effect
 
-pub not_version : (e : OpenError) → StoreOnly {T = Unit {0}} (Err e) → OnlyFault {T = Opened} (InvalidVersion 1) (Err e)
-not_version opening.OutOfMemory h = tt
-not_version opening.Store h = tt
-not_version opening.CommitUnknown h = h
-not_version (opening.Fault f) h = absurd h
-
-pub not_new : (old new : World) (e : OpenError) → StoreOnly {T = Unit {0}} (Err e) → OpensNew old new (Err e)
-not_new old new opening.OutOfMemory h = tt
-not_new old new opening.Store h = tt
-not_new old new opening.CommitUnknown h = absurd h
-not_new old new (opening.Fault f) h = absurd h
-
 pub listed_on : (old mid : Image) (names : List (List ℕ)) → ((n : List ℕ) → mid n ≡ old n) → Lists old names → Lists mid names
 listed_on old mid names same all = subst (λ (image : Image). Lists image names) (sym (image_same old mid same)) all
 
-pub opens_on : (old mid : Image) (r : Result Opened OpenError) → ((n : List ℕ) → mid n ≡ old n) → OpensFiles mid r → OpensFiles old r
-opens_on old mid r same opens = subst (λ (image : Image). OpensFiles image r) (image_same old mid same) opens
-
-persisted_on : (id : ℕ) (bytes : List ℕ) (old mid new : World) → Same old mid → IsPersisted id bytes mid new → IsPersisted id bytes old new
+pub persisted_on : (id : ℕ) (bytes : List ℕ) (old mid new : World) → Same old mid → IsPersisted id bytes mid new → IsPersisted id bytes old new
 persisted_on id bytes old mid new same p = record {
   rest = record {
     may = λ n c v d. (λ may. (same.may n c).0 ((p.rest.may n c v d).0 may), λ may. (p.rest.may n c v d).1 ((same.may n c).1 may));
@@ -162,21 +137,11 @@ persisted_on id bytes old mid new same p = record {
   version = p.version;
 }
 
-pub new_on : (old mid new : World) (r : Result Opened OpenError) → Same old mid → OpensNew mid new r → OpensNew old new r
-new_on old mid new (Ok o) same is = record { version = is.version; next = is.next; persisted = persisted_on 0 (file_of first_version) old mid new same is.persisted; names = is.names }
-new_on old mid new (Err opening.OutOfMemory) same is = tt
-new_on old mid new (Err opening.Store) same is = tt
-new_on old mid new (Err opening.CommitUnknown) same is = tt
-new_on old mid new (Err (opening.Fault f)) same is = (is.0, (is.1.0, is.1.1, subst (λ (o : Option (List ℕ)). IsSome o) (same.gives is.1.0) is.1.2))
-
 pub new_moment_on : (id : ℕ) (bytes : List ℕ) (old mid new : World) → Only old → Same old mid → LeavesOnly mid new (IsOldOrNew id bytes mid) → LeavesOnly old new (IsOldOrNew id bytes old)
 new_moment_on id bytes old mid new only same after =
     joined old mid new (IsOldOrNew id bytes old) (IsOldOrNew id bytes mid) (IsOldOrNew id bytes old)
     (rests old old mid (IsOldOrNew id bytes old) (started old (IsOldOrNew id bytes old) (λ image left. record { elsewhere = λ n v d. only image left n; named = inl (only image left current_name) })) same)
     after (λ image is. is) (λ image is. record { elsewhere = λ n v d. (same.may n (image n)).0 (is.elsewhere n v d); named = ⊎_elim (λ was. inl ((same.may current_name (image current_name)).0 was)) (λ new. inr new) is.named })
-
-pub named_on : (old mid : Image) (id : ℕ) (ls : Levels) → ((n : List ℕ) → mid n ≡ old n) → IsNamed old id ls → IsNamed mid id ls
-named_on old mid id ls same named = subst (λ (image : Image). IsNamed image id ls) (sym (image_same old mid same)) named
 
 -- ---- what a refusal leaves
 
@@ -185,19 +150,3 @@ keeps_any old new opening.OutOfMemory same = tt
 keeps_any old new opening.Store same = tt
 keeps_any old new opening.CommitUnknown same = tt
 keeps_any old new (opening.Fault f) same = same
-
-pub keeps_no_fault : (old new : World) (e : OpenError) → StoreOnly {T = Unit {0}} (Err e) → KeepsFiles {T = Opened} old new (Err e)
-keeps_no_fault old new opening.OutOfMemory h = tt
-keeps_no_fault old new opening.Store h = tt
-keeps_no_fault old new opening.CommitUnknown h = tt
-keeps_no_fault old new (opening.Fault f) h = absurd h
-
-pub keeps_on : (old mid new : World) (r : Result Opened OpenError) → Same old mid → KeepsFiles mid new r → KeepsFiles old new r
-keeps_on old mid new (Ok o) same keeps = tt
-keeps_on old mid new (Err opening.OutOfMemory) same keeps = tt
-keeps_on old mid new (Err opening.Store) same keeps = tt
-keeps_on old mid new (Err opening.CommitUnknown) same keeps = tt
-keeps_on old mid new (Err (opening.Fault f)) same keeps = same_then old mid new same keeps
-
-pub unnamed_on : (old mid : Image) → ((n : List ℕ) → mid n ≡ old n) → IsUnnamed old → IsUnnamed mid
-unnamed_on old mid same none = subst (λ (image : Image). IsUnnamed image) (sym (image_same old mid same)) none

@@ -1,5 +1,5 @@
 -- Refusals as the errors of the tree.
-use Rattle.std.specs.Prelude.{◌≡◌, ℕ, List, Result, Ok, Err, codes}
+use Rattle.std.specs.Prelude.{◌≡◌, ℕ, List, Result, Ok, Err, OnOk, codes}
 use Rattle.std.specs.Borrow.{Bor}
 use Rattle.lsm_below.specs.declared.error.Error.{Error}
 use Rattle.lsm_below.specs.declared.error.Error.TheVariants as error
@@ -56,3 +56,18 @@ TellsPersist persisting.CommitUnknown e = e ≡ error.CommitUnknown
 abbrev pub Told : {T E : Type 0} → (E → Error → Type 0) → (Result T E → Type 0) → Result T Error → Type 0
 Told {T} {E} tells fact (Ok x) = fact (Ok x)
 Told {T} {E} tells fact (Err e) = (why : E) × tells why e × fact (Err why)
+
+-- ---- weaker facts
+
+pub told_weaker : {T E : Type 0} (tells : E → Error → Type 0) (P Q : Result T E → Type 0) (r : Result T Error) → ((q : Result T E) → P q → Q q) → Told tells P r → Told tells Q r
+told_weaker tells P Q (Ok x) f told = f (Ok x) told
+told_weaker tells P Q (Err e) f told = (told.0, told.1, f (Err told.0) told.2)
+
+-- of whatever is answered
+pub told_any : {T E : Type 0} (tells : E → Error → Type 0) (P : Result T E → Type 0) (X : Type 0) (r : Result T Error) → ((q : Result T E) → P q → X) → Told tells P r → X
+told_any tells P X (Ok x) f told = f (Ok x) told
+told_any tells P X (Err e) f told = f (Err told.0) told.2
+
+pub told_ok : {T E : Type 0} (tells : E → Error → Type 0) (P : Result T E → Type 0) (X : Type 0) (r : Result T Error) → ((q : Result T E) → P q → OnOk q X) → Told tells P r → OnOk r X
+told_ok tells P X (Ok x) f told = f (Ok x) told
+told_ok tells P X (Err e) f told = tt

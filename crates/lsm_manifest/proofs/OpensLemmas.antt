@@ -1,0 +1,192 @@
+-- An opening, from its two parts.
+use Rattle.std.proofs.Common.{◌≡◌, inl, ℕ, Bool, true, false, List, None, Result, Ok, Err, map, codes, refl, sym, ap, subst, ◌∙◌}
+use Rattle.std.specs.Prelude.{IsSome, OnOk, IfOk}
+use Rattle.std.specs.String.{string_bytes}
+use Rattle.std.specs.declared.string.String.{String}
+use Rattle.std.specs.declared.alloc.Global.{Global}
+use Rattle.std.proofs.lemmas.Result.{on_ok_weaker}
+use Rattle.lsm_below.specs.Numbers.{PlainNumbersAreRead}
+use Rattle.lsm_store.specs.World.{Image, World, Lists, Same, LeavesOnly}
+use Rattle.lsm_store.specs.Moments.{started, rests, weakened, image_same}
+use Rattle.lsm_versions.specs.Levels.{Levels as SeenLevels, SeenVersion}
+use Rattle.lsm_manifest.specs.declared.fault.Fault.{Fault}
+use Rattle.lsm_manifest.specs.declared.fault.Fault.TheVariants.{InvalidVersion}
+use Rattle.lsm_manifest.specs.declared.fault.OpenError.{OpenError}
+use Rattle.lsm_manifest.specs.declared.fault.OpenError.TheVariants as opening
+use Rattle.lsm_manifest.specs.declared.opening.Opened.{Opened}
+use Rattle.lsm_manifest.specs.declared.found.Found.{Found}
+use Rattle.lsm_manifest.specs.Kinds.{is_orphan}
+use Rattle.lsm_manifest.specs.Names.{current_name}
+use Rattle.lsm_manifest.specs.Spelling.{ids_of}
+use Rattle.lsm_manifest.specs.Recovery.{Levels, IsNamed, StoreOnly}
+use Rattle.lsm_manifest.specs.Standing.{StandsFor, HasSmallNumbers}
+use Rattle.lsm_manifest.specs.Persist.{IsOldOrNew}
+use Rattle.lsm_manifest.specs.Versions.{file_of, first_version}
+use Rattle.lsm_manifest.specs.Clearing.{IsCleared, Clears, Removes}
+use Rattle.lsm_manifest.specs.Opening.{IsFound, ChecksFiles, OpensFiles, OpensNew, OpensAs, OnlyFault, KeepsFiles, IsUnnamed, Opens, LeavesStanding}
+use Rattle.lsm_manifest.specs.Looking.{FindsIn, IsFoundIn, Older, BadFiles, BadNew, LooksInto, Looks, NoFault, orphan_of, ClearsFor, FinishesIn}
+use Rattle.lsm_manifest.proofs.OpeningLemmas.{Only, some_not_none, named_there, not_opened, keeps_any, orphans_are, persisted_on, new_moment_on, listed_on}
+use Rattle.lsm_manifest.proofs.ClearingLemmas.{cleared_same, cleared_behind, removes_behind}
+use Rattle.lsm_manifest.proofs.Takes.{ImagesAreFirst, stands_opens}
+use Rattle.lsm_manifest.proofs.Pins.{pinned_stands}
+
+-- ---- refused before anything is changed
+
+refused_version : (image : Image) (e : OpenError) → LooksInto image (Err e) → IsSome (image (codes "version")) → OnlyFault {T = Opened} (InvalidVersion 1) (Err e)
+refused_version image opening.OutOfMemory h there = tt
+refused_version image opening.Store h there = tt
+refused_version image opening.CommitUnknown h there = h
+refused_version image (opening.Fault f) (Older some is) there = is
+refused_version image (opening.Fault f) (BadFiles none some bad) there = absurd (some_not_none _ there none)
+refused_version image (opening.Fault f) (BadNew n none absent kind some is) there = absurd (some_not_none _ there none)
+
+refused_opens : (image : Image) (e : OpenError) → LooksInto image (Err e) → image (codes "version") ≡ None → IsSome (image current_name) → OpensFiles image (Err e)
+refused_opens image opening.OutOfMemory h none there = tt
+refused_opens image opening.Store h none there = tt
+refused_opens image opening.CommitUnknown h none there = h
+refused_opens image (opening.Fault f) (Older some is) none there = absurd (some_not_none _ some none)
+refused_opens image (opening.Fault f) (BadFiles free some bad) none there = bad
+refused_opens image (opening.Fault f) (BadNew n free gone kind some is) none there = absurd (some_not_none _ there gone)
+
+refused_new : (first mid : World) (e : OpenError) → LooksInto first.gives (Err e) → first.gives (codes "version") ≡ None → first.gives current_name ≡ None → OpensNew first mid (Err e)
+refused_new first mid opening.OutOfMemory h none absent = tt
+refused_new first mid opening.Store h none absent = tt
+refused_new first mid opening.CommitUnknown h none absent = tt
+refused_new first mid (opening.Fault f) (Older some is) none absent = absurd (some_not_none _ some none)
+refused_new first mid (opening.Fault f) (BadFiles free some bad) none absent = absurd (some_not_none _ some absent)
+refused_new first mid (opening.Fault f) (BadNew n free gone kind some is) none absent = (is, (n, kind, some))
+
+pub refused : ImagesAreFirst → (first mid : World) (e : OpenError) → Same first mid → LooksInto first.gives (Err e) → Opens first mid (Err e)
+refused once first mid e same h = record {
+  version = refused_version first.gives e h;
+  opens = refused_opens first.gives e h;
+  takes = λ id ls ts stands small. stands_opens once first.gives id ls ts (Err e) stands small (refused_opens first.gives e h stands.names.no_version (named_there first.gives id ls stands.named));
+  fresh = refused_new first mid e h;
+  removes = λ id ls named. tt;
+  keeps = keeps_any first mid e same;
+  unnamed = λ none. same;
+  older = λ there. same;
+}
+
+-- ---- what a crash may leave
+
+leaves : PlainNumbersAreRead → (first new : World) → ((id : ℕ) (ls : Levels) → IsNamed first.gives id ls → LeavesOnly first new (IsCleared (is_orphan id (ids_of ls)) first)) → (first.gives current_name ≡ None → LeavesOnly first new (IsOldOrNew 0 (file_of first_version) first)) → LeavesStanding first new
+leaves read first new any fresh = record {
+  any_moment = any;
+  stands = λ id ls ts stands pin. weakened first new (IsCleared (is_orphan id (ids_of ls)) first) (λ image. StandsFor image id ls ts) (any id ls stands.named) (λ image left. pinned_stands read first id ls ts image stands pin left);
+  new_moment = fresh;
+}
+
+old_or_new : (first : World) → Only first → LeavesOnly first first (IsOldOrNew 0 (file_of first_version) first)
+old_or_new first only = started first (IsOldOrNew 0 (file_of first_version) first) (λ image left. record { elsewhere = λ n v d. only image left n; named = inl (only image left current_name) })
+
+-- nothing has changed
+pub leaves_same : PlainNumbersAreRead → (first mid : World) → Only first → Same first mid → LeavesStanding first mid
+leaves_same read first mid only same = leaves read first mid (λ id ls named. cleared_same (is_orphan id (ids_of ls)) first mid only same) (λ absent. rests first first mid (IsOldOrNew 0 (file_of first_version) first) (old_or_new first only) same)
+
+-- ---- what was found is opened
+
+module _ (first mid new : World) (f : Found) (only : Only first) (looks : Looks first mid f) where
+  fresh_moment : LeavesOnly mid new (IsOldOrNew 0 (file_of first_version) mid) → LeavesOnly first new (IsOldOrNew 0 (file_of first_version) first)
+  fresh_moment after = new_moment_on 0 (file_of first_version) first mid new only looks.same after
+
+  -- the orphans beside what was found
+  orphans : IsFound first.gives f.opened.version.id f.opened.version.levels f.opened.next_table_id f.ids.items → (id : ℕ) (ls : Levels) → IsNamed first.gives id ls → orphan_of f ≡ is_orphan id (ids_of ls)
+  orphans found id ls named = orphans_are first.gives f.opened.version.id f.opened.version.levels f.opened.next_table_id f.ids.items id ls f.opened.version.id f.ids.items refl refl found named
+
+  leaves_in : PlainNumbersAreRead → (r : Result Opened OpenError) (b : Bool) → FindsIn b first.gives f → FinishesIn b f mid new r → LeavesStanding first new
+  leaves_in read r true finds done =
+      let fin = done (ap (λ (o : Opened). o.version) finds.1) in
+      leaves read first new (λ id ls named. absurd (some_not_none _ (named_there first.gives id ls named) finds.0)) (λ absent. fresh_moment fin.any_moment)
+  leaves_in read r false found done =
+      leaves read first new
+      (λ id ls named. cleared_behind (is_orphan id (ids_of ls)) first mid new only looks.same (subst (λ (o : List ℕ → Bool). LeavesOnly mid new (IsCleared o mid)) (orphans found id ls named) done.any_moment))
+      (λ absent. absurd (some_not_none _ (named_there first.gives f.opened.version.id found.layout found.named) absent))
+
+  opens_in : (r : Result Opened OpenError) (b : Bool) → FindsIn b first.gives f → FinishesIn b f mid new r → IfOk r (λ o. o ≡ f.opened) → IsSome (first.gives current_name) → OpensFiles first.gives r
+  opens_in r true finds done is there = absurd (some_not_none _ there finds.0)
+  opens_in (Ok o) false found done is there = subst (λ (p : Opened). OpensFiles first.gives (Ok p)) (sym is) (f.ids.items, found)
+  opens_in (Err e) false found done is there = not_opened first.gives e done.only
+
+  new_in : (r : Result Opened OpenError) (b : Bool) → FindsIn b first.gives f → FinishesIn b f mid new r → IfOk r (λ o. o ≡ f.opened) → NoFault r → first.gives current_name ≡ None → OpensNew first new r
+  new_in r false found done is clean absent = absurd (some_not_none _ (named_there first.gives f.opened.version.id found.layout found.named) absent)
+  new_in (Ok o) true finds done is clean absent =
+      let fin = done (ap (λ (p : Opened). p.version) finds.1) in
+      let same = is ∙ finds.1 in
+      record { version = ap (λ (p : Opened). p.version) same; next = ap (λ (p : Opened). p.next_table_id) same; persisted = persisted_on 0 (file_of first_version) first mid new looks.same fin.persisted; names = fin.names }
+  new_in (Err opening.OutOfMemory) true finds done is clean absent = tt
+  new_in (Err opening.Store) true finds done is clean absent = tt
+  new_in (Err opening.CommitUnknown) true finds done is clean absent = tt
+  new_in (Err (opening.Fault g)) true finds done is clean absent = absurd clean
+
+  removes_in : (r : Result Opened OpenError) (b : Bool) → FindsIn b first.gives f → FinishesIn b f mid new r → (id : ℕ) (ls : Levels) → IsNamed first.gives id ls → OnOk r (Removes (is_orphan id (ids_of ls)) first new)
+  removes_in (Err e) b finds done id ls named = tt
+  removes_in (Ok o) true finds done id ls named = absurd (some_not_none _ (named_there first.gives id ls named) finds.0)
+  removes_in (Ok o) false found done id ls named =
+      removes_behind (orphan_of f) (is_orphan id (ids_of ls)) first mid new (orphans found id ls named) looks.same done.clears (done.removed (listed_on first.gives mid.gives (map string_bytes f.names.items) looks.same.gives looks.found.names))
+
+  keeps_in : (r : Result Opened OpenError) → NoFault r → KeepsFiles first new r
+  keeps_in (Ok o) clean = tt
+  keeps_in (Err opening.OutOfMemory) clean = tt
+  keeps_in (Err opening.Store) clean = tt
+  keeps_in (Err opening.CommitUnknown) clean = tt
+  keeps_in (Err (opening.Fault g)) clean = absurd clean
+
+  unnamed_in : (b : Bool) → FindsIn b first.gives f → IsUnnamed first.gives → ⊥
+  unnamed_in true finds none = some_not_none _ none.there finds.0
+  unnamed_in false found none = none.names_none f.opened.version.id found.layout found.named
+
+  pub opened : ImagesAreFirst → (r : Result Opened OpenError) → FinishesIn f.is_new f mid new r → IfOk r (λ o. o ≡ f.opened) → NoFault r → Opens first new r
+  opened once r done is clean =
+      let finds = looks.found.finds in
+      record {
+        version = λ there. absurd (some_not_none _ there looks.found.no_version);
+        opens = λ none there. opens_in r f.is_new finds done is there;
+        takes = λ id ls ts stands small. stands_opens once first.gives id ls ts r stands small (opens_in r f.is_new finds done is (named_there first.gives id ls stands.named));
+        fresh = λ none absent. new_in r f.is_new finds done is clean absent;
+        removes = removes_in r f.is_new finds done;
+        keeps = keeps_in r clean;
+        unnamed = λ none. absurd (unnamed_in f.is_new finds none);
+        older = λ there. absurd (some_not_none _ there looks.found.no_version);
+      }
+
+  pub leaves_behind : PlainNumbersAreRead → (r : Result Opened OpenError) → FinishesIn f.is_new f mid new r → LeavesStanding first new
+  leaves_behind read r done = leaves_in read r f.is_new looks.found.finds done
+
+-- ---- looking
+
+-- what `current` leads to is refused
+pub files_refused : (image : Image) (e : OpenError) → image (codes "version") ≡ None → IsSome (image current_name) → ChecksFiles image (Err e) → LooksInto image (Err e)
+files_refused image opening.OutOfMemory none there bad = tt
+files_refused image opening.Store none there bad = tt
+files_refused image opening.CommitUnknown none there bad = bad
+files_refused image (opening.Fault f) none there bad = BadFiles none there bad
+
+pub new_is : (v : SeenVersion) → v ≡ first_version → ◌≡◌ {A = Opened} (record { version = v; next_table_id = 0 }) (record { version = first_version; next_table_id = 0 })
+new_is v is = ap (λ (x : SeenVersion). record { version = x; next_table_id = 0 }) is
+
+-- listing the names came before
+pub looks_on : (old mid : Image) (names : List (List ℕ)) (r : Result Found OpenError) → ((n : List ℕ) → mid n ≡ old n) → Lists old names → (Lists mid names → LooksInto mid r) → LooksInto old r
+looks_on old mid names r same all looks = subst (λ (image : Image). LooksInto image r) (image_same old mid same) (looks (listed_on old mid names same all))
+
+-- ---- finishing
+
+-- what is removed beside a version and its tables, under the numbers that a call was given
+pub cleared_for : {T : Type 0} (f : Found) (old new : World) (id : ℕ) (ids : List ℕ) (names : List (String Global)) (r : Result T OpenError) → id ≡ f.opened.version.id → ids ≡ f.ids.items → names ≡ f.names.items → StoreOnly r → LeavesOnly old new (IsCleared (is_orphan id ids) old) → Clears (is_orphan id ids) old new
+    → OnOk r (Lists old.gives (map string_bytes names) → (n : List ℕ) → is_orphan id ids n ≡ true → new.gives n ≡ None) → ClearsFor f old new r
+cleared_for f old new id ids names r same_id same_ids same_names only moment clears removed =
+    let are : is_orphan id ids ≡ orphan_of f = ap (λ (k : ℕ). is_orphan k ids) same_id ∙ ap (λ (x : List ℕ). is_orphan f.opened.version.id x) same_ids in
+    record {
+      only = only;
+      any_moment = subst (λ (o : List ℕ → Bool). LeavesOnly old new (IsCleared o old)) are moment;
+      clears = subst (λ (o : List ℕ → Bool). Clears o old new) are clears;
+      removed = on_ok_weaker r (λ gone all n is. gone (subst (λ (l : List (String Global)). Lists old.gives (map string_bytes l)) (sym same_names) all) n (ap (λ (o : List ℕ → Bool). o n) are ∙ is)) removed;
+    }
+
+-- what stands is found
+stands_in : ImagesAreFirst → (image : Image) (f : Found) (b : Bool) (id : ℕ) (ls : Levels) (ts : SeenLevels) → StandsFor image id ls ts → HasSmallNumbers ts → FindsIn b image f → OpensAs id ls ts (Ok f.opened)
+stands_in once image f true id ls ts stands small finds = absurd (some_not_none _ (named_there image id ls stands.named) finds.0)
+stands_in once image f false id ls ts stands small found = stands_opens once image id ls ts (Ok f.opened) stands small (f.ids.items, found)
+
+pub stands_found : ImagesAreFirst → (image : Image) (f : Found) (id : ℕ) (ls : Levels) (ts : SeenLevels) → StandsFor image id ls ts → HasSmallNumbers ts → IsFoundIn image f → OpensAs id ls ts (Ok f.opened)
+stands_found once image f id ls ts stands small looks = stands_in once image f f.is_new id ls ts stands small looks.finds

@@ -1,0 +1,80 @@
+-- What an image stands for: the tables that opening finds in it, and the map that they show.
+use Rattle.std.specs.Prelude.{◌≡◌, ℕ, ◌^◌, List, Option, None, IsSome, Result, Ok, Err, codes}
+use Rattle.lsm_below.specs.declared.error.Error.{Error}
+use Rattle.lsm_below.specs.declared.error.Error.TheVariants as error
+use Rattle.lsm_below.specs.Keys.{Bytes}
+use Rattle.lsm_below.specs.Entries.{stack, IsOrdered, IsSingle}
+use Rattle.lsm_store.specs.World.{Image, World}
+use Rattle.lsm_model.specs.Journal.{Map}
+use Rattle.lsm_model.specs.Views.{held, view}
+use Rattle.lsm_versions.specs.Levels.{Levels as SeenLevels, empty_levels, placed_of, tables_shown}
+use Rattle.lsm_manifest.specs.declared.opening.Opened.{Opened}
+use Rattle.lsm_manifest.specs.declared.kinds.NameKind.TheVariants.{Refused}
+use Rattle.lsm_manifest.specs.Names.{current_name}
+use Rattle.lsm_manifest.specs.Kinds.{kind_of}
+use Rattle.lsm_manifest.specs.Recovery.{Levels, IsNamed}
+use Rattle.lsm_manifest.specs.Standing.{HasGoodNames, HasSmallNumbers, StandsFor}
+use Rattle.lsm_manifest.specs.Pinned.{IsFixed, IsPinned}
+use Rattle.lsm_manifest.specs.Opening.{OpensFiles, OpensNew}
+use Rattle.lsm_manifest.specs.Told.{Told, TellsOpen}
+
+-- the tables that opening finds in an image: those of the version that it stands for, and without `current` none
+pub data Finds (image : Image) (ts : SeenLevels) : Type 0 where
+  Named : (id : ℕ) (ls : Levels) → StandsFor image id ls ts → Finds image ts
+  Nothing : image current_name ≡ None → HasGoodNames image → ts ≡ empty_levels → Finds image ts
+
+-- the image stands for this map: sequence numbers fall along the tables that opening finds in it, no weak tombstone in them
+-- stands over two values of its key, and the map is what they show
+pub record StandsForMap (image : Image) (m : Map) : Type 0 where
+  pub levels : SeenLevels
+  pub found : Finds image levels
+  pub ordered : IsOrdered (tables_shown levels)
+  pub single : (k : Bytes) → IsSingle (stack k (held (placed_of levels)))
+  pub shows : m ≡ view (2 ^ 64) (tables_shown levels)
+
+-- `current`, the file that it names and that one's tables have one possible content each, and no crash brings back a name
+-- that opening refuses
+pub record IsSettled (w : World) : Type 0 where
+  pub current : IsFixed w current_name
+  pub named : (id : ℕ) (ls : Levels) → IsNamed w.gives id ls → IsPinned w id ls
+  pub no_version : (c : Option (List ℕ)) → w.may (codes "version") c → c ≡ None
+  pub in_tables : (n : List ℕ) (c : Option (List ℕ)) → kind_of n ≡ Refused → w.may n c → c ≡ None
+
+-- an entry that opening finds is numbered 2^63 or more
+abbrev pub HasGreatNumber : Image → Type 0
+HasGreatNumber image = (ts : SeenLevels) × Finds image ts × (HasSmallNumbers ts → ⊥)
+
+-- why an image that stands is refused: for want of memory, where a store call failed (replacing `current` only for a new tree),
+-- or for a sequence number of 2^63 or more
+abbrev pub RefusesFound : Image → Error → Type 0
+RefusesFound image error.OutOfMemory = Unit {0}
+RefusesFound image error.Store = Unit {0}
+RefusesFound image error.CommitUnknown = image current_name ≡ None
+RefusesFound image error.OutOfNumbers = HasGreatNumber image
+RefusesFound image _ = ⊥
+
+-- what comes of opening what stands: the tables that are found, or such a refusal
+abbrev pub OpensFound : Image → SeenLevels → Result Opened Error → Type 0
+OpensFound image ts (Ok o) = o.version.levels ≡ ts
+OpensFound image ts (Err e) = RefusesFound image e
+
+-- what is told where `current` is there, and where it isn't
+abbrev pub TellsFiles : Image → Result Opened Error → Type 0
+TellsFiles image r = image (codes "version") ≡ None → IsSome (image current_name) → Told TellsOpen (OpensFiles image) r
+
+abbrev pub TellsNew : World → World → Result Opened Error → Type 0
+TellsNew old new r = old.gives (codes "version") ≡ None → old.gives current_name ≡ None → Told TellsOpen (OpensNew old new) r
+
+-- ---- what follows: each the contract of a function in `finding.rt`
+
+-- opening finds one list of tables in an image
+abbrev pub FoundOnce : Type 0
+FoundOnce = (image : Image) (xs ys : SeenLevels) → Finds image xs → Finds image ys → xs ≡ ys
+
+-- an image stands for one map
+abbrev pub MapIsOne : Type 0
+MapIsOne = (image : Image) (m n : Map) → StandsForMap image m → StandsForMap image n → m ≡ n
+
+-- what is found is opened
+abbrev pub OpeningFinds : (S : Type 0) → (S → World) → Type 0
+OpeningFinds S world = (old new : S) (ts : SeenLevels) (r : Result Opened Error) → Finds (world old).gives ts → TellsFiles (world old).gives r → TellsNew (world old) (world new) r → OpensFound (world old).gives ts r
