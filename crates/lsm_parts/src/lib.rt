@@ -2,7 +2,6 @@
 //!
 //! | Module | Holds |
 //! |-|-|
-//! | `config` | what a tree is opened with |
 //! | `seqno` | the counter of sequence numbers, and which of them a snapshot sees |
 //! | `version` | versions of tables, super versions and their history |
 //! | `prefix` | the bounds of the keys that begin alike |
@@ -13,7 +12,6 @@
 //! | `laws` | what the list of what is shown is in the theory's words |
 #![tactic(auto)]
 
-mod config;
 mod cut;
 mod entries;
 mod guard;
@@ -25,13 +23,12 @@ mod shown_ends;
 mod tree_iter;
 mod version;
 
-pub use config::Config;
 pub use guard::{Guard, IterGuard, RangeItem};
 pub use iter_state::IterState;
 pub use laws::shown_is_the_view;
 pub use lsm_below::Error;
 pub use lsm_memtable::{Iter, Memtable, Span, Steps};
-pub use lsm_versions::{DEFAULT_LEVEL_COUNT, Version, VersionId};
+pub use lsm_versions::{Config, DEFAULT_LEVEL_COUNT, Version, VersionId};
 pub use prefix::prefix_to_range;
 pub use seqno::{LIMIT, SequenceNumberCounter, seqno_filter};
 pub use shown_ends::{count_shown, first_shown, last_shown};

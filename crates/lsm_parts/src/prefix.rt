@@ -1,23 +1,19 @@
 // The bounds of the keys that begin alike.
-ghost use Rattle.std.specs.Prelude.{◌≡◌, ℕ, ◌+◌, ◌<◌, ◌∷◌, ◌++◌, [], true, IfOk, IfErr, slice_index};
+ghost use Rattle.std.specs.Prelude.{◌≡◌, ◌+◌, ◌<◌, ◌∷◌, ◌++◌, [], true, IfOk, IfErr};
 ghost use Rattle.lsm_below.specs.Keys.{Bytes, AreBytes};
 ghost use Rattle.lsm_parts.specs.Prefixes.{Follows, LetsIn};
 ghost use Rattle.lsm_parts.specs.Shown.{lies_within, begins_with};
 
 use crate::Error;
-use lsm_below::UserKey;
+use lsm_below::{UserKey, slices_hold_bytes};
 use std::alloc::{AllocError, Global};
 use std::ops::Bound;
-
-fn are_bytes(bytes: &[u8])
-    ensures { (i : ℕ) → slice_index bytes.now i < 256 }
-{}
 
 /// A key's numbers are those of bytes.
 pub(crate) fn key_has_bytes(key: &UserKey)
     ensures { AreBytes key.now }
 {
-    are_bytes(key.as_slice());
+    slices_hold_bytes(key.as_slice());
 }
 
 /// The bytes before the last one, and that one raised by one: the least key above all that begin with both.

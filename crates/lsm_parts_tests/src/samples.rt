@@ -2,6 +2,7 @@
 use lsm_below::{InternalValue, SeqNo, UserKey, UserValue, ValueType};
 use lsm_parts::{Config, Error, Guard, IterGuard, Memtable, TreeIter};
 use lsm_state::TreeState;
+use lsm_store::MemStore;
 use std::alloc::Global;
 use std::ops::Bound;
 
@@ -59,8 +60,11 @@ pub fn set_over_a_b(index: &mut Memtable) -> Result<(), Error> {
     remove(index, "b", INDEX)
 }
 
-pub fn open(alloc: Global) -> TreeState {
-    TreeState::open_in_memory(alloc, Config::new(0, 0, 0))
+pub fn open(alloc: Global) -> Result<TreeState, Error> {
+    match TreeState::open(alloc, Config::new(0, 0, 0), MemStore::new(alloc)) {
+        Ok(tree) => Ok(tree),
+        Err((error, _)) => Err(error),
+    }
 }
 
 pub fn has_key(guard: Guard, name: &[u8]) -> bool {

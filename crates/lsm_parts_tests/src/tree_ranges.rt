@@ -6,6 +6,7 @@ use lsm_below::SeqNo;
 use lsm_parts::{Error, Memtable, TreeIter};
 use lsm_state::TreeState;
 use std::alloc::Global;
+use std::test::Fail;
 
 fn put(
     tree: &mut TreeState,
@@ -27,11 +28,12 @@ fn put_odd(tree: &mut TreeState) -> Result<(), Error> {
 // ---- counts and ends
 
 #[test]
-fn a_new_tree_shows_nothing(rt: HostRuntime) {
-    let tree = open(rt.alloc());
+fn a_new_tree_shows_nothing(rt: HostRuntime) -> Result<(), Fail> {
+    let tree = open(rt.alloc())?;
     assert!(rt; has_len(&tree, 0, 0));
     assert!(rt; matches!(tree.is_empty(0, None), Ok(true)));
     drop(tree);
+    Ok(())
 }
 
 fn has_len(tree: &TreeState, snapshot: SeqNo, len: usize) -> bool {
@@ -56,13 +58,14 @@ fn ends_with(tree: &TreeState, snapshot: SeqNo, name: &[u8]) -> bool {
 }
 
 #[test]
-fn counts_keys_and_finds_the_ends(rt: HostRuntime) {
-    let mut tree = open(rt.alloc());
+fn counts_keys_and_finds_the_ends(rt: HostRuntime) -> Result<(), Fail> {
+    let mut tree = open(rt.alloc())?;
     assert!(rt; put_odd(&mut tree).is_ok());
     assert!(rt; has_len(&tree, 3, 3));
     assert!(rt; begins_with(&tree, 3, b"1"));
     assert!(rt; ends_with(&tree, 3, b"5"));
     drop(tree);
+    Ok(())
 }
 
 // ---- sizes
@@ -83,12 +86,13 @@ fn is_contained_until_removed(tree: &TreeState) -> bool {
 }
 
 #[test]
-fn sizes_are_counted(rt: HostRuntime) {
-    let mut tree = open(rt.alloc());
+fn sizes_are_counted(rt: HostRuntime) -> Result<(), Fail> {
+    let mut tree = open(rt.alloc())?;
     assert!(rt; put_and_remove(&mut tree));
     assert!(rt; sizes_are_of_values(&tree));
     assert!(rt; is_contained_until_removed(&tree));
     drop(tree);
+    Ok(())
 }
 
 // ---- both ends, and an index over the tree
@@ -108,11 +112,12 @@ fn is_read_from_both_ends(tree: &TreeState) -> bool {
 }
 
 #[test]
-fn both_ends_meet(rt: HostRuntime) {
-    let mut tree = open(rt.alloc());
+fn both_ends_meet(rt: HostRuntime) -> Result<(), Fail> {
+    let mut tree = open(rt.alloc())?;
     assert!(rt; put_odd(&mut tree).is_ok());
     assert!(rt; is_read_from_both_ends(&tree));
     drop(tree);
+    Ok(())
 }
 
 fn put_two(tree: &mut TreeState) -> Result<(), Error> {
@@ -127,8 +132,8 @@ fn iter_lists(alloc: Global, tree: &TreeState, index: (&Memtable, SeqNo), want: 
 }
 
 #[test]
-fn an_index_lies_over_the_tree(rt: HostRuntime) {
-    let mut tree = open(rt.alloc());
+fn an_index_lies_over_the_tree(rt: HostRuntime) -> Result<(), Fail> {
+    let mut tree = open(rt.alloc())?;
     let mut index = Memtable::new(rt.alloc(), 0);
     assert!(rt; put_two(&mut tree).is_ok());
     assert!(rt; set_over_a_b(&mut index).is_ok());
@@ -136,6 +141,7 @@ fn an_index_lies_over_the_tree(rt: HostRuntime) {
     assert!(rt; iter_lists(rt.alloc(), &tree, (&index, INDEX), "axby"));
     drop(index);
     drop(tree);
+    Ok(())
 }
 
 // ---- bounds
@@ -148,13 +154,14 @@ fn range_lists(alloc: Global, tree: &TreeState, bounds: Bounds, want: &str) -> b
 }
 
 #[test]
-fn a_range_keeps_its_bounds(rt: HostRuntime) {
-    let mut tree = open(rt.alloc());
+fn a_range_keeps_its_bounds(rt: HostRuntime) -> Result<(), Fail> {
+    let mut tree = open(rt.alloc())?;
     assert!(rt; put_odd(&mut tree).is_ok());
     assert!(rt; range_lists(rt.alloc(), &tree, (included("1"), excluded("5")), "1a3b"));
     assert!(rt; range_lists(rt.alloc(), &tree, (excluded("1"), included("5")), "3b5c"));
     assert!(rt; range_lists(rt.alloc(), &tree, (included("5"), included("1")), ""));
     drop(tree);
+    Ok(())
 }
 
 /// Keys of which a begins two, and b one.
@@ -171,12 +178,13 @@ fn prefix_lists(alloc: Global, tree: &TreeState, prefix: &str, want: &str) -> bo
 }
 
 #[test]
-fn a_prefix_takes_the_keys_that_begin_so(rt: HostRuntime) {
-    let mut tree = open(rt.alloc());
+fn a_prefix_takes_the_keys_that_begin_so(rt: HostRuntime) -> Result<(), Fail> {
+    let mut tree = open(rt.alloc())?;
     assert!(rt; put_prefixed(&mut tree).is_ok());
     assert!(rt; prefix_lists(rt.alloc(), &tree, "a", "a1ab2"));
     assert!(rt; prefix_lists(rt.alloc(), &tree, "ab", "ab2"));
     assert!(rt; prefix_lists(rt.alloc(), &tree, "c", ""));
     assert!(rt; prefix_lists(rt.alloc(), &tree, "", "a1ab2b3"));
     drop(tree);
+    Ok(())
 }

@@ -5,6 +5,7 @@ use lsm_model::Op;
 use lsm_parts::{Error, SuperVersion};
 use lsm_state::TreeState;
 use std::alloc::Global;
+use std::test::Fail;
 
 fn write(alloc: Global, tree: &mut TreeState, op: Op) -> Result<SeqNo, Error> {
     tree.write(vec![in alloc; (key("a"), op)]?)
@@ -32,22 +33,24 @@ fn shows_nothing(tree: &TreeState, snapshot: SeqNo) -> bool {
 }
 
 #[test]
-fn a_snapshot_sees_what_is_numbered_below_it(rt: HostRuntime) {
-    let mut tree = open(rt.alloc());
+fn a_snapshot_sees_what_is_numbered_below_it(rt: HostRuntime) -> Result<(), Fail> {
+    let mut tree = open(rt.alloc())?;
     assert!(rt; set(rt.alloc(), &mut tree));
     assert!(rt; shows_nothing(&tree, 0));
     assert!(rt; shows_value(&tree, 1));
     drop(tree);
+    Ok(())
 }
 
 #[test]
-fn a_tombstone_hides_the_value_above_it(rt: HostRuntime) {
-    let mut tree = open(rt.alloc());
+fn a_tombstone_hides_the_value_above_it(rt: HostRuntime) -> Result<(), Fail> {
+    let mut tree = open(rt.alloc())?;
     assert!(rt; set(rt.alloc(), &mut tree));
     assert!(rt; remove(&mut tree));
     assert!(rt; shows_nothing(&tree, 2));
     assert!(rt; shows_value(&tree, 1));
     drop(tree);
+    Ok(())
 }
 
 /// Sets the key, removes it, and seals the memtable; a second time there is nothing to seal.
@@ -70,13 +73,14 @@ fn decides_nothing(tree: &TreeState) -> bool {
 }
 
 #[test]
-fn sealed_entries_are_read(rt: HostRuntime) {
-    let mut tree = open(rt.alloc());
+fn sealed_entries_are_read(rt: HostRuntime) -> Result<(), Fail> {
+    let mut tree = open(rt.alloc())?;
     assert!(rt; seal(rt.alloc(), &mut tree));
     assert!(rt; shows_value(&tree, 1));
     assert!(rt; decides_at_zero(&tree));
     assert!(rt; decides_nothing(&tree));
     drop(tree);
+    Ok(())
 }
 
 fn insert_long(alloc: Global, tree: &mut TreeState, len: usize) -> Result<(u64, u64), Error> {
@@ -93,11 +97,12 @@ fn refuses_longer(alloc: Global, tree: &mut TreeState) -> bool {
 }
 
 #[test]
-fn refuses_what_is_too_long(rt: HostRuntime) {
-    let mut tree = open(rt.alloc());
+fn refuses_what_is_too_long(rt: HostRuntime) -> Result<(), Fail> {
+    let mut tree = open(rt.alloc())?;
     assert!(rt; takes_longest(rt.alloc(), &mut tree));
     assert!(rt; refuses_longer(rt.alloc(), &mut tree));
     drop(tree);
+    Ok(())
 }
 
 fn refuses_late(tree: &mut TreeState) -> bool {
@@ -118,12 +123,13 @@ fn counts_to(tree: &TreeState, number: SeqNo) -> bool {
 }
 
 #[test]
-fn refuses_what_is_late_or_doubled(rt: HostRuntime) {
-    let mut tree = open(rt.alloc());
+fn refuses_what_is_late_or_doubled(rt: HostRuntime) -> Result<(), Fail> {
+    let mut tree = open(rt.alloc())?;
     assert!(rt; refuses_late(&mut tree));
     assert!(rt; refuses_doubled(rt.alloc(), &mut tree));
     assert!(rt; counts_to(&tree, 0));
     drop(tree);
+    Ok(())
 }
 
 fn write_nothing(alloc: Global, tree: &mut TreeState) -> Result<SeqNo, Error> {
@@ -135,11 +141,12 @@ fn draws_zero(alloc: Global, tree: &mut TreeState) -> bool {
 }
 
 #[test]
-fn an_empty_batch_draws_a_number(rt: HostRuntime) {
-    let mut tree = open(rt.alloc());
+fn an_empty_batch_draws_a_number(rt: HostRuntime) -> Result<(), Fail> {
+    let mut tree = open(rt.alloc())?;
     assert!(rt; draws_zero(rt.alloc(), &mut tree));
     assert!(rt; counts_to(&tree, 1));
     drop(tree);
+    Ok(())
 }
 
 fn draws_last(alloc: Global, tree: &mut TreeState) -> bool {
@@ -151,13 +158,14 @@ fn draws_no_more(alloc: Global, tree: &mut TreeState) -> bool {
 }
 
 #[test]
-fn the_last_number_is_drawn_once(rt: HostRuntime) {
-    let mut tree = open(rt.alloc());
+fn the_last_number_is_drawn_once(rt: HostRuntime) -> Result<(), Fail> {
+    let mut tree = open(rt.alloc())?;
     tree.seqno_mut().set(9_223_372_036_854_775_807);
     assert!(rt; draws_last(rt.alloc(), &mut tree));
     assert!(rt; draws_no_more(rt.alloc(), &mut tree));
     assert!(rt; counts_to(&tree, 9_223_372_036_854_775_808));
     drop(tree);
+    Ok(())
 }
 
 fn reads_new_version(tree: &TreeState, snapshot: SeqNo) -> bool {
@@ -188,18 +196,20 @@ fn has_no_numbers(version: &SuperVersion) -> bool {
 }
 
 #[test]
-fn a_new_tree_has_one_memtable(rt: HostRuntime) {
-    let tree = open(rt.alloc());
+fn a_new_tree_has_one_memtable(rt: HostRuntime) -> Result<(), Fail> {
+    let tree = open(rt.alloc())?;
     assert!(rt; reads_new_version(&tree, 0));
     assert!(rt; reads_new_version(&tree, 1));
     drop(tree);
+    Ok(())
 }
 
 #[test]
-fn rotation_seals_under_every_snapshot(rt: HostRuntime) {
-    let mut tree = open(rt.alloc());
+fn rotation_seals_under_every_snapshot(rt: HostRuntime) -> Result<(), Fail> {
+    let mut tree = open(rt.alloc())?;
     assert!(rt; seal(rt.alloc(), &mut tree));
     assert!(rt; reads_rotated_version(&tree, 0));
     assert!(rt; reads_rotated_version(&tree, 1));
     drop(tree);
+    Ok(())
 }

@@ -30,24 +30,24 @@ one_fails p (y ∷ xs) (suc i) x lt is fails = ap (λ b. p y && b) (one_fails p 
 pub refused_at : (marks : Bytes → Mark) (low n : ℕ) (ops : List (Bytes × Op)) (i : ℕ) (x : Bytes × Op) → i < length ops → x ≡ get_or ops i x → op_allowed marks low n x ≡ false → list_all (op_allowed marks low n) ops ≡ false
 refused_at marks low n ops i x lt is fails = one_fails (op_allowed marks low n) ops i x lt is fails
 
-module _ (journal : List Event) (n : ℕ) where
+module _ (opened : List Entry) (journal : List Event) (n : ℕ) where
   below : nat_lt n (n + 1) ≡ true
   below = lt-ltb n (n + 1) (omega arith)
 
   -- a write under the counter's sequence number
-  one : (marks : Bytes → Mark) (low : ℕ) (k : Bytes) (op : Op) → ((q : Bytes) → marks q ≡ mark_in journal q) → low ≡ floor journal → op_allowed marks low n (k, op) ≡ keeps_order journal (n + 1) (op_entry k n op)
+  one : (marks : Bytes → Mark) (low : ℕ) (k : Bytes) (op : Op) → ((q : Bytes) → marks q ≡ mark_in opened journal q) → low ≡ floor journal → op_allowed marks low n (k, op) ≡ keeps_order opened journal (n + 1) (op_entry k n op)
   one marks low k op same least =
-      ap (λ m. nat_le low n && mark_allows m n (op_type op)) (same k) ∙ ap (λ l. nat_le l n && mark_allows (mark_in journal k) n (op_type op)) least ∙ ap (λ b. b && nat_le (floor journal) n && mark_allows (mark_in journal k) n (op_type op)) (sym below) ∙ typed op ∙ sym (order_told journal (n + 1) (op_entry k n op))
+      ap (λ m. nat_le low n && mark_allows m n (op_type op)) (same k) ∙ ap (λ l. nat_le l n && mark_allows (mark_in opened journal k) n (op_type op)) least ∙ ap (λ b. b && nat_le (floor journal) n && mark_allows (mark_in opened journal k) n (op_type op)) (sym below) ∙ typed op ∙ sym (order_told opened journal (n + 1) (op_entry k n op))
     where
-      typed : (op : Op) → (nat_lt n (n + 1) && nat_le (floor journal) n && mark_allows (mark_in journal k) n (op_type op)) ≡ mark_tells_order journal (n + 1) (op_entry k n op)
+      typed : (op : Op) → (nat_lt n (n + 1) && nat_le (floor journal) n && mark_allows (mark_in opened journal k) n (op_type op)) ≡ mark_tells_order opened journal (n + 1) (op_entry k n op)
       typed (Set value) = refl
       typed Del = refl
       typed Weak = refl
 
-  pub allowed_order : (marks : Bytes → Mark) (low : ℕ) (ops : List (Bytes × Op)) → ((q : Bytes) → marks q ≡ mark_in journal q) → low ≡ floor journal → list_all (op_allowed marks low n) ops ≡ batch_keeps_order journal n ops
+  pub allowed_order : (marks : Bytes → Mark) (low : ℕ) (ops : List (Bytes × Op)) → ((q : Bytes) → marks q ≡ mark_in opened journal q) → low ≡ floor journal → list_all (op_allowed marks low n) ops ≡ batch_keeps_order opened journal n ops
   allowed_order marks low [] same least = refl
   allowed_order marks low (p ∷ ops) same least =
-      ap (λ b. b && list_all (op_allowed marks low n) ops) (one marks low p.0 p.1 same least) ∙ ap (λ b. keeps_order journal (n + 1) (op_entry p.0 n p.1) && b) (allowed_order marks low ops same least)
+      ap (λ b. b && list_all (op_allowed marks low n) ops) (one marks low p.0 p.1 same least) ∙ ap (λ b. keeps_order opened journal (n + 1) (op_entry p.0 n p.1) && b) (allowed_order marks low ops same least)
 
 -- ---- marks
 

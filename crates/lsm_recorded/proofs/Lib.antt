@@ -2,3 +2,6 @@ pub mod BatchLemmas
 pub mod ClosingLemmas
 pub mod MarksLemmas
 pub mod RecordedLemmas
+pub mod OpenedLemmas
+pub mod HeldLemmas
+pub mod OpenLemmas

@@ -1,16 +1,17 @@
 -- What each call keeps of a tree with its journal.
 use Rattle.std.proofs.Common.{cond, ◌≡◌, ℕ, ◌+◌, ◌<◌, ◌≤◌, Bool, true, false, List, [], ◌∷◌, ◌++◌, Option, Some, None, Result, Ok, Err, IfOk, OnErr, map, refl, sym, ap, ◌∙◌, subst, arith, ◌⊎◌, ⊎_elim, is_some, IfSome, append-nil, append_assoc}
 use Rattle.std.specs.BTreeMap.{BTreeMap}
-use Rattle.std.specs.FinMap.{get, empty}
+use Rattle.std.specs.FinMap.{get}
 use Rattle.std.specs.List.{list_any, AllByRecursion}
 use Rattle.std.proofs.lemmas.Bool.Decides.{nat_tests}
 use Rattle.std.proofs.lemmas.Grind.{fold-append}
 use Rattle.lsm_below.specs.declared.value_type.ValueType.TheVariants.{Value, Tombstone, WeakTombstone}
 use Rattle.lsm_below.specs.Keys.{Bytes}
-use Rattle.lsm_below.specs.Entries.{Entry, plain, kept_value}
+use Rattle.lsm_below.specs.Entries.{Entry, plain, kept_value, above}
 use Rattle.lsm_model.specs.Soundness.{Soundness}
 use Rattle.lsm_model.specs.Journal.{Event, Map, AgreesFrom, ReadAgrees, is_outside, IsKept, replay, next_number_after, floor_after, floor, next_number}
-use Rattle.lsm_model.specs.Views.{found_at}
+use Rattle.lsm_model.specs.Views.{found_at, Placed, held}
+use Rattle.lsm_model.specs.Beginnings.{shown_by}
 use Rattle.lsm_model.specs.Steps.{Wrote, Asked, Rotated}
 use Rattle.lsm_model.specs.Sound.{Holds}
 use Rattle.lsm_model.specs.Ops.{op_entry, op_entries}
@@ -37,36 +38,6 @@ use Rattle.lsm_recorded.proofs.MarksLemmas.{in_order_push, mark_in-read, mark_in
 -- marks by key
 abbrev pub Marks : Type 0
 Marks = BTreeMap Bytes Mark
-
--- the facts for callers follow from those that the next step goes on from
-recorded : (theory : Soundness) (marks : Marks) (low : ℕ) (c : Core) (journal : List Event) → Holds [] empty (state_of journal c) → IsCounted c.seqno journal → low ≡ floor journal → ((k : Bytes) → mark_of marks k ≡ mark_in journal k) → IsRecorded marks low c journal
-recorded theory marks low c journal holds counted floored noted = record {
-  reads = theory.right.reads [] empty (state_of journal c) holds;
-  holds = holds;
-  order = counted.order;
-  counted = counted.counted;
-  floored = floored;
-  noted = noted;
-}
-
-counted_of : (marks : Marks) (low : ℕ) (c : Core) (journal : List Event) → IsRecorded marks low c journal → IsCounted c.seqno journal
-counted_of marks low c journal r = record { order = r.order; counted = r.counted }
-
--- ---- a single write
-
-pub recorded_write : (theory : Soundness) (marks marks' : Marks) (low : ℕ) (old new : Core) (journal : List Event) (e : Entry) → IsRecorded marks low old journal → keeps_order journal old.seqno e ≡ true → IsWriteStep e old new → new.seqno ≡ old.seqno
-    → ((q : Bytes) → mark_of marks' q ≡ marked_by e (mark_of marks) q) → IsRecorded marks' low new (journal ++ Write e ∷ [])
-recorded_write theory marks marks' low old new journal e r ok step counter noted =
-    let counted = write_counted old.seqno journal e ok (counted_of marks low old journal r) in
-    recorded theory marks' low new (journal ++ Write e ∷ []) (theory.kept.step [] empty (state_of journal old) (Wrote e) (state_of (journal ++ Write e ∷ []) new) (step [] journal) counted.order r.holds)
-    (subst (λ n. IsCounted n (journal ++ Write e ∷ [])) (sym counter) counted) (r.floored ∙ sym (floor-write journal e))
-    (λ q. noted q ∙ marked_by_same (mark_of marks) (mark_in journal) e r.noted q ∙ sym (mark_in-write journal e q))
-
--- it leaves what snapshots up to its sequence number see
-pub write_spares : (theory : Soundness) (marks : Marks) (low : ℕ) (old new : Core) (journal : List Event) (e : Entry) → IsRecorded marks low old journal → keeps_order journal old.seqno e ≡ true → IsWriteStep e old new → StaysTo e.key.seqno old new
-write_spares theory marks low old new journal e r ok step = λ s up. theory.spares.step [] empty s (state_of journal old) (Wrote e) (state_of (journal ++ Write e ∷ []) new) (step [] journal) (write_counted old.seqno journal e ok (counted_of marks low old journal r)).order up r.holds
-
--- ---- a batch
 
 entry_keys-ops : (n : ℕ) (ops : List (Bytes × Op)) → entry_keys (op_entries n ops) ≡ keys_of ops
 entry_keys-ops n [] = refl
@@ -100,49 +71,9 @@ accepted_parts ops n h =
     below : is_great n ≡ false → n < 9223372036854775808
     below q = grind (arith, nat_tests)
 
-batch_in_order : (marks : Marks) (low : ℕ) (old new : Core) (journal : List Event) (ops : List (Bytes × Op)) (n : ℕ) → IsRecorded marks low old journal → batch_keeps_order journal old.seqno ops ≡ true → WritesBatch ops (Ok n) old new → IsCounted (old.seqno + 1) (journal ++ map Write (op_entries old.seqno ops))
-batch_in_order marks low old new journal ops n r ok w =
-    let es = op_entries old.seqno ops in
-    let once : repeats (entry_keys es) ≡ false = ap repeats (entry_keys-ops old.seqno ops) ∙ (accepted_parts ops old.seqno (accepted ops n old new w)).1 in
-    let before : IsCounted (old.seqno + 1) journal = record { order = r.order; counted = let a = r.counted in omega arith } in
-    batch_counted (old.seqno + 1) es journal ok once before
-
-pub recorded_batch : (theory : Soundness) (marks marks' : Marks) (low : ℕ) (old new : Core) (journal : List Event) (ops : List (Bytes × Op)) (n : ℕ) → IsRecorded marks low old journal → batch_keeps_order journal old.seqno ops ≡ true → WritesBatch ops (Ok n) old new
-    → ((q : Bytes) → mark_of marks' q ≡ marked_all (op_entries old.seqno ops) (mark_of marks) q) → IsRecorded marks' low new (journal ++ map Write (op_entries old.seqno ops))
-recorded_batch theory marks marks' low old new journal ops n r ok w noted =
-    let es = op_entries old.seqno ops in
-    let counted = batch_in_order marks low old new journal ops n r ok w in
-    let next : new.seqno ≡ old.seqno + 1 = ap (λ (c : Core). c.seqno) w.core in
-    recorded theory marks' low new (journal ++ map Write es) (theory.kept.run [] empty (state_of journal old) (map Wrote es) (state_of (journal ++ map Write es) new) (w.run [] journal) counted.order r.holds)
-    (subst (λ m. IsCounted m (journal ++ map Write es)) (sym next) counted) (r.floored ∙ sym (floor-writes es journal))
-    (λ q. noted q ∙ marked_all_same (mark_of marks) (mark_in journal) es r.noted q ∙ sym (mark_in-writes es journal q))
-
 numbers_are : (n s : ℕ) (ops : List (Bytes × Op)) → s ≤ n → AllByRecursion (λ e. s ≤ e.key.seqno) (op_entries n ops)
 numbers_are n s [] up = tt
 numbers_are n s (p ∷ ops) up = (rw (seqno_is p.0 n p.1) up, numbers_are n s ops up)
-
--- a batch leaves what snapshots up to its sequence number see
-pub batch_spares : (theory : Soundness) (marks : Marks) (low : ℕ) (old new : Core) (journal : List Event) (ops : List (Bytes × Op)) (n : ℕ) → IsRecorded marks low old journal → batch_keeps_order journal old.seqno ops ≡ true → WritesBatch ops (Ok n) old new → StaysTo old.seqno old new
-batch_spares theory marks low old new journal ops n r ok w = λ s up.
-    let es = op_entries old.seqno ops in
-    theory.spares.writes [] empty s es (state_of journal old) (state_of (journal ++ map Write es) new) (w.run [] journal) (batch_in_order marks low old new journal ops n r ok w).order (numbers_are old.seqno s ops up) r.holds
-
--- ---- reads
-
-pub recorded_read : (theory : Soundness) (marks : Marks) (low : ℕ) (c : Core) (journal : List Event) (k : Bytes) (s : ℕ) (v : Option Bytes) → IsRecorded marks low c journal → IsGetStep c k s v → IsRecorded marks low c (journal ++ Read s (Get k) (Found v) ∷ [])
-recorded_read theory marks low c journal k s v r step =
-    let order = in_order_push [] journal (Read s (Get k) (Found v)) r.order tt in
-    let counted : next_number [] (journal ++ Read s (Get k) (Found v) ∷ []) ≤ c.seqno = rw (fold-append next_number_after 0 journal (Read s (Get k) (Found v) ∷ [])) r.counted in
-    recorded theory marks low c (journal ++ Read s (Get k) (Found v) ∷ []) (theory.kept.step [] empty (state_of journal c) (Asked s (Get k)) (state_of (journal ++ Read s (Get k) (Found v) ∷ []) c) (step [] journal (omega arith)) order r.holds)
-    (record { order = order; counted = counted }) (r.floored ∙ sym (fold-append floor_after 0 journal (Read s (Get k) (Found v) ∷ []))) (λ q. r.noted q ∙ sym (mark_in-read journal s (Get k) (Found v) q))
-
-pub recorded_list : (theory : Soundness) (marks : Marks) (low : ℕ) (c : Core) (journal : List Event) (question : Question) (s : ℕ) (pairs : List Pair) → IsRecorded marks low c journal → IsListStep c question s pairs → IsRecorded marks low c (journal ++ Read s question (Pairs pairs) ∷ [])
-recorded_list theory marks low c journal question s pairs r step =
-    let told = Pairs pairs in
-    let order = in_order_push [] journal (Read s question told) r.order tt in
-    let counted : next_number [] (journal ++ Read s question told ∷ []) ≤ c.seqno = rw (fold-append next_number_after 0 journal (Read s question told ∷ [])) r.counted in
-    recorded theory marks low c (journal ++ Read s question told ∷ []) (theory.kept.step [] empty (state_of journal c) (Asked s question) (state_of (journal ++ Read s question told ∷ []) c) (step [] journal (omega arith) r.reads.ordered) order r.holds)
-    (record { order = order; counted = counted }) (r.floored ∙ sym (fold-append floor_after 0 journal (Read s question told ∷ []))) (λ q. r.noted q ∙ sym (mark_in-read journal s question told q))
 
 -- the last read of a journal agrees with the replay before it
 pub agrees_last : (start : Map) (before journal : List Event) (x : Event) → AgreesFrom start before (journal ++ x ∷ []) → ReadAgrees start (before ++ journal) x
@@ -152,42 +83,114 @@ agrees_last start before (y ∷ journal) x h = subst (λ js. ReadAgrees start js
 found_cut : (v w : Option Bytes) → Found v ≡ Found w → v ≡ w
 found_cut v w e = cc e
 
--- a get answers the replay
-pub answers_replay : (theory : Soundness) (marks : Marks) (low : ℕ) (k : Bytes) (s : ℕ) (v : Option Bytes) (journal : List Event) (c : Core) → Gives c k s v → IsRecorded marks low c journal → is_outside k s journal ≡ true → v ≡ get (replay empty journal s) k
-answers_replay theory marks low k s v journal c g r out =
-    g.2
-    ∙ found_cut _ _ (theory.right.answers [] empty (state_of journal c) r.holds s g.0 g.1 (Get k))
-    ∙ theory.right.views [] empty (state_of journal c) r.holds s g.0 (omega arith) g.1 k out
-
 not_none : {A : Type 0} (o : Option A) → is_some o ≡ true → o ≡ None → ⊥
 not_none None h e = cc h
 not_none (Some x) h e = cc e
 
--- a kept snapshot finds a super version
-pub kept_found : (marks : Marks) (low : ℕ) (s : ℕ) (journal : List Event) (c : Core) → IsRecorded marks low c journal → IsKept s journal → found_at s (latest_of c) (older_of c) ≡ None → ⊥
-kept_found marks low s journal c r kept none = not_none _ (r.reads.answered s kept) none
+module _ (opened : List Placed) (least : ℕ) where
+  -- the facts for callers follow from those that the next step goes on from
+  recorded : (theory : Soundness) → least ≡ above (held opened) → (marks : Marks) (low : ℕ) (c : Core) (journal : List Event) → Holds (held opened) (shown_by opened) (state_of journal c) → IsCounted (held opened) c.seqno journal → low ≡ floor journal → ((k : Bytes) → mark_of marks k ≡ mark_in (held opened) journal k) → IsRecorded opened least marks low c journal
+  recorded theory is marks low c journal holds counted floored noted = record {
+    reads = theory.right.reads (held opened) (shown_by opened) (state_of journal c) holds;
+    holds = holds;
+    order = counted.order;
+    counted = counted.counted;
+    least_is = is;
+    floored = floored;
+    noted = noted;
+  }
 
--- ---- rotation
+  counted_of : (marks : Marks) (low : ℕ) (c : Core) (journal : List Event) → IsRecorded opened least marks low c journal → IsCounted (held opened) c.seqno journal
+  counted_of marks low c journal r = record { order = r.order; counted = r.counted }
 
-pub recorded_rotate : (theory : Soundness) (marks : Marks) (low : ℕ) (old new : Core) (journal : List Event) (i : Option ℕ) → IsRecorded marks low old journal → Rotates old i new → IsRecorded marks low new journal
-recorded_rotate theory marks low old new journal None r t = subst (λ c. IsRecorded marks low c journal) (sym t.1) r
-recorded_rotate theory marks low old new journal (Some id) r t =
-    recorded theory marks low new journal (theory.kept.step [] empty (state_of journal old) (Rotated old.next_memtable) (state_of journal new) (t.3 [] journal) r.order r.holds)
-    (subst (λ n. IsCounted n journal) (sym (ap (λ (c : Core). c.seqno) t.2)) (counted_of marks low old journal r)) r.floored r.noted
+  -- ---- a single write
 
--- it leaves what each snapshot sees
-rotate_spares : (theory : Soundness) (marks : Marks) (low : ℕ) (old new : Core) (journal : List Event) (i : Option ℕ) → IsRecorded marks low old journal → Rotates old i new → Stays old new
-rotate_spares theory marks low old new journal None r t = subst (Stays old) (sym t.1) (λ s. theory.spares.same s (state_of [] old) (state_of [] old) refl refl refl)
-rotate_spares theory marks low old new journal (Some id) r t = λ s. theory.spares.step [] empty s (state_of journal old) (Rotated old.next_memtable) (state_of journal new) (t.3 [] journal) r.order tt r.holds
+  pub recorded_write : (theory : Soundness) (marks marks' : Marks) (low : ℕ) (old new : Core) (journal : List Event) (e : Entry) → IsRecorded opened least marks low old journal → keeps_order (held opened) journal old.seqno e ≡ true → IsWriteStep e old new → new.seqno ≡ old.seqno
+      → ((q : Bytes) → mark_of marks' q ≡ marked_by e (mark_of marks) q) → IsRecorded opened least marks' low new (journal ++ Write e ∷ [])
+  recorded_write theory marks marks' low old new journal e r ok step counter noted =
+      let counted = write_counted (held opened) old.seqno journal e ok (counted_of marks low old journal r) in
+      recorded theory r.least_is marks' low new (journal ++ Write e ∷ []) (theory.kept.step (held opened) (shown_by opened) (state_of journal old) (Wrote e) (state_of (journal ++ Write e ∷ []) new) (step (held opened) journal) counted.order r.holds)
+      (subst (λ n. IsCounted (held opened) n (journal ++ Write e ∷ [])) (sym counter) counted) (r.floored ∙ sym (floor-write journal e))
+      (λ q. noted q ∙ marked_by_same (mark_of marks) (mark_in (held opened) journal) e r.noted q ∙ sym (mark_in-write (held opened) journal e q))
 
-pub rotate_any_spares : (theory : Soundness) → {S : Type 0} (r : Result (Option ℕ) Error) (old new : Seen S) (marks : Marks) (low : ℕ) (journal : List Event) → IfOk r (λ i. Rotates old.core i new.core) → OnErr r (new ≡ old) → IsRecorded marks low old.core journal → Stays old.core new.core
-rotate_any_spares theory (Ok i) old new marks low journal t e h = rotate_spares theory marks low old.core new.core journal i h t
-rotate_any_spares theory (Err x) old new marks low journal t e h = subst (λ z. Stays old.core z.core) (sym e) (λ s. theory.spares.same s (state_of [] old.core) (state_of [] old.core) refl refl refl)
+  -- it leaves what snapshots up to its sequence number see
+  pub write_spares : (theory : Soundness) (marks : Marks) (low : ℕ) (old new : Core) (journal : List Event) (e : Entry) → IsRecorded opened least marks low old journal → keeps_order (held opened) journal old.seqno e ≡ true → IsWriteStep e old new → StaysTo e.key.seqno old new
+  write_spares theory marks low old new journal e r ok step = λ s up. theory.spares.step (held opened) (shown_by opened) s (state_of journal old) (Wrote e) (state_of (journal ++ Write e ∷ []) new) (step (held opened) journal) (write_counted (held opened) old.seqno journal e ok (counted_of marks low old journal r)).order up r.holds
 
--- whatever it answers
-pub rotate_any : (theory : Soundness) → {S : Type 0} (r : Result (Option ℕ) Error) (old new : Seen S) (marks : Marks) (low : ℕ) (journal : List Event) → IfOk r (λ i. Rotates old.core i new.core) → OnErr r (new ≡ old) → IsRecorded marks low old.core journal → IsRecorded marks low new.core journal
-rotate_any theory (Ok i) old new marks low journal t e h = recorded_rotate theory marks low old.core new.core journal i h t
-rotate_any theory (Err x) old new marks low journal t e h = subst (λ s. IsRecorded marks low s.core journal) (sym e) h
+  -- ---- a batch
+
+  batch_in_order : (marks : Marks) (low : ℕ) (old new : Core) (journal : List Event) (ops : List (Bytes × Op)) (n : ℕ) → IsRecorded opened least marks low old journal → batch_keeps_order (held opened) journal old.seqno ops ≡ true → WritesBatch ops (Ok n) old new → IsCounted (held opened) (old.seqno + 1) (journal ++ map Write (op_entries old.seqno ops))
+  batch_in_order marks low old new journal ops n r ok w =
+      let es = op_entries old.seqno ops in
+      let once : repeats (entry_keys es) ≡ false = ap repeats (entry_keys-ops old.seqno ops) ∙ (accepted_parts ops old.seqno (accepted ops n old new w)).1 in
+      let before : IsCounted (held opened) (old.seqno + 1) journal = record { order = r.order; counted = let a = r.counted in omega arith } in
+      batch_counted (held opened) (old.seqno + 1) es journal ok once before
+
+  pub recorded_batch : (theory : Soundness) (marks marks' : Marks) (low : ℕ) (old new : Core) (journal : List Event) (ops : List (Bytes × Op)) (n : ℕ) → IsRecorded opened least marks low old journal → batch_keeps_order (held opened) journal old.seqno ops ≡ true → WritesBatch ops (Ok n) old new
+      → ((q : Bytes) → mark_of marks' q ≡ marked_all (op_entries old.seqno ops) (mark_of marks) q) → IsRecorded opened least marks' low new (journal ++ map Write (op_entries old.seqno ops))
+  recorded_batch theory marks marks' low old new journal ops n r ok w noted =
+      let es = op_entries old.seqno ops in
+      let counted = batch_in_order marks low old new journal ops n r ok w in
+      let next : new.seqno ≡ old.seqno + 1 = ap (λ (c : Core). c.seqno) w.core in
+      recorded theory r.least_is marks' low new (journal ++ map Write es) (theory.kept.run (held opened) (shown_by opened) (state_of journal old) (map Wrote es) (state_of (journal ++ map Write es) new) (w.run (held opened) journal) counted.order r.holds)
+      (subst (λ m. IsCounted (held opened) m (journal ++ map Write es)) (sym next) counted) (r.floored ∙ sym (floor-writes es journal))
+      (λ q. noted q ∙ marked_all_same (mark_of marks) (mark_in (held opened) journal) es r.noted q ∙ sym (mark_in-writes (held opened) es journal q))
+
+  -- a batch leaves what snapshots up to its sequence number see
+  pub batch_spares : (theory : Soundness) (marks : Marks) (low : ℕ) (old new : Core) (journal : List Event) (ops : List (Bytes × Op)) (n : ℕ) → IsRecorded opened least marks low old journal → batch_keeps_order (held opened) journal old.seqno ops ≡ true → WritesBatch ops (Ok n) old new → StaysTo old.seqno old new
+  batch_spares theory marks low old new journal ops n r ok w = λ s up.
+      let es = op_entries old.seqno ops in
+      theory.spares.writes (held opened) (shown_by opened) s es (state_of journal old) (state_of (journal ++ map Write es) new) (w.run (held opened) journal) (batch_in_order marks low old new journal ops n r ok w).order (numbers_are old.seqno s ops up) r.holds
+
+  -- ---- reads
+
+  pub recorded_read : (theory : Soundness) (marks : Marks) (low : ℕ) (c : Core) (journal : List Event) (k : Bytes) (s : ℕ) (v : Option Bytes) → IsRecorded opened least marks low c journal → above (held opened) ≤ s → IsGetStep c k s v → IsRecorded opened least marks low c (journal ++ Read s (Get k) (Found v) ∷ [])
+  recorded_read theory marks low c journal k s v r up step =
+      let order = in_order_push (held opened) journal (Read s (Get k) (Found v)) r.order tt in
+      let counted : next_number (held opened) (journal ++ Read s (Get k) (Found v) ∷ []) ≤ c.seqno = rw (fold-append next_number_after (above (held opened)) journal (Read s (Get k) (Found v) ∷ [])) r.counted in
+      recorded theory r.least_is marks low c (journal ++ Read s (Get k) (Found v) ∷ []) (theory.kept.step (held opened) (shown_by opened) (state_of journal c) (Asked s (Get k)) (state_of (journal ++ Read s (Get k) (Found v) ∷ []) c) (step (held opened) journal up) order r.holds)
+      (record { order = order; counted = counted }) (r.floored ∙ sym (fold-append floor_after 0 journal (Read s (Get k) (Found v) ∷ []))) (λ q. r.noted q ∙ sym (mark_in-read (held opened) journal s (Get k) (Found v) q))
+
+  pub recorded_list : (theory : Soundness) (marks : Marks) (low : ℕ) (c : Core) (journal : List Event) (question : Question) (s : ℕ) (pairs : List Pair) → IsRecorded opened least marks low c journal → above (held opened) ≤ s → IsListStep c question s pairs → IsRecorded opened least marks low c (journal ++ Read s question (Pairs pairs) ∷ [])
+  recorded_list theory marks low c journal question s pairs r up step =
+      let told = Pairs pairs in
+      let order = in_order_push (held opened) journal (Read s question told) r.order tt in
+      let counted : next_number (held opened) (journal ++ Read s question told ∷ []) ≤ c.seqno = rw (fold-append next_number_after (above (held opened)) journal (Read s question told ∷ [])) r.counted in
+      recorded theory r.least_is marks low c (journal ++ Read s question told ∷ []) (theory.kept.step (held opened) (shown_by opened) (state_of journal c) (Asked s question) (state_of (journal ++ Read s question told ∷ []) c) (step (held opened) journal up r.reads.ordered) order r.holds)
+      (record { order = order; counted = counted }) (r.floored ∙ sym (fold-append floor_after 0 journal (Read s question told ∷ []))) (λ q. r.noted q ∙ sym (mark_in-read (held opened) journal s question told q))
+
+  -- a get answers the replay
+  pub answers_replay : (theory : Soundness) (marks : Marks) (low : ℕ) (k : Bytes) (s : ℕ) (v : Option Bytes) (journal : List Event) (c : Core) → Gives c k s v → IsRecorded opened least marks low c journal → above (held opened) ≤ s → is_outside k s journal ≡ true → v ≡ get (replay (shown_by opened) journal s) k
+  answers_replay theory marks low k s v journal c g r up out =
+      g.2
+      ∙ found_cut _ _ (theory.right.answers (held opened) (shown_by opened) (state_of journal c) r.holds s g.0 g.1 (Get k))
+      ∙ theory.right.views (held opened) (shown_by opened) (state_of journal c) r.holds s g.0 up g.1 k out
+
+  -- a kept snapshot finds a super version
+  pub kept_found : (marks : Marks) (low : ℕ) (s : ℕ) (journal : List Event) (c : Core) → IsRecorded opened least marks low c journal → IsKept s journal → found_at s (latest_of c) (older_of c) ≡ None → ⊥
+  kept_found marks low s journal c r kept none = not_none _ (r.reads.answered s kept) none
+
+  -- ---- rotation
+
+  pub recorded_rotate : (theory : Soundness) (marks : Marks) (low : ℕ) (old new : Core) (journal : List Event) (i : Option ℕ) → IsRecorded opened least marks low old journal → Rotates old i new → IsRecorded opened least marks low new journal
+  recorded_rotate theory marks low old new journal None r t = subst (λ c. IsRecorded opened least marks low c journal) (sym t.1) r
+  recorded_rotate theory marks low old new journal (Some id) r t =
+      recorded theory r.least_is marks low new journal (theory.kept.step (held opened) (shown_by opened) (state_of journal old) (Rotated old.next_memtable) (state_of journal new) (t.3 (held opened) journal) r.order r.holds)
+      (subst (λ n. IsCounted (held opened) n journal) (sym (ap (λ (c : Core). c.seqno) t.2)) (counted_of marks low old journal r)) r.floored r.noted
+
+  -- it leaves what each snapshot sees
+  rotate_spares : (theory : Soundness) (marks : Marks) (low : ℕ) (old new : Core) (journal : List Event) (i : Option ℕ) → IsRecorded opened least marks low old journal → Rotates old i new → Stays old new
+  rotate_spares theory marks low old new journal None r t = subst (Stays old) (sym t.1) (λ s. theory.spares.same s (state_of [] old) (state_of [] old) refl refl refl)
+  rotate_spares theory marks low old new journal (Some id) r t = λ s. theory.spares.step (held opened) (shown_by opened) s (state_of journal old) (Rotated old.next_memtable) (state_of journal new) (t.3 (held opened) journal) r.order tt r.holds
+
+  pub rotate_any_spares : (theory : Soundness) → {S : Type 0} (r : Result (Option ℕ) Error) (old new : Seen S) (marks : Marks) (low : ℕ) (journal : List Event) → IfOk r (λ i. Rotates old.core i new.core) → OnErr r (new ≡ old) → IsRecorded opened least marks low old.core journal → Stays old.core new.core
+  rotate_any_spares theory (Ok i) old new marks low journal t e h = rotate_spares theory marks low old.core new.core journal i h t
+  rotate_any_spares theory (Err x) old new marks low journal t e h = subst (λ z. Stays old.core z.core) (sym e) (λ s. theory.spares.same s (state_of [] old.core) (state_of [] old.core) refl refl refl)
+
+  -- whatever it answers
+  pub rotate_any : (theory : Soundness) → {S : Type 0} (r : Result (Option ℕ) Error) (old new : Seen S) (marks : Marks) (low : ℕ) (journal : List Event) → IfOk r (λ i. Rotates old.core i new.core) → OnErr r (new ≡ old) → IsRecorded opened least marks low old.core journal → IsRecorded opened least marks low new.core journal
+  rotate_any theory (Ok i) old new marks low journal t e h = recorded_rotate theory marks low old.core new.core journal i h t
+  rotate_any theory (Err x) old new marks low journal t e h = subst (λ s. IsRecorded opened least marks low s.core journal) (sym e) h
 
 -- ---- entries
 

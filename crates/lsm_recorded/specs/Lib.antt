@@ -3,5 +3,7 @@ pub mod Closing
 pub mod Ticks
 pub mod Order
 pub mod Marks
+pub mod MarkedTables
 pub mod Notes
 pub mod Recorded
+pub mod Opened

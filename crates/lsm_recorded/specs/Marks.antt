@@ -1,9 +1,9 @@
 -- Marks of keys, by which the private functions tell a write in order without the journal.
-use Rattle.std.specs.Prelude.{ℕ, ◌+◌, max, min, Bool, true, false, not, ◌&&◌, ◌||◌, List, [], ◌∷◌, unwrap_or, if◌then◌else◌, nat_lt, nat_le, ◌==◌}
+use Rattle.std.specs.Prelude.{◌≡◌, ◌++◌, ℕ, ◌+◌, max, min, Bool, true, false, not, ◌&&◌, ◌||◌, List, [], ◌∷◌, unwrap_or, if◌then◌else◌, nat_lt, nat_le, ◌==◌}
 use Rattle.std.specs.BTreeMap as tree
 use Rattle.std.specs.BTreeMap.{BTreeMap}
 use Rattle.lsm_below.specs.Keys.{Bytes, bytes_cmp, is_same}
-use Rattle.lsm_below.specs.Entries.{Entry}
+use Rattle.lsm_below.specs.Entries.{Entry, stack, above, IsOrdered, IsSingle}
 use Rattle.lsm_below.specs.declared.value_type.ValueType.{ValueType}
 use Rattle.lsm_below.specs.declared.value_type.ValueType.TheVariants.{Value, Tombstone, WeakTombstone}
 use Rattle.lsm_model.specs.Journal.{Event, next_of, sets_of, floor}
@@ -11,6 +11,7 @@ use Rattle.lsm_model.specs.declared.op.Op.{Op}
 use Rattle.lsm_model.specs.declared.op.Op.TheVariants.{Set, Del, Weak}
 use Rattle.lsm_recorded.specs.Order.{weak_of}
 use Rattle.lsm_recorded.specs.declared.marks.Mark.{Mark}
+use Rattle.lsm_recorded.specs.declared.opened.OpenedMarks.{OpenedMarks}
 
 -- nothing was written
 abbrev pub no_mark : Mark
@@ -49,13 +50,13 @@ abbrev pub marked_all : List Entry → (Bytes → Mark) → Bytes → Mark
 marked_all [] marks = marks
 marked_all (e ∷ es) marks = marked_all es (marked_by e marks)
 
--- the mark that a journal gives a key
-abbrev pub mark_in : List Event → Bytes → Mark
-mark_in journal k = record { next = next_of k [] journal; sets = min (sets_of k [] journal) 2; is_weak = weak_of k journal }
+-- the mark that opened entries and a journal give a key
+abbrev pub mark_in : List Entry → List Event → Bytes → Mark
+mark_in opened journal k = record { next = next_of k opened journal; sets = min (sets_of k opened journal) 2; is_weak = weak_of k journal }
 
 -- does the mark of its key tell that a write of the entry keeps the order of the journal?
-abbrev pub mark_tells_order : List Event → ℕ → Entry → Bool
-mark_tells_order journal counter e = nat_lt e.key.seqno counter && nat_le (floor journal) e.key.seqno && mark_allows (mark_in journal e.key.user_key) e.key.seqno e.key.value_type
+abbrev pub mark_tells_order : List Entry → List Event → ℕ → Entry → Bool
+mark_tells_order opened journal counter e = nat_lt e.key.seqno counter && nat_le (floor journal) e.key.seqno && mark_allows (mark_in opened journal e.key.user_key) e.key.seqno e.key.value_type
 
 -- the type of the entry that a write makes
 abbrev pub op_type : Op → ValueType
@@ -66,3 +67,27 @@ op_type Weak = WeakTombstone
 -- does a write of a batch, under this sequence number, keep the order that marks and a least sequence number tell?
 abbrev pub op_allowed : (Bytes → Mark) → ℕ → ℕ → Bytes × Op → Bool
 op_allowed marks low n p = nat_le low n && mark_allows (marks p.0) n (op_type p.1)
+
+-- ---- what was opened
+
+-- a weak tombstone that was opened makes no key weakly removed
+abbrev pub opened_type : ValueType → ValueType
+opened_type Value = Value
+opened_type Tombstone = Tombstone
+opened_type WeakTombstone = Tombstone
+
+-- for each key the opened sequence numbers fall, and no weak tombstone stands over two values
+pub record AreInOrder (opened : List Entry) : Type 0 where
+  pub ordered : IsOrdered (opened ∷ [])
+  pub single : (k : Bytes) → IsSingle (stack k opened)
+
+-- the marks of these entries, which are in order, and the least sequence number above all
+pub record IsMarked (marks : BTreeMap Bytes Mark) (least : ℕ) (opened : List Entry) : Type 0 where
+  pub noted : (k : Bytes) → mark_of marks k ≡ mark_in opened [] k
+  pub least_is : least ≡ above opened
+  pub in_order : AreInOrder opened
+
+-- entries in front of others are noted as well, or one of them breaks the order
+abbrev pub MarksMore : OpenedMarks → Bool → List Entry → OpenedMarks → Type 0
+MarksMore old true es new = (behind : List Entry) → IsMarked old.marks old.least behind → IsMarked new.marks new.least (es ++ behind)
+MarksMore old false es new = (behind : List Entry) → IsMarked old.marks old.least behind → AreInOrder (es ++ behind) → ⊥

@@ -1,5 +1,5 @@
 -- Writes that keep the order of a journal.
-use Rattle.std.specs.Prelude.{ℕ, ◌+◌, Bool, true, false, not, ◌&&◌, ◌||◌, List, [], fold, nat_lt, nat_le, ◌==◌}
+use Rattle.std.specs.Prelude.{ℕ, ◌+◌, Bool, true, false, not, ◌&&◌, ◌||◌, List, fold, nat_lt, nat_le, ◌==◌}
 use Rattle.std.specs.List.{list_all}
 use Rattle.lsm_below.specs.Keys.{Bytes, is_same}
 use Rattle.lsm_below.specs.Entries.{Entry, is_weak}
@@ -23,18 +23,19 @@ weak_after k b (Read at question answer) = b
 abbrev pub weak_of : Bytes → List Event → Bool
 weak_of k journal = fold (weak_after k) false journal
 
--- may a write of this type come after the journal? A key that was removed weakly is set only if it never was, and one
--- that was set more than once isn't removed weakly.
-abbrev pub kind_keeps : List Event → Bytes → ValueType → Bool
-kind_keeps journal k Value = not (weak_of k journal) || (sets_of k [] journal == 0)
-kind_keeps journal k Tombstone = true
-kind_keeps journal k WeakTombstone = nat_le (sets_of k [] journal) 1
+-- May a write of this type come after the journal? A key that was removed weakly is set only if it never was, and one
+-- that was set more than once isn't removed weakly. Values that were opened count as set.
+abbrev pub kind_keeps : List Entry → List Event → Bytes → ValueType → Bool
+kind_keeps opened journal k Value = not (weak_of k journal) || (sets_of k opened journal == 0)
+kind_keeps opened journal k Tombstone = true
+kind_keeps opened journal k WeakTombstone = nat_le (sets_of k opened journal) 1
 
 -- Does a write of the entry keep the order of the journal, under a counter? Its sequence number is below the counter, not below
--- an install or a clear, and above each earlier one of its key; and its type keeps to the rule of weak removals.
-abbrev pub keeps_order : List Event → ℕ → Entry → Bool
-keeps_order journal counter e = nat_lt e.key.seqno counter && nat_le (floor journal) e.key.seqno && nat_le (next_of e.key.user_key [] journal) e.key.seqno && kind_keeps journal e.key.user_key e.key.value_type
+-- an install or a clear, and above each earlier one of its key, opened ones included; and its type keeps to the rule of weak
+-- removals.
+abbrev pub keeps_order : List Entry → List Event → ℕ → Entry → Bool
+keeps_order opened journal counter e = nat_lt e.key.seqno counter && nat_le (floor journal) e.key.seqno && nat_le (next_of e.key.user_key opened journal) e.key.seqno && kind_keeps opened journal e.key.user_key e.key.value_type
 
 -- does each write of a batch, under the sequence number that it draws?
-abbrev pub batch_keeps_order : List Event → ℕ → List (Bytes × Op) → Bool
-batch_keeps_order journal n ops = list_all (keeps_order journal (n + 1)) (op_entries n ops)
+abbrev pub batch_keeps_order : List Entry → List Event → ℕ → List (Bytes × Op) → Bool
+batch_keeps_order opened journal n ops = list_all (keeps_order opened journal (n + 1)) (op_entries n ops)

@@ -1,35 +1,41 @@
 -- A tree with the journal of its calls, and what always holds of it.
-use Rattle.std.specs.Prelude.{◌≡◌, ℕ, ◌≤◌, ◌⊎◌, List, [], Result, Err}
+use Rattle.std.specs.Prelude.{◌≡◌, ℕ, ◌<◌, ◌≤◌, ◌⊎◌, ◌↔◌, max, List, [], Result, Err, IsErrOf}
 use Rattle.std.specs.BTreeMap.{BTreeMap}
-use Rattle.std.specs.FinMap.{empty}
+use Rattle.lsm_model.specs.Views.{Placed, held}
+use Rattle.lsm_model.specs.Beginnings.{shown_by}
 use Rattle.lsm_below.specs.Keys.{Bytes}
+use Rattle.lsm_below.specs.Entries.{above}
 use Rattle.lsm_model.specs.declared.journal.JournalEntry.{JournalEntry}
 use Rattle.lsm_model.specs.Journal.{Event, InOrder, next_number, floor}
 use Rattle.lsm_model.specs.Steps.{ReadsEqualReplay, StaysAt}
 use Rattle.lsm_model.specs.Sound.{Holds}
 use Rattle.lsm_below.specs.declared.error.Error.{Error}
 use Rattle.lsm_below.specs.declared.error.Error.TheVariants.{OutOfMemory, OutOfOrder}
+use Rattle.lsm_versions.specs.declared.config.Config.{Config}
 use Rattle.lsm_state.specs.Core.{Core, Seen, state_of}
+use Rattle.lsm_state.specs.Calls.{RefusesRead}
 use Rattle.lsm_recorded.specs.declared.marks.Mark.{Mark}
 use Rattle.lsm_recorded.specs.Marks.{mark_of, mark_in}
 
--- a tree, and its journal
+-- a tree, its journal, and the tables that it was opened with: what they show is the map that the replay starts from
 pub record SeenRecorded (S : Type 0) : Type 0 where
   pub tree : Seen S
   pub journal : List JournalEntry
+  pub opened : List Placed
 
 -- what always holds of a tree with its journal
-pub record IsRecorded (marks : BTreeMap Bytes Mark) (low : ℕ) (c : Core) (journal : List Event) : Type 0 where
+pub record IsRecorded (opened : List Placed) (least : ℕ) (marks : BTreeMap Bytes Mark) (low : ℕ) (c : Core) (journal : List Event) : Type 0 where
   -- every read so far agrees with the replay, every view equals it, and kept snapshots are answered
-  pub reads : ReadsEqualReplay [] empty (state_of journal c)
+  pub reads : ReadsEqualReplay (held opened) (shown_by opened) (state_of journal c)
   -- from which the next step goes on
-  pub holds : Holds [] empty (state_of journal c)
+  pub holds : Holds (held opened) (shown_by opened) (state_of journal c)
   -- the journal is in order, below the counter
-  pub order : InOrder [] journal
-  pub counted : next_number [] journal ≤ c.seqno
-  -- what is kept beside it is the journal's
+  pub order : InOrder (held opened) journal
+  pub counted : next_number (held opened) journal ≤ c.seqno
+  -- what is kept beside it is that of the tables and the journal
+  pub least_is : least ≡ above (held opened)
   pub floored : low ≡ floor journal
-  pub noted : (k : Bytes) → mark_of marks k ≡ mark_in journal k
+  pub noted : (k : Bytes) → mark_of marks k ≡ mark_in (held opened) journal k
 
 -- a refusal of the journal's own, or what the tree below replied
 abbrev pub OwnOr : {A : Type 0} → Result A Error → Type 0 → Type 0
@@ -42,3 +48,13 @@ Stays old new = (s : ℕ) → StaysAt s (state_of [] old) (state_of [] new)
 -- the same of the snapshots up to a sequence number
 abbrev pub StaysTo : ℕ → Core → Core → Type 0
 StaysTo n old new = (s : ℕ) → s ≤ n → StaysAt s (state_of [] old) (state_of [] new)
+
+-- a read below a sequence number that was opened is out of order, whatever else would be wrong; each other one is refused as
+-- the tree refuses it
+pub record RefusesRecorded {A : Type 0} (least : ℕ) (c : Core) (s : ℕ) (r : Result A Error) : Type 0 where
+  pub out_of_order : IsErrOf r OutOfOrder ↔ s < least
+  pub refuses : least ≤ s → RefusesRead c s r
+
+-- the configuration, with both counters above what was opened
+abbrev pub raised : ℕ → Config → Config
+raised least config = record { id = config.id; seqno = max config.seqno least; visible_seqno = max config.visible_seqno least }

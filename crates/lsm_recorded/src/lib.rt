@@ -5,6 +5,7 @@
 //! | `recorded` | a tree with the journal of its calls |
 //! | `pass` | what one caller's calls add to a journal |
 //! | `marks` | what was written to each key, by which a write in order is told |
+//! | `opened` | what opened tables hold of each key, and whether they are in order |
 //! | `notes` | copies of the entries of a write, for the journal and a pass |
 //! | `closing` | whether passes list a journal |
 #![tactic(auto)]
@@ -12,6 +13,7 @@
 mod closing;
 mod marks;
 mod notes;
+mod opened;
 mod pass;
 mod recorded;
 

@@ -1,8 +1,8 @@
 // What was written to each key so far, by which a write in order is told without the journal.
-ghost use Rattle.std.specs.Prelude.{◌≡◌, ℕ, ◌+◌, ◌^◌, ◌<◌, ◌≤◌, OnOk, IsSome, ◌&&◌};
+ghost use Rattle.std.specs.Prelude.{◌≡◌, ◌+◌, ◌^◌, ◌<◌, OnOk, IsSome, ◌&&◌};
 ghost use Rattle.std.specs.BTreeMap as tree;
 ghost use Rattle.lsm_below.specs.Keys.{Bytes, bytes_cmp};
-ghost use Rattle.lsm_recorded.specs.Marks.{mark_of, marked_by, mark_allows, next_mark};
+ghost use Rattle.lsm_recorded.specs.Marks.{mark_of, marked, marked_by, mark_allows, next_mark};
 
 use lsm_below::{InternalValue, SeqNo, UserKey, ValueType, share};
 use std::alloc::AllocError;
@@ -47,6 +47,18 @@ pub(crate) fn reserve_mark(
         return Ok(());
     }
     let _ = marks.insert(share(key)?, NOTHING)?;
+    Ok(())
+}
+
+/// Sets a key's mark. A new key shares its bytes.
+pub(crate) fn set_mark(
+    marks: &mut BTreeMap<UserKey, Mark>,
+    key: &UserKey,
+    mark: Mark,
+) -> Result<(), AllocError>
+    ensures { OnOk result ((q : Bytes) → mark_of marks.new q ≡ marked (mark_of marks.old) key.now mark q) }
+{
+    let _ = marks.insert(share(key)?, mark)?;
     Ok(())
 }
 

@@ -1,7 +1,9 @@
 // A tree with the journal of its calls.
-ghost use Rattle.std.specs.Prelude.{◌≡◌, ℕ, ◌+◌, ◌<◌, ◌≤◌, ◌^◌, ◌∷◌, ◌++◌, [], true, false, None, Ok, IfOk, IfErr, IfSome, OnOk, OnErr, IsErrOf, IsTrue, ◌↔◌, ◌⊎◌, map};
-ghost use Rattle.std.specs.FinMap.{get as value_in, empty};
-ghost use Rattle.lsm_below.specs.Entries.{plain};
+ghost use Rattle.std.specs.Prelude.{◌≡◌, ◌+◌, ◌<◌, ◌≤◌, ◌^◌, ◌∷◌, [], true, false, None, Ok, IfOk, IfErr, IfSome, OnOk, OnErr, IsErrOf, IsTrue, ◌↔◌, ◌⊎◌, map};
+ghost use Rattle.std.specs.FinMap.{get as value_in};
+ghost use Rattle.lsm_below.specs.Entries.{plain, above};
+ghost use Rattle.lsm_model.specs.Views.{held};
+ghost use Rattle.lsm_model.specs.Beginnings.{shown_by};
 ghost use Rattle.lsm_model.specs.Journal.{is_outside, replay, IsKept, Agrees, InOrder, next_number};
 ghost use Rattle.lsm_model.specs.Ops.{op_entry, op_entries};
 ghost use Rattle.lsm_model.specs.Steps.{ReadsEqualReplay};
@@ -11,8 +13,8 @@ ghost use Rattle.lsm_model.specs.declared.question.Answer.TheVariants.{Found};
 ghost use Rattle.lsm_model.specs.declared.op.Op.TheVariants.{Set, Del, Weak};
 ghost use Rattle.lsm_state.specs.Held.{first_entries};
 ghost use Rattle.lsm_state.specs.Kept.{IsKeptTree};
-ghost use Rattle.lsm_state.specs.Core.{fresh_core, state_of};
-ghost use Rattle.lsm_state.specs.Calls.{Appends, WritesBatch, Gives, Rotates, RefusesRead};
+ghost use Rattle.lsm_state.specs.Core.{state_of};
+ghost use Rattle.lsm_state.specs.Calls.{Appends, WritesBatch, Gives, Rotates};
 ghost use Rattle.std.specs.List.{list_all};
 ghost use Rattle.lsm_recorded.specs.Marks.{mark_of, op_type, op_allowed};
 ghost use Rattle.lsm_recorded.specs.Order.{keeps_order, batch_keeps_order};
@@ -26,9 +28,9 @@ use crate::pass::{Pass, make_room, note_entry, put_entry};
 use lsm_below::{InternalValue, MemtableId, SeqNo, UserKey, UserValue, ValueType, share};
 use lsm_journal::{copy_journal, read_entry};
 use lsm_model::{Answer, JournalEntry, Op, Question, reads_are_sound};
-use lsm_parts::{Config, Error, LIMIT, SequenceNumberCounter};
+use lsm_parts::{Error, LIMIT, SequenceNumberCounter, Version};
 use lsm_state::TreeState;
-use lsm_store::{NoStore, Store};
+use lsm_store::{MemStore, Store};
 use std::alloc::{AllocError, Global};
 use std::collections::BTreeMap;
 use std::marker::Model;
@@ -43,7 +45,8 @@ use std::marker::Model;
 /// # Examples
 ///
 /// ```text
-/// let mut tree = Recorded::open_in_memory(alloc, Config::new(0, 0, 0));
+/// let opened = Recorded::open(alloc, Config::new(0, 0, 0), MemStore::new(alloc));
+/// let mut tree = opened.map_err(|refused| refused.0)?;
 /// let mut pass = Pass::new(alloc);
 /// let number = tree.write(&mut pass, vec![in alloc; (key, Op::Set(value))]?)?;
 /// let found = tree.get(&mut pass, &key, number + 1)?;
@@ -52,26 +55,34 @@ use std::marker::Model;
 /// Every write is in order: its sequence number is below the counter, not below an install or a clear, and above each
 /// earlier one of its key; a weakly removed key has at most one value.
 ///
+/// On a tree that was opened with tables, numbers and values of their entries count as earlier ones, and a snapshot isn't
+/// below the least sequence number above them all: what they show is the map that the replay starts from.
+///
 /// Its type keeps three facts: each read of the journal answers what the replay of the journal before it
 /// does; what each snapshot sees is the replay at it; and a snapshot that is below no watermark is answered.
 #[derive(Drop)]
-pub struct Recorded<S: Store = NoStore> {
+pub struct Recorded<S: Store = MemStore> {
     alloc: Global,
     core: TreeState<S>,
     journal: Vec<JournalEntry>,
     marks: BTreeMap<UserKey, Mark>,
     /// The greatest sequence number of an install or a clear.
     floor: SeqNo,
+    /// The least sequence number above all that were opened.
+    least: SeqNo,
+    /// The version that was opened, which shares its tables.
+    opened: Version,
 }
 
 impl<S: Store> Model for Recorded<S> {
+    ghost use Rattle.lsm_versions.specs.Levels.{placed_of};
     ghost use Rattle.lsm_recorded.specs.Recorded.{SeenRecorded, IsRecorded};
 
     ghost Value = { SeenRecorded S };
 
-    ghost view = { λ r. record { tree = r.core; journal = r.journal.items } };
+    ghost view = { λ r. record { tree = r.core; journal = r.journal.items; opened = placed_of r.opened.levels } };
 
-    ghost invariant = { λ r. IsRecorded r.marks r.floor r.core.core r.journal.items };
+    ghost invariant = { λ r. IsRecorded (placed_of r.opened.levels) r.least r.marks r.floor r.core.core r.journal.items };
 }
 
 /// Whether writes under this sequence number keep the order of their keys, and of installs and clears.
@@ -114,25 +125,8 @@ fn type_of(op: &Op) -> ValueType
     }
 }
 
-impl Recorded<NoStore> {
-    /// An empty tree in memory with an empty journal, whose counters start where the configuration says.
-    pub fn open_in_memory(alloc: Global, config: Config) -> Recorded<NoStore>
-        ensures journal { result.journal ≡ [] }
-        ensures core { result.tree.core ≡ fresh_core config }
-    {
-        reads_are_sound();
-        Recorded {
-            alloc,
-            core: TreeState::open_in_memory(alloc, config),
-            journal: Vec::new(alloc),
-            marks: BTreeMap::new(alloc),
-            floor: 0,
-        }
-    }
-}
-
 impl<S: Store> Recorded<S> {
-    ghost use Rattle.lsm_recorded.specs.Recorded.{OwnOr, Stays, StaysTo};
+    ghost use Rattle.lsm_recorded.specs.Recorded.{OwnOr, Stays, StaysTo, RefusesRecorded};
 
     /// The facts that the type keeps: every super version is ordered, each view equals the replay,
     /// kept snapshots are answered, and each read of the journal agrees with the replay before it;
@@ -140,9 +134,9 @@ impl<S: Store> Recorded<S> {
     /// `TreeState::facts` tells.
     pub fn facts(&self)
         ensures tree { IsKeptTree self.now.tree.core }
-        ensures reads { ReadsEqualReplay [] empty (state_of self.now.journal self.now.tree.core) }
-        ensures in_order { InOrder [] self.now.journal }
-        ensures counted { next_number [] self.now.journal ≤ self.now.tree.core.seqno }
+        ensures reads { ReadsEqualReplay (held self.now.opened) (shown_by self.now.opened) (state_of self.now.journal self.now.tree.core) }
+        ensures in_order { InOrder (held self.now.opened) self.now.journal }
+        ensures counted { next_number (held self.now.opened) self.now.journal ≤ self.now.tree.core.seqno }
     {
         self.core.facts();
     }
@@ -169,6 +163,7 @@ impl<S: Store> Recorded<S> {
     }
 
     /// The value of a key at a snapshot, as `TreeState::get`; and the read is appended to the journal and the pass.
+    /// `OutOfOrder`, before all else, exactly where the snapshot is below a sequence number that was opened, or at it.
     pub fn get(
         &mut self,
         pass: &mut Pass,
@@ -176,15 +171,19 @@ impl<S: Store> Recorded<S> {
         snapshot: SeqNo,
     ) -> Result<Option<UserValue>, Error>
         ensures core { IfOk result (λ v. Gives self.old.tree.core key.now snapshot v) }
-        ensures replay { IfOk result (λ v. is_outside key.now snapshot self.old.journal ≡ true → v ≡ value_in (replay empty self.old.journal snapshot) key.now) }
+        ensures replay { IfOk result (λ v. is_outside key.now snapshot self.old.journal ≡ true → v ≡ value_in (replay (shown_by self.old.opened) self.old.journal snapshot) key.now) }
         ensures noted { IfOk result (λ v. Notes (ReadEntry snapshot (GetQuestion key.now) (Found v) ∷ []) self.old.journal self.new.journal pass.old pass.new) }
         ensures tree { self.new.tree ≡ self.old.tree }
+        ensures opened { self.new.opened ≡ self.old.opened }
 
         ensures err { OnErr result ((self.new ≡ self.old) × (pass.new ≡ pass.old)) }
-        ensures refuses { RefusesRead self.old.tree.core snapshot result }
-        ensures kept { IsKept snapshot self.old.journal → IfErr result (λ e. e ≡ Error.OutOfMemory) }
+        ensures refuses { RefusesRecorded (above (held self.old.opened)) self.old.tree.core snapshot result }
+        ensures kept { above (held self.old.opened) ≤ snapshot → IsKept snapshot self.old.journal → IfErr result (λ e. e ≡ Error.OutOfMemory) }
     {
         reads_are_sound();
+        if snapshot < self.least {
+            return Err(Error::OutOfOrder);
+        }
         let value = self.core.get(key.as_slice(), snapshot)?;
         let entry = read_entry(snapshot, key, &value)?;
         note_entry(self.alloc, &mut self.journal, &mut pass.entries, entry)?;
@@ -199,6 +198,7 @@ impl<S: Store> Recorded<S> {
         ensures pass { pass.new ≡ pass.old }
         ensures views { Stays self.old.tree.core self.new.tree.core }
         ensures err { OnErr result (self.new ≡ self.old) }
+        ensures opened { self.new.opened ≡ self.old.opened }
         ensures out_of_numbers { IsErrOf result Error.OutOfNumbers → LIMIT ≤ self.old.tree.core.next_memtable }
         ensures told { LIMIT ≤ self.old.tree.core.next_memtable → IfOk result (λ _. first_entries self.old.tree.core.memtables ≡ []) }
         ensures empty { first_entries self.old.tree.core.memtables ≡ [] → result ≡ Ok None }
@@ -217,11 +217,12 @@ impl<S: Store> Recorded<S> {
         pass: &mut Pass,
         entry: InternalValue,
     ) -> Result<(u64, u64), Error>
-        ensures out_of_order { IsErrOf result Error.OutOfOrder ↔ (keeps_order self.old.journal self.old.tree.core.seqno (plain entry) ≡ false) }
+        ensures out_of_order { IsErrOf result Error.OutOfOrder ↔ (keeps_order (held self.old.opened) self.old.journal self.old.tree.core.seqno (plain entry) ≡ false) }
         ensures core { OwnOr result (Appends (plain entry) result self.old.tree.core self.new.tree.core) }
         ensures noted { OnOk result (Notes (WriteEntry (plain entry) ∷ []) self.old.journal self.new.journal pass.old pass.new) }
         ensures views { OnOk result (StaysTo entry.key.seqno self.old.tree.core self.new.tree.core) }
         ensures err { OnErr result ((self.new ≡ self.old) × (pass.new ≡ pass.old)) }
+        ensures opened { self.new.opened ≡ self.old.opened }
     {
         reads_are_sound();
         if !self.keeps_order(&entry) {
@@ -250,11 +251,12 @@ impl<S: Store> Recorded<S> {
         value: UserValue,
         seqno: SeqNo,
     ) -> Result<(u64, u64), Error>
-        ensures out_of_order { IsErrOf result Error.OutOfOrder ↔ (keeps_order self.old.journal self.old.tree.core.seqno (op_entry key seqno (Set value)) ≡ false) }
+        ensures out_of_order { IsErrOf result Error.OutOfOrder ↔ (keeps_order (held self.old.opened) self.old.journal self.old.tree.core.seqno (op_entry key seqno (Set value)) ≡ false) }
         ensures core { OwnOr result (Appends (op_entry key seqno (Set value)) result self.old.tree.core self.new.tree.core) }
         ensures noted { OnOk result (Notes (WriteEntry (op_entry key seqno (Set value)) ∷ []) self.old.journal self.new.journal pass.old pass.new) }
         ensures views { OnOk result (StaysTo seqno self.old.tree.core self.new.tree.core) }
         ensures err { OnErr result ((self.new ≡ self.old) × (pass.new ≡ pass.old)) }
+        ensures opened { self.new.opened ≡ self.old.opened }
     {
         let entry = InternalValue::from_components(key, value, seqno, ValueType::Value);
         self.append_entry(pass, entry)
@@ -267,11 +269,12 @@ impl<S: Store> Recorded<S> {
         key: UserKey,
         seqno: SeqNo,
     ) -> Result<(u64, u64), Error>
-        ensures out_of_order { IsErrOf result Error.OutOfOrder ↔ (keeps_order self.old.journal self.old.tree.core.seqno (op_entry key seqno Del) ≡ false) }
+        ensures out_of_order { IsErrOf result Error.OutOfOrder ↔ (keeps_order (held self.old.opened) self.old.journal self.old.tree.core.seqno (op_entry key seqno Del) ≡ false) }
         ensures core { OwnOr result (Appends (op_entry key seqno Del) result self.old.tree.core self.new.tree.core) }
         ensures noted { OnOk result (Notes (WriteEntry (op_entry key seqno Del) ∷ []) self.old.journal self.new.journal pass.old pass.new) }
         ensures views { OnOk result (StaysTo seqno self.old.tree.core self.new.tree.core) }
         ensures err { OnErr result ((self.new ≡ self.old) × (pass.new ≡ pass.old)) }
+        ensures opened { self.new.opened ≡ self.old.opened }
     {
         self.append_entry(pass, InternalValue::new_tombstone(key, seqno))
     }
@@ -283,11 +286,12 @@ impl<S: Store> Recorded<S> {
         key: UserKey,
         seqno: SeqNo,
     ) -> Result<(u64, u64), Error>
-        ensures out_of_order { IsErrOf result Error.OutOfOrder ↔ (keeps_order self.old.journal self.old.tree.core.seqno (op_entry key seqno Weak) ≡ false) }
+        ensures out_of_order { IsErrOf result Error.OutOfOrder ↔ (keeps_order (held self.old.opened) self.old.journal self.old.tree.core.seqno (op_entry key seqno Weak) ≡ false) }
         ensures core { OwnOr result (Appends (op_entry key seqno Weak) result self.old.tree.core self.new.tree.core) }
         ensures noted { OnOk result (Notes (WriteEntry (op_entry key seqno Weak) ∷ []) self.old.journal self.new.journal pass.old pass.new) }
         ensures views { OnOk result (StaysTo seqno self.old.tree.core self.new.tree.core) }
         ensures err { OnErr result ((self.new ≡ self.old) × (pass.new ≡ pass.old)) }
+        ensures opened { self.new.opened ≡ self.old.opened }
     {
         self.append_entry(pass, InternalValue::new_weak_tombstone(key, seqno))
     }
@@ -296,11 +300,12 @@ impl<S: Store> Recorded<S> {
     /// and the pass. `OutOfOrder`, before all else, exactly where one of its writes would break the order.
     /// Refused, it changes nothing.
     pub fn write(&mut self, pass: &mut Pass, ops: Vec<(UserKey, Op)>) -> Result<SeqNo, Error>
-        ensures out_of_order { IsErrOf result Error.OutOfOrder ↔ (batch_keeps_order self.old.journal self.old.tree.core.seqno ops.items ≡ false) }
+        ensures out_of_order { IsErrOf result Error.OutOfOrder ↔ (batch_keeps_order (held self.old.opened) self.old.journal self.old.tree.core.seqno ops.items ≡ false) }
         ensures core { OwnOr result (WritesBatch ops.items result self.old.tree.core self.new.tree.core) }
         ensures noted { OnOk result (Notes (map WriteEntry (op_entries self.old.tree.core.seqno ops.items)) self.old.journal self.new.journal pass.old pass.new) }
         ensures views { OnOk result (StaysTo self.old.tree.core.seqno self.old.tree.core self.new.tree.core) }
         ensures err { OnErr result ((self.new ≡ self.old) × (pass.new ≡ pass.old)) }
+        ensures opened { self.new.opened ≡ self.old.opened }
     {
         reads_are_sound();
         let number = self.core.seqno().get();
@@ -321,7 +326,7 @@ impl<S: Store> Recorded<S> {
     pub fn close(&self, passes: Vec<Pass>) -> Result<Vec<JournalEntry>, Vec<Pass>>
         ensures journal { IfOk result (λ j. j.items ≡ self.now.journal) }
         ensures listed { IfOk result (λ j. ListTogether j.items passes.items) }
-        ensures agrees { IfOk result (λ j. Agrees empty j.items) }
+        ensures agrees { IfOk result (λ j. Agrees (shown_by self.now.opened) j.items) }
         ensures back { IfErr result (λ back. back ≡ passes) }
     {
         self.facts();
@@ -346,14 +351,14 @@ impl<S: Store> Recorded<S> {
     /// Whether each write of a batch under this sequence number, the counter's, keeps the order of the journal.
     fn batch_keeps_order(&self, number: SeqNo, ops: &[(UserKey, Op)]) -> bool
         requires { number ≡ self.now.tree.core.seqno }
-        ensures { result ≡ batch_keeps_order self.now.journal number ops.now }
+        ensures { result ≡ batch_keeps_order (held self.now.opened) self.now.journal number ops.now }
     {
         all_allowed(&self.marks, self.floor, number, ops)
     }
 
     /// Whether a write of this entry keeps the order of the journal.
     fn keeps_order(&self, entry: &InternalValue) -> bool
-        ensures is { result ≡ keeps_order self.now.journal self.now.tree.core.seqno entry.now }
+        ensures is { result ≡ keeps_order (held self.now.opened) self.now.journal self.now.tree.core.seqno entry.now }
         ensures fits { IsTrue result → entry.now.key.seqno + 1 < 2 ^ 64 }
     {
         let number = entry.key.seqno;
@@ -363,4 +368,5 @@ impl<S: Store> Recorded<S> {
     }
 }
 
+mod opening;
 mod range;

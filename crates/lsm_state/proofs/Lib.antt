@@ -7,3 +7,5 @@ pub mod Answered
 pub mod Overlaid
 pub mod Counts
 pub mod Refusals
+pub mod Standing
+pub mod StandingImages

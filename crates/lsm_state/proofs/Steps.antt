@@ -1,21 +1,19 @@
 -- Each call is a step of the theory.
 use Rattle.std.proofs.Common.{◌≡◌, ℕ, ◌+◌, true, false, cond, List, [], ◌∷◌, ◌++◌, max, ◌⊎◌, None, Result, Ok, Err, IfOk, IfErr, OnOk, OnErr, IfSome, map, refl, sym, ap, ◌∙◌, subst, eqb, append-nil, append_assoc}
-use Rattle.std.specs.FinMap.{empty, get-empty}
-use Rattle.lsm_below.specs.Keys.{Bytes, bytes_cmp}
+use Rattle.lsm_below.specs.Keys.{Bytes}
 use Rattle.lsm_below.specs.Entries.{Entry, entry_cmp, stack}
 use Rattle.lsm_below.specs.Sorted.{put}
 use Rattle.lsm_model.specs.Journal.{Event}
 use Rattle.lsm_model.specs.Views.{written}
-use Rattle.lsm_model.specs.Steps.{Run, Wrote, IsOpened}
+use Rattle.lsm_model.specs.Steps.{Run, Wrote}
 use Rattle.lsm_model.specs.declared.journal.JournalEntry.TheVariants.{Write}
 use Rattle.lsm_model.specs.Ops.{op_entries}
 use Rattle.lsm_model.specs.declared.op.Op.{Op}
 use Rattle.lsm_memtable.specs.Memtables.{SeenMemtable, entry_size}
 use Rattle.lsm_below.specs.declared.error.Error.{Error}
 use Rattle.lsm_below.specs.declared.error.Error.TheVariants.{OutOfMemory}
-use Rattle.lsm_parts.specs.declared.config.Config.{Config}
 use Rattle.lsm_state.specs.Held.{entries_of, put_first, put_all_first, HasFirst, first_size}
-use Rattle.lsm_state.specs.Core.{Core, state_of, fresh_core, written_core, written_all, drawn_core}
+use Rattle.lsm_state.specs.Core.{Core, state_of, written_core, written_all, drawn_core}
 use Rattle.lsm_state.specs.Refusals.{entry_refusal, batch_refusal}
 use Rattle.lsm_state.specs.Calls.{IsWriteStep, IsWriteRun, Appends, WritesBatch}
 
@@ -82,22 +80,6 @@ appended e (Err x) c tables h none sizes ok err memory = record {
   unchanged = ap (with_memtables c) err;
   told = subst (λ o. IfSome o (λ y. ◌≡◌ {A = Result (ℕ × ℕ) Error} (Err x) (Err y))) (sym none) tt;
   memory = λ _. memory;
-}
-
--- ---- opening
-
-pub fresh_opened : (config : Config) → IsOpened [] empty (state_of [] (fresh_core config))
-fresh_opened config = record {
-  journal = refl;
-  number = refl;
-  active = refl;
-  sealed = refl;
-  tables = refl;
-  laid = record { covers = tt; by_level = tt };
-  older = refl;
-  ordered = λ k. tt;
-  single = λ k. tt;
-  starts = λ k. get-empty bytes_cmp k;
 }
 
 -- a batch is written under the next sequence number

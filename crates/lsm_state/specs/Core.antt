@@ -4,7 +4,7 @@ use Rattle.lsm_below.specs.Entries.{Entry}
 use Rattle.lsm_model.specs.Journal.{Event}
 use Rattle.lsm_model.specs.Views.{SuperVersion as Shown}
 use Rattle.lsm_model.specs.Steps.{State}
-use Rattle.lsm_parts.specs.declared.config.Config.{Config}
+use Rattle.lsm_versions.specs.declared.config.Config.{Config}
 use Rattle.lsm_parts.specs.declared.version.super_version.SuperVersion.{SuperVersion}
 use Rattle.lsm_memtable.specs.Memtables.{SeenMemtable, new_memtable}
 use Rattle.lsm_versions.specs.Levels.{SeenVersion, empty_levels, placed_of}

@@ -1,5 +1,5 @@
 // The memtables that are held, by id.
-ghost use Rattle.std.specs.Prelude.{◌≡◌, ℕ, ◌+◌, ◌<◌, ◌∷◌, [], drop, length, IfOk, IfErr, OnOk, OnErr, IsTrue, ◌↔◌, option_copied, MatchOption};
+ghost use Rattle.std.specs.Prelude.{◌≡◌, ℕ, ◌<◌, ◌∷◌, [], drop, length, IfOk, IfErr, OnOk, OnErr, IsTrue, ◌↔◌, option_copied, MatchOption};
 ghost use Rattle.std.specs.List.{AllByRecursion};
 ghost use Rattle.lsm_below.specs.Entries.{entry_cmp, top};
 ghost use Rattle.lsm_below.specs.Sorted.{Rises};

@@ -1,26 +1,23 @@
 // A tree is opened over a store, and gives it back.
-ghost use Rattle.std.specs.Prelude.{◌≡◌, ℕ, None, codes, length, IsSome, IfOk};
+ghost use Rattle.std.specs.Prelude.{◌≡◌, ℕ, Ok, Err, length, IfOk, IfErr};
 ghost use Rattle.lsm_below.specs.Sums.{capped};
-ghost use Rattle.lsm_store.specs.World.{LeavesOnly};
+ghost use Rattle.lsm_store.specs.World.{LeavesOnly, Same};
+ghost use Rattle.lsm_model.specs.Journal.{Map};
 ghost use Rattle.lsm_versions.specs.Levels.{Levels as SeenLevels, all_of};
-ghost use Rattle.lsm_manifest.specs.Kinds.{is_orphan};
-ghost use Rattle.lsm_manifest.specs.Spelling.{ids_of};
-ghost use Rattle.lsm_manifest.specs.Recovery.{Levels, IsNamed, CountsStore};
-ghost use Rattle.lsm_manifest.specs.Clearing.{IsCleared};
+ghost use Rattle.lsm_manifest.specs.Recovery.{Levels, CountsStore};
 ghost use Rattle.lsm_manifest.specs.Standing.{HasSmallNumbers, StandsFor};
-ghost use Rattle.lsm_manifest.specs.Pinned.{IsPinned};
-ghost use Rattle.lsm_manifest.specs.Names.{current_name};
 ghost use Rattle.lsm_manifest.specs.Told.{Told, TellsOpen};
-ghost use Rattle.lsm_manifest.specs.Opening.{OpensFiles, OpensNew, OpensAs, IsOlder, IsAbove, KeepsFiles};
-ghost use Rattle.lsm_manifest.specs.Persist.{IsOldOrNew};
-ghost use Rattle.lsm_manifest.specs.Versions.{file_of, first_version};
+ghost use Rattle.lsm_manifest.specs.Opening.{Opens, OpensAs, LeavesStanding, IsAbove};
+ghost use Rattle.lsm_manifest.specs.Looking.{Looks};
+ghost use Rattle.lsm_manifest.specs.Finding.{StandsForMap, RefusesFound, IsSettled};
 ghost use Rattle.lsm_state.specs.Core.{opened_core};
-ghost use Rattle.lsm_state.specs.Opened.{files_told, store_left, StartsFrom};
+ghost use Rattle.lsm_state.specs.Opened.{files_told, store_left, files_found, store_held, StartsFrom, StartsWith};
 
-use crate::{Memtables, TreeState};
+use crate::{Found, TreeState};
 use lsm_below::{Error, TableId};
-use lsm_manifest::open_files;
-use lsm_parts::{Config, SequenceNumberCounter, SuperVersions, Version};
+use lsm_manifest::{look_for_files, opening_finds};
+use lsm_model::{opening_starts, tables_show_above};
+use lsm_parts::{Config, Version};
 use lsm_store::Store;
 use std::alloc::Global;
 
@@ -38,47 +35,55 @@ impl<S: Store> TreeState<S> {
     /// `OutOfNumbers` where an entry is numbered 2^63 or more; `OutOfMemory`, `Store`, and for a new tree
     /// `CommitUnknown`.
     pub fn open(alloc: Global, config: Config, store: S) -> Result<TreeState<S>, (Error, S)>
-        // A file `version` tells an older format.
-        ensures version { S.tells → IsSome ((S.world store).gives (codes "version")) → Told TellsOpen IsOlder (files_told result) }
-        // What `current` leads to, or the first thing that is wrong with it.
-        ensures opens { S.tells → (S.world store).gives (codes "version") ≡ None → IsSome ((S.world store).gives current_name) → Told TellsOpen (OpensFiles (S.world store).gives) (files_told result) }
-        // What stands is taken: it is refused only for memory, or where a store call failed.
-        ensures takes { S.tells → (id : ℕ) (ls : Levels) (ts : SeenLevels) → StandsFor (S.world store).gives id ls ts → HasSmallNumbers ts → Told TellsOpen (OpensAs id ls ts) (files_told result) }
-        // Without `current`, a new tree.
-        ensures new { S.tells → (S.world store).gives (codes "version") ≡ None → (S.world store).gives current_name ≡ None → Told TellsOpen (OpensNew (S.world store) (S.world (store_left result))) (files_told result) }
-        // A crash in it takes orphans alone.
-        ensures any_moment { S.tells → (id : ℕ) (ls : Levels) → IsNamed (S.world store).gives id ls → LeavesOnly (S.world store) (S.world (store_left result)) (IsCleared (is_orphan id (ids_of ls)) (S.world store)) }
-        // Where the names that stand have one possible content each, every image meanwhile stands for the same tables.
-        ensures stands { S.tells → (id : ℕ) (ls : Levels) (ts : SeenLevels) → StandsFor (S.world store).gives id ls ts → IsPinned (S.world store) id ls → LeavesOnly (S.world store) (S.world (store_left result)) (λ image. StandsFor image id ls ts) }
-        // Or it leaves what was there, or the new tree.
-        ensures new_moment { S.tells → (S.world store).gives current_name ≡ None → LeavesOnly (S.world store) (S.world (store_left result)) (IsOldOrNew 0 (file_of first_version) (S.world store)) }
-        // Refused for a fault of its files, the store is as it was.
-        ensures keeps { S.tells → Told TellsOpen (KeepsFiles (S.world store) (S.world (store_left result))) (files_told result) }
-        // The tree has the version, and else nothing yet.
+        // What stands for a map is opened as it, and refused only for memory, a fault of the store, or a number of 2^63 or more.
+        ensures shows { S.tells → (m : Map) → StandsForMap (S.world store).gives m → IfOk result (λ t. StartsWith m t.core) }
+        ensures refuses { S.tells → (m : Map) → StandsForMap (S.world store).gives m → IfErr result (λ e. RefusesFound (S.world store).gives e.0) }
+        // Where what is read has one possible content each, every image meanwhile stands for the same map.
+        ensures stands_for { S.tells → IsSettled (S.world store) → (m : Map) → StandsForMap (S.world store).gives m → LeavesOnly (S.world store) (S.world (store_left result)) (λ image. StandsForMap image m) }
+        // What is opened, or the first thing that is wrong with the files; and what a crash in it may leave.
+        ensures opens { S.tells → Told TellsOpen (Opens (S.world store) (S.world (store_left result))) (files_told result) }
+        ensures leaves { S.tells → LeavesStanding (S.world store) (S.world (store_left result)) }
+        // The tree has the version, and else nothing yet. Its reads are then those of the theory, from what its tables show.
         ensures core { IfOk result (λ t. t.core ≡ opened_core config t.core.history.latest.version t.core.next_table) }
-        // Its reads are then those of the theory, from what its tables show.
         ensures starts { IfOk result (λ t. StartsFrom t.core) }
         // Whatever the store tells: the next id is above those of the tables, and each entry is numbered below 2^63.
         ensures next { IfOk result (λ t. IsAbove t.core.next_table t.core.history.latest.version.levels) }
         ensures small { IfOk result (λ t. HasSmallNumbers t.core.history.latest.version.levels) }
         ensures counts { Told TellsOpen (CountsStore (S.world store) (S.world (store_left result))) (files_told result) }
     {
+        opening_finds(&store);
+        opening_starts();
+        tables_show_above();
+        let found = TreeState::look(alloc, store)?;
+        found.version().facts();
+        found.open(config)
+    }
+
+    /// What a store holds of a tree, read and checked, with the store, of which nothing has changed: the first part of
+    /// `open`, with which `Found::open` goes on.
+    ///
+    /// # Errors
+    ///
+    /// As `open`, `CommitUnknown` aside.
+    pub fn look(alloc: Global, store: S) -> Result<Found<S>, (Error, S)>
+        ensures found { S.tells → IfOk result (λ f. Looks (S.world store) (S.world f.store) f.files) }
+        // Refused, the store is opened as it is.
+        ensures refused { S.tells → IfErr result (λ e. Told TellsOpen (Opens (S.world store) (S.world e.1)) (Err e.0)) }
+        // What stands is found.
+        ensures stands { S.tells → (id : ℕ) (ls : Levels) (ts : SeenLevels) → StandsFor (S.world store).gives id ls ts → HasSmallNumbers ts → IfOk result (λ f. OpensAs id ls ts (Ok f.files.opened)) }
+        ensures leaves { S.tells → LeavesStanding (S.world store) (S.world (store_held result)) }
+        ensures same { S.tells → Same (S.world store) (S.world (store_held result)) }
+        ensures next { IfOk result (λ f. IsAbove f.files.opened.next_table_id f.files.opened.version.levels) }
+        ensures small { IfOk result (λ f. HasSmallNumbers f.files.opened.version.levels) }
+        ensures counts { Told TellsOpen (CountsStore (S.world store) (S.world (store_held result))) (files_found result) }
+    {
         let mut store = store;
-        match open_files(alloc, &mut store) {
-            Ok(opened) => {
-                opened.version.facts();
-                Ok(TreeState {
-                    alloc,
-                    store,
-                    config,
-                    memtables: Memtables::new(alloc, 0),
-                    history: SuperVersions::new(alloc, opened.version),
-                    next_memtable: SequenceNumberCounter::new(1),
-                    next_table: SequenceNumberCounter::new(opened.next_table_id),
-                    seqno: SequenceNumberCounter::new(config.seqno),
-                    visible_seqno: SequenceNumberCounter::new(config.visible_seqno),
-                })
-            }
+        match look_for_files(alloc, &mut store) {
+            Ok(files) => Ok(Found {
+                alloc,
+                store,
+                files,
+            }),
             Err(error) => Err((error, store)),
         }
     }

@@ -1,5 +1,5 @@
 // The tree's reads.
-ghost use Rattle.std.specs.Prelude.{◌≡◌, ℕ, ◌↔◌, ◌⊎◌, Option, None, Some, is_some, option_map, map, reverse, option_copied, IfOk};
+ghost use Rattle.std.specs.Prelude.{◌≡◌, Option, None, Some, is_some, option_map, map, reverse, option_copied, IfOk};
 ghost use Rattle.lsm_below.specs.Entries.{value_of as value_given};
 ghost use Rattle.lsm_model.specs.Views.{found_at, sources, walk as walk_sources, shown as value_shown};
 ghost use Rattle.lsm_below.specs.Keys.{Bytes};

@@ -1,15 +1,13 @@
 // The tree: memtables by id, a history of super versions, and its counters.
-ghost use Rattle.std.specs.Prelude.{◌≡◌, ℕ, ◌+◌, ◌≤◌, ◌↔◌, ◌⊎◌, [], None, Some, IfOk, IfErr, OnErr, IsErrOf};
+ghost use Rattle.std.specs.Prelude.{◌≡◌, ◌+◌, ◌≤◌, ◌↔◌, ◌⊎◌, [], None, Some, IfOk, IfErr, OnErr, IsErrOf};
 ghost use Rattle.std.specs.Borrow.{sem};
 ghost use Rattle.lsm_parts.specs.History.{found_version};
 ghost use Rattle.lsm_state.specs.Held.{first_entries};
 
 use crate::Memtables;
 use lsm_below::{MemtableId, SeqNo};
-use lsm_parts::{
-    Config, Error, LIMIT, SequenceNumberCounter, SuperVersion, SuperVersions, Version,
-};
-use lsm_store::{NoStore, Store};
+use lsm_parts::{Config, Error, LIMIT, SequenceNumberCounter, SuperVersion, SuperVersions};
+use lsm_store::{MemStore, Store};
 use std::alloc::Global;
 use std::marker::Model;
 
@@ -18,12 +16,13 @@ use std::marker::Model;
 /// # Examples
 ///
 /// ```text
-/// let mut tree = TreeState::open_in_memory(alloc, Config::new(0, 0, 0));
+/// let opened = TreeState::open(alloc, Config::new(0, 0, 0), MemStore::new(alloc));
+/// let mut tree = opened.map_err(|refused| refused.0)?;
 /// let number = tree.write(vec![in alloc; (key, Op::Set(value))]?)?;
 /// let found = tree.get(b"key", number + 1)?;
 /// ```
 #[derive(Drop)]
-pub struct TreeState<S: Store = NoStore> {
+pub struct TreeState<S: Store = MemStore> {
     pub(crate) alloc: Global,
     pub(crate) store: S,
     pub(crate) config: Config,
@@ -44,30 +43,6 @@ impl<S: Store> Model for TreeState<S> {
     ghost view = { λ t. record { store = t.store; core = record { config = t.config; memtables = t.memtables; history = t.history; next_memtable = t.next_memtable; next_table = t.next_table; seqno = t.seqno; visible_seqno = t.visible_seqno } } };
 
     ghost invariant = { λ t. KeepsIds t.memtables t.history t.next_memtable };
-}
-
-impl TreeState<NoStore> {
-    ghost use Rattle.lsm_model.specs.Steps.{IsOpened};
-    ghost use Rattle.std.specs.FinMap.{empty};
-    ghost use Rattle.lsm_state.specs.Core.{fresh_core, state_of};
-
-    /// An empty tree in memory, whose counters start where the configuration says.
-    pub fn open_in_memory(alloc: Global, config: Config) -> TreeState<NoStore>
-        ensures core { result.core ≡ fresh_core config }
-        ensures opened { IsOpened [] empty (state_of [] result.core) }
-    {
-        TreeState {
-            alloc,
-            store: NoStore,
-            config,
-            memtables: Memtables::new(alloc, 0),
-            history: SuperVersions::new(alloc, Version::new(alloc, 0)),
-            next_memtable: SequenceNumberCounter::new(1),
-            next_table: SequenceNumberCounter::new(0),
-            seqno: SequenceNumberCounter::new(config.seqno),
-            visible_seqno: SequenceNumberCounter::new(config.visible_seqno),
-        }
-    }
 }
 
 impl<S: Store> TreeState<S> {

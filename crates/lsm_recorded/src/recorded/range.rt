@@ -1,12 +1,13 @@
 // Reads of many keys that a journal keeps.
-ghost use Rattle.std.specs.Prelude.{◌≡◌, [], ◌∷◌, ◌++◌, map, IfOk, IfErr, OnErr};
-ghost use Rattle.std.specs.FinMap.{empty};
+ghost use Rattle.std.specs.Prelude.{◌≡◌, ◌≤◌, [], ◌∷◌, map, IfOk, IfErr, OnErr};
+ghost use Rattle.lsm_below.specs.Entries.{above};
+ghost use Rattle.lsm_model.specs.Views.{held};
+ghost use Rattle.lsm_model.specs.Beginnings.{shown_by};
 ghost use Rattle.lsm_model.specs.Journal.{IsKept, ReadAgrees};
 ghost use Rattle.lsm_model.specs.declared.journal.JournalEntry.TheVariants.{Read as ReadEntry};
 ghost use Rattle.lsm_model.specs.declared.question.Question.TheVariants.{Between, Prefix};
 ghost use Rattle.lsm_model.specs.declared.question.Answer.TheVariants.{Pairs as PairsAnswer};
 ghost use Rattle.lsm_parts.specs.Guards.{pair_of};
-ghost use Rattle.lsm_state.specs.Calls.{RefusesRead};
 ghost use Rattle.lsm_state.specs.Ranges.{IsListStep};
 ghost use Rattle.lsm_recorded.specs.Passes.{Notes};
 ghost use Rattle.lsm_state.specs.Listing.{Lists, ListsPrefix};
@@ -21,6 +22,8 @@ use lsm_store::Store;
 use std::ops::Bound;
 
 impl<S: Store> Recorded<S> {
+    ghost use Rattle.lsm_recorded.specs.Recorded.{RefusesRecorded};
+
     /// The pairs that a snapshot shows in bounds, as `TreeState::range`; and the read is appended to the
     /// journal and the pass, which share one list of the pairs. Outside dropped ranges they are what the replay of the journal has there.
     pub fn range(
@@ -30,14 +33,18 @@ impl<S: Store> Recorded<S> {
         snapshot: SeqNo,
     ) -> Result<Vec<KvPair>, Error>
         ensures core { IfOk result (λ pairs. Lists self.old.tree.core bounds.now.0 bounds.now.1 snapshot pairs.items) }
-        ensures replay { IfOk result (λ pairs. ReadAgrees empty self.old.journal (ReadEntry snapshot (Between bounds.now.0 bounds.now.1) (PairsAnswer pairs.items))) }
+        ensures replay { IfOk result (λ pairs. ReadAgrees (shown_by self.old.opened) self.old.journal (ReadEntry snapshot (Between bounds.now.0 bounds.now.1) (PairsAnswer pairs.items))) }
         ensures noted { IfOk result (λ pairs. Notes (ReadEntry snapshot (Between bounds.now.0 bounds.now.1) (PairsAnswer pairs.items) ∷ []) self.old.journal self.new.journal pass.old pass.new) }
         ensures tree { self.new.tree ≡ self.old.tree }
+        ensures opened { self.new.opened ≡ self.old.opened }
 
         ensures err { OnErr result ((self.new ≡ self.old) × (pass.new ≡ pass.old)) }
-        ensures refuses { RefusesRead self.old.tree.core snapshot result }
-        ensures kept { IsKept snapshot self.old.journal → IfErr result (λ e. e ≡ Error.OutOfMemory) }
+        ensures refuses { RefusesRecorded (above (held self.old.opened)) self.old.tree.core snapshot result }
+        ensures kept { above (held self.old.opened) ≤ snapshot → IsKept snapshot self.old.journal → IfErr result (λ e. e ≡ Error.OutOfMemory) }
     {
+        if snapshot < self.least {
+            return Err(Error::OutOfOrder);
+        }
         let iter = self.core.range(bounds, snapshot, None)?;
         let question = Question::Between(copy_bound(&bounds.0)?, copy_bound(&bounds.1)?);
         self.note_listed(pass, snapshot, question, iter)
@@ -51,14 +58,18 @@ impl<S: Store> Recorded<S> {
         snapshot: SeqNo,
     ) -> Result<Vec<KvPair>, Error>
         ensures core { IfOk result (λ pairs. ListsPrefix self.old.tree.core prefix.now snapshot pairs.items) }
-        ensures replay { IfOk result (λ pairs. ReadAgrees empty self.old.journal (ReadEntry snapshot (Prefix prefix.now) (PairsAnswer pairs.items))) }
+        ensures replay { IfOk result (λ pairs. ReadAgrees (shown_by self.old.opened) self.old.journal (ReadEntry snapshot (Prefix prefix.now) (PairsAnswer pairs.items))) }
         ensures noted { IfOk result (λ pairs. Notes (ReadEntry snapshot (Prefix prefix.now) (PairsAnswer pairs.items) ∷ []) self.old.journal self.new.journal pass.old pass.new) }
         ensures tree { self.new.tree ≡ self.old.tree }
+        ensures opened { self.new.opened ≡ self.old.opened }
 
         ensures err { OnErr result ((self.new ≡ self.old) × (pass.new ≡ pass.old)) }
-        ensures refuses { RefusesRead self.old.tree.core snapshot result }
-        ensures kept { IsKept snapshot self.old.journal → IfErr result (λ e. e ≡ Error.OutOfMemory) }
+        ensures refuses { RefusesRecorded (above (held self.old.opened)) self.old.tree.core snapshot result }
+        ensures kept { above (held self.old.opened) ≤ snapshot → IsKept snapshot self.old.journal → IfErr result (λ e. e ≡ Error.OutOfMemory) }
     {
+        if snapshot < self.least {
+            return Err(Error::OutOfOrder);
+        }
         let iter = self.core.prefix(prefix.as_slice(), snapshot, None)?;
         let question = Question::Prefix(share(prefix)?);
         self.note_listed(pass, snapshot, question, iter)
@@ -73,11 +84,13 @@ impl<S: Store> Recorded<S> {
         question: Question,
         iter: TreeIter,
     ) -> Result<Vec<KvPair>, Error>
-        requires { IsListStep self.old.tree.core question snapshot (map pair_of iter) }
+        requires step { IsListStep self.old.tree.core question snapshot (map pair_of iter) }
+        requires above { above (held self.old.opened) ≤ snapshot }
         ensures pairs { IfOk result (λ pairs. pairs.items ≡ map pair_of iter) }
-        ensures replay { IfOk result (λ pairs. ReadAgrees empty self.old.journal (ReadEntry snapshot question (PairsAnswer pairs.items))) }
+        ensures replay { IfOk result (λ pairs. ReadAgrees (shown_by self.old.opened) self.old.journal (ReadEntry snapshot question (PairsAnswer pairs.items))) }
         ensures noted { IfOk result (λ pairs. Notes (ReadEntry snapshot question (PairsAnswer pairs.items) ∷ []) self.old.journal self.new.journal pass.old pass.new) }
         ensures tree { self.new.tree ≡ self.old.tree }
+        ensures opened { self.new.opened ≡ self.old.opened }
         ensures err { OnErr result ((self.new ≡ self.old) × (pass.new ≡ pass.old)) }
         ensures memory { IfErr result (λ e. e ≡ Error.OutOfMemory) }
     {

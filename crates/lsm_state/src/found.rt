@@ -1,0 +1,84 @@
+// What a store holds of a tree, before anything is changed.
+ghost use Rattle.std.specs.Prelude.{◌≡◌, IfOk};
+ghost use Rattle.lsm_manifest.specs.Recovery.{CountsStore};
+ghost use Rattle.lsm_manifest.specs.Told.{Told, TellsOpen};
+ghost use Rattle.lsm_manifest.specs.Opening.{Opens, LeavesStanding};
+ghost use Rattle.lsm_manifest.specs.Looking.{Looks};
+ghost use Rattle.lsm_state.specs.Core.{opened_core};
+ghost use Rattle.lsm_state.specs.Opened.{files_told, store_left, StartsFrom};
+
+use crate::{Memtables, TreeState};
+use lsm_below::Error;
+use lsm_manifest::{Found as FoundFiles, finish_opening};
+use lsm_parts::{Config, SequenceNumberCounter, SuperVersions, Version};
+use lsm_store::Store;
+use std::alloc::Global;
+
+/// What a store holds of a tree, read and checked, with the store, of which nothing has changed.
+///
+/// ```text
+/// let found = TreeState::look(alloc, store)?;
+/// let tree = found.open(Config::new(0, 0, 0))?;
+/// ```
+#[derive(Drop)]
+pub struct Found<S: Store> {
+    pub(crate) alloc: Global,
+    pub(crate) store: S,
+    pub(crate) files: FoundFiles,
+}
+
+impl<S: Store> Found<S> {
+    /// The version that the tree will have.
+    pub fn version(&self) -> &Version
+        ensures { result.now ≡ self.now.files.opened.version }
+    {
+        &self.files.opened.version
+    }
+
+    /// The store, in exchange.
+    pub fn into_store(self) -> S
+        ensures { result ≡ self.store }
+    {
+        self.store
+    }
+
+    /// The tree of what was found, whose counters start where the configuration says: orphans are removed, or a new
+    /// tree is persisted. Refused, it gives the store back beside the error.
+    ///
+    /// # Errors
+    ///
+    /// `OutOfMemory`, `Store`, and for a new tree `CommitUnknown`.
+    pub fn open(self, config: Config) -> Result<TreeState<S>, (Error, S)>
+        // With the looking before it, from `first` on, it is an opening.
+        ensures opens { S.tells → (first : S) → Looks (S.world first) (S.world self.store) self.files → Told TellsOpen (Opens (S.world first) (S.world (store_left result))) (files_told result) }
+        ensures leaves { S.tells → (first : S) → Looks (S.world first) (S.world self.store) self.files → LeavesStanding (S.world first) (S.world (store_left result)) }
+        ensures core { IfOk result (λ t. t.core ≡ opened_core config self.files.opened.version self.files.opened.next_table_id) }
+        // Its reads are then those of the theory, from what its tables show.
+        ensures starts { IfOk result (λ t. StartsFrom t.core) }
+        ensures counts { Told TellsOpen (CountsStore (S.world self.store) (S.world (store_left result))) (files_told result) }
+    {
+        let Found {
+            alloc,
+            store,
+            files,
+        } = self;
+        let mut store = store;
+        match finish_opening(alloc, &mut store, files) {
+            Ok(opened) => {
+                opened.version.facts();
+                Ok(TreeState {
+                    alloc,
+                    store,
+                    config,
+                    memtables: Memtables::new(alloc, 0),
+                    history: SuperVersions::new(alloc, opened.version),
+                    next_memtable: SequenceNumberCounter::new(1),
+                    next_table: SequenceNumberCounter::new(opened.next_table_id),
+                    seqno: SequenceNumberCounter::new(config.seqno),
+                    visible_seqno: SequenceNumberCounter::new(config.visible_seqno),
+                })
+            }
+            Err(error) => Err((error, store)),
+        }
+    }
+}
