@@ -5,8 +5,8 @@ use crate::orders::Orders;
 use crate::points::{self, Locked, Noted};
 use crate::report::Tally;
 use crate::workloads::{Kind, Order, Wanted};
-use lsm_tree::{Config, Error, Handle, Pass, Recorded, Tree, TreeState};
-use std::alloc::{AllocError, Global};
+use lsm_tree::{Config, Error, Handle, MemStore, Pass, Recorded, Tree, TreeState};
+use std::alloc::Global;
 use std::sync::Wait;
 
 /// A tree of any kind, in memory.
@@ -17,25 +17,32 @@ pub enum AnyTree {
     Recorded(Recorded, Pass),
 }
 
+fn open_state(alloc: Global) -> Result<TreeState, Error> {
+    match TreeState::open(alloc, Config::new(0, 0, 0), MemStore::new(alloc)) {
+        Ok(tree) => Ok(tree),
+        Err((error, _)) => Err(error),
+    }
+}
+
+fn open_recorded(alloc: Global) -> Result<Recorded, Error> {
+    match Recorded::open(alloc, Config::new(0, 0, 0), MemStore::new(alloc)) {
+        Ok(tree) => Ok(tree),
+        Err((error, _)) => Err(error),
+    }
+}
+
 impl AnyTree {
     ghost use Rattle.lsm_bench.specs.Kinds.{kind_of};
 
     /// An empty tree.
-    pub fn open(alloc: Global, kind: Kind) -> Result<AnyTree, AllocError>
+    pub fn open(alloc: Global, kind: Kind) -> Result<AnyTree, Error>
         ensures { IfOk result (λ tree. kind_of tree ≡ kind) }
     {
-        let config = Config::new(0, 0, 0);
-        match kind {
-            Kind::Owned => Ok(AnyTree::Owned(TreeState::open_in_memory(alloc, config))),
-            Kind::Locked => {
-                let core = TreeState::open_in_memory(alloc, config);
-                Ok(AnyTree::Locked(Handle::new(alloc, core)?))
-            }
-            Kind::Recorded => {
-                let core = Recorded::open_in_memory(alloc, config);
-                Ok(AnyTree::Recorded(core, Pass::new(alloc)))
-            }
-        }
+        Ok(match kind {
+            Kind::Owned => AnyTree::Owned(open_state(alloc)?),
+            Kind::Locked => AnyTree::Locked(Handle::new(alloc, open_state(alloc)?)?),
+            Kind::Recorded => AnyTree::Recorded(open_recorded(alloc)?, Pass::new(alloc)),
+        })
     }
 
     /// Its kind.

@@ -4,7 +4,7 @@
 #![tactic(auto)]
 
 use anyhow::Result;
-use lsm_tree::{Config, IterGuard, Op, TreeState, UserKey};
+use lsm_tree::{Config, IterGuard, MemStore, Op, TreeState, UserKey};
 use std::alloc::Global;
 use std::ops::Bound;
 
@@ -33,8 +33,12 @@ fn show(rt: &impl Print, alloc: Global, tree: &mut TreeState) -> Result<()> {
 }
 
 fn main(rt: HostRuntime) -> Result<()> {
-    let mut tree = TreeState::open_in_memory(rt.alloc(), Config::new(0, 0, 0));
-    let told = show(&rt, rt.alloc(), &mut tree);
+    let alloc = rt.alloc();
+    let mut tree = match TreeState::open(alloc, Config::new(0, 0, 0), MemStore::new(alloc)) {
+        Ok(tree) => tree,
+        Err((error, _)) => return Err(error.into()),
+    };
+    let told = show(&rt, alloc, &mut tree);
     drop(tree);
     told
 }

@@ -1,5 +1,4 @@
 pub mod BoundWords
-pub mod Number
 pub mod Parts
 pub mod Commands
 pub mod Spelling

@@ -7,11 +7,11 @@ use Rattle.std.specs.Prelude.{codes, option_map}
 use Rattle.lsm_shell.specs.declared.command.Command.{Command}
 use Rattle.lsm_shell.specs.declared.command.Command.TheVariants.{Put, Del, Weak, Get, Range, Prefix, Rotate}
 use Rattle.lsm_shell.specs.Bounds.{lower_of, upper_of, prefix_of, lower_word, upper_word, prefix_word}
-use Rattle.lsm_shell.specs.Word.{is_word, parts_of, words_of, number_of}
+use Rattle.lsm_shell.specs.Word.{is_word, parts_of, words_of}
 use Rattle.lsm_shell.specs.Command.{command_of, command_of_words, command_of_key, command_of_pair}
 use Rattle.lsm_shell.specs.Spelling.{spelling_of, HasFitNumber, Spells, IsSpelledBy}
 use Rattle.lsm_shell.proofs.BoundWords.{lower_written, upper_written, prefix_written, lower_of-word, upper_of-word, prefix_of-word}
-use Rattle.lsm_shell.proofs.Number.{number_is, number_of-decimal}
+use Rattle.lsm_below.specs.Numbers.{plain_number, plain_number-is, plain_number-decimal}
 use Rattle.lsm_shell.proofs.Parts.{is_space, both, no_space, parts_of-word, words_are, words_in}
 
 -- ---- what words ask is spelled by them
@@ -41,40 +41,40 @@ two_words : (v key : List ℕ) (p : Bool) → is_word key ≡ true → bytes_eq 
 two_words v key true word ep = (ap (λ u. u ∷ key ∷ []) (same v _ ep) ∙ prefix_words key [] word, tt)
 two_words v key false word ep = of_key v key _ _ _ refl refl refl
 
-with_snapshot : (v key last : List ℕ) (n : Option ℕ) → number_of last ≡ n → v ≡ codes "get" → IfSome (option_map (λ s. Get key (Some s)) n) (AreWordsOf (v ∷ key ∷ last ∷ []))
+with_snapshot : (v key last : List ℕ) (n : Option ℕ) → plain_number last ≡ n → v ≡ codes "get" → IfSome (option_map (λ s. Get key (Some s)) n) (AreWordsOf (v ∷ key ∷ last ∷ []))
 with_snapshot v key last None e is_get = tt
 with_snapshot v key last (Some n) e is_get =
-    let k = number_is last n e in
+    let k = plain_number-is last n e in
     (ap (λ u. u ∷ key ∷ last ∷ []) is_get ∙ ap (λ u. codes "get" ∷ key ∷ u ∷ []) k.1, k.0)
 
 -- a range is spelled by the words that gave its bounds
 range_words : (low high : List ℕ) (more : List (List ℕ)) → codes "range" ∷ low ∷ high ∷ more ≡ codes "range" ∷ lower_word (lower_of low) ∷ upper_word (upper_of high) ∷ more
 range_words low high more = rw (lower_written low, upper_written high) refl
 
-prefix_with_snapshot : (v key last : List ℕ) (n : Option ℕ) → is_word key ≡ true → number_of last ≡ n → v ≡ codes "prefix" → IfSome (option_map (λ s. Prefix (prefix_of key) (Some s)) n) (AreWordsOf (v ∷ key ∷ last ∷ []))
+prefix_with_snapshot : (v key last : List ℕ) (n : Option ℕ) → is_word key ≡ true → plain_number last ≡ n → v ≡ codes "prefix" → IfSome (option_map (λ s. Prefix (prefix_of key) (Some s)) n) (AreWordsOf (v ∷ key ∷ last ∷ []))
 prefix_with_snapshot v key last None word e is_prefix = tt
 prefix_with_snapshot v key last (Some n) word e is_prefix =
-    let k = number_is last n e in
+    let k = plain_number-is last n e in
     (ap (λ u. u ∷ key ∷ last ∷ []) is_prefix ∙ (ap (λ u. codes "prefix" ∷ key ∷ u ∷ []) k.1 ∙ prefix_words key (decimal n ∷ []) word), k.0)
 
-of_pair : (v key last : List ℕ) (p g r : Bool) → bytes_eq v (codes "put") ≡ p → bytes_eq v (codes "get") ≡ g → bytes_eq v (codes "range") ≡ r → IfSome (cond p (Some (Put key last)) (cond g (option_map (λ s. Get key (Some s)) (number_of last)) (cond r (Some (Range (lower_of key) (upper_of last) None)) None))) (AreWordsOf (v ∷ key ∷ last ∷ []))
+of_pair : (v key last : List ℕ) (p g r : Bool) → bytes_eq v (codes "put") ≡ p → bytes_eq v (codes "get") ≡ g → bytes_eq v (codes "range") ≡ r → IfSome (cond p (Some (Put key last)) (cond g (option_map (λ s. Get key (Some s)) (plain_number last)) (cond r (Some (Range (lower_of key) (upper_of last) None)) None))) (AreWordsOf (v ∷ key ∷ last ∷ []))
 of_pair v key last true g r ep eg er = (ap (λ u. u ∷ key ∷ last ∷ []) (same v _ ep), tt)
-of_pair v key last false true r ep eg er = with_snapshot v key last (number_of last) refl (same v _ eg)
+of_pair v key last false true r ep eg er = with_snapshot v key last (plain_number last) refl (same v _ eg)
 of_pair v key last false false true ep eg er = (ap (λ u. u ∷ key ∷ last ∷ []) (same v _ er) ∙ range_words key last [], tt)
 of_pair v key last false false false ep eg er = tt
 
-three_words : (v key last : List ℕ) (x : Bool) → is_word key ≡ true → bytes_eq v (codes "prefix") ≡ x → IfSome (cond x (option_map (λ s. Prefix (prefix_of key) (Some s)) (number_of last)) (command_of_pair v key last)) (AreWordsOf (v ∷ key ∷ last ∷ []))
-three_words v key last true word ex = prefix_with_snapshot v key last (number_of last) word refl (same v _ ex)
+three_words : (v key last : List ℕ) (x : Bool) → is_word key ≡ true → bytes_eq v (codes "prefix") ≡ x → IfSome (cond x (option_map (λ s. Prefix (prefix_of key) (Some s)) (plain_number last)) (command_of_pair v key last)) (AreWordsOf (v ∷ key ∷ last ∷ []))
+three_words v key last true word ex = prefix_with_snapshot v key last (plain_number last) word refl (same v _ ex)
 three_words v key last false word ex = of_pair v key last _ _ _ refl refl refl
 
-range_with_snapshot : (v low high last : List ℕ) (n : Option ℕ) → number_of last ≡ n → v ≡ codes "range" → IfSome (option_map (λ s. Range (lower_of low) (upper_of high) (Some s)) n) (AreWordsOf (v ∷ low ∷ high ∷ last ∷ []))
+range_with_snapshot : (v low high last : List ℕ) (n : Option ℕ) → plain_number last ≡ n → v ≡ codes "range" → IfSome (option_map (λ s. Range (lower_of low) (upper_of high) (Some s)) n) (AreWordsOf (v ∷ low ∷ high ∷ last ∷ []))
 range_with_snapshot v low high last None e is_range = tt
 range_with_snapshot v low high last (Some n) e is_range =
-    let k = number_is last n e in
+    let k = plain_number-is last n e in
     (ap (λ u. u ∷ low ∷ high ∷ last ∷ []) is_range ∙ (ap (λ u. codes "range" ∷ low ∷ high ∷ u ∷ []) k.1 ∙ range_words low high (decimal n ∷ [])), k.0)
 
-four_words : (v low high last : List ℕ) (r : Bool) → bytes_eq v (codes "range") ≡ r → IfSome (cond r (option_map (λ s. Range (lower_of low) (upper_of high) (Some s)) (number_of last)) None) (AreWordsOf (v ∷ low ∷ high ∷ last ∷ []))
-four_words v low high last true er = range_with_snapshot v low high last (number_of last) refl (same v _ er)
+four_words : (v low high last : List ℕ) (r : Bool) → bytes_eq v (codes "range") ≡ r → IfSome (cond r (option_map (λ s. Range (lower_of low) (upper_of high) (Some s)) (plain_number last)) None) (AreWordsOf (v ∷ low ∷ high ∷ last ∷ []))
+four_words v low high last true er = range_with_snapshot v low high last (plain_number last) refl (same v _ er)
 four_words v low high last false er = tt
 
 -- the second of the words is a word
@@ -132,19 +132,19 @@ asked_by_words (Put key value) h all = (omega arith, refl)
 asked_by_words (Del key) h all = (omega arith, refl)
 asked_by_words (Weak key) h all = (omega arith, refl)
 asked_by_words (Get key None) h all = (omega arith, refl)
-asked_by_words (Get key (Some n)) h all = (omega arith, ap (option_map (λ s. Get key (Some s))) (number_of-decimal (decimal n) n h refl))
+asked_by_words (Get key (Some n)) h all = (omega arith, ap (option_map (λ s. Get key (Some s))) (plain_number-decimal (decimal n) n h refl))
 asked_by_words (Range low high None) h all =
     let words = range_bounds (codes "range") (lower_word low) (upper_word high) [] all in
     (omega arith, rw (lower_of-word low words.0, upper_of-word high words.1) refl)
 asked_by_words (Range low high (Some n)) h all =
     let words = range_bounds (codes "range") (lower_word low) (upper_word high) (decimal n ∷ []) all in
-    (omega arith, rw (lower_of-word low words.0, upper_of-word high words.1, number_of-decimal (decimal n) n h refl) refl)
+    (omega arith, rw (lower_of-word low words.0, upper_of-word high words.1, plain_number-decimal (decimal n) n h refl) refl)
 asked_by_words (Prefix prefix None) h all =
     let word = second_is (codes "prefix") (prefix_word prefix) [] all in
     (omega arith, rw (prefix_of-word prefix word) refl)
 asked_by_words (Prefix prefix (Some n)) h all =
     let word = second_is (codes "prefix") (prefix_word prefix) (decimal n ∷ []) all in
-    (omega arith, rw (prefix_of-word prefix word, number_of-decimal (decimal n) n h refl) refl)
+    (omega arith, rw (prefix_of-word prefix word, plain_number-decimal (decimal n) n h refl) refl)
 asked_by_words Rotate h all = (omega arith, refl)
 
 asked : (line : List ℕ) (c : Command) → Spells line c → command_of line ≡ Some c

@@ -1,7 +1,8 @@
 -- What a line asks.
 use Rattle.std.specs.Prelude.{ℕ, List, [], ◌∷◌, Option, Some, None, codes, bytes_eq, option_map, option_and_then, if◌then◌else◌}
 use Rattle.lsm_shell.specs.Bounds.{lower_of, upper_of, prefix_of}
-use Rattle.lsm_shell.specs.Word.{words_of, number_of}
+use Rattle.lsm_below.specs.Numbers.{plain_number}
+use Rattle.lsm_shell.specs.Word.{words_of}
 use Rattle.lsm_shell.specs.declared.command.Command.{Command}
 use Rattle.lsm_shell.specs.declared.command.Command.TheVariants.{Put, Del, Weak, Get, Range, Prefix, Rotate}
 
@@ -27,20 +28,20 @@ command_of_two verb key =
 abbrev pub command_of_pair : List ℕ → List ℕ → List ℕ → Option Command
 command_of_pair verb key last =
     if bytes_eq verb (codes "put") then Some (Put key last)
-    else if bytes_eq verb (codes "get") then option_map (λ n. Get key (Some n)) (number_of last)
+    else if bytes_eq verb (codes "get") then option_map (λ n. Get key (Some n)) (plain_number last)
     else if bytes_eq verb (codes "range") then Some (Range (lower_of key) (upper_of last) None)
     else None
 
 -- what a line of three words asks
 abbrev pub command_of_three : List ℕ → List ℕ → List ℕ → Option Command
 command_of_three verb key last =
-    if bytes_eq verb (codes "prefix") then option_map (λ n. Prefix (prefix_of key) (Some n)) (number_of last)
+    if bytes_eq verb (codes "prefix") then option_map (λ n. Prefix (prefix_of key) (Some n)) (plain_number last)
     else command_of_pair verb key last
 
 -- what a line of four words asks
 abbrev pub command_of_four : List ℕ → List ℕ → List ℕ → List ℕ → Option Command
 command_of_four verb low high last =
-    if bytes_eq verb (codes "range") then option_map (λ n. Range (lower_of low) (upper_of high) (Some n)) (number_of last)
+    if bytes_eq verb (codes "range") then option_map (λ n. Range (lower_of low) (upper_of high) (Some n)) (plain_number last)
     else None
 
 -- what these words ask

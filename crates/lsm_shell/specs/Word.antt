@@ -1,7 +1,6 @@
--- Words, numbers, and the words of a line.
-use Rattle.std.specs.Prelude.{ℕ, ◌^◌, Bool, ◌&&◌, List, length, Option, Some, None, bytes_eq, decimal, nat_le, nat_lt, ◌==◌, if◌then◌else◌}
+-- Words, and the words of a line.
+use Rattle.std.specs.Prelude.{ℕ, Bool, ◌&&◌, List, length, Option, Some, None, nat_le, nat_lt, ◌==◌, if◌then◌else◌}
 use Rattle.std.specs.List.{list_all, slice_split}
-use Rattle.std.specs.Str.Parse.{digits_value}
 
 -- may the byte stand in a word?
 abbrev pub is_word_byte : ℕ → Bool
@@ -18,9 +17,3 @@ parts_of line = slice_split (λ b. b == 32) line
 -- the words of a line: what stands between its spaces, if each such part is a word
 unfoldable pub words_of : List ℕ → Option (List (List ℕ))
 words_of line = if list_all is_word (parts_of line) then Some (parts_of line) else None
-
--- the number below 2^64 that a word writes in plain decimal
-unfoldable pub number_of : List ℕ → Option ℕ
-number_of w =
-    let n = digits_value 10 w in
-    if nat_lt n (2 ^ 64) && bytes_eq w (decimal n) then Some n else None

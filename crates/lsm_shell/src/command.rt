@@ -2,14 +2,14 @@
 ghost use Rattle.std.specs.Prelude.{◌≡◌, IfOk, bytes_eq, codes, option_map, Some};
 ghost use Rattle.lsm_shell.specs.Command.{command_of, command_of_key, command_of_two, command_of_pair, command_of_three, command_of_four};
 ghost use Rattle.lsm_shell.specs.Bounds.{prefix_of};
-ghost use Rattle.lsm_shell.specs.Word.{number_of};
+ghost use Rattle.lsm_below.specs.Numbers.{plain_number};
 ghost use Rattle.lsm_shell.specs.declared.command.Command.TheVariants.{Prefix};
 ghost use Rattle.lsm_shell.specs.Spelling.{IsSpelledBy};
 
 use crate::bounds::{parse_lower, parse_prefix, parse_upper};
-use crate::word::{Words, parse_number, split_words};
+use crate::word::{Words, split_words};
 use bytes::Bytes;
-use lsm_below::{SeqNo, UserKey, UserValue};
+use lsm_below::{SeqNo, UserKey, UserValue, parse_number};
 use std::alloc::{AllocError, Global};
 use std::ops::Bound;
 
@@ -90,7 +90,7 @@ fn parse_three(
 }
 
 fn parse_prefix_at(alloc: Global, prefix: &[u8], last: &[u8]) -> Result<Option<Command>, AllocError>
-    ensures { IfOk result (λ found. found ≡ option_map (λ n. Prefix (prefix_of prefix.now) (Some n)) (number_of last.now)) }
+    ensures { IfOk result (λ found. found ≡ option_map (λ n. Prefix (prefix_of prefix.now) (Some n)) (plain_number last.now)) }
 {
     let Some(snapshot) = parse_number(last) else {
         return Ok(None);

@@ -2,24 +2,30 @@
 use crate::command::{Command, parse};
 use crate::reply::Reply;
 use lsm_below::{SeqNo, UserKey};
-use lsm_tree::{Config, Error, Op, Pass, Recorded};
+use lsm_tree::{Config, Error, Op, Pass, Recorded, Store};
 use std::alloc::Global;
 use std::ops::Bound;
 
-/// A tree that answers lines.
-#[derive(Drop)]
-pub struct Session {
-    alloc: Global,
-    tree: Recorded,
+/// The tree that a store holds, or a new one. Its counters stand above each sequence number that the store holds.
+pub fn open_tree<S: Store>(alloc: Global, store: S) -> Result<Recorded<S>, Error> {
+    match Recorded::open(alloc, Config::new(0, 0, 0), store) {
+        Ok(tree) => Ok(tree),
+        Err((error, _)) => Err(error),
+    }
 }
 
-impl Session {
-    /// A session over an empty tree in memory.
-    pub fn in_memory(alloc: Global) -> Session {
-        Session {
-            alloc,
-            tree: Recorded::open_in_memory(alloc, Config::new(0, 0, 0)),
-        }
+/// A tree that answers lines.
+#[derive(Drop)]
+pub struct Session<S: Store> {
+    alloc: Global,
+    tree: Recorded<S>,
+}
+
+impl<S: Store> Session<S> {
+    /// A session over the tree that a store holds, or a new one.
+    pub fn open(alloc: Global, store: S) -> Result<Session<S>, Error> {
+        let tree = open_tree(alloc, store)?;
+        Ok(Session { alloc, tree })
     }
 
     /// Does what the line asks, and says what came of it.

@@ -7,8 +7,9 @@ use crate::arguments::{Mode, parse_arguments};
 use crate::reply::Reply;
 use crate::session::Session;
 use crate::threads::call_all;
-use lsm_tree::Error;
+use lsm_tree::{Error, FolderStore, MemStore, Store, StoreError};
 use std::alloc::Global;
+use std::fs::Files;
 use std::io::{self, BufRead, BufReader, BufWriter, ErrorKind, Read, Write};
 use std::sync::Wait;
 use std::thread::Threads;
@@ -21,9 +22,10 @@ const USAGE: u8 = 2;
 
 /// Does what the arguments ask, and gives the status to end with.
 ///
-/// Without arguments it answers the lines of the input on the output: 0 at the end of the input, 1 after
-/// a fault of the input or the output. With `threads N` it starts N callers on one tree: 0 where each read
-/// what it wrote, else 1. With any other arguments, 2; `arguments` is None where one of them is no text.
+/// Without arguments it answers the lines of the input on the output, from a tree over a store in memory, and with one
+/// that isn't empty from a tree over that folder: 0 at the end of the input, 1 after a fault of the input or the output,
+/// or where the tree can't be opened, which it prints. With `threads N` it starts N callers on one tree: 0 where each
+/// read what it wrote, else 1. With any other arguments, 2; `arguments` is None where one of them is no text.
 ///
 /// Where a line finds no memory, its answer says so, and the run goes on with the next line. Where
 /// the buffers of the input or the output find none, the status is 1.
@@ -36,53 +38,100 @@ pub fn run_shell<P, R, W, E>(
     mut errors: E,
 ) -> u8
 where
-    P: Threads + Wait + Sync,
+    P: Threads + Wait + Sync + Files + Alloc + Clone + Drop,
     R: Read + Drop,
     W: Write + Drop,
     E: Write + Drop,
 {
     let Some(mode) = arguments.and_then(parse_arguments) else {
         // Nothing is left to be told where even this line can't be written.
-        let _ = errors.write_all(b"usage: lsm_shell [threads N]\n");
+        let _ = errors.write_all(b"usage: lsm_shell [FOLDER | threads N]\n");
         return USAGE;
     };
     let told = match mode {
-        Mode::Lines => answer_lines(alloc, input, output),
-        Mode::Threads(callers) => return report_callers(rt, alloc, callers, output),
+        Mode::Memory => {
+            let opened = Session::open(alloc, MemStore::new(alloc));
+            answer_lines(alloc, opened, input, output)
+        }
+        Mode::Folder(folder) => {
+            let opened = open_folder(rt, alloc, folder);
+            answer_lines(alloc, opened, input, output)
+        }
+        Mode::Threads(callers) => report_callers(rt, alloc, callers, output),
     };
-    match told {
-        Ok(()) => SUCCESS,
-        Err(_) => FAULT,
+    told.unwrap_or(FAULT)
+}
+
+/// A session over the tree of a folder, which is made where it is absent.
+fn open_folder<P>(rt: &P, alloc: Global, folder: &str) -> Result<Session<FolderStore<P>>, Error>
+where
+    P: Files + Alloc + Clone + Drop,
+{
+    match FolderStore::new(rt, alloc, folder) {
+        Ok(store) => Session::open(alloc, store),
+        Err(StoreError::OutOfMemory) => Err(Error::OutOfMemory),
+        Err(StoreError::Fault) => Err(Error::Store),
     }
 }
 
 /// Starts the callers, prints what came of it, and gives the status.
-fn report_callers<P, W>(rt: &P, alloc: Global, callers: u8, mut output: W) -> u8
+fn report_callers<P, W>(rt: &P, alloc: Global, callers: u8, mut output: W) -> io::Result<u8>
 where
     P: Threads + Wait + Sync,
     W: Write + Drop,
 {
-    let (printed, status) = match call_all(rt, alloc, callers) {
-        Ok(Some(entries)) => (
-            writeln!(output, "threads {callers} entries {entries} all equal"),
-            SUCCESS,
-        ),
-        Ok(None) | Err(_) => (writeln!(output, "threads {callers} wrong"), FAULT),
+    let status = match call_all(rt, alloc, callers) {
+        Ok(Some(entries)) => {
+            writeln!(output, "threads {callers} entries {entries} all equal")?;
+            SUCCESS
+        }
+        Ok(None) | Err(_) => {
+            writeln!(output, "threads {callers} wrong")?;
+            FAULT
+        }
     };
-    match printed.and_then(|()| output.flush()) {
-        Ok(()) => status,
-        Err(_) => FAULT,
+    output.flush()?;
+    Ok(status)
+}
+
+/// Answers lines from what was opened, or says why nothing was.
+fn answer_lines<S, R, W>(
+    alloc: Global,
+    opened: Result<Session<S>, Error>,
+    input: R,
+    output: W,
+) -> io::Result<u8>
+where
+    S: Store,
+    R: Read + Drop,
+    W: Write + Drop,
+{
+    let mut output = BufWriter::new(alloc, output)?;
+    match opened {
+        Ok(mut session) => {
+            answer_each(alloc, &mut session, input, &mut output)?;
+            Ok(SUCCESS)
+        }
+        Err(error) => {
+            Reply::Refused(error).write_to(&mut output)?;
+            output.flush()?;
+            Ok(FAULT)
+        }
     }
 }
 
-fn answer_lines<R, W>(alloc: Global, input: R, output: W) -> io::Result<()>
+fn answer_each<S, R, W>(
+    alloc: Global,
+    session: &mut Session<S>,
+    input: R,
+    output: &mut BufWriter<W>,
+) -> io::Result<()>
 where
+    S: Store,
     R: Read + Drop,
     W: Write + Drop,
 {
     let mut input = BufReader::new(alloc, input)?;
-    let mut output = BufWriter::new(alloc, output)?;
-    let mut session = Session::in_memory(alloc);
     let mut line = Vec::new(alloc);
     for _ in 0..u64::MAX {
         // Whoever writes the lines may wait for the answers to the earlier ones. So the output is
@@ -101,7 +150,7 @@ where
             }
             Err(error) => return Err(error),
         };
-        reply.write_to(&mut output)?;
+        reply.write_to(output)?;
     }
     output.flush()
 }

@@ -1,7 +1,10 @@
 // What is printed, and how a run ends.
 use crate::shell::run_shell;
+use bytes::Bytes;
+use lsm_tree::{Error, FolderStore, Store, StoreError, Table, Version, persist_version};
 use std::alloc::{AllocError, Global};
 use std::cell::Cell;
+use std::fs::{self, Files};
 use std::io::{self, ErrorKind, Read, Write};
 use std::sync::Wait;
 use std::test::Fail;
@@ -86,13 +89,17 @@ const OTHERS: [&[u8]; 25] = [
 ];
 
 /// Whether a run prints this, writes that to the errors, and ends with the status.
-fn ends<R: Threads + Wait + Sync, I: Read + Drop>(
+fn ends<R, I>(
     rt: &R,
     alloc: Global,
     arguments: Option<&[String]>,
     input: I,
     told: (&[u8], &[u8], u8),
-) -> bool {
+) -> bool
+where
+    R: Threads + Wait + Sync + Files + Alloc + Clone + Drop,
+    I: Read + Drop,
+{
     let mut printed = Vec::new(alloc);
     let mut errors = Vec::new(alloc);
     let status = run_shell(rt, alloc, arguments, input, &mut printed, &mut errors);
@@ -100,7 +107,10 @@ fn ends<R: Threads + Wait + Sync, I: Read + Drop>(
 }
 
 /// Whether a run without arguments prints this for the input, and ends with 0.
-fn prints<R: Threads + Wait + Sync>(rt: &R, alloc: Global, input: &[u8], printed: &[u8]) -> bool {
+fn prints<R>(rt: &R, alloc: Global, input: &[u8], printed: &[u8]) -> bool
+where
+    R: Threads + Wait + Sync + Files + Alloc + Clone + Drop,
+{
     ends(rt, alloc, Some(&[]), input, (printed, b"", 0))
 }
 
@@ -111,11 +121,10 @@ fn push_line(text: &mut Vec<u8>, line: &[u8]) -> Result<(), AllocError> {
 }
 
 /// Whether a run prints for each line what its row says.
-fn answers<R: Threads + Wait + Sync>(
-    rt: &R,
-    alloc: Global,
-    rows: &[Row],
-) -> Result<bool, AllocError> {
+fn answers<R>(rt: &R, alloc: Global, rows: &[Row]) -> Result<bool, AllocError>
+where
+    R: Threads + Wait + Sync + Files + Alloc + Clone + Drop,
+{
     let mut input = Vec::new(alloc);
     let mut printed = Vec::new(alloc);
     for (line, answer) in rows {
@@ -177,22 +186,21 @@ fn arguments_of(alloc: Global, text: &str) -> Result<Vec<String>, AllocError> {
 }
 
 /// What is told of arguments that ask nothing.
-const USAGE: (&[u8], &[u8], u8) = (b"", b"usage: lsm_shell [threads N]\n", 2);
+const USAGE: (&[u8], &[u8], u8) = (b"", b"usage: lsm_shell [FOLDER | threads N]\n", 2);
 
 #[test]
 fn takes_arguments(rt: HostRuntime) -> Result<(), Fail> {
-    let table: [(&str, (&[u8], &[u8], u8)); 11] = [
+    let table: [(&str, (&[u8], &[u8], u8)); 10] = [
         ("threads 1", (b"threads 1 entries 20 all equal\n", b"", 0)),
         ("threads 2", (b"threads 2 entries 40 all equal\n", b"", 0)),
         ("threads 4", (b"threads 4 entries 80 all equal\n", b"", 0)),
-        ("folder", USAGE),
-        ("threads", USAGE),
         ("threads 0", USAGE),
         ("threads 65", USAGE),
         ("threads 02", USAGE),
         ("threads +2", USAGE),
         ("threads 2 3", USAGE),
         ("Threads 2", USAGE),
+        ("threads folder", USAGE),
     ];
     let input = b"put a x\nget a\n".as_slice();
     for (line, told) in table {
@@ -202,7 +210,80 @@ fn takes_arguments(rt: HostRuntime) -> Result<(), Fail> {
             "at {line}"
         );
     }
+    let empty = vec![in rt.alloc(); String::new(rt.alloc())]?;
+    assert!(rt; ends(&rt, rt.alloc(), Some(&empty), input, USAGE));
     assert!(rt; ends(&rt, rt.alloc(), None, input, USAGE));
+    Ok(())
+}
+
+const FOLDER: &str = "lsm_shell_test";
+
+/// The content of a table's file: a is x, numbered 0.
+const TABLE: [u8; 37] = [
+    0x4c, 0x53, 0x4d, 0x54, 0, 0, 0, 0, 0, 0, 0, 0, 1, 0, 0, 0, 0, 0, 0, 0, 1, 0, 0, 0, 0, 0, 0, 0,
+    0, 0, 0, 1, 0, 0, 0, 0x61, 0x78,
+];
+
+fn put_table(store: &mut impl Store) -> Result<(), StoreError> {
+    store.write("tables/3", &TABLE)?;
+    store.sync("tables/3")
+}
+
+/// The version of one table in level 0.
+fn version_of_table(alloc: Global) -> Result<Version, Error> {
+    let Ok(table) = Table::recover(alloc, 3, Bytes::from_static(&TABLE)) else {
+        return Err(Error::Unrecoverable);
+    };
+    Version::new(alloc, 4).with_new_l0_run(alloc, &[table])
+}
+
+/// Puts the files of a tree with one table into a store.
+fn fill(alloc: Global, store: &mut impl Store) -> Result<(), Error> {
+    if put_table(store).is_err() {
+        return Err(Error::Store);
+    }
+    persist_version(alloc, store, &version_of_table(alloc)?)
+}
+
+/// Whether a run over a folder prints this for the input, and ends so.
+fn answers_over<R>(
+    rt: &R,
+    alloc: Global,
+    folder: &str,
+    told: (&[u8], u8),
+) -> Result<bool, AllocError>
+where
+    R: Threads + Wait + Sync + Files + Alloc + Clone + Drop,
+{
+    let arguments = vec![in alloc; String::from_str(alloc, folder)?]?;
+    let input = b"get a\nput b y\nrange - -\n".as_slice();
+    Ok(ends(rt, alloc, Some(&arguments), input, (told.0, b"", told.1)))
+}
+
+#[test]
+fn a_folder_is_read_again(rt: HostRuntime) -> Result<(), Fail> {
+    let alloc = rt.alloc();
+    let _ = fs::remove_dir_all(&rt, FOLDER);
+    let mut store = FolderStore::new(&rt, alloc, FOLDER)?;
+    let filled = fill(alloc, &mut store);
+    assert!(rt; filled.is_ok());
+    // What a session writes is not kept, so each prints the same.
+    let read = b"value x\nok 1\na x\nb y\nend 2\n";
+    assert!(rt; answers_over(&rt, alloc, FOLDER, (read, 0))?);
+    assert!(rt; answers_over(&rt, alloc, FOLDER, (read, 0))?);
+    // What isn't a folder, and a folder of an older format.
+    assert!(rt;
+        answers_over(
+            &rt,
+            alloc,
+            "lsm_shell_test/current",
+            (b"error 2 Store\n", 1)
+        )?
+    );
+    store.write("version", b"2")?;
+    drop(store);
+    assert!(rt; answers_over(&rt, alloc, FOLDER, (b"error 5 InvalidVersion\n", 1))?);
+    fs::remove_dir_all(&rt, FOLDER)?;
     Ok(())
 }
 

@@ -1,6 +1,7 @@
 // Callers in threads of their own, on one tree.
+use crate::session::open_tree;
 use lsm_below::UserKey;
-use lsm_tree::{Config, Error, Handle, Op, Pass, Recorded, RecordedTree};
+use lsm_tree::{Error, Handle, MemStore, Op, Pass, RecordedTree};
 use std::alloc::{AllocError, Global};
 use std::sync::Wait;
 use std::thread::{self, Threads};
@@ -18,7 +19,7 @@ pub fn call_all<R: Threads + Wait + Sync>(
     alloc: Global,
     callers: u8,
 ) -> Result<Option<usize>, Error> {
-    let tree = Handle::new(alloc, Recorded::open_in_memory(alloc, Config::new(0, 0, 0)))?;
+    let tree = Handle::new(alloc, open_tree(alloc, MemStore::new(alloc))?)?;
     let told = thread::map_indices(
         rt,
         alloc,

@@ -1,36 +1,13 @@
-// Words, numbers, and the words of a line.
-ghost use Rattle.std.specs.Prelude.{◌≡◌, ℕ, ◌^◌, ◌<◌, [], ◌∷◌, IfSome, MatchOption, decimal};
-ghost use Rattle.lsm_shell.specs.Word.{is_word, parts_of, words_of, number_of};
+// Words, and the words of a line.
+ghost use Rattle.std.specs.Prelude.{◌≡◌, [], ◌∷◌, MatchOption};
+ghost use Rattle.lsm_shell.specs.Word.{is_word, parts_of, words_of};
 ghost use Rattle.lsm_shell.specs.Words.{list_of_words, HasNoFewWords};
-
-use lsm_below::SeqNo;
 
 /// Whether these bytes are a word: one or more, each from 33 to 126.
 pub fn is_word(bytes: &[u8]) -> bool
     ensures { result ≡ is_word bytes.now }
 {
     !bytes.is_empty() && bytes.iter().all(|byte| matches!(byte, 33..=126))
-}
-
-/// The number that a word is: its plain decimal digits, with no leading 0 and below 2^64.
-pub fn parse_number(word: &[u8]) -> Option<SeqNo>
-    ensures value { result ≡ number_of word.now }
-
-    // So it reads what printing a number writes, and nothing else.
-    ensures printed { IfSome result (λ n. word.now ≡ decimal n) }
-    ensures reads_back { (n : ℕ) → n < 2 ^ 64 → word.now ≡ decimal n → result ≡ Some n }
-{
-    let first = *word.first()?;
-    if !first.is_ascii_digit() {
-        return None;
-    }
-    if first == b'0' && word.len() > 1 {
-        return None;
-    }
-    match str::from_utf8(word) {
-        Ok(digits) => digits.parse().ok(),
-        Err(_) => None,
-    }
 }
 
 /// One to four words.

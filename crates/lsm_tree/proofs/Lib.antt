@@ -1,1 +1,2 @@
 mod OwnOr
+pub mod RecordedReads

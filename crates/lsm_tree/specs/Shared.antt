@@ -1,9 +1,12 @@
 -- Calls of a tree behind a lock: what it was before is not known, nor what it is later.
-use Rattle.std.specs.Prelude.{◌≡◌, ℕ, ◌≤◌, ◌⊎◌, List, [], ◌++◌, None, Result, IfErr, IsErrOf, IsOk}
+use Rattle.std.specs.Prelude.{◌≡◌, ℕ, ◌<◌, ◌≤◌, ◌⊎◌, List, [], ◌++◌, None, Result, IfErr, IsErrOf, IsOk}
 use Rattle.lsm_model.specs.declared.journal.JournalEntry.{JournalEntry}
-use Rattle.lsm_model.specs.Views.{found_at}
+use Rattle.lsm_below.specs.Entries.{above}
+use Rattle.lsm_model.specs.Journal.{Agrees}
+use Rattle.lsm_model.specs.Views.{Placed, held, found_at}
+use Rattle.lsm_model.specs.Beginnings.{shown_by}
 use Rattle.lsm_below.specs.declared.error.Error.{Error}
-use Rattle.lsm_below.specs.declared.error.Error.TheVariants.{OutOfMemory, OutOfNumbers, SnapshotTooOld}
+use Rattle.lsm_below.specs.declared.error.Error.TheVariants.{OutOfMemory, OutOfNumbers, OutOfOrder, SnapshotTooOld}
 use Rattle.lsm_parts.specs.declared.seqno.TheConstants.{LIMIT}
 use Rattle.lsm_state.specs.Core.{Core, latest_of, older_of}
 use Rattle.lsm_state.specs.Held.{first_entries}
@@ -25,7 +28,19 @@ pub record RefusesSharedRead {A : Type 0} (snapshot : ℕ) (r : Result A Error) 
   -- snapshot 0 is never too old
   pub at_zero : snapshot ≡ 0 → IfErr r (λ e. e ≡ OutOfMemory)
 
--- the same of a read that takes no memory
+-- the same of a tree that was opened with its journal: a read is out of order at a snapshot that isn't above all that was opened
+pub record RefusesRecordedRead {A : Type 0} (snapshot : ℕ) (r : Result A Error) : Type 0 where
+  pub only : IfErr r (λ e. (e ≡ OutOfOrder) ⊎ ((e ≡ SnapshotTooOld) ⊎ (e ≡ OutOfMemory)))
+  pub out_of_order : IsErrOf r OutOfOrder → (opened : List Placed) × (snapshot < above (held opened))
+  pub too_old : IsErrOf r SnapshotTooOld → AtSomeTree (λ c. found_at snapshot (latest_of c) (older_of c) ≡ None)
+  -- snapshot 0 is never too old
+  pub at_zero : snapshot ≡ 0 → IfErr r (λ e. (e ≡ OutOfOrder) ⊎ (e ≡ OutOfMemory))
+
+-- each read of a journal agrees with the replay before it, from what some tables show
+abbrev pub AgreesFromSome : List JournalEntry → Type 0
+AgreesFromSome journal = (opened : List Placed) × Agrees (shown_by opened) journal
+
+-- a look is refused as too old, where the tree has no super version for its snapshot
 pub record RefusesSharedLook {A : Type 0} (snapshot : ℕ) (r : Result A Error) : Type 0 where
   pub only : IfErr r (λ e. e ≡ SnapshotTooOld)
   pub too_old : IsErrOf r SnapshotTooOld → AtSomeTree (λ c. found_at snapshot (latest_of c) (older_of c) ≡ None)

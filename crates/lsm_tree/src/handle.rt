@@ -1,9 +1,8 @@
 // Trees that several callers share.
-ghost use Rattle.std.specs.Prelude.{◌≡◌};
 
 use lsm_recorded::Recorded;
 use lsm_state::TreeState;
-use lsm_store::NoStore;
+use lsm_store::MemStore;
 use std::alloc::{AllocError, Global};
 use std::sync::{Arc, Mutex};
 
@@ -15,7 +14,8 @@ use std::sync::{Arc, Mutex};
 /// # Examples
 ///
 /// ```text
-/// let tree = Handle::new(alloc, TreeState::open_in_memory(alloc, Config::new(0, 0, 0)))?;
+/// let core = TreeState::open(alloc, Config::new(0, 0, 0), MemStore::new(alloc)).map_err(|refused| refused.0)?;
+/// let tree = Handle::new(alloc, core)?;
 /// let other = tree.clone()?;
 /// let number = tree.write(&rt, vec![in alloc; (key, Op::Set(value))]?)?;
 /// let found = other.get(&rt, b"a", number + 1)?;
@@ -26,19 +26,20 @@ pub struct Handle<C> {
 }
 
 /// A tree that several callers share.
-pub type Tree<S = NoStore> = Handle<TreeState<S>>;
+pub type Tree<S = MemStore> = Handle<TreeState<S>>;
 
 /// A tree with the journal of its calls, that several callers share; each caller has a `Pass` of its own.
 ///
 /// # Examples
 ///
 /// ```text
-/// let tree = Handle::new(alloc, Recorded::open_in_memory(alloc, Config::new(0, 0, 0)))?;
+/// let core = Recorded::open(alloc, Config::new(0, 0, 0), MemStore::new(alloc)).map_err(|refused| refused.0)?;
+/// let tree = Handle::new(alloc, core)?;
 /// let mut pass = Pass::new(alloc);
 /// tree.write(&rt, &mut pass, vec![in alloc; (key, Op::Set(value))]?)?;
 /// let journal = tree.close(&rt, vec![in alloc; pass]?);
 /// ```
-pub type RecordedTree<S = NoStore> = Handle<Recorded<S>>;
+pub type RecordedTree<S = MemStore> = Handle<Recorded<S>>;
 
 impl<C: Drop + Send> Handle<C> {
     /// The first handle on a tree.

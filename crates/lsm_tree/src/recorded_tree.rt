@@ -1,8 +1,6 @@
 // The calls of a tree with its journal, behind the lock.
-ghost use Rattle.std.specs.Prelude.{◌≡◌, ◌⊎◌, [], ◌∷◌, map, IfOk, IfErr, OnOk, OnErr};
-ghost use Rattle.std.specs.FinMap.{empty};
+ghost use Rattle.std.specs.Prelude.{◌≡◌, [], ◌∷◌, map, IfOk, IfErr, OnOk, OnErr};
 ghost use Rattle.lsm_below.specs.Entries.{plain};
-ghost use Rattle.lsm_model.specs.Journal.{Agrees};
 ghost use Rattle.lsm_model.specs.Ops.{op_entry, op_entries};
 ghost use Rattle.lsm_model.specs.declared.journal.JournalEntry.TheVariants.{Write as WriteEntry, Read as ReadEntry};
 ghost use Rattle.lsm_model.specs.declared.question.Question.TheVariants.{Get as GetQuestion, Between, Prefix};
@@ -11,7 +9,7 @@ ghost use Rattle.lsm_model.specs.declared.op.Op.TheVariants.{Set, Del, Weak};
 ghost use Rattle.lsm_recorded.specs.Closing.{ListTogether};
 ghost use Rattle.lsm_state.specs.Calls.{Appends, WritesBatch, Rotates};
 ghost use Rattle.lsm_recorded.specs.Recorded.{OwnOr};
-ghost use Rattle.lsm_tree.specs.Shared.{OnSomeTree, RefusesSharedRead, RefusesSharedRotation, Puts};
+ghost use Rattle.lsm_tree.specs.Shared.{OnSomeTree, RefusesRecordedRead, AgreesFromSome, RefusesSharedRotation, Puts};
 
 use crate::handle::Handle;
 use lsm_below::{InternalValue, KvPair, MemtableId, SeqNo, UserKey, UserValue};
@@ -33,7 +31,7 @@ impl<S: Store> Handle<Recorded<S>> {
         key: &UserKey,
         snapshot: SeqNo,
     ) -> Result<Option<UserValue>, Error>
-        ensures refused { RefusesSharedRead snapshot result }
+        ensures refused { RefusesRecordedRead snapshot result }
         ensures noted { IfOk result (λ v. Puts (ReadEntry snapshot (GetQuestion key.now) (Found v) ∷ []) pass.old pass.new) }
         ensures err { OnErr result (pass.new ≡ pass.old) }
     {
@@ -51,7 +49,7 @@ impl<S: Store> Handle<Recorded<S>> {
         bounds: &(Bound<UserKey>, Bound<UserKey>),
         snapshot: SeqNo,
     ) -> Result<Vec<KvPair>, Error>
-        ensures refused { RefusesSharedRead snapshot result }
+        ensures refused { RefusesRecordedRead snapshot result }
         ensures noted { IfOk result (λ pairs. Puts (ReadEntry snapshot (Between bounds.now.0 bounds.now.1) (PairsAnswer pairs.items) ∷ []) pass.old pass.new) }
         ensures err { OnErr result (pass.new ≡ pass.old) }
     {
@@ -69,7 +67,7 @@ impl<S: Store> Handle<Recorded<S>> {
         prefix: &UserKey,
         snapshot: SeqNo,
     ) -> Result<Vec<KvPair>, Error>
-        ensures refused { RefusesSharedRead snapshot result }
+        ensures refused { RefusesRecordedRead snapshot result }
         ensures noted { IfOk result (λ pairs. Puts (ReadEntry snapshot (Prefix prefix.now) (PairsAnswer pairs.items) ∷ []) pass.old pass.new) }
         ensures err { OnErr result (pass.new ≡ pass.old) }
     {
@@ -199,7 +197,7 @@ impl<S: Store> Handle<Recorded<S>> {
     /// A copy of the journal, where the passes together list it, else the passes; as `Recorded::close`.
     pub fn close(&self, rt: &impl Wait, passes: Vec<Pass>) -> Result<Vec<JournalEntry>, Vec<Pass>>
         ensures listed { IfOk result (λ j. ListTogether j.items passes.items) }
-        ensures agrees { IfOk result (λ j. Agrees empty j.items) }
+        ensures agrees { IfOk result (λ j. AgreesFromSome j.items) }
         ensures back { IfErr result (λ back. back ≡ passes) }
     {
         self.shared.lock(rt).close(passes)

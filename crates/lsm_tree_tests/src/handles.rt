@@ -2,18 +2,22 @@
 // guards; and that a journal is returned.
 //
 // Helpers borrow the tree, and each test drops it by a call: see the tests of `recorded`.
-use crate::samples::text;
-use lsm_tree::{
-    Config, Error, Handle, InternalValue, Op, Pass, Recorded, RecordedTree, Tree, TreeState,
-};
-use std::alloc::{AllocError, Global};
+use crate::samples::{open_recorded, open_state, text};
+use lsm_tree::{Config, Error, Handle, InternalValue, Op, Pass, RecordedTree, Tree};
+use std::alloc::Global;
 use std::ops::Bound;
 use std::sync::Wait;
 use std::test::Fail;
 use std::thread;
 
-fn open(alloc: Global) -> Result<RecordedTree, AllocError> {
-    Handle::new(alloc, Recorded::open_in_memory(alloc, Config::new(0, 0, 0)))
+fn open(alloc: Global) -> Result<RecordedTree, Error> {
+    open_from(alloc, 0)
+}
+
+/// A tree whose counters start at this number.
+fn open_from(alloc: Global, number: u64) -> Result<RecordedTree, Error> {
+    let core = open_recorded(alloc, Config::new(0, number, number))?;
+    Ok(Handle::new(alloc, core)?)
 }
 
 /// Sets a key to `x`, under the next sequence number.
@@ -214,7 +218,7 @@ fn appends(rt: &impl Wait, tree: &RecordedTree, pass: &mut Pass) -> bool {
 #[test]
 fn writes_take_numbers_of_their_own(rt: HostRuntime) -> Result<(), Fail> {
     let alloc = rt.alloc();
-    let tree = Handle::new(alloc, Recorded::open_in_memory(alloc, Config::new(0, 3, 3)))?;
+    let tree = open_from(alloc, 3)?;
     let mut pass = Pass::new(alloc);
     assert!(rt; writes_three(&rt, &tree, &mut pass));
     assert!(rt; appends(&rt, &tree, &mut pass));
@@ -244,9 +248,8 @@ fn ranges_behind_the_lock_are_listed(rt: HostRuntime) -> Result<(), Fail> {
     Ok(())
 }
 
-fn open_tree(alloc: Global) -> Result<Tree, AllocError> {
-    let core = TreeState::open_in_memory(alloc, Config::new(0, 0, 0));
-    Handle::new(alloc, core)
+fn open_tree(alloc: Global) -> Result<Tree, Error> {
+    Ok(Handle::new(alloc, open_state(alloc)?)?)
 }
 
 /// A value under a drawn sequence number, made visible.

@@ -2,13 +2,14 @@
 //
 // Helpers borrow the tree, and each test drops it by a call. A proof takes a tree that is dropped at the end
 // of a block to all its pieces, and does so once more for each `?` before it.
-use crate::samples::text;
+use crate::samples::{open_recorded, text};
 use lsm_tree::{Config, Error, InternalValue, Op, Pass, Recorded, SeqNo};
 use std::alloc::Global;
 use std::ops::Bound;
+use std::test::Fail;
 
-fn open(alloc: Global, seqno: SeqNo) -> Recorded {
-    Recorded::open_in_memory(alloc, Config::new(0, seqno, seqno))
+fn open(alloc: Global, seqno: SeqNo) -> Result<Recorded, Error> {
+    open_recorded(alloc, Config::new(0, seqno, seqno))
 }
 
 /// Whether a key is set and counts two bytes and 48, of so many in all.
@@ -25,8 +26,8 @@ fn is_out_of_order(tree: &mut Recorded, pass: &mut Pass, key: &'static str, seqn
 }
 
 #[test]
-fn numbers_keep_their_order(rt: HostRuntime) {
-    let mut tree = open(rt.alloc(), 2);
+fn numbers_keep_their_order(rt: HostRuntime) -> Result<(), Fail> {
+    let mut tree = open(rt.alloc(), 2)?;
     let mut pass = Pass::new(rt.alloc());
     assert!(rt; sets(&mut tree, &mut pass, "a", 1, 50));
     // Not above the earlier number of the key, or not below the counter.
@@ -37,6 +38,7 @@ fn numbers_keep_their_order(rt: HostRuntime) {
     assert_eq!(rt; tree.seqno().get(), 2);
     drop(pass);
     drop(tree);
+    Ok(())
 }
 
 fn removes(tree: &mut Recorded, pass: &mut Pass) -> bool {
@@ -53,8 +55,8 @@ fn appends(tree: &mut Recorded, pass: &mut Pass) -> bool {
 }
 
 #[test]
-fn keys_are_removed_in_each_way(rt: HostRuntime) {
-    let mut tree = open(rt.alloc(), 2);
+fn keys_are_removed_in_each_way(rt: HostRuntime) -> Result<(), Fail> {
+    let mut tree = open(rt.alloc(), 2)?;
     let mut pass = Pass::new(rt.alloc());
     assert!(rt; removes(&mut tree, &mut pass));
     assert!(rt; removes_weakly(&mut tree, &mut pass));
@@ -62,6 +64,7 @@ fn keys_are_removed_in_each_way(rt: HostRuntime) {
     assert_eq!(rt; tree.journal().len(), 3);
     drop(pass);
     drop(tree);
+    Ok(())
 }
 
 /// A batch of one write to the key `a`.
@@ -82,8 +85,8 @@ fn may_not_set(alloc: Global, tree: &mut Recorded, pass: &mut Pass) -> bool {
 }
 
 #[test]
-fn a_weakly_removed_key_has_one_value(rt: HostRuntime) {
-    let mut tree = open(rt.alloc(), 0);
+fn a_weakly_removed_key_has_one_value(rt: HostRuntime) -> Result<(), Fail> {
+    let mut tree = open(rt.alloc(), 0)?;
     let mut pass = Pass::new(rt.alloc());
     assert!(rt; writes(rt.alloc(), &mut tree, &mut pass, Op::Weak, 0));
     assert!(rt; writes(rt.alloc(), &mut tree, &mut pass, Op::Set(text("x")), 1));
@@ -91,6 +94,7 @@ fn a_weakly_removed_key_has_one_value(rt: HostRuntime) {
     assert_eq!(rt; tree.visible_seqno().get(), 2);
     drop(pass);
     drop(tree);
+    Ok(())
 }
 
 fn finds_nothing(tree: &mut Recorded, pass: &mut Pass, snapshot: SeqNo) -> bool {
@@ -114,8 +118,8 @@ fn has_places(pass: &Pass, count: u64) -> bool {
 }
 
 #[test]
-fn calls_are_noted_with_their_places(rt: HostRuntime) {
-    let mut tree = open(rt.alloc(), 1);
+fn calls_are_noted_with_their_places(rt: HostRuntime) -> Result<(), Fail> {
+    let mut tree = open(rt.alloc(), 1)?;
     let mut pass = Pass::new(rt.alloc());
     assert!(rt; sets(&mut tree, &mut pass, "a", 0, 50));
     assert!(rt; finds_nothing(&mut tree, &mut pass, 0));
@@ -125,6 +129,7 @@ fn calls_are_noted_with_their_places(rt: HostRuntime) {
     assert!(rt; has_places(&pass, 3));
     drop(pass);
     drop(tree);
+    Ok(())
 }
 
 /// Whether two keys that begin with `a` and one that doesn't are set.
@@ -150,8 +155,8 @@ fn prefixes(tree: &mut Recorded, pass: &mut Pass, prefix: &'static str, count: u
 }
 
 #[test]
-fn ranges_and_prefixes_are_noted(rt: HostRuntime) {
-    let mut tree = open(rt.alloc(), 3);
+fn ranges_and_prefixes_are_noted(rt: HostRuntime) -> Result<(), Fail> {
+    let mut tree = open(rt.alloc(), 3)?;
     let mut pass = Pass::new(rt.alloc());
     assert!(rt; sets_three(&mut tree, &mut pass));
     assert!(rt; ranges(&mut tree, &mut pass, 3, 2));
@@ -161,4 +166,5 @@ fn ranges_and_prefixes_are_noted(rt: HostRuntime) {
     assert!(rt; has_places(&pass, 7));
     drop(pass);
     drop(tree);
+    Ok(())
 }

@@ -1,8 +1,8 @@
 // What steps answer, and what they note, on a new tree and on one that was filled.
-use crate::samples::text;
+use crate::samples::{open_state, text};
 use lsm_tree::{
-    Answer, Config, Counter, Error, InternalValue, JournalEntry, KvPair, Op, Ops, Outcome, Reply,
-    SeqNo, Step, TreeState, run,
+    Answer, Counter, Error, InternalValue, JournalEntry, KvPair, Op, Ops, Outcome, Reply, SeqNo,
+    Step, run,
 };
 use std::alloc::{AllocError, Global};
 use std::ops::Bound;
@@ -17,11 +17,16 @@ fn batch(alloc: Global, pairs: &[(&'static str, &'static str)]) -> Result<Step, 
     Ok(Step::Write(Ops::new(ops)))
 }
 
-/// The outcomes of steps on a new tree.
+/// The outcomes of steps on a new tree, none where it isn't opened.
 fn run_new(alloc: Global, steps: Vec<Step>) -> Vec<Outcome> {
-    let mut state = TreeState::open_in_memory(alloc, Config::new(0, 0, 0));
-    let outcomes = run(alloc, &mut state, &steps);
-    drop(state);
+    let outcomes = match open_state(alloc) {
+        Ok(mut state) => {
+            let outcomes = run(alloc, &mut state, &steps);
+            drop(state);
+            outcomes
+        }
+        Err(_) => Vec::new(alloc),
+    };
     drop(steps);
     outcomes
 }

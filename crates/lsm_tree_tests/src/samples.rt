@@ -1,7 +1,24 @@
-// What several tests write.
-use lsm_tree::UserKey;
+// What several tests write, and the trees that they begin with.
+use lsm_tree::{Config, Error, MemStore, Recorded, TreeState, UserKey};
+use std::alloc::Global;
 
 /// A key or a value of these letters.
 pub(crate) fn text(spelled: &'static str) -> UserKey {
     UserKey::from_static(spelled.as_bytes())
+}
+
+/// A new tree over a store in memory.
+pub(crate) fn open_state(alloc: Global) -> Result<TreeState, Error> {
+    match TreeState::open(alloc, Config::new(0, 0, 0), MemStore::new(alloc)) {
+        Ok(tree) => Ok(tree),
+        Err((error, _)) => Err(error),
+    }
+}
+
+/// A new tree with its journal, over a store in memory.
+pub(crate) fn open_recorded(alloc: Global, config: Config) -> Result<Recorded, Error> {
+    match Recorded::open(alloc, config, MemStore::new(alloc)) {
+        Ok(tree) => Ok(tree),
+        Err((error, _)) => Err(error),
+    }
 }

@@ -1,0 +1,41 @@
+-- Why a read of a tree with its journal is refused behind a lock.
+use Rattle.std.proofs.Common.{◌≡◌, ◌⊎◌, inl, inr, ⊎_elim, ℕ, ◌<◌, ◌≤◌, true, false, nat_lt, List, None, Result, Ok, Err, IfErr, refl, sym, ap, subst, arith}
+use Rattle.std.proofs.lemmas.Bool.Decides.{nat_tests}
+use Rattle.lsm_below.specs.Entries.{above}
+use Rattle.lsm_below.specs.declared.error.Error.{Error}
+use Rattle.lsm_below.specs.declared.error.Error.TheVariants.{OutOfMemory, OutOfOrder, SnapshotTooOld}
+use Rattle.lsm_model.specs.Views.{Placed, held, SuperVersion, found_at}
+use Rattle.lsm_state.specs.Core.{Core, latest_of, older_of}
+use Rattle.lsm_state.specs.Kept.{IsKeptTree}
+use Rattle.lsm_state.specs.Calls.{RefusesRead}
+use Rattle.lsm_recorded.specs.Recorded.{RefusesRecorded}
+use Rattle.lsm_tree.specs.Shared.{RefusesRecordedRead}
+
+above_or_below : (a b : ℕ) → (a ≤ b) ⊎ (b < a)
+above_or_below a b = elim (nat_lt b a) as (λ t. nat_lt b a ≡ t → (a ≤ b) ⊎ (b < a)) [ true ↦ λ e. inr (grind (arith, nat_tests)) | false ↦ λ e. inl (grind (arith, nat_tests)) ] refl
+
+found_at_zero : (latest : SuperVersion) (older : List SuperVersion) (s : ℕ) → s ≡ 0 → found_at s latest older ≡ None → ⊥
+found_at_zero latest older s zero none = let e = subst (λ n. found_at n latest older ≡ None) zero none in absurd (cc e)
+
+at_zero_of : {A : Type 0} (c : Core) (s : ℕ) (r : Result A Error) → s ≡ 0 → RefusesRead c s r → IfErr r (λ e. (e ≡ OutOfOrder) ⊎ (e ≡ OutOfMemory))
+at_zero_of c s (Ok x) zero refuses = tt
+at_zero_of c s (Err e) zero refuses = ⊎_elim (λ old. absurd (found_at_zero (latest_of c) (older_of c) s zero (refuses.too_old.0 (ap Err old)))) (λ memory. inr memory) refuses.only
+
+only_of : {A : Type 0} (c : Core) (s : ℕ) (r : Result A Error) → RefusesRead c s r → IfErr r (λ e. (e ≡ OutOfOrder) ⊎ ((e ≡ SnapshotTooOld) ⊎ (e ≡ OutOfMemory)))
+only_of c s (Ok x) refuses = tt
+only_of c s (Err e) refuses = inr refuses.only
+
+late : {A : Type 0} (opened : List Placed) (s : ℕ) (r : Result A Error) → s < above (held opened) → r ≡ Err OutOfOrder → RefusesRecordedRead s r
+late {A} opened s r below is = subst (λ (q : Result A Error). RefusesRecordedRead s q) (sym is) (record { only = inl refl; out_of_order = λ e. (opened, below); too_old = λ e. absurd (cc e); at_zero = λ zero. inl refl })
+
+pub shared_read : {A : Type 0} (opened : List Placed) (c : Core) (s : ℕ) (r : Result A Error) → IsKeptTree c → RefusesRecorded (above (held opened)) c s r → RefusesRecordedRead s r
+shared_read opened c s r kept refuses =
+    ⊎_elim
+    (λ up.
+    let read = refuses.refuses up in record {
+      only = only_of c s r read;
+      out_of_order = λ e. (opened, refuses.out_of_order.0 e);
+      too_old = λ e. (c, read.too_old.0 e, kept);
+      at_zero = λ zero. at_zero_of c s r zero read;
+    })
+    (λ below. late opened s r below (refuses.out_of_order.1 below)) (above_or_below (above (held opened)) s)
