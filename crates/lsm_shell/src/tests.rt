@@ -1,7 +1,9 @@
 // What is printed, and how a run ends.
 use crate::shell::run_shell;
 use bytes::Bytes;
-use lsm_tree::{Error, FolderStore, Store, StoreError, Table, Version, persist_version};
+use lsm_tree::{
+    Error, FolderStore, Store, StoreError, Table, Version, ids_are_own, is_run, persist_version,
+};
 use std::alloc::{AllocError, Global};
 use std::cell::Cell;
 use std::fs::{self, Files};
@@ -234,7 +236,12 @@ fn version_of_table(alloc: Global) -> Result<Version, Error> {
     let Ok(table) = Table::recover(alloc, 3, Bytes::from_static(&TABLE)) else {
         return Err(Error::Unrecoverable);
     };
-    Version::new(alloc, 4).with_new_l0_run(alloc, &[table])
+    let first = Version::new(alloc, 4);
+    let tables = vec![in alloc; table]?;
+    if !is_run(&tables) || !ids_are_own(alloc, &tables, first.levels())? {
+        return Err(Error::Unrecoverable);
+    }
+    first.with_new_l0_run(alloc, &tables)
 }
 
 /// Puts the files of a tree with one table into a store.
