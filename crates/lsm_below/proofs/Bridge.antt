@@ -12,7 +12,7 @@ use Rattle.lsm_below.specs.Streams.{IsInOrder, Merges, is_of, IsByKey, distinct,
 use Rattle.lsm_below.specs.Slots.{merged, is_before}
 use Rattle.lsm_below.proofs.Keeping.{differs}
 use Rattle.lsm_below.specs.Each.{each_weaker}
-use Rattle.lsm_below.proofs.Filters.{filter_all}
+use Rattle.lsm_below.specs.FilterLaws.{filter_all}
 use Rattle.lsm_below.proofs.Orders.{ascends_filter}
 use Rattle.lsm_below.proofs.OneKey.{stack_falls}
 use Rattle.lsm_below.proofs.Taking.{map_twice}

@@ -10,7 +10,7 @@ use Rattle.lsm_below.specs.Streams.{IsInOrder, IsByKey, is_of, distinct, keep_di
 use Rattle.std.proofs.lemmas.Bool.{lt-ltb, le-ltb}
 use Rattle.lsm_below.specs.Slots.{rest_of, all_of, same_key, is_repeat, past, changes, firsts, kept_from, compacted}
 use Rattle.lsm_below.specs.Each.{each_append, each_weaker, each_filter}
-use Rattle.lsm_below.proofs.Filters.{filter_none, filter_all, filter_twice}
+use Rattle.lsm_below.specs.FilterLaws.{filter_none, filter_all, filter_twice}
 use Rattle.lsm_below.proofs.OneKey.{same_of, none_later, number_falls, stack_falls}
 
 -- ---- equal sequence numbers

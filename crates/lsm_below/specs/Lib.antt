@@ -15,3 +15,4 @@ pub mod Lookups
 pub mod Laws
 pub mod Errors
 pub mod Numbers
+pub mod FilterLaws

@@ -56,7 +56,7 @@ pub use laws::{
 };
 pub use limits::{ENTRY_OVERHEAD, MAX_KEY_LEN, MAX_VALUE_LEN};
 pub use list_source::ListSource;
-pub use lookup::{entries_within, first_visible};
+pub use lookup::{entries_within, first_visible, places_within};
 pub use merger::Merger;
 pub use mvcc_stream::MvccStream;
 pub use number::{parse_number, plain_numbers_are_read};

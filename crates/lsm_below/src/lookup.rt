@@ -1,5 +1,5 @@
 // Look-ups in entries that rise, by binary search.
-ghost use Rattle.std.specs.Prelude.{◌≡◌, ℕ, ◌<◌, ◌≤◌, length, true, false, option_copied, slice_index_or, IfSome, IfNone};
+ghost use Rattle.std.specs.Prelude.{◌≡◌, ℕ, ◌<◌, ◌≤◌, ◌-◌, length, take, drop, true, false, option_copied, slice_index_or, IfSome, IfNone};
 ghost use Rattle.lsm_below.specs.declared.value.InternalValue.{InternalValue};
 ghost use Rattle.lsm_below.specs.Entries.{entry_cmp, top};
 ghost use Rattle.lsm_below.specs.Sorted.{Rises, first};
@@ -97,6 +97,23 @@ fn lies_to(bound: &Bound<UserKey>, key: &UserKey) -> bool
     }
 }
 
+/// From where, and up to where without it, the entries in the bounds stand. The cost is logarithmic in the
+/// list's length.
+pub fn places_within(
+    entries: &[InternalValue],
+    lower: &Bound<UserKey>,
+    upper: &Bound<UserKey>,
+) -> (usize, usize)
+    requires { Rises entry_cmp entries.now }
+    ensures in_order { result.0 ≤ result.1 }
+    ensures inside { result.1 ≤ length entries.now }
+    ensures within { take (result.1 - result.0) (drop result.0 entries.now) ≡ within lower.now upper.now entries.now }
+{
+    let end = entries.partition_point(|entry| lies_to(upper, &entry.key.user_key));
+    let start = entries.partition_point(|entry| !lies_from(lower, &entry.key.user_key));
+    (start.min(end), end)
+}
+
 /// The entries in the bounds: they are a part of the list. The cost is logarithmic in its length.
 pub fn entries_within<'a>(
     entries: &'a [InternalValue],
@@ -106,7 +123,6 @@ pub fn entries_within<'a>(
     requires { Rises entry_cmp entries.now }
     ensures { result.now ≡ within lower.now upper.now entries.now }
 {
-    let end = entries.partition_point(|entry| lies_to(upper, &entry.key.user_key));
-    let start = entries.partition_point(|entry| !lies_from(lower, &entry.key.user_key));
-    &entries[start.min(end)..end]
+    let (start, end) = places_within(entries, lower, upper);
+    &entries[start..end]
 }

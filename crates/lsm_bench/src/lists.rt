@@ -2,12 +2,15 @@
 use crate::keys::{RANGE, group_of, user_key};
 use crate::report::Tally;
 use crate::workloads::Listing;
-use lsm_tree::{Error, IterGuard, SeqNo, TreeIter, TreeState};
+use lsm_tree::{Error, InternalValue, SeqNo, TreeIter, TreeState};
 use std::alloc::Global;
 use std::ops::Bound;
 
 /// How many ranges or groups are read at most: those of the first ids of the order of reads.
 const MOST_LISTS: usize = 10_000;
+
+/// The same of ranges without an upper bound, since each copies what a memtable has above its lower one.
+const MOST_OPEN_RANGES: usize = 1_000;
 
 /// Lists entries of a tree. An operation is an entry where all are listed, else a range or a group.
 pub fn list(
@@ -18,9 +21,11 @@ pub fn list(
 ) -> Result<Tally, Error> {
     let snapshot = tree.visible_seqno().get();
     let some = &ids[..ids.len().min(MOST_LISTS)];
+    let few = &ids[..ids.len().min(MOST_OPEN_RANGES)];
     let (ops, check) = match listing {
         Listing::All => (ids.len(), list_all(tree, snapshot)?),
         Listing::Ranges => (some.len(), list_ranges(alloc, tree, some, snapshot)?),
+        Listing::OpenRanges => (few.len(), list_open_ranges(alloc, tree, few, snapshot)?),
         Listing::Groups => (some.len(), list_groups(tree, some, snapshot)?),
     };
     Ok(Tally { ops, check })
@@ -45,6 +50,22 @@ fn list_ranges(
     Ok(sum)
 }
 
+/// As `list_ranges`, but no range has an upper bound, and as many entries are taken of it.
+fn list_open_ranges(
+    alloc: Global,
+    tree: &TreeState,
+    ids: &[u64],
+    snapshot: SeqNo,
+) -> Result<u64, Error> {
+    let mut sum = 0u64;
+    for id in ids {
+        let low = Bound::Included(user_key(alloc, *id)?);
+        let iter = tree.range(&(low, Bound::Unbounded), snapshot, None)?;
+        sum = sum.wrapping_add(sum_first(iter)?);
+    }
+    Ok(sum)
+}
+
 fn list_groups(tree: &TreeState, ids: &[u64], snapshot: SeqNo) -> Result<u64, Error> {
     let mut sum = 0u64;
     for id in ids {
@@ -53,14 +74,29 @@ fn list_groups(tree: &TreeState, ids: &[u64], snapshot: SeqNo) -> Result<u64, Er
     Ok(sum)
 }
 
-/// The sum over entries of the length of the key and the first byte of the value.
-fn sum_entries(iter: TreeIter) -> Result<u64, Error> {
+/// What an entry adds to a sum: the length of its key and the first byte of its value.
+fn weight(entry: &InternalValue) -> u64 {
+    let first = entry.value.as_slice().first().copied().unwrap_or(0);
+    u64::from(first).wrapping_add(entry.key.user_key.len() as u64)
+}
+
+/// The sum over all entries.
+fn sum_entries(mut iter: TreeIter) -> Result<u64, Error> {
     let mut sum = 0u64;
-    for pair in iter {
-        let (key, value) = pair.into_inner()?;
-        let first = value.as_slice().first().copied().unwrap_or(0);
-        sum = sum.wrapping_add(key.len() as u64);
-        sum = sum.wrapping_add(u64::from(first));
+    while let Some(entry) = iter.next_entry() {
+        sum = sum.wrapping_add(weight(&entry?));
+    }
+    Ok(sum)
+}
+
+/// The sum over as many entries as a range goes over.
+fn sum_first(mut iter: TreeIter) -> Result<u64, Error> {
+    let mut sum = 0u64;
+    for _ in 0..RANGE {
+        let Some(entry) = iter.next_entry() else {
+            break;
+        };
+        sum = sum.wrapping_add(weight(&entry?));
     }
     Ok(sum)
 }

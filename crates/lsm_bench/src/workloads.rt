@@ -47,6 +47,8 @@ pub enum Listing {
     All,
     /// The keys from that of an id on and below that of the id 100 above, for some ids.
     Ranges,
+    /// The first 100 keys from that of an id on, with no upper bound, for the same ids.
+    OpenRanges,
     /// The keys that begin as that of an id does, for some ids.
     Groups,
 }
@@ -55,13 +57,14 @@ pub enum Listing {
 ///
 /// Those that read one tree stand behind the fill that they read, so that it is done once. The first is the fill that
 /// is weighed, before other trees have left memory behind.
-pub const WORKLOADS: [(&str, Job); 13] = [
+pub const WORKLOADS: [(&str, Job); 14] = [
     ("put_rand", Job::Fill(Kind::Owned, Order::Random)),
     ("bytes_mem", Job::Weigh(Kind::Owned)),
     ("get_mem", Job::Get(Kind::Owned, Wanted::Present)),
     ("miss_mem", Job::Get(Kind::Owned, Wanted::Absent)),
     ("scan_mem", Job::List(Listing::All)),
     ("range100_mem", Job::List(Listing::Ranges)),
+    ("range100_open_mem", Job::List(Listing::OpenRanges)),
     ("prefix_mem", Job::List(Listing::Groups)),
     ("put_seq", Job::Fill(Kind::Owned, Order::Rising)),
     ("put_same", Job::Fill(Kind::Owned, Order::Same)),

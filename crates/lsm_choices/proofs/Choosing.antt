@@ -14,7 +14,7 @@ use Rattle.lsm_choices.specs.declared.parted_run.Fault.TheVariants.{OutOfOrder, 
 use Rattle.lsm_choices.specs.declared.choice.Why.{Why}
 use Rattle.lsm_choices.specs.declared.choice.Why.TheVariants.{NoSuchLevel, Order, Eviction, Stale}
 use Rattle.lsm_choices.specs.Choices.{any_pair, is_bad, is_fault, any_bad, is_clash, any_clash, is_drop, is_move, is_there, first_of, reasons_of, first_reason_of, last_reason_of, IsMovable, AreThere, AllStand, IsLastReason}
-use Rattle.lsm_versions.specs.TableLists.{or_parts, none_with, placed_cons}
+use Rattle.lsm_versions.specs.TableLaws.{or_parts, none_with, placed_cons}
 
 no_pair : {A : Type 0} (R : A → A → Bool) (xs : List A) → any_pair R xs ≡ false → EachPair (λ x y. R x y ≡ false) xs
 no_pair R [] h = tt

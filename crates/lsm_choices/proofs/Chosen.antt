@@ -6,6 +6,7 @@ use Rattle.std.specs.List.Sorted.{IsPermutation}
 use Rattle.std.proofs.lemmas.List.Elements.{filter-append}
 use Rattle.std.proofs.lemmas.List.Sorted.{IsPermutation-refl, IsPermutation-trans, IsPermutation-append_right, IsPermutation-middle, IsPermutation-map}
 use Rattle.std.proofs.lemmas.Map.Keys.{IsDistinct-IsPermutation}
+use Rattle.lsm_below.specs.FilterLaws.{filter_none}
 use Rattle.lsm_below.specs.Keys.{Bytes, is_same}
 use Rattle.lsm_below.specs.Entries.{stack}
 use Rattle.lsm_tables.specs.Tables.{SeenTable}
@@ -13,7 +14,7 @@ use Rattle.lsm_model.specs.Views.{Table, IsIn, held, chosen_of}
 use Rattle.lsm_model.specs.Steps.{among}
 use Rattle.lsm_versions.specs.Levels.{Levels, HasOwnIds, all_of, chosen_from, shown_table, placed_of}
 use Rattle.lsm_choices.specs.Choices.{IsAmong, AllStand, HoldSame, AreIdsOf}
-use Rattle.lsm_versions.specs.TableLists.{map_map, filter_map, filter_same, filter_none, front_moves, flips, held_chosen}
+use Rattle.lsm_versions.specs.TableLaws.{map_map, filter_map, filter_same, front_moves, flips, held_chosen}
 
 abbrev pub Others : ℕ → List Table → Type 0
 Others i ts = AllByRecursion (λ j. eqb i j ≡ false) (map (λ t. t.id) ts)

@@ -6,7 +6,7 @@ use Rattle.lsm_model.specs.Steps.{among}
 use Rattle.lsm_model.specs.Laws.{TablesArePlaced}
 use Rattle.lsm_versions.specs.Levels.{placed_of}
 use Rattle.lsm_versions.specs.Installs.{MergesAreSteps}
-use Rattle.lsm_versions.specs.TableLists.{entries_of_placed}
+use Rattle.lsm_versions.specs.TableLaws.{entries_of_placed}
 use Rattle.lsm_choices.specs.Endings.{MergesOfInputsAreSteps}
 
 pub merges_of_inputs_are_steps : TablesArePlaced → MergesAreSteps → MergesOfInputsAreSteps

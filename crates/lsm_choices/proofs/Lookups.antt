@@ -13,7 +13,7 @@ use Rattle.lsm_versions.specs.Levels.{Levels, range, shown_table, all_of, HasOwn
 use Rattle.lsm_choices.specs.Choices.{IsAmong, AllStand, AreOneById, is_there}
 use Rattle.lsm_choices.proofs.Choosing.{from_eqb}
 use Rattle.lsm_choices.proofs.Parting.{overlap_back}
-use Rattle.lsm_versions.specs.TableLists.{flips}
+use Rattle.lsm_versions.specs.TableLaws.{flips}
 
 -- ---- ids
 

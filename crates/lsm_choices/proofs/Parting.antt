@@ -22,7 +22,7 @@ use Rattle.lsm_choices.specs.Choices.{any_pair, is_bad, any_bad}
 use Rattle.lsm_choices.specs.Parted.{part_of, parted_from, is_wrong}
 use Rattle.lsm_choices.specs.declared.parted_run.Fault.{Fault}
 use Rattle.lsm_choices.specs.declared.parted_run.Fault.TheVariants.{OutOfOrder, StandsBelow}
-use Rattle.lsm_versions.specs.TableLists.{map_map, map_append, placed_cons}
+use Rattle.lsm_versions.specs.TableLaws.{map_map, map_append, placed_cons}
 
 -- ---- tests of lists
 

@@ -109,38 +109,16 @@ fn kind_is_drop(kind: Kind) -> bool
     }
 }
 
-/// What holds of a choice.
-#[derive(Drop)]
-struct Findings {
-    hidden: bool,
-    missing: bool,
-    no_such_level: bool,
-    overlap: bool,
-    gap: bool,
-    order: bool,
-    eviction: bool,
-}
-
-fn first_found(found: &Findings) -> Option<Why>
-    ensures { result ≡ first_of ((found.now.hidden, Hidden) ∷ (found.now.missing, Missing) ∷ (found.now.no_such_level, NoSuchLevel) ∷ (found.now.overlap, Overlap) ∷ (found.now.gap, Gap) ∷ (found.now.order, Order) ∷ (found.now.eviction, Eviction) ∷ []) }
+/// The first reason that holds.
+fn first_that_holds(reasons: &[(bool, Why)]) -> Option<Why>
+    ensures { result ≡ first_of reasons.now }
 {
-    if found.hidden {
-        Some(Why::Hidden)
-    } else if found.missing {
-        Some(Why::Missing)
-    } else if found.no_such_level {
-        Some(Why::NoSuchLevel)
-    } else if found.overlap {
-        Some(Why::Overlap)
-    } else if found.gap {
-        Some(Why::Gap)
-    } else if found.order {
-        Some(Why::Order)
-    } else if found.eviction {
-        Some(Why::Eviction)
-    } else {
-        None
+    for reason in reasons {
+        if reason.0 {
+            return Some(reason.1);
+        }
     }
+    None
 }
 
 fn has_no_level(kind: Kind, to: usize) -> bool
@@ -239,33 +217,16 @@ pub fn first_reason(
     version.facts();
     let levels = version.levels();
     let faults = find_faults_unless_drop(alloc, kind, ids, to, levels)?;
-    let found = Findings {
-        hidden: hidden.should_decline_compaction(ids),
-        missing: any_missing(alloc, ids, levels)?,
-        no_such_level: has_no_level(kind, to),
-        overlap: overlap_in_move(alloc, kind, ids, levels)?,
-        gap: gap_in_merge(kind, ids, levels),
-        order: faults.order,
-        eviction: faults.eviction,
-    };
-    let first = first_found(&found);
+    let first = first_that_holds(&[
+        (hidden.should_decline_compaction(ids), Why::Hidden),
+        (any_missing(alloc, ids, levels)?, Why::Missing),
+        (has_no_level(kind, to), Why::NoSuchLevel),
+        (overlap_in_move(alloc, kind, ids, levels)?, Why::Overlap),
+        (gap_in_merge(kind, ids, levels), Why::Gap),
+        (faults.order, Why::Order),
+        (faults.eviction, Why::Eviction),
+    ]);
     Ok(first)
-}
-
-fn last_found(stale: bool, no_such_level: bool, order: bool, eviction: bool) -> Option<Why>
-    ensures { result ≡ first_of ((stale, Stale) ∷ (no_such_level, NoSuchLevel) ∷ (order, Order) ∷ (eviction, Eviction) ∷ []) }
-{
-    if stale {
-        Some(Why::Stale)
-    } else if no_such_level {
-        Some(Why::NoSuchLevel)
-    } else if order {
-        Some(Why::Order)
-    } else if eviction {
-        Some(Why::Eviction)
-    } else {
-        None
-    }
 }
 
 /// The first reason at the end of a merge, where it was seen whether the inputs are still there.
@@ -283,7 +244,12 @@ fn reason_at_end(
     version.facts();
     let faults = find_faults(alloc, ids, to, version.levels())?;
     let no_such_level = to >= DEFAULT_LEVEL_COUNT as usize;
-    let first = last_found(!stands, no_such_level, faults.order, faults.eviction);
+    let first = first_that_holds(&[
+        (!stands, Why::Stale),
+        (no_such_level, Why::NoSuchLevel),
+        (faults.order, Why::Order),
+        (faults.eviction, Why::Eviction),
+    ]);
     Ok(first)
 }
 

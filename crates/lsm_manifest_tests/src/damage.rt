@@ -1,7 +1,7 @@
 // A store with one damaged file: each cut, each changed byte and each doubled section. What is refused, and how, is
 // read off the formats.
 
-use crate::samples::{NO_TABLE, Sections, TABLE, Told, bytes_of, file, is_told};
+use crate::samples::{NO_TABLE, Sections, TABLE, Told, bytes_of, file, is_told, put_table};
 use lsm_below::Error;
 use lsm_manifest::write_current;
 use lsm_parts::Config;
@@ -43,13 +43,6 @@ const SECTIONS: [(usize, usize); 6] = [
     (92, 118),
     (118, 211),
 ];
-
-fn put_table(out: &mut Vec<u8>, id: u64, bytes: &[u8]) -> Result<(), AllocError> {
-    out.extend_from_slice(&id.to_le_bytes())?;
-    out.push(0)?;
-    out.extend_from_slice(&Checksum::of(bytes).into_u128().to_le_bytes())?;
-    out.extend_from_slice(&[0; 8])
-}
 
 /// The file of the version whose only run has tables of these contents.
 fn version_of(alloc: Global, tables: [&[u8]; 2]) -> Result<Vec<u8>, AllocError> {

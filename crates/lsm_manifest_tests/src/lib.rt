@@ -1,4 +1,4 @@
-//! The tests of the files that say which tables a tree has.
+//! The tests of the files that say which tables a tree has, and of trees with tables.
 //!
 //! | Module | Tests |
 //! |-|-|
@@ -7,18 +7,36 @@
 //! | `trees` | a tree that is opened over a store, its reads and writes |
 //! | `damage` | stores with a damaged file: each cut, each changed byte, each doubled section |
 //! | `recorded` | a recorded tree that is opened over a store, and the order of its tables |
+//! | `iterators` | what iterators give over tables, memtables and an index, from both ends |
+//! | `holding` | what an iterator owns, and a step that is refused |
 //! | `samples` | holds no test: files, byte by byte |
+//! | `layers` | holds none: a tree with all these sources |
+//! | `rows` | holds none: what it shows, written down by hand |
+//! | `walks` | holds none: what is given along a walk |
+//! | `newest` | holds none: a slow answer to compare with |
 #![tactic(auto)]
 
 #[cfg(test)]
 mod damage;
 #[cfg(test)]
+mod holding;
+#[cfg(test)]
+mod iterators;
+#[cfg(test)]
+mod layers;
+#[cfg(test)]
 mod manifests;
+#[cfg(test)]
+mod newest;
 #[cfg(test)]
 mod opening;
 #[cfg(test)]
 mod recorded;
 #[cfg(test)]
+mod rows;
+#[cfg(test)]
 mod samples;
 #[cfg(test)]
 mod trees;
+#[cfg(test)]
+mod walks;

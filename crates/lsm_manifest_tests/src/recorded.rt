@@ -1,14 +1,15 @@
 // A recorded tree is opened where its tables are in order, and its writes and snapshots come after them.
 
-use crate::samples::{ONE_TABLE, TABLE, file, fill};
+use crate::samples::{ONE_TABLE, TABLE, file, fill, put_run};
 use lsm_below::{Error, UserKey};
+use lsm_iter::{IterGuard, TreeIter};
 use lsm_model::Op;
 use lsm_parts::Config;
 use lsm_recorded::{Pass, Recorded};
 use lsm_state::TreeState;
 use lsm_store::{MemStore, Store, StoreError};
-use lsm_tables::Checksum;
-use std::alloc::{AllocError, Global};
+use std::alloc::Global;
+use std::ops::Bound;
 use std::test::Fail;
 
 /// The table a = x at 5, made at 0.
@@ -45,6 +46,27 @@ fn counts(alloc: Global, tree: &mut Recorded<MemStore>, pass: &mut Pass) -> Resu
     Ok(early && again && twice == 1)
 }
 
+/// Whether just a is given, from its end.
+fn gives_a(made: Result<TreeIter, Error>) -> Result<bool, Error> {
+    let mut iter = made?;
+    Ok(match iter.next_back() {
+        Some(guard) => guard.key()? == a() && iter.next().is_none(),
+        None => false,
+    })
+}
+
+/// Whether iterators over bounds and over a prefix give what the table holds, and early ones are refused.
+fn lends(tree: &Recorded<MemStore>) -> Result<bool, Error> {
+    let all = (Bound::Unbounded, Bound::Unbounded);
+    Ok(
+        is_late(tree.create_range(&all, 0))
+            && is_late(tree.create_prefix(&a(), 0))
+            && gives_a(tree.create_range(&all, 1))?
+            && gives_a(tree.create_prefix(&a(), 1))?
+            && tree.journal().is_empty(),
+    )
+}
+
 fn tells(tree: &Recorded<MemStore>) -> bool {
     tree.table_count() == 1
         && tree.current_version().id() == 5
@@ -58,6 +80,7 @@ fn is_well(alloc: Global, tree: &mut Recorded<MemStore>) -> Result<bool, Error> 
     let mut pass = Pass::new(alloc);
     Ok(
         tells(tree)
+            && lends(tree)?
             && reads(tree, &mut pass, 1)?
             && counts(alloc, tree, &mut pass)?
             && !reads(tree, &mut pass, 2)?
@@ -88,12 +111,6 @@ fn an_opened_journal_starts_from_its_tables(rt: HostRuntime) -> Result<(), Fail>
     Ok(())
 }
 
-fn put_run(out: &mut Vec<u8>, id: u8, table: &[u8]) -> Result<(), AllocError> {
-    out.extend_from_slice(&[1, 0, 0, 0, id, 0, 0, 0, 0, 0, 0, 0, 0])?;
-    out.extend_from_slice(&Checksum::of(table).into_u128().to_le_bytes())?;
-    out.extend_from_slice(&[0; 8])
-}
-
 /// Version 5 with two runs in the first level, of one table each, and a table that it doesn't name.
 fn fill_two(
     alloc: Global,
@@ -103,8 +120,8 @@ fn fill_two(
 ) -> Result<(), StoreError> {
     let mut layout = Vec::new(alloc);
     layout.extend_from_slice(&[7, 2])?;
-    put_run(&mut layout, 3, first)?;
-    put_run(&mut layout, 4, second)?;
+    put_run(&mut layout, &[(3, first)])?;
+    put_run(&mut layout, &[(4, second)])?;
     layout.extend_from_slice(&[0; 6])?;
     fill(alloc, store, &file(&layout))?;
     store.replace("tables/3", first)?;

@@ -76,6 +76,24 @@ pub fn bytes_of(alloc: Global, file: &Sections<'_>) -> Result<Vec<u8>, AllocErro
     Ok(out)
 }
 
+/// A table in a layout.
+pub fn put_table(out: &mut Vec<u8>, id: u64, bytes: &[u8]) -> Result<(), AllocError> {
+    out.extend_from_slice(&id.to_le_bytes())?;
+    out.push(0)?;
+    out.extend_from_slice(&Checksum::of(bytes).into_u128().to_le_bytes())?;
+    out.extend_from_slice(&[0; 8])
+}
+
+/// A run in a layout: the tables with these ids and contents.
+pub fn put_run(out: &mut Vec<u8>, tables: &[(u64, &[u8])]) -> Result<(), AllocError> {
+    let [low, high, ..] = tables.len().to_le_bytes();
+    out.extend_from_slice(&[low, high, 0, 0])?;
+    for (id, bytes) in tables {
+        put_table(out, *id, *bytes)?;
+    }
+    Ok(())
+}
+
 /// An error, with what it carries.
 #[derive(Clone, Copy)]
 pub enum Told {

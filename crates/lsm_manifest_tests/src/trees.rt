@@ -2,8 +2,9 @@
 
 use crate::samples::{ONE_TABLE, file, fill};
 use lsm_below::{Error, UserKey};
+use lsm_iter::IterGuard;
 use lsm_model::Op;
-use lsm_parts::{Config, IterGuard};
+use lsm_parts::Config;
 use lsm_state::TreeState;
 use lsm_store::{MemStore, Store, StoreError};
 use std::alloc::Global;

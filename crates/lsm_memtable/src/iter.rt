@@ -143,14 +143,14 @@ impl<'a> DoubleEndedIterator for Iter<'a> {
 }
 
 impl<'a> Iter<'a> {
-    /// The entries of a slice.
-    pub fn of_slice(entries: &'a [InternalValue]) -> Iter<'a>
-        ensures { result ≡ entries.now }
+    /// The same entries once more, from both ends.
+    pub fn copy(&self) -> Iter<'a>
+        ensures { result ≡ self.now }
     {
         Iter {
-            front: entries,
-            middle: Part::empty(),
-            back: &[],
+            front: self.front,
+            middle: self.middle,
+            back: self.back,
         }
     }
 }

@@ -1,10 +1,2 @@
 pub mod Versions
 pub mod History
-pub mod Shown
-pub mod Prefixes
-pub mod Guards
-pub mod Reads
-pub mod Places
-pub mod Cuts
-pub mod Ends
-pub mod Answers

@@ -1,7 +1,8 @@
 // What a guard hands out.
 use crate::samples::{has_key, key, value};
 use lsm_below::{UserKey, UserValue};
-use lsm_parts::{Error, Guard, IterGuard};
+use lsm_iter::{Guard, IterGuard};
+use lsm_parts::Error;
 
 fn pair() -> Guard {
     Guard::new(Ok((key("a"), value("xyz"))))

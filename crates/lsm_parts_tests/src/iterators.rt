@@ -3,10 +3,8 @@ use crate::samples::{
     Bounds, INDEX, all, excluded, gives, included, is, lists, remove, set, set_over_a_b,
 };
 use lsm_below::{InternalValue, SeqNo};
-use lsm_parts::{
-    End, Error, IterGuard, IterState, Memtable, TreeIter, Version, first_shown, last_shown,
-    take_ends,
-};
+use lsm_iter::{End, IterGuard, IterState, TreeIter, end_shown, take_ends};
+use lsm_parts::{Error, Memtable, Version};
 use std::alloc::Global;
 
 /// What is read of one memtable, and maybe of an index over it.
@@ -283,8 +281,8 @@ fn ends_are(
 ) -> bool {
     match state {
         Ok(state) => {
-            is_numbered(first_shown(alloc, &state, &all(), seqno), want.0)
-                && is_numbered(last_shown(alloc, &state, &all(), seqno), want.1)
+            is_numbered(end_shown(alloc, &state, End::Front, &all(), seqno), want.0)
+                && is_numbered(end_shown(alloc, &state, End::Back, &all(), seqno), want.1)
         }
         Err(_) => false,
     }

@@ -1,6 +1,6 @@
 // The bounds of the keys that begin alike.
 use lsm_below::UserKey;
-use lsm_parts::prefix_to_range;
+use lsm_iter::prefix_to_range;
 use std::alloc::Global;
 use std::ops::Bound;
 

@@ -1,6 +1,7 @@
 // What several tests make, and how they look at what they are given.
 use lsm_below::{InternalValue, SeqNo, UserKey, UserValue, ValueType};
-use lsm_parts::{Config, Error, Guard, IterGuard, Memtable, TreeIter};
+use lsm_iter::{Guard, IterGuard, TreeIter};
+use lsm_parts::{Config, Error, Memtable};
 use lsm_state::TreeState;
 use lsm_store::MemStore;
 use std::alloc::Global;

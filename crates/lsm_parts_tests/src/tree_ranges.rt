@@ -3,7 +3,8 @@ use crate::samples::{
     Bounds, INDEX, excluded, gives, has_key, included, key, lists, open, set_over_a_b, value,
 };
 use lsm_below::SeqNo;
-use lsm_parts::{Error, Memtable, TreeIter};
+use lsm_iter::TreeIter;
+use lsm_parts::{Error, Memtable};
 use lsm_state::TreeState;
 use std::alloc::Global;
 use std::test::Fail;

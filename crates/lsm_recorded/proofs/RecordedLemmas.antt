@@ -26,7 +26,7 @@ use Rattle.lsm_below.specs.declared.error.Error.TheVariants.{OutOfMemory, OutOfN
 use Rattle.lsm_state.specs.Core.{Core, Seen, state_of, latest_of, older_of}
 use Rattle.lsm_state.specs.Calls.{IsWriteStep, IsGetStep, Gives, Rotates, WritesBatch}
 use Rattle.lsm_state.specs.Ranges.{IsListStep}
-use Rattle.lsm_parts.specs.Guards.{Pair}
+use Rattle.lsm_iter.specs.Guards.{Pair}
 use Rattle.lsm_state.specs.Refusals.{batch_refusal, repeats, keys_of, is_great, is_long_key, is_long_value, op_value}
 use Rattle.lsm_recorded.specs.declared.marks.Mark.{Mark}
 use Rattle.lsm_recorded.specs.Marks.{mark_of, mark_in, marked_by, marked_all}
@@ -158,6 +158,11 @@ module _ (opened : List Placed) (least : ℕ) where
       let counted : next_number (held opened) (journal ++ Read s question told ∷ []) ≤ c.seqno = rw (fold-append next_number_after (above (held opened)) journal (Read s question told ∷ [])) r.counted in
       recorded theory r.least_is marks low c (journal ++ Read s question told ∷ []) (theory.kept.step (held opened) (shown_by opened) (state_of journal c) (Asked s question) (state_of (journal ++ Read s question told ∷ []) c) (step (held opened) journal up r.reads.ordered) order r.holds)
       (record { order = order; counted = counted }) (r.floored ∙ sym (fold-append floor_after 0 journal (Read s question told ∷ []))) (λ q. r.noted q ∙ sym (mark_in-read (held opened) journal s question told q))
+
+  -- and it agrees with the replay
+  pub listed_agrees : (theory : Soundness) (marks : Marks) (low : ℕ) (c : Core) (journal : List Event) (question : Question) (s : ℕ) (pairs : List Pair) → IsRecorded opened least marks low c journal → above (held opened) ≤ s → IsListStep c question s pairs → ReadAgrees (shown_by opened) journal (Read s question (Pairs pairs))
+  listed_agrees theory marks low c journal question s pairs r up step =
+      agrees_last (shown_by opened) [] journal (Read s question (Pairs pairs)) (recorded_list theory marks low c journal question s pairs r up step).reads.agrees
 
   -- a get answers the replay
   pub answers_replay : (theory : Soundness) (marks : Marks) (low : ℕ) (k : Bytes) (s : ℕ) (v : Option Bytes) (journal : List Event) (c : Core) → Gives c k s v → IsRecorded opened least marks low c journal → above (held opened) ≤ s → is_outside k s journal ≡ true → v ≡ get (replay (shown_by opened) journal s) k

@@ -17,11 +17,11 @@ use Rattle.lsm_model.specs.declared.question.Question.{Question}
 use Rattle.lsm_model.specs.declared.question.Question.TheVariants.{Get as AskGet, Between}
 use Rattle.lsm_model.specs.declared.question.Answer.{Answer}
 use Rattle.lsm_model.specs.declared.question.Answer.TheVariants.{Found, Pairs as FoundPairs}
-use Rattle.lsm_parts.specs.Guards.{Pair, Item, pair_of}
-use Rattle.lsm_parts.specs.Shown.{Shows}
-use Rattle.lsm_parts.specs.Ends.{EndShown}
-use Rattle.lsm_parts.specs.declared.tree_iter.End.{End}
-use Rattle.lsm_parts.specs.declared.tree_iter.End.TheVariants.{Front, Back}
+use Rattle.lsm_iter.specs.Guards.{Pair, Item, pair_of}
+use Rattle.lsm_iter.specs.Shown.{Shows}
+use Rattle.lsm_iter.specs.Ends.{EndShown}
+use Rattle.lsm_iter.specs.declared.tree_iter.End.{End}
+use Rattle.lsm_iter.specs.declared.tree_iter.End.TheVariants.{Front, Back}
 use Rattle.lsm_below.specs.declared.error.Error.{Error}
 use Rattle.lsm_below.specs.declared.error.Error.TheVariants.{OutOfMemory, SnapshotTooOld}
 use Rattle.lsm_state.specs.Held.{entries_of}

@@ -10,7 +10,7 @@ use Rattle.lsm_model.specs.Ops.{op_entries}
 use Rattle.lsm_model.specs.declared.op.Op.{Op}
 use Rattle.lsm_model.specs.declared.journal.JournalEntry.TheVariants.{Write as Noted}
 use Rattle.lsm_model.specs.declared.question.Question.TheVariants.{Between, Prefix as AskPrefix}
-use Rattle.lsm_parts.specs.declared.tree_iter.End.TheVariants.{Front, Back}
+use Rattle.lsm_iter.specs.declared.tree_iter.End.TheVariants.{Front, Back}
 use Rattle.lsm_state.specs.Core.{Core, state_of}
 use Rattle.lsm_state.specs.Calls.{Rotates}
 use Rattle.lsm_state.specs.ListSteps.{ListsAreSteps}

@@ -10,7 +10,7 @@ use Rattle.lsm_model.specs.Ops.{op_entries}
 use Rattle.lsm_model.specs.declared.op.Op.{Op}
 use Rattle.lsm_model.specs.declared.journal.JournalEntry.TheVariants.{Write as Noted}
 use Rattle.lsm_model.specs.declared.question.Question.{Question}
-use Rattle.lsm_parts.specs.Guards.{Pair}
+use Rattle.lsm_iter.specs.Guards.{Pair}
 use Rattle.lsm_state.specs.Core.{Core, state_of}
 use Rattle.lsm_state.specs.Calls.{Rotates}
 use Rattle.lsm_runs.specs.declared.steps.Counter.{Counter}

@@ -1,6 +1,6 @@
 // What is printed for a line.
-use lsm_below::{KvPair, MemtableId, SeqNo, UserValue};
-use lsm_tree::Error;
+use lsm_below::{MemtableId, SeqNo, UserValue};
+use lsm_tree::{Error, IterGuard, TreeIter};
 use std::io::{self, Write};
 
 /// What a line is answered.
@@ -12,8 +12,8 @@ pub enum Reply {
     Value(UserValue),
     /// The key has no value.
     NoValue,
-    /// These are the pairs that there are.
-    Pairs(Vec<KvPair>),
+    /// What the iterator has left are the pairs that there are.
+    Pairs(TreeIter),
     /// The memtable of this number was sealed.
     Rotated(MemtableId),
     /// There was nothing to seal.
@@ -25,8 +25,9 @@ pub enum Reply {
 }
 
 impl Reply {
-    /// Writes the lines that are printed for this reply.
-    pub fn write_to<W: Write>(&self, output: &mut W) -> io::Result<()> {
+    /// Writes the lines that are printed for this reply. Pairs are written while they are walked, and a walk that finds no
+    /// memory ends with that error.
+    pub fn write_to<W: Write>(self, output: &mut W) -> io::Result<()> {
         match self {
             Reply::Written(number) => writeln!(output, "ok {number}"),
             Reply::Value(value) => {
@@ -38,24 +39,36 @@ impl Reply {
             Reply::Pairs(pairs) => write_pairs(output, pairs),
             Reply::Rotated(id) => writeln!(output, "rotated {id}"),
             Reply::Nothing => output.write_all(b"nothing\n"),
-            Reply::Refused(error) => {
-                let number = error.number();
-                let name = error.name();
-                writeln!(output, "error {number} {name}")
-            }
+            Reply::Refused(error) => write_refused(output, error),
             Reply::Usage => output.write_all(b"error 0 Usage\n"),
         }
     }
 }
 
+/// Writes the line of a refusal.
+fn write_refused<W: Write>(output: &mut W, error: Error) -> io::Result<()> {
+    let number = error.number();
+    let name = error.name();
+    writeln!(output, "error {number} {name}")
+}
+
+/// Writes the line of a pair.
+fn write_pair<W: Write>(output: &mut W, key: &[u8], value: &[u8]) -> io::Result<()> {
+    output.write_all(key)?;
+    output.write_all(b" ")?;
+    output.write_all(value)?;
+    output.write_all(b"\n")
+}
+
 /// Writes a line for each pair, and one with their count.
-fn write_pairs<W: Write>(output: &mut W, pairs: &[KvPair]) -> io::Result<()> {
-    for (key, value) in pairs {
-        output.write_all(key.as_slice())?;
-        output.write_all(b" ")?;
-        output.write_all(value.as_slice())?;
-        output.write_all(b"\n")?;
+fn write_pairs<W: Write>(output: &mut W, pairs: TreeIter) -> io::Result<()> {
+    let mut count: u64 = 0;
+    for pair in pairs {
+        match pair.into_inner() {
+            Ok((key, value)) => write_pair(output, key.as_slice(), value.as_slice())?,
+            Err(error) => return write_refused(output, error),
+        }
+        count = count.saturating_add(1);
     }
-    let count = pairs.len();
     writeln!(output, "end {count}")
 }

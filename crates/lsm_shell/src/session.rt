@@ -80,19 +80,17 @@ impl<S: Store> Session<S> {
     }
 
     fn range(
-        &mut self,
+        &self,
         bounds: &(Bound<UserKey>, Bound<UserKey>),
         snapshot: Option<SeqNo>,
     ) -> Result<Reply, Error> {
         let snapshot = self.snapshot_or_now(snapshot);
-        let mut pass = self.pass();
-        Ok(Reply::Pairs(self.tree.range(&mut pass, bounds, snapshot)?))
+        Ok(Reply::Pairs(self.tree.create_range(bounds, snapshot)?))
     }
 
-    fn prefix(&mut self, prefix: &UserKey, snapshot: Option<SeqNo>) -> Result<Reply, Error> {
+    fn prefix(&self, prefix: &UserKey, snapshot: Option<SeqNo>) -> Result<Reply, Error> {
         let snapshot = self.snapshot_or_now(snapshot);
-        let mut pass = self.pass();
-        Ok(Reply::Pairs(self.tree.prefix(&mut pass, prefix, snapshot)?))
+        Ok(Reply::Pairs(self.tree.create_prefix(prefix, snapshot)?))
     }
 
     /// The snapshot, or the one that sees every write so far.

@@ -11,10 +11,10 @@ use Rattle.lsm_model.specs.declared.question.Answer.TheVariants.{Pairs}
 use Rattle.lsm_model.specs.declared.question.Question.TheVariants.{Between, Prefix}
 use Rattle.lsm_model.specs.Views.{sources, entries, answered, found_at, Memtables, SuperVersion}
 use Rattle.lsm_model.specs.Laws.{PartsAreWhole}
-use Rattle.lsm_parts.specs.Guards.{pair_of}
-use Rattle.lsm_parts.specs.Shown.{Shows, ShowsPrefix}
-use Rattle.lsm_parts.specs.Reads.{at, all_counted}
-use Rattle.lsm_parts.specs.Answers.{ShownIsAnswer, ShownIsPrefixAnswer}
+use Rattle.lsm_iter.specs.Guards.{pair_of}
+use Rattle.lsm_iter.specs.Shown.{Shows, ShowsPrefix}
+use Rattle.lsm_iter.specs.Reads.{at, all_counted}
+use Rattle.lsm_iter.specs.Answers.{ShownIsAnswer, ShownIsPrefixAnswer}
 use Rattle.lsm_state.specs.Held.{entries_of}
 use Rattle.lsm_state.specs.Core.{Core, latest_of, older_of}
 use Rattle.lsm_state.specs.Ranges.{Ranges, Prefixes, IsListStep, IsRangeStep, IsPrefixStep}

@@ -9,3 +9,4 @@ pub mod Counts
 pub mod Refusals
 pub mod Standing
 pub mod StandingImages
+pub mod Those

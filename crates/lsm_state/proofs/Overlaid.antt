@@ -8,9 +8,9 @@ use Rattle.lsm_model.specs.Laws.{PartsAreWhole}
 use Rattle.lsm_memtable.specs.Memtables.{SeenMemtable}
 use Rattle.lsm_parts.specs.declared.version.super_version.SuperVersion.{SuperVersion as Named}
 use Rattle.lsm_parts.specs.History.{AreLaid}
-use Rattle.lsm_parts.specs.Shown.{ShowsOf, lies_within, begins_with}
-use Rattle.lsm_parts.specs.Answers.{ShownIsView, ShownIsOverlaid, overlaid, pairs_of}
-use Rattle.lsm_parts.specs.Reads.{SeenState}
+use Rattle.lsm_iter.specs.Shown.{ShowsOf, lies_within, begins_with}
+use Rattle.lsm_iter.specs.Answers.{ShownIsView, ShownIsOverlaid, overlaid, pairs_of}
+use Rattle.lsm_iter.specs.Reads.{SeenState}
 use Rattle.lsm_state.specs.Held.{entries_of}
 use Rattle.lsm_state.specs.Core.{Core, shown_as, latest_of, older_of}
 use Rattle.lsm_state.specs.Kept.{IsKeptTree}

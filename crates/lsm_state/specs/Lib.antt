@@ -5,6 +5,7 @@ pub mod Kept
 pub mod Calls
 pub mod Lending
 pub mod Ranges
+pub mod Copies
 pub mod Listing
 pub mod ListSteps
 pub mod Opened

@@ -3,7 +3,7 @@ use Rattle.std.specs.Prelude.{◌≡◌, ℕ, List, None, map}
 use Rattle.std.specs.declared.ops.Bound.{Bound}
 use Rattle.lsm_below.specs.Keys.{Bytes}
 use Rattle.lsm_below.specs.Entries.{Entry}
-use Rattle.lsm_parts.specs.Guards.{pair_of}
+use Rattle.lsm_iter.specs.Guards.{pair_of}
 use Rattle.lsm_state.specs.Core.{Core}
 use Rattle.lsm_state.specs.Ranges.{Ranges, Prefixes}
 

@@ -15,11 +15,11 @@ use Rattle.lsm_model.specs.declared.question.Question.TheVariants.{Between, Pref
 use Rattle.lsm_model.specs.declared.question.Answer.TheVariants.{Pairs}
 use Rattle.lsm_model.specs.Views.{SuperVersion, entries, sources, found_at, view_at, EachPair}
 use Rattle.lsm_memtable.specs.Memtables.{SeenMemtable}
-use Rattle.lsm_parts.specs.Shown.{ShowsOf, Shows, ShowsPrefix, lies_within, begins_with}
-use Rattle.lsm_parts.specs.Answers.{pairs_of, AreApart, StandOnce, IsOnTop, overlaid}
-use Rattle.lsm_parts.specs.Ends.{EndShown}
-use Rattle.lsm_parts.specs.Guards.{Pair, Item, pair_of}
-use Rattle.lsm_parts.specs.declared.tree_iter.End.{End}
+use Rattle.lsm_iter.specs.Shown.{ShowsOf, Shows, ShowsPrefix, lies_within, begins_with}
+use Rattle.lsm_iter.specs.Answers.{pairs_of, AreApart, StandOnce, IsOnTop, overlaid}
+use Rattle.lsm_iter.specs.Ends.{EndShown}
+use Rattle.lsm_iter.specs.Guards.{Pair, Item, pair_of}
+use Rattle.lsm_iter.specs.declared.tree_iter.End.{End}
 use Rattle.lsm_state.specs.Held.{entries_of}
 use Rattle.lsm_state.specs.Core.{Core, state_of, latest_of, older_of}
 use Rattle.lsm_state.specs.Kept.{IsKeptTree}

@@ -2,8 +2,8 @@
 ghost use Rattle.lsm_state.specs.ListSteps.{ListsAreSteps};
 ghost use Rattle.lsm_state.specs.Ranges.{CountingIsOverlaid, RangesAreOverlaid, PrefixesAreOverlaid};
 
+use lsm_iter::shown_is_the_view;
 use lsm_model::parts_are_whole;
-use lsm_parts::shown_is_the_view;
 
 /// The list of what a super version shows under an index is that of its view by tops, with the index laid over it.
 /// Of a tree, of which `TreeState::facts` holds, it is so where no key and sequence number stand in two of its sources.

@@ -1,26 +1,37 @@
 // The tree's reads over many keys.
-ghost use Rattle.std.specs.Prelude.{◌≡◌, ◌∷◌, ◌++◌, None, Some, reverse, flat_map, IfOk, IfErr, OnOk};
+ghost use Rattle.std.specs.Prelude.{◌≡◌, ℕ, List, ◌∷◌, ◌++◌, None, Some, reverse, length, option_to_list, IfOk, IfErr, OnOk};
 ghost use Rattle.std.specs.declared.ops.Bound.TheVariants.{Unbounded};
-ghost use Rattle.lsm_parts.specs.declared.tree_iter.End.TheVariants.{Front, Back};
+ghost use Rattle.lsm_iter.specs.declared.tree_iter.End.TheVariants.{Front, Back};
 ghost use Rattle.lsm_state.specs.Calls.{RefusesRead};
-ghost use Rattle.lsm_state.specs.Held.{entries_of};
+ghost use Rattle.lsm_state.specs.Copies.{AreThose, Copies, CopiesPrefix, HoldsPrefix, copies_at};
 ghost use Rattle.lsm_state.specs.Core.{shown_as};
 ghost use Rattle.lsm_state.specs.Ranges.{counting, Ranges, Prefixes, Numbers, PairAt, TellsEmpty, EndOf, IsRangeStep, IsPrefixStep};
-ghost use Rattle.lsm_parts.specs.Shown.{Shows, ShowsPrefix};
-ghost use Rattle.lsm_parts.specs.Ends.{EndShown, NumberShown};
+ghost use Rattle.lsm_iter.specs.Shown.{Shows, ShowsPrefix};
+ghost use Rattle.lsm_iter.specs.Ends.{EndShown, NumberShown};
 
 use crate::{Memtables, TreeState, lists_are_steps};
 use lsm_below::{InternalValue, MemtableId, SeqNo, UserKey};
-use lsm_parts::{
-    End, Error, Guard, IterState, Memtable, SuperVersion, TreeIter, count_shown, first_shown,
-    last_shown,
-};
+use lsm_iter::{End, Guard, IterState, TreeIter, count_shown, end_shown};
+use lsm_parts::{Error, Memtable, SuperVersion};
 use lsm_store::Store;
 use std::alloc::{AllocError, Global};
 use std::ops::Bound;
 
 /// All keys.
 const ALL: (Bound<UserKey>, Bound<UserKey>) = (Bound::Unbounded, Bound::Unbounded);
+
+/// Appends a memtable that was found to the list.
+fn push_found<'a>(
+    list: &mut Vec<&'a Memtable>,
+    found: Option<&'a Memtable>,
+) -> Result<(), AllocError>
+    ensures { OnOk result (list.new.items ≡ list.old.items ++ option_to_list found.entry) }
+{
+    if let Some(memtable) = found {
+        list.push(memtable)?;
+    }
+    Ok(())
+}
 
 /// Appends the sealed memtables to the list, the one that was sealed last before the others.
 fn push_sealed<'a>(
@@ -29,13 +40,11 @@ fn push_sealed<'a>(
     sealed: &[MemtableId],
 ) -> Result<(), AllocError>
     ensures { OnOk result
-        (flat_map (λ m. m.now.entries) list.new.items ≡ flat_map (λ m. m.now.entries) list.old.items ++ flat_map (entries_of memtables.now) (reverse sealed.now)) }
+        ((ids : List ℕ) → AreThose memtables.now ids list.old.items → AreThose memtables.now (ids ++ reverse sealed.now) list.new.items) }
 {
     let mut rest = sealed;
     while let Some((id, older)) = rest.split_last() {
-        if let Some(memtable) = memtables.find(*id) {
-            list.push(memtable)?;
-        }
+        push_found(list, memtables.find(*id))?;
         rest = older;
     }
     Ok(())
@@ -48,12 +57,10 @@ fn memtables_of<'a>(
     version: &SuperVersion,
 ) -> Result<Vec<&'a Memtable>, AllocError>
     ensures { IfOk result
-        (λ list. flat_map (λ m. m.now.entries) list.items ≡ flat_map (entries_of memtables.now) ((shown_as version.now).active ∷ (shown_as version.now).sealed)) }
+        (λ list. AreThose memtables.now ((shown_as version.now).active ∷ (shown_as version.now).sealed) list.items) }
 {
     let mut list = Vec::new(alloc);
-    if let Some(memtable) = memtables.find(version.active_memtable) {
-        list.push(memtable)?;
-    }
+    push_found(&mut list, memtables.find(version.active_memtable))?;
     push_sealed(&mut list, memtables, version.sealed_memtables.as_slice())?;
     Ok(list)
 }
@@ -67,7 +74,8 @@ fn range_of(
     snapshot: SeqNo,
     index: Option<(&Memtable, SeqNo)>,
 ) -> Result<TreeIter, Error>
-    ensures shows { IfOk result (Shows bounds.now.0 bounds.now.1 (counting memtables.now index.entry snapshot (shown_as version.now))) }
+    ensures shows { IfOk result (λ iter. Shows bounds.now.0 bounds.now.1 (counting memtables.now index.entry snapshot (shown_as version.now)) iter.left) }
+    ensures held { IfOk result (λ iter. iter.held ≡ length (copies_at memtables.now index.entry bounds.now.0 bounds.now.1 snapshot (shown_as version.now))) }
     ensures memory { IfErr result (λ e. e ≡ Error.OutOfMemory) }
 {
     let list = memtables_of(alloc, memtables, version)?;
@@ -84,7 +92,8 @@ fn prefix_of(
     snapshot: SeqNo,
     index: Option<(&Memtable, SeqNo)>,
 ) -> Result<TreeIter, Error>
-    ensures shows { IfOk result (ShowsPrefix prefix.now (counting memtables.now index.entry snapshot (shown_as version.now))) }
+    ensures shows { IfOk result (λ iter. ShowsPrefix prefix.now (counting memtables.now index.entry snapshot (shown_as version.now)) iter.left) }
+    ensures held { IfOk result (λ iter. HoldsPrefix memtables.now index.entry prefix.now snapshot (shown_as version.now) iter.held) }
     ensures memory { IfErr result (λ e. e ≡ Error.OutOfMemory) }
 {
     let list = memtables_of(alloc, memtables, version)?;
@@ -122,10 +131,7 @@ fn end_of(
 {
     let list = memtables_of(alloc, memtables, version)?;
     let state = IterState::new(&version.version, list, index);
-    match end {
-        End::Front => first_shown(alloc, &state, &ALL, snapshot),
-        End::Back => last_shown(alloc, &state, &ALL, snapshot),
-    }
+    end_shown(alloc, &state, end, &ALL, snapshot)
 }
 
 impl<S: Store> TreeState<S> {
@@ -140,8 +146,9 @@ impl<S: Store> TreeState<S> {
         snapshot: SeqNo,
         index: Option<(&Memtable, SeqNo)>,
     ) -> Result<TreeIter, Error>
-        ensures ok { IfOk result (Ranges self.now.core index.entry bounds.now.0 bounds.now.1 snapshot) }
-        ensures step { index.entry ≡ None → IfOk result (IsRangeStep self.now.core bounds.now.0 bounds.now.1 snapshot) }
+        ensures ok { IfOk result (λ iter. Ranges self.now.core index.entry bounds.now.0 bounds.now.1 snapshot iter.left) }
+        ensures held { IfOk result (λ iter. Copies self.now.core index.entry bounds.now.0 bounds.now.1 snapshot iter.held) }
+        ensures step { index.entry ≡ None → IfOk result (λ iter. IsRangeStep self.now.core bounds.now.0 bounds.now.1 snapshot iter.left) }
         ensures refuses { RefusesRead self.now.core snapshot result }
     {
         lists_are_steps();
@@ -165,8 +172,9 @@ impl<S: Store> TreeState<S> {
         snapshot: SeqNo,
         index: Option<(&Memtable, SeqNo)>,
     ) -> Result<TreeIter, Error>
-        ensures ok { IfOk result (Ranges self.now.core index.entry bounds.now.0 bounds.now.1 snapshot) }
-        ensures step { index.entry ≡ None → IfOk result (IsRangeStep self.now.core bounds.now.0 bounds.now.1 snapshot) }
+        ensures ok { IfOk result (λ iter. Ranges self.now.core index.entry bounds.now.0 bounds.now.1 snapshot iter.left) }
+        ensures held { IfOk result (λ iter. Copies self.now.core index.entry bounds.now.0 bounds.now.1 snapshot iter.held) }
+        ensures step { index.entry ≡ None → IfOk result (λ iter. IsRangeStep self.now.core bounds.now.0 bounds.now.1 snapshot iter.left) }
         ensures refuses { RefusesRead self.now.core snapshot result }
     {
         self.create_internal_range(bounds, snapshot, index)
@@ -179,7 +187,8 @@ impl<S: Store> TreeState<S> {
         snapshot: SeqNo,
         index: Option<(&Memtable, SeqNo)>,
     ) -> Result<TreeIter, Error>
-        ensures ok { IfOk result (Ranges self.now.core index.entry bounds.now.0 bounds.now.1 snapshot) }
+        ensures ok { IfOk result (λ iter. Ranges self.now.core index.entry bounds.now.0 bounds.now.1 snapshot iter.left) }
+        ensures held { IfOk result (λ iter. Copies self.now.core index.entry bounds.now.0 bounds.now.1 snapshot iter.held) }
         ensures refuses { RefusesRead self.now.core snapshot result }
     {
         self.create_internal_range(bounds, snapshot, index)
@@ -191,7 +200,8 @@ impl<S: Store> TreeState<S> {
         snapshot: SeqNo,
         index: Option<(&Memtable, SeqNo)>,
     ) -> Result<TreeIter, Error>
-        ensures ok { IfOk result (Ranges self.now.core index.entry Unbounded Unbounded snapshot) }
+        ensures ok { IfOk result (λ iter. Ranges self.now.core index.entry Unbounded Unbounded snapshot iter.left) }
+        ensures held { IfOk result (λ iter. Copies self.now.core index.entry Unbounded Unbounded snapshot iter.held) }
         ensures refuses { RefusesRead self.now.core snapshot result }
     {
         self.create_internal_range(&ALL, snapshot, index)
@@ -203,7 +213,8 @@ impl<S: Store> TreeState<S> {
         snapshot: SeqNo,
         index: Option<(&Memtable, SeqNo)>,
     ) -> Result<TreeIter, Error>
-        ensures ok { IfOk result (Ranges self.now.core index.entry Unbounded Unbounded snapshot) }
+        ensures ok { IfOk result (λ iter. Ranges self.now.core index.entry Unbounded Unbounded snapshot iter.left) }
+        ensures held { IfOk result (λ iter. Copies self.now.core index.entry Unbounded Unbounded snapshot iter.held) }
         ensures refuses { RefusesRead self.now.core snapshot result }
     {
         self.create_internal_range(&ALL, snapshot, index)
@@ -216,8 +227,9 @@ impl<S: Store> TreeState<S> {
         snapshot: SeqNo,
         index: Option<(&Memtable, SeqNo)>,
     ) -> Result<TreeIter, Error>
-        ensures ok { IfOk result (Prefixes self.now.core index.entry prefix.now snapshot) }
-        ensures step { index.entry ≡ None → IfOk result (IsPrefixStep self.now.core prefix.now snapshot) }
+        ensures ok { IfOk result (λ iter. Prefixes self.now.core index.entry prefix.now snapshot iter.left) }
+        ensures held { IfOk result (λ iter. CopiesPrefix self.now.core index.entry prefix.now snapshot iter.held) }
+        ensures step { index.entry ≡ None → IfOk result (λ iter. IsPrefixStep self.now.core prefix.now snapshot iter.left) }
         ensures refuses { RefusesRead self.now.core snapshot result }
     {
         lists_are_steps();
@@ -241,14 +253,16 @@ impl<S: Store> TreeState<S> {
         snapshot: SeqNo,
         index: Option<(&Memtable, SeqNo)>,
     ) -> Result<TreeIter, Error>
-        ensures ok { IfOk result (Prefixes self.now.core index.entry prefix.now snapshot) }
-        ensures step { index.entry ≡ None → IfOk result (IsPrefixStep self.now.core prefix.now snapshot) }
+        ensures ok { IfOk result (λ iter. Prefixes self.now.core index.entry prefix.now snapshot iter.left) }
+        ensures held { IfOk result (λ iter. CopiesPrefix self.now.core index.entry prefix.now snapshot iter.held) }
+        ensures step { index.entry ≡ None → IfOk result (λ iter. IsPrefixStep self.now.core prefix.now snapshot iter.left) }
         ensures refuses { RefusesRead self.now.core snapshot result }
     {
         self.create_prefix(prefix, snapshot, index)
     }
 
-    /// How many keys a snapshot shows. It walks over all of them.
+    /// How many keys a snapshot shows. It walks over all of them and copies none: a step compares the keys at one end
+    /// of all sources once, and passes what the snapshot doesn't show.
     pub fn len(&self, snapshot: SeqNo, index: Option<(&Memtable, SeqNo)>) -> Result<usize, Error>
         ensures ok { IfOk result (Numbers self.now.core index.entry snapshot) }
         ensures refuses { RefusesRead self.now.core snapshot result }
@@ -259,7 +273,7 @@ impl<S: Store> TreeState<S> {
         }
     }
 
-    /// Whether a snapshot shows nothing. It stops at the first pair that it finds.
+    /// Whether a snapshot shows nothing. It stops at the first pair that it finds, at the cost of `first_key_value`.
     pub fn is_empty(
         &self,
         snapshot: SeqNo,
@@ -274,7 +288,8 @@ impl<S: Store> TreeState<S> {
         }
     }
 
-    /// The pair with the least key that a snapshot shows. It looks no further than to that pair.
+    /// The pair with the least key that a snapshot shows. It passes what doesn't count at the ends of each source, and
+    /// then takes one step of an iterator: it looks no further than to that pair, and copies that one alone.
     pub fn first_key_value(
         &self,
         snapshot: SeqNo,
@@ -286,7 +301,7 @@ impl<S: Store> TreeState<S> {
         self.end_pair(End::Front, snapshot, index)
     }
 
-    /// The pair with the greatest key that a snapshot shows. It looks no further than to that pair.
+    /// The pair with the greatest key that a snapshot shows, at the cost of `first_key_value`.
     pub fn last_key_value(
         &self,
         snapshot: SeqNo,

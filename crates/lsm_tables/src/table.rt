@@ -1,6 +1,7 @@
 // A table in memory: the entries of one file.
 ghost use Rattle.std.specs.Prelude.{◌≡◌, ◌+◌, ◌<◌, length, IfOk, IfErr, IfSome, IfNone, option_copied};
-ghost use Rattle.lsm_below.specs.Entries.{entry_cmp, top};
+ghost use Rattle.std.specs.List.{AllByRecursion};
+ghost use Rattle.lsm_below.specs.Entries.{HasBytes, entry_cmp, top};
 ghost use Rattle.lsm_below.specs.Sorted.{Rises};
 ghost use Rattle.lsm_below.specs.Lookups.{IsTop, HasNone, within};
 ghost use Rattle.lsm_tables.specs.Image.{IsTable, IsImageOf, IsNoImage, image, entry_bytes};
@@ -124,10 +125,11 @@ impl Table {
         &self.inner.entries
     }
 
-    /// What every table meets: it has an entry at least, its entries rise and fit a file, and its
-    /// range has their keys.
+    /// What every table meets: it has an entry at least, its entries rise and fit a file, their keys have the
+    /// numbers of bytes, and its range has their keys.
     pub fn facts(&self)
         ensures table { IsTable self.now.entries }
+        ensures bytes { AllByRecursion HasBytes self.now.entries }
         ensures covered { IsCovered self.now.entries (range_of self.now.entries) }
     {
         keys_are_ordered();

@@ -1,13 +1,13 @@
 //! Theorems as the contracts of functions that do nothing: each is proved of the words that the contracts of
 //! other calls are made of.
 pub use lsm_below::{entries_are_ordered, first_visible_is_top, keys_are_ordered, merges_by_key};
+pub use lsm_iter::shown_is_the_view;
 pub use lsm_model::{
     any_number_of_crashes, beginnings_answer, counted_is_in_order, cover_lasts, deeds_join,
     each_deed_recovers, every_crash_recovers, every_deed_reads_right, every_run_reads_right,
     joined_runs_show_the_same, levels_rise, maps_are_read, opening_starts, parts_are_whole,
     reads_are_sound, steps_spare_answers, tables_are_placed, tables_show_above,
 };
-pub use lsm_parts::shown_is_the_view;
 pub use lsm_state::{lists_are_steps, ranges_are_overlaid};
 pub use lsm_store::runs_of_calls;
 pub use lsm_tables::{cuts_are_runs, no_image_begins_another, sums_of_parts};

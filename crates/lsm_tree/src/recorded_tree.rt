@@ -12,8 +12,8 @@ ghost use Rattle.lsm_recorded.specs.Recorded.{OwnOr};
 ghost use Rattle.lsm_tree.specs.Shared.{OnSomeTree, RefusesRecordedRead, AgreesFromSome, RefusesSharedRotation, Puts};
 
 use crate::handle::Handle;
-use lsm_below::{InternalValue, KvPair, MemtableId, SeqNo, UserKey, UserValue};
-use lsm_model::{JournalEntry, Op};
+use lsm_below::{InternalValue, MemtableId, SeqNo, UserKey, UserValue};
+use lsm_model::{JournalEntry, KvPairs, Op};
 use lsm_parts::Error;
 use lsm_recorded::{Pass, Recorded};
 use lsm_store::Store;
@@ -48,9 +48,9 @@ impl<S: Store> Handle<Recorded<S>> {
         pass: &mut Pass,
         bounds: &(Bound<UserKey>, Bound<UserKey>),
         snapshot: SeqNo,
-    ) -> Result<Vec<KvPair>, Error>
+    ) -> Result<KvPairs, Error>
         ensures refused { RefusesRecordedRead snapshot result }
-        ensures noted { IfOk result (λ pairs. Puts (ReadEntry snapshot (Between bounds.now.0 bounds.now.1) (PairsAnswer pairs.items) ∷ []) pass.old pass.new) }
+        ensures noted { IfOk result (λ pairs. Puts (ReadEntry snapshot (Between bounds.now.0 bounds.now.1) (PairsAnswer pairs) ∷ []) pass.old pass.new) }
         ensures err { OnErr result (pass.new ≡ pass.old) }
     {
         let mut tree = self.shared.lock(rt);
@@ -66,9 +66,9 @@ impl<S: Store> Handle<Recorded<S>> {
         pass: &mut Pass,
         prefix: &UserKey,
         snapshot: SeqNo,
-    ) -> Result<Vec<KvPair>, Error>
+    ) -> Result<KvPairs, Error>
         ensures refused { RefusesRecordedRead snapshot result }
-        ensures noted { IfOk result (λ pairs. Puts (ReadEntry snapshot (Prefix prefix.now) (PairsAnswer pairs.items) ∷ []) pass.old pass.new) }
+        ensures noted { IfOk result (λ pairs. Puts (ReadEntry snapshot (Prefix prefix.now) (PairsAnswer pairs) ∷ []) pass.old pass.new) }
         ensures err { OnErr result (pass.new ≡ pass.old) }
     {
         let mut tree = self.shared.lock(rt);

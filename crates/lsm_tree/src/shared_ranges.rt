@@ -1,13 +1,14 @@
 // The reads of many keys of a tree behind the lock.
 ghost use Rattle.std.specs.Prelude.{IfOk};
 ghost use Rattle.std.specs.declared.ops.Bound.TheVariants.{Unbounded};
-ghost use Rattle.lsm_parts.specs.declared.tree_iter.End.TheVariants.{Front, Back};
+ghost use Rattle.lsm_iter.specs.declared.tree_iter.End.TheVariants.{Front, Back};
 ghost use Rattle.lsm_state.specs.Ranges.{Ranges, Prefixes, Numbers, PairAt, TellsEmpty};
 ghost use Rattle.lsm_tree.specs.Shared.{AtSomeTree, RefusesSharedRead};
 
 use crate::handle::Handle;
 use lsm_below::{SeqNo, UserKey};
-use lsm_parts::{Error, Guard, Memtable, TreeIter};
+use lsm_iter::{Guard, TreeIter};
+use lsm_parts::{Error, Memtable};
 use lsm_state::TreeState;
 use lsm_store::Store;
 use std::ops::Bound;
@@ -24,7 +25,7 @@ impl<S: Store> Handle<TreeState<S>> {
         snapshot: SeqNo,
         index: Option<(&Memtable, SeqNo)>,
     ) -> Result<TreeIter, Error>
-        ensures ok { IfOk result (λ iter. AtSomeTree (λ c. Ranges c index.entry bounds.now.0 bounds.now.1 snapshot iter)) }
+        ensures ok { IfOk result (λ iter. AtSomeTree (λ c. Ranges c index.entry bounds.now.0 bounds.now.1 snapshot iter.left)) }
         ensures refused { RefusesSharedRead snapshot result }
     {
         let tree = self.shared.lock(rt);
@@ -41,7 +42,7 @@ impl<S: Store> Handle<TreeState<S>> {
         snapshot: SeqNo,
         index: Option<(&Memtable, SeqNo)>,
     ) -> Result<TreeIter, Error>
-        ensures ok { IfOk result (λ iter. AtSomeTree (λ c. Ranges c index.entry bounds.now.0 bounds.now.1 snapshot iter)) }
+        ensures ok { IfOk result (λ iter. AtSomeTree (λ c. Ranges c index.entry bounds.now.0 bounds.now.1 snapshot iter.left)) }
         ensures refused { RefusesSharedRead snapshot result }
     {
         let tree = self.shared.lock(rt);
@@ -58,7 +59,7 @@ impl<S: Store> Handle<TreeState<S>> {
         snapshot: SeqNo,
         index: Option<(&Memtable, SeqNo)>,
     ) -> Result<TreeIter, Error>
-        ensures ok { IfOk result (λ iter. AtSomeTree (λ c. Ranges c index.entry bounds.now.0 bounds.now.1 snapshot iter)) }
+        ensures ok { IfOk result (λ iter. AtSomeTree (λ c. Ranges c index.entry bounds.now.0 bounds.now.1 snapshot iter.left)) }
         ensures refused { RefusesSharedRead snapshot result }
     {
         let tree = self.shared.lock(rt);
@@ -74,7 +75,7 @@ impl<S: Store> Handle<TreeState<S>> {
         snapshot: SeqNo,
         index: Option<(&Memtable, SeqNo)>,
     ) -> Result<TreeIter, Error>
-        ensures ok { IfOk result (λ iter. AtSomeTree (λ c. Ranges c index.entry Unbounded Unbounded snapshot iter)) }
+        ensures ok { IfOk result (λ iter. AtSomeTree (λ c. Ranges c index.entry Unbounded Unbounded snapshot iter.left)) }
         ensures refused { RefusesSharedRead snapshot result }
     {
         let tree = self.shared.lock(rt);
@@ -90,7 +91,7 @@ impl<S: Store> Handle<TreeState<S>> {
         snapshot: SeqNo,
         index: Option<(&Memtable, SeqNo)>,
     ) -> Result<TreeIter, Error>
-        ensures ok { IfOk result (λ iter. AtSomeTree (λ c. Ranges c index.entry Unbounded Unbounded snapshot iter)) }
+        ensures ok { IfOk result (λ iter. AtSomeTree (λ c. Ranges c index.entry Unbounded Unbounded snapshot iter.left)) }
         ensures refused { RefusesSharedRead snapshot result }
     {
         let tree = self.shared.lock(rt);
@@ -107,7 +108,7 @@ impl<S: Store> Handle<TreeState<S>> {
         snapshot: SeqNo,
         index: Option<(&Memtable, SeqNo)>,
     ) -> Result<TreeIter, Error>
-        ensures ok { IfOk result (λ iter. AtSomeTree (λ c. Prefixes c index.entry prefix.now snapshot iter)) }
+        ensures ok { IfOk result (λ iter. AtSomeTree (λ c. Prefixes c index.entry prefix.now snapshot iter.left)) }
         ensures refused { RefusesSharedRead snapshot result }
     {
         let tree = self.shared.lock(rt);
@@ -124,7 +125,7 @@ impl<S: Store> Handle<TreeState<S>> {
         snapshot: SeqNo,
         index: Option<(&Memtable, SeqNo)>,
     ) -> Result<TreeIter, Error>
-        ensures ok { IfOk result (λ iter. AtSomeTree (λ c. Prefixes c index.entry prefix.now snapshot iter)) }
+        ensures ok { IfOk result (λ iter. AtSomeTree (λ c. Prefixes c index.entry prefix.now snapshot iter.left)) }
         ensures refused { RefusesSharedRead snapshot result }
     {
         let tree = self.shared.lock(rt);

@@ -3,7 +3,9 @@
 // Helpers borrow the tree, and each test drops it by a call. A proof takes a tree that is dropped at the end
 // of a block to all its pieces, and does so once more for each `?` before it.
 use crate::samples::{open_recorded, text};
-use lsm_tree::{Config, Error, InternalValue, Op, Pass, Recorded, SeqNo};
+use lsm_tree::{
+    Config, Error, Guard, InternalValue, IterGuard, Op, Pass, Recorded, SeqNo, TreeIter,
+};
 use std::alloc::Global;
 use std::ops::Bound;
 use std::test::Fail;
@@ -142,14 +144,14 @@ fn sets_three(tree: &mut Recorded, pass: &mut Pass) -> bool {
 fn ranges(tree: &mut Recorded, pass: &mut Pass, snapshot: SeqNo, count: usize) -> bool {
     let bounds = (Bound::Included(text("a")), Bound::Excluded(text("b")));
     match tree.range(pass, &bounds, snapshot) {
-        Ok(pairs) => pairs.len() == count,
+        Ok(pairs) => pairs.as_slice().len() == count,
         Err(_) => false,
     }
 }
 
 fn prefixes(tree: &mut Recorded, pass: &mut Pass, prefix: &'static str, count: usize) -> bool {
     match tree.prefix(pass, &text(prefix), 3) {
-        Ok(pairs) => pairs.len() == count,
+        Ok(pairs) => pairs.as_slice().len() == count,
         Err(_) => false,
     }
 }
@@ -164,6 +166,46 @@ fn ranges_and_prefixes_are_noted(rt: HostRuntime) -> Result<(), Fail> {
     assert!(rt; prefixes(&mut tree, &mut pass, "a", 2));
     assert!(rt; prefixes(&mut tree, &mut pass, "", 3));
     assert!(rt; has_places(&pass, 7));
+    drop(pass);
+    drop(tree);
+    Ok(())
+}
+
+/// Whether a pair of this key is given.
+fn has_key(pair: Option<Guard>, name: &[u8]) -> bool {
+    match pair {
+        Some(guard) => match guard.key() {
+            Ok(key) => key.as_slice() == name,
+            Err(_) => false,
+        },
+        None => false,
+    }
+}
+
+/// Whether the iterator gives the keys `a` and `ab` alone, the greater first.
+fn gives_two(iter: Result<TreeIter, Error>) -> bool {
+    match iter {
+        Ok(mut iter) => {
+            has_key(iter.next_back(), b"ab")
+                && has_key(iter.next_back(), b"a")
+                && iter.next_back().is_none()
+        }
+        Err(_) => false,
+    }
+}
+
+fn lends(tree: &Recorded) -> bool {
+    let bounds = (Bound::Included(text("a")), Bound::Excluded(text("b")));
+    gives_two(tree.create_range(&bounds, 3)) && gives_two(tree.create_prefix(&text("a"), 3))
+}
+
+#[test]
+fn iterators_are_not_noted(rt: HostRuntime) -> Result<(), Fail> {
+    let mut tree = open(rt.alloc(), 3)?;
+    let mut pass = Pass::new(rt.alloc());
+    assert!(rt; sets_three(&mut tree, &mut pass));
+    assert!(rt; lends(&tree));
+    assert_eq!(rt; tree.journal().len(), 3);
     drop(pass);
     drop(tree);
     Ok(())

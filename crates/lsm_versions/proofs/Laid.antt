@@ -12,7 +12,7 @@ use Rattle.lsm_below.specs.Each.{each_append, each_left, each_right}
 use Rattle.lsm_model.specs.Laws.{TablesArePlaced}
 use Rattle.lsm_model.specs.Views.{LevelsRise}
 use Rattle.lsm_versions.specs.Levels.{Levels, all_of, range, AreCovered, shown_table, shown_levels, placed_of, placed_in, chosen_in}
-use Rattle.lsm_versions.specs.TableLists.{filter_map, placed_cons, flat_append, entries_of_placed, held_chosen}
+use Rattle.lsm_versions.specs.TableLaws.{filter_map, placed_cons, flat_append, entries_of_placed, held_chosen}
 
 each_made : (Q : SeenTable → Type 0) (P : Placed → Type 0) → ((n : ℕ) (t : SeenTable) → Q t → P (placed_at n (shown_table t))) → (level : ℕ) (ts : List SeenTable) → AllByRecursion Q ts → AllByRecursion P (placed_in level ts)
 each_made Q P gives level [] h = tt

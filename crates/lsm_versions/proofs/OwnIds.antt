@@ -8,7 +8,7 @@ use Rattle.lsm_model.specs.Steps.{among}
 use Rattle.lsm_versions.specs.Levels.{HasOwnIds}
 use Rattle.std.proofs.lemmas.Map.Keys.{IsDistinct-push}
 use Rattle.std.specs.Cmp.{nat_eq_equiv}
-use Rattle.lsm_versions.specs.TableLists.{map_append, flips}
+use Rattle.lsm_versions.specs.TableLaws.{map_append, flips}
 
 no_id : (i : ℕ) (u : SeenTable) (ts : List SeenTable) → AllByRecursion (λ j. eqb i j ≡ false) (map (λ t. t.id) ts) → IsIn u ts → eqb i u.id ≡ false
 no_id i u [] h k = absurd k

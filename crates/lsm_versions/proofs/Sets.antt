@@ -5,7 +5,7 @@ use Rattle.lsm_below.specs.Optimizes.{tables_of}
 use Rattle.lsm_tables.specs.Tables.{SeenTable}
 use Rattle.lsm_model.specs.Steps.{among}
 use Rattle.lsm_versions.specs.Levels.{Levels, all_of}
-use Rattle.lsm_versions.specs.TableLists.{flat_append, among_append, put_more}
+use Rattle.lsm_versions.specs.TableLaws.{flat_append, among_append, put_more}
 
 or_assoc : (a b c : Bool) → (a || (b || c)) ≡ ((a || b) || c)
 or_assoc true b c = refl

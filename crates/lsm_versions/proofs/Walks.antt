@@ -17,7 +17,7 @@ use Rattle.lsm_below.specs.Optimizes.{tables_of}
 use Rattle.lsm_tables.specs.Tables.{SeenTable, IsCovered}
 use Rattle.lsm_model.specs.Views.{walk, placed_from}
 use Rattle.lsm_versions.specs.Levels.{Levels, range, all_of, shown_levels, placed_in, AreCovered}
-use Rattle.lsm_versions.specs.TableLists.{placed_cons, flat_append}
+use Rattle.lsm_versions.specs.TableLaws.{placed_cons, flat_append}
 
 abbrev pub entries_of : List SeenTable → List (List Entry)
 entries_of ts = map (λ t. t.entries) ts

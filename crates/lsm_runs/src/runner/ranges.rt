@@ -1,15 +1,16 @@
 // Reads of many keys, as steps.
 ghost use Rattle.std.specs.Prelude.{◌≡◌, [], IfOk};
 ghost use Rattle.std.specs.declared.ops.Bound.TheVariants.{Unbounded};
-ghost use Rattle.lsm_parts.specs.declared.tree_iter.End.TheVariants.{Front, Back};
+ghost use Rattle.lsm_iter.specs.declared.tree_iter.End.TheVariants.{Front, Back};
 ghost use Rattle.lsm_runs.specs.ReadSteps.{TakesRange, TakesPrefix, TakesSilent, IsLenReply, IsEmptyReply, IsEndReply, ToldFound, told_pairs, told_end};
 
 use super::{one_entry, refused, silent};
 use crate::{Outcome, Reply};
-use lsm_below::{KvPair, SeqNo, UserKey, share};
+use lsm_below::{SeqNo, UserKey, share};
+use lsm_iter::{Guard, IterGuard, TreeIter};
 use lsm_journal::{copy_bound, pairs_entry, take_pairs};
 use lsm_model::{KvPairs, Question};
-use lsm_parts::{Error, Guard, IterGuard, TreeIter};
+use lsm_parts::Error;
 use lsm_state::{TreeState, lists_are_steps};
 use lsm_store::Store;
 use std::alloc::{AllocError, Global};
@@ -20,11 +21,10 @@ fn of_pairs(
     alloc: Global,
     snapshot: SeqNo,
     question: Question,
-    pairs: Vec<KvPair>,
+    pairs: KvPairs,
 ) -> Result<Outcome, AllocError>
-    ensures { IfOk result (λ told. told ≡ told_pairs question snapshot pairs.items) }
+    ensures { IfOk result (λ told. told ≡ told_pairs question snapshot pairs) }
 {
-    let pairs = KvPairs::new(alloc, pairs)?;
     let read = pairs_entry(snapshot, question, &pairs)?;
     let entries = one_entry(alloc, read)?;
     Ok(Outcome {

@@ -1,9 +1,10 @@
 // What is counted of a table's entries.
 ghost use Rattle.std.specs.Prelude.{◌≡◌, ◌+◌, ◌<◌, ◌^◌, ◌∷◌, length, cond};
-ghost use Rattle.lsm_below.specs.Entries.{is_value, is_weak};
+ghost use Rattle.std.specs.List.{AllByRecursion};
+ghost use Rattle.lsm_below.specs.Entries.{HasBytes, is_value, is_weak};
 ghost use Rattle.lsm_tables.specs.Tables.{IsCountOf, stands_on_value};
 
-use lsm_below::{InternalValue, SeqNo, ValueType, has_same_key};
+use lsm_below::{InternalValue, SeqNo, ValueType, has_same_key, slices_hold_bytes};
 
 /// What is counted of entries, in one walk over them.
 #[derive(Clone, Copy)]
@@ -60,9 +61,17 @@ fn with_entry(entry: &InternalValue, behind: &[InternalValue], counts: Counts) -
     }
 }
 
+/// The numbers of an entry's key are those of bytes.
+fn see_bytes(entry: &InternalValue)
+    ensures { HasBytes entry.now }
+{
+    slices_hold_bytes(entry.key.user_key.as_slice());
+}
+
 /// Counts entries, from the last one to the first.
 pub(super) fn count(entries: &[InternalValue]) -> Counts
-    ensures { IsCountOf entries.now result }
+    ensures counts { IsCountOf entries.now result }
+    ensures bytes { AllByRecursion HasBytes entries.now }
 {
     let mut counts = Counts {
         highest: 0,
@@ -72,6 +81,7 @@ pub(super) fn count(entries: &[InternalValue]) -> Counts
     };
     let mut at = entries.len();
     while at > 0 {
+        see_bytes(&entries[at - 1]);
         counts = with_entry(&entries[at - 1], &entries[at..], counts);
         at -= 1;
     }

@@ -10,8 +10,8 @@ returns c =
     let inputs = c.args.inputs.now in
     let ids = c.args.ids.now.keys in
     let to = c.args.to in
-    let is : c.last_found-first.result ≡ last_reason_of (not c.args.stands) ids to levels = rw (c.last_found-first.ensures, c.in_ok-faults.ensures.order, c.in_ok-faults.ensures.eviction, c.levels.ensures) in
-    let reason : IsLastReason inputs ids to levels c.last_found-first.result = (not c.args.stands, stale_shown c.args.stands inputs levels c.requires, is) in
+    let is : c.first_that_holds-first.result ≡ last_reason_of (not c.args.stands) ids to levels = rw (c.first_that_holds-first.ensures, c.in_ok-faults.ensures.order, c.in_ok-faults.ensures.eviction, c.levels.ensures) in
+    let reason : IsLastReason inputs ids to levels c.first_that_holds-first.result = (not c.args.stands, stale_shown c.args.stands inputs levels c.requires, is) in
     record {
       reason = reason;
       allowed = λ none. allowed_last (not c.args.stands) ids to levels c.facts.ensures.is.seven (sym is ∙ none);

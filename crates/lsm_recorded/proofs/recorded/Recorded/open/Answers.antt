@@ -5,7 +5,8 @@ use Rattle.lsm_manifest.specs.declared.opening.Opened.{Opened}
 use Rattle.lsm_manifest.specs.Recovery.{CountsStore}
 use Rattle.lsm_manifest.specs.Told.{Told, TellsOpen, told_weaker}
 use Rattle.lsm_manifest.specs.Opening.{Opens, OpensFiles, OpensAs, KeepsFiles}
-use Rattle.lsm_manifest.specs.OpeningWith.{IsUnrecoverable, told_unrecoverable, told_with, told_not_as, found_others}
+use Rattle.lsm_manifest.specs.OpeningWith.{IsUnrecoverable}
+use Rattle.lsm_manifest.specs.OpeningLaws.{told_unrecoverable, told_with, told_not_as, found_others}
 use Rattle.lsm_model.specs.Journal.{Event}
 use Rattle.lsm_model.specs.Views.{held}
 use Rattle.lsm_versions.specs.Levels.{SeenVersion, placed_of}

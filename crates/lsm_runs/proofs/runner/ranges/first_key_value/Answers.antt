@@ -1,4 +1,4 @@
-use Rattle.lsm_parts.specs.declared.tree_iter.End.TheVariants.{Front}
+use Rattle.lsm_iter.specs.declared.tree_iter.End.TheVariants.{Front}
 use Rattle.lsm_runs.proofs.ReadOutcomes.{end_taken}
 use Rattle.lsm_runs.proofs.runner.ranges.first_key_value.Goals as goal
 

@@ -1,5 +1,5 @@
 use Rattle.std.proofs.Common.{None, ap, subst}
-use Rattle.lsm_parts.specs.Shown.{ShowsPrefix}
+use Rattle.lsm_iter.specs.Shown.{ShowsPrefix}
 use Rattle.lsm_state.specs.Core.{shown_as}
 use Rattle.lsm_state.specs.Ranges.{counting, IsPrefixStep}
 use Rattle.std.proofs.lemmas.Result.{IfOk-weaker}
@@ -12,6 +12,6 @@ returns-in-Ok-clause-step g c none =
     let s = c.args.snapshot in
     let sv = shown_as c.in-Ok.version.now in
     let mems = ap (λ t. t.core.memtables) c.self.view_is in
-    IfOk-weaker c.prefix_of.result (λ out. ShowsPrefix prefix (counting c.self.inside.memtables c.args.index s sv) out) (IsPrefixStep core prefix s)
-    (λ out sh. c.lists_are_steps.ensures.prefix core prefix s out (sv, c.in-Ok.ensures.ok, subst (λ m. ShowsPrefix prefix (counting m None s sv) out) mems (subst (λ ix. ShowsPrefix prefix (counting c.self.inside.memtables ix s sv) out) none sh)))
+    IfOk-weaker c.prefix_of.result (λ iter. ShowsPrefix prefix (counting c.self.inside.memtables c.args.index s sv) iter.left) (λ iter. IsPrefixStep core prefix s iter.left)
+    (λ iter sh. c.lists_are_steps.ensures.prefix core prefix s iter.left (sv, c.in-Ok.ensures.ok, subst (λ m. ShowsPrefix prefix (counting m None s sv) iter.left) mems (subst (λ ix. ShowsPrefix prefix (counting c.self.inside.memtables ix s sv) iter.left) none sh)))
     c.prefix_of.ensures.shows

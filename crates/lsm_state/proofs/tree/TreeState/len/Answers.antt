@@ -1,6 +1,6 @@
 use Rattle.std.proofs.Common.{ap, subst}
 use Rattle.std.specs.declared.ops.Bound.TheVariants.{Unbounded}
-use Rattle.lsm_parts.specs.Ends.{NumberShown}
+use Rattle.lsm_iter.specs.Ends.{NumberShown}
 use Rattle.lsm_state.specs.Core.{shown_as}
 use Rattle.lsm_state.specs.Ranges.{counting, Numbers}
 use Rattle.std.proofs.lemmas.Result.{IfOk-weaker}

@@ -3,7 +3,7 @@ use Rattle.std.proofs.lemmas.List.{length_push}
 use Rattle.std.proofs.lemmas.Map.Iter.{iter_end}
 use Rattle.lsm_model.specs.Steps.{among}
 use Rattle.lsm_versions.proofs.hidden_set.HiddenSet.hide.Goals as goal
-use Rattle.lsm_versions.specs.TableLists.{put_more}
+use Rattle.lsm_versions.specs.TableLaws.{put_more}
 
 pub loop-id-preserved : goal.loop-id-preserved
 loop-id-preserved c = record {

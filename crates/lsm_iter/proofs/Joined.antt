@@ -1,0 +1,59 @@
+-- Lists that are one behind the other, from both ends.
+use Rattle.std.proofs.Common.{◌≡◌, ◌≢◌, ℕ, ◌+◌, false, is_some, option_copied, List, [], ◌∷◌, ◌++◌, length, get_or, set, take, Option, Some, None, refl, sym, ap, ◌∙◌, subst, arith, append-nil, append_assoc}
+use Rattle.std.specs.Borrow.{Bor}
+use Rattle.std.proofs.lemmas.Grind.{flat_map-append}
+use Rattle.std.proofs.lemmas.List.{take_all, take_more, take_more_set, take-set-le, length-set}
+use Rattle.std.proofs.lemmas.List.Elements.{All-take}
+use Rattle.lsm_below.specs.Entries.{Entry}
+use Rattle.lsm_iter.specs.Left.{last_item, Takes}
+use Rattle.lsm_iter.specs.Shared.{joined, AreFull}
+use Rattle.lsm_iter.specs.declared.tree_iter.End.TheVariants.{Back}
+use Rattle.lsm_iter.proofs.Tops.{last_append, no_last}
+use Rattle.lsm_iter.proofs.Trims.{takes_back}
+
+joined_push : (lists : List (List Entry)) (p : List Entry) → joined (lists ++ p ∷ []) ≡ joined lists ++ p
+joined_push lists p = flat_map-append (λ l. l) lists (p ∷ []) ∙ ap (λ l. joined lists ++ l) (append-nil p)
+
+last_with : (front p : List Entry) → p ≢ [] → last_item (front ++ p) ≡ last_item p
+last_with front [] some = absurd (some refl)
+last_with front (x ∷ xs) some = last_append front x xs
+
+-- an entry was taken off
+last_taken : (p q : List Entry) (o : Option Entry) → p ≢ [] → Takes Back p o q → (x : Entry) × (p ≡ q ++ x ∷ [])
+last_taken p q None some h = absurd (some h.0)
+last_taken p q (Some x) some h = (x, h)
+
+-- the last list is p, at the place n
+module _ (lists : List (List Entry)) (n : ℕ) (p : List Entry) (one : n + 1 ≡ length lists) (read : p ≡ get_or lists n p) (full : AreFull lists) where
+  split_last : lists ≡ take n lists ++ p ∷ []
+  split_last = sym (take_all (n + 1) lists (omega arith)) ∙ take_more lists n p (omega arith) ∙ ap (λ q. take n lists ++ q ∷ []) (sym read)
+
+  set_last : (q : List Entry) → set lists n q ≡ take n lists ++ q ∷ []
+  set_last q = sym (take_all (n + 1) (set lists n q) (omega (arith, length-set lists n q))) ∙ take_more_set lists n q (omega arith)
+
+  some : p ≢ []
+  some none = full n p (omega arith) (sym read ∙ none)
+
+  pub back_peeked : last_item (joined lists) ≡ last_item p
+  back_peeked = ap (λ l. last_item (joined l)) split_last ∙ ap last_item (joined_push (take n lists) p) ∙ last_with (joined (take n lists)) p some
+
+  pub back_skipped : (q : List Entry) → Takes Back p (last_item p) q → Takes Back (joined lists) (last_item (joined lists)) (joined (set lists n q))
+  back_skipped q h =
+      let taken = last_taken p q (last_item p) some h in
+      let front = joined (take n lists) in
+      takes_back (joined lists) (joined (set lists n q)) taken.0
+      (ap joined split_last ∙ joined_push (take n lists) p ∙ ap (λ l. front ++ l) taken.1 ∙ sym (append_assoc front q (taken.0 ∷ [])) ∙ ap (λ l. l ++ taken.0 ∷ []) (sym (ap joined (set_last q) ∙ joined_push (take n lists) q)))
+
+  -- where nothing of it is left, it goes
+  pub back_popped : (q : List Entry) (rest : List (List Entry)) → q ≡ [] → rest ≡ take n (set lists n q) → (joined (set lists n q) ≡ joined rest) × AreFull rest
+  back_popped q rest none is =
+      let same : rest ≡ take n lists = is ∙ take-set-le n lists n q (omega arith) in (
+        ap joined (set_last q) ∙ joined_push (take n lists) q ∙ ap (λ l. joined (take n lists) ++ l) none ∙ append-nil (joined (take n lists)) ∙ sym (ap joined same),
+        subst AreFull (sym same) (All-take (λ l. l ≢ []) n lists full),
+      )
+
+-- ---- as the code goes
+
+pub none_left : (r : Option (Bor Entry)) (p : List Entry) → is_some r ≡ false → option_copied r ≡ last_item p → p ≡ []
+none_left None p none is = no_last p (sym is)
+none_left (Some e) p none is = absurd (cc none)

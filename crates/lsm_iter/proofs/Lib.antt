@@ -1,0 +1,17 @@
+pub mod Rises
+pub mod Prefixes
+pub mod Shown
+pub mod Ends
+pub mod Answers
+pub mod Newest
+pub mod Firsts
+pub mod Puts
+pub mod Shows
+pub mod Alone
+pub mod Steps
+pub mod Tops
+pub mod Trims
+pub mod Lents
+pub mod Joined
+pub mod Disjoint
+pub mod Touched

@@ -1,0 +1,18 @@
+use Rattle.std.proofs.Common.{map, subst, arith}
+use Rattle.std.proofs.lemmas.List.{take_all}
+use Rattle.lsm_iter.specs.Reads.{at}
+use Rattle.lsm_iter.specs.Puts.{PutsCursors, number_copied}
+use Rattle.lsm_iter.proofs.Puts.{memtable_copied}
+use Rattle.lsm_iter.proofs.making.push_copies.Goals as goal
+
+pub loop-memtable-preserved : goal.loop-memtable-preserved
+loop-memtable-preserved c =
+    memtable_copied c.args.bounds.now.0 c.args.bounds.now.1 c.args.below c.args.memtables.now c.loop-memtable.memtable-index c.memtable-item.result c.args.cursors.now.items c.loop-memtable.cursors.items c.push_copy.new.cursors.items
+    c.loop-memtable-test.true c.memtable-item.is c.loop-memtable.invariant c.in_ok-push_copy.ensures
+
+pub returns : goal.returns
+returns c =
+    let low = c.args.bounds.now.0 in
+    let high = c.args.bounds.now.1 in
+    subst (λ ms. PutsCursors low high (map (λ m. at c.args.below m.now.entries) ms) (number_copied low high (map (λ m. at c.args.below m.now.entries) ms)) c.args.cursors.now.items c.loop-memtable.cursors.items)
+    (take_all c.loop-memtable.memtable-index c.args.memtables.now (omega (arith, c.loop-memtable-test.false))) c.loop-memtable.invariant

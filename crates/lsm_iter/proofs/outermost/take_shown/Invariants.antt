@@ -1,0 +1,12 @@
+use Rattle.std.proofs.Common.{◌≡◌, ◌≤◌, length}
+use Rattle.lsm_iter.specs.Left.{shown_list, left_of, held_in}
+use Rattle.lsm_iter.proofs.outermost.take_shown.Given as goal
+
+abbrev pub invariant-loop-at : goal.invariant-loop-at
+invariant-loop-at l = record {
+  shown : shown_list (left_of l.fn.cursors) ≡ shown_list (left_of l.cursors);
+  held : held_in l.cursors ≤ held_in l.fn.cursors;
+}
+
+abbrev pub decreases-loop-at : goal.decreases-loop-at
+decreases-loop-at l = length (left_of l.cursors)

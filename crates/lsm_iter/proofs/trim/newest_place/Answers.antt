@@ -1,0 +1,22 @@
+use Rattle.std.proofs.Common.{◌-◌, ◌∙◌, ap, sym, arith}
+use Rattle.lsm_iter.specs.Trims.{counts}
+use Rattle.lsm_iter.proofs.Trims.{place_step, place_end, place_first}
+use Rattle.lsm_iter.proofs.trim.newest_place.Goals as goal
+
+pub loop-place-preserved : goal.loop-place-preserved
+loop-place-preserved c =
+    let g = c.index-entries-place.result in
+    let x = c.index-entries-place-in-loop-place.result in
+    let step = place_step c.args.below c.args.entries.now (c.loop-place.place - 1) c.loop-place.place g x (omega arith) c.loop-place.invariant.inside c.index-entries-place.is c.index-entries-place-in-loop-place.is
+    (ap (counts c.args.below) c.index-entries-place-in-loop-place.is ∙ c.loop-place.invariant.counted x) c.loop-place.invariant.same (sym c.counts_with.ensures ∙ c.if-counts_with.true) in
+    record { inside = omega arith; same = step.0; counted = step.1 }
+
+pub returns-else-counts_with-clause-trims : goal.returns-else-counts_with-clause-trims
+returns-else-counts_with-clause-trims c =
+    let g = c.index-entries-place.result in
+    let x = c.index-entries-place-in-loop-place.result in
+    place_end c.args.below c.args.entries.now (c.loop-place.place - 1) c.loop-place.place g x (omega arith) c.loop-place.invariant.inside c.index-entries-place.is c.index-entries-place-in-loop-place.is
+    (ap (counts c.args.below) c.index-entries-place-in-loop-place.is ∙ c.loop-place.invariant.counted x) c.loop-place.invariant.same c.entries_are_ordered.ensures c.requires.rises (sym c.counts_with.ensures ∙ c.if-counts_with.false)
+
+pub returns-after-loop-place-clause-trims : goal.returns-after-loop-place-clause-trims
+returns-after-loop-place-clause-trims c = place_first c.args.below c.args.entries.now c.loop-place.place c.loop-place-test.false c.loop-place.invariant.inside c.loop-place.invariant.counted c.loop-place.invariant.same

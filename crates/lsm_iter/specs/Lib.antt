@@ -1,0 +1,12 @@
+pub mod Shown
+pub mod Prefixes
+pub mod Guards
+pub mod Reads
+pub mod Ends
+pub mod Left
+pub mod Cursors
+pub mod Outermost
+pub mod Puts
+pub mod Trims
+pub mod Shared
+pub mod Answers

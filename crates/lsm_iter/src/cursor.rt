@@ -1,0 +1,294 @@
+// A cursor: what is left of a source, one entry of each key, from both ends.
+ghost use Rattle.std.specs.Prelude.{◌≡◌, ◌≤◌, true, flat_map, Some, false, option_copied, option_to_list, is_some, filter, Option, MatchOption, IfOk, OnErr};
+ghost use Rattle.std.specs.List.{All};
+ghost use Rattle.lsm_below.specs.Entries.{Entry, entry_cmp, HasBytes, is_value};
+ghost use Rattle.lsm_below.specs.Sorted.{Rises};
+ghost use Rattle.lsm_iter.specs.Shown.{by_key};
+ghost use Rattle.lsm_iter.specs.Reads.{at};
+ghost use Rattle.lsm_iter.specs.Left.{tops, copied, last_item, end_item, Takes, copies_of, TakesValue};
+ghost use Rattle.lsm_iter.specs.Cursors.{left_in, owned_in, repeats};
+ghost use Rattle.lsm_iter.specs.Shared.{IsSound};
+
+use crate::End;
+use crate::lent::Lent;
+use crate::prefix::key_has_bytes;
+use crate::shared::Shared;
+use lsm_below::{
+    InternalValue, Run, SeqNo, UserKey, entries_are_ordered, has_same_key, merges_by_key,
+};
+use lsm_memtable::{Iter, Span};
+use lsm_tables::Table;
+use std::alloc::{AllocError, Global};
+use std::collections::VecDeque;
+use std::marker::Model;
+use std::ops::Bound;
+
+/// Where a cursor's entries stand: copies of those of a memtable, in tables that are shared, or in a memtable that is
+/// borrowed.
+#[derive(Drop)]
+pub(crate) enum Held<'a> {
+    Copied(VecDeque<InternalValue>),
+    Shared(Shared),
+    Lent(Lent<'a>),
+}
+
+/// What is left of a source: of each key the newest entry that counts, by rising key, from both ends.
+#[derive(Drop)]
+pub(crate) struct Cursor<'a> {
+    held: Held<'a>,
+}
+
+impl<'a> Model for Cursor<'a> {
+    ghost use Rattle.lsm_below.specs.Sorted.{Rises};
+    ghost use Rattle.lsm_iter.specs.Shown.{by_key};
+    ghost use Rattle.lsm_iter.specs.Left.{SeenCursor};
+    ghost use Rattle.lsm_iter.specs.Cursors.{left_in, owned_in};
+
+    ghost Value = { SeenCursor };
+
+    ghost view = { λ c. record { left = left_in c.held; held = owned_in c.held } };
+
+    ghost invariant = { λ c. Rises by_key (left_in c.held) };
+}
+
+/// The entry at an end of a list.
+fn item_at(end: End, list: &VecDeque<InternalValue>) -> Option<&InternalValue>
+    ensures { option_copied result ≡ end_item end list.now.items }
+{
+    match end {
+        End::Front => list.front(),
+        End::Back => list.back(),
+    }
+}
+
+/// Takes the entry at an end of a list.
+fn pop_at(end: End, list: &mut VecDeque<InternalValue>) -> Option<InternalValue>
+    ensures is { result ≡ end_item end list.old.items }
+    ensures takes { Takes end list.old.items result list.new.items }
+{
+    match end {
+        End::Front => list.pop_front(),
+        End::Back => list.pop_back(),
+    }
+}
+
+/// Leaves out the entry at an end of a list.
+fn drop_at(end: End, list: &mut VecDeque<InternalValue>)
+    ensures { Takes end list.old.items (end_item end list.old.items) list.new.items }
+{
+    let _ = pop_at(end, list);
+}
+
+/// Whether an entry is a value: a tombstone shows nothing.
+fn is_a_value(entry: &InternalValue) -> bool
+    ensures { result ≡ is_value entry.now }
+{
+    !entry.is_tombstone()
+}
+
+/// The entry, if it is a value.
+fn value_of(entry: Option<InternalValue>) -> Option<InternalValue>
+    ensures { option_to_list result ≡ filter is_value (option_to_list entry) }
+{
+    let entry = entry?;
+    if is_a_value(&entry) {
+        Some(entry)
+    } else {
+        None
+    }
+}
+
+/// Whether the entry is of the same key as the last one of a list.
+fn repeats_last(list: &VecDeque<InternalValue>, entry: &InternalValue) -> bool
+    ensures { result ≡ repeats (last_item list.now.items) entry.now }
+{
+    match item_at(End::Back, list) {
+        Some(last) => has_same_key(last, entry),
+        None => false,
+    }
+}
+
+/// Copies of the newest entry of each key that counts, which share the bytes. Refused only for want of memory.
+fn copy_tops(
+    alloc: Global,
+    entries: Iter<'_>,
+    below: SeqNo,
+) -> Result<VecDeque<InternalValue>, AllocError>
+    ensures is { IfOk result (λ list. list.items ≡ tops (at below entries.entry)) }
+    ensures bytes { IfOk result (λ list. All HasBytes list.items) }
+{
+    let mut list = VecDeque::new(alloc);
+    let mut rest = entries;
+    while let Some(entry) = rest.next() {
+        if entry.key.seqno < below && !repeats_last(&list, entry) {
+            key_has_bytes(&entry.key.user_key);
+            list.push_back(entry.copy()?)?;
+        }
+    }
+    Ok(list)
+}
+
+/// The entry at an end of a cursor.
+fn peek_in<'a>(end: End, held: &'a Held<'_>) -> Option<&'a InternalValue>
+    ensures { option_copied result ≡ end_item end (left_in held.now) }
+{
+    match held {
+        Held::Copied(list) => item_at(end, list),
+        Held::Shared(tables) => tables.peek(end),
+        Held::Lent(entries) => entries.peek(end),
+    }
+}
+
+/// Leaves out the entry at an end of a cursor.
+fn skip_in(end: End, held: &mut Held<'_>)
+    ensures takes { Takes end (left_in held.old) (end_item end (left_in held.old)) (left_in held.new) }
+    ensures owned { owned_in held.new ≤ owned_in held.old }
+{
+    match held {
+        Held::Copied(list) => drop_at(end, list),
+        Held::Shared(tables) => tables.skip(end),
+        Held::Lent(entries) => entries.skip(end),
+    }
+}
+
+/// Whether there is an entry, and it is a value.
+fn has_value(entry: Option<&InternalValue>) -> bool
+    ensures { MatchOption (option_copied entry.entry) (result ≡ false) (λ e. result ≡ is_value e) }
+{
+    match entry {
+        Some(entry) => is_a_value(entry),
+        None => false,
+    }
+}
+
+/// A copy of the entry, if it is a value. Refused only for want of memory, and only where it is a value.
+fn copy_of_value(entry: Option<&InternalValue>) -> Result<Option<InternalValue>, AllocError>
+    ensures is { IfOk result (λ v. option_to_list v ≡ filter is_value (option_to_list (option_copied entry.entry))) }
+    ensures err { OnErr result ((e : Entry) × (option_copied entry.entry ≡ Some e) × (is_value e ≡ true)) }
+{
+    match entry {
+        Some(entry) if is_a_value(entry) => Ok(Some(entry.copy()?)),
+        _ => Ok(None),
+    }
+}
+
+/// Takes the entry at an end of a cursor, if it is a value.
+fn take_in(end: End, held: &mut Held<'_>) -> Result<Option<InternalValue>, AllocError>
+    ensures takes { IfOk result (λ v. TakesValue end (left_in held.old) v (left_in held.new)) }
+    ensures rises { Rises by_key (left_in held.old) → Rises by_key (left_in held.new) }
+    ensures owned { owned_in held.new ≤ owned_in held.old }
+    ensures err { OnErr result ((e : Entry) × (end_item end (left_in held.old) ≡ Some e) × (is_value e ≡ true)) }
+{
+    if let Held::Copied(list) = held {
+        return Ok(value_of(pop_at(end, list)));
+    }
+    let value = copy_of_value(peek_in(end, held))?;
+    skip_in(end, held);
+    Ok(value)
+}
+
+impl<'a> Cursor<'a> {
+    /// Copies of the newest entry of each key that counts, of a part of a memtable. Refused only for want of memory.
+    pub(crate) fn copied(
+        alloc: Global,
+        span: &Span<'_>,
+        below: SeqNo,
+    ) -> Result<Cursor<'a>, AllocError>
+        ensures is { IfOk result (λ c. c ≡ copies_of (at below span.now)) }
+        ensures bytes { IfOk result (λ c. All HasBytes c.left) }
+    {
+        entries_are_ordered();
+        merges_by_key();
+        span.facts();
+        let list = copy_tops(alloc, span.iter(), below)?;
+        Ok(Cursor {
+            held: Held::Copied(list),
+        })
+    }
+
+    /// What lies of a run's tables within bounds, of which no entry is copied. Refused only for want of memory.
+    pub(crate) fn shared(
+        alloc: Global,
+        run: &Run<Table>,
+        bounds: &(Bound<UserKey>, Bound<UserKey>),
+        below: SeqNo,
+    ) -> Result<Cursor<'a>, AllocError>
+        requires { All IsSound run.now }
+        ensures left { IfOk result (λ c. c.left ≡ flat_map (λ t. copied bounds.now.0 bounds.now.1 (at below t.entries)) run.now) }
+        ensures held { IfOk result (λ c. c.held ≡ 0) }
+        ensures bytes { IfOk result (λ c. All HasBytes c.left) }
+    {
+        let tables = Shared::new(alloc, run, bounds, below)?;
+        tables.facts();
+        Ok(Cursor {
+            held: Held::Shared(tables),
+        })
+    }
+
+    /// What is left of a part of a memtable, of which no entry is copied.
+    pub(crate) fn lent(span: &Span<'a>, below: SeqNo) -> Cursor<'a>
+        ensures { result ≡ record { left = tops (at below span.now); held = 0 } }
+    {
+        span.facts();
+        let entries = Lent::new(span.iter(), below);
+        entries.facts();
+        Cursor {
+            held: Held::Lent(entries),
+        }
+    }
+
+    /// What every cursor meets: its keys rise.
+    pub(crate) fn facts(&self)
+        ensures { Rises by_key self.now.left }
+    {
+        let _ = &self.held;
+    }
+
+    /// The entry at this end.
+    pub(crate) fn peek(&self, end: End) -> Option<&InternalValue>
+        ensures is { option_copied result ≡ end_item end self.now.left }
+        ensures rises { Rises by_key self.now.left }
+    {
+        peek_in(end, &self.held)
+    }
+
+    /// Leaves out the entry at this end.
+    pub(crate) fn skip(&mut self, end: End)
+        ensures takes { Takes end self.old.left (end_item end self.old.left) self.new.left }
+        ensures held { self.new.held ≤ self.old.held }
+    {
+        skip_in(end, &mut self.held);
+    }
+
+    /// Takes the entry at this end, if it is a value, and leaves it out if it isn't. Refused only for want of
+    /// memory, where it is a value.
+    pub(crate) fn take(&mut self, end: End) -> Result<Option<InternalValue>, AllocError>
+        ensures rises { Rises by_key self.old.left }
+        ensures takes { IfOk result (λ v. TakesValue end self.old.left v self.new.left) }
+        ensures held { self.new.held ≤ self.old.held }
+        ensures err { OnErr result ((e : Entry) × (end_item end self.old.left ≡ Some e) × (is_value e ≡ true)) }
+    {
+        take_in(end, &mut self.held)
+    }
+
+    /// Leaves out the entry at this end, and returns whether it is a value.
+    pub(crate) fn pass(&mut self, end: End) -> bool
+        ensures rises { Rises by_key self.old.left }
+        ensures takes { (v : Option Entry) × TakesValue end self.old.left v self.new.left × (result ≡ is_some v) }
+        ensures held { self.new.held ≤ self.old.held }
+    {
+        let is_value = has_value(self.peek(end));
+        self.skip(end);
+        is_value
+    }
+
+    /// How many entries the cursor owns.
+    pub(crate) fn held(&self) -> usize
+        ensures { result ≡ self.now.held }
+    {
+        match &self.held {
+            Held::Copied(list) => list.len(),
+            Held::Shared(_) | Held::Lent(_) => 0,
+        }
+    }
+}

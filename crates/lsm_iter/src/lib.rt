@@ -1,0 +1,36 @@
+//! Ranges: iterators over what a snapshot shows, from both ends.
+//!
+//! | Module | Holds |
+//! |-|-|
+//! | `prefix` | the bounds of the keys that begin alike |
+//! | `iter_state`, `making` | what an iterator reads; cursors for it |
+//! | `cursor`, `lent`, `trim`, `shared` | what is left of a source, from both ends; of a memtable that is borrowed; of a table in bounds; of a run of tables |
+//! | `outermost` | the first key that cursors have, seen from an end |
+//! | `tree_iter` | an iterator over what a snapshot shows, from both ends |
+//! | `shown_ends` | the entry at an end of what a snapshot shows, and how many there are, without a list |
+//! | `guard` | what an iterator over pairs returns |
+//! | `laws` | what the list of what is shown is in the theory's words |
+#![tactic(auto)]
+
+mod cursor;
+mod guard;
+mod iter_state;
+mod laws;
+mod lent;
+mod making;
+mod outermost;
+mod prefix;
+mod shared;
+mod shown_ends;
+mod tree_iter;
+mod trim;
+
+pub use guard::{Guard, IterGuard, RangeItem};
+pub use iter_state::IterState;
+pub use laws::shown_is_the_view;
+pub use lsm_below::Error;
+use lsm_memtable::Memtable;
+use lsm_versions::Version;
+pub use prefix::prefix_to_range;
+pub use shown_ends::{count_shown, end_shown};
+pub use tree_iter::{End, TreeIter, take_ends};

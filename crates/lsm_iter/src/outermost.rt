@@ -1,0 +1,132 @@
+// The outermost key of cursors: the first one seen from an end.
+ghost use Rattle.std.specs.Prelude.{◌≡◌, ◌≢◌, ◌+◌, ◌<◌, ◌≤◌, [], length, is_some, Option, MatchOption, IfOk, OnErr};
+ghost use Rattle.lsm_below.specs.Entries.{Entry};
+ghost use Rattle.lsm_below.specs.Sorted.{Rises};
+ghost use Rattle.lsm_iter.specs.Shown.{by_key};
+ghost use Rattle.lsm_iter.specs.Left.{left_of, held_in, shown_list, end_item, Takes};
+ghost use Rattle.lsm_iter.specs.Outermost.{standing, IsOutermost, ShowSame};
+ghost use Rattle.lsm_iter.specs.declared.outermost.Standing.TheVariants.{Outside};
+
+use crate::End;
+use crate::cursor::Cursor;
+use lsm_below::InternalValue;
+use std::alloc::AllocError;
+use std::cmp::Ordering;
+
+/// How an entry stands to another one, seen from an end.
+#[derive(Clone, Copy)]
+enum Standing {
+    /// Its key is nearer to the end.
+    Outside,
+    /// It has the same key, and is newer.
+    Newer,
+    /// It has the same key, and is not newer.
+    Older,
+    /// Its key is farther from the end.
+    Inside,
+}
+
+/// How the second entry stands to the first one.
+fn stands_to(end: End, entry: &InternalValue, other: &InternalValue) -> Standing
+    ensures { result ≡ standing end entry.now other.now }
+{
+    let order = match end {
+        End::Front => other.key.user_key.cmp(&entry.key.user_key),
+        End::Back => entry.key.user_key.cmp(&other.key.user_key),
+    };
+    match order {
+        Ordering::Less => Standing::Outside,
+        Ordering::Equal => {
+            if entry.key.seqno < other.key.seqno {
+                Standing::Newer
+            } else {
+                Standing::Older
+            }
+        }
+        Ordering::Greater => Standing::Inside,
+    }
+}
+
+/// How an entry stands to the one at an end of a cursor: outside, where that has none.
+fn stands_at(end: End, cursor: &Cursor<'_>, other: &InternalValue) -> Standing
+    ensures rises { Rises by_key cursor.now.left }
+    ensures is { MatchOption (end_item end cursor.now.left) (result ≡ Outside) (λ e. result ≡ standing end e other.now) }
+{
+    match cursor.peek(end) {
+        Some(entry) => stands_to(end, entry, other),
+        None => Standing::Outside,
+    }
+}
+
+/// Of the cursors up to this one the place of the one with the outermost key, where that of those before it is
+/// known. Where two have one key, the older entry goes, which no step would show.
+fn outer_of(end: End, cursors: &mut [Cursor<'_>], outer: Option<usize>, at: usize) -> Option<usize>
+    requires at { at < length cursors.old }
+    requires outer { IsOutermost end cursors.old at outer }
+    ensures outer { IsOutermost end cursors.new (at + 1) result }
+    ensures same { ShowSame cursors.old cursors.new }
+{
+    let Some(entry) = cursors[at].peek(end) else {
+        return outer;
+    };
+    let Some(place) = outer else {
+        return Some(at);
+    };
+    match stands_at(end, &cursors[place], entry) {
+        Standing::Outside => Some(at),
+        Standing::Inside => Some(place),
+        Standing::Newer => {
+            cursors[place].skip(end);
+            Some(at)
+        }
+        Standing::Older => {
+            cursors[at].skip(end);
+            Some(place)
+        }
+    }
+}
+
+/// The place of the cursor with the outermost key, which no other one has. One comparison a cursor.
+fn outermost_at(end: End, cursors: &mut [Cursor<'_>]) -> Option<usize>
+    ensures outer { IsOutermost end cursors.new (length cursors.new) result }
+    ensures same { ShowSame cursors.old cursors.new }
+{
+    let mut outer = None;
+    for at in 0..cursors.len() {
+        outer = outer_of(end, cursors, outer, at);
+    }
+    outer
+}
+
+/// Takes the entry at this end of what cursors show. Refused only for want of memory, where something is left.
+pub(crate) fn take_shown(
+    end: End,
+    cursors: &mut [Cursor<'_>],
+) -> Result<Option<InternalValue>, AllocError>
+    ensures takes { IfOk result (λ entry. Takes end (shown_list (left_of cursors.old)) entry (shown_list (left_of cursors.new))) }
+    ensures held { held_in cursors.new ≤ held_in cursors.old }
+    ensures err { OnErr result (shown_list (left_of cursors.old) ≢ []) }
+{
+    loop {
+        let Some(at) = outermost_at(end, cursors) else {
+            return Ok(None);
+        };
+        if let Some(entry) = cursors[at].take(end)? {
+            return Ok(Some(entry));
+        }
+    }
+}
+
+/// Passes the entry at this end of what cursors show, and returns whether there was one.
+pub(crate) fn pass_shown(end: End, cursors: &mut [Cursor<'_>]) -> bool
+    ensures { (entry : Option Entry) × Takes end (shown_list (left_of cursors.old)) entry (shown_list (left_of cursors.new)) × (result ≡ is_some entry) }
+{
+    loop {
+        let Some(at) = outermost_at(end, cursors) else {
+            return false;
+        };
+        if cursors[at].pass(end) {
+            return true;
+        }
+    }
+}

@@ -1,0 +1,155 @@
+// What is left of a run of tables, which are shared.
+ghost use Rattle.std.specs.Prelude.{◌≡◌, ℕ, ◌<◌, true, flat_map, length, option_copied, slice_index_or, IfOk, OnErr, OnOk, Some, ◌++◌};
+ghost use Rattle.std.specs.List.{All};
+ghost use Rattle.lsm_below.specs.Entries.{Entry, entry_cmp, HasBytes, is_value};
+ghost use Rattle.lsm_below.specs.Runs.{IsRun};
+ghost use Rattle.lsm_below.specs.Sorted.{Rises};
+ghost use Rattle.lsm_tables.specs.Tables.{range_of};
+ghost use Rattle.lsm_iter.specs.Reads.{at};
+ghost use Rattle.lsm_iter.specs.Shown.{by_key};
+ghost use Rattle.lsm_iter.specs.Left.{end_item, copied, Takes, TakesValue};
+ghost use Rattle.lsm_iter.specs.Shared.{joined, AreFull, IsSound};
+ghost use Rattle.lsm_iter.specs.declared.tree_iter.End.TheVariants.{Front, Back};
+
+use crate::End;
+use crate::trim::Trim;
+use lsm_below::{InternalValue, Run, SeqNo, UserKey};
+use lsm_tables::Table;
+use std::alloc::{AllocError, Global};
+use std::collections::VecDeque;
+use std::marker::Model;
+use std::ops::Bound;
+
+/// The entry at an end of parts that have one each.
+fn peek_parts(end: End, parts: &VecDeque<Trim>) -> Option<&InternalValue>
+    requires { AreFull parts.now.items }
+    ensures { option_copied result ≡ end_item end (joined parts.now.items) }
+{
+    match end {
+        End::Front => parts.front()?.peek(end),
+        End::Back => parts.back()?.peek(end),
+    }
+}
+
+/// Takes the first entry off. A part that has nothing left goes.
+fn skip_front(parts: &mut VecDeque<Trim>)
+    requires { AreFull parts.old.items }
+    ensures takes { Takes Front (joined parts.old.items) (end_item Front (joined parts.old.items)) (joined parts.new.items) }
+    ensures full { AreFull parts.new.items }
+{
+    if parts.is_empty() {
+        return;
+    }
+    parts[0].skip(End::Front);
+    if parts[0].peek(End::Front).is_none() {
+        parts.pop_front();
+    }
+}
+
+/// Takes the last entry off. A part that has nothing left goes.
+fn skip_back(parts: &mut VecDeque<Trim>)
+    requires { AreFull parts.old.items }
+    ensures takes { Takes Back (joined parts.old.items) (end_item Back (joined parts.old.items)) (joined parts.new.items) }
+    ensures full { AreFull parts.new.items }
+{
+    if parts.is_empty() {
+        return;
+    }
+    let last = parts.len() - 1;
+    parts[last].skip(End::Back);
+    if parts[last].peek(End::Back).is_none() {
+        parts.pop_back();
+    }
+}
+
+/// Adds a part behind the others, if it has an entry. Refused only for want of memory.
+fn push_part(parts: &mut VecDeque<Trim>, part: Trim) -> Result<(), AllocError>
+    requires { AreFull parts.old.items }
+    ensures joined { OnOk result (joined parts.new.items ≡ joined parts.old.items ++ part) }
+    ensures full { AreFull parts.new.items }
+{
+    if part.peek(End::Front).is_some() {
+        parts.push_back(part)?;
+    }
+    Ok(())
+}
+
+/// The tables of a run from the first to the last one that reach into the bounds: the others have nothing there.
+fn touched<'a>(run: &'a Run<Table>, bounds: &(Bound<UserKey>, Bound<UserKey>)) -> &'a [Table]
+    requires { All IsSound run.now }
+    ensures run { IsRun (λ t. range_of t.entries) result.now }
+    ensures sound { All IsSound result.now }
+    ensures same { (s : ℕ) → flat_map (λ t. copied bounds.now.0 bounds.now.1 (at s t.entries)) result.now ≡ flat_map (λ t. copied bounds.now.0 bounds.now.1 (at s t.entries)) run.now }
+{
+    run.facts();
+    let tables = run.as_slice();
+    match run.range_overlap_indexes(&bounds.0, &bounds.1) {
+        None => &tables[..0],
+        Some((first, last)) => &tables[first..last + 1],
+    }
+}
+
+/// What is left of a run of tables: its tables are shared, and no entry is copied before its turn.
+#[derive(Drop)]
+pub(crate) struct Shared {
+    parts: VecDeque<Trim>,
+}
+
+impl Model for Shared {
+    ghost use Rattle.std.specs.Prelude.{List};
+    ghost use Rattle.lsm_below.specs.Entries.{Entry};
+    ghost use Rattle.lsm_below.specs.Sorted.{Rises};
+    ghost use Rattle.lsm_iter.specs.Shown.{by_key};
+    ghost use Rattle.lsm_iter.specs.Shared.{joined, AreFull};
+
+    ghost Value = { List Entry };
+
+    ghost view = { λ s. joined s.parts.items };
+
+    ghost invariant = { λ s. Rises by_key (joined s.parts.items) × AreFull s.parts.items };
+}
+
+impl Shared {
+    /// Of each key in the bounds the newest entry below a sequence number, of all tables of a run. Refused only for
+    /// want of memory.
+    pub(crate) fn new(
+        alloc: Global,
+        run: &Run<Table>,
+        bounds: &(Bound<UserKey>, Bound<UserKey>),
+        below: SeqNo,
+    ) -> Result<Shared, AllocError>
+        requires { All IsSound run.now }
+        ensures is { IfOk result (λ s. s ≡ flat_map (λ t. copied bounds.now.0 bounds.now.1 (at below t.entries)) run.now) }
+        ensures bytes { IfOk result (All HasBytes) }
+    {
+        let mut parts = VecDeque::new(alloc);
+        for table in touched(run, bounds) {
+            push_part(&mut parts, Trim::new(table, bounds, below)?)?;
+        }
+        Ok(Shared { parts })
+    }
+
+    /// The entry at this end, if there is one.
+    pub(crate) fn peek(&self, end: End) -> Option<&InternalValue>
+        ensures is { option_copied result ≡ end_item end self.now }
+    {
+        peek_parts(end, &self.parts)
+    }
+
+    /// What is left rises by its keys.
+    pub(crate) fn facts(&self)
+        ensures { Rises by_key self.now }
+    {
+        let _ = &self.parts;
+    }
+
+    /// Takes the entry at this end off.
+    pub(crate) fn skip(&mut self, end: End)
+        ensures { Takes end self.old (end_item end self.old) self.new }
+    {
+        match end {
+            End::Front => skip_front(&mut self.parts),
+            End::Back => skip_back(&mut self.parts),
+        }
+    }
+}
