@@ -7,14 +7,10 @@ use Rattle.std.specs.declared.ops.Bound.{Bound}
 use Rattle.lsm_below.specs.Keys.{Bytes}
 use Rattle.lsm_below.specs.Entries.{Entry}
 use Rattle.lsm_below.specs.Lookups.{is_from, is_to, within}
-use Rattle.std.specs.Ordering.{is_eq}
-use Rattle.lsm_below.specs.Keys.{bytes_cmp}
 use Rattle.lsm_below.specs.Entries.{entry_cmp}
-use Rattle.lsm_below.specs.Sorted.{Rises, first}
-use Rattle.lsm_below.specs.Lookups.{is_visible, stands_before, IsParting}
+use Rattle.lsm_below.specs.Sorted.{Rises}
 use Rattle.lsm_below.specs.Laws.{EntriesAreParted}
 use Rattle.lsm_memtable.proofs.Joined.{rises_left, rises_right}
-use Rattle.std.proofs.Common.{Some, None}
 use Rattle.std.proofs.lemmas.List.{take-append-drop}
 use Rattle.lsm_memtable.specs.Blocks.{joined, spot, HasPlace, IsEdge}
 use Rattle.lsm_memtable.specs.Spans.{between, ArePlaces}
@@ -44,7 +40,7 @@ module _ {X : Type 0} where
         ap (λ k. take k (drop a xs)) n_is ∙ sym (ap (λ k. take k (drop b xs)) m_is)
   ]
 
-  pub spot_in : (bs : List (List X)) (b i : ℕ) → HasPlace bs b i → spot bs b i ≤ length (joined bs)
+  spot_in : (bs : List (List X)) (b i : ℕ) → HasPlace bs b i → spot bs b i ≤ length (joined bs)
   spot_in bs b i place = let total = block_within bs b [] place.0 in let at = place.1 in omega arith
 
   pub span_all : (bs : List (List X)) (b i : ℕ) → b + 1 ≡ length bs → i ≡ length (get_or bs b []) → between bs 0 0 b i ≡ joined bs
@@ -103,56 +99,9 @@ cut_again parts bs low high b i c j bl il ch jh bn in_ cn jn from to lower upper
     (λ k d _ lt. lower.before k d lt, λ k d le lt. lower.behind k d le lt)
     (λ k d _ lt. upper.before k d lt, λ k d le lt. upper.behind k d le lt)))
 
--- ---- what a look-up finds in a part
+-- ---- a part rises
 
 pub rises_part : (xs : List Entry) (n m : ℕ) → Rises entry_cmp xs → Rises entry_cmp (take n (drop m xs))
 rises_part xs n m rises =
     let back : Rises entry_cmp (drop m xs) = rises_right entry_cmp (take m xs) (drop m xs) (subst (λ l. Rises entry_cmp l) (sym (take-append-drop m xs)) rises) in
     rises_left entry_cmp (take n (drop m xs)) (drop n (drop m xs)) (subst (λ l. Rises entry_cmp l) (sym (take-append-drop n (drop m xs))) back)
-
-module _ (parts : EntriesAreParted) (xs : List Entry) (rises : Rises entry_cmp xs) (key : Bytes) (s b e a : ℕ) (e_in : e ≤ length xs) (b_in : b ≤ length xs) (a_in : a ≤ length xs)
-    (before : (j : ℕ) (d : Entry) → j < a → stands_before key s (get_or xs j d) ≡ true)
-    (behind : (j : ℕ) (d : Entry) → a ≤ j → j < length xs → stands_before key s (get_or xs j d) ≡ false) where
-  abbrev here : List Entry
-  here = take (e - b) (drop b xs)
-
-  part_size : length (take (e - b) (drop b xs)) ≡ e - b
-  part_size = omega (arith, length-take (e - b) (drop b xs), length-drop b xs)
-
-  part_read : (j : ℕ) (d : Entry) → j < e - b → get_or (take (e - b) (drop b xs)) j d ≡ get_or xs (b + j) d
-  part_read j d lt = get_or-take (e - b) (drop b xs) j d lt ∙ get_or-drop b xs j d
-
-  part_before : (j : ℕ) (d : Entry) → j < min (a - b) (e - b) → stands_before key s (get_or (take (e - b) (drop b xs)) j d) ≡ true
-  part_before j d lt = subst (λ x. stands_before key s x ≡ true) (sym (part_read j d (omega arith))) (before (b + j) d (omega arith))
-
-  part_behind : (j : ℕ) (d : Entry) → min (a - b) (e - b) ≤ j → j < length (take (e - b) (drop b xs)) → stands_before key s (get_or (take (e - b) (drop b xs)) j d) ≡ false
-  part_behind j d le lt = subst (λ x. stands_before key s x ≡ false) (sym (part_read j d (omega (arith, part_size)))) (behind (b + j) d (omega (arith, part_size)) (omega (arith, part_size)))
-
-  parted : IsParting (take (e - b) (drop b xs)) key s (min (a - b) (e - b))
-  parted = record { before = part_before; behind = part_behind }
-
-  pub none_seen : (from : ℕ) → from ≡ max b a → take (e - from) (drop from xs) ≡ [] → first (is_visible key s) (take (e - b) (drop b xs)) ≡ None
-  none_seen from is none =
-      let size : length (take (e - from) (drop from xs)) ≡ e - from = omega (arith, length-take (e - from) (drop from xs), length-drop from xs) in
-      let zero_size : length (take (e - from) (drop from xs)) ≡ 0 = ap (λ l. length l) none in
-      parts.past_end (take (e - b) (drop b xs)) key s (min (a - b) (e - b)) (rises_part xs (e - b) b rises) parted (omega (arith, part_size))
-
-  module _ (from : ℕ) (is : from ≡ max b a) (x : Entry) (t : List Entry) (some : take (e - from) (drop from xs) ≡ x ∷ t) where
-    more : 0 < e - from
-    more = let size : length (take (e - from) (drop from xs)) ≡ suc (length t) = ap (λ l. length l) some in omega (arith, length-take (e - from) (drop from xs))
-
-    read_first : x ≡ get_or (take (e - b) (drop b xs)) (min (a - b) (e - b)) x
-    read_first =
-        let m = more in
-        let at : b + min (a - b) (e - b) ≡ from + 0 = omega arith in
-        sym (part_read (min (a - b) (e - b)) x (omega arith) ∙ (ap (λ k. get_or xs k x) at ∙ (sym (get_or-drop from xs 0 x) ∙ (sym (get_or-take (e - from) (drop from xs) 0 x (omega arith)) ∙ ap (λ l. get_or l 0 x) some))))
-
-    pub first_seen : is_eq (bytes_cmp x.key.user_key key) ≡ true → first (is_visible key s) (take (e - b) (drop b xs)) ≡ Some x
-    first_seen same =
-        let m = more in
-        parts.found (take (e - b) (drop b xs)) key s (min (a - b) (e - b)) x (rises_part xs (e - b) b rises) parted (omega (arith, part_size)) read_first same
-
-    pub other_seen : is_eq (bytes_cmp x.key.user_key key) ≡ false → first (is_visible key s) (take (e - b) (drop b xs)) ≡ None
-    other_seen other =
-        let m = more in
-        parts.other (take (e - b) (drop b xs)) key s (min (a - b) (e - b)) x (rises_part xs (e - b) b rises) parted (omega (arith, part_size)) read_first other

@@ -1,16 +1,16 @@
 // A part of a memtable between two places, which may be cut again.
-ghost use Rattle.std.specs.Prelude.{◌≡◌, option_copied, ◌≤◌, max, min, true, false};
-ghost use Rattle.lsm_below.specs.Lookups.{within, is_visible};
+ghost use Rattle.std.specs.Prelude.{◌≡◌, ◌≤◌, max, min, true, false};
+ghost use Rattle.lsm_below.specs.Lookups.{within};
 ghost use Rattle.lsm_below.specs.Entries.{entry_cmp};
-ghost use Rattle.lsm_below.specs.Sorted.{Rises, first};
+ghost use Rattle.lsm_below.specs.Sorted.{Rises};
 ghost use Rattle.lsm_memtable.specs.Blocks.{joined, spot, AreBlocks, HasPlace};
 
+use crate::Iter;
 use crate::block::Block;
-use crate::blocks::{Place, find};
+use crate::blocks::Place;
 use crate::bounds::{lower_place, upper_place};
 use crate::iter::{between, whole};
-use crate::{Iter, Steps};
-use lsm_below::{InternalValue, SeqNo, UserKey, entries_are_parted};
+use lsm_below::{UserKey, entries_are_parted};
 use std::collections::VecDeque;
 use std::marker::Model;
 use std::ops::Bound;
@@ -146,26 +146,6 @@ impl<'a> Span<'a> {
             blocks: self.blocks,
             from,
             to,
-        }
-    }
-
-    /// The first entry of a key below the snapshot. The cost is logarithmic.
-    pub fn first_visible(&self, key: &[u8], snapshot: SeqNo) -> Option<&'a InternalValue>
-        ensures { option_copied result ≡ first (is_visible key.now snapshot) self.now }
-    {
-        entries_are_parted();
-        if self.blocks.is_empty() {
-            return None;
-        }
-        let place = find(self.blocks, key, snapshot as u128, &mut Steps::new());
-        let from = later(self.blocks, self.from, place);
-        let Some(entry) = between(self.blocks, from, self.to).next() else {
-            return None;
-        };
-        if entry.key.user_key.as_slice() == key {
-            Some(entry)
-        } else {
-            None
         }
     }
 }
