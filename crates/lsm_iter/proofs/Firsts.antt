@@ -1,7 +1,7 @@
 -- The newest entry of each key, of entries in order.
-use Rattle.std.proofs.Common.{◌≡◌, ℕ, ◌<◌, ◌≤◌, append_assoc, true, false, cond, ◌&&◌, List, [], ◌∷◌, ◌++◌, length, filter, Option, Some, None, refl, sym, ap, ◌∙◌, subst, arith, ltb}
+use Rattle.std.proofs.Common.{◌≡◌, ℕ, ◌≤◌, append_assoc, true, false, Bool, not, cond, ◌&&◌, List, [], ◌∷◌, ◌++◌, length, filter, Option, Some, None, refl, sym, ap, ◌∙◌, subst, arith, ltb}
 use Rattle.std.specs.List.{All, AllByRecursion}
-use Rattle.std.proofs.lemmas.Bool.{le-ltb, lt-ltb}
+use Rattle.std.proofs.lemmas.Bool.{le-ltb}
 use Rattle.std.proofs.lemmas.List.Elements.{All-from_recursion, All-contains, All-filter, All-cons, All-head, All-tail, recursion_from_All, filter_passes}
 use Rattle.lsm_below.specs.Keys.{Bytes}
 use Rattle.lsm_below.specs.Entries.{Entry, entry_cmp, stack, later}
@@ -64,19 +64,28 @@ after_one : (o : Option Entry) (e : Entry) (es : List Entry) → repeats o e ≡
 after_one None e es h = refl
 after_one (Some l) e es h = ap (λ b. cond b (changes l es) (e ∷ changes e es)) h
 
-pub copied_more : (s : ℕ) (all list new rest more : List Entry) (e copy : Entry) → tops (at s all) ≡ list ++ firsts_after (last_item list) (filter (λ f. ltb f.key.seqno s) rest) → rest ≡ e ∷ more → e.key.seqno < s → repeats (last_item list) e ≡ false
-    → copy ≡ e → new ≡ list ++ copy ∷ [] → tops (at s all) ≡ new ++ firsts_after (last_item new) (filter (λ f. ltb f.key.seqno s) more)
-copied_more s all list new rest more e copy is next low once same pushed =
+both_of : (a b : Bool) → (a && not b) ≡ true → (a ≡ true) × (b ≡ false)
+both_of true true h = absurd (cc h)
+both_of true false h = (refl, refl)
+both_of false b h = absurd (cc h)
+
+pub copied_more : (s : ℕ) (all list new rest more : List Entry) (last : Option Entry) (e copy : Entry) → last ≡ last_item list → tops (at s all) ≡ list ++ firsts_after (last_item list) (filter (λ f. ltb f.key.seqno s) rest) → rest ≡ e ∷ more → (ltb e.key.seqno s && not (repeats last e)) ≡ true
+    → copy ≡ e → new ≡ list ++ copy ∷ [] → (Some e ≡ last_item new) × (tops (at s all) ≡ new ++ firsts_after (last_item new) (filter (λ f. ltb f.key.seqno s) more))
+copied_more s all list new rest more last e copy ends is next left same pushed =
     let counts = λ (f : Entry). ltb f.key.seqno s in
     let new_is : new ≡ list ++ e ∷ [] = pushed ∙ ap (λ x. list ++ x ∷ []) same in
-    let last : last_item new ≡ Some e = ap last_item new_is ∙ last_push list e in
-    is
-    ∙ ap (λ l. list ++ firsts_after (last_item list) (filter counts l)) next
-    ∙ ap (λ b. list ++ firsts_after (last_item list) (cond b (e ∷ filter counts more) (filter counts more))) (lt-ltb e.key.seqno s low)
-    ∙ ap (λ l. list ++ l) (after_one (last_item list) e (filter counts more) once)
-    ∙ sym (append_assoc list (e ∷ []) (changes e (filter counts more)))
-    ∙ ap (λ l. l ++ changes e (filter counts more)) (sym new_is)
-    ∙ ap (λ o. new ++ firsts_after o (filter counts more)) (sym last)
+    let ends_so : last_item new ≡ Some e = ap last_item new_is ∙ last_push list e in
+    let both = both_of (ltb e.key.seqno s) (repeats last e) left in
+    let once : repeats (last_item list) e ≡ false = ap (λ o. repeats o e) (sym ends) ∙ both.1 in (
+      sym ends_so,
+      is
+          ∙ ap (λ l. list ++ firsts_after (last_item list) (filter counts l)) next
+          ∙ ap (λ b. list ++ firsts_after (last_item list) (cond b (e ∷ filter counts more) (filter counts more))) both.0
+          ∙ ap (λ l. list ++ l) (after_one (last_item list) e (filter counts more) once)
+          ∙ sym (append_assoc list (e ∷ []) (changes e (filter counts more)))
+          ∙ ap (λ l. l ++ changes e (filter counts more)) (sym new_is)
+          ∙ ap (λ o. new ++ firsts_after o (filter counts more)) (sym ends_so),
+    )
 
 -- ---- what all entries have, the first of each key have
 

@@ -52,8 +52,18 @@ module _ (lists : List (List Entry)) (n : ℕ) (p : List Entry) (one : n + 1 ≡
         subst AreFull (sym same) (All-take (λ l. l ≢ []) n lists full),
       )
 
+  -- it grows
+  pub back_pushed : (e : Entry) (q : List Entry) → q ≡ p ++ e ∷ [] → joined (set lists n q) ≡ joined lists ++ e ∷ []
+  back_pushed e q is =
+      let front = joined (take n lists) in
+      ap joined (set_last q) ∙ joined_push (take n lists) q ∙ ap (λ l. front ++ l) is ∙ sym (append_assoc front p (e ∷ [])) ∙ ap (λ l. l ++ e ∷ []) (sym (ap joined split_last ∙ joined_push (take n lists) p))
+
 -- ---- as the code goes
 
 pub none_left : (r : Option (Bor Entry)) (p : List Entry) → is_some r ≡ false → option_copied r ≡ last_item p → p ≡ []
 none_left None p none is = no_last p (sym is)
 none_left (Some e) p none is = absurd (cc none)
+
+pub none_counted : (p : List Entry) → length p ≡ 0 → p ≡ []
+none_counted [] h = refl
+none_counted (e ∷ p) h = absurd (omega (arith, h))

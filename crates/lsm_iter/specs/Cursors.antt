@@ -7,13 +7,13 @@ use Rattle.lsm_iter.specs.declared.cursor.Held.TheVariants.{Copied, Shared, Lent
 
 -- the entries that are left
 abbrev pub left_in : Held → List Entry
-left_in (Copied list) = list.items
+left_in (Copied list) = list
 left_in (Shared tables) = tables
 left_in (Lent entries) = entries
 
 -- how many of them the cursor owns
 abbrev pub owned_in : Held → ℕ
-owned_in (Copied list) = length list.items
+owned_in (Copied list) = length list
 owned_in (Shared tables) = 0
 owned_in (Lent entries) = 0
 

@@ -3,6 +3,7 @@ ghost use Rattle.std.specs.Prelude.{◌≡◌, ◌≤◌, true, flat_map, Some, 
 ghost use Rattle.std.specs.List.{All};
 ghost use Rattle.lsm_below.specs.Entries.{Entry, entry_cmp, HasBytes, is_value};
 ghost use Rattle.lsm_below.specs.Sorted.{Rises};
+ghost use Rattle.lsm_below.specs.Sums.{capped};
 ghost use Rattle.lsm_iter.specs.Shown.{by_key};
 ghost use Rattle.lsm_iter.specs.Reads.{at};
 ghost use Rattle.lsm_iter.specs.Left.{tops, copied, last_item, end_item, Takes, copies_of, TakesValue};
@@ -10,7 +11,8 @@ ghost use Rattle.lsm_iter.specs.Cursors.{left_in, owned_in, repeats};
 ghost use Rattle.lsm_iter.specs.Shared.{IsSound};
 
 use crate::End;
-use crate::lent::Lent;
+use crate::copies::Copies;
+use crate::lent::{Lent, is_left};
 use crate::prefix::key_has_bytes;
 use crate::shared::Shared;
 use lsm_below::{
@@ -19,7 +21,6 @@ use lsm_below::{
 use lsm_memtable::{Iter, Span};
 use lsm_tables::Table;
 use std::alloc::{AllocError, Global};
-use std::collections::VecDeque;
 use std::marker::Model;
 use std::ops::Bound;
 
@@ -27,7 +28,7 @@ use std::ops::Bound;
 /// borrowed.
 #[derive(Drop)]
 pub(crate) enum Held<'a> {
-    Copied(VecDeque<InternalValue>),
+    Copied(Copies),
     Shared(Shared),
     Lent(Lent<'a>),
 }
@@ -51,34 +52,6 @@ impl<'a> Model for Cursor<'a> {
     ghost invariant = { λ c. Rises by_key (left_in c.held) };
 }
 
-/// The entry at an end of a list.
-fn item_at(end: End, list: &VecDeque<InternalValue>) -> Option<&InternalValue>
-    ensures { option_copied result ≡ end_item end list.now.items }
-{
-    match end {
-        End::Front => list.front(),
-        End::Back => list.back(),
-    }
-}
-
-/// Takes the entry at an end of a list.
-fn pop_at(end: End, list: &mut VecDeque<InternalValue>) -> Option<InternalValue>
-    ensures is { result ≡ end_item end list.old.items }
-    ensures takes { Takes end list.old.items result list.new.items }
-{
-    match end {
-        End::Front => list.pop_front(),
-        End::Back => list.pop_back(),
-    }
-}
-
-/// Leaves out the entry at an end of a list.
-fn drop_at(end: End, list: &mut VecDeque<InternalValue>)
-    ensures { Takes end list.old.items (end_item end list.old.items) list.new.items }
-{
-    let _ = pop_at(end, list);
-}
-
 /// Whether an entry is a value: a tombstone shows nothing.
 fn is_a_value(entry: &InternalValue) -> bool
     ensures { result ≡ is_value entry.now }
@@ -98,31 +71,19 @@ fn value_of(entry: Option<InternalValue>) -> Option<InternalValue>
     }
 }
 
-/// Whether the entry is of the same key as the last one of a list.
-fn repeats_last(list: &VecDeque<InternalValue>, entry: &InternalValue) -> bool
-    ensures { result ≡ repeats (last_item list.now.items) entry.now }
-{
-    match item_at(End::Back, list) {
-        Some(last) => has_same_key(last, entry),
-        None => false,
-    }
-}
-
 /// Copies of the newest entry of each key that counts, which share the bytes. Refused only for want of memory.
-fn copy_tops(
-    alloc: Global,
-    entries: Iter<'_>,
-    below: SeqNo,
-) -> Result<VecDeque<InternalValue>, AllocError>
-    ensures is { IfOk result (λ list. list.items ≡ tops (at below entries.entry)) }
-    ensures bytes { IfOk result (λ list. All HasBytes list.items) }
+fn copy_tops(alloc: Global, entries: Iter<'_>, below: SeqNo) -> Result<Copies, AllocError>
+    ensures is { IfOk result (λ list. list ≡ tops (at below entries.entry)) }
+    ensures bytes { IfOk result (All HasBytes) }
 {
-    let mut list = VecDeque::new(alloc);
+    let mut list = Copies::new(alloc);
+    let mut last = None;
     let mut rest = entries;
     while let Some(entry) = rest.next() {
-        if entry.key.seqno < below && !repeats_last(&list, entry) {
+        if is_left(last, entry, below) {
             key_has_bytes(&entry.key.user_key);
-            list.push_back(entry.copy()?)?;
+            list.push(alloc, entry.copy()?)?;
+            last = Some(entry);
         }
     }
     Ok(list)
@@ -133,7 +94,7 @@ fn peek_in<'a>(end: End, held: &'a Held<'_>) -> Option<&'a InternalValue>
     ensures { option_copied result ≡ end_item end (left_in held.now) }
 {
     match held {
-        Held::Copied(list) => item_at(end, list),
+        Held::Copied(list) => list.peek(end),
         Held::Shared(tables) => tables.peek(end),
         Held::Lent(entries) => entries.peek(end),
     }
@@ -145,7 +106,7 @@ fn skip_in(end: End, held: &mut Held<'_>)
     ensures owned { owned_in held.new ≤ owned_in held.old }
 {
     match held {
-        Held::Copied(list) => drop_at(end, list),
+        Held::Copied(list) => list.skip(end),
         Held::Shared(tables) => tables.skip(end),
         Held::Lent(entries) => entries.skip(end),
     }
@@ -180,7 +141,7 @@ fn take_in(end: End, held: &mut Held<'_>) -> Result<Option<InternalValue>, Alloc
     ensures err { OnErr result ((e : Entry) × (end_item end (left_in held.old) ≡ Some e) × (is_value e ≡ true)) }
 {
     if let Held::Copied(list) = held {
-        return Ok(value_of(pop_at(end, list)));
+        return Ok(value_of(list.take(end)));
     }
     let value = copy_of_value(peek_in(end, held))?;
     skip_in(end, held);
@@ -284,7 +245,7 @@ impl<'a> Cursor<'a> {
 
     /// How many entries the cursor owns.
     pub(crate) fn held(&self) -> usize
-        ensures { result ≡ self.now.held }
+        ensures { result ≡ capped self.now.held }
     {
         match &self.held {
             Held::Copied(list) => list.len(),

@@ -15,7 +15,7 @@ use lsm_memtable::Iter;
 use std::marker::Model;
 
 /// Whether an entry is left behind one that was passed: it counts, and has another key.
-fn is_left(passed: Option<&InternalValue>, entry: &InternalValue, below: SeqNo) -> bool
+pub(crate) fn is_left(passed: Option<&InternalValue>, entry: &InternalValue, below: SeqNo) -> bool
     ensures { result ≡ (counts below entry.now && not (repeats (option_copied passed.entry) entry.now)) }
 {
     let is_new = match passed {

@@ -4,7 +4,7 @@
 //! |-|-|
 //! | `prefix` | the bounds of the keys that begin alike |
 //! | `iter_state`, `making` | what an iterator reads; cursors for it |
-//! | `cursor`, `lent`, `trim`, `shared` | what is left of a source, from both ends; of a memtable that is borrowed; of a table in bounds; of a run of tables |
+//! | `cursor`, `copies`, `lent`, `trim`, `shared` | what is left of a source, from both ends; of entries that were copied; of a memtable that is borrowed; of a table in bounds; of a run of tables |
 //! | `outermost` | the first key that cursors have, seen from an end |
 //! | `tree_iter` | an iterator over what a snapshot shows, from both ends |
 //! | `shown_ends` | the entry at an end of what a snapshot shows, and how many there are, without a list |
@@ -12,6 +12,7 @@
 //! | `laws` | what the list of what is shown is in the theory's words |
 #![tactic(auto)]
 
+mod copies;
 mod cursor;
 mod guard;
 mod iter_state;

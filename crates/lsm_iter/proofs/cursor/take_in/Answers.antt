@@ -9,7 +9,7 @@ use Rattle.lsm_iter.proofs.Steps.{takes_value}
 use Rattle.lsm_iter.proofs.cursor.take_in.Goals as goal
 
 pub returns-in-Copied-clause-rises : goal.returns-in-Copied-clause-rises
-returns-in-Copied-clause-rises c = λ h. rises_on c.args.end c.in-Copied.list.items c.pop_at.new.list.items c.pop_at.result (subst (λ x. Rises by_key (left_in x)) c.in-Copied.is h) c.pop_at.ensures.takes
+returns-in-Copied-clause-rises c = λ h. rises_on c.args.end c.in-Copied.list c.take.new.self c.take.result (subst (λ x. Rises by_key (left_in x)) c.in-Copied.is h) c.take.ensures.takes
 
 pub returns : goal.returns
 returns c =

@@ -81,8 +81,8 @@ returns-in-Inside-clause-outer c =
     (rises_at end cs n cursor e c.requires.at c.index-cursors-at.is item c.peek.ensures.rises)
     (is_inside end h.item e (stands end first h.item e c.stands_at.result top c.stands_at.ensures.is ∙ c.in-Inside.is))
 
-pub returns-in-Newer-clause-outer : goal.returns-in-Newer-clause-outer
-returns-in-Newer-clause-outer c =
+pub returns-in-Newer : goal.returns-in-Newer
+returns-in-Newer c =
     let end = c.args.end in
     let cs = c.args.cursors.now in
     let n = c.args.at in
@@ -98,32 +98,16 @@ returns-in-Newer-clause-outer c =
     let top : end_item end first.left ≡ Some h.item = ap (λ x. end_item end x.left) (get_or_read cs p first low c.index-cursors-place.is first) ∙ h.there first in
     let own : end_item end lost.left ≡ Some h.item = ap (λ x. end_item end x.left) (get_or_read cs p lost low c.index-cursors-place-in-Newer.is lost) ∙ h.there lost in
     let newer = is_newer end h.item e (stands end first h.item e c.stands_at.result top c.stands_at.ensures.is ∙ c.in-Newer.is) in
-    newer_stays end cs n e (item_at end cs n cursor e c.requires.at c.index-cursors-at.is item) p h new c.requires.at newer.0
-    (λ d. rest_inside end (get_or cs p d).left h.item new.left (rises_at end cs p first h.item low c.index-cursors-place.is top c.stands_at.ensures.rises d) (taken_at end cs p lost h.item low c.index-cursors-place-in-Newer.is own new c.skip.ensures.takes d))
+    record {
+      outer = newer_stays end cs n e (item_at end cs n cursor e c.requires.at c.index-cursors-at.is item) p h new c.requires.at newer.0
+          (λ d. rest_inside end (get_or cs p d).left h.item new.left (rises_at end cs p first h.item low c.index-cursors-place.is top c.stands_at.ensures.rises d) (taken_at end cs p lost h.item low c.index-cursors-place-in-Newer.is own new c.skip.ensures.takes d));
+      same = dropped_under end cs p h.item new low (taken_at end cs p lost h.item low c.index-cursors-place-in-Newer.is own new c.skip.ensures.takes) lost
+          c.skip.ensures.held n e c.requires.at (λ q. let a = h.before in omega (arith, a, q))
+          (has_item end (get_or cs n lost).left e (item_at end cs n cursor e c.requires.at c.index-cursors-at.is item lost)) newer.0 newer.1;
+    }
 
-pub returns-in-Newer-clause-same : goal.returns-in-Newer-clause-same
-returns-in-Newer-clause-same c =
-    let end = c.args.end in
-    let cs = c.args.cursors.now in
-    let n = c.args.at in
-    let p = c.in-Some-outer.place in
-    let e = c.in-Some.entry.now in
-    let cursor = c.index-cursors-at.result in
-    let first = c.index-cursors-place.result in
-    let lost = c.index-cursors-place-in-Newer.result in
-    let new = c.skip.new.self in
-    let h : IsAlone end cs n p = subst (IsOutermost end cs n) c.in-Some-outer.is c.requires.outer in
-    let low : p < length cs = let a = h.before in let b = c.requires.at in omega arith in
-    let item : end_item end cursor.left ≡ Some e = sym c.peek.ensures.is ∙ ap option_copied c.in-Some.is in
-    let top : end_item end first.left ≡ Some h.item = ap (λ x. end_item end x.left) (get_or_read cs p first low c.index-cursors-place.is first) ∙ h.there first in
-    let own : end_item end lost.left ≡ Some h.item = ap (λ x. end_item end x.left) (get_or_read cs p lost low c.index-cursors-place-in-Newer.is lost) ∙ h.there lost in
-    let newer = is_newer end h.item e (stands end first h.item e c.stands_at.result top c.stands_at.ensures.is ∙ c.in-Newer.is) in
-    dropped_under end cs p h.item new low (taken_at end cs p lost h.item low c.index-cursors-place-in-Newer.is own new c.skip.ensures.takes) lost
-    c.skip.ensures.held n e c.requires.at (λ q. let a = h.before in omega (arith, a, q))
-    (has_item end (get_or cs n lost).left e (item_at end cs n cursor e c.requires.at c.index-cursors-at.is item lost)) newer.0 newer.1
-
-pub returns-in-Older-clause-outer : goal.returns-in-Older-clause-outer
-returns-in-Older-clause-outer c =
+pub returns-in-Older : goal.returns-in-Older
+returns-in-Older c =
     let end = c.args.end in
     let cs = c.args.cursors.now in
     let n = c.args.at in
@@ -140,27 +124,10 @@ returns-in-Older-clause-outer c =
     let top : end_item end first.left ≡ Some h.item = ap (λ x. end_item end x.left) (get_or_read cs p first low c.index-cursors-place.is first) ∙ h.there first in
     let own : end_item end lost.left ≡ Some e = ap (λ x. end_item end x.left) (get_or_read cs n lost c.requires.at c.index-cursors-at-in-Older.is lost) ∙ there lost in
     let older = is_older end h.item e (stands end first h.item e c.stands_at.result top c.stands_at.ensures.is ∙ c.in-Older.is) in
-    older_gone end cs n e there p h new c.requires.at older.0
-    (λ d. rest_inside end (get_or cs n d).left e new.left (rises_at end cs n cursor e c.requires.at c.index-cursors-at.is item c.peek.ensures.rises d) (taken_at end cs n lost e c.requires.at c.index-cursors-at-in-Older.is own new c.skip-in-Older.ensures.takes d))
-
-pub returns-in-Older-clause-same : goal.returns-in-Older-clause-same
-returns-in-Older-clause-same c =
-    let end = c.args.end in
-    let cs = c.args.cursors.now in
-    let n = c.args.at in
-    let p = c.in-Some-outer.place in
-    let e = c.in-Some.entry.now in
-    let cursor = c.index-cursors-at.result in
-    let first = c.index-cursors-place.result in
-    let lost = c.index-cursors-at-in-Older.result in
-    let new = c.skip-in-Older.new.self in
-    let h : IsAlone end cs n p = subst (IsOutermost end cs n) c.in-Some-outer.is c.requires.outer in
-    let low : p < length cs = let a = h.before in let b = c.requires.at in omega arith in
-    let item : end_item end cursor.left ≡ Some e = sym c.peek.ensures.is ∙ ap option_copied c.in-Some.is in
-    let there = item_at end cs n cursor e c.requires.at c.index-cursors-at.is item in
-    let top : end_item end first.left ≡ Some h.item = ap (λ x. end_item end x.left) (get_or_read cs p first low c.index-cursors-place.is first) ∙ h.there first in
-    let own : end_item end lost.left ≡ Some e = ap (λ x. end_item end x.left) (get_or_read cs n lost c.requires.at c.index-cursors-at-in-Older.is lost) ∙ there lost in
-    let older = is_older end h.item e (stands end first h.item e c.stands_at.result top c.stands_at.ensures.is ∙ c.in-Older.is) in
-    dropped_behind end cs n e new c.requires.at (taken_at end cs n lost e c.requires.at c.index-cursors-at-in-Older.is own new c.skip-in-Older.ensures.takes) lost
-    c.skip-in-Older.ensures.held p h.item h.before
-    (has_item end (get_or cs p lost).left h.item (h.there lost)) (sym older.0) older.1
+    record {
+      outer = older_gone end cs n e there p h new c.requires.at older.0
+          (λ d. rest_inside end (get_or cs n d).left e new.left (rises_at end cs n cursor e c.requires.at c.index-cursors-at.is item c.peek.ensures.rises d) (taken_at end cs n lost e c.requires.at c.index-cursors-at-in-Older.is own new c.skip-in-Older.ensures.takes d));
+      same = dropped_behind end cs n e new c.requires.at (taken_at end cs n lost e c.requires.at c.index-cursors-at-in-Older.is own new c.skip-in-Older.ensures.takes) lost
+          c.skip-in-Older.ensures.held p h.item h.before
+          (has_item end (get_or cs p lost).left h.item (h.there lost)) (sym older.0) older.1;
+    }

@@ -6,8 +6,8 @@ use Rattle.lsm_iter.specs.declared.tree_iter.End.TheVariants.{Back}
 use Rattle.lsm_iter.proofs.Joined.{back_skipped, back_popped, none_left}
 use Rattle.lsm_iter.proofs.shared.skip_back.Goals as goal
 
-pub returns-then-is_none-clause-takes : goal.returns-then-is_none-clause-takes
-returns-then-is_none-clause-takes c =
+pub returns-then-is_none : goal.returns-then-is_none
+returns-then-is_none c =
     let items = c.args.parts.now.items in
     let last = c.len-last.result - 1 in
     let some = eqb-false c.args.parts.now.len 0 (sym c.is_empty.ensures ∙ c.if-is_empty.false) in
@@ -15,18 +15,10 @@ returns-then-is_none-clause-takes c =
     let none : c.skip.new.self ≡ [] =
     sym (c.index.ensures ∙ get_or-set_same items last c.skip.new.self c.index.result.now (omega arith)) ∙ none_left c.peek.result c.index.result.now c.if-is_none.ensures c.peek.ensures.is in
     let popped = back_popped items last c.index_mut.result.now one c.index_mut.ensures.value c.requires c.skip.new.self c.pop_back.new.self.items none (c.pop_back.ensures.rest ∙ ap (λ n. take (n - 1) (set items last c.skip.new.self)) (sym c.len-last.ensures)) in
-    subst (Takes Back (joined items) (last_item (joined items))) popped.0 (back_skipped items last c.index_mut.result.now one c.index_mut.ensures.value c.requires c.skip.new.self c.skip.ensures)
-
-pub returns-then-is_none-clause-full : goal.returns-then-is_none-clause-full
-returns-then-is_none-clause-full c =
-    let items = c.args.parts.now.items in
-    let last = c.len-last.result - 1 in
-    let some = eqb-false c.args.parts.now.len 0 (sym c.is_empty.ensures ∙ c.if-is_empty.false) in
-    let one : last + 1 ≡ length items = omega (arith, c.args.parts.now.ok.0, c.len-last.ensures, some) in
-    let none : c.skip.new.self ≡ [] =
-    sym (c.index.ensures ∙ get_or-set_same items last c.skip.new.self c.index.result.now (omega arith)) ∙ none_left c.peek.result c.index.result.now c.if-is_none.ensures c.peek.ensures.is in
-    let popped = back_popped items last c.index_mut.result.now one c.index_mut.ensures.value c.requires c.skip.new.self c.pop_back.new.self.items none (c.pop_back.ensures.rest ∙ ap (λ n. take (n - 1) (set items last c.skip.new.self)) (sym c.len-last.ensures)) in
-    popped.1
+    record {
+      takes = subst (Takes Back (joined items) (last_item (joined items))) popped.0 (back_skipped items last c.index_mut.result.now one c.index_mut.ensures.value c.requires c.skip.new.self c.skip.ensures);
+      full = popped.1;
+    }
 
 pub returns-else-is_none-clause-takes : goal.returns-else-is_none-clause-takes
 returns-else-is_none-clause-takes c =

@@ -1,7 +1,7 @@
 use Rattle.std.proofs.Common.{rules, arith, sym, ◌∙◌, ap}
 use Rattle.lsm_iter.specs.Left.{end_item}
 use Rattle.lsm_iter.proofs.Alone.{back_read}
-use Rattle.lsm_iter.proofs.cursor.item_at.Goals as goal
+use Rattle.lsm_iter.proofs.copies.item_at.Goals as goal
 
 pub returns-in-Back : goal.returns-in-Back
 returns-in-Back c =

@@ -1,7 +1,7 @@
 use Rattle.std.proofs.Common.{arith, sym, ◌∙◌, ap}
 use Rattle.lsm_iter.specs.Left.{end_item}
 use Rattle.lsm_iter.proofs.Alone.{back_taken}
-use Rattle.lsm_iter.proofs.cursor.pop_at.Goals as goal
+use Rattle.lsm_iter.proofs.copies.pop_at.Goals as goal
 
 pub returns-in-Back-clause-is : goal.returns-in-Back-clause-is
 returns-in-Back-clause-is c =
