@@ -39,34 +39,35 @@ fn has(guard: Guard, wanted: Shown) -> bool {
     }
 }
 
-/// What is left of these where the iterator gives the one at this end, and owns no more than before.
-fn step<'a>(iter: &mut TreeIter, end: End, wanted: &'a [Shown]) -> Option<&'a [Shown]> {
+/// Whether the iterator gives this pair at this end, and owns no more than before.
+fn steps(iter: &mut TreeIter, end: End, wanted: Shown) -> bool {
     let held = iter.held();
-    let (given, rest) = match end {
-        End::Front => {
-            let (first, rest) = wanted.split_first()?;
-            (is(iter.next(), *first), rest)
-        }
-        End::Back => {
-            let (last, rest) = wanted.split_last()?;
-            (is(iter.next_back(), *last), rest)
-        }
+    let given = match end {
+        End::Front => iter.next(),
+        End::Back => iter.next_back(),
     };
-    if given && iter.held() <= held {
-        Some(rest)
-    } else {
-        None
-    }
+    is(given, wanted) && iter.held() <= held
 }
 
 /// Whether the iterator gives just these, and then nothing from either end.
 fn walks(iter: &mut TreeIter, turns: Turns, wanted: &[Shown]) -> bool {
-    let mut rest = wanted;
+    let mut fronts: usize = 0;
     for place in 0..wanted.len() {
-        let Some(left) = step(iter, turns[place % 3], rest) else {
+        let end = turns[place % 3];
+        let at = match end {
+            End::Front => fronts,
+            // As many were taken from the back as not from the front.
+            End::Back => (wanted.len() - 1 - place).saturating_add(fronts),
+        };
+        let Some(pair) = wanted.get(at) else {
             return false;
         };
-        rest = left;
+        if !steps(iter, end, *pair) {
+            return false;
+        }
+        if let End::Front = end {
+            fronts = fronts.saturating_add(1);
+        }
     }
     iter.next().is_none() && iter.next_back().is_none() && iter.next().is_none()
 }
