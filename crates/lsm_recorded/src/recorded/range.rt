@@ -47,11 +47,7 @@ impl<S: Store> Recorded<S> {
     }
 
     /// What a snapshot shows of the keys that begin so, as `create_range`.
-    pub fn create_prefix(
-        &self,
-        prefix: &UserKey,
-        snapshot: SeqNo,
-    ) -> Result<TreeIter, Error>
+    pub fn create_prefix(&self, prefix: &UserKey, snapshot: SeqNo) -> Result<TreeIter, Error>
         ensures core { IfOk result (λ iter. Prefixes self.now.tree.core None prefix.now snapshot iter.left) }
         ensures step { IfOk result (λ iter. IsPrefixStep self.now.tree.core prefix.now snapshot iter.left) }
         ensures replay { IfOk result (λ iter. ReadAgrees (shown_by self.now.opened) self.now.journal (ReadEntry snapshot (Prefix prefix.now) (PairsAnswer (map pair_of iter.left)))) }
