@@ -49,10 +49,6 @@ last_push [] x = refl
 last_push (y ∷ []) x = refl
 last_push (y ∷ (z ∷ front)) x = last_push (z ∷ front) x
 
-pub taken_item : (end : End) (s : List Entry) (e : Entry) (t : List Entry) → IsTaken end s e t → end_item end s ≡ Some e
-taken_item Front s e t h = ap (end_item Front) h
-taken_item Back s e t h = ap last_item h ∙ last_push t e
-
 pub taken_some : (end : End) (s : List Entry) (e : Entry) (t : List Entry) → Takes end s (end_item end s) t → end_item end s ≡ Some e → IsTaken end s e t
 taken_some end s e t h is = subst (λ o. Takes end s o t) is h
 
@@ -344,9 +340,6 @@ module _ (end : End) (cs : List SeenCursor) (n : ℕ) where
         }
 
 -- ---- steps, one after the other
-
-pub same_cursors : (cs : List SeenCursor) → ShowSame cs cs
-same_cursors cs = record { count = refl; shown = refl; left = omega arith; held = omega arith }
 
 pub same_then : (a b c : List SeenCursor) → ShowSame a b → ShowSame b c → ShowSame a c
 same_then a b c h k = record {

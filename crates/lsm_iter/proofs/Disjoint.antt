@@ -1,5 +1,5 @@
 -- What is left of the tables of a run, one behind the other, rises.
-use Rattle.std.proofs.Common.{◌≡◌, ℕ, ◌+◌, ◌<◌, true, ◌&&◌, List, [], ◌∷◌, ◌++◌, length, get_or, take, flat_map, refl, sym, ap, ◌∙◌, subst, append-nil}
+use Rattle.std.proofs.Common.{◌≡◌, ℕ, ◌+◌, ◌<◌, true, ◌&&◌, List, [], ◌∷◌, ◌++◌, length, get_or, take, flat_map, refl, sym, ap, ◌∙◌, append-nil}
 use Rattle.std.proofs.lemmas.Grind.{flat_map-append}
 use Rattle.std.proofs.lemmas.List.{take_more}
 use Rattle.std.specs.List.{All, AllByRecursion}
@@ -9,7 +9,7 @@ use Rattle.std.specs.declared.ops.Bound.{Bound}
 use Rattle.std.specs.Ordering.{is_le, is_lt}
 use Rattle.std.proofs.lemmas.Bool.{and_parts}
 use Rattle.std.proofs.lemmas.Cmp.{nat_list_cmp_total, alike_right}
-use Rattle.std.proofs.lemmas.List.Elements.{All-append, All-from_recursion, All-head, All-tail, All-more}
+use Rattle.std.proofs.lemmas.List.Elements.{All-append, All-from_recursion, All-head, All-tail}
 use Rattle.lsm_below.specs.Keys.{Bytes, bytes_cmp, is_below}
 use Rattle.lsm_below.specs.Entries.{Entry, entry_cmp}
 use Rattle.lsm_below.specs.Sorted.{Rises}
@@ -105,6 +105,3 @@ module _ (low high : Bound Bytes) (s : ℕ) where
   pub left_more : (ts : List SeenTable) (i : ℕ) (t : SeenTable) → i < length ts → t ≡ get_or ts i t → flat_map left_in (take (i + 1) ts) ≡ flat_map left_in (take i ts) ++ left_in t
   left_more ts i t lt is =
       ap (flat_map left_in) (take_more ts i t lt ∙ ap (λ u. take i ts ++ u ∷ []) (sym is)) ∙ flat_map-append left_in (take i ts) (t ∷ []) ∙ ap (λ l. flat_map left_in (take i ts) ++ l) (append-nil (left_in t))
-
-pub sound_more : (ts : List SeenTable) (i : ℕ) (t : SeenTable) → i < length ts → t ≡ get_or ts i t → IsSound t → All IsSound (take i ts) → All IsSound (take (i + 1) ts)
-sound_more ts i t lt is sound all = All-more IsSound ts i t lt all (subst IsSound is sound)

@@ -20,6 +20,7 @@ use Rattle.lsm_iter.specs.Left.{tops, last_item, end_item}
 use Rattle.lsm_iter.specs.Trims.{IsTrimmed, Trims, counts}
 use Rattle.lsm_iter.specs.declared.tree_iter.End.TheVariants.{Front, Back}
 use Rattle.lsm_iter.proofs.Rises.{rises_filter}
+use Rattle.lsm_iter.proofs.Alone.{last_push}
 
 -- ---- keys of entries in order
 
@@ -67,11 +68,6 @@ apart_before s e f x h k last counted = go (bytes_cmp e.key.user_key f.key.user_
     go Greater q a b h k = absurd (cc h)
 
 -- ---- lists and their ends
-
-last_push : (front : List Entry) (x : Entry) → last_item (front ++ x ∷ []) ≡ Some x
-last_push [] x = refl
-last_push (y ∷ []) x = refl
-last_push (y ∷ (z ∷ front)) x = last_push (z ∷ front) x
 
 pub last_is : (es front : List Entry) (x : Entry) → es ≡ front ++ x ∷ [] → last_item es ≡ Some x
 last_is es front x is = ap last_item is ∙ last_push front x

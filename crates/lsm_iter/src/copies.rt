@@ -1,5 +1,5 @@
 // Copied entries, in blocks that go one by one.
-ghost use Rattle.std.specs.Prelude.{◌≡◌, ◌==◌, [], ◌∷◌, ◌++◌, length, take, nat_lt, option_copied, IfOk, OnOk, OnErr};
+ghost use Rattle.std.specs.Prelude.{◌≡◌, [], ◌∷◌, ◌++◌, length, option_copied, IfOk, OnOk, OnErr};
 ghost use Rattle.lsm_below.specs.Sums.{capped};
 ghost use Rattle.lsm_iter.specs.Left.{end_item, Takes};
 ghost use Rattle.lsm_iter.specs.Shared.{joined, AreFull};

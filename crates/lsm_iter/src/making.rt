@@ -1,5 +1,5 @@
 // Cursors for the sources that an iterator reads.
-ghost use Rattle.std.specs.Prelude.{◌≡◌, [], ◌∷◌, map, length, option_to_list, OnOk, IfOk};
+ghost use Rattle.std.specs.Prelude.{[], ◌∷◌, map, length, option_to_list, OnOk};
 ghost use Rattle.std.specs.List.{All};
 ghost use Rattle.lsm_below.specs.Optimizes.{tables_of as all_tables};
 ghost use Rattle.lsm_versions.specs.Levels.{all_of};

@@ -1,13 +1,13 @@
 // What is left of a run of tables, which are shared.
-ghost use Rattle.std.specs.Prelude.{◌≡◌, ℕ, ◌<◌, true, flat_map, length, option_copied, slice_index_or, IfOk, OnErr, OnOk, Some, ◌++◌};
+ghost use Rattle.std.specs.Prelude.{◌≡◌, ℕ, ◌<◌, flat_map, option_copied, IfOk, OnOk, Some, ◌++◌};
 ghost use Rattle.std.specs.List.{All};
-ghost use Rattle.lsm_below.specs.Entries.{Entry, entry_cmp, HasBytes, is_value};
+ghost use Rattle.lsm_below.specs.Entries.{Entry, HasBytes};
 ghost use Rattle.lsm_below.specs.Runs.{IsRun};
 ghost use Rattle.lsm_below.specs.Sorted.{Rises};
 ghost use Rattle.lsm_tables.specs.Tables.{range_of};
 ghost use Rattle.lsm_iter.specs.Reads.{at};
 ghost use Rattle.lsm_iter.specs.Shown.{by_key};
-ghost use Rattle.lsm_iter.specs.Left.{end_item, copied, Takes, TakesValue};
+ghost use Rattle.lsm_iter.specs.Left.{end_item, copied, Takes};
 ghost use Rattle.lsm_iter.specs.Shared.{joined, AreFull, IsSound};
 ghost use Rattle.lsm_iter.specs.declared.tree_iter.End.TheVariants.{Front, Back};
 

@@ -178,15 +178,6 @@ fn cuts_again(
     number_of(part.iter()) == count && number_of(part.within(again).iter()) == left
 }
 
-/// Whether a part finds an entry of the key below the snapshot.
-fn part_finds(table: &Memtable, bounds: &Bounds, key: &[u8], snapshot: SeqNo) -> bool {
-    table
-        .span()
-        .within(bounds)
-        .first_visible(key, snapshot)
-        .is_some()
-}
-
 #[test]
 fn cuts_a_part_again(rt: HostRuntime) {
     let mut table = Memtable::new(rt.alloc(), 0);
@@ -194,7 +185,5 @@ fn cuts_a_part_again(rt: HostRuntime) {
     let low = (included("a"), excluded("b"));
     assert!(rt; cuts_again(&table, &all(), 3, &low, 2));
     assert!(rt; cuts_again(&table, &low, 2, &(included("b"), included("b")), 0));
-    assert!(rt; part_finds(&table, &low, b"a", 2));
-    assert!(rt; !part_finds(&table, &low, b"b", 2));
     drop(table);
 }
