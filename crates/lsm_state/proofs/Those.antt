@@ -1,6 +1,7 @@
 -- Memtables that are listed by their ids.
-use Rattle.std.proofs.Common.{◌≡◌, ℕ, List, [], ◌++◌, Option, Some, None, MatchOption, map, flat_map, option_to_list, Bor, refl, sym, ap, ◌∙◌, append-nil}
+use Rattle.std.proofs.Common.{◌≡◌, ℕ, List, [], ◌∷◌, ◌++◌, Option, Some, None, MatchOption, map, flat_map, reverse, option_to_list, Bor, refl, sym, ap, ◌∙◌, append-nil, append_assoc}
 use Rattle.std.proofs.lemmas.Grind.{flat_map-append}
+use Rattle.std.proofs.lemmas.List.{reverse-append}
 use Rattle.std.proofs.lemmas.List.Folds.{flat_map-map}
 use Rattle.std.specs.declared.ops.Bound.{Bound}
 use Rattle.lsm_below.specs.Keys.{Bytes}
@@ -25,6 +26,13 @@ module _ (mems : List SeenMemtable) (f : List Entry → List Entry) (none : f []
 
   pub found_more : (id : ℕ) (found : Option (Bor SeenMemtable)) (list new : List (Bor SeenMemtable)) → MatchOption found (entries_of mems id ≡ []) (λ m. m.now.entries ≡ entries_of mems id) → new ≡ list ++ option_to_list found → flat_map made_of new ≡ flat_map made_of list ++ made id
   found_more id found list new h is = ap (flat_map made_of) is ∙ flat_map-append made_of list (option_to_list found) ∙ ap (λ l. flat_map made_of list ++ l) (found_is id found h)
+
+  -- the last of the ids that are left
+  pub sealed_more : (rest older : List ℕ) (id : ℕ) (found : Option (Bor SeenMemtable)) (list new : List (Bor SeenMemtable)) → rest ≡ older ++ id ∷ [] → MatchOption found (entries_of mems id ≡ []) (λ m. m.now.entries ≡ entries_of mems id) → new ≡ list ++ option_to_list found
+      → flat_map made_of new ++ flat_map made (reverse older) ≡ flat_map made_of list ++ flat_map made (reverse rest)
+  sealed_more rest older id found list new split h is =
+      ap (λ l. l ++ flat_map made (reverse older)) (found_more id found list new h is) ∙ append_assoc (flat_map made_of list) (made id) (flat_map made (reverse older))
+      ∙ ap (λ l. flat_map made_of list ++ flat_map made l) (sym (ap reverse split ∙ reverse-append older (id ∷ [])))
 
 -- what is copied of listed memtables is what is copied of those with their ids
 pub copied_those : (mems : List SeenMemtable) (ids : List ℕ) (list : List (Bor SeenMemtable)) (low high : Bound Bytes) (s : ℕ) (top : List Part) → AreThose mems ids list
