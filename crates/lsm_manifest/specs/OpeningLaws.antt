@@ -1,5 +1,5 @@
 -- What is told of an opening whose tables are to meet something more: laws for proofs of the crates above.
-use Rattle.std.specs.Prelude.{◌≡◌, ℕ, Bool, true, false, List, Option, None, Result, Ok, Err, IsSome}
+use Rattle.std.specs.Prelude.{◌≡◌, ℕ, Bool, true, false, List, Option, None, Result, Err, IsSome}
 use Rattle.std.proofs.Common.{inl, inr, refl, sym, subst, ap}
 use Rattle.lsm_below.specs.declared.error.Error.{Error}
 use Rattle.lsm_below.specs.declared.error.Error.TheVariants as error

@@ -1,21 +1,13 @@
 -- Opening a store, whose tables are to meet something more.
-use Rattle.std.specs.Prelude.{◌≡◌, ◌⊎◌, ℕ, Bool, true, false, List, Option, None, Result, Ok, Err, IsSome}
-use Rattle.std.proofs.Common.{inl, inr, refl, sym, subst, ap}
-use Rattle.lsm_below.specs.declared.error.Error.{Error}
+use Rattle.std.specs.Prelude.{◌≡◌, ◌⊎◌, ℕ, List, Result, Ok, Err}
 use Rattle.lsm_below.specs.declared.error.Error.TheVariants as error
-use Rattle.lsm_store.specs.World.{Image, World}
+use Rattle.lsm_store.specs.World.{Image}
 use Rattle.lsm_versions.specs.Levels.{Levels as SeenLevels}
 use Rattle.lsm_manifest.specs.declared.fault.Fault.TheVariants.{Unrecoverable}
 use Rattle.lsm_manifest.specs.declared.fault.OpenError.{OpenError}
 use Rattle.lsm_manifest.specs.declared.fault.OpenError.TheVariants as opening
 use Rattle.lsm_manifest.specs.declared.opening.Opened.{Opened}
-use Rattle.lsm_manifest.specs.declared.found.Found.{Found}
-use Rattle.lsm_manifest.specs.Names.{current_name}
-use Rattle.lsm_manifest.specs.Recovery.{Levels}
-use Rattle.lsm_manifest.specs.Versions.{first_version}
-use Rattle.lsm_manifest.specs.Opening.{IsFound, FilesFault, OpensFiles, OpensAs, OnlyFault}
-use Rattle.lsm_manifest.specs.Looking.{FindsIn, Looks}
-use Rattle.lsm_manifest.specs.Told.{Told, TellsOpen}
+use Rattle.lsm_manifest.specs.Opening.{IsFound, FilesFault, OpensFiles, OnlyFault}
 
 -- `current` leads to tables that don't meet it
 pub record FindsOthers (P : SeenLevels → Type 0) (image : Image) : Type 0 where
