@@ -15,7 +15,7 @@ use Rattle.lsm_below.specs.Sorted.{Rises}
 use Rattle.lsm_tables.specs.Image.{Fits, IsTable, image, entry_bytes}
 use Rattle.lsm_tables.specs.ImageReading.{rises, follows}
 use Rattle.lsm_below.specs.Sums.{capped}
-use Rattle.lsm_tables.specs.Cutting.{IsWritable, IsApart, IsFilled, HasNoEarlierEnd, IsCutting, AreImagesOf, IsFirstEnd}
+use Rattle.lsm_tables.specs.Cutting.{IsWritable, IsApart, IsFilled, HasNoEarlierEnd, IsCutting, CutsFirst, AreImagesOf, IsFirstEnd}
 use Rattle.lsm_tables.specs.Tables.{last_key}
 use Rattle.lsm_tables.proofs.Adjacent.{rises_found, rises_again, rises_push}
 use Rattle.lsm_tables.proofs.Covering.{below_first, upto_last, last_is}
@@ -179,14 +179,14 @@ ends target made_at es images rest h none = record {
   spelled = h.spelled;
 }
 
-pub goes_on : KeysAreOrdered → EntriesAreOrdered → (target made_at : ℕ) (es : List Entry) (images : List Bytes) (rest : List Entry) (end : ℕ) (bytes : Bytes) → IsUnderway target made_at es images rest → IsFirstEnd target rest end → end < 2 ^ 64 → bytes ≡ image made_at (take end rest)
-    → IsUnderway target made_at es (images ++ bytes ∷ []) (drop end rest)
-goes_on keys entries target made_at es images rest end bytes h at lt is = record {
-  tables = h.tables ++ take end rest ∷ [];
-  spelled = ap (λ (l : List Bytes). l ++ bytes ∷ []) h.spelled ∙ ap (λ (b : Bytes). map (image made_at) h.tables ++ b ∷ []) is ∙ sym (map-append (image made_at) h.tables (take end rest ∷ []));
-  each = each_append IsTable h.tables (take end rest ∷ []) h.each (front_table keys entries target rest end h.writable at lt, tt);
-  goes_on = λ later c. subst (λ (l : List (List Entry)). IsCutting target es l) (sym (append_assoc h.tables (take end rest ∷ []) later)) (h.goes_on (take end rest ∷ later) (cut_first keys entries target rest end h.writable at later c));
-  writable = behind_writable keys entries target rest end h.writable at;
+pub goes_on : (target made_at : ℕ) (es : List Entry) (images : List Bytes) (rest table behind : List Entry) (bytes : Bytes) → IsUnderway target made_at es images rest → IsTable table → IsWritable behind → CutsFirst target rest table behind → bytes ≡ image made_at table
+    → IsUnderway target made_at es (images ++ bytes ∷ []) behind
+goes_on target made_at es images rest table behind bytes h is writable cut spelled = record {
+  tables = h.tables ++ table ∷ [];
+  spelled = ap (λ (l : List Bytes). l ++ bytes ∷ []) h.spelled ∙ ap (λ (b : Bytes). map (image made_at) h.tables ++ b ∷ []) spelled ∙ sym (map-append (image made_at) h.tables (table ∷ []));
+  each = each_append IsTable h.tables (table ∷ []) h.each (is, tt);
+  goes_on = λ later c. subst (λ (l : List (List Entry)). IsCutting target es l) (sym (append_assoc h.tables (table ∷ []) later)) (h.goes_on (table ∷ later) (cut later c));
+  writable = writable;
 }
 
 -- ---- where a table ends

@@ -37,6 +37,10 @@ pub record IsCutting (target : ℕ) (es : List Entry) (tables : List (List Entry
   pub filled : IsFilled target tables
   pub no_later : AllByRecursion (HasNoEarlierEnd target) tables
 
+-- whatever tables the rest is cut into, with a first one before them they are those of the list
+abbrev pub CutsFirst : ℕ → List Entry → List Entry → List Entry → Type 0
+CutsFirst target es table rest = (later : List (List Entry)) → IsCutting target rest later → IsCutting target es (table ∷ later)
+
 -- the tables into which a list is cut are a run
 abbrev pub CutsAreRuns : Type 0
 CutsAreRuns = (target : ℕ) (es : List Entry) (tables : List (List Entry)) → Rises entry_cmp es → IsCutting target es tables → IsRun range_of tables

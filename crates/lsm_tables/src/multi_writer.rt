@@ -1,7 +1,8 @@
 // Entries cut into tables.
 ghost use Rattle.std.specs.Prelude.{◌≡◌, ◌+◌, ◌++◌, ◌∷◌, [], ◌<◌, ◌↔◌, map, length, IfOk, IfErr, OnOk, OnErr, IsTrue};
 ghost use Rattle.lsm_below.specs.Sums.{capped};
-ghost use Rattle.lsm_tables.specs.Cutting.{IsWritable, IsFirstEnd, AreImagesOf, CutsAreRuns};
+ghost use Rattle.lsm_tables.specs.Image.{IsTable};
+ghost use Rattle.lsm_tables.specs.Cutting.{IsWritable, IsFirstEnd, CutsFirst, AreImagesOf, CutsAreRuns};
 
 use crate::image::{HEAD_LEN, encode, may_stand_behind};
 use lsm_below::{InternalValue, entries_are_ordered, has_same_key, keys_are_ordered};
@@ -36,6 +37,29 @@ fn first_end(entries: &[InternalValue], target: u64) -> usize
     end
 }
 
+/// The entries of the first of the tables into which entries are cut, as `write_tables` cuts them, and what comes
+/// after them: for callers that write one table at a time. The cost is linear in the first table.
+///
+/// ```text
+/// let (table, rest) = split_table(&entries, target);
+/// let file = encode(alloc, made_at, table)?;
+/// ```
+pub fn split_table(
+    entries: &[InternalValue],
+    target: u64,
+) -> (&[InternalValue], &[InternalValue])
+    requires some { 0 < length entries.now }
+    requires writable { IsWritable entries.now }
+    ensures parts { result.0.now ++ result.1.now ≡ entries.now }
+    ensures table { IsTable result.0.now }
+    ensures writable { IsWritable result.1.now }
+    ensures cut { CutsFirst target entries.now result.0.now result.1.now }
+{
+    keys_are_ordered();
+    entries_are_ordered();
+    entries.split_at(first_end(entries, target))
+}
+
 /// The tables into which a list is cut are a run: their keys rise, and no two share one.
 pub fn cuts_are_runs()
     ensures { CutsAreRuns }
@@ -62,12 +86,10 @@ pub fn write_tables(
     requires { IsWritable entries.now }
     ensures { IfOk result (λ images. AreImagesOf target made_at entries.now (map (λ v. v.items) images.items)) }
 {
-    keys_are_ordered();
-    entries_are_ordered();
     let mut images = Vec::new(alloc);
     let mut rest = entries;
     while !rest.is_empty() {
-        let (table, behind) = rest.split_at(first_end(rest, target));
+        let (table, behind) = split_table(rest, target);
         images.push(encode(alloc, made_at, table)?)?;
         rest = behind;
     }

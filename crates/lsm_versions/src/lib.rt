@@ -7,6 +7,7 @@
 //! | `level` | a level: runs of tables, the newest first |
 //! | `version` | seven levels with an id, and the four ways to make a next version |
 //! | `tables` | the tables of a version, one after the other |
+//! | `totals` | what is counted of tables together |
 //! | `lookup` | look-ups of a version's tables by their ids |
 //! | `walk` | look-ups of a key in a version's tables |
 //! | `laws` | what installs of versions are to the theory, each law as the contract of a function |
@@ -18,6 +19,7 @@ mod laws;
 mod level;
 mod lookup;
 mod tables;
+mod totals;
 mod version;
 mod walk;
 
@@ -29,4 +31,5 @@ pub use laws::{
 pub use level::{GenericLevel, Level, copies_left, has_id, run_has};
 pub use lookup::{all_tables, ids_are_own, ids_of_levels};
 pub use tables::Tables;
+pub use totals::Totals;
 pub use version::{DEFAULT_LEVEL_COUNT, TreeType, Version, VersionId, chosen_runs, levels_fit};

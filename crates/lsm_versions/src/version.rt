@@ -12,12 +12,14 @@ ghost use Rattle.lsm_tables.specs.Tables.{SeenTable};
 ghost use Rattle.lsm_model.specs.Views.{IsLaidOut, IsRearranged, left_of};
 ghost use Rattle.lsm_model.specs.Steps.{among, AllCover};
 ghost use Rattle.lsm_versions.specs.Levels.{SeenVersion, empty_levels, range, placed_of, tables_shown, placed_in, AreApart, AreCovered, AreRising, AreRuns, HasOwnIds, AreNew, all_of, left_in, fits, IsVersion, IsNext, IsOneRun, chosen_from, PutBetween, Moves};
+ghost use Rattle.lsm_versions.specs.Totals.{totals_of};
 ghost use Rattle.lsm_versions.specs.Refusals.{IsRefusedFor};
 ghost use Rattle.lsm_below.specs.declared.error.Error.TheVariants.{OutOfMemory};
 
 use crate::level::see_run;
 use crate::tables::tables_in;
-use crate::{Level, Tables};
+use crate::totals::totals_in;
+use crate::{Level, Tables, Totals};
 use lsm_below::{Error, Run, TableId, optimize_runs};
 use lsm_model::{levels_rise, tables_are_placed};
 use lsm_tables::Table;
@@ -53,16 +55,18 @@ const LEVELS: usize = DEFAULT_LEVEL_COUNT as usize;
 pub struct Version {
     id: VersionId,
     levels: [Level; LEVELS],
+    totals: Totals,
 }
 
 impl Model for Version {
-    ghost use Rattle.lsm_versions.specs.Levels.{SeenVersion, IsVersion};
+    ghost use Rattle.lsm_versions.specs.Levels.{SeenVersion};
+    ghost use Rattle.lsm_versions.specs.Totals.{IsKeptVersion};
 
     ghost Value = { SeenVersion };
 
     ghost view = { λ v. record { id = v.id; levels = v.levels } };
 
-    ghost invariant = { λ v. IsVersion v.levels };
+    ghost invariant = { λ v. IsKeptVersion v.levels v.totals };
 }
 
 /// Tables of which no two overlap, as one run.
@@ -103,17 +107,6 @@ pub fn chosen_runs(
     Ok(runs)
 }
 
-/// How many tables levels have.
-fn count_tables(levels: &[Level]) -> usize
-    ensures { result ≡ capped (length (all_of levels.now)) }
-{
-    let mut count: usize = 0;
-    for level in levels {
-        count = count.saturating_add(level.table_count());
-    }
-    count
-}
-
 /// Whether a manifest can write the levels: at most 255 runs in each, of fewer than 2^32 tables.
 pub fn levels_fit(levels: &[Level]) -> bool
     ensures { result ≡ fits levels.now }
@@ -148,6 +141,7 @@ impl Version {
                 Level::empty(alloc),
                 Level::empty(alloc),
             ],
+            totals: Totals::none(),
         }
     }
 
@@ -166,9 +160,11 @@ impl Version {
         ensures { result ≡ record { id = id; levels = levels.items } }
     {
         see_levels(&levels);
+        let totals = totals_in(&levels);
         Version {
             id,
             levels: seven(levels),
+            totals,
         }
     }
 
@@ -232,11 +228,18 @@ impl Version {
         tables_in(&self.levels)
     }
 
-    /// How many tables there are; a count past 2^64 - 1 stands there.
+    /// How many tables there are; a count past 2^64 - 1 stands there. It takes constant time.
     pub fn table_count(&self) -> usize
         ensures { result ≡ capped (length (all_of self.now.levels)) }
     {
-        count_tables(&self.levels)
+        self.totals.tables
+    }
+
+    /// What is counted of the tables together. It takes constant time.
+    pub fn totals(&self) -> Totals
+        ensures { result ≡ totals_of (all_of self.now.levels) }
+    {
+        self.totals
     }
 
     /// A copy, which shares the tables. Refused only for want of memory.
@@ -250,6 +253,7 @@ impl Version {
         Ok(Version {
             id: self.id,
             levels: seven(levels),
+            totals: self.totals,
         })
     }
 
