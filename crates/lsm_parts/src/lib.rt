@@ -11,6 +11,6 @@ mod version;
 
 pub use lsm_below::Error;
 pub use lsm_memtable::{Iter, Memtable, Span, Steps};
-pub use lsm_versions::{Config, DEFAULT_LEVEL_COUNT, Version, VersionId};
-pub use seqno::{LIMIT, SequenceNumberCounter, seqno_filter};
+pub use lsm_versions::{Config, DEFAULT_LEVEL_COUNT, LIMIT, Version, VersionId};
+pub use seqno::{SequenceNumberCounter, seqno_filter};
 pub use version::{SealedMemtables, SuperVersion, SuperVersions};

@@ -1,12 +1,9 @@
 // The counter of sequence numbers, and which of them a snapshot sees.
 ghost use Rattle.std.specs.Prelude.{◌≡◌, ◌+◌, ◌<◌, ◌≤◌, ◌↔◌, max, nat_lt, IfOk, IfErr, OnOk, OnErr, IsErrOf};
 
-use crate::Error;
+use crate::{Error, LIMIT};
 use lsm_below::SeqNo;
 use std::marker::Model;
-
-/// No counter gives this sequence number or a greater one, and no write has it: 2^63.
-pub const LIMIT: SeqNo = 9_223_372_036_854_775_808;
 
 /// A counter of sequence numbers: the next one that it gives.
 ///

@@ -7,7 +7,7 @@ use Rattle.lsm_model.specs.Views.{Placed, held, found_at}
 use Rattle.lsm_model.specs.Beginnings.{shown_by}
 use Rattle.lsm_below.specs.declared.error.Error.{Error}
 use Rattle.lsm_below.specs.declared.error.Error.TheVariants.{OutOfMemory, OutOfNumbers, OutOfOrder, SnapshotTooOld}
-use Rattle.lsm_parts.specs.declared.seqno.TheConstants.{LIMIT}
+use Rattle.lsm_versions.specs.declared.config.TheConstants.{LIMIT}
 use Rattle.lsm_state.specs.Core.{Core, latest_of, older_of}
 use Rattle.lsm_state.specs.Held.{first_entries}
 use Rattle.lsm_state.specs.Kept.{IsKeptTree}

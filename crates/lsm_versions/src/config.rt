@@ -1,8 +1,11 @@
-// What a tree is opened with.
+// What a tree is opened with, and where its counters end.
 ghost use Rattle.std.specs.Prelude.{◌≡◌};
 
 use crate::DEFAULT_LEVEL_COUNT;
 use lsm_below::{SeqNo, TreeId};
+
+/// No counter gives this number or a greater one, and no write has it as its sequence number: 2^63.
+pub const LIMIT: SeqNo = 9_223_372_036_854_775_808;
 
 /// What a tree is opened with: its id, and where its counters start.
 ///

@@ -2,7 +2,7 @@
 //!
 //! | Module | Holds |
 //! |-|-|
-//! | `config` | what a tree is opened with |
+//! | `config` | what a tree is opened with, and where its counters end |
 //! | `hidden_set` | the tables that open jobs work on |
 //! | `level` | a level: runs of tables, the newest first |
 //! | `version` | seven levels with an id, and the four ways to make a next version |
@@ -23,7 +23,7 @@ mod totals;
 mod version;
 mod walk;
 
-pub use config::Config;
+pub use config::{Config, LIMIT};
 pub use hidden_set::HiddenSet;
 pub use laws::{
     cut_tables_are_runs, drops_are_steps, flushes_are_steps, merges_are_steps, moves_are_steps,

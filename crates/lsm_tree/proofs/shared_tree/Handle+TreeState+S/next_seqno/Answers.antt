@@ -1,6 +1,6 @@
 -- The counter that has no sequence number left is that of the tree that the lock guards.
 use Rattle.std.proofs.Common.{◌≤◌, subst}
-use Rattle.lsm_parts.specs.declared.seqno.TheConstants.{LIMIT}
+use Rattle.lsm_versions.specs.declared.config.TheConstants.{LIMIT}
 use Rattle.lsm_tree.proofs.shared_tree.Handle+TreeState+S.next_seqno.Goals as goal
 
 pub returns-clause-out_of_numbers : goal.returns-clause-out_of_numbers

@@ -1,0 +1,25 @@
+-- What a commit makes of a tree's files, and what the removal of a version's file leaves of them.
+use Rattle.std.specs.Prelude.{◌≡◌, ◌≢◌, ℕ, ◌<◌, ◌^◌, List, [], ◌∷◌, Result, OnOk, OnErr, IsErrOf, None, ◌⊎◌}
+use Rattle.std.specs.List.{AllByRecursion}
+use Rattle.lsm_below.specs.declared.error.Error.{Error}
+use Rattle.lsm_below.specs.declared.error.Error.TheVariants.{CommitUnknown}
+use Rattle.lsm_store.specs.World.{World}
+use Rattle.lsm_tables.specs.Tables.{SeenTable}
+use Rattle.lsm_versions.specs.Levels.{SeenVersion, all_of}
+use Rattle.lsm_files.specs.Stored.{IsStored, AreOnDisk, Leaves}
+
+-- after Ok the next version alone is stored, and where the outcome is unknown both are; a crash meanwhile leaves either of
+-- them, and where the commit was refused without doubt only the old one
+pub record Stores (latest next : SeenVersion) (written : List SeenTable) (old new : World) (r : Result Unit Error) : Type 0 where
+  pub ok : OnOk r (IsStored new (next ∷ []) written)
+  pub unknown : IsErrOf r CommitUnknown → IsStored new (latest ∷ (next ∷ [])) written
+  pub refused : OnErr r (IsErrOf r CommitUnknown ⊎ (IsStored new (latest ∷ []) written × Leaves old new (latest ∷ [])))
+  pub leaves : Leaves old new (latest ∷ (next ∷ []))
+
+-- whatever version is stored, it gives way to the next one, whose tables are on the disk
+abbrev pub CommitsStored : SeenVersion → World → World → Result Unit Error → Type 0
+CommitsStored next old new r = (latest : SeenVersion) (written : List SeenTable) → IsStored old (latest ∷ []) written → next.id ≢ latest.id → AreOnDisk old (all_of next.levels) → Stores latest next written old new r
+
+-- whatever versions with other ids are stored, they stay so, and a crash meanwhile leaves one of them
+abbrev pub SparesStored : ℕ → World → World → Type 0
+SparesStored id old new = (versions : List SeenVersion) (written : List SeenTable) → IsStored old versions written → AllByRecursion (λ v. v.id ≢ id) versions → IsStored new versions written × Leaves old new versions

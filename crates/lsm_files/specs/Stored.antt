@@ -1,0 +1,75 @@
+-- What a crash leaves of the files of an open tree.
+use Rattle.std.specs.Prelude.{◌≡◌, ℕ, ◌+◌, ◌-◌, ◌<◌, ◌^◌, min, List, Option, Some, None, Result, IsErrOf, codes}
+use Rattle.std.specs.List.{AllByRecursion}
+use Rattle.lsm_below.specs.Members.{IsIn}
+use Rattle.lsm_below.specs.declared.error.Error.{Error}
+use Rattle.lsm_below.specs.declared.error.Error.TheVariants.{Store, CommitUnknown}
+use Rattle.lsm_store.specs.World.{Image, World, LeavesOnly}
+use Rattle.lsm_tables.specs.Image.{IsImageOf, image}
+use Rattle.lsm_tables.specs.Tables.{SeenTable}
+use Rattle.lsm_versions.specs.Levels.{SeenVersion, all_of, AreRuns}
+use Rattle.lsm_manifest.specs.declared.kinds.NameKind.TheVariants.{Refused}
+use Rattle.lsm_manifest.specs.Names.{current_name, version_name, table_name}
+use Rattle.lsm_manifest.specs.Kinds.{kind_of}
+use Rattle.lsm_manifest.specs.Spelling.{IsVersionFile}
+use Rattle.lsm_manifest.specs.Versions.{named_levels, file_of}
+use Rattle.lsm_manifest.specs.Persist.{naming}
+use Rattle.lsm_manifest.specs.Standing.{StandsFor}
+
+-- ---- what is on the disk
+
+-- a crash leaves of the name this content alone
+abbrev pub IsOnDisk : World → List ℕ → List ℕ → Type 0
+IsOnDisk w name bytes = (c : Option (List ℕ)) → w.may name c → c ≡ Some bytes
+
+-- the content of a table's file
+abbrev pub table_file : SeenTable → List ℕ
+table_file t = image t.created_at t.entries
+
+-- the file of a table is on the disk, and reads as the table
+pub record IsTableOnDisk (w : World) (t : SeenTable) : Type 0 where
+  pub id : t.id < 2 ^ 64
+  pub reads : IsImageOf t.created_at t.entries (table_file t)
+  pub file : IsOnDisk w (table_name t.id) (table_file t)
+
+abbrev pub AreOnDisk : World → List SeenTable → Type 0
+AreOnDisk w tables = AllByRecursion (IsTableOnDisk w) tables
+
+-- the file of a version and those of its tables are on the disk, and read as the version
+pub record IsWhole (w : World) (v : SeenVersion) : Type 0 where
+  pub id : v.id < 2 ^ 64
+  pub reads : IsVersionFile (named_levels v.levels) (file_of v)
+  pub runs : AreRuns v.levels
+  pub file : IsOnDisk w (version_name v.id) (file_of v)
+  pub tables : AreOnDisk w (all_of v.levels)
+
+-- `current` names one of these versions, which are whole; these tables, which no version names yet, are on the disk; and no
+-- crash brings back a name that opening refuses
+pub record IsStored (w : World) (versions : List SeenVersion) (unnamed : List SeenTable) : Type 0 where
+  pub current : (c : Option (List ℕ)) → w.may current_name c → (v : SeenVersion) × IsIn v versions × (c ≡ Some (naming v.id (file_of v)))
+  pub whole : AllByRecursion (IsWhole w) versions
+  pub written : AreOnDisk w unnamed
+  pub no_version : (c : Option (List ℕ)) → w.may (codes "version") c → c ≡ None
+  pub in_tables : (n : List ℕ) (c : Option (List ℕ)) → kind_of n ≡ Refused → w.may n c → c ≡ None
+
+-- ---- what a crash leaves
+
+-- the image stands for one of these versions
+abbrev pub HoldsOneOf : List SeenVersion → Image → Type 0
+HoldsOneOf versions left = (v : SeenVersion) × IsIn v versions × StandsFor left v.id (named_levels v.levels) v.levels
+
+-- at each moment since then a crash leaves one of these versions
+abbrev pub Leaves : World → World → List SeenVersion → Type 0
+Leaves old new versions = LeavesOnly old new (HoldsOneOf versions)
+
+-- one list's versions are among another's
+abbrev pub AreAmong : List SeenVersion → List SeenVersion → Type 0
+AreAmong some all = AllByRecursion (λ v. IsIn v all) some
+
+-- ---- failures
+
+-- one call of the store failed where the answer says so, and none where it doesn't
+pub record CountsFaults {T : Type 0} (old new : World) (r : Result T Error) : Type 0 where
+  pub store : IsErrOf r Store → new.failures ≡ min (old.failures + 1) (2 ^ 64 - 1)
+  pub unknown : IsErrOf r CommitUnknown → new.failures ≡ min (old.failures + 1) (2 ^ 64 - 1)
+  pub none : (IsErrOf r Store → ⊥) → (IsErrOf r CommitUnknown → ⊥) → new.failures ≡ old.failures

@@ -1,0 +1,20 @@
+//! The files of a tree that is open: tables that are written, versions that become the current one, names that are
+//! removed, and what a crash leaves of them.
+//!
+//! | Module | Holds |
+//! |-|-|
+//! | `stored` | what a crash leaves of a tree's files, as contracts of functions |
+//! | `tables` | tables that are written and on the disk |
+//! | `commit` | how a version becomes the current one |
+//! | `removal` | names that nothing needs any more |
+#![tactic(auto)]
+
+mod commit;
+mod removal;
+mod stored;
+mod tables;
+
+pub use commit::commit_version;
+pub use removal::remove_version;
+pub use stored::{crashes_leave_either, crashes_leave_versions};
+pub use tables::{TABLE_TARGET, write_table, write_tables};

@@ -1,0 +1,21 @@
+// What a crash leaves of a tree's files.
+ghost use Rattle.std.specs.Prelude.{List};
+ghost use Rattle.lsm_tables.specs.Tables.{SeenTable};
+ghost use Rattle.lsm_versions.specs.Levels.{SeenVersion};
+ghost use Rattle.lsm_files.specs.Stored.{IsStored, AreAmong, Leaves};
+
+use lsm_store::Store;
+
+/// While nothing is done a crash leaves one of the versions that are stored.
+pub fn crashes_leave_versions<S: Store>(store: &S)
+    ensures { S.tells → (versions : List SeenVersion) (written : List SeenTable) → IsStored (S.world store.now) versions written → Leaves (S.world store.now) (S.world store.now) versions }
+{
+    let _ = store;
+}
+
+/// What a crash leaves in one call or in the next one, it leaves in both together.
+pub fn crashes_leave_either<S: Store>(old: &S, mid: &S, new: &S)
+    ensures { (first second both : List SeenVersion) → Leaves (S.world old.now) (S.world mid.now) first → Leaves (S.world mid.now) (S.world new.now) second → AreAmong first both → AreAmong second both → Leaves (S.world old.now) (S.world new.now) both }
+{
+    let _ = (old, mid, new);
+}
