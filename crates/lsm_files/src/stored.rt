@@ -9,13 +9,9 @@ use lsm_store::Store;
 /// While nothing is done a crash leaves one of the versions that are stored.
 pub fn crashes_leave_versions<S: Store>(store: &S)
     ensures { S.tells → (versions : List SeenVersion) (written : List SeenTable) → IsStored (S.world store.now) versions written → Leaves (S.world store.now) (S.world store.now) versions }
-{
-    let _ = store;
-}
+{}
 
 /// What a crash leaves in one call or in the next one, it leaves in both together.
 pub fn crashes_leave_either<S: Store>(old: &S, mid: &S, new: &S)
     ensures { (first second both : List SeenVersion) → Leaves (S.world old.now) (S.world mid.now) first → Leaves (S.world mid.now) (S.world new.now) second → AreAmong first both → AreAmong second both → Leaves (S.world old.now) (S.world new.now) both }
-{
-    let _ = (old, mid, new);
-}
+{}

@@ -1,5 +1,5 @@
 // The ids of sealed memtables.
-ghost use Rattle.std.specs.Prelude.{◌≡◌, ◌+◌, ◌++◌, ◌∷◌, [], ◌==◌, not, filter, length, IfOk, IfErr, OnOk, OnErr};
+ghost use Rattle.std.specs.Prelude.{◌≡◌, ◌+◌, ◌++◌, ◌∷◌, [], ◌==◌, not, filter, length, IfOk, IfErr, OnOk, OnErr, MatchOption};
 ghost use Rattle.std.specs.List.{list_any};
 ghost use Rattle.std.specs.Slice.Iter.{iter_rest};
 
@@ -62,6 +62,13 @@ impl SealedMemtables {
     {
         self.ids.push(id)?;
         Ok(())
+    }
+
+    /// Takes away the id of the one that was sealed last, and returns it.
+    pub(crate) fn pop(&mut self) -> Option<MemtableId>
+        ensures { MatchOption result ((self.old ≡ []) × (self.new ≡ [])) (λ id. self.old ≡ self.new ++ id ∷ []) }
+    {
+        self.ids.pop()
     }
 
     /// These without one. Refused only for want of memory.

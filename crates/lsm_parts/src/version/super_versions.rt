@@ -1,10 +1,17 @@
 // The history of super versions.
-ghost use Rattle.std.specs.Prelude.{◌≡◌, ℕ, ◌+◌, ◌-◌, ◌∷◌, ◌↔◌, [], None, length, IfOk, IfErr, OnOk, OnErr, IsErrOf, option_copied, nat_lt, true};
+ghost use Rattle.std.specs.Prelude.{◌≡◌, ℕ, ◌+◌, ◌-◌, ◌<◌, ◌∷◌, ◌↔◌, [], None, length, IfOk, IfErr, OnOk, OnErr, IsErrOf, option_copied, nat_lt, true};
 ghost use Rattle.std.specs.List.{find, list_any};
+ghost use Rattle.lsm_tables.specs.Tables.{SeenTable};
+ghost use Rattle.lsm_versions.specs.Levels.{SeenVersion};
 ghost use Rattle.lsm_parts.specs.History.{found_version, first_version, versions_of, names, named_size, rotated, AreLaid, NumbersFall};
+ghost use Rattle.lsm_parts.specs.Maintenance.{needed, needed_of, Forgets, AreGone, KeepsNewer, KeepsVersions};
+ghost use Rattle.lsm_manifest.specs.Names.{version_name};
+ghost use Rattle.lsm_files.specs.Stored.{CountsFaults};
 
-use crate::{Error, Memtable, SealedMemtables, SuperVersion, Version, seqno_filter};
+use crate::{Error, Memtable, SealedMemtables, SuperVersion, Version, VersionId, seqno_filter};
 use lsm_below::{MemtableId, SeqNo};
+use lsm_files::remove_version;
+use lsm_store::Store;
 use std::alloc::Global;
 use std::collections::VecDeque;
 use std::marker::Model;
@@ -57,6 +64,41 @@ fn walk(older: &VecDeque<SuperVersion>, snapshot: SeqNo) -> Option<&SuperVersion
     older
         .iter()
         .find(|version| seqno_filter(version.seqno, snapshot))
+}
+
+/// How many of these are needed at a watermark, found by bisection.
+fn bisect_needed(older: &VecDeque<SuperVersion>, watermark: SeqNo) -> usize
+    requires { (n : ℕ) × NumbersFall n older.now.items }
+    ensures { result ≡ needed_of watermark older.now.items }
+{
+    let at = older.partition_point(|version| !seqno_filter(version.seqno, watermark));
+    if at < older.len() { at + 1 } else { at }
+}
+
+/// How many of these are needed at a watermark, whatever their order.
+fn walk_needed(older: &VecDeque<SuperVersion>, watermark: SeqNo) -> usize
+    ensures { result ≡ needed_of watermark older.now.items }
+{
+    for at in 0..older.len() {
+        if seqno_filter(older[at].seqno, watermark) {
+            return at + 1;
+        }
+    }
+    older.len()
+}
+
+/// Removes the file of a version, unless its id isn't below this one: then another super version may need it.
+fn remove_older<S: Store>(store: &mut S, id: VersionId, latest: VersionId) -> Result<(), Error>
+    ensures gone { S.tells → id < latest → OnOk result ((S.world store.new).gives (version_name id) ≡ None) }
+    ensures keeps { S.tells → KeepsNewer latest (S.world store.old) (S.world store.new) }
+    ensures stored { S.tells → KeepsVersions latest (S.world store.old) (S.world store.new) }
+    ensures only { IfErr result (λ e. e ≡ Error.Store) }
+    ensures counts { CountsFaults (S.world store.old) (S.world store.new) result }
+{
+    if id < latest {
+        return remove_version(store, id);
+    }
+    Ok(())
 }
 
 /// Whether a super version with this sequence number may come before these.
@@ -143,6 +185,69 @@ impl SuperVersions {
             .sealed_memtables
             .push(self.latest.active_memtable)?;
         self.latest.active_memtable = id;
+        Ok(())
+    }
+
+    /// Undoes `rotate_latest`: the memtable that was sealed last is the active one again.
+    pub fn rotate_back(&mut self)
+        requires { (id : ℕ) × (before : SuperVersion) × (self.old.latest ≡ rotated id before) }
+        ensures { (id : ℕ) (before : SuperVersion) → self.old.latest ≡ rotated id before → self.new ≡ record { latest = before; older = self.old.older } }
+    {
+        if let Some(id) = self.latest.sealed_memtables.pop() {
+            self.latest.active_memtable = id;
+        }
+    }
+
+    /// Takes the latest super version away again, for the one before it.
+    pub fn take_back(&mut self) -> SuperVersion
+        requires { 0 < length self.old.older }
+        ensures taken { result ≡ self.old.latest }
+        ensures left { versions_of self.new ≡ self.old.older }
+    {
+        let Some(before) = self.older.pop_front() else {
+            unreachable!()
+        };
+        std::mem::replace(&mut self.latest, before)
+    }
+
+    fn needed(&self, watermark: SeqNo) -> usize
+        ensures { result ≡ needed watermark self.now }
+    {
+        if seqno_filter(self.latest.seqno, watermark) {
+            return 0;
+        }
+        if self.in_order {
+            bisect_needed(&self.older, watermark)
+        } else {
+            walk_needed(&self.older, watermark)
+        }
+    }
+
+    /// Forgets the super versions that no snapshot from the watermark on reads: all before the newest one that is numbered
+    /// below the watermark; none for watermark 0. The oldest goes first, and each after the file of its version, unless
+    /// that version's id isn't below the latest one's. It is found by bisection how many go, and each costs a store call.
+    ///
+    /// # Errors
+    ///
+    /// `Store` where a file wasn't removed: the history keeps its super version and the newer ones.
+    pub fn maintenance<S: Store>(&mut self, store: &mut S, watermark: SeqNo) -> Result<(), Error>
+        ensures forgets { Forgets watermark result self.old self.new }
+        // The files.
+        ensures gone { S.tells → AreGone (S.world store.new) self.old self.new }
+        ensures keeps { S.tells → KeepsNewer self.old.latest.version.id (S.world store.old) (S.world store.new) }
+        ensures stored { S.tells → KeepsVersions self.old.latest.version.id (S.world store.old) (S.world store.new) }
+        // Refusals.
+        ensures only { IfErr result (λ e. e ≡ Error.Store) }
+        ensures counts { CountsFaults (S.world store.old) (S.world store.new) result }
+    {
+        let needed = self.needed(watermark);
+        while self.older.len() > needed {
+            let Some(oldest) = self.older.back() else {
+                return Ok(());
+            };
+            remove_older(store, oldest.version.id(), self.latest.version.id())?;
+            let _ = self.older.pop_back();
+        }
         Ok(())
     }
 

@@ -1,0 +1,135 @@
+-- What an image holds where the names that count have what they could.
+use Rattle.std.proofs.Common.{◌≡◌, ◌≢◌, ◌⊎◌, inl, inr, ⊎_elim, ℕ, ◌<◌, ◌≤◌, ◌^◌, List, [], ◌∷◌, ◌++◌, map, flat_map, Option, Some, None, refl, sym, ap, ◌∙◌, subst, codes}
+use Rattle.std.specs.List.{AllByRecursion}
+use Rattle.std.proofs.lemmas.List.Concat.{flat_map-cons}
+use Rattle.lsm_below.specs.Each.{each_left, each_right, each_weaker, each_both}
+use Rattle.lsm_below.specs.Members.{IsIn, each_in}
+use Rattle.lsm_below.specs.Optimizes.{tables_of}
+use Rattle.lsm_store.specs.World.{Image, World}
+use Rattle.lsm_tables.specs.Image.{IsImageOf}
+use Rattle.lsm_tables.specs.Tables.{SeenTable}
+use Rattle.lsm_versions.specs.Levels.{Levels, SeenVersion, all_of, AreRuns}
+use Rattle.lsm_manifest.specs.declared.recovered_table.RecoveredTable.{RecoveredTable}
+use Rattle.lsm_manifest.specs.declared.kinds.NameKind.TheVariants.{Refused}
+use Rattle.lsm_manifest.specs.Names.{current_name, version_name, table_name}
+use Rattle.lsm_manifest.specs.Kinds.{kind_of}
+use Rattle.lsm_manifest.specs.Spelling.{IsVersionFile}
+use Rattle.lsm_manifest.specs.Versions.{named_table, named_runs, named_levels, file_of}
+use Rattle.lsm_manifest.specs.Persist.{naming}
+use Rattle.lsm_manifest.specs.Standing.{Pairwise, IsTableAt, AreTablesAt, HasGoodNames, StandsFor}
+use Rattle.lsm_files.specs.Stored.{IsOnDisk, table_file, IsTableOnDisk, AreOnDisk, IsWhole, IsStored, HoldsOneOf}
+
+-- ---- tables, run by run and level by level
+
+-- what holds of each item of lists holds of each list's items
+pub each_list : {A : Type 0} (P : A → Type 0) (lists : List (List A)) → AllByRecursion P (tables_of lists) → AllByRecursion (AllByRecursion P) lists
+each_list P [] h = tt
+each_list {A} P (l ∷ lists) h =
+    let all = subst (λ (xs : List A). AllByRecursion P xs) (flat_map-cons (λ (x : List A). x) l lists) h in
+    (each_left P l (tables_of lists) all, each_list P lists (each_right P l (tables_of lists) all))
+
+paired : {A B : Type 0} (R : A → B → Type 0) (f : B → A) (xs : List B) → AllByRecursion (λ x. R (f x) x) xs → Pairwise R (map f xs) xs
+paired R f [] h = tt
+paired R f (x ∷ xs) h = (h.0, paired R f xs h.1)
+
+-- the file of a table is in the image, and reads as the table
+pub record IsTableIn (image : Image) (t : SeenTable) : Type 0 where
+  pub file : image (table_name t.id) ≡ Some (table_file t)
+  pub reads : IsImageOf t.created_at t.entries (table_file t)
+
+table_at : (image : Image) (t : SeenTable) → IsTableIn image t → IsTableAt image (named_table t) t
+table_at image t h = record { id = refl; bytes = table_file t; file = h.file; summed = refl; reads = h.reads }
+
+tables_at : (image : Image) (levels : Levels) → AllByRecursion (IsTableIn image) (all_of levels) → AreTablesAt image (named_levels levels) levels
+tables_at image levels h =
+    let runs = each_list (AllByRecursion (IsTableIn image)) levels (each_list (IsTableIn image) (tables_of levels) h) in
+    paired (Pairwise (Pairwise (IsTableAt image))) named_runs levels
+    (each_weaker (AllByRecursion (AllByRecursion (IsTableIn image))) (λ l. Pairwise (Pairwise (IsTableAt image)) (named_runs l) l)
+        (λ l of_level. paired (Pairwise (IsTableAt image)) (λ r. map named_table r) l
+        (each_weaker (AllByRecursion (IsTableIn image)) (λ r. Pairwise (IsTableAt image) (map named_table r) r)
+            (λ r of_run. paired (IsTableAt image) named_table r (each_weaker (IsTableIn image) (λ t. IsTableAt image (named_table t) t) (table_at image) r of_run)) l of_level)) levels runs)
+
+-- the image stands for a version that it names, whose files are whole
+pub stands : (image : Image) (v : SeenVersion) → v.id < 2 ^ 64 → IsVersionFile (named_levels v.levels) (file_of v) → AreRuns v.levels → image current_name ≡ Some (naming v.id (file_of v)) → image (version_name v.id) ≡ Some (file_of v) → AllByRecursion (IsTableIn image) (all_of v.levels) → HasGoodNames image
+    → StandsFor image v.id (named_levels v.levels) v.levels
+stands image v small reads runs current file tables names = record {
+  named = record { id_fits = small; bytes = file_of v; current = current; version = file; reads = reads };
+  tables = tables_at image v.levels tables;
+  runs = runs;
+  names = names;
+}
+
+-- ---- names that nobody touches
+
+-- none of the names that count has changed
+pub record Untouched (changed : List ℕ → Type 0) (versions : List SeenVersion) (tables : List SeenTable) : Type 0 where
+  pub current : changed current_name → ⊥
+  pub files : AllByRecursion (λ v. changed (version_name v.id) → ⊥) versions
+  pub named : AllByRecursion (λ v. AllByRecursion (λ t. changed (table_name t.id) → ⊥) (all_of v.levels)) versions
+  pub unnamed : AllByRecursion (λ t. changed (table_name t.id) → ⊥) tables
+  pub no_version : changed (codes "version") → ⊥
+  pub in_tables : (n : List ℕ) → kind_of n ≡ Refused → changed n → ⊥
+
+module _ (changed : List ℕ → Type 0) (old : World) where
+  module _ (image : Image) (has : (n : List ℕ) → (changed n → ⊥) → old.may n (image n)) where
+    tables_in : (tables : List SeenTable) → AreOnDisk old tables → AllByRecursion (λ t. changed (table_name t.id) → ⊥) tables → AllByRecursion (IsTableIn image) tables
+    tables_in tables on free = each_both (IsTableOnDisk old) (λ t. changed (table_name t.id) → ⊥) (IsTableIn image) (λ t is out. record { file = is.file _ (has (table_name t.id) out); reads = is.reads }) tables on free
+
+    pub names_in : (versions : List SeenVersion) (tables : List SeenTable) → IsStored old versions tables → Untouched changed versions tables → HasGoodNames image
+    names_in versions tables stored free = record {
+      no_version = stored.no_version _ (has (codes "version") free.no_version);
+      in_tables = λ n refused. stored.in_tables n _ refused (has n (free.in_tables n refused));
+    }
+
+    -- a version that is whole and that `current` names is held
+    pub held_whole : (v : SeenVersion) → IsWhole old v → (changed (version_name v.id) → ⊥) → AllByRecursion (λ t. changed (table_name t.id) → ⊥) (all_of v.levels) → image current_name ≡ Some (naming v.id (file_of v)) → HasGoodNames image → StandsFor image v.id (named_levels v.levels) v.levels
+    held_whole v whole file tables current names = stands image v whole.id whole.reads whole.runs current (whole.file _ (has (version_name v.id) file)) (tables_in (all_of v.levels) whole.tables tables) names
+
+    pub held_beside : (versions : List SeenVersion) (tables : List SeenTable) → IsStored old versions tables → Untouched changed versions tables → HoldsOneOf versions image
+    held_beside versions tables stored free =
+        let named = stored.current _ (has current_name free.current) in
+        let v : SeenVersion = named.0 in (
+          v,
+          named.1,
+          held_whole v (each_in (IsWhole old) versions v stored.whole named.1) (each_in (λ u. changed (version_name u.id) → ⊥) versions v free.files named.1)
+              (each_in (λ u. AllByRecursion (λ t. changed (table_name t.id) → ⊥) (all_of u.levels)) versions v free.named named.1) named.2 (names_in versions tables stored free),
+        )
+
+  module _ (new : World) (keeps : (n : List ℕ) (c : Option (List ℕ)) → (changed n → ⊥) → new.may n c → old.may n c) where
+    pub on_beside : (tables : List SeenTable) → AreOnDisk old tables → AllByRecursion (λ t. changed (table_name t.id) → ⊥) tables → AreOnDisk new tables
+    on_beside tables on free = each_both (IsTableOnDisk old) (λ t. changed (table_name t.id) → ⊥) (IsTableOnDisk new) (λ t is out. record { id = is.id; reads = is.reads; file = λ c may. is.file c (keeps (table_name t.id) c out may) }) tables on free
+
+    pub whole_beside : (v : SeenVersion) → IsWhole old v → (changed (version_name v.id) → ⊥) → AllByRecursion (λ t. changed (table_name t.id) → ⊥) (all_of v.levels) → IsWhole new v
+    whole_beside v is file tables = record { id = is.id; reads = is.reads; runs = is.runs; file = λ c may. is.file c (keeps (version_name v.id) c file may); tables = on_beside (all_of v.levels) is.tables tables }
+
+    wholes_beside : (versions : List SeenVersion) → AllByRecursion (IsWhole old) versions → AllByRecursion (λ v. changed (version_name v.id) → ⊥) versions → AllByRecursion (λ v. AllByRecursion (λ t. changed (table_name t.id) → ⊥) (all_of v.levels)) versions → AllByRecursion (IsWhole new) versions
+    wholes_beside [] is files tables = tt
+    wholes_beside (v ∷ versions) is files tables = (whole_beside v is.0 files.0 tables.0, wholes_beside versions is.1 files.1 tables.1)
+
+    pub stored_beside : (versions : List SeenVersion) (tables : List SeenTable) → IsStored old versions tables → Untouched changed versions tables → IsStored new versions tables
+    stored_beside versions tables stored free = record {
+      current = λ c may. stored.current c (keeps current_name c free.current may);
+      whole = wholes_beside versions stored.whole free.files free.named;
+      written = on_beside tables stored.written free.unnamed;
+      no_version = λ c may. stored.no_version c (keeps (codes "version") c free.no_version may);
+      in_tables = λ n c refused may. stored.in_tables n c refused (keeps n c (free.in_tables n refused) may);
+    }
+
+-- where nothing has changed
+abbrev nothing : List ℕ → Type 0
+nothing n = ⊥
+
+all_free : {A : Type 0} (name : A → List ℕ) (xs : List A) → AllByRecursion (λ x. nothing (name x) → ⊥) xs
+all_free name [] = tt
+all_free name (x ∷ xs) = (λ h. h, all_free name xs)
+
+all_named_free : (versions : List SeenVersion) → AllByRecursion (λ v. AllByRecursion (λ t. nothing (table_name t.id) → ⊥) (all_of v.levels)) versions
+all_named_free [] = tt
+all_named_free (v ∷ versions) = (all_free (λ t. table_name t.id) (all_of v.levels), all_named_free versions)
+
+untouched : (versions : List SeenVersion) (tables : List SeenTable) → Untouched nothing versions tables
+untouched versions tables = record { current = λ h. h; files = all_free (λ v. version_name v.id) versions; named = all_named_free versions; unnamed = all_free (λ t. table_name t.id) tables; no_version = λ h. h; in_tables = λ n refused h. h }
+
+-- an image of this moment holds one of the versions
+pub holds_now : (w : World) (versions : List SeenVersion) (tables : List SeenTable) (image : Image) → IsStored w versions tables → ((n : List ℕ) → w.may n (image n)) → HoldsOneOf versions image
+holds_now w versions tables image stored has = held_beside nothing w image (λ n out. has n) versions tables stored (untouched versions tables)

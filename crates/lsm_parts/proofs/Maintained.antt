@@ -1,0 +1,29 @@
+-- How many super versions are needed.
+use Rattle.std.proofs.Common.{◌≡◌, ℕ, ◌+◌, ◌-◌, ◌<◌, ◌≤◌, Bool, true, false, not, cond, List, [], ◌∷◌, take, drop, length, get_or, zero, suc, nat_lt, refl, sym, ap, ◌∙◌, subst, arith}
+use Rattle.std.specs.List.{AllByRecursion, AllWithin}
+use Rattle.std.proofs.lemmas.List.{length-take-le, take-take}
+use Rattle.lsm_parts.specs.declared.version.super_version.SuperVersion.{SuperVersion}
+use Rattle.lsm_parts.specs.Maintenance.{needed_of}
+
+pub needed_most : (w : ℕ) (svs : List SuperVersion) → needed_of w svs ≤ length svs
+needed_most w [] = omega arith
+needed_most w (sv ∷ svs) = by_case (nat_lt sv.seqno w) (needed_most w svs)
+  where
+    by_case : (b : Bool) → needed_of w svs ≤ length svs → cond b 1 (needed_of w svs + 1) ≤ suc (length svs)
+    by_case true h = omega arith
+    by_case false h = omega arith
+
+-- the first one that is numbered below w, at place i
+pub needed_at : (w : ℕ) (xs : List SuperVersion) (i : ℕ) (d : SuperVersion) → AllWithin (λ sv. nat_lt sv.seqno w ≡ false) xs 0 i → i < length xs → nat_lt (get_or xs i d).seqno w ≡ true → needed_of w xs ≡ i + 1
+needed_at w [] i d before lt here = absurd (omega arith)
+needed_at w (x ∷ xs) zero d before lt here = ap (λ b. cond b 1 (needed_of w xs + 1)) here
+needed_at w (x ∷ xs) (suc i) d before lt here =
+    let rest = needed_at w xs i d (λ k e low high. before (suc k) e (omega arith) (omega arith)) (omega arith) here in
+    ap (λ b. cond b 1 (needed_of w xs + 1)) (before 0 d (omega arith) (omega arith)) ∙ omega (arith, rest)
+
+-- none is
+pub needed_all : (w : ℕ) (xs : List SuperVersion) → AllWithin (λ sv. nat_lt sv.seqno w ≡ false) xs 0 (length xs) → needed_of w xs ≡ length xs
+needed_all w [] before = refl
+needed_all w (x ∷ xs) before =
+    let rest = needed_all w xs (λ k e low high. before (suc k) e (omega arith) (omega arith)) in
+    ap (λ b. cond b 1 (needed_of w xs + 1)) (before 0 x (omega arith) (omega arith)) ∙ omega (arith, rest)
