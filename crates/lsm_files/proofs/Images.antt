@@ -72,7 +72,7 @@ pub record Untouched (changed : List ℕ → Type 0) (versions : List SeenVersio
 
 module _ (changed : List ℕ → Type 0) (old : World) where
   module _ (image : Image) (has : (n : List ℕ) → (changed n → ⊥) → old.may n (image n)) where
-    tables_in : (tables : List SeenTable) → AreOnDisk old tables → AllByRecursion (λ t. changed (table_name t.id) → ⊥) tables → AllByRecursion (IsTableIn image) tables
+    pub tables_in : (tables : List SeenTable) → AreOnDisk old tables → AllByRecursion (λ t. changed (table_name t.id) → ⊥) tables → AllByRecursion (IsTableIn image) tables
     tables_in tables on free = each_both (IsTableOnDisk old) (λ t. changed (table_name t.id) → ⊥) (IsTableIn image) (λ t is out. record { file = is.file _ (has (table_name t.id) out); reads = is.reads }) tables on free
 
     pub names_in : (versions : List SeenVersion) (tables : List SeenTable) → IsStored old versions tables → Untouched changed versions tables → HasGoodNames image

@@ -1,2 +1,3 @@
 pub mod Images
 pub mod Removals
+pub mod Committed

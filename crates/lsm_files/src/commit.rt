@@ -23,5 +23,6 @@ pub fn commit_version<S: Store>(alloc: Global, store: &mut S, version: &Version)
 {
     names_are_apart();
     version.facts();
+    let _id = version.id();
     persist_version(alloc, store, version)
 }

@@ -1,0 +1,181 @@
+-- What persisting a version leaves of what is stored.
+use Rattle.std.proofs.Common.{◌≡◌, ◌≢◌, ◌⊎◌, inl, inr, ⊎_elim, ℕ, ◌<◌, ◌^◌, List, [], ◌∷◌, get_or, Option, Some, None, Result, Ok, Err, OnOk, OnErr, IsErrOf, refl, sym, ap, ◌∙◌, subst, codes, arith}
+use Rattle.std.specs.List.{AllByRecursion}
+use Rattle.lsm_below.specs.Each.{each_weaker}
+use Rattle.lsm_below.specs.Members.{IsIn}
+use Rattle.lsm_below.specs.declared.error.Error.{Error}
+use Rattle.lsm_below.specs.declared.error.Error.TheVariants as error
+use Rattle.lsm_store.specs.World.{Image, World, LeavesOnly}
+use Rattle.lsm_store.specs.Synced.{IsBeside, KeepsOthers}
+use Rattle.lsm_store.specs.Moments.{weakened, same_or_not}
+use Rattle.lsm_tables.specs.Tables.{SeenTable}
+use Rattle.lsm_versions.specs.Levels.{SeenVersion, all_of, AreRuns}
+use Rattle.lsm_manifest.specs.declared.kinds.NameKind.TheVariants.{Refused, VersionFile, Other}
+use Rattle.lsm_manifest.specs.declared.persist.PersistError.{PersistError}
+use Rattle.lsm_manifest.specs.declared.persist.PersistError.TheVariants as persisting
+use Rattle.lsm_manifest.specs.Names.{current_name, version_name, table_name}
+use Rattle.lsm_manifest.specs.Kinds.{kind_of}
+use Rattle.lsm_manifest.specs.Spelling.{IsVersionFile}
+use Rattle.lsm_manifest.specs.Versions.{named_levels, file_of}
+use Rattle.lsm_manifest.specs.Persist.{naming, IsOldOrNew, IsPersisted, IsUncertain, KeepsRest, Persists, MayHaveLeft, NamesFile}
+use Rattle.lsm_manifest.specs.Told.{Told, TellsPersist}
+use Rattle.lsm_files.specs.Stored.{IsWhole, AreOnDisk, IsStored, HoldsOneOf, Leaves}
+use Rattle.lsm_files.specs.Commits.{Stores}
+use Rattle.lsm_files.proofs.Images.{Untouched, stands, tables_in, names_in, held_beside, held_whole, stored_beside, on_beside, whole_beside}
+use Rattle.lsm_files.proofs.Removals.{AreApart, is_file, file_untouched}
+
+-- the name is that of the version's file, or `current`
+abbrev is_either : ℕ → List ℕ → Type 0
+is_either id n = (n ≡ version_name id) ⊎ (n ≡ current_name)
+
+clash_memory : ◌≡◌ {A = Error} error.OutOfMemory error.CommitUnknown → ⊥
+clash_memory e = cc e
+
+clash_store : ◌≡◌ {A = Error} error.Store error.CommitUnknown → ⊥
+clash_store e = cc e
+
+other_letters : get_or (codes "version") 0 0 ≡ get_or current_name 0 0 → ⊥
+other_letters e = omega arith
+
+module _ (apart : AreApart) (no_table : (i : ℕ) → table_name i ≢ current_name) (plain : kind_of current_name ≡ Other) (old : World) (latest next : SeenVersion) (tables : List SeenTable) (small : next.id < 2 ^ 64) (runs : AreRuns next.levels)
+    (stored : IsStored old (latest ∷ []) tables) (other : next.id ≢ latest.id) (on_disk : AreOnDisk old (all_of next.levels)) where
+  free_file : Untouched (is_file next.id) (latest ∷ []) tables
+  free_file = file_untouched apart old next.id small (latest ∷ []) tables stored (λ e. other (sym e), tt)
+
+  table_out : (i : ℕ) → is_either next.id (table_name i) → ⊥
+  table_out i = ⊎_elim (λ e. apart.table_no_version i next.id e) (λ e. no_table i e)
+
+  tables_out : (us : List SeenTable) → AllByRecursion (λ t. is_either next.id (table_name t.id) → ⊥) us
+  tables_out [] = tt
+  tables_out (u ∷ us) = (table_out u.id, tables_out us)
+
+  latest_out : is_either next.id (version_name latest.id) → ⊥
+  latest_out = ⊎_elim (λ e. free_file.files.0 e) (λ e. apart.version_not_current latest.id e)
+
+  refused_out : (n : List ℕ) → kind_of n ≡ Refused → is_either next.id n → ⊥
+  refused_out n bad = ⊎_elim (λ e. free_file.in_tables n bad e) (λ e. let kind = sym plain ∙ (ap kind_of (sym e) ∙ bad) in absurd (cc kind))
+
+  older_out : is_either next.id (codes "version") → ⊥
+  older_out = ⊎_elim (λ e. free_file.no_version e) (λ e. other_letters (ap (λ (l : List ℕ). get_or l 0 0) e))
+
+  out_file : (n : List ℕ) → (is_either next.id n → ⊥) → n ≢ version_name next.id
+  out_file n out e = out (inl e)
+
+  out_current : (n : List ℕ) → (is_either next.id n → ⊥) → n ≢ current_name
+  out_current n out e = out (inr e)
+
+  -- ---- images in it
+
+  wider : (image : Image) → HoldsOneOf (latest ∷ []) image → HoldsOneOf (latest ∷ (next ∷ [])) image
+  wider image has = (has.0, ⊎_elim (λ e. inl e) (λ none. absurd none) has.1, has.2)
+
+  held_old : (image : Image) → ((n : List ℕ) → (is_file next.id n → ⊥) → old.may n (image n)) → HoldsOneOf (latest ∷ []) image
+  held_old image has = held_beside (is_file next.id) old image has (latest ∷ []) tables stored free_file
+
+  held_either : IsVersionFile (named_levels next.levels) (file_of next) → (image : Image) → IsOldOrNew next.id (file_of next) old image → HoldsOneOf (latest ∷ (next ∷ [])) image
+  held_either reads image is = ⊎_elim
+      (λ as_before. wider image (held_old image (λ n out. ⊎_elim (λ (e : n ≡ current_name). subst (λ m. old.may m (image m)) (sym e) as_before) (λ differs. is.elsewhere n out differs) (same_or_not n current_name))))
+      (λ named. (
+        next,
+        inr (inl refl),
+        stands image next small reads runs named.0 named.1 (tables_in (is_either next.id) old image has (all_of next.levels) on_disk (tables_out (all_of next.levels)))
+            (record { no_version = stored.no_version _ (has (codes "version") older_out); in_tables = λ n bad. stored.in_tables n _ bad (has n (refused_out n bad)) }),
+      )) is.named
+    where
+      has : (n : List ℕ) → (is_either next.id n → ⊥) → old.may n (image n)
+      has n out = is.elsewhere n (out_file n out) (out_current n out)
+
+  left_beside : (new : World) → LeavesOnly old new (IsBeside (version_name next.id) old) → Leaves old new (latest ∷ [])
+  left_beside new leaves = weakened old new (IsBeside (version_name next.id) old) (HoldsOneOf (latest ∷ [])) leaves (λ image is. held_old image is)
+
+  widened : (new : World) → Leaves old new (latest ∷ []) → Leaves old new (latest ∷ (next ∷ []))
+  widened new leaves = weakened old new (HoldsOneOf (latest ∷ [])) (HoldsOneOf (latest ∷ (next ∷ []))) leaves wider
+
+  left_either : (new : World) → IsVersionFile (named_levels next.levels) (file_of next) → LeavesOnly old new (IsOldOrNew next.id (file_of next) old) → Leaves old new (latest ∷ (next ∷ []))
+  left_either new reads leaves = weakened old new (IsOldOrNew next.id (file_of next) old) (HoldsOneOf (latest ∷ (next ∷ []))) leaves (held_either reads)
+
+  -- ---- what is stored behind it
+
+  module _ (new : World) where
+    kept_beside : KeepsOthers (version_name next.id) old new → IsStored new (latest ∷ []) tables
+    kept_beside keeps = stored_beside (is_file next.id) old new (λ n c out may. (keeps.may n c out).0 may) (latest ∷ []) tables stored free_file
+
+    module _ (rest : KeepsRest next.id old new) (reads : IsVersionFile (named_levels next.levels) (file_of next)) (file : (c : Option (List ℕ)) → new.may (version_name next.id) c → c ≡ Some (file_of next)) where
+      still : (n : List ℕ) (c : Option (List ℕ)) → (is_either next.id n → ⊥) → new.may n c → old.may n c
+      still n c out may = (rest.may n c (out_file n out) (out_current n out)).0 may
+
+      next_whole : IsWhole new next
+      next_whole = record { id = small; reads = reads; runs = runs; file = file; tables = on_beside (is_either next.id) old new still (all_of next.levels) on_disk (tables_out (all_of next.levels)) }
+
+      latest_whole : IsWhole new latest
+      latest_whole = whole_beside (is_either next.id) old new still latest stored.whole.0 latest_out (tables_out (all_of latest.levels))
+
+      unnamed_on : AreOnDisk new tables
+      unnamed_on = on_beside (is_either next.id) old new still tables stored.written (tables_out tables)
+
+      pub next_stored : ((c : Option (List ℕ)) → new.may current_name c → c ≡ Some (naming next.id (file_of next))) → IsStored new (next ∷ []) tables
+      next_stored current = record {
+        current = λ c may. (next, inl refl, current c may);
+        whole = (next_whole, tt);
+        written = unnamed_on;
+        no_version = λ c may. stored.no_version c (still (codes "version") c older_out may);
+        in_tables = λ n c bad may. stored.in_tables n c bad (still n c (refused_out n bad) may);
+      }
+
+      pub both_stored : ((c : Option (List ℕ)) → new.may current_name c → old.may current_name c ⊎ (c ≡ Some (naming next.id (file_of next)))) → IsStored new (latest ∷ (next ∷ [])) tables
+      both_stored current = record {
+        current = λ c may. ⊎_elim (λ before. let named = stored.current c before in (named.0, ⊎_elim (λ e. inl e) (λ none. absurd none) named.1, named.2)) (λ e. (next, inr (inl refl), e)) (current c may);
+        whole = (latest_whole, (next_whole, tt));
+        written = unnamed_on;
+        no_version = λ c may. stored.no_version c (still (codes "version") c older_out may);
+        in_tables = λ n c bad may. stored.in_tables n c bad (still n c (refused_out n bad) may);
+      }
+
+    -- ---- by what it answers
+
+    of_ok : (u : Unit {0}) → IsPersisted next.id (file_of next) old new → LeavesOnly old new (IsOldOrNew next.id (file_of next) old) → IsVersionFile (named_levels next.levels) (file_of next) → Stores latest next tables old new (Ok u)
+    of_ok u is leaves reads = record {
+      ok = next_stored is.rest reads (λ c may. (is.version c).0 may) (λ c may. (is.current c).0 may);
+      unknown = λ e. absurd (cc e);
+      refused = tt;
+      leaves = left_either new reads leaves;
+    }
+
+    of_unknown : (e : Error) → e ≡ error.CommitUnknown → IsUncertain next.id (file_of next) old new → LeavesOnly old new (IsOldOrNew next.id (file_of next) old) → IsVersionFile (named_levels next.levels) (file_of next) → Stores latest next tables old new (Err e)
+    of_unknown e is_unknown is leaves reads = record {
+      ok = tt;
+      unknown = λ _. both_stored is.rest reads (λ c may. (is.version c).0 may) (λ c may. (is.current c).0 may);
+      refused = inl (ap Err is_unknown);
+      leaves = left_either new reads leaves;
+    }
+
+    of_refused : (e : Error) → (e ≡ error.CommitUnknown → ⊥) → KeepsOthers (version_name next.id) old new → LeavesOnly old new (IsBeside (version_name next.id) old) → Stores latest next tables old new (Err e)
+    of_refused e certain keeps leaves =
+        let left = left_beside new leaves in
+        record {
+          ok = tt;
+          unknown = λ is. absurd (certain (err_is e is));
+          refused = inr (kept_beside keeps, left);
+          leaves = widened new left;
+        }
+      where
+        err_is : (x : Error) → ◌≡◌ {A = Result Unit Error} (Err x) (Err error.CommitUnknown) → x ≡ error.CommitUnknown
+        err_is x is = cc is
+
+    -- the three facts of a refusal are of one cause
+    of_err : (e : Error) (p q r : PersistError) → TellsPersist p e → TellsPersist q e → TellsPersist r e → Persists {T = Unit {0}} next.id (file_of next) old new (Err p) → MayHaveLeft {T = Unit {0}} next.id (file_of next) old new (Err q) → NamesFile {T = Unit {0}} next (Err r) → Stores latest next tables old new (Err e)
+    of_err e persisting.CommitUnknown persisting.CommitUnknown persisting.CommitUnknown a b c is left names = of_unknown e a is left names
+    of_err e persisting.CommitUnknown persisting.CommitUnknown persisting.OutOfMemory a b c is left names = absurd (clash_memory (sym c ∙ a))
+    of_err e persisting.CommitUnknown persisting.CommitUnknown persisting.Store a b c is left names = absurd (clash_store (sym c ∙ a))
+    of_err e persisting.CommitUnknown persisting.OutOfMemory r a b c is left names = absurd (clash_memory (sym b ∙ a))
+    of_err e persisting.CommitUnknown persisting.Store r a b c is left names = absurd (clash_store (sym b ∙ a))
+    of_err e persisting.OutOfMemory persisting.CommitUnknown r a b c is left names = absurd (clash_memory (sym a ∙ b))
+    of_err e persisting.OutOfMemory persisting.OutOfMemory r a b c is left names = of_refused e (λ u. clash_memory (sym a ∙ u)) is left
+    of_err e persisting.OutOfMemory persisting.Store r a b c is left names = of_refused e (λ u. clash_memory (sym a ∙ u)) is left
+    of_err e persisting.Store persisting.CommitUnknown r a b c is left names = absurd (clash_store (sym a ∙ b))
+    of_err e persisting.Store persisting.OutOfMemory r a b c is left names = of_refused e (λ u. clash_store (sym a ∙ u)) is left
+    of_err e persisting.Store persisting.Store r a b c is left names = of_refused e (λ u. clash_store (sym a ∙ u)) is left
+
+    pub committed : (r : Result Unit Error) → Told TellsPersist (Persists {T = Unit {0}} next.id (file_of next) old new) r → Told TellsPersist (MayHaveLeft {T = Unit {0}} next.id (file_of next) old new) r → Told TellsPersist (NamesFile {T = Unit {0}} next) r → Stores latest next tables old new r
+    committed (Ok u) is left names = of_ok u is left names
+    committed (Err e) is left names = of_err e is.0 left.0 names.0 is.1 left.1 names.1 is.2 left.2 names.2
