@@ -1,3 +1,4 @@
 pub mod Images
 pub mod Removals
 pub mod Committed
+pub mod Tabled

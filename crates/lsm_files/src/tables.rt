@@ -10,10 +10,10 @@ ghost use Rattle.lsm_files.specs.Writing.{HoldEntries, KeepsElsewhere, IsKeptEls
 
 use bytes::Bytes;
 use lsm_below::{Error, InternalValue, TableId};
-use lsm_manifest::table_name;
+use lsm_manifest::{names_are_apart, table_name};
 use lsm_store::{Store, StoreError, write_synced};
 use lsm_tables::{Table, TableError, encode, no_image_begins_another, split_table};
-use lsm_versions::LIMIT;
+use lsm_versions::{LIMIT, cut_tables_are_runs};
 use std::alloc::Global;
 
 /// A table ends as soon as its entries have so many bytes: 64 MiB.
@@ -72,6 +72,41 @@ pub fn write_table<S: Store>(
     table_of(alloc, id, made_at, entries, file)
 }
 
+/// `write_tables`, told of the names alone.
+fn write_each<S: Store>(
+    alloc: Global,
+    store: &mut S,
+    next: &mut TableId,
+    made_at: u64,
+    entries: &[InternalValue],
+) -> Result<Vec<Table>, Error>
+    requires { IsWritable entries.now }
+    ensures tables { IfOk result (λ tables. HoldEntries made_at entries.now next.old next.new tables.items) }
+    ensures rises { next.old ≤ next.new }
+    ensures on_disk { S.tells → IfOk result (λ tables. AreOnDisk (S.world store.new) tables.items) }
+    ensures keeps { S.tells → KeepsElsewhere next.old (S.world store.old) (S.world store.new) }
+    ensures any_moment { S.tells → LeavesOnly (S.world store.old) (S.world store.new) (IsKeptElsewhere next.old (S.world store.old)) }
+    ensures out_of_numbers { IsErrOf result Error.OutOfNumbers → LIMIT ≤ next.new }
+    ensures only { IfErr result (λ e. ((e ≡ Error.OutOfMemory) ⊎ (e ≡ Error.Store)) ⊎ (e ≡ Error.OutOfNumbers)) }
+    ensures counts { CountsFaults (S.world store.old) (S.world store.new) result }
+{
+    names_are_apart();
+    cut_tables_are_runs();
+    let mut tables = Vec::new(alloc);
+    let mut rest = entries;
+    while !rest.is_empty() {
+        let id = *next;
+        if id >= LIMIT {
+            return Err(Error::OutOfNumbers);
+        }
+        let (first, behind) = split_table(rest, TABLE_TARGET);
+        *next = id + 1;
+        tables.push(write_table(alloc, store, id, made_at, first)?)?;
+        rest = behind;
+    }
+    Ok(tables)
+}
+
 /// Writes tables that hold these entries, made at this moment, under the ids from `next` on, one after the other: of
 /// their files one at a time is in memory. No entries: no tables. The cost is linear in the bytes.
 ///
@@ -99,17 +134,6 @@ pub fn write_tables<S: Store>(
     ensures only { IfErr result (λ e. ((e ≡ Error.OutOfMemory) ⊎ (e ≡ Error.Store)) ⊎ (e ≡ Error.OutOfNumbers)) }
     ensures counts { CountsFaults (S.world store.old) (S.world store.new) result }
 {
-    let mut tables = Vec::new(alloc);
-    let mut rest = entries;
-    while !rest.is_empty() {
-        let id = *next;
-        if id >= LIMIT {
-            return Err(Error::OutOfNumbers);
-        }
-        let (first, behind) = split_table(rest, TABLE_TARGET);
-        *next = id + 1;
-        tables.push(write_table(alloc, store, id, made_at, first)?)?;
-        rest = behind;
-    }
-    Ok(tables)
+    names_are_apart();
+    write_each(alloc, store, next, made_at, entries)
 }

@@ -1,13 +1,10 @@
-use Rattle.std.proofs.Common.{rules, ◌≡◌, ◌≤◌, ◌⊎◌, IfOk, IfErr, IsErrOf, ℕ, ◌+◌, ◌-◌, ◌*◌, ◌<◌, length, ◌/◌, ◌%◌, Bool, true, false, nat_eq, nat_lt, List, [], ◌∷◌, ◌++◌, slice_index_or, slice_set, bit_and, bit_or, Fits, w8, w32, w64, Bor, MutBor}
-use Rattle.lsm_store.specs.World.{LeavesOnly}
-use Rattle.lsm_store.specs.Synced.{IsBeside, KeepsOthers}
-use Rattle.lsm_tables.specs.Image.{IsTable, image}
-use Rattle.lsm_tables.specs.Cutting.{IsWritable}
-use Rattle.lsm_manifest.specs.Names.{table_name}
-use Rattle.lsm_files.specs.Stored.{IsTableOnDisk, AreOnDisk, CountsFaults}
-use Rattle.lsm_files.specs.Writing.{HoldEntries, KeepsElsewhere, IsKeptElsewhere, KeepsStored}
+use Rattle.std.proofs.Common.{List, ℕ, [], ◌++◌, ap, ◌∙◌}
+use Rattle.lsm_files.proofs.Tabled.{table_is}
 use Rattle.lsm_files.proofs.tables.table_of.Goals as goal
 
--- src/tables.rt:23:1
 pub returns-in-Ok-clause-table : goal.returns-in-Ok-clause-table
-returns-in-Ok-clause-table c = ?
+returns-in-Ok-clause-table c =
+    let t = c.in-Ok.table in
+    let same = c.no_image_begins_another.ensures t.created_at c.args.made_at t.entries c.args.entries.now c.in_ok-bytes.bytes c.args.file.items [] [] c.in-Ok.ensures.entries
+    (record { moment = c.ranges.made_at.fits; table = c.requires.table; spelling = c.requires.file }) (ap (λ (l : List ℕ). l ++ []) c.in_ok-bytes.ensures.ok) in
+    table_is t c.args.id c.args.made_at c.args.entries.now c.in-Ok.ensures.id same.0 same.1
