@@ -51,11 +51,11 @@ above_first s n (x ∷ xs) h zero (suc j) d le lt is = raised (get_or xs j d).se
 above_first s n (x ∷ xs) h (suc i) zero d le lt is = absurd (omega arith)
 above_first s n (x ∷ xs) h (suc i) (suc j) d le lt is = above_first s x.seqno xs h.1 i j d (omega arith) (omega arith) is
 
-unnot : (b : Bool) → not b ≡ true → b ≡ false
+pub unnot : (b : Bool) → not b ≡ true → b ≡ false
 unnot true h = sym h
 unnot false h = refl
 
-passes : (b : Bool) → not b ≡ false → b ≡ true
+pub passes : (b : Bool) → not b ≡ false → b ≡ true
 passes true h = refl
 passes false h = sym h
 

@@ -1,5 +1,5 @@
 // The history of super versions.
-ghost use Rattle.std.specs.Prelude.{◌≡◌, ℕ, ◌+◌, ◌-◌, ◌<◌, ◌∷◌, ◌↔◌, [], None, length, IfOk, IfErr, OnOk, OnErr, IsErrOf, option_copied, nat_lt, true};
+ghost use Rattle.std.specs.Prelude.{◌≡◌, ℕ, List, ◌+◌, ◌-◌, ◌<◌, ◌∷◌, ◌↔◌, [], None, length, IfOk, IfErr, OnOk, OnErr, IsErrOf, option_copied, nat_lt, true};
 ghost use Rattle.std.specs.List.{find, list_any};
 ghost use Rattle.lsm_tables.specs.Tables.{SeenTable};
 ghost use Rattle.lsm_versions.specs.Levels.{SeenVersion};
@@ -10,7 +10,7 @@ ghost use Rattle.lsm_files.specs.Stored.{CountsFaults};
 
 use crate::{Error, Memtable, SealedMemtables, SuperVersion, Version, VersionId, seqno_filter};
 use lsm_below::{MemtableId, SeqNo};
-use lsm_files::remove_version;
+use lsm_files::{crashes_leave_versions, remove_version};
 use lsm_store::Store;
 use std::alloc::Global;
 use std::collections::VecDeque;
@@ -90,11 +90,13 @@ fn walk_needed(older: &VecDeque<SuperVersion>, watermark: SeqNo) -> usize
 /// Removes the file of a version, unless its id isn't below this one: then another super version may need it.
 fn remove_older<S: Store>(store: &mut S, id: VersionId, latest: VersionId) -> Result<(), Error>
     ensures gone { S.tells → id < latest → OnOk result ((S.world store.new).gives (version_name id) ≡ None) }
+    ensures absent { S.tells → OnOk result ((n : List ℕ) → (S.world store.old).gives n ≡ None → (S.world store.new).gives n ≡ None) }
     ensures keeps { S.tells → KeepsNewer latest (S.world store.old) (S.world store.new) }
     ensures stored { S.tells → KeepsVersions latest (S.world store.old) (S.world store.new) }
     ensures only { IfErr result (λ e. e ≡ Error.Store) }
     ensures counts { CountsFaults (S.world store.old) (S.world store.new) result }
 {
+    crashes_leave_versions(store);
     if id < latest {
         return remove_version(store, id);
     }
@@ -233,15 +235,16 @@ impl SuperVersions {
     pub fn maintenance<S: Store>(&mut self, store: &mut S, watermark: SeqNo) -> Result<(), Error>
         ensures forgets { Forgets watermark result self.old self.new }
         // The files.
-        ensures gone { S.tells → AreGone (S.world store.new) self.old self.new }
+        ensures gone { S.tells → OnOk result (AreGone (S.world store.new) self.old self.new) }
         ensures keeps { S.tells → KeepsNewer self.old.latest.version.id (S.world store.old) (S.world store.new) }
         ensures stored { S.tells → KeepsVersions self.old.latest.version.id (S.world store.old) (S.world store.new) }
         // Refusals.
         ensures only { IfErr result (λ e. e ≡ Error.Store) }
         ensures counts { CountsFaults (S.world store.old) (S.world store.new) result }
     {
+        crashes_leave_versions(store);
         let needed = self.needed(watermark);
-        while self.older.len() > needed {
+        'oldest: while self.older.len() > needed {
             let Some(oldest) = self.older.back() else {
                 return Ok(());
             };
