@@ -7,6 +7,7 @@
 //! | `counters` | the counter of numbers |
 //! | `memtables` | look-ups, sizes and bounds of a memtable |
 //! | `versions` | sealed memtables, and the history of super versions |
+//! | `maintenance` | which super versions are forgotten, and which files go |
 //! | `guards` | what a guard hands out |
 //! | `prefixes` | the bounds of the keys that begin alike |
 //! | `iterators` | what iterators give over memtables, from both ends |
@@ -27,6 +28,8 @@ mod errors;
 mod guards;
 #[cfg(test)]
 mod iterators;
+#[cfg(test)]
+mod maintenance;
 #[cfg(test)]
 mod memtables;
 #[cfg(test)]
