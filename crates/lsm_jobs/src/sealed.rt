@@ -31,10 +31,7 @@ impl Model for SealedMemtable {
 
 impl SealedMemtable {
     /// Shares a memtable. Refused only for want of memory, and then it comes back.
-    pub fn new(
-        alloc: Global,
-        memtable: Memtable,
-    ) -> Result<SealedMemtable, AllocFailed<Memtable>>
+    pub fn new(alloc: Global, memtable: Memtable) -> Result<SealedMemtable, AllocFailed<Memtable>>
         ensures ok { IfOk result (λ s. s ≡ memtable) }
         ensures back { IfErr result (λ e. e.value ≡ memtable) }
     {

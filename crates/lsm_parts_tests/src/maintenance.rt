@@ -20,11 +20,7 @@ fn append(
 }
 
 /// Behind a first super version numbered 0 those of these numbers, over versions of rising ids.
-fn append_each(
-    alloc: Global,
-    history: &mut SuperVersions,
-    numbers: &[SeqNo],
-) -> Result<(), Error> {
+fn append_each(alloc: Global, history: &mut SuperVersions, numbers: &[SeqNo]) -> Result<(), Error> {
     let mut id = 0;
     for number in numbers {
         id += 1;

@@ -25,5 +25,5 @@ returns-clause-writable c =
     let lists = entries_in c.args.memtables.now in
     IfOk-weaker c.take_all.result _ (λ list. IsWritable list.items)
     (λ list is. subst IsWritable (sym is) (kept_writable of_itself c.args.watermark false lists _ (lists_writable c.args.memtables.now c.requires)
-        (kept_of (λ s. rest_of s.over s.entries) c.in_ok-sources.sources.items lists c.args.watermark _ c.in_ok-sources.ensures c.in_ok-stream.ensures.merged c.in_ok-stream.ensures.ordered).merged))
+    (kept_of (λ s. rest_of s.over s.entries) c.in_ok-sources.sources.items lists c.args.watermark _ c.in_ok-sources.ensures c.in_ok-stream.ensures.merged c.in_ok-stream.ensures.ordered).merged))
     c.take_all.ensures.ok
