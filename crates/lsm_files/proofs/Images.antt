@@ -45,9 +45,9 @@ tables_at image levels h =
     let runs = each_list (AllByRecursion (IsTableIn image)) levels (each_list (IsTableIn image) (tables_of levels) h) in
     paired (Pairwise (Pairwise (IsTableAt image))) named_runs levels
     (each_weaker (AllByRecursion (AllByRecursion (IsTableIn image))) (λ l. Pairwise (Pairwise (IsTableAt image)) (named_runs l) l)
-        (λ l of_level. paired (Pairwise (IsTableAt image)) (λ r. map named_table r) l
-        (each_weaker (AllByRecursion (IsTableIn image)) (λ r. Pairwise (IsTableAt image) (map named_table r) r)
-            (λ r of_run. paired (IsTableAt image) named_table r (each_weaker (IsTableIn image) (λ t. IsTableAt image (named_table t) t) (table_at image) r of_run)) l of_level)) levels runs)
+    (λ l of_level. paired (Pairwise (IsTableAt image)) (λ r. map named_table r) l
+    (each_weaker (AllByRecursion (IsTableIn image)) (λ r. Pairwise (IsTableAt image) (map named_table r) r)
+    (λ r of_run. paired (IsTableAt image) named_table r (each_weaker (IsTableIn image) (λ t. IsTableAt image (named_table t) t) (table_at image) r of_run)) l of_level)) levels runs)
 
 -- the image stands for a version that it names, whose files are whole
 pub stands : (image : Image) (v : SeenVersion) → v.id < 2 ^ 64 → IsVersionFile (named_levels v.levels) (file_of v) → AreRuns v.levels → image current_name ≡ Some (naming v.id (file_of v)) → image (version_name v.id) ≡ Some (file_of v) → AllByRecursion (IsTableIn image) (all_of v.levels) → HasGoodNames image

@@ -16,7 +16,11 @@ use std::alloc::Global;
 ///
 /// `OutOfMemory` where a growth was refused, and `Store` where its file wasn't written or synced: the version isn't
 /// current. `CommitUnknown` where replacing `current` failed: a crash leaves the version that was current, or this one.
-pub fn commit_version<S: Store>(alloc: Global, store: &mut S, version: &Version) -> Result<(), Error>
+pub fn commit_version<S: Store>(
+    alloc: Global,
+    store: &mut S,
+    version: &Version,
+) -> Result<(), Error>
     ensures stored { S.tells → CommitsStored version.now (S.world store.old) (S.world store.new) result }
     ensures only { IfErr result (λ e. ((e ≡ Error.OutOfMemory) ⊎ (e ≡ Error.Store)) ⊎ (e ≡ Error.CommitUnknown)) }
     ensures counts { CountsFaults (S.world store.old) (S.world store.new) result }

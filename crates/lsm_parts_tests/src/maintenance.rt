@@ -21,9 +21,9 @@ fn append(
 
 /// Behind a first super version numbered 0 those of these numbers, over versions of rising ids.
 fn append_each(alloc: Global, history: &mut SuperVersions, numbers: &[SeqNo]) -> Result<(), Error> {
-    let mut id = 0;
+    let mut id: VersionId = 0;
     for number in numbers {
-        id += 1;
+        id = id.saturating_add(1);
         append(alloc, history, id, *number)?;
     }
     Ok(())

@@ -44,10 +44,7 @@ fn first_end(entries: &[InternalValue], target: u64) -> usize
 /// let (table, rest) = split_table(&entries, target);
 /// let file = encode(alloc, made_at, table)?;
 /// ```
-pub fn split_table(
-    entries: &[InternalValue],
-    target: u64,
-) -> (&[InternalValue], &[InternalValue])
+pub fn split_table(entries: &[InternalValue], target: u64) -> (&[InternalValue], &[InternalValue])
     requires some { 0 < length entries.now }
     requires writable { IsWritable entries.now }
     ensures parts { result.0.now ++ result.1.now ≡ entries.now }

@@ -14,9 +14,9 @@ summed f xs ys a b r is also sum = let both = capped_both f xs ys in omega (arit
 pub returns : goal.returns
 returns c = λ xs ys mine theirs.
     let tables : c.saturating_add.result ≡ capped (length (xs ++ ys)) = (
-      let a = ap (λ (t : Totals). t.tables) mine in let b = ap (λ (t : Totals). t.tables) theirs in let both = capped_length xs ys in omega (arith, a, b, both, c.saturating_add.ensures)) in
+    let a = ap (λ (t : Totals). t.tables) mine in let b = ap (λ (t : Totals). t.tables) theirs in let both = capped_length xs ys in omega (arith, a, b, both, c.saturating_add.ensures)) in
     let highest : c.max.result ≡ greatest_of (xs ++ ys) = (
-      let a = ap (λ (t : Totals). t.highest) mine in let b = ap (λ (t : Totals). t.highest) theirs in let both = greatest_of-append xs ys in omega (arith, a, b, both, c.max.ensures)) in
+    let a = ap (λ (t : Totals). t.highest) mine in let b = ap (λ (t : Totals). t.highest) theirs in let both = greatest_of-append xs ys in omega (arith, a, b, both, c.max.ensures)) in
     rw (
       tables,
       summed (λ t. length t.entries) xs ys _ _ _ (ap (λ (t : Totals). t.items) mine) (ap (λ (t : Totals). t.items) theirs) c.saturating_add-2.ensures,
