@@ -16,3 +16,5 @@ pub mod Laws
 pub mod Errors
 pub mod Numbers
 pub mod FilterLaws
+pub mod Kept
+pub mod KeptLaws

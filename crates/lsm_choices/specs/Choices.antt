@@ -9,6 +9,7 @@ use Rattle.lsm_tables.specs.Tables.{SeenTable}
 use Rattle.lsm_model.specs.Views.{Placed, IsAllowed, IsIn, held, chosen_of}
 use Rattle.lsm_model.specs.Steps.{among}
 use Rattle.lsm_versions.specs.Levels.{Levels, HasOwnIds, range, shown_table, all_of, placed_of, AreApart, chosen_from}
+pub use Rattle.lsm_versions.specs.Chosen.{is_there, AreThere, AreIdsOf}
 use Rattle.lsm_choices.specs.declared.choice.Kind.{Kind}
 use Rattle.lsm_choices.specs.declared.choice.Kind.TheVariants.{Merge, Move, Drop}
 use Rattle.lsm_choices.specs.declared.parted_run.Fault.{Fault}
@@ -60,11 +61,6 @@ has_gap ids (t ∷ ts) = (among ids t.id && resumes ids ts) || has_gap ids ts
 abbrev pub any_gap : List ℕ → Levels → Bool
 any_gap ids levels = list_any (λ runs. list_any (has_gap ids) runs) levels
 
--- ---- tables that are there
-
-abbrev pub is_there : Levels → ℕ → Bool
-is_there levels id = list_any (λ t. t.id == id) (all_of levels)
-
 -- ---- reasons
 
 abbrev pub is_merge : Kind → Bool
@@ -109,10 +105,6 @@ last_reason_of stale ids to levels = first_of ((stale, Stale) ∷ (nat_le 7 to, 
 
 -- ---- what follows where no reason holds
 
--- each of these ids is that of a table
-abbrev pub AreThere : Levels → List ℕ → Type 0
-AreThere levels ids = AllByRecursion (λ id. is_there levels id ≡ true) ids
-
 -- a table with the id and the entries of this one is among others
 abbrev pub IsAmong : List SeenTable → SeenTable → Type 0
 IsAmong ts t = IsIn (shown_table t) (map shown_table ts)
@@ -120,10 +112,6 @@ IsAmong ts t = IsIn (shown_table t) (map shown_table ts)
 -- each of these is still there, with its entries
 abbrev pub AllStand : Levels → List SeenTable → Type 0
 AllStand levels inputs = AllByRecursion (IsAmong (all_of levels)) inputs
-
--- these are the ids of these tables
-abbrev pub AreIdsOf : List ℕ → List SeenTable → Type 0
-AreIdsOf ids ts = (i : ℕ) → among ids i ≡ among (map (λ t. t.id) ts) i
 
 -- an id that stands both among these tables and in the levels is that of tables with the same entries
 abbrev pub AreOneById : List SeenTable → Levels → Type 0

@@ -1,19 +1,14 @@
 -- What the end of a merge is to the theory.
-use Rattle.std.specs.Prelude.{◌≡◌, ℕ, Bool, List, [], ◌∷◌, flat_map}
-use Rattle.std.specs.List.Sorted.{IsPermutation}
-use Rattle.lsm_below.specs.Keys.{Bytes}
-use Rattle.lsm_below.specs.Entries.{Entry, stack, keep, IsFalling}
+use Rattle.std.specs.Prelude.{◌≡◌, ℕ, Bool, List, [], ◌∷◌}
+use Rattle.lsm_below.specs.Entries.{Entry}
 use Rattle.lsm_tables.specs.Tables.{SeenTable}
 use Rattle.lsm_model.specs.Views.{IsAllowed, IsLaidOut}
 use Rattle.lsm_model.specs.Steps.{State, Step, Merged, AllCover, among}
 use Rattle.lsm_model.specs.declared.journal.JournalEntry.TheVariants.{Install}
 use Rattle.lsm_versions.specs.Levels.{Levels, placed_of, placed_in, PutBetween}
+pub use Rattle.lsm_versions.specs.Chosen.{Keeps}
 use Rattle.lsm_versions.specs.Installs.{installed}
 use Rattle.lsm_choices.specs.Choices.{HoldSame}
-
--- a run holds of each key what a compaction keeps of these tables, in whatever order they come
-abbrev pub Keeps : ℕ → Bool → List SeenTable → List SeenTable → Type 0
-Keeps w evict inputs run = (k : Bytes) (es : List Entry) → IsFalling es → IsPermutation (flat_map (λ t. stack k t.entries) inputs) es → stack k (flat_map (λ t. t.entries) run) ≡ keep w evict es
 
 -- a version with a run in place of chosen tables is a merge, where the inputs were read before, and still hold what those do
 abbrev pub MergesOfInputsAreSteps : Type 0

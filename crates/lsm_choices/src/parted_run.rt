@@ -15,7 +15,7 @@ use std::marker::Model;
 
 /// What may be wrong between a chosen table and one that isn't, where the two overlap.
 #[derive(Clone, Copy)]
-pub(crate) enum Fault {
+pub enum Fault {
     OutOfOrder,
     StandsBelow,
 }

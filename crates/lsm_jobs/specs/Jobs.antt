@@ -1,9 +1,8 @@
 -- What is kept of memtables, and the jobs of a flush.
-use Rattle.std.specs.Prelude.{◌≡◌, ℕ, false, List, map, flat_map}
+use Rattle.std.specs.Prelude.{ℕ, false, List, map, flat_map}
 use Rattle.std.specs.List.{AllByRecursion}
-use Rattle.lsm_below.specs.Keys.{Bytes}
-use Rattle.lsm_below.specs.Entries.{Entry, stack, keep, IsOrdered}
-use Rattle.lsm_below.specs.Streams.{KeepsOfMerge}
+use Rattle.lsm_below.specs.Entries.{Entry}
+use Rattle.lsm_below.specs.Kept.{IsKeptOf}
 use Rattle.lsm_memtable.specs.Memtables.{SeenMemtable}
 use Rattle.lsm_below.specs.Runs.{IsRun}
 use Rattle.lsm_tables.specs.Cutting.{IsWritable}
@@ -14,11 +13,9 @@ use Rattle.lsm_versions.specs.Levels.{range}
 abbrev pub entries_in : List SeenMemtable → List (List Entry)
 entries_in memtables = map (λ m. m.entries) memtables
 
--- entries are what a compaction at a watermark keeps of sources, and evicts nothing: of some merge of them, whatever the
--- sequence numbers are, and where these fall along the sources, of the entries source by source
-pub record KeptOf (sources : List (List Entry)) (w : ℕ) (kept : List Entry) : Type 0 where
-  pub merged : KeepsOfMerge w false sources kept
-  pub ordered : IsOrdered sources → (k : Bytes) → stack k kept ≡ keep w false (stack k (flat_map (λ es. es) sources))
+-- entries are what a compaction at a watermark keeps of sources, and evicts nothing
+abbrev pub KeptOf : List (List Entry) → ℕ → List Entry → Type 0
+KeptOf sources w kept = IsKeptOf sources w false kept
 
 -- memtables of which tables can be written
 abbrev pub AreWritable : List SeenMemtable → Type 0

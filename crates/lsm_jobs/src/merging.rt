@@ -6,6 +6,7 @@ ghost use Rattle.lsm_jobs.specs.Jobs.{entries_in, KeptOf, AreWritable};
 
 use crate::{MemtableSource, SealedMemtable};
 use lsm_below::{Error, InternalValue, SeqNo, Source, compact};
+use lsm_tables::kept_is_writable;
 use std::alloc::{AllocError, Global};
 
 /// What a source gives. Refused where the source is, or for want of memory.
@@ -60,6 +61,7 @@ pub fn merge_memtables(
     ensures writable { IfOk result (λ list. IsWritable list.items) }
     ensures memory { IfErr result (λ e. e ≡ Error.OutOfMemory) }
 {
+    kept_is_writable();
     let sources = sources_of(alloc, memtables)?;
     let stream = compact(alloc, sources, watermark, false)?;
     take_all(alloc, stream)

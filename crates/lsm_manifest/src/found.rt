@@ -1,5 +1,7 @@
 // What a store holds of a tree, before anything is changed.
 ghost use Rattle.std.specs.List.Sorted.{IsNonDecreasing};
+ghost use Rattle.std.proofs.Props.{props};
+ghost use Rattle.lsm_manifest.specs.Opening.{IsAbove};
 
 use crate::Opened;
 use lsm_below::TableId;
@@ -21,4 +23,5 @@ pub struct Found {
     /// The ids of the version's tables, sorted.
     pub(crate) ids: Vec<TableId>,
     ghost sorted: { IsNonDecreasing ids.items },
+    ghost above: { IsAbove opened.next_table_id opened.version.levels } by { Prim.hlevel props },
 }

@@ -10,7 +10,7 @@ use Rattle.lsm_memtable.specs.Memtables.{SeenMemtable}
 use Rattle.lsm_parts.specs.History.{SeenHistory, oldest, found_version, versions_of, NumbersFall}
 
 -- the last one is the oldest
-oldest_last : (latest : SuperVersion) (older : List SuperVersion) (v : SuperVersion) → 0 < length older → v ≡ get_or older (length older - 1) v → oldest latest older ≡ v
+pub oldest_last : (latest : SuperVersion) (older : List SuperVersion) (v : SuperVersion) → 0 < length older → v ≡ get_or older (length older - 1) v → oldest latest older ≡ v
 oldest_last latest [] v some h = absurd (omega arith)
 oldest_last latest (sv ∷ []) v some h = sym h
 oldest_last latest (sv ∷ (u ∷ us)) v some h =
@@ -18,9 +18,9 @@ oldest_last latest (sv ∷ (u ∷ us)) v some h =
     oldest_last sv (u ∷ us) v (omega arith) (h ∙ ap (λ i. get_or (sv ∷ (u ∷ us)) i v) place)
 
 -- snapshot 0 finds the oldest
-pub found_oldest : (s : ℕ) (h : SeenHistory) (v : SuperVersion) → s ≡ 0 → 0 < length h.older → v ≡ get_or h.older (length h.older - 1) v → found_version s h ≡ Some v
-found_oldest s h v none some last =
-    ap (λ b. cond b (Some (oldest h.latest h.older)) (find (λ sv. nat_lt sv.seqno s) (versions_of h))) (eq-eqb s 0 none) ∙ ap Some (oldest_last h.latest h.older v some last)
+pub found_oldest : (s : ℕ) (h : SeenHistory) (v : SuperVersion) → s ≡ 0 → v ≡ oldest h.latest h.older → found_version s h ≡ Some v
+found_oldest s h v none is =
+    ap (λ b. cond b (Some (oldest h.latest h.older)) (find (λ sv. nat_lt sv.seqno s) (versions_of h))) (eq-eqb s 0 none) ∙ ap Some (sym is)
 
 -- a sum that stands at the greatest number at each step is the whole sum, at the greatest number
 pub fold-capped : (xs : List SeenMemtable) (a : ℕ) → fold (λ n m. capped (n + m.size)) (capped a) xs ≡ capped (fold (λ n m. n + m.size) a xs)

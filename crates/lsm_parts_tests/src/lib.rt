@@ -11,6 +11,7 @@
 //! | `guards` | what a guard hands out |
 //! | `prefixes` | the bounds of the keys that begin alike |
 //! | `iterators` | what iterators give over memtables, from both ends |
+//! | `flushes` | flushes, old snapshots over them, and what a crash leaves |
 //! | `trees` | writes, reads of one key and rotation of a tree |
 //! | `tree_ranges` | a tree's reads of many keys |
 //! | `samples` | what several of these make, and how they look at what is given |
@@ -24,6 +25,8 @@
 mod counters;
 #[cfg(test)]
 mod errors;
+#[cfg(test)]
+mod flushes;
 #[cfg(test)]
 mod guards;
 #[cfg(test)]

@@ -53,8 +53,8 @@ counter_of Visible c = c.visible_seqno
 
 -- a tree with another sequence number in a counter
 abbrev pub with_counter : Counter → ℕ → Core → Core
-with_counter Seqno n c = record { config = c.config; memtables = c.memtables; history = c.history; next_memtable = c.next_memtable; next_table = c.next_table; seqno = n; visible_seqno = c.visible_seqno }
-with_counter Visible n c = record { config = c.config; memtables = c.memtables; history = c.history; next_memtable = c.next_memtable; next_table = c.next_table; seqno = c.seqno; visible_seqno = n }
+with_counter Seqno n c = record c { seqno = n }
+with_counter Visible n c = record c { visible_seqno = n }
 
 -- the draw of a counter's next sequence number: refused exactly where the counter stands at 2^63 or above
 abbrev pub TakesNext : Counter → Reply → List Event → Core → Core → Type 0

@@ -1,21 +1,21 @@
 -- Memtables whose ids fall are found by bisection.
-use Rattle.std.proofs.Common.{◌≡◌, ℕ, ◌<◌, ◌≤◌, ◌≢◌, Bool, true, false, cond, List, [], ◌∷◌, refl, sym, ap, ◌∙◌, arith, zero, suc, length, get_or, eqb, nat_lt}
+use Rattle.std.proofs.Common.{◌≡◌, ℕ, ◌<◌, ◌≤◌, ◌≢◌, Bool, true, false, cond, List, [], ◌∷◌, Option, Some, None, refl, sym, ap, ◌∙◌, arith, zero, suc, length, get_or, eqb, nat_lt}
 use Rattle.std.proofs.lemmas.Bool.Decides.{nat_tests}
 use Rattle.std.specs.List.{AllWithin}
 use Rattle.std.specs.List.Sorted.{IsPartitionedBy}
 use Rattle.lsm_below.specs.Entries.{Entry}
 use Rattle.lsm_memtable.specs.Memtables.{SeenMemtable}
-use Rattle.lsm_state.specs.Held.{entries_of, FallFrom, ids_of}
+use Rattle.lsm_state.specs.Held.{entries_of, held_at, FallFrom, ids_of}
 
 module _ (id : ℕ) where
   abbrev above : SeenMemtable → Bool
   above t = nat_lt id t.id
 
-  at_other : (i : ℕ) (xs ys : List Entry) → id ≢ i → cond (eqb id i) xs ys ≡ ys
-  at_other i xs ys h = grind (arith, nat_tests)
+  at_other : (i : ℕ) (x y : Option SeenMemtable) → id ≢ i → cond (eqb id i) x y ≡ y
+  at_other i x y h = grind (arith, nat_tests)
 
-  at_same : (i : ℕ) (xs ys : List Entry) → i ≡ id → cond (eqb id i) xs ys ≡ xs
-  at_same i xs ys h = grind (arith, nat_tests)
+  at_same : (i : ℕ) (x y : Option SeenMemtable) → i ≡ id → cond (eqb id i) x y ≡ x
+  at_same i x y h = grind (arith, nat_tests)
 
   is_above : (i : ℕ) → nat_lt id i ≡ true → id < i
   is_above i h = grind (arith, nat_tests)
@@ -26,7 +26,7 @@ module _ (id : ℕ) where
   from_above : (i j : ℕ) → j < i → nat_lt id j ≡ true → nat_lt id i ≡ true
   from_above i j lt h = grind (arith, nat_tests)
 
-  all_lower : (ts : List SeenMemtable) (n j : ℕ) (d : SeenMemtable) → FallFrom n (ids_of ts) → j < length ts → (get_or ts j d).id < n
+  pub all_lower : (ts : List SeenMemtable) (n j : ℕ) (d : SeenMemtable) → FallFrom n (ids_of ts) → j < length ts → (get_or ts j d).id < n
   all_lower [] n j d h lt = absurd (omega arith)
   all_lower (t ∷ ts) n zero d h lt = h.0
   all_lower (t ∷ ts) n (suc j) d h lt =
@@ -43,37 +43,46 @@ module _ (id : ℕ) where
   above_first (t ∷ ts) n h (suc i) (suc j) d le lt is = above_first ts t.id h.1 i j d (omega arith) (omega arith) is
 
   -- all ids are below it
-  none_below : (ts : List SeenMemtable) (n : ℕ) → FallFrom n (ids_of ts) → n ≤ id → entries_of ts id ≡ []
+  none_below : (ts : List SeenMemtable) (n : ℕ) → FallFrom n (ids_of ts) → n ≤ id → held_at ts id ≡ None
   none_below [] n h le = refl
   none_below (t ∷ ts) n h le =
       let lower : t.id < n = h.0 in
-      at_other t.id t.entries (entries_of ts id) (λ e. absurd (omega arith)) ∙ none_below ts t.id h.1 (omega arith)
+      at_other t.id (Some t) (held_at ts id) (λ e. absurd (omega arith)) ∙ none_below ts t.id h.1 (omega arith)
 
   -- all are above it
-  pub none_above : (ts : List SeenMemtable) → AllWithin (λ t. above t ≡ true) ts 0 (length ts) → entries_of ts id ≡ []
+  pub none_above : (ts : List SeenMemtable) → AllWithin (λ t. above t ≡ true) ts 0 (length ts) → held_at ts id ≡ None
   none_above [] h = refl
   none_above (t ∷ ts) h =
       let over : id < t.id = is_above t.id (h 0 t (omega arith) (omega arith)) in
-      at_other t.id t.entries (entries_of ts id) (λ e. absurd (omega arith)) ∙ none_above ts (λ k d low high. h (suc k) d (omega arith) (omega arith))
+      at_other t.id (Some t) (held_at ts id) (λ e. absurd (omega arith)) ∙ none_above ts (λ k d low high. h (suc k) d (omega arith) (omega arith))
 
   -- the first one that isn't above it has this id
-  pub found : (ts : List SeenMemtable) (i : ℕ) (t : SeenMemtable) → AllWithin (λ t. above t ≡ true) ts 0 i → i < length ts → t ≡ get_or ts i t → t.id ≡ id → t.entries ≡ entries_of ts id
+  pub found : (ts : List SeenMemtable) (i : ℕ) (t : SeenMemtable) → AllWithin (λ t. above t ≡ true) ts 0 i → i < length ts → t ≡ get_or ts i t → t.id ≡ id → Some t ≡ held_at ts id
   found [] i t h lt is same = absurd (omega arith)
-  found (u ∷ ts) zero t h lt is same = sym (at_same u.id u.entries (entries_of ts id) (ap (λ x. x.id) (sym is) ∙ same) ∙ ap (λ x. x.entries) (sym is))
+  found (u ∷ ts) zero t h lt is same = sym (at_same u.id (Some u) (held_at ts id) (ap (λ x. x.id) (sym is) ∙ same) ∙ ap Some (sym is))
   found (u ∷ ts) (suc i) t h lt is same =
       let over : id < u.id = is_above u.id (h 0 u (omega arith) (omega arith)) in
-      found ts i t (λ k d low high. h (suc k) d (omega arith) (omega arith)) (omega arith) is same ∙ sym (at_other u.id u.entries (entries_of ts id) (λ e. absurd (omega arith)))
+      found ts i t (λ k d low high. h (suc k) d (omega arith) (omega arith)) (omega arith) is same ∙ sym (at_other u.id (Some u) (held_at ts id) (λ e. absurd (omega arith)))
 
   -- where it has another one, none has
-  pub missed : (ts : List SeenMemtable) (n i : ℕ) (t : SeenMemtable) → FallFrom n (ids_of ts) → AllWithin (λ t. above t ≡ true) ts 0 i → i < length ts → t ≡ get_or ts i t → above t ≡ false → (t.id ≡ id → ⊥) → entries_of ts id ≡ []
+  pub missed : (ts : List SeenMemtable) (n i : ℕ) (t : SeenMemtable) → FallFrom n (ids_of ts) → AllWithin (λ t. above t ≡ true) ts 0 i → i < length ts → t ≡ get_or ts i t → above t ≡ false → (t.id ≡ id → ⊥) → held_at ts id ≡ None
   missed [] n i t f h lt is low other = absurd (omega arith)
   missed (u ∷ ts) n zero t f h lt is low other =
       let here : t.id ≡ u.id = ap (λ x. x.id) is in
       let below : t.id ≤ id = isnt_above t.id low in
-      at_other u.id u.entries (entries_of ts id) (λ e. other (here ∙ sym e)) ∙ none_below ts u.id f.1 (omega arith)
+      at_other u.id (Some u) (held_at ts id) (λ e. other (here ∙ sym e)) ∙ none_below ts u.id f.1 (omega arith)
   missed (u ∷ ts) n (suc i) t f h lt is low other =
       let over : id < u.id = is_above u.id (h 0 u (omega arith) (omega arith)) in
-      at_other u.id u.entries (entries_of ts id) (λ e. absurd (omega arith)) ∙ missed ts u.id i t f.1 (λ k d lo high. h (suc k) d (omega arith) (omega arith)) (omega arith) is low other
+      at_other u.id (Some u) (held_at ts id) (λ e. absurd (omega arith)) ∙ missed ts u.id i t f.1 (λ k d lo high. h (suc k) d (omega arith) (omega arith)) (omega arith) is low other
+
+-- the entries of the memtable that is found
+abbrev pub entries_or : Option SeenMemtable → List Entry
+entries_or None = []
+entries_or (Some t) = t.entries
+
+pub entries_at : (ts : List SeenMemtable) (i : ℕ) → entries_of ts i ≡ entries_or (held_at ts i)
+entries_at [] i = refl
+entries_at (t ∷ ts) i = elim (eqb i t.id) as (λ b. cond b t.entries (entries_of ts i) ≡ entries_or (cond b (Some t) (held_at ts i))) [ true ↦ refl | false ↦ entries_at ts i ]
 
 -- a place where nothing stands is past the end
 pub past_end : (i n m : ℕ) → n ≡ m → (i < n → false ≡ true) → m ≤ i

@@ -1,12 +1,14 @@
 -- What each call keeps of the ids of memtables.
-use Rattle.std.proofs.Common.{◌≡◌, ℕ, ◌+◌, Bool, true, false, ◌||◌, List, [], ◌∷◌, ◌++◌, refl, sym, ap, ◌∙◌, subst, arith, eqb, eq-eqb}
+use Rattle.std.proofs.Common.{◌≡◌, ℕ, ◌+◌, ◌<◌, ◌≤◌, Bool, true, false, ◌||◌, List, [], ◌∷◌, ◌++◌, Option, None, refl, sym, ap, ◌∙◌, subst, arith, eqb, eq-eqb}
 use Rattle.std.specs.List.{AllByRecursion}
 use Rattle.lsm_below.specs.Entries.{Entry}
 use Rattle.lsm_memtable.specs.Memtables.{SeenMemtable, with_entry, with_entries, new_memtable}
 use Rattle.lsm_parts.specs.declared.version.super_version.SuperVersion.{SuperVersion}
-use Rattle.lsm_parts.specs.History.{SeenHistory, versions_of, rotated}
-use Rattle.lsm_state.specs.Held.{put_all_first, HasFirst, ids_of, FallFrom}
-use Rattle.lsm_state.specs.Kept.{is_among, NameHeld, KeepsIds}
+use Rattle.lsm_versions.specs.Levels.{SeenVersion}
+use Rattle.lsm_jobs.specs.Jobs.{SeenOpen}
+use Rattle.lsm_parts.specs.History.{SeenHistory, versions_of, rotated, first_version}
+use Rattle.lsm_state.specs.Held.{put_all_first, HasFirst, ids_of, FallFrom, is_among, IsSealedIn}
+use Rattle.lsm_state.specs.Kept.{NameHeld, RiseFrom, first_or, least_named, NameOlder, KeepsIds, KeepsTables}
 
 -- ---- writes
 
@@ -31,6 +33,7 @@ same_ids ts us h n same k = record {
   active = first_id ts us h.latest.active_memtable (sym same) k.active;
   fall = subst (FallFrom n) (sym same) k.fall;
   held = subst (λ ids. NameHeld ids (versions_of h)) (sym same) k.held;
+  older = k.older;
 }
 
 pub kept_put_all : (es : List Entry) (ts : List SeenMemtable) (h : SeenHistory) (n : ℕ) → KeepsIds ts h n → KeepsIds (put_all_first es ts) h n
@@ -58,11 +61,50 @@ all_push P (j ∷ ids) i h here = (h.0, all_push P ids i h.1 here)
 among_first : (n : ℕ) (ids : List ℕ) → is_among (n ∷ ids) n ≡ true
 among_first n ids = ap (λ b. b || is_among ids n) (eq-eqb n n refl)
 
+rise_push : (m a n : ℕ) (ids : List ℕ) → a < n → RiseFrom m (ids ++ a ∷ []) → RiseFrom m ((ids ++ a ∷ []) ++ n ∷ [])
+rise_push m a n [] lt h = (h.0, (omega arith, tt))
+rise_push m a n (i ∷ ids) lt h = (h.0, rise_push (i + 1) a n ids lt h.1)
+
+-- with one more behind them, the first of some ids is the same
+first_push : (a n : ℕ) (ids : List ℕ) → first_or n (ids ++ a ∷ []) ≡ first_or a ids
+first_push a n [] = refl
+first_push a n (i ∷ ids) = refl
+
+first_below : (n a : ℕ) (ts : List SeenMemtable) → FallFrom n (ids_of ts) → HasFirst ts (λ m. m.id ≡ a) → a < n
+first_below n a [] f h = absurd h
+first_below n a (t ∷ ts) f h = subst (λ i. i < n) h f.0
+
 pub kept_rotated : (ts : List SeenMemtable) (h : SeenHistory) (n : ℕ) → KeepsIds ts h n → KeepsIds (new_memtable n ∷ ts) (record { latest = rotated n h.latest; older = h.older }) (n + 1)
 kept_rotated ts h n k =
     let more = all_named_more n (ids_of ts) (versions_of h) k.held in
+    let a = h.latest.active_memtable in
+    let s = h.latest.sealed_memtables in
+    let lt : a < n = first_below n a ts k.fall k.active in
+    let least : least_named h.latest ≤ a = k.older.0 in
     record {
       active = refl;
       fall = (omega arith, k.fall);
-      held = ((among_first n (ids_of ts), all_push (λ i. is_among (n ∷ ids_of ts) i ≡ true) h.latest.sealed_memtables h.latest.active_memtable more.0.1 more.0.0), more.1);
+      held = ((among_first n (ids_of ts), all_push (λ i. is_among (n ∷ ids_of ts) i ≡ true) s a more.0.1 more.0.0), more.1);
+      older = subst (λ l. (l ≤ n) × RiseFrom l ((s ++ a ∷ []) ++ n ∷ []) × NameOlder l h.older) (sym (first_push a n s)) (omega arith, rise_push (least_named h.latest) a n s lt k.older.1, k.older.2);
     }
+
+-- a rotation keeps the tables
+pub tables_rotated : (flush : Option SeenOpen) (h : SeenHistory) (id next : ℕ) → KeepsTables flush h next → KeepsTables flush (record { latest = rotated id h.latest; older = h.older }) next
+tables_rotated flush h id next k = record { own_ids = k.own_ids; below = k.below; aged = k.aged }
+
+-- ---- opening
+
+-- a tree with one memtable over a version
+pub ids_first : (v : SeenVersion) → KeepsIds (new_memtable 0 ∷ []) (record { latest = first_version v; older = [] }) 1
+ids_first v = record {
+  active = refl;
+  fall = (omega arith, tt);
+  held = ((among_first 0 [], tt), tt);
+  older = (omega arith, (omega arith, tt), tt);
+}
+
+-- ---- a rotation that is undone
+
+pub rotated_back : (h mid new : SeenHistory) (id : ℕ) → mid ≡ record { latest = rotated id h.latest; older = h.older }
+    → ((i : ℕ) (before : SuperVersion) → mid.latest ≡ rotated i before → new ≡ record { latest = before; older = mid.older }) → new ≡ h
+rotated_back h mid new id e back = back id h.latest (ap (λ m. m.latest) e) ∙ ap (λ m. record { latest = h.latest; older = m.older }) e

@@ -3,6 +3,7 @@ use Rattle.std.proofs.Common.{◌≡◌, ℕ, List, [], ◌∷◌, ◌++◌, tru
 use Rattle.std.specs.List.{AllByRecursion}
 use Rattle.lsm_below.specs.Entries.{Entry, entry_cmp}
 use Rattle.lsm_below.specs.Sorted.{Rises}
+use Rattle.lsm_tables.specs.Cutting.{IsWritable}
 use Rattle.lsm_model.specs.Views.{sources, found_at, Placed, SuperVersion}
 use Rattle.lsm_model.specs.Laws.{PartsAreWhole}
 use Rattle.lsm_memtable.specs.Memtables.{SeenMemtable}
@@ -34,11 +35,11 @@ is_overlaid laws memtables (Some p) s sv m test out at_key once on_top h =
 
 -- ---- each source of a tree is in order
 
-memtable_rises : (ts : List SeenMemtable) (i : ℕ) → AllByRecursion (λ t. Rises entry_cmp t.entries) ts → Rises entry_cmp (entries_of ts i)
+memtable_rises : (ts : List SeenMemtable) (i : ℕ) → AllByRecursion (λ t. IsWritable t.entries) ts → Rises entry_cmp (entries_of ts i)
 memtable_rises [] i h = tt
-memtable_rises (t ∷ ts) i h = elim (eqb i t.id) as (λ b. Rises entry_cmp (cond b t.entries (entries_of ts i))) [ true ↦ h.0 | false ↦ memtable_rises ts i h.1 ]
+memtable_rises (t ∷ ts) i h = elim (eqb i t.id) as (λ b. Rises entry_cmp (cond b t.entries (entries_of ts i))) [ true ↦ h.0.rises | false ↦ memtable_rises ts i h.1 ]
 
-memtables_rise : (ts : List SeenMemtable) (ids : List ℕ) → AllByRecursion (λ t. Rises entry_cmp t.entries) ts → AllByRecursion (Rises entry_cmp) (map (entries_of ts) ids)
+memtables_rise : (ts : List SeenMemtable) (ids : List ℕ) → AllByRecursion (λ t. IsWritable t.entries) ts → AllByRecursion (Rises entry_cmp) (map (entries_of ts) ids)
 memtables_rise ts [] h = tt
 memtables_rise ts (i ∷ ids) h = (memtable_rises ts i h, memtables_rise ts ids h)
 
@@ -58,7 +59,7 @@ sources_rise : PartsAreWhole → (c : Core) (s : ℕ) (sv : SuperVersion) → Is
 sources_rise parts c s sv kept found =
     let laid = laid_rise (c.history.latest ∷ c.history.older) kept.laid in
     both_rise (map (entries_of c.memtables) (sv.active ∷ sv.sealed)) (map (λ p. p.table.entries) sv.tables)
-    (memtables_rise c.memtables (sv.active ∷ sv.sealed) kept.rise)
+    (memtables_rise c.memtables (sv.active ∷ sv.sealed) kept.writable)
     (tables_rise sv.tables (of_found parts (λ v. AllByRecursion (λ p. Rises entry_cmp p.table.entries) v.tables) s c sv found laid))
 
 some_same : (a b : SuperVersion) → Some a ≡ Some b → a ≡ b

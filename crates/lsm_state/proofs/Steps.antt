@@ -46,7 +46,7 @@ none_first [] = refl
 none_first (t ∷ tables) = refl
 
 abbrev pub with_memtables : Core → List SeenMemtable → Core
-with_memtables c tables = record { config = c.config; memtables = tables; history = c.history; next_memtable = c.next_memtable; next_table = c.next_table; seqno = c.seqno; visible_seqno = c.visible_seqno }
+with_memtables c tables = record c { memtables = tables }
 
 pub write_run : (es : List Entry) (c : Core) → HasActive c → IsWriteRun es c (written_all es c)
 write_run [] c h opened journal = ap₂_state (append-nil journal) (none_first c.memtables)
@@ -85,9 +85,9 @@ appended e (Err x) c tables h none sizes ok err memory = record {
 -- a batch is written under the next sequence number
 pub batch_written : (ops : List (Bytes × Op)) (c : Core) (n : ℕ) (tables : List SeenMemtable) (seqno visible : ℕ) → HasActive c → n ≡ c.seqno → batch_refusal n ops ≡ None
     → tables ≡ put_all_first (op_entries n ops) c.memtables → seqno ≡ n + 1 → visible ≡ max c.visible_seqno (n + 1)
-    → WritesBatch ops (Ok n) c (record { config = c.config; memtables = tables; history = c.history; next_memtable = c.next_memtable; next_table = c.next_table; seqno = seqno; visible_seqno = visible })
+    → WritesBatch ops (Ok n) c (record c { memtables = tables; seqno = seqno; visible_seqno = visible })
 batch_written ops c n tables seqno visible h is none put next shown =
-    let whole : ◌≡◌ {A = Core} (record { config = c.config; memtables = tables; history = c.history; next_memtable = c.next_memtable; next_table = c.next_table; seqno = seqno; visible_seqno = visible }) (drawn_core (written_all (op_entries c.seqno ops) c)) = rw (put, next, shown, is) refl in
+    let whole : ◌≡◌ {A = Core} (record c { memtables = tables; seqno = seqno; visible_seqno = visible }) (drawn_core (written_all (op_entries c.seqno ops) c)) = rw (put, next, shown, is) refl in
     record {
       number = is;
       core = whole;

@@ -1,5 +1,6 @@
 -- The memtables that are held, as a list: the active one first.
-use Rattle.std.specs.Prelude.{ℕ, ◌<◌, List, [], ◌∷◌, map, if◌then◌else◌, ◌==◌}
+use Rattle.std.specs.Prelude.{◌≡◌, ℕ, ◌<◌, Bool, true, List, [], ◌∷◌, map, Option, Some, None, if◌then◌else◌, ◌==◌}
+use Rattle.std.specs.List.{list_any}
 use Rattle.lsm_below.specs.Entries.{Entry}
 use Rattle.lsm_memtable.specs.Memtables.{SeenMemtable, with_entry, with_entries}
 use Rattle.lsm_model.specs.Views.{Memtables}
@@ -8,6 +9,20 @@ use Rattle.lsm_model.specs.Views.{Memtables}
 abbrev pub entries_of : List SeenMemtable → Memtables
 entries_of [] = λ i. []
 entries_of (t ∷ tables) = λ i. if i == t.id then t.entries else entries_of tables i
+
+-- the memtable with this id, if it is held
+abbrev pub held_at : List SeenMemtable → ℕ → Option SeenMemtable
+held_at [] i = None
+held_at (t ∷ tables) i = if i == t.id then Some t else held_at tables i
+
+-- the bytes that a memtable counts, if there is one
+abbrev pub size_or_none : Option SeenMemtable → ℕ
+size_or_none None = 0
+size_or_none (Some m) = m.size
+
+-- the bytes that the memtable with this id counts: none where no such one is held
+abbrev pub size_at : List SeenMemtable → ℕ → ℕ
+size_at tables i = size_or_none (held_at tables i)
 
 -- an entry is put into the first one
 abbrev pub put_first : Entry → List SeenMemtable → List SeenMemtable
@@ -42,3 +57,11 @@ ids_of memtables = map (λ m. m.id) memtables
 abbrev pub FallFrom : ℕ → List ℕ → Type 0
 FallFrom n [] = Unit {0}
 FallFrom n (i ∷ ids) = (i < n) × FallFrom i ids
+
+-- is this id among those?
+abbrev pub is_among : List ℕ → ℕ → Bool
+is_among ids i = list_any (λ j. i == j) ids
+
+-- the id is that of a memtable that is held, and below that of the first one
+abbrev pub IsSealedIn : List SeenMemtable → ℕ → Type 0
+IsSealedIn memtables i = (is_among (ids_of memtables) i ≡ true) × HasFirst memtables (λ t. i < t.id)

@@ -8,11 +8,11 @@ use Rattle.lsm_state.specs.Core.{Seen}
 
 -- the tree with another sequence number in its counter
 abbrev pub with_seqno : {S : Type 0} → Seen S → ℕ → Seen S
-with_seqno t n = record { store = t.store; core = record { config = t.core.config; memtables = t.core.memtables; history = t.core.history; next_memtable = t.core.next_memtable; next_table = t.core.next_table; seqno = n; visible_seqno = t.core.visible_seqno } }
+with_seqno t n = record { store = t.store; core = record (t.core) { seqno = n } }
 
 -- the tree with another sequence number in its visible counter
 abbrev pub with_visible : {S : Type 0} → Seen S → ℕ → Seen S
-with_visible t n = record { store = t.store; core = record { config = t.core.config; memtables = t.core.memtables; history = t.core.history; next_memtable = t.core.next_memtable; next_table = t.core.next_table; seqno = t.core.seqno; visible_seqno = n } }
+with_visible t n = record { store = t.store; core = record (t.core) { visible_seqno = n } }
 
 -- the tree ends with its counter at the last sequence number that the loan left there
 abbrev pub LendsSeqno : (S : RattleType) → Ghosts S.Denot → MutBor (Seen S.Denot) → MutBor ℕ → Fml

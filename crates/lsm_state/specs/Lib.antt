@@ -2,6 +2,7 @@ pub mod Held
 pub mod Core
 pub mod Refusals
 pub mod Kept
+pub mod Counts
 pub mod Calls
 pub mod Lending
 pub mod Ranges
@@ -9,3 +10,9 @@ pub mod Copies
 pub mod Listing
 pub mod ListSteps
 pub mod Opened
+pub mod Commits
+pub mod Cleaning
+pub mod Deeds
+pub mod Flushes
+pub mod FlushLaws
+pub mod WholeFlushes

@@ -74,8 +74,12 @@ impl<S: Store> Found<S> {
                     history: SuperVersions::new(alloc, opened.version),
                     next_memtable: SequenceNumberCounter::new(1),
                     next_table: SequenceNumberCounter::new(opened.next_table_id),
+                    next_job: 0,
+                    moment: 0,
                     seqno: SequenceNumberCounter::new(config.seqno),
                     visible_seqno: SequenceNumberCounter::new(config.visible_seqno),
+                    flush: None,
+                    lost: None,
                 })
             }
             Err(error) => Err((error, store)),

@@ -1,9 +1,11 @@
 // What the list of a read over many keys is, as the contract of a function.
+ghost use Rattle.lsm_state.specs.FlushLaws.{FlushesAreDeeds};
 ghost use Rattle.lsm_state.specs.ListSteps.{ListsAreSteps};
 ghost use Rattle.lsm_state.specs.Ranges.{CountingIsOverlaid, RangesAreOverlaid, PrefixesAreOverlaid};
 
 use lsm_iter::shown_is_the_view;
 use lsm_model::parts_are_whole;
+use lsm_versions::flushes_are_steps;
 
 /// The list of what a super version shows under an index is that of its view by tops, with the index laid over it.
 /// Of a tree, of which `TreeState::facts` holds, it is so where no key and sequence number stand in two of its sources.
@@ -22,4 +24,12 @@ pub fn lists_are_steps()
 {
     parts_are_whole();
     shown_is_the_view();
+}
+
+/// Of a tree, of which `TreeState::facts` holds, a flush that is installed, or of unknown outcome, is a list of deeds of the
+/// theory of crashes.
+pub fn flushes_are_deeds()
+    ensures { FlushesAreDeeds }
+{
+    flushes_are_steps();
 }

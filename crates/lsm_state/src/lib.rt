@@ -6,23 +6,33 @@
 //! | `tree` | the tree: its counters, rotation |
 //! | `found` | what a store holds of it, before anything is changed |
 //! | `opening` | how it is opened over a store, and what it says of its version |
+//! | `counted` | what is counted of its memtables and tables |
 //! | `writes` | its writes |
 //! | `reads` | its reads of one key |
 //! | `ranges` | its reads of many keys |
-//! | `laws` | what their lists are of its view |
+//! | `commit` | how a super version becomes the latest one, and what is cleaned up behind it |
+//! | `flush` | the calls of a flush, up to its tables |
+//! | `register` | how a flush is installed |
+//! | `flushes` | a flush in one call |
+//! | `laws` | what reads and flushes are to the theory |
 #![tactic(auto)]
 
+mod commit;
+mod counted;
+mod flush;
+mod flushes;
 mod found;
 mod laws;
 mod memtables;
 mod opening;
 mod ranges;
 mod reads;
+mod register;
 mod tree;
 mod writes;
 
 pub use found::Found;
-pub use laws::{lists_are_steps, ranges_are_overlaid};
+pub use laws::{flushes_are_deeds, lists_are_steps, ranges_are_overlaid};
 pub use lsm_below::{MAX_KEY_LEN, MAX_VALUE_LEN};
 use memtables::Memtables;
 pub use tree::TreeState;

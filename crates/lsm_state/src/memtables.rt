@@ -1,14 +1,21 @@
 // The memtables that are held, by id.
-ghost use Rattle.std.specs.Prelude.{◌≡◌, ℕ, ◌<◌, ◌∷◌, [], drop, length, IfOk, IfErr, OnOk, OnErr, IsTrue, ◌↔◌, option_copied, MatchOption};
-ghost use Rattle.std.specs.List.{AllByRecursion};
-ghost use Rattle.lsm_below.specs.Entries.{entry_cmp, top};
-ghost use Rattle.lsm_below.specs.Sorted.{Rises};
-ghost use Rattle.lsm_memtable.specs.Memtables.{entry_size, new_memtable};
-ghost use Rattle.lsm_state.specs.Held.{entries_of, put_first, put_all_first, first_size, first_entries, HasFirst, FallFrom, ids_of};
+ghost use Rattle.std.specs.Prelude.{◌≡◌, ℕ, ◌<◌, ◌≤◌, ◌∷◌, [], length, map, flat_map, sum_by, if◌then◌else◌, IfOk, IfErr, OnOk, OnErr, IsTrue, ◌↔◌, option_copied, MatchOption};
+ghost use Rattle.std.specs.List.{AllByRecursion, list_any};
+ghost use Rattle.lsm_below.specs.Entries.{top};
+ghost use Rattle.lsm_below.specs.Sums.{capped};
+ghost use Rattle.lsm_tables.specs.Cutting.{IsWritable};
+ghost use Rattle.lsm_tables.specs.Image.{Fits};
+ghost use Rattle.lsm_memtable.specs.Memtables.{entry_size, new_memtable, highest_of};
+ghost use Rattle.lsm_parts.specs.History.{names, named_size, versions_of};
+ghost use Rattle.lsm_jobs.specs.Jobs.{ids_in, entries_in, AreWritable};
+ghost use Rattle.lsm_state.specs.Held.{entries_of, held_at, size_at, put_first, put_all_first, first_size, first_entries, HasFirst, FallFrom, ids_of, IsSealedIn};
+ghost use Rattle.lsm_state.specs.Cleaning.{from_id};
 
+use crate::counted::greater_of;
 use lsm_below::{InternalValue, MemtableId, SeqNo};
-use lsm_parts::{Error, Memtable};
-use std::alloc::Global;
+use lsm_jobs::SealedMemtable;
+use lsm_parts::{Error, Memtable, SuperVersions};
+use std::alloc::{AllocError, Global};
 use std::collections::VecDeque;
 use std::marker::Model;
 use std::mem;
@@ -18,14 +25,13 @@ use std::mem;
 #[derive(Drop)]
 pub struct Memtables {
     active: Memtable,
-    sealed: VecDeque<Memtable>,
+    sealed: VecDeque<SealedMemtable>,
 }
 
 impl Model for Memtables {
     ghost use Rattle.std.specs.Prelude.{List, ◌∷◌};
     ghost use Rattle.std.specs.List.{AllByRecursion};
-    ghost use Rattle.lsm_below.specs.Entries.{entry_cmp};
-    ghost use Rattle.lsm_below.specs.Sorted.{Rises};
+    ghost use Rattle.lsm_tables.specs.Cutting.{IsWritable};
     ghost use Rattle.lsm_memtable.specs.Memtables.{SeenMemtable};
     ghost use Rattle.lsm_state.specs.Held.{FallFrom, ids_of};
 
@@ -33,13 +39,13 @@ impl Model for Memtables {
 
     ghost view = { λ m. m.active ∷ m.sealed.items };
 
-    ghost invariant = { λ m. AllByRecursion (λ t. Rises entry_cmp t.entries) (m.active ∷ m.sealed.items) × FallFrom m.active.id (ids_of m.sealed.items) };
+    ghost invariant = { λ m. AllByRecursion (λ t. IsWritable t.entries) (m.active ∷ m.sealed.items) × FallFrom m.active.id (ids_of m.sealed.items) };
 }
 
 /// The memtable with this id, found by bisection.
-fn find_sealed(sealed: &VecDeque<Memtable>, id: MemtableId) -> Option<&Memtable>
+fn find_sealed(sealed: &VecDeque<SealedMemtable>, id: MemtableId) -> Option<&SealedMemtable>
     requires { (n : ℕ) × FallFrom n (ids_of sealed.now.items) }
-    ensures { MatchOption result (entries_of sealed.now.items id ≡ []) (λ m. m.now.entries ≡ entries_of sealed.now.items id) }
+    ensures { option_copied result ≡ held_at sealed.now.items id }
 {
     let at = sealed.partition_point(|memtable| id < memtable.id());
     let memtable = sealed.get(at)?;
@@ -47,6 +53,17 @@ fn find_sealed(sealed: &VecDeque<Memtable>, id: MemtableId) -> Option<&Memtable>
         return Some(memtable);
     }
     None
+}
+
+/// The bytes that a memtable counts, where a super version names it; else none.
+fn size_named(memtable: &Memtable, history: &SuperVersions) -> u64
+    ensures { result ≡ if list_any (names memtable.now.id) (versions_of history.now) then memtable.now.size else 0 }
+{
+    if history.names(memtable.id()) {
+        memtable.size()
+    } else {
+        0
+    }
 }
 
 impl Memtables {
@@ -60,9 +77,9 @@ impl Memtables {
         }
     }
 
-    /// What every such list meets: the entries of each memtable stand in order.
+    /// What every such list meets: the entries of each memtable stand in order, and fit files.
     pub fn facts(&self)
-        ensures { AllByRecursion (λ t. Rises entry_cmp t.entries) self.now }
+        ensures { AllByRecursion (λ t. IsWritable t.entries) self.now }
     {
         let _ = &self.sealed;
     }
@@ -81,7 +98,10 @@ impl Memtables {
         if self.active.id() == id {
             return Some(&self.active);
         }
-        find_sealed(&self.sealed, id)
+        match find_sealed(&self.sealed, id) {
+            Some(memtable) => Some(memtable.as_memtable()),
+            None => None,
+        }
     }
 
     /// What the memtable with this id shows of a key below the snapshot.
@@ -94,9 +114,70 @@ impl Memtables {
         }
     }
 
-    /// Puts an entry in its place in the active memtable, and returns the bytes that it counts and those
-    /// of the memtable. Refused only for want of memory, and then nothing changes.
+    /// The active memtable.
+    pub fn active(&self) -> &Memtable
+        ensures { HasFirst self.now (λ m. result.now ≡ m) }
+    {
+        &self.active
+    }
+
+    /// How many entries the memtable with this id has.
+    pub fn len_at(&self, id: MemtableId) -> usize
+        ensures { result ≡ length (entries_of self.now id) }
+    {
+        match self.find(id) {
+            Some(memtable) => memtable.len(),
+            None => 0,
+        }
+    }
+
+    /// How many entries the memtables with these ids have together, up to 2^64 - 1. Each is found by bisection.
+    pub fn len_of(&self, ids: &[MemtableId]) -> usize
+        ensures { result ≡ capped (length (flat_map (entries_of self.now) ids.now)) }
+    {
+        let mut len: usize = 0;
+        for id in ids {
+            len = len.saturating_add(self.len_at(*id));
+        }
+        len
+    }
+
+    /// The greatest sequence number in the memtable with this id.
+    pub fn highest_at(&self, id: MemtableId) -> Option<SeqNo>
+        ensures { result ≡ highest_of (entries_of self.now id) }
+    {
+        match self.find(id) {
+            Some(memtable) => memtable.get_highest_seqno(),
+            None => None,
+        }
+    }
+
+    /// The greatest sequence number in the memtables with these ids. Each is found by bisection.
+    pub fn highest_in(&self, ids: &[MemtableId]) -> Option<SeqNo>
+        ensures { result ≡ highest_of (flat_map (entries_of self.now) ids.now) }
+    {
+        let mut highest = None;
+        for id in ids {
+            highest = greater_of(highest, self.highest_at(*id));
+        }
+        highest
+    }
+
+    /// The bytes that these memtables count, of those that a super version names, up to 2^64 - 1.
+    pub fn size_sum(&self, history: &SuperVersions) -> u64
+        ensures { result ≡ named_size history.now self.now }
+    {
+        let active = size_named(&self.active, history);
+        self.sealed.iter().fold(
+            active,
+            |sum: u64, memtable| sum.saturating_add(size_named(memtable.as_memtable(), history)),
+        )
+    }
+
+    /// Puts an entry that fits a file in its place in the active memtable, and returns the bytes that it counts and
+    /// those of the memtable. Refused only for want of memory, and then nothing changes.
     pub fn insert(&mut self, entry: InternalValue) -> Result<(u64, u64), Error>
+        requires { Fits entry }
         ensures sizes { IfOk result (λ r. (r.0 ≡ entry_size entry) × (r.1 ≡ first_size self.new)) }
         ensures ok { OnOk result (self.new ≡ put_first entry self.old) }
         ensures err { OnErr result (self.new ≡ self.old) }
@@ -107,9 +188,10 @@ impl Memtables {
         sizes
     }
 
-    /// Puts all entries in their places in the active memtable, or none.
+    /// Puts all entries, which fit files, in their places in the active memtable, or none.
     /// Refused only for want of memory, and then nothing changes.
     pub fn insert_all(&mut self, batch: Vec<InternalValue>) -> Result<(), Error>
+        requires { AllByRecursion Fits batch.items }
         ensures ok { OnOk result (self.new ≡ put_all_first batch.items self.old) }
         ensures err { OnErr result (self.new ≡ self.old) }
         ensures memory { IfErr result (λ e. e ≡ Error.OutOfMemory) }
@@ -129,17 +211,79 @@ impl Memtables {
     {
         self.sealed.try_reserve(1)?;
         let sealed = mem::replace(&mut self.active, Memtable::new(alloc, id));
-        self.sealed.push_front(sealed)?;
-        Ok(())
+        match SealedMemtable::new(alloc, sealed) {
+            Ok(sealed) => {
+                self.sealed.push_front(sealed)?;
+                Ok(())
+            }
+            Err(refused) => {
+                self.active = refused.value;
+                Err(Error::OutOfMemory)
+            }
+        }
     }
 
-    /// Gives up the active memtable for the one that was sealed last.
-    pub fn take_back(&mut self)
-        requires { 1 < length self.old }
-        ensures { self.new ≡ drop 1 self.old }
+    /// A sealed memtable by its id, shared. Refused only for want of memory.
+    fn share_one(&self, id: MemtableId) -> Result<SealedMemtable, AllocError>
+        requires { IsSealedIn self.now id }
+        ensures id { IfOk result (λ m. m.id ≡ id) }
+        ensures entries { IfOk result (λ m. m.entries ≡ entries_of self.now id) }
+        ensures writable { IfOk result (λ m. IsWritable m.entries) }
     {
-        if let Some(memtable) = self.sealed.pop_front() {
-            self.active = memtable;
+        match find_sealed(&self.sealed, id) {
+            Some(memtable) => memtable.copy(),
+            None => unreachable!(),
         }
+    }
+
+    /// Sealed memtables by their ids, shared: their entries are not copied. Refused only for want of memory.
+    pub fn share(
+        &self,
+        alloc: Global,
+        ids: &[MemtableId],
+    ) -> Result<Vec<SealedMemtable>, AllocError>
+        requires { AllByRecursion (IsSealedIn self.now) ids.now }
+        ensures ids { IfOk result (λ list. ids_in list.items ≡ ids.now) }
+        ensures entries { IfOk result (λ list. entries_in list.items ≡ map (entries_of self.now) ids.now) }
+        ensures writable { IfOk result (λ list. AreWritable list.items) }
+    {
+        let mut list = Vec::with_capacity(alloc, ids.len())?;
+        for id in ids {
+            list.push(self.share_one(*id)?)?;
+        }
+        Ok(list)
+    }
+
+    /// The bytes that the memtable with this id counts.
+    fn size_of(&self, id: MemtableId) -> u64
+        ensures { result ≡ size_at self.now id }
+    {
+        if self.active.id() == id {
+            return self.active.size();
+        }
+        match find_sealed(&self.sealed, id) {
+            Some(memtable) => memtable.as_memtable().size(),
+            None => 0,
+        }
+    }
+
+    /// The bytes that the memtables with these ids count together, up to 2^64 - 1.
+    pub fn sealed_size(&self, ids: &[MemtableId]) -> u64
+        ensures { result ≡ capped (sum_by (size_at self.now) ids.now) }
+    {
+        let mut size: u64 = 0;
+        for id in ids {
+            size = size.saturating_add(self.size_of(*id));
+        }
+        size
+    }
+
+    /// Forgets the sealed memtables with lesser ids than this one, which are found by bisection.
+    pub fn forget_before(&mut self, id: MemtableId)
+        requires { HasFirst self.old (λ t. id ≤ t.id) }
+        ensures { self.new ≡ from_id id self.old }
+    {
+        let kept = self.sealed.partition_point(|memtable| memtable.id() >= id);
+        self.sealed.truncate(kept);
     }
 }

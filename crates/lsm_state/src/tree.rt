@@ -1,13 +1,21 @@
 // The tree: memtables by id, a history of super versions, and its counters.
-ghost use Rattle.std.specs.Prelude.{◌≡◌, ◌+◌, ◌≤◌, ◌↔◌, ◌⊎◌, [], None, Some, IfOk, IfErr, OnErr, IsErrOf};
+ghost use Rattle.std.specs.Prelude.{◌≡◌, ◌+◌, ◌≤◌, ◌↔◌, ◌⊎◌, [], None, Some, IfOk, IfErr, OnOk, OnErr, IsErrOf};
 ghost use Rattle.std.specs.Borrow.{sem};
+ghost use Rattle.std.specs.Option.{is_some};
 ghost use Rattle.lsm_parts.specs.History.{found_version};
-ghost use Rattle.lsm_state.specs.Held.{first_entries};
+ghost use Rattle.lsm_versions.specs.declared.version.TreeType.TheVariants.{Standard};
+ghost use Rattle.lsm_state.specs.Deeds.{IsNoDeed};
+ghost use Rattle.lsm_state.specs.Flushes.{with_next_table};
+ghost use Rattle.lsm_state.specs.Held.{HasFirst, first_entries};
 
 use crate::Memtables;
-use lsm_below::{MemtableId, SeqNo};
-use lsm_parts::{Config, Error, LIMIT, SequenceNumberCounter, SuperVersion, SuperVersions};
+use lsm_below::{MemtableId, SeqNo, TableId, TreeId};
+use lsm_jobs::OpenFlush;
+use lsm_parts::{
+    Config, Error, LIMIT, Memtable, SequenceNumberCounter, SuperVersion, SuperVersions, Version,
+};
 use lsm_store::{MemStore, Store};
+use lsm_versions::TreeType;
 use std::alloc::Global;
 use std::marker::Model;
 
@@ -30,19 +38,24 @@ pub struct TreeState<S: Store = MemStore> {
     pub(crate) history: SuperVersions,
     pub(crate) next_memtable: SequenceNumberCounter,
     pub(crate) next_table: SequenceNumberCounter,
+    pub(crate) next_job: u64,
+    pub(crate) moment: u64,
     pub(crate) seqno: SequenceNumberCounter,
     pub(crate) visible_seqno: SequenceNumberCounter,
+    pub(crate) flush: Option<OpenFlush>,
+    /// The version of a commit of unknown outcome.
+    pub(crate) lost: Option<Version>,
 }
 
 impl<S: Store> Model for TreeState<S> {
     ghost use Rattle.lsm_state.specs.Core.{Seen};
-    ghost use Rattle.lsm_state.specs.Kept.{KeepsIds};
+    ghost use Rattle.lsm_state.specs.Kept.{KeepsIds, KeepsTables};
 
     ghost Value = { Seen S };
 
-    ghost view = { λ t. record { store = t.store; core = record { config = t.config; memtables = t.memtables; history = t.history; next_memtable = t.next_memtable; next_table = t.next_table; seqno = t.seqno; visible_seqno = t.visible_seqno } } };
+    ghost view = { λ t. record { store = t.store; core = record { config = t.config; memtables = t.memtables; history = t.history; next_memtable = t.next_memtable; next_table = t.next_table; next_job = t.next_job; moment = t.moment; seqno = t.seqno; visible_seqno = t.visible_seqno; flush = t.flush; lost = t.lost } } };
 
-    ghost invariant = { λ t. KeepsIds t.memtables t.history t.next_memtable };
+    ghost invariant = { λ t. KeepsIds t.memtables t.history t.next_memtable × KeepsTables t.flush t.history t.next_table };
 }
 
 impl<S: Store> TreeState<S> {
@@ -50,8 +63,8 @@ impl<S: Store> TreeState<S> {
     ghost use Rattle.lsm_state.specs.Kept.{IsKeptTree};
     ghost use Rattle.lsm_state.specs.Lending.{LendsSeqno, LendsVisible};
 
-    /// What every tree meets: its memtables' entries stand in order, their ids fall and are those that
-    /// super versions name, and its versions are laid out.
+    /// What every tree meets: its memtables' entries stand in order and fit files, ids of memtables fall and are those
+    /// that super versions name, no id of a table stands twice, and its versions are laid out.
     pub fn facts(&self)
         ensures { IsKeptTree self.now.core }
     {
@@ -89,6 +102,76 @@ impl<S: Store> TreeState<S> {
         &mut self.visible_seqno
     }
 
+    /// The tree's id, as it was opened with.
+    pub fn id(&self) -> TreeId
+        ensures { result ≡ self.now.core.config.id }
+    {
+        self.config.id
+    }
+
+    /// What the tree was opened with.
+    pub fn tree_config(&self) -> &Config
+        ensures { result.now ≡ self.now.core.config }
+    {
+        &self.config
+    }
+
+    /// What kind of tree it is: always a standard one.
+    pub fn tree_type(&self) -> TreeType
+        ensures { result ≡ Standard }
+    {
+        TreeType::Standard
+    }
+
+    /// The moment at which tables that are written from now on are made, in nanoseconds. It is 0 in a tree that was opened.
+    pub fn moment(&self) -> u64
+        ensures { result ≡ self.now.core.moment }
+    {
+        self.moment
+    }
+
+    /// Sets the moment at which tables are made from now on, in nanoseconds: a tree asks no clock.
+    pub fn set_moment(&mut self, moment: u64)
+        ensures core { self.new.core ≡ record (self.old.core) { moment = moment } }
+        ensures store { self.new.store ≡ self.old.store }
+        ensures deeds { IsNoDeed self.old.core self.new.core }
+    {
+        self.moment = moment;
+    }
+
+    /// Whether a `CommitUnknown` came before: then nothing is committed or removed until the tree is opened again.
+    pub fn is_uncertain(&self) -> bool
+        ensures { result ≡ is_some self.now.core.lost }
+    {
+        self.lost.is_some()
+    }
+
+    /// The memtable that is written to.
+    pub fn active_memtable(&self) -> &Memtable
+        ensures first { HasFirst self.now.core.memtables (λ m. result.now ≡ m) }
+        ensures id { result.now.id ≡ self.now.core.history.latest.active_memtable }
+    {
+        self.memtables.active()
+    }
+
+    /// An id for a table, which is used then: no table of this tree gets it.
+    ///
+    /// # Errors
+    ///
+    /// `OutOfNumbers` where the next id is 2^63 or more. Nothing changes then.
+    pub fn get_next_table_id(&mut self) -> Result<TableId, Error>
+        ensures ok { IfOk result (λ id. id ≡ self.old.core.next_table) }
+        ensures used { OnOk result (self.new.core ≡ with_next_table (self.old.core.next_table + 1) self.old.core) }
+        ensures store { self.new.store ≡ self.old.store }
+        ensures deeds { IsNoDeed self.old.core self.new.core }
+
+        ensures err { OnErr result (self.new ≡ self.old) }
+        ensures out_of_numbers { IsErrOf result Error.OutOfNumbers ↔ LIMIT ≤ self.old.core.next_table }
+        ensures only { IfErr result (λ e. e ≡ Error.OutOfNumbers) }
+    {
+        self.next_table.next()
+    }
+
     /// The super version that a snapshot reads: at 0 the oldest, else the newest one numbered below it.
     /// Where there is none it is `SnapshotTooOld`, and only there.
     pub fn get_version_for_snapshot(&self, snapshot: SeqNo) -> Result<&SuperVersion, Error>
@@ -120,9 +203,9 @@ impl<S: Store> TreeState<S> {
             return Err(Error::OutOfNumbers);
         }
         let sealed = self.history.latest_version().active_memtable;
-        self.memtables.rotate(self.alloc, id)?;
-        if let Err(error) = self.history.rotate_latest(id) {
-            self.memtables.take_back();
+        self.history.rotate_latest(id)?;
+        if let Err(error) = self.memtables.rotate(self.alloc, id) {
+            self.history.rotate_back();
             return Err(error);
         }
         self.next_memtable.set(id + 1);

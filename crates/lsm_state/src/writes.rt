@@ -1,7 +1,8 @@
 // The tree's writes.
 ghost use Rattle.std.specs.Prelude.{◌≡◌, ◌<◌, ◌⊎◌, Some, None, IfOk, IfErr, OnOk, OnErr};
-ghost use Rattle.std.specs.List.{list_any};
+ghost use Rattle.std.specs.List.{AllByRecursion, list_any};
 ghost use Rattle.lsm_below.specs.Entries.{plain};
+ghost use Rattle.lsm_tables.specs.Image.{Fits};
 ghost use Rattle.lsm_model.specs.Ops.{op_entry, op_entries};
 ghost use Rattle.lsm_state.specs.Refusals.{entry_refusal, batch_refusal, is_long_key, is_long_value, op_value, repeats, keys_of};
 ghost use Rattle.lsm_model.specs.declared.op.Op.TheVariants.{Set, Del, Weak};
@@ -112,7 +113,7 @@ fn make_entries(
     Ok(entries)
 }
 
-/// Puts the entries of a batch into the active memtable, or none. One alone needs no list of them, and nothing by
+/// Puts the entries of a batch, which fit files, into the active memtable, or none. One alone needs no list of them, and nothing by
 /// which it is taken back. Refused only for want of memory, and then nothing changes.
 fn put_batch(
     memtables: &mut Memtables,
@@ -120,6 +121,7 @@ fn put_batch(
     number: SeqNo,
     mut ops: Vec<(UserKey, Op)>,
 ) -> Result<(), Error>
+    requires { AllByRecursion Fits (op_entries number ops.items) }
     ensures ok { OnOk result (memtables.new ≡ put_all_first (op_entries number ops.items) memtables.old) }
     ensures err { OnErr result (memtables.new ≡ memtables.old) }
     ensures memory { IfErr result (λ e. e ≡ Error.OutOfMemory) }

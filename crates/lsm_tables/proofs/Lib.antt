@@ -7,3 +7,4 @@ pub mod Covering
 pub mod Lengths
 pub mod Cutting
 pub mod CutRuns
+pub mod Keeping

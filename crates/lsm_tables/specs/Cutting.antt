@@ -1,10 +1,11 @@
 -- How a list of entries is cut into tables.
-use Rattle.std.specs.Prelude.{◌≡◌, ℕ, ◌-◌, ◌<◌, ◌≤◌, false, List, [], ◌∷◌, ◌++◌, length, take, map, slice_index_or}
+use Rattle.std.specs.Prelude.{◌≡◌, ℕ, ◌-◌, ◌^◌, ◌<◌, ◌≤◌, Bool, false, List, [], ◌∷◌, ◌++◌, length, take, drop, map, slice_index_or}
 use Rattle.std.specs.List.{AllByRecursion, flat_map}
 use Rattle.lsm_below.specs.Keys.{Bytes}
 use Rattle.lsm_below.specs.Entries.{Entry, entry_cmp}
 use Rattle.lsm_below.specs.Sorted.{Rises}
 use Rattle.lsm_below.specs.Slots.{same_key}
+use Rattle.lsm_below.specs.Streams.{KeepsOfMerge}
 use Rattle.lsm_below.specs.Runs.{IsRun}
 use Rattle.lsm_below.specs.Optimizes.{EachPair}
 use Rattle.lsm_tables.specs.Image.{Fits, IsTable, image, entry_bytes}
@@ -59,6 +60,20 @@ pub record IsFirstEnd (target : ℕ) (es : List Entry) (end : ℕ) : Type 0 wher
   pub filled : end < length es → target ≤ entry_bytes (take end es)
   pub apart : (d : Entry) → end < length es → same_key (slice_index_or es (end - 1) d) (slice_index_or es end d) ≡ false
   pub none_earlier : (j : ℕ) (d : Entry) → 0 < j → j < end → same_key (slice_index_or es (j - 1) d) (slice_index_or es j d) ≡ false → entry_bytes (take j es) < target
+
+-- entries that are cut in two: the first ones are a table, and the others may be written
+pub record IsCutOff (target : ℕ) (es front behind : List Entry) : Type 0 where
+  pub table : IsTable front
+  pub writable : IsWritable behind
+  pub cut : CutsFirst target es front behind
+
+-- where the first table of a list ends, it may be cut off
+abbrev pub FirstEndsCut : Type 0
+FirstEndsCut = (target : ℕ) (es : List Entry) (end : ℕ) → IsWritable es → IsFirstEnd target es end → end < 2 ^ 64 → IsCutOff target es (take end es) (drop end es)
+
+-- what a compaction keeps of lists that may be written may be written too
+abbrev pub KeptIsWritable : Type 0
+KeptIsWritable = (w : ℕ) (evict : Bool) (lists : List (List Entry)) (kept : List Entry) → AllByRecursion IsWritable lists → KeepsOfMerge w evict lists kept → IsWritable kept
 
 -- a writer: its target, when its tables are made, and what was written
 pub record SeenWriter : Type 0 where

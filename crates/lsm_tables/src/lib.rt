@@ -17,6 +17,9 @@ mod table_error;
 
 pub use checksum::{Checksum, sums_of_parts};
 pub use image::{decode, encode, fits_image, is_writable, no_image_begins_another};
-pub use multi_writer::{MultiWriter, cuts_are_runs, split_table, write_tables};
+pub use multi_writer::{
+    MultiWriter, cuts_are_runs, first_ends_cut, kept_is_writable, size_of_entry, split_table,
+    write_tables,
+};
 pub use table::Table;
 pub use table_error::TableError;

@@ -2,15 +2,15 @@
 ghost use Rattle.std.specs.Prelude.{◌≡◌, ◌+◌, ◌++◌, ◌∷◌, [], ◌<◌, ◌↔◌, map, length, IfOk, IfErr, OnOk, OnErr, IsTrue};
 ghost use Rattle.lsm_below.specs.Sums.{capped};
 ghost use Rattle.lsm_tables.specs.Image.{IsTable};
-ghost use Rattle.lsm_tables.specs.Cutting.{IsWritable, IsFirstEnd, CutsFirst, AreImagesOf, CutsAreRuns};
+ghost use Rattle.lsm_tables.specs.Cutting.{IsWritable, IsFirstEnd, CutsFirst, AreImagesOf, CutsAreRuns, FirstEndsCut, KeptIsWritable};
 
 use crate::image::{HEAD_LEN, encode, may_stand_behind};
 use lsm_below::{InternalValue, entries_are_ordered, has_same_key, keys_are_ordered};
 use std::alloc::{AllocError, AllocFailed, Global};
 use std::marker::Model;
 
-/// The bytes that an entry takes in a table's file, up to 2^64 - 1.
-fn size_of_entry(entry: &InternalValue) -> u64
+/// The bytes that an entry takes in a table's file, up to 2^64 - 1: 15, its key's and its value's.
+pub fn size_of_entry(entry: &InternalValue) -> u64
     ensures { result ≡ capped (15 + length entry.now.key.user_key + length entry.now.value) }
 {
     (HEAD_LEN as u64)
@@ -64,6 +64,19 @@ pub fn cuts_are_runs()
     keys_are_ordered();
     entries_are_ordered();
 }
+
+/// Where the first table of entries ends, it may be cut off, whatever comes after it.
+pub fn first_ends_cut()
+    ensures { FirstEndsCut }
+{
+    keys_are_ordered();
+    entries_are_ordered();
+}
+
+/// What a compaction keeps of entries that may be written may be written too.
+pub fn kept_is_writable()
+    ensures { KeptIsWritable }
+{}
 
 /// The contents of the files of the tables into which entries are cut, made at this moment (in nanoseconds).
 ///

@@ -1,5 +1,6 @@
 -- What a changed version is to the theory: each install of one is a step.
-use Rattle.std.specs.Prelude.{◌≡◌, ℕ, Bool, false, List, [], ◌∷◌, ◌++◌, map, flat_map}
+use Rattle.std.specs.Prelude.{◌≡◌, ℕ, ◌<◌, Bool, false, List, [], ◌∷◌, ◌++◌, length, map, flat_map}
+use Rattle.std.specs.List.Sorted.{IsPermutation}
 use Rattle.lsm_below.specs.Keys.{Bytes}
 use Rattle.lsm_below.specs.Entries.{Entry, entry_cmp, stack, keep, IsOrdered}
 use Rattle.lsm_below.specs.Runs.{IsRun}
@@ -10,7 +11,7 @@ use Rattle.lsm_model.specs.Journal.{Event}
 use Rattle.lsm_model.specs.Views.{sources, held, chosen_of, left_of, ranges_of, IsAllowed, IsLaidOut, IsRearranged}
 use Rattle.lsm_model.specs.Steps.{State, Step, Flushed, Merged, Moved, DroppedTables, AllCover, among}
 use Rattle.lsm_model.specs.declared.journal.JournalEntry.TheVariants.{Install, Dropped}
-use Rattle.lsm_versions.specs.Levels.{Levels, range, placed_of, placed_in, PutBetween, IsMoved}
+use Rattle.lsm_versions.specs.Levels.{Levels, range, placed_of, placed_in, all_of, left_in, Changes, PutBetween, IsMoved}
 
 -- a state after the install of a version under a sequence number: its tables and sealed memtables stand in a new super version
 abbrev pub installed : ℕ → List ℕ → Levels → List Event → State → State
@@ -49,3 +50,7 @@ DropsAreSteps = (opened : List Entry) (n : ℕ) (ids : List ℕ) (old : State) (
 -- the tables into which a list is cut are a run
 abbrev pub CutTablesAreRuns : Type 0
 CutTablesAreRuns = (target : ℕ) (es : List Entry) (tables : List SeenTable) → Rises entry_cmp es → IsCutting target es (map (λ t. t.entries) tables) → IsRun range tables
+
+-- a changed version has the run that came and the tables that didn't go, and no others
+abbrev pub ChangesKeepTables : Type 0
+ChangesKeepTables = (ids : List ℕ) (run : List SeenTable) (to : ℕ) (old new : Levels) → Changes ids run to old new → to < length old → IsPermutation (run ++ left_in ids (all_of old)) (all_of new)

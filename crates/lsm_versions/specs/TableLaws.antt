@@ -1,6 +1,6 @@
 -- Lists of tables, their ids and their entries: laws for proofs of this crate and of those above it.
 use Rattle.std.proofs.Common.{◌≡◌, ℕ, ◌+◌, Bool, true, false, cond, not, ◌&&◌, ◌||◌, eqb, List, [], ◌∷◌, ◌++◌, map, flat_map, filter, refl, sym, ◌∙◌, ap, ap₂, subst, arith, append_assoc}
-use Rattle.std.specs.List.{AllByRecursion, list_any}
+use Rattle.std.specs.List.{AllByRecursion, IsDistinct, list_any}
 use Rattle.std.specs.List.Sorted.{IsPermutation}
 use Rattle.std.proofs.lemmas.Bool.Decides.{nat_tests}
 use Rattle.std.proofs.lemmas.Grind.{flat_map-append}
@@ -13,7 +13,7 @@ use Rattle.lsm_below.specs.Runs.{IsRun}
 use Rattle.lsm_tables.specs.Tables.{SeenTable}
 use Rattle.lsm_model.specs.Views.{Placed, placed_at, placed_from, held, chosen_of}
 use Rattle.lsm_model.specs.Steps.{among}
-use Rattle.lsm_versions.specs.Levels.{Levels, range, shown_table, shown_levels, placed_in, chosen_in}
+use Rattle.lsm_versions.specs.Levels.{Levels, HasOwnIds, range, shown_table, shown_levels, placed_in, chosen_in}
 
 -- ---- lists
 
@@ -146,3 +146,13 @@ left_run t (x ∷ xs) h = elim (t x) as (λ b. IsRun range (cond b (x ∷ filter
   | true ↦ (h.0, kept_each (λ y. is_below (range x).max (range y).min ≡ true) t xs h.1, left_run t xs h.2)
   | false ↦ left_run t xs h.2
 ]
+
+-- fewer tables
+pub others_left : (i : ℕ) (t : SeenTable → Bool) (xs : List SeenTable) → AllByRecursion (λ j. eqb i j ≡ false) (map (λ t. t.id) xs) → AllByRecursion (λ j. eqb i j ≡ false) (map (λ t. t.id) (filter t xs))
+others_left i t [] h = tt
+others_left i t (x ∷ xs) h = elim (t x) as (λ b. AllByRecursion (λ j. eqb i j ≡ false) (map (λ t. t.id) (cond b (x ∷ filter t xs) (filter t xs)))) [ true ↦ (h.0, others_left i t xs h.1) | false ↦ others_left i t xs h.1 ]
+
+pub own_left : (t : SeenTable → Bool) (xs : List SeenTable) → HasOwnIds xs → HasOwnIds (filter t xs)
+unfolding IsDistinct
+own_left t [] h = tt
+own_left t (x ∷ xs) h = elim (t x) as (λ b. HasOwnIds (cond b (x ∷ filter t xs) (filter t xs))) [ true ↦ (others_left x.id t xs h.0, own_left t xs h.1) | false ↦ own_left t xs h.1 ]

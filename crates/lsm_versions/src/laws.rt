@@ -1,5 +1,5 @@
 // What installs of versions are to the theory, each law as the contract of a function that does nothing.
-ghost use Rattle.lsm_versions.specs.Installs.{FlushesAreSteps, MergesAreSteps, MovesAreSteps, DropsAreSteps, CutTablesAreRuns};
+ghost use Rattle.lsm_versions.specs.Installs.{FlushesAreSteps, MergesAreSteps, MovesAreSteps, DropsAreSteps, CutTablesAreRuns, ChangesKeepTables};
 
 use lsm_tables::cuts_are_runs;
 
@@ -29,3 +29,8 @@ pub fn cut_tables_are_runs()
 {
     cuts_are_runs();
 }
+
+/// A changed version has the run that came and the tables that didn't go, and no others.
+pub fn changes_keep_tables()
+    ensures { ChangesKeepTables }
+{}

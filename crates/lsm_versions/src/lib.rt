@@ -26,7 +26,8 @@ mod walk;
 pub use config::{Config, LIMIT};
 pub use hidden_set::HiddenSet;
 pub use laws::{
-    cut_tables_are_runs, drops_are_steps, flushes_are_steps, merges_are_steps, moves_are_steps,
+    changes_keep_tables, cut_tables_are_runs, drops_are_steps, flushes_are_steps, merges_are_steps,
+    moves_are_steps,
 };
 pub use level::{GenericLevel, Level, copies_left, has_id, run_has};
 pub use lookup::{all_tables, ids_are_own, ids_of_levels};

@@ -1,9 +1,10 @@
-//! Tests of `lsm_versions` and `lsm_choices`, and nothing else: a crate with tests is proved twice, with and without them.
+//! Tests of `lsm_versions`, `lsm_choices` and `lsm_merges`, and nothing else: a crate with tests is proved twice, with and without them.
 //!
 //! | Module | Tests |
 //! |-|-|
 //! | `choices` | why a choice of tables is declined, when it begins and when it ends |
 //! | `changes` | merged and moved tables, and when there is no next version |
+//! | `merges` | merges outside a tree |
 //! | `versions` | next versions, and what a version tells of its tables |
 //! | `hidden_sets` | hidden tables |
 //! | `samples` | holds no test: what the others make tables and versions by |
@@ -15,6 +16,8 @@ mod changes;
 mod choices;
 #[cfg(test)]
 mod hidden_sets;
+#[cfg(test)]
+mod merges;
 #[cfg(test)]
 mod samples;
 #[cfg(test)]

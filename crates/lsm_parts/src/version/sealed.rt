@@ -1,5 +1,5 @@
 // The ids of sealed memtables.
-ghost use Rattle.std.specs.Prelude.{◌≡◌, ◌+◌, ◌++◌, ◌∷◌, [], ◌==◌, not, filter, length, IfOk, IfErr, OnOk, OnErr, MatchOption};
+ghost use Rattle.std.specs.Prelude.{◌≡◌, ◌+◌, ◌++◌, ◌∷◌, [], ◌==◌, not, filter, drop, length, IfOk, IfErr, OnOk, OnErr, MatchOption};
 ghost use Rattle.std.specs.List.{list_any};
 ghost use Rattle.std.specs.Slice.Iter.{iter_rest};
 
@@ -85,6 +85,18 @@ impl SealedMemtables {
         Ok(SealedMemtables {
             alloc: self.alloc,
             ids,
+        })
+    }
+
+    /// These without the first n of them. Refused only for want of memory.
+    pub fn without_first(&self, n: usize) -> Result<SealedMemtables, Error>
+        ensures ok { IfOk result (λ list. list ≡ drop n self.now) }
+        ensures memory { IfErr result (λ e. e ≡ Error.OutOfMemory) }
+    {
+        let rest = self.ids.get(n..).unwrap_or(&[]);
+        Ok(SealedMemtables {
+            alloc: self.alloc,
+            ids: Vec::from_slice(self.alloc, rest)?,
         })
     }
 

@@ -3,7 +3,7 @@ ghost use Rattle.std.specs.Prelude.{◌≡◌, ℕ, List, ◌+◌, ◌-◌, ◌<
 ghost use Rattle.std.specs.List.{find, list_any};
 ghost use Rattle.lsm_tables.specs.Tables.{SeenTable};
 ghost use Rattle.lsm_versions.specs.Levels.{SeenVersion};
-ghost use Rattle.lsm_parts.specs.History.{found_version, first_version, versions_of, names, named_size, rotated, AreLaid, NumbersFall};
+ghost use Rattle.lsm_parts.specs.History.{found_version, first_version, oldest, versions_of, names, named_size, rotated, AreLaid, NumbersFall};
 ghost use Rattle.lsm_parts.specs.Maintenance.{needed, needed_of, Forgets, AreGone, KeepsNewer, KeepsVersions};
 ghost use Rattle.lsm_manifest.specs.Names.{version_name};
 ghost use Rattle.lsm_files.specs.Stored.{CountsFaults};
@@ -261,6 +261,16 @@ impl SuperVersions {
         &self.latest
     }
 
+    /// The oldest super version.
+    pub fn oldest_version(&self) -> &SuperVersion
+        ensures { result.now ≡ oldest self.now.latest self.now.older }
+    {
+        match self.older.back() {
+            Some(version) => version,
+            None => &self.latest,
+        }
+    }
+
     /// The super version that a snapshot reads: at 0 the oldest, else the newest one numbered below it.
     /// Where there is none it is `SnapshotTooOld`, and only there.
     pub fn get_version_for_snapshot(&self, snapshot: SeqNo) -> Result<&SuperVersion, Error>
@@ -284,7 +294,8 @@ impl SuperVersions {
             .fold(0, |sum: u64, memtable| sum.saturating_add(memtable.size()))
     }
 
-    fn names(&self, id: MemtableId) -> bool
+    /// Whether a super version names this memtable. The cost is linear in the super versions and their sealed memtables.
+    pub fn names(&self, id: MemtableId) -> bool
         ensures { result ≡ list_any (names id) (versions_of self.now) }
     {
         self.latest.names(id) || self.older.iter().any(|version| version.names(id))
@@ -294,10 +305,7 @@ impl SuperVersions {
         ensures { option_copied result ≡ found_version snapshot self.now }
     {
         if snapshot == 0 {
-            return match self.older.back() {
-                Some(version) => Some(version),
-                None => Some(&self.latest),
-            };
+            return Some(self.oldest_version());
         }
         if seqno_filter(self.latest.seqno, snapshot) {
             return Some(&self.latest);

@@ -11,7 +11,7 @@ returns-in_err-memtable c =
     let at = c.partition_point-at.result in
     let point = IsPartitionPoint-from_clause (λ (t : SeenMemtable). nat_lt id t.id) xs at c.partition_point-at.ensures.partitioned (above_first id xs c.requires.0 c.requires.1) (λ a r f called. search (rules, tests)) in
     let past = past_end at _ (length xs) c.args.sealed.now.ok.0 (c.in_err-memtable.ensures.variant.1) in
-    rw c.from_residual.ensures (none_above id xs (λ k d low high. point.0 k d low (omega arith)))
+    rw c.from_residual.ensures (sym (none_above id xs (λ k d low high. point.0 k d low (omega arith))))
 
 pub returns-then-id : goal.returns-then-id
 returns-then-id c =
@@ -29,6 +29,6 @@ returns c =
     let point = IsPartitionPoint-from_clause (λ (t : SeenMemtable). nat_lt id t.id) xs at c.partition_point-at.ensures.partitioned (above_first id xs c.requires.0 c.requires.1) (λ a r f called. search (rules, tests)) in
     let t = c.in_ok-memtable.memtable.now in
     let lt = subst (λ n. at < n) c.args.sealed.now.ok.0 (c.in_ok-memtable.ensures.variant.0 refl) in
-    missed id xs c.requires.0 at t c.requires.1 point.0 lt c.in_ok-memtable.ensures.lookup
+    sym (missed id xs c.requires.0 at t c.requires.1 point.0 lt c.in_ok-memtable.ensures.lookup
     (subst (λ u. nat_lt id u.id ≡ false) (sym c.in_ok-memtable.ensures.lookup) (point.1 at t (omega arith) lt))
-    (λ same. c.if-id.false (c.id.ensures ∙ same))
+    (λ same. c.if-id.false (c.id.ensures ∙ same)))

@@ -2,7 +2,7 @@ use Rattle.std.proofs.Common.{◌++◌, ◌∙◌, ap, sym, subst, take, List}
 use Rattle.std.proofs.lemmas.List.{take-append-drop}
 use Rattle.lsm_below.specs.Entries.{Entry}
 use Rattle.lsm_tables.specs.Image.{IsTable}
-use Rattle.lsm_tables.specs.Cutting.{IsWritable, CutsFirst}
+use Rattle.lsm_tables.specs.Cutting.{IsWritable}
 use Rattle.lsm_tables.proofs.Cutting.{front_table, behind_writable, cut_first}
 use Rattle.lsm_tables.proofs.multi_writer.split_table.Goals as goal
 

@@ -3,7 +3,6 @@ use Rattle.std.specs.Global.{Vec}
 use Rattle.std.proofs.lemmas.Bool.{eqb-true}
 use Rattle.std.proofs.lemmas.List.{map-append, nil_from_length}
 use Rattle.lsm_below.specs.Keys.{Bytes}
-use Rattle.lsm_tables.specs.Image.{image}
 use Rattle.lsm_tables.proofs.Cutting.{IsUnderway, ends, goes_on}
 use Rattle.lsm_tables.proofs.multi_writer.write_tables.Goals as goal
 

@@ -134,6 +134,11 @@ returns-in_err-core-clause-stands g c tells id ls ts stands pin =
     let p = err_from_is_err_and c.from_residual-in_err-core.result c.from_residual-in_err-core.ensures.1 in
     rw (p.1, p.2) ((c.in_err-core.ensures.leaves tells c.args.store (c.in_ok-found.ensures.found tells)).stands id ls ts stands pin)
 
+pub returns-in_err-core-clause-new_moment : goal.returns-in_err-core-clause-new_moment
+returns-in_err-core-clause-new_moment g c tells absent =
+    let p = err_from_is_err_and c.from_residual-in_err-core.result c.from_residual-in_err-core.ensures.1 in
+    rw (p.1, p.2) ((c.in_err-core.ensures.leaves tells c.args.store (c.in_ok-found.ensures.found tells)).new_moment absent)
+
 pub returns-in_err-core-clause-keeps : goal.returns-in_err-core-clause-keeps
 returns-in_err-core-clause-keeps g c tells =
     let w = g.S.Store.world in

@@ -1,0 +1,4 @@
+pub mod Underway
+pub mod RunEntries
+pub mod Chosen
+pub mod MadeTables

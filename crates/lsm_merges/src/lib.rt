@@ -1,0 +1,24 @@
+//! The parts of a compaction that need no tree: its inputs as a stream, the files that it makes, and the jobs in between.
+//!
+//! | Module | Holds |
+//! |-|-|
+//! | `source` | the entries of a run of tables, as a source of a merge |
+//! | `inputs` | the tables of a choice, run by run |
+//! | `settings` | how a merge is done |
+//! | `writing` | what a source gives, as the contents of tables' files |
+//! | `merging` | what a compaction keeps of runs, as the contents of files |
+//! | `jobs` | the job of a merge, and what it makes |
+#![tactic(auto)]
+
+mod inputs;
+mod jobs;
+mod merging;
+mod settings;
+mod source;
+mod writing;
+
+pub use inputs::chosen_inputs;
+pub use jobs::{CompactionJob, MergedCompaction};
+pub use merging::merge_runs;
+pub use settings::MergeSettings;
+pub use source::RunSource;

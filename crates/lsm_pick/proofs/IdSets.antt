@@ -1,0 +1,94 @@
+-- Ids of tables that are added to others, one table, run or level after the other.
+use Rattle.std.proofs.Common.{◌≡◌, ℕ, ◌+◌, ◌<◌, Bool, true, false, cond, ◌||◌, eqb, List, [], ◌∷◌, ◌++◌, length, get_or, take, map, filter, refl, sym, ap, ◌∙◌, append-nil, subst}
+use Rattle.std.specs.List.{list_any}
+use Rattle.std.proofs.lemmas.Grind.{flat_map-append}
+use Rattle.std.proofs.lemmas.List.{take_more}
+use Rattle.std.proofs.lemmas.List.Elements.{filter-append, filter_more}
+use Rattle.lsm_below.specs.Optimizes.{tables_of}
+use Rattle.lsm_tables.specs.Tables.{SeenTable}
+use Rattle.lsm_model.specs.Steps.{among}
+use Rattle.lsm_versions.specs.Levels.{Levels, all_of}
+use Rattle.lsm_versions.specs.TableLaws.{or_none, among_append, put_more}
+use Rattle.lsm_choices.specs.Choices.{AreIdsOf}
+use Rattle.lsm_pick.specs.Tables.{AddsIds}
+use Rattle.lsm_pick.proofs.Members.{any_has, has_any, has_map, map_has, same_by, from_eqb, to_eqb}
+
+or_assoc : (a b c : Bool) → (a || (b || c)) ≡ ((a || b) || c)
+or_assoc true b c = refl
+or_assoc false b c = refl
+
+pub adds_none : (x : List ℕ) → AddsIds [] x x
+adds_none x i = sym (or_none (among x i))
+
+pub adds_both : (ts us : List SeenTable) (x y z : List ℕ) → AddsIds ts x y → AddsIds us y z → AddsIds (ts ++ us) x z
+adds_both ts us x y z f g i =
+    let ids = λ (t : SeenTable). t.id in
+    g i ∙ ap (λ b. b || among (map ids us) i) (f i) ∙ sym (or_assoc (among x i) (among (map ids ts) i) (among (map ids us) i))
+    ∙ ap (λ b. among x i || b) (sym (among_append ids ts us i))
+
+pub adds_one : (t : SeenTable) (x y : List ℕ) → ((i : ℕ) → among y i ≡ cond (eqb t.id i) true (among x i)) → AddsIds (t ∷ []) x y
+adds_one t x y step i = put_more (λ (t : SeenTable). t.id) [] t i (among y i) (among x i) (among x i) (step i) (sym (or_none (among x i)))
+
+-- ids of these tables are all there are
+pub adds_all : (ts us : List SeenTable) (x y : List ℕ) → AreIdsOf x ts → AddsIds us x y → AreIdsOf y (ts ++ us)
+adds_all ts us x y f g i =
+    let ids = λ (t : SeenTable). t.id in
+    g i ∙ ap (λ b. b || among (map ids us) i) (f i) ∙ sym (among_append ids ts us i)
+
+-- ---- walks
+
+kept_or_not : (p : SeenTable → Bool) (ts : List SeenTable) (n : ℕ) (t : SeenTable) → n < length ts → t ≡ get_or ts n t → filter p (take (n + 1) ts) ≡ filter p (take n ts) ++ cond (p t) (t ∷ []) []
+kept_or_not p ts n t lt read = subst (λ u. filter p (take (n + 1) ts) ≡ filter p (take n ts) ++ cond (p u) (u ∷ []) []) (sym read) (filter_more p ts n t lt)
+
+-- one table more
+pub adds_next :
+    (ts : List SeenTable) (n : ℕ) (t : SeenTable) (x y z : List ℕ) → n < length ts → t ≡ get_or ts n t →
+    AddsIds (take n ts) x y → ((i : ℕ) → among z i ≡ cond (eqb t.id i) true (among y i)) → AddsIds (take (n + 1) ts) x z
+adds_next ts n t x y z lt read f step =
+    let e : take n ts ++ t ∷ [] ≡ take (n + 1) ts = ap (λ u. take n ts ++ u ∷ []) read ∙ sym (take_more ts n t lt) in
+    subst (λ us. AddsIds us x z) e (adds_both (take n ts) (t ∷ []) x y z f (adds_one t y z step))
+
+-- one that is taken or not
+pub adds_if :
+    (p : SeenTable → Bool) (ts : List SeenTable) (n : ℕ) (t : SeenTable) (b : Bool) (x y z : List ℕ) → n < length ts → t ≡ get_or ts n t → b ≡ p t →
+    AddsIds (filter p (take n ts)) x y → AddsIds (cond b (t ∷ []) []) y z → AddsIds (filter p (take (n + 1) ts)) x z
+adds_if p ts n t b x y z lt read is f g =
+    let e : filter p (take n ts) ++ cond b (t ∷ []) [] ≡ filter p (take (n + 1) ts) = ap (λ c. filter p (take n ts) ++ cond c (t ∷ []) []) is ∙ sym (kept_or_not p ts n t lt read) in
+    subst (λ us. AddsIds us x z) e (adds_both (filter p (take n ts)) (cond b (t ∷ []) []) x y z f g)
+
+pub flat_more : {A : Type 0} (xss : List (List A)) (n : ℕ) (xs : List A) → n < length xss → xs ≡ get_or xss n xs → tables_of (take (n + 1) xss) ≡ tables_of (take n xss) ++ xs
+flat_more xss n xs lt read =
+    ap tables_of (take_more xss n xs lt ∙ ap (λ x. take n xss ++ x ∷ []) (sym read))
+    ∙ (flat_map-append (λ r. r) (take n xss) (xs ∷ []) ∙ ap (λ l. tables_of (take n xss) ++ l) (append-nil xs))
+
+pub adds_run :
+    (p : SeenTable → Bool) (runs : List (List SeenTable)) (n : ℕ) (run : List SeenTable) (x y z : List ℕ) → n < length runs → run ≡ get_or runs n run →
+    AddsIds (filter p (tables_of (take n runs))) x y → AddsIds (filter p run) y z → AddsIds (filter p (tables_of (take (n + 1) runs))) x z
+adds_run p runs n run x y z lt read f g =
+    let so_far = tables_of (take n runs) in
+    let e : filter p so_far ++ filter p run ≡ filter p (tables_of (take (n + 1) runs)) = sym (filter-append p so_far run) ∙ ap (filter p) (sym (flat_more runs n run lt read)) in
+    subst (λ us. AddsIds us x z) e (adds_both (filter p so_far) (filter p run) x y z f g)
+
+pub adds_level :
+    (p : SeenTable → Bool) (levels : Levels) (n : ℕ) (level : List (List SeenTable)) (x y z : List ℕ) → n < length levels → level ≡ get_or levels n level →
+    AddsIds (filter p (all_of (take n levels))) x y → AddsIds (filter p (tables_of level)) y z → AddsIds (filter p (all_of (take (n + 1) levels))) x z
+adds_level p levels n level x y z lt read f g =
+    let so_far = all_of (take n levels) in
+    let whole : all_of (take (n + 1) levels) ≡ so_far ++ tables_of level = ap tables_of (flat_more levels n level lt read) ∙ flat_map-append (λ r. r) (tables_of (take n levels)) level in
+    let e : filter p so_far ++ filter p (tables_of level) ≡ filter p (all_of (take (n + 1) levels)) = sym (filter-append p so_far (tables_of level)) ∙ ap (filter p) (sym whole) in
+    subst (λ us. AddsIds us x z) e (adds_both (filter p so_far) (filter p (tables_of level)) x y z f g)
+
+-- ---- sets
+
+-- hidden ids are those of hidden tables
+pub blocked_same : (hidden ids : List ℕ) (ts : List SeenTable) → AreIdsOf ids ts → list_any (among hidden) ids ≡ list_any (λ t. among hidden t.id) ts
+blocked_same hidden ids ts names =
+    same_by (list_any (among hidden) ids) (list_any (λ t. among hidden t.id) ts)
+    (λ h. let found = any_has (among hidden) ids h in
+    let there = any_has (eqb found.0) (map (λ t. t.id) ts) (sym (names found.0) ∙ has_any (eqb found.0) ids found.0 found.1 (to_eqb found.0)) in
+    let table = has_map (λ t. t.id) ts there.0 there.1 in
+    has_any (λ t. among hidden t.id) ts table.0 table.1 (ap (among hidden) (table.2 ∙ sym (from_eqb found.0 there.0 there.2)) ∙ found.2))
+    (λ h. let found = any_has (λ t. among hidden t.id) ts h in
+    let i : ℕ = found.0.id in
+    let there = any_has (eqb i) ids (names i ∙ has_any (eqb i) (map (λ t. t.id) ts) i (map_has (λ t. t.id) ts found.0 found.1) (to_eqb i)) in
+    has_any (among hidden) ids there.0 there.1 (ap (among hidden) (sym (from_eqb i there.0 there.2)) ∙ found.2))

@@ -1,0 +1,10 @@
+pub mod Tables
+pub mod Hulls
+pub mod Picks
+pub mod Simple
+pub mod Fifo
+pub mod LeveledRule
+pub mod Leveled
+pub mod Config
+pub mod Lending
+pub mod Law

@@ -1,0 +1,8 @@
+// What is proved of a strategy beyond its relation.
+ghost use Rattle.lsm_pick.specs.Law.{LeveledLaw};
+
+/// Where each level from 1 on is empty or one run, no reason but a hidden table holds against what `Leveled`
+/// may answer, whatever is hidden; and whatever a merge makes of it, these levels stay so.
+pub fn leveled_is_lawful()
+    ensures { LeveledLaw }
+{}

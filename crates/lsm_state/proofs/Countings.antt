@@ -1,0 +1,111 @@
+-- What is counted of entries, and of others behind them.
+use Rattle.std.proofs.Common.{◌≡◌, ℕ, ◌+◌, ◌^◌, ◌<◌, ◌≤◌, Bool, true, false, cond, List, [], ◌∷◌, ◌++◌, Option, Some, None, length, flat_map, filter, fold, sum_by, max, unwrap_or, zero, suc, refl, ap, ◌∙◌, arith}
+use Rattle.std.proofs.lemmas.List.Concat.{flat_map-cons, length-flat_map}
+use Rattle.std.proofs.lemmas.List.{length-append}
+use Rattle.std.proofs.lemmas.List.Sums.{sum_by-cons}
+use Rattle.std.proofs.lemmas.Grind.{flat_map-append}
+use Rattle.lsm_below.specs.Entries.{Entry}
+use Rattle.lsm_below.specs.Sums.{capped}
+use Rattle.lsm_tables.specs.Tables.{SeenTable, greatest}
+use Rattle.lsm_memtable.specs.Memtables.{SeenMemtable, highest_of}
+use Rattle.lsm_versions.specs.Totals.{greatest_of}
+
+-- ---- sequence numbers
+
+-- the greater of two, where there is one
+abbrev pub joined : Option ℕ → Option ℕ → Option ℕ
+joined None b = b
+joined (Some a) b = Some (max a (unwrap_or b 0))
+
+or_zero-append : (xs ys : List Entry) → unwrap_or (highest_of (xs ++ ys)) 0 ≡ max (unwrap_or (highest_of xs) 0) (unwrap_or (highest_of ys) 0)
+or_zero-append [] ys = omega arith
+or_zero-append (x ∷ xs) ys = let h = or_zero-append xs ys in omega (arith, h)
+
+pub highest-append : (xs ys : List Entry) → highest_of (xs ++ ys) ≡ joined (highest_of xs) (highest_of ys)
+highest-append [] ys = refl
+highest-append (x ∷ xs) ys = let h = or_zero-append xs ys in ap Some (omega (arith, h))
+
+or_zero-greatest : (es : List Entry) → unwrap_or (highest_of es) 0 ≡ greatest es
+or_zero-greatest [] = refl
+or_zero-greatest (e ∷ es) = ap (λ n. max e.key.seqno n) (or_zero-greatest es)
+
+greatest-append : (xs ys : List Entry) → greatest (xs ++ ys) ≡ max (greatest xs) (greatest ys)
+greatest-append [] ys = omega arith
+greatest-append (x ∷ xs) ys = let h = greatest-append xs ys in omega (arith, h)
+
+abbrev in_tables : List SeenTable → List Entry
+in_tables ts = flat_map (λ t. t.entries) ts
+
+greatest_in_tables : (ts : List SeenTable) → greatest (in_tables ts) ≡ greatest_of ts
+greatest_in_tables [] = refl
+greatest_in_tables (t ∷ ts) = ap greatest (flat_map-cons (λ u. u.entries) t ts) ∙ greatest-append t.entries (in_tables ts) ∙ ap (λ n. max (greatest t.entries) n) (greatest_in_tables ts)
+
+highest_of_none : (es : List Entry) → length es ≡ 0 → highest_of es ≡ None
+highest_of_none [] h = refl
+highest_of_none (e ∷ es) h = absurd (omega (arith, h))
+
+highest_of_some : (es : List Entry) → 1 ≤ length es → highest_of es ≡ Some (greatest es)
+highest_of_some [] h = absurd (omega (arith, h))
+highest_of_some (e ∷ es) h = ap (λ n. Some (max e.key.seqno n)) (or_zero-greatest es)
+
+is_more : (n : ℕ) → (n ≡ 0 → ⊥) → 1 ≤ n
+is_more zero h = absurd (h refl)
+is_more (suc n) h = omega arith
+
+-- tables, by how many entries they have together
+module _ (ts : List SeenTable) (items : ℕ) (h : items ≡ capped (sum_by (λ t. length t.entries) ts)) where
+  pub highest_in_none : items ≡ 0 → highest_of (in_tables ts) ≡ None
+  highest_in_none none =
+      let len = length-flat_map (λ (t : SeenTable). t.entries) ts in
+      highest_of_none (in_tables ts) (omega (arith, h, none, len))
+
+  pub highest_in_some : (items ≡ 0 → ⊥) → highest_of (in_tables ts) ≡ Some (greatest_of ts)
+  highest_in_some some =
+      let more = is_more items some in
+      let len = length-flat_map (λ (t : SeenTable). t.entries) ts in
+      highest_of_some (in_tables ts) (omega (arith, h, more, len)) ∙ ap Some (greatest_in_tables ts)
+
+-- ---- numbers of entries
+
+-- the entries of one more memtable
+pub length_with : (f : ℕ → List Entry) (ids : List ℕ) (id : ℕ) → length (flat_map f (ids ++ id ∷ [])) ≡ length (flat_map f ids) + length (f id)
+length_with f ids id =
+    let both = ap length (flat_map-append f ids (id ∷ [])) ∙ length-append (flat_map f ids) (flat_map f (id ∷ [])) in
+    let one = ap length (flat_map-cons f id []) ∙ length-append (f id) [] in
+    omega (arith, both, one)
+
+-- sums that stand at the greatest number on the way
+pub all_counted : (f : ℕ → List Entry) (ids : List ℕ) (id : ℕ) (ts : List SeenTable) (sealed active both items all : ℕ) → sealed ≡ capped (length (flat_map f ids)) → active ≡ length (f id) → both ≡ capped (sealed + active)
+    → items ≡ capped (sum_by (λ t. length t.entries) ts) → all ≡ capped (both + items) → all ≡ capped (length (flat_map f (ids ++ id ∷ [])) + length (in_tables ts))
+all_counted f ids id ts sealed active both items all h1 h2 h3 h4 h5 =
+    let mem = length_with f ids id in
+    let len = length-flat_map (λ (t : SeenTable). t.entries) ts in
+    omega (arith, h1, h2, h3, h4, h5, mem, len)
+
+-- ---- bytes
+
+module _ (p : SeenMemtable → Bool) where
+  abbrev plus : ℕ → SeenMemtable → ℕ
+  plus n m = capped (n + cond (p m) m.size 0)
+
+  -- a sum of some that stands at the greatest number at each step is the whole sum, at the greatest number
+  pub fold-some : (xs : List SeenMemtable) (a : ℕ) → fold plus (capped a) xs ≡ capped (a + sum_by (λ m. m.size) (filter p xs))
+  fold-some [] a = omega arith
+  fold-some (x ∷ xs) a = by_case (p x) (λ n. fold-some xs n)
+    where
+      by_case : (b : Bool) → ((n : ℕ) → fold plus (capped n) xs ≡ capped (n + sum_by (λ m. m.size) (filter p xs))) → fold plus (capped (capped a + cond b x.size 0)) xs ≡ capped (a + sum_by (λ m. m.size) (cond b (x ∷ filter p xs) (filter p xs)))
+      by_case true rest =
+          let step : capped (capped a + x.size) ≡ capped (a + x.size) = omega arith in
+          let more = sum_by-cons (λ (m : SeenMemtable). m.size) x (filter p xs) in
+          let whole : capped (a + x.size + sum_by (λ m. m.size) (filter p xs)) ≡ capped (a + sum_by (λ m. m.size) (x ∷ filter p xs)) = omega (arith, more) in
+          ap (λ n. fold plus n xs) step ∙ rest (a + x.size) ∙ whole
+      by_case false rest =
+          let step : capped (capped a + 0) ≡ capped a = omega arith in
+          ap (λ n. fold plus n xs) step ∙ rest a
+
+  -- with that of the first one before it
+  pub fold-first : (x : SeenMemtable) (xs : List SeenMemtable) (first : ℕ) → first < 2 ^ 64 → first ≡ cond (p x) x.size 0 → fold plus first xs ≡ capped (sum_by (λ m. m.size) (filter p (x ∷ xs)))
+  fold-first x xs first lt is =
+      let within : first ≡ capped (0 + first) = omega (arith, lt) in
+      let whole : capped (0 + sum_by (λ m. m.size) (filter p (x ∷ xs))) ≡ capped (sum_by (λ m. m.size) (filter p (x ∷ xs))) = omega arith in
+      ap (λ n. fold plus n xs) (within ∙ ap (λ n. capped (0 + n)) is) ∙ fold-some (x ∷ xs) 0 ∙ whole

@@ -1,0 +1,103 @@
+-- Accepted writes fit files, and memtables keep it.
+use Rattle.std.proofs.Common.{◌≡◌, ℕ, ◌<◌, ◌^◌, Bool, true, false, cond, ◌||◌, List, [], ◌∷◌, Option, Some, None, Result, Ok, Err, OnOk, OnErr, length, refl, arith, sym, ap, ◌∙◌, subst, map}
+use Rattle.std.specs.List.{AllByRecursion, list_any}
+use Rattle.std.specs.declared.cmp.Ordering.{Ordering}
+use Rattle.std.specs.declared.cmp.Ordering.TheVariants.{Less, Equal, Greater}
+use Rattle.std.proofs.lemmas.Bool.Decides.{nat_tests}
+use Rattle.lsm_below.specs.Keys.{Bytes}
+use Rattle.lsm_below.specs.Entries.{Entry, entry_cmp, kept_value, plain}
+use Rattle.lsm_below.specs.Sorted.{Rises, put, by_ordering}
+use Rattle.lsm_below.specs.declared.value_type.ValueType.{ValueType}
+use Rattle.lsm_below.specs.declared.value_type.ValueType.TheVariants.{Value, Tombstone, WeakTombstone}
+use Rattle.lsm_below.specs.declared.error.Error.{Error}
+use Rattle.lsm_below.specs.declared.error.Error.TheVariants.{OutOfNumbers, KeyTooLong, ValueTooLong, NumberTooGreat, DuplicateKey}
+use Rattle.lsm_tables.specs.Image.{Fits}
+use Rattle.lsm_tables.specs.Cutting.{IsWritable}
+use Rattle.lsm_memtable.specs.Memtables.{SeenMemtable, with_entry, with_entries}
+use Rattle.lsm_model.specs.Ops.{op_entry, op_entries}
+use Rattle.lsm_model.specs.declared.op.Op.{Op}
+use Rattle.lsm_model.specs.declared.op.Op.TheVariants.{Set, Del, Weak}
+use Rattle.lsm_state.specs.Refusals.{is_great, is_long_key, is_long_value, op_value, repeats, keys_of, entry_refusal, batch_refusal}
+
+-- ---- an entry
+
+short_key : (k : Bytes) → is_long_key k ≡ false → length k < 2 ^ 16
+short_key k h = grind (arith, nat_tests)
+
+short_value : (v : Bytes) → is_long_value v ≡ false → length v < 2 ^ 32
+short_value v h = grind (arith, nat_tests)
+
+small : (n : ℕ) → is_great n ≡ false → n < 2 ^ 64
+small n h = grind (arith, nat_tests)
+
+-- what isn't refused passes each test
+passes : (a b c : Bool) → cond a (Some KeyTooLong) (cond b (Some ValueTooLong) (cond c (Some NumberTooGreat) None)) ≡ None → (a ≡ false) × ((b ≡ false) × (c ≡ false))
+passes true b c h = absurd (cc h)
+passes false true c h = absurd (cc h)
+passes false false true h = absurd (cc h)
+passes false false false h = (refl, (refl, refl))
+
+kept_once : (t : ValueType) (v : Bytes) → kept_value t (kept_value t v) ≡ kept_value t v
+kept_once Value v = refl
+kept_once Tombstone v = refl
+kept_once WeakTombstone v = refl
+
+pub plain_fits : (e : Entry) → entry_refusal (plain e) ≡ None → Fits (plain e)
+plain_fits e h =
+    let p = passes (is_long_key e.key.user_key) (is_long_value (plain e).value) (is_great e.key.seqno) h in
+    record { key = short_key e.key.user_key p.0; seqno = small e.key.seqno p.1.1; value = short_value (plain e).value p.1.0; empty = kept_once e.key.value_type e.value }
+
+-- ---- a batch
+
+none_first : (a b : Bool) → (a || b) ≡ false → (a ≡ false) × (b ≡ false)
+none_first true b h = absurd (cc h)
+none_first false b h = (refl, h)
+
+op_fits : (k : Bytes) (n : ℕ) (op : Op) → is_great n ≡ false → is_long_key k ≡ false → is_long_value (op_value op) ≡ false → Fits (op_entry k n op)
+op_fits k n (Set v) great key value = record { key = short_key k key; seqno = small n great; value = short_value v value; empty = refl }
+op_fits k n Del great key value = record { key = short_key k key; seqno = small n great; value = short_value [] value; empty = refl }
+op_fits k n Weak great key value = record { key = short_key k key; seqno = small n great; value = short_value [] value; empty = refl }
+
+ops_fit : (n : ℕ) (ops : List (Bytes × Op)) → is_great n ≡ false → list_any (λ p. is_long_key p.0) ops ≡ false → list_any (λ p. is_long_value (op_value p.1)) ops ≡ false → AllByRecursion Fits (op_entries n ops)
+ops_fit n [] great keys values = tt
+ops_fit n (p ∷ ops) great keys values =
+    let k = none_first (is_long_key p.0) (list_any (λ q. is_long_key q.0) ops) keys in
+    let v = none_first (is_long_value (op_value p.1)) (list_any (λ q. is_long_value (op_value q.1)) ops) values in
+    (op_fits p.0 n p.1 great k.0 v.0, ops_fit n ops great k.1 v.1)
+
+passes_batch : (a b c d : Bool) → cond a (Some OutOfNumbers) (cond b (Some KeyTooLong) (cond c (Some ValueTooLong) (cond d (Some DuplicateKey) None))) ≡ None → (a ≡ false) × ((b ≡ false) × (c ≡ false))
+passes_batch true b c d h = absurd (cc h)
+passes_batch false true c d h = absurd (cc h)
+passes_batch false false true d h = absurd (cc h)
+passes_batch false false false d h = (refl, (refl, refl))
+
+pub batch_fits : (n : ℕ) (ops : List (Bytes × Op)) → batch_refusal n ops ≡ None → AllByRecursion Fits (op_entries n ops)
+batch_fits n ops h =
+    let p = passes_batch (is_great n) (list_any (λ p. is_long_key p.0) ops) (list_any (λ p. is_long_value (op_value p.1)) ops) (repeats (keys_of ops)) h in
+    ops_fit n ops p.0 p.1.0 p.1.1
+
+-- ---- memtables
+
+each_put : (P : Entry → Type 0) (e : Entry) (es : List Entry) → P e → AllByRecursion P es → AllByRecursion P (put entry_cmp e es)
+each_put P e [] here h = (here, tt)
+each_put P e (x ∷ xs) here h = by_case (entry_cmp x e) (each_put P e xs here h.1)
+  where
+    by_case : (r : Ordering) → AllByRecursion P (put entry_cmp e xs) → AllByRecursion P (by_ordering r (x ∷ put entry_cmp e xs) (e ∷ xs) (e ∷ (x ∷ xs)))
+    by_case Less rest = (h.0, rest)
+    by_case Equal rest = (here, h.1)
+    by_case Greater rest = (here, h)
+
+pub fits_with_entry : (e : Entry) (t : SeenMemtable) → Fits e → AllByRecursion Fits t.entries → AllByRecursion Fits (with_entry e t).entries
+fits_with_entry e t here h = each_put Fits e t.entries here h
+
+pub fits_with_entries : (es : List Entry) (t : SeenMemtable) → AllByRecursion Fits es → AllByRecursion Fits t.entries → AllByRecursion Fits (with_entries es t).entries
+fits_with_entries [] t here h = h
+fits_with_entries (e ∷ es) t here h = fits_with_entries es (with_entry e t) here.1 (fits_with_entry e t here.0 h)
+
+pub put_fits : {T E : Type 0} (r : Result T E) (e : Entry) (old new : SeenMemtable) → OnOk r (new ≡ with_entry e old) → OnErr r (new ≡ old) → Fits e → IsWritable old.entries → AllByRecursion Fits new.entries
+put_fits (Ok x) e old new ok err here h = subst (λ t. AllByRecursion Fits t.entries) (sym ok) (fits_with_entry e old here h.each)
+put_fits (Err x) e old new ok err here h = subst (λ t. AllByRecursion Fits t.entries) (sym err) h.each
+
+pub put_all_fit : {T E : Type 0} (r : Result T E) (es : List Entry) (old new : SeenMemtable) → OnOk r (new ≡ with_entries es old) → OnErr r (new ≡ old) → AllByRecursion Fits es → IsWritable old.entries → AllByRecursion Fits new.entries
+put_all_fit (Ok x) es old new ok err here h = subst (λ t. AllByRecursion Fits t.entries) (sym ok) (fits_with_entries es old here h.each)
+put_all_fit (Err x) es old new ok err here h = subst (λ t. AllByRecursion Fits t.entries) (sym err) h.each

@@ -1,0 +1,11 @@
+use Rattle.std.proofs.Common.{◌≡◌, map, take}
+use Rattle.lsm_jobs.specs.Jobs.{ids_in, entries_in, AreWritable}
+use Rattle.lsm_state.specs.Held.{entries_of}
+use Rattle.lsm_state.proofs.memtables.Memtables.share.Given as goal
+
+abbrev pub invariant-loop-id : goal.invariant-loop-id
+invariant-loop-id l = record {
+  ids : ids_in l.list.items ≡ take l.id-index l.ids;
+  entries : entries_in l.list.items ≡ map (entries_of l.self) (take l.id-index l.ids);
+  writable : AreWritable l.list.items;
+}

@@ -1,0 +1,18 @@
+use Rattle.std.proofs.Common.{◌∙◌, sym, ap, subst, IsSome}
+use Rattle.lsm_state.specs.Core.{versions_left, written_of}
+use Rattle.lsm_state.proofs.WholeFlushes.{upholds_same, rotated_lost}
+use Rattle.lsm_state.proofs.tree.TreeState.flush_active_memtable.Goals as goal
+
+pub returns-in-Err-clause-upholds : goal.returns-in-Err-clause-upholds
+returns-in-Err-clause-upholds g c tells =
+    let w = g.S.Store.world in
+    let old = c.args.self.now in
+    let new = c.rotate_memtable.new.self in
+    let same = ap (λ t. t.core) c.in-Err.ensures.err in
+    upholds_same (w old.store) (w new.store) old.core new.core (ap w c.rotate_memtable.ensures.store) (ap versions_left same) (ap written_of same) (c.stays_stored.ensures tells)
+
+pub returns-in-Err-flush-clause-no_call : goal.returns-in-Err-flush-clause-no_call
+returns-in-Err-flush-clause-no_call g c lost =
+    let old = c.args.self.now in
+    let mid = c.rotate_memtable.new.self in
+    c.flush.ensures.no_call (subst IsSome (sym (rotated_lost old.core c.in-Ok.sealed mid.core c.in-Ok.ensures.ok)) lost) ∙ c.rotate_memtable.ensures.store

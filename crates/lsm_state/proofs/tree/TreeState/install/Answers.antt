@@ -1,0 +1,68 @@
+use Rattle.std.proofs.Common.{◌≡◌, ◌∷◌, ◌++◌, ◌<◌, ap, sym, subst, ◌∙◌, refl, option_to_list}
+use Rattle.std.specs.List.Sorted.{IsPermutation}
+use Rattle.lsm_versions.specs.Levels.{all_of}
+use Rattle.lsm_parts.specs.History.{versions_of}
+use Rattle.lsm_state.specs.Kept.{KeepsIds, KeepsTables}
+use Rattle.lsm_state.specs.Core.{Core, versions_left}
+use Rattle.lsm_state.specs.Commits.{Upholds}
+use Rattle.lsm_state.specs.Flushes.{IsFlushedOf, MayInstall}
+use Rattle.lsm_state.proofs.Upholding.{upheld_still}
+use Rattle.lsm_state.proofs.Installing.{ids_flushed, tables_flushed, flushed_on_disk, upholds_join}
+use Rattle.lsm_state.proofs.tree.TreeState.install.Goals as goal
+
+pub returns-then-number-ge-LIMIT-clause-upholds : goal.returns-then-number-ge-LIMIT-clause-upholds
+returns-then-number-ge-LIMIT-clause-upholds g c tells disk =
+    let w = g.S.Store.world in
+    let i = c.self.inside in
+    let old : Core = record { config = i.config; memtables = i.memtables; history = i.history; next_memtable = i.next_memtable; next_table = i.next_table; next_job = i.next_job; moment = i.moment; seqno = i.seqno; visible_seqno = i.visible_seqno; flush = i.flush; lost = i.lost } in
+    subst (λ t. Upholds (w t.store) (w t.store) t.core t.core) c.self.view_is (upheld_still (w i.store) old old refl refl (c.crashes_leave_versions.ensures tells))
+
+pub returns-in_err-next-clause-upholds : goal.returns-in_err-next-clause-upholds
+returns-in_err-next-clause-upholds g c tells disk =
+    let w = g.S.Store.world in
+    let i = c.self.inside in
+    let old : Core = record { config = i.config; memtables = i.memtables; history = i.history; next_memtable = i.next_memtable; next_table = i.next_table; next_job = i.next_job; moment = i.moment; seqno = i.seqno; visible_seqno = i.visible_seqno; flush = i.flush; lost = i.lost } in
+    subst (λ t. Upholds (w t.store) (w t.store) t.core t.core) c.self.view_is (upheld_still (w i.store) old old refl refl (c.crashes_leave_versions.ensures tells))
+
+pub commit-requires-clause-ids : goal.commit-requires-clause-ids
+commit-requires-clause-ids g c =
+    let i = c.self.inside in
+    let next = c.in_ok-next.next in
+    let flushed = subst (λ sv. IsFlushedOf c.args.job.now c.get-number.result sv next) c.latest_version-latest.ensures c.in_ok-next.ensures.ok in
+    subst (λ t. KeepsIds t.core.memtables (record { latest = next; older = versions_of t.core.history }) t.core.next_memtable) c.self.view_is
+    (ids_flushed c.args.job.now c.get-number.result i.history next flushed i.memtables i.next_memtable c.self.invariant.0)
+
+pub commit-requires-clause-tables : goal.commit-requires-clause-tables
+commit-requires-clause-tables g c =
+    let i = c.self.inside in
+    let job = c.args.job.now in
+    let next = c.in_ok-next.next in
+    let flushed = subst (λ sv. IsFlushedOf job c.get-number.result sv next) c.latest_version-latest.ensures c.in_ok-next.ensures.ok in
+    let same = subst (λ sv. IsPermutation (job.tables ++ all_of sv.version.levels) (all_of next.version.levels)) c.latest_version-latest.ensures c.in_ok-next.ensures.tables in
+    let may = subst (λ t. MayInstall job t.core) (sym c.self.view_is) c.requires in
+    subst (λ t. KeepsTables t.core.flush (record { latest = next; older = versions_of t.core.history }) t.core.next_table) c.self.view_is
+    (tables_flushed job c.get-number.result i.history next flushed i.flush i.next_table may.closed same may.below c.self.invariant.1)
+
+pub returns-in_err-commit-clause-upholds : goal.returns-in_err-commit-clause-upholds
+returns-in_err-commit-clause-upholds g c tells disk stored =
+    let w = g.S.Store.world in
+    let now = c.args.self.now in
+    let job = c.args.job.now in
+    let next = c.in_ok-next.next in
+    let same = subst (λ sv. IsPermutation (job.tables ++ all_of sv.version.levels) (all_of next.version.levels)) (c.latest_version-latest.ensures ∙ ap (λ t. t.core.history.latest) c.self.view_is) c.in_ok-next.ensures.tables in
+    c.commit.ensures.upholds tells (flushed_on_disk (w now.store) now.core job.tables (all_of next.version.levels) same disk stored) stored
+
+pub returns-clause-upholds : goal.returns-clause-upholds
+returns-clause-upholds g c tells disk stored =
+    let w = g.S.Store.world in
+    let now = c.args.self.now in
+    let mid = c.commit.new.self in
+    let new = c.clean_up-cleaned.new.self in
+    let job = c.args.job.now in
+    let next = c.in_ok-next.next in
+    let same = subst (λ sv. IsPermutation (job.tables ++ all_of sv.version.levels) (all_of next.version.levels)) (c.latest_version-latest.ensures ∙ ap (λ t. t.core.history.latest) c.self.view_is) c.in_ok-next.ensures.tables in
+    let cleans = c.clean_up-cleaned.ensures.cleans in
+    let lost : new.core.lost ≡ mid.core.lost = ap (λ k. k.lost) cleans.rest in
+    let left : versions_left new.core ≡ versions_left mid.core = ap (λ sv. sv.version ∷ option_to_list new.core.lost) cleans.history.latest ∙ ap (λ o. mid.core.history.latest.version ∷ option_to_list o) lost in
+    let certain = ap (λ k. k.lost) c.in_ok-commit.ensures.commits.ok ∙ c.requires.certain in
+    upholds_join (w now.store) (w mid.store) (w new.store) now.core mid.core new.core left (λ s. c.commit.ensures.upholds tells (flushed_on_disk (w now.store) now.core job.tables (all_of next.version.levels) same disk s) s) (c.clean_up-cleaned.ensures.upholds tells certain) stored

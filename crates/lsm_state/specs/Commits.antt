@@ -1,0 +1,39 @@
+-- What a commit makes of a tree, and of its files.
+use Rattle.std.specs.Prelude.{◌≡◌, ℕ, ◌+◌, ◌≤◌, ◌^◌, max, List, ◌++◌, Some, None, Result, ◌⊎◌, OnOk, IfErr, IsErrOf, IsSome}
+use Rattle.lsm_below.specs.declared.error.Error.{Error}
+use Rattle.lsm_below.specs.declared.error.Error.TheVariants.{OutOfMemory, Store, CommitUnknown, OutOfNumbers}
+use Rattle.lsm_store.specs.World.{World}
+use Rattle.lsm_files.specs.Stored.{IsStored, Leaves}
+use Rattle.lsm_parts.specs.declared.version.super_version.SuperVersion.{SuperVersion}
+use Rattle.lsm_parts.specs.History.{versions_of}
+use Rattle.lsm_state.specs.Core.{Core, versions_left, written_of}
+
+-- ---- files
+
+-- where the files of a tree are stored, those of the other one are, and a crash meanwhile leaves a version of either
+abbrev pub Upholds : World → World → Core → Core → Type 0
+Upholds w w' old new = IsStored w (versions_left old) (written_of old) → IsStored w' (versions_left new) (written_of new) × Leaves w w' (versions_left old ++ versions_left new)
+
+-- ---- the tree
+
+-- the next sequence number is used
+abbrev pub counted : Core → Core
+counted c = record c { seqno = c.seqno + 1 }
+
+-- the tree after the commit of a super version
+abbrev pub committed : SuperVersion → Core → Core
+committed next c = record c { history = record { latest = next; older = versions_of c.history }; seqno = c.seqno + 1; visible_seqno = max c.visible_seqno (c.seqno + 1) }
+
+-- the tree after a commit of unknown outcome: its reads stay
+abbrev pub doubted : SuperVersion → Core → Core
+doubted next c = record c { seqno = c.seqno + 1; lost = Some (next.version) }
+
+-- the commit of a super version
+pub record Commits (next : SuperVersion) (r : Result Unit Error) (old new : Core) : Type 0 where
+  pub ok : OnOk r (new ≡ committed next old)
+  pub unknown : IsErrOf r CommitUnknown → new ≡ doubted next old
+  -- refused otherwise, it changes nothing but that the number may be used
+  pub store : IsErrOf r Store → new ≡ counted old
+  pub memory : IsErrOf r OutOfMemory → (new ≡ old) ⊎ (new ≡ counted old)
+  pub numbers : IsErrOf r OutOfNumbers → (new ≡ old) × (2 ^ 63 ≤ old.seqno)
+  pub only : IfErr r (λ e. ((e ≡ OutOfMemory) ⊎ (e ≡ Store)) ⊎ ((e ≡ CommitUnknown) ⊎ (e ≡ OutOfNumbers)))

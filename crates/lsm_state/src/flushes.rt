@@ -1,0 +1,118 @@
+// A flush in one call.
+ghost use Rattle.std.specs.Prelude.{◌≡◌, List, IsSome};
+ghost use Rattle.lsm_tables.specs.Tables.{SeenTable};
+ghost use Rattle.lsm_versions.specs.Levels.{SeenVersion};
+ghost use Rattle.lsm_files.specs.Stored.{IsStored, Leaves};
+ghost use Rattle.lsm_state.specs.Commits.{Upholds};
+ghost use Rattle.lsm_state.specs.WholeFlushes.{sealed_bytes, WritesJob, Flushes, FlushesActive};
+
+use crate::TreeState;
+use lsm_below::{MemtableId, SeqNo};
+use lsm_files::crashes_leave_versions;
+use lsm_jobs::{FlushJob, Registered, WrittenFlush};
+use lsm_parts::Error;
+use lsm_store::Store;
+
+impl<S: Store> TreeState<S> {
+    /// The bytes that the sealed memtables of the latest super version count, up to 2^64 - 1.
+    fn sealed_size(&self) -> u64
+        ensures { result ≡ sealed_bytes self.now.core }
+    {
+        let sealed = &self.history.latest_version().sealed_memtables;
+        self.memtables.sealed_size(sealed.as_slice())
+    }
+
+    /// Of files to which nothing is done, a crash leaves what they hold.
+    fn stays_stored(&self)
+        ensures { S.tells → (versions : List SeenVersion) (written : List SeenTable) → IsStored (S.world self.now.store) versions written → Leaves (S.world self.now.store) (S.world self.now.store) versions }
+    {
+        crashes_leave_versions(&self.store);
+    }
+
+    /// Merges a job, and writes its tables. Refused, the job is given up.
+    fn write_job(&mut self, job: FlushJob, watermark: SeqNo) -> Result<WrittenFlush, Error>
+        ensures writes { WritesJob watermark job result self.old.core self.new.core }
+        ensures upholds { S.tells → Upholds (S.world self.old.store) (S.world self.new.store) self.old.core self.new.core }
+        ensures no_call { IsSome self.old.core.lost → self.new.store ≡ self.old.store }
+    {
+        self.stays_stored();
+        let merged = match job.run(watermark) {
+            Ok(merged) => merged,
+            Err((error, job)) => {
+                self.abandon_flush(job);
+                return Err(error);
+            }
+        };
+        match self.flush_to_tables(merged) {
+            Ok(written) => {
+                written.facts();
+                Ok(written)
+            }
+            Err((error, merged)) => {
+                self.abandon_flush(merged.into_job());
+                Err(error)
+            }
+        }
+    }
+
+    /// Flushes all sealed memtables in one call: merges them, writes the tables, and installs them, as `begin_flush`,
+    /// `FlushJob::run`, `flush_to_tables` and `register_tables` do in turn. Nothing comes in between, so the job is never
+    /// stale. Answers None where nothing is sealed, else the bytes that the sealed memtables count, up to 2^64 - 1, beside
+    /// what became of the flush. The cost is linear in the entries of the sealed memtables and in the tables of the tree.
+    ///
+    /// `cleaned` is false where the store failed behind the commit: what was to go is tried again by the next one.
+    ///
+    /// # Errors
+    ///
+    /// `Unrecoverable` after a `CommitUnknown`, with no store call, and `FlushOpen` where a flush is open: each only where
+    /// something is sealed. `OutOfNumbers` where 2^63 flushes were begun, the next table's id or the counter stands at 2^63
+    /// or above, or the version's id at 2^64 - 1; `TooManyRuns` where the first level has 255 runs; `OutOfMemory`; `Store`
+    /// where a file wasn't written. `CommitUnknown` where replacing `current` failed: a crash leaves the old version or the
+    /// new one.
+    ///
+    /// Refused, the memtables stay sealed, reads stay as they are, and no flush is left open that wasn't. Numbers and ids of
+    /// tables may be used, and files written that nothing names.
+    pub fn flush(&mut self, watermark: SeqNo) -> Result<Option<(u64, Registered)>, Error>
+        ensures flushes { Flushes watermark result self.old.core self.new.core }
+        // What a crash leaves.
+        ensures upholds { S.tells → Upholds (S.world self.old.store) (S.world self.new.store) self.old.core self.new.core }
+        ensures no_call { IsSome self.old.core.lost → self.new.store ≡ self.old.store }
+    {
+        self.stays_stored();
+        let size = self.sealed_size();
+        let Some(job) = self.begin_flush()? else {
+            return Ok(None);
+        };
+        let written = self.write_job(job, watermark)?;
+        let registered = self.register(written, true)?;
+        Ok(Some((size, registered)))
+    }
+
+    /// Seals the active memtable, and flushes all sealed ones: `rotate_memtable` and then `flush`. Answers the id that this
+    /// call sealed, None where nothing was written to the active memtable, beside the answer of `flush`.
+    ///
+    /// # Errors
+    ///
+    /// Those of `rotate_memtable`, `OutOfMemory` and `OutOfNumbers`: then None stands beside the error, and nothing
+    /// changes. Else those of `flush`, beside the id that this call sealed: the rotation stays, and the next flush takes the
+    /// memtable along.
+    pub fn flush_active_memtable(
+        &mut self,
+        watermark: SeqNo,
+    ) -> Result<(Option<MemtableId>, Option<(u64, Registered)>), (Error, Option<MemtableId>)>
+        ensures flushes { FlushesActive watermark result self.old.core self.new.core }
+        // What a crash leaves.
+        ensures upholds { S.tells → Upholds (S.world self.old.store) (S.world self.new.store) self.old.core self.new.core }
+        ensures no_call { IsSome self.old.core.lost → self.new.store ≡ self.old.store }
+    {
+        self.stays_stored();
+        let sealed = match self.rotate_memtable() {
+            Ok(sealed) => sealed,
+            Err(error) => return Err((error, None)),
+        };
+        match self.flush(watermark) {
+            Ok(flushed) => Ok((sealed, flushed)),
+            Err(error) => Err((error, sealed)),
+        }
+    }
+}
