@@ -1,4 +1,4 @@
-// Whether two entries are the same.
+// Whether two entries are the same, or two lists of them.
 ghost use Rattle.std.specs.Prelude.{◌≡◌, IsTrue, ◌↔◌};
 
 use crate::{InternalValue, UserKey, ValueType};
@@ -24,4 +24,19 @@ pub fn has_same_parts(left: &InternalValue, right: &InternalValue) -> bool
         && same_type(left.key.value_type, right.key.value_type)
         && same_bytes(&left.key.user_key, &right.key.user_key)
         && same_bytes(&left.value, &right.value)
+}
+
+/// Whether the entries of two lists are the same in all their parts.
+pub fn have_same_parts(left: &[InternalValue], right: &[InternalValue]) -> bool
+    ensures { IsTrue result ↔ (left.now ≡ right.now) }
+{
+    if left.len() != right.len() {
+        return false;
+    }
+    for at in 0..left.len() {
+        if !has_same_parts(&left[at], &right[at]) {
+            return false;
+        }
+    }
+    true
 }

@@ -7,7 +7,7 @@
 //! | `parted_run` | runs, parted by a choice |
 //! | `gaps` | gaps in what a choice takes of a run |
 //! | `indexes` | what a compaction takes of a run |
-//! | `lookup`, `same` | whether the inputs of a merge are still there, with their entries |
+//! | `lookup` | whether the inputs of a merge are still there, with their entries |
 //! | `laws` | what the end of a merge is to the theory, as the contract of a function |
 #![tactic(auto)]
 
@@ -18,7 +18,6 @@ mod input;
 mod laws;
 mod lookup;
 mod parted_run;
-mod same;
 
 pub use choice::{Kind, Why, first_reason, last_reason, last_reason_by_ids};
 pub use indexes::pick_run_indexes;

@@ -7,8 +7,7 @@ ghost use Rattle.lsm_model.specs.Steps.{among};
 ghost use Rattle.lsm_versions.specs.Levels.{all_of, HasOwnIds};
 ghost use Rattle.lsm_choices.specs.Choices.{IsIndex, IsAmong, AllStand, AreOneById};
 
-use crate::same::same_entries;
-use lsm_below::TableId;
+use lsm_below::{TableId, have_same_parts};
 use lsm_tables::Table;
 use lsm_versions::{Level, all_tables, has_id, ids_of_levels};
 use std::alloc::{AllocError, Global};
@@ -30,7 +29,7 @@ fn has_same(by_id: &HashMap<TableId, Table>, table: &Table) -> bool
     ensures { (ts : List SeenTable) → IsIndex ts (λ i. get nat_eq by_id.now i) → HasOwnIds ts → (IsTrue result ↔ IsAmong ts table.now) }
 {
     match by_id.get(&table.id()) {
-        Some(found) => same_entries(found.entries(), table.entries()),
+        Some(found) => have_same_parts(found.entries(), table.entries()),
         None => false,
     }
 }

@@ -2,13 +2,13 @@
 ghost use Rattle.std.specs.Prelude.{◌≡◌, ◌++◌, ◌==◌, ◌&&◌, [], map, IfOk, OnOk, unwrap_or};
 ghost use Rattle.std.specs.List.{list_any};
 ghost use Rattle.lsm_below.specs.Ranges.{overlap};
-ghost use Rattle.lsm_versions.specs.Levels.{range, chosen_in};
+ghost use Rattle.lsm_versions.specs.Levels.{range};
 ghost use Rattle.lsm_choices.specs.Choices.{any_pair};
 ghost use Rattle.lsm_choices.specs.Parted.{part_of, parted_from, meets, is_wrong};
 
 use lsm_below::{Ranged, Run, TableId};
 use lsm_tables::Table;
-use lsm_versions::{Level, copies_left, has_id};
+use lsm_versions::{Level, copies_chosen, copies_left};
 use std::alloc::{AllocError, Global};
 use std::collections::HashSet;
 use std::marker::Model;
@@ -35,23 +35,6 @@ impl Model for PartedRun {
     ghost Value = { Parted };
 
     ghost view = { λ p. record { level = p.level; chosen = p.chosen.items; left = unwrap_or p.left [] } };
-}
-
-/// Copies of the tables of these ids.
-fn copies_chosen(
-    alloc: Global,
-    ids: &HashSet<TableId>,
-    tables: &[Table],
-) -> Result<Vec<Table>, AllocError>
-    ensures { IfOk result (λ v. v.items ≡ chosen_in ids.now.keys tables.now) }
-{
-    let mut copies = Vec::new(alloc);
-    for table in tables {
-        if has_id(ids, table.id()) {
-            copies.push(table.copy()?)?;
-        }
-    }
-    Ok(copies)
 }
 
 /// Whether a table overlaps one of a run: a binary search.

@@ -1,7 +1,7 @@
 // Whether a job is what it was: its memtables, its tables.
 ghost use Rattle.std.specs.Prelude.{◌≡◌, ◌↔◌, IsTrue, map};
 
-use lsm_below::{InternalValue, has_same_parts};
+use lsm_below::{has_same_parts, have_same_parts};
 use lsm_memtable::{Iter, Memtable};
 use lsm_tables::Table;
 
@@ -20,26 +20,12 @@ pub fn same_ids(left: &[u64], right: &[u64]) -> bool
     true
 }
 
-fn same_lists(left: &[InternalValue], right: &[InternalValue]) -> bool
-    ensures { IsTrue result ↔ (left.now ≡ right.now) }
-{
-    if left.len() != right.len() {
-        return false;
-    }
-    for at in 0..left.len() {
-        if !has_same_parts(&left[at], &right[at]) {
-            return false;
-        }
-    }
-    true
-}
-
 fn same_table(left: &Table, right: &Table) -> bool
     ensures { IsTrue result ↔ (left.now ≡ right.now) }
 {
     let ids = left.id() == right.id();
     let moments = left.created_at() == right.created_at();
-    ids && moments && same_lists(left.entries(), right.entries())
+    ids && moments && have_same_parts(left.entries(), right.entries())
 }
 
 /// Whether tables are the same: their ids, moments and entries. The cost is linear in the entries.

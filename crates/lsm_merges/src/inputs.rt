@@ -1,14 +1,13 @@
 // The tables of a choice, run by run.
 ghost use Rattle.std.specs.Prelude.{◌≡◌, ◌++◌, [], IfOk, OnOk};
 ghost use Rattle.lsm_below.specs.Optimizes.{tables_of};
-ghost use Rattle.lsm_below.specs.Runs.{IsRun};
-ghost use Rattle.lsm_versions.specs.Levels.{range, all_of, chosen_in, chosen_from, in_front, HasOwnIds};
+ghost use Rattle.lsm_versions.specs.Levels.{all_of, chosen_from, HasOwnIds};
 ghost use Rattle.lsm_versions.specs.Chosen.{AreThere, AreIdsOf};
 ghost use Rattle.lsm_merges.specs.Merges.{inputs_in};
 
 use lsm_below::{Run, TableId};
 use lsm_tables::Table;
-use lsm_versions::{Level, has_id};
+use lsm_versions::{Level, copies_chosen, push_run};
 use std::alloc::{AllocError, Global};
 use std::collections::HashSet;
 
@@ -33,34 +32,6 @@ pub(crate) fn tables_of_runs(alloc: Global, runs: &[Run<Table>]) -> Result<Vec<T
     Ok(copies)
 }
 
-/// Copies of the tables of these ids, which share their entries.
-fn chosen_copies(
-    alloc: Global,
-    ids: &HashSet<TableId>,
-    tables: &[Table],
-) -> Result<Vec<Table>, AllocError>
-    ensures { IfOk result (λ v. v.items ≡ chosen_in ids.now.keys tables.now) }
-{
-    let mut copies = Vec::new(alloc);
-    for table in tables {
-        if has_id(ids, table.id()) {
-            copies.push(table.copy()?)?;
-        }
-    }
-    Ok(copies)
-}
-
-/// Appends a run, where it has a table.
-fn push_run(runs: &mut Vec<Run<Table>>, tables: Vec<Table>) -> Result<(), AllocError>
-    requires { IsRun range tables.items }
-    ensures { OnOk result (runs.new.items ≡ runs.old.items ++ in_front tables.items []) }
-{
-    match Run::new(tables) {
-        Some(run) => Ok(runs.push(run)?),
-        None => Ok(()),
-    }
-}
-
 /// Appends what runs have of the tables of these ids.
 fn push_chosen(
     alloc: Global,
@@ -72,7 +43,7 @@ fn push_chosen(
 {
     for run in runs {
         run.facts();
-        let chosen = chosen_copies(alloc, ids, run.as_slice())?;
+        let chosen = copies_chosen(alloc, ids, run.as_slice())?;
         push_run(inputs, chosen)?;
     }
     Ok(())

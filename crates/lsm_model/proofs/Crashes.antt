@@ -146,7 +146,7 @@ told_more old more = record { journal = old.journal ++ more; mems = old.mems; la
 same_told : (opened : List Entry) (start : Map) (old : State) → Holds opened start old → Holds opened start (told_more old [])
 same_told opened start old h = subst (λ j. Holds opened start (record { journal = j; mems = old.mems; latest = old.latest; older = old.older })) (sym (append-nil old.journal)) h
 
-lost_holds : (opened : List Entry) (start : Map) (old : State) (action : Action) (would : State) → InOrder opened (old.journal ++ told_lost old action would) → Holds opened start old → Holds opened start (told_more old (told_lost old action would))
+pub lost_holds : (opened : List Entry) (start : Map) (old : State) (action : Action) (would : State) → InOrder opened (old.journal ++ told_lost old action would) → Holds opened start old → Holds opened start (told_more old (told_lost old action would))
 lost_holds opened start old (DroppedTables ids) would o h = step_holds opened start old (LostDrop (ranges_of (among ids) old.latest.tables) would.latest.number) _ refl o h
 lost_holds opened start old other would o h = same_told opened start old h
 
@@ -181,11 +181,11 @@ does_grow : (opened : List Entry) (old : Saved) (deed : Deed) (new : Saved) → 
 does_grow opened old (Done action) new d = let g = step_grows opened old.state action new.state d.step in record { more = g.0; extra = noted_by old.state action; journal = g.1; notes = d.notes }
 does_grow opened old (Lost action would) new d = record { more = told_lost old.state action would; extra = noted_lost old.state action; journal = ap (λ (t : State). t.journal) d.state; notes = d.notes }
 
-deeds_grow : (opened : List Entry) (old : Saved) (deeds : List Deed) (new : Saved) → Deeds opened old deeds new → Grows old new
+pub deeds_grow : (opened : List Entry) (old : Saved) (deeds : List Deed) (new : Saved) → Deeds opened old deeds new → Grows old new
 deeds_grow opened old [] new d = subst (Grows old) (sym d) (grows_itself old)
 deeds_grow opened old (deed ∷ deeds) new d = grows_on old d.0 new (does_grow opened old deed d.0 d.1) (deeds_grow opened d.0 deeds new d.2)
 
-grown_order : (opened : List Entry) (old new : Saved) → Grows old new → InOrder opened new.state.journal → InOrder opened old.state.journal
+pub grown_order : (opened : List Entry) (old new : Saved) → Grows old new → InOrder opened new.state.journal → InOrder opened old.state.journal
 grown_order opened old new g o = in_order_front opened old.state.journal g.more (rw g.journal at o)
 
 grown_recovers : (start : Map) (old new : Saved) (least : ℕ) (tables : List Placed) → Grows old new → least ≤ covered old.notes → Recovers start old.state.journal old.notes (covered old.notes) tables → Recovers start new.state.journal new.notes least tables

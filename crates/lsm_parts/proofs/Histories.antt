@@ -17,11 +17,6 @@ oldest_last latest (sv ∷ (u ∷ us)) v some h =
     let place : length (sv ∷ (u ∷ us)) - 1 ≡ suc (length (u ∷ us) - 1) = omega arith in
     oldest_last sv (u ∷ us) v (omega arith) (h ∙ ap (λ i. get_or (sv ∷ (u ∷ us)) i v) place)
 
--- snapshot 0 finds the oldest
-pub found_oldest : (s : ℕ) (h : SeenHistory) (v : SuperVersion) → s ≡ 0 → v ≡ oldest h.latest h.older → found_version s h ≡ Some v
-found_oldest s h v none is =
-    ap (λ b. cond b (Some (oldest h.latest h.older)) (find (λ sv. nat_lt sv.seqno s) (versions_of h))) (eq-eqb s 0 none) ∙ ap Some (sym is)
-
 -- a sum that stands at the greatest number at each step is the whole sum, at the greatest number
 pub fold-capped : (xs : List SeenMemtable) (a : ℕ) → fold (λ n m. capped (n + m.size)) (capped a) xs ≡ capped (fold (λ n m. n + m.size) a xs)
 fold-capped [] a = refl

@@ -88,12 +88,6 @@ module _ (levels : Levels) (plain : IsPlain levels) where
       let few = plain.flat l more in
       omega arith
 
-  pub in_seven : (l r p : ℕ) (t : SeenTable) → StandsAt levels l r p t → l < 7
-  in_seven l r p t s =
-      let fits = level_inside levels l t (stands_lies levels l r p t s) in
-      let seven = plain.seven in
-      omega arith
-
   -- tables with one name are one
   pub same_name : (t u : SeenTable) → IsThere levels t → IsThere levels u → t.id ≡ u.id → t ≡ u
   same_name t u ht hu e =

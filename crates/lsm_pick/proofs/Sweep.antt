@@ -59,9 +59,6 @@ module _ (hidden : List ℕ) (run next : List SeenTable) where
   pub starts_so : IsStart 1 0
   starts_so = record { low = omega arith; none = λ p h. absurd (omega arith) }
 
-  pub none_so_far : (place : ℕ) → IsBestBelow 1 (record { place = place; count = 0 })
-  none_so_far place = record { each = λ p q lt le f. absurd (omega arith); found = λ h. absurd (omega arith) }
-
   module _ (end start place : ℕ) (old : IsStart end start) (now : IsFreeStart hidden run next start end place) where
     before : (p : ℕ) → p < place → free p end ≡ false
     before p less =
@@ -103,18 +100,3 @@ module _ (hidden : List ℕ) (run next : List SeenTable) where
             let fits : q - p ≤ best.count = omega (arith, from, e, most) in
             (fits, λ h. let o = (is.found (omega (arith, fits, lt))).0 in omega (arith, h, o, e)))
             (cases_lt q end)
-
-  pub none_free : (best : Window) → best.count ≡ 0 → IsBestBelow (length run + 1) best → HasNoFree hidden run next
-  none_free best e is p n w = not_so (free p (p + n)) (λ f.
-      let o = is.each p (p + n) (omega (arith, w.0)) (omega (arith, w.1)) f in
-      omega (arith, o.0, e, w.0))
-
-  pub longest : (best : Window) → 0 < best.count → IsBestBelow (length run + 1) best → IsLongestFree hidden run next best.place best.count
-  longest best some is =
-      let o = is.found some in (
-        (some, omega (arith, o.0)),
-        o.1,
-        (λ p n more w. not_so (free p (p + n)) (λ f. let m = is.each p (p + n) (omega (arith, w.0)) (omega (arith, w.1)) f in omega (arith, m.0, more))),
-        (λ p less. not_so (free p (p + best.count)) (λ f. let m = is.each p (p + best.count) (omega (arith, some)) (omega (arith, less, o.0)) f in
-            let from = m.1 (omega arith) in omega (arith, from, less))),
-      )

@@ -1,8 +1,10 @@
 -- What registering a flush does, as deeds of the theory of crashes.
-use Rattle.std.proofs.Common.{◌≡◌, ℕ, ◌≤◌, Bool, true, false, cond, List, [], ◌∷◌, ◌++◌, map, fold, length, None, option_to_list, refl, sym, ap, ◌∙◌, subst, append_assoc, append-nil, ltb}
+use Rattle.std.proofs.Common.{◌≡◌, ℕ, ◌≤◌, Bool, true, false, cond, List, [], ◌∷◌, ◌++◌, map, fold, length, None, option_to_list, Err, refl, sym, ap, ◌∙◌, subst, append_assoc, append-nil, ltb}
 use Rattle.std.proofs.lemmas.Bool.{ltb-false}
 use Rattle.std.proofs.lemmas.Grind.{fold-append}
 use Rattle.lsm_below.specs.Entries.{Entry}
+use Rattle.lsm_below.specs.declared.error.Error.{Error}
+use Rattle.lsm_below.specs.declared.error.Error.TheVariants.{CommitUnknown}
 use Rattle.lsm_model.specs.Journal.{Event, is_kept, kept_after}
 use Rattle.lsm_model.specs.Views.{HasDistinctIds}
 use Rattle.lsm_model.specs.Steps.{Step, Marked, Maintained}
@@ -16,7 +18,8 @@ use Rattle.lsm_state.specs.Kept.{IsKeptTree}
 use Rattle.lsm_state.specs.Core.{Core, state_of, written_by}
 use Rattle.lsm_state.specs.Commits.{committed, doubted}
 use Rattle.lsm_state.specs.Cleaning.{Cleans}
-use Rattle.lsm_state.specs.Deeds.{saved_of, IsMarkDeed}
+use Rattle.lsm_state.specs.Deeds.{saved_of, IsNoDeed, IsMarkDeed}
+use Rattle.lsm_state.specs.WholeFlushes.{Flushes}
 use Rattle.lsm_state.specs.Flushes.{IsCurrent, IsFlushed, spent, flush_of, IsFlushDeed, IsLostFlush}
 use Rattle.lsm_state.specs.FlushLaws.{FlushesAreDeeds}
 use Rattle.lsm_state.proofs.Distinct.{distinct_placed, own_behind}
@@ -136,11 +139,21 @@ module _ (law : FlushesAreSteps) (job : SeenWritten) (c : Core) (kept : IsKeptTr
     ),
   )
 
+-- ---- a flush that is refused
+
+refused_deeds : (w : ℕ) (e : Error) (old new : Core) → IsKeptTree old → Flushes w (Err e) old new → (e ≡ CommitUnknown → ⊥) → IsNoDeed old new × IsMarkDeed w old new
+refused_deeds w e old new kept flushes known =
+    let is : new ≡ record old { next_job = new.next_job; next_table = new.next_table; seqno = new.seqno; lost = old.lost } =
+        subst (λ l. new ≡ record old { next_job = new.next_job; next_table = new.next_table; seqno = new.seqno; lost = l }) (flushes.known known) flushes.err.rest in
+    let same : (journal : List Event) (notes : List Note) → saved_of journal notes new ≡ saved_of journal notes old = λ journal notes. ap (saved_of journal notes) is in
+    (λ opened journal notes. same journal notes, λ opened journal notes. (saved_of (journal ++ Mark w ∷ []) notes old, mark_done w 0 old kept opened journal notes, same (journal ++ Mark w ∷ []) notes))
+
 -- ---- the law
 
 pub flushes_are_deeds : FlushesAreSteps → FlushesAreDeeds
 flushes_are_deeds law = record {
   installed = λ job whole old new kept certain written current installs. flush_deed law job old kept certain written current installs.next installs.flushed whole new installs.cleans;
   lost = λ job old new kept certain written current doubts. lost_deed law job old kept certain written current doubts.next doubts.flushed new doubts.is;
+  refused = refused_deeds;
   spends = mark_deed;
 }

@@ -92,17 +92,6 @@ kept_rotated ts h n k =
 pub tables_rotated : (flush : Option SeenOpen) (h : SeenHistory) (id next : ℕ) → KeepsTables flush h next → KeepsTables flush (record { latest = rotated id h.latest; older = h.older }) next
 tables_rotated flush h id next k = record { own_ids = k.own_ids; below = k.below; aged = k.aged }
 
--- ---- opening
-
--- a tree with one memtable over a version
-pub ids_first : (v : SeenVersion) → KeepsIds (new_memtable 0 ∷ []) (record { latest = first_version v; older = [] }) 1
-ids_first v = record {
-  active = refl;
-  fall = (omega arith, tt);
-  held = ((among_first 0 [], tt), tt);
-  older = (omega arith, (omega arith, tt), tt);
-}
-
 -- ---- a rotation that is undone
 
 pub rotated_back : (h mid new : SeenHistory) (id : ℕ) → mid ≡ record { latest = rotated id h.latest; older = h.older }

@@ -27,13 +27,6 @@ module _ (mems : List SeenMemtable) (f : List Entry → List Entry) (none : f []
   pub found_more : (id : ℕ) (found : Option (Bor SeenMemtable)) (list new : List (Bor SeenMemtable)) → MatchOption found (entries_of mems id ≡ []) (λ m. m.now.entries ≡ entries_of mems id) → new ≡ list ++ option_to_list found → flat_map made_of new ≡ flat_map made_of list ++ made id
   found_more id found list new h is = ap (flat_map made_of) is ∙ flat_map-append made_of list (option_to_list found) ∙ ap (λ l. flat_map made_of list ++ l) (found_is id found h)
 
-  -- the last of the ids that are left
-  pub sealed_more : (rest older : List ℕ) (id : ℕ) (found : Option (Bor SeenMemtable)) (list new : List (Bor SeenMemtable)) → rest ≡ older ++ id ∷ [] → MatchOption found (entries_of mems id ≡ []) (λ m. m.now.entries ≡ entries_of mems id) → new ≡ list ++ option_to_list found
-      → flat_map made_of new ++ flat_map made (reverse older) ≡ flat_map made_of list ++ flat_map made (reverse rest)
-  sealed_more rest older id found list new split h is =
-      ap (λ l. l ++ flat_map made (reverse older)) (found_more id found list new h is) ∙ append_assoc (flat_map made_of list) (made id) (flat_map made (reverse older))
-      ∙ ap (λ l. flat_map made_of list ++ flat_map made l) (sym (ap reverse split ∙ reverse-append older (id ∷ [])))
-
 -- what is copied of listed memtables is what is copied of those with their ids
 pub copied_those : (mems : List SeenMemtable) (ids : List ℕ) (list : List (Bor SeenMemtable)) (low high : Bound Bytes) (s : ℕ) (top : List Part) → AreThose mems ids list
     → copies low high (top ++ map (at s) (map (λ m. m.now.entries) list)) ≡ copies low high (top ++ map (λ id. at s (entries_of mems id)) ids)

@@ -48,10 +48,6 @@ upholds_behind w v u old mid new same first second stored =
 pub upholds_same : (w v : World) (old new : Core) → v ≡ w → versions_left new ≡ versions_left old → written_of new ≡ written_of old → ((versions : List SeenVersion) (written : List SeenTable) → IsStored w versions written → Leaves w w versions) → Upholds w v old new
 upholds_same w v old new same versions written leaves = subst (λ u. Upholds w u old new) (sym same) (upheld_still w old new versions written leaves)
 
-pub rotated_files : (old : Core) (id : Option ℕ) (mid : Core) → Rotates old id mid → (versions_left mid ≡ versions_left old) × (written_of mid ≡ written_of old)
-rotated_files old None mid rotates = (ap versions_left rotates.1, ap written_of rotates.1)
-rotated_files old (Some id) mid rotates = (ap versions_left rotates.2, ap written_of rotates.2)
-
 pub rotated_lost : (old : Core) (id : Option ℕ) (mid : Core) → Rotates old id mid → mid.lost ≡ old.lost
 rotated_lost old None mid rotates = ap (λ (c : Core). c.lost) rotates.1
 rotated_lost old (Some id) mid rotates = ap (λ (c : Core). c.lost) rotates.2

@@ -1,5 +1,5 @@
 -- A flush in one call: begun, merged, written and registered.
-use Rattle.std.specs.Prelude.{◌≡◌, ◌⊎◌, ℕ, ◌+◌, ◌-◌, ◌^◌, ◌≤◌, true, [], flat_map, sum_by, Option, None, IsSome, IfSome, Result, Ok, Err, IfOk, IfErr, OnErr, IsErrOf, ◌↔◌}
+use Rattle.std.specs.Prelude.{◌≡◌, ◌⊎◌, ℕ, ◌+◌, ◌-◌, ◌^◌, ◌≤◌, Bool, true, false, [], flat_map, sum_by, Option, None, IsSome, IfSome, Result, Ok, Err, IfOk, IfErr, OnErr, IsErrOf, ◌↔◌}
 use Rattle.lsm_below.specs.Sums.{capped}
 use Rattle.lsm_below.specs.declared.error.Error.{Error}
 use Rattle.lsm_below.specs.declared.error.Error.TheVariants.{OutOfMemory, Store, CommitUnknown, Unrecoverable, OutOfNumbers, FlushOpen, TooManyRuns}
@@ -81,6 +81,12 @@ pub record Flushes (w : ℕ) (r : Result (Option (ℕ × Registered)) Error) (ol
   pub out_of_numbers : IsErrOf r OutOfNumbers → ((2 ^ 63 ≤ old.next_job) ⊎ (2 ^ 63 ≤ new.next_table)) ⊎ ((2 ^ 63 ≤ old.seqno) ⊎ (old.history.latest.version.id ≡ 2 ^ 64 - 1))
   pub too_many_runs : IsErrOf r TooManyRuns → IsFullFor w old new
   pub only : IfErr r (λ e. ((e ≡ OutOfMemory) ⊎ ((e ≡ Store) ⊎ (e ≡ CommitUnknown))) ⊎ (((e ≡ Unrecoverable) ⊎ (e ≡ FlushOpen)) ⊎ ((e ≡ OutOfNumbers) ⊎ (e ≡ TooManyRuns))))
+
+-- did a flush come to register a job? Where it did its watermark counts, also where it is refused
+pub record MarksFlush (marked : Bool) (r : Result (Option (ℕ × Registered)) Error) : Type 0 where
+  pub ok : IfOk r (λ a. IsSome a ↔ (marked ≡ true))
+  pub registered : IsErrOf r CommitUnknown ⊎ IsErrOf r TooManyRuns → marked ≡ true
+  pub before : IsErrOf r Unrecoverable ⊎ IsErrOf r FlushOpen → marked ≡ false
 
 -- ---- a flush behind a rotation
 

@@ -15,6 +15,7 @@ use lsm_jobs::{FlushJob, MergedFlush, OpenFlush, WrittenFlush};
 use lsm_parts::{Error, LIMIT, SealedMemtables};
 use lsm_store::Store;
 use lsm_tables::Table;
+use lsm_versions::copies;
 use std::alloc::{AllocError, Global};
 
 /// The ids of sealed memtables, from the newest.
@@ -44,17 +45,6 @@ fn with_tables(flush: Option<OpenFlush>, number: u64, tables: Vec<Table>) -> Opt
         Some(open) if open.number() == number => Some(open.with_written(tables)),
         other => other,
     }
-}
-
-/// Tables once more, their entries shared.
-fn copies_of(alloc: Global, tables: &[Table]) -> Result<Vec<Table>, AllocError>
-    ensures { IfOk result (λ copy. copy.items ≡ tables.now) }
-{
-    let mut copies = Vec::with_capacity(alloc, tables.len())?;
-    for table in tables {
-        copies.push(table.copy()?)?;
-    }
-    Ok(copies)
 }
 
 impl<S: Store> TreeState<S> {
@@ -150,7 +140,7 @@ impl<S: Store> TreeState<S> {
             Ok(tables) => tables,
             Err(error) => return Err((error, job)),
         };
-        let Ok(copies) = copies_of(self.alloc, &tables) else {
+        let Ok(copies) = copies(self.alloc, &tables) else {
             return Err((Error::OutOfMemory, job));
         };
         let open = self.flush.take();

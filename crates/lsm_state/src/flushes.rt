@@ -4,7 +4,7 @@ ghost use Rattle.lsm_tables.specs.Tables.{SeenTable};
 ghost use Rattle.lsm_versions.specs.Levels.{SeenVersion};
 ghost use Rattle.lsm_files.specs.Stored.{IsStored, Leaves};
 ghost use Rattle.lsm_state.specs.Commits.{Upholds};
-ghost use Rattle.lsm_state.specs.WholeFlushes.{sealed_bytes, WritesJob, Flushes, FlushesActive};
+ghost use Rattle.lsm_state.specs.WholeFlushes.{sealed_bytes, WritesJob, Flushes, MarksFlush, FlushesActive};
 
 use crate::TreeState;
 use lsm_below::{MemtableId, SeqNo};
@@ -55,6 +55,46 @@ impl<S: Store> TreeState<S> {
         }
     }
 
+    /// Flushes all sealed memtables, and tells whether it came to register a job.
+    fn flush_marking(
+        &mut self,
+        watermark: SeqNo,
+        marked: &mut bool,
+    ) -> Result<Option<(u64, Registered)>, Error>
+        ensures flushes { Flushes watermark result self.old.core self.new.core }
+        ensures marks { MarksFlush marked.new result }
+        ensures upholds { S.tells → Upholds (S.world self.old.store) (S.world self.new.store) self.old.core self.new.core }
+        ensures no_call { IsSome self.old.core.lost → self.new.store ≡ self.old.store }
+    {
+        self.stays_stored();
+        *marked = false;
+        let size = self.sealed_size();
+        let Some(job) = self.begin_flush()? else {
+            return Ok(None);
+        };
+        let written = self.write_job(job, watermark)?;
+        *marked = true;
+        let registered = self.register(written, true)?;
+        Ok(Some((size, registered)))
+    }
+
+    /// As `flush`, and tells beside its answer whether it came to register a job: a journal of the calls then notes the
+    /// watermark, also where the flush is refused.
+    pub fn flush_with_mark(
+        &mut self,
+        watermark: SeqNo,
+    ) -> (Result<Option<(u64, Registered)>, Error>, bool)
+        ensures flushes { Flushes watermark result.0 self.old.core self.new.core }
+        ensures marks { MarksFlush result.1 result.0 }
+        // What a crash leaves.
+        ensures upholds { S.tells → Upholds (S.world self.old.store) (S.world self.new.store) self.old.core self.new.core }
+        ensures no_call { IsSome self.old.core.lost → self.new.store ≡ self.old.store }
+    {
+        let mut marked = false;
+        let flushed = self.flush_marking(watermark, &mut marked);
+        (flushed, marked)
+    }
+
     /// Flushes all sealed memtables in one call: merges them, writes the tables, and installs them, as `begin_flush`,
     /// `FlushJob::run`, `flush_to_tables` and `register_tables` do in turn. Nothing comes in between, so the job is never
     /// stale. Answers None where nothing is sealed, else the bytes that the sealed memtables count, up to 2^64 - 1, beside
@@ -78,14 +118,7 @@ impl<S: Store> TreeState<S> {
         ensures upholds { S.tells → Upholds (S.world self.old.store) (S.world self.new.store) self.old.core self.new.core }
         ensures no_call { IsSome self.old.core.lost → self.new.store ≡ self.old.store }
     {
-        self.stays_stored();
-        let size = self.sealed_size();
-        let Some(job) = self.begin_flush()? else {
-            return Ok(None);
-        };
-        let written = self.write_job(job, watermark)?;
-        let registered = self.register(written, true)?;
-        Ok(Some((size, registered)))
+        self.flush_with_mark(watermark).0
     }
 
     /// Seals the active memtable, and flushes all sealed ones: `rotate_memtable` and then `flush`. Answers the id that this

@@ -20,11 +20,11 @@ pub invariant_of-self : goal.invariant_of-self
 invariant_of-self g c =
     let i = c.self-2.inside in
     let now = c.args.self.now.core in
-    let copied = c.in-Ok-copies_of.ensures ∙ c.deref.ensures.value in
+    let copied = c.in-Ok-copies.ensures ∙ c.deref.ensures.value in
     let made = ap (λ t. t.core) c.self-2.view_is ∙ c.in-Ok.ensures.core in
     let held = subst (λ ts. HoldEntries now.moment c.entries.result.now now.next_table i.next_table ts) (sym copied) (subst (λ n. HoldEntries now.moment c.entries.result.now now.next_table n c.in-Ok.tables.items) (sym (ap (λ t. t.core.next_table) c.self-2.view_is)) c.in-Ok.ensures.tables) in
     let own = subst (λ ts. HasOwnIds (ts ++ all_of i.history.latest.version.levels)) (sym copied) (subst (λ h. HasOwnIds (c.in-Ok.tables.items ++ all_of h.latest.version.levels)) (sym (ap (λ k. k.history) made)) c.in-Ok.ensures.own_ids) in
-    rw (c.with_tables.ensures, c.take-open.ensures.value) (c.self-2.invariant.0, tables_noted i.history c.number.result i.next_table now.moment now.next_table c.entries.result.now c.in-Ok-copies_of.copies.items i.flush held own c.self-2.invariant.1)
+    rw (c.with_tables.ensures, c.take-open.ensures.value) (c.self-2.invariant.0, tables_noted i.history c.number.result i.next_table now.moment now.next_table c.entries.result.now c.in-Ok-copies.copies.items i.flush held own c.self-2.invariant.1)
 
 pub returns-clause-upholds : goal.returns-clause-upholds
 returns-clause-upholds g c tells =
@@ -32,7 +32,7 @@ returns-clause-upholds g c tells =
     let i = c.self-2.inside in
     let now = c.args.self.now in
     let mid : Core = record { config = i.config; memtables = i.memtables; history = i.history; next_memtable = i.next_memtable; next_table = i.next_table; next_job = i.next_job; moment = i.moment; seqno = i.seqno; visible_seqno = i.visible_seqno; flush = i.flush; lost = i.lost } in
-    let copied = c.in-Ok-copies_of.ensures ∙ c.deref.ensures.value in
+    let copied = c.in-Ok-copies.ensures ∙ c.deref.ensures.value in
     let disk = subst (AreOnDisk (w i.store)) (sym copied) (subst (λ t. AreOnDisk (w t.store) c.in-Ok.tables.items) (sym c.self-2.view_is) (c.in-Ok.ensures.on_disk tells)) in
     let before = subst (λ t. Upholds (w now.store) (w t.store) now.core t.core) (sym c.self-2.view_is) (c.in-Ok.ensures.upholds tells) in
-    rw (c.with_tables.ensures, c.take-open.ensures.value) (noted_upholds (w now.store) (w i.store) now.core mid c.number.result c.in-Ok-copies_of.copies.items before disk)
+    rw (c.with_tables.ensures, c.take-open.ensures.value) (noted_upholds (w now.store) (w i.store) now.core mid c.number.result c.in-Ok-copies.copies.items before disk)

@@ -1,5 +1,5 @@
 use Rattle.std.proofs.Common.{◌≡◌, take}
-use Rattle.lsm_jobs.proofs.same.same_lists.Given as goal
+use Rattle.lsm_below.proofs.same.have_same_parts.Given as goal
 
 -- as far as they were compared, they are the same
 abbrev pub invariant-loop-at : goal.invariant-loop-at

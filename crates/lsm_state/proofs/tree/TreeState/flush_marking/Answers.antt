@@ -3,7 +3,7 @@ use Rattle.std.proofs.lemmas.Result.{err_from_is_err_and}
 use Rattle.lsm_state.specs.Core.{versions_left, written_of}
 use Rattle.lsm_state.specs.Flushes.{Begins}
 use Rattle.lsm_state.proofs.WholeFlushes.{upholds_same, upholds_behind, begun_versions, begun_written, made_versions, flushed, refused}
-use Rattle.lsm_state.proofs.tree.TreeState.flush.Goals as goal
+use Rattle.lsm_state.proofs.tree.TreeState.flush_marking.Goals as goal
 
 pub returns-in_err-job-clause-upholds : goal.returns-in_err-job-clause-upholds
 returns-in_err-job-clause-upholds g c tells =
