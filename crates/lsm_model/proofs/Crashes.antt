@@ -140,7 +140,7 @@ lost_places old (Cleared n a) notes m = refl
 lost_places old other notes m = refl
 
 -- the reads go on after a commit of unknown outcome
-abbrev told_more : State → List Event → State
+abbrev pub told_more : State → List Event → State
 told_more old more = record { journal = old.journal ++ more; mems = old.mems; latest = old.latest; older = old.older }
 
 same_told : (opened : List Entry) (start : Map) (old : State) → Holds opened start old → Holds opened start (told_more old [])
@@ -160,7 +160,7 @@ pub record IsBegun (opened : List Entry) (start : Map) (t : Saved) : Type 0 wher
   pub others : AllByRecursion (Recovers start t.state.journal t.notes (covered t.notes)) t.others
 
 -- journal and notes only grow
-record Grows (old new : Saved) : Type 0 where
+pub record Grows (old new : Saved) : Type 0 where
   more : List Event
   extra : List Note
   journal : new.state.journal ≡ old.state.journal ++ more

@@ -1,9 +1,9 @@
 -- What deeds keep of reads.
-use Rattle.std.proofs.Common.{◌≡◌, ℕ, ◌<◌, true, false, cond, List, [], ◌∷◌, Option, Some, refl, sym, ap, ◌∙◌, subst, ltb, eqb}
+use Rattle.std.proofs.Common.{◌≡◌, ℕ, ◌<◌, true, false, cond, List, [], ◌∷◌, ◌++◌, Option, Some, refl, sym, ap, ◌∙◌, subst, ltb, eqb}
 use Rattle.lsm_below.specs.Entries.{Entry}
 use Rattle.lsm_model.specs.Journal.{Map, InOrder}
 use Rattle.lsm_model.specs.Views.{SuperVersion, found_at, front, lookup}
-use Rattle.lsm_model.specs.Steps.{State, history, Action, Flushed, Merged, Moved, DroppedTables, Cleared, Marked, Maintained, Step, Spares, StaysAt}
+use Rattle.lsm_model.specs.Steps.{State, history, Action, Wrote, Rotated, LostDrop, Asked, Flushed, Merged, Moved, DroppedTables, Cleared, Marked, Maintained, Step, Spares, StaysAt}
 use Rattle.lsm_model.specs.Sound.{Holds}
 use Rattle.lsm_model.specs.Beginnings.{Saved, Deed, Done, Lost, Does, Deeds, is_commit, told_lost}
 use Rattle.lsm_model.proofs.Runs.{step_holds, step_order}
@@ -37,6 +37,12 @@ commit_older opened old (Merged w d ids evict made) new q m = m.commit.older
 commit_older opened old (Moved d ids moved) new q m = m.commit.older
 commit_older opened old (DroppedTables ids) new q m = m.commit.older
 commit_older opened old (Cleared n a) new q m = ap (λ (t : State). t.older) m.1
+commit_older opened old (Wrote e) new q m = absurd (cc q)
+commit_older opened old (Rotated a) new q m = absurd (cc q)
+commit_older opened old (Marked w) new q m = absurd (cc q)
+commit_older opened old (LostDrop ranges n) new q m = absurd (cc q)
+commit_older opened old (Asked s question) new q m = absurd (cc q)
+commit_older opened old (Maintained w) new q m = absurd (cc q)
 
 pub commits_spare : (opened : List Entry) (start : Map) (s w : ℕ) (action : Action) (old new : Saved) → is_commit action ≡ true → Deeds opened old (Done (Marked w) ∷ (Done action ∷ (Done (Maintained w) ∷ []))) new → InOrder opened new.state.journal
     → ((mid after : State) → Step opened mid action after → after.journal ≡ new.state.journal → Spares action after s) → Holds opened start old.state → StaysAt s old.state new.state
