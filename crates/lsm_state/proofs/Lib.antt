@@ -13,6 +13,7 @@ pub mod Comparing
 pub mod Distinct
 pub mod FlushSteps
 pub mod FlushDeeds
+pub mod FlushReads
 pub mod Finding
 pub mod Repeats
 pub mod Answered

@@ -16,3 +16,4 @@ pub mod Deeds
 pub mod Flushes
 pub mod FlushLaws
 pub mod WholeFlushes
+pub mod FlushReads

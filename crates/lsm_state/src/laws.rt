@@ -1,10 +1,11 @@
 // What the list of a read over many keys is, as the contract of a function.
 ghost use Rattle.lsm_state.specs.FlushLaws.{FlushesAreDeeds};
+ghost use Rattle.lsm_state.specs.FlushReads.{FlushesKeepReads};
 ghost use Rattle.lsm_state.specs.ListSteps.{ListsAreSteps};
 ghost use Rattle.lsm_state.specs.Ranges.{CountingIsOverlaid, RangesAreOverlaid, PrefixesAreOverlaid};
 
 use lsm_iter::shown_is_the_view;
-use lsm_model::parts_are_whole;
+use lsm_model::{parts_are_whole, reads_are_sound};
 use lsm_versions::flushes_are_steps;
 
 /// The list of what a super version shows under an index is that of its view by tops, with the index laid over it.
@@ -32,4 +33,12 @@ pub fn flushes_are_deeds()
     ensures { FlushesAreDeeds }
 {
     flushes_are_steps();
+}
+
+/// No call of a flush changes what a snapshot sees that is answered before and after, and behind it reads are right where
+/// they were.
+pub fn flushes_keep_reads()
+    ensures { FlushesKeepReads }
+{
+    reads_are_sound();
 }

@@ -32,7 +32,7 @@ mod tree;
 mod writes;
 
 pub use found::Found;
-pub use laws::{flushes_are_deeds, lists_are_steps, ranges_are_overlaid};
+pub use laws::{flushes_are_deeds, flushes_keep_reads, lists_are_steps, ranges_are_overlaid};
 pub use lsm_below::{MAX_KEY_LEN, MAX_VALUE_LEN};
 use memtables::Memtables;
 pub use tree::TreeState;
