@@ -1,9 +1,5 @@
 -- What the words of a line ask.
-use Rattle.std.proofs.Common.{◌≡◌, ℕ, ◌<◌, Bool, true, false, cond, ◌∙◌, ap, bytes_eq, List, [], ◌∷◌, length, Option, Some, None, refl, arith}
-use Rattle.std.specs.Bool.{then_some}
-use Rattle.std.specs.Prelude.{codes}
-use Rattle.lsm_shell.specs.declared.command.Command.{Command}
-use Rattle.lsm_shell.specs.declared.command.Command.TheVariants.{Rotate}
+use Rattle.std.proofs.Common.{◌≡◌, ℕ, ◌<◌, List, [], ◌∷◌, length, Option, Some, None, refl, arith}
 use Rattle.lsm_shell.specs.Word.{words_of}
 use Rattle.lsm_shell.specs.Words.{HasNoFewWords}
 use Rattle.lsm_shell.specs.Command.{command_of, command_of_words, command_of_one, command_of_two, command_of_three, command_of_four}
@@ -40,10 +36,3 @@ asks_none_of line (Some words) e h = rw e (asks_past_four words (h words e))
 
 pub asks_none : (line : List ℕ) → HasNoFewWords line → command_of line ≡ None
 asks_none line h = asks_none_of line (words_of line) refl h
-
-then_some_is : (b : Bool) (x : Command) → then_some b x ≡ cond b (Some x) None
-then_some_is true x = refl
-then_some_is false x = refl
-
-pub rotates : (verb text : List ℕ) (b : Bool) → b ≡ bytes_eq verb text → text ≡ codes "rotate" → then_some b Rotate ≡ command_of_one verb
-rotates verb text b e t = then_some_is b Rotate ∙ ap (λ b. cond b (Some Rotate) None) (e ∙ ap (bytes_eq verb) t)

@@ -5,7 +5,7 @@ use Rattle.std.proofs.lemmas.List.Splits.{slice_split_at, join_with_byte-slice_s
 use Rattle.std.specs.List.{list_all, join_with_byte}
 use Rattle.std.specs.Prelude.{codes, option_map}
 use Rattle.lsm_shell.specs.declared.command.Command.{Command}
-use Rattle.lsm_shell.specs.declared.command.Command.TheVariants.{Put, Del, Weak, Get, Range, Prefix, Rotate}
+use Rattle.lsm_shell.specs.declared.command.Command.TheVariants.{Put, Del, Weak, Get, Range, Prefix, Rotate, Flush, Now, Stats, Crash, Reopen}
 use Rattle.lsm_shell.specs.Bounds.{lower_of, upper_of, prefix_of, lower_word, upper_word, prefix_word}
 use Rattle.lsm_shell.specs.Word.{is_word, parts_of, words_of}
 use Rattle.lsm_shell.specs.Command.{command_of, command_of_words, command_of_key, command_of_pair}
@@ -23,9 +23,20 @@ AreWordsOf words command = (words ≡ spelling_of command) × HasFitNumber comma
 same : (v text : List ℕ) → bytes_eq v text ≡ true → v ≡ text
 same v text e = (bytes_eq-Decides v text).0 e
 
-one_word : (v : List ℕ) (b : Bool) → bytes_eq v (codes "rotate") ≡ b → IfSome (cond b (Some Rotate) None) (AreWordsOf (v ∷ []))
-one_word v true e = (ap (λ w. w ∷ []) (same v _ e), tt)
-one_word v false e = tt
+one_word : (v : List ℕ) (r s c o : Bool) → bytes_eq v (codes "rotate") ≡ r → bytes_eq v (codes "stats") ≡ s → bytes_eq v (codes "crash") ≡ c → bytes_eq v (codes "reopen") ≡ o → IfSome (cond r (Some Rotate) (cond s (Some Stats) (cond c (Some Crash) (cond o (Some Reopen) None)))) (AreWordsOf (v ∷ []))
+one_word v true s c o er es ec eo = (ap (λ w. w ∷ []) (same v _ er), tt)
+one_word v false true c o er es ec eo = (ap (λ w. w ∷ []) (same v _ es), tt)
+one_word v false false true o er es ec eo = (ap (λ w. w ∷ []) (same v _ ec), tt)
+one_word v false false false true er es ec eo = (ap (λ w. w ∷ []) (same v _ eo), tt)
+one_word v false false false false er es ec eo = tt
+
+-- a command of one number is spelled by its word
+with_number : (name v word : List ℕ) (make : ℕ → Command) (n : Option ℕ) → ((m : ℕ) → m < 2 ^ 64 → AreWordsOf (name ∷ decimal m ∷ []) (make m)) → plain_number word ≡ n → v ≡ name → IfSome (option_map (λ m. make m) n) (AreWordsOf (v ∷ word ∷ []))
+with_number name v word make None spells e is = tt
+with_number name v word make (Some m) spells e is =
+    let k = plain_number-is word m e in
+    let w = spells m k.0 in
+    (ap (λ u. u ∷ word ∷ []) is ∙ (ap (λ u. name ∷ u ∷ []) k.1 ∙ w.0), w.1)
 
 -- a prefix is spelled by the word that gave it
 prefix_words : (word : List ℕ) (more : List (List ℕ)) → is_word word ≡ true → codes "prefix" ∷ word ∷ more ≡ codes "prefix" ∷ prefix_word (prefix_of word) ∷ more
@@ -37,9 +48,12 @@ of_key v key false true g ed ew eg = (ap (λ u. u ∷ key ∷ []) (same v _ ew),
 of_key v key false false true ed ew eg = (ap (λ u. u ∷ key ∷ []) (same v _ eg), tt)
 of_key v key false false false ed ew eg = tt
 
-two_words : (v key : List ℕ) (p : Bool) → is_word key ≡ true → bytes_eq v (codes "prefix") ≡ p → IfSome (cond p (Some (Prefix (prefix_of key) None)) (command_of_key v key)) (AreWordsOf (v ∷ key ∷ []))
-two_words v key true word ep = (ap (λ u. u ∷ key ∷ []) (same v _ ep) ∙ prefix_words key [] word, tt)
-two_words v key false word ep = of_key v key _ _ _ refl refl refl
+two_words : (v word : List ℕ) (p f n : Bool) → is_word word ≡ true → bytes_eq v (codes "prefix") ≡ p → bytes_eq v (codes "flush") ≡ f → bytes_eq v (codes "now") ≡ n
+    → IfSome (cond p (Some (Prefix (prefix_of word) None)) (cond f (option_map (λ m. Flush m) (plain_number word)) (cond n (option_map (λ m. Now m) (plain_number word)) (command_of_key v word)))) (AreWordsOf (v ∷ word ∷ []))
+two_words v word true f n is ep ef en = (ap (λ u. u ∷ word ∷ []) (same v _ ep) ∙ prefix_words word [] is, tt)
+two_words v word false true n is ep ef en = with_number (codes "flush") v word (λ m. Flush m) (plain_number word) (λ m h. (refl, h)) refl (same v _ ef)
+two_words v word false false true is ep ef en = with_number (codes "now") v word (λ m. Now m) (plain_number word) (λ m h. (refl, h)) refl (same v _ en)
+two_words v word false false false is ep ef en = of_key v word _ _ _ refl refl refl
 
 with_snapshot : (v key last : List ℕ) (n : Option ℕ) → plain_number last ≡ n → v ≡ codes "get" → IfSome (option_map (λ s. Get key (Some s)) n) (AreWordsOf (v ∷ key ∷ last ∷ []))
 with_snapshot v key last None e is_get = tt
@@ -84,8 +98,8 @@ second_is v key more all = (both (is_word key) (list_all is_word more) (both (is
 words_spell : (words : List (List ℕ)) → list_all is_word words ≡ true → IfSome (command_of_words words) (AreWordsOf words)
 unfolding command_of_words
 words_spell [] all = tt
-words_spell (v ∷ []) all = one_word v _ refl
-words_spell (v ∷ key ∷ []) all = two_words v key _ (second_is v key [] all) refl
+words_spell (v ∷ []) all = one_word v _ _ _ _ refl refl refl refl
+words_spell (v ∷ key ∷ []) all = two_words v key _ _ _ (second_is v key [] all) refl refl refl
 words_spell (v ∷ key ∷ last ∷ []) all = three_words v key last _ (second_is v key (last ∷ []) all) refl
 words_spell (v ∷ low ∷ high ∷ last ∷ []) all = four_words v low high last _ refl
 words_spell (v ∷ low ∷ high ∷ last ∷ more ∷ others) all = tt
@@ -146,6 +160,11 @@ asked_by_words (Prefix prefix (Some n)) h all =
     let word = second_is (codes "prefix") (prefix_word prefix) (decimal n ∷ []) all in
     (omega arith, rw (prefix_of-word prefix word, plain_number-decimal (decimal n) n h refl) refl)
 asked_by_words Rotate h all = (omega arith, refl)
+asked_by_words (Flush n) h all = (omega arith, ap (option_map (λ m. Flush m)) (plain_number-decimal (decimal n) n h refl))
+asked_by_words (Now n) h all = (omega arith, ap (option_map (λ m. Now m)) (plain_number-decimal (decimal n) n h refl))
+asked_by_words Stats h all = (omega arith, refl)
+asked_by_words Crash h all = (omega arith, refl)
+asked_by_words Reopen h all = (omega arith, refl)
 
 asked : (line : List ℕ) (c : Command) → Spells line c → command_of line ≡ Some c
 unfolding command_of

@@ -4,7 +4,7 @@ use Rattle.std.specs.List.{list_all, join_with_byte}
 use Rattle.lsm_shell.specs.Bounds.{lower_word, upper_word, prefix_word}
 use Rattle.lsm_shell.specs.Word.{is_word}
 use Rattle.lsm_shell.specs.declared.command.Command.{Command}
-use Rattle.lsm_shell.specs.declared.command.Command.TheVariants.{Put, Del, Weak, Get, Range, Prefix, Rotate}
+use Rattle.lsm_shell.specs.declared.command.Command.TheVariants.{Put, Del, Weak, Get, Range, Prefix, Rotate, Flush, Now, Stats, Crash, Reopen}
 
 -- the words that a command is written in
 abbrev pub spelling_of : Command → List (List ℕ)
@@ -18,8 +18,13 @@ spelling_of (Range low high (Some snapshot)) = codes "range" ∷ lower_word low 
 spelling_of (Prefix prefix None) = codes "prefix" ∷ prefix_word prefix ∷ []
 spelling_of (Prefix prefix (Some snapshot)) = codes "prefix" ∷ prefix_word prefix ∷ decimal snapshot ∷ []
 spelling_of Rotate = codes "rotate" ∷ []
+spelling_of (Flush watermark) = codes "flush" ∷ decimal watermark ∷ []
+spelling_of (Now moment) = codes "now" ∷ decimal moment ∷ []
+spelling_of Stats = codes "stats" ∷ []
+spelling_of Crash = codes "crash" ∷ []
+spelling_of Reopen = codes "reopen" ∷ []
 
--- a snapshot's number is below 2^64
+-- a number that is named is below 2^64
 abbrev pub HasFitNumber : Command → Type 0
 HasFitNumber (Put key value) = Unit {0}
 HasFitNumber (Del key) = Unit {0}
@@ -31,6 +36,11 @@ HasFitNumber (Range low high (Some snapshot)) = snapshot < 2 ^ 64
 HasFitNumber (Prefix prefix None) = Unit {0}
 HasFitNumber (Prefix prefix (Some snapshot)) = snapshot < 2 ^ 64
 HasFitNumber Rotate = Unit {0}
+HasFitNumber (Flush watermark) = watermark < 2 ^ 64
+HasFitNumber (Now moment) = moment < 2 ^ 64
+HasFitNumber Stats = Unit {0}
+HasFitNumber Crash = Unit {0}
+HasFitNumber Reopen = Unit {0}
 
 -- the line has the command's words, with one space between each and the next
 pub record Spells (line : List ℕ) (command : Command) : Type 0 where

@@ -1,6 +1,6 @@
 // What a line asks.
 ghost use Rattle.std.specs.Prelude.{◌≡◌, IfOk, bytes_eq, codes, option_map, Some};
-ghost use Rattle.lsm_shell.specs.Command.{command_of, command_of_key, command_of_two, command_of_pair, command_of_three, command_of_four};
+ghost use Rattle.lsm_shell.specs.Command.{command_of, command_of_one, command_of_key, command_of_two, command_of_pair, command_of_three, command_of_four};
 ghost use Rattle.lsm_shell.specs.Bounds.{prefix_of};
 ghost use Rattle.lsm_below.specs.Numbers.{plain_number};
 ghost use Rattle.lsm_shell.specs.declared.command.Command.TheVariants.{Prefix};
@@ -30,6 +30,16 @@ pub enum Command {
     Prefix(UserKey, Option<SeqNo>),
     /// Seal the memtable.
     Rotate,
+    /// Flush it and what is sealed, at a watermark.
+    Flush(SeqNo),
+    /// Set the moment, in nanoseconds.
+    Now(u64),
+    /// Count tables, runs, sealed memtables, entries and bytes.
+    Stats,
+    /// Crash the store.
+    Crash,
+    /// Open the tree again from its store.
+    Reopen,
 }
 
 /// What a line asks. None: nothing that the shell knows.
@@ -40,11 +50,23 @@ pub fn parse(alloc: Global, line: &[u8]) -> Result<Option<Command>, AllocError>
     ensures spelled { IfOk result (IsSpelledBy line.now) }
 {
     match split_words(line) {
-        Some(Words::One(verb)) => Ok((verb == b"rotate".as_slice()).then_some(Command::Rotate)),
+        Some(Words::One(verb)) => Ok(parse_one(verb)),
         Some(Words::Two(verb, key)) => parse_two(alloc, verb, key),
         Some(Words::Three(verb, key, last)) => parse_three(alloc, verb, key, last),
         Some(Words::Four(verb, low, high, last)) => parse_four(alloc, verb, low, high, last),
         None => Ok(None),
+    }
+}
+
+fn parse_one(verb: &[u8]) -> Option<Command>
+    ensures { result ≡ command_of_one verb.now }
+{
+    match verb {
+        b"rotate" => Some(Command::Rotate),
+        b"stats" => Some(Command::Stats),
+        b"crash" => Some(Command::Crash),
+        b"reopen" => Some(Command::Reopen),
+        _ => None,
     }
 }
 
@@ -54,14 +76,18 @@ fn is_prefix(verb: &[u8]) -> bool
     verb == b"prefix".as_slice()
 }
 
-fn parse_two(alloc: Global, verb: &[u8], key: &[u8]) -> Result<Option<Command>, AllocError>
-    ensures { IfOk result (λ found. found ≡ command_of_two verb.now key.now) }
+fn parse_two(alloc: Global, verb: &[u8], word: &[u8]) -> Result<Option<Command>, AllocError>
+    ensures { IfOk result (λ found. found ≡ command_of_two verb.now word.now) }
 {
-    if is_prefix(verb) {
-        let prefix = parse_prefix(alloc, key)?;
-        return Ok(Some(Command::Prefix(prefix, None)));
+    match verb {
+        b"prefix" => {
+            let prefix = parse_prefix(alloc, word)?;
+            Ok(Some(Command::Prefix(prefix, None)))
+        }
+        b"flush" => Ok(parse_number(word).map(Command::Flush)),
+        b"now" => Ok(parse_number(word).map(Command::Now)),
+        _ => parse_of_key(alloc, verb, word),
     }
-    parse_of_key(alloc, verb, key)
 }
 
 fn parse_of_key(alloc: Global, verb: &[u8], key: &[u8]) -> Result<Option<Command>, AllocError>

@@ -3,6 +3,17 @@ use lsm_below::{MemtableId, SeqNo, UserValue};
 use lsm_tree::{Error, IterGuard, TreeIter};
 use std::io::{self, Write};
 
+/// What a tree counts: the tables and the runs of its first level, its sealed memtables, the entries of memtables and
+/// tables, and the bytes of its tables.
+#[derive(Clone, Copy)]
+pub struct Stats {
+    pub tables: usize,
+    pub runs: usize,
+    pub sealed: usize,
+    pub len: usize,
+    pub bytes: u64,
+}
+
 /// What a line is answered.
 #[derive(Drop)]
 pub enum Reply {
@@ -16,8 +27,18 @@ pub enum Reply {
     Pairs(TreeIter),
     /// The memtable of this number was sealed.
     Rotated(MemtableId),
-    /// There was nothing to seal.
+    /// There was nothing to seal or to flush.
     Nothing,
+    /// Memtables of so many bytes were flushed, and the flush was installed or found stale.
+    Flushed(u64, bool),
+    /// It is done.
+    Done,
+    /// What the tree counts.
+    Counted(Stats),
+    /// The store was crashed.
+    Crashed,
+    /// The tree was opened, with so many tables.
+    Opened(usize),
     /// The tree, or the shell for want of memory, refused.
     Refused(Error),
     /// The line asks nothing that the shell knows.
@@ -39,6 +60,12 @@ impl Reply {
             Reply::Pairs(pairs) => write_pairs(output, pairs),
             Reply::Rotated(id) => writeln!(output, "rotated {id}"),
             Reply::Nothing => output.write_all(b"nothing\n"),
+            Reply::Flushed(size, true) => writeln!(output, "flushed {size} installed"),
+            Reply::Flushed(size, false) => writeln!(output, "flushed {size} stale"),
+            Reply::Done => output.write_all(b"ok\n"),
+            Reply::Counted(stats) => write_stats(output, stats),
+            Reply::Crashed => output.write_all(b"crashed\n"),
+            Reply::Opened(tables) => writeln!(output, "opened {tables}"),
             Reply::Refused(error) => write_refused(output, error),
             Reply::Usage => output.write_all(b"error 0 Usage\n"),
         }
@@ -50,6 +77,21 @@ fn write_refused<W: Write>(output: &mut W, error: Error) -> io::Result<()> {
     let number = error.number();
     let name = error.name();
     writeln!(output, "error {number} {name}")
+}
+
+/// Writes the line of what is counted.
+fn write_stats<W: Write>(output: &mut W, stats: Stats) -> io::Result<()> {
+    let Stats {
+        tables,
+        runs,
+        sealed,
+        len,
+        bytes,
+    } = stats;
+    writeln!(
+        output,
+        "tables {tables} runs {runs} sealed {sealed} len {len} bytes {bytes}"
+    )
 }
 
 /// Writes the line of a pair.

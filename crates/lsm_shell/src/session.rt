@@ -1,31 +1,62 @@
 // A tree that answers commands.
 use crate::command::{Command, parse};
-use crate::reply::Reply;
+use crate::reply::{Reply, Stats};
 use lsm_below::{SeqNo, UserKey};
-use lsm_tree::{Config, Error, Op, Pass, Recorded, Store};
-use std::alloc::Global;
+use lsm_tree::{Config, Error, FolderStore, MemStore, Op, Pass, Recorded, Store};
+use std::alloc::{AllocError, Global};
+use std::fs::Files;
 use std::ops::Bound;
 
-/// The tree that a store holds, or a new one. Its counters stand above each sequence number that the store holds.
-pub fn open_tree<S: Store>(alloc: Global, store: S) -> Result<Recorded<S>, Error> {
-    match Recorded::open(alloc, Config::new(0, 0, 0), store) {
-        Ok(tree) => Ok(tree),
-        Err((error, _)) => Err(error),
+/// A store that a session may crash.
+pub trait CrashStore: Store {
+    /// What a crash at this moment leaves, where all that isn't synced and all that was removed is absent. None of a store
+    /// that can't be crashed.
+    fn crashed(&self) -> Result<Option<Self>, AllocError>;
+}
+
+impl CrashStore for MemStore {
+    fn crashed(&self) -> Result<Option<MemStore>, AllocError> {
+        self.crash(&[])
     }
+}
+
+impl<P: Files + Alloc + Clone + Drop> CrashStore for FolderStore<P> {
+    fn crashed(&self) -> Result<Option<FolderStore<P>>, AllocError> {
+        Ok(None)
+    }
+}
+
+/// The tree that a store holds, or a new one. Its counters stand above each sequence number that the store holds. Refused,
+/// the store comes back beside the error.
+pub fn open_tree<S: Store>(alloc: Global, store: S) -> Result<Recorded<S>, (Error, S)> {
+    Recorded::open(alloc, Config::new(0, 0, 0), store)
+}
+
+/// What a session has: a tree, or after a crash or a refused opening its store alone.
+#[derive(Drop)]
+enum Stage<S: Store> {
+    Open(Recorded<S>),
+    Closed(S),
 }
 
 /// A tree that answers lines.
 #[derive(Drop)]
 pub struct Session<S: Store> {
     alloc: Global,
-    tree: Recorded<S>,
+    /// None only while the tree is opened again.
+    stage: Option<Stage<S>>,
 }
 
-impl<S: Store> Session<S> {
+impl<S: CrashStore> Session<S> {
     /// A session over the tree that a store holds, or a new one.
     pub fn open(alloc: Global, store: S) -> Result<Session<S>, Error> {
-        let tree = open_tree(alloc, store)?;
-        Ok(Session { alloc, tree })
+        match open_tree(alloc, store) {
+            Ok(tree) => Ok(Session {
+                alloc,
+                stage: Some(Stage::Open(tree)),
+            }),
+            Err((error, _)) => Err(error),
+        }
     }
 
     /// Does what the line asks, and says what came of it.
@@ -39,65 +70,152 @@ impl<S: Store> Session<S> {
 
     fn run(&mut self, command: Command) -> Result<Reply, Error> {
         match command {
-            Command::Put(key, value) => self.write(key, Op::Set(value)),
-            Command::Del(key) => self.write(key, Op::Del),
-            Command::Weak(key) => self.write(key, Op::Weak),
-            Command::Get(key, snapshot) => self.get(&key, snapshot),
-            Command::Range(low, high, snapshot) => self.range(&(low, high), snapshot),
-            Command::Prefix(prefix, snapshot) => self.prefix(&prefix, snapshot),
-            Command::Rotate => self.rotate(),
+            Command::Reopen => self.reopen(),
+            Command::Crash => self.crash(),
+            command => match &mut self.stage {
+                Some(Stage::Open(tree)) => run_on(self.alloc, tree, command),
+                _ => Ok(Reply::Usage),
+            },
         }
     }
 
-    /// A pass for one call. Nobody closes the tree, so no pass outlives its call.
-    fn pass(&self) -> Pass {
-        Pass::new(self.alloc)
-    }
-
-    fn rotate(&mut self) -> Result<Reply, Error> {
-        let mut pass = self.pass();
-        Ok(match self.tree.rotate_memtable(&mut pass)? {
-            Some(id) => Reply::Rotated(id),
-            None => Reply::Nothing,
-        })
-    }
-
-    fn write(&mut self, key: UserKey, op: Op) -> Result<Reply, Error> {
-        let Ok(ops) = vec![in self.alloc; (key, op)] else {
-            return Err(Error::OutOfMemory);
+    /// Opens the tree again from its store. Refused, the store is kept, and only this is allowed.
+    fn reopen(&mut self) -> Result<Reply, Error> {
+        let store = match self.stage.take() {
+            Some(Stage::Open(tree)) => tree.into_store(),
+            Some(Stage::Closed(store)) => store,
+            None => return Ok(Reply::Usage),
         };
-        let mut pass = self.pass();
-        Ok(Reply::Written(self.tree.write(&mut pass, ops)?))
-    }
-
-    fn get(&mut self, key: &UserKey, snapshot: Option<SeqNo>) -> Result<Reply, Error> {
-        let snapshot = self.snapshot_or_now(snapshot);
-        let mut pass = self.pass();
-        Ok(match self.tree.get(&mut pass, key, snapshot)? {
-            Some(value) => Reply::Value(value),
-            None => Reply::NoValue,
-        })
-    }
-
-    fn range(
-        &self,
-        bounds: &(Bound<UserKey>, Bound<UserKey>),
-        snapshot: Option<SeqNo>,
-    ) -> Result<Reply, Error> {
-        let snapshot = self.snapshot_or_now(snapshot);
-        Ok(Reply::Pairs(self.tree.create_range(bounds, snapshot)?))
-    }
-
-    fn prefix(&self, prefix: &UserKey, snapshot: Option<SeqNo>) -> Result<Reply, Error> {
-        let snapshot = self.snapshot_or_now(snapshot);
-        Ok(Reply::Pairs(self.tree.create_prefix(prefix, snapshot)?))
-    }
-
-    /// The snapshot, or the one that sees every write so far.
-    fn snapshot_or_now(&self, snapshot: Option<SeqNo>) -> SeqNo {
-        match snapshot {
-            Some(snapshot) => snapshot,
-            None => self.tree.visible_seqno().get(),
+        match open_tree(self.alloc, store) {
+            Ok(tree) => {
+                let tables = tree.table_count();
+                self.stage = Some(Stage::Open(tree));
+                Ok(Reply::Opened(tables))
+            }
+            Err((error, store)) => {
+                self.stage = Some(Stage::Closed(store));
+                Err(error)
+            }
         }
+    }
+
+    /// Crashes the store, where it can be crashed and the tree is open. Then it is to be opened again.
+    fn crash(&mut self) -> Result<Reply, Error> {
+        let Some(Stage::Open(tree)) = &self.stage else {
+            return Ok(Reply::Usage);
+        };
+        match tree.store().crashed()? {
+            Some(left) => {
+                self.stage = Some(Stage::Closed(left));
+                Ok(Reply::Crashed)
+            }
+            None => Ok(Reply::Usage),
+        }
+    }
+}
+
+/// Does what a command asks of an open tree. A pass serves for one call: nobody closes the tree, so none outlives its call.
+fn run_on<S: Store>(
+    alloc: Global,
+    tree: &mut Recorded<S>,
+    command: Command,
+) -> Result<Reply, Error> {
+    let mut pass = Pass::new(alloc);
+    match command {
+        Command::Put(key, value) => write(alloc, tree, &mut pass, key, Op::Set(value)),
+        Command::Del(key) => write(alloc, tree, &mut pass, key, Op::Del),
+        Command::Weak(key) => write(alloc, tree, &mut pass, key, Op::Weak),
+        Command::Get(key, snapshot) => get(tree, &mut pass, &key, snapshot),
+        Command::Range(low, high, snapshot) => range(tree, &(low, high), snapshot),
+        Command::Prefix(key, snapshot) => prefix(tree, &key, snapshot),
+        Command::Rotate => rotate(tree, &mut pass),
+        Command::Flush(watermark) => flush(tree, &mut pass, watermark),
+        Command::Now(moment) => {
+            tree.set_moment(moment);
+            Ok(Reply::Done)
+        }
+        Command::Stats => Ok(Reply::Counted(stats(tree))),
+        Command::Crash | Command::Reopen => Ok(Reply::Usage),
+    }
+}
+
+fn write<S: Store>(
+    alloc: Global,
+    tree: &mut Recorded<S>,
+    pass: &mut Pass,
+    key: UserKey,
+    op: Op,
+) -> Result<Reply, Error> {
+    let Ok(ops) = vec![in alloc; (key, op)] else {
+        return Err(Error::OutOfMemory);
+    };
+    Ok(Reply::Written(tree.write(pass, ops)?))
+}
+
+fn get<S: Store>(
+    tree: &mut Recorded<S>,
+    pass: &mut Pass,
+    key: &UserKey,
+    snapshot: Option<SeqNo>,
+) -> Result<Reply, Error> {
+    let snapshot = snapshot_or_now(tree, snapshot);
+    Ok(match tree.get(pass, key, snapshot)? {
+        Some(value) => Reply::Value(value),
+        None => Reply::NoValue,
+    })
+}
+
+fn range<S: Store>(
+    tree: &Recorded<S>,
+    bounds: &(Bound<UserKey>, Bound<UserKey>),
+    snapshot: Option<SeqNo>,
+) -> Result<Reply, Error> {
+    let snapshot = snapshot_or_now(tree, snapshot);
+    Ok(Reply::Pairs(tree.create_range(bounds, snapshot)?))
+}
+
+fn prefix<S: Store>(
+    tree: &Recorded<S>,
+    prefix: &UserKey,
+    snapshot: Option<SeqNo>,
+) -> Result<Reply, Error> {
+    let snapshot = snapshot_or_now(tree, snapshot);
+    Ok(Reply::Pairs(tree.create_prefix(prefix, snapshot)?))
+}
+
+fn rotate<S: Store>(tree: &mut Recorded<S>, pass: &mut Pass) -> Result<Reply, Error> {
+    Ok(match tree.rotate_memtable(pass)? {
+        Some(id) => Reply::Rotated(id),
+        None => Reply::Nothing,
+    })
+}
+
+fn flush<S: Store>(
+    tree: &mut Recorded<S>,
+    pass: &mut Pass,
+    watermark: SeqNo,
+) -> Result<Reply, Error> {
+    match tree.flush_active_memtable(pass, watermark) {
+        Ok((_, Some((size, registered)))) => Ok(Reply::Flushed(size, registered.installed)),
+        Ok((_, None)) => Ok(Reply::Nothing),
+        Err((error, _)) => Err(error),
+    }
+}
+
+fn stats<S: Store>(tree: &Recorded<S>) -> Stats {
+    Stats {
+        tables: tree.table_count(),
+        runs: tree.l0_run_count(),
+        sealed: tree.sealed_memtable_count(),
+        len: tree.approximate_len(),
+        bytes: tree.disk_space(),
+    }
+}
+
+/// The snapshot, or the one that sees every write so far.
+fn snapshot_or_now<S: Store>(tree: &Recorded<S>, snapshot: Option<SeqNo>) -> SeqNo {
+    match snapshot {
+        Some(snapshot) => snapshot,
+        None => tree.visible_seqno().get(),
     }
 }

@@ -5,9 +5,9 @@ ghost use Rattle.std.specs.Io.KnownBytes.{IsAtEnd};
 
 use crate::arguments::{Mode, parse_arguments};
 use crate::reply::Reply;
-use crate::session::Session;
+use crate::session::{CrashStore, Session};
 use crate::threads::call_all;
-use lsm_tree::{Error, FolderStore, MemStore, Store, StoreError};
+use lsm_tree::{Error, FolderStore, MemStore, StoreError};
 use std::alloc::Global;
 use std::fs::Files;
 use std::io::{self, BufRead, BufReader, BufWriter, ErrorKind, Read, Write};
@@ -102,7 +102,7 @@ fn answer_lines<S, R, W>(
     output: W,
 ) -> io::Result<u8>
 where
-    S: Store,
+    S: CrashStore,
     R: Read + Drop,
     W: Write + Drop,
 {
@@ -127,7 +127,7 @@ fn answer_each<S, R, W>(
     output: &mut BufWriter<W>,
 ) -> io::Result<()>
 where
-    S: Store,
+    S: CrashStore,
     R: Read + Drop,
     W: Write + Drop,
 {

@@ -61,8 +61,43 @@ const LISTED: [Row; 11] = [
     (b"prefix - 1", b"a 1\nend 1"),
 ];
 
+const FLUSHED: [Row; 8] = [
+    (b"put a x", b"ok 0"),
+    (b"flush 0", b"flushed 50 installed"),
+    (b"del a", b"ok 2"),
+    (b"get a 2", b"value x"),
+    (b"get a", b"none"),
+    (b"stats", b"tables 1 runs 1 sealed 0 len 2 bytes 37"),
+    (b"now 18446744073709551615", b"ok"),
+    (b"flush 0", b"flushed 49 installed"),
+];
+
+/// What is synced outlives a crash, and what is in memory doesn't.
+const CRASHED: [Row; 7] = [
+    (b"put a x", b"ok 0"),
+    (b"flush 0", b"flushed 50 installed"),
+    (b"put b y", b"ok 2"),
+    (b"crash", b"crashed"),
+    (b"reopen", b"opened 1"),
+    (b"get a", b"value x"),
+    (b"get b", b"none"),
+];
+
+/// After a crash the tree is to be opened again before all else; a tree that is open may be opened again as well.
+const CLOSED: [Row; 9] = [
+    (b"flush 0", b"nothing"),
+    (b"put a x", b"ok 0"),
+    (b"crash", b"crashed"),
+    (b"get a", b"error 0 Usage"),
+    (b"crash", b"error 0 Usage"),
+    (b"stats", b"error 0 Usage"),
+    (b"reopen", b"opened 0"),
+    (b"get a", b"none"),
+    (b"reopen", b"opened 0"),
+];
+
 /// Lines that ask nothing.
-const OTHERS: [&[u8]; 25] = [
+const OTHERS: [&[u8]; 31] = [
     b"",
     b" ",
     b"put a",
@@ -88,6 +123,12 @@ const OTHERS: [&[u8]; 25] = [
     b"range a",
     b"range a c 01",
     b"range a c 1 2",
+    b"flush",
+    b"flush 01",
+    b"flush a",
+    b"now -1",
+    b"stats 1",
+    b"reopen x",
 ];
 
 /// Whether a run prints this, writes that to the errors, and ends with the status.
@@ -144,6 +185,9 @@ fn answers_lines(rt: HostRuntime) -> Result<(), Fail> {
         EXTREMES.as_slice(),
         GOES_ON.as_slice(),
         LISTED.as_slice(),
+        FLUSHED.as_slice(),
+        CRASHED.as_slice(),
+        CLOSED.as_slice(),
     ];
     for (number, rows) in tables.iter().enumerate() {
         assert!(rt; answers(&rt, rt.alloc(), rows)?, "table {number}");
@@ -287,6 +331,11 @@ fn a_folder_is_read_again(rt: HostRuntime) -> Result<(), Fail> {
             (b"error 2 Store\n", 1)
         )?
     );
+    // A folder isn't crashed; what is flushed into it stays there.
+    let arguments = vec![in alloc; String::from_str(alloc, FOLDER)?]?;
+    let input = b"crash\nput b z\nflush 0\nreopen\nget b\n".as_slice();
+    let told = b"error 0 Usage\nok 1\nflushed 50 installed\nopened 2\nvalue z\n";
+    assert!(rt; ends(&rt, alloc, Some(&arguments), input, (told, b"", 0)));
     store.write("version", b"2")?;
     drop(store);
     assert!(rt; answers_over(&rt, alloc, FOLDER, (b"error 5 InvalidVersion\n", 1))?);

@@ -19,7 +19,8 @@ pub fn call_all<R: Threads + Wait + Sync>(
     alloc: Global,
     callers: u8,
 ) -> Result<Option<usize>, Error> {
-    let tree = Handle::new(alloc, open_tree(alloc, MemStore::new(alloc))?)?;
+    let core = open_tree(alloc, MemStore::new(alloc)).map_err(|refused| refused.0)?;
+    let tree = Handle::new(alloc, core)?;
     let told = thread::map_indices(
         rt,
         alloc,

@@ -88,6 +88,13 @@ impl<S: Store> TreeState<S> {
         }
     }
 
+    /// The store, to look at.
+    pub fn store(&self) -> &S
+        ensures { result.now ≡ self.now.store }
+    {
+        &self.store
+    }
+
     /// The store, in exchange for the tree. What stands in memtables alone is gone.
     pub fn into_store(self) -> S
         ensures { result ≡ self.store }

@@ -5,6 +5,8 @@
 //! | `handle` | trees that several callers share, behind one lock |
 //! | `shared_tree` | the calls of a tree behind the lock |
 //! | `shared_ranges` | its reads of many keys |
+//! | `shared_flushes` | its flushes |
+//! | `shared_counts` | what is counted of it |
 //! | `recorded_tree` | the calls of a tree with its journal, behind the lock |
 //! | `laws` | theorems as the contracts of functions that do nothing |
 #![tactic(auto)]
@@ -12,6 +14,8 @@
 mod handle;
 pub mod laws;
 mod recorded_tree;
+mod shared_counts;
+mod shared_flushes;
 mod shared_ranges;
 mod shared_tree;
 
@@ -59,6 +63,10 @@ pub use lsm_iter::RangeItem;
 pub use lsm_iter::TreeIter;
 pub use lsm_iter::prefix_to_range;
 pub use lsm_iter::take_ends;
+pub use lsm_jobs::FlushJob;
+pub use lsm_jobs::MergedFlush;
+pub use lsm_jobs::Registered;
+pub use lsm_jobs::WrittenFlush;
 pub use lsm_manifest::FileName;
 pub use lsm_manifest::FormatVersion;
 pub use lsm_manifest::Manifest;

@@ -1,15 +1,14 @@
 use Rattle.std.proofs.Common.{◌≡◌, None, IfOk, sym, ◌∙◌}
 use Rattle.lsm_shell.specs.Command.{command_of}
-use Rattle.lsm_shell.proofs.Commands.{asks_one, asks_two, asks_three, asks_four, asks_none, rotates}
+use Rattle.lsm_shell.proofs.Commands.{asks_one, asks_two, asks_three, asks_four, asks_none}
 use Rattle.lsm_shell.proofs.Spelling.{IsSpelledBy-same, IsSpelledBy-if_ok}
-use Rattle.lsm_shell.proofs.command.parse.Goals.{After-then_some, After-parse_two, After-parse_three, After-parse_four, In-None}
+use Rattle.lsm_shell.proofs.command.parse.Goals.{After-parse_one, After-parse_two, After-parse_three, After-parse_four, In-None}
 use Rattle.lsm_shell.proofs.command.parse.Goals as goal
 
-one : (c : After-then_some) → c.then_some.result ≡ command_of c.args.line.now
+one : (c : After-parse_one) → c.parse_one.result ≡ command_of c.args.line.now
 one c =
     let words = rw c.in-Some-One.field-0-is at c.in-Some-One.ensures in
-    let asked = asks_one c.args.line.now c.in-Some-One.verb.now words in
-    c.then_some.ensures ∙ (rotates c.in-Some-One.verb.now c.as_slice.result.now c.eq.result c.eq.ensures c.as_slice.ensures ∙ sym asked)
+    c.parse_one.ensures ∙ sym (asks_one c.args.line.now c.in-Some-One.verb.now words)
 
 two : (c : After-parse_two) → IfOk c.parse_two.result (λ found. found ≡ command_of c.args.line.now)
 two c =
@@ -30,7 +29,7 @@ none_asked : (c : In-None) → None ≡ command_of c.args.line.now
 none_asked c = sym (asks_none c.args.line.now c.in-None.ensures)
 
 pub returns-in-Some-One : goal.returns-in-Some-One
-returns-in-Some-One c = record { value = one c; spelled = IsSpelledBy-same c.args.line.now c.then_some.result (one c) }
+returns-in-Some-One c = record { value = one c; spelled = IsSpelledBy-same c.args.line.now c.parse_one.result (one c) }
 
 pub returns-in-Some-Two : goal.returns-in-Some-Two
 returns-in-Some-Two c = record { value = two c; spelled = IsSpelledBy-if_ok c.args.line.now c.parse_two.result (two c) }

@@ -1,0 +1,122 @@
+// The calls of a flush, of a tree behind the lock.
+ghost use Rattle.std.specs.Prelude.{◌≡◌, is_some};
+ghost use Rattle.lsm_state.specs.Flushes.{Begins, WritesTables, Registers, spent};
+ghost use Rattle.lsm_state.specs.WholeFlushes.{Flushes, FlushesActive};
+ghost use Rattle.lsm_tree.specs.Shared.{OnSomeTree, AtSomeTree};
+
+use crate::handle::Handle;
+use lsm_below::{MemtableId, SeqNo};
+use lsm_jobs::{FlushJob, MergedFlush, Registered, WrittenFlush};
+use lsm_parts::Error;
+use lsm_state::TreeState;
+use lsm_store::Store;
+use std::sync::Wait;
+
+/// A flush in its parts, or in one call, each on the tree as the lock finds it. A job shares its memtables and knows
+/// nothing of the lock: while `FlushJob::run` merges them, other callers read and write.
+impl<S: Store> Handle<TreeState<S>> {
+    /// Opens a flush of all sealed memtables, as `TreeState::begin_flush`.
+    pub fn begin_flush(&self, rt: &impl Wait) -> Result<Option<FlushJob>, Error>
+        ensures { OnSomeTree (λ old new. Begins result old new) }
+    {
+        let mut tree = self.shared.lock(rt);
+        let tree = &mut *tree;
+        tree.facts();
+        let told = tree.begin_flush();
+        tree.facts();
+        told
+    }
+
+    /// Writes the tables of a merged job, as `TreeState::flush_to_tables`. The lock is held while they are written.
+    pub fn flush_to_tables(
+        &self,
+        rt: &impl Wait,
+        job: MergedFlush,
+    ) -> Result<WrittenFlush, (Error, MergedFlush)>
+        ensures { OnSomeTree (λ old new. WritesTables job result old new) }
+    {
+        let mut tree = self.shared.lock(rt);
+        let tree = &mut *tree;
+        tree.facts();
+        let told = tree.flush_to_tables(job);
+        tree.facts();
+        told
+    }
+
+    /// Installs the tables of a job, or finds it stale, as `TreeState::register_tables`.
+    pub fn register_tables(&self, rt: &impl Wait, job: WrittenFlush) -> Result<Registered, Error>
+        ensures { OnSomeTree (λ old new. Registers job result old new) }
+    {
+        let mut tree = self.shared.lock(rt);
+        let tree = &mut *tree;
+        tree.facts();
+        let told = tree.register_tables(job);
+        tree.facts();
+        told
+    }
+
+    /// Gives up a job, as `TreeState::abandon_flush`.
+    pub fn abandon_flush(&self, rt: &impl Wait, job: FlushJob)
+        ensures { OnSomeTree (λ old new. new ≡ spent job.number old) }
+    {
+        let mut tree = self.shared.lock(rt);
+        let tree = &mut *tree;
+        tree.facts();
+        tree.abandon_flush(job);
+        tree.facts();
+    }
+
+    /// Flushes all sealed memtables in one call, as `TreeState::flush`. The lock is held throughout.
+    pub fn flush(
+        &self,
+        rt: &impl Wait,
+        watermark: SeqNo,
+    ) -> Result<Option<(u64, Registered)>, Error>
+        ensures { OnSomeTree (λ old new. Flushes watermark result old new) }
+    {
+        let mut tree = self.shared.lock(rt);
+        let tree = &mut *tree;
+        tree.facts();
+        let told = tree.flush(watermark);
+        tree.facts();
+        told
+    }
+
+    /// Seals the active memtable and flushes all sealed ones, as `TreeState::flush_active_memtable`. The lock is held
+    /// throughout.
+    pub fn flush_active_memtable(
+        &self,
+        rt: &impl Wait,
+        watermark: SeqNo,
+    ) -> Result<(Option<MemtableId>, Option<(u64, Registered)>), (Error, Option<MemtableId>)>
+        ensures { OnSomeTree (λ old new. FlushesActive watermark result old new) }
+    {
+        let mut tree = self.shared.lock(rt);
+        let tree = &mut *tree;
+        tree.facts();
+        let told = tree.flush_active_memtable(watermark);
+        tree.facts();
+        told
+    }
+
+    /// Sets the moment, in nanoseconds, at which tables are made from now on, as `TreeState::set_moment`.
+    pub fn set_moment(&self, rt: &impl Wait, moment: u64)
+        ensures { OnSomeTree (λ old new. new ≡ record old { moment = moment }) }
+    {
+        let mut tree = self.shared.lock(rt);
+        let tree = &mut *tree;
+        tree.facts();
+        tree.set_moment(moment);
+        tree.facts();
+    }
+
+    /// Whether a commit of unknown outcome came before, as `TreeState::is_uncertain`.
+    pub fn is_uncertain(&self, rt: &impl Wait) -> bool
+        ensures { AtSomeTree (λ c. result ≡ is_some c.lost) }
+    {
+        let tree = self.shared.lock(rt);
+        let tree = &*tree;
+        tree.facts();
+        tree.is_uncertain()
+    }
+}
