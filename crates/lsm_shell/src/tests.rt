@@ -72,6 +72,17 @@ const FLUSHED: [Row; 8] = [
     (b"flush 0", b"flushed 49 installed"),
 ];
 
+/// A value and its weak removal leave together.
+const FLUSHED_AWAY: [Row; 7] = [
+    (b"put a x", b"ok 0"),
+    (b"weak a", b"ok 1"),
+    (b"flush 2", b"flushed 99 installed"),
+    (b"get a 1", b"value x"),
+    (b"get a 2", b"none"),
+    (b"get a 3", b"none"),
+    (b"stats", b"tables 0 runs 0 sealed 0 len 0 bytes 0"),
+];
+
 /// What is synced outlives a crash, and what is in memory doesn't.
 const CRASHED: [Row; 7] = [
     (b"put a x", b"ok 0"),
@@ -186,6 +197,7 @@ fn answers_lines(rt: HostRuntime) -> Result<(), Fail> {
         GOES_ON.as_slice(),
         LISTED.as_slice(),
         FLUSHED.as_slice(),
+        FLUSHED_AWAY.as_slice(),
         CRASHED.as_slice(),
         CLOSED.as_slice(),
     ];
