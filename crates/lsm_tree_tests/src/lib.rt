@@ -1,6 +1,8 @@
-//! Tests of the tree above its parts: runs of steps, trees with a journal, and trees that are shared.
+//! Tests of the tree above its parts: runs of steps, trees with a journal, trees that are shared, and their flushes.
 #![tactic(auto)]
 
+#[cfg(test)]
+mod flushes;
 #[cfg(test)]
 mod handles;
 #[cfg(test)]
