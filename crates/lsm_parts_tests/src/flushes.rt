@@ -248,8 +248,8 @@ fn flush_over(alloc: Global, tree: &mut TreeState) -> Result<bool, Error> {
 
 #[test]
 fn nothing_is_committed_behind_an_unknown_outcome(rt: HostRuntime) -> Result<(), Fail> {
-    // An opening lists, and reads `current`, `v1` and a table; a flush writes and syncs a table and `v2`.
-    let mut tree = failing(rt.alloc(), 9)?;
+    // An opening lists, reads `current`, `v1` and a table, and removes `v0`; a flush writes and syncs a table and `v2`.
+    let mut tree = failing(rt.alloc(), 10)?;
     assert!(rt; matches!(flush_over(rt.alloc(), &mut tree), Ok(true)));
     assert!(rt; shows(&tree, "b", 10, "y"));
     let left = crashed(rt.alloc(), tree)?;
@@ -261,7 +261,8 @@ fn nothing_is_committed_behind_an_unknown_outcome(rt: HostRuntime) -> Result<(),
 
 #[test]
 fn a_flush_whose_version_is_not_written_changes_nothing(rt: HostRuntime) -> Result<(), Fail> {
-    let mut tree = failing(rt.alloc(), 7)?;
+    // The write of `v2`.
+    let mut tree = failing(rt.alloc(), 8)?;
     assert!(rt; set(rt.alloc(), &mut tree, "b", "y").is_ok());
     assert!(rt; matches!(flush(&mut tree, 0), Err(Error::Store)));
     assert!(rt; tree.table_count() == 1);
