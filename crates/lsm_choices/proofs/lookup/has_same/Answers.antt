@@ -10,8 +10,8 @@ returns-in-Some c = λ ts is own.
     let u = c.in-Some.found.now in
     let at : Some u ≡ get nat_eq c.args.by_id.now t.id = subst (λ (k : ℕ). Some u ≡ get nat_eq c.args.by_id.now k) c.id.ensures c.in-Some.ensures.value in
     let row = subst (λ (o : Option SeenTable). Row ts t.id o) (sym at) (is t.id) in (
-      λ yes. found_among ts t u row.0 row.1 (sym c.entries.ensures ∙ c.same_entries.ensures.0 yes ∙ c.entries-in-Some.ensures),
-      λ there. c.same_entries.ensures.1 (c.entries.ensures ∙ found_same ts t u own row.0 row.1 there ∙ sym c.entries-in-Some.ensures),
+      λ yes. found_among ts t u row.0 row.1 (sym c.entries.ensures ∙ c.have_same_parts.ensures.0 yes ∙ c.entries-in-Some.ensures),
+      λ there. c.have_same_parts.ensures.1 (c.entries.ensures ∙ found_same ts t u own row.0 row.1 there ∙ sym c.entries-in-Some.ensures),
     )
 
 pub returns-in-None : goal.returns-in-None
