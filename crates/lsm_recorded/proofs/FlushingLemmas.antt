@@ -1,6 +1,7 @@
 -- What the calls of a flush keep of a tree with its journal.
 use Rattle.std.proofs.Common.{cond, ◌≡◌, ℕ, ◌+◌, ◌≤◌, max, Bool, true, false, List, [], ◌∷◌, ◌++◌, Option, Some, None, IsSome, Result, Ok, Err, IfOk, IsErrOf, inl, inr, ◌⊎◌, ⊎_elim, fold, refl, sym, ap, ◌∙◌, subst, arith, append-nil, append_assoc}
 use Rattle.std.specs.BTreeMap.{BTreeMap}
+use Rattle.std.specs.Result.{is_ok}
 use Rattle.std.proofs.lemmas.Grind.{fold-append}
 use Rattle.lsm_below.specs.Keys.{Bytes}
 use Rattle.lsm_below.specs.Entries.{Entry, above, stack, values}
@@ -8,6 +9,7 @@ use Rattle.lsm_below.specs.declared.error.Error.{Error}
 use Rattle.lsm_below.specs.declared.error.Error.TheVariants.{OutOfMemory, Store, CommitUnknown, Unrecoverable, OutOfNumbers, TooManyRuns}
 use Rattle.lsm_model.specs.Soundness.{Soundness}
 use Rattle.lsm_model.specs.Journal.{Event, InOrder, next_after, sets_after, floor_after, floor, next_number_after, next_number}
+use Rattle.lsm_model.specs.Sound.{Holds}
 use Rattle.lsm_model.specs.Views.{Placed, held}
 use Rattle.lsm_model.specs.Beginnings.{shown_by}
 use Rattle.lsm_model.specs.declared.journal.JournalEntry.TheVariants.{Write, Clear, Install, Dropped, Mark as Watermark, Read}
@@ -16,7 +18,8 @@ use Rattle.lsm_jobs.specs.declared.jobs.Registered.{Registered}
 use Rattle.lsm_state.specs.Calls.{Rotates}
 use Rattle.lsm_state.specs.Core.{Core, state_of}
 use Rattle.lsm_state.specs.FlushReads.{register_events, flush_events, KeepsReads, FlushesKeepReads}
-use Rattle.lsm_state.specs.Flushes.{Begins, WritesTables, Registers, IsFlushDeed}
+use Rattle.lsm_state.specs.Flushes.{Begins, WritesTables, Registers, IsFlushDeed, spent}
+use Rattle.lsm_state.specs.Commits.{counted}
 use Rattle.lsm_state.specs.WholeFlushes.{Flushes, MarksFlush}
 use Rattle.lsm_recorded.specs.declared.marks.Mark.{Mark}
 use Rattle.lsm_recorded.specs.Marks.{mark_of, mark_in}
@@ -25,6 +28,12 @@ use Rattle.lsm_recorded.specs.Recorded.{IsRecorded, Stays}
 use Rattle.lsm_recorded.specs.Flushing.{mark_events, is_installed, KeepsRecorded}
 use Rattle.lsm_recorded.proofs.MarksLemmas.{in_order_push}
 use Rattle.lsm_recorded.proofs.RecordedLemmas.{recorded}
+
+-- ---- what is told
+
+events_are : (w n : ℕ) (r : Result Registered Error) → register_events w n r ≡ mark_events w n (is_installed r)
+events_are w n (Ok a) = refl
+events_are w n (Err e) = refl
 
 -- ---- the counter
 
@@ -49,10 +58,10 @@ registers_counter job (Err e) old new r =
     (λ (t : e ≡ TooManyRuns). same (r.before (inr (inr (ap Err t)))))))
     r.only
   where
-    same : new ≡ Rattle.lsm_state.specs.Flushes.spent job.job.number old → old.seqno ≤ new.seqno
+    same : new ≡ spent job.job.number old → old.seqno ≤ new.seqno
     same h = let q : new.seqno ≡ old.seqno = ap (λ (c : Core). c.seqno) h in omega (arith, q)
 
-    more : new ≡ Rattle.lsm_state.specs.Commits.counted (Rattle.lsm_state.specs.Flushes.spent job.job.number old) → old.seqno ≤ new.seqno
+    more : new ≡ counted (spent job.job.number old) → old.seqno ≤ new.seqno
     more h = let q : new.seqno ≡ old.seqno + 1 = ap (λ (c : Core). c.seqno) h in omega (arith, q)
 
 -- the same of a flush in one call
@@ -68,6 +77,9 @@ begins_counter (Err e) old new b = let q : new.seqno ≡ old.seqno = ap (λ (c :
 pub writes_counter : (job : SeenMerged) (r : Result SeenWritten (Error × SeenMerged)) (old new : Core) → WritesTables job r old new → old.seqno ≤ new.seqno
 writes_counter job (Ok x) old new w = let q : new.seqno ≡ old.seqno = ap (λ (c : Core). c.seqno) w.ok in omega (arith, q)
 writes_counter job (Err e) old new w = let q : new.seqno ≡ old.seqno = ap (λ (c : Core). c.seqno) w.err in omega (arith, q)
+
+pub spent_counter : (n : ℕ) (old new : Core) → new ≡ spent n old → old.seqno ≤ new.seqno
+spent_counter n old new is = let q : new.seqno ≡ old.seqno = ap (λ (c : Core). c.seqno) is in omega (arith, q)
 
 -- ---- the floor is below the next number
 
@@ -131,7 +143,38 @@ module _ (opened : List Placed) (least : ℕ) (marks : BTreeMap Bytes Mark) wher
   silent_recorded theory low old new journal keeps le r =
       let order : InOrder first (journal ++ []) = subst (InOrder first) (sym (append-nil journal)) r.order in
       let up = r.counted in (
-        recorded opened least theory r.least_is marks low new journal (subst (λ j. Rattle.lsm_model.specs.Sound.Holds first (shown_by opened) (state_of j new)) (append-nil journal) (keeps.right first (shown_by opened) journal order r.holds))
+        recorded opened least theory r.least_is marks low new journal (subst (λ j. Holds first (shown_by opened) (state_of j new)) (append-nil journal) (keeps.right first (shown_by opened) journal order r.holds))
             (record { order = r.order; counted = omega (arith, up, le) }) r.floored r.noted,
         keeps.stays first (shown_by opened) journal order r.holds,
       )
+
+  -- ---- what is registered
+
+  moved : (low low' : ℕ) (old new : Core) (journal journal' : List Event) → low' ≡ low → journal' ≡ journal → IsRecorded opened least marks low new journal × Stays old new → IsRecorded opened least marks low' new journal' × Stays old new
+  moved low low' old new journal journal' is same t = (subst (λ l. IsRecorded opened least marks l new journal') (sym is) (subst (λ j. IsRecorded opened least marks low new j) (sym same) t.0), t.1)
+
+  pub register_recorded : (theory : Soundness) (law : FlushesKeepReads) (job : SeenWritten) (w low low' n : ℕ) (b : Bool) (r : Result Registered Error) (old new : Core) (journal journal' : List Event) → Registers job r old new → IfOk r (λ a. a.installed ≡ true → IsFlushDeed job old new)
+      → w ≡ job.watermark → b ≡ is_installed r → n ≡ old.seqno → journal' ≡ journal ++ mark_events w n b → low' ≡ cond b n low → IsRecorded opened least marks low old journal → IsRecorded opened least marks low' new journal' × Stays old new
+  register_recorded theory law job w low low' n b r old new journal journal' registers deeds mark installed number told floored h =
+      let v = job.watermark in
+      let c = is_installed r in
+      moved (cond c old.seqno low) low' old new (journal ++ mark_events v old.seqno c) journal'
+      (floored ∙ ap (λ x. cond x n low) installed ∙ ap (λ m. cond c m low) number)
+      (told ∙ ap (λ x. journal ++ mark_events x n b) mark ∙ ap (λ m. journal ++ mark_events v m b) number ∙ ap (λ x. journal ++ mark_events v old.seqno x) installed)
+      (marked_recorded theory v low c old new journal (subst (λ es. KeepsReads es old new) (events_are v old.seqno r) (law.registers job r old new registers deeds)) (registers_counter job r old new registers) h)
+
+  pub flush_recorded : (theory : Soundness) (law : FlushesKeepReads) (w low low' n : ℕ) (b : Bool) (r : Result (Option (ℕ × Registered)) Error) (old new : Core) (journal journal' : List Event) → Flushes w r old new → MarksFlush true r
+      → b ≡ is_ok r → n ≡ old.seqno → journal' ≡ journal ++ mark_events w n b → low' ≡ cond b n low → IsRecorded opened least marks low old journal → IsRecorded opened least marks low' new journal' × Stays old new
+  flush_recorded theory law w low low' n b r old new journal journal' flushes marks_it ok number told floored h =
+      moved (cond (is_ok r) old.seqno low) low' old new (journal ++ mark_events w old.seqno (is_ok r)) journal'
+      (floored ∙ ap (λ x. cond x n low) ok ∙ ap (λ m. cond (is_ok r) m low) number)
+      (told ∙ ap (λ m. journal ++ mark_events w m b) number ∙ ap (λ x. journal ++ mark_events w old.seqno x) ok)
+      (by_case r flushes marks_it)
+    where
+      by_case : (q : Result (Option (ℕ × Registered)) Error) → Flushes w q old new → MarksFlush true q → IsRecorded opened least marks (cond (is_ok q) old.seqno low) new (journal ++ mark_events w old.seqno (is_ok q)) × Stays old new
+      by_case (Ok None) f m = absurd (cc (m.ok.1 refl))
+      by_case (Ok (Some p)) f m =
+          let q : new.seqno ≡ old.seqno + 1 = ap (λ (c : Core). c.seqno) f.installs.installs.cleans.rest in
+          let le : old.seqno + 1 ≤ new.seqno = omega (arith, q) in
+          marked_recorded theory w low true old new journal (law.flushes w true (Ok (Some p)) old new f m) le h
+      by_case (Err e) f m = marked_recorded theory w low false old new journal (law.flushes w true (Err e) old new f m) (refused_counter w e old new f) h

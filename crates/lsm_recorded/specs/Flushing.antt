@@ -37,8 +37,8 @@ pub record SpendsUnnoted {S : Type 0} (job : SeenWritten) (r : Result Registered
   pub refused : r ≡ Err OutOfMemory
   pub core : new.tree.core ≡ spent job.job.number old.tree.core
   pub store : new.tree.store ≡ old.tree.store
-  pub journal : new.journal ≡ old.journal
-  pub pass : pass' ≡ pass
+  pub journal_stays : new.journal ≡ old.journal
+  pub pass_stays : pass' ≡ pass
 
 -- a job that is registered, whatever it is answered: the mark is noted, and the install where it is installed
 pub record RegistersNoted {S : Type 0} (job : SeenWritten) (r : Result Registered Error) (old new : SeenRecorded S) (pass pass' : List (ℕ × JournalEntry)) : Type 0 where
@@ -50,8 +50,8 @@ pub record RegistersNoted {S : Type 0} (job : SeenWritten) (r : Result Registere
 -- a flush that there is no room to note: nothing changes
 pub record RefusesUnnoted {S A : Type 0} (r : Result A Error) (old new : SeenRecorded S) (pass pass' : List (ℕ × JournalEntry)) : Type 0 where
   pub refused : r ≡ Err OutOfMemory
-  pub tree : new ≡ old
-  pub pass : pass' ≡ pass
+  pub unchanged : new ≡ old
+  pub pass_stays : pass' ≡ pass
 
 -- a flush, whatever it answers: what it came to is noted
 pub record FlushesNoted (w : ℕ) (r : Result (Option (ℕ × Registered)) Error) (old new : Core) (journal journal' : List JournalEntry) (pass pass' : List (ℕ × JournalEntry)) : Type 0 where
