@@ -89,7 +89,7 @@ not_none (Some x) h e = cc e
 
 module _ (opened : List Placed) (least : ℕ) where
   -- the facts for callers follow from those that the next step goes on from
-  recorded : (theory : Soundness) → least ≡ above (held opened) → (marks : Marks) (low : ℕ) (c : Core) (journal : List Event) → Holds (held opened) (shown_by opened) (state_of journal c) → IsCounted (held opened) c.seqno journal → low ≡ floor journal → ((k : Bytes) → mark_of marks k ≡ mark_in (held opened) journal k) → IsRecorded opened least marks low c journal
+  pub recorded : (theory : Soundness) → least ≡ above (held opened) → (marks : Marks) (low : ℕ) (c : Core) (journal : List Event) → Holds (held opened) (shown_by opened) (state_of journal c) → IsCounted (held opened) c.seqno journal → low ≡ floor journal → ((k : Bytes) → mark_of marks k ≡ mark_in (held opened) journal k) → IsRecorded opened least marks low c journal
   recorded theory is marks low c journal holds counted floored noted = record {
     reads = theory.right.reads (held opened) (shown_by opened) (state_of journal c) holds;
     holds = holds;

@@ -7,3 +7,4 @@ pub mod MarkedTables
 pub mod Notes
 pub mod Recorded
 pub mod Opened
+pub mod Flushing

@@ -368,5 +368,7 @@ impl<S: Store> Recorded<S> {
     }
 }
 
+mod counted;
+mod flushing;
 mod opening;
 mod range;

@@ -1,0 +1,284 @@
+// The calls of a flush, and what they add to a journal.
+ghost use Rattle.std.specs.Prelude.{◌≡◌, ◌⊎◌, ◌+◌, ◌≤◌, List, IsSome, vec_len, vec_capacity, if◌then◌else◌};
+ghost use Rattle.lsm_tables.specs.Tables.{SeenTable};
+ghost use Rattle.lsm_versions.specs.Levels.{SeenVersion};
+ghost use Rattle.lsm_files.specs.Stored.{IsStored, Leaves};
+ghost use Rattle.lsm_state.specs.Commits.{Upholds};
+ghost use Rattle.lsm_state.specs.Flushes.{Begins, WritesTables, Registers, spent};
+ghost use Rattle.lsm_state.specs.FlushReads.{register_events};
+ghost use Rattle.lsm_state.specs.WholeFlushes.{FlushesActive};
+ghost use Rattle.lsm_recorded.specs.Passes.{Notes};
+ghost use Rattle.lsm_recorded.specs.Flushing.{mark_events, is_installed, SpendsUnnoted, RegistersNoted, RefusesUnnoted, FlushesNoted, NotesActive, KeepsRecorded};
+
+use crate::pass::{Pass, make_room, put_entry};
+use crate::recorded::Recorded;
+use lsm_below::{MemtableId, SeqNo};
+use lsm_files::crashes_leave_versions;
+use lsm_jobs::{FlushJob, MergedFlush, Registered, WrittenFlush};
+use lsm_model::{JournalEntry, reads_are_sound};
+use lsm_parts::Error;
+use lsm_state::{TreeState, flushes_keep_reads};
+use lsm_store::Store;
+
+/// Whether a job was installed.
+fn is_installed(registered: &Result<Registered, Error>) -> bool
+    ensures { result ≡ is_installed registered.now }
+{
+    match registered {
+        Ok(registered) => registered.installed,
+        Err(_) => false,
+    }
+}
+
+/// Appends a mark, and an install behind it where there is one, to a journal, and copies with their places to a pass.
+/// There is room.
+fn put_mark(
+    journal: &mut Vec<JournalEntry>,
+    pass: &mut Vec<(u64, JournalEntry)>,
+    watermark: SeqNo,
+    number: SeqNo,
+    installed: bool,
+)
+    requires journal_room { vec_len journal.old + 2 ≤ vec_capacity journal.old }
+    requires pass_room { vec_len pass.old + 2 ≤ vec_capacity pass.old }
+    ensures { Notes (mark_events watermark number installed) journal.old.items journal.new.items pass.old.items pass.new.items }
+{
+    let (entry, copy) = (JournalEntry::Mark(watermark), JournalEntry::Mark(watermark));
+    put_entry(journal, pass, entry, copy);
+    if installed {
+        let (entry, copy) = (JournalEntry::Install(number), JournalEntry::Install(number));
+        put_entry(journal, pass, entry, copy);
+    }
+}
+
+/// Registers a job, and notes it. There is room.
+fn register_noted<S: Store>(
+    core: &mut TreeState<S>,
+    journal: &mut Vec<JournalEntry>,
+    pass: &mut Vec<(u64, JournalEntry)>,
+    floor: &mut SeqNo,
+    job: WrittenFlush,
+) -> Result<Registered, Error>
+    requires journal_room { vec_len journal.old + 2 ≤ vec_capacity journal.old }
+    requires pass_room { vec_len pass.old + 2 ≤ vec_capacity pass.old }
+    ensures registers { Registers job result core.old.core core.new.core }
+    ensures noted { Notes (register_events job.watermark core.old.core.seqno result) journal.old.items journal.new.items pass.old.items pass.new.items }
+    ensures keeps { KeepsRecorded floor.old floor.new core.old.core core.new.core journal.old.items journal.new.items }
+    ensures upholds { S.tells → Upholds (S.world core.old.store) (S.world core.new.store) core.old.core core.new.core }
+    ensures no_call { IsSome core.old.core.lost → core.new.store ≡ core.old.store }
+{
+    reads_are_sound();
+    flushes_keep_reads();
+    let number = core.seqno().get();
+    let watermark = job.watermark();
+    let registered = core.register_tables(job);
+    let installed = is_installed(&registered);
+    put_mark(journal, pass, watermark, number, installed);
+    if installed {
+        *floor = number;
+    }
+    registered
+}
+
+/// Flushes all sealed memtables, and notes it. There is room.
+fn flush_noted<S: Store>(
+    core: &mut TreeState<S>,
+    journal: &mut Vec<JournalEntry>,
+    pass: &mut Vec<(u64, JournalEntry)>,
+    floor: &mut SeqNo,
+    watermark: SeqNo,
+) -> Result<Option<(u64, Registered)>, Error>
+    requires journal_room { vec_len journal.old + 2 ≤ vec_capacity journal.old }
+    requires pass_room { vec_len pass.old + 2 ≤ vec_capacity pass.old }
+    ensures flushes { FlushesNoted watermark result core.old.core core.new.core journal.old.items journal.new.items pass.old.items pass.new.items }
+    ensures keeps { KeepsRecorded floor.old floor.new core.old.core core.new.core journal.old.items journal.new.items }
+    ensures upholds { S.tells → Upholds (S.world core.old.store) (S.world core.new.store) core.old.core core.new.core }
+    ensures no_call { IsSome core.old.core.lost → core.new.store ≡ core.old.store }
+{
+    reads_are_sound();
+    flushes_keep_reads();
+    let number = core.seqno().get();
+    let (flushed, marked) = core.flush_with_mark(watermark);
+    if marked {
+        let installed = flushed.is_ok();
+        put_mark(journal, pass, watermark, number, installed);
+        if installed {
+            *floor = number;
+        }
+    }
+    flushed
+}
+
+/// A flush in its parts, or in one call. No call changes what a snapshot sees that is answered before and after. What
+/// is registered is noted: a `Mark` of the watermark, and where tables are installed an `Install` under the sequence
+/// number that they get.
+impl<S: Store> Recorded<S> {
+    ghost use Rattle.lsm_recorded.specs.Recorded.{Stays};
+
+    /// Opens a flush of all sealed memtables, as `TreeState::begin_flush`. The journal and the pass stay.
+    pub fn begin_flush(&mut self, pass: &mut Pass) -> Result<Option<FlushJob>, Error>
+        ensures core { Begins result self.old.tree.core self.new.tree.core }
+        ensures store { self.new.tree.store ≡ self.old.tree.store }
+        ensures journal { self.new.journal ≡ self.old.journal }
+        ensures pass { pass.new ≡ pass.old }
+        ensures views { Stays self.old.tree.core self.new.tree.core }
+        ensures opened { self.new.opened ≡ self.old.opened }
+    {
+        reads_are_sound();
+        flushes_keep_reads();
+        let _ = pass;
+        self.core.begin_flush()
+    }
+
+    /// Writes the tables of a job that was merged, as `TreeState::flush_to_tables`; refused, the job comes back beside
+    /// the error. The journal and the pass stay.
+    pub fn flush_to_tables(
+        &mut self,
+        pass: &mut Pass,
+        job: MergedFlush,
+    ) -> Result<WrittenFlush, (Error, MergedFlush)>
+        ensures core { WritesTables job result self.old.tree.core self.new.tree.core }
+        // What a crash leaves.
+        ensures upholds { S.tells → Upholds (S.world self.old.tree.store) (S.world self.new.tree.store) self.old.tree.core self.new.tree.core }
+        ensures no_call { IsSome self.old.tree.core.lost → self.new.tree.store ≡ self.old.tree.store }
+        ensures journal { self.new.journal ≡ self.old.journal }
+        ensures pass { pass.new ≡ pass.old }
+        ensures views { Stays self.old.tree.core self.new.tree.core }
+        ensures opened { self.new.opened ≡ self.old.opened }
+    {
+        reads_are_sound();
+        flushes_keep_reads();
+        let _ = pass;
+        self.core.flush_to_tables(job)
+    }
+
+    /// Gives up a job, as `TreeState::abandon_flush`. The journal and the pass stay.
+    pub fn abandon_flush(&mut self, pass: &mut Pass, job: FlushJob)
+        ensures core { self.new.tree.core ≡ spent job.number self.old.tree.core }
+        ensures store { self.new.tree.store ≡ self.old.tree.store }
+        ensures journal { self.new.journal ≡ self.old.journal }
+        ensures pass { pass.new ≡ pass.old }
+        ensures views { Stays self.old.tree.core self.new.tree.core }
+        ensures opened { self.new.opened ≡ self.old.opened }
+    {
+        reads_are_sound();
+        flushes_keep_reads();
+        let _ = pass;
+        self.core.abandon_flush(job);
+    }
+
+    /// Of files to which nothing is done, a crash leaves what they hold.
+    fn stays_stored(&self)
+        ensures { S.tells → (versions : List SeenVersion) (written : List SeenTable) → IsStored (S.world self.now.tree.store) versions written → Leaves (S.world self.now.tree.store) (S.world self.now.tree.store) versions }
+    {
+        crashes_leave_versions(self.core.store());
+    }
+
+    /// Installs the tables of a job, as `TreeState::register_tables`, and notes the mark, whatever is answered, and the
+    /// install where there is one. The job is spent whatever is answered. The cost is that of the tree's call.
+    ///
+    /// # Errors
+    ///
+    /// As `TreeState::register_tables`; and `OutOfMemory`, before all else, where there is no room for the notes: then
+    /// nothing is noted.
+    pub fn register_tables(
+        &mut self,
+        pass: &mut Pass,
+        job: WrittenFlush,
+    ) -> Result<Registered, Error>
+        ensures registers { SpendsUnnoted job result self.old self.new pass.old pass.new ⊎ RegistersNoted job result self.old self.new pass.old pass.new }
+        // What a crash leaves.
+        ensures upholds { S.tells → Upholds (S.world self.old.tree.store) (S.world self.new.tree.store) self.old.tree.core self.new.tree.core }
+        ensures no_call { IsSome self.old.tree.core.lost → self.new.tree.store ≡ self.old.tree.store }
+        ensures views { Stays self.old.tree.core self.new.tree.core }
+        ensures opened { self.new.opened ≡ self.old.opened }
+    {
+        reads_are_sound();
+        flushes_keep_reads();
+        self.stays_stored();
+        if make_room(&mut self.journal, &mut pass.entries, 2).is_err() {
+            self.core.abandon_flush(job.into_job());
+            return Err(Error::OutOfMemory);
+        }
+        register_noted(
+            &mut self.core,
+            &mut self.journal,
+            &mut pass.entries,
+            &mut self.floor,
+            job,
+        )
+    }
+
+    /// Flushes all sealed memtables in one call, as `TreeState::flush`. Where it comes to register a job it notes the
+    /// mark, also where it is refused then, and the install where it is answered.
+    ///
+    /// # Errors
+    ///
+    /// As `TreeState::flush`; and `OutOfMemory`, before all else, where there is no room for the notes: then nothing
+    /// changes.
+    pub fn flush(
+        &mut self,
+        pass: &mut Pass,
+        watermark: SeqNo,
+    ) -> Result<Option<(u64, Registered)>, Error>
+        ensures flushes { RefusesUnnoted result self.old self.new pass.old pass.new ⊎ FlushesNoted watermark result self.old.tree.core self.new.tree.core self.old.journal self.new.journal pass.old pass.new }
+        // What a crash leaves.
+        ensures upholds { S.tells → Upholds (S.world self.old.tree.store) (S.world self.new.tree.store) self.old.tree.core self.new.tree.core }
+        ensures no_call { IsSome self.old.tree.core.lost → self.new.tree.store ≡ self.old.tree.store }
+        ensures views { Stays self.old.tree.core self.new.tree.core }
+        ensures opened { self.new.opened ≡ self.old.opened }
+    {
+        reads_are_sound();
+        self.stays_stored();
+        make_room(&mut self.journal, &mut pass.entries, 2)?;
+        flush_noted(
+            &mut self.core,
+            &mut self.journal,
+            &mut pass.entries,
+            &mut self.floor,
+            watermark,
+        )
+    }
+
+    /// Seals the active memtable, and flushes all sealed ones: `rotate_memtable` and then `flush`, as
+    /// `TreeState::flush_active_memtable`. It notes what `flush` does.
+    ///
+    /// # Errors
+    ///
+    /// As `TreeState::flush_active_memtable`; and `OutOfMemory` beside None, before all else, where there is no room for
+    /// the notes: then nothing changes.
+    pub fn flush_active_memtable(
+        &mut self,
+        pass: &mut Pass,
+        watermark: SeqNo,
+    ) -> Result<(Option<MemtableId>, Option<(u64, Registered)>), (Error, Option<MemtableId>)>
+        ensures core { FlushesActive watermark result self.old.tree.core self.new.tree.core }
+        ensures noted { NotesActive watermark result self.old.tree.core self.new.tree.core self.old.journal self.new.journal pass.old pass.new }
+        // What a crash leaves.
+        ensures upholds { S.tells → Upholds (S.world self.old.tree.store) (S.world self.new.tree.store) self.old.tree.core self.new.tree.core }
+        ensures no_call { IsSome self.old.tree.core.lost → self.new.tree.store ≡ self.old.tree.store }
+        ensures views { Stays self.old.tree.core self.new.tree.core }
+        ensures opened { self.new.opened ≡ self.old.opened }
+    {
+        reads_are_sound();
+        self.stays_stored();
+        if make_room(&mut self.journal, &mut pass.entries, 2).is_err() {
+            return Err((Error::OutOfMemory, None));
+        }
+        let sealed = match self.core.rotate_memtable() {
+            Ok(sealed) => sealed,
+            Err(error) => return Err((error, None)),
+        };
+        let flushed = flush_noted(
+            &mut self.core,
+            &mut self.journal,
+            &mut pass.entries,
+            &mut self.floor,
+            watermark,
+        );
+        match flushed {
+            Ok(flushed) => Ok((sealed, flushed)),
+            Err(error) => Err((error, sealed)),
+        }
+    }
+}
