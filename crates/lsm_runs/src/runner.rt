@@ -320,7 +320,7 @@ fn take_step<S: Store>(
 ) -> Result<Outcome, AllocError>
     ensures ok { IfOk result (λ told. Takes step.now told.reply told.entries (beside state.old.core slots.old) (beside state.new.core slots.new)) }
     ensures err { OnErr result (state.new ≡ state.old) }
-    ensures files { S.tells → LeavesFiles step.now (S.world state.old.store) (S.world state.new.store) state.old.core state.new.core }
+    ensures files { S.tells → LeavesFiles S.world step.now state.old.store state.new.store state.old.core state.new.core }
 {
     match step {
         Step::Insert(key, value, seqno) => insert(alloc, state, key, value, *seqno),

@@ -183,7 +183,7 @@ fn take_job<S: Store>(
 ) -> Result<Outcome, AllocError>
     ensures ok { IfOk result (λ told. TakesJob step told.reply told.entries place.old place.new state.old.core state.new.core) }
     ensures err { OnErr result ((state.new ≡ state.old) × (place.new ≡ place.old)) }
-    ensures files { S.tells → JobLeavesFiles step (S.world state.old.store) (S.world state.new.store) state.old.core state.new.core }
+    ensures files { S.tells → JobLeavesFiles S.world step state.old.store state.new.store state.old.core state.new.core }
 {
     match step {
         JobStep::BeginFlush => Ok(begin_flush(alloc, state, place)),
@@ -205,7 +205,7 @@ pub(super) fn at_slot<S: Store>(
     ensures ok { IfOk result (λ told. TakesInSlot slot step told.reply told.entries (beside state.old.core slots.old) (beside state.new.core slots.new)) }
     ensures err { OnErr result (state.new ≡ state.old) }
     ensures slots_err { OnErr result (SameJobs slots.old slots.new) }
-    ensures files { S.tells → JobLeavesFiles step (S.world state.old.store) (S.world state.new.store) state.old.core state.new.core }
+    ensures files { S.tells → JobLeavesFiles S.world step state.old.store state.new.store state.old.core state.new.core }
 {
     make_room(slots, slot)?;
     let Some(place) = slots.get_mut(&slot) else {
