@@ -50,12 +50,12 @@ rotated_stored w w' old mid new id r s h = s (rotated old id mid r w h)
 spent_needs : (w : World) (old : Core) (n : ℕ) → IsStored w (versions_left old) (written_of old) → IsStored w (versions_left old) (written_of (record old { flush = spent_in n old.flush }))
 spent_needs w old n h = go old.flush h
   where
-    open : (f : SeenOpen) (b : Bool) → IsStored w (versions_left old) f.written → IsStored w (versions_left old) (written_of (record old { flush = cond b None (Some f) }))
-    open f true s = record { current = s.current; whole = s.whole; written = tt; no_version = s.no_version; in_tables = s.in_tables }
-    open f false s = s
+    less : (f : SeenOpen) (b : Bool) → IsStored w (versions_left old) f.written → IsStored w (versions_left old) (written_of (record old { flush = cond b None (Some f) }))
+    less f true s = record { current = s.current; whole = s.whole; written = tt; no_version = s.no_version; in_tables = s.in_tables }
+    less f false s = s
     go : (o : Option SeenOpen) → IsStored w (versions_left old) (written_of (record old { flush = o })) → IsStored w (versions_left old) (written_of (record old { flush = spent_in n o }))
     go None s = s
-    go (Some f) s = open f (f.number == n) s
+    go (Some f) s = less f (f.number == n) s
 
 begun : (job : Option SeenJob) (old new : Core) → Begins (Ok job) old new → Needs old new
 unfolding Needs
