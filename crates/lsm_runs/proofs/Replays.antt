@@ -1,5 +1,8 @@
 -- From a run of steps to the replay of its journal.
-use Rattle.std.proofs.Common.{◌≡◌, ℕ, List, [], ◌∷◌, ◌++◌, Option, Some, None, map, refl, sym, ap, ◌∙◌, subst, append-nil, append_assoc}
+use Rattle.std.proofs.Common.{◌≡◌, ℕ, ⊎_elim, List, [], ◌∷◌, ◌++◌, Option, Some, None, map, refl, sym, ap, ◌∙◌, subst, append-nil, append_assoc}
+use Rattle.std.specs.BTreeMap.{BTreeMap, is_at}
+use Rattle.std.specs.Map.{lookup}
+use Rattle.std.specs.Ordering.{nat_cmp}
 use Rattle.std.specs.declared.ops.Bound.TheVariants.{Unbounded}
 use Rattle.lsm_below.specs.Keys.{Bytes}
 use Rattle.lsm_below.specs.Entries.{Entry}
@@ -13,18 +16,22 @@ use Rattle.lsm_model.specs.declared.question.Question.TheVariants.{Between, Pref
 use Rattle.lsm_iter.specs.declared.tree_iter.End.TheVariants.{Front, Back}
 use Rattle.lsm_state.specs.Core.{Core, state_of}
 use Rattle.lsm_state.specs.Calls.{Rotates}
+use Rattle.lsm_state.specs.FlushReads.{FlushesKeepReads}
 use Rattle.lsm_state.specs.ListSteps.{ListsAreSteps}
 use Rattle.lsm_runs.specs.declared.steps.Counter.{Counter}
 use Rattle.lsm_runs.specs.declared.steps.Counter.TheVariants.{Seqno, Visible}
 use Rattle.lsm_runs.specs.declared.steps.Step.{Step as Call}
-use Rattle.lsm_runs.specs.declared.steps.Step.TheVariants.{Insert, Remove, RemoveWeak, AppendEntry, Write, Get, GetInternalEntry, ContainsKey, SizeOf, Range, Iter, Prefix, Len, IsEmpty, FirstKeyValue, LastKeyValue, RotateMemtable, Next, Set, FetchMax}
+use Rattle.lsm_runs.specs.declared.steps.Step.TheVariants.{Insert, Remove, RemoveWeak, AppendEntry, Write, Get, GetInternalEntry, ContainsKey, SizeOf, Range, Iter, Prefix, Len, IsEmpty, FirstKeyValue, LastKeyValue, RotateMemtable, Next, Set, FetchMax, AtSlot, Flush, FlushActiveMemtable, SetMoment}
 use Rattle.lsm_runs.specs.declared.steps.Reply.{Reply}
 use Rattle.lsm_runs.specs.declared.steps.Reply.TheVariants.{Sizes, Number, Sealed, Done, Refused}
 use Rattle.lsm_state.specs.Listing.{Lists, ListsPrefix}
 use Rattle.lsm_runs.specs.Told.{Told}
-use Rattle.lsm_runs.specs.Runs.{Takes, TakesEntry, TakesBatch, TakesRotate, TakesNext, TakesCounter, with_counter, Ran, journal_of, StepAnswers, EachAnswers, RunEqualsReplay, without_low_reads}
+use Rattle.lsm_runs.specs.declared.slots.Job.{Job}
+use Rattle.lsm_runs.specs.Slots.{Stage, at_first, beside, waiting, Closes}
+use Rattle.lsm_runs.specs.Runs.{Takes, TakesAlone, RanUpTo, RanToEnd, TakesEntry, TakesBatch, TakesRotate, TakesNext, TakesCounter, with_counter, Ran, journal_of, StepAnswers, EachAnswers, RunEqualsReplay, without_low_reads}
 use Rattle.lsm_runs.proofs.LowReads.{without-append, writes_without, order_without}
 use Rattle.lsm_runs.proofs.ReadReplays.{Sound, same, takes_get, takes_get_entry, takes_pairs, get_answers, get_entry_answers, contains_answers, size_answers, pairs_answer, len_answers, empty_answers, end_answers}
+use Rattle.lsm_runs.proofs.FlushReplays.{kept_sound, job_keeps, flush_keeps, active_keeps, moment_keeps}
 
 -- ---- each call keeps the tree sound
 
@@ -72,63 +79,85 @@ takes_counter : (opened : List Entry) (start : Map) (counter : Counter) (n : ℕ
 takes_counter opened start counter n Done journal events old new t h = counter_put opened start counter n journal events old new t.0 t.1 h
 takes_counter opened start counter n reply journal events old new t h = absurd t
 
-pub takes_sound : (theory : Soundness) (opened : List Entry) (start : Map) (x : Call) (reply : Reply) (journal events : List Event) (old new : Core) → Takes x reply events old new → InOrder opened (journal ++ events) → Sound opened start journal old → Sound opened start (journal ++ events) new
-takes_sound theory opened start (Insert k v n) reply journal events old new t order h = takes_entry theory opened start _ reply journal events old new t order h
-takes_sound theory opened start (Remove k n) reply journal events old new t order h = takes_entry theory opened start _ reply journal events old new t order h
-takes_sound theory opened start (RemoveWeak k n) reply journal events old new t order h = takes_entry theory opened start _ reply journal events old new t order h
-takes_sound theory opened start (AppendEntry e) reply journal events old new t order h = takes_entry theory opened start _ reply journal events old new t order h
-takes_sound theory opened start (Write ops) reply journal events old new t order h = takes_batch theory opened start ops reply journal events old new t order h
-takes_sound theory opened start (Get k s) reply journal events old new t order h = takes_get theory opened start k s reply journal events old new t order h
-takes_sound theory opened start (GetInternalEntry k s) reply journal events old new t order h = takes_get_entry opened start k s reply journal events old new t h
-takes_sound theory opened start (ContainsKey k s) reply journal events old new t order h = same opened start journal events old new t.0 t.1 h
-takes_sound theory opened start (SizeOf k s) reply journal events old new t order h = same opened start journal events old new t.0 t.1 h
-takes_sound theory opened start (Range low high s) reply journal events old new t order h = takes_pairs theory opened start (Between low high) (Lists old low high s) s reply journal events old new t order h
-takes_sound theory opened start (Iter s) reply journal events old new t order h = takes_pairs theory opened start (Between Unbounded Unbounded) (Lists old Unbounded Unbounded s) s reply journal events old new t order h
-takes_sound theory opened start (Prefix p s) reply journal events old new t order h = takes_pairs theory opened start (AskPrefix p) (ListsPrefix old p s) s reply journal events old new t order h
-takes_sound theory opened start (Len s) reply journal events old new t order h = same opened start journal events old new t.0 t.1 h
-takes_sound theory opened start (IsEmpty s) reply journal events old new t order h = same opened start journal events old new t.0 t.1 h
-takes_sound theory opened start (FirstKeyValue s) reply journal events old new t order h = same opened start journal events old new t.0 t.1 h
-takes_sound theory opened start (LastKeyValue s) reply journal events old new t order h = same opened start journal events old new t.0 t.1 h
-takes_sound theory opened start RotateMemtable reply journal events old new t order h = takes_rotate theory opened start reply journal events old new t order h
-takes_sound theory opened start (Next counter) reply journal events old new t order h = takes_next opened start counter reply journal events old new t h
-takes_sound theory opened start (Set counter n) reply journal events old new t order h = takes_counter opened start counter _ reply journal events old new t h
-takes_sound theory opened start (FetchMax counter n) reply journal events old new t order h = takes_counter opened start counter _ reply journal events old new t h
+alone_sound : (theory : Soundness) (laws : FlushesKeepReads) (opened : List Entry) (start : Map) (x : Call) (reply : Reply) (journal events : List Event) (old new : Core) → TakesAlone x reply events old new → InOrder opened (journal ++ events) → Sound opened start journal old → Sound opened start (journal ++ events) new
+alone_sound theory laws opened start (Insert k v n) reply journal events old new t order h = takes_entry theory opened start _ reply journal events old new t order h
+alone_sound theory laws opened start (Remove k n) reply journal events old new t order h = takes_entry theory opened start _ reply journal events old new t order h
+alone_sound theory laws opened start (RemoveWeak k n) reply journal events old new t order h = takes_entry theory opened start _ reply journal events old new t order h
+alone_sound theory laws opened start (AppendEntry e) reply journal events old new t order h = takes_entry theory opened start _ reply journal events old new t order h
+alone_sound theory laws opened start (Write ops) reply journal events old new t order h = takes_batch theory opened start ops reply journal events old new t order h
+alone_sound theory laws opened start (Get k s) reply journal events old new t order h = takes_get theory opened start k s reply journal events old new t order h
+alone_sound theory laws opened start (GetInternalEntry k s) reply journal events old new t order h = takes_get_entry opened start k s reply journal events old new t h
+alone_sound theory laws opened start (ContainsKey k s) reply journal events old new t order h = same opened start journal events old new t.0 t.1 h
+alone_sound theory laws opened start (SizeOf k s) reply journal events old new t order h = same opened start journal events old new t.0 t.1 h
+alone_sound theory laws opened start (Range low high s) reply journal events old new t order h = takes_pairs theory opened start (Between low high) (Lists old low high s) s reply journal events old new t order h
+alone_sound theory laws opened start (Iter s) reply journal events old new t order h = takes_pairs theory opened start (Between Unbounded Unbounded) (Lists old Unbounded Unbounded s) s reply journal events old new t order h
+alone_sound theory laws opened start (Prefix p s) reply journal events old new t order h = takes_pairs theory opened start (AskPrefix p) (ListsPrefix old p s) s reply journal events old new t order h
+alone_sound theory laws opened start (Len s) reply journal events old new t order h = same opened start journal events old new t.0 t.1 h
+alone_sound theory laws opened start (IsEmpty s) reply journal events old new t order h = same opened start journal events old new t.0 t.1 h
+alone_sound theory laws opened start (FirstKeyValue s) reply journal events old new t order h = same opened start journal events old new t.0 t.1 h
+alone_sound theory laws opened start (LastKeyValue s) reply journal events old new t order h = same opened start journal events old new t.0 t.1 h
+alone_sound theory laws opened start RotateMemtable reply journal events old new t order h = takes_rotate theory opened start reply journal events old new t order h
+alone_sound theory laws opened start (Next counter) reply journal events old new t order h = takes_next opened start counter reply journal events old new t h
+alone_sound theory laws opened start (Set counter n) reply journal events old new t order h = takes_counter opened start counter _ reply journal events old new t h
+alone_sound theory laws opened start (FetchMax counter n) reply journal events old new t order h = takes_counter opened start counter _ reply journal events old new t h
+alone_sound theory laws opened start (Flush w) reply journal events old new t order h = kept_sound opened start journal events old new (flush_keeps theory laws w reply events old new t) order h
+alone_sound theory laws opened start (FlushActiveMemtable w) reply journal events old new t order h = kept_sound opened start journal events old new (active_keeps theory laws w reply events old new t) order h
+alone_sound theory laws opened start (SetMoment n) reply journal events old new t order h = kept_sound opened start journal events old new (moment_keeps theory laws n reply events old new t) order h
+alone_sound theory laws opened start (AtSlot slot step) reply journal events old new t order h = absurd t
 
-step_answers : (lists : ListsAreSteps) (theory : Soundness) (opened : List Entry) (start : Map) (x : Call) (reply : Reply) (journal events : List Event) (old new : Core) → Takes x reply events old new → Sound opened start journal old → StepAnswers opened start journal x reply
-step_answers lists theory opened start (Get k s) reply journal events old new t h = get_answers theory opened start k s reply journal events old new t h
-step_answers lists theory opened start (GetInternalEntry k s) reply journal events old new t h = get_entry_answers theory opened start k s reply journal events old new t h
-step_answers lists theory opened start (ContainsKey k s) reply journal events old new t h = contains_answers theory opened start k s reply journal old t.2 h
-step_answers lists theory opened start (SizeOf k s) reply journal events old new t h = size_answers theory opened start k s reply journal old t.2 h
-step_answers lists theory opened start (Range low high s) reply journal events old new t h = pairs_answer theory opened start (Between low high) (Lists old low high s) s reply journal events old new t h
-step_answers lists theory opened start (Iter s) reply journal events old new t h = pairs_answer theory opened start (Between Unbounded Unbounded) (Lists old Unbounded Unbounded s) s reply journal events old new t h
-step_answers lists theory opened start (Prefix p s) reply journal events old new t h = pairs_answer theory opened start (AskPrefix p) (ListsPrefix old p s) s reply journal events old new t h
-step_answers lists theory opened start (Len s) reply journal events old new t h = len_answers lists theory opened start s reply journal old t.2 h
-step_answers lists theory opened start (IsEmpty s) reply journal events old new t h = empty_answers lists theory opened start s reply journal old t.2 h
-step_answers lists theory opened start (FirstKeyValue s) reply journal events old new t h = end_answers lists theory opened start Front s reply journal old t.2 h
-step_answers lists theory opened start (LastKeyValue s) reply journal events old new t h = end_answers lists theory opened start Back s reply journal old t.2 h
-step_answers lists theory opened start step reply journal events old new t h = tt
+pub takes_sound : (theory : Soundness) (laws : FlushesKeepReads) (opened : List Entry) (start : Map) (x : Call) (reply : Reply) (journal events : List Event) (old new : Stage) → Takes x reply events old new → InOrder opened (journal ++ events) → Sound opened start journal old.core → Sound opened start (journal ++ events) new.core
+takes_sound theory laws opened start (AtSlot slot step) reply journal events old new t order h = kept_sound opened start journal events old.core new.core (job_keeps theory laws step reply events (old.jobs slot) (new.jobs slot) old.core new.core t.0) order h
+takes_sound theory laws opened start x reply journal events old new t order h = alone_sound theory laws opened start x reply journal events old.core new.core t.0 order h
+
+alone_answers : (lists : ListsAreSteps) (theory : Soundness) (opened : List Entry) (start : Map) (x : Call) (reply : Reply) (journal events : List Event) (old new : Core) → TakesAlone x reply events old new → Sound opened start journal old → StepAnswers opened start journal x reply
+alone_answers lists theory opened start (Get k s) reply journal events old new t h = get_answers theory opened start k s reply journal events old new t h
+alone_answers lists theory opened start (GetInternalEntry k s) reply journal events old new t h = get_entry_answers theory opened start k s reply journal events old new t h
+alone_answers lists theory opened start (ContainsKey k s) reply journal events old new t h = contains_answers theory opened start k s reply journal old t.2 h
+alone_answers lists theory opened start (SizeOf k s) reply journal events old new t h = size_answers theory opened start k s reply journal old t.2 h
+alone_answers lists theory opened start (Range low high s) reply journal events old new t h = pairs_answer theory opened start (Between low high) (Lists old low high s) s reply journal events old new t h
+alone_answers lists theory opened start (Iter s) reply journal events old new t h = pairs_answer theory opened start (Between Unbounded Unbounded) (Lists old Unbounded Unbounded s) s reply journal events old new t h
+alone_answers lists theory opened start (Prefix p s) reply journal events old new t h = pairs_answer theory opened start (AskPrefix p) (ListsPrefix old p s) s reply journal events old new t h
+alone_answers lists theory opened start (Len s) reply journal events old new t h = len_answers lists theory opened start s reply journal old t.2 h
+alone_answers lists theory opened start (IsEmpty s) reply journal events old new t h = empty_answers lists theory opened start s reply journal old t.2 h
+alone_answers lists theory opened start (FirstKeyValue s) reply journal events old new t h = end_answers lists theory opened start Front s reply journal old t.2 h
+alone_answers lists theory opened start (LastKeyValue s) reply journal events old new t h = end_answers lists theory opened start Back s reply journal old t.2 h
+alone_answers lists theory opened start step reply journal events old new t h = tt
+
+step_answers : (lists : ListsAreSteps) (theory : Soundness) (opened : List Entry) (start : Map) (x : Call) (reply : Reply) (journal events : List Event) (old new : Stage) → Takes x reply events old new → Sound opened start journal old.core → StepAnswers opened start journal x reply
+step_answers lists theory opened start (AtSlot slot step) reply journal events old new t h = tt
+step_answers lists theory opened start x reply journal events old new t h = alone_answers lists theory opened start x reply journal events old.core new.core t.0 h
 
 -- ---- the whole run
 
-ran_right : (lists : ListsAreSteps) (theory : Soundness) (opened : List Entry) (start : Map) (xs : List Call) (ts : List Told) (journal : List Event) (old new : Core) → Ran xs ts old new → InOrder opened (journal ++ journal_of ts) → Sound opened start journal old → EachAnswers opened start journal xs ts × Sound opened start (journal ++ journal_of ts) new
-ran_right lists theory opened start [] [] journal old new r order h = (tt, rw (r, append-nil journal) h)
-ran_right lists theory opened start [] (t ∷ ts) journal old new r order h = absurd r
-ran_right lists theory opened start (x ∷ xs) [] journal old new r order h = absurd r
-ran_right lists theory opened start (x ∷ xs) (t ∷ ts) journal old new r order h =
+ran_right : (lists : ListsAreSteps) (theory : Soundness) (laws : FlushesKeepReads) (opened : List Entry) (start : Map) (xs : List Call) (ts : List Told) (journal : List Event) (old new : Stage) → Ran xs ts old new → InOrder opened (journal ++ journal_of ts) → Sound opened start journal old.core → EachAnswers opened start journal xs ts × Sound opened start (journal ++ journal_of ts) new.core
+ran_right lists theory laws opened start [] [] journal old new r order h = (tt, rw (r, append-nil journal) h)
+ran_right lists theory laws opened start [] (t ∷ ts) journal old new r order h = absurd r
+ran_right lists theory laws opened start (x ∷ xs) [] journal old new r order h = absurd r
+ran_right lists theory laws opened start (x ∷ xs) (t ∷ ts) journal old new r order h =
     let joined : (journal ++ t.entries) ++ journal_of ts ≡ journal ++ (t.entries ++ journal_of ts) = append_assoc journal t.entries (journal_of ts) in
     let order' : InOrder opened ((journal ++ t.entries) ++ journal_of ts) = subst (InOrder opened) (sym joined) order in
-    let here = takes_sound theory opened start x t.reply journal t.entries old r.0 r.1 (theory.kept.front opened (journal ++ t.entries) (journal_of ts) order') h in
-    let rest = ran_right lists theory opened start xs ts (journal ++ t.entries) r.0 new r.2 order' here in
-    ((step_answers lists theory opened start x t.reply journal t.entries old r.0 r.1 h, rest.0), subst (λ js. Sound opened start js new) joined rest.1)
+    let here = takes_sound theory laws opened start x t.reply journal t.entries old r.0 r.1 (theory.kept.front opened (journal ++ t.entries) (journal_of ts) order') h in
+    let rest = ran_right lists theory laws opened start xs ts (journal ++ t.entries) r.0 new r.2 order' here in
+    ((step_answers lists theory opened start x t.reply journal t.entries old r.0 r.1 h, rest.0), subst (λ js. Sound opened start js new.core) joined rest.1)
 
-pub run_replays : (lists : ListsAreSteps) (theory : Soundness) (opened : List Entry) (start : Map) (xs : List Call) (ts : List Told) (old new : Core) → Ran xs ts old new → RunEqualsReplay opened start xs ts old new
-run_replays lists theory opened start xs ts old new r is order =
-    let done = ran_right lists theory opened start xs ts [] old new r order (theory.kept.opened opened start (state_of [] old) is) in
-    (done.0, theory.right.reads opened start (state_of (without_low_reads opened (journal_of ts)) new) done.1)
+-- an open flush is no part of what the theory sees
+closed : (opened : List Entry) (start : Map) (journal : List Event) (old new : Core) → Closes old new → Sound opened start journal old → Sound opened start journal new
+closed opened start journal old new c h = ⊎_elim (λ (e : new ≡ old). rw e h) (λ (e : new ≡ record old { flush = None }). rw e h) c
+
+pub run_replays : (lists : ListsAreSteps) (theory : Soundness) (laws : FlushesKeepReads) (opened : List Entry) (start : Map) (xs : List Call) (ts : List Told) (old new : Core) → RanToEnd xs ts old new → RunEqualsReplay opened start xs ts old new
+run_replays lists theory laws opened start xs ts old new r is order =
+    let done = ran_right lists theory laws opened start xs ts [] (at_first old) r.0 r.1 order (theory.kept.opened opened start (state_of [] old) is) in
+    (done.0, theory.right.reads opened start (state_of (without_low_reads opened (journal_of ts)) new) (closed opened start (journal_of ts) r.0.core new r.2 done.1))
 
 -- one more step
-pub ran_more : (xs : List Call) (ts : List Told) (x : Call) (t : Told) (old mid new : Core) → Ran xs ts old mid → Takes x t.reply t.entries mid new → Ran (xs ++ x ∷ []) (ts ++ t ∷ []) old new
+pub ran_more : (xs : List Call) (ts : List Told) (x : Call) (t : Told) (old mid new : Stage) → Ran xs ts old mid → Takes x t.reply t.entries mid new → Ran (xs ++ x ∷ []) (ts ++ t ∷ []) old new
 ran_more [] [] x t old mid new r q = (new, subst (λ c. Takes x t.reply t.entries c new) r q, refl)
 ran_more [] (u ∷ ts) x t old mid new r q = absurd r
 ran_more (y ∷ xs) [] x t old mid new r q = absurd r
 ran_more (y ∷ xs) (u ∷ ts) x t old mid new r q = (r.0, r.1, ran_more xs ts x t r.0 mid new r.2 q)
+
+-- a map that is empty has free slots
+pub run_to_end : (xs : List Call) (ts : List Told) (slots : BTreeMap ℕ (Option Job)) (old mid new : Core) → slots.entries ≡ [] → RanUpTo xs ts (beside old slots) mid → Closes mid new → RanToEnd xs ts old new
+run_to_end xs ts slots old mid new empty r c =
+    let first : beside old slots ≡ at_first old = ap (λ es. record { core = old; jobs = λ n. waiting (lookup (is_at (nat_cmp n)) es) }) empty in
+    (r.0, subst (λ s. Ran xs ts s r.0) first r.1, subst (λ m. Closes m new) r.2 c)

@@ -1,4 +1,7 @@
 pub mod Told
+pub mod Slots
 pub mod ReadSteps
+pub mod Flushing
+pub mod Files
 pub mod Runs
 pub mod Counting

@@ -20,10 +20,12 @@ use Rattle.lsm_state.specs.Calls.{Appends, WritesBatch, Rotates}
 use Rattle.lsm_runs.specs.declared.steps.Counter.{Counter}
 use Rattle.lsm_runs.specs.declared.steps.Counter.TheVariants.{Seqno, Visible}
 use Rattle.lsm_runs.specs.declared.steps.Step.{Step}
-use Rattle.lsm_runs.specs.declared.steps.Step.TheVariants.{Insert, Remove, RemoveWeak, AppendEntry, Write, Get, GetInternalEntry, ContainsKey, SizeOf, Range, Iter, Prefix, Len, IsEmpty, FirstKeyValue, LastKeyValue, RotateMemtable, Next, Set, FetchMax}
+use Rattle.lsm_runs.specs.declared.steps.Step.TheVariants.{Insert, Remove, RemoveWeak, AppendEntry, Write, Get, GetInternalEntry, ContainsKey, SizeOf, Range, Iter, Prefix, Len, IsEmpty, FirstKeyValue, LastKeyValue, RotateMemtable, Next, Set, FetchMax, AtSlot, Flush, FlushActiveMemtable, SetMoment}
 use Rattle.lsm_runs.specs.declared.steps.Reply.{Reply}
 use Rattle.lsm_runs.specs.declared.steps.Reply.TheVariants.{Sizes, Number, Sealed, Done, Refused}
 use Rattle.lsm_runs.specs.ReadSteps.{TakesGet, TakesGetEntry, TakesSilent, IsContainsReply, IsSizeReply, TakesRange, TakesPrefix, IsLenReply, IsEmptyReply, IsEndReply, GetAnswers, GetEntryAnswers, ContainsAnswers, SizeAnswers, PairsAnswer, LenAnswers, EmptyAnswers, EndAnswers}
+use Rattle.lsm_runs.specs.Flushing.{TakesInSlot, TakesFlush, TakesFlushActive, TakesMoment}
+use Rattle.lsm_runs.specs.Slots.{Stage, at_first, Closes}
 use Rattle.lsm_runs.specs.Told.{Told}
 
 -- ---- what a step of each kind may answer, add to the journal and do
@@ -67,28 +69,37 @@ abbrev pub TakesCounter : Counter → ℕ → Reply → List Event → Core → 
 TakesCounter counter n Done events old new = (events ≡ []) × (new ≡ with_counter counter n old)
 TakesCounter counter n reply events old new = ⊥
 
--- what a step may answer, add to the journal and do
-abbrev pub Takes : Step → Reply → List Event → Core → Core → Type 0
-Takes (Insert k v n) reply events old new = TakesEntry (op_entry k n (SetTo v)) reply events old new
-Takes (Remove k n) reply events old new = TakesEntry (op_entry k n Del) reply events old new
-Takes (RemoveWeak k n) reply events old new = TakesEntry (op_entry k n Weak) reply events old new
-Takes (AppendEntry e) reply events old new = TakesEntry (plain e) reply events old new
-Takes (Write ops) reply events old new = TakesBatch ops reply events old new
-Takes (Get k s) reply events old new = TakesGet k s reply events old new
-Takes (GetInternalEntry k s) reply events old new = TakesGetEntry k s reply events old new
-Takes (ContainsKey k s) reply events old new = TakesSilent (IsContainsReply k s old) reply events old new
-Takes (SizeOf k s) reply events old new = TakesSilent (IsSizeReply k s old) reply events old new
-Takes (Range low high s) reply events old new = TakesRange low high s reply events old new
-Takes (Iter s) reply events old new = TakesRange Unbounded Unbounded s reply events old new
-Takes (Prefix p s) reply events old new = TakesPrefix p s reply events old new
-Takes (Len s) reply events old new = TakesSilent (IsLenReply s old) reply events old new
-Takes (IsEmpty s) reply events old new = TakesSilent (IsEmptyReply s old) reply events old new
-Takes (FirstKeyValue s) reply events old new = TakesSilent (IsEndReply Front s old) reply events old new
-Takes (LastKeyValue s) reply events old new = TakesSilent (IsEndReply Back s old) reply events old new
-Takes RotateMemtable reply events old new = TakesRotate reply events old new
-Takes (Next counter) reply events old new = TakesNext counter reply events old new
-Takes (Set counter n) reply events old new = TakesCounter counter n reply events old new
-Takes (FetchMax counter n) reply events old new = TakesCounter counter (max (counter_of counter old) n) reply events old new
+-- what a step that needs no slot may answer, add to the journal and do
+abbrev pub TakesAlone : Step → Reply → List Event → Core → Core → Type 0
+TakesAlone (Insert k v n) reply events old new = TakesEntry (op_entry k n (SetTo v)) reply events old new
+TakesAlone (Remove k n) reply events old new = TakesEntry (op_entry k n Del) reply events old new
+TakesAlone (RemoveWeak k n) reply events old new = TakesEntry (op_entry k n Weak) reply events old new
+TakesAlone (AppendEntry e) reply events old new = TakesEntry (plain e) reply events old new
+TakesAlone (Write ops) reply events old new = TakesBatch ops reply events old new
+TakesAlone (Get k s) reply events old new = TakesGet k s reply events old new
+TakesAlone (GetInternalEntry k s) reply events old new = TakesGetEntry k s reply events old new
+TakesAlone (ContainsKey k s) reply events old new = TakesSilent (IsContainsReply k s old) reply events old new
+TakesAlone (SizeOf k s) reply events old new = TakesSilent (IsSizeReply k s old) reply events old new
+TakesAlone (Range low high s) reply events old new = TakesRange low high s reply events old new
+TakesAlone (Iter s) reply events old new = TakesRange Unbounded Unbounded s reply events old new
+TakesAlone (Prefix p s) reply events old new = TakesPrefix p s reply events old new
+TakesAlone (Len s) reply events old new = TakesSilent (IsLenReply s old) reply events old new
+TakesAlone (IsEmpty s) reply events old new = TakesSilent (IsEmptyReply s old) reply events old new
+TakesAlone (FirstKeyValue s) reply events old new = TakesSilent (IsEndReply Front s old) reply events old new
+TakesAlone (LastKeyValue s) reply events old new = TakesSilent (IsEndReply Back s old) reply events old new
+TakesAlone RotateMemtable reply events old new = TakesRotate reply events old new
+TakesAlone (Next counter) reply events old new = TakesNext counter reply events old new
+TakesAlone (Set counter n) reply events old new = TakesCounter counter n reply events old new
+TakesAlone (FetchMax counter n) reply events old new = TakesCounter counter (max (counter_of counter old) n) reply events old new
+TakesAlone (Flush w) reply events old new = TakesFlush w reply events old new
+TakesAlone (FlushActiveMemtable w) reply events old new = TakesFlushActive w reply events old new
+TakesAlone (SetMoment n) reply events old new = TakesMoment n reply events old new
+TakesAlone (AtSlot slot step) reply events old new = ⊥
+
+-- what a step may answer, add to the journal and do: one that needs no slot leaves all of them
+abbrev pub Takes : Step → Reply → List Event → Stage → Stage → Type 0
+Takes (AtSlot slot step) reply events old new = TakesInSlot slot step reply events old new
+Takes step reply events old new = TakesAlone step reply events old.core new.core × (new.jobs ≡ old.jobs)
 
 -- ---- outcomes
 
@@ -105,11 +116,19 @@ told_batch events (Err x) = record { reply = Refused x; entries = [] }
 -- ---- runs
 
 -- the steps, one after the other, lead from the old state to the new with these outcomes
-abbrev pub Ran : List Step → List Told → Core → Core → Type 0
+abbrev pub Ran : List Step → List Told → Stage → Stage → Type 0
 Ran [] [] old new = new ≡ old
-Ran (x ∷ xs) (t ∷ ts) old new = (mid : Core) × Takes x t.reply t.entries old mid × Ran xs ts mid new
+Ran (x ∷ xs) (t ∷ ts) old new = (mid : Stage) × Takes x t.reply t.entries old mid × Ran xs ts mid new
 Ran [] (t ∷ ts) old new = ⊥
 Ran (x ∷ xs) [] old new = ⊥
+
+-- they lead to a stage with this tree
+abbrev pub RanUpTo : List Step → List Told → Stage → Core → Type 0
+RanUpTo steps told old new = (last : Stage) × Ran steps told old last × (new ≡ last.core)
+
+-- they do so from free slots, and what is open behind them is given up
+abbrev pub RanToEnd : List Step → List Told → Core → Core → Type 0
+RanToEnd steps told old new = (last : Stage) × Ran steps told (at_first old) last × Closes last.core new
 
 -- the journal of a run
 abbrev pub journal_of : List Told → List Event
@@ -163,13 +182,13 @@ abbrev pub Spares : List Event → Core → Core → Type 0
 Spares events old new = (s : ℕ) → AllByRecursion (IsSparedBy s) events → StaysAt s (state_of [] old) (state_of [] new)
 
 -- the steps lead from the old state to the new with these outcomes, and each leaves what its events spare
-abbrev pub RanSparing : List Step → List Told → Core → Core → Type 0
+abbrev pub RanSparing : List Step → List Told → Stage → Stage → Type 0
 RanSparing [] [] old new = new ≡ old
-RanSparing (x ∷ xs) (t ∷ ts) old new = (mid : Core) × Takes x t.reply t.entries old mid × Spares t.entries old mid × RanSparing xs ts mid new
+RanSparing (x ∷ xs) (t ∷ ts) old new = (mid : Stage) × Takes x t.reply t.entries old mid × Spares t.entries old.core mid.core × RanSparing xs ts mid new
 RanSparing [] (t ∷ ts) old new = ⊥
 RanSparing (x ∷ xs) [] old new = ⊥
 
 -- From a tree as opening left it, whenever the journal is in order, no step changes what a snapshot sees that is
 -- answered before and after, but a write, a clear or a drop at the snapshots above its sequence number.
 abbrev pub RunSparesAnswers : (opened : List Entry) (start : Map) → List Step → List Told → Core → Core → Type 0
-RunSparesAnswers opened start steps told old new = IsOpened opened start (state_of [] old) → InOrder opened (journal_of told) → RanSparing steps told old new
+RunSparesAnswers opened start steps told old new = IsOpened opened start (state_of [] old) → InOrder opened (journal_of told) → (last : Stage) × RanSparing steps told (at_first old) last × Closes last.core new

@@ -3,11 +3,14 @@
 //! | Module | Holds |
 //! |-|-|
 //! | `steps` | calls as data, and what each replies |
+//! | `slots` | jobs that wait for their next call |
 //! | `runner` | a list of calls on a tree, with the replay theorem |
 #![tactic(auto)]
 
 mod runner;
+mod slots;
 mod steps;
 
 pub use runner::run;
-pub use steps::{Counter, Outcome, Reply, Step};
+pub use slots::Slot;
+pub use steps::{Counter, JobStep, Outcome, Reply, Step};

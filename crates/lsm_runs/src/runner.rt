@@ -8,14 +8,17 @@ ghost use Rattle.lsm_model.specs.declared.journal.JournalEntry.TheVariants.{Writ
 ghost use Rattle.lsm_runs.specs.Told.{Told};
 ghost use Rattle.lsm_runs.specs.Counting.{RunIsInOrder};
 ghost use Rattle.lsm_runs.specs.ReadSteps.{TakesGet, TakesGetEntry, TakesSilent, IsContainsReply, IsSizeReply};
-ghost use Rattle.lsm_runs.specs.Runs.{Takes, TakesEntry, TakesBatch, TakesRotate, TakesNext, TakesCounter, counter_of, told_entry, told_batch, Ran, RunEqualsReplay, RunSparesAnswers};
+ghost use Rattle.lsm_runs.specs.Files.{StaysStored, LeavesFiles};
+ghost use Rattle.lsm_runs.specs.Slots.{beside};
+ghost use Rattle.lsm_runs.specs.Runs.{Takes, TakesEntry, TakesBatch, TakesRotate, TakesNext, TakesCounter, counter_of, told_entry, told_batch, RanUpTo, RanToEnd, RunEqualsReplay, RunSparesAnswers};
 
+use crate::slots::Slots;
 use crate::{Counter, Outcome, Reply, Step};
 use lsm_below::{InternalValue, SeqNo, UserKey, UserValue, ValueType, share};
 use lsm_journal::read_entry;
 use lsm_model::{Answer, JournalEntry, Op, Question, counted_is_in_order, reads_are_sound};
 use lsm_parts::Error;
-use lsm_state::{TreeState, lists_are_steps};
+use lsm_state::{TreeState, flushes_keep_reads, lists_are_steps};
 use lsm_store::Store;
 use std::alloc::{AllocError, Global};
 
@@ -216,7 +219,7 @@ fn get<S: Store>(
     }
 }
 
-fn get_internal_entry<S: Store>(
+fn get_entry<S: Store>(
     alloc: Global,
     state: &TreeState<S>,
     key: &UserKey,
@@ -312,11 +315,12 @@ fn fetch_max<S: Store>(
 fn take_step<S: Store>(
     alloc: Global,
     state: &mut TreeState<S>,
+    slots: &mut Slots,
     step: &Step,
 ) -> Result<Outcome, AllocError>
-    ensures ok { IfOk result (λ told. Takes step.now told.reply told.entries state.old.core state.new.core) }
+    ensures ok { IfOk result (λ told. Takes step.now told.reply told.entries (beside state.old.core slots.old) (beside state.new.core slots.new)) }
     ensures err { OnErr result (state.new ≡ state.old) }
-    ensures store { state.new.store ≡ state.old.store }
+    ensures files { S.tells → LeavesFiles S.world step.now state.old.store state.new.store state.old.core state.new.core }
 {
     match step {
         Step::Insert(key, value, seqno) => insert(alloc, state, key, value, *seqno),
@@ -325,9 +329,7 @@ fn take_step<S: Store>(
         Step::AppendEntry(entry) => append_entry(alloc, state, entry),
         Step::Write(ops) => write(alloc, state, ops.as_slice()),
         Step::Get(key, snapshot) => get(alloc, state, key, *snapshot),
-        Step::GetInternalEntry(key, snapshot) => {
-            Ok(get_internal_entry(alloc, state, key, *snapshot))
-        }
+        Step::GetInternalEntry(key, snapshot) => Ok(get_entry(alloc, state, key, *snapshot)),
         Step::ContainsKey(key, snapshot) => Ok(contains_key(alloc, state, key, *snapshot)),
         Step::SizeOf(key, snapshot) => Ok(size_of(alloc, state, key, *snapshot)),
         Step::Range(low, high, snapshot) => ranges::range(alloc, state, low, high, *snapshot),
@@ -341,6 +343,10 @@ fn take_step<S: Store>(
         Step::Next(counter) => Ok(next(alloc, state, *counter)),
         Step::Set(counter, seqno) => Ok(set(alloc, state, *counter, *seqno)),
         Step::FetchMax(counter, seqno) => Ok(fetch_max(alloc, state, *counter, *seqno)),
+        Step::AtSlot(slot, call) => flushes::at_slot(alloc, state, slots, *slot, *call),
+        Step::Flush(watermark) => flushes::flush(alloc, state, *watermark),
+        Step::FlushActiveMemtable(watermark) => flushes::flush_active(alloc, state, *watermark),
+        Step::SetMoment(moment) => Ok(flushes::set_moment(alloc, state, *moment)),
     }
 }
 
@@ -348,28 +354,34 @@ fn take_step<S: Store>(
 fn add_step<S: Store>(
     alloc: Global,
     state: &mut TreeState<S>,
+    slots: &mut Slots,
     step: &Step,
     outcomes: &mut Vec<Outcome>,
 ) -> Result<(), AllocError>
-    ensures ok { OnOk result ((told : Told) × (outcomes.new.items ≡ outcomes.old.items ++ told ∷ []) × Takes step.now told.reply told.entries state.old.core state.new.core) }
+    ensures ok { OnOk result ((told : Told) × (outcomes.new.items ≡ outcomes.old.items ++ told ∷ []) × Takes step.now told.reply told.entries (beside state.old.core slots.old) (beside state.new.core slots.new)) }
     ensures err { OnErr result (state.new ≡ state.old) }
     ensures outcomes_err { OnErr result (outcomes.new.items ≡ outcomes.old.items) }
-    ensures store { state.new.store ≡ state.old.store }
+    ensures stored { S.tells → StaysStored (S.world state.old.store) (S.world state.new.store) state.old.core state.new.core }
 {
     outcomes.try_reserve(1)?;
-    let outcome = take_step(alloc, state, step)?;
+    let outcome = take_step(alloc, state, slots, step)?;
     outcomes.push(outcome)?;
     Ok(())
 }
 
-fn take_steps<S: Store>(alloc: Global, state: &mut TreeState<S>, steps: &[Step]) -> Vec<Outcome>
+fn take_steps<S: Store>(
+    alloc: Global,
+    state: &mut TreeState<S>,
+    slots: &mut Slots,
+    steps: &[Step],
+) -> Vec<Outcome>
     ensures bound { length result.items ≤ length steps.now }
-    ensures ran { Ran (take (length result.items) steps.now) result.items state.old.core state.new.core }
-    ensures store { state.new.store ≡ state.old.store }
+    ensures ran { RanUpTo (take (length result.items) steps.now) result.items (beside state.old.core slots.old) state.new.core }
+    ensures stored { S.tells → StaysStored (S.world state.old.store) (S.world state.new.store) state.old.core state.new.core }
 {
     let mut outcomes = Vec::new(alloc);
     for step in steps {
-        match add_step(alloc, state, step, &mut outcomes) {
+        match add_step(alloc, state, slots, step, &mut outcomes) {
             Ok(()) => {}
             Err(_) => return outcomes,
         }
@@ -381,7 +393,8 @@ fn take_steps<S: Store>(alloc: Global, state: &mut TreeState<S>, steps: &[Step])
 ///
 /// A step that is refused has that as its reply, and the run goes on with the next one. The run ends early only
 /// before a step for whose outcome, journal entries included, no memory is left: the tree is as it was before that
-/// step, and the outcomes are those of the steps that were taken. A step costs what its call costs, and a list of
+/// step, and the outcomes are those of the steps that were taken. A job waits in its slot from one step to the next, and
+/// what is open when the run ends is given up. A step costs what its call costs, and a list of
 /// pairs is kept once, for the reply and the journal.
 ///
 /// Without an index the replay theorem holds (`replays`), no step changes what it is not to change (`spares`), and
@@ -394,16 +407,21 @@ fn take_steps<S: Store>(alloc: Global, state: &mut TreeState<S>, steps: &[Step])
 /// ```
 pub fn run<S: Store>(alloc: Global, state: &mut TreeState<S>, steps: &[Step]) -> Vec<Outcome>
     ensures bound { length result.items ≤ length steps.now }
-    ensures ran { Ran (take (length result.items) steps.now) result.items state.old.core state.new.core }
+    ensures ran { RanToEnd (take (length result.items) steps.now) result.items state.old.core state.new.core }
     ensures replays { (opened : List Entry) (start : Map) → RunEqualsReplay opened start (take (length result.items) steps.now) result.items state.old.core state.new.core }
     ensures spares { (opened : List Entry) (start : Map) → RunSparesAnswers opened start (take (length result.items) steps.now) result.items state.old.core state.new.core }
     ensures in_order { RunIsInOrder (take (length result.items) steps.now) result.items state.old.core state.new.core }
-    ensures store { state.new.store ≡ state.old.store }
+    ensures stored { S.tells → StaysStored (S.world state.old.store) (S.world state.new.store) state.old.core state.new.core }
 {
     reads_are_sound();
     lists_are_steps();
+    flushes_keep_reads();
     counted_is_in_order();
-    take_steps(alloc, state, steps)
+    let mut slots = Slots::new(alloc);
+    let outcomes = take_steps(alloc, state, &mut slots, steps);
+    flushes::give_up_all(state, slots);
+    outcomes
 }
 
+mod flushes;
 mod ranges;

@@ -1,7 +1,9 @@
 // Calls on a tree as data, and what each of them replies.
 ghost use Rattle.std.specs.Prelude.{◌≡◌};
 
+use crate::Slot;
 use lsm_below::{InternalValue, KvPair, MemtableId, SeqNo, UserKey, UserValue};
+use lsm_jobs::Registered;
 use lsm_model::{JournalEntry, KvPairs, Ops};
 use lsm_parts::Error;
 use std::marker::Model;
@@ -14,6 +16,21 @@ pub enum Counter {
     Seqno,
     /// The visible counter.
     Visible,
+}
+
+/// A call on a job, which waits in a slot from one call to the next.
+#[derive(Clone, Copy, Debug, PartialEq, Eq)]
+pub enum JobStep {
+    /// Begins a flush of all sealed memtables, into a free slot.
+    BeginFlush,
+    /// Merges a job that was begun, at a watermark.
+    RunFlush(SeqNo),
+    /// Writes the tables of a job that was merged.
+    FlushToTables,
+    /// Installs a job whose tables are written. The slot is free then.
+    RegisterTables,
+    /// Gives up a job. The slot is free then.
+    AbandonFlush,
 }
 
 /// A call on a tree, as data: each is the method of `TreeState` that it is named after.
@@ -59,6 +76,14 @@ pub enum Step {
     Set(Counter, SeqNo),
     /// Has the counter go on from a sequence number, unless it stands at a greater one.
     FetchMax(Counter, SeqNo),
+    /// A call on the job that waits in a slot.
+    AtSlot(Slot, JobStep),
+    /// Flushes all sealed memtables in one call, at a watermark.
+    Flush(SeqNo),
+    /// Seals the active memtable, and flushes all sealed ones, at a watermark.
+    FlushActiveMemtable(SeqNo),
+    /// Sets the moment at which tables are made.
+    SetMoment(u64),
 }
 
 /// What a step replies.
@@ -85,9 +110,26 @@ pub enum Reply {
     Pair(Option<KvPair>),
     /// Of a rotation: the id of the memtable that was sealed, or None where it was empty.
     Sealed(Option<MemtableId>),
-    /// Of a counter that was set: nothing.
+    /// Of a counter or a moment that was set, of a job that was merged, written or given up: nothing.
     Done,
-    /// The step was refused, and changed nothing.
+    /// Of a flush that is to be begun: whether a job waits in the slot now, or nothing is sealed.
+    Begun(bool),
+    /// Of a job that was registered: what became of it.
+    Registered(Registered),
+    /// Of a flush: the bytes that the sealed memtables count, and what became of it, or None where nothing is sealed.
+    Flushed(Option<(u64, Registered)>),
+    /// Of a flush of the active memtable: the id of the memtable that it sealed, or None where it was empty, and the
+    /// same.
+    FlushedActive(Option<MemtableId>, Option<(u64, Registered)>),
+    /// Of a flush of the active memtable that was refused: the id of the memtable that it sealed, which stays sealed,
+    /// and why.
+    RefusedActive(Option<MemtableId>, Error),
+    /// Of a call on a job: no job waits in the slot that this may be done with. Nothing changed.
+    NoJob,
+    /// Of a job that is to be begun: another one waits in the slot. Nothing changed.
+    SlotInUse,
+    /// The step was refused. It changed nothing, but that a flush may have used numbers and ids, and a job that was to be
+    /// registered is spent.
     Refused(Error),
 }
 
@@ -115,7 +157,8 @@ impl Outcome {
     }
 
     /// What the step adds to the journal: an accepted write its entry, an accepted batch its entries in
-    /// their order, an answered `Get`, `Range`, `Iter` or `Prefix` the read; nothing else adds any.
+    /// their order, an answered `Get`, `Range`, `Iter` or `Prefix` the read, a flush that comes to register a job
+    /// its watermark, and the install where it is installed; nothing else adds any.
     pub fn entries(&self) -> &[JournalEntry]
         ensures { result.now ≡ self.now.entries }
     {

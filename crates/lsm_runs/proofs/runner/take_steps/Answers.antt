@@ -11,5 +11,5 @@ loop-step-preserved g c =
     record {
       ran = rw (h.1, more) (ran_more _ _ x h.0 _ _ _ c.loop-step.invariant.ran h.2);
       many = ap (λ l. length l) h.1 ∙ length-append _ _ ∙ ap (λ n. n + 1) c.loop-step.invariant.many;
-      store = c.in-Ok.ensures.store ∙ c.loop-step.invariant.store;
+      stored = λ tells h. c.in-Ok.ensures.stored tells (c.loop-step.invariant.stored tells h);
     }

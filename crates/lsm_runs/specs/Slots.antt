@@ -1,0 +1,50 @@
+-- Jobs that wait in slots, beside the tree.
+use Rattle.std.specs.Prelude.{◌≡◌, ℕ, ◌⊎◌, Option, Some, None}
+use Rattle.std.specs.Ordering.{nat_cmp}
+use Rattle.std.specs.BTreeMap.{BTreeMap, get}
+use Rattle.lsm_jobs.specs.Jobs.{SeenJob}
+use Rattle.lsm_state.specs.Core.{Core}
+use Rattle.lsm_runs.specs.declared.slots.Job.{Job}
+use Rattle.lsm_runs.specs.declared.slots.Job.TheVariants.{Begun, Merged, Written}
+
+-- the flush that a job belongs to
+abbrev pub flush_in : Job → SeenJob
+flush_in (Begun job) = job
+flush_in (Merged job) = job.job
+flush_in (Written job) = job.job
+
+-- ---- slots
+
+-- a place that was never used is as one that is free again
+abbrev pub waiting : Option (Option Job) → Option Job
+waiting None = None
+waiting (Some job) = job
+
+-- the job that waits in a slot
+abbrev pub job_in : BTreeMap ℕ (Option Job) → ℕ → Option Job
+job_in slots n = waiting (get nat_cmp slots n)
+
+-- in each slot the same waits
+abbrev pub SameJobs : BTreeMap ℕ (Option Job) → BTreeMap ℕ (Option Job) → Type 0
+SameJobs old new = (n : ℕ) → job_in new n ≡ job_in old n
+
+-- ---- a tree beside its slots
+
+-- a tree, and the job that waits in each slot, none where it is free
+pub record Stage : Type 0 where
+  pub core : Core
+  pub jobs : ℕ → Option Job
+
+-- a tree beside free slots
+abbrev pub at_first : Core → Stage
+at_first c = record { core = c; jobs = λ n. None }
+
+-- a tree beside these slots
+abbrev pub beside : Core → BTreeMap ℕ (Option Job) → Stage
+beside c slots = record { core = c; jobs = job_in slots }
+
+-- ---- the end of a run
+
+-- the flush is no longer open, or nothing changes
+abbrev pub Closes : Core → Core → Type 0
+Closes old new = (new ≡ old) ⊎ (new ≡ record old { flush = None })

@@ -1,0 +1,51 @@
+// Jobs that wait in slots for their next call.
+ghost use Rattle.std.specs.Prelude.{◌≡◌, IsSome, OnOk};
+ghost use Rattle.std.specs.Ordering.{nat_cmp};
+ghost use Rattle.std.specs.BTreeMap.{get};
+ghost use Rattle.lsm_runs.specs.Slots.{SameJobs, flush_in};
+
+use lsm_jobs::{FlushJob, MergedFlush, WrittenFlush};
+use std::alloc::AllocError;
+use std::collections::BTreeMap;
+
+/// A number of the caller's choice, under which a job waits for its next call.
+pub type Slot = u64;
+
+/// A job, by what was done of it.
+#[derive(Drop)]
+pub enum Job {
+    /// A flush that was begun.
+    Begun(FlushJob),
+    /// One that was merged.
+    Merged(MergedFlush),
+    /// One whose tables are written.
+    Written(WrittenFlush),
+}
+
+/// Jobs by slot. None stands in a slot that is free again.
+pub type Slots = BTreeMap<Slot, Option<Job>>;
+
+impl Job {
+    /// The flush, to be abandoned.
+    pub fn into_flush(self) -> FlushJob
+        ensures { result ≡ flush_in self }
+    {
+        match self {
+            Job::Begun(job) => job,
+            Job::Merged(merged) => merged.into_job(),
+            Job::Written(written) => written.into_job(),
+        }
+    }
+}
+
+/// Makes room for a slot, in which the same waits.
+pub fn make_room(slots: &mut Slots, slot: Slot) -> Result<(), AllocError>
+    ensures same { SameJobs slots.old slots.new }
+    ensures there { OnOk result (IsSome (get nat_cmp slots.new slot)) }
+{
+    if slots.contains_key(&slot) {
+        return Ok(());
+    }
+    let _ = slots.insert(slot, None)?;
+    Ok(())
+}
