@@ -21,21 +21,24 @@ fn words_of(alloc: Global, text: &str) -> Result<Vec<String>, AllocError> {
 
 #[test]
 fn takes_arguments(rt: HostRuntime) -> Result<(), Fail> {
-    let timed = |keys| Ok(Plan {
+    let timed = |keys, folder| Ok(Plan {
         keys,
         with_times: true,
+        folder,
     });
     let table = [
         ("", Ok(CHECKS)),
-        ("1", timed(1)),
-        ("100000000", timed(100_000_000)),
+        ("1", timed(1, None)),
+        ("100000000", timed(100_000_000, None)),
+        ("1000 folder", timed(1_000, Some("folder"))),
         ("0", Err(BadArguments::NoNumber)),
         ("100000001", Err(BadArguments::NoNumber)),
         ("18446744073709551616", Err(BadArguments::NoNumber)),
         ("-1", Err(BadArguments::NoNumber)),
         ("1k", Err(BadArguments::NoNumber)),
         ("folder", Err(BadArguments::NoNumber)),
-        ("1000 folder", Err(BadArguments::TooMany)),
+        ("folder 1000", Err(BadArguments::NoNumber)),
+        ("1000 folder more", Err(BadArguments::TooMany)),
     ];
     for (text, told) in table {
         let words = words_of(rt.alloc(), text)?;
