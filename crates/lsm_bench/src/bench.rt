@@ -166,12 +166,7 @@ impl<P: Place> Bench<'_, P> {
     }
 
     /// Fills an empty tree.
-    fn fill<R>(
-        &self,
-        rt: &R,
-        kind: Kind,
-        filling: Filling,
-    ) -> Result<(Filled<P::Store>, Figures)>
+    fn fill<R>(&self, rt: &R, kind: Kind, filling: Filling) -> Result<(Filled<P::Store>, Figures)>
     where
         R: AllocGlobal + Clone + Clock + Files + Wait,
         ensures kind { IfOk result (λ r. kind_of r.0.tree ≡ kind) }
@@ -246,11 +241,7 @@ impl<P: Place> Bench<'_, P> {
     }
 
     /// Flushes the active memtable. The check is the bytes that it counted.
-    fn flush<R>(
-        &self,
-        rt: &R,
-        mut filled: Filled<P::Store>,
-    ) -> Result<(Filled<P::Store>, Figures)>
+    fn flush<R>(&self, rt: &R, mut filled: Filled<P::Store>) -> Result<(Filled<P::Store>, Figures)>
     where
         R: Clock + Wait,
     {

@@ -35,7 +35,7 @@ pub struct Folder<'a, R> {
     is_made: bool,
 }
 
-impl<'a, R: AllocGlobal + Clone + Drop + Files> Folder<'a, R> {
+impl<'a, R: AllocGlobal + Clone + Drop + Files + Send> Folder<'a, R> {
     /// Makes the folder where it is absent. Refused where it isn't empty.
     pub fn take(rt: &'a R, path: &'a str) -> Result<Folder<'a, R>> {
         let is_made = match fs::create_dir(rt, path) {

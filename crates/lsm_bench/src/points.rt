@@ -7,7 +7,8 @@ use crate::orders::Orders;
 use crate::report::Tally;
 use crate::workloads::{Filling, Wanted};
 use lsm_tree::{
-    Error, MemtableId, Op, Pass, Recorded, Registered, SeqNo, Store, Tree, TreeState, UserKey, UserValue,
+    Error, MemtableId, Op, Pass, Recorded, Registered, SeqNo, Store, Tree, TreeState, UserKey,
+    UserValue,
 };
 use std::alloc::{AllocError, Global};
 use std::sync::Wait;
@@ -36,8 +37,7 @@ pub trait Points {
 const WATERMARK: SeqNo = 0;
 
 /// What a flush of the active memtable answers.
-type Flushed =
-    Result<(Option<MemtableId>, Option<(u64, Registered)>), (Error, Option<MemtableId>)>;
+type Flushed = Result<(Option<MemtableId>, Option<(u64, Registered)>), (Error, Option<MemtableId>)>;
 
 /// The bytes that were flushed.
 fn size_of(flushed: Flushed) -> Result<u64, Error> {

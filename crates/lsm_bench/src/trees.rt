@@ -40,11 +40,7 @@ fn open_recorded<S: Store>(alloc: Global, store: S) -> Result<Recorded<S>, Error
 
 /// Closes a tree, and opens it again from its store, with its counters where they were.
 pub fn reopen<S: Store>(alloc: Global, tree: TreeState<S>) -> Result<TreeState<S>, Error> {
-    let config = Config::new(
-        tree.id(),
-        tree.seqno().get(),
-        tree.visible_seqno().get(),
-    );
+    let config = Config::new(tree.id(), tree.seqno().get(), tree.visible_seqno().get());
     open_state(alloc, config, tree.into_store())
 }
 

@@ -70,27 +70,54 @@ pub enum Listing {
 pub const WORKLOADS: [(&str, Job); 23] = [
     ("put_rand", Job::Fill(Kind::Owned, Filling::Random)),
     ("bytes_mem", Job::Weigh(Kind::Owned)),
-    ("get_mem", Job::Get(Kind::Owned, Filling::Random, Wanted::Present)),
-    ("miss_mem", Job::Get(Kind::Owned, Filling::Random, Wanted::Absent)),
+    (
+        "get_mem",
+        Job::Get(Kind::Owned, Filling::Random, Wanted::Present),
+    ),
+    (
+        "miss_mem",
+        Job::Get(Kind::Owned, Filling::Random, Wanted::Absent),
+    ),
     ("scan_mem", Job::List(Filling::Random, Listing::All)),
     ("range100_mem", Job::List(Filling::Random, Listing::Ranges)),
-    ("range100_open_mem", Job::List(Filling::Random, Listing::OpenRanges)),
+    (
+        "range100_open_mem",
+        Job::List(Filling::Random, Listing::OpenRanges),
+    ),
     ("prefix_mem", Job::List(Filling::Random, Listing::Groups)),
     ("flush_mem", Job::Flush(Kind::Owned)),
-    ("get_flat", Job::Get(Kind::Owned, Filling::Flat, Wanted::Present)),
-    ("miss_flat", Job::Get(Kind::Owned, Filling::Flat, Wanted::Absent)),
+    (
+        "get_flat",
+        Job::Get(Kind::Owned, Filling::Flat, Wanted::Present),
+    ),
+    (
+        "miss_flat",
+        Job::Get(Kind::Owned, Filling::Flat, Wanted::Absent),
+    ),
     ("scan_flat", Job::List(Filling::Flat, Listing::All)),
     ("range100_flat", Job::List(Filling::Flat, Listing::Ranges)),
     ("prefix_flat", Job::List(Filling::Flat, Listing::Groups)),
     ("reopen_mem", Job::Reopen(None)),
     ("reopen_read_mem", Job::Reopen(Some(Wanted::Present))),
-    ("get_runs4", Job::Get(Kind::Owned, Filling::Runs, Wanted::Present)),
+    (
+        "get_runs4",
+        Job::Get(Kind::Owned, Filling::Runs, Wanted::Present),
+    ),
     ("put_seq", Job::Fill(Kind::Owned, Filling::Rising)),
     ("put_same", Job::Fill(Kind::Owned, Filling::Same)),
     ("locked_put_rand", Job::Fill(Kind::Locked, Filling::Random)),
-    ("locked_get_mem", Job::Get(Kind::Locked, Filling::Random, Wanted::Present)),
-    ("recorded_put_rand", Job::Fill(Kind::Recorded, Filling::Random)),
-    ("recorded_get_mem", Job::Get(Kind::Recorded, Filling::Random, Wanted::Present)),
+    (
+        "locked_get_mem",
+        Job::Get(Kind::Locked, Filling::Random, Wanted::Present),
+    ),
+    (
+        "recorded_put_rand",
+        Job::Fill(Kind::Recorded, Filling::Random),
+    ),
+    (
+        "recorded_get_mem",
+        Job::Get(Kind::Recorded, Filling::Random, Wanted::Present),
+    ),
 ];
 
 /// The same of trees that stand in a folder. They run behind those, where a folder was given.
