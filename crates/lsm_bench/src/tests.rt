@@ -1,12 +1,17 @@
-// What no contract says: which arguments are taken, which order a seed gives, and the bytes of a key.
+// What no contract says: which arguments and folders are taken, which order a seed gives, and the bytes of a key.
 use crate::arguments::{BadArguments, CHECKS, Plan, parse_arguments};
 use crate::keys::{absent_key_of, key_of};
 use crate::orders::shuffled;
+use crate::places::{Folder, Place};
 use crate::resident::find_resident;
+use lsm_tree::Store;
 use rand_core::{Rng, SeedableRng};
 use rand_xoshiro::SplitMix64;
 use std::alloc::{AllocError, Global};
+use std::fs;
 use std::test::Fail;
+
+const FOLDER: &str = "lsm_bench_test";
 
 /// The words between single spaces, none for an empty text.
 fn words_of(alloc: Global, text: &str) -> Result<Vec<String>, AllocError> {
@@ -44,6 +49,25 @@ fn takes_arguments(rt: HostRuntime) -> Result<(), Fail> {
         let words = words_of(rt.alloc(), text)?;
         assert!(rt; parse_arguments(&words) == told, "at {text}");
     }
+    Ok(())
+}
+
+/// A folder is taken where it is absent or empty. What stood there before stays, and what was made goes.
+#[test]
+fn takes_a_folder(rt: HostRuntime) -> Result<(), Fail> {
+    let alloc = rt.alloc();
+    let _ = fs::remove_dir_all(&rt, FOLDER);
+    let made = Folder::take(&rt, FOLDER)?;
+    made.store(alloc)?.write("tables/0", b"entries")?;
+    assert!(rt; Folder::take(&rt, FOLDER).is_err());
+    made.clear(alloc)?;
+    assert!(rt; !fs::exists(&rt, FOLDER)?);
+    fs::create_dir(&rt, FOLDER)?;
+    let empty = Folder::take(&rt, FOLDER)?;
+    empty.store(alloc)?.write("current", b"0")?;
+    empty.clear(alloc)?;
+    assert!(rt; fs::exists(&rt, FOLDER)?);
+    fs::remove_dir(&rt, FOLDER)?;
     Ok(())
 }
 
