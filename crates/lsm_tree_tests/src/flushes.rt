@@ -1,10 +1,10 @@
 // Flushes of shared trees, with a journal and without, and of a tree under a list of calls.
 use crate::samples::{open_recorded, open_state, text};
 use lsm_tree::{
-    Config, Error, FlushJob, Handle, JournalEntry, Op, Pass, RecordedTree, Registered, Tree,
-    WrittenFlush,
+    Config, Error, FlushJob, Handle, JobStep, JournalEntry, Op, Ops, Outcome, Pass, RecordedTree,
+    Registered, Reply, Step, Tree, WrittenFlush, run,
 };
-use std::alloc::Global;
+use std::alloc::{AllocError, Global};
 use std::sync::Wait;
 use std::test::Fail;
 
@@ -226,4 +226,118 @@ fn gives_up(rt: &impl Wait, alloc: Global, tree: &RecordedTree, pass: &mut Pass)
     tree.abandon_flush(rt, pass, job);
     let done = tree.flush(rt, pass, 0);
     is_set && is_sealed && matches!(done, Ok(Some((50, registered))) if is_installed(&registered))
+}
+
+// ---- a list of calls
+
+fn batch(alloc: Global, value: &'static str) -> Result<Step, AllocError> {
+    let ops = vec![in alloc; (text("a"), Op::Set(text(value)))]?;
+    Ok(Step::Write(Ops::new(ops)))
+}
+
+/// Each outcome's reply and its count of entries, of steps on a new tree. None where there was no memory.
+fn replies(alloc: Global, steps: Result<Vec<Step>, AllocError>) -> Option<Vec<Outcome>> {
+    let Ok(steps) = steps else { return None };
+    let Ok(mut state) = open_state(alloc) else {
+        return None;
+    };
+    let outcomes = run(alloc, &mut state, &steps);
+    drop(state);
+    (outcomes.len() == steps.len()).then_some(outcomes)
+}
+
+/// a = x is flushed in parts from slot 7, while a = y is written, and calls come that find no job, or the slot in use.
+fn steps_of_a_job(alloc: Global) -> Result<Vec<Step>, AllocError> {
+    let mut steps = Vec::new(alloc);
+    steps.push(Step::AtSlot(7, JobStep::BeginFlush))?;
+    steps.push(batch(alloc, "x")?)?;
+    steps.push(Step::RotateMemtable)?;
+    steps.push(Step::AtSlot(7, JobStep::BeginFlush))?;
+    steps.push(Step::AtSlot(7, JobStep::BeginFlush))?;
+    steps.push(Step::AtSlot(8, JobStep::BeginFlush))?;
+    steps.push(Step::AtSlot(8, JobStep::RunFlush(0)))?;
+    steps.push(Step::AtSlot(7, JobStep::RegisterTables))?;
+    steps.push(Step::AtSlot(7, JobStep::RunFlush(0)))?;
+    steps.push(Step::AtSlot(7, JobStep::FlushToTables))?;
+    steps.push(batch(alloc, "y")?)?;
+    steps.push(Step::AtSlot(7, JobStep::RegisterTables))?;
+    steps.push(Step::AtSlot(7, JobStep::AbandonFlush))?;
+    steps.push(Step::Get(text("a"), 1))?;
+    steps.push(Step::Get(text("a"), 2))?;
+    Ok(steps)
+}
+
+fn is_reply(outcome: &Outcome, at: usize) -> bool {
+    match (at, outcome.reply()) {
+        (0, Reply::Begun(false)) | (1, Reply::Number(0)) | (2, Reply::Sealed(Some(0))) => true,
+        (3, Reply::Begun(true)) | (4, Reply::SlotInUse) => true,
+        (5, Reply::Refused(Error::FlushOpen)) | (6 | 7 | 12, Reply::NoJob) => true,
+        (8 | 9, Reply::Done) | (10, Reply::Number(1)) => true,
+        (11, Reply::Registered(registered)) => is_installed(registered),
+        (13, Reply::Value(Some(value))) => *value == text("x"),
+        (14, Reply::Value(Some(value))) => *value == text("y"),
+        _ => false,
+    }
+}
+
+fn are_replies(outcomes: &[Outcome]) -> bool {
+    outcomes
+        .iter()
+        .enumerate()
+        .all(|(at, outcome)| is_reply(outcome, at))
+}
+
+/// Whether an outcome notes a mark, and an install behind it.
+fn notes_install(outcome: &Outcome, watermark: u64, number: u64) -> bool {
+    match outcome.entries() {
+        [JournalEntry::Mark(mark), JournalEntry::Install(install)] => {
+            *mark == watermark && *install == number
+        }
+        _ => false,
+    }
+}
+
+#[test]
+fn a_job_waits_in_its_slot(rt: HostRuntime) {
+    let outcomes = replies(rt.alloc(), steps_of_a_job(rt.alloc()));
+    let told = outcomes.unwrap_or(Vec::new(rt.alloc()));
+    assert_eq!(rt; told.len(), 15);
+    assert!(rt; are_replies(&told));
+    assert!(rt; notes_install(&told[11], 0, 2));
+    drop(told);
+}
+
+/// Flushes in one call: of the sealed memtable, of the active one, and of nothing.
+fn steps_of_flushes(alloc: Global) -> Result<Vec<Step>, AllocError> {
+    let mut steps = Vec::new(alloc);
+    steps.push(Step::SetMoment(5))?;
+    steps.push(batch(alloc, "x")?)?;
+    steps.push(Step::RotateMemtable)?;
+    steps.push(Step::Flush(0))?;
+    steps.push(batch(alloc, "y")?)?;
+    steps.push(Step::FlushActiveMemtable(3))?;
+    steps.push(Step::Flush(0))?;
+    Ok(steps)
+}
+
+fn is_flushed(reply: &Reply) -> bool {
+    match reply {
+        Reply::Flushed(Some((50, registered)))
+        | Reply::FlushedActive(Some(1), Some((50, registered))) => is_installed(registered),
+        _ => false,
+    }
+}
+
+#[test]
+fn flushes_are_steps(rt: HostRuntime) {
+    let outcomes = replies(rt.alloc(), steps_of_flushes(rt.alloc()));
+    let told = outcomes.unwrap_or(Vec::new(rt.alloc()));
+    assert_eq!(rt; told.len(), 7);
+    assert!(rt; matches!(told[0].reply(), Reply::Done));
+    assert!(rt; is_flushed(told[3].reply()));
+    assert!(rt; notes_install(&told[3], 0, 1));
+    assert!(rt; is_flushed(told[5].reply()));
+    assert!(rt; notes_install(&told[5], 3, 3));
+    assert!(rt; matches!(told[6].reply(), Reply::Flushed(None)));
+    drop(told);
 }
