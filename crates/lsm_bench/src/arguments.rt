@@ -8,17 +8,20 @@ const MOST_KEYS: usize = 100_000_000;
 
 /// What a run does.
 #[derive(Clone, Copy, PartialEq, Eq)]
-pub struct Plan {
+pub struct Plan<'a> {
     /// How many keys each workload is on.
     pub keys: usize,
     /// Whether the lines have seconds.
     pub with_times: bool,
+    /// Where the trees on the disk stand. Without it no workload has one.
+    pub folder: Option<&'a str>,
 }
 
 /// The run without arguments. What it prints is the same on every machine.
-pub const CHECKS: Plan = Plan {
+pub const CHECKS: Plan<'static> = Plan {
     keys: 1_000,
     with_times: false,
+    folder: None,
 };
 
 /// Why arguments ask nothing that the program does.
@@ -28,30 +31,32 @@ pub enum BadArguments {
     NoText,
     #[error("N, the number of keys, is to be from 1 to 100000000")]
     NoNumber,
-    #[error("one argument at most is taken: no workload has a use for a folder")]
+    #[error("two arguments at most are taken: N and a folder")]
     TooMany,
 }
 
 /// What these arguments ask.
-pub fn parse_arguments(words: &[String]) -> Result<Plan, BadArguments>
+pub fn parse_arguments(words: &[String]) -> Result<Plan<'_>, BadArguments>
     ensures none { words.now ≡ [] → result ≡ Ok CHECKS }
     ensures keys { IfOk result (λ plan. (1 ≤ plan.keys) × (plan.keys ≤ MOST_KEYS)) }
 {
     match words {
         [] => Ok(CHECKS),
-        [count] => parse_count(count.as_str()),
+        [count] => parse_plan(count.as_str(), None),
+        [count, folder] => parse_plan(count.as_str(), Some(folder.as_str())),
         _ => Err(BadArguments::TooMany),
     }
 }
 
-/// A run with times on so many keys.
-fn parse_count(count: &str) -> Result<Plan, BadArguments>
+/// A run with times on so many keys, and with trees in a folder where there is one.
+fn parse_plan<'a>(count: &str, folder: Option<&'a str>) -> Result<Plan<'a>, BadArguments>
     ensures { IfOk result (λ plan. (1 ≤ plan.keys) × (plan.keys ≤ MOST_KEYS)) }
 {
     match count.parse::<usize>() {
         Ok(keys) if 1 <= keys && keys <= MOST_KEYS => Ok(Plan {
             keys,
             with_times: true,
+            folder,
         }),
         _ => Err(BadArguments::NoNumber),
     }

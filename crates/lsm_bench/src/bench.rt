@@ -5,38 +5,51 @@ ghost use Rattle.lsm_bench.specs.Kinds.{kind_of};
 use crate::arguments::Plan;
 use crate::lists::list;
 use crate::orders::Orders;
+use crate::places::{Folder, Memory, Place};
+use crate::points;
 use crate::progress::Progress;
 use crate::report::{Figures, Tally, print_figures};
 use crate::resident::resident_bytes;
-use crate::trees::AnyTree;
-use crate::workloads::{Job, Kind, Listing, Order, WORKLOADS, Wanted};
+use crate::trees::{AnyTree, reopen};
+use crate::workloads::{FOLDER_WORKLOADS, Filling, Job, Kind, Listing, WORKLOADS, Wanted};
 use anyhow::{Context, Result};
-use std::alloc::{AllocError, Global};
+use lsm_tree::Store;
+use std::alloc::Global;
 use std::io::{IsTerminal, Write};
 use std::rt::{Clock, Files};
 use std::sync::Wait;
 use std::time::{Duration, Instant};
 
-/// Runs the workloads of the table, and prints the line of each as it ends. Without times it leaves out what has no check.
-pub fn run_workloads<R, E>(rt: &R, progress: &mut Progress<E>, plan: Plan) -> Result<()>
+/// Runs the workloads of the plan. A folder is taken before the first of them, and cleared also where one fails.
+pub fn run_workloads<R, E>(rt: &R, progress: &mut Progress<E>, plan: Plan<'_>) -> Result<()>
 where
-    R: AllocGlobal + Clock + Files + Print + Wait,
+    R: AllocGlobal + Clone + Drop + Send + Clock + Files + Print + Wait,
     E: Write + IsTerminal + Drop,
 {
-    let bench = Bench::new(rt.alloc(), plan)?;
-    let mut left = None;
-    for (place, (name, job)) in WORKLOADS.iter().enumerate() {
-        if matches!(job, Job::Weigh(_)) && !plan.with_times {
-            continue;
-        }
-        progress.show(place.saturating_add(1), WORKLOADS.len(), name);
-        let done = bench.run(rt, left, *job);
-        progress.clear();
-        let (filled, figures) = done.context(format_args!("in {name}"))?;
-        print_figures(rt, name, plan, figures)?;
-        left = Some(filled);
-    }
-    Ok(())
+    let alloc = rt.alloc();
+    let orders = Orders::new(alloc, plan.keys)?;
+    let in_memory = Bench {
+        alloc,
+        plan,
+        orders: &orders,
+        place: &Memory,
+    };
+    let Some(path) = plan.folder else {
+        return in_memory.run_all(rt, progress, &WORKLOADS);
+    };
+    let folder = Folder::take(rt, path)?;
+    let in_folder = Bench {
+        alloc,
+        plan,
+        orders: &orders,
+        place: &folder,
+    };
+    let done = match in_memory.run_all(rt, progress, &WORKLOADS) {
+        Ok(()) => in_folder.run_all(rt, progress, &FOLDER_WORKLOADS),
+        Err(error) => Err(error),
+    };
+    let cleared = folder.clear(alloc).context(format_args!("clearing {path}"));
+    done.and(cleared)
 }
 
 /// How many of so many bytes a key has.
@@ -46,100 +59,132 @@ fn per_key(bytes: u64, keys: usize) -> u64 {
 
 /// A tree into which keys were put.
 #[derive(Drop)]
-struct Filled {
-    tree: AnyTree,
-    order: Order,
-    /// What came of the puts.
-    puts: Figures,
-    /// The bytes that they added to this process.
+struct Filled<S: Store> {
+    tree: AnyTree<S>,
+    filling: Filling,
+    /// The bytes that the puts added to this process.
     added: u64,
 }
 
-/// What all workloads of a run share.
+/// What the workloads share whose trees stand in one place.
 #[derive(Drop)]
-struct Bench {
+struct Bench<'a, P> {
     alloc: Global,
-    plan: Plan,
-    orders: Orders,
+    plan: Plan<'a>,
+    orders: &'a Orders,
+    place: &'a P,
 }
 
-impl Bench {
-    fn new(alloc: Global, plan: Plan) -> Result<Bench, AllocError> {
-        Ok(Bench {
-            alloc,
-            plan,
-            orders: Orders::new(alloc, plan.keys)?,
-        })
+impl<P: Place> Bench<'_, P> {
+    /// Runs the workloads of a table, and prints the line of each as it ends. Without times it leaves out what has no check.
+    fn run_all<R, E>(
+        &self,
+        rt: &R,
+        progress: &mut Progress<E>,
+        workloads: &[(&str, Job)],
+    ) -> Result<()>
+    where
+        R: AllocGlobal + Clone + Clock + Files + Print + Wait,
+        E: Write + IsTerminal + Drop,
+    {
+        let plan = self.plan;
+        let mut left = None;
+        for (place, (name, job)) in workloads.iter().enumerate() {
+            if matches!(job, Job::Weigh(_)) && !plan.with_times {
+                continue;
+            }
+            progress.show(place.saturating_add(1), workloads.len(), name);
+            let done = self.run(rt, left, *job);
+            progress.clear();
+            let (filled, figures) = done.context(format_args!("in {name}"))?;
+            print_figures(rt, name, plan, figures)?;
+            left = Some(filled);
+        }
+        Ok(())
     }
 
     /// Does a workload, on the tree that the one before has left where it fits. Returns its tree, and what came of it.
-    fn run<R>(&self, rt: &R, left: Option<Filled>, job: Job) -> Result<(Filled, Figures)>
+    fn run<R>(
+        &self,
+        rt: &R,
+        left: Option<Filled<P::Store>>,
+        job: Job,
+    ) -> Result<(Filled<P::Store>, Figures)>
     where
-        R: AllocGlobal + Clock + Files + Wait,
+        R: AllocGlobal + Clone + Clock + Files + Wait,
     {
         match job {
-            Job::Fill(kind, order) => {
+            Job::Fill(kind, filling) => {
                 // No two trees stand in memory.
                 drop(left);
-                let filled = self.fill(rt, kind, order)?;
-                let figures = filled.puts;
-                Ok((filled, figures))
+                self.fill(rt, kind, filling)
             }
-            Job::Get(kind, wanted) => {
-                let mut filled = self.find(rt, left, kind)?;
-                let figures = self.get_all(rt, &mut filled.tree, wanted)?;
-                Ok((filled, figures))
+            Job::Get(kind, filling, wanted) => {
+                let filled = self.find(rt, left, kind, filling)?;
+                self.get_all(rt, filled, wanted)
             }
-            Job::List(listing) => {
-                let filled = self.find(rt, left, Kind::Owned)?;
-                let figures = self.list(rt, &filled.tree, listing)?;
-                Ok((filled, figures))
+            Job::List(filling, listing) => {
+                let filled = self.find(rt, left, Kind::Owned, filling)?;
+                self.list(rt, filled, listing)
             }
             Job::Weigh(kind) => {
-                let filled = self.find(rt, left, kind)?;
-                let figures = self.weigh(&filled);
-                Ok((filled, figures))
+                let filled = self.find(rt, left, kind, Filling::Random)?;
+                Ok(self.weigh(filled))
+            }
+            Job::Flush(kind) => {
+                let filled = self.find(rt, left, kind, Filling::Random)?;
+                self.flush(rt, filled)
+            }
+            Job::Reopen(wanted) => {
+                let filled = self.find(rt, left, Kind::Owned, Filling::Flat)?;
+                self.reopen(rt, filled, wanted)
             }
         }
     }
 
-    /// A tree of this kind into which all keys were put in random order: the one that is left, or a new one.
-    fn find<R>(&self, rt: &R, left: Option<Filled>, kind: Kind) -> Result<Filled>
+    /// A tree of this kind that was filled so: the one that is left, or a new one.
+    fn find<R>(
+        &self,
+        rt: &R,
+        left: Option<Filled<P::Store>>,
+        kind: Kind,
+        filling: Filling,
+    ) -> Result<Filled<P::Store>>
     where
-        R: AllocGlobal + Clock + Files + Wait,
+        R: AllocGlobal + Clone + Clock + Files + Wait,
         ensures kind { IfOk result (λ filled. kind_of filled.tree ≡ kind) }
-        ensures order { IfOk result (λ filled. filled.order ≡ Order.Random) }
+        ensures filling { IfOk result (λ filled. filled.filling ≡ filling) }
     {
         match left {
-            Some(filled) if filled.tree.kind() == kind && filled.order == Order::Random => {
-                Ok(filled)
-            }
+            Some(filled) if filled.tree.kind() == kind && filled.filling == filling => Ok(filled),
             other => {
                 drop(other);
-                self.fill(rt, kind, Order::Random)
+                let (filled, _) = self.fill(rt, kind, filling)?;
+                Ok(filled)
             }
         }
     }
 
-    /// Puts entries into an empty tree.
-    fn fill<R>(&self, rt: &R, kind: Kind, order: Order) -> Result<Filled>
+    /// Fills an empty tree.
+    fn fill<R>(&self, rt: &R, kind: Kind, filling: Filling) -> Result<(Filled<P::Store>, Figures)>
     where
-        R: AllocGlobal + Clock + Files + Wait,
-        ensures kind { IfOk result (λ filled. kind_of filled.tree ≡ kind) }
-        ensures order { IfOk result (λ filled. filled.order ≡ order) }
+        R: AllocGlobal + Clone + Clock + Files + Wait,
+        ensures kind { IfOk result (λ r. kind_of r.0.tree ≡ kind) }
+        ensures filling { IfOk result (λ r. r.0.filling ≡ filling) }
     {
         let before = self.resident_bytes(rt)?;
-        let mut tree = AnyTree::open(self.alloc, kind)?;
+        let store = self.place.store(self.alloc)?;
+        let mut tree = AnyTree::open(self.alloc, kind, store)?;
         let start = Instant::now(rt)?;
-        let tally = tree.fill(rt, self.alloc, order, &self.orders)?;
+        let tally = tree.fill(rt, self.alloc, filling, self.orders)?;
         let time = start.elapsed(rt)?;
         let added = self.resident_bytes(rt)?.saturating_sub(before);
-        Ok(Filled {
+        let filled = Filled {
             tree,
-            order,
-            puts: Figures { tally, time },
+            filling,
             added,
-        })
+        };
+        Ok((filled, Figures { tally, time }))
     }
 
     /// The bytes of this process in memory, 0 in a run that has no line for them.
@@ -150,35 +195,93 @@ impl Bench {
         resident_bytes(rt)
     }
 
-    fn get_all<R>(&self, rt: &R, tree: &mut AnyTree, wanted: Wanted) -> Result<Figures>
+    fn get_all<R>(
+        &self,
+        rt: &R,
+        mut filled: Filled<P::Store>,
+        wanted: Wanted,
+    ) -> Result<(Filled<P::Store>, Figures)>
     where
         R: Clock + Wait,
     {
         let start = Instant::now(rt)?;
-        let tally = tree.get_all(rt, self.alloc, wanted, &self.orders.reads)?;
+        let tally = filled
+            .tree
+            .get_all(rt, self.alloc, wanted, &self.orders.reads)?;
         let time = start.elapsed(rt)?;
-        Ok(Figures { tally, time })
+        Ok((filled, Figures { tally, time }))
     }
 
-    fn list<R: Clock>(&self, rt: &R, tree: &AnyTree, listing: Listing) -> Result<Figures>
-        requires { kind_of tree.now ≡ Kind.Owned }
+    fn list<R: Clock>(
+        &self,
+        rt: &R,
+        filled: Filled<P::Store>,
+        listing: Listing,
+    ) -> Result<(Filled<P::Store>, Figures)>
+        requires { kind_of filled.tree ≡ Kind.Owned }
     {
-        let AnyTree::Owned(tree) = tree else {
+        let AnyTree::Owned(tree) = &filled.tree else {
             unreachable!()
         };
         let start = Instant::now(rt)?;
         let tally = list(self.alloc, tree, listing, &self.orders.reads)?;
         let time = start.elapsed(rt)?;
-        Ok(Figures { tally, time })
+        Ok((filled, Figures { tally, time }))
     }
 
     /// How many bytes a key the tree's puts added to this process. It takes no time.
-    fn weigh(&self, filled: &Filled) -> Figures {
+    fn weigh(&self, filled: Filled<P::Store>) -> (Filled<P::Store>, Figures) {
         let ops = self.plan.keys;
         let check = per_key(filled.added, ops);
-        Figures {
+        let figures = Figures {
             tally: Tally { ops, check },
             time: Duration::ZERO,
-        }
+        };
+        (filled, figures)
+    }
+
+    /// Flushes the active memtable. The check is the bytes that it counted.
+    fn flush<R>(&self, rt: &R, mut filled: Filled<P::Store>) -> Result<(Filled<P::Store>, Figures)>
+    where
+        R: Clock + Wait,
+    {
+        let ops = self.plan.keys;
+        let start = Instant::now(rt)?;
+        let check = filled.tree.flush(rt)?;
+        let time = start.elapsed(rt)?;
+        filled.filling = Filling::Flat;
+        let tally = Tally { ops, check };
+        Ok((filled, Figures { tally, time }))
+    }
+
+    /// Closes a tree and opens it again, and gets keys where it is said which. Without them the check is how many entries
+    /// it reads.
+    fn reopen<R: Clock>(
+        &self,
+        rt: &R,
+        filled: Filled<P::Store>,
+        wanted: Option<Wanted>,
+    ) -> Result<(Filled<P::Store>, Figures)>
+        requires { kind_of filled.tree ≡ Kind.Owned }
+    {
+        let AnyTree::Owned(tree) = filled.tree else {
+            unreachable!()
+        };
+        let start = Instant::now(rt)?;
+        let mut tree = reopen(self.alloc, tree)?;
+        let tally = match wanted {
+            Some(wanted) => points::get_all(self.alloc, &mut tree, wanted, &self.orders.reads)?,
+            None => Tally {
+                ops: self.plan.keys,
+                check: tree.approximate_len() as u64,
+            },
+        };
+        let time = start.elapsed(rt)?;
+        let filled = Filled {
+            tree: AnyTree::Owned(tree),
+            filling: filled.filling,
+            added: filled.added,
+        };
+        Ok((filled, Figures { tally, time }))
     }
 }

@@ -2,7 +2,7 @@
 use crate::keys::{RANGE, group_of, user_key};
 use crate::report::Tally;
 use crate::workloads::Listing;
-use lsm_tree::{Error, InternalValue, SeqNo, TreeIter, TreeState};
+use lsm_tree::{Error, InternalValue, SeqNo, Store, TreeIter, TreeState};
 use std::alloc::Global;
 use std::ops::Bound;
 
@@ -13,9 +13,9 @@ const MOST_LISTS: usize = 10_000;
 const MOST_OPEN_RANGES: usize = 1_000;
 
 /// Lists entries of a tree. An operation is an entry where all are listed, else a range or a group.
-pub fn list(
+pub fn list<S: Store>(
     alloc: Global,
-    tree: &TreeState,
+    tree: &TreeState<S>,
     listing: Listing,
     ids: &[u64],
 ) -> Result<Tally, Error> {
@@ -31,13 +31,13 @@ pub fn list(
     Ok(Tally { ops, check })
 }
 
-fn list_all(tree: &TreeState, snapshot: SeqNo) -> Result<u64, Error> {
+fn list_all<S: Store>(tree: &TreeState<S>, snapshot: SeqNo) -> Result<u64, Error> {
     sum_entries(tree.iter(snapshot, None)?)
 }
 
-fn list_ranges(
+fn list_ranges<S: Store>(
     alloc: Global,
-    tree: &TreeState,
+    tree: &TreeState<S>,
     ids: &[u64],
     snapshot: SeqNo,
 ) -> Result<u64, Error> {
@@ -51,9 +51,9 @@ fn list_ranges(
 }
 
 /// As `list_ranges`, but no range has an upper bound, and as many entries are taken of it.
-fn list_open_ranges(
+fn list_open_ranges<S: Store>(
     alloc: Global,
-    tree: &TreeState,
+    tree: &TreeState<S>,
     ids: &[u64],
     snapshot: SeqNo,
 ) -> Result<u64, Error> {
@@ -66,7 +66,7 @@ fn list_open_ranges(
     Ok(sum)
 }
 
-fn list_groups(tree: &TreeState, ids: &[u64], snapshot: SeqNo) -> Result<u64, Error> {
+fn list_groups<S: Store>(tree: &TreeState<S>, ids: &[u64], snapshot: SeqNo) -> Result<u64, Error> {
     let mut sum = 0u64;
     for id in ids {
         sum = sum.wrapping_add(sum_entries(tree.prefix(&group_of(*id), snapshot, None)?)?);

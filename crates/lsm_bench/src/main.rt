@@ -2,10 +2,12 @@
 //!
 //! `lsm_bench N` runs each workload on N keys and prints a line for it, `workload N ops seconds check`. The check
 //! depends on every answer, so that no call can be left out unseen. Without arguments N is 1,000 and no line has
-//! seconds, so that the lines are the same on every machine. docs/PERFORMANCE.md says what each workload does.
+//! seconds, so that the lines are the same on every machine. `lsm_bench N FOLDER` adds workloads on trees in that
+//! folder, which is to be absent or empty, and takes away at the end what it made. docs/PERFORMANCE.md says what each
+//! workload does.
 //!
-//! It ends with status 0; with 1 where memory, the clock or the output failed it, and says so; and with 2 where its
-//! arguments ask nothing.
+//! It ends with status 0; with 1 where memory, the clock, the output or the folder failed it, and says so; and with 2
+//! where its arguments ask nothing.
 //!
 //! | Module | Holds |
 //! |-|-|
@@ -13,8 +15,9 @@
 //! | `orders` | the orders of keys |
 //! | `keys` | keys and values |
 //! | `workloads` | the table of workloads |
-//! | `points` | workloads that write or read one key at a time, on any tree |
+//! | `points` | workloads that write or read one key at a time, on any tree, and flushes |
 //! | `lists` | workloads that read many keys at a time |
+//! | `places` | where trees stand: in memory, or in a folder |
 //! | `trees` | the trees that workloads find |
 //! | `bench` | the run of one workload after the other |
 //! | `report` | the line of a workload |
@@ -27,6 +30,7 @@ mod bench;
 mod keys;
 mod lists;
 mod orders;
+mod places;
 mod points;
 mod progress;
 mod report;
@@ -35,7 +39,7 @@ mod trees;
 mod workloads;
 
 use anyhow::Error;
-use arguments::{BadArguments, Plan, parse_arguments};
+use arguments::{BadArguments, parse_arguments};
 use bench::run_workloads;
 use progress::Progress;
 use std::io::ErrorKind;
@@ -46,24 +50,21 @@ use std::{env, io};
 const USAGE: u8 = 2;
 
 fn main(rt: HostRuntime) -> ExitCode {
-    let plan = match plan_run(&rt) {
-        Ok(Ok(plan)) => plan,
-        Ok(Err(error)) => return tell_usage(&rt, error),
+    let words = match list_arguments(&rt) {
+        Ok(words) => words,
+        Err(error) if error.kind() == ErrorKind::InvalidData => {
+            return tell_usage(&rt, BadArguments::NoText);
+        }
         Err(error) => return tell_fault(&rt, Error::from(error)),
+    };
+    let plan = match parse_arguments(&words) {
+        Ok(plan) => plan,
+        Err(error) => return tell_usage(&rt, error),
     };
     let mut progress = Progress::new(rt.stderr());
     match run_workloads(&rt, &mut progress, plan) {
         Ok(()) => ExitCode::SUCCESS,
         Err(error) => tell_fault(&rt, error),
-    }
-}
-
-/// What the program's arguments ask, or why they ask nothing.
-fn plan_run<R: Env + AllocGlobal>(rt: &R) -> io::Result<Result<Plan, BadArguments>> {
-    match list_arguments(rt) {
-        Ok(words) => Ok(parse_arguments(&words)),
-        Err(error) if error.kind() == ErrorKind::InvalidData => Ok(Err(BadArguments::NoText)),
-        Err(error) => Err(error),
     }
 }
 
@@ -75,7 +76,7 @@ fn list_arguments<R: Env + AllocGlobal>(rt: &R) -> io::Result<Vec<String>> {
 
 /// Says why the arguments ask nothing. Nothing is left to be told where even this can't be written.
 fn tell_usage(rt: &impl Eprint, error: BadArguments) -> ExitCode {
-    let _ = eprintln!(rt; "lsm_bench: {error}\nusage: lsm_bench [N]");
+    let _ = eprintln!(rt; "lsm_bench: {error}\nusage: lsm_bench [N [FOLDER]]");
     ExitCode::from(USAGE)
 }
 

@@ -1,16 +1,19 @@
-// Workloads that write or read one key at a time, on any tree.
-ghost use Rattle.std.specs.Prelude.{◌≡◌, [], ◌∷◌, IfOk};
+// Workloads that write or read one key at a time, on any tree, and flushes.
+ghost use Rattle.std.specs.Prelude.{◌≡◌, ◌<◌, [], ◌∷◌, IfOk};
 ghost use Rattle.lsm_bench.specs.Keys.{key_bytes, value_bytes};
 
 use crate::keys::{absent_key_of, key_of, user_key, user_value};
 use crate::orders::Orders;
 use crate::report::Tally;
-use crate::workloads::{Order, Wanted};
-use lsm_tree::{Error, Op, Pass, Recorded, SeqNo, Tree, TreeState, UserKey, UserValue};
+use crate::workloads::{Filling, Wanted};
+use lsm_tree::{
+    Error, MemtableId, Op, Pass, Recorded, Registered, SeqNo, Store, Tree, TreeState, UserKey,
+    UserValue,
+};
 use std::alloc::{AllocError, Global};
 use std::sync::Wait;
 
-/// A tree that is written to and read from one key at a time.
+/// A tree that is written to and read from one key at a time, and flushed.
 pub trait Points {
     /// Writes a batch, and returns its sequence number.
     fn write(&mut self, ops: Vec<(UserKey, Op)>) -> Result<SeqNo, Error>;
@@ -25,9 +28,27 @@ pub trait Points {
 
     /// The snapshot that sees every write so far.
     fn snapshot(&self) -> SeqNo;
+
+    /// Flushes the active memtable, and returns the bytes that it counted.
+    fn flush(&mut self) -> Result<u64, Error>;
 }
 
-impl Points for TreeState {
+/// Flushes keep what any snapshot sees.
+const WATERMARK: SeqNo = 0;
+
+/// What a flush of the active memtable answers.
+type Flushed = Result<(Option<MemtableId>, Option<(u64, Registered)>), (Error, Option<MemtableId>)>;
+
+/// The bytes that were flushed.
+fn size_of(flushed: Flushed) -> Result<u64, Error> {
+    match flushed {
+        Ok((_, Some((size, _)))) => Ok(size),
+        Ok((_, None)) => Ok(0),
+        Err((error, _)) => Err(error),
+    }
+}
+
+impl<S: Store> Points for TreeState<S> {
     fn write(&mut self, ops: Vec<(UserKey, Op)>) -> Result<SeqNo, Error> {
         self.write(ops)
     }
@@ -44,16 +65,20 @@ impl Points for TreeState {
     fn snapshot(&self) -> SeqNo {
         self.visible_seqno().get()
     }
+
+    fn flush(&mut self) -> Result<u64, Error> {
+        size_of(self.flush_active_memtable(WATERMARK))
+    }
 }
 
 /// A tree behind its lock, with what waits for the lock.
 #[derive(Drop)]
-pub struct Locked<'a, R> {
+pub struct Locked<'a, R, S: Store> {
     pub rt: &'a R,
-    pub tree: &'a Tree,
+    pub tree: &'a Tree<S>,
 }
 
-impl<R: Wait> Points for Locked<'_, R> {
+impl<R: Wait, S: Store> Points for Locked<'_, R, S> {
     fn write(&mut self, ops: Vec<(UserKey, Op)>) -> Result<SeqNo, Error> {
         self.tree.write(self.rt, ops)
     }
@@ -70,16 +95,20 @@ impl<R: Wait> Points for Locked<'_, R> {
     fn snapshot(&self) -> SeqNo {
         self.tree.visible_number(self.rt)
     }
+
+    fn flush(&mut self) -> Result<u64, Error> {
+        size_of(self.tree.flush_active_memtable(self.rt, WATERMARK))
+    }
 }
 
 /// A recorded tree, with the pass of its one caller.
 #[derive(Drop)]
-pub struct Noted<'a> {
-    pub tree: &'a mut Recorded,
+pub struct Noted<'a, S: Store> {
+    pub tree: &'a mut Recorded<S>,
     pub pass: &'a mut Pass,
 }
 
-impl Points for Noted<'_> {
+impl<S: Store> Points for Noted<'_, S> {
     fn write(&mut self, ops: Vec<(UserKey, Op)>) -> Result<SeqNo, Error> {
         self.tree.write(self.pass, ops)
     }
@@ -97,6 +126,10 @@ impl Points for Noted<'_> {
     fn snapshot(&self) -> SeqNo {
         self.tree.visible_seqno().get()
     }
+
+    fn flush(&mut self) -> Result<u64, Error> {
+        size_of(self.tree.flush_active_memtable(self.pass, WATERMARK))
+    }
 }
 
 /// Puts as many entries as there are keys into a tree, one after the other. The check is the last sequence number, which
@@ -104,14 +137,36 @@ impl Points for Noted<'_> {
 pub fn fill<T: Points>(
     alloc: Global,
     tree: &mut T,
-    order: Order,
+    filling: Filling,
     orders: &Orders,
 ) -> Result<Tally, Error> {
-    match order {
-        Order::Rising => put_all(alloc, tree, &orders.rising),
-        Order::Random => put_all(alloc, tree, &orders.puts),
-        Order::Same => put_same(alloc, tree, &orders.rising),
+    match filling {
+        Filling::Rising => put_all(alloc, tree, &orders.rising),
+        Filling::Random => put_all(alloc, tree, &orders.puts),
+        Filling::Same => put_same(alloc, tree, &orders.rising),
+        Filling::Flat => put_parts(alloc, tree, &orders.puts, 1),
+        Filling::Runs => put_parts(alloc, tree, &orders.puts, 4),
     }
+}
+
+/// Puts the key of each id with its value, in so many parts at most, each of which is flushed.
+fn put_parts<T: Points>(
+    alloc: Global,
+    tree: &mut T,
+    ids: &[u64],
+    parts: usize,
+) -> Result<Tally, Error>
+    requires { 0 < parts }
+{
+    let mut check = 0;
+    for part in ids.chunks(ids.len().div_ceil(parts).max(1)) {
+        check = put_all(alloc, tree, part)?.check;
+        tree.flush()?;
+    }
+    Ok(Tally {
+        ops: ids.len(),
+        check,
+    })
 }
 
 /// Puts the key of each id with its value.

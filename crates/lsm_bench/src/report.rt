@@ -20,7 +20,12 @@ pub struct Figures {
 }
 
 /// Prints the line of a workload, with its time where the plan wants times.
-pub fn print_figures(rt: &impl Print, name: &str, plan: Plan, figures: Figures) -> io::Result<()> {
+pub fn print_figures(
+    rt: &impl Print,
+    name: &str,
+    plan: Plan<'_>,
+    figures: Figures,
+) -> io::Result<()> {
     let keys = plan.keys;
     let Tally { ops, check } = figures.tally;
     if plan.with_times {

@@ -1,12 +1,17 @@
-// What no contract says: which arguments are taken, which order a seed gives, and the bytes of a key.
+// What no contract says: which arguments and folders are taken, which order a seed gives, and the bytes of a key.
 use crate::arguments::{BadArguments, CHECKS, Plan, parse_arguments};
 use crate::keys::{absent_key_of, key_of};
 use crate::orders::shuffled;
+use crate::places::{Folder, Place};
 use crate::resident::find_resident;
+use lsm_tree::Store;
 use rand_core::{Rng, SeedableRng};
 use rand_xoshiro::SplitMix64;
 use std::alloc::{AllocError, Global};
+use std::fs;
 use std::test::Fail;
+
+const FOLDER: &str = "lsm_bench_test";
 
 /// The words between single spaces, none for an empty text.
 fn words_of(alloc: Global, text: &str) -> Result<Vec<String>, AllocError> {
@@ -21,26 +26,48 @@ fn words_of(alloc: Global, text: &str) -> Result<Vec<String>, AllocError> {
 
 #[test]
 fn takes_arguments(rt: HostRuntime) -> Result<(), Fail> {
-    let timed = |keys| Ok(Plan {
+    let timed = |keys, folder| Ok(Plan {
         keys,
         with_times: true,
+        folder,
     });
     let table = [
         ("", Ok(CHECKS)),
-        ("1", timed(1)),
-        ("100000000", timed(100_000_000)),
+        ("1", timed(1, None)),
+        ("100000000", timed(100_000_000, None)),
+        ("1000 folder", timed(1_000, Some("folder"))),
         ("0", Err(BadArguments::NoNumber)),
         ("100000001", Err(BadArguments::NoNumber)),
         ("18446744073709551616", Err(BadArguments::NoNumber)),
         ("-1", Err(BadArguments::NoNumber)),
         ("1k", Err(BadArguments::NoNumber)),
         ("folder", Err(BadArguments::NoNumber)),
-        ("1000 folder", Err(BadArguments::TooMany)),
+        ("folder 1000", Err(BadArguments::NoNumber)),
+        ("1000 folder more", Err(BadArguments::TooMany)),
     ];
     for (text, told) in table {
         let words = words_of(rt.alloc(), text)?;
         assert!(rt; parse_arguments(&words) == told, "at {text}");
     }
+    Ok(())
+}
+
+/// A folder is taken where it is absent or empty. What stood there before stays, and what was made goes.
+#[test]
+fn takes_a_folder(rt: HostRuntime) -> Result<(), Fail> {
+    let alloc = rt.alloc();
+    let _ = fs::remove_dir_all(&rt, FOLDER);
+    let made = Folder::take(&rt, FOLDER)?;
+    made.store(alloc)?.write("tables/0", b"entries")?;
+    assert!(rt; Folder::take(&rt, FOLDER).is_err());
+    made.clear(alloc)?;
+    assert!(rt; !fs::exists(&rt, FOLDER)?);
+    fs::create_dir(&rt, FOLDER)?;
+    let empty = Folder::take(&rt, FOLDER)?;
+    empty.store(alloc)?.write("current", b"0")?;
+    empty.clear(alloc)?;
+    assert!(rt; fs::exists(&rt, FOLDER)?);
+    fs::remove_dir(&rt, FOLDER)?;
     Ok(())
 }
 

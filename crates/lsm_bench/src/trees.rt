@@ -2,46 +2,63 @@
 ghost use Rattle.std.specs.Prelude.{◌≡◌, IfOk};
 
 use crate::orders::Orders;
-use crate::points::{self, Locked, Noted};
+use crate::points::{self, Locked, Noted, Points};
 use crate::report::Tally;
-use crate::workloads::{Kind, Order, Wanted};
-use lsm_tree::{Config, Error, Handle, MemStore, Pass, Recorded, Tree, TreeState};
+use crate::workloads::{Filling, Kind, Wanted};
+use lsm_tree::{Config, Error, Handle, Pass, Recorded, Store, Tree, TreeState};
 use std::alloc::Global;
 use std::sync::Wait;
 
-/// A tree of any kind, in memory.
+/// A tree of any kind.
 #[derive(Drop)]
-pub enum AnyTree {
-    Owned(TreeState),
-    Locked(Tree),
-    Recorded(Recorded, Pass),
+pub enum AnyTree<S: Store> {
+    Owned(TreeState<S>),
+    Locked(Tree<S>),
+    Recorded(Recorded<S>, Pass),
 }
 
-fn open_state(alloc: Global) -> Result<TreeState, Error> {
-    match TreeState::open(alloc, Config::new(0, 0, 0), MemStore::new(alloc)) {
+/// Where the counters of an empty tree start.
+const START: Config = Config {
+    id: 0,
+    seqno: 0,
+    visible_seqno: 0,
+};
+
+fn open_state<S: Store>(alloc: Global, config: Config, store: S) -> Result<TreeState<S>, Error> {
+    match TreeState::open(alloc, config, store) {
         Ok(tree) => Ok(tree),
         Err((error, _)) => Err(error),
     }
 }
 
-fn open_recorded(alloc: Global) -> Result<Recorded, Error> {
-    match Recorded::open(alloc, Config::new(0, 0, 0), MemStore::new(alloc)) {
+fn open_recorded<S: Store>(alloc: Global, store: S) -> Result<Recorded<S>, Error> {
+    match Recorded::open(alloc, START, store) {
         Ok(tree) => Ok(tree),
         Err((error, _)) => Err(error),
     }
 }
 
-impl AnyTree {
+/// Closes a tree, and opens it again from its store, with its counters where they were.
+pub fn reopen<S: Store>(alloc: Global, tree: TreeState<S>) -> Result<TreeState<S>, Error> {
+    let config = Config::new(tree.id(), tree.seqno().get(), tree.visible_seqno().get());
+    open_state(alloc, config, tree.into_store())
+}
+
+impl<S: Store> AnyTree<S> {
     ghost use Rattle.lsm_bench.specs.Kinds.{kind_of};
 
-    /// An empty tree.
-    pub fn open(alloc: Global, kind: Kind) -> Result<AnyTree, Error>
+    /// The tree of an empty store.
+    pub fn open(alloc: Global, kind: Kind, store: S) -> Result<AnyTree<S>, Error>
+    where
+        S: Send,
         ensures { IfOk result (λ tree. kind_of tree ≡ kind) }
     {
         Ok(match kind {
-            Kind::Owned => AnyTree::Owned(open_state(alloc)?),
-            Kind::Locked => AnyTree::Locked(Handle::new(alloc, open_state(alloc)?)?),
-            Kind::Recorded => AnyTree::Recorded(open_recorded(alloc)?, Pass::new(alloc)),
+            Kind::Owned => AnyTree::Owned(open_state(alloc, START, store)?),
+            Kind::Locked => {
+                AnyTree::Locked(Handle::new(alloc, open_state(alloc, START, store)?)?)
+            }
+            Kind::Recorded => AnyTree::Recorded(open_recorded(alloc, store)?, Pass::new(alloc)),
         })
     }
 
@@ -61,16 +78,18 @@ impl AnyTree {
         &mut self,
         rt: &impl Wait,
         alloc: Global,
-        order: Order,
+        filling: Filling,
         orders: &Orders,
     ) -> Result<Tally, Error>
         ensures { kind_of self.new ≡ kind_of self.old }
     {
         match self {
-            AnyTree::Owned(tree) => points::fill(alloc, tree, order, orders),
-            AnyTree::Locked(tree) => points::fill(alloc, &mut Locked { rt, tree }, order, orders),
+            AnyTree::Owned(tree) => points::fill(alloc, tree, filling, orders),
+            AnyTree::Locked(tree) => {
+                points::fill(alloc, &mut Locked { rt, tree }, filling, orders)
+            }
             AnyTree::Recorded(tree, pass) => {
-                points::fill(alloc, &mut Noted { tree, pass }, order, orders)
+                points::fill(alloc, &mut Noted { tree, pass }, filling, orders)
             }
         }
     }
@@ -93,6 +112,17 @@ impl AnyTree {
             AnyTree::Recorded(tree, pass) => {
                 points::get_all(alloc, &mut Noted { tree, pass }, wanted, ids)
             }
+        }
+    }
+
+    /// Flushes the active memtable, and returns the bytes that it counted.
+    pub fn flush(&mut self, rt: &impl Wait) -> Result<u64, Error>
+        ensures { kind_of self.new ≡ kind_of self.old }
+    {
+        match self {
+            AnyTree::Owned(tree) => Points::flush(tree),
+            AnyTree::Locked(tree) => Locked { rt, tree }.flush(),
+            AnyTree::Recorded(tree, pass) => Noted { tree, pass }.flush(),
         }
     }
 }

@@ -1,16 +1,20 @@
 // The table of workloads.
 
-/// What a workload does. A fill finds an empty tree; the others find one into which all keys were put in random order.
+/// What a workload does. A fill finds an empty tree; the others find one that was filled as they say.
 #[derive(Clone, Copy)]
 pub enum Job {
     /// Puts as many entries as there are keys, one after the other.
-    Fill(Kind, Order),
+    Fill(Kind, Filling),
     /// Gets as many keys as there are, one after the other.
-    Get(Kind, Wanted),
+    Get(Kind, Filling, Wanted),
     /// Reads many keys at a time, of a tree with one owner.
-    List(Listing),
-    /// Tells how many bytes a key the last fill added to this process, in the place of a check.
+    List(Filling, Listing),
+    /// Tells how many bytes a key the last fill in random order added to this process, in the place of a check.
     Weigh(Kind),
+    /// Flushes the active memtable, which has all keys. It leaves a flat tree.
+    Flush(Kind),
+    /// Closes a flat tree with one owner and opens it again; and then gets keys, where it is said which.
+    Reopen(Option<Wanted>),
 }
 
 /// A kind of tree.
@@ -24,13 +28,19 @@ pub enum Kind {
     Recorded,
 }
 
-/// The order of puts.
+/// How a tree is filled.
 #[derive(Clone, Copy, PartialEq, Eq)]
-pub enum Order {
+pub enum Filling {
+    /// By rising id.
     Rising,
+    /// In random order.
     Random,
     /// One key again and again.
     Same,
+    /// In random order, and then flushed: one run of tables.
+    Flat,
+    /// In random order, and flushed after each quarter: four runs of tables.
+    Runs,
 }
 
 /// Which keys are asked for, in random order.
@@ -55,27 +65,64 @@ pub enum Listing {
 
 /// The name of each workload, and what it does, in the order in which they run.
 ///
-/// Those that read one tree stand behind the fill that they read, so that it is done once. The first is the fill that
+/// Those that read one tree stand behind the one that makes it, so that it is done once. The first is the fill that
 /// is weighed, before other trees have left memory behind.
-pub const WORKLOADS: [(&str, Job); 14] = [
-    ("put_rand", Job::Fill(Kind::Owned, Order::Random)),
+pub const WORKLOADS: [(&str, Job); 23] = [
+    ("put_rand", Job::Fill(Kind::Owned, Filling::Random)),
     ("bytes_mem", Job::Weigh(Kind::Owned)),
-    ("get_mem", Job::Get(Kind::Owned, Wanted::Present)),
-    ("miss_mem", Job::Get(Kind::Owned, Wanted::Absent)),
-    ("scan_mem", Job::List(Listing::All)),
-    ("range100_mem", Job::List(Listing::Ranges)),
-    ("range100_open_mem", Job::List(Listing::OpenRanges)),
-    ("prefix_mem", Job::List(Listing::Groups)),
-    ("put_seq", Job::Fill(Kind::Owned, Order::Rising)),
-    ("put_same", Job::Fill(Kind::Owned, Order::Same)),
-    ("locked_put_rand", Job::Fill(Kind::Locked, Order::Random)),
-    ("locked_get_mem", Job::Get(Kind::Locked, Wanted::Present)),
+    (
+        "get_mem",
+        Job::Get(Kind::Owned, Filling::Random, Wanted::Present),
+    ),
+    (
+        "miss_mem",
+        Job::Get(Kind::Owned, Filling::Random, Wanted::Absent),
+    ),
+    ("scan_mem", Job::List(Filling::Random, Listing::All)),
+    ("range100_mem", Job::List(Filling::Random, Listing::Ranges)),
+    (
+        "range100_open_mem",
+        Job::List(Filling::Random, Listing::OpenRanges),
+    ),
+    ("prefix_mem", Job::List(Filling::Random, Listing::Groups)),
+    ("flush_mem", Job::Flush(Kind::Owned)),
+    (
+        "get_flat",
+        Job::Get(Kind::Owned, Filling::Flat, Wanted::Present),
+    ),
+    (
+        "miss_flat",
+        Job::Get(Kind::Owned, Filling::Flat, Wanted::Absent),
+    ),
+    ("scan_flat", Job::List(Filling::Flat, Listing::All)),
+    ("range100_flat", Job::List(Filling::Flat, Listing::Ranges)),
+    ("prefix_flat", Job::List(Filling::Flat, Listing::Groups)),
+    ("reopen_mem", Job::Reopen(None)),
+    ("reopen_read_mem", Job::Reopen(Some(Wanted::Present))),
+    (
+        "get_runs4",
+        Job::Get(Kind::Owned, Filling::Runs, Wanted::Present),
+    ),
+    ("put_seq", Job::Fill(Kind::Owned, Filling::Rising)),
+    ("put_same", Job::Fill(Kind::Owned, Filling::Same)),
+    ("locked_put_rand", Job::Fill(Kind::Locked, Filling::Random)),
+    (
+        "locked_get_mem",
+        Job::Get(Kind::Locked, Filling::Random, Wanted::Present),
+    ),
     (
         "recorded_put_rand",
-        Job::Fill(Kind::Recorded, Order::Random),
+        Job::Fill(Kind::Recorded, Filling::Random),
     ),
     (
         "recorded_get_mem",
-        Job::Get(Kind::Recorded, Wanted::Present),
+        Job::Get(Kind::Recorded, Filling::Random, Wanted::Present),
     ),
+];
+
+/// The same of trees that stand in a folder. They run behind those, where a folder was given.
+pub const FOLDER_WORKLOADS: [(&str, Job); 3] = [
+    ("flush_disk", Job::Flush(Kind::Owned)),
+    ("reopen_disk", Job::Reopen(None)),
+    ("reopen_read_disk", Job::Reopen(Some(Wanted::Present))),
 ];
