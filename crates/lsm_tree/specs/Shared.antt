@@ -12,6 +12,7 @@ use Rattle.lsm_state.specs.Core.{Core, latest_of, older_of}
 use Rattle.lsm_state.specs.Held.{first_entries}
 use Rattle.lsm_state.specs.Kept.{IsKeptTree}
 use Rattle.lsm_recorded.specs.Passes.{listed}
+use Rattle.lsm_recorded.specs.Recorded.{SeenRecorded}
 
 -- a call that took some tree to another; of both holds what holds of every tree
 abbrev pub OnSomeTree : (Core → Core → Type 0) → Type 0
@@ -20,6 +21,10 @@ OnSomeTree P = (old : Core) × (new : Core) × P old new × IsKeptTree old × Is
 -- a call that looked at some tree, of which holds what holds of every tree
 abbrev pub AtSomeTree : (Core → Type 0) → Type 0
 AtSomeTree P = (c : Core) × P c × IsKeptTree c
+
+-- a call that took some tree with its journal to another; of both trees holds what holds of every tree
+abbrev pub OnSomeRecorded : (S : Type 0) → (SeenRecorded S → SeenRecorded S → Type 0) → Type 0
+OnSomeRecorded S P = (old : SeenRecorded S) × (new : SeenRecorded S) × P old new × IsKeptTree old.tree.core × IsKeptTree new.tree.core
 
 -- a read is refused as too old, where the tree has no super version for its snapshot, or for want of memory
 pub record RefusesSharedRead {A : Type 0} (snapshot : ℕ) (r : Result A Error) : Type 0 where

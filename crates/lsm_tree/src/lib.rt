@@ -8,11 +8,15 @@
 //! | `shared_flushes` | its flushes |
 //! | `shared_counts` | what is counted of it |
 //! | `recorded_tree` | the calls of a tree with its journal, behind the lock |
+//! | `recorded_flushes` | its flushes |
+//! | `recorded_counts` | what is counted of it |
 //! | `laws` | theorems as the contracts of functions that do nothing |
 #![tactic(auto)]
 
 mod handle;
 pub mod laws;
+mod recorded_counts;
+mod recorded_flushes;
 mod recorded_tree;
 mod shared_counts;
 mod shared_flushes;
@@ -103,8 +107,10 @@ pub use lsm_parts::seqno_filter;
 pub use lsm_recorded::Pass;
 pub use lsm_recorded::Recorded;
 pub use lsm_runs::Counter;
+pub use lsm_runs::JobStep;
 pub use lsm_runs::Outcome;
 pub use lsm_runs::Reply;
+pub use lsm_runs::Slot;
 pub use lsm_runs::Step;
 pub use lsm_runs::run;
 pub use lsm_state::MAX_KEY_LEN;

@@ -106,6 +106,13 @@ impl<S: Store> Recorded<S> {
         })
     }
 
+    /// The store, to look at.
+    pub fn store(&self) -> &S
+        ensures { result.now ≡ self.now.tree.store }
+    {
+        self.core.store()
+    }
+
     /// The store, in exchange for the tree and its journal. What stands in memtables alone is gone.
     pub fn into_store(self) -> S
         ensures { result ≡ self.tree.store }

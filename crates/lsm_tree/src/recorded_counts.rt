@@ -1,0 +1,181 @@
+// What is counted of a tree with its journal behind the lock.
+ghost use Rattle.std.specs.Prelude.{◌≡◌, ◌+◌, ◌++◌, [], length, slice_get, slice_index_or, is_some, option_map};
+ghost use Rattle.lsm_below.specs.Optimizes.{tables_of};
+ghost use Rattle.lsm_below.specs.Sums.{capped};
+ghost use Rattle.lsm_tables.specs.Tables.{tombstones, weak_tombstones, reclaimable};
+ghost use Rattle.lsm_memtable.specs.Memtables.{highest_of};
+ghost use Rattle.lsm_versions.specs.Levels.{all_of, bytes_of};
+ghost use Rattle.lsm_parts.specs.History.{named_size};
+ghost use Rattle.lsm_state.specs.Counts.{tables_now, persisted_of, unflushed_of, counted_now};
+ghost use Rattle.lsm_tree.specs.Shared.{OnSomeTree, AtSomeTree};
+
+use crate::handle::Handle;
+use lsm_below::SeqNo;
+use lsm_recorded::Recorded;
+use lsm_store::Store;
+use std::sync::Wait;
+
+/// What the calls of the same names of `Recorded` count, of the tree as the lock finds it. Two such calls may find two
+/// trees.
+impl<S: Store> Handle<Recorded<S>> {
+    /// How many tables the latest version has.
+    pub fn table_count(&self, rt: &impl Wait) -> usize
+        ensures { AtSomeTree (λ c. result ≡ capped (length (all_of c.history.latest.version.levels))) }
+    {
+        let tree = self.shared.lock(rt);
+        let tree = &*tree;
+        tree.facts();
+        tree.table_count()
+    }
+
+    /// How many runs the first level has.
+    pub fn l0_run_count(&self, rt: &impl Wait) -> usize
+        ensures { AtSomeTree (λ c. result ≡ length (slice_index_or c.history.latest.version.levels 0 [])) }
+    {
+        let tree = self.shared.lock(rt);
+        let tree = &*tree;
+        tree.facts();
+        tree.l0_run_count()
+    }
+
+    /// How many tables a level has, None from 7 on.
+    pub fn level_table_count(&self, rt: &impl Wait, level: usize) -> Option<usize>
+        ensures { AtSomeTree (λ c. result ≡ option_map (λ runs. capped (length (tables_of runs))) (slice_get c.history.latest.version.levels level)) }
+    {
+        let tree = self.shared.lock(rt);
+        let tree = &*tree;
+        tree.facts();
+        tree.level_table_count(level)
+    }
+
+    /// How many memtables are sealed and not flushed.
+    pub fn sealed_memtable_count(&self, rt: &impl Wait) -> usize
+        ensures { AtSomeTree (λ c. result ≡ length c.history.latest.sealed_memtables) }
+    {
+        let tree = self.shared.lock(rt);
+        let tree = &*tree;
+        tree.facts();
+        tree.sealed_memtable_count()
+    }
+
+    /// How many older super versions are kept.
+    pub fn version_free_list_len(&self, rt: &impl Wait) -> usize
+        ensures { AtSomeTree (λ c. result ≡ length c.history.older) }
+    {
+        let tree = self.shared.lock(rt);
+        let tree = &*tree;
+        tree.facts();
+        tree.version_free_list_len()
+    }
+
+    /// How many entries memtables and tables hold.
+    pub fn approximate_len(&self, rt: &impl Wait) -> usize
+        ensures { AtSomeTree (λ c. result ≡ capped (length (unflushed_of c) + length (persisted_of c))) }
+    {
+        let tree = self.shared.lock(rt);
+        let tree = &*tree;
+        tree.facts();
+        tree.approximate_len()
+    }
+
+    /// The bytes of the tables of the latest version.
+    pub fn disk_space(&self, rt: &impl Wait) -> u64
+        ensures { AtSomeTree (λ c. result ≡ capped (bytes_of (tables_now c))) }
+    {
+        let tree = self.shared.lock(rt);
+        let tree = &*tree;
+        tree.facts();
+        tree.disk_space()
+    }
+
+    /// How many tombstones of either kind its tables hold.
+    pub fn tombstone_count(&self, rt: &impl Wait) -> u64
+        ensures { AtSomeTree (λ c. result ≡ counted_now tombstones c) }
+    {
+        let tree = self.shared.lock(rt);
+        let tree = &*tree;
+        tree.facts();
+        tree.tombstone_count()
+    }
+
+    /// How many weak tombstones its tables hold.
+    pub fn weak_tombstone_count(&self, rt: &impl Wait) -> u64
+        ensures { AtSomeTree (λ c. result ≡ counted_now weak_tombstones c) }
+    {
+        let tree = self.shared.lock(rt);
+        let tree = &*tree;
+        tree.facts();
+        tree.weak_tombstone_count()
+    }
+
+    /// How many weak tombstones stand directly above a value in one of its tables.
+    pub fn weak_tombstone_reclaimable_count(&self, rt: &impl Wait) -> u64
+        ensures { AtSomeTree (λ c. result ≡ counted_now reclaimable c) }
+    {
+        let tree = self.shared.lock(rt);
+        let tree = &*tree;
+        tree.facts();
+        tree.weak_tombstone_reclaimable_count()
+    }
+
+    /// The bytes of the memtables that any super version names.
+    pub fn version_memtable_size_sum(&self, rt: &impl Wait) -> u64
+        ensures { AtSomeTree (λ c. result ≡ named_size c.history c.memtables) }
+    {
+        let tree = self.shared.lock(rt);
+        let tree = &*tree;
+        tree.facts();
+        tree.version_memtable_size_sum()
+    }
+
+    /// The greatest sequence number of all entries.
+    pub fn get_highest_seqno(&self, rt: &impl Wait) -> Option<SeqNo>
+        ensures { AtSomeTree (λ c. result ≡ highest_of (unflushed_of c ++ persisted_of c)) }
+    {
+        let tree = self.shared.lock(rt);
+        let tree = &*tree;
+        tree.facts();
+        tree.get_highest_seqno()
+    }
+
+    /// The greatest sequence number in memtables.
+    pub fn get_highest_memtable_seqno(&self, rt: &impl Wait) -> Option<SeqNo>
+        ensures { AtSomeTree (λ c. result ≡ highest_of (unflushed_of c)) }
+    {
+        let tree = self.shared.lock(rt);
+        let tree = &*tree;
+        tree.facts();
+        tree.get_highest_memtable_seqno()
+    }
+
+    /// The greatest sequence number in tables.
+    pub fn get_highest_persisted_seqno(&self, rt: &impl Wait) -> Option<SeqNo>
+        ensures { AtSomeTree (λ c. result ≡ highest_of (persisted_of c)) }
+    {
+        let tree = self.shared.lock(rt);
+        let tree = &*tree;
+        tree.facts();
+        tree.get_highest_persisted_seqno()
+    }
+
+    /// Sets the moment, in nanoseconds, at which tables are made from now on, as `Recorded::set_moment`.
+    pub fn set_moment(&self, rt: &impl Wait, moment: u64)
+        ensures { OnSomeTree (λ old new. new ≡ record old { moment = moment }) }
+    {
+        let mut tree = self.shared.lock(rt);
+        let tree = &mut *tree;
+        tree.facts();
+        tree.set_moment(moment);
+        tree.facts();
+    }
+
+    /// Whether a commit of unknown outcome came before, as `Recorded::is_uncertain`.
+    pub fn is_uncertain(&self, rt: &impl Wait) -> bool
+        ensures { AtSomeTree (λ c. result ≡ is_some c.lost) }
+    {
+        let tree = self.shared.lock(rt);
+        let tree = &*tree;
+        tree.facts();
+        tree.is_uncertain()
+    }
+}
