@@ -3,6 +3,7 @@ pub mod ClosingLemmas
 pub mod MarksLemmas
 pub mod RecordedLemmas
 pub mod FlushingLemmas
+pub mod FlushedFiles
 pub mod OpenedLemmas
 pub mod HeldLemmas
 pub mod OpenLemmas

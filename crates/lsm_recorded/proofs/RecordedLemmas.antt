@@ -184,7 +184,7 @@ module _ (opened : List Placed) (least : ℕ) where
       (subst (λ n. IsCounted (held opened) n journal) (sym (ap (λ (c : Core). c.seqno) t.2)) (counted_of marks low old journal r)) r.floored r.noted
 
   -- it leaves what each snapshot sees
-  rotate_spares : (theory : Soundness) (marks : Marks) (low : ℕ) (old new : Core) (journal : List Event) (i : Option ℕ) → IsRecorded opened least marks low old journal → Rotates old i new → Stays old new
+  pub rotate_spares : (theory : Soundness) (marks : Marks) (low : ℕ) (old new : Core) (journal : List Event) (i : Option ℕ) → IsRecorded opened least marks low old journal → Rotates old i new → Stays old new
   rotate_spares theory marks low old new journal None r t = subst (Stays old) (sym t.1) (λ s. theory.spares.same s (state_of [] old) (state_of [] old) refl refl refl)
   rotate_spares theory marks low old new journal (Some id) r t = λ s. theory.spares.step (held opened) (shown_by opened) s (state_of journal old) (Rotated old.next_memtable) (state_of journal new) (t.3 (held opened) journal) r.order tt r.holds
 

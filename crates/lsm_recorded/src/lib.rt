@@ -3,6 +3,10 @@
 //! | Module | Holds |
 //! |-|-|
 //! | `recorded` | a tree with the journal of its calls |
+//! | `recorded::opening` | how it is opened over a store |
+//! | `recorded::range` | its reads of many keys |
+//! | `recorded::flushing` | the calls of a flush, and what they note |
+//! | `recorded::counted` | what is counted of it |
 //! | `pass` | what one caller's calls add to a journal |
 //! | `marks` | what was written to each key, by which a write in order is told |
 //! | `opened` | what opened tables hold of each key, and whether they are in order |

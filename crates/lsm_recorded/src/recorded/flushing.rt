@@ -230,7 +230,9 @@ impl<S: Store> Recorded<S> {
     {
         reads_are_sound();
         self.stays_stored();
-        make_room(&mut self.journal, &mut pass.entries, 2)?;
+        if make_room(&mut self.journal, &mut pass.entries, 2).is_err() {
+            return Err(Error::OutOfMemory);
+        }
         flush_noted(
             &mut self.core,
             &mut self.journal,

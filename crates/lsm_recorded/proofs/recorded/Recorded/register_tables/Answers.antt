@@ -1,24 +1,30 @@
-use Rattle.std.proofs.Common.{rules, ◌≡◌, ◌⊎◌, ◌+◌, ◌≤◌, List, IsSome, vec_len, vec_capacity, if◌then◌else◌, ℕ, ◌-◌, ◌*◌, ◌<◌, length, ◌/◌, ◌%◌, Bool, true, false, nat_eq, nat_lt, [], ◌∷◌, ◌++◌, slice_index_or, slice_set, bit_and, bit_or, Fits, w8, w32, w64, Bor, MutBor}
-use Rattle.lsm_tables.specs.Tables.{SeenTable}
-use Rattle.lsm_versions.specs.Levels.{SeenVersion}
-use Rattle.lsm_files.specs.Stored.{IsStored, Leaves}
+use Rattle.std.proofs.Common.{◌≡◌, ap, sym, subst}
+use Rattle.lsm_versions.specs.Levels.{placed_of}
 use Rattle.lsm_state.specs.Commits.{Upholds}
-use Rattle.lsm_state.specs.Flushes.{Begins, WritesTables, Registers, spent}
-use Rattle.lsm_state.specs.FlushReads.{register_events}
-use Rattle.lsm_state.specs.WholeFlushes.{FlushesActive}
-use Rattle.lsm_recorded.specs.Passes.{Notes}
-use Rattle.lsm_recorded.specs.Flushing.{mark_events, is_installed, SpendsUnnoted, RegistersNoted, RefusesUnnoted, FlushesNoted, NotesActive, KeepsRecorded}
-use Rattle.lsm_recorded.specs.Recorded.{Stays}
+use Rattle.lsm_state.specs.Flushes.{spent}
+use Rattle.lsm_recorded.specs.Recorded.{IsRecorded, Stays}
+use Rattle.lsm_recorded.proofs.FlushedFiles.{StaysStored, spent_upholds}
 use Rattle.lsm_recorded.proofs.recorded.Recorded.register_tables.Goals as goal
 
--- src/recorded/flushing.rt:201:13
 pub returns-then-is_err-clause-upholds : goal.returns-then-is_err-clause-upholds
-returns-then-is_err-clause-upholds g c = ?
+returns-then-is_err-clause-upholds g c tells =
+    let w = g.S.Store.world in
+    let i = c.self.inside in
+    let new = c.abandon_flush.new.self in
+    let leaves = subst (λ t. StaysStored (w t.tree.store)) (sym c.self.view_is) (c.stays_stored.ensures tells) in
+    subst (λ t. Upholds (w t.tree.store) (w new.store) t.tree.core new.core) c.self.view_is
+    (spent_upholds (w i.core.store) (w new.store) c.args.job.job.number i.core.core new.core leaves (ap w c.abandon_flush.ensures.store) (subst (λ j. new.core ≡ spent j.number i.core.core) c.into_job.ensures c.abandon_flush.ensures.core))
 
--- src/recorded/flushing.rt:184:5
 pub invariant_of-self-2 : goal.invariant_of-self-2
-invariant_of-self-2 g c = ?
+invariant_of-self-2 g c =
+    let i = c.self.inside in
+    let opened = placed_of i.opened.levels in
+    let before = subst (IsRecorded opened i.least i.marks i.floor i.core.core) (sym c.make_room.ensures.journal) c.self.invariant in
+    (c.register_noted.ensures.keeps opened i.least i.marks before).0
 
--- src/recorded/flushing.rt:184:5
 pub returns-clause-views : goal.returns-clause-views
-returns-clause-views g c = ?
+returns-clause-views g c =
+    let i = c.self.inside in
+    let opened = placed_of i.opened.levels in
+    let before = subst (IsRecorded opened i.least i.marks i.floor i.core.core) (sym c.make_room.ensures.journal) c.self.invariant in
+    subst (λ t. Stays t.tree.core c.register_noted.new.core.core) c.self.view_is (c.register_noted.ensures.keeps opened i.least i.marks before).1

@@ -1,0 +1,72 @@
+-- What a crash leaves of the files of a tree that is flushed, and what a flush behind a rotation leaves.
+use Rattle.std.proofs.Common.{cond, ◌≡◌, ℕ, Bool, true, false, List, [], ◌∷◌, ◌++◌, Option, Some, None, refl, sym, ap, ◌∙◌, subst, inl, inr, ◌⊎◌, ⊎_elim, eqb, nat_lt}
+use Rattle.lsm_below.specs.Members.{IsIn}
+use Rattle.lsm_store.specs.World.{World}
+use Rattle.lsm_store.specs.Moments.{weakened}
+use Rattle.lsm_tables.specs.Tables.{SeenTable}
+use Rattle.lsm_versions.specs.Levels.{SeenVersion}
+use Rattle.lsm_files.specs.Stored.{IsStored, HoldsOneOf, Leaves}
+use Rattle.lsm_model.specs.Views.{SuperVersion, front, lookup, found_at}
+use Rattle.lsm_jobs.specs.Jobs.{SeenOpen}
+use Rattle.lsm_state.specs.Calls.{Rotates}
+use Rattle.lsm_state.specs.Core.{Core, versions_left, written_by, written_of, latest_of, older_of, rotated_core}
+use Rattle.lsm_state.specs.Commits.{Upholds}
+use Rattle.lsm_state.specs.Flushes.{spent, spent_in}
+use Rattle.lsm_recorded.specs.Recorded.{Stays}
+
+-- while nothing is done to files, a crash leaves what they hold
+abbrev pub StaysStored : World → Type 0
+StaysStored w = (versions : List SeenVersion) (written : List SeenTable) → IsStored w versions written → Leaves w w versions
+
+in_front : (v : SeenVersion) (xs ys : List SeenVersion) → IsIn v xs → IsIn v (xs ++ ys)
+in_front v [] ys i = absurd i
+in_front v (x ∷ xs) ys i = ⊎_elim (λ (e : x ≡ v). inl e) (λ (j : IsIn v xs). inr (in_front v xs ys j)) i
+
+-- nothing is done
+still_upholds : (w : World) (old : Core) → StaysStored w → Upholds w w old old
+still_upholds w old leaves stored =
+    let vs = versions_left old in
+    (stored, weakened w w (HoldsOneOf vs) (HoldsOneOf (vs ++ vs)) (leaves vs (written_of old) stored) (λ image one. (one.0, in_front one.0 vs vs one.1, one.2)))
+
+pub same_upholds : (w v : World) (old new : Core) → StaysStored w → v ≡ w → new ≡ old → Upholds w v old new
+same_upholds w v old new leaves same is = subst (λ u. Upholds w u old new) (sym same) (subst (Upholds w w old) (sym is) (still_upholds w old leaves))
+
+-- a job is spent
+stored_spent : (w : World) (vs : List SeenVersion) (n : ℕ) (flush : Option SeenOpen) → IsStored w vs (written_by flush) → IsStored w vs (written_by (spent_in n flush))
+stored_spent w vs n None s = s
+stored_spent w vs n (Some f) s = by_case (eqb f.number n)
+  where
+    by_case : (b : Bool) → IsStored w vs (written_by (cond b None (Some f)))
+    by_case true = record { current = s.current; whole = s.whole; written = tt; no_version = s.no_version; in_tables = s.in_tables }
+    by_case false = s
+
+pub spent_upholds : (w v : World) (n : ℕ) (old new : Core) → StaysStored w → v ≡ w → new ≡ spent n old → Upholds w v old new
+spent_upholds w v n old new leaves same is =
+    subst (λ u. Upholds w u old new) (sym same) (subst (Upholds w w old) (sym is) (λ stored. (stored_spent w (versions_left old) n old.flush stored, (still_upholds w old leaves stored).1)))
+
+-- ---- behind a rotation
+
+pub rotated_upholds : (w v : World) (old mid new : Core) (id : Option ℕ) → Rotates old id mid → Upholds w v mid new → Upholds w v old new
+rotated_upholds w v old mid new None t u = subst (λ c. Upholds w v c new) t.1 u
+rotated_upholds w v old mid new (Some id) t u = subst (λ c. Upholds w v c new) t.2 u
+
+pub rotated_lost : (old mid : Core) (id : Option ℕ) → Rotates old id mid → mid.lost ≡ old.lost
+rotated_lost old mid None t = ap (λ (c : Core). c.lost) t.1
+rotated_lost old mid (Some id) t = ap (λ (c : Core). c.lost) t.2
+
+found_still : (z b : Bool) (f g x y sv : SuperVersion) (rest : Option SuperVersion) → cond z (Some f) (cond b (Some x) rest) ≡ Some sv → (sv' : SuperVersion) × (cond z (Some g) (cond b (Some y) rest) ≡ Some sv')
+found_still true b f g x y sv rest h = (g, refl)
+found_still false true f g x y sv rest h = (y, refl)
+found_still false false f g x y sv rest h = (sv, h)
+
+-- a snapshot finds a super version behind it where it found one before
+rotated_found : (s : ℕ) (old mid : Core) (id : Option ℕ) (sv : SuperVersion) → Rotates old id mid → found_at s (latest_of old) (older_of old) ≡ Some sv → (sv' : SuperVersion) × (found_at s (latest_of mid) (older_of mid) ≡ Some sv')
+rotated_found s old mid None sv t h = subst (λ c. (sv' : SuperVersion) × (found_at s (latest_of c) (older_of c) ≡ Some sv')) (sym t.1) (sv, h)
+rotated_found s old mid (Some id) sv t h =
+    subst (λ c. (sv' : SuperVersion) × (found_at s (latest_of c) (older_of c) ≡ Some sv')) (sym t.2)
+    (found_still (eqb s 0) (nat_lt (latest_of old).number s) (front (latest_of old) (older_of old)) (front (latest_of (rotated_core old)) (older_of old)) (latest_of old) (latest_of (rotated_core old)) sv (lookup s (older_of old)) h)
+
+pub stays_behind : (old mid new : Core) (id : Option ℕ) → Rotates old id mid → Stays old mid → Stays mid new → Stays old new
+stays_behind old mid new id t first second s sv sv' a b =
+    let m = rotated_found s old mid id sv t a in
+    first s sv m.0 a m.1 ∙ second s m.0 sv' m.1 b
