@@ -1,5 +1,5 @@
 -- What the calls of a flush keep of a tree with its journal.
-use Rattle.std.proofs.Common.{cond, ◌≡◌, ℕ, ◌+◌, ◌≤◌, max, Bool, true, false, List, [], ◌∷◌, ◌++◌, Option, Some, None, IsSome, Result, Ok, Err, IfOk, IsErrOf, inl, inr, ◌⊎◌, ⊎_elim, fold, refl, sym, ap, ◌∙◌, subst, arith, append-nil, append_assoc}
+use Rattle.std.proofs.Common.{cond, ◌≡◌, ℕ, ◌+◌, ◌≤◌, max, Bool, true, false, List, [], ◌∷◌, ◌++◌, Option, Some, None, Result, Ok, Err, IfOk, inl, inr, ⊎_elim, fold, refl, sym, ap, ◌∙◌, subst, arith, append-nil, append_assoc}
 use Rattle.std.specs.BTreeMap.{BTreeMap}
 use Rattle.std.specs.Result.{is_ok}
 use Rattle.std.proofs.lemmas.Grind.{fold-append}
@@ -15,17 +15,16 @@ use Rattle.lsm_model.specs.Beginnings.{shown_by}
 use Rattle.lsm_model.specs.declared.journal.JournalEntry.TheVariants.{Write, Clear, Install, Dropped, Mark as Watermark, Read}
 use Rattle.lsm_jobs.specs.Jobs.{SeenJob, SeenMerged, SeenWritten}
 use Rattle.lsm_jobs.specs.declared.jobs.Registered.{Registered}
-use Rattle.lsm_state.specs.Calls.{Rotates}
 use Rattle.lsm_state.specs.Core.{Core, state_of}
-use Rattle.lsm_state.specs.FlushReads.{register_events, flush_events, KeepsReads, FlushesKeepReads}
+use Rattle.lsm_state.specs.FlushReads.{register_events, KeepsReads, FlushesKeepReads}
 use Rattle.lsm_state.specs.Flushes.{Begins, WritesTables, Registers, IsFlushDeed, spent}
 use Rattle.lsm_state.specs.Commits.{counted}
 use Rattle.lsm_state.specs.WholeFlushes.{Flushes, MarksFlush}
 use Rattle.lsm_recorded.specs.declared.marks.Mark.{Mark}
-use Rattle.lsm_recorded.specs.Marks.{mark_of, mark_in}
+use Rattle.lsm_recorded.specs.Marks.{mark_in}
 use Rattle.lsm_recorded.specs.Order.{weak_after}
 use Rattle.lsm_recorded.specs.Recorded.{IsRecorded, Stays}
-use Rattle.lsm_recorded.specs.Flushing.{mark_events, is_installed, KeepsRecorded}
+use Rattle.lsm_recorded.specs.Flushing.{mark_events, is_installed}
 use Rattle.lsm_recorded.proofs.MarksLemmas.{in_order_push}
 use Rattle.lsm_recorded.proofs.RecordedLemmas.{recorded}
 

@@ -1,5 +1,5 @@
 // The calls of a flush, and what they add to a journal.
-ghost use Rattle.std.specs.Prelude.{◌≡◌, ◌⊎◌, ◌+◌, ◌≤◌, List, IsSome, vec_len, vec_capacity, if◌then◌else◌};
+ghost use Rattle.std.specs.Prelude.{◌≡◌, ◌⊎◌, ◌+◌, ◌≤◌, List, IsSome, vec_len, vec_capacity};
 ghost use Rattle.lsm_tables.specs.Tables.{SeenTable};
 ghost use Rattle.lsm_versions.specs.Levels.{SeenVersion};
 ghost use Rattle.lsm_files.specs.Stored.{IsStored, Leaves};
