@@ -53,6 +53,7 @@ spent_needs w old n h = go old.flush h
     less : (f : SeenOpen) (b : Bool) → IsStored w (versions_left old) f.written → IsStored w (versions_left old) (written_of (record old { flush = cond b None (Some f) }))
     less f true s = record { current = s.current; whole = s.whole; written = tt; no_version = s.no_version; in_tables = s.in_tables }
     less f false s = s
+
     go : (o : Option SeenOpen) → IsStored w (versions_left old) (written_of (record old { flush = o })) → IsStored w (versions_left old) (written_of (record old { flush = spent_in n o }))
     go None s = s
     go (Some f) s = less f (f.number == n) s
