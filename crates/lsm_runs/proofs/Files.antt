@@ -18,7 +18,7 @@ use Rattle.lsm_runs.specs.declared.steps.Counter.TheVariants.{Seqno, Visible}
 use Rattle.lsm_runs.specs.declared.steps.JobStep.{JobStep}
 use Rattle.lsm_runs.specs.declared.steps.JobStep.TheVariants.{BeginFlush, RunFlush, FlushToTables, RegisterTables, AbandonFlush}
 use Rattle.lsm_runs.specs.declared.steps.Step.{Step}
-use Rattle.lsm_runs.specs.declared.steps.Step.TheVariants.{Insert, Remove, RemoveWeak, AppendEntry, Write, Get, GetInternalEntry, ContainsKey, SizeOf, Range, Iter, Prefix, Len, IsEmpty, FirstKeyValue, LastKeyValue, RotateMemtable, Next, Set, FetchMax, AtSlot, Flush, FlushActiveMemtable, SetMoment}
+use Rattle.lsm_runs.specs.declared.steps.Step.TheVariants.{Insert, Remove, RemoveWeak, AppendEntry, Write, Get, GetInternalEntry, ContainsKey, SizeOf, Range, Iter, Prefix, Len, IsEmpty, FirstKeyValue, LastKeyValue, RotateMemtable, Next, Set, FetchMax, AtSlot, Flush, FlushActiveMemtable, SetMoment, Count as CountOf, IsUncertain}
 use Rattle.lsm_runs.specs.declared.steps.Reply.{Reply}
 use Rattle.lsm_runs.specs.declared.steps.Reply.TheVariants.{Value, Entry as EntryOf, Pairs, Sizes, Number, Sealed, Done, Begun, NoJob, SlotInUse, Refused}
 use Rattle.lsm_runs.specs.Files.{StaysStored, JobLeavesFiles, LeavesFiles}
@@ -53,6 +53,7 @@ spent_needs w old n h = go old.flush h
     less : (f : SeenOpen) (b : Bool) → IsStored w (versions_left old) f.written → IsStored w (versions_left old) (written_of (record old { flush = cond b None (Some f) }))
     less f true s = record { current = s.current; whole = s.whole; written = tt; no_version = s.no_version; in_tables = s.in_tables }
     less f false s = s
+
     go : (o : Option SeenOpen) → IsStored w (versions_left old) (written_of (record old { flush = o })) → IsStored w (versions_left old) (written_of (record old { flush = spent_in n o }))
     go None s = s
     go (Some f) s = less f (f.number == n) s
@@ -172,6 +173,8 @@ module _ {F : Type 0} (world : F → World) (was is : F) where
   alone_stored (Flush n) reply events old new t l = l
   alone_stored (FlushActiveMemtable n) reply events old new t l = l
   alone_stored (SetMoment n) reply events old new t l = kept old new (moment_needs n reply events old new t) l
+  alone_stored (CountOf what) reply events old new t l = kept old new (same old new t.1) l
+  alone_stored IsUncertain reply events old new t l = kept old new (same old new t.1) l
   alone_stored (AtSlot slot step) reply events old new t l = absurd t
 
   pub step_stored : (x : Step) (reply : Reply) (events : List Event) (old new : Stage) → Takes x reply events old new → LeavesFiles world x was is old.core new.core → StaysStored (world was) (world is) old.core new.core

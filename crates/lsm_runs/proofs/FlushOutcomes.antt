@@ -1,5 +1,5 @@
 -- Outcomes of flushes.
-use Rattle.std.proofs.Common.{◌≡◌, List, Option, Some, None, true, Result, Ok, Err, IfOk, refl, sym, subst, ◌⊎◌, ⊎_elim, inl, inr, ap, ◌∙◌}
+use Rattle.std.proofs.Common.{◌≡◌, Option, Some, None, true, Result, Ok, Err, IfOk, refl, sym, subst, ⊎_elim, inr, ap, ◌∙◌}
 use Rattle.lsm_below.specs.declared.error.Error.{Error}
 use Rattle.lsm_jobs.specs.Jobs.{SeenWritten}
 use Rattle.lsm_jobs.specs.declared.jobs.Registered.{Registered}
@@ -23,7 +23,7 @@ pub closes_both : (old mid new : Core) → Closes old mid → Closes mid new →
 closes_both old mid new first second = ⊎_elim
     (λ (e : mid ≡ old). subst (λ c. Closes c new) e second)
     (λ (e : mid ≡ record old { flush = None }). ⊎_elim
-        (λ (f : new ≡ mid). inr (f ∙ e))
-        (λ (f : new ≡ record mid { flush = None }). inr (f ∙ ap (λ (c : Core). record c { flush = None }) e))
-        second)
+    (λ (f : new ≡ mid). inr (f ∙ e))
+    (λ (f : new ≡ record mid { flush = None }). inr (f ∙ ap (λ (c : Core). record c { flush = None }) e))
+    second)
     first

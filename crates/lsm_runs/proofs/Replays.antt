@@ -21,7 +21,7 @@ use Rattle.lsm_state.specs.ListSteps.{ListsAreSteps}
 use Rattle.lsm_runs.specs.declared.steps.Counter.{Counter}
 use Rattle.lsm_runs.specs.declared.steps.Counter.TheVariants.{Seqno, Visible}
 use Rattle.lsm_runs.specs.declared.steps.Step.{Step as Call}
-use Rattle.lsm_runs.specs.declared.steps.Step.TheVariants.{Insert, Remove, RemoveWeak, AppendEntry, Write, Get, GetInternalEntry, ContainsKey, SizeOf, Range, Iter, Prefix, Len, IsEmpty, FirstKeyValue, LastKeyValue, RotateMemtable, Next, Set, FetchMax, AtSlot, Flush, FlushActiveMemtable, SetMoment}
+use Rattle.lsm_runs.specs.declared.steps.Step.TheVariants.{Insert, Remove, RemoveWeak, AppendEntry, Write, Get, GetInternalEntry, ContainsKey, SizeOf, Range, Iter, Prefix, Len, IsEmpty, FirstKeyValue, LastKeyValue, RotateMemtable, Next, Set, FetchMax, AtSlot, Flush, FlushActiveMemtable, SetMoment, Count as CountOf, IsUncertain}
 use Rattle.lsm_runs.specs.declared.steps.Reply.{Reply}
 use Rattle.lsm_runs.specs.declared.steps.Reply.TheVariants.{Sizes, Number, Sealed, Done, Refused}
 use Rattle.lsm_state.specs.Listing.{Lists, ListsPrefix}
@@ -103,6 +103,8 @@ alone_sound theory laws opened start (FetchMax counter n) reply journal events o
 alone_sound theory laws opened start (Flush w) reply journal events old new t order h = kept_sound opened start journal events old new (flush_keeps theory laws w reply events old new t) order h
 alone_sound theory laws opened start (FlushActiveMemtable w) reply journal events old new t order h = kept_sound opened start journal events old new (active_keeps theory laws w reply events old new t) order h
 alone_sound theory laws opened start (SetMoment n) reply journal events old new t order h = kept_sound opened start journal events old new (moment_keeps theory laws n reply events old new t) order h
+alone_sound theory laws opened start (CountOf what) reply journal events old new t order h = same opened start journal events old new t.0 t.1 h
+alone_sound theory laws opened start IsUncertain reply journal events old new t order h = same opened start journal events old new t.0 t.1 h
 alone_sound theory laws opened start (AtSlot slot step) reply journal events old new t order h = absurd t
 
 pub takes_sound : (theory : Soundness) (laws : FlushesKeepReads) (opened : List Entry) (start : Map) (x : Call) (reply : Reply) (journal events : List Event) (old new : Stage) → Takes x reply events old new → InOrder opened (journal ++ events) → Sound opened start journal old.core → Sound opened start (journal ++ events) new.core

@@ -17,7 +17,7 @@ use Rattle.lsm_state.specs.FlushReads.{FlushesKeepReads}
 use Rattle.lsm_runs.specs.declared.steps.Counter.{Counter}
 use Rattle.lsm_runs.specs.declared.steps.Counter.TheVariants.{Seqno, Visible}
 use Rattle.lsm_runs.specs.declared.steps.Step.{Step as Call}
-use Rattle.lsm_runs.specs.declared.steps.Step.TheVariants.{Insert, Remove, RemoveWeak, AppendEntry, Write, Get, GetInternalEntry, ContainsKey, SizeOf, Range, Iter, Prefix, Len, IsEmpty, FirstKeyValue, LastKeyValue, RotateMemtable, Next, Set, FetchMax, AtSlot, Flush, FlushActiveMemtable, SetMoment}
+use Rattle.lsm_runs.specs.declared.steps.Step.TheVariants.{Insert, Remove, RemoveWeak, AppendEntry, Write, Get, GetInternalEntry, ContainsKey, SizeOf, Range, Iter, Prefix, Len, IsEmpty, FirstKeyValue, LastKeyValue, RotateMemtable, Next, Set, FetchMax, AtSlot, Flush, FlushActiveMemtable, SetMoment, Count as CountOf, IsUncertain}
 use Rattle.lsm_runs.specs.declared.steps.Reply.{Reply}
 use Rattle.lsm_runs.specs.declared.steps.Reply.TheVariants.{Value, Entry as EntryOf, Pairs, Sizes, Number, Sealed, Done, Refused}
 use Rattle.lsm_runs.specs.Told.{Told}
@@ -118,6 +118,8 @@ alone_spares theory laws opened start (FetchMax counter n) reply journal events 
 alone_spares theory laws opened start (Flush w) reply journal events old new t order h = kept_spares opened start journal events old new (flush_keeps theory laws w reply events old new t) order h
 alone_spares theory laws opened start (FlushActiveMemtable w) reply journal events old new t order h = kept_spares opened start journal events old new (active_keeps theory laws w reply events old new t) order h
 alone_spares theory laws opened start (SetMoment n) reply journal events old new t order h = kept_spares opened start journal events old new (moment_keeps theory laws n reply events old new t) order h
+alone_spares theory laws opened start (CountOf what) reply journal events old new t order h = still theory events old new t.1
+alone_spares theory laws opened start IsUncertain reply journal events old new t order h = still theory events old new t.1
 alone_spares theory laws opened start (AtSlot slot step) reply journal events old new t order h = absurd t
 
 takes_spares : (theory : Soundness) (laws : FlushesKeepReads) (opened : List Entry) (start : Map) (x : Call) (reply : Reply) (journal events : List Event) (old new : Stage) → Takes x reply events old new → InOrder opened (journal ++ events) → Sound opened start journal old.core → Spares events old.core new.core

@@ -20,10 +20,11 @@ use Rattle.lsm_state.specs.Calls.{Appends, WritesBatch, Rotates}
 use Rattle.lsm_runs.specs.declared.steps.Counter.{Counter}
 use Rattle.lsm_runs.specs.declared.steps.Counter.TheVariants.{Seqno, Visible}
 use Rattle.lsm_runs.specs.declared.steps.Step.{Step}
-use Rattle.lsm_runs.specs.declared.steps.Step.TheVariants.{Insert, Remove, RemoveWeak, AppendEntry, Write, Get, GetInternalEntry, ContainsKey, SizeOf, Range, Iter, Prefix, Len, IsEmpty, FirstKeyValue, LastKeyValue, RotateMemtable, Next, Set, FetchMax, AtSlot, Flush, FlushActiveMemtable, SetMoment}
+use Rattle.lsm_runs.specs.declared.steps.Step.TheVariants.{Insert, Remove, RemoveWeak, AppendEntry, Write, Get, GetInternalEntry, ContainsKey, SizeOf, Range, Iter, Prefix, Len, IsEmpty, FirstKeyValue, LastKeyValue, RotateMemtable, Next, Set, FetchMax, AtSlot, Flush, FlushActiveMemtable, SetMoment, Count as CountOf, IsUncertain}
 use Rattle.lsm_runs.specs.declared.steps.Reply.{Reply}
 use Rattle.lsm_runs.specs.declared.steps.Reply.TheVariants.{Sizes, Number, Sealed, Done, Refused}
 use Rattle.lsm_runs.specs.ReadSteps.{TakesGet, TakesGetEntry, TakesSilent, IsContainsReply, IsSizeReply, TakesRange, TakesPrefix, IsLenReply, IsEmptyReply, IsEndReply, GetAnswers, GetEntryAnswers, ContainsAnswers, SizeAnswers, PairsAnswer, LenAnswers, EmptyAnswers, EndAnswers}
+use Rattle.lsm_runs.specs.CountSteps.{IsCounted, IsUncertainReply}
 use Rattle.lsm_runs.specs.Flushing.{TakesInSlot, TakesFlush, TakesFlushActive, TakesMoment}
 use Rattle.lsm_runs.specs.Slots.{Stage, at_first, Closes}
 use Rattle.lsm_runs.specs.Told.{Told}
@@ -94,6 +95,8 @@ TakesAlone (FetchMax counter n) reply events old new = TakesCounter counter (max
 TakesAlone (Flush w) reply events old new = TakesFlush w reply events old new
 TakesAlone (FlushActiveMemtable w) reply events old new = TakesFlushActive w reply events old new
 TakesAlone (SetMoment n) reply events old new = TakesMoment n reply events old new
+TakesAlone (CountOf what) reply events old new = TakesSilent (IsCounted what old) reply events old new
+TakesAlone IsUncertain reply events old new = TakesSilent (IsUncertainReply old) reply events old new
 TakesAlone (AtSlot slot step) reply events old new = ⊥
 
 -- what a step may answer, add to the journal and do: one that needs no slot leaves all of them

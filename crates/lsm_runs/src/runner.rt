@@ -347,6 +347,8 @@ fn take_step<S: Store>(
         Step::Flush(watermark) => flushes::flush(alloc, state, *watermark),
         Step::FlushActiveMemtable(watermark) => flushes::flush_active(alloc, state, *watermark),
         Step::SetMoment(moment) => Ok(flushes::set_moment(alloc, state, *moment)),
+        Step::Count(what) => Ok(counts::count(alloc, state, *what)),
+        Step::IsUncertain => Ok(counts::is_uncertain(alloc, state)),
     }
 }
 
@@ -423,5 +425,6 @@ pub fn run<S: Store>(alloc: Global, state: &mut TreeState<S>, steps: &[Step]) ->
     outcomes
 }
 
+mod counts;
 mod flushes;
 mod ranges;

@@ -18,6 +18,39 @@ pub enum Counter {
     Visible,
 }
 
+/// What is counted of a tree: each is the method of `TreeState` that it is named after.
+#[derive(Clone, Copy, Debug, PartialEq, Eq)]
+pub enum Count {
+    /// How many tables the latest version has.
+    TableCount,
+    /// How many runs its first level has.
+    L0RunCount,
+    /// How many tables a level has, by its index.
+    LevelTableCount(usize),
+    /// How many sealed memtables are not flushed yet.
+    SealedMemtableCount,
+    /// How many super versions are kept beside the latest one.
+    VersionFreeListLen,
+    /// How many entries the latest super version reads.
+    ApproximateLen,
+    /// The bytes of its table files.
+    DiskSpace,
+    /// How many entries of its tables remove their key.
+    TombstoneCount,
+    /// How many of these do so weakly.
+    WeakTombstoneCount,
+    /// How many of those a compaction may take away.
+    WeakTombstoneReclaimableCount,
+    /// The bytes that the memtables of all super versions count.
+    VersionMemtableSizeSum,
+    /// The greatest sequence number in its tables.
+    HighestPersistedSeqno,
+    /// That in its memtables.
+    HighestMemtableSeqno,
+    /// That in both.
+    HighestSeqno,
+}
+
 /// A call on a job, which waits in a slot from one call to the next.
 #[derive(Clone, Copy, Debug, PartialEq, Eq)]
 pub enum JobStep {
@@ -84,6 +117,10 @@ pub enum Step {
     FlushActiveMemtable(SeqNo),
     /// Sets the moment at which tables are made.
     SetMoment(u64),
+    /// Asks for a count of the tree.
+    Count(Count),
+    /// Asks whether a commit of unknown outcome came before.
+    IsUncertain,
 }
 
 /// What a step replies.
@@ -106,6 +143,8 @@ pub enum Reply {
     Pairs(KvPairs),
     /// Of a count: how many keys have a value.
     Count(usize),
+    /// Of a count of the tree: how many or how much, or None where there is nothing of the kind.
+    Counted(Option<u64>),
     /// Of a read of the least or the greatest key: its pair, or None where no key has a value.
     Pair(Option<KvPair>),
     /// Of a rotation: the id of the memtable that was sealed, or None where it was empty.

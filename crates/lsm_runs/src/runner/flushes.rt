@@ -309,11 +309,7 @@ pub(super) fn flush_active<S: Store>(
     Ok(of_active(sealed, entries, flushed))
 }
 
-pub(super) fn set_moment<S: Store>(
-    alloc: Global,
-    state: &mut TreeState<S>,
-    moment: u64,
-) -> Outcome
+pub(super) fn set_moment<S: Store>(alloc: Global, state: &mut TreeState<S>, moment: u64) -> Outcome
     ensures takes { TakesMoment moment result.reply result.entries state.old.core state.new.core }
     ensures store { state.new.store ≡ state.old.store }
 {

@@ -1,5 +1,3 @@
-use Rattle.std.proofs.Common.{rules}
-use Rattle.lsm_runs.specs.Files.{StaysStored}
 use Rattle.lsm_runs.proofs.Files.{rotated_stored}
 use Rattle.lsm_runs.proofs.runner.flushes.flush_active.Goals as goal
 
