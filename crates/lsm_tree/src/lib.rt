@@ -106,6 +106,7 @@ pub use lsm_parts::VersionId;
 pub use lsm_parts::seqno_filter;
 pub use lsm_recorded::Pass;
 pub use lsm_recorded::Recorded;
+pub use lsm_runs::Count;
 pub use lsm_runs::Counter;
 pub use lsm_runs::JobStep;
 pub use lsm_runs::Outcome;

@@ -1,8 +1,8 @@
 // Flushes of shared trees, with a journal and without, and of a tree under a list of calls.
 use crate::samples::{open_recorded, open_state, text};
 use lsm_tree::{
-    Config, Error, FlushJob, Handle, JobStep, JournalEntry, Op, Ops, Outcome, Pass, RecordedTree,
-    Registered, Reply, Step, Tree, WrittenFlush, run,
+    Config, Count, Error, FlushJob, Handle, JobStep, JournalEntry, Op, Ops, Outcome, Pass,
+    RecordedTree, Registered, Reply, Step, Tree, WrittenFlush, run,
 };
 use std::alloc::{AllocError, Global};
 use std::sync::Wait;
@@ -159,11 +159,7 @@ fn record(
     pass: &mut Pass,
     value: &'static str,
 ) -> Result<u64, Error> {
-    tree.write(
-        rt,
-        pass,
-        vec![in alloc; (text("a"), Op::Set(text(value)))]?,
-    )
+    tree.write(rt, pass, vec![in alloc; (text("a"), Op::Set(text(value)))]?)
 }
 
 /// a = x is flushed at watermark 0 in parts, a = y in one call at watermark 2.
@@ -307,7 +303,7 @@ fn a_job_waits_in_its_slot(rt: HostRuntime) {
     drop(told);
 }
 
-/// Flushes in one call: of the sealed memtable, of the active one, and of nothing.
+/// Flushes in one call: of the sealed memtable, of the active one, and of nothing; and what is counted behind them.
 fn steps_of_flushes(alloc: Global) -> Result<Vec<Step>, AllocError> {
     let mut steps = Vec::new(alloc);
     steps.push(Step::SetMoment(5))?;
@@ -317,6 +313,9 @@ fn steps_of_flushes(alloc: Global) -> Result<Vec<Step>, AllocError> {
     steps.push(batch(alloc, "y")?)?;
     steps.push(Step::FlushActiveMemtable(3))?;
     steps.push(Step::Flush(0))?;
+    steps.push(Step::Count(Count::TableCount))?;
+    steps.push(Step::Count(Count::LevelTableCount(7)))?;
+    steps.push(Step::IsUncertain)?;
     Ok(steps)
 }
 
@@ -332,12 +331,15 @@ fn is_flushed(reply: &Reply) -> bool {
 fn flushes_are_steps(rt: HostRuntime) {
     let outcomes = replies(rt.alloc(), steps_of_flushes(rt.alloc()));
     let told = outcomes.unwrap_or(Vec::new(rt.alloc()));
-    assert_eq!(rt; told.len(), 7);
+    assert_eq!(rt; told.len(), 10);
     assert!(rt; matches!(told[0].reply(), Reply::Done));
     assert!(rt; is_flushed(told[3].reply()));
     assert!(rt; notes_install(&told[3], 0, 1));
     assert!(rt; is_flushed(told[5].reply()));
     assert!(rt; notes_install(&told[5], 3, 3));
     assert!(rt; matches!(told[6].reply(), Reply::Flushed(None)));
+    assert!(rt; matches!(told[7].reply(), Reply::Counted(Some(2))));
+    assert!(rt; matches!(told[8].reply(), Reply::Counted(None)));
+    assert!(rt; matches!(told[9].reply(), Reply::Truth(false)));
     drop(told);
 }
