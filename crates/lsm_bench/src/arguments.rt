@@ -1,5 +1,5 @@
 // What the program's arguments ask.
-ghost use Rattle.std.specs.Prelude.{◌≡◌, ◌≤◌, [], IfOk, Ok};
+ghost use Rattle.std.specs.Prelude.{◌≡◌, ◌≤◌, [], false, None, IfOk, IsOk};
 
 use thiserror::Error;
 
@@ -37,7 +37,7 @@ pub enum BadArguments {
 
 /// What these arguments ask.
 pub fn parse_arguments(words: &[String]) -> Result<Plan<'_>, BadArguments>
-    ensures none { words.now ≡ [] → result ≡ Ok CHECKS }
+    ensures none { words.now ≡ [] → IsOk result × IfOk result (λ plan. (plan.keys ≡ 1000) × ((plan.with_times ≡ false) × (plan.folder ≡ None))) }
     ensures keys { IfOk result (λ plan. (1 ≤ plan.keys) × (plan.keys ≤ MOST_KEYS)) }
 {
     match words {
