@@ -1,5 +1,5 @@
 -- A line asks the command that it spells.
-use Rattle.std.proofs.Common.{◌≡◌, ℕ, ◌<◌, Bool, true, false, cond, List, [], ◌∷◌, length, Option, Some, None, Result, Ok, Err, IfOk, IfSome, refl, sym, ◌∙◌, ap, subst, arith, bytes_eq, decimal}
+use Rattle.std.proofs.Common.{◌≡◌, ℕ, ◌<◌, ◌^◌, Bool, true, false, cond, List, [], ◌∷◌, length, Option, Some, None, Result, Ok, Err, IfOk, IfSome, refl, sym, ◌∙◌, ap, subst, arith, bytes_eq, decimal}
 use Rattle.std.proofs.lemmas.Slice.Eq.{bytes_eq-Decides}
 use Rattle.std.proofs.lemmas.List.Splits.{slice_split_at, join_with_byte-slice_split}
 use Rattle.std.specs.List.{list_all, join_with_byte}
@@ -23,12 +23,12 @@ AreWordsOf words command = (words ≡ spelling_of command) × HasFitNumber comma
 same : (v text : List ℕ) → bytes_eq v text ≡ true → v ≡ text
 same v text e = (bytes_eq-Decides v text).0 e
 
-one_word : (v : List ℕ) (r s c o : Bool) → bytes_eq v (codes "rotate") ≡ r → bytes_eq v (codes "stats") ≡ s → bytes_eq v (codes "crash") ≡ c → bytes_eq v (codes "reopen") ≡ o → IfSome (cond r (Some Rotate) (cond s (Some Stats) (cond c (Some Crash) (cond o (Some Reopen) None)))) (AreWordsOf (v ∷ []))
-one_word v true s c o er es ec eo = (ap (λ w. w ∷ []) (same v _ er), tt)
-one_word v false true c o er es ec eo = (ap (λ w. w ∷ []) (same v _ es), tt)
-one_word v false false true o er es ec eo = (ap (λ w. w ∷ []) (same v _ ec), tt)
-one_word v false false false true er es ec eo = (ap (λ w. w ∷ []) (same v _ eo), tt)
-one_word v false false false false er es ec eo = tt
+one_word : (v : List ℕ) (r o s c : Bool) → bytes_eq v (codes "rotate") ≡ r → bytes_eq v (codes "reopen") ≡ o → bytes_eq v (codes "stats") ≡ s → bytes_eq v (codes "crash") ≡ c → IfSome (cond r (Some Rotate) (cond o (Some Reopen) (cond s (Some Stats) (cond c (Some Crash) None)))) (AreWordsOf (v ∷ []))
+one_word v true o s c er eo es ec = (ap (λ w. w ∷ []) (same v _ er), tt)
+one_word v false true s c er eo es ec = (ap (λ w. w ∷ []) (same v _ eo), tt)
+one_word v false false true c er eo es ec = (ap (λ w. w ∷ []) (same v _ es), tt)
+one_word v false false false true er eo es ec = (ap (λ w. w ∷ []) (same v _ ec), tt)
+one_word v false false false false er eo es ec = tt
 
 -- a command of one number is spelled by its word
 with_number : (name v word : List ℕ) (make : ℕ → Command) (n : Option ℕ) → ((m : ℕ) → m < 2 ^ 64 → AreWordsOf (name ∷ decimal m ∷ []) (make m)) → plain_number word ≡ n → v ≡ name → IfSome (option_map (λ m. make m) n) (AreWordsOf (v ∷ word ∷ []))

@@ -6,14 +6,19 @@ use Rattle.lsm_shell.specs.Word.{words_of}
 use Rattle.lsm_shell.specs.declared.command.Command.{Command}
 use Rattle.lsm_shell.specs.declared.command.Command.TheVariants.{Put, Del, Weak, Get, Range, Prefix, Rotate, Flush, Now, Stats, Crash, Reopen}
 
+-- what a word alone asks, but for a rotation and an opening
+abbrev pub command_of_other : List ℕ → Option Command
+command_of_other verb =
+    if bytes_eq verb (codes "stats") then Some Stats
+    else if bytes_eq verb (codes "crash") then Some Crash
+    else None
+
 -- what a line of one word asks
 abbrev pub command_of_one : List ℕ → Option Command
 command_of_one verb =
     if bytes_eq verb (codes "rotate") then Some Rotate
-    else if bytes_eq verb (codes "stats") then Some Stats
-    else if bytes_eq verb (codes "crash") then Some Crash
     else if bytes_eq verb (codes "reopen") then Some Reopen
-    else None
+    else command_of_other verb
 
 -- what a word asks of a key
 abbrev pub command_of_key : List ℕ → List ℕ → Option Command
@@ -23,13 +28,18 @@ command_of_key verb key =
     else if bytes_eq verb (codes "get") then Some (Get key None)
     else None
 
+-- what a word asks of a key or a number
+abbrev pub command_of_word : List ℕ → List ℕ → Option Command
+command_of_word verb word =
+    if bytes_eq verb (codes "flush") then option_map (λ n. Flush n) (plain_number word)
+    else if bytes_eq verb (codes "now") then option_map (λ n. Now n) (plain_number word)
+    else command_of_key verb word
+
 -- what a line of two words asks
 abbrev pub command_of_two : List ℕ → List ℕ → Option Command
 command_of_two verb word =
     if bytes_eq verb (codes "prefix") then Some (Prefix (prefix_of word) None)
-    else if bytes_eq verb (codes "flush") then option_map (λ n. Flush n) (plain_number word)
-    else if bytes_eq verb (codes "now") then option_map (λ n. Now n) (plain_number word)
-    else command_of_key verb word
+    else command_of_word verb word
 
 -- what a word asks of a key and another word
 abbrev pub command_of_pair : List ℕ → List ℕ → List ℕ → Option Command

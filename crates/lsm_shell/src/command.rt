@@ -1,6 +1,6 @@
 // What a line asks.
 ghost use Rattle.std.specs.Prelude.{◌≡◌, IfOk, bytes_eq, codes, option_map, Some};
-ghost use Rattle.lsm_shell.specs.Command.{command_of, command_of_one, command_of_key, command_of_two, command_of_pair, command_of_three, command_of_four};
+ghost use Rattle.lsm_shell.specs.Command.{command_of, command_of_one, command_of_other, command_of_word, command_of_key, command_of_two, command_of_pair, command_of_three, command_of_four};
 ghost use Rattle.lsm_shell.specs.Bounds.{prefix_of};
 ghost use Rattle.lsm_below.specs.Numbers.{plain_number};
 ghost use Rattle.lsm_shell.specs.declared.command.Command.TheVariants.{Prefix};
@@ -58,14 +58,36 @@ pub fn parse(alloc: Global, line: &[u8]) -> Result<Option<Command>, AllocError>
     }
 }
 
+fn is_rotate(verb: &[u8]) -> bool
+    ensures { result ≡ bytes_eq verb.now (codes "rotate") }
+{
+    verb == b"rotate".as_slice()
+}
+
+fn is_reopen(verb: &[u8]) -> bool
+    ensures { result ≡ bytes_eq verb.now (codes "reopen") }
+{
+    verb == b"reopen".as_slice()
+}
+
 fn parse_one(verb: &[u8]) -> Option<Command>
     ensures { result ≡ command_of_one verb.now }
 {
+    if is_rotate(verb) {
+        return Some(Command::Rotate);
+    }
+    if is_reopen(verb) {
+        return Some(Command::Reopen);
+    }
+    parse_other(verb)
+}
+
+fn parse_other(verb: &[u8]) -> Option<Command>
+    ensures { result ≡ command_of_other verb.now }
+{
     match verb {
-        b"rotate" => Some(Command::Rotate),
         b"stats" => Some(Command::Stats),
         b"crash" => Some(Command::Crash),
-        b"reopen" => Some(Command::Reopen),
         _ => None,
     }
 }
@@ -79,11 +101,17 @@ fn is_prefix(verb: &[u8]) -> bool
 fn parse_two(alloc: Global, verb: &[u8], word: &[u8]) -> Result<Option<Command>, AllocError>
     ensures { IfOk result (λ found. found ≡ command_of_two verb.now word.now) }
 {
+    if is_prefix(verb) {
+        let prefix = parse_prefix(alloc, word)?;
+        return Ok(Some(Command::Prefix(prefix, None)));
+    }
+    parse_of_word(alloc, verb, word)
+}
+
+fn parse_of_word(alloc: Global, verb: &[u8], word: &[u8]) -> Result<Option<Command>, AllocError>
+    ensures { IfOk result (λ found. found ≡ command_of_word verb.now word.now) }
+{
     match verb {
-        b"prefix" => {
-            let prefix = parse_prefix(alloc, word)?;
-            Ok(Some(Command::Prefix(prefix, None)))
-        }
         b"flush" => Ok(parse_number(word).map(Command::Flush)),
         b"now" => Ok(parse_number(word).map(Command::Now)),
         _ => parse_of_key(alloc, verb, word),
