@@ -132,6 +132,11 @@ impl<S: Store> Points for Noted<'_, S> {
     }
 }
 
+/// Flushes the active memtable, as `Points::flush`.
+pub fn flush<T: Points>(tree: &mut T) -> Result<u64, Error> {
+    tree.flush()
+}
+
 /// Puts as many entries as there are keys into a tree, one after the other. The check is the last sequence number, which
 /// counts the writes before it.
 pub fn fill<T: Points>(

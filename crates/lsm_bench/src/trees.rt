@@ -2,7 +2,7 @@
 ghost use Rattle.std.specs.Prelude.{◌≡◌, IfOk};
 
 use crate::orders::Orders;
-use crate::points::{self, Locked, Noted, Points};
+use crate::points::{self, Locked, Noted};
 use crate::report::Tally;
 use crate::workloads::{Filling, Kind, Wanted};
 use lsm_tree::{Config, Error, Handle, Pass, Recorded, Store, Tree, TreeState};
@@ -120,9 +120,9 @@ impl<S: Store> AnyTree<S> {
         ensures { kind_of self.new ≡ kind_of self.old }
     {
         match self {
-            AnyTree::Owned(tree) => Points::flush(tree),
-            AnyTree::Locked(tree) => Locked { rt, tree }.flush(),
-            AnyTree::Recorded(tree, pass) => Noted { tree, pass }.flush(),
+            AnyTree::Owned(tree) => points::flush(tree),
+            AnyTree::Locked(tree) => points::flush(&mut Locked { rt, tree }),
+            AnyTree::Recorded(tree, pass) => points::flush(&mut Noted { tree, pass }),
         }
     }
 }
