@@ -264,7 +264,12 @@ impl<P: Place> Bench<'_, P> {
     ) -> Result<(Filled<P::Store>, Figures)>
         requires { kind_of filled.tree ≡ Kind.Owned }
     {
-        let AnyTree::Owned(tree) = filled.tree else {
+        let Filled {
+            tree,
+            filling,
+            added,
+        } = filled;
+        let AnyTree::Owned(tree) = tree else {
             unreachable!()
         };
         let start = Instant::now(rt)?;
@@ -279,8 +284,8 @@ impl<P: Place> Bench<'_, P> {
         let time = start.elapsed(rt)?;
         let filled = Filled {
             tree: AnyTree::Owned(tree),
-            filling: filled.filling,
-            added: filled.added,
+            filling,
+            added,
         };
         Ok((filled, Figures { tally, time }))
     }
