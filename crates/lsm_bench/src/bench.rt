@@ -21,9 +21,8 @@ use std::sync::Wait;
 use std::time::{Duration, Instant};
 
 /// Runs the workloads of the plan. A folder is taken before the first of them, and cleared also where one fails.
-pub fn run_workloads<R, E>(rt: &R, progress: &mut Progress<E>, plan: Plan<'_>) -> Result<()>
+pub fn run_workloads<E>(rt: &HostRuntime, progress: &mut Progress<E>, plan: Plan<'_>) -> Result<()>
 where
-    R: AllocGlobal + Clone + Drop + Send + Clock + Files + Print + Wait,
     E: Write + IsTerminal + Drop,
 {
     let alloc = rt.alloc();
