@@ -20,9 +20,16 @@ use std::rt::{Clock, Files};
 use std::sync::Wait;
 use std::time::{Duration, Instant};
 
-/// Runs the workloads of the plan. A folder is taken before the first of them, and cleared also where one fails.
-pub fn run_workloads<E>(rt: &HostRuntime, progress: &mut Progress<E>, plan: Plan<'_>) -> Result<()>
+/// Runs the workloads of the plan. A folder is taken before the first of them, and cleared also where one fails. Its trees
+/// may be shared, so its store has the runtime of the host, which threads may share.
+pub fn run_workloads<R, E>(
+    rt: &R,
+    host: &HostRuntime,
+    progress: &mut Progress<E>,
+    plan: Plan<'_>,
+) -> Result<()>
 where
+    R: AllocGlobal + Clone + Clock + Files + Print + Wait,
     E: Write + IsTerminal + Drop,
 {
     let alloc = rt.alloc();
@@ -36,7 +43,7 @@ where
     let Some(path) = plan.folder else {
         return in_memory.run_all(rt, progress, &WORKLOADS);
     };
-    let folder = Folder::take(rt, path)?;
+    let folder = Folder::take(host, path)?;
     let in_folder = Bench {
         alloc,
         plan,

@@ -62,7 +62,7 @@ fn main(rt: HostRuntime) -> ExitCode {
         Err(error) => return tell_usage(&rt, error),
     };
     let mut progress = Progress::new(rt.stderr());
-    match run_workloads(&rt, &mut progress, plan) {
+    match run_workloads(&rt, &rt, &mut progress, plan) {
         Ok(()) => ExitCode::SUCCESS,
         Err(error) => tell_fault(&rt, error),
     }
