@@ -9,12 +9,7 @@ use lsm_store::{Fault, MemStore};
 use std::alloc::Global;
 use std::test::Fail;
 
-fn write(
-    alloc: Global,
-    tree: &mut TreeState,
-    name: &'static str,
-    op: Op,
-) -> Result<SeqNo, Error> {
+fn write(alloc: Global, tree: &mut TreeState, name: &'static str, op: Op) -> Result<SeqNo, Error> {
     tree.write(vec![in alloc; (key(name), op)]?)
 }
 

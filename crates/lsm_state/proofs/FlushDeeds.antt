@@ -144,7 +144,7 @@ module _ (law : FlushesAreSteps) (job : SeenWritten) (c : Core) (kept : IsKeptTr
 refused_deeds : (w : ℕ) (e : Error) (old new : Core) → IsKeptTree old → Flushes w (Err e) old new → (e ≡ CommitUnknown → ⊥) → IsNoDeed old new × IsMarkDeed w old new
 refused_deeds w e old new kept flushes known =
     let is : new ≡ record old { next_job = new.next_job; next_table = new.next_table; seqno = new.seqno; lost = old.lost } =
-        subst (λ l. new ≡ record old { next_job = new.next_job; next_table = new.next_table; seqno = new.seqno; lost = l }) (flushes.known known) flushes.err.rest in
+    subst (λ l. new ≡ record old { next_job = new.next_job; next_table = new.next_table; seqno = new.seqno; lost = l }) (flushes.known known) flushes.err.rest in
     let same : (journal : List Event) (notes : List Note) → saved_of journal notes new ≡ saved_of journal notes old = λ journal notes. ap (saved_of journal notes) is in
     (λ opened journal notes. same journal notes, λ opened journal notes. (saved_of (journal ++ Mark w ∷ []) notes old, mark_done w 0 old kept opened journal notes, same (journal ++ Mark w ∷ []) notes))
 

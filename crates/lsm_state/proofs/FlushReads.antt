@@ -45,10 +45,10 @@ module _ (theory : Soundness) where
   done_keeps w v ids made events noted old new done = record {
     right = λ opened start journal order holds.
         theory.kept.deeds opened start (saved_of journal [] old) (Done (Marked w) ∷ (Done (Flushed v ids made) ∷ (Done (Maintained w) ∷ []))) (saved_of (journal ++ Mark w ∷ events) (noted ++ []) new)
-            (done opened journal [] ((theory.right.reads opened start (state_of journal old) holds).ordered.0)) order holds;
+        (done opened journal [] ((theory.right.reads opened start (state_of journal old) holds).ordered.0)) order holds;
     stays = λ opened start journal order holds s.
         theory.spares.commits opened start s w (Flushed v ids made) (saved_of journal [] old) (saved_of (journal ++ Mark w ∷ events) (noted ++ []) new) refl
-            (done opened journal [] ((theory.right.reads opened start (state_of journal old) holds).ordered.0)) order (λ mid after step is. tt) holds;
+        (done opened journal [] ((theory.right.reads opened start (state_of journal old) holds).ordered.0)) order (λ mid after step is. tt) holds;
   }
 
   deed_keeps : (job : SeenWritten) (old new : Core) → IsFlushDeed job old new → KeepsReads (Mark job.watermark ∷ (Install old.seqno ∷ [])) old new

@@ -17,11 +17,7 @@ use std::sync::Wait;
 /// registered appends its mark to the pass, and its install where it is installed.
 impl<S: Store> Handle<Recorded<S>> {
     /// Opens a flush of all sealed memtables, as `Recorded::begin_flush`.
-    pub fn begin_flush(
-        &self,
-        rt: &impl Wait,
-        pass: &mut Pass,
-    ) -> Result<Option<FlushJob>, Error>
+    pub fn begin_flush(&self, rt: &impl Wait, pass: &mut Pass) -> Result<Option<FlushJob>, Error>
         ensures begins { OnSomeTree (λ old new. Begins result old new) }
         ensures pass { pass.new ≡ pass.old }
     {

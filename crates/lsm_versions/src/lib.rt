@@ -29,7 +29,9 @@ pub use laws::{
     changes_keep_tables, cut_tables_are_runs, drops_are_steps, flushes_are_steps, merges_are_steps,
     moves_are_steps,
 };
-pub use level::{GenericLevel, Level, copies, copies_chosen, copies_left, has_id, push_run, run_has};
+pub use level::{
+    GenericLevel, Level, copies, copies_chosen, copies_left, has_id, push_run, run_has,
+};
 pub use lookup::{all_tables, ids_are_own, ids_of_levels};
 pub use tables::Tables;
 pub use totals::Totals;
