@@ -1,8 +1,6 @@
 -- What persisting a version leaves of what is stored.
-use Rattle.std.proofs.Common.{◌≡◌, ◌≢◌, ◌⊎◌, inl, inr, ⊎_elim, ℕ, ◌<◌, ◌^◌, List, [], ◌∷◌, get_or, Option, Some, None, Result, Ok, Err, OnOk, OnErr, IsErrOf, refl, sym, ap, ◌∙◌, subst, codes, arith}
+use Rattle.std.proofs.Common.{◌≡◌, ◌≢◌, ◌⊎◌, inl, inr, ⊎_elim, ℕ, ◌<◌, ◌^◌, List, [], ◌∷◌, get_or, Option, Some, Result, Ok, Err, refl, sym, ap, ◌∙◌, subst, codes, arith}
 use Rattle.std.specs.List.{AllByRecursion}
-use Rattle.lsm_below.specs.Each.{each_weaker}
-use Rattle.lsm_below.specs.Members.{IsIn}
 use Rattle.lsm_below.specs.declared.error.Error.{Error}
 use Rattle.lsm_below.specs.declared.error.Error.TheVariants as error
 use Rattle.lsm_store.specs.World.{Image, World, LeavesOnly}
@@ -10,7 +8,7 @@ use Rattle.lsm_store.specs.Synced.{IsBeside, KeepsOthers}
 use Rattle.lsm_store.specs.Moments.{weakened, same_or_not}
 use Rattle.lsm_tables.specs.Tables.{SeenTable}
 use Rattle.lsm_versions.specs.Levels.{SeenVersion, all_of, AreRuns}
-use Rattle.lsm_manifest.specs.declared.kinds.NameKind.TheVariants.{Refused, VersionFile, Other}
+use Rattle.lsm_manifest.specs.declared.kinds.NameKind.TheVariants.{Refused, Other}
 use Rattle.lsm_manifest.specs.declared.persist.PersistError.{PersistError}
 use Rattle.lsm_manifest.specs.declared.persist.PersistError.TheVariants as persisting
 use Rattle.lsm_manifest.specs.Names.{current_name, version_name, table_name}
@@ -21,8 +19,8 @@ use Rattle.lsm_manifest.specs.Persist.{naming, IsOldOrNew, IsPersisted, IsUncert
 use Rattle.lsm_manifest.specs.Told.{Told, TellsPersist}
 use Rattle.lsm_files.specs.Stored.{IsWhole, AreOnDisk, IsStored, HoldsOneOf, Leaves}
 use Rattle.lsm_files.specs.Commits.{Stores}
-use Rattle.lsm_files.proofs.Images.{Untouched, stands, tables_in, names_in, held_beside, held_whole, stored_beside, on_beside, whole_beside}
-use Rattle.lsm_files.proofs.Removals.{AreApart, is_file, file_untouched}
+use Rattle.lsm_files.proofs.Images.{Untouched, stands, tables_in, held_beside, on_beside, whole_beside}
+use Rattle.lsm_files.proofs.Removals.{AreApart, is_file, file_untouched, version_spared}
 
 -- the name is that of the version's file, or `current`
 abbrev is_either : ℕ → List ℕ → Type 0
@@ -85,9 +83,6 @@ module _ (apart : AreApart) (no_table : (i : ℕ) → table_name i ≢ current_n
       has : (n : List ℕ) → (is_either next.id n → ⊥) → old.may n (image n)
       has n out = is.elsewhere n (out_file n out) (out_current n out)
 
-  left_beside : (new : World) → LeavesOnly old new (IsBeside (version_name next.id) old) → Leaves old new (latest ∷ [])
-  left_beside new leaves = weakened old new (IsBeside (version_name next.id) old) (HoldsOneOf (latest ∷ [])) leaves (λ image is. held_old image is)
-
   widened : (new : World) → Leaves old new (latest ∷ []) → Leaves old new (latest ∷ (next ∷ []))
   widened new leaves = weakened old new (HoldsOneOf (latest ∷ [])) (HoldsOneOf (latest ∷ (next ∷ []))) leaves wider
 
@@ -97,9 +92,6 @@ module _ (apart : AreApart) (no_table : (i : ℕ) → table_name i ≢ current_n
   -- ---- what is stored behind it
 
   module _ (new : World) where
-    kept_beside : KeepsOthers (version_name next.id) old new → IsStored new (latest ∷ []) tables
-    kept_beside keeps = stored_beside (is_file next.id) old new (λ n c out may. (keeps.may n c out).0 may) (latest ∷ []) tables stored free_file
-
     module _ (rest : KeepsRest next.id old new) (reads : IsVersionFile (named_levels next.levels) (file_of next)) (file : (c : Option (List ℕ)) → new.may (version_name next.id) c → c ≡ Some (file_of next)) where
       still : (n : List ℕ) (c : Option (List ℕ)) → (is_either next.id n → ⊥) → new.may n c → old.may n c
       still n c out may = (rest.may n c (out_file n out) (out_current n out)).0 may
@@ -151,12 +143,12 @@ module _ (apart : AreApart) (no_table : (i : ℕ) → table_name i ≢ current_n
 
     of_refused : (e : Error) → (e ≡ error.CommitUnknown → ⊥) → KeepsOthers (version_name next.id) old new → LeavesOnly old new (IsBeside (version_name next.id) old) → Stores latest next tables old new (Err e)
     of_refused e certain keeps leaves =
-        let left = left_beside new leaves in
+        let both = version_spared apart old new next.id small keeps leaves (latest ∷ []) tables stored (λ same. other (sym same), tt) in
         record {
           ok = tt;
           unknown = λ is. absurd (certain (err_is e is));
-          refused = inr (kept_beside keeps, left);
-          leaves = widened new left;
+          refused = inr both;
+          leaves = widened new both.1;
         }
       where
         err_is : (x : Error) → ◌≡◌ {A = Result Unit Error} (Err x) (Err error.CommitUnknown) → x ≡ error.CommitUnknown

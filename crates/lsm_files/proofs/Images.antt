@@ -1,15 +1,15 @@
 -- What an image holds where the names that count have what they could.
-use Rattle.std.proofs.Common.{◌≡◌, ◌≢◌, ◌⊎◌, inl, inr, ⊎_elim, ℕ, ◌<◌, ◌≤◌, ◌^◌, List, [], ◌∷◌, ◌++◌, map, flat_map, Option, Some, None, refl, sym, ap, ◌∙◌, subst, codes}
+use Rattle.std.proofs.Common.{◌≡◌, ℕ, ◌<◌, ◌^◌, List, [], ◌∷◌, map, Option, Some, refl, subst, codes}
 use Rattle.std.specs.List.{AllByRecursion}
 use Rattle.std.proofs.lemmas.List.Concat.{flat_map-cons}
 use Rattle.lsm_below.specs.Each.{each_left, each_right, each_weaker, each_both}
-use Rattle.lsm_below.specs.Members.{IsIn, each_in}
+use Rattle.lsm_below.specs.Members.{each_in}
 use Rattle.lsm_below.specs.Optimizes.{tables_of}
-use Rattle.lsm_store.specs.World.{Image, World}
+use Rattle.lsm_store.specs.World.{Image, World, IsImage, LeavesOnly}
+use Rattle.lsm_store.specs.Moments.{started, weakened}
 use Rattle.lsm_tables.specs.Image.{IsImageOf}
 use Rattle.lsm_tables.specs.Tables.{SeenTable}
 use Rattle.lsm_versions.specs.Levels.{Levels, SeenVersion, all_of, AreRuns}
-use Rattle.lsm_manifest.specs.declared.recovered_table.RecoveredTable.{RecoveredTable}
 use Rattle.lsm_manifest.specs.declared.kinds.NameKind.TheVariants.{Refused}
 use Rattle.lsm_manifest.specs.Names.{current_name, version_name, table_name}
 use Rattle.lsm_manifest.specs.Kinds.{kind_of}
@@ -17,7 +17,7 @@ use Rattle.lsm_manifest.specs.Spelling.{IsVersionFile}
 use Rattle.lsm_manifest.specs.Versions.{named_table, named_runs, named_levels, file_of}
 use Rattle.lsm_manifest.specs.Persist.{naming}
 use Rattle.lsm_manifest.specs.Standing.{Pairwise, IsTableAt, AreTablesAt, HasGoodNames, StandsFor}
-use Rattle.lsm_files.specs.Stored.{IsOnDisk, table_file, IsTableOnDisk, AreOnDisk, IsWhole, IsStored, HoldsOneOf}
+use Rattle.lsm_files.specs.Stored.{table_file, IsTableOnDisk, AreOnDisk, IsWhole, IsStored, HoldsOneOf, Leaves}
 
 -- ---- tables, run by run and level by level
 
@@ -115,6 +115,14 @@ module _ (changed : List ℕ → Type 0) (old : World) where
       in_tables = λ n c refused may. stored.in_tables n c refused (keeps n c (free.in_tables n refused) may);
     }
 
+-- what changes none of the names that count spares what is stored
+pub spared : (changed : List ℕ → Type 0) (old new : World) (P : Image → Type 0) → ((n : List ℕ) (c : Option (List ℕ)) → (changed n → ⊥) → new.may n c → old.may n c) → LeavesOnly old new P → ((image : Image) → P image → (n : List ℕ) → (changed n → ⊥) → old.may n (image n))
+    → (versions : List SeenVersion) (tables : List SeenTable) → IsStored old versions tables → Untouched changed versions tables → IsStored new versions tables × Leaves old new versions
+spared changed old new P keeps leaves has versions tables stored free = (
+  stored_beside changed old new keeps versions tables stored free,
+  weakened old new P (HoldsOneOf versions) leaves (λ image is. held_beside changed old image (has image is) versions tables stored free),
+)
+
 -- where nothing has changed
 abbrev nothing : List ℕ → Type 0
 nothing n = ⊥
@@ -133,3 +141,7 @@ untouched versions tables = record { current = λ h. h; files = all_free (λ v. 
 -- an image of this moment holds one of the versions
 pub holds_now : (w : World) (versions : List SeenVersion) (tables : List SeenTable) (image : Image) → IsStored w versions tables → ((n : List ℕ) → w.may n (image n)) → HoldsOneOf versions image
 holds_now w versions tables image stored has = held_beside nothing w image (λ n out. has n) versions tables stored (untouched versions tables)
+
+-- while nothing is done a crash leaves one of them
+pub left_now : (w : World) (versions : List SeenVersion) (tables : List SeenTable) → ((image : Image) → w.since w.moment image → IsImage w.may image) → IsStored w versions tables → Leaves w w versions
+left_now w versions tables only stored = started w (HoldsOneOf versions) (λ image left. holds_now w versions tables image stored (only image left))

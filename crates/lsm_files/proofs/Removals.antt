@@ -1,18 +1,26 @@
--- What a change of one name leaves, where no version counts on it.
-use Rattle.std.proofs.Common.{◌≡◌, ◌≢◌, ℕ, ◌<◌, ◌^◌, List, [], ◌∷◌, Option, None, Result, sym, ap, ◌∙◌, subst, codes}
+-- What removals leave, where no version counts on the names.
+use Rattle.std.proofs.Common.{◌≡◌, ◌≢◌, ◌⊎◌, inl, inr, ⊎_elim, ℕ, ◌<◌, ◌^◌, Bool, true, false, ◌||◌, eqb, List, [], ◌∷◌, ◌++◌, map, Option, Some, None, Result, refl, sym, ap, ◌∙◌, codes}
+use Rattle.std.specs.Iterator.{Yields}
 use Rattle.std.specs.List.{AllByRecursion}
-use Rattle.lsm_below.specs.Each.{each_weaker, each_both}
-use Rattle.lsm_store.specs.World.{Image, Row, World, OldOr, IsImage, At, Changes, LeavesOnly}
-use Rattle.lsm_store.specs.Moments.{started, called, keeps_changes}
+use Rattle.std.specs.Map.Iter.{TakesFirst}
+use Rattle.std.proofs.lemmas.Bool.{eqb-true, eq-eqb}
+use Rattle.std.proofs.lemmas.Map.Iter.{rest_more, rest_so_far}
+use Rattle.lsm_below.specs.Each.{each_both}
+use Rattle.lsm_store.specs.World.{Image, World, OldOr, IsImage, Changes, LeavesOnly}
+use Rattle.lsm_store.specs.Synced.{IsBeside, KeepsOthers}
+use Rattle.lsm_store.specs.Moments.{started, called, joined, same_or_not}
 use Rattle.lsm_store.specs.declared.store.StoreError.{StoreError}
 use Rattle.lsm_tables.specs.Tables.{SeenTable}
+use Rattle.lsm_model.specs.Steps.{among}
 use Rattle.lsm_versions.specs.Levels.{SeenVersion, all_of}
-use Rattle.lsm_manifest.specs.declared.kinds.NameKind.TheVariants.{Refused, VersionFile}
+use Rattle.lsm_versions.specs.TableLaws.{or_none, among_append}
+use Rattle.lsm_manifest.specs.declared.kinds.NameKind.TheVariants.{VersionFile}
 use Rattle.lsm_manifest.specs.Names.{current_name, version_name, table_name}
 use Rattle.lsm_manifest.specs.Kinds.{kind_of}
-use Rattle.lsm_files.specs.Stored.{IsTableOnDisk, IsWhole, IsStored, HoldsOneOf, Leaves}
-use Rattle.lsm_files.specs.Commits.{SparesStored}
-use Rattle.lsm_files.proofs.Images.{Untouched, held_beside, stored_beside, holds_now}
+use Rattle.lsm_files.specs.Stored.{Keeps, IsWhole, IsStored, HoldsOneOf}
+use Rattle.lsm_files.specs.Commits.{SparesStored, IsNoneOf, SparesTables}
+use Rattle.lsm_files.proofs.Images.{Untouched, spared, left_now}
+use Rattle.lsm_files.proofs.Keeping.{keeps_none, keeps_more}
 
 -- what is asked of names
 pub record AreApart : Type 0 where
@@ -45,12 +53,60 @@ file_untouched apart w id small versions tables stored other = record {
 }
 
 -- a call that changes the file of a version with another id
-pub spares : {T : Type 0} → AreApart → (old new : World) (id : ℕ) (during done : Row) (content : Option (List ℕ)) (r : Result T StoreError) → id < 2 ^ 64 → ((image : Image) → old.since old.moment image → IsImage old.may image)
-    → Changes (version_name id) during done content old new r → SparesStored id old new
-spares apart old new id during done content r small only call versions tables stored other =
-    let free = file_untouched apart old id small versions tables stored other in
-    let keeps = keeps_changes (version_name id) during done content old new r call in (
-      stored_beside (is_file id) old new (λ n c out may. (keeps.may n c out).0 may) versions tables stored free,
-      called old old new (HoldsOneOf versions) (version_name id) during done content r (started old (HoldsOneOf versions) (λ image left. holds_now old versions tables image stored (only image left))) call
-          (λ image has. held_beside (is_file id) old image (λ n out. (has n).elsewhere out) versions tables stored free),
-    )
+pub version_spared : AreApart → (old new : World) (id : ℕ) → id < 2 ^ 64 → KeepsOthers (version_name id) old new → LeavesOnly old new (IsBeside (version_name id) old) → SparesStored id old new
+version_spared apart old new id small keeps leaves versions tables stored other =
+    spared (is_file id) old new (IsBeside (version_name id) old) (λ n c out may. (keeps.may n c out).0 may) leaves (λ image has. has) versions tables stored (file_untouched apart old id small versions tables stored other)
+
+-- ---- a name that is removed
+
+pub left_beside : {T : Type 0} (name : List ℕ) (old new : World) (r : Result T StoreError) → ((image : Image) → old.since old.moment image → IsImage old.may image) → Changes name (OldOr (old.may name) None) (OldOr (old.may name) None) None old new r → LeavesOnly old new (IsBeside name old)
+left_beside name old new r only call = called old old new (IsBeside name old) name (OldOr (old.may name) None) (OldOr (old.may name) None) None r (started old (IsBeside name old) (λ image left n out. only image left n)) call (λ image at n out. (at n).elsewhere out)
+
+-- ---- tables one by one
+
+-- beside the files of these tables nothing has changed, and what is stored is spared
+pub record KeepsRest (tells : Type 0) (ids : List ℕ) (old new : World) : Type 0 where
+  pub keeps : tells → Keeps (IsNoneOf ids) old new
+  pub stored : tells → SparesTables ids old new
+  pub failures : new.failures ≡ old.failures
+
+pub rest_none : (tells : Type 0) (ids : List ℕ) (w : World) → (tells → (image : Image) → w.since w.moment image → IsImage w.may image) → KeepsRest tells ids w w
+rest_none tells ids w only = record {
+  keeps = λ s. keeps_none (IsNoneOf ids) w;
+  stored = λ s versions tables stored named unnamed. (stored, left_now w versions tables (only s) stored);
+  failures = refl;
+}
+
+module _ (ids : List ℕ) (id : ℕ) (is : among ids id ≡ true) (old mid new : World) where
+  pub rest_kept : Keeps (IsNoneOf ids) old mid → KeepsOthers (table_name id) mid new → Keeps (IsNoneOf ids) old new
+  rest_kept so_far keeps = keeps_more (IsNoneOf ids) (table_name id) (λ n out. out id is) old mid new so_far keeps
+
+  pub rest_spared : SparesTables ids old mid → SparesTables ids mid new → SparesTables ids old new
+  rest_spared so_far more versions tables stored named unnamed =
+      let first = so_far versions tables stored named unnamed in
+      let second = more versions tables first.0 named unnamed in
+      (second.0, joined old mid new (HoldsOneOf versions) (HoldsOneOf versions) (HoldsOneOf versions) first.1 second.1 (λ image has. has) (λ image has. has))
+
+-- an absent name stays so where another one is made absent
+absent_after : (name : List ℕ) (old new : World) → KeepsOthers name old new → new.gives name ≡ None → (n : List ℕ) → old.gives n ≡ None → new.gives n ≡ None
+absent_after name old new keeps gone n was = ⊎_elim (λ (e : n ≡ name). ap new.gives e ∙ gone) (λ differs. keeps.gives n differs ∙ was) (same_or_not n name)
+
+-- one of two tests
+either : (a b : Bool) → (a || b) ≡ true → (a ≡ true) ⊎ (b ≡ true)
+either true b is = inl refl
+either false b is = inr is
+
+pub gone_more : {A : Type 0} (f : A → ℕ) (xs : List A) (x : A) (mid new : World) → KeepsOthers (table_name (f x)) mid new → new.gives (table_name (f x)) ≡ None → ((i : ℕ) → among (map f xs) i ≡ true → mid.gives (table_name i) ≡ None)
+    → (i : ℕ) → among (map f (xs ++ x ∷ [])) i ≡ true → new.gives (table_name i) ≡ None
+gone_more f xs x mid new keeps gone so_far i is = ⊎_elim (λ early. absent_after (table_name (f x)) mid new keeps gone (table_name i) (so_far i early))
+    (λ now. ap (λ j. new.gives (table_name j)) (eqb-true i (f x) (sym (or_none (eqb i (f x))) ∙ now)) ∙ gone) (either (among (map f xs) i) (among (map f (x ∷ [])) i) (sym (among_append f xs (x ∷ []) i) ∙ is))
+
+among_behind : (front behind : List ℕ) (i : ℕ) → among (front ++ i ∷ behind) i ≡ true
+among_behind [] behind i = ap (λ b. b || among behind i) (eq-eqb i i refl)
+among_behind (x ∷ front) behind i = elim (eqb i x) as (λ b. (b || among (front ++ i ∷ behind) i) ≡ true) [ true ↦ refl | false ↦ among_behind front behind i ]
+
+-- what a loop over ids takes is one of them
+pub among_taken : {A : Type 0} (f : A → ℕ) (ids s t u : List ℕ) (xs : List A) (r : Option A) (x : A) → s ≡ ids → Yields (TakesFirst f) s xs t → r ≡ Some x → TakesFirst f t r u → among ids (f x) ≡ true
+among_taken f ids s t u xs r x start so_far is step =
+    let all = sym start ∙ rest_so_far f xs s t so_far ∙ ap (λ l. map f xs ++ l) (rest_more f t u r x is step) in
+    ap (λ l. among l (f x)) all ∙ among_behind (map f xs) u (f x)

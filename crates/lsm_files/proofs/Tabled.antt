@@ -1,5 +1,5 @@
 -- Tables that are written.
-use Rattle.std.proofs.Common.{◌≡◌, ◌≢◌, ℕ, ◌+◌, ◌<◌, ◌≤◌, ◌^◌, false, eqb, List, [], ◌∷◌, ◌++◌, map, flat_map, Option, refl, sym, ap, ◌∙◌, subst, arith, append-nil, append_assoc}
+use Rattle.std.proofs.Common.{◌≡◌, ℕ, ◌+◌, ◌<◌, ◌≤◌, ◌^◌, false, eqb, List, [], ◌∷◌, ◌++◌, map, flat_map, refl, sym, ap, ◌∙◌, subst, arith, append-nil, append_assoc}
 use Rattle.std.specs.Prelude.{nat_eq}
 use Rattle.std.specs.Cmp.{nat_eq_equiv}
 use Rattle.std.specs.List.{AllByRecursion, IsDistinct, list_any}
@@ -7,18 +7,18 @@ use Rattle.std.proofs.lemmas.Bool.{ne_eqb}
 use Rattle.std.proofs.lemmas.List.{map-append}
 use Rattle.std.proofs.lemmas.List.Concat.{flat_map-cons}
 use Rattle.std.proofs.lemmas.Map.Keys.{IsDistinct-push}
-use Rattle.lsm_below.specs.Each.{each_append, each_weaker}
+use Rattle.lsm_below.specs.Each.{each_append, each_weaker, each_both}
 use Rattle.lsm_below.specs.Entries.{Entry}
-use Rattle.lsm_store.specs.World.{Image, World, IsImage, LeavesOnly}
-use Rattle.lsm_store.specs.Synced.{IsBeside, KeepsOthers}
-use Rattle.lsm_store.specs.Moments.{started, joined}
+use Rattle.lsm_store.specs.World.{World}
+use Rattle.lsm_store.specs.Synced.{KeepsOthers}
 use Rattle.lsm_tables.specs.Cutting.{IsWritable, IsCutting, CutsFirst}
 use Rattle.lsm_tables.specs.Tables.{SeenTable}
 use Rattle.lsm_versions.specs.Levels.{HasOwnIds}
 use Rattle.lsm_versions.specs.Installs.{CutTablesAreRuns}
 use Rattle.lsm_manifest.specs.Names.{table_name}
-use Rattle.lsm_files.specs.Stored.{IsTableOnDisk, AreOnDisk}
-use Rattle.lsm_files.specs.Writing.{HoldEntries, KeepsElsewhere, IsKeptElsewhere}
+use Rattle.lsm_files.specs.Stored.{table_file, IsTableOnDisk, AreOnDisk}
+use Rattle.lsm_files.specs.Writing.{HoldEntries}
+use Rattle.lsm_files.proofs.NextFiles.{file_stays}
 
 pub table_is : (t : SeenTable) (i m : ℕ) (es : List Entry) → t.id ≡ i → t.created_at ≡ m → t.entries ≡ es → t ≡ record { id = i; created_at = m; entries = es }
 table_is t i m es a b c =
@@ -26,7 +26,7 @@ table_is t i m es a b c =
 
 -- ---- one table more
 
-each_push : {A : Type 0} (P : A → Type 0) (xs : List A) (x : A) → AllByRecursion P xs → P x → AllByRecursion P (xs ++ x ∷ [])
+pub each_push : {A : Type 0} (P : A → Type 0) (xs : List A) (x : A) → AllByRecursion P xs → P x → AllByRecursion P (xs ++ x ∷ [])
 each_push P xs x h here = each_append P xs (x ∷ []) h (here, tt)
 
 -- tables so far, and the entries that are still to be written
@@ -87,38 +87,7 @@ all_written runs target made_at first next es tables rest writable done none =
 
 -- ---- files
 
--- names beside those of new tables were kept, and the new tables are on the disk
-pub record KeepsFiles (tells : Type 0) (first : ℕ) (old new : World) (tables : List SeenTable) : Type 0 where
-  pub keeps : tells → KeepsElsewhere first old new
-  pub leaves : tells → LeavesOnly old new (IsKeptElsewhere first old)
-  pub on_disk : tells → AreOnDisk new tables
-  pub failures : new.failures ≡ old.failures
-
-pub files_none : (tells : Type 0) (first : ℕ) (w : World) → (tells → (image : Image) → w.since w.moment image → IsImage w.may image) → KeepsFiles tells first w w []
-files_none tells first w only = record {
-  keeps = λ s. record { may = λ n c out. (λ may. may, λ may. may); gives = λ n out. refl };
-  leaves = λ s. started w (IsKeptElsewhere first w) (λ image left n out. only s image left n);
-  on_disk = λ s. tt;
-  failures = refl;
-}
-
-module _ (first next : ℕ) (old mid new : World) (le : first ≤ next) (small : next < 2 ^ 64) where
-  pub keeps_more : KeepsElsewhere first old mid → KeepsOthers (table_name next) mid new → KeepsElsewhere first old new
-  keeps_more so_far keeps = record {
-    may = λ n c out. (λ may. (so_far.may n c out).0 ((keeps.may n c (out next le small)).0 may), λ may. (keeps.may n c (out next le small)).1 ((so_far.may n c out).1 may));
-    gives = λ n out. keeps.gives n (out next le small) ∙ so_far.gives n out;
-  }
-
-  pub leaves_more : KeepsElsewhere first old mid → LeavesOnly old mid (IsKeptElsewhere first old) → LeavesOnly mid new (IsBeside (table_name next) mid) → LeavesOnly old new (IsKeptElsewhere first old)
-  leaves_more so_far leaves more = joined old mid new (IsKeptElsewhere first old) (IsBeside (table_name next) mid) (IsKeptElsewhere first old) leaves more (λ image has. has) (λ image has n out. (so_far.may n (image n) out).0 (has n (out next le small)))
-
-  pub on_disk_more : ((i j : ℕ) → i < 2 ^ 64 → j < 2 ^ 64 → table_name i ≡ table_name j → i ≡ j) → KeepsOthers (table_name next) mid new → (tables : List SeenTable) → AllByRecursion (λ t. t.id < next) tables → AreOnDisk mid tables → AreOnDisk new tables
-  on_disk_more apart keeps [] below on = tt
-  on_disk_more apart keeps (t ∷ tables) below on = (
-    record {
-      id = on.0.id;
-      reads = on.0.reads;
-      file = λ c may. on.0.file c ((keeps.may (table_name t.id) c (λ e. let same : t.id ≡ next = apart t.id next on.0.id small e in let lt : t.id < next = below.0 in omega arith)).0 may);
-    },
-    on_disk_more apart keeps tables below.1 on.1,
-  )
+-- tables of lesser ids that are on the disk stay so
+pub tables_stay : ((i j : ℕ) → i < 2 ^ 64 → j < 2 ^ 64 → table_name i ≡ table_name j → i ≡ j) → (next : ℕ) → next < 2 ^ 64 → (mid new : World) → KeepsOthers (table_name next) mid new → (tables : List SeenTable) → AllByRecursion (λ t. t.id < next) tables → AreOnDisk mid tables → AreOnDisk new tables
+tables_stay apart next small mid new keeps tables below on = each_both (λ t. t.id < next) (IsTableOnDisk mid) (IsTableOnDisk new)
+    (λ t lesser is. record { id = is.id; reads = is.reads; file = file_stays apart next small mid new keeps t.id (table_file t) is.id lesser is.file }) tables below on

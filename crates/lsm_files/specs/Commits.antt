@@ -1,11 +1,13 @@
--- What a commit makes of a tree's files, and what the removal of a version's file leaves of them.
-use Rattle.std.specs.Prelude.{◌≡◌, ◌≢◌, ℕ, ◌<◌, ◌^◌, List, [], ◌∷◌, Result, OnOk, OnErr, IsErrOf, None, ◌⊎◌}
+-- What a commit makes of a tree's files, and what removals of files leave of them.
+use Rattle.std.specs.Prelude.{◌≡◌, ◌≢◌, ℕ, true, false, List, [], ◌∷◌, Result, OnOk, OnErr, IsErrOf, ◌⊎◌}
 use Rattle.std.specs.List.{AllByRecursion}
 use Rattle.lsm_below.specs.declared.error.Error.{Error}
 use Rattle.lsm_below.specs.declared.error.Error.TheVariants.{CommitUnknown}
 use Rattle.lsm_store.specs.World.{World}
 use Rattle.lsm_tables.specs.Tables.{SeenTable}
+use Rattle.lsm_model.specs.Steps.{among}
 use Rattle.lsm_versions.specs.Levels.{SeenVersion, all_of}
+use Rattle.lsm_manifest.specs.Names.{table_name}
 use Rattle.lsm_files.specs.Stored.{IsStored, AreOnDisk, Leaves}
 
 -- after Ok the next version alone is stored, and where the outcome is unknown both are; a crash meanwhile leaves either of
@@ -23,3 +25,16 @@ CommitsStored next old new r = (latest : SeenVersion) (written : List SeenTable)
 -- whatever versions with other ids are stored, they stay so, and a crash meanwhile leaves one of them
 abbrev pub SparesStored : ℕ → World → World → Type 0
 SparesStored id old new = (versions : List SeenVersion) (written : List SeenTable) → IsStored old versions written → AllByRecursion (λ v. v.id ≢ id) versions → IsStored new versions written × Leaves old new versions
+
+-- the name of the file of no table of these ids
+abbrev pub IsNoneOf : List ℕ → List ℕ → Type 0
+IsNoneOf ids n = (i : ℕ) → among ids i ≡ true → n ≢ table_name i
+
+-- no table has one of these ids
+abbrev pub AreOthers : List ℕ → List SeenTable → Type 0
+AreOthers ids tables = AllByRecursion (λ t. among ids t.id ≡ false) tables
+
+-- whatever versions and written tables are stored, none of them with a table of these ids, they stay so, and a crash meanwhile
+-- leaves one of the versions
+abbrev pub SparesTables : List ℕ → World → World → Type 0
+SparesTables ids old new = (versions : List SeenVersion) (written : List SeenTable) → IsStored old versions written → AllByRecursion (λ v. AreOthers ids (all_of v.levels)) versions → AreOthers ids written → IsStored new versions written × Leaves old new versions

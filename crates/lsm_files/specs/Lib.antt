@@ -1,3 +1,4 @@
 pub mod Stored
 pub mod Writing
+pub mod Contents
 pub mod Commits

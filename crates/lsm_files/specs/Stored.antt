@@ -1,5 +1,5 @@
 -- What a crash leaves of the files of an open tree.
-use Rattle.std.specs.Prelude.{◌≡◌, ℕ, ◌+◌, ◌-◌, ◌<◌, ◌^◌, min, List, Option, Some, None, Result, IsErrOf, codes}
+use Rattle.std.specs.Prelude.{◌≡◌, ◌↔◌, ℕ, ◌+◌, ◌-◌, ◌<◌, ◌^◌, min, List, Option, Some, None, Result, IsErrOf, codes}
 use Rattle.std.specs.List.{AllByRecursion}
 use Rattle.lsm_below.specs.Members.{IsIn}
 use Rattle.lsm_below.specs.declared.error.Error.{Error}
@@ -52,7 +52,12 @@ pub record IsStored (w : World) (versions : List SeenVersion) (unnamed : List Se
   pub no_version : (c : Option (List ℕ)) → w.may (codes "version") c → c ≡ None
   pub in_tables : (n : List ℕ) (c : Option (List ℕ)) → kind_of n ≡ Refused → w.may n c → c ≡ None
 
--- ---- what a crash leaves
+-- ---- what stays, and what a crash leaves
+
+-- of the names of this kind nothing has changed
+pub record Keeps (P : List ℕ → Type 0) (old new : World) : Type 0 where
+  pub may : (n : List ℕ) (c : Option (List ℕ)) → P n → new.may n c ↔ old.may n c
+  pub gives : (n : List ℕ) → P n → new.gives n ≡ old.gives n
 
 -- the image stands for one of these versions
 abbrev pub HoldsOneOf : List SeenVersion → Image → Type 0

@@ -1,5 +1,5 @@
 -- Tables that are written under the next ids.
-use Rattle.std.specs.Prelude.{◌≡◌, ◌≢◌, ◌↔◌, ℕ, ◌<◌, ◌≤◌, ◌^◌, List, [], flat_map, Option}
+use Rattle.std.specs.Prelude.{◌≡◌, ◌≢◌, ℕ, ◌<◌, ◌≤◌, ◌^◌, List, flat_map}
 use Rattle.std.specs.List.{AllByRecursion}
 use Rattle.lsm_below.specs.Entries.{Entry}
 use Rattle.lsm_below.specs.Runs.{IsRun}
@@ -7,7 +7,7 @@ use Rattle.lsm_store.specs.World.{Image, World}
 use Rattle.lsm_tables.specs.Tables.{SeenTable}
 use Rattle.lsm_versions.specs.Levels.{SeenVersion, range, all_of, HasOwnIds}
 use Rattle.lsm_manifest.specs.Names.{table_name}
-use Rattle.lsm_files.specs.Stored.{IsStored, Leaves}
+use Rattle.lsm_files.specs.Stored.{IsStored, Keeps, Leaves}
 
 -- the tables that hold these entries, made at this moment, under ids from first on and below next
 pub record HoldEntries (made_at : ℕ) (entries : List Entry) (first next : ℕ) (tables : List SeenTable) : Type 0 where
@@ -23,9 +23,8 @@ abbrev pub IsElsewhere : ℕ → List ℕ → Type 0
 IsElsewhere first n = (i : ℕ) → first ≤ i → i < 2 ^ 64 → n ≢ table_name i
 
 -- beside tables' files from this id on nothing has changed
-pub record KeepsElsewhere (first : ℕ) (old new : World) : Type 0 where
-  pub may : (n : List ℕ) (c : Option (List ℕ)) → IsElsewhere first n → new.may n c ↔ old.may n c
-  pub gives : (n : List ℕ) → IsElsewhere first n → new.gives n ≡ old.gives n
+abbrev pub KeepsElsewhere : ℕ → World → World → Type 0
+KeepsElsewhere first old new = Keeps (IsElsewhere first) old new
 
 -- an image in which each name beside them has what it could have before
 abbrev pub IsKeptElsewhere : ℕ → World → Image → Type 0

@@ -4,17 +4,20 @@
 //! | Module | Holds |
 //! |-|-|
 //! | `stored` | what a crash leaves of a tree's files, as contracts of functions |
+//! | `contents` | files of tables that are written from their contents |
 //! | `tables` | tables that are written and on the disk |
 //! | `commit` | how a version becomes the current one |
 //! | `removal` | names that nothing needs any more |
 #![tactic(auto)]
 
 mod commit;
+mod contents;
 mod removal;
 mod stored;
 mod tables;
 
 pub use commit::commit_version;
-pub use removal::remove_version;
-pub use stored::{crashes_leave_either, crashes_leave_versions};
+pub use contents::write_contents;
+pub use removal::{remove_tables, remove_version};
+pub use stored::{crashes_leave_either, crashes_leave_versions, files_are_tables};
 pub use tables::{TABLE_TARGET, write_table, write_tables};

@@ -3,6 +3,7 @@ ghost use Rattle.std.specs.Prelude.{List};
 ghost use Rattle.lsm_tables.specs.Tables.{SeenTable};
 ghost use Rattle.lsm_versions.specs.Levels.{SeenVersion};
 ghost use Rattle.lsm_files.specs.Stored.{IsStored, AreAmong, Leaves};
+ghost use Rattle.lsm_files.specs.Contents.{FilesAreTables};
 
 use lsm_store::Store;
 
@@ -14,4 +15,9 @@ pub fn crashes_leave_versions<S: Store>(store: &S)
 /// What a crash leaves in one call or in the next one, it leaves in both together.
 pub fn crashes_leave_either<S: Store>(old: &S, mid: &S, new: &S)
     ensures { (first second both : List SeenVersion) → Leaves (S.world old.now) (S.world mid.now) first → Leaves (S.world mid.now) (S.world new.now) second → AreAmong first both → AreAmong second both → Leaves (S.world old.now) (S.world new.now) both }
+{}
+
+/// Where the contents that are written are the files of tables, under the tables' ids, the tables are on the disk.
+pub fn files_are_tables<S: Store>(store: &S)
+    ensures { FilesAreTables (S.world store.now) }
 {}

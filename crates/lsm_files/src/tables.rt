@@ -8,10 +8,11 @@ ghost use Rattle.lsm_manifest.specs.Names.{table_name};
 ghost use Rattle.lsm_files.specs.Stored.{IsTableOnDisk, AreOnDisk, CountsFaults};
 ghost use Rattle.lsm_files.specs.Writing.{HoldEntries, KeepsElsewhere, IsKeptElsewhere, KeepsStored};
 
+use crate::contents::write_file;
 use bytes::Bytes;
 use lsm_below::{Error, InternalValue, TableId};
-use lsm_manifest::{names_are_apart, table_name};
-use lsm_store::{Store, StoreError, write_synced};
+use lsm_manifest::names_are_apart;
+use lsm_store::Store;
 use lsm_tables::{Table, TableError, encode, no_image_begins_another, split_table};
 use lsm_versions::{LIMIT, cut_tables_are_runs};
 use std::alloc::Global;
@@ -64,11 +65,7 @@ pub fn write_table<S: Store>(
     ensures counts { CountsFaults (S.world store.old) (S.world store.new) result }
 {
     let file = encode(alloc, made_at, entries)?;
-    match write_synced(store, table_name(id).as_str(), &file) {
-        Ok(()) => {}
-        Err(StoreError::OutOfMemory) => return Err(Error::OutOfMemory),
-        Err(StoreError::Fault) => return Err(Error::Store),
-    }
+    write_file(store, id, &file)?;
     table_of(alloc, id, made_at, entries, file)
 }
 

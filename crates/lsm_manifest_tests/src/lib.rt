@@ -4,6 +4,7 @@
 //! |-|-|
 //! | `manifests` | the bytes of versions' files, and what they tell |
 //! | `opening` | what is opened, what is removed, and each refusal |
+//! | `files` | files of tables that are written, and removed |
 //! | `trees` | a tree that is opened over a store, its reads and writes |
 //! | `damage` | stores with a damaged file: each cut, each changed byte, each doubled section |
 //! | `recorded` | a recorded tree that is opened over a store, and the order of its tables |
@@ -18,6 +19,8 @@
 
 #[cfg(test)]
 mod damage;
+#[cfg(test)]
+mod files;
 #[cfg(test)]
 mod holding;
 #[cfg(test)]

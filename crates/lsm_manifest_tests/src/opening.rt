@@ -1,6 +1,8 @@
 // What is opened, what is removed, and each refusal.
 
-use crate::samples::{NO_TABLE, ONE_TABLE, Sections, TABLE, Told, bytes_of, file, fill, is_told};
+use crate::samples::{
+    NO_TABLE, ONE_TABLE, Sections, TABLE, Told, bytes_of, file, fill, has, is_told,
+};
 use lsm_below::Error;
 use lsm_manifest::{
     get_current_version, open_files, persist_version, recover, table_name, version_name,
@@ -14,22 +16,6 @@ const FIRST: [u8; 25] = [
     0, 0, 0, 0, 0, 0, 0, 0, 0x4a, 0xbb, 0x83, 0x9b, 0x26, 0x16, 0x00, 0x78, 0x47, 0xe4, 0x4e, 0x4c,
     0x82, 0x30, 0xc0, 0x1d, 0,
 ];
-
-/// Whether the store has these bytes under the name.
-fn has(
-    alloc: Global,
-    store: &mut MemStore,
-    name: &str,
-    bytes: Option<&[u8]>,
-) -> Result<bool, StoreError> {
-    Ok(match store.read(alloc, name)? {
-        Some(found) => match bytes {
-            Some(bytes) => found.as_slice() == bytes,
-            None => false,
-        },
-        None => bytes.is_none(),
-    })
-}
 
 fn change(store: &mut MemStore, changes: &[(&str, Option<&[u8]>)]) -> Result<(), StoreError> {
     for (name, bytes) in changes {

@@ -132,3 +132,19 @@ pub fn fill(alloc: Global, store: &mut MemStore, file: &Sections<'_>) -> Result<
     )?;
     store.replace("tables/3", &TABLE)
 }
+
+/// Whether the store has these bytes under the name.
+pub fn has(
+    alloc: Global,
+    store: &mut MemStore,
+    name: &str,
+    bytes: Option<&[u8]>,
+) -> Result<bool, StoreError> {
+    Ok(match store.read(alloc, name)? {
+        Some(found) => match bytes {
+            Some(bytes) => found.as_slice() == bytes,
+            None => false,
+        },
+        None => bytes.is_none(),
+    })
+}

@@ -1,4 +1,4 @@
-use Rattle.std.proofs.Common.{List, ℕ, [], ◌++◌, ap, ◌∙◌}
+use Rattle.std.proofs.Common.{List, ℕ, [], ◌++◌, ap}
 use Rattle.lsm_files.proofs.Tabled.{table_is}
 use Rattle.lsm_files.proofs.tables.table_of.Goals as goal
 

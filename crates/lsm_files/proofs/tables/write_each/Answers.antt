@@ -1,11 +1,11 @@
-use Rattle.std.proofs.Common.{◌≡◌, ◌++◌, ◌∷◌, [], ◌+◌, List, length, ◌∙◌, sym, ap, subst, arith}
+use Rattle.std.proofs.Common.{◌≡◌, ◌++◌, ◌∷◌, [], ◌+◌, List, length, sym, subst, arith}
 use Rattle.std.proofs.lemmas.Bool.{eqb-true}
 use Rattle.std.proofs.lemmas.List.{nil_from_length}
-use Rattle.lsm_below.specs.Each.{each_append}
 use Rattle.lsm_tables.specs.Tables.{SeenTable}
 use Rattle.lsm_files.specs.declared.tables.TheConstants.{TABLE_TARGET}
-use Rattle.lsm_files.specs.Stored.{IsTableOnDisk}
-use Rattle.lsm_files.proofs.Tabled.{IsUnderway, KeepsFiles, underway_none, underway_more, all_written, files_none, keeps_more, leaves_more, on_disk_more}
+use Rattle.lsm_files.specs.Stored.{IsTableOnDisk, AreOnDisk}
+use Rattle.lsm_files.proofs.NextFiles.{files_none, leaves_more, files_more}
+use Rattle.lsm_files.proofs.Tabled.{IsUnderway, each_push, underway_none, underway_more, all_written, tables_stay}
 use Rattle.lsm_files.proofs.tables.write_each.Goals as goal
 
 pub loop-rest-init : goal.loop-rest-init
@@ -14,7 +14,8 @@ loop-rest-init g c =
     let none = sym c.new-tables.ensures.items in
     record {
       written = subst (λ (ts : List SeenTable). IsUnderway TABLE_TARGET c.args.made_at c.args.next.now c.args.next.now c.args.entries.now ts c.args.entries.now) none (underway_none TABLE_TARGET c.args.made_at c.args.next.now c.args.entries.now c.requires);
-      files = subst (λ (ts : List SeenTable). KeepsFiles g.S.Store.tells c.args.next.now (w c.args.store.now) (w c.args.store.now) ts) none (files_none g.S.Store.tells c.args.next.now (w c.args.store.now) (λ tells. g.met.S.Store.only_now tells c.args.store.now));
+      on_disk = λ tells. subst (λ (ts : List SeenTable). AreOnDisk (w c.args.store.now) ts) none tt;
+      files = files_none g.S.Store.tells c.args.next.now (w c.args.store.now) (λ tells. g.met.S.Store.only_now tells c.args.store.now);
     }
 
 pub returns-in_err-push-clause-any_moment : goal.returns-in_err-push-clause-any_moment
@@ -35,20 +36,15 @@ loop-rest-preserved g c =
     let mid = w at.store in
     let new = w c.write_table.new.store in
     let written = at.invariant.written in
-    let files = at.invariant.files in
     let below = c.if-id-ge-LIMIT.false in
     let made = c.in_ok-write_table.ensures in
     let pushed : c.push.new.self.items ≡ at.tables.items ++ t ∷ [] = c.in_ok-push.ensures.items in
-    let more : KeepsFiles g.S.Store.tells first old new (at.tables.items ++ t ∷ []) = record {
-      keeps = λ tells. keeps_more first at.next old mid new written.rises (omega arith) (files.keeps tells) (made.keeps tells);
-      leaves = λ tells. leaves_more first at.next old mid new written.rises (omega arith) (files.keeps tells) (files.leaves tells) (made.any_moment tells);
-      on_disk = λ tells. each_append (IsTableOnDisk new) at.tables.items (t ∷ []) (on_disk_more first at.next old mid new written.rises (omega arith) c.names_are_apart.ensures.tables (made.keeps tells) at.tables.items written.below (files.on_disk tells)) (made.on_disk tells, tt);
-      failures = made.counts.none (λ e. absurd (cc e)) (λ e. absurd (cc e)) ∙ files.failures;
-    } in
     record {
       written = subst (λ (ts : List SeenTable). IsUnderway TABLE_TARGET c.args.made_at first (at.next + 1) c.args.entries.now ts c.split_table.result.1.now) (sym pushed)
           (underway_more TABLE_TARGET c.args.made_at first at.next c.args.entries.now at.tables.items at.rest.now c.split_table.result.0.now c.split_table.result.1.now t written made.table c.split_table.ensures.writable c.split_table.ensures.cut);
-      files = subst (λ (ts : List SeenTable). KeepsFiles g.S.Store.tells first old new ts) (sym pushed) more;
+      on_disk = λ tells. subst (λ (ts : List SeenTable). AreOnDisk new ts) (sym pushed)
+          (each_push (IsTableOnDisk new) at.tables.items t (tables_stay c.names_are_apart.ensures.tables at.next (omega arith) mid new (made.keeps tells) at.tables.items written.below (at.invariant.on_disk tells)) (made.on_disk tells));
+      files = files_more first at.next old mid new written.rises (omega arith) g.S.Store.tells at.invariant.files made.keeps made.any_moment (made.counts.none (λ e. absurd (cc e)) (λ e. absurd (cc e)));
     }
 
 pub returns-clause-tables : goal.returns-clause-tables

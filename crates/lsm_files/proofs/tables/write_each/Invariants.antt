@@ -1,6 +1,8 @@
 use Rattle.std.proofs.Common.{length}
 use Rattle.lsm_files.specs.declared.tables.TheConstants.{TABLE_TARGET}
-use Rattle.lsm_files.proofs.Tabled.{IsUnderway, KeepsFiles}
+use Rattle.lsm_files.specs.Stored.{AreOnDisk}
+use Rattle.lsm_files.proofs.NextFiles.{KeepsFiles}
+use Rattle.lsm_files.proofs.Tabled.{IsUnderway}
 use Rattle.lsm_files.proofs.tables.write_each.Given as goal
 
 abbrev pub invariant-loop-rest : goal.invariant-loop-rest
@@ -8,7 +10,8 @@ invariant-loop-rest g l =
     let w = g.S.Store.world in
     record {
       written : IsUnderway TABLE_TARGET l.made_at l.fn.next l.next l.entries l.tables.items l.rest;
-      files : KeepsFiles g.S.Store.tells l.fn.next (w l.fn.store) (w l.store) l.tables.items;
+      on_disk : g.S.Store.tells → AreOnDisk (w l.store) l.tables.items;
+      files : KeepsFiles g.S.Store.tells l.fn.next (w l.fn.store) (w l.store);
     }
 
 abbrev pub decreases-loop-rest : goal.decreases-loop-rest
