@@ -45,7 +45,7 @@ fn leaves(
 fn contents_are_written(rt: HostRuntime) -> Result<(), Fail> {
     let mut store = MemStore::new(rt.alloc());
     let (ids, next) = write(rt.alloc(), &mut store, 5)?;
-    assert!(rt; ids.as_slice() == [5, 6] && next == 7);
+    assert!(rt; ids.as_slice() == [5, 6].as_slice() && next == 7);
     assert!(rt; leaves(rt.alloc(), &store, "tables/5", Some(b"a"))?);
     assert!(rt; leaves(rt.alloc(), &store, "tables/6", Some(b"b"))?);
     drop(store);
