@@ -1,5 +1,5 @@
 // The open merges of a tree.
-ghost use Rattle.std.specs.Prelude.{◌≡◌, ℕ, true, false, List, [], ◌∷◌, ◌++◌, IfOk, OnOk, OnErr, IsTrue, ◌↔◌, MatchOption, ◌<◌, length};
+ghost use Rattle.std.specs.Prelude.{◌≡◌, ℕ, true, false, not, ◌&&◌, List, [], ◌∷◌, ◌++◌, IfOk, OnOk, OnErr, IsTrue, ◌↔◌, MatchOption, ◌<◌, length};
 ghost use Rattle.std.specs.List.{HoldsAt};
 ghost use Rattle.lsm_model.specs.Steps.{among};
 ghost use Rattle.lsm_merges.specs.OpenMerges.{IsMergeOf, IsOpenIn, AreOpen, hides, numbers_of, without};
@@ -68,6 +68,13 @@ fn place_of(merges: &[OpenMerge], number: u64) -> Option<usize>
         (λ at. (at < length merges.now) × HoldsAt (λ m. m.number ≡ number) merges.now at) }
 {
     merges.iter().position(|merge| merge.number == number)
+}
+
+/// Takes the tables of a merge out of those that are in use.
+fn show_tables(state: &mut CompactionState, merge: &OpenMerge)
+    ensures { (i : ℕ) → among state.new i ≡ (among state.old i && not (among merge.now.ids i)) }
+{
+    state.hidden_set_mut().show(&merge.ids);
 }
 
 /// The open merges of a tree, in the order in which they were opened, and the tables that they work on. Each has its own
@@ -173,7 +180,7 @@ impl OpenMerges {
     {
         if let Some(at) = place_of(&self.merges, number) {
             let merge = self.merges.remove(at);
-            self.state.hidden_set_mut().show(&merge.ids);
+            show_tables(&mut self.state, &merge);
         }
     }
 }

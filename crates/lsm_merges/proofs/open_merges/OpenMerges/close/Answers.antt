@@ -1,6 +1,5 @@
-use Rattle.std.proofs.Common.{◌≡◌, ℕ, ◌<◌, ◌&&◌, not, List, length, get_or, sym, subst, ap, ap₂, ◌∙◌}
+use Rattle.std.proofs.Common.{◌≡◌, ◌<◌, List, length, get_or, sym, subst, ap, ◌∙◌}
 use Rattle.lsm_merges.specs.OpenMerges.{SeenOpenMerge, AreHidden, without}
-use Rattle.lsm_model.specs.Steps.{among}
 use Rattle.lsm_merges.proofs.OpenMergesLemmas.{one_less, removed_is_without}
 use Rattle.lsm_merges.proofs.open_merges.OpenMerges.close.Goals as goal
 
@@ -9,7 +8,7 @@ invariant_of-self c =
     let merges = c.self.inside.merges.items in
     let at = c.in-Some.at in
     let within : at < length merges = subst (λ (ms : List SeenOpenMerge). at < length ms) c.deref.ensures.value c.in-Some.ensures.0 in
-    subst (AreHidden c.show.new.self) (sym c.remove-merge.ensures.items) (one_less c.self.inside.state c.show.new.self merges at c.remove-merge.result within c.remove-merge.ensures.value c.self.invariant (λ i. c.show.ensures i ∙ ap₂ (λ (hidden : List ℕ) (merge : SeenOpenMerge). among hidden i && not (among merge.ids i)) c.hidden_set_mut.ensures.value c.merge.view_is))
+    subst (AreHidden c.show_tables.new.state) (sym c.remove-merge.ensures.items) (one_less c.self.inside.state c.show_tables.new.state merges at c.remove-merge.result within c.remove-merge.ensures.value c.self.invariant c.show_tables.ensures)
 
 pub returns-in-Some : goal.returns-in-Some
 returns-in-Some c =
