@@ -34,6 +34,8 @@ pub enum Kind {
 /// Why a choice is declined.
 #[derive(Clone, Copy, Debug, PartialEq, Eq)]
 pub enum Why {
+    /// No open job of the tree is this one.
+    UnknownJob,
     /// A table is in use.
     Hidden,
     /// A table isn't there.

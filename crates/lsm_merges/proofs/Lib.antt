@@ -2,3 +2,4 @@ pub mod Underway
 pub mod RunEntries
 pub mod Chosen
 pub mod MadeTables
+pub mod OpenMergesLemmas

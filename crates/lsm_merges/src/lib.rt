@@ -8,11 +8,13 @@
 //! | `writing` | what a source gives, as the contents of tables' files |
 //! | `merging` | what a compaction keeps of runs, as the contents of files |
 //! | `jobs` | the job of a merge, and what it makes |
+//! | `open_merges` | the merges that a tree has open, and the tables that they work on |
 #![tactic(auto)]
 
 mod inputs;
 mod jobs;
 mod merging;
+mod open_merges;
 mod settings;
 mod source;
 mod writing;
@@ -20,5 +22,6 @@ mod writing;
 pub use inputs::chosen_inputs;
 pub use jobs::{CompactionJob, MergedCompaction};
 pub use merging::merge_runs;
+pub use open_merges::OpenMerges;
 pub use settings::MergeSettings;
 pub use source::RunSource;

@@ -4,7 +4,7 @@
 //! |-|-|
 //! | `choices` | why a choice of tables is declined, when it begins and when it ends |
 //! | `changes` | merged and moved tables, and when there is no next version |
-//! | `merges` | merges outside a tree |
+//! | `merges` | merges outside a tree, and those that are open |
 //! | `versions` | next versions, and what a version tells of its tables |
 //! | `hidden_sets` | hidden tables |
 //! | `samples` | holds no test: what the others make tables and versions by |

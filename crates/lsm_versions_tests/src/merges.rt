@@ -1,8 +1,8 @@
 // Merges outside a tree.
 use crate::samples::{Row, hidden, ids, version};
-use lsm_below::TableId;
+use lsm_below::{SeqNo, TableId};
 use lsm_choices::{Kind, first_reason};
-use lsm_merges::{CompactionJob, MergeSettings, MergedCompaction, chosen_inputs};
+use lsm_merges::{CompactionJob, MergeSettings, MergedCompaction, OpenMerges, chosen_inputs};
 use lsm_tables::Table;
 use lsm_versions::Version;
 use std::alloc::Global;
@@ -11,27 +11,41 @@ use std::test::Fail;
 
 const THREE: [Row; 3] = [(0, 2, "b"), (0, 1, "a"), (6, 0, "a")];
 
-/// The merge of these tables of a version into the last level, at a watermark.
-fn merged(
+fn settings(watermark: SeqNo) -> MergeSettings {
+    MergeSettings {
+        dest_level: 6,
+        target_size: 1,
+        watermark,
+        made_at: 7,
+    }
+}
+
+/// The job of this number that merges these tables of a version into the last level, at a watermark.
+fn job(
     rt: &impl Abort,
     alloc: Global,
     version: &Version,
+    number: u64,
     list: &[TableId],
-    watermark: u64,
-) -> Result<MergedCompaction, Fail> {
+    watermark: SeqNo,
+) -> Result<CompactionJob, Fail> {
     let ids = ids(alloc, list)?;
     let why = first_reason(alloc, Kind::Merge, &ids, 6, &hidden(alloc, &[])?, version)?;
     assert!(rt; why.is_none());
     version.facts();
     let inputs = chosen_inputs(alloc, &ids, version.levels())?;
-    let settings = MergeSettings {
-        dest_level: 6,
-        target_size: 1,
-        watermark,
-        made_at: 7,
-    };
-    let job = CompactionJob::new(alloc, 3, ids, inputs, settings);
-    match job.run() {
+    Ok(CompactionJob::new(alloc, number, ids, inputs, settings(watermark)))
+}
+
+/// What such a job makes.
+fn merged(
+    rt: &impl Abort,
+    alloc: Global,
+    version: &Version,
+    list: &[TableId],
+    watermark: SeqNo,
+) -> Result<MergedCompaction, Fail> {
+    match job(rt, alloc, version, 3, list, watermark)?.run() {
         Ok(merged) => Ok(merged),
         Err((error, job)) => {
             drop(job);
@@ -70,5 +84,65 @@ fn a_merge_keeps_what_a_snapshot_may_read(rt: HostRuntime) -> Result<(), Fail> {
         drop(tables);
         assert!(rt; well);
     }
+    Ok(())
+}
+
+/// The number, the tables and the watermark of a job, and whether it is open.
+type Asked = (u64, &'static [TableId], SeqNo, bool);
+
+/// Whether each job is open or not, as it says.
+fn are_open(
+    rt: &impl Abort,
+    alloc: Global,
+    merges: &OpenMerges,
+    asked: &[Asked],
+) -> Result<bool, Fail> {
+    for (number, list, watermark, open) in asked {
+        let version = version(rt, alloc, &THREE)?;
+        let job = job(rt, alloc, &version, *number, list, *watermark);
+        drop(version);
+        let job = job?;
+        let is_open = merges.is_open(&job);
+        drop(job);
+        if is_open != *open {
+            return Ok(false);
+        }
+    }
+    Ok(true)
+}
+
+/// Whether of the tables exactly these are in use.
+fn hides(merges: &OpenMerges, list: &[TableId]) -> bool {
+    let hidden = merges.compaction_state().hidden_set();
+    (0..3).all(|id| hidden.is_hidden(id) == list.contains(&id))
+        && merges.is_compacting() == !list.is_empty()
+}
+
+#[test]
+fn a_merge_is_open_until_it_ends(rt: HostRuntime) -> Result<(), Fail> {
+    let first = ids(rt.alloc(), &[1, 0])?;
+    let second = ids(rt.alloc(), &[2])?;
+    assert!(rt; second.is_disjoint(&first));
+    let mut merges = OpenMerges::new(rt.alloc());
+    assert!(rt; hides(&merges, &[]));
+    merges.open(3, &first, settings(2))?;
+    merges.open(4, &second, settings(0))?;
+    assert!(rt; hides(&merges, &[0, 1, 2]));
+    let asked: &[Asked] = &[
+        (3, &[0, 1], 2, true),
+        (4, &[2], 0, true),
+        (4, &[0, 1], 2, false),
+        (3, &[0, 1], 1, false),
+        (3, &[0, 1, 2], 2, false),
+        (3, &[], 2, false),
+    ];
+    assert!(&rt; are_open(&rt, rt.alloc(), &merges, asked)?);
+    merges.close(3);
+    assert!(rt; hides(&merges, &[2]));
+    let asked: &[Asked] = &[(3, &[0, 1], 2, false), (4, &[2], 0, true)];
+    assert!(&rt; are_open(&rt, rt.alloc(), &merges, asked)?);
+    merges.close(3);
+    merges.close(4);
+    assert!(rt; hides(&merges, &[]));
     Ok(())
 }

@@ -1,0 +1,10 @@
+use Rattle.std.proofs.Common.{◌≡◌, true, false, List, refl, ◌∙◌, ap, rules}
+use Rattle.lsm_merges.specs.OpenMerges.{SeenOpenMerge, hides}
+use Rattle.lsm_model.specs.Steps.{among}
+use Rattle.lsm_versions_tests.proofs.merges.a_merge_is_open_until_it_ends.Goals as goal
+
+pub open-requires-2-clause-free : goal.open-requires-2-clause-free
+open-requires-2-clause-free g c = λ i h.
+    let is_disjoint : c.is_disjoint.result ≡ true = search rules in
+    let apart : among c.in_ok-first.first.keys i ≡ false = c.is_disjoint.ensures.0 is_disjoint i h in
+    ap (λ (ms : List SeenOpenMerge). hides ms i) c.in_ok-open.ensures.ok ∙ rw c.new-merges.ensures (rw apart refl)
