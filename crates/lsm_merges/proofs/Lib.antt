@@ -2,4 +2,4 @@ pub mod Underway
 pub mod RunEntries
 pub mod Chosen
 pub mod MadeTables
-pub mod OpenMergesLemmas
+pub mod Hiding

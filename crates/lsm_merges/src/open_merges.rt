@@ -1,12 +1,13 @@
 // The open merges of a tree.
-ghost use Rattle.std.specs.Prelude.{◌≡◌, ℕ, true, false, not, ◌&&◌, List, [], ◌∷◌, ◌++◌, IfOk, OnOk, OnErr, IsTrue, ◌↔◌, MatchOption, ◌<◌, length};
+ghost use Rattle.std.specs.Prelude.{◌≡◌, ◌⊎◌, ℕ, ◌≤◌, ◌&&◌, not, true, false, IfOk, IfErr, IsErrOf, OnOk, OnErr, IsTrue, ◌↔◌, MatchOption, ◌<◌, length};
 ghost use Rattle.std.specs.List.{HoldsAt};
 ghost use Rattle.lsm_model.specs.Steps.{among};
-ghost use Rattle.lsm_merges.specs.OpenMerges.{IsMergeOf, IsOpenIn, AreOpen, hides, numbers_of, without};
+ghost use Rattle.lsm_merges.specs.OpenMerges.{IsMergeOf, IsOpenIn, AreOpen, hides, no_merges, opened, ended, without};
 
 use crate::{CompactionJob, MergeSettings};
-use lsm_below::TableId;
+use lsm_below::{Error, TableId};
 use lsm_pick::CompactionState;
+use lsm_versions::LIMIT;
 use std::alloc::{AllocError, Global};
 use std::collections::HashSet;
 use std::marker::Model;
@@ -86,33 +87,36 @@ fn show_tables(state: &mut CompactionState, merge: &OpenMerge)
 /// let mut merges = OpenMerges::new(alloc);
 /// merges.open(job.number(), job.ids(), job.settings())?; // its tables are in use from here on
 /// assert!(rt; merges.is_open(&job));
-/// merges.close(job.number()); // when it ends, however it does
+/// merges.close(number); // when it ends, however it does
 /// ```
 #[derive(Drop)]
 pub struct OpenMerges {
     state: CompactionState,
     merges: Vec<OpenMerge>,
+    next: u64,
 }
 
 impl Model for OpenMerges {
-    ghost use Rattle.std.specs.Prelude.{List};
-    ghost use Rattle.lsm_merges.specs.OpenMerges.{SeenOpenMerge, AreHidden};
+    ghost use Rattle.std.specs.Prelude.{◌<◌};
+    ghost use Rattle.std.specs.List.{AllByRecursion};
+    ghost use Rattle.lsm_merges.specs.OpenMerges.{SeenMerges, AreHidden};
 
-    ghost Value = { List SeenOpenMerge };
+    ghost Value = { SeenMerges };
 
-    ghost view = { λ s. s.merges.items };
+    ghost view = { λ s. record { next = s.next; underway = s.merges.items } };
 
-    ghost invariant = { λ s. AreHidden s.state s.merges.items };
+    ghost invariant = { λ s. AreHidden s.state s.merges.items × AllByRecursion (λ m. m.number < s.next) s.merges.items };
 }
 
 impl OpenMerges {
     /// No open merges. It takes no memory.
     pub fn new(alloc: Global) -> OpenMerges
-        ensures { result ≡ [] }
+        ensures { result ≡ no_merges }
     {
         OpenMerges {
             state: CompactionState::new(alloc),
             merges: Vec::new(alloc),
+            next: 0,
         }
     }
 
@@ -125,36 +129,37 @@ impl OpenMerges {
 
     /// The tables that they work on, as strategies are told them.
     pub fn compaction_state(&self) -> &CompactionState
-        ensures { (i : ℕ) → among result.now i ≡ hides self.now i }
+        ensures { (i : ℕ) → among result.now i ≡ hides self.now.underway i }
     {
         &self.state
     }
 
     /// Whether a table is in use. The cost is constant.
     pub fn is_compacting(&self) -> bool
-        ensures { IsTrue result ↔ ((i : ℕ) × (hides self.now i ≡ true)) }
+        ensures { IsTrue result ↔ ((i : ℕ) × (hides self.now.underway i ≡ true)) }
     {
         !self.state.hidden_set().is_empty()
     }
 
-    /// Adds a merge, given its job's number, the ids of its tables and its settings. The cost is linear in the ids.
+    /// Adds a merge, given the ids of its tables and its settings, and returns its number. The cost is linear in the ids.
     ///
     /// # Errors
     ///
-    /// Refused only for want of memory, and then nothing changes.
-    pub fn open(
-        &mut self,
-        number: u64,
-        ids: &HashSet<TableId>,
-        settings: MergeSettings,
-    ) -> Result<(), AllocError>
-        requires free { (i : ℕ) → among ids.now.keys i ≡ true → hides self.old i ≡ false }
-        requires new { among (numbers_of self.old) number ≡ false }
+    /// `OutOfNumbers` where 2^63 merges were opened, and `OutOfMemory`. Refused, it changes nothing.
+    pub fn open(&mut self, ids: &HashSet<TableId>, settings: MergeSettings) -> Result<u64, Error>
+        requires free { (i : ℕ) → among ids.now.keys i ≡ true → hides self.old.underway i ≡ false }
 
+        ensures number { IfOk result (λ n. n ≡ self.old.next) }
         // The merge stands behind those that were opened before.
-        ensures ok { OnOk result (self.new ≡ self.old ++ record { number = number; ids = ids.now.keys; settings = settings } ∷ []) }
+        ensures ok { OnOk result (self.new ≡ opened ids.now.keys settings self.old) }
         ensures err { OnErr result (self.new ≡ self.old) }
+        ensures out_of_numbers { IsErrOf result Error.OutOfNumbers → LIMIT ≤ self.old.next }
+        ensures only { IfErr result (λ e. (e ≡ Error.OutOfMemory) ⊎ (e ≡ Error.OutOfNumbers)) }
     {
+        let number = self.next;
+        if number >= LIMIT {
+            return Err(Error::OutOfNumbers);
+        }
         let merge = OpenMerge::new(number, ids, settings)?;
         self.merges.try_reserve(1)?;
         self.state.hidden_set_mut().hide(ids)?;
@@ -162,13 +167,14 @@ impl OpenMerges {
             // There is room for it.
             unreachable!()
         }
-        Ok(())
+        self.next = number + 1;
+        Ok(number)
     }
 
     /// Whether a job is one of them: its number, the ids of its tables, its destination, target and watermark. The cost is
     /// linear in the merges, and in the ids of the job.
     pub fn is_open(&self, job: &CompactionJob) -> bool
-        ensures { IsTrue result ↔ IsOpenIn job.now self.now }
+        ensures { IsTrue result ↔ IsOpenIn job.now self.now.underway }
     {
         self.merges.iter().any(|merge| merge.is_of(job))
     }
@@ -176,7 +182,7 @@ impl OpenMerges {
     /// Ends the merge of this number, where it is open: its tables aren't in use any more. The cost is linear in the merges,
     /// and in the ids of that one.
     pub fn close(&mut self, number: u64)
-        ensures { self.new ≡ without number self.old }
+        ensures { self.new ≡ ended number self.old }
     {
         if let Some(at) = place_of(&self.merges, number) {
             let merge = self.merges.remove(at);

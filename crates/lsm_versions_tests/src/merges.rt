@@ -125,24 +125,24 @@ fn a_merge_is_open_until_it_ends(rt: HostRuntime) -> Result<(), Fail> {
     assert!(rt; second.is_disjoint(&first));
     let mut merges = OpenMerges::new(rt.alloc());
     assert!(rt; hides(&merges, &[]));
-    merges.open(3, &first, settings(2))?;
-    merges.open(4, &second, settings(0))?;
+    assert_eq!(rt; merges.open(&first, settings(2))?, 0);
+    assert_eq!(rt; merges.open(&second, settings(0))?, 1);
     assert!(rt; hides(&merges, &[0, 1, 2]));
     let asked: &[Asked] = &[
-        (3, &[0, 1], 2, true),
-        (4, &[2], 0, true),
-        (4, &[0, 1], 2, false),
-        (3, &[0, 1], 1, false),
-        (3, &[0, 1, 2], 2, false),
-        (3, &[], 2, false),
+        (0, &[0, 1], 2, true),
+        (1, &[2], 0, true),
+        (1, &[0, 1], 2, false),
+        (0, &[0, 1], 1, false),
+        (0, &[0, 1, 2], 2, false),
+        (0, &[], 2, false),
     ];
     assert!(&rt; are_open(&rt, rt.alloc(), &merges, asked)?);
-    merges.close(3);
+    merges.close(0);
     assert!(rt; hides(&merges, &[2]));
-    let asked: &[Asked] = &[(3, &[0, 1], 2, false), (4, &[2], 0, true)];
+    let asked: &[Asked] = &[(0, &[0, 1], 2, false), (1, &[2], 0, true)];
     assert!(&rt; are_open(&rt, rt.alloc(), &merges, asked)?);
-    merges.close(3);
-    merges.close(4);
+    merges.close(0);
+    merges.close(1);
     assert!(rt; hides(&merges, &[]));
     Ok(())
 }

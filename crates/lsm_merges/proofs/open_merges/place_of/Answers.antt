@@ -1,6 +1,6 @@
 use Rattle.std.proofs.Common.{◌≡◌, eqb, false, rules, tests}
 use Rattle.std.proofs.lemmas.Iterator.{IsFirst-from_position, YieldsList-from_slice}
-use Rattle.lsm_merges.proofs.OpenMergesLemmas.{found_place}
+use Rattle.lsm_merges.proofs.Hiding.{found_place}
 use Rattle.lsm_merges.proofs.open_merges.place_of.Goals as goal
 
 pub returns : goal.returns

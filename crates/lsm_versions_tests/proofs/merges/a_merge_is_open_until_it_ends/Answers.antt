@@ -1,5 +1,5 @@
 use Rattle.std.proofs.Common.{◌≡◌, true, false, List, refl, ◌∙◌, ap, rules}
-use Rattle.lsm_merges.specs.OpenMerges.{SeenOpenMerge, hides}
+use Rattle.lsm_merges.specs.OpenMerges.{SeenMerges, hides}
 use Rattle.lsm_model.specs.Steps.{among}
 use Rattle.lsm_versions_tests.proofs.merges.a_merge_is_open_until_it_ends.Goals as goal
 
@@ -7,4 +7,4 @@ pub open-requires-2-clause-free : goal.open-requires-2-clause-free
 open-requires-2-clause-free g c = λ i h.
     let is_disjoint : c.is_disjoint.result ≡ true = search rules in
     let apart : among c.in_ok-first.first.keys i ≡ false = c.is_disjoint.ensures.0 is_disjoint i h in
-    ap (λ (ms : List SeenOpenMerge). hides ms i) c.in_ok-open.ensures.ok ∙ rw c.new-merges.ensures (rw apart refl)
+    ap (λ (ms : SeenMerges). hides ms.underway i) c.in_ok-open.ensures.ok ∙ rw c.new-merges.ensures (rw apart refl)

@@ -1,5 +1,5 @@
 -- Open merges: what is hidden where one is added or ends.
-use Rattle.std.proofs.Common.{◌≡◌, ℕ, ◌<◌, zero, suc, ◌||◌, ◌&&◌, not, Bool, true, false, cond, eqb, nat_eq, Option, Some, None, MatchOption, MatchBool, Decides, List, [], ◌∷◌, ◌++◌, length, get_or, take, drop, remove, refl, sym, ◌∙◌, ap, subst, inl, inr, arith}
+use Rattle.std.proofs.Common.{◌≡◌, ℕ, ◌+◌, ◌<◌, zero, suc, ◌||◌, ◌&&◌, not, Bool, true, false, cond, eqb, nat_eq, Option, Some, None, MatchOption, MatchBool, Decides, List, [], ◌∷◌, ◌++◌, length, get_or, take, drop, remove, refl, sym, ◌∙◌, ap, subst, inl, inr, arith}
 use Rattle.std.specs.List.{AllByRecursion, AllWithin, HoldsAt, IsDistinct}
 use Rattle.std.proofs.lemmas.Bool.{eq-eqb}
 use Rattle.std.proofs.lemmas.Bool.Decides.{nat_tests}
@@ -8,12 +8,13 @@ use Rattle.std.proofs.lemmas.List.Folds.{list_any-append}
 use Rattle.std.proofs.lemmas.Map.Keys.{IsDistinct-push}
 use Rattle.std.specs.Cmp.{nat_eq_equiv}
 use Rattle.std.proofs.Math.Seq.{drop-cons}
+use Rattle.lsm_below.specs.Each.{each_filter}
 use Rattle.lsm_below.specs.Members.{IsIn, each_in}
 use Rattle.lsm_below.specs.Optimizes.{EachPair}
 use Rattle.lsm_model.specs.Steps.{among}
 use Rattle.lsm_versions.specs.TableLaws.{map_append, or_none, or_parts, flips}
 use Rattle.lsm_merges.specs.Merges.{SeenCompaction}
-use Rattle.lsm_merges.specs.OpenMerges.{SeenOpenMerge, numbers_of, hides, IsMergeOf, IsOpenIn, without, ShareNoTable, AreOpen, AreHidden}
+use Rattle.lsm_merges.specs.OpenMerges.{SeenOpenMerge, numbers_of, hides, IsMergeOf, IsOpenIn, without, ShareNoTable, AreApart, AreHidden}
 
 -- ---- places
 
@@ -141,7 +142,7 @@ pub one_less : (hidden new : List ℕ) (ms : List SeenOpenMerge) (at : ℕ) (m :
 one_less hidden new ms at m lt read known step =
     seam_hidden hidden new (take at ms) (drop (suc at) ms) m (subst (AreHidden hidden) (seam_at ms at m lt read) known) step
 
-pub removed_is_without : (ms : List SeenOpenMerge) (at n : ℕ) (m : SeenOpenMerge) → at < length ms → m ≡ get_or ms at m → m.number ≡ n → AreOpen ms → remove ms at ≡ without n ms
+pub removed_is_without : (ms : List SeenOpenMerge) (at n : ℕ) (m : SeenOpenMerge) → at < length ms → m ≡ get_or ms at m → m.number ≡ n → AreApart ms → remove ms at ≡ without n ms
 removed_is_without ms at n m lt read same facts =
     let seam = seam_at ms at m lt read in
     let gone = seam_without (take at ms) (drop (suc at) ms) m (subst (λ l. IsDistinct nat_eq (numbers_of l)) seam facts.numbers) in
@@ -157,3 +158,19 @@ in_use (j ∷ js) ms empty exact is =
   where
     not_zero : (js : List ℕ) → eqb (length (j ∷ js)) 0 ≡ false
     not_zero js = grind (arith, nat_tests)
+
+-- ---- numbers
+
+pub below_next : (n : ℕ) (ms : List SeenOpenMerge) → AllByRecursion (λ m. m.number < n) ms → among (numbers_of ms) n ≡ false
+below_next n [] h = refl
+below_next n (m ∷ ms) h = ap (λ b. b || among (numbers_of ms) n) (other n m.number h.0) ∙ below_next n ms h.1
+  where
+    other : (a b : ℕ) → b < a → eqb a b ≡ false
+    other a b lt = grind (arith, nat_tests)
+
+pub below_more : (ms : List SeenOpenMerge) (m : SeenOpenMerge) (n : ℕ) → m.number ≡ n → AllByRecursion (λ x. x.number < n) ms → AllByRecursion (λ x. x.number < n + 1) (ms ++ m ∷ [])
+below_more [] m n is h = (omega (arith, is), tt)
+below_more (x ∷ ms) m n is h = let here : x.number < n = h.0 in (omega (arith, here), below_more ms m n is h.1)
+
+pub below_without : (n next : ℕ) (ms : List SeenOpenMerge) → AllByRecursion (λ x. x.number < next) ms → AllByRecursion (λ x. x.number < next) (without n ms)
+below_without n next ms h = each_filter (λ x. x.number < next) (λ m. not (eqb m.number n)) ms h
