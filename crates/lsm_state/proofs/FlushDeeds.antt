@@ -28,10 +28,10 @@ use Rattle.lsm_state.proofs.FlushSteps.{flush_step, names_older}
 
 -- ---- marks
 
-clash : false ≡ true → ⊥
+pub clash : false ≡ true → ⊥
 clash e = cc e
 
-not_kept : (s : ℕ) (more : List Event) → fold (kept_after s) false more ≡ false
+pub not_kept : (s : ℕ) (more : List Event) → fold (kept_after s) false more ≡ false
 not_kept s [] = refl
 not_kept s (Write e ∷ more) = not_kept s more
 not_kept s (Clear n ∷ more) = not_kept s more
@@ -41,7 +41,7 @@ not_kept s (Read at question told ∷ more) = not_kept s more
 not_kept s (Mark w ∷ more) = elim (ltb s w) as (λ b. fold (kept_after s) (cond b false false) more ≡ false) [ true ↦ not_kept s more | false ↦ not_kept s more ]
 
 -- no kept snapshot is below a watermark of the journal
-marked : (s w : ℕ) (journal more : List Event) → is_kept s (journal ++ (Mark w ∷ more)) ≡ true → w ≤ s
+pub marked : (s w : ℕ) (journal more : List Event) → is_kept s (journal ++ (Mark w ∷ more)) ≡ true → w ≤ s
 marked s w journal more h =
     let k : fold (kept_after s) (cond (ltb s w) false (is_kept s journal)) more ≡ true = sym (fold-append (kept_after s) true journal (Mark w ∷ more)) ∙ h in
     elim (ltb s w) as (λ b. ltb s w ≡ b → fold (kept_after s) (cond b false (is_kept s journal)) more ≡ true → w ≤ s) [
@@ -52,7 +52,7 @@ marked s w journal more h =
 latest_distinct : (c : Core) → IsKeptTree c → HasDistinctIds (placed_of c.history.latest.version.levels)
 latest_distinct c kept = distinct_placed c.history.latest.version.levels (own_behind (written_by c.flush) (all_of c.history.latest.version.levels) kept.tables.own_ids)
 
-mark_done : (w n : ℕ) (c : Core) → IsKeptTree c → (opened : List Entry) (journal : List Event) (notes : List Note) → IsDone opened (saved_of journal notes c) (Marked w) (saved_of (journal ++ Mark w ∷ []) notes (spent n c))
+pub mark_done : (w n : ℕ) (c : Core) → IsKeptTree c → (opened : List Entry) (journal : List Event) (notes : List Note) → IsDone opened (saved_of journal notes c) (Marked w) (saved_of (journal ++ Mark w ∷ []) notes (spent n c))
 mark_done w n c kept opened journal notes = record { answered = refl; certain = λ e. absurd (clash e); step = refl; distinct = latest_distinct c kept; notes = refl; others = refl }
 
 -- a job that is spent is the mark alone
@@ -61,7 +61,7 @@ mark_deed w n c kept opened journal notes = (saved_of (journal ++ Mark w ∷ [])
 
 -- ---- a flush
 
-none_other : (c : Core) → c.lost ≡ None → map (λ v. placed_of v.levels) (option_to_list c.lost) ≡ []
+pub none_other : (c : Core) → c.lost ≡ None → map (λ v. placed_of v.levels) (option_to_list c.lost) ≡ []
 none_other c certain = ap (λ o. map (λ v. placed_of v.levels) (option_to_list o)) certain
 
 module _ (law : FlushesAreSteps) (job : SeenWritten) (c : Core) (kept : IsKeptTree c) (certain : c.lost ≡ None) (written : IsWrittenFrom job.job job.watermark job.tables) (current : IsCurrent job c) (next : SuperVersion) (flushed : IsFlushed job (spent job.job.number c) next) where

@@ -30,7 +30,7 @@ all_drop P (suc n) [] h = h
 all_drop P (suc n) (i ∷ ids) h = all_drop P n ids h.1
 
 -- what holds of tables holds of the same in another order
-each_permuted : (P : SeenTable → Type 0) (xs ys : List SeenTable) → IsPermutation xs ys → AllByRecursion P xs → AllByRecursion P ys
+pub each_permuted : (P : SeenTable → Type 0) (xs ys : List SeenTable) → IsPermutation xs ys → AllByRecursion P xs → AllByRecursion P ys
 each_permuted P xs ys p h = recursion_from_All P ys (All-permutation P xs ys p (All-from_recursion P xs h))
 
 module _ (job : SeenWritten) (number : ℕ) (h : SeenHistory) (next : SuperVersion) (flushed : IsFlushedOf job number h.latest next) where

@@ -25,3 +25,5 @@ pub mod Standing
 pub mod StandingImages
 pub mod Those
 pub mod WholeFlushes
+pub mod Replacing
+pub mod CompactionDeeds

@@ -9,12 +9,14 @@ use Rattle.lsm_parts.specs.declared.version.super_version.SuperVersion.{SuperVer
 use Rattle.lsm_memtable.specs.Memtables.{SeenMemtable, new_memtable}
 use Rattle.lsm_tables.specs.Tables.{SeenTable}
 use Rattle.lsm_jobs.specs.Jobs.{SeenOpen}
+use Rattle.lsm_merges.specs.OpenMerges.{SeenMerges, no_merges}
 use Rattle.lsm_versions.specs.Levels.{SeenVersion, empty_levels, placed_of}
 use Rattle.lsm_parts.specs.History.{SeenHistory, first_version, rotated}
 use Rattle.lsm_state.specs.Held.{entries_of, put_first, put_all_first}
 
 -- a tree: its configuration, its memtables, the active one first, its super versions, the ids and job numbers that it draws
--- next, the moment at which tables are made, its counters, its open flush, and the version of a commit of unknown outcome
+-- next, the moment at which tables are made, its counters, its open flush, the version of a commit of unknown outcome, and
+-- its open merges
 pub record Core : Type 0 where
   pub config : Config
   pub memtables : List SeenMemtable
@@ -27,6 +29,7 @@ pub record Core : Type 0 where
   pub visible_seqno : ℕ
   pub flush : Option SeenOpen
   pub lost : Option SeenVersion
+  pub merges : SeenMerges
 
 -- a tree beside its store
 pub record Seen (S : Type 0) : Type 0 where
@@ -67,7 +70,7 @@ written_of c = written_by c.flush
 
 -- a tree as it opens with a version: its memtable is empty, and nothing older is there
 abbrev pub opened_core : Config → SeenVersion → ℕ → Core
-opened_core config version next_table = record { config = config; memtables = new_memtable 0 ∷ []; history = record { latest = first_version version; older = [] }; next_memtable = 1; next_table = next_table; next_job = 0; moment = 0; seqno = config.seqno; visible_seqno = config.visible_seqno; flush = None; lost = None }
+opened_core config version next_table = record { config = config; memtables = new_memtable 0 ∷ []; history = record { latest = first_version version; older = [] }; next_memtable = 1; next_table = next_table; next_job = 0; moment = 0; seqno = config.seqno; visible_seqno = config.visible_seqno; flush = None; lost = None; merges = no_merges }
 
 -- a new tree: one empty memtable, and a version without tables
 abbrev pub fresh_core : Config → Core

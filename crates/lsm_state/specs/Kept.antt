@@ -4,6 +4,7 @@ use Rattle.std.specs.List.{AllByRecursion}
 use Rattle.lsm_tables.specs.Cutting.{IsWritable}
 use Rattle.lsm_versions.specs.Levels.{all_of, HasOwnIds}
 use Rattle.lsm_jobs.specs.Jobs.{SeenOpen}
+use Rattle.lsm_merges.specs.OpenMerges.{AreOpen}
 use Rattle.lsm_memtable.specs.Memtables.{SeenMemtable}
 use Rattle.lsm_parts.specs.declared.version.super_version.SuperVersion.{SuperVersion}
 use Rattle.lsm_parts.specs.History.{SeenHistory, versions_of, AreLaid}
@@ -72,3 +73,5 @@ pub record IsKeptTree (c : Core) : Type 0 where
   pub tables : KeepsTables c.flush c.history c.next_table
   -- each version has seven levels, whose tables are laid out
   pub laid : AreLaid (versions_of c.history)
+  -- open merges
+  pub merges : AreOpen c.merges

@@ -17,3 +17,6 @@ pub mod Flushes
 pub mod FlushLaws
 pub mod WholeFlushes
 pub mod FlushReads
+pub mod Settling
+pub mod Compactions
+pub mod CompactionDeeds

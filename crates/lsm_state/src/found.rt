@@ -10,6 +10,7 @@ ghost use Rattle.lsm_state.specs.Opened.{files_told, store_left, StartsFrom};
 use crate::{Memtables, TreeState};
 use lsm_below::Error;
 use lsm_manifest::{Found as FoundFiles, finish_opening};
+use lsm_merges::OpenMerges;
 use lsm_parts::{Config, SequenceNumberCounter, SuperVersions, Version};
 use lsm_store::Store;
 use std::alloc::Global;
@@ -80,6 +81,7 @@ impl<S: Store> Found<S> {
                     visible_seqno: SequenceNumberCounter::new(config.visible_seqno),
                     flush: None,
                     lost: None,
+                    merges: OpenMerges::new(alloc),
                 })
             }
             Err(error) => Err((error, store)),

@@ -1,12 +1,14 @@
-// What the list of a read over many keys is, as the contract of a function.
+// What lists of reads, flushes and compactions are to the theory, as contracts of functions.
+ghost use Rattle.lsm_state.specs.CompactionDeeds.{CompactionsAreDeeds};
 ghost use Rattle.lsm_state.specs.FlushLaws.{FlushesAreDeeds};
 ghost use Rattle.lsm_state.specs.FlushReads.{FlushesKeepReads};
 ghost use Rattle.lsm_state.specs.ListSteps.{ListsAreSteps};
 ghost use Rattle.lsm_state.specs.Ranges.{CountingIsOverlaid, RangesAreOverlaid, PrefixesAreOverlaid};
 
+use lsm_choices::merges_of_inputs_are_steps;
 use lsm_iter::shown_is_the_view;
 use lsm_model::{parts_are_whole, reads_are_sound};
-use lsm_versions::flushes_are_steps;
+use lsm_versions::{drops_are_steps, flushes_are_steps, moves_are_steps};
 
 /// The list of what a super version shows under an index is that of its view by tops, with the index laid over it.
 /// Of a tree, of which `TreeState::facts` holds, it is so where no key and sequence number stand in two of its sources.
@@ -41,4 +43,14 @@ pub fn flushes_keep_reads()
     ensures { FlushesKeepReads }
 {
     reads_are_sound();
+}
+
+/// Of a tree, of which `TreeState::facts` holds, each call of a compaction is deeds of the theory of crashes: a merge, a move
+/// or a drop that is installed, or of unknown outcome, and else nothing but the mark of its beginning.
+pub fn compactions_are_deeds()
+    ensures { CompactionsAreDeeds }
+{
+    merges_of_inputs_are_steps();
+    moves_are_steps();
+    drops_are_steps();
 }

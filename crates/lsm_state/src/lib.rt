@@ -14,10 +14,13 @@
 //! | `flush` | the calls of a flush, up to its tables |
 //! | `register` | how a flush is installed |
 //! | `flushes` | a flush in one call |
-//! | `laws` | what reads and flushes are to the theory |
+//! | `compaction` | what the calls of a compaction take and answer |
+//! | `settling` | how a version takes the place of the latest one, outside a flush |
+//! | `laws` | what reads, flushes and compactions are to the theory |
 #![tactic(auto)]
 
 mod commit;
+mod compaction;
 mod counted;
 mod flush;
 mod flushes;
@@ -28,11 +31,16 @@ mod opening;
 mod ranges;
 mod reads;
 mod register;
+mod settling;
 mod tree;
 mod writes;
 
+pub use compaction::{Begun, Finished, Options};
 pub use found::Found;
-pub use laws::{flushes_are_deeds, flushes_keep_reads, lists_are_steps, ranges_are_overlaid};
+pub use laws::{
+    compactions_are_deeds, flushes_are_deeds, flushes_keep_reads, lists_are_steps,
+    ranges_are_overlaid,
+};
 pub use lsm_below::{MAX_KEY_LEN, MAX_VALUE_LEN};
 use memtables::Memtables;
 pub use tree::TreeState;

@@ -1,7 +1,9 @@
 // The tree: memtables by id, a history of super versions, and its counters.
-ghost use Rattle.std.specs.Prelude.{◌≡◌, ◌+◌, ◌≤◌, ◌↔◌, ◌⊎◌, [], None, Some, IfOk, IfErr, OnOk, OnErr, IsErrOf};
+ghost use Rattle.std.specs.Prelude.{◌≡◌, ℕ, ◌+◌, ◌≤◌, ◌↔◌, ◌⊎◌, true, [], None, Some, IsTrue, IfOk, IfErr, OnOk, OnErr, IsErrOf};
 ghost use Rattle.std.specs.Borrow.{sem};
 ghost use Rattle.std.specs.Option.{is_some};
+ghost use Rattle.lsm_model.specs.Steps.{among};
+ghost use Rattle.lsm_merges.specs.OpenMerges.{hides};
 ghost use Rattle.lsm_parts.specs.History.{found_version};
 ghost use Rattle.lsm_versions.specs.declared.version.TreeType.TheVariants.{Standard};
 ghost use Rattle.lsm_state.specs.Deeds.{IsNoDeed};
@@ -11,9 +13,11 @@ ghost use Rattle.lsm_state.specs.Held.{HasFirst, first_entries};
 use crate::Memtables;
 use lsm_below::{MemtableId, SeqNo, TableId, TreeId};
 use lsm_jobs::OpenFlush;
+use lsm_merges::OpenMerges;
 use lsm_parts::{
     Config, Error, LIMIT, Memtable, SequenceNumberCounter, SuperVersion, SuperVersions, Version,
 };
+use lsm_pick::CompactionState;
 use lsm_store::{MemStore, Store};
 use lsm_versions::TreeType;
 use std::alloc::Global;
@@ -45,6 +49,7 @@ pub struct TreeState<S: Store = MemStore> {
     pub(crate) flush: Option<OpenFlush>,
     /// The version of a commit of unknown outcome.
     pub(crate) lost: Option<Version>,
+    pub(crate) merges: OpenMerges,
 }
 
 impl<S: Store> Model for TreeState<S> {
@@ -53,7 +58,7 @@ impl<S: Store> Model for TreeState<S> {
 
     ghost Value = { Seen S };
 
-    ghost view = { λ t. record { store = t.store; core = record { config = t.config; memtables = t.memtables; history = t.history; next_memtable = t.next_memtable; next_table = t.next_table; next_job = t.next_job; moment = t.moment; seqno = t.seqno; visible_seqno = t.visible_seqno; flush = t.flush; lost = t.lost } } };
+    ghost view = { λ t. record { store = t.store; core = record { config = t.config; memtables = t.memtables; history = t.history; next_memtable = t.next_memtable; next_table = t.next_table; next_job = t.next_job; moment = t.moment; seqno = t.seqno; visible_seqno = t.visible_seqno; flush = t.flush; lost = t.lost; merges = t.merges } } };
 
     ghost invariant = { λ t. KeepsIds t.memtables t.history t.next_memtable × KeepsTables t.flush t.history t.next_table };
 }
@@ -64,12 +69,13 @@ impl<S: Store> TreeState<S> {
     ghost use Rattle.lsm_state.specs.Lending.{LendsSeqno, LendsVisible};
 
     /// What every tree meets: its memtables' entries stand in order and fit files, ids of memtables fall and are those
-    /// that super versions name, no id of a table stands twice, and its versions are laid out.
+    /// that super versions name, no id of a table stands twice, its versions are laid out, and no table is one of two open merges.
     pub fn facts(&self)
         ensures { IsKeptTree self.now.core }
     {
         self.memtables.facts();
         self.history.facts();
+        self.merges.facts();
     }
 
     /// The counter of sequence numbers.
@@ -144,6 +150,20 @@ impl<S: Store> TreeState<S> {
         ensures { result ≡ is_some self.now.core.lost }
     {
         self.lost.is_some()
+    }
+
+    /// The tables that open merges work on, as strategies are told them.
+    pub fn compaction_state(&self) -> &CompactionState
+        ensures { (i : ℕ) → among result.now i ≡ hides self.now.core.merges.underway i }
+    {
+        self.merges.compaction_state()
+    }
+
+    /// Whether an open merge works on a table.
+    pub fn is_compacting(&self) -> bool
+        ensures { IsTrue result ↔ ((i : ℕ) × (hides self.now.core.merges.underway i ≡ true)) }
+    {
+        self.merges.is_compacting()
     }
 
     /// The memtable that is written to.

@@ -18,14 +18,14 @@ pub returns-then-number-ge-LIMIT-clause-upholds : goal.returns-then-number-ge-LI
 returns-then-number-ge-LIMIT-clause-upholds g c tells disk =
     let w = g.S.Store.world in
     let i = c.self.inside in
-    let old : Core = record { config = i.config; memtables = i.memtables; history = i.history; next_memtable = i.next_memtable; next_table = i.next_table; next_job = i.next_job; moment = i.moment; seqno = i.seqno; visible_seqno = i.visible_seqno; flush = i.flush; lost = i.lost } in
+    let old : Core = record { config = i.config; memtables = i.memtables; history = i.history; next_memtable = i.next_memtable; next_table = i.next_table; next_job = i.next_job; moment = i.moment; seqno = i.seqno; visible_seqno = i.visible_seqno; flush = i.flush; lost = i.lost; merges = i.merges } in
     subst (λ t. Upholds (w t.store) (w t.store) t.core t.core) c.self.view_is (upheld_still (w i.store) old old refl refl (c.crashes_leave_versions.ensures tells))
 
 pub returns-in_err-append_version-clause-upholds : goal.returns-in_err-append_version-clause-upholds
 returns-in_err-append_version-clause-upholds g c tells disk =
     let w = g.S.Store.world in
     let i = c.self.inside in
-    let old : Core = record { config = i.config; memtables = i.memtables; history = i.history; next_memtable = i.next_memtable; next_table = i.next_table; next_job = i.next_job; moment = i.moment; seqno = i.seqno; visible_seqno = i.visible_seqno; flush = i.flush; lost = i.lost } in
+    let old : Core = record { config = i.config; memtables = i.memtables; history = i.history; next_memtable = i.next_memtable; next_table = i.next_table; next_job = i.next_job; moment = i.moment; seqno = i.seqno; visible_seqno = i.visible_seqno; flush = i.flush; lost = i.lost; merges = i.merges } in
     let new : Core = record old { history = c.append_version.new.self } in
     subst (λ t. Upholds (w t.store) (w i.store) t.core new) c.self.view_is
     (upheld_still (w i.store) old new (ap (λ h. versions_left (record old { history = h })) c.in_err-append_version.ensures.err) refl (c.crashes_leave_versions.ensures tells))
@@ -35,7 +35,7 @@ returns-in-Ok-clause-upholds g c tells disk =
     let w = g.S.Store.world in
     let i = c.self.inside in
     let v = c.args.next.version in
-    let old : Core = record { config = i.config; memtables = i.memtables; history = i.history; next_memtable = i.next_memtable; next_table = i.next_table; next_job = i.next_job; moment = i.moment; seqno = i.seqno; visible_seqno = i.visible_seqno; flush = i.flush; lost = i.lost } in
+    let old : Core = record { config = i.config; memtables = i.memtables; history = i.history; next_memtable = i.next_memtable; next_table = i.next_table; next_job = i.next_job; moment = i.moment; seqno = i.seqno; visible_seqno = i.visible_seqno; flush = i.flush; lost = i.lost; merges = i.merges } in
     let new : Core = record old { history = c.append_version.new.self; seqno = c.set.new.self; visible_seqno = c.fetch_max.new.self } in
     let made = c.in_ok-append_version.ensures.ok in
     let seen = ap (λ sv. sv.version) c.latest_version.ensures ∙ ap (λ h. h.latest.version) made in
@@ -52,7 +52,7 @@ returns-in-Err-clause-upholds g c tells disk =
     let i = c.self.inside in
     let v = c.args.next.version in
     let e = c.in-Err.error in
-    let old : Core = record { config = i.config; memtables = i.memtables; history = i.history; next_memtable = i.next_memtable; next_table = i.next_table; next_job = i.next_job; moment = i.moment; seqno = i.seqno; visible_seqno = i.visible_seqno; flush = i.flush; lost = i.lost } in
+    let old : Core = record { config = i.config; memtables = i.memtables; history = i.history; next_memtable = i.next_memtable; next_table = i.next_table; next_job = i.next_job; moment = i.moment; seqno = i.seqno; visible_seqno = i.visible_seqno; flush = i.flush; lost = i.lost; merges = i.merges } in
     let new : Core = record old { history = c.undo_commit.new.history; seqno = c.set.new.self; lost = c.undo_commit.new.lost } in
     let made = c.in_ok-append_version.ensures.ok in
     let seen = ap (λ sv. sv.version) c.latest_version.ensures ∙ ap (λ h. h.latest.version) made in

@@ -13,7 +13,7 @@ pub returns-then-is_some-clause-upholds : goal.returns-then-is_some-clause-uphol
 returns-then-is_some-clause-upholds g c tells =
     let w = g.S.Store.world in
     let i = c.self.inside in
-    let old : Core = record { config = i.config; memtables = i.memtables; history = i.history; next_memtable = i.next_memtable; next_table = i.next_table; next_job = i.next_job; moment = i.moment; seqno = i.seqno; visible_seqno = i.visible_seqno; flush = i.flush; lost = i.lost } in
+    let old : Core = record { config = i.config; memtables = i.memtables; history = i.history; next_memtable = i.next_memtable; next_table = i.next_table; next_job = i.next_job; moment = i.moment; seqno = i.seqno; visible_seqno = i.visible_seqno; flush = i.flush; lost = i.lost; merges = i.merges } in
     subst (λ t. Upholds (w t.store) (w t.store) t.core t.core) c.self.view_is (upheld_still (w i.store) old old refl refl (c.crashes_leave_versions.ensures tells))
 
 pub invariant_of-self : goal.invariant_of-self
@@ -31,7 +31,7 @@ returns-clause-upholds g c tells =
     let w = g.S.Store.world in
     let i = c.self-2.inside in
     let now = c.args.self.now in
-    let mid : Core = record { config = i.config; memtables = i.memtables; history = i.history; next_memtable = i.next_memtable; next_table = i.next_table; next_job = i.next_job; moment = i.moment; seqno = i.seqno; visible_seqno = i.visible_seqno; flush = i.flush; lost = i.lost } in
+    let mid : Core = record { config = i.config; memtables = i.memtables; history = i.history; next_memtable = i.next_memtable; next_table = i.next_table; next_job = i.next_job; moment = i.moment; seqno = i.seqno; visible_seqno = i.visible_seqno; flush = i.flush; lost = i.lost; merges = i.merges } in
     let copied = c.in-Ok-copies.ensures ∙ c.deref.ensures.value in
     let disk = subst (AreOnDisk (w i.store)) (sym copied) (subst (λ t. AreOnDisk (w t.store) c.in-Ok.tables.items) (sym c.self-2.view_is) (c.in-Ok.ensures.on_disk tells)) in
     let before = subst (λ t. Upholds (w now.store) (w t.store) now.core t.core) (sym c.self-2.view_is) (c.in-Ok.ensures.upholds tells) in

@@ -14,14 +14,14 @@ pub returns-then-number-ge-LIMIT-clause-upholds : goal.returns-then-number-ge-LI
 returns-then-number-ge-LIMIT-clause-upholds g c tells disk =
     let w = g.S.Store.world in
     let i = c.self.inside in
-    let old : Core = record { config = i.config; memtables = i.memtables; history = i.history; next_memtable = i.next_memtable; next_table = i.next_table; next_job = i.next_job; moment = i.moment; seqno = i.seqno; visible_seqno = i.visible_seqno; flush = i.flush; lost = i.lost } in
+    let old : Core = record { config = i.config; memtables = i.memtables; history = i.history; next_memtable = i.next_memtable; next_table = i.next_table; next_job = i.next_job; moment = i.moment; seqno = i.seqno; visible_seqno = i.visible_seqno; flush = i.flush; lost = i.lost; merges = i.merges } in
     subst (λ t. Upholds (w t.store) (w t.store) t.core t.core) c.self.view_is (upheld_still (w i.store) old old refl refl (c.crashes_leave_versions.ensures tells))
 
 pub returns-in_err-next-clause-upholds : goal.returns-in_err-next-clause-upholds
 returns-in_err-next-clause-upholds g c tells disk =
     let w = g.S.Store.world in
     let i = c.self.inside in
-    let old : Core = record { config = i.config; memtables = i.memtables; history = i.history; next_memtable = i.next_memtable; next_table = i.next_table; next_job = i.next_job; moment = i.moment; seqno = i.seqno; visible_seqno = i.visible_seqno; flush = i.flush; lost = i.lost } in
+    let old : Core = record { config = i.config; memtables = i.memtables; history = i.history; next_memtable = i.next_memtable; next_table = i.next_table; next_job = i.next_job; moment = i.moment; seqno = i.seqno; visible_seqno = i.visible_seqno; flush = i.flush; lost = i.lost; merges = i.merges } in
     subst (λ t. Upholds (w t.store) (w t.store) t.core t.core) c.self.view_is (upheld_still (w i.store) old old refl refl (c.crashes_leave_versions.ensures tells))
 
 pub commit-requires-clause-ids : goal.commit-requires-clause-ids

@@ -22,7 +22,7 @@ returns-then-is_some-clause-upholds g c tells =
     let i = c.self.inside in
     let n = c.args.job.job.number in
     let spends : c.without_job.result ≡ spent_in n i.flush = c.without_job.ensures ∙ ap (λ m. spent_in m c.take-open.result) (c.number.ensures ∙ ap (λ j. j.number) c.job-2.ensures) ∙ ap (spent_in n) c.take-open.ensures.value in
-    let old : Core = record { config = i.config; memtables = i.memtables; history = i.history; next_memtable = i.next_memtable; next_table = i.next_table; next_job = i.next_job; moment = i.moment; seqno = i.seqno; visible_seqno = i.visible_seqno; flush = i.flush; lost = i.lost } in
+    let old : Core = record { config = i.config; memtables = i.memtables; history = i.history; next_memtable = i.next_memtable; next_table = i.next_table; next_job = i.next_job; moment = i.moment; seqno = i.seqno; visible_seqno = i.visible_seqno; flush = i.flush; lost = i.lost; merges = i.merges } in
     rw spends (subst (λ t. Upholds (w t.store) (w i.store) t.core (spent n old)) c.self.view_is (spent_upholds (w i.store) old n (c.crashes_leave_versions.ensures tells)))
 
 pub returns-then-is_some-clause-marks : goal.returns-then-is_some-clause-marks
@@ -40,7 +40,7 @@ install-requires g c =
     let i = c.self.inside in
     let n = c.args.job.job.number in
     let spends : c.without_job.result ≡ spent_in n i.flush = c.without_job.ensures ∙ ap (λ m. spent_in m c.take-open.result) (c.number.ensures ∙ ap (λ j. j.number) c.job-2.ensures) ∙ ap (spent_in n) c.take-open.ensures.value in
-    let old : Core = record { config = i.config; memtables = i.memtables; history = i.history; next_memtable = i.next_memtable; next_table = i.next_table; next_job = i.next_job; moment = i.moment; seqno = i.seqno; visible_seqno = i.visible_seqno; flush = i.flush; lost = i.lost } in
+    let old : Core = record { config = i.config; memtables = i.memtables; history = i.history; next_memtable = i.next_memtable; next_table = i.next_table; next_job = i.next_job; moment = i.moment; seqno = i.seqno; visible_seqno = i.visible_seqno; flush = i.flush; lost = i.lost; merges = i.merges } in
     let job = c.args.job in
     let now = c.args.self.now in
     let same : old ≡ now.core = ap (λ t. t.core) c.self.view_is in
@@ -54,7 +54,7 @@ returns-then-current-clause-upholds g c tells =
     let i = c.self.inside in
     let n = c.args.job.job.number in
     let spends : c.without_job.result ≡ spent_in n i.flush = c.without_job.ensures ∙ ap (λ m. spent_in m c.take-open.result) (c.number.ensures ∙ ap (λ j. j.number) c.job-2.ensures) ∙ ap (spent_in n) c.take-open.ensures.value in
-    let old : Core = record { config = i.config; memtables = i.memtables; history = i.history; next_memtable = i.next_memtable; next_table = i.next_table; next_job = i.next_job; moment = i.moment; seqno = i.seqno; visible_seqno = i.visible_seqno; flush = i.flush; lost = i.lost } in
+    let old : Core = record { config = i.config; memtables = i.memtables; history = i.history; next_memtable = i.next_memtable; next_table = i.next_table; next_job = i.next_job; moment = i.moment; seqno = i.seqno; visible_seqno = i.visible_seqno; flush = i.flush; lost = i.lost; merges = i.merges } in
     let job = c.args.job in
     let now = c.args.self.now in
     let same : old ≡ now.core = ap (λ t. t.core) c.self.view_is in
@@ -73,7 +73,7 @@ returns-then-current-clause-deeds g c =
     let i = c.self.inside in
     let n = c.args.job.job.number in
     let spends : c.without_job.result ≡ spent_in n i.flush = c.without_job.ensures ∙ ap (λ m. spent_in m c.take-open.result) (c.number.ensures ∙ ap (λ j. j.number) c.job-2.ensures) ∙ ap (spent_in n) c.take-open.ensures.value in
-    let old : Core = record { config = i.config; memtables = i.memtables; history = i.history; next_memtable = i.next_memtable; next_table = i.next_table; next_job = i.next_job; moment = i.moment; seqno = i.seqno; visible_seqno = i.visible_seqno; flush = i.flush; lost = i.lost } in
+    let old : Core = record { config = i.config; memtables = i.memtables; history = i.history; next_memtable = i.next_memtable; next_table = i.next_table; next_job = i.next_job; moment = i.moment; seqno = i.seqno; visible_seqno = i.visible_seqno; flush = i.flush; lost = i.lost; merges = i.merges } in
     let job = c.args.job in
     let now = c.args.self.now in
     let same : old ≡ now.core = ap (λ t. t.core) c.self.view_is in
@@ -90,7 +90,7 @@ returns-then-current-clause-lost g c unknown =
     let i = c.self.inside in
     let n = c.args.job.job.number in
     let spends : c.without_job.result ≡ spent_in n i.flush = c.without_job.ensures ∙ ap (λ m. spent_in m c.take-open.result) (c.number.ensures ∙ ap (λ j. j.number) c.job-2.ensures) ∙ ap (spent_in n) c.take-open.ensures.value in
-    let old : Core = record { config = i.config; memtables = i.memtables; history = i.history; next_memtable = i.next_memtable; next_table = i.next_table; next_job = i.next_job; moment = i.moment; seqno = i.seqno; visible_seqno = i.visible_seqno; flush = i.flush; lost = i.lost } in
+    let old : Core = record { config = i.config; memtables = i.memtables; history = i.history; next_memtable = i.next_memtable; next_table = i.next_table; next_job = i.next_job; moment = i.moment; seqno = i.seqno; visible_seqno = i.visible_seqno; flush = i.flush; lost = i.lost; merges = i.merges } in
     let job = c.args.job in
     let now = c.args.self.now in
     let same : old ≡ now.core = ap (λ t. t.core) c.self.view_is in
@@ -114,7 +114,7 @@ returns-clause-upholds g c tells =
     let i = c.self.inside in
     let n = c.args.job.job.number in
     let spends : c.without_job.result ≡ spent_in n i.flush = c.without_job.ensures ∙ ap (λ m. spent_in m c.take-open.result) (c.number.ensures ∙ ap (λ j. j.number) c.job-2.ensures) ∙ ap (spent_in n) c.take-open.ensures.value in
-    let old : Core = record { config = i.config; memtables = i.memtables; history = i.history; next_memtable = i.next_memtable; next_table = i.next_table; next_job = i.next_job; moment = i.moment; seqno = i.seqno; visible_seqno = i.visible_seqno; flush = i.flush; lost = i.lost } in
+    let old : Core = record { config = i.config; memtables = i.memtables; history = i.history; next_memtable = i.next_memtable; next_table = i.next_table; next_job = i.next_job; moment = i.moment; seqno = i.seqno; visible_seqno = i.visible_seqno; flush = i.flush; lost = i.lost; merges = i.merges } in
     rw spends (subst (λ t. Upholds (w t.store) (w i.store) t.core (spent n old)) c.self.view_is (spent_upholds (w i.store) old n (c.crashes_leave_versions.ensures tells)))
 
 pub returns-clause-marks : goal.returns-clause-marks

@@ -21,5 +21,5 @@ invariant_of-self-2 g c =
 pub returns-clause-writes : goal.returns-clause-writes
 returns-clause-writes g c =
     let i = c.self.inside in
-    let old : Core = record { config = i.config; memtables = i.memtables; history = i.history; next_memtable = i.next_memtable; next_table = i.next_table; next_job = i.next_job; moment = i.moment; seqno = i.seqno; visible_seqno = i.visible_seqno; flush = i.flush; lost = i.lost } in
+    let old : Core = record { config = i.config; memtables = i.memtables; history = i.history; next_memtable = i.next_memtable; next_table = i.next_table; next_job = i.next_job; moment = i.moment; seqno = i.seqno; visible_seqno = i.visible_seqno; flush = i.flush; lost = i.lost; merges = i.merges } in
     rw (← c.self.view_is) (batch_written c.args.ops.items old c.get-number.result c.put_batch.new.memtables c.set.new.self c.fetch_max.new.self c.self.invariant.0.active c.get-number.ensures (ap (λ ops. batch_refusal c.get-number.result ops) (sym c.deref.ensures.value) ∙ c.in_ok-check_batch.ensures.ok) c.in_ok-put_batch.ensures.ok c.set.ensures c.fetch_max.ensures)

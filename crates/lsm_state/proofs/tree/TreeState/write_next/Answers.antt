@@ -20,14 +20,14 @@ pub returns-then-is_empty-clause-upholds : goal.returns-then-is_empty-clause-uph
 returns-then-is_empty-clause-upholds g c tells =
     let w = g.S.Store.world in
     let i = c.self.inside in
-    let old : Core = record { config = i.config; memtables = i.memtables; history = i.history; next_memtable = i.next_memtable; next_table = i.next_table; next_job = i.next_job; moment = i.moment; seqno = i.seqno; visible_seqno = i.visible_seqno; flush = i.flush; lost = i.lost } in
+    let old : Core = record { config = i.config; memtables = i.memtables; history = i.history; next_memtable = i.next_memtable; next_table = i.next_table; next_job = i.next_job; moment = i.moment; seqno = i.seqno; visible_seqno = i.visible_seqno; flush = i.flush; lost = i.lost; merges = i.merges } in
     subst (λ t. Upholds (w t.store) (w t.store) t.core t.core) c.self.view_is (upheld_still (w i.store) old old refl refl (c.crashes_leave_versions.ensures tells))
 
 pub returns-then-next-ge-LIMIT-clause-upholds : goal.returns-then-next-ge-LIMIT-clause-upholds
 returns-then-next-ge-LIMIT-clause-upholds g c tells =
     let w = g.S.Store.world in
     let i = c.self.inside in
-    let old : Core = record { config = i.config; memtables = i.memtables; history = i.history; next_memtable = i.next_memtable; next_table = i.next_table; next_job = i.next_job; moment = i.moment; seqno = i.seqno; visible_seqno = i.visible_seqno; flush = i.flush; lost = i.lost } in
+    let old : Core = record { config = i.config; memtables = i.memtables; history = i.history; next_memtable = i.next_memtable; next_table = i.next_table; next_job = i.next_job; moment = i.moment; seqno = i.seqno; visible_seqno = i.visible_seqno; flush = i.flush; lost = i.lost; merges = i.merges } in
     subst (λ t. Upholds (w t.store) (w t.store) t.core t.core) c.self.view_is (upheld_still (w i.store) old old refl refl (c.crashes_leave_versions.ensures tells))
 
 pub invariant_of-self : goal.invariant_of-self
@@ -49,7 +49,7 @@ pub returns-clause-upholds : goal.returns-clause-upholds
 returns-clause-upholds g c tells =
     let w = g.S.Store.world in
     let i = c.self.inside in
-    let old : Core = record { config = i.config; memtables = i.memtables; history = i.history; next_memtable = i.next_memtable; next_table = i.next_table; next_job = i.next_job; moment = i.moment; seqno = i.seqno; visible_seqno = i.visible_seqno; flush = i.flush; lost = i.lost } in
+    let old : Core = record { config = i.config; memtables = i.memtables; history = i.history; next_memtable = i.next_memtable; next_table = i.next_table; next_job = i.next_job; moment = i.moment; seqno = i.seqno; visible_seqno = i.visible_seqno; flush = i.flush; lost = i.lost; merges = i.merges } in
     let new : Core = record old { next_table = c.set.new.self } in
     let w' = w c.write_tables-written.new.store in
     let certain = subst (λ t. t.core.lost ≡ None) (sym c.self.view_is) c.requires.certain in

@@ -1,0 +1,64 @@
+use Rattle.std.proofs.Common.{◌≡◌, ◌∷◌, true, ap, sym, subst, ◌∙◌, refl, option_to_list}
+use Rattle.lsm_versions.specs.Levels.{all_of}
+use Rattle.lsm_files.specs.Commits.{AreOthers}
+use Rattle.lsm_state.specs.Core.{Core, versions_left, written_of}
+use Rattle.lsm_state.specs.Commits.{Upholds, committed}
+use Rattle.lsm_state.specs.Cleaning.{Cleans}
+use Rattle.lsm_state.specs.Settling.{with_version}
+use Rattle.lsm_state.proofs.Upholding.{upheld_still}
+use Rattle.lsm_state.proofs.Installing.{upholds_join}
+use Rattle.lsm_state.proofs.Replacing.{settled}
+use Rattle.lsm_state.proofs.tree.TreeState.settle.Goals as goal
+
+pub returns-in_err-copy-clause-upholds : goal.returns-in_err-copy-clause-upholds
+returns-in_err-copy-clause-upholds g c tells disk =
+    let w = g.S.Store.world in
+    let i = c.self.inside in
+    let old : Core = record { config = i.config; memtables = i.memtables; history = i.history; next_memtable = i.next_memtable; next_table = i.next_table; next_job = i.next_job; moment = i.moment; seqno = i.seqno; visible_seqno = i.visible_seqno; flush = i.flush; lost = i.lost; merges = i.merges } in
+    subst (λ t. Upholds (w t.store) (w t.store) t.core t.core) c.self.view_is (upheld_still (w i.store) old old refl refl (c.crashes_leave_versions.ensures tells))
+
+pub returns-then-not-clean_up-clause-upholds : goal.returns-then-not-clean_up-clause-upholds
+returns-then-not-clean_up-clause-upholds g c tells disk =
+    let w = g.S.Store.world in
+    let now = c.args.self.now in
+    let mid = c.commit.new.self in
+    let new = c.clean_up.new.self in
+    let cleans = c.clean_up.ensures.cleans in
+    let left : versions_left new.core ≡ versions_left mid.core = ap (λ sv. sv.version ∷ option_to_list new.core.lost) cleans.history.latest ∙ ap (λ k. mid.core.history.latest.version ∷ option_to_list k.lost) cleans.rest in
+    let certain = ap (λ k. k.lost) c.in_ok-commit.ensures.commits.ok ∙ c.requires.certain in
+    upholds_join (w now.store) (w mid.store) (w new.store) now.core mid.core new.core left (c.commit.ensures.upholds tells disk) (c.clean_up.ensures.upholds tells certain)
+
+pub remove_gone-requires-clause-certain : goal.remove_gone-requires-clause-certain
+remove_gone-requires-clause-certain g c = ap (λ k. k.lost) c.clean_up.ensures.cleans.rest ∙ ap (λ k. k.lost) c.in_ok-commit.ensures.commits.ok ∙ c.requires.certain
+
+pub remove_gone-requires-clause-spares : goal.remove_gone-requires-clause-spares
+remove_gone-requires-clause-spares g c = subst (AreOthers c.args.gone.now.keys) (sym (ap written_of c.clean_up.ensures.cleans.rest ∙ ap written_of c.in_ok-commit.ensures.commits.ok)) c.requires.spares
+
+pub remove_gone-requires-clause-others : goal.remove_gone-requires-clause-others
+remove_gone-requires-clause-others g c =
+    let version = ap (λ sv. sv.version) c.clean_up.ensures.cleans.history.latest ∙ ap (λ k. k.history.latest.version) c.in_ok-commit.ensures.commits.ok in
+    subst (λ u. AreOthers c.args.gone.now.keys (all_of u.levels)) (sym version) c.requires.others
+
+pub returns-clause-settles : goal.returns-clause-settles
+returns-clause-settles g c =
+    let old = c.args.self.now.core in
+    let v = c.args.version in
+    let new = c.remove_gone.new.self.core in
+    let latest = c.latest_version-latest.result.now in
+    let number = c.get.ensures ∙ ap (λ t. t.core.seqno) c.self.view_is in
+    let next_is = ap (λ s. record { active_memtable = latest.active_memtable; sealed_memtables = s; version = v; seqno = c.get.result }) c.in_ok-copy.ensures.ok ∙ ap (with_version c.get.result v) (c.latest_version-latest.ensures ∙ ap (λ t. t.core.history.latest) c.self.view_is) ∙ ap (λ n. with_version n v old.history.latest) number in
+    let cleans : Cleans c.args.watermark true c.commit.new.self.core new = subst (Cleans c.args.watermark true c.commit.new.self.core) (sym c.remove_gone.ensures.core) c.if-not-clean_up.ensures.cleans in
+    settled v c.args.watermark c.remove_gone.result old new c.remove_gone.ensures.only (subst (λ k. Cleans c.args.watermark true k new) (c.in_ok-commit.ensures.commits.ok ∙ ap (λ sv. committed sv old) next_is) cleans)
+
+pub returns-clause-upholds : goal.returns-clause-upholds
+returns-clause-upholds g c tells disk =
+    let w = g.S.Store.world in
+    let now = c.args.self.now in
+    let mid = c.commit.new.self in
+    let new = c.clean_up.new.self in
+    let end = c.remove_gone.new.self in
+    let cleans = c.clean_up.ensures.cleans in
+    let left : versions_left new.core ≡ versions_left mid.core = ap (λ sv. sv.version ∷ option_to_list new.core.lost) cleans.history.latest ∙ ap (λ k. mid.core.history.latest.version ∷ option_to_list k.lost) cleans.rest in
+    let certain = ap (λ k. k.lost) c.in_ok-commit.ensures.commits.ok ∙ c.requires.certain in
+    let cleaned = upholds_join (w now.store) (w mid.store) (w new.store) now.core mid.core new.core left (c.commit.ensures.upholds tells disk) (c.clean_up.ensures.upholds tells certain) in
+    upholds_join (w now.store) (w new.store) (w end.store) now.core new.core end.core (ap versions_left c.remove_gone.ensures.core) cleaned (c.remove_gone.ensures.upholds tells)

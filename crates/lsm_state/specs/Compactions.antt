@@ -1,0 +1,212 @@
+-- The calls of a compaction: what each answers, and what it does.
+use Rattle.std.specs.Prelude.{◌≡◌, ◌⊎◌, ◌↔◌, ℕ, ◌+◌, ◌-◌, ◌≤◌, ◌<◌, ◌^◌, true, false, List, [], ◌∷◌, map, flat_map, Option, Some, None, IsSome, Result, Ok, Err, IfOk, IfErr, OnOk, OnErr, IsErrOf}
+use Rattle.std.specs.List.{AllByRecursion}
+use Rattle.lsm_below.specs.declared.error.Error.{Error}
+use Rattle.lsm_below.specs.declared.error.Error.TheVariants.{OutOfMemory, Store, CommitUnknown, Unrecoverable, OutOfNumbers, TooManyRuns, NotDisjoint, Busy, AfterCommit, Strategy}
+use Rattle.lsm_below.specs.Optimizes.{tables_of}
+use Rattle.lsm_model.specs.Views.{IsAllowed, IsLaidOut, IsRearranged, left_of}
+use Rattle.lsm_model.specs.Steps.{among, AllCover}
+use Rattle.lsm_tables.specs.Cutting.{IsCutting}
+use Rattle.lsm_tables.specs.Tables.{SeenTable}
+use Rattle.lsm_versions.specs.declared.config.Config.{Config}
+use Rattle.lsm_versions.specs.Levels.{SeenVersion, Levels, IsNext, Moves, PutBetween, HasOwnIds, all_of, placed_of, placed_in}
+use Rattle.lsm_versions.specs.Chosen.{Keeps}
+use Rattle.lsm_choices.specs.declared.choice.Kind.TheVariants.{Merge as AsMerge, Move as AsMove, Drop as AsDrop}
+use Rattle.lsm_choices.specs.declared.choice.Why.{Why}
+use Rattle.lsm_choices.specs.declared.choice.Why.TheVariants.{UnknownJob}
+use Rattle.lsm_choices.specs.declared.input.Input.{Input}
+use Rattle.lsm_choices.specs.Choices.{first_reason_of, IsLastReason, HoldSame, IsMovable, AreThere, AllStand}
+use Rattle.lsm_merges.specs.declared.settings.MergeSettings.{MergeSettings}
+use Rattle.lsm_merges.specs.Merges.{SeenCompaction, SeenCompacted, inputs_in, evicts, run_entries, AreKept, AreTablesOf}
+use Rattle.lsm_merges.specs.OpenMerges.{hides, IsOpenIn, opened, ended}
+use Rattle.lsm_pick.specs.declared.choice.Choice.{Choice}
+use Rattle.lsm_pick.specs.declared.choice.Choice.TheVariants.{DoNothing, Move, Merge, Drop}
+use Rattle.lsm_pick.specs.declared.choice.ChooseError.{ChooseError}
+use Rattle.lsm_pick.specs.declared.choice.ChooseError.TheVariants.{OutOfMemory as NoMemory, NotDisjoint as Several, Busy as InUse, Refused}
+use Rattle.lsm_state.specs.declared.compaction.Options.{Options}
+use Rattle.lsm_state.specs.declared.compaction.Begun.{Begun}
+use Rattle.lsm_state.specs.declared.compaction.Begun.TheVariants.{DidNothing, Declined, Installed, Job}
+use Rattle.lsm_state.specs.declared.compaction.Finished.{Finished}
+use Rattle.lsm_state.specs.declared.compaction.Finished.TheVariants.{Declined as Over, Installed as Done}
+use Rattle.lsm_state.specs.Core.{Core}
+use Rattle.lsm_state.specs.Flushes.{with_next_table}
+use Rattle.lsm_state.specs.Settling.{SettlesSome}
+
+-- ---- choices
+
+-- the levels that the latest super version reads
+abbrev pub levels_of : Core → Levels
+levels_of c = c.history.latest.version.levels
+
+-- the tables that open merges work on
+abbrev pub hidden_in : Core → List ℕ
+hidden_in c = flat_map (λ m. m.ids) c.merges.underway
+
+-- the first reason to decline a choice
+abbrev pub reason_of : Choice → Core → Option Why
+reason_of DoNothing c = None
+reason_of (Move input) c = first_reason_of AsMove input.table_ids.keys input.dest_level (hidden_in c) (levels_of c)
+reason_of (Merge input) c = first_reason_of AsMerge input.table_ids.keys input.dest_level (hidden_in c) (levels_of c)
+reason_of (Drop ids) c = first_reason_of AsDrop ids.keys 0 (hidden_in c) (levels_of c)
+
+-- ---- beginning
+
+-- what holds of a choice that no reason declines
+abbrev pub IsPossible : Choice → Core → Type 0
+IsPossible DoNothing c = Unit {0}
+IsPossible (Move input) c = (input.dest_level < 7) × IsMovable input.dest_level input.table_ids.keys (levels_of c)
+IsPossible (Merge input) c = AreThere (levels_of c) input.table_ids.keys × ((i : ℕ) → among input.table_ids.keys i ≡ true → hides c.merges.underway i ≡ false)
+IsPossible (Drop ids) c = AreThere (levels_of c) ids.keys
+
+-- how a merge is done
+abbrev pub settings_of : Input → Options → MergeSettings
+settings_of input o = record { dest_level = input.dest_level; target_size = input.target_size; watermark = o.mvcc_gc_watermark; made_at = o.moment }
+
+-- the job of a merge
+abbrev pub job_for : Input → Options → Core → SeenCompaction
+job_for input o c = record { number = c.merges.next; ids = input.table_ids.keys; inputs = inputs_in input.table_ids.keys (tables_of (levels_of c)); settings = settings_of input o }
+
+-- the tree with that merge open
+abbrev pub with_merge : Input → Options → Core → Core
+with_merge input o c = record c { merges = opened input.table_ids.keys (settings_of input o) c.merges }
+
+-- a merge becomes a job; refused, it changes nothing
+pub record OpensMerge (input : Input) (o : Options) (r : Result Begun Error) (old new : Core) : Type 0 where
+  pub job : IfOk r (λ b. b ≡ Job (job_for input o old))
+  pub ok : OnOk r (new ≡ with_merge input o old)
+  pub err : OnErr r (new ≡ old)
+  pub out_of_numbers : IsErrOf r OutOfNumbers → 2 ^ 63 ≤ old.merges.next
+  pub only : IfErr r (λ e. (e ≡ OutOfMemory) ⊎ (e ≡ OutOfNumbers))
+
+-- the version that a move makes: the tables are one run of the level
+pub record IsMovedTo (input : Input) (latest made : SeenVersion) : Type 0 where
+  pub moves : Moves input.table_ids.keys input.dest_level latest made
+  pub allowed : IsAllowed input.dest_level (among input.table_ids.keys) false (placed_of latest.levels)
+  pub laid : IsLaidOut (placed_of made.levels)
+  pub own_ids : HasOwnIds (all_of made.levels)
+
+-- the version that a drop makes: the tables are gone
+pub record IsDroppedFrom (ids : List ℕ) (latest made : SeenVersion) : Type 0 where
+  pub next : IsNext ids [] 0 latest made
+  pub placed : IsRearranged (left_of (among ids) (placed_of latest.levels)) (placed_of made.levels)
+  pub laid : IsLaidOut (placed_of made.levels)
+  pub own_ids : HasOwnIds (all_of made.levels)
+
+-- a move or a drop is installed
+pub record InstallsChoice (IsMade : SeenVersion → Type 0) (w : ℕ) (r : Result Begun Error) (old new : Core) : Type 0 where
+  pub ok : IfOk r (λ b. b ≡ Installed)
+  pub settles : SettlesSome IsMade w r old new
+  pub out_of_numbers : IsErrOf r OutOfNumbers → (2 ^ 63 ≤ old.seqno) ⊎ (old.history.latest.version.id ≡ 2 ^ 64 - 1)
+  pub only : IfErr r (λ e. ((e ≡ OutOfMemory) ⊎ ((e ≡ Store) ⊎ (e ≡ CommitUnknown))) ⊎ ((e ≡ OutOfNumbers) ⊎ ((e ≡ TooManyRuns) ⊎ (e ≡ AfterCommit))))
+
+-- what is done where no reason holds
+abbrev pub Does : Choice → Options → Result Begun Error → Core → Core → Type 0
+Does DoNothing o r old new = (r ≡ Ok DidNothing) × (new ≡ old)
+Does (Move input) o r old new = InstallsChoice (IsMovedTo input old.history.latest.version) o.mvcc_gc_watermark r old new
+Does (Merge input) o r old new = OpensMerge input o r old new
+Does (Drop ids) o r old new = InstallsChoice (IsDroppedFrom ids.keys old.history.latest.version) o.mvcc_gc_watermark r old new
+
+-- what beginning a choice answers and does
+pub record BeginsChoice (choice : Choice) (o : Options) (r : Result Begun Error) (old new : Core) : Type 0 where
+  -- behind a commit of unknown outcome, and only there
+  pub unrecoverable : IsErrOf r Unrecoverable ↔ IsSome old.lost
+  pub uncertain : IsSome old.lost → new ≡ old
+  -- the first reason is told, unless there was no memory to find it
+  pub declines : (why : Why) → old.lost ≡ None → reason_of choice old ≡ Some why → ((r ≡ Ok (Declined why)) ⊎ (r ≡ Err OutOfMemory)) × (new ≡ old)
+  pub does : old.lost ≡ None → reason_of choice old ≡ None → Does choice o r old new
+
+-- ---- choosing
+
+-- a strategy's refusal, as the call tells it
+abbrev pub error_of : ChooseError → Error
+error_of NoMemory = OutOfMemory
+error_of Several = NotDisjoint
+error_of InUse = Busy
+error_of Refused = Strategy
+
+-- one choice that a strategy may make explains the answer, or its refusal does
+abbrev pub IsChosen : (Config → List ℕ → SeenVersion → Choice → Type 0) → (Config → List ℕ → SeenVersion → ChooseError → Type 0) → Options → Result Begun Error → Core → Core → Type 0
+IsChosen may_choose may_refuse o r old new =
+    (hidden : List ℕ) × ((i : ℕ) → among hidden i ≡ hides old.merges.underway i)
+    × (((choice : Choice) × may_choose old.config hidden old.history.latest.version choice × BeginsChoice choice o r old new)
+    ⊎ ((e : ChooseError) × may_refuse old.config hidden old.history.latest.version e × (r ≡ Err (error_of e)) × (new ≡ old)))
+
+-- what beginning a compaction answers and does
+pub record BeginsCompaction (may_choose : Config → List ℕ → SeenVersion → Choice → Type 0) (may_refuse : Config → List ℕ → SeenVersion → ChooseError → Type 0) (o : Options) (r : Result Begun Error) (old new : Core) : Type 0 where
+  pub unrecoverable : IsErrOf r Unrecoverable ↔ IsSome old.lost
+  pub uncertain : IsSome old.lost → new ≡ old
+  pub chosen : old.lost ≡ None → IsChosen may_choose may_refuse o r old new
+
+-- ---- finishing
+
+-- the tree where a merge is no longer open
+abbrev pub closed : ℕ → Core → Core
+closed n c = record c { merges = ended n c.merges }
+
+-- a run of tables holds what is kept of a job's inputs: evicting where the level is the last one, cut at the target, and made
+-- at the job's moment
+pub record HoldsMerged (job : SeenCompaction) (run : List SeenTable) : Type 0 where
+  pub kept : AreKept job.settings job.inputs (run_entries run)
+  pub keeps : Keeps job.settings.watermark (evicts job.settings) (tables_of job.inputs) run
+  pub cut : IsCutting job.settings.target_size (run_entries run) (map (λ t. t.entries) run)
+  pub made : AllByRecursion (λ t. t.created_at ≡ job.settings.made_at) run
+
+-- the version that a merge makes: a run with what is kept stands in place of its inputs, which are still there
+pub record IsMergedInto (job : SeenCompaction) (latest made : SeenVersion) : Type 0 where
+  pub run : List SeenTable
+  pub holds : HoldsMerged job run
+  pub next : IsNext job.ids run job.settings.dest_level latest made
+  pub allowed : IsAllowed job.settings.dest_level (among job.ids) (evicts job.settings) (placed_of latest.levels)
+  pub same : HoldSame (tables_of job.inputs) job.ids latest.levels
+  pub covers : AllCover (placed_in job.settings.dest_level run)
+  pub placed : PutBetween job.ids run job.settings.dest_level latest.levels made.levels
+  pub laid : IsLaidOut (placed_of made.levels)
+  pub own_ids : HasOwnIds (all_of made.levels)
+
+-- the tables of the files of a merge, under ids from first on and below next
+pub record AreWrittenFor (merged : SeenCompacted) (first next : ℕ) (tables : List SeenTable) : Type 0 where
+  pub ids : List ℕ
+  pub of : AreTablesOf merged.job merged.files ids tables
+  pub fresh : AllByRecursion (λ t. first ≤ t.id) tables
+  pub below : AllByRecursion (λ t. t.id < next) tables
+  pub own_ids : HasOwnIds tables
+
+-- a merge that no reason declines
+pub record MayMerge (job : SeenCompaction) (c : Core) : Type 0 where
+  pub certain : c.lost ≡ None
+  pub level : job.settings.dest_level < 7
+  pub allowed : IsAllowed job.settings.dest_level (among job.ids) (evicts job.settings) (placed_of (levels_of c))
+  pub stands : AllStand (levels_of c) (tables_of job.inputs)
+  pub same : HoldSame (tables_of job.inputs) job.ids (levels_of c)
+
+-- what installing such a merge answers and does
+pub record InstallsMerge {T : Type 0} (job : SeenCompaction) (r : Result T Error) (old new : Core) : Type 0 where
+  -- ids of tables may be used
+  pub table : ℕ
+  pub rises : old.next_table ≤ table
+  pub settles : SettlesSome (IsMergedInto job old.history.latest.version) job.settings.watermark r (with_next_table table old) new
+  pub out_of_numbers : IsErrOf r OutOfNumbers → (2 ^ 63 ≤ old.seqno) ⊎ ((2 ^ 63 ≤ table) ⊎ (old.history.latest.version.id ≡ 2 ^ 64 - 1))
+  pub only : IfErr r (λ e. ((e ≡ OutOfMemory) ⊎ ((e ≡ Store) ⊎ (e ≡ CommitUnknown))) ⊎ ((e ≡ OutOfNumbers) ⊎ ((e ≡ TooManyRuns) ⊎ (e ≡ AfterCommit))))
+
+-- a reason is told; without one the merge is installed
+abbrev pub EndsFor : SeenCompaction → Option Why → Result Finished Error → Core → Core → Type 0
+EndsFor job None r old new = InstallsMerge job r old new × IfOk r (λ f. f ≡ Done)
+EndsFor job (Some why) r old new = (r ≡ Ok (Over why)) × (new ≡ old)
+
+-- what the end of an open merge answers and does: the first reason is told, unless there was no memory to find it
+abbrev pub Ends : SeenCompaction → Result Finished Error → Core → Core → Type 0
+Ends job r old new =
+    ((r ≡ Err OutOfMemory) × (new ≡ old))
+    ⊎ ((why : Option Why) × IsLastReason (tables_of job.inputs) job.ids job.settings.dest_level (levels_of old) why × EndsFor job why r old new)
+
+-- a job is spent: it is no longer open, where it was
+abbrev pub Spends : SeenCompaction → Core → Core → Type 0
+Spends job old new = (IsOpenIn job old.merges.underway × (new ≡ closed job.number old)) ⊎ ((IsOpenIn job old.merges.underway → ⊥) × (new ≡ old))
+
+-- what the end of a merge answers and does; it is spent whatever it answers
+pub record Finishes (job : SeenCompaction) (r : Result Finished Error) (old new : Core) : Type 0 where
+  -- behind a commit of unknown outcome, and only there
+  pub unrecoverable : IsErrOf r Unrecoverable ↔ IsSome old.lost
+  pub uncertain : IsSome old.lost → Spends job old new
+  -- no open merge is this one, or it is closed, and ends
+  pub ends : old.lost ≡ None → ((IsOpenIn job old.merges.underway → ⊥) × ((r ≡ Ok (Over UnknownJob)) × (new ≡ old))) ⊎ (IsOpenIn job old.merges.underway × Ends job r (closed job.number old) new)

@@ -1,0 +1,63 @@
+// How a version takes the place of the latest one, outside a flush.
+ghost use Rattle.std.specs.Prelude.{◌≡◌, None, IfErr};
+ghost use Rattle.lsm_versions.specs.Levels.{all_of};
+ghost use Rattle.lsm_files.specs.Stored.{AreOnDisk};
+ghost use Rattle.lsm_files.specs.Commits.{AreOthers};
+ghost use Rattle.lsm_state.specs.Core.{written_of};
+ghost use Rattle.lsm_state.specs.Commits.{Upholds};
+ghost use Rattle.lsm_state.specs.Settling.{MaySettle, Settles};
+
+use crate::TreeState;
+use lsm_below::{SeqNo, TableId};
+use lsm_files::{crashes_leave_versions, remove_tables};
+use lsm_parts::{Error, SuperVersion, Version};
+use lsm_store::Store;
+use std::collections::HashSet;
+
+impl<S: Store> TreeState<S> {
+    /// Removes the files of the tables of these ids, which no version has any more.
+    fn remove_gone(&mut self, gone: &HashSet<TableId>) -> Result<(), Error>
+        requires certain { self.old.core.lost ≡ None }
+        requires spares { AreOthers gone.now.keys (written_of self.old.core) }
+        requires others { AreOthers gone.now.keys (all_of self.old.core.history.latest.version.levels) }
+        ensures core { self.new.core ≡ self.old.core }
+        ensures upholds { S.tells → Upholds (S.world self.old.store) (S.world self.new.store) self.old.core self.new.core }
+        ensures only { IfErr result (λ e. e ≡ Error.AfterCommit) }
+    {
+        match remove_tables(&mut self.store, gone) {
+            Ok(()) => Ok(()),
+            Err(_) => Err(Error::AfterCommit),
+        }
+    }
+
+    /// Installs a version, whose tables are on the disk, and cleans up behind it: maintenance at a watermark, and then the
+    /// files of the tables of these ids go, unless maintenance failed.
+    ///
+    /// # Errors
+    ///
+    /// Those of `commit`, and `AfterCommit` where the version is installed, but the store failed behind the commit.
+    pub(crate) fn settle(
+        &mut self,
+        version: Version,
+        watermark: SeqNo,
+        gone: &HashSet<TableId>,
+    ) -> Result<(), Error>
+        requires { MaySettle version gone.now.keys self.old.core }
+        ensures settles { Settles version watermark result self.old.core self.new.core }
+        ensures upholds { S.tells → AreOnDisk (S.world self.old.store) (all_of version.levels) → Upholds (S.world self.old.store) (S.world self.new.store) self.old.core self.new.core }
+    {
+        crashes_leave_versions(&self.store);
+        let latest = self.history.latest_version();
+        let next = SuperVersion {
+            active_memtable: latest.active_memtable,
+            sealed_memtables: latest.sealed_memtables.copy()?,
+            version,
+            seqno: self.seqno.get(),
+        };
+        self.commit(next)?;
+        if !self.clean_up(watermark) {
+            return Err(Error::AfterCommit);
+        }
+        self.remove_gone(gone)
+    }
+}
