@@ -9,7 +9,6 @@ use Rattle.lsm_below.specs.declared.error.Error.TheVariants.{OutOfMemory, Store,
 use Rattle.lsm_below.specs.Each.{each_left, each_right, each_weaker, each_append, each_both, each_filter}
 use Rattle.lsm_store.specs.World.{World}
 use Rattle.lsm_tables.specs.Tables.{SeenTable}
-use Rattle.lsm_memtable.specs.Memtables.{SeenMemtable}
 use Rattle.lsm_model.specs.Steps.{among}
 use Rattle.lsm_versions.specs.Levels.{SeenVersion, all_of, HasOwnIds, left_in}
 use Rattle.lsm_files.specs.Stored.{IsStored, IsTableOnDisk, AreOnDisk}
@@ -17,25 +16,14 @@ use Rattle.lsm_files.specs.Commits.{AreOthers, SparesTables}
 use Rattle.lsm_jobs.specs.Jobs.{SeenOpen}
 use Rattle.lsm_parts.specs.History.{SeenHistory, versions_of}
 use Rattle.lsm_state.specs.Held.{ids_of}
-use Rattle.lsm_state.specs.Kept.{KeepsIds, KeepsTables}
+use Rattle.lsm_state.specs.Kept.{KeepsTables}
 use Rattle.lsm_state.specs.Core.{Core, versions_left, written_by, written_of}
 use Rattle.lsm_state.specs.Commits.{Upholds}
 use Rattle.lsm_state.specs.Settling.{with_version, IsInstalled, Settles}
 use Rattle.lsm_state.proofs.Distinct.{own_behind}
-use Rattle.lsm_state.proofs.FlushSteps.{names_older}
 use Rattle.lsm_state.proofs.Installing.{each_permuted}
 use Rattle.lsm_state.proofs.Upholding.{upheld, among_left}
 use Rattle.lsm_state.proofs.Writing.{own_now, below_now}
-
--- ---- ids of memtables
-
-pub ids_with : (ts : List SeenMemtable) (h : SeenHistory) (seqno n : ℕ) (v : SeenVersion) → KeepsIds ts h n → KeepsIds ts (record { latest = with_version seqno v h.latest; older = versions_of h }) n
-ids_with ts h seqno n v k = record {
-  active = k.active;
-  fall = k.fall;
-  held = (k.held.0, k.held);
-  older = names_older h.latest.active_memtable 0 h.latest (with_version seqno v h.latest) h.older refl refl k.older;
-}
 
 -- ---- ids of tables
 

@@ -35,7 +35,7 @@ impl Options {
 /// How a compaction began.
 ///
 /// ```text
-/// match tree.begin_compaction(&strategy, options)? {
+/// match begun {
 ///     Begun::Job(job) => merge(job), // outside the tree
 ///     done => return Ok(done),
 /// }
