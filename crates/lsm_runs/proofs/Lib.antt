@@ -8,3 +8,4 @@ pub mod FlushReplays
 pub mod Replays
 pub mod Spared
 mod Counting
+mod OpenFlush

@@ -28,7 +28,7 @@ use Rattle.lsm_state.specs.Listing.{Lists, ListsPrefix}
 use Rattle.lsm_runs.specs.Told.{Told}
 use Rattle.lsm_runs.specs.declared.slots.Job.{Job}
 use Rattle.lsm_runs.specs.Slots.{Stage, at_first, beside, waiting, Closes}
-use Rattle.lsm_runs.specs.Runs.{Takes, TakesAlone, RanUpTo, RanToEnd, TakesEntry, TakesBatch, TakesRotate, TakesNext, TakesCounter, with_counter, Ran, journal_of, StepAnswers, EachAnswers, RunEqualsReplay, without_low_reads}
+use Rattle.lsm_runs.specs.Runs.{Takes, TakesAlone, RanToEnd, TakesEntry, TakesBatch, TakesRotate, TakesNext, TakesCounter, with_counter, Ran, journal_of, StepAnswers, EachAnswers, RunEqualsReplay, without_low_reads}
 use Rattle.lsm_runs.proofs.LowReads.{without-append, writes_without, order_without}
 use Rattle.lsm_runs.proofs.ReadReplays.{Sound, same, takes_get, takes_get_entry, takes_pairs, get_answers, get_entry_answers, contains_answers, size_answers, pairs_answer, len_answers, empty_answers, end_answers}
 use Rattle.lsm_runs.proofs.FlushReplays.{kept_sound, job_keeps, flush_keeps, active_keeps, moment_keeps}
@@ -159,7 +159,8 @@ ran_more (y ∷ xs) [] x t old mid new r q = absurd r
 ran_more (y ∷ xs) (u ∷ ts) x t old mid new r q = (r.0, r.1, ran_more xs ts x t r.0 mid new r.2 q)
 
 -- a map that is empty has free slots
-pub run_to_end : (xs : List Call) (ts : List Told) (slots : BTreeMap ℕ (Option Job)) (old mid new : Core) → slots.entries ≡ [] → RanUpTo xs ts (beside old slots) mid → Closes mid new → RanToEnd xs ts old new
-run_to_end xs ts slots old mid new empty r c =
-    let first : beside old slots ≡ at_first old = ap (λ es. record { core = old; jobs = λ n. waiting (lookup (is_at (nat_cmp n)) es) }) empty in
-    (r.0, subst (λ s. Ran xs ts s r.0) first r.1, subst (λ m. Closes m new) r.2 c)
+pub free_slots : (slots : BTreeMap ℕ (Option Job)) (c : Core) → slots.entries ≡ [] → beside c slots ≡ at_first c
+free_slots slots c empty = ap (λ es. record { core = c; jobs = λ n. waiting (lookup (is_at (nat_cmp n)) es) }) empty
+
+pub run_to_end : (xs : List Call) (ts : List Told) (slots : BTreeMap ℕ (Option Job)) (old : Core) (last : Stage) (new : Core) → slots.entries ≡ [] → Ran xs ts (beside old slots) last → Closes last.core new → RanToEnd xs ts old new
+run_to_end xs ts slots old last new empty r c = (last, subst (λ s. Ran xs ts s last) (free_slots slots old empty) r, c)

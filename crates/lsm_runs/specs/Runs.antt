@@ -125,10 +125,6 @@ Ran (x ∷ xs) (t ∷ ts) old new = (mid : Stage) × Takes x t.reply t.entries o
 Ran [] (t ∷ ts) old new = ⊥
 Ran (x ∷ xs) [] old new = ⊥
 
--- they lead to a stage with this tree
-abbrev pub RanUpTo : List Step → List Told → Stage → Core → Type 0
-RanUpTo steps told old new = (last : Stage) × Ran steps told old last × (new ≡ last.core)
-
 -- they do so from free slots, and what is open behind them is given up
 abbrev pub RanToEnd : List Step → List Told → Core → Core → Type 0
 RanToEnd steps told old new = (last : Stage) × Ran steps told (at_first old) last × Closes last.core new

@@ -1,9 +1,10 @@
 -- Jobs that wait in slots, beside the tree.
-use Rattle.std.specs.Prelude.{◌≡◌, ℕ, ◌⊎◌, Option, Some, None}
+use Rattle.std.specs.Prelude.{◌≡◌, ℕ, ◌⊎◌, List, [], ◌∷◌, Option, Some, None, IfSome, option_map}
 use Rattle.std.specs.Ordering.{nat_cmp}
 use Rattle.std.specs.BTreeMap.{BTreeMap, get}
-use Rattle.lsm_jobs.specs.Jobs.{SeenJob}
+use Rattle.lsm_jobs.specs.Jobs.{SeenJob, SeenOpen}
 use Rattle.lsm_state.specs.Core.{Core}
+use Rattle.lsm_state.specs.Flushes.{spent}
 use Rattle.lsm_runs.specs.declared.slots.Job.{Job}
 use Rattle.lsm_runs.specs.declared.slots.Job.TheVariants.{Begun, Merged, Written}
 
@@ -43,7 +44,32 @@ at_first c = record { core = c; jobs = λ n. None }
 abbrev pub beside : Core → BTreeMap ℕ (Option Job) → Stage
 beside c slots = record { core = c; jobs = job_in slots }
 
+-- ---- which flush is open
+
+-- the number of the flush whose job waits
+abbrev pub number_in : Option Job → Option ℕ
+number_in place = option_map (λ job. (flush_in job).number) place
+
+-- a job of this flush waits in some slot
+abbrev pub WaitsFor : SeenOpen → (ℕ → Option Job) → Type 0
+WaitsFor flush jobs = (n : ℕ) × (number_in (jobs n) ≡ Some flush.number)
+
+-- the flush that was open at the start is so still, and no slot has a job of it; or none was open then, and a job of the
+-- open one waits
+abbrev pub KeepsOpen : Option SeenOpen → Stage → Type 0
+KeepsOpen start s = ((s.core.flush ≡ start) × IfSome start (λ f. WaitsFor f s.jobs → ⊥)) ⊎ ((start ≡ None) × ((f : SeenOpen) × (s.core.flush ≡ Some f) × WaitsFor f s.jobs))
+
 -- ---- the end of a run
+
+-- the tree after the job in a slot is given up
+abbrev pub given_up : Option Job → Core → Core
+given_up None c = c
+given_up (Some job) c = spent (flush_in job).number c
+
+-- the tree after the jobs in these slots are given up, one after the other
+abbrev pub all_given_up : List (ℕ × Option Job) → Core → Core
+all_given_up [] c = c
+all_given_up (x ∷ xs) c = all_given_up xs (given_up x.1 c)
 
 -- the flush is no longer open, or nothing changes
 abbrev pub Closes : Core → Core → Type 0

@@ -9,8 +9,8 @@ ghost use Rattle.lsm_runs.specs.Told.{Told};
 ghost use Rattle.lsm_runs.specs.Counting.{RunIsInOrder};
 ghost use Rattle.lsm_runs.specs.ReadSteps.{TakesGet, TakesGetEntry, TakesSilent, IsContainsReply, IsSizeReply};
 ghost use Rattle.lsm_runs.specs.Files.{StaysStored, LeavesFiles};
-ghost use Rattle.lsm_runs.specs.Slots.{beside};
-ghost use Rattle.lsm_runs.specs.Runs.{Takes, TakesEntry, TakesBatch, TakesRotate, TakesNext, TakesCounter, counter_of, told_entry, told_batch, RanUpTo, RanToEnd, RunEqualsReplay, RunSparesAnswers};
+ghost use Rattle.lsm_runs.specs.Slots.{beside, SameJobs};
+ghost use Rattle.lsm_runs.specs.Runs.{Takes, TakesEntry, TakesBatch, TakesRotate, TakesNext, TakesCounter, counter_of, told_entry, told_batch, Ran, RanToEnd, RunEqualsReplay, RunSparesAnswers};
 
 use crate::slots::Slots;
 use crate::{Counter, Outcome, Reply, Step};
@@ -320,6 +320,7 @@ fn take_step<S: Store>(
 ) -> Result<Outcome, AllocError>
     ensures ok { IfOk result (λ told. Takes step.now told.reply told.entries (beside state.old.core slots.old) (beside state.new.core slots.new)) }
     ensures err { OnErr result (state.new ≡ state.old) }
+    ensures slots_err { OnErr result (SameJobs slots.old slots.new) }
     ensures files { S.tells → LeavesFiles S.world step.now state.old.store state.new.store state.old.core state.new.core }
 {
     match step {
@@ -362,6 +363,7 @@ fn add_step<S: Store>(
 ) -> Result<(), AllocError>
     ensures ok { OnOk result ((told : Told) × (outcomes.new.items ≡ outcomes.old.items ++ told ∷ []) × Takes step.now told.reply told.entries (beside state.old.core slots.old) (beside state.new.core slots.new)) }
     ensures err { OnErr result (state.new ≡ state.old) }
+    ensures slots_err { OnErr result (SameJobs slots.old slots.new) }
     ensures outcomes_err { OnErr result (outcomes.new.items ≡ outcomes.old.items) }
     ensures stored { S.tells → StaysStored (S.world state.old.store) (S.world state.new.store) state.old.core state.new.core }
 {
@@ -378,7 +380,7 @@ fn take_steps<S: Store>(
     steps: &[Step],
 ) -> Vec<Outcome>
     ensures bound { length result.items ≤ length steps.now }
-    ensures ran { RanUpTo (take (length result.items) steps.now) result.items (beside state.old.core slots.old) state.new.core }
+    ensures ran { Ran (take (length result.items) steps.now) result.items (beside state.old.core slots.old) (beside state.new.core slots.new) }
     ensures stored { S.tells → StaysStored (S.world state.old.store) (S.world state.new.store) state.old.core state.new.core }
 {
     let mut outcomes = Vec::new(alloc);
@@ -396,8 +398,8 @@ fn take_steps<S: Store>(
 /// A step that is refused has that as its reply, and the run goes on with the next one. The run ends early only
 /// before a step for whose outcome, journal entries included, no memory is left: the tree is as it was before that
 /// step, and the outcomes are those of the steps that were taken. A job waits in its slot from one step to the next, and
-/// what is open when the run ends is given up. A step costs what its call costs, and a list of
-/// pairs is kept once, for the reply and the journal.
+/// one that waits when the run ends is given up: each flush that a step begins ends within the run (`flush`). A step
+/// costs what its call costs, and a list of pairs is kept once, for the reply and the journal.
 ///
 /// Without an index the replay theorem holds (`replays`), no step changes what it is not to change (`spares`), and
 /// the premise of both follows from the order that callers keep by the counter (`in_order`).
@@ -413,6 +415,8 @@ pub fn run<S: Store>(alloc: Global, state: &mut TreeState<S>, steps: &[Step]) ->
     ensures replays { (opened : List Entry) (start : Map) → RunEqualsReplay opened start (take (length result.items) steps.now) result.items state.old.core state.new.core }
     ensures spares { (opened : List Entry) (start : Map) → RunSparesAnswers opened start (take (length result.items) steps.now) result.items state.old.core state.new.core }
     ensures in_order { RunIsInOrder (take (length result.items) steps.now) result.items state.old.core state.new.core }
+    // Each flush that a step begins is registered or given up, at the latest when the run ends.
+    ensures flush { state.new.core.flush ≡ state.old.core.flush }
     ensures stored { S.tells → StaysStored (S.world state.old.store) (S.world state.new.store) state.old.core state.new.core }
 {
     reads_are_sound();

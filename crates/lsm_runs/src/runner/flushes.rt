@@ -1,10 +1,11 @@
 // The calls of a flush, as steps.
-ghost use Rattle.std.specs.Prelude.{◌≡◌, ◌∷◌, [], ℕ, IfOk, OnErr};
+ghost use Rattle.std.specs.Prelude.{◌≡◌, ◌∷◌, [], ℕ, Option, IfOk, OnErr};
 ghost use Rattle.lsm_model.specs.declared.journal.JournalEntry.TheVariants.{Mark, Install};
+ghost use Rattle.lsm_jobs.specs.Jobs.{SeenOpen};
 ghost use Rattle.lsm_state.specs.FlushReads.{flush_events};
 ghost use Rattle.lsm_runs.specs.Flushing.{TakesBegin, TakesRun, TakesTables, TakesRegister, TakesAbandon, TakesJob, TakesFlush, TakesFlushActive, TakesMoment, TakesInSlot, FlushesNoted, told_registered, told_flush, told_active};
 ghost use Rattle.lsm_runs.specs.Files.{StaysStored, JobLeavesFiles};
-ghost use Rattle.lsm_runs.specs.Slots.{beside, SameJobs, Closes};
+ghost use Rattle.lsm_runs.specs.Slots.{beside, SameJobs, KeepsOpen, given_up, all_given_up};
 
 use super::{one_entry, refused, silent};
 use crate::slots::{Job, Slots, make_room};
@@ -321,7 +322,7 @@ pub(super) fn set_moment<S: Store>(alloc: Global, state: &mut TreeState<S>, mome
 
 /// Gives up a job, if one waits.
 fn give_up<S: Store>(state: &mut TreeState<S>, place: Option<Job>)
-    ensures closes { Closes state.old.core state.new.core }
+    ensures core { state.new.core ≡ given_up place state.old.core }
     ensures store { state.new.store ≡ state.old.store }
 {
     if let Some(job) = place {
@@ -331,7 +332,9 @@ fn give_up<S: Store>(state: &mut TreeState<S>, place: Option<Job>)
 
 /// Gives up all jobs that wait.
 pub(super) fn give_up_all<S: Store>(state: &mut TreeState<S>, slots: Slots)
-    ensures closes { Closes state.old.core state.new.core }
+    ensures core { state.new.core ≡ all_given_up slots.entries state.old.core }
+    // What was open before a run whose jobs wait here is so again.
+    ensures flush { (start : Option SeenOpen) → KeepsOpen start (beside state.old.core slots) → state.new.core.flush ≡ start }
     ensures store { state.new.store ≡ state.old.store }
 {
     for (_, place) in slots {

@@ -1,11 +1,17 @@
+use Rattle.std.proofs.Common.{subst, sym}
+use Rattle.lsm_runs.specs.Slots.{beside, KeepsOpen, Closes}
 use Rattle.lsm_runs.proofs.Counting.{run_in_order}
 use Rattle.lsm_runs.proofs.Files.{closed_stored}
-use Rattle.lsm_runs.proofs.Replays.{run_replays, run_to_end}
+use Rattle.lsm_runs.proofs.OpenFlush.{all_closes, start_open, ran_open}
+use Rattle.lsm_runs.proofs.Replays.{run_replays, run_to_end, free_slots}
 use Rattle.lsm_runs.proofs.Spared.{run_spares}
 use Rattle.lsm_runs.proofs.runner.run.Goals as goal
 
 pub returns-clause-ran : goal.returns-clause-ran
-returns-clause-ran g c = run_to_end _ _ c.new-slots.result c.args.state.now.core c.take_steps-outcomes.new.state.core _ c.new-slots.ensures.empty c.take_steps-outcomes.ensures.ran c.give_up_all.ensures.closes
+returns-clause-ran g c =
+    let mid = c.take_steps-outcomes.new.state.core in
+    run_to_end _ _ c.new-slots.result c.args.state.now.core (beside mid c.take_steps-outcomes.new.slots) _ c.new-slots.ensures.empty c.take_steps-outcomes.ensures.ran
+    (subst (Closes mid) (sym c.give_up_all.ensures.core) (all_closes c.take_steps-outcomes.new.slots.entries mid))
 
 pub returns-clause-replays : goal.returns-clause-replays
 returns-clause-replays g c opened start = run_replays c.lists_are_steps.ensures c.reads_are_sound.ensures c.flushes_keep_reads.ensures opened start _ _ _ _ (returns-clause-ran g c)
@@ -16,5 +22,15 @@ returns-clause-spares g c opened start = run_spares c.reads_are_sound.ensures c.
 pub returns-clause-in_order : goal.returns-clause-in_order
 returns-clause-in_order g c = run_in_order c.counted_is_in_order.ensures _ _ _ _ (returns-clause-ran g c)
 
+pub returns-clause-flush : goal.returns-clause-flush
+returns-clause-flush g c =
+    let old = c.args.state.now.core in
+    let mid = c.take_steps-outcomes.new.state.core in
+    c.give_up_all.ensures.flush old.flush
+    (ran_open old.flush _ _ (beside old c.new-slots.result) (beside mid c.take_steps-outcomes.new.slots) c.take_steps-outcomes.ensures.ran
+    (subst (KeepsOpen old.flush) (sym (free_slots c.new-slots.result old c.new-slots.ensures.empty)) (start_open old)))
+
 pub returns-clause-stored : goal.returns-clause-stored
-returns-clause-stored g c tells h = closed_stored g.S.Store.world _ _ _ _ c.give_up_all.ensures.closes c.give_up_all.ensures.store (c.take_steps-outcomes.ensures.stored tells h)
+returns-clause-stored g c tells h =
+    let mid = c.take_steps-outcomes.new.state.core in
+    closed_stored g.S.Store.world _ _ _ _ (subst (Closes mid) (sym c.give_up_all.ensures.core) (all_closes c.take_steps-outcomes.new.slots.entries mid)) c.give_up_all.ensures.store (c.take_steps-outcomes.ensures.stored tells h)

@@ -1,10 +1,10 @@
 use Rattle.std.proofs.Common.{◌≡◌}
-use Rattle.lsm_runs.specs.Slots.{Closes}
+use Rattle.lsm_runs.specs.Slots.{all_given_up}
 use Rattle.lsm_runs.proofs.runner.flushes.give_up_all.Given as goal
 
--- what was given up so far
+-- what is left to be given up
 abbrev pub invariant-loop-place : goal.invariant-loop-place
 invariant-loop-place g l = record {
-  closes : Closes l.fn.state.core l.state.core;
+  core : all_given_up l.place-iterator l.state.core ≡ all_given_up l.fn.slots.entries l.fn.state.core;
   store : l.state.store ≡ l.fn.state.store;
 }
