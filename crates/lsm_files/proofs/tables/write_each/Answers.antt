@@ -1,6 +1,4 @@
-use Rattle.std.proofs.Common.{◌≡◌, ◌++◌, ◌∷◌, [], ◌+◌, List, length, sym, subst, arith}
-use Rattle.std.proofs.lemmas.Bool.{eqb-true}
-use Rattle.std.proofs.lemmas.List.{nil_from_length}
+use Rattle.std.proofs.Common.{◌≡◌, ◌++◌, ◌∷◌, [], ◌+◌, List, sym, subst, arith}
 use Rattle.lsm_tables.specs.Tables.{SeenTable}
 use Rattle.lsm_files.specs.declared.tables.TheConstants.{TABLE_TARGET}
 use Rattle.lsm_files.specs.Stored.{IsTableOnDisk, AreOnDisk}

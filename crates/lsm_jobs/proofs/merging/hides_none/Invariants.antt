@@ -1,4 +1,4 @@
-use Rattle.std.proofs.Common.{◌≡◌, ◌↔◌, ◌∷◌, length}
+use Rattle.std.proofs.Common.{◌↔◌, ◌∷◌, length}
 use Rattle.lsm_below.specs.Kept.{HidesNone}
 use Rattle.lsm_jobs.proofs.merging.hides_none.Given as goal
 
