@@ -35,7 +35,7 @@ in_front w e f xs above ih = rw above (ap (λ l. e ∷ l) ih)
 -- where no entry is hidden, all of each key is kept
 pub keeps_all : (w : ℕ) (k : Bytes) (es : List Entry) → IsInOrder es → HidesNone w es → keep w false (stack k es) ≡ stack k es
 keeps_all w k [] order none = refl
-keeps_all w k (e ∷ []) order none = elim (is_of k e) as (λ b. keep w false (cond b (e ∷ []) []) ≡ cond b (e ∷ []) []) [ | true ↦ refl | false ↦ refl ]
+keeps_all w k (e ∷ []) order none = elim (is_of k e) as (λ b. keep w false (cond b (e ∷ []) []) ≡ cond b (e ∷ []) []) [ true ↦ refl | false ↦ refl ]
 keeps_all w k (e ∷ (f ∷ es)) order none = go (keeps_all w k (f ∷ es) order.1 none.1) (is_of k e) refl
   where
     first : keep w false (stack k (f ∷ es)) ≡ stack k (f ∷ es) → (b : Bool) → same_key e f ≡ b → is_of k e ≡ true → keep w false (e ∷ stack k (f ∷ es)) ≡ e ∷ stack k (f ∷ es)

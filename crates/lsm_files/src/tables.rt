@@ -13,9 +13,7 @@ use bytes::Bytes;
 use lsm_below::{Error, TableId};
 use lsm_manifest::names_are_apart;
 use lsm_store::Store;
-use lsm_tables::{
-    Entries, Table, TableError, encode_parts, no_image_begins_another, split_table,
-};
+use lsm_tables::{Entries, Table, TableError, encode_parts, no_image_begins_another, split_table};
 use lsm_versions::{LIMIT, cut_tables_are_runs};
 use std::alloc::Global;
 

@@ -161,7 +161,13 @@ impl<'a> Entries<'a> {
 fn first_of<'a>(
     first: &'a [InternalValue],
     later: &'a [&'a [InternalValue]],
-) -> Option<(&'a InternalValue, &'a [InternalValue], &'a [&'a [InternalValue]])>
+) -> Option<
+    (
+        &'a InternalValue,
+        &'a [InternalValue],
+        &'a [&'a [InternalValue]],
+    ),
+>
     ensures { MatchOption result
         (first.now ++ in_slices later.now ≡ [])
         (λ p. first.now ++ in_slices later.now ≡ p.0.now ∷ (p.1.now ++ in_slices p.2.now)) }

@@ -1,10 +1,9 @@
-use Rattle.std.proofs.Common.{◌≡◌, ◌++◌, ap, sym, subst, ◌∙◌, refl}
+use Rattle.std.proofs.Common.{◌++◌, ap, sym, subst, ◌∙◌, refl}
 use Rattle.lsm_versions.specs.Levels.{all_of, HasOwnIds}
 use Rattle.lsm_files.specs.Stored.{AreOnDisk}
 use Rattle.lsm_files.specs.Writing.{HoldEntries}
 use Rattle.lsm_state.specs.Core.{Core}
 use Rattle.lsm_state.specs.Commits.{Upholds}
-use Rattle.lsm_state.specs.Flushes.{noted_in}
 use Rattle.lsm_state.proofs.Upholding.{upheld_still}
 use Rattle.lsm_state.proofs.Writing.{tables_noted, noted_upholds}
 use Rattle.lsm_state.proofs.tree.TreeState.flush_to_tables.Goals as goal
