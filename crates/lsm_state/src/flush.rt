@@ -117,7 +117,7 @@ impl<S: Store> TreeState<S> {
     /// # Errors
     ///
     /// `OutOfMemory`, `Store`, and `OutOfNumbers` where the next id is 2^63 or more. Ids may then be used.
-    fn write_merged(&mut self, job: &MergedFlush) -> Result<Vec<Table>, Error>
+    fn write_kept(&mut self, job: &MergedFlush) -> Result<Vec<Table>, Error>
         requires certain { self.old.core.lost ≡ None }
         ensures tables { IfOk result (λ tables. HoldEntries self.old.core.moment job.now.entries self.old.core.next_table self.new.core.next_table tables.items) }
         ensures own_ids { IfOk result (λ tables. HasOwnIds (tables.items ++ all_of self.old.core.history.latest.version.levels)) }
@@ -161,7 +161,7 @@ impl<S: Store> TreeState<S> {
         if self.lost.is_some() {
             return Err((Error::Unrecoverable, job));
         }
-        let tables = match self.write_merged(&job) {
+        let tables = match self.write_kept(&job) {
             Ok(tables) => tables,
             Err(error) => return Err((error, job)),
         };

@@ -2,7 +2,7 @@ use Rattle.std.proofs.Common.{subst, refl}
 use Rattle.lsm_state.specs.Core.{Core}
 use Rattle.lsm_state.specs.Commits.{Upholds}
 use Rattle.lsm_state.proofs.Upholding.{upheld_still}
-use Rattle.lsm_state.proofs.tree.TreeState.write_merged.Goals as goal
+use Rattle.lsm_state.proofs.tree.TreeState.write_kept.Goals as goal
 
 pub returns-in_default-clause-upholds : goal.returns-in_default-clause-upholds
 returns-in_default-clause-upholds g c tells =
