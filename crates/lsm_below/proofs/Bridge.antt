@@ -132,7 +132,7 @@ module _ {S : Type 0} (f : S → List InternalValue) (sources : List S) (lists :
       stacks_follow lists in_order k (subst IsFalling (sym same) h) ∙ same
 
 -- where sequence numbers fall, none are equal
-distinct_falling : (es : List InternalValue) → IsFalling es → distinct es ≡ es
+pub distinct_falling : (es : List InternalValue) → IsFalling es → distinct es ≡ es
 distinct_falling [] h = refl
 distinct_falling (e ∷ es) h =
     ap (λ l. e ∷ filter (λ f. not (nat_eq e.key.seqno f.key.seqno)) l) (distinct_falling es h.1)

@@ -1,6 +1,7 @@
 // What always holds of keys, entries and merges, each as the contract of a function that does nothing.
 ghost use Rattle.lsm_below.specs.Keys.{AreBytes};
 ghost use Rattle.lsm_below.specs.Laws.{KeysAreOrdered, EntriesAreOrdered, FirstVisibleIsTop, EntriesAreParted, MergesByKey};
+ghost use Rattle.lsm_below.specs.Kept.{AllIsKept};
 
 /// Each number of a slice of bytes is below 256.
 pub fn slices_hold_bytes(bytes: &[u8])
@@ -30,4 +31,9 @@ pub fn entries_are_parted()
 /// Lists in order are merged key by key, and of a list in order the first entries of each key are in order.
 pub fn merges_by_key()
     ensures { MergesByKey }
+{}
+
+/// Of one source a compaction keeps all where no entry is hidden, and it evicts nothing.
+pub fn all_is_kept()
+    ensures { AllIsKept }
 {}

@@ -51,8 +51,8 @@ pub use ids::{KvPair, MemtableId, SeqNo, TableId, TreeId, UserKey, UserValue, sh
 pub use key::InternalKey;
 pub use key_range::{KeyRange, Ranged};
 pub use laws::{
-    entries_are_ordered, entries_are_parted, first_visible_is_top, keys_are_ordered, merges_by_key,
-    slices_hold_bytes,
+    all_is_kept, entries_are_ordered, entries_are_parted, first_visible_is_top, keys_are_ordered,
+    merges_by_key, slices_hold_bytes,
 };
 pub use limits::{ENTRY_OVERHEAD, MAX_KEY_LEN, MAX_VALUE_LEN};
 pub use list_source::ListSource;

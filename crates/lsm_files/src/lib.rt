@@ -20,4 +20,4 @@ pub use commit::commit_version;
 pub use contents::write_contents;
 pub use removal::{remove_tables, remove_version};
 pub use stored::{crashes_leave_either, crashes_leave_versions, files_are_tables};
-pub use tables::{TABLE_TARGET, write_table, write_tables};
+pub use tables::write_tables;

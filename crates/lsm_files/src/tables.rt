@@ -10,22 +10,22 @@ ghost use Rattle.lsm_files.specs.Writing.{HoldEntries, KeepsElsewhere, IsKeptEls
 
 use crate::contents::write_file;
 use bytes::Bytes;
-use lsm_below::{Error, InternalValue, TableId};
+use lsm_below::{Error, TableId};
 use lsm_manifest::names_are_apart;
 use lsm_store::Store;
-use lsm_tables::{Table, TableError, encode, no_image_begins_another, split_table};
+use lsm_tables::{Entries, Table, TableError, encode_parts, no_image_begins_another, split_table};
 use lsm_versions::{LIMIT, cut_tables_are_runs};
 use std::alloc::Global;
 
 /// A table ends as soon as its entries have so many bytes: 64 MiB.
-pub const TABLE_TARGET: u64 = 67_108_864;
+const TABLE_TARGET: u64 = 67_108_864;
 
 /// The table of a file that was just written: its entries share the bytes.
 fn table_of(
     alloc: Global,
     id: TableId,
     made_at: u64,
-    entries: &[InternalValue],
+    entries: &Entries<'_>,
     file: Vec<u8>,
 ) -> Result<Table, Error>
     requires table { IsTable entries.now }
@@ -49,12 +49,12 @@ fn table_of(
 ///
 /// `OutOfMemory` where a growth was refused, `Store` where the store failed: of the table's file a crash may then leave
 /// anything, and each other name is as it was.
-pub fn write_table<S: Store>(
+fn write_table<S: Store>(
     alloc: Global,
     store: &mut S,
     id: TableId,
     made_at: u64,
-    entries: &[InternalValue],
+    entries: &Entries<'_>,
 ) -> Result<Table, Error>
     requires { IsTable entries.now }
     ensures table { IfOk result (λ t. t ≡ record { id = id; created_at = made_at; entries = entries.now }) }
@@ -64,7 +64,7 @@ pub fn write_table<S: Store>(
     ensures only { IfErr result (λ e. (e ≡ Error.OutOfMemory) ⊎ (e ≡ Error.Store)) }
     ensures counts { CountsFaults (S.world store.old) (S.world store.new) result }
 {
-    let file = encode(alloc, made_at, entries)?;
+    let file = encode_parts(alloc, made_at, entries)?;
     write_file(store, id, &file)?;
     table_of(alloc, id, made_at, entries, file)
 }
@@ -75,7 +75,7 @@ fn write_each<S: Store>(
     store: &mut S,
     next: &mut TableId,
     made_at: u64,
-    entries: &[InternalValue],
+    entries: &Entries<'_>,
 ) -> Result<Vec<Table>, Error>
     requires { IsWritable entries.now }
     ensures tables { IfOk result (λ tables. HoldEntries made_at entries.now next.old next.new tables.items) }
@@ -90,22 +90,23 @@ fn write_each<S: Store>(
     names_are_apart();
     cut_tables_are_runs();
     let mut tables = Vec::new(alloc);
-    let mut rest = entries;
+    let mut rest = entries.copy();
     while !rest.is_empty() {
         let id = *next;
         if id >= LIMIT {
             return Err(Error::OutOfNumbers);
         }
-        let (first, behind) = split_table(rest, TABLE_TARGET);
+        let (first, behind) = split_table(&rest, TABLE_TARGET);
         *next = id + 1;
-        tables.push(write_table(alloc, store, id, made_at, first)?)?;
+        tables.push(write_table(alloc, store, id, made_at, &first)?)?;
         rest = behind;
     }
     Ok(tables)
 }
 
 /// Writes tables that hold these entries, made at this moment, under the ids from `next` on, one after the other: of
-/// their files one at a time is in memory. No entries: no tables. The cost is linear in the bytes.
+/// their files one at a time is in memory, made of the entries where they stand. No entries: no tables. The cost is linear
+/// in the bytes.
 ///
 /// # Errors
 ///
@@ -116,7 +117,7 @@ pub fn write_tables<S: Store>(
     store: &mut S,
     next: &mut TableId,
     made_at: u64,
-    entries: &[InternalValue],
+    entries: &Entries<'_>,
 ) -> Result<Vec<Table>, Error>
     requires { IsWritable entries.now }
     ensures tables { IfOk result (λ tables. HoldEntries made_at entries.now next.old next.new tables.items) }

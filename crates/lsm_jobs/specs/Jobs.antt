@@ -1,5 +1,5 @@
 -- What is kept of memtables, and the jobs of a flush.
-use Rattle.std.specs.Prelude.{ℕ, false, List, map, flat_map}
+use Rattle.std.specs.Prelude.{ℕ, false, List, [], ◌∷◌, map, flat_map}
 use Rattle.std.specs.List.{AllByRecursion}
 use Rattle.lsm_below.specs.Entries.{Entry}
 use Rattle.lsm_below.specs.Kept.{IsKeptOf}
@@ -8,6 +8,8 @@ use Rattle.lsm_below.specs.Runs.{IsRun}
 use Rattle.lsm_tables.specs.Cutting.{IsWritable}
 use Rattle.lsm_tables.specs.Tables.{SeenTable}
 use Rattle.lsm_versions.specs.Levels.{range}
+use Rattle.lsm_jobs.specs.declared.merging.Kept.{Kept}
+use Rattle.lsm_jobs.specs.declared.merging.Kept.TheVariants.{Whole, Listed}
 
 -- the entries of memtables
 abbrev pub entries_in : List SeenMemtable → List (List Entry)
@@ -16,6 +18,16 @@ entries_in memtables = map (λ m. m.entries) memtables
 -- entries are what a compaction at a watermark keeps of sources, and evicts nothing
 abbrev pub KeptOf : List (List Entry) → ℕ → List Entry → Type 0
 KeptOf sources w kept = IsKeptOf sources w false kept
+
+-- the entries of the first source
+abbrev pub first_source : List (List Entry) → List Entry
+first_source [] = []
+first_source (es ∷ sources) = es
+
+-- what is kept of sources: the first one whole, or a list
+abbrev pub kept_in : List (List Entry) → Kept → List Entry
+kept_in sources Whole = first_source sources
+kept_in sources (Listed list) = list.items
 
 -- memtables of which tables can be written
 abbrev pub AreWritable : List SeenMemtable → Type 0

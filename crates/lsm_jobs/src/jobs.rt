@@ -4,10 +4,11 @@ ghost use Rattle.lsm_below.specs.Runs.{IsRun};
 ghost use Rattle.lsm_versions.specs.Levels.{range};
 ghost use Rattle.lsm_jobs.specs.Jobs.{AreWritable, job_of, IsMergedFrom, IsWrittenFrom};
 
-use crate::{SealedMemtable, merge_memtables};
-use lsm_below::{Error, InternalValue, SeqNo};
-use lsm_tables::Table;
-use std::alloc::Global;
+use crate::SealedMemtable;
+use crate::merging::{Kept, merge_unless_whole, parts_kept};
+use lsm_below::{Error, SeqNo};
+use lsm_tables::{Parts, Table};
+use std::alloc::{AllocError, Global};
 use std::marker::Model;
 
 /// A flush that is to be done outside the tree: memtables from the newest, shared with it.
@@ -60,7 +61,7 @@ impl FlushJob {
     }
 
     /// Merges the memtables into what a snapshot from the watermark on, or between two kept ones, may read of them. Keys
-    /// and values are shared. The cost is linear in the entries.
+    /// and values are shared; of one memtable of which all is kept no entry is. The cost is linear in the entries.
     ///
     /// # Errors
     ///
@@ -72,11 +73,11 @@ impl FlushJob {
         ensures back { IfErr result (λ e. e.1 ≡ self) }
         ensures memory { IfErr result (λ e. e.0 ≡ Error.OutOfMemory) }
     {
-        match merge_memtables(self.alloc, &self.memtables, watermark) {
-            Ok(entries) => Ok(MergedFlush {
+        match merge_unless_whole(self.alloc, &self.memtables, watermark) {
+            Ok(kept) => Ok(MergedFlush {
                 job: self,
                 watermark,
-                entries,
+                kept,
             }),
             Err(error) => Err((error, self)),
         }
@@ -88,17 +89,17 @@ impl FlushJob {
 pub struct MergedFlush {
     job: FlushJob,
     watermark: SeqNo,
-    entries: Vec<InternalValue>,
+    kept: Kept,
 }
 
 impl Model for MergedFlush {
-    ghost use Rattle.lsm_jobs.specs.Jobs.{SeenMerged, IsMergedFrom};
+    ghost use Rattle.lsm_jobs.specs.Jobs.{SeenMerged, IsMergedFrom, kept_in};
 
     ghost Value = { SeenMerged };
 
-    ghost view = { λ m. record { job = m.job; watermark = m.watermark; entries = m.entries.items } };
+    ghost view = { λ m. record { job = m.job; watermark = m.watermark; entries = kept_in m.job.sources m.kept } };
 
-    ghost invariant = { λ m. IsMergedFrom m.job m.watermark m.entries.items };
+    ghost invariant = { λ m. IsMergedFrom m.job m.watermark (kept_in m.job.sources m.kept) };
 }
 
 impl MergedFlush {
@@ -106,7 +107,7 @@ impl MergedFlush {
     pub fn facts(&self)
         ensures { IsMergedFrom self.now.job self.now.watermark self.now.entries }
     {
-        let _ = &self.entries;
+        let _ = &self.kept;
     }
 
     /// The job that was merged.
@@ -123,11 +124,11 @@ impl MergedFlush {
         self.watermark
     }
 
-    /// What is kept, by rising key and falling sequence number.
-    pub fn entries(&self) -> &[InternalValue]
-        ensures { result.now ≡ self.now.entries }
+    /// What is kept, by rising key and falling sequence number, where it stands. Refused only for want of memory.
+    pub fn parts(&self) -> Result<Parts<'_>, AllocError>
+        ensures { IfOk result (λ parts. parts ≡ self.now.entries) }
     {
-        &self.entries
+        parts_kept(self.job.alloc, self.job.memtables(), &self.kept)
     }
 
     /// The job, to be abandoned.
@@ -146,9 +147,9 @@ impl MergedFlush {
         let MergedFlush {
             job,
             watermark,
-            entries,
+            kept,
         } = self;
-        drop(entries);
+        drop(kept);
         WrittenFlush {
             job,
             watermark,

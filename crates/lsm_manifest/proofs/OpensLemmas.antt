@@ -9,7 +9,6 @@ use Rattle.lsm_below.specs.Numbers.{PlainNumbersAreRead}
 use Rattle.lsm_store.specs.World.{Image, World, Lists, Same, LeavesOnly}
 use Rattle.lsm_store.specs.Moments.{started, rests, weakened, image_same}
 use Rattle.lsm_versions.specs.Levels.{Levels as SeenLevels, SeenVersion}
-use Rattle.lsm_manifest.specs.declared.fault.Fault.{Fault}
 use Rattle.lsm_manifest.specs.declared.fault.Fault.TheVariants.{InvalidVersion}
 use Rattle.lsm_manifest.specs.declared.fault.OpenError.{OpenError}
 use Rattle.lsm_manifest.specs.declared.fault.OpenError.TheVariants as opening

@@ -1,6 +1,5 @@
 -- Opening a store, whose tables are to meet something more.
 use Rattle.std.specs.Prelude.{◌≡◌, ◌⊎◌, ℕ, List, Result, Ok, Err}
-use Rattle.lsm_below.specs.declared.error.Error.TheVariants as error
 use Rattle.lsm_store.specs.World.{Image}
 use Rattle.lsm_versions.specs.Levels.{Levels as SeenLevels}
 use Rattle.lsm_manifest.specs.declared.fault.Fault.TheVariants.{Unrecoverable}

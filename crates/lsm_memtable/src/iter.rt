@@ -1,5 +1,5 @@
 // The entries between two places, from both ends.
-ghost use Rattle.std.specs.Prelude.{◌≡◌, ◌+◌, ◌-◌, ◌<◌, ◌≤◌, [], ◌∷◌, ◌++◌, length, take, drop, MatchOption};
+ghost use Rattle.std.specs.Prelude.{◌≡◌, ◌+◌, ◌-◌, ◌<◌, ◌≤◌, [], ◌∷◌, ◌++◌, length, take, drop, MatchOption, IfSome};
 ghost use Rattle.std.specs.List.{All};
 ghost use Rattle.std.specs.Iterator.{at_most};
 ghost use Rattle.lsm_memtable.specs.Blocks.{joined, spot, IsFilled, HasPlace};
@@ -118,6 +118,40 @@ fn split_back<'a>(
     Some((entry, rest))
 }
 
+/// The entries of the first block, or what is left of it, and what comes after them.
+fn split_block<'a>(
+    front: &'a [InternalValue],
+    middle: Part<'a>,
+    back: &'a [InternalValue],
+) -> Option<(&'a [InternalValue], Iter<'a>)>
+    requires { All IsFilled (blocks_of middle) }
+    ensures parts { MatchOption result
+        (front.now ++ (joined (blocks_of middle.entry) ++ back.now) ≡ [])
+        (λ p. front.now ++ (joined (blocks_of middle.entry) ++ back.now) ≡ p.0.now ++ p.1) }
+    ensures some { IfSome result (λ p. 0 < length p.0.now) }
+{
+    if !front.is_empty() {
+        let rest = Iter {
+            front: &[],
+            middle,
+            back,
+        };
+        return Some((front, rest));
+    }
+    if let Some((block, middle)) = middle.split_first() {
+        let rest = Iter {
+            front: &[],
+            middle,
+            back,
+        };
+        return Some((block.as_slice(), rest));
+    }
+    if back.is_empty() {
+        return None;
+    }
+    Some((back, nothing()))
+}
+
 impl<'a> Iterator for Iter<'a> {
     type Item = &'a InternalValue;
 
@@ -143,6 +177,16 @@ impl<'a> DoubleEndedIterator for Iter<'a> {
 }
 
 impl<'a> Iter<'a> {
+    /// The entries of the first block that is left, or what is left of it, all at once.
+    pub fn next_block(&mut self) -> Option<&'a [InternalValue]>
+        ensures parts { MatchOption result (self.old ≡ []) (λ block. self.old ≡ block.now ++ self.new) }
+        ensures some { IfSome result (λ block. 0 < length block.now) }
+    {
+        let (block, rest) = split_block(self.front, self.middle, self.back)?;
+        *self = rest;
+        Some(block)
+    }
+
     /// The same entries once more, from both ends.
     pub fn copy(&self) -> Iter<'a>
         ensures { result ≡ self.now }

@@ -9,12 +9,12 @@ ghost use Rattle.lsm_state.specs.Deeds.{IsNoDeed};
 ghost use Rattle.lsm_state.specs.Flushes.{Begins, WritesTables, with_next_table, noted_in, spent, spent_in};
 
 use crate::TreeState;
-use lsm_below::{InternalValue, MemtableId};
+use lsm_below::MemtableId;
 use lsm_files::{crashes_leave_versions, write_tables};
 use lsm_jobs::{FlushJob, MergedFlush, OpenFlush, WrittenFlush};
 use lsm_parts::{Error, LIMIT, SealedMemtables};
 use lsm_store::Store;
-use lsm_tables::Table;
+use lsm_tables::{Entries, Table};
 use lsm_versions::copies;
 use std::alloc::{AllocError, Global};
 
@@ -86,7 +86,7 @@ impl<S: Store> TreeState<S> {
     /// # Errors
     ///
     /// `OutOfMemory`, `Store`, and `OutOfNumbers` where the next id is 2^63 or more. Ids may then be used.
-    fn write_next(&mut self, entries: &[InternalValue]) -> Result<Vec<Table>, Error>
+    fn write_next(&mut self, entries: &Entries<'_>) -> Result<Vec<Table>, Error>
         requires writable { IsWritable entries.now }
         requires certain { self.old.core.lost ≡ None }
         ensures tables { IfOk result (λ tables. HoldEntries self.old.core.moment entries.now self.old.core.next_table self.new.core.next_table tables.items) }
@@ -110,6 +110,31 @@ impl<S: Store> TreeState<S> {
         let written = write_tables(self.alloc, &mut self.store, &mut next, self.moment, entries);
         self.next_table.set(next);
         written
+    }
+
+    /// Writes tables that hold what a job kept, made at the tree's moment, under the next ids.
+    ///
+    /// # Errors
+    ///
+    /// `OutOfMemory`, `Store`, and `OutOfNumbers` where the next id is 2^63 or more. Ids may then be used.
+    fn write_kept(&mut self, job: &MergedFlush) -> Result<Vec<Table>, Error>
+        requires certain { self.old.core.lost ≡ None }
+        ensures tables { IfOk result (λ tables. HoldEntries self.old.core.moment job.now.entries self.old.core.next_table self.new.core.next_table tables.items) }
+        ensures own_ids { IfOk result (λ tables. HasOwnIds (tables.items ++ all_of self.old.core.history.latest.version.levels)) }
+        ensures rises { self.old.core.next_table ≤ self.new.core.next_table }
+        ensures core { self.new.core ≡ with_next_table self.new.core.next_table self.old.core }
+        ensures upholds { S.tells → Upholds (S.world self.old.store) (S.world self.new.store) self.old.core self.new.core }
+        ensures on_disk { S.tells → IfOk result (λ tables. AreOnDisk (S.world self.new.store) tables.items) }
+        ensures out_of_numbers { IsErrOf result Error.OutOfNumbers → LIMIT ≤ self.new.core.next_table }
+        ensures only { IfErr result (λ e. ((e ≡ Error.OutOfMemory) ⊎ (e ≡ Error.Store)) ⊎ (e ≡ Error.OutOfNumbers)) }
+        ensures counts { CountsFaults (S.world self.old.store) (S.world self.new.store) result }
+    {
+        job.facts();
+        crashes_leave_versions(&self.store);
+        let Ok(parts) = job.parts() else {
+            return Err(Error::OutOfMemory);
+        };
+        self.write_next(&parts.entries())
     }
 
     /// Writes the tables of a job that was merged, one after the other, and syncs them: of their files one at a time is
@@ -136,7 +161,7 @@ impl<S: Store> TreeState<S> {
         if self.lost.is_some() {
             return Err((Error::Unrecoverable, job));
         }
-        let tables = match self.write_next(job.entries()) {
+        let tables = match self.write_kept(&job) {
             Ok(tables) => tables,
             Err(error) => return Err((error, job)),
         };

@@ -8,3 +8,4 @@ pub mod Lengths
 pub mod Cutting
 pub mod CutRuns
 pub mod Keeping
+pub mod Lists

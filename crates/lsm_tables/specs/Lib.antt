@@ -4,4 +4,5 @@ pub mod Image
 pub mod ImageReading
 pub mod Tables
 pub mod Cutting
+pub mod Parts
 pub mod Spellings

@@ -4,6 +4,7 @@
 //! |-|-|
 //! | `checksum` | the checksum of a file's bytes |
 //! | `image` | the content of a table's file |
+//! | `parts` | entries that stand in several slices |
 //! | `table` | the entries of one file |
 //! | `multi_writer` | entries cut into tables |
 //! | `table_error` | what reading a table refuses |
@@ -12,14 +13,16 @@
 mod checksum;
 mod image;
 mod multi_writer;
+mod parts;
 mod table;
 mod table_error;
 
 pub use checksum::{Checksum, sums_of_parts};
-pub use image::{decode, encode, fits_image, is_writable, no_image_begins_another};
+pub use image::{decode, encode, encode_parts, fits_image, is_writable, no_image_begins_another};
 pub use multi_writer::{
     MultiWriter, cuts_are_runs, first_ends_cut, kept_is_writable, size_of_entry, split_table,
     write_tables,
 };
+pub use parts::{Entries, Parts};
 pub use table::Table;
 pub use table_error::TableError;

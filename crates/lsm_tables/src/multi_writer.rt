@@ -1,10 +1,11 @@
 // Entries cut into tables.
-ghost use Rattle.std.specs.Prelude.{◌≡◌, ◌+◌, ◌++◌, ◌∷◌, [], ◌<◌, ◌↔◌, map, length, IfOk, IfErr, OnOk, OnErr, IsTrue};
+ghost use Rattle.std.specs.Prelude.{◌≡◌, ◌+◌, ◌++◌, ◌∷◌, [], ◌<◌, ◌↔◌, map, drop, length, IfOk, IfErr, OnOk, OnErr, IsTrue};
 ghost use Rattle.lsm_below.specs.Sums.{capped};
 ghost use Rattle.lsm_tables.specs.Image.{IsTable};
 ghost use Rattle.lsm_tables.specs.Cutting.{IsWritable, IsFirstEnd, CutsFirst, AreImagesOf, CutsAreRuns, FirstEndsCut, KeptIsWritable};
 
-use crate::image::{HEAD_LEN, encode, may_stand_behind};
+use crate::Entries;
+use crate::image::{HEAD_LEN, encode_parts, may_stand_behind};
 use lsm_below::{InternalValue, entries_are_ordered, has_same_key, keys_are_ordered};
 use std::alloc::{AllocError, AllocFailed, Global};
 use std::marker::Model;
@@ -18,23 +19,32 @@ pub fn size_of_entry(entry: &InternalValue) -> u64
         .saturating_add(entry.value.len() as u64)
 }
 
-/// Where the first table of entries ends: before an entry of another key, as soon as it has the
+/// Where the first table of entries ends, and what comes after it: before an entry of another key, as soon as it has the
 /// target, or with the last entry.
-fn first_end(entries: &[InternalValue], target: u64) -> usize
+fn first_end<'a>(entries: &Entries<'a>, target: u64) -> (usize, Entries<'a>)
     requires { 0 < length entries.now }
-    ensures { IsFirstEnd target entries.now result }
+    ensures end { IsFirstEnd target entries.now result.0 }
+    ensures rest { result.1 ≡ drop result.0 entries.now }
 {
+    let Some((first, behind)) = entries.split_first() else {
+        return (0, entries.copy());
+    };
+    // Their number fits.
+    let _ = entries.len();
+    let mut last = first;
+    let mut rest = behind;
     let mut end = 1;
-    let mut held = size_of_entry(&entries[0]);
-    while end < entries.len() {
-        let entry = &entries[end];
-        if held >= target && !has_same_key(&entries[end - 1], entry) {
-            return end;
+    let mut held = size_of_entry(first);
+    while let Some((entry, behind)) = rest.split_first() {
+        if held >= target && !has_same_key(last, entry) {
+            return (end, rest);
         }
         held = held.saturating_add(size_of_entry(entry));
+        last = entry;
+        rest = behind;
         end += 1;
     }
-    end
+    (end, rest)
 }
 
 /// The entries of the first of the tables into which entries are cut, as `write_tables` cuts them, and what comes
@@ -42,19 +52,22 @@ fn first_end(entries: &[InternalValue], target: u64) -> usize
 ///
 /// ```text
 /// let (table, rest) = split_table(&entries, target);
-/// let file = encode(alloc, made_at, table)?;
+/// let file = encode_parts(alloc, made_at, &table)?;
 /// ```
-pub fn split_table(entries: &[InternalValue], target: u64) -> (&[InternalValue], &[InternalValue])
+pub fn split_table<'a>(entries: &Entries<'a>, target: u64) -> (Entries<'a>, Entries<'a>)
     requires some { 0 < length entries.now }
     requires writable { IsWritable entries.now }
-    ensures parts { result.0.now ++ result.1.now ≡ entries.now }
-    ensures table { IsTable result.0.now }
-    ensures writable { IsWritable result.1.now }
-    ensures cut { CutsFirst target entries.now result.0.now result.1.now }
+    ensures parts { result.0 ++ result.1 ≡ entries.now }
+    ensures table { IsTable result.0 }
+    ensures writable { IsWritable result.1 }
+    ensures cut { CutsFirst target entries.now result.0 result.1 }
 {
     keys_are_ordered();
     entries_are_ordered();
-    entries.split_at(first_end(entries, target))
+    // Their number fits.
+    let _ = entries.len();
+    let (end, rest) = first_end(entries, target);
+    (entries.up_to(end), rest)
 }
 
 /// The tables into which a list is cut are a run: their keys rise, and no two share one.
@@ -97,10 +110,10 @@ pub fn write_tables(
     ensures { IfOk result (λ images. AreImagesOf target made_at entries.now (map (λ v. v.items) images.items)) }
 {
     let mut images = Vec::new(alloc);
-    let mut rest = entries;
+    let mut rest = Entries::of(entries);
     while !rest.is_empty() {
-        let (table, behind) = split_table(rest, target);
-        images.push(encode(alloc, made_at, table)?)?;
+        let (table, behind) = split_table(&rest, target);
+        images.push(encode_parts(alloc, made_at, &table)?)?;
         rest = behind;
     }
     Ok(images)

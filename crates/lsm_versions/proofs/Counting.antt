@@ -1,9 +1,9 @@
 -- What is counted of tables, and of others behind them.
-use Rattle.std.proofs.Common.{◌≡◌, ℕ, ◌+◌, List, [], ◌∷◌, ◌++◌, length, max, sum_by, sym, ap, ◌∙◌, arith, refl}
+use Rattle.std.proofs.Common.{◌≡◌, ℕ, ◌+◌, List, [], ◌∷◌, ◌++◌, length, max, sum_by, arith}
 use Rattle.std.proofs.lemmas.List.{length-append}
 use Rattle.std.proofs.lemmas.List.Sums.{sum_by-append}
 use Rattle.lsm_below.specs.Sums.{capped}
-use Rattle.lsm_tables.specs.Tables.{SeenTable, greatest}
+use Rattle.lsm_tables.specs.Tables.{SeenTable}
 use Rattle.lsm_versions.specs.Totals.{greatest_of}
 
 pub greatest_of-append : (xs ys : List SeenTable) → greatest_of (xs ++ ys) ≡ max (greatest_of xs) (greatest_of ys)

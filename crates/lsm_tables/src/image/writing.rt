@@ -6,6 +6,7 @@ use super::layout::{
     COUNT_PLACE, FRONT_LEN, HEAD_LEN, MADE_AT_PLACE, MAGIC, SEQNO_PLACE, TOMBSTONE_CODE,
     TYPE_PLACE, VALUE_CODE, VALUE_LEN_PLACE, WEAK_TOMBSTONE_CODE,
 };
+use crate::Entries;
 use byteorder::{ByteOrder, LittleEndian};
 use lsm_below::{InternalValue, SeqNo, ValueType};
 use std::alloc::{AllocError, Global};
@@ -59,18 +60,21 @@ fn put_entry(out: &mut Vec<u8>, entry: &InternalValue) -> Result<(), AllocError>
 }
 
 /// How many bytes the content has, so that room is made once.
-fn size_of(entries: &[InternalValue]) -> usize {
+fn size_of(entries: &Entries<'_>) -> usize {
     let mut size = FRONT_LEN;
-    for entry in entries {
+    let mut rest = entries.copy();
+    while let Some((entry, behind)) = rest.split_first() {
         size = size
             .saturating_add(HEAD_LEN)
             .saturating_add(entry.key.user_key.len())
             .saturating_add(entry.value.len());
+        rest = behind;
     }
     size
 }
 
-/// The content of the file of a table of these entries, made at this moment (in nanoseconds).
+/// The content of the file of a table of these entries, made at this moment (in nanoseconds). It is made of them where
+/// they stand.
 ///
 /// The entries rise, at least one; keys have at most `MAX_KEY_LEN` bytes, values at most
 /// `MAX_VALUE_LEN`, and tombstones none. The cost is linear in the bytes.
@@ -78,14 +82,28 @@ fn size_of(entries: &[InternalValue]) -> usize {
 /// # Errors
 ///
 /// Refused only for want of memory.
-pub fn encode(alloc: Global, made_at: u64, entries: &[InternalValue]) -> Result<Vec<u8>, AllocError>
+pub fn encode_parts(
+    alloc: Global,
+    made_at: u64,
+    entries: &Entries<'_>,
+) -> Result<Vec<u8>, AllocError>
     requires { IsTable entries.now }
     ensures { IfOk result (λ v. v.items ≡ image made_at entries.now) }
 {
     let mut out = Vec::with_capacity(alloc, size_of(entries))?;
     out.extend_from_slice(&front_of(made_at, entries.len() as u64))?;
-    for entry in entries {
+    let mut rest = entries.copy();
+    while let Some((entry, behind)) = rest.split_first() {
         put_entry(&mut out, entry)?;
+        rest = behind;
     }
     Ok(out)
+}
+
+/// `encode_parts`, of entries that stand in one slice.
+pub fn encode(alloc: Global, made_at: u64, entries: &[InternalValue]) -> Result<Vec<u8>, AllocError>
+    requires { IsTable entries.now }
+    ensures { IfOk result (λ v. v.items ≡ image made_at entries.now) }
+{
+    encode_parts(alloc, made_at, &Entries::of(entries))
 }

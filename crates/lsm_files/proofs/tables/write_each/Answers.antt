@@ -1,6 +1,4 @@
-use Rattle.std.proofs.Common.{◌≡◌, ◌++◌, ◌∷◌, [], ◌+◌, List, length, sym, subst, arith}
-use Rattle.std.proofs.lemmas.Bool.{eqb-true}
-use Rattle.std.proofs.lemmas.List.{nil_from_length}
+use Rattle.std.proofs.Common.{◌≡◌, ◌++◌, ◌∷◌, [], ◌+◌, List, sym, subst, arith}
 use Rattle.lsm_tables.specs.Tables.{SeenTable}
 use Rattle.lsm_files.specs.declared.tables.TheConstants.{TABLE_TARGET}
 use Rattle.lsm_files.specs.Stored.{IsTableOnDisk, AreOnDisk}
@@ -13,7 +11,7 @@ loop-rest-init g c =
     let w = g.S.Store.world in
     let none = sym c.new-tables.ensures.items in
     record {
-      written = subst (λ (ts : List SeenTable). IsUnderway TABLE_TARGET c.args.made_at c.args.next.now c.args.next.now c.args.entries.now ts c.args.entries.now) none (underway_none TABLE_TARGET c.args.made_at c.args.next.now c.args.entries.now c.requires);
+      written = rw c.copy-rest.ensures (subst (λ (ts : List SeenTable). IsUnderway TABLE_TARGET c.args.made_at c.args.next.now c.args.next.now c.args.entries.now ts c.args.entries.now) none (underway_none TABLE_TARGET c.args.made_at c.args.next.now c.args.entries.now c.requires));
       on_disk = λ tells. subst (λ (ts : List SeenTable). AreOnDisk (w c.args.store.now) ts) none tt;
       files = files_none g.S.Store.tells c.args.next.now (w c.args.store.now) (λ tells. g.met.S.Store.only_now tells c.args.store.now);
     }
@@ -40,8 +38,8 @@ loop-rest-preserved g c =
     let made = c.in_ok-write_table.ensures in
     let pushed : c.push.new.self.items ≡ at.tables.items ++ t ∷ [] = c.in_ok-push.ensures.items in
     record {
-      written = subst (λ (ts : List SeenTable). IsUnderway TABLE_TARGET c.args.made_at first (at.next + 1) c.args.entries.now ts c.split_table.result.1.now) (sym pushed)
-          (underway_more TABLE_TARGET c.args.made_at first at.next c.args.entries.now at.tables.items at.rest.now c.split_table.result.0.now c.split_table.result.1.now t written made.table c.split_table.ensures.writable c.split_table.ensures.cut);
+      written = subst (λ (ts : List SeenTable). IsUnderway TABLE_TARGET c.args.made_at first (at.next + 1) c.args.entries.now ts c.split_table-first.result.1) (sym pushed)
+          (underway_more TABLE_TARGET c.args.made_at first at.next c.args.entries.now at.tables.items at.rest c.split_table-first.result.0 c.split_table-first.result.1 t written made.table c.split_table-first.ensures.writable c.split_table-first.ensures.cut);
       on_disk = λ tells. subst (λ (ts : List SeenTable). AreOnDisk new ts) (sym pushed)
           (each_push (IsTableOnDisk new) at.tables.items t (tables_stay c.names_are_apart.ensures.tables at.next (omega arith) mid new (made.keeps tells) at.tables.items written.below (at.invariant.on_disk tells)) (made.on_disk tells));
       files = files_more first at.next old mid new written.rises (omega arith) g.S.Store.tells at.invariant.files made.keeps made.any_moment (made.counts.none (λ e. absurd (cc e)) (λ e. absurd (cc e)));
@@ -49,4 +47,4 @@ loop-rest-preserved g c =
 
 pub returns-clause-tables : goal.returns-clause-tables
 returns-clause-tables g c =
-    all_written c.cut_tables_are_runs.ensures TABLE_TARGET c.args.made_at c.args.next.now c.loop-rest.next c.args.entries.now c.loop-rest.tables.items c.loop-rest.rest.now c.requires c.loop-rest.invariant.written (nil_from_length c.loop-rest.rest.now (eqb-true (length c.loop-rest.rest.now) 0 (sym c.loop-rest-test.ensures)))
+    all_written c.cut_tables_are_runs.ensures TABLE_TARGET c.args.made_at c.args.next.now c.loop-rest.next c.args.entries.now c.loop-rest.tables.items c.loop-rest.rest c.requires c.loop-rest.invariant.written (c.is_empty.ensures.0 c.loop-rest-test.false)

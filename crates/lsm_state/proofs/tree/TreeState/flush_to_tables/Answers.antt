@@ -1,10 +1,9 @@
-use Rattle.std.proofs.Common.{◌≡◌, ◌++◌, ap, sym, subst, ◌∙◌, refl}
+use Rattle.std.proofs.Common.{◌++◌, ap, sym, subst, ◌∙◌, refl}
 use Rattle.lsm_versions.specs.Levels.{all_of, HasOwnIds}
 use Rattle.lsm_files.specs.Stored.{AreOnDisk}
 use Rattle.lsm_files.specs.Writing.{HoldEntries}
 use Rattle.lsm_state.specs.Core.{Core}
 use Rattle.lsm_state.specs.Commits.{Upholds}
-use Rattle.lsm_state.specs.Flushes.{noted_in}
 use Rattle.lsm_state.proofs.Upholding.{upheld_still}
 use Rattle.lsm_state.proofs.Writing.{tables_noted, noted_upholds}
 use Rattle.lsm_state.proofs.tree.TreeState.flush_to_tables.Goals as goal
@@ -22,9 +21,9 @@ invariant_of-self g c =
     let now = c.args.self.now.core in
     let copied = c.in-Ok-copies.ensures ∙ c.deref.ensures.value in
     let made = ap (λ t. t.core) c.self-2.view_is ∙ c.in-Ok.ensures.core in
-    let held = subst (λ ts. HoldEntries now.moment c.entries.result.now now.next_table i.next_table ts) (sym copied) (subst (λ n. HoldEntries now.moment c.entries.result.now now.next_table n c.in-Ok.tables.items) (sym (ap (λ t. t.core.next_table) c.self-2.view_is)) c.in-Ok.ensures.tables) in
+    let held = subst (λ ts. HoldEntries now.moment c.args.job.entries now.next_table i.next_table ts) (sym copied) (subst (λ n. HoldEntries now.moment c.args.job.entries now.next_table n c.in-Ok.tables.items) (sym (ap (λ t. t.core.next_table) c.self-2.view_is)) c.in-Ok.ensures.tables) in
     let own = subst (λ ts. HasOwnIds (ts ++ all_of i.history.latest.version.levels)) (sym copied) (subst (λ h. HasOwnIds (c.in-Ok.tables.items ++ all_of h.latest.version.levels)) (sym (ap (λ k. k.history) made)) c.in-Ok.ensures.own_ids) in
-    rw (c.with_tables.ensures, c.take-open.ensures.value) (c.self-2.invariant.0, tables_noted i.history c.number.result i.next_table now.moment now.next_table c.entries.result.now c.in-Ok-copies.copies.items i.flush held own c.self-2.invariant.1)
+    rw (c.with_tables.ensures, c.take-open.ensures.value) (c.self-2.invariant.0, tables_noted i.history c.number.result i.next_table now.moment now.next_table c.args.job.entries c.in-Ok-copies.copies.items i.flush held own c.self-2.invariant.1)
 
 pub returns-clause-upholds : goal.returns-clause-upholds
 returns-clause-upholds g c tells =

@@ -1,4 +1,5 @@
-use Rattle.std.proofs.Common.{◌≡◌, ◌<◌, ◌≤◌, ◌-◌, ◌^◌, ◌++◌, None, ap, sym, subst, ◌∙◌, refl, arith, rules}
+use Rattle.std.proofs.Common.{◌≡◌, ◌<◌, ◌≤◌, ◌-◌, ◌^◌, ◌++◌, None, length, ap, sym, subst, refl, arith, rules}
+use Rattle.std.specs.Prelude.{nat_eq}
 use Rattle.std.proofs.lemmas.Result.{IfOk-weaker}
 use Rattle.lsm_versions.specs.Levels.{all_of, HasOwnIds}
 use Rattle.lsm_files.specs.Writing.{HoldEntries, KeepsStored}
@@ -9,7 +10,7 @@ use Rattle.lsm_state.proofs.Writing.{no_tables, tables_later, own_now, own_writt
 use Rattle.lsm_state.proofs.tree.TreeState.write_next.Goals as goal
 
 pub returns-then-is_empty-clause-tables : goal.returns-then-is_empty-clause-tables
-returns-then-is_empty-clause-tables g c = no_tables c.args.self.now.core.moment c.args.self.now.core.next_table c.args.entries.now c.new.result.items (sym c.is_empty.ensures ∙ c.if-is_empty.true) c.new.ensures.items
+returns-then-is_empty-clause-tables g c = no_tables c.args.self.now.core.moment c.args.self.now.core.next_table c.args.entries.now c.new.result.items (ap (λ es. nat_eq (length es) 0) (c.is_empty.ensures.0 c.if-is_empty.true)) c.new.ensures.items
 
 pub returns-then-is_empty-clause-own_ids : goal.returns-then-is_empty-clause-own_ids
 returns-then-is_empty-clause-own_ids g c =

@@ -1,9 +1,9 @@
-use Rattle.std.proofs.Common.{◌≡◌, ℕ, ◌+◌, ◌++◌, List, length, sum_by, max, min, ap, arith, refl}
+use Rattle.std.proofs.Common.{◌≡◌, ℕ, ◌+◌, ◌++◌, List, length, sum_by, ap, arith, refl}
 use Rattle.lsm_below.specs.Sums.{capped}
 use Rattle.lsm_tables.specs.Image.{entry_bytes}
 use Rattle.lsm_tables.specs.Tables.{SeenTable, tombstones, weak_tombstones, reclaimable}
 use Rattle.lsm_versions.specs.declared.totals.Totals.{Totals}
-use Rattle.lsm_versions.specs.Totals.{totals_of, greatest_of}
+use Rattle.lsm_versions.specs.Totals.{greatest_of}
 use Rattle.lsm_versions.proofs.Counting.{capped_both, capped_length, greatest_of-append}
 use Rattle.lsm_versions.proofs.totals.Totals.plus.Goals as goal
 
