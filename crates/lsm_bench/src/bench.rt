@@ -4,14 +4,15 @@ ghost use Rattle.lsm_bench.specs.Kinds.{kind_of};
 
 use crate::arguments::Plan;
 use crate::lists::list;
+use crate::merges::{ingest, merge_all};
 use crate::orders::Orders;
 use crate::places::{Folder, Memory, Place};
 use crate::points;
 use crate::progress::Progress;
 use crate::report::{Figures, Tally, print_figures};
 use crate::resident::resident_bytes;
-use crate::trees::{AnyTree, reopen};
-use crate::workloads::{FOLDER_WORKLOADS, Filling, Job, Kind, Listing, WORKLOADS, Wanted};
+use crate::trees::{AnyTree, open_owned, reopen};
+use crate::workloads::{FOLDER_WORKLOADS, Filling, Ingest, Job, Kind, Listing, WORKLOADS, Wanted};
 use anyhow::{Context, Result};
 use lsm_tree::Store;
 use std::alloc::Global;
@@ -144,6 +145,14 @@ impl<P: Place> Bench<'_, P> {
             Job::Reopen(wanted) => {
                 let filled = self.find(rt, left, Kind::Owned, Filling::Flat)?;
                 self.reopen(rt, filled, wanted)
+            }
+            Job::Major => {
+                let filled = self.find(rt, left, Kind::Owned, Filling::Runs)?;
+                self.merge(rt, filled)
+            }
+            Job::Ingest(way) => {
+                drop(left);
+                self.ingest(rt, way)
             }
         }
     }
@@ -292,6 +301,38 @@ impl<P: Place> Bench<'_, P> {
             tree: AnyTree::Owned(tree),
             filling,
             added,
+        };
+        Ok((filled, Figures { tally, time }))
+    }
+
+    /// Merges all tables of a tree. The check is how many entries are left.
+    fn merge<R: Clock>(
+        &self,
+        rt: &R,
+        mut filled: Filled<P::Store>,
+    ) -> Result<(Filled<P::Store>, Figures)>
+        requires { kind_of filled.tree ≡ Kind.Owned }
+    {
+        let AnyTree::Owned(tree) = &mut filled.tree else {
+            unreachable!()
+        };
+        let start = Instant::now(rt)?;
+        let tally = merge_all(tree, self.plan.keys)?;
+        let time = start.elapsed(rt)?;
+        filled.filling = Filling::Merged;
+        Ok((filled, Figures { tally, time }))
+    }
+
+    /// Puts all keys into an empty tree, with flushes and compactions in between.
+    fn ingest<R: Clock>(&self, rt: &R, way: Ingest) -> Result<(Filled<P::Store>, Figures)> {
+        let mut tree = open_owned(self.alloc, self.place.store(self.alloc)?)?;
+        let start = Instant::now(rt)?;
+        let tally = ingest(self.alloc, &mut tree, way, &self.orders.puts)?;
+        let time = start.elapsed(rt)?;
+        let filled = Filled {
+            tree: AnyTree::Owned(tree),
+            filling: Filling::Merged,
+            added: 0,
         };
         Ok((filled, Figures { tally, time }))
     }

@@ -15,6 +15,11 @@ const KEY_LEN: usize = 16;
 
 const VALUE_LEN: usize = 100;
 
+/// The bytes of so many keys and their values.
+pub fn put_len(keys: usize) -> u64 {
+    (keys as u64).saturating_mul((KEY_LEN + VALUE_LEN) as u64)
+}
+
 /// A byte that begins a key of no id.
 const ABSENT: u8 = 1;
 

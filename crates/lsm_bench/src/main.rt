@@ -17,6 +17,7 @@
 //! | `workloads` | the table of workloads |
 //! | `points` | workloads that write or read one key at a time, on any tree, and flushes |
 //! | `lists` | workloads that read many keys at a time |
+//! | `merges` | workloads that merge tables |
 //! | `places` | where trees stand: in memory, or in a folder |
 //! | `trees` | the trees that workloads find |
 //! | `bench` | the run of one workload after the other |
@@ -29,6 +30,7 @@ mod arguments;
 mod bench;
 mod keys;
 mod lists;
+mod merges;
 mod orders;
 mod places;
 mod points;

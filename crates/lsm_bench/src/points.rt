@@ -150,7 +150,7 @@ pub fn fill<T: Points>(
         Filling::Random => put_all(alloc, tree, &orders.puts),
         Filling::Same => put_same(alloc, tree, &orders.rising),
         Filling::Flat => put_parts(alloc, tree, &orders.puts, 1),
-        Filling::Runs => put_parts(alloc, tree, &orders.puts, 4),
+        Filling::Runs | Filling::Merged => put_parts(alloc, tree, &orders.puts, 4),
     }
 }
 
@@ -175,7 +175,7 @@ fn put_parts<T: Points>(
 }
 
 /// Puts the key of each id with its value.
-fn put_all<T: Points>(alloc: Global, tree: &mut T, ids: &[u64]) -> Result<Tally, Error> {
+pub fn put_all<T: Points>(alloc: Global, tree: &mut T, ids: &[u64]) -> Result<Tally, Error> {
     let mut check = 0;
     for id in ids {
         check = tree.write(set(alloc, *id, *id)?)?;

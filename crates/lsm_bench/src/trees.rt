@@ -38,6 +38,11 @@ fn open_recorded<S: Store>(alloc: Global, store: S) -> Result<Recorded<S>, Error
     }
 }
 
+/// A tree with one owner, of an empty store.
+pub fn open_owned<S: Store>(alloc: Global, store: S) -> Result<TreeState<S>, Error> {
+    open_state(alloc, START, store)
+}
+
 /// Closes a tree, and opens it again from its store, with its counters where they were.
 pub fn reopen<S: Store>(alloc: Global, tree: TreeState<S>) -> Result<TreeState<S>, Error> {
     let config = Config::new(tree.id(), tree.seqno().get(), tree.visible_seqno().get());

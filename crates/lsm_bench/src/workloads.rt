@@ -15,6 +15,19 @@ pub enum Job {
     Flush(Kind),
     /// Closes a flat tree with one owner and opens it again; and then gets keys, where it is said which.
     Reopen(Option<Wanted>),
+    /// Merges the four runs of a tree with one owner into one in the last level.
+    Major,
+    /// Puts all keys in random order into an empty tree with one owner, with flushes and compactions in between.
+    Ingest(Ingest),
+}
+
+/// When tables are merged while keys are put.
+#[derive(Clone, Copy)]
+pub enum Ingest {
+    /// Once, behind four flushes.
+    Once,
+    /// As `Leveled` chooses, behind each of 16 flushes.
+    Leveled,
 }
 
 /// A kind of tree.
@@ -41,6 +54,8 @@ pub enum Filling {
     Flat,
     /// In random order, and flushed after each quarter: four runs of tables.
     Runs,
+    /// In random order, and merged into the last level.
+    Merged,
 }
 
 /// Which keys are asked for, in random order.
@@ -67,7 +82,7 @@ pub enum Listing {
 ///
 /// Those that read one tree stand behind the one that makes it, so that it is done once. The first is the fill that
 /// is weighed, before other trees have left memory behind.
-pub const WORKLOADS: [(&str, Job); 23] = [
+pub const WORKLOADS: [(&str, Job); 26] = [
     ("put_rand", Job::Fill(Kind::Owned, Filling::Random)),
     ("bytes_mem", Job::Weigh(Kind::Owned)),
     (
@@ -103,6 +118,9 @@ pub const WORKLOADS: [(&str, Job); 23] = [
         "get_runs4",
         Job::Get(Kind::Owned, Filling::Runs, Wanted::Present),
     ),
+    ("major4", Job::Major),
+    ("ingest4", Job::Ingest(Ingest::Once)),
+    ("mixed", Job::Ingest(Ingest::Leveled)),
     ("put_seq", Job::Fill(Kind::Owned, Filling::Rising)),
     ("put_same", Job::Fill(Kind::Owned, Filling::Same)),
     ("locked_put_rand", Job::Fill(Kind::Locked, Filling::Random)),

@@ -228,6 +228,7 @@ impl MergedCompaction {
     pub fn tables(&self, ids: &[TableId]) -> Result<Vec<Table>, Error>
         requires { length ids.now ≡ length self.now.files }
         ensures tables { IfOk result (λ tables. AreTablesOf self.now.job self.now.files ids.now tables.items) }
+        ensures moment { self.now.job.settings.made_at < 2 ^ 64 }
         ensures memory { IfErr result (λ e. e ≡ Error.OutOfMemory) }
     {
         cut_tables_are_runs();

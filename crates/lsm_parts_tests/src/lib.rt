@@ -12,6 +12,7 @@
 //! | `prefixes` | the bounds of the keys that begin alike |
 //! | `iterators` | what iterators give over memtables, from both ends |
 //! | `flushes` | flushes, old snapshots over them, and what a crash leaves |
+//! | `compactions` | compactions: which are declined and why, open merges, strategies, dropped ranges |
 //! | `trees` | writes, reads of one key and rotation of a tree |
 //! | `tree_ranges` | a tree's reads of many keys |
 //! | `samples` | what several of these make, and how they look at what is given |
@@ -21,6 +22,8 @@
 //! each `?` before it.
 #![tactic(auto)]
 
+#[cfg(test)]
+mod compactions;
 #[cfg(test)]
 mod counters;
 #[cfg(test)]

@@ -1,5 +1,5 @@
 -- What Major and DropRange may answer.
-use Rattle.std.specs.Prelude.{ℕ, Bool, ◌&&◌, List, filter, true}
+use Rattle.std.specs.Prelude.{ℕ, Bool, ◌&&◌, List, filter, true, false, Option, Some, None}
 use Rattle.std.specs.Bool.{MatchBool}
 use Rattle.std.specs.declared.ops.Bound.{Bound}
 use Rattle.std.specs.declared.ops.Bound.TheVariants.{Included, Excluded, Unbounded}
@@ -28,6 +28,22 @@ abbrev pub is_to : Bound Bytes → Bytes → Bool
 is_to (Included b) k = is_upto k b
 is_to (Excluded b) k = is_below k b
 is_to Unbounded k = true
+
+-- the key of a bound, if it has one
+abbrev pub key_of : Bound Bytes → Option Bytes
+key_of (Included a) = Some a
+key_of (Excluded a) = Some a
+key_of Unbounded = None
+
+-- both have a key, and the second one is below the first
+abbrev pub do_fall : Option Bytes → Option Bytes → Bool
+do_fall None b = false
+do_fall (Some a) None = false
+do_fall (Some a) (Some b) = is_below b a
+
+-- the key of their end is below that of their start
+abbrev pub are_reversed : OwnedBounds → Bool
+are_reversed bounds = do_fall (key_of bounds.start) (key_of bounds.end)
 
 -- the whole range lies within
 abbrev pub holds : OwnedBounds → Range → Bool

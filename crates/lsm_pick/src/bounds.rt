@@ -1,7 +1,7 @@
 // Bounds of keys.
-ghost use Rattle.std.specs.Prelude.{◌≡◌, IfOk};
+ghost use Rattle.std.specs.Prelude.{◌≡◌, IfOk, option_map};
 ghost use Rattle.lsm_below.specs.Keys.{is_below};
-ghost use Rattle.lsm_pick.specs.Simple.{holds, is_from, is_to};
+ghost use Rattle.lsm_pick.specs.Simple.{holds, is_from, is_to, key_of, are_reversed};
 
 use crate::tables::key_is_upto;
 use lsm_below::{KeyRange, UserKey};
@@ -64,7 +64,28 @@ fn copy_bound(bound: &Bound<UserKey>) -> Result<Bound<UserKey>, AllocError>
     })
 }
 
+/// The key of a bound, if it has one.
+fn key_of(bound: &Bound<UserKey>) -> Option<&UserKey>
+    ensures { option_map (λ k. k.now) result ≡ key_of bound.now }
+{
+    match bound {
+        Bound::Included(key) => Some(key),
+        Bound::Excluded(key) => Some(key),
+        Bound::Unbounded => None,
+    }
+}
+
 impl OwnedBounds {
+    /// Whether the key of their end is below that of their start: then no range lies within.
+    pub fn is_reversed(&self) -> bool
+        ensures { result ≡ are_reversed self.now }
+    {
+        match (key_of(&self.start), key_of(&self.end)) {
+            (Some(start), Some(end)) => key_is_below(end, start),
+            _ => false,
+        }
+    }
+
     /// Whether the whole range lies within.
     pub fn contains(&self, range: &KeyRange) -> bool
         ensures { result ≡ holds self.now range.now }

@@ -32,7 +32,7 @@ use Rattle.lsm_state.specs.Cleaning.{Cleans}
 use Rattle.lsm_state.specs.Deeds.{saved_of, HasOrder, IsNoDeed, IsMarkDeed, AreDone}
 use Rattle.lsm_state.specs.Flushes.{with_next_table}
 use Rattle.lsm_state.specs.Settling.{next_in, IsInstalled, IsDoubted, SettlesSome}
-use Rattle.lsm_state.specs.Compactions.{levels_of, reason_of, IsMovedTo, IsDroppedFrom, IsMergedInto, InstallsChoice, OpensMerge, InstallsMerge, EndsFor, Ends, Spends, closed, job_for, Does, BeginsChoice, Finishes}
+use Rattle.lsm_state.specs.Compactions.{levels_of, reason_of, IsMovedTo, IsDroppedFrom, IsNotMoved, IsNotDropped, IsMergedInto, InstallsChoice, OpensMerge, InstallsMerge, EndsFor, Ends, Spends, closed, job_for, Does, BeginsChoice, Finishes}
 use Rattle.lsm_state.specs.CompactionDeeds.{AreLostTelling, dropped_by, IsChoiceDeed, IsLostChoice, ChoiceDeeds, IsMarkedIn, merge_of, IsMergeDeed, IsLostMerge, MergeDeeds, CompactionsAreDeeds}
 use Rattle.lsm_state.proofs.Distinct.{distinct_placed}
 use Rattle.lsm_state.proofs.Forgetting.{cleaned_step}
@@ -178,7 +178,7 @@ outcome (Err e) IsMade w old new s usual Installs Loses Nothing installs loses n
   where
     changed : (e ≡ AfterCommit → ⊥) → (e ≡ CommitUnknown → ⊥) → (new ≡ old) ⊎ (new ≡ counted old)
     changed no_after known =
-        ⊎_elim (⊎_elim (λ (m : e ≡ OutOfMemory). s.memory (ap Err m)) (⊎_elim (λ (m : e ≡ Store). inr (s.store (ap Err m))) (λ (m : e ≡ CommitUnknown). absurd (known m))))
+        ⊎_elim (⊎_elim (λ (m : e ≡ OutOfMemory). s.memory (ap Err m)) (⊎_elim (λ (m : e ≡ Store). s.store (ap Err m)) (λ (m : e ≡ CommitUnknown). absurd (known m))))
         (⊎_elim (λ (m : e ≡ OutOfNumbers). inl (s.before (inl (ap Err m)))) (⊎_elim (λ (m : e ≡ TooManyRuns). inl (s.before (inr (ap Err m)))) (λ (m : e ≡ AfterCommit). absurd (no_after m)))) usual
 
 any_ok : {T : Type 0} (r : Result T Error) (P : T → Type 0) → ((x : T) → P x) → IfOk r P
@@ -208,8 +208,8 @@ module _ (moves : MovesAreSteps) (drops : DropsAreSteps) (choice : Choice) (o : 
   }
 
   -- a move or a drop is installed
-  installs : (IsMade : SeenVersion → Type 0) → InstallsChoice IsMade w r old new → ((v : SeenVersion) → IsMade v → (whole : Bool) → IsInstalled v w whole old new → IsChoiceDeed choice w old new) → ((v : SeenVersion) → IsMade v → IsDoubted v old new → IsLostChoice choice w old new) → ChoiceDeeds choice w r old new
-  installs IsMade made done lost = record {
+  installs : (IsMade : SeenVersion → Type 0) (IsUnmade : Error → Type 0) → InstallsChoice IsMade IsUnmade w r old new → ((v : SeenVersion) → IsMade v → (whole : Bool) → IsInstalled v w whole old new → IsChoiceDeed choice w old new) → ((v : SeenVersion) → IsMade v → IsDoubted v old new → IsLostChoice choice w old new) → ChoiceDeeds choice w r old new
+  installs IsMade IsUnmade made done lost = record {
     told = told_of r made.ok;
     refused = one.other;
     done = ⊎_elim (λ (h : r ≡ Ok Installed). subst (λ x. OnOk x (IsChoiceDeed choice w old new)) h one.ok) one.after;
@@ -259,7 +259,7 @@ does_deeds moves drops DoNothing o r old new kept certain does =
     other_answer : ◌≡◌ {A = Result Begun Error} (Ok DidNothing) (Ok Installed) → ⊥
     other_answer e = cc e
 does_deeds moves drops (Move input) o r old new kept certain does =
-    installs moves drops (Move input) o r old new kept (IsMovedTo input old.history.latest.version) does
+    installs moves drops (Move input) o r old new kept (IsMovedTo input old.history.latest.version) (IsNotMoved input old.history.latest.version) does
     (λ v made whole is. (made.moves.run, done_marked old v (Moved input.dest_level input.table_ids.keys (placed_in input.dest_level made.moves.run)) (Install old.seqno ∷ []) [] (move_puts moves drops (Move input) o r old new kept certain input v made) kept o.mvcc_gc_watermark whole new is))
     (λ v made is. (made.moves.run, committed (next_in old v) old, lost_marked old v (Moved input.dest_level input.table_ids.keys (placed_in input.dest_level made.moves.run)) (Install old.seqno ∷ []) [] (move_puts moves drops (Move input) o r old new kept certain input v made) kept o.mvcc_gc_watermark new is))
 does_deeds moves drops (Merge input) o r old new kept certain does = by_answer r does
@@ -271,7 +271,7 @@ does_deeds moves drops (Merge input) o r old new kept certain does = by_answer r
         not_installed x is h = cc (is, h)
     by_answer (Err e) opens = still moves drops (Merge input) o (Err e) old new kept (looks_same old new (inl opens.err)) (λ h. cc h) (λ h. ⊎_elim (λ (m : e ≡ OutOfMemory). cc (m, h)) (λ (m : e ≡ OutOfNumbers). cc (m, h)) opens.only) (λ h. ⊎_elim (λ (m : e ≡ OutOfMemory). cc (m, h)) (λ (m : e ≡ OutOfNumbers). cc (m, h)) opens.only)
 does_deeds moves drops (Drop ids) o r old new kept certain does =
-    installs moves drops (Drop ids) o r old new kept (IsDroppedFrom ids.keys old.history.latest.version) does
+    installs moves drops (Drop ids) o r old new kept (IsDroppedFrom ids.keys old.history.latest.version) (IsNotDropped ids.keys old.history.latest.version) does
     (λ v made whole is. done_marked old v (DroppedTables ids.keys) (dropped_by ids.keys old ++ Install old.seqno ∷ []) (dropped_by ids.keys old) (drop_puts moves drops (Drop ids) o r old new kept certain ids.keys v made) kept o.mvcc_gc_watermark whole new is)
     (λ v made is. (committed (next_in old v) old, lost_marked old v (DroppedTables ids.keys) (dropped_by ids.keys old ++ Install old.seqno ∷ []) (dropped_by ids.keys old) (drop_puts moves drops (Drop ids) o r old new kept certain ids.keys v made) kept o.mvcc_gc_watermark new is))
 

@@ -27,3 +27,8 @@ pub mod Those
 pub mod WholeFlushes
 pub mod Replacing
 pub mod CompactionDeeds
+pub mod Choices
+pub mod Merges
+pub mod Outcomes
+pub mod CompactionReads
+pub mod Wholes

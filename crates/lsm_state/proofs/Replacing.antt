@@ -108,7 +108,7 @@ others_left ids run h v same of_run = each_permuted (λ t. among ids t.id ≡ fa
 abbrev has_id : List SeenTable → ℕ → Bool
 has_id ts i = list_any (λ t. eqb t.id i) ts
 
-apart_none : (xs : List SeenTable) (t : SeenTable) → IsApart xs t → has_id xs t.id ≡ false
+pub apart_none : (xs : List SeenTable) (t : SeenTable) → IsApart xs t → has_id xs t.id ≡ false
 apart_none [] t h = refl
 apart_none (x ∷ xs) t h = ap (λ b. b || has_id xs t.id) h.0 ∙ apart_none xs t h.1
 
@@ -127,7 +127,7 @@ other_than (j ∷ ids) there i has none = other_one i j there (among ids i) (eqb
 flip : (a b : ℕ) → eqb a b ≡ false → eqb b a ≡ false
 flip a b e = grind (arith, nat_tests)
 
-swapped : (xs ys : List SeenTable) → AllByRecursion (IsApart xs) ys → AllByRecursion (IsApart ys) xs
+pub swapped : (xs ys : List SeenTable) → AllByRecursion (IsApart xs) ys → AllByRecursion (IsApart ys) xs
 swapped [] ys h = tt
 swapped (x ∷ xs) ys h = (each_weaker (IsApart (x ∷ xs)) (λ u. eqb u.id x.id ≡ false) (λ u a. flip x.id u.id a.0) ys h, swapped xs ys (each_weaker (IsApart (x ∷ xs)) (IsApart xs) (λ t a. a.1) ys h))
 

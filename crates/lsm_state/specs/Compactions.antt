@@ -1,5 +1,5 @@
 -- The calls of a compaction: what each answers, and what it does.
-use Rattle.std.specs.Prelude.{◌≡◌, ◌⊎◌, ◌↔◌, ℕ, ◌+◌, ◌-◌, ◌≤◌, ◌<◌, ◌^◌, true, false, List, [], ◌∷◌, map, flat_map, Option, Some, None, IsSome, Result, Ok, Err, IfOk, IfErr, OnOk, OnErr, IsErrOf}
+use Rattle.std.specs.Prelude.{◌≡◌, ◌⊎◌, ◌↔◌, ℕ, ◌+◌, ◌-◌, ◌≤◌, ◌<◌, ◌^◌, true, false, List, [], ◌∷◌, ◌++◌, map, flat_map, Option, Some, None, IsSome, Result, Ok, Err, IfOk, IfErr, OnOk, OnErr, IsErrOf}
 use Rattle.std.specs.List.{AllByRecursion}
 use Rattle.lsm_below.specs.declared.error.Error.{Error}
 use Rattle.lsm_below.specs.declared.error.Error.TheVariants.{OutOfMemory, Store, CommitUnknown, Unrecoverable, OutOfNumbers, TooManyRuns, NotDisjoint, Busy, AfterCommit, Strategy}
@@ -9,7 +9,9 @@ use Rattle.lsm_model.specs.Steps.{among, AllCover}
 use Rattle.lsm_tables.specs.Cutting.{IsCutting}
 use Rattle.lsm_tables.specs.Tables.{SeenTable}
 use Rattle.lsm_versions.specs.declared.config.Config.{Config}
-use Rattle.lsm_versions.specs.Levels.{SeenVersion, Levels, IsNext, Moves, PutBetween, HasOwnIds, all_of, placed_of, placed_in}
+use Rattle.lsm_below.specs.Runs.{IsRun}
+use Rattle.lsm_versions.specs.Levels.{SeenVersion, range, Levels, IsNext, IsOneRun, Moves, PutBetween, HasOwnIds, all_of, chosen_from, placed_of, placed_in}
+use Rattle.lsm_versions.specs.Refusals.{IsRefusedFor}
 use Rattle.lsm_versions.specs.Chosen.{Keeps}
 use Rattle.lsm_choices.specs.declared.choice.Kind.TheVariants.{Merge as AsMerge, Move as AsMove, Drop as AsDrop}
 use Rattle.lsm_choices.specs.declared.choice.Why.{Why}
@@ -17,7 +19,7 @@ use Rattle.lsm_choices.specs.declared.choice.Why.TheVariants.{UnknownJob}
 use Rattle.lsm_choices.specs.declared.input.Input.{Input}
 use Rattle.lsm_choices.specs.Choices.{first_reason_of, IsLastReason, HoldSame, IsMovable, AreThere, AllStand}
 use Rattle.lsm_merges.specs.declared.settings.MergeSettings.{MergeSettings}
-use Rattle.lsm_merges.specs.Merges.{SeenCompaction, SeenCompacted, inputs_in, evicts, run_entries, AreKept, AreTablesOf}
+use Rattle.lsm_merges.specs.Merges.{SeenCompaction, inputs_in, evicts, run_entries, AreKept}
 use Rattle.lsm_merges.specs.OpenMerges.{hides, IsOpenIn, opened, ended}
 use Rattle.lsm_pick.specs.declared.choice.Choice.{Choice}
 use Rattle.lsm_pick.specs.declared.choice.Choice.TheVariants.{DoNothing, Move, Merge, Drop}
@@ -28,7 +30,8 @@ use Rattle.lsm_state.specs.declared.compaction.Begun.{Begun}
 use Rattle.lsm_state.specs.declared.compaction.Begun.TheVariants.{DidNothing, Declined, Installed, Job}
 use Rattle.lsm_state.specs.declared.compaction.Finished.{Finished}
 use Rattle.lsm_state.specs.declared.compaction.Finished.TheVariants.{Declined as Over, Installed as Done}
-use Rattle.lsm_state.specs.Core.{Core}
+use Rattle.lsm_state.specs.Core.{Core, written_of}
+use Rattle.lsm_state.specs.Commits.{counted}
 use Rattle.lsm_state.specs.Flushes.{with_next_table}
 use Rattle.lsm_state.specs.Settling.{SettlesSome}
 
@@ -92,19 +95,28 @@ pub record IsDroppedFrom (ids : List ℕ) (latest made : SeenVersion) : Type 0 w
   pub laid : IsLaidOut (placed_of made.levels)
   pub own_ids : HasOwnIds (all_of made.levels)
 
+-- why no version is made where tables move, and where they are dropped
+abbrev pub IsNotMoved : Input → SeenVersion → Error → Type 0
+IsNotMoved input latest e = ((run : List SeenTable) × IsOneRun (chosen_from input.table_ids.keys latest.levels) run × IsRefusedFor input.table_ids.keys run input.dest_level latest e) ⊎ (e ≡ OutOfMemory)
+
+abbrev pub IsNotDropped : List ℕ → SeenVersion → Error → Type 0
+IsNotDropped ids latest e = IsRefusedFor ids [] 0 latest e
+
 -- a move or a drop is installed
-pub record InstallsChoice (IsMade : SeenVersion → Type 0) (w : ℕ) (r : Result Begun Error) (old new : Core) : Type 0 where
+pub record InstallsChoice (IsMade : SeenVersion → Type 0) (IsUnmade : Error → Type 0) (w : ℕ) (r : Result Begun Error) (old new : Core) : Type 0 where
   pub ok : IfOk r (λ b. b ≡ Installed)
   pub settles : SettlesSome IsMade w r old new
+  pub store : IsErrOf r Store → new ≡ counted old
+  pub too_many_runs : IsErrOf r TooManyRuns → IsUnmade TooManyRuns
   pub out_of_numbers : IsErrOf r OutOfNumbers → (2 ^ 63 ≤ old.seqno) ⊎ (old.history.latest.version.id ≡ 2 ^ 64 - 1)
   pub only : IfErr r (λ e. ((e ≡ OutOfMemory) ⊎ ((e ≡ Store) ⊎ (e ≡ CommitUnknown))) ⊎ ((e ≡ OutOfNumbers) ⊎ ((e ≡ TooManyRuns) ⊎ (e ≡ AfterCommit))))
 
 -- what is done where no reason holds
 abbrev pub Does : Choice → Options → Result Begun Error → Core → Core → Type 0
 Does DoNothing o r old new = (r ≡ Ok DidNothing) × (new ≡ old)
-Does (Move input) o r old new = InstallsChoice (IsMovedTo input old.history.latest.version) o.mvcc_gc_watermark r old new
+Does (Move input) o r old new = InstallsChoice (IsMovedTo input old.history.latest.version) (IsNotMoved input old.history.latest.version) o.mvcc_gc_watermark r old new
 Does (Merge input) o r old new = OpensMerge input o r old new
-Does (Drop ids) o r old new = InstallsChoice (IsDroppedFrom ids.keys old.history.latest.version) o.mvcc_gc_watermark r old new
+Does (Drop ids) o r old new = InstallsChoice (IsDroppedFrom ids.keys old.history.latest.version) (IsNotDropped ids.keys old.history.latest.version) o.mvcc_gc_watermark r old new
 
 -- what beginning a choice answers and does
 pub record BeginsChoice (choice : Choice) (o : Options) (r : Result Begun Error) (old new : Core) : Type 0 where
@@ -124,15 +136,22 @@ error_of Several = NotDisjoint
 error_of InUse = Busy
 error_of Refused = Strategy
 
+-- what a strategy may choose, or why it may refuse to, by the tree's configuration, the tables in use and the latest version
+abbrev pub Relation : Type 0 → Type 1
+Relation A = Config → List ℕ → SeenVersion → A → Type 0
+
+-- it may answer so of a tree, whose tables in use it is told
+abbrev pub MayAnswer : {A : Type 0} → Relation A → Core → A → Type 0
+MayAnswer may c x = (hidden : List ℕ) × ((i : ℕ) → among hidden i ≡ hides c.merges.underway i) × may c.config hidden c.history.latest.version x
+
 -- one choice that a strategy may make explains the answer, or its refusal does
-abbrev pub IsChosen : (Config → List ℕ → SeenVersion → Choice → Type 0) → (Config → List ℕ → SeenVersion → ChooseError → Type 0) → Options → Result Begun Error → Core → Core → Type 0
+abbrev pub IsChosen : Relation Choice → Relation ChooseError → Options → Result Begun Error → Core → Core → Type 0
 IsChosen may_choose may_refuse o r old new =
-    (hidden : List ℕ) × ((i : ℕ) → among hidden i ≡ hides old.merges.underway i)
-    × (((choice : Choice) × may_choose old.config hidden old.history.latest.version choice × BeginsChoice choice o r old new)
-    ⊎ ((e : ChooseError) × may_refuse old.config hidden old.history.latest.version e × (r ≡ Err (error_of e)) × (new ≡ old)))
+    ((choice : Choice) × MayAnswer may_choose old choice × BeginsChoice choice o r old new)
+    ⊎ ((e : ChooseError) × MayAnswer may_refuse old e × (r ≡ Err (error_of e)) × (new ≡ old))
 
 -- what beginning a compaction answers and does
-pub record BeginsCompaction (may_choose : Config → List ℕ → SeenVersion → Choice → Type 0) (may_refuse : Config → List ℕ → SeenVersion → ChooseError → Type 0) (o : Options) (r : Result Begun Error) (old new : Core) : Type 0 where
+pub record BeginsCompaction (may_choose : Relation Choice) (may_refuse : Relation ChooseError) (o : Options) (r : Result Begun Error) (old new : Core) : Type 0 where
   pub unrecoverable : IsErrOf r Unrecoverable ↔ IsSome old.lost
   pub uncertain : IsSome old.lost → new ≡ old
   pub chosen : old.lost ≡ None → IsChosen may_choose may_refuse o r old new
@@ -163,13 +182,12 @@ pub record IsMergedInto (job : SeenCompaction) (latest made : SeenVersion) : Typ
   pub laid : IsLaidOut (placed_of made.levels)
   pub own_ids : HasOwnIds (all_of made.levels)
 
--- the tables of the files of a merge, under ids from first on and below next
-pub record AreWrittenFor (merged : SeenCompacted) (first next : ℕ) (tables : List SeenTable) : Type 0 where
-  pub ids : List ℕ
-  pub of : AreTablesOf merged.job merged.files ids tables
-  pub fresh : AllByRecursion (λ t. first ≤ t.id) tables
-  pub below : AllByRecursion (λ t. t.id < next) tables
-  pub own_ids : HasOwnIds tables
+-- the tables that a merge made, as one run, which stand in no version yet, nor for an open flush
+pub record AreMerged (job : SeenCompaction) (c : Core) (tables : List SeenTable) : Type 0 where
+  pub holds : HoldsMerged job tables
+  pub run : IsRun range tables
+  pub own_ids : HasOwnIds (tables ++ (written_of c ++ all_of (levels_of c)))
+  pub below : c.next_table < 2 ^ 64 - 1 → AllByRecursion (λ t. t.id < c.next_table) tables
 
 -- a merge that no reason declines
 pub record MayMerge (job : SeenCompaction) (c : Core) : Type 0 where
@@ -179,6 +197,10 @@ pub record MayMerge (job : SeenCompaction) (c : Core) : Type 0 where
   pub stands : AllStand (levels_of c) (tables_of job.inputs)
   pub same : HoldSame (tables_of job.inputs) job.ids (levels_of c)
 
+-- a manifest can't write the version that a merge would make
+abbrev pub IsTooFull : SeenCompaction → SeenVersion → Type 0
+IsTooFull job latest = (run : List SeenTable) × HoldsMerged job run × IsRefusedFor job.ids run job.settings.dest_level latest TooManyRuns
+
 -- what installing such a merge answers and does
 pub record InstallsMerge {T : Type 0} (job : SeenCompaction) (r : Result T Error) (old new : Core) : Type 0 where
   -- ids of tables may be used
@@ -186,6 +208,7 @@ pub record InstallsMerge {T : Type 0} (job : SeenCompaction) (r : Result T Error
   pub rises : old.next_table ≤ table
   pub settles : SettlesSome (IsMergedInto job old.history.latest.version) job.settings.watermark r (with_next_table table old) new
   pub out_of_numbers : IsErrOf r OutOfNumbers → (2 ^ 63 ≤ old.seqno) ⊎ ((2 ^ 63 ≤ table) ⊎ (old.history.latest.version.id ≡ 2 ^ 64 - 1))
+  pub too_many_runs : IsErrOf r TooManyRuns → IsTooFull job old.history.latest.version
   pub only : IfErr r (λ e. ((e ≡ OutOfMemory) ⊎ ((e ≡ Store) ⊎ (e ≡ CommitUnknown))) ⊎ ((e ≡ OutOfNumbers) ⊎ ((e ≡ TooManyRuns) ⊎ (e ≡ AfterCommit))))
 
 -- a reason is told; without one the merge is installed

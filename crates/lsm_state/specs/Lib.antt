@@ -20,3 +20,5 @@ pub mod FlushReads
 pub mod Settling
 pub mod Compactions
 pub mod CompactionDeeds
+pub mod WholeCompactions
+pub mod CompactionReads

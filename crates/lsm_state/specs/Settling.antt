@@ -3,11 +3,13 @@ use Rattle.std.specs.Prelude.{◌≡◌, ℕ, ◌+◌, ◌^◌, ◌≤◌, None,
 use Rattle.lsm_below.specs.declared.error.Error.{Error}
 use Rattle.lsm_below.specs.declared.error.Error.TheVariants.{OutOfMemory, Store, CommitUnknown, OutOfNumbers, TooManyRuns, AfterCommit}
 use Rattle.lsm_versions.specs.Levels.{SeenVersion, all_of}
+use Rattle.lsm_store.specs.World.{World}
+use Rattle.lsm_files.specs.Stored.{IsStored, AreOnDisk}
 use Rattle.lsm_files.specs.Commits.{AreOthers}
 use Rattle.lsm_parts.specs.declared.version.super_version.SuperVersion.{SuperVersion}
 use Rattle.lsm_parts.specs.History.{SeenHistory, versions_of}
 use Rattle.lsm_state.specs.Kept.{KeepsTables}
-use Rattle.lsm_state.specs.Core.{Core, written_of}
+use Rattle.lsm_state.specs.Core.{Core, versions_left, written_of}
 use Rattle.lsm_state.specs.Commits.{counted, committed, doubted}
 use Rattle.lsm_state.specs.Cleaning.{Cleans}
 
@@ -43,6 +45,10 @@ pub record MaySettle (v : SeenVersion) (gone : List ℕ) (c : Core) : Type 0 whe
   pub spares : AreOthers gone (written_of c)
   pub others : AreOthers gone (all_of v.levels)
 
+-- where the files of a tree are stored, those of a version's tables are on the disk
+abbrev pub HasItsTables : World → Core → SeenVersion → Type 0
+HasItsTables w c v = IsStored w (versions_left c) (written_of c) → AreOnDisk w (all_of v.levels)
+
 -- what installing a version answers and does
 pub record Settles (v : SeenVersion) (w : ℕ) (r : Result Unit Error) (old new : Core) : Type 0 where
   pub ok : OnOk r (IsInstalled v w true old new)
@@ -61,5 +67,6 @@ pub record SettlesSome {T : Type 0} (IsMade : SeenVersion → Type 0) (w : ℕ) 
   pub after : IsErrOf r AfterCommit → (v : SeenVersion) × IsMade v × (whole : Bool) × IsInstalled v w whole old new
   pub unknown : IsErrOf r CommitUnknown → (v : SeenVersion) × IsMade v × IsDoubted v old new
   pub before : IsErrOf r OutOfNumbers ⊎ IsErrOf r TooManyRuns → new ≡ old
-  pub store : IsErrOf r Store → new ≡ counted old
+  -- a file of a table or of the version wasn't written
+  pub store : IsErrOf r Store → (new ≡ old) ⊎ (new ≡ counted old)
   pub memory : IsErrOf r OutOfMemory → (new ≡ old) ⊎ (new ≡ counted old)

@@ -1,5 +1,6 @@
 // What lists of reads, flushes and compactions are to the theory, as contracts of functions.
 ghost use Rattle.lsm_state.specs.CompactionDeeds.{CompactionsAreDeeds};
+ghost use Rattle.lsm_state.specs.CompactionReads.{CompactionsKeepReads};
 ghost use Rattle.lsm_state.specs.FlushLaws.{FlushesAreDeeds};
 ghost use Rattle.lsm_state.specs.FlushReads.{FlushesKeepReads};
 ghost use Rattle.lsm_state.specs.ListSteps.{ListsAreSteps};
@@ -53,4 +54,12 @@ pub fn compactions_are_deeds()
     merges_of_inputs_are_steps();
     moves_are_steps();
     drops_are_steps();
+}
+
+/// No call of a compaction changes what a snapshot sees that is answered before and after, but for a drop those above its
+/// number; and behind it reads are right where they were. The end of a merge is such where its watermark was marked before.
+pub fn compactions_keep_reads()
+    ensures { CompactionsKeepReads }
+{
+    reads_are_sound();
 }

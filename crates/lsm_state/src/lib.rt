@@ -15,13 +15,19 @@
 //! | `register` | how a flush is installed |
 //! | `flushes` | a flush in one call |
 //! | `compaction` | what the calls of a compaction take and answer |
+//! | `beginning` | how a compaction begins: a move or a drop is installed, a merge becomes a job |
+//! | `finishing` | how a merge ends |
+//! | `compactions` | a compaction in one call |
 //! | `settling` | how a version takes the place of the latest one, outside a flush |
 //! | `laws` | what reads, flushes and compactions are to the theory |
 #![tactic(auto)]
 
+mod beginning;
 mod commit;
 mod compaction;
+mod compactions;
 mod counted;
+mod finishing;
 mod flush;
 mod flushes;
 mod found;
@@ -36,10 +42,11 @@ mod tree;
 mod writes;
 
 pub use compaction::{Begun, Finished, Options};
+pub use compactions::do_compaction;
 pub use found::Found;
 pub use laws::{
-    compactions_are_deeds, flushes_are_deeds, flushes_keep_reads, lists_are_steps,
-    ranges_are_overlaid,
+    compactions_are_deeds, compactions_keep_reads, flushes_are_deeds, flushes_keep_reads,
+    lists_are_steps, ranges_are_overlaid,
 };
 pub use lsm_below::{MAX_KEY_LEN, MAX_VALUE_LEN};
 use memtables::Memtables;

@@ -15,6 +15,13 @@ use lsm_store::Store;
 use std::collections::HashSet;
 
 impl<S: Store> TreeState<S> {
+    /// While nothing is done to a tree its files stay what they are, and a crash leaves one of its versions.
+    pub(crate) fn is_upheld(&self)
+        ensures { S.tells → Upholds (S.world self.now.store) (S.world self.now.store) self.now.core self.now.core }
+    {
+        crashes_leave_versions(&self.store);
+    }
+
     /// Removes the files of the tables of these ids, which no version has any more.
     fn remove_gone(&mut self, gone: &HashSet<TableId>) -> Result<(), Error>
         requires certain { self.old.core.lost ≡ None }

@@ -8,6 +8,10 @@ pub use lsm_model::{
     joined_runs_show_the_same, levels_rise, maps_are_read, opening_starts, parts_are_whole,
     reads_are_sound, steps_spare_answers, tables_are_placed, tables_show_above,
 };
-pub use lsm_state::{lists_are_steps, ranges_are_overlaid};
+pub use lsm_pick::leveled_is_lawful;
+pub use lsm_state::{
+    compactions_are_deeds, compactions_keep_reads, flushes_are_deeds, flushes_keep_reads,
+    lists_are_steps, ranges_are_overlaid,
+};
 pub use lsm_store::runs_of_calls;
 pub use lsm_tables::{cuts_are_runs, no_image_begins_another, sums_of_parts};

@@ -1,0 +1,155 @@
+// A compaction in one call.
+ghost use Rattle.std.specs.Prelude.{◌≡◌, IsSome};
+ghost use Rattle.lsm_state.specs.Commits.{Upholds};
+ghost use Rattle.lsm_state.specs.WholeCompactions.{Completes, Follows, Compacts, DropsRange, options_at, only_memory, major_choice};
+
+use crate::{Begun, Finished, Options, TreeState};
+use lsm_below::SeqNo;
+use lsm_merges::CompactionJob;
+use lsm_parts::Error;
+use lsm_pick::{CompactionStrategy, DropRange, Major, OwnedBounds};
+use lsm_store::Store;
+
+impl<S: Store> TreeState<S> {
+    /// Does the merge of a job, and finishes it. Where there was no memory to do it, it is given up.
+    fn complete(&mut self, job: CompactionJob) -> Result<Begun, Error>
+        ensures completes { Completes job result self.old.core self.new.core }
+        ensures upholds { S.tells → Upholds (S.world self.old.store) (S.world self.new.store) self.old.core self.new.core }
+        ensures no_call { IsSome self.old.core.lost → self.new.store ≡ self.old.store }
+    {
+        let merged = match job.run() {
+            Ok(merged) => merged,
+            Err((error, job)) => {
+                self.abandon_compaction(job);
+                return Err(error);
+            }
+        };
+        match self.finish_compaction(merged) {
+            Ok(Finished::Installed) => Ok(Begun::Installed),
+            Ok(Finished::Declined(why)) => Ok(Begun::Declined(why)),
+            Err(error) => Err(error),
+        }
+    }
+
+    /// What follows of how a compaction began.
+    fn follow(&mut self, begun: Result<Begun, Error>) -> Result<Begun, Error>
+        ensures follows { Follows begun result self.old.core self.new.core }
+        ensures upholds { S.tells → Upholds (S.world self.old.store) (S.world self.new.store) self.old.core self.new.core }
+        ensures no_call { IsSome self.old.core.lost → self.new.store ≡ self.old.store }
+    {
+        self.is_upheld();
+        match begun {
+            Ok(Begun::Job(job)) => self.complete(job),
+            Ok(Begun::DidNothing) => Ok(Begun::DidNothing),
+            Ok(Begun::Declined(why)) => Ok(Begun::Declined(why)),
+            Ok(Begun::Installed) => Ok(Begun::Installed),
+            Err(error) => Err(error),
+        }
+    }
+
+    /// `do_compaction`, with a strategy whose type is known.
+    pub fn compact_with<C: CompactionStrategy>(
+        &mut self,
+        strategy: &C,
+        options: Options,
+    ) -> Result<Begun, Error>
+        ensures compacts { Compacts (C.may_choose strategy.now) (C.may_refuse strategy.now) options result self.old.core self.new.core }
+        // What a crash leaves.
+        ensures upholds { S.tells → Upholds (S.world self.old.store) (S.world self.new.store) self.old.core self.new.core }
+        ensures no_call { IsSome self.old.core.lost → self.new.store ≡ self.old.store }
+    {
+        let begun = self.begin_with(strategy, options);
+        self.follow(begun)
+    }
+
+    /// A watermark, and the tree's moment.
+    fn options_at(&self, watermark: SeqNo) -> Options
+        ensures { result ≡ options_at watermark self.now.core }
+    {
+        Options {
+            mvcc_gc_watermark: watermark,
+            moment: self.moment(),
+        }
+    }
+
+    /// Compacts as a strategy chooses, at a watermark and at the tree's moment: `do_compaction` with these options.
+    ///
+    /// # Errors
+    ///
+    /// Those of `do_compaction`.
+    pub fn compact(
+        &mut self,
+        strategy: &dyn CompactionStrategy,
+        watermark: SeqNo,
+    ) -> Result<Begun, Error>
+        ensures compacts { Compacts (may_choose strategy.now) (may_refuse strategy.now) (options_at watermark self.old.core) result self.old.core self.new.core }
+        // What a crash leaves.
+        ensures upholds { S.tells → Upholds (S.world self.old.store) (S.world self.new.store) self.old.core self.new.core }
+        ensures no_call { IsSome self.old.core.lost → self.new.store ≡ self.old.store }
+    {
+        let options = self.options_at(watermark);
+        do_compaction(self, strategy, options)
+    }
+
+    /// Merges all tables into the last level, cut at a target of bytes, at a watermark and at the tree's moment: with `Major`.
+    /// Nothing is done where an open merge works on one of them.
+    ///
+    /// # Errors
+    ///
+    /// Those of `do_compaction`, but for the refusals of other strategies.
+    pub fn major_compact(&mut self, target: u64, watermark: SeqNo) -> Result<Begun, Error>
+        ensures compacts { Compacts (major_choice target) only_memory (options_at watermark self.old.core) result self.old.core self.new.core }
+        // What a crash leaves.
+        ensures upholds { S.tells → Upholds (S.world self.old.store) (S.world self.new.store) self.old.core self.new.core }
+        ensures no_call { IsSome self.old.core.lost → self.new.store ≡ self.old.store }
+    {
+        let options = self.options_at(watermark);
+        self.compact_with(&Major::new(target), options)
+    }
+
+    /// Drops the tables whose whole key range lies within bounds, with their entries: with `DropRange`, at watermark 0.
+    /// Memtables aren't touched, nor tables that reach out of the bounds, so keys within may stay. Nothing is done where the
+    /// bounds are reversed, or an open merge works on one of the tables.
+    ///
+    /// # Errors
+    ///
+    /// Those of `do_compaction`, but for the refusals of other strategies. `Unrecoverable` goes before all else.
+    pub fn drop_range(&mut self, bounds: OwnedBounds) -> Result<Begun, Error>
+        ensures drops { DropsRange bounds result self.old.core self.new.core }
+        // What a crash leaves.
+        ensures upholds { S.tells → Upholds (S.world self.old.store) (S.world self.new.store) self.old.core self.new.core }
+        ensures no_call { IsSome self.old.core.lost → self.new.store ≡ self.old.store }
+    {
+        self.is_upheld();
+        if self.is_uncertain() {
+            return Err(Error::Unrecoverable);
+        }
+        if bounds.is_reversed() {
+            return Ok(Begun::DidNothing);
+        }
+        let options = self.options_at(0);
+        self.compact_with(&DropRange::new(bounds), options)
+    }
+}
+
+/// Compacts as a strategy chooses, in one call: begins, and where the choice is a merge does and finishes it. Nothing comes in
+/// between. The answer is never `Begun::Job`. The cost is that of the parts; where other callers wait for the tree, begin,
+/// merge outside and finish instead.
+///
+/// # Errors
+///
+/// Those of `begin_compaction` and of `finish_compaction`; `OutOfMemory` where there was no memory to merge: the merge is given
+/// up, and nothing is installed.
+pub fn do_compaction<S: Store>(
+    tree: &mut TreeState<S>,
+    strategy: &dyn CompactionStrategy,
+    options: Options,
+) -> Result<Begun, Error>
+    ensures compacts { Compacts (may_choose strategy.now) (may_refuse strategy.now) options result tree.old.core tree.new.core }
+    // What a crash leaves.
+    ensures upholds { S.tells → Upholds (S.world tree.old.store) (S.world tree.new.store) tree.old.core tree.new.core }
+    ensures no_call { IsSome tree.old.core.lost → tree.new.store ≡ tree.old.store }
+{
+    let begun = tree.begin_compaction(strategy, options);
+    tree.follow(begun)
+}
