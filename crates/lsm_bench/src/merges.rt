@@ -2,7 +2,7 @@
 ghost use Rattle.std.specs.Prelude.{◌<◌};
 
 use crate::keys::put_len;
-use crate::points::{flush, put_all};
+use crate::points::{flush_seen, put_all};
 use crate::report::Tally;
 use crate::workloads::Ingest;
 use lsm_tree::{CompactionStrategy, Error, Leveled, SeqNo, Store, TableId, TreeState};
@@ -55,7 +55,7 @@ fn put_and_flush<S: Store>(
 ) -> Result<(), Error> {
     for part in ids.chunks(ids.len().div_ceil(QUARTERS).max(1)) {
         put_all(alloc, tree, part)?;
-        flush(tree)?;
+        flush_seen(tree)?;
     }
     Ok(())
 }
@@ -74,7 +74,7 @@ fn bytes_from<S: Store>(tree: &TreeState<S>, first: TableId) -> u64 {
 /// Flushes what was put, and returns the bytes of the tables that were written.
 fn flush_counted<S: Store>(tree: &mut TreeState<S>) -> Result<u64, Error> {
     let first = tree.next_table_id();
-    flush(tree)?;
+    flush_seen(tree)?;
     Ok(bytes_from(tree, first))
 }
 

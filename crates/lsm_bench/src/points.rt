@@ -29,12 +29,12 @@ pub trait Points {
     /// The snapshot that sees every write so far.
     fn snapshot(&self) -> SeqNo;
 
-    /// Flushes the active memtable, and returns the bytes that it counted.
-    fn flush(&mut self) -> Result<u64, Error>;
+    /// Flushes the active memtable at a watermark, and returns the bytes that it counted.
+    fn flush(&mut self, watermark: SeqNo) -> Result<u64, Error>;
 }
 
-/// Flushes keep what any snapshot sees.
-const WATERMARK: SeqNo = 0;
+/// At this watermark a flush keeps what any snapshot sees.
+const KEEP_ALL: SeqNo = 0;
 
 /// What a flush of the active memtable answers.
 type Flushed = Result<(Option<MemtableId>, Option<(u64, Registered)>), (Error, Option<MemtableId>)>;
@@ -66,8 +66,8 @@ impl<S: Store> Points for TreeState<S> {
         self.visible_seqno().get()
     }
 
-    fn flush(&mut self) -> Result<u64, Error> {
-        size_of(self.flush_active_memtable(WATERMARK))
+    fn flush(&mut self, watermark: SeqNo) -> Result<u64, Error> {
+        size_of(self.flush_active_memtable(watermark))
     }
 }
 
@@ -96,8 +96,8 @@ impl<R: Wait, S: Store> Points for Locked<'_, R, S> {
         self.tree.visible_number(self.rt)
     }
 
-    fn flush(&mut self) -> Result<u64, Error> {
-        size_of(self.tree.flush_active_memtable(self.rt, WATERMARK))
+    fn flush(&mut self, watermark: SeqNo) -> Result<u64, Error> {
+        size_of(self.tree.flush_active_memtable(self.rt, watermark))
     }
 }
 
@@ -127,14 +127,20 @@ impl<S: Store> Points for Noted<'_, S> {
         self.tree.visible_seqno().get()
     }
 
-    fn flush(&mut self) -> Result<u64, Error> {
-        size_of(self.tree.flush_active_memtable(self.pass, WATERMARK))
+    fn flush(&mut self, watermark: SeqNo) -> Result<u64, Error> {
+        size_of(self.tree.flush_active_memtable(self.pass, watermark))
     }
 }
 
-/// Flushes the active memtable, as `Points::flush`.
+/// Flushes the active memtable, as `Points::flush`, and keeps what any snapshot sees, so that no memtable goes.
 pub fn flush<T: Points>(tree: &mut T) -> Result<u64, Error> {
-    tree.flush()
+    tree.flush(KEEP_ALL)
+}
+
+/// Flushes the active memtable, and keeps what snapshots from now on see, so that memtables which were flushed before go.
+pub fn flush_seen<T: Points>(tree: &mut T) -> Result<u64, Error> {
+    let watermark = tree.snapshot();
+    tree.flush(watermark)
 }
 
 /// Puts as many entries as there are keys into a tree, one after the other. The check is the last sequence number, which
@@ -166,7 +172,7 @@ fn put_parts<T: Points>(
     let mut check = 0;
     for part in ids.chunks(ids.len().div_ceil(parts).max(1)) {
         check = put_all(alloc, tree, part)?.check;
-        tree.flush()?;
+        flush_seen(tree)?;
     }
     Ok(Tally {
         ops: ids.len(),

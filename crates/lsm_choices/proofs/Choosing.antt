@@ -172,6 +172,13 @@ none_missing (id ∷ ids) levels h =
     not_false true h = refl
     not_false false h = absurd (cc h)
 
+none_absent : (ids : List ℕ) (levels : Levels) → AreThere levels ids → list_any (λ id. not (is_there levels id)) ids ≡ false
+none_absent [] levels h = refl
+none_absent (id ∷ ids) levels h = rw h.0 (none_absent ids levels h.1)
+
+pub missing_none : (ids : List ℕ) (levels : Levels) (b : Bool) → b ≡ list_any (λ id. not (is_there levels id)) ids → (b ≡ false) ↔ AreThere levels ids
+missing_none ids levels b is = (λ h. none_missing ids levels (sym is ∙ h), λ there. is ∙ none_absent ids levels there)
+
 pub there_first : (kind : Kind) (ids : List ℕ) (to : ℕ) (hidden : List ℕ) (levels : Levels) → first_reason_of kind ids to hidden levels ≡ None → AreThere levels ids
 there_first kind ids to hidden levels none = none_missing ids levels (none_holds (reasons_of kind ids to hidden levels) none).1.0
 

@@ -72,9 +72,14 @@ fn any_absent(ids: &HashSet<TableId>, there: &HashSet<TableId>) -> bool
     ids.iter().any(|id| !has_id(there, *id))
 }
 
-/// Whether a chosen table isn't there.
-fn any_missing(alloc: Global, ids: &HashSet<TableId>, levels: &[Level]) -> Result<bool, AllocError>
-    ensures { IfOk result (λ b. b ≡ list_any (λ id. not (is_there levels.now id)) ids.now.keys) }
+/// Whether a table of these ids isn't there. The cost is linear in the tables and ids. Refused only for want of memory.
+pub fn any_missing(
+    alloc: Global,
+    ids: &HashSet<TableId>,
+    levels: &[Level],
+) -> Result<bool, AllocError>
+    ensures value { IfOk result (λ b. b ≡ list_any (λ id. not (is_there levels.now id)) ids.now.keys) }
+    ensures there { IfOk result (λ b. (b ≡ false) ↔ AreThere levels.now ids.now.keys) }
 {
     let there = ids_of_levels(alloc, levels)?;
     let missing = any_absent(ids, &there);

@@ -19,7 +19,7 @@ mod laws;
 mod lookup;
 mod parted_run;
 
-pub use choice::{Kind, Why, first_reason, last_reason, last_reason_by_ids};
+pub use choice::{Kind, Why, any_missing, first_reason, last_reason, last_reason_by_ids};
 pub use indexes::pick_run_indexes;
 pub use input::Input;
 pub use laws::merges_of_inputs_are_steps;

@@ -1,5 +1,5 @@
 -- The entries of runs, as sources of a merge.
-use Rattle.std.proofs.Common.{◌≡◌, true, List, [], ◌∷◌, ◌++◌, map, refl, sym, ap, ◌∙◌}
+use Rattle.std.proofs.Common.{◌≡◌, ℕ, true, List, [], ◌∷◌, ◌++◌, map, refl, sym, ap, ◌∙◌}
 use Rattle.std.specs.List.{AllByRecursion}
 use Rattle.std.specs.Ordering.{nat_cmp, is_le, is_lt, ordering_then}
 use Rattle.std.specs.declared.cmp.Ordering.{Ordering}
@@ -7,7 +7,7 @@ use Rattle.std.specs.declared.cmp.Ordering.TheVariants.{Less, Equal, Greater}
 use Rattle.std.proofs.lemmas.Bool.{and_parts}
 use Rattle.std.proofs.lemmas.Cmp.{nat_list_cmp_total, alike_right}
 use Rattle.std.proofs.lemmas.List.Elements.{All-append, All-from_recursion}
-use Rattle.lsm_below.specs.Each.{each_append, each_weaker}
+use Rattle.lsm_below.specs.Each.{each_append, each_weaker, each_filter}
 use Rattle.lsm_below.specs.Entries.{Entry, entry_cmp}
 use Rattle.lsm_below.specs.KeptLaws.{ascends}
 use Rattle.lsm_below.specs.Keys.{Bytes, bytes_cmp, is_below}
@@ -18,7 +18,8 @@ use Rattle.lsm_below.specs.Streams.{Rest, IsInOrder}
 use Rattle.lsm_tables.specs.Cutting.{IsWritable}
 use Rattle.lsm_tables.specs.Image.{IsTable, Fits}
 use Rattle.lsm_tables.specs.Tables.{SeenTable}
-use Rattle.lsm_versions.specs.Levels.{range, AreCovered}
+use Rattle.lsm_model.specs.Steps.{among}
+use Rattle.lsm_versions.specs.Levels.{Levels, range, AreCovered, AreRising, all_of, chosen_from}
 use Rattle.lsm_merges.specs.Merges.{run_entries, sources_in, IsSoundRun}
 
 -- ---- keys
@@ -91,6 +92,14 @@ runs_writable (run ∷ runs) h = (record { each = run_fits run h.0.tables; rises
 pub runs_in_order : (lists : List (List Entry)) → AllByRecursion IsWritable lists → AllByRecursion IsInOrder lists
 runs_in_order [] h = tt
 runs_in_order (l ∷ lists) h = (ascends l h.0.rises, runs_in_order lists h.1)
+
+-- the entries of chosen tables of a version
+tables_in_order : (ts : List SeenTable) → AreRising ts → AllByRecursion IsInOrder (map (λ t. t.entries) ts)
+tables_in_order [] h = tt
+tables_in_order (t ∷ ts) h = (ascends t.entries h.0, tables_in_order ts h.1)
+
+pub chosen_in_order : (ids : List ℕ) (levels : Levels) → AreRising (all_of levels) → AllByRecursion IsInOrder (map (λ t. t.entries) (chosen_from ids levels))
+chosen_in_order ids levels rising = tables_in_order (chosen_from ids levels) (each_filter (λ (t : SeenTable). Rises entry_cmp t.entries) (λ t. among ids t.id) (all_of levels) rising)
 
 -- ---- sources
 

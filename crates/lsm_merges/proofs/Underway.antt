@@ -4,29 +4,16 @@ use Rattle.std.specs.List.{AllByRecursion}
 use Rattle.std.proofs.Math.Seq.{drop-append_seam, take-append_seam, take-length, get_or-append_seam}
 use Rattle.std.proofs.lemmas.Bool.{cases_lt, and_parts, and_from, ltb-true, lt-ltb, leb-true, le-leb}
 use Rattle.std.proofs.lemmas.List.{append-nil, get_or_append_left, get_or-append-add, take-append-le, map-append, length-append}
-use Rattle.std.proofs.lemmas.List.Sums.{sum_by_push}
-use Rattle.lsm_below.specs.Each.{each_append}
+use Rattle.lsm_below.specs.Each.{each_append, each_right}
 use Rattle.lsm_below.specs.Entries.{Entry}
 use Rattle.lsm_below.specs.Keys.{Bytes}
 use Rattle.lsm_below.specs.Slots.{same_key}
 use Rattle.lsm_below.specs.Sums.{capped}
 use Rattle.lsm_tables.specs.Cutting.{IsWritable, IsCutting, IsFirstEnd, IsCutOff, FirstEndsCut, AreImagesOf}
-use Rattle.lsm_tables.specs.Image.{IsTable, image, entry_bytes}
+use Rattle.lsm_tables.specs.Image.{Fits, IsTable, image, entry_bytes}
 use Rattle.lsm_merges.specs.Merges.{with_last}
-
--- of two neighbours with different keys the later one ended no table: what stands before it has less than the target
-abbrev pub EndedNowhere : ℕ → List Entry → Type 0
-EndedNowhere target es = (j : ℕ) (d : Entry) → 0 < j → j < length es → same_key (get_or es (j - 1) d) (get_or es j d) ≡ false → entry_bytes (take j es) < target
-
--- files of whole tables, the entries of the one that is open, and those that are still to come
-pub record IsUnderway (target made_at : ℕ) (all : List Entry) (files : List Bytes) (pending : List Entry) (held : ℕ) (rest : List Entry) : Type 0 where
-  pub tables : List (List Entry)
-  pub spelled : files ≡ map (image made_at) tables
-  pub each : AllByRecursion IsTable tables
-  pub goes_on : (later : List (List Entry)) → IsCutting target (pending ++ rest) later → IsCutting target all (tables ++ later)
-  pub writable : IsWritable (pending ++ rest)
-  pub counted : held ≡ capped (entry_bytes pending)
-  pub ended_nowhere : EndedNowhere target pending
+use Rattle.lsm_merges.specs.OpenTables.{EndedNowhere, IsUnderway, is_end, IsOpenWith, IsWriting}
+use Rattle.lsm_merges.specs.declared.open_table.OpenTable.{OpenTable}
 
 -- the table ends here: with the last entry, or before one of another key, once it has the target
 abbrev pub EndsHere : ℕ → List Entry → List Entry → Type 0
@@ -93,10 +80,6 @@ closes target made_at all files pending held rest file h off is = record {
   ended_nowhere = λ j d some lt other. absurd (omega arith);
 }
 
--- the test of it
-abbrev pub is_end : ℕ → ℕ → List Entry → Entry → Bool
-is_end target held pending e = nat_lt 0 (length pending) && (nat_le target held && not (same_key (get_or pending (length pending - 1) e) e))
-
 not_true : (b : Bool) → not b ≡ true → b ≡ false
 not_true true h = absurd (cc h)
 not_true false h = refl
@@ -145,8 +128,8 @@ module _ (target made_at : ℕ) (all : List Entry) (files : List Bytes) (pending
             subst (λ (l : List Entry). entry_bytes l < target) (sym (ap (λ k. take k pending) same ∙ take-length pending)) (goes_on (omega arith) apart)
       ])
 
-  pub takes : (size next : ℕ) → size ≡ capped (15 + length e.key.user_key + length e.value) → next ≡ capped (held + size) → IsUnderway target made_at all files (pending ++ e ∷ []) next rest
-  takes size next is_size is_next =
+  pub takes : (next : ℕ) → next ≡ capped (entry_bytes (pending ++ e ∷ [])) → IsUnderway target made_at all files (pending ++ e ∷ []) next rest
+  takes next is_next =
       let regrouped : (pending ++ e ∷ []) ++ rest ≡ pending ++ e ∷ rest = append_assoc pending (e ∷ []) rest in
       record {
         tables = h.tables;
@@ -154,9 +137,29 @@ module _ (target made_at : ℕ) (all : List Entry) (files : List Bytes) (pending
         each = h.each;
         goes_on = λ later cut. h.goes_on later (subst (λ (l : List Entry). IsCutting target l later) regrouped cut);
         writable = subst IsWritable (sym regrouped) h.writable;
-        counted = let more = sum_by_push (λ (x : Entry). 15 + length x.key.user_key + length x.value) pending e in let c = h.counted in omega arith;
+        counted = is_next;
         ended_nowhere = nowhere;
       }
+
+-- it is in the table that is open then
+pub takes_in : (target made_at : ℕ) (all : List Entry) (files : List Bytes) (pending : List Entry) (held : ℕ) (e : Entry) (rest : List Entry) (new : OpenTable) → IsUnderway target made_at all files pending held (e ∷ rest) → (0 < length pending → same_key (get_or pending (length pending - 1) e) e ≡ false → entry_bytes pending < target) → IsOpenWith made_at (pending ++ e ∷ []) new → IsWriting target made_at all files new rest
+takes_in target made_at all files pending held e rest new h goes_on has = record {
+  pending = pending ++ e ∷ [];
+  has = has;
+  underway = takes target made_at all files pending held e rest h goes_on new.held has.held;
+}
+
+-- an entry that is to come fits
+pub next_fits : (target made_at : ℕ) (all : List Entry) (files : List Bytes) (table : OpenTable) (e : Entry) (rest : List Entry) → IsWriting target made_at all files table (e ∷ rest) → Fits e
+next_fits target made_at all files table e rest w = (each_right Fits w.pending (e ∷ rest) w.underway.writable.each).0
+
+-- nothing was written yet
+pub first_writing : (target made_at : ℕ) (all : List Entry) (table : OpenTable) → IsWritable all → IsOpenWith made_at [] table → IsWriting target made_at all [] table all
+first_writing target made_at all table writable has = record {
+  pending = [];
+  has = has;
+  underway = subst (λ n. IsUnderway target made_at all [] [] n all) (sym has.held) (begins target made_at all writable);
+}
 
 -- ---- the end
 

@@ -1,2 +1,4 @@
 pub mod Merges
 pub mod OpenMerges
+pub mod Passing
+pub mod OpenTables

@@ -4,7 +4,9 @@
 //! |-|-|
 //! | `source` | the entries of a run of tables, as a source of a merge |
 //! | `inputs` | the tables of a choice, run by run |
+//! | `stream` | what a compaction would keep of chosen tables, as a stream |
 //! | `settings` | how a merge is done |
+//! | `open_table` | the table that a merge is writing |
 //! | `writing` | what a source gives, as the contents of tables' files |
 //! | `merging` | what a compaction keeps of runs, as the contents of files |
 //! | `jobs` | the job of a merge, and what it makes |
@@ -15,8 +17,10 @@ mod inputs;
 mod jobs;
 mod merging;
 mod open_merges;
+mod open_table;
 mod settings;
 mod source;
+mod stream;
 mod writing;
 
 pub use inputs::chosen_inputs;
@@ -25,3 +29,4 @@ pub use merging::merge_runs;
 pub use open_merges::OpenMerges;
 pub use settings::MergeSettings;
 pub use source::RunSource;
+pub use stream::create_compaction_stream;

@@ -44,6 +44,17 @@ impl<'a> RunSource<'a> {
             over: false,
         }
     }
+
+    /// The entries of a single table, of which none was given yet.
+    pub fn of_table(table: &'a Table) -> RunSource<'a>
+        ensures { result ≡ rest_of false table.now.entries }
+    {
+        RunSource {
+            entries: table.entries(),
+            tables: &[],
+            over: false,
+        }
+    }
 }
 
 /// An entry and what comes after it.

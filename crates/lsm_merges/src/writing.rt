@@ -1,55 +1,56 @@
 // What a source gives, as the contents of tables' files.
-ghost use Rattle.std.specs.Prelude.{◌≡◌, ◌<◌, ◌-◌, ◌&&◌, not, nat_lt, nat_le, length, slice_index_or, IfOk, IfErr};
-ghost use Rattle.lsm_below.specs.Slots.{same_key};
+ghost use Rattle.std.specs.Prelude.{◌≡◌, ℕ, ◌∷◌, List, OnOk, IfOk, IfErr};
+ghost use Rattle.lsm_below.specs.Entries.{Entry};
 ghost use Rattle.lsm_tables.specs.Cutting.{IsWritable, AreImagesOf};
-ghost use Rattle.lsm_tables.specs.Image.{IsTable, image};
+ghost use Rattle.lsm_tables.specs.Image.{Fits};
 ghost use Rattle.lsm_merges.specs.Merges.{with_last};
+ghost use Rattle.lsm_merges.specs.OpenTables.{IsOpenWith, IsWriting};
 
+use crate::open_table::OpenTable;
 use bytes::Bytes;
-use lsm_below::{Error, InternalValue, Source, has_same_key};
-use lsm_tables::{encode, first_ends_cut, size_of_entry};
-use std::alloc::{AllocError, Global};
-
-/// Whether the table that is open ends before an entry: it has the target, and none of its entries has the entry's key.
-fn ends_before(pending: &[InternalValue], held: u64, target: u64, entry: &InternalValue) -> bool
-    ensures { result ≡ (nat_lt 0 (length pending.now) && (nat_le target held && not (same_key (slice_index_or pending.now (length pending.now - 1) entry.now) entry.now))) }
-{
-    match pending.last() {
-        None => false,
-        Some(last) => held >= target && !has_same_key(last, entry),
-    }
-}
-
-/// The content of the file of a table of these entries.
-fn file_of(alloc: Global, made_at: u64, entries: &[InternalValue]) -> Result<Bytes, Error>
-    requires { IsTable entries.now }
-    ensures ok { IfOk result (λ file. file ≡ image made_at entries.now) }
-    ensures memory { IfErr result (λ e. e ≡ Error.OutOfMemory) }
-{
-    let file = encode(alloc, made_at, entries)?;
-    Ok(Bytes::from_vec(file)?)
-}
+use lsm_below::{Error, InternalValue, Source};
+use lsm_tables::first_ends_cut;
+use std::alloc::Global;
+use std::mem;
 
 /// The files, with that of the table that is still open.
-fn with_open(
-    alloc: Global,
-    made_at: u64,
-    mut files: Vec<Bytes>,
-    pending: &[InternalValue],
-) -> Result<Vec<Bytes>, Error>
-    requires { 0 < length pending.now → IsTable pending.now }
-    ensures ok { IfOk result (λ all. all.items ≡ with_last made_at files.items pending.now) }
+fn with_open(mut files: Vec<Bytes>, table: OpenTable) -> Result<Vec<Bytes>, Error>
+    ensures ok { (made_at : ℕ) (es : List Entry) → IsOpenWith made_at es table → IfOk result (λ all. all.items ≡ with_last made_at files.items es) }
     ensures memory { IfErr result (λ e. e ≡ Error.OutOfMemory) }
 {
-    if !pending.is_empty() {
-        files.push(file_of(alloc, made_at, pending)?)?;
+    if !table.is_empty() {
+        files.push(table.into_file()?)?;
     }
     Ok(files)
 }
 
+/// Takes an entry into the table that is open, which ends before it where it is to.
+fn take_entry(
+    alloc: Global,
+    files: &mut Vec<Bytes>,
+    table: &mut OpenTable,
+    target: u64,
+    made_at: u64,
+    entry: InternalValue,
+) -> Result<(), Error>
+    requires { Fits entry }
+    ensures ok { (all rest : List Entry) → IsWriting target made_at all files.old.items table.old (entry ∷ rest) → OnOk result (IsWriting target made_at all files.new.items table.new rest) }
+    ensures memory { IfErr result (λ e. e ≡ Error.OutOfMemory) }
+{
+    first_ends_cut();
+    // Their number fits.
+    let _ = table.count();
+    if table.ends_before(target, &entry) {
+        let next = OpenTable::new(alloc, made_at)?;
+        files.push(mem::replace(table, next).into_file()?)?;
+    }
+    table.push(entry)?;
+    Ok(())
+}
+
 /// The contents of the files of the tables into which the entries of a source are cut, made at this moment (in
-/// nanoseconds). Beside the contents the entries of one table are in memory, which share their bytes. Each content is
-/// made as soon as its table ends. The cost is linear in the bytes.
+/// nanoseconds). Each entry is spelled when it comes, and the last one is all that is
+/// kept of them. The cost is linear in the bytes.
 ///
 /// # Errors
 ///
@@ -67,20 +68,16 @@ pub(crate) fn write_files<S: Source<Error = Error>>(
 {
     first_ends_cut();
     let mut files = Vec::new(alloc);
-    let mut pending: Vec<InternalValue> = Vec::new(alloc);
-    let mut held = 0;
+    let mut table = OpenTable::new(alloc, made_at)?;
     'entries: loop {
         let entry = match source.next_entry() {
-            None => return with_open(alloc, made_at, files, &pending),
+            None => {
+                let _ = table.count();
+                return with_open(files, table);
+            }
             Some(Err(error)) => return Err(error),
             Some(Ok(entry)) => entry,
         };
-        if ends_before(&pending, held, target, &entry) {
-            files.push(file_of(alloc, made_at, &pending)?)?;
-            pending.clear();
-            held = 0;
-        }
-        held = held.saturating_add(size_of_entry(&entry));
-        pending.push(entry)?;
+        take_entry(alloc, &mut files, &mut table, target, made_at, entry)?;
     }
 }

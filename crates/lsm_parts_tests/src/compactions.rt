@@ -13,7 +13,7 @@ use std::test::Fail;
 
 /// What is done to a tree.
 #[derive(Clone, Copy)]
-enum Step {
+pub enum Step {
     Set(&'static str, &'static str),
     Del(&'static str),
     /// At a watermark.
@@ -35,12 +35,16 @@ enum Step {
     Merge(&'static [TableId], u8),
     /// Tables of these ids are dropped.
     Drop(&'static [TableId]),
+    Rotate,
+    Clear,
+    /// What isn't flushed is forgotten.
+    Forget,
 }
 
 /// What is answered.
 #[derive(Clone, Copy, Debug, PartialEq, Eq)]
-enum Told {
-    /// A write with its number.
+pub enum Told {
+    /// A write or a clear with its number.
     Number(SeqNo),
     Done,
     Installed,
@@ -94,7 +98,7 @@ fn drop_range(tree: &mut TreeState, bounds: OwnedBounds) -> Result<Told, Error> 
     Ok(answered(tree.drop_range(bounds)?))
 }
 
-fn take(alloc: Global, tree: &mut TreeState, step: Step) -> Result<Told, Error> {
+pub fn take(alloc: Global, tree: &mut TreeState, step: Step) -> Result<Told, Error> {
     match step {
         Step::Set(name, text) => {
             let op = Op::Set(value(text));
@@ -129,11 +133,20 @@ fn take(alloc: Global, tree: &mut TreeState, step: Step) -> Result<Told, Error> 
         Step::Move(list, to) => begin(tree, Choice::Move(input(alloc, list, to)?)),
         Step::Merge(list, to) => begin(tree, Choice::Merge(input(alloc, list, to)?)),
         Step::Drop(list) => begin(tree, Choice::Drop(ids(alloc, list)?)),
+        Step::Rotate => {
+            tree.rotate_memtable()?;
+            Ok(Told::Done)
+        }
+        Step::Clear => Ok(Told::Number(tree.clear()?)),
+        Step::Forget => {
+            tree.clear_active_memtable()?;
+            Ok(Told::Done)
+        }
     }
 }
 
 /// Whether each step answers what stands beside it.
-fn plays(alloc: Global, tree: &mut TreeState, steps: &[(Step, Told)]) -> bool {
+pub fn plays(alloc: Global, tree: &mut TreeState, steps: &[(Step, Told)]) -> bool {
     for (step, wanted) in steps {
         match take(alloc, tree, *step) {
             Ok(told) if told == *wanted => {}
@@ -144,7 +157,7 @@ fn plays(alloc: Global, tree: &mut TreeState, steps: &[(Step, Told)]) -> bool {
 }
 
 /// Whether a key has this value at a snapshot: none where it is empty.
-fn shows(tree: &TreeState, name: &str, snapshot: SeqNo, text: &str) -> bool {
+pub fn shows(tree: &TreeState, name: &str, snapshot: SeqNo, text: &str) -> bool {
     match tree.get(name.as_bytes(), snapshot) {
         Ok(Some(found)) => found.as_slice() == text.as_bytes(),
         Ok(None) => text.is_empty(),
@@ -156,7 +169,7 @@ fn is_too_old(tree: &TreeState, snapshot: SeqNo) -> bool {
     matches!(tree.get(b"a", snapshot), Err(Error::SnapshotTooOld))
 }
 
-const DONE: Told = Told::Done;
+pub const DONE: Told = Told::Done;
 
 /// a = x (0), a flush (1), a major compaction (2), a is removed (3), a flush (4).
 const REMOVED: [(Step, Told); 5] = [
@@ -278,7 +291,7 @@ fn newer_entries_never_come_below_older_ones(rt: HostRuntime) -> Result<(), Fail
 
 // ---- open merges
 
-fn begin_merge(
+pub fn begin_merge(
     alloc: Global,
     tree: &mut TreeState,
     list: &[TableId],

@@ -1,7 +1,7 @@
 // Flushes of a tree, old snapshots over them, and what a crash leaves.
 use crate::samples::{key, open, value};
 use lsm_below::SeqNo;
-use lsm_jobs::{FlushJob, Registered};
+use lsm_jobs::{FlushJob, Registered, WrittenFlush};
 use lsm_model::Op;
 use lsm_parts::{Config, Error};
 use lsm_state::TreeState;
@@ -22,16 +22,26 @@ fn set(
     write(alloc, tree, name, Op::Set(value(text)))
 }
 
-/// Merges a job, writes its tables and registers them.
-fn finish(tree: &mut TreeState, job: FlushJob, watermark: SeqNo) -> Result<Registered, Error> {
+/// Merges a job and writes its tables.
+pub fn written(
+    tree: &mut TreeState,
+    job: FlushJob,
+    watermark: SeqNo,
+) -> Result<WrittenFlush, Error> {
     let merged = match job.run(watermark) {
         Ok(merged) => merged,
         Err((error, _)) => return Err(error),
     };
     match tree.flush_to_tables(merged) {
-        Ok(written) => tree.register_tables(written),
+        Ok(written) => Ok(written),
         Err((error, _)) => Err(error),
     }
+}
+
+/// Merges a job, writes its tables and registers them.
+fn finish(tree: &mut TreeState, job: FlushJob, watermark: SeqNo) -> Result<Registered, Error> {
+    let written = written(tree, job, watermark)?;
+    tree.register_tables(written)
 }
 
 /// Seals the active memtable and flushes what is sealed, by the parts of a flush. None where nothing is sealed.
@@ -197,7 +207,7 @@ fn a_level_takes_255_runs(rt: HostRuntime) -> Result<(), Fail> {
 // ---- crashes
 
 /// The tree that a crash leaves, with both counters at 10.
-fn crashed(alloc: Global, tree: TreeState) -> Result<TreeState, Error> {
+pub fn crashed(alloc: Global, tree: TreeState) -> Result<TreeState, Error> {
     let Some(left) = tree.into_store().crash(&[])? else {
         return Err(Error::Unrecoverable);
     };
@@ -220,13 +230,13 @@ fn a_crash_leaves_what_was_flushed(rt: HostRuntime) -> Result<(), Fail> {
     Ok(())
 }
 
-/// A tree with a = x flushed, whose store fails at this call from its opening on, without the call's effect.
-fn failing(alloc: Global, call: u64) -> Result<TreeState, Error> {
+/// A tree with a = x flushed, whose store fails at this call from its opening on.
+pub fn failing(alloc: Global, call: u64, fault: Fault) -> Result<TreeState, Error> {
     let mut tree = open(alloc)?;
     set(alloc, &mut tree, "a", "x")?;
     flush(&mut tree, 0)?;
     let mut store = tree.into_store();
-    store.fail(call, Fault::Once);
+    store.fail(call, fault);
     match TreeState::open(alloc, Config::new(0, 2, 2), store) {
         Ok(tree) => Ok(tree),
         Err((error, _)) => Err(error),
@@ -244,7 +254,7 @@ fn flush_over(alloc: Global, tree: &mut TreeState) -> Result<bool, Error> {
 #[test]
 fn nothing_is_committed_behind_an_unknown_outcome(rt: HostRuntime) -> Result<(), Fail> {
     // An opening lists, reads `current`, `v1` and a table, and removes `v0`; a flush writes and syncs a table and `v2`.
-    let mut tree = failing(rt.alloc(), 10)?;
+    let mut tree = failing(rt.alloc(), 10, Fault::Once)?;
     assert!(rt; matches!(flush_over(rt.alloc(), &mut tree), Ok(true)));
     assert!(rt; shows(&tree, "b", 10, "y"));
     let left = crashed(rt.alloc(), tree)?;
@@ -257,7 +267,7 @@ fn nothing_is_committed_behind_an_unknown_outcome(rt: HostRuntime) -> Result<(),
 #[test]
 fn a_flush_whose_version_is_not_written_changes_nothing(rt: HostRuntime) -> Result<(), Fail> {
     // The write of `v2`.
-    let mut tree = failing(rt.alloc(), 8)?;
+    let mut tree = failing(rt.alloc(), 8, Fault::Once)?;
     assert!(rt; set(rt.alloc(), &mut tree, "b", "y").is_ok());
     assert!(rt; matches!(flush(&mut tree, 0), Err(Error::Store)));
     assert!(rt; tree.table_count() == 1);

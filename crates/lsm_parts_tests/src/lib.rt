@@ -13,6 +13,7 @@
 //! | `iterators` | what iterators give over memtables, from both ends |
 //! | `flushes` | flushes, old snapshots over them, and what a crash leaves |
 //! | `compactions` | compactions: which are declined and why, open merges, strategies, dropped ranges |
+//! | `clears` | clears, what comes too late behind one, and what is left of one that fails |
 //! | `trees` | writes, reads of one key and rotation of a tree |
 //! | `tree_ranges` | a tree's reads of many keys |
 //! | `samples` | what several of these make, and how they look at what is given |
@@ -22,6 +23,8 @@
 //! each `?` before it.
 #![tactic(auto)]
 
+#[cfg(test)]
+mod clears;
 #[cfg(test)]
 mod compactions;
 #[cfg(test)]

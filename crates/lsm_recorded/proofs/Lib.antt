@@ -1,8 +1,12 @@
 pub mod BatchLemmas
 pub mod ClosingLemmas
 pub mod MarksLemmas
+pub mod Watermarks
 pub mod RecordedLemmas
+pub mod Telling
 pub mod FlushingLemmas
+pub mod GoingOn
+pub mod CompactingLemmas
 pub mod FlushedFiles
 pub mod OpenedLemmas
 pub mod HeldLemmas

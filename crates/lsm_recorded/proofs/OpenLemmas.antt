@@ -13,6 +13,8 @@ use Rattle.lsm_model.specs.Views.{Placed, held, shown, map_of, view_at}
 use Rattle.lsm_model.specs.Beginnings.{shown_by}
 use Rattle.lsm_versions.specs.Levels.{SeenVersion, placed_of}
 use Rattle.lsm_versions.specs.declared.config.Config.{Config}
+use Rattle.lsm_merges.specs.OpenMerges.{SeenMerges, SeenOpenMerge}
+use Rattle.lsm_state.specs.CompactionDeeds.{IsMarkedIn}
 use Rattle.lsm_state.specs.Core.{Core, state_of, opened_core}
 use Rattle.lsm_state.specs.Opened.{StartsFrom}
 use Rattle.lsm_recorded.specs.declared.marks.Mark.{Mark}
@@ -76,4 +78,5 @@ opened_recorded theory maps version next least config marks c is starts m =
       least_is = m.least_is;
       floored = refl;
       noted = m.noted;
+      marked = subst (λ (ms : SeenMerges). AllByRecursion (λ (x : SeenOpenMerge). IsMarkedIn x.settings.watermark []) ms.underway) (sym (ap (λ (x : Core). x.merges) is)) tt;
     }

@@ -23,7 +23,7 @@ use Rattle.lsm_model.specs.declared.question.Question.TheVariants.{Get}
 use Rattle.lsm_model.specs.declared.question.Answer.TheVariants.{Found, Pairs}
 use Rattle.lsm_below.specs.declared.error.Error.{Error}
 use Rattle.lsm_below.specs.declared.error.Error.TheVariants.{OutOfMemory, OutOfNumbers, KeyTooLong, ValueTooLong, DuplicateKey}
-use Rattle.lsm_state.specs.Core.{Core, Seen, state_of, latest_of, older_of}
+use Rattle.lsm_state.specs.Core.{Core, Seen, state_of, latest_of, older_of, written_core}
 use Rattle.lsm_state.specs.Calls.{IsWriteStep, IsGetStep, Gives, Rotates, WritesBatch}
 use Rattle.lsm_state.specs.Ranges.{IsListStep}
 use Rattle.lsm_iter.specs.Guards.{Pair}
@@ -31,7 +31,8 @@ use Rattle.lsm_state.specs.Refusals.{batch_refusal, repeats, keys_of, is_great, 
 use Rattle.lsm_recorded.specs.declared.marks.Mark.{Mark}
 use Rattle.lsm_recorded.specs.Marks.{mark_of, mark_in, marked_by, marked_all}
 use Rattle.lsm_recorded.specs.Order.{keeps_order, batch_keeps_order}
-use Rattle.lsm_recorded.specs.Recorded.{IsRecorded, Stays, StaysTo}
+use Rattle.lsm_recorded.specs.Recorded.{AreMarked, IsRecorded, Stays, StaysTo}
+use Rattle.lsm_recorded.proofs.Watermarks.{same_marked, still_marked}
 use Rattle.lsm_recorded.proofs.BatchLemmas.{seqno_is}
 use Rattle.lsm_recorded.proofs.MarksLemmas.{in_order_push, mark_in-read, mark_in-write, mark_in-writes, marked_by_same, marked_all_same, IsCounted, write_counted, batch_counted, floor-write, floor-writes, entry_keys}
 
@@ -89,8 +90,8 @@ not_none (Some x) h e = cc e
 
 module _ (opened : List Placed) (least : ℕ) where
   -- the facts for callers follow from those that the next step goes on from
-  pub recorded : (theory : Soundness) → least ≡ above (held opened) → (marks : Marks) (low : ℕ) (c : Core) (journal : List Event) → Holds (held opened) (shown_by opened) (state_of journal c) → IsCounted (held opened) c.seqno journal → low ≡ floor journal → ((k : Bytes) → mark_of marks k ≡ mark_in (held opened) journal k) → IsRecorded opened least marks low c journal
-  recorded theory is marks low c journal holds counted floored noted = record {
+  pub recorded : (theory : Soundness) → least ≡ above (held opened) → (marks : Marks) (low : ℕ) (c : Core) (journal : List Event) → Holds (held opened) (shown_by opened) (state_of journal c) → IsCounted (held opened) c.seqno journal → low ≡ floor journal → ((k : Bytes) → mark_of marks k ≡ mark_in (held opened) journal k) → AreMarked journal c → IsRecorded opened least marks low c journal
+  recorded theory is marks low c journal holds counted floored noted marked = record {
     reads = theory.right.reads (held opened) (shown_by opened) (state_of journal c) holds;
     holds = holds;
     order = counted.order;
@@ -98,6 +99,7 @@ module _ (opened : List Placed) (least : ℕ) where
     least_is = is;
     floored = floored;
     noted = noted;
+    marked = marked;
   }
 
   counted_of : (marks : Marks) (low : ℕ) (c : Core) (journal : List Event) → IsRecorded opened least marks low c journal → IsCounted (held opened) c.seqno journal
@@ -105,13 +107,13 @@ module _ (opened : List Placed) (least : ℕ) where
 
   -- ---- a single write
 
-  pub recorded_write : (theory : Soundness) (marks marks' : Marks) (low : ℕ) (old new : Core) (journal : List Event) (e : Entry) → IsRecorded opened least marks low old journal → keeps_order (held opened) journal old.seqno e ≡ true → IsWriteStep e old new → new.seqno ≡ old.seqno
+  pub recorded_write : (theory : Soundness) (marks marks' : Marks) (low : ℕ) (old new : Core) (journal : List Event) (e : Entry) → IsRecorded opened least marks low old journal → keeps_order (held opened) journal old.seqno e ≡ true → IsWriteStep e old new → new ≡ written_core e old
       → ((q : Bytes) → mark_of marks' q ≡ marked_by e (mark_of marks) q) → IsRecorded opened least marks' low new (journal ++ Write e ∷ [])
-  recorded_write theory marks marks' low old new journal e r ok step counter noted =
+  recorded_write theory marks marks' low old new journal e r ok step is noted =
       let counted = write_counted (held opened) old.seqno journal e ok (counted_of marks low old journal r) in
       recorded theory r.least_is marks' low new (journal ++ Write e ∷ []) (theory.kept.step (held opened) (shown_by opened) (state_of journal old) (Wrote e) (state_of (journal ++ Write e ∷ []) new) (step (held opened) journal) counted.order r.holds)
-      (subst (λ n. IsCounted (held opened) n (journal ++ Write e ∷ [])) (sym counter) counted) (r.floored ∙ sym (floor-write journal e))
-      (λ q. noted q ∙ marked_by_same (mark_of marks) (mark_in (held opened) journal) e r.noted q ∙ sym (mark_in-write (held opened) journal e q))
+      (subst (λ n. IsCounted (held opened) n (journal ++ Write e ∷ [])) (sym (ap (λ (c : Core). c.seqno) is)) counted) (r.floored ∙ sym (floor-write journal e))
+      (λ q. noted q ∙ marked_by_same (mark_of marks) (mark_in (held opened) journal) e r.noted q ∙ sym (mark_in-write (held opened) journal e q)) (still_marked old new journal (Write e ∷ []) (ap (λ (c : Core). c.merges) is) r.marked)
 
   -- it leaves what snapshots up to its sequence number see
   pub write_spares : (theory : Soundness) (marks : Marks) (low : ℕ) (old new : Core) (journal : List Event) (e : Entry) → IsRecorded opened least marks low old journal → keeps_order (held opened) journal old.seqno e ≡ true → IsWriteStep e old new → StaysTo e.key.seqno old new
@@ -134,7 +136,7 @@ module _ (opened : List Placed) (least : ℕ) where
       let next : new.seqno ≡ old.seqno + 1 = ap (λ (c : Core). c.seqno) w.core in
       recorded theory r.least_is marks' low new (journal ++ map Write es) (theory.kept.run (held opened) (shown_by opened) (state_of journal old) (map Wrote es) (state_of (journal ++ map Write es) new) (w.run (held opened) journal) counted.order r.holds)
       (subst (λ m. IsCounted (held opened) m (journal ++ map Write es)) (sym next) counted) (r.floored ∙ sym (floor-writes es journal))
-      (λ q. noted q ∙ marked_all_same (mark_of marks) (mark_in (held opened) journal) es r.noted q ∙ sym (mark_in-writes (held opened) es journal q))
+      (λ q. noted q ∙ marked_all_same (mark_of marks) (mark_in (held opened) journal) es r.noted q ∙ sym (mark_in-writes (held opened) es journal q)) (still_marked old new journal (map Write es) (ap (λ (c : Core). c.merges) w.core) r.marked)
 
   -- a batch leaves what snapshots up to its sequence number see
   pub batch_spares : (theory : Soundness) (marks : Marks) (low : ℕ) (old new : Core) (journal : List Event) (ops : List (Bytes × Op)) (n : ℕ) → IsRecorded opened least marks low old journal → batch_keeps_order (held opened) journal old.seqno ops ≡ true → WritesBatch ops (Ok n) old new → StaysTo old.seqno old new
@@ -149,7 +151,7 @@ module _ (opened : List Placed) (least : ℕ) where
       let order = in_order_push (held opened) journal (Read s (Get k) (Found v)) r.order tt in
       let counted : next_number (held opened) (journal ++ Read s (Get k) (Found v) ∷ []) ≤ c.seqno = rw (fold-append next_number_after (above (held opened)) journal (Read s (Get k) (Found v) ∷ [])) r.counted in
       recorded theory r.least_is marks low c (journal ++ Read s (Get k) (Found v) ∷ []) (theory.kept.step (held opened) (shown_by opened) (state_of journal c) (Asked s (Get k)) (state_of (journal ++ Read s (Get k) (Found v) ∷ []) c) (step (held opened) journal up) order r.holds)
-      (record { order = order; counted = counted }) (r.floored ∙ sym (fold-append floor_after 0 journal (Read s (Get k) (Found v) ∷ []))) (λ q. r.noted q ∙ sym (mark_in-read (held opened) journal s (Get k) (Found v) q))
+      (record { order = order; counted = counted }) (r.floored ∙ sym (fold-append floor_after 0 journal (Read s (Get k) (Found v) ∷ []))) (λ q. r.noted q ∙ sym (mark_in-read (held opened) journal s (Get k) (Found v) q)) (still_marked c c journal (Read s (Get k) (Found v) ∷ []) refl r.marked)
 
   pub recorded_list : (theory : Soundness) (marks : Marks) (low : ℕ) (c : Core) (journal : List Event) (question : Question) (s : ℕ) (pairs : List Pair) → IsRecorded opened least marks low c journal → above (held opened) ≤ s → IsListStep c question s pairs → IsRecorded opened least marks low c (journal ++ Read s question (Pairs pairs) ∷ [])
   recorded_list theory marks low c journal question s pairs r up step =
@@ -157,7 +159,7 @@ module _ (opened : List Placed) (least : ℕ) where
       let order = in_order_push (held opened) journal (Read s question told) r.order tt in
       let counted : next_number (held opened) (journal ++ Read s question told ∷ []) ≤ c.seqno = rw (fold-append next_number_after (above (held opened)) journal (Read s question told ∷ [])) r.counted in
       recorded theory r.least_is marks low c (journal ++ Read s question told ∷ []) (theory.kept.step (held opened) (shown_by opened) (state_of journal c) (Asked s question) (state_of (journal ++ Read s question told ∷ []) c) (step (held opened) journal up r.reads.ordered) order r.holds)
-      (record { order = order; counted = counted }) (r.floored ∙ sym (fold-append floor_after 0 journal (Read s question told ∷ []))) (λ q. r.noted q ∙ sym (mark_in-read (held opened) journal s question told q))
+      (record { order = order; counted = counted }) (r.floored ∙ sym (fold-append floor_after 0 journal (Read s question told ∷ []))) (λ q. r.noted q ∙ sym (mark_in-read (held opened) journal s question told q)) (still_marked c c journal (Read s question told ∷ []) refl r.marked)
 
   -- and it agrees with the replay
   pub listed_agrees : (theory : Soundness) (marks : Marks) (low : ℕ) (c : Core) (journal : List Event) (question : Question) (s : ℕ) (pairs : List Pair) → IsRecorded opened least marks low c journal → above (held opened) ≤ s → IsListStep c question s pairs → ReadAgrees (shown_by opened) journal (Read s question (Pairs pairs))
@@ -181,7 +183,7 @@ module _ (opened : List Placed) (least : ℕ) where
   recorded_rotate theory marks low old new journal None r t = subst (λ c. IsRecorded opened least marks low c journal) (sym t.1) r
   recorded_rotate theory marks low old new journal (Some id) r t =
       recorded theory r.least_is marks low new journal (theory.kept.step (held opened) (shown_by opened) (state_of journal old) (Rotated old.next_memtable) (state_of journal new) (t.3 (held opened) journal) r.order r.holds)
-      (subst (λ n. IsCounted (held opened) n journal) (sym (ap (λ (c : Core). c.seqno) t.2)) (counted_of marks low old journal r)) r.floored r.noted
+      (subst (λ n. IsCounted (held opened) n journal) (sym (ap (λ (c : Core). c.seqno) t.2)) (counted_of marks low old journal r)) r.floored r.noted (same_marked old new journal (ap (λ (c : Core). c.merges) t.2) r.marked)
 
   -- it leaves what each snapshot sees
   pub rotate_spares : (theory : Soundness) (marks : Marks) (low : ℕ) (old new : Core) (journal : List Event) (i : Option ℕ) → IsRecorded opened least marks low old journal → Rotates old i new → Stays old new

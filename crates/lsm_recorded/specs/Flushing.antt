@@ -33,12 +33,15 @@ is_installed (Err e) = false
 -- ---- a job
 
 -- a job that there is no room to note: it is spent, and nothing else changes
-pub record SpendsUnnoted {S : Type 0} (job : SeenWritten) (r : Result Registered Error) (old new : SeenRecorded S) (pass pass' : List (ℕ × JournalEntry)) : Type 0 where
+pub record SpendsUnnoted {S A : Type 0} (IsSpent : Core → Core → Type 0) (r : Result A Error) (old new : SeenRecorded S) (pass pass' : List (ℕ × JournalEntry)) : Type 0 where
   pub refused : r ≡ Err OutOfMemory
-  pub core : new.tree.core ≡ spent job.job.number old.tree.core
+  pub core : IsSpent old.tree.core new.tree.core
   pub store : new.tree.store ≡ old.tree.store
   pub journal_stays : new.journal ≡ old.journal
   pub pass_stays : pass' ≡ pass
+
+abbrev pub IsSpentFlush : SeenWritten → Core → Core → Type 0
+IsSpentFlush job old new = new ≡ spent job.job.number old
 
 -- a job that is registered, whatever it is answered: the mark is noted, and the install where it is installed
 pub record RegistersNoted {S : Type 0} (job : SeenWritten) (r : Result Registered Error) (old new : SeenRecorded S) (pass pass' : List (ℕ × JournalEntry)) : Type 0 where
@@ -47,7 +50,7 @@ pub record RegistersNoted {S : Type 0} (job : SeenWritten) (r : Result Registere
 
 -- ---- a flush in one call
 
--- a flush that there is no room to note: nothing changes
+-- a call that there is no room to note: nothing changes
 pub record RefusesUnnoted {S A : Type 0} (r : Result A Error) (old new : SeenRecorded S) (pass pass' : List (ℕ × JournalEntry)) : Type 0 where
   pub refused : r ≡ Err OutOfMemory
   pub unchanged : new ≡ old

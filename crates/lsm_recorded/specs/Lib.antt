@@ -8,3 +8,4 @@ pub mod Notes
 pub mod Recorded
 pub mod Opened
 pub mod Flushing
+pub mod Compacting

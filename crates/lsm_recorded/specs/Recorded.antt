@@ -1,6 +1,7 @@
 -- A tree with the journal of its calls, and what always holds of it.
-use Rattle.std.specs.Prelude.{◌≡◌, ℕ, ◌<◌, ◌≤◌, ◌⊎◌, ◌↔◌, max, List, [], Result, Err, IsErrOf}
+use Rattle.std.specs.Prelude.{◌≡◌, ℕ, ◌<◌, ◌≤◌, ◌⊎◌, ◌↔◌, ◌++◌, max, List, [], Result, Err, IsErrOf}
 use Rattle.std.specs.BTreeMap.{BTreeMap}
+use Rattle.std.specs.List.{AllByRecursion}
 use Rattle.lsm_model.specs.Views.{Placed, held}
 use Rattle.lsm_model.specs.Beginnings.{shown_by}
 use Rattle.lsm_below.specs.Keys.{Bytes}
@@ -14,6 +15,8 @@ use Rattle.lsm_below.specs.declared.error.Error.TheVariants.{OutOfMemory, OutOfO
 use Rattle.lsm_versions.specs.declared.config.Config.{Config}
 use Rattle.lsm_state.specs.Core.{Core, Seen, state_of}
 use Rattle.lsm_state.specs.Calls.{RefusesRead}
+use Rattle.lsm_state.specs.CompactionDeeds.{IsMarkedIn}
+use Rattle.lsm_state.specs.CompactionReads.{AreSparedBy}
 use Rattle.lsm_recorded.specs.declared.marks.Mark.{Mark}
 use Rattle.lsm_recorded.specs.Marks.{mark_of, mark_in}
 
@@ -22,6 +25,10 @@ pub record SeenRecorded (S : Type 0) : Type 0 where
   pub tree : Seen S
   pub journal : List JournalEntry
   pub opened : List Placed
+
+-- the watermark of each open merge is marked in the journal
+abbrev pub AreMarked : List Event → Core → Type 0
+AreMarked journal c = AllByRecursion (λ m. IsMarkedIn m.settings.watermark journal) c.merges.underway
 
 -- what always holds of a tree with its journal
 pub record IsRecorded (opened : List Placed) (least : ℕ) (marks : BTreeMap Bytes Mark) (low : ℕ) (c : Core) (journal : List Event) : Type 0 where
@@ -36,6 +43,8 @@ pub record IsRecorded (opened : List Placed) (least : ℕ) (marks : BTreeMap Byt
   pub least_is : least ≡ above (held opened)
   pub floored : low ≡ floor journal
   pub noted : (k : Bytes) → mark_of marks k ≡ mark_in (held opened) journal k
+  -- no snapshot that is kept is below the watermark of an open merge
+  pub marked : AreMarked journal c
 
 -- a refusal of the journal's own, or what the tree below replied
 abbrev pub OwnOr : {A : Type 0} → Result A Error → Type 0 → Type 0
@@ -48,6 +57,10 @@ Stays old new = (s : ℕ) → StaysAt s (state_of [] old) (state_of [] new)
 -- the same of the snapshots up to a sequence number
 abbrev pub StaysTo : ℕ → Core → Core → Type 0
 StaysTo n old new = (s : ℕ) → s ≤ n → StaysAt s (state_of [] old) (state_of [] new)
+
+-- the same of the snapshots that what is appended to the journal spares: each, but those above the number of a drop
+abbrev pub StaysBehind : List Event → List Event → Core → Core → Type 0
+StaysBehind journal journal' old new = (events : List Event) → journal' ≡ journal ++ events → (s : ℕ) → AreSparedBy events s → StaysAt s (state_of [] old) (state_of [] new)
 
 -- a read below a sequence number that was opened is out of order, whatever else would be wrong; each other one is refused as
 -- the tree refuses it

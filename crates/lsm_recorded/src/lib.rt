@@ -6,17 +6,20 @@
 //! | `recorded::opening` | how it is opened over a store |
 //! | `recorded::range` | its reads of many keys |
 //! | `recorded::flushing` | the calls of a flush, and what they note |
+//! | `recorded::compacting` | the calls of a compaction, and what they note |
 //! | `recorded::counted` | what is counted of it |
 //! | `pass` | what one caller's calls add to a journal |
 //! | `marks` | what was written to each key, by which a write in order is told |
 //! | `opened` | what opened tables hold of each key, and whether they are in order |
 //! | `notes` | copies of the entries of a write, for the journal and a pass |
+//! | `noting` | what a call came to, on its way into a journal and a pass |
 //! | `closing` | whether passes list a journal |
 #![tactic(auto)]
 
 mod closing;
 mod marks;
 mod notes;
+mod noting;
 mod opened;
 mod pass;
 mod recorded;

@@ -1,5 +1,5 @@
 // A tree with the journal of its calls.
-ghost use Rattle.std.specs.Prelude.{◌≡◌, ◌+◌, ◌<◌, ◌≤◌, ◌^◌, ◌∷◌, [], true, false, None, Ok, IfOk, IfErr, IfSome, OnOk, OnErr, IsErrOf, IsTrue, ◌↔◌, ◌⊎◌, map};
+ghost use Rattle.std.specs.Prelude.{◌≡◌, ◌+◌, ◌<◌, ◌≤◌, ◌^◌, ◌∷◌, [], true, false, None, Ok, IfOk, IfErr, IfSome, OnOk, OnErr, IsErrOf, IsTrue, ◌↔◌, ◌⊎◌, List, map};
 ghost use Rattle.std.specs.FinMap.{get as value_in};
 ghost use Rattle.lsm_below.specs.Entries.{plain, above};
 ghost use Rattle.lsm_model.specs.Views.{held};
@@ -11,10 +11,14 @@ ghost use Rattle.lsm_model.specs.declared.journal.JournalEntry.TheVariants.{Writ
 ghost use Rattle.lsm_model.specs.declared.question.Question.TheVariants.{Get as GetQuestion};
 ghost use Rattle.lsm_model.specs.declared.question.Answer.TheVariants.{Found};
 ghost use Rattle.lsm_model.specs.declared.op.Op.TheVariants.{Set, Del, Weak};
+ghost use Rattle.lsm_tables.specs.Tables.{SeenTable};
+ghost use Rattle.lsm_versions.specs.Levels.{SeenVersion};
+ghost use Rattle.lsm_files.specs.Stored.{IsStored, Leaves};
 ghost use Rattle.lsm_state.specs.Held.{first_entries};
 ghost use Rattle.lsm_state.specs.Kept.{IsKeptTree};
 ghost use Rattle.lsm_state.specs.Core.{state_of};
 ghost use Rattle.lsm_state.specs.Calls.{Appends, WritesBatch, Gives, Rotates};
+ghost use Rattle.lsm_state.specs.Commits.{Upholds};
 ghost use Rattle.std.specs.List.{list_all};
 ghost use Rattle.lsm_recorded.specs.Marks.{mark_of, op_type, op_allowed};
 ghost use Rattle.lsm_recorded.specs.Order.{keeps_order, batch_keeps_order};
@@ -26,6 +30,7 @@ use crate::marks::{Mark, is_allowed, mark_write, read_mark, reserve_mark};
 use crate::notes::{make_note, make_notes, mark_notes, put_notes, reserve_notes};
 use crate::pass::{Pass, make_room, note_entry, put_entry};
 use lsm_below::{InternalValue, MemtableId, SeqNo, UserKey, UserValue, ValueType, share};
+use lsm_files::crashes_leave_versions;
 use lsm_journal::{copy_journal, read_entry};
 use lsm_model::{Answer, JournalEntry, Op, Question, reads_are_sound};
 use lsm_parts::{Error, LIMIT, SequenceNumberCounter, Version};
@@ -126,17 +131,18 @@ fn type_of(op: &Op) -> ValueType
 }
 
 impl<S: Store> Recorded<S> {
-    ghost use Rattle.lsm_recorded.specs.Recorded.{OwnOr, Stays, StaysTo, RefusesRecorded};
+    ghost use Rattle.lsm_recorded.specs.Recorded.{AreMarked, OwnOr, Stays, StaysTo, RefusesRecorded};
 
     /// The facts that the type keeps: every super version is ordered, each view equals the replay,
     /// kept snapshots are answered, and each read of the journal agrees with the replay before it;
-    /// the journal is in order, and the counter stands above each of its sequence numbers. Of the tree holds what
-    /// `TreeState::facts` tells.
+    /// the journal is in order, and the counter stands above each of its sequence numbers; the watermark of each open merge is
+    /// marked. Of the tree holds what `TreeState::facts` tells.
     pub fn facts(&self)
         ensures tree { IsKeptTree self.now.tree.core }
         ensures reads { ReadsEqualReplay (held self.now.opened) (shown_by self.now.opened) (state_of self.now.journal self.now.tree.core) }
         ensures in_order { InOrder (held self.now.opened) self.now.journal }
         ensures counted { next_number (held self.now.opened) self.now.journal ≤ self.now.tree.core.seqno }
+        ensures marked { AreMarked self.now.journal self.now.tree.core }
     {
         self.core.facts();
     }
@@ -366,8 +372,23 @@ impl<S: Store> Recorded<S> {
         let mark = read_mark(&self.marks, &entry.key.user_key);
         is_in_time && is_allowed(mark, number, entry.key.value_type)
     }
+
+    /// Of files to which nothing is done, a crash leaves what they hold.
+    fn stays_stored(&self)
+        ensures { S.tells → (versions : List SeenVersion) (written : List SeenTable) → IsStored (S.world self.now.tree.store) versions written → Leaves (S.world self.now.tree.store) (S.world self.now.tree.store) versions }
+    {
+        crashes_leave_versions(self.core.store());
+    }
+
+    /// While nothing is done to a tree its files stay what they are, and a crash leaves one of its versions.
+    fn is_upheld(&self)
+        ensures { S.tells → Upholds (S.world self.now.tree.store) (S.world self.now.tree.store) self.now.tree.core self.now.tree.core }
+    {
+        self.stays_stored();
+    }
 }
 
+mod compacting;
 mod counted;
 mod flushing;
 mod opening;

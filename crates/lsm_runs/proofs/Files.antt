@@ -1,5 +1,5 @@
 -- What steps leave of a tree's files.
-use Rattle.std.proofs.Common.{◌≡◌, ℕ, Bool, true, false, cond, ◌==◌, List, [], Option, Some, None, Ok, refl, ⊎_elim}
+use Rattle.std.proofs.Common.{◌≡◌, ◌⊎◌, inl, inr, ℕ, Bool, true, false, cond, ◌==◌, List, [], Option, Some, None, Ok, refl, sym, ap, subst}
 use Rattle.lsm_below.specs.Entries.{Entry}
 use Rattle.lsm_below.specs.Keys.{Bytes}
 use Rattle.lsm_model.specs.Journal.{Event}
@@ -7,25 +7,29 @@ use Rattle.lsm_model.specs.declared.op.Op.{Op}
 use Rattle.lsm_model.specs.declared.question.Question.{Question}
 use Rattle.lsm_iter.specs.Guards.{Pair}
 use Rattle.lsm_jobs.specs.Jobs.{SeenJob, SeenOpen}
+use Rattle.lsm_merges.specs.Merges.{SeenCompaction}
 use Rattle.lsm_store.specs.World.{World}
 use Rattle.lsm_files.specs.Stored.{IsStored}
-use Rattle.lsm_state.specs.Core.{Core, versions_left, written_of}
+use Rattle.lsm_state.specs.Core.{Core, versions_left, written_by, written_of}
 use Rattle.lsm_state.specs.Calls.{Rotates}
 use Rattle.lsm_state.specs.Flushes.{Begins, spent_in}
+use Rattle.lsm_state.specs.Compactions.{Spends}
 use Rattle.lsm_runs.specs.declared.slots.Job.{Job}
 use Rattle.lsm_runs.specs.declared.steps.Counter.{Counter}
 use Rattle.lsm_runs.specs.declared.steps.Counter.TheVariants.{Seqno, Visible}
 use Rattle.lsm_runs.specs.declared.steps.JobStep.{JobStep}
-use Rattle.lsm_runs.specs.declared.steps.JobStep.TheVariants.{BeginFlush, RunFlush, FlushToTables, RegisterTables, AbandonFlush}
+use Rattle.lsm_runs.specs.declared.steps.JobStep.TheVariants.{BeginFlush, RunFlush, FlushToTables, RegisterTables, AbandonFlush, BeginCompaction, RunCompaction, FinishCompaction, AbandonCompaction}
 use Rattle.lsm_runs.specs.declared.steps.Step.{Step}
-use Rattle.lsm_runs.specs.declared.steps.Step.TheVariants.{Insert, Remove, RemoveWeak, AppendEntry, Write, Get, GetInternalEntry, ContainsKey, SizeOf, Range, Iter, Prefix, Len, IsEmpty, FirstKeyValue, LastKeyValue, RotateMemtable, Next, Set, FetchMax, AtSlot, Flush, FlushActiveMemtable, SetMoment, Count as CountOf, IsUncertain}
+use Rattle.lsm_runs.specs.declared.steps.Step.TheVariants.{Insert, Remove, RemoveWeak, AppendEntry, Write, Get, GetInternalEntry, ContainsKey, SizeOf, Range, Iter, Prefix, Len, IsEmpty, FirstKeyValue, LastKeyValue, RotateMemtable, Next, Set, FetchMax, AtSlot, Flush, FlushActiveMemtable, Compact, DoCompaction, MajorCompact, DropRange, GetNextTableId, SetMoment, Count as CountOf, IsUncertain, IsCompacting}
 use Rattle.lsm_runs.specs.declared.steps.Reply.{Reply}
 use Rattle.lsm_runs.specs.declared.steps.Reply.TheVariants.{Value, Entry as EntryOf, Pairs, Sizes, Number, Sealed, Done, Begun, NoJob, SlotInUse, Refused}
 use Rattle.lsm_runs.specs.Files.{StaysStored, JobLeavesFiles, LeavesFiles}
-use Rattle.lsm_runs.specs.Flushing.{TakesBegin, TakesRun, TakesAbandon, TakesJob, TakesMoment}
+use Rattle.lsm_runs.specs.Flushing.{TakesBegin, TakesRun, TakesAbandon, TakesMoment}
+use Rattle.lsm_runs.specs.Compacting.{Strategies, TakesRunCompaction, TakesAbandonCompaction, TakesTableId}
+use Rattle.lsm_runs.specs.JobSteps.{TakesJob}
 use Rattle.lsm_runs.specs.ReadSteps.{TakesGet, TakesGetEntry, TakesPairs}
 use Rattle.lsm_runs.specs.Runs.{Takes, TakesAlone, TakesEntry, TakesBatch, TakesRotate, TakesNext, TakesCounter, with_counter}
-use Rattle.lsm_runs.specs.Slots.{Stage, Closes, flush_in}
+use Rattle.lsm_runs.specs.Slots.{Stage, Closes}
 
 -- what must stand on the disk stays, or less must
 Needs : Core → Core → Type 1
@@ -77,11 +81,33 @@ run_needs n reply events was is old new t = absurd t
 
 abandon_needs : (reply : Reply) (events : List Event) (was is : Option Job) (old new : Core) → TakesAbandon reply events was is old new → Needs old new
 unfolding Needs
-abandon_needs Done events was is old new t w h = rw t.1.3 (spent_needs w old (flush_in t.1.0).number h)
+abandon_needs Done events was is old new t w h = rw t.1.3 (spent_needs w old t.1.0.number h)
 abandon_needs NoJob events was is old new t w h = same old new t.0.2 w h
 abandon_needs reply events was is old new t w h = absurd t
 
+run_compaction_needs : (reply : Reply) (events : List Event) (was is : Option Job) (old new : Core) → TakesRunCompaction reply events was is old new → Needs old new
+run_compaction_needs Done events was is old new t = same old new t.1
+run_compaction_needs (Refused x) events was is old new t = same old new t.0.2
+run_compaction_needs NoJob events was is old new t = same old new t.0.2
+run_compaction_needs reply events was is old new t = absurd t
+
+spends_needs : (job : SeenCompaction) (old new : Core) → Spends job old new → Needs old new
+unfolding Needs
+spends_needs job old new (inl s) w h = rw s.1 h
+spends_needs job old new (inr s) w h = rw s.1 h
+
+given_needs : (reply : Reply) (events : List Event) (was is : Option Job) (old new : Core) → TakesAbandonCompaction reply events was is old new → Needs old new
+given_needs Done events was is old new t = spends_needs t.1.0 old new t.1.3
+given_needs NoJob events was is old new t = same old new t.0.2
+given_needs reply events was is old new t = absurd t
+
 -- ---- steps that need no slot
+
+table_id_needs : (reply : Reply) (events : List Event) (old new : Core) → TakesTableId reply events old new → Needs old new
+unfolding Needs
+table_id_needs (Number n) events old new t w h = rw t.3 h
+table_id_needs (Refused x) events old new t w h = rw t.1 h
+table_id_needs reply events old new t w h = absurd t
 
 entry_needs : (e : Entry) (reply : Reply) (events : List Event) (old new : Core) → TakesEntry e reply events old new → Needs old new
 unfolding Needs
@@ -142,51 +168,62 @@ module _ {F : Type 0} (world : F → World) (was is : F) where
   unfolding Needs
   kept old new n e = rw e (n (world was))
 
-  job_stored : (step : JobStep) (reply : Reply) (events : List Event) (before after : Option Job) (old new : Core) → TakesJob step reply events before after old new → JobLeavesFiles world step was is old new → StaysStored (world was) (world is) old new
-  job_stored BeginFlush reply events before after old new t l = kept old new (begin_needs reply events before after old new t) l
-  job_stored (RunFlush n) reply events before after old new t l = kept old new (run_needs n reply events before after old new t) l
-  job_stored FlushToTables reply events before after old new t l = l
-  job_stored RegisterTables reply events before after old new t l = l
-  job_stored AbandonFlush reply events before after old new t l = kept old new (abandon_needs reply events before after old new t) l
+  job_stored : (strategies : Strategies) (step : JobStep) (reply : Reply) (events : List Event) (before after : Option Job) (old new : Core) → TakesJob strategies step reply events before after old new → JobLeavesFiles world step was is old new → StaysStored (world was) (world is) old new
+  job_stored strategies BeginFlush reply events before after old new t l = kept old new (begin_needs reply events before after old new t) l
+  job_stored strategies (RunFlush n) reply events before after old new t l = kept old new (run_needs n reply events before after old new t) l
+  job_stored strategies FlushToTables reply events before after old new t l = l
+  job_stored strategies RegisterTables reply events before after old new t l = l
+  job_stored strategies AbandonFlush reply events before after old new t l = kept old new (abandon_needs reply events before after old new t) l
+  job_stored strategies (BeginCompaction at o) reply events before after old new t l = l
+  job_stored strategies RunCompaction reply events before after old new t l = kept old new (run_compaction_needs reply events before after old new t) l
+  job_stored strategies FinishCompaction reply events before after old new t l = l
+  job_stored strategies AbandonCompaction reply events before after old new t l = kept old new (given_needs reply events before after old new t) l
 
-  alone_stored : (x : Step) (reply : Reply) (events : List Event) (old new : Core) → TakesAlone x reply events old new → LeavesFiles world x was is old new → StaysStored (world was) (world is) old new
-  alone_stored (Insert k v n) reply events old new t l = kept old new (entry_needs _ reply events old new t) l
-  alone_stored (Remove k n) reply events old new t l = kept old new (entry_needs _ reply events old new t) l
-  alone_stored (RemoveWeak k n) reply events old new t l = kept old new (entry_needs _ reply events old new t) l
-  alone_stored (AppendEntry e) reply events old new t l = kept old new (entry_needs _ reply events old new t) l
-  alone_stored (Write ops) reply events old new t l = kept old new (batch_needs ops reply events old new t) l
-  alone_stored (Get k s) reply events old new t l = kept old new (get_needs k s reply events old new t) l
-  alone_stored (GetInternalEntry k s) reply events old new t l = kept old new (get_entry_needs k s reply events old new t) l
-  alone_stored (ContainsKey k s) reply events old new t l = kept old new (same old new t.1) l
-  alone_stored (SizeOf k s) reply events old new t l = kept old new (same old new t.1) l
-  alone_stored (Range low high s) reply events old new t l = kept old new (pairs_needs _ _ s reply events old new t) l
-  alone_stored (Iter s) reply events old new t l = kept old new (pairs_needs _ _ s reply events old new t) l
-  alone_stored (Prefix p s) reply events old new t l = kept old new (pairs_needs _ _ s reply events old new t) l
-  alone_stored (Len s) reply events old new t l = kept old new (same old new t.1) l
-  alone_stored (IsEmpty s) reply events old new t l = kept old new (same old new t.1) l
-  alone_stored (FirstKeyValue s) reply events old new t l = kept old new (same old new t.1) l
-  alone_stored (LastKeyValue s) reply events old new t l = kept old new (same old new t.1) l
-  alone_stored RotateMemtable reply events old new t l = kept old new (rotate_needs reply events old new t) l
-  alone_stored (Next counter) reply events old new t l = kept old new (next_needs counter reply events old new t) l
-  alone_stored (Set counter n) reply events old new t l = kept old new (put_needs counter _ reply events old new t) l
-  alone_stored (FetchMax counter n) reply events old new t l = kept old new (put_needs counter _ reply events old new t) l
-  alone_stored (Flush n) reply events old new t l = l
-  alone_stored (FlushActiveMemtable n) reply events old new t l = l
-  alone_stored (SetMoment n) reply events old new t l = kept old new (moment_needs n reply events old new t) l
-  alone_stored (CountOf what) reply events old new t l = kept old new (same old new t.1) l
-  alone_stored IsUncertain reply events old new t l = kept old new (same old new t.1) l
-  alone_stored (AtSlot slot step) reply events old new t l = absurd t
+  alone_stored : (strategies : Strategies) (x : Step) (reply : Reply) (events : List Event) (old new : Core) → TakesAlone strategies x reply events old new → LeavesFiles world x was is old new → StaysStored (world was) (world is) old new
+  alone_stored strategies (Insert k v n) reply events old new t l = kept old new (entry_needs _ reply events old new t) l
+  alone_stored strategies (Remove k n) reply events old new t l = kept old new (entry_needs _ reply events old new t) l
+  alone_stored strategies (RemoveWeak k n) reply events old new t l = kept old new (entry_needs _ reply events old new t) l
+  alone_stored strategies (AppendEntry e) reply events old new t l = kept old new (entry_needs _ reply events old new t) l
+  alone_stored strategies (Write ops) reply events old new t l = kept old new (batch_needs ops reply events old new t) l
+  alone_stored strategies (Get k s) reply events old new t l = kept old new (get_needs k s reply events old new t) l
+  alone_stored strategies (GetInternalEntry k s) reply events old new t l = kept old new (get_entry_needs k s reply events old new t) l
+  alone_stored strategies (ContainsKey k s) reply events old new t l = kept old new (same old new t.1) l
+  alone_stored strategies (SizeOf k s) reply events old new t l = kept old new (same old new t.1) l
+  alone_stored strategies (Range low high s) reply events old new t l = kept old new (pairs_needs _ _ s reply events old new t) l
+  alone_stored strategies (Iter s) reply events old new t l = kept old new (pairs_needs _ _ s reply events old new t) l
+  alone_stored strategies (Prefix p s) reply events old new t l = kept old new (pairs_needs _ _ s reply events old new t) l
+  alone_stored strategies (Len s) reply events old new t l = kept old new (same old new t.1) l
+  alone_stored strategies (IsEmpty s) reply events old new t l = kept old new (same old new t.1) l
+  alone_stored strategies (FirstKeyValue s) reply events old new t l = kept old new (same old new t.1) l
+  alone_stored strategies (LastKeyValue s) reply events old new t l = kept old new (same old new t.1) l
+  alone_stored strategies RotateMemtable reply events old new t l = kept old new (rotate_needs reply events old new t) l
+  alone_stored strategies (Next counter) reply events old new t l = kept old new (next_needs counter reply events old new t) l
+  alone_stored strategies (Set counter n) reply events old new t l = kept old new (put_needs counter _ reply events old new t) l
+  alone_stored strategies (FetchMax counter n) reply events old new t l = kept old new (put_needs counter _ reply events old new t) l
+  alone_stored strategies (Flush n) reply events old new t l = l
+  alone_stored strategies (FlushActiveMemtable n) reply events old new t l = l
+  alone_stored strategies (Compact at n) reply events old new t l = l
+  alone_stored strategies (DoCompaction at o) reply events old new t l = l
+  alone_stored strategies (MajorCompact target n) reply events old new t l = l
+  alone_stored strategies (DropRange low high) reply events old new t l = l
+  alone_stored strategies GetNextTableId reply events old new t l = kept old new (table_id_needs reply events old new t) l
+  alone_stored strategies IsCompacting reply events old new t l = kept old new (same old new t.1) l
+  alone_stored strategies (SetMoment n) reply events old new t l = kept old new (moment_needs n reply events old new t) l
+  alone_stored strategies (CountOf what) reply events old new t l = kept old new (same old new t.1) l
+  alone_stored strategies IsUncertain reply events old new t l = kept old new (same old new t.1) l
+  alone_stored strategies (AtSlot slot step) reply events old new t l = absurd t
 
-  pub step_stored : (x : Step) (reply : Reply) (events : List Event) (old new : Stage) → Takes x reply events old new → LeavesFiles world x was is old.core new.core → StaysStored (world was) (world is) old.core new.core
-  step_stored (AtSlot slot step) reply events old new t l = job_stored step reply events (old.jobs slot) (new.jobs slot) old.core new.core t.0 l
-  step_stored x reply events old new t l = alone_stored x reply events old.core new.core t.0 l
+  pub step_stored : (strategies : Strategies) (x : Step) (reply : Reply) (events : List Event) (old new : Stage) → Takes strategies x reply events old new → LeavesFiles world x was is old.core new.core → StaysStored (world was) (world is) old.core new.core
+  step_stored strategies (AtSlot slot step) reply events old new t l = job_stored strategies step reply events (old.jobs slot) (new.jobs slot) old.core new.core t.0 l
+  step_stored strategies x reply events old new t l = alone_stored strategies x reply events old.core new.core t.0 l
 
   -- what is given up needs no tables
   pub closed_stored : (old new : Core) → Closes old new → is ≡ was → StaysStored (world was) (world is) old new
-  closed_stored old new c e h = ⊎_elim
-      (λ (f : new ≡ old). rw (e, f) h)
-      (λ (f : new ≡ record old { flush = None }). rw (e, f) (less h))
-      c
+  closed_stored old new c e h = subst (λ vs. IsStored (world is) vs (written_of new)) (sym (ap versions_left c.rest)) (rw e (go c.flush))
     where
       less : IsStored (world was) (versions_left old) (written_of old) → IsStored (world was) (versions_left old) []
       less s = record { current = s.current; whole = s.whole; written = tt; no_version = s.no_version; in_tables = s.in_tables }
+
+      go : (new.flush ≡ old.flush) ⊎ (new.flush ≡ None) → IsStored (world was) (versions_left old) (written_of new)
+      go (inl f) = subst (λ (o : Option SeenOpen). IsStored (world was) (versions_left old) (written_by o)) (sym f) h
+      go (inr f) = subst (λ (o : Option SeenOpen). IsStored (world was) (versions_left old) (written_by o)) (sym f) (less h)

@@ -1,5 +1,5 @@
 -- Outcomes of flushes.
-use Rattle.std.proofs.Common.{◌≡◌, Option, Some, None, true, Result, Ok, Err, IfOk, refl, sym, subst, ⊎_elim, inr, ap, ◌∙◌}
+use Rattle.std.proofs.Common.{◌≡◌, Option, Some, None, true, Result, Ok, Err, IfOk, refl, sym, subst}
 use Rattle.lsm_below.specs.declared.error.Error.{Error}
 use Rattle.lsm_jobs.specs.Jobs.{SeenWritten}
 use Rattle.lsm_jobs.specs.declared.jobs.Registered.{Registered}
@@ -8,7 +8,6 @@ use Rattle.lsm_state.specs.Flushes.{Registers, IsFlushDeed}
 use Rattle.lsm_runs.specs.declared.slots.Job.{Job}
 use Rattle.lsm_runs.specs.declared.slots.Job.TheVariants.{Written}
 use Rattle.lsm_runs.specs.Flushing.{TakesRegister, told_registered}
-use Rattle.lsm_runs.specs.Slots.{Closes}
 use Rattle.lsm_runs.specs.Told.{Told}
 
 -- a job that was registered
@@ -17,13 +16,3 @@ pub registered_taken : (job : SeenWritten) (r : Result Registered Error) (told :
     → IfOk r (λ a. a.installed ≡ true → IsFlushDeed job old new) → TakesRegister told.reply told.entries was is old new
 registered_taken job (Ok a) told was is old new e waits free done deed = subst (λ (t : Told). TakesRegister t.reply t.entries was is old new) (sym e) (job, waits, free, refl, done, deed)
 registered_taken job (Err x) told was is old new e waits free done deed = subst (λ (t : Told). TakesRegister t.reply t.entries was is old new) (sym e) (job, waits, free, refl, done, deed)
-
--- one flush is given up, and then another
-pub closes_both : (old mid new : Core) → Closes old mid → Closes mid new → Closes old new
-closes_both old mid new first second = ⊎_elim
-    (λ (e : mid ≡ old). subst (λ c. Closes c new) e second)
-    (λ (e : mid ≡ record old { flush = None }). ⊎_elim
-    (λ (f : new ≡ mid). inr (f ∙ e))
-    (λ (f : new ≡ record mid { flush = None }). inr (f ∙ ap (λ (c : Core). record c { flush = None }) e))
-    second)
-    first

@@ -1,5 +1,5 @@
 -- From the flushes of a run to the replay of its journal, and to what they leave.
-use Rattle.std.proofs.Common.{◌≡◌, ℕ, Bool, true, false, cond, ◌==◌, nat_lt, ⊎_elim, List, [], ◌∷◌, ◌++◌, Option, Some, None, Result, Ok, Err, find, refl, sym, ap, ◌∙◌, subst, append-nil}
+use Rattle.std.proofs.Common.{◌≡◌, ℕ, Bool, true, false, cond, ◌==◌, nat_lt, ⊎_elim, List, [], ◌∷◌, Option, Some, None, Result, Ok, Err, find, refl, sym, ◌∙◌, subst, append-nil}
 use Rattle.lsm_below.specs.Entries.{Entry}
 use Rattle.lsm_below.specs.declared.error.Error.{Error}
 use Rattle.lsm_model.specs.Soundness.{Soundness}
@@ -14,33 +14,15 @@ use Rattle.lsm_state.specs.Calls.{Rotates}
 use Rattle.lsm_state.specs.FlushReads.{KeepsReads, FlushesKeepReads, register_events, flush_events}
 use Rattle.lsm_state.specs.WholeFlushes.{RefusesRotation}
 use Rattle.lsm_runs.specs.declared.slots.Job.{Job}
-use Rattle.lsm_runs.specs.declared.steps.JobStep.{JobStep}
-use Rattle.lsm_runs.specs.declared.steps.JobStep.TheVariants.{BeginFlush, RunFlush, FlushToTables, RegisterTables, AbandonFlush}
 use Rattle.lsm_runs.specs.declared.steps.Reply.{Reply}
 use Rattle.lsm_runs.specs.declared.steps.Reply.TheVariants.{Begun, Done, Registered, Flushed, FlushedActive, RefusedActive, NoJob, SlotInUse, Refused}
-use Rattle.lsm_runs.specs.Flushing.{TakesBegin, TakesRun, TakesTables, TakesRegister, RegistersFrom, TakesAbandon, TakesJob, TakesFlush, TakesFlushActive, TakesMoment, FlushesNoted, FlushesRotated}
-use Rattle.lsm_runs.specs.Runs.{without_low_reads, Spares}
-use Rattle.lsm_runs.proofs.LowReads.{without-append, order_without}
-use Rattle.lsm_runs.proofs.ReadReplays.{Sound}
+use Rattle.lsm_runs.specs.Flushing.{TakesBegin, TakesRun, TakesTables, TakesRegister, RegistersFrom, TakesAbandon, TakesFlush, TakesFlushActive, TakesMoment, FlushesNoted, FlushesRotated}
+use Rattle.lsm_runs.specs.Runs.{without_low_reads}
+use Rattle.lsm_runs.proofs.Keeping.{AreNoReads}
 
 -- no event is a read, and reads are right behind them where they were
 abbrev pub KeepsRun : List Event → Core → Core → Type 0
-KeepsRun events old new = ((opened : List Entry) → without_low_reads opened events ≡ events) × KeepsReads events old new
-
--- ---- what such a call leaves
-
-joined : (opened : List Entry) (journal events : List Event) → ((opened : List Entry) → without_low_reads opened events ≡ events) → without_low_reads opened (journal ++ events) ≡ without_low_reads opened journal ++ events
-joined opened journal events none = without-append opened journal events ∙ ap (λ xs. without_low_reads opened journal ++ xs) (none opened)
-
-pub kept_sound : (opened : List Entry) (start : Map) (journal events : List Event) (old new : Core) → KeepsRun events old new → InOrder opened (journal ++ events) → Sound opened start journal old → Sound opened start (journal ++ events) new
-kept_sound opened start journal events old new k order h =
-    let is = joined opened journal events k.0 in
-    subst (λ j. Holds opened start (state_of j new)) (sym is) (k.1.right opened start (without_low_reads opened journal) (subst (InOrder opened) is (order_without opened (journal ++ events) order)) h)
-
-pub kept_spares : (opened : List Entry) (start : Map) (journal events : List Event) (old new : Core) → KeepsRun events old new → InOrder opened (journal ++ events) → Sound opened start journal old → Spares events old new
-kept_spares opened start journal events old new k order h s each =
-    let is = joined opened journal events k.0 in
-    k.1.stays opened start (without_low_reads opened journal) (subst (InOrder opened) is (order_without opened (journal ++ events) order)) h s
+KeepsRun events old new = AreNoReads events × KeepsReads events old new
 
 -- ---- the events of flushes
 
@@ -102,26 +84,26 @@ module _ (theory : Soundness) where
     stays = λ opened start journal order h s. theory.spares.same s (state_of [] old) (state_of [] old) refl refl refl;
   })
 
-  silent : (events : List Event) (old new : Core) → events ≡ [] → KeepsReads [] old new → KeepsRun events old new
+  pub silent : (events : List Event) (old new : Core) → events ≡ [] → KeepsReads [] old new → KeepsRun events old new
   silent events old new none k = subst (λ es. KeepsRun es old new) (sym none) ((λ opened. refl), k)
 
-  idle : (events : List Event) (old new : Core) → events ≡ [] → new ≡ old → KeepsRun events old new
+  pub idle : (events : List Event) (old new : Core) → events ≡ [] → new ≡ old → KeepsRun events old new
   idle events old new none is = silent events old new none (nothing old new is)
 
   module _ (laws : FlushesKeepReads) where
-    begin_keeps : (reply : Reply) (events : List Event) (was is : Option Job) (old new : Core) → TakesBegin reply events was is old new → KeepsRun events old new
+    pub begin_keeps : (reply : Reply) (events : List Event) (was is : Option Job) (old new : Core) → TakesBegin reply events was is old new → KeepsRun events old new
     begin_keeps (Begun b) events was is old new t = silent events old new t.0 (laws.silent old new t.3)
     begin_keeps (Refused x) events was is old new t = idle events old new t.0.0 t.0.2
     begin_keeps SlotInUse events was is old new t = idle events old new t.0.0 t.0.2
     begin_keeps reply events was is old new t = absurd t
 
-    run_keeps : (w : ℕ) (reply : Reply) (events : List Event) (was is : Option Job) (old new : Core) → TakesRun w reply events was is old new → KeepsRun events old new
+    pub run_keeps : (w : ℕ) (reply : Reply) (events : List Event) (was is : Option Job) (old new : Core) → TakesRun w reply events was is old new → KeepsRun events old new
     run_keeps w Done events was is old new t = idle events old new t.0 t.1
     run_keeps w (Refused x) events was is old new t = idle events old new t.0.0 t.0.2
     run_keeps w NoJob events was is old new t = idle events old new t.0.0 t.0.2
     run_keeps w reply events was is old new t = absurd t
 
-    tables_keep : (reply : Reply) (events : List Event) (was is : Option Job) (old new : Core) → TakesTables reply events was is old new → KeepsRun events old new
+    pub tables_keep : (reply : Reply) (events : List Event) (was is : Option Job) (old new : Core) → TakesTables reply events was is old new → KeepsRun events old new
     tables_keep Done events was is old new t = silent events old new t.0 (laws.silent old new t.2)
     tables_keep (Refused x) events was is old new t = silent events old new t.0 (laws.silent old new t.2)
     tables_keep NoJob events was is old new t = idle events old new t.0.0 t.0.2
@@ -130,23 +112,16 @@ module _ (theory : Soundness) where
     registered : (r : Result Outcome Error) (events : List Event) (was is : Option Job) (old new : Core) → RegistersFrom r events was is old new → KeepsRun events old new
     registered r events was is old new t = subst (λ es. KeepsRun es old new) (sym t.3) (unread_registered t.0.watermark old.seqno r, laws.registers t.0 r old new t.4 t.5)
 
-    register_keeps : (reply : Reply) (events : List Event) (was is : Option Job) (old new : Core) → TakesRegister reply events was is old new → KeepsRun events old new
+    pub register_keeps : (reply : Reply) (events : List Event) (was is : Option Job) (old new : Core) → TakesRegister reply events was is old new → KeepsRun events old new
     register_keeps (Registered a) events was is old new t = registered (Ok a) events was is old new t
     register_keeps (Refused x) events was is old new t = registered (Err x) events was is old new t
     register_keeps NoJob events was is old new t = idle events old new t.0.0 t.0.2
     register_keeps reply events was is old new t = absurd t
 
-    abandon_keeps : (reply : Reply) (events : List Event) (was is : Option Job) (old new : Core) → TakesAbandon reply events was is old new → KeepsRun events old new
+    pub abandon_keeps : (reply : Reply) (events : List Event) (was is : Option Job) (old new : Core) → TakesAbandon reply events was is old new → KeepsRun events old new
     abandon_keeps Done events was is old new t = silent events old new t.0 (laws.silent old new t.2)
     abandon_keeps NoJob events was is old new t = idle events old new t.0.0 t.0.2
     abandon_keeps reply events was is old new t = absurd t
-
-    pub job_keeps : (step : JobStep) (reply : Reply) (events : List Event) (was is : Option Job) (old new : Core) → TakesJob step reply events was is old new → KeepsRun events old new
-    job_keeps BeginFlush reply events was is old new t = begin_keeps reply events was is old new t
-    job_keeps (RunFlush w) reply events was is old new t = run_keeps w reply events was is old new t
-    job_keeps FlushToTables reply events was is old new t = tables_keep reply events was is old new t
-    job_keeps RegisterTables reply events was is old new t = register_keeps reply events was is old new t
-    job_keeps AbandonFlush reply events was is old new t = abandon_keeps reply events was is old new t
 
     noted : (w : ℕ) (r : Result (Option (ℕ × Outcome)) Error) (events : List Event) (old new : Core) → FlushesNoted w r events old new → KeepsRun events old new
     noted w r events old new t = subst (λ es. KeepsRun es old new) (sym t.1) (unread_flushed w old.seqno t.0 r, laws.flushes w t.0 r old new t.2 t.3)

@@ -1,150 +1,41 @@
--- A run leaves the flush open that was open at its start.
-use Rattle.std.proofs.Common.{◌≡◌, ℕ, zero, suc, Bool, true, false, cond, ◌==◌, ◌⊎◌, inl, inr, ⊎_elim, List, [], ◌∷◌, Option, Some, None, is_some, option_map, IfSome, Result, Ok, Err, slice_get, refl, sym, ap, ◌∙◌, subst}
-use Rattle.std.specs.BTreeMap.{BTreeMap, IsOrdered, get, is_at}
-use Rattle.std.specs.Ordering.{nat_cmp}
+-- What the calls on jobs make of the open flush.
+use Rattle.std.proofs.Common.{◌≡◌, ℕ, Bool, true, false, cond, ◌==◌, ◌⊎◌, inl, inr, ⊎_elim, List, [], Option, Some, None, is_some, option_map, IfSome, Result, Ok, Err, refl, sym, ap, ◌∙◌, subst}
 use Rattle.std.proofs.lemmas.Bool.{ne_eqb}
 use Rattle.std.proofs.lemmas.Bool.Decides.{eqb_tells}
-use Rattle.std.proofs.lemmas.Cmp.{nat_cmp_total}
-use Rattle.std.proofs.lemmas.Map.Entries.{btree_map_get_place, place_from_lookup}
-use Rattle.lsm_below.specs.Entries.{Entry}
-use Rattle.lsm_below.specs.Keys.{Bytes}
 use Rattle.lsm_below.specs.declared.error.Error.{Error}
 use Rattle.lsm_below.specs.declared.error.Error.TheVariants.{OutOfMemory, Store, CommitUnknown, Unrecoverable, OutOfNumbers, FlushOpen, TooManyRuns}
 use Rattle.lsm_model.specs.Journal.{Event}
-use Rattle.lsm_model.specs.declared.op.Op.{Op}
-use Rattle.lsm_model.specs.declared.question.Question.{Question}
 use Rattle.lsm_tables.specs.Tables.{SeenTable}
 use Rattle.lsm_versions.specs.Levels.{SeenVersion}
-use Rattle.lsm_iter.specs.Guards.{Pair}
 use Rattle.lsm_jobs.specs.Jobs.{SeenJob, SeenWritten, SeenOpen}
 use Rattle.lsm_jobs.specs.declared.jobs.Registered.{Registered as Outcome}
-use Rattle.lsm_state.specs.Core.{Core, rotated_core, written_core}
-use Rattle.lsm_state.specs.Calls.{Rotates}
+use Rattle.lsm_merges.specs.Merges.{SeenCompaction}
+use Rattle.lsm_state.specs.declared.compaction.Options.{Options}
+use Rattle.lsm_state.specs.declared.compaction.Begun.{Begun as BegunOf}
+use Rattle.lsm_state.specs.declared.compaction.Begun.TheVariants.{DidNothing, Declined, Installed, Job as BegunMerge}
+use Rattle.lsm_state.specs.Core.{Core}
+use Rattle.lsm_state.specs.Commits.{counted}
 use Rattle.lsm_state.specs.Flushes.{Begins, Registers, sealed_ids, spent, spent_in, noted_in}
-use Rattle.lsm_state.specs.WholeFlushes.{Flushes}
 use Rattle.lsm_runs.specs.declared.slots.Job.{Job}
-use Rattle.lsm_runs.specs.declared.slots.Job.TheVariants.{Begun as BegunJob}
-use Rattle.lsm_runs.specs.declared.steps.Counter.{Counter}
-use Rattle.lsm_runs.specs.declared.steps.Counter.TheVariants.{Seqno, Visible}
+use Rattle.lsm_runs.specs.declared.slots.Job.TheVariants.{Begun as BegunJob, Merged, Written, Compaction, Compacted}
 use Rattle.lsm_runs.specs.declared.steps.JobStep.{JobStep}
-use Rattle.lsm_runs.specs.declared.steps.JobStep.TheVariants.{BeginFlush, RunFlush, FlushToTables, RegisterTables, AbandonFlush}
-use Rattle.lsm_runs.specs.declared.steps.Step.{Step}
-use Rattle.lsm_runs.specs.declared.steps.Step.TheVariants.{Insert, Remove, RemoveWeak, AppendEntry, Write, Get, GetInternalEntry, ContainsKey, SizeOf, Range, Iter, Prefix, Len, IsEmpty, FirstKeyValue, LastKeyValue, RotateMemtable, Next, Set, FetchMax, AtSlot, Flush, FlushActiveMemtable, SetMoment, Count as CountOf, IsUncertain}
+use Rattle.lsm_runs.specs.declared.steps.JobStep.TheVariants.{BeginFlush, RunFlush, FlushToTables, RegisterTables, AbandonFlush, BeginCompaction, RunCompaction, FinishCompaction, AbandonCompaction}
 use Rattle.lsm_runs.specs.declared.steps.Reply.{Reply}
-use Rattle.lsm_runs.specs.declared.steps.Reply.TheVariants.{Value, Entry as EntryOf, Pairs, Sizes, Number, Sealed, Done, Begun, Registered, Flushed, FlushedActive, RefusedActive, NoJob, SlotInUse, Refused}
-use Rattle.lsm_runs.specs.Told.{Told}
-use Rattle.lsm_runs.specs.ReadSteps.{TakesGet, TakesGetEntry, TakesPairs}
-use Rattle.lsm_runs.specs.Flushing.{IsIdle, TakesBegin, TakesRun, TakesTables, TakesRegister, RegistersFrom, TakesAbandon, TakesJob, TakesFlush, TakesFlushActive, TakesMoment}
-use Rattle.lsm_runs.specs.Runs.{Takes, TakesAlone, TakesEntry, TakesBatch, TakesRotate, TakesNext, TakesCounter, with_counter, Ran}
-use Rattle.lsm_runs.specs.Slots.{Stage, at_first, beside, flush_in, waiting, job_in as job_in_slot, number_in, WaitsFor, KeepsOpen, given_up, all_given_up, Closes}
-use Rattle.lsm_runs.proofs.FlushOutcomes.{closes_both}
-
--- ---- steps that need no slot
+use Rattle.lsm_runs.specs.declared.steps.Reply.TheVariants.{Done, Begun, Registered, NoStrategy, NoJob, SlotInUse, Refused}
+use Rattle.lsm_runs.specs.Flushing.{IsIdle, TakesBegin, TakesRun, TakesTables, TakesRegister, RegistersFrom, TakesAbandon}
+use Rattle.lsm_runs.specs.Compacting.{Strategies, job_of, TakesBeginCompaction, TakesRunCompaction, TakesFinish, TakesAbandonCompaction}
+use Rattle.lsm_runs.specs.JobSteps.{TakesJob}
+use Rattle.lsm_runs.specs.Slots.{Stage, at_first, merge_in, number_in, WaitsFor, KeepsOpen}
+use Rattle.lsm_runs.proofs.CompactionRest.{KeepsOpenWork, kept_by, begun_work, begun_flush, finished_work, spends_work, ended_flush}
 
 -- equal trees have one open flush
-one_flush : (c d : Core) → c ≡ d → c.flush ≡ d.flush
+pub one_flush : (c d : Core) → c ≡ d → c.flush ≡ d.flush
 one_flush c d e = ap (λ (x : Core). x.flush) e
-
-entry_flush : (e : Entry) (reply : Reply) (events : List Event) (old new : Core) → TakesEntry e reply events old new → new.flush ≡ old.flush
-entry_flush e (Sizes size total) events old new t = one_flush new (written_core e old) t.1.core
-entry_flush e (Refused x) events old new t = one_flush new old t.1.unchanged
-entry_flush e reply events old new t = absurd t
-
-batch_flush : (ops : List (Bytes × Op)) (reply : Reply) (events : List Event) (old new : Core) → TakesBatch ops reply events old new → new.flush ≡ old.flush
-batch_flush ops (Number n) events old new t = one_flush new _ t.1.core
-batch_flush ops (Refused x) events old new t = one_flush new old t.1.unchanged
-batch_flush ops reply events old new t = absurd t
-
-get_flush : (k : Bytes) (s : ℕ) (reply : Reply) (events : List Event) (old new : Core) → TakesGet k s reply events old new → new.flush ≡ old.flush
-get_flush k s (Value v) events old new t = one_flush new old t.1
-get_flush k s (Refused x) events old new t = one_flush new old t.1
-get_flush k s reply events old new t = absurd t
-
-get_entry_flush : (k : Bytes) (s : ℕ) (reply : Reply) (events : List Event) (old new : Core) → TakesGetEntry k s reply events old new → new.flush ≡ old.flush
-get_entry_flush k s (EntryOf e) events old new t = one_flush new old t.1
-get_entry_flush k s (Refused x) events old new t = one_flush new old t.1
-get_entry_flush k s reply events old new t = absurd t
-
-pairs_flush : (question : Question) (Right : List Pair → Type 0) (s : ℕ) (reply : Reply) (events : List Event) (old new : Core) → TakesPairs question Right s reply events old new → new.flush ≡ old.flush
-pairs_flush question Right s (Pairs pairs) events old new t = one_flush new old t.1
-pairs_flush question Right s (Refused x) events old new t = one_flush new old t.1
-pairs_flush question Right s reply events old new t = absurd t
-
-rotated_flush : (old : Core) (id : Option ℕ) (new : Core) → Rotates old id new → new.flush ≡ old.flush
-rotated_flush old None new r = one_flush new old r.1
-rotated_flush old (Some id) new r = one_flush new (rotated_core old) r.2
-
-rotate_flush : (reply : Reply) (events : List Event) (old new : Core) → TakesRotate reply events old new → new.flush ≡ old.flush
-rotate_flush (Sealed id) events old new t = rotated_flush old id new t.1
-rotate_flush (Refused x) events old new t = one_flush new old t.1
-rotate_flush reply events old new t = absurd t
-
-counter_flush : (counter : Counter) (n : ℕ) (old new : Core) → new ≡ with_counter counter n old → new.flush ≡ old.flush
-counter_flush Seqno n old new is = one_flush new _ is
-counter_flush Visible n old new is = one_flush new _ is
-
-next_flush : (counter : Counter) (reply : Reply) (events : List Event) (old new : Core) → TakesNext counter reply events old new → new.flush ≡ old.flush
-next_flush counter (Number n) events old new t = counter_flush counter _ old new t.3
-next_flush counter (Refused x) events old new t = one_flush new old t.3
-next_flush counter reply events old new t = absurd t
-
-put_flush : (counter : Counter) (n : ℕ) (reply : Reply) (events : List Event) (old new : Core) → TakesCounter counter n reply events old new → new.flush ≡ old.flush
-put_flush counter n Done events old new t = counter_flush counter n old new t.1
-put_flush counter n reply events old new t = absurd t
-
-moment_flush : (n : ℕ) (reply : Reply) (events : List Event) (old new : Core) → TakesMoment n reply events old new → new.flush ≡ old.flush
-moment_flush n Done events old new t = one_flush new _ t.1
-moment_flush n reply events old new t = absurd t
-
--- a flush in one call leaves none open that wasn't
-flushed : (w : ℕ) (r : Result (Option (ℕ × Outcome)) Error) (old new : Core) → Flushes w r old new → new.flush ≡ old.flush
-flushed w (Ok None) old new f = one_flush new old (f.some refl).1
-flushed w (Ok (Some a)) old new f = one_flush new _ f.installs.installs.cleans.rest
-flushed w (Err x) old new f = one_flush new _ f.err.rest
-
-flush_flush : (w : ℕ) (reply : Reply) (events : List Event) (old new : Core) → TakesFlush w reply events old new → new.flush ≡ old.flush
-flush_flush w (Flushed a) events old new t = flushed w (Ok a) old new t.2
-flush_flush w (Refused x) events old new t = flushed w (Err x) old new t.2
-flush_flush w reply events old new t = absurd t
-
-active_flush : (w : ℕ) (reply : Reply) (events : List Event) (old new : Core) → TakesFlushActive w reply events old new → new.flush ≡ old.flush
-active_flush w (FlushedActive id a) events old new t = flushed w (Ok a) t.0 new t.2.2 ∙ rotated_flush old id t.0 t.1
-active_flush w (RefusedActive id x) events old new t =
-    elim t [ inl r ↦ one_flush new old r.1.unchanged | inr f ↦ flushed w (Err x) f.0 new f.2.2 ∙ rotated_flush old id f.0 f.1 ]
-active_flush w reply events old new t = absurd t
-
-alone_flush : (x : Step) (reply : Reply) (events : List Event) (old new : Core) → TakesAlone x reply events old new → new.flush ≡ old.flush
-alone_flush (Insert k v n) reply events old new t = entry_flush _ reply events old new t
-alone_flush (Remove k n) reply events old new t = entry_flush _ reply events old new t
-alone_flush (RemoveWeak k n) reply events old new t = entry_flush _ reply events old new t
-alone_flush (AppendEntry e) reply events old new t = entry_flush _ reply events old new t
-alone_flush (Write ops) reply events old new t = batch_flush ops reply events old new t
-alone_flush (Get k s) reply events old new t = get_flush k s reply events old new t
-alone_flush (GetInternalEntry k s) reply events old new t = get_entry_flush k s reply events old new t
-alone_flush (ContainsKey k s) reply events old new t = one_flush new old t.1
-alone_flush (SizeOf k s) reply events old new t = one_flush new old t.1
-alone_flush (Range low high s) reply events old new t = pairs_flush _ _ s reply events old new t
-alone_flush (Iter s) reply events old new t = pairs_flush _ _ s reply events old new t
-alone_flush (Prefix p s) reply events old new t = pairs_flush _ _ s reply events old new t
-alone_flush (Len s) reply events old new t = one_flush new old t.1
-alone_flush (IsEmpty s) reply events old new t = one_flush new old t.1
-alone_flush (FirstKeyValue s) reply events old new t = one_flush new old t.1
-alone_flush (LastKeyValue s) reply events old new t = one_flush new old t.1
-alone_flush RotateMemtable reply events old new t = rotate_flush reply events old new t
-alone_flush (Next counter) reply events old new t = next_flush counter reply events old new t
-alone_flush (Set counter n) reply events old new t = put_flush counter _ reply events old new t
-alone_flush (FetchMax counter n) reply events old new t = put_flush counter _ reply events old new t
-alone_flush (Flush w) reply events old new t = flush_flush w reply events old new t
-alone_flush (FlushActiveMemtable w) reply events old new t = active_flush w reply events old new t
-alone_flush (SetMoment n) reply events old new t = moment_flush n reply events old new t
-alone_flush (CountOf what) reply events old new t = one_flush new old t.1
-alone_flush IsUncertain reply events old new t = one_flush new old t.1
-alone_flush (AtSlot slot step) reply events old new t = absurd t
 
 -- ---- what a call on a job makes of the open flush
 
 -- the flush of another number stays
-spent_other : (n : ℕ) (f : SeenOpen) → (f.number ≡ n → ⊥) → spent_in n (Some f) ≡ Some f
+pub spent_other : (n : ℕ) (f : SeenOpen) → (f.number ≡ n → ⊥) → spent_in n (Some f) ≡ Some f
 spent_other n f other = ap (λ b. cond b None (Some f)) (ne_eqb f.number n other)
 
 noted_other : (n : ℕ) (tables : List SeenTable) (f : SeenOpen) → (f.number ≡ n → ⊥) → noted_in n tables (Some f) ≡ Some f
@@ -158,24 +49,27 @@ noted_number n tables f = go (f.number == n)
     go true = (record f { written = tables }, refl, refl)
     go false = (f, refl, refl)
 
--- a job that is registered is spent, whatever is answered
-registered_flush : (job : SeenWritten) (r : Result Outcome Error) (old new : Core) → Registers job r old new → new.flush ≡ spent_in job.job.number old.flush
-registered_flush job (Ok a) old new f = go a.installed refl
+-- a job that is registered is spent, whatever is answered, and nothing else is
+pub registered_work : (job : SeenWritten) (r : Result Outcome Error) (old new : Core) → Registers job r old new → KeepsOpenWork (spent job.job.number old) new
+registered_work job (Ok a) old new f = go a.installed refl
   where
-    go : (b : Bool) → a.installed ≡ b → new.flush ≡ spent_in job.job.number old.flush
-    go true is = one_flush new _ (f.installs is).1.cleans.rest
-    go false is = one_flush new _ (f.stale is).1.1
-registered_flush job (Err x) old new f = ⊎_elim known others f.only
+    go : (b : Bool) → a.installed ≡ b → KeepsOpenWork (spent job.job.number old) new
+    go true is = kept_by (spent job.job.number old) _ new (f.installs is).1.cleans.rest (refl, refl)
+    go false is = kept_by (spent job.job.number old) _ new (f.stale is).1.1 (refl, refl)
+registered_work job (Err x) old new f = ⊎_elim known others f.only
   where
-    before : (new ≡ spent job.job.number old) → new.flush ≡ spent_in job.job.number old.flush
-    before is = one_flush new (spent job.job.number old) is
+    before : (new ≡ spent job.job.number old) → KeepsOpenWork (spent job.job.number old) new
+    before is = kept_by (spent job.job.number old) (spent job.job.number old) new is (refl, refl)
 
-    known : ((x ≡ OutOfMemory) ⊎ ((x ≡ Store) ⊎ (x ≡ CommitUnknown))) → new.flush ≡ spent_in job.job.number old.flush
-    known (inl e) = ⊎_elim before (one_flush new _) (f.memory (ap Err e))
-    known (inr (inl e)) = one_flush new _ (f.store (ap Err e))
-    known (inr (inr e)) = one_flush new _ (f.unknown (ap Err e)).1.is
+    numbered : (new ≡ counted (spent job.job.number old)) → KeepsOpenWork (spent job.job.number old) new
+    numbered is = kept_by (spent job.job.number old) (counted (spent job.job.number old)) new is (refl, refl)
 
-    others : ((x ≡ Unrecoverable) ⊎ ((x ≡ OutOfNumbers) ⊎ (x ≡ TooManyRuns))) → new.flush ≡ spent_in job.job.number old.flush
+    known : ((x ≡ OutOfMemory) ⊎ ((x ≡ Store) ⊎ (x ≡ CommitUnknown))) → KeepsOpenWork (spent job.job.number old) new
+    known (inl e) = ⊎_elim before numbered (f.memory (ap Err e))
+    known (inr (inl e)) = numbered (f.store (ap Err e))
+    known (inr (inr e)) = kept_by (spent job.job.number old) _ new (f.unknown (ap Err e)).1.is (refl, refl)
+
+    others : ((x ≡ Unrecoverable) ⊎ ((x ≡ OutOfNumbers) ⊎ (x ≡ TooManyRuns))) → KeepsOpenWork (spent job.job.number old) new
     others (inl e) = before (f.before (inl (ap Err e)))
     others (inr (inl e)) = before (f.before (inr (inl (ap Err e))))
     others (inr (inr e)) = before (f.before (inr (inr (ap Err e))))
@@ -194,7 +88,7 @@ begun_alone job old new b = go old.flush refl old.lost refl
 
 -- ---- the flush of the start, and the job that waits
 
-none_isnt : (o : Option ℕ) (n : ℕ) → o ≡ None → o ≡ Some n → ⊥
+pub none_isnt : (o : Option ℕ) (n : ℕ) → o ≡ None → o ≡ Some n → ⊥
 none_isnt o n none some = cc
 
 -- where each job of a flush waited before, none of it waits where none did
@@ -224,11 +118,33 @@ noted_start (Some f) flush jobs slot n tables here is none = ap (noted_in n tabl
 -- ---- calls on a job
 
 -- the same flush is open, and each slot has a job of the same one
-still_open : (start : Option SeenOpen) (old new : Stage) → new.core.flush ≡ old.core.flush → ((n : ℕ) → number_in (new.jobs n) ≡ number_in (old.jobs n)) → KeepsOpen start old → KeepsOpen start new
+pub still_open : (start : Option SeenOpen) (old new : Stage) → new.core.flush ≡ old.core.flush → ((n : ℕ) → number_in (new.jobs n) ≡ number_in (old.jobs n)) → KeepsOpen start old → KeepsOpen start new
 still_open start old new flush same k = elim k [
   | inl l ↦ inl (flush ∙ l.0, none_waits start old.jobs new.jobs (λ f w. (w.0, sym (same w.0) ∙ w.1)) l.1)
   | inr r ↦ inr (r.0, (r.1.0, flush ∙ r.1.1, (r.1.2.0, same r.1.2.0 ∙ r.1.2.1)))
 ]
+
+-- the job of a merge is of no flush
+waits_apart : (begun : Result BegunOf Error) → number_in (job_of begun) ≡ None
+waits_apart (Ok (BegunMerge job)) = refl
+waits_apart (Ok DidNothing) = refl
+waits_apart (Ok (Declined why)) = refl
+waits_apart (Ok Installed) = refl
+waits_apart (Err e) = refl
+
+merge_apart : (place : Option Job) (job : SeenCompaction) → merge_in place ≡ Some job → number_in place ≡ None
+merge_apart place job is = go place is
+  where
+    no_merge : ◌≡◌ {A = Option SeenCompaction} None (Some job) → ⊥
+    no_merge e = cc
+
+    go : (p : Option Job) → merge_in p ≡ Some job → number_in p ≡ None
+    go None e = refl
+    go (Some (Compaction merge)) e = refl
+    go (Some (Compacted merge)) e = refl
+    go (Some (BegunJob flush)) e = absurd (no_merge e)
+    go (Some (Merged flush)) e = absurd (no_merge e)
+    go (Some (Written flush)) e = absurd (no_merge e)
 
 module _ (start : Option SeenOpen) (slot : ℕ) (old new : Stage) (others : (n : ℕ) → (n ≡ slot → ⊥) → new.jobs n ≡ old.jobs n) where
   same_numbers : number_in (new.jobs slot) ≡ number_in (old.jobs slot) → (n : ℕ) → number_in (new.jobs n) ≡ number_in (old.jobs n)
@@ -306,7 +222,7 @@ module _ (start : Option SeenOpen) (slot : ℕ) (old new : Stage) (others : (n :
   tables_open reply events t k = absurd t
 
   registers_open : (r : Result Outcome Error) (events : List Event) → RegistersFrom r events (old.jobs slot) (new.jobs slot) old.core new.core → KeepsOpen start old → KeepsOpen start new
-  registers_open r events t k = spent_open t.0.job.number (registered_flush t.0 r old.core new.core t.4) (ap number_in t.1) t.2 k
+  registers_open r events t k = spent_open t.0.job.number (registered_work t.0 r old.core new.core t.4).0 (ap number_in t.1) t.2 k
 
   register_open : (reply : Reply) (events : List Event) → TakesRegister reply events (old.jobs slot) (new.jobs slot) old.core new.core → KeepsOpen start old → KeepsOpen start new
   register_open (Registered a) events t k = registers_open (Ok a) events t k
@@ -315,106 +231,40 @@ module _ (start : Option SeenOpen) (slot : ℕ) (old new : Stage) (others : (n :
   register_open reply events t k = absurd t
 
   abandon_open : (reply : Reply) (events : List Event) → TakesAbandon reply events (old.jobs slot) (new.jobs slot) old.core new.core → KeepsOpen start old → KeepsOpen start new
-  abandon_open Done events t k = spent_open (flush_in t.1.0).number (one_flush new.core _ t.1.3) (ap number_in t.1.1) t.1.2 k
+  abandon_open Done events t k = spent_open t.1.0.number (one_flush new.core _ t.1.3) (ap (option_map (λ (job : SeenJob). job.number)) t.1.1) t.1.2 k
   abandon_open NoJob events t k = idle_open events t.0 k
   abandon_open reply events t k = absurd t
 
-  job_open : (step : JobStep) (reply : Reply) (events : List Event) → TakesJob step reply events (old.jobs slot) (new.jobs slot) old.core new.core → KeepsOpen start old → KeepsOpen start new
-  job_open BeginFlush reply events t k = begin_open reply events t k
-  job_open (RunFlush w) reply events t k = run_open w reply events t k
-  job_open FlushToTables reply events t k = tables_open reply events t k
-  job_open RegisterTables reply events t k = register_open reply events t k
-  job_open AbandonFlush reply events t k = abandon_open reply events t k
+  compaction_open : (strategies : Strategies) (at : ℕ) (o : Options) (reply : Reply) (events : List Event) → TakesBeginCompaction strategies at o reply events (old.jobs slot) (new.jobs slot) old.core new.core → KeepsOpen start old → KeepsOpen start new
+  compaction_open strategies at o SlotInUse events t k = idle_open events t.0 k
+  compaction_open strategies at o NoStrategy events t k = idle_open events t.0 k
+  compaction_open strategies at o reply events t k =
+      still_open start old new (begun_flush t.begun old.core new.core (begun_work t.answer o t.begun events old.core new.core t.begins)) (same_numbers (ap number_in t.waits ∙ waits_apart t.begun ∙ sym (ap number_in t.free))) k
 
--- ---- a run
+  run_compaction_open : (reply : Reply) (events : List Event) → TakesRunCompaction reply events (old.jobs slot) (new.jobs slot) old.core new.core → KeepsOpen start old → KeepsOpen start new
+  run_compaction_open Done events t k = still_open start old new (one_flush new.core old.core t.1) (same_numbers (ap number_in t.2.2 ∙ sym (ap number_in t.2.1))) k
+  run_compaction_open (Refused x) events t k = idle_open events t.0 k
+  run_compaction_open NoJob events t k = idle_open events t.0 k
+  run_compaction_open reply events t k = absurd t
 
-takes_open : (start : Option SeenOpen) (x : Step) (reply : Reply) (events : List Event) (old new : Stage) → Takes x reply events old new → KeepsOpen start old → KeepsOpen start new
-takes_open start (AtSlot slot step) reply events old new t k = job_open start slot old new t.1 step reply events t.0 k
-takes_open start x reply events old new t k = still_open start old new (alone_flush x reply events old.core new.core t.0) (λ n. ap (λ (jobs : ℕ → Option Job). number_in (jobs n)) t.1) k
+  finish_open : (reply : Reply) (events : List Event) → TakesFinish reply events (old.jobs slot) (new.jobs slot) old.core new.core → KeepsOpen start old → KeepsOpen start new
+  finish_open NoJob events t k = idle_open events t.0 k
+  finish_open reply events t k =
+      still_open start old new (ended_flush t.job.job old.core new.core (finished_work t.job.job t.end old.core new.core t.ends.0)) (same_numbers (ap number_in t.free ∙ sym (ap number_in t.waited))) k
 
-pub ran_open : (start : Option SeenOpen) (xs : List Step) (ts : List Told) (old new : Stage) → Ran xs ts old new → KeepsOpen start old → KeepsOpen start new
-ran_open start [] [] old new r k = subst (KeepsOpen start) (sym r) k
-ran_open start [] (t ∷ ts) old new r k = absurd r
-ran_open start (x ∷ xs) [] old new r k = absurd r
-ran_open start (x ∷ xs) (t ∷ ts) old new r k = ran_open start xs ts r.0 new r.2 (takes_open start x t.reply t.entries old r.0 r.1 k)
+  abandon_compaction_open : (reply : Reply) (events : List Event) → TakesAbandonCompaction reply events (old.jobs slot) (new.jobs slot) old.core new.core → KeepsOpen start old → KeepsOpen start new
+  abandon_compaction_open Done events t k =
+      still_open start old new (ended_flush t.1.0 old.core new.core (spends_work t.1.0 old.core new.core t.1.3)) (same_numbers (ap number_in t.1.2 ∙ sym (merge_apart (old.jobs slot) t.1.0 t.1.1))) k
+  abandon_compaction_open NoJob events t k = idle_open events t.0 k
+  abandon_compaction_open reply events t k = absurd t
 
--- ---- the end of a run
-
-given_closes : (place : Option Job) (c : Core) → Closes c (given_up place c)
-given_closes None c = inl refl
-given_closes (Some job) c = go c.flush
-  where
-    closed : (f : SeenOpen) (b : Bool) → Closes (record c { flush = Some f }) (record c { flush = cond b None (Some f) })
-    closed f true = inr refl
-    closed f false = inl refl
-
-    go : (o : Option SeenOpen) → Closes (record c { flush = o }) (record c { flush = spent_in (flush_in job).number o })
-    go None = inl refl
-    go (Some f) = closed f (f.number == (flush_in job).number)
-
-pub all_closes : (xs : List (ℕ × Option Job)) (c : Core) → Closes c (all_given_up xs c)
-all_closes [] c = inl refl
-all_closes (x ∷ xs) c = closes_both c (given_up x.1 c) (all_given_up xs (given_up x.1 c)) (given_closes x.1 c) (all_closes xs (given_up x.1 c))
-
--- none is open then that wasn't
-all_none : (xs : List (ℕ × Option Job)) (c : Core) → c.flush ≡ None → (all_given_up xs c).flush ≡ None
-all_none [] c none = none
-all_none (x ∷ xs) c none = all_none xs (given_up x.1 c) (go x.1)
-  where
-    go : (place : Option Job) → (given_up place c).flush ≡ None
-    go None = none
-    go (Some job) = ap (spent_in (flush_in job).number) none
-
--- one of which no job waits stays open
-all_other : (xs : List (ℕ × Option Job)) (c : Core) (f : SeenOpen) → c.flush ≡ Some f → ((i n : ℕ) (place : Option Job) → slice_get xs i ≡ Some (n, place) → number_in place ≡ Some f.number → ⊥) → (all_given_up xs c).flush ≡ Some f
-all_other [] c f is other = is
-all_other (x ∷ xs) c f is other = all_other xs (given_up x.1 c) f (go x.1 (other zero x.0 x.1 refl)) (λ i. other (suc i))
-  where
-    go : (place : Option Job) → (number_in place ≡ Some f.number → ⊥) → (given_up place c).flush ≡ Some f
-    go None differs = is
-    go (Some job) differs = ap (spent_in (flush_in job).number) is ∙ spent_other (flush_in job).number f (λ e. differs (ap (λ (m : ℕ). Some m) (sym e)))
-
--- one whose job waits is given up
-given_either : (place : Option Job) (c : Core) (f : SeenOpen) → c.flush ≡ Some f → ((given_up place c).flush ≡ None) ⊎ (((given_up place c).flush ≡ Some f) × (number_in place ≡ Some f.number → ⊥))
-given_either None c f is = inr (is, none_isnt None f.number refl)
-given_either (Some job) c f is = elim (eqb_tells f.number (flush_in job).number) [
-  | inl e ↦ inl (ap (spent_in (flush_in job).number) is ∙ ap (λ b. cond b None (Some f)) e.0)
-  | inr e ↦ inr (ap (spent_in (flush_in job).number) is ∙ ap (λ b. cond b None (Some f)) e.0, λ same. e.1 (sym (one_number same)))
-]
-  where
-    one_number : ◌≡◌ {A = Option ℕ} (Some (flush_in job).number) (Some f.number) → (flush_in job).number ≡ f.number
-    one_number same = cc
-
-all_waited : (xs : List (ℕ × Option Job)) (i n : ℕ) (place : Option Job) (c : Core) (f : SeenOpen) → slice_get xs i ≡ Some (n, place) → number_in place ≡ Some f.number → c.flush ≡ Some f → (all_given_up xs c).flush ≡ None
-all_waited [] i n place c f here same is = absurd (none_there here)
-  where
-    none_there : ◌≡◌ {A = Option (ℕ × Option Job)} None (Some (n, place)) → ⊥
-    none_there e = cc
-all_waited (x ∷ xs) zero n place c f here same is = elim (given_either x.1 c f is) [
-  | inl none ↦ all_none xs (given_up x.1 c) none
-  | inr other ↦ absurd (other.1 (ap (λ (p : ℕ × Option Job). number_in p.1) (one_entry here) ∙ same))
-]
-  where
-    one_entry : ◌≡◌ {A = Option (ℕ × Option Job)} (Some x) (Some (n, place)) → x ≡ (n, place)
-    one_entry e = cc
-all_waited (x ∷ xs) (suc i) n place c f here same is = elim (given_either x.1 c f is) [
-  | inl none ↦ all_none xs (given_up x.1 c) none
-  | inr other ↦ all_waited xs i n place (given_up x.1 c) f here same other.0
-]
-
--- what was open at the start is open at the end, and nothing else
-pub given_up_open : (start : Option SeenOpen) (slots : BTreeMap ℕ (Option Job)) (c : Core) → IsOrdered nat_cmp slots → KeepsOpen start (beside c slots) → (all_given_up slots.entries c).flush ≡ start
-given_up_open start slots c ordered k = elim k [
-  | inl l ↦ stays start l.0 l.1
-  | inr r ↦ goes r.1.0 r.1.1 r.1.2.0 r.1.2.1 (get nat_cmp slots r.1.2.0) refl ∙ sym r.0
-]
-  where
-    stays : (o : Option SeenOpen) → c.flush ≡ o → IfSome o (λ f. WaitsFor f (job_in_slot slots) → ⊥) → (all_given_up slots.entries c).flush ≡ o
-    stays None is none = all_none slots.entries c is
-    stays (Some f) is none = all_other slots.entries c f is (λ i n place at number. none (n, ap (λ (o : Option (Option Job)). number_in (waiting o)) (btree_map_get_place nat_cmp_total slots i n place ordered at) ∙ number))
-
-    goes : (f : SeenOpen) → c.flush ≡ Some f → (n : ℕ) → number_in (job_in_slot slots n) ≡ Some f.number → (o : Option (Option Job)) → get nat_cmp slots n ≡ o → (all_given_up slots.entries c).flush ≡ None
-    goes f is n number None none = absurd (none_isnt (number_in (job_in_slot slots n)) f.number (ap (λ (o : Option (Option Job)). number_in (waiting o)) none) number)
-    goes f is n number (Some place) found =
-        let at = place_from_lookup (is_at (nat_cmp n)) slots.entries place found in
-        all_waited slots.entries at.0 at.1 place c f at.2 (sym (ap (λ (o : Option (Option Job)). number_in (waiting o)) found) ∙ number) is
+  pub job_open : (strategies : Strategies) (step : JobStep) (reply : Reply) (events : List Event) → TakesJob strategies step reply events (old.jobs slot) (new.jobs slot) old.core new.core → KeepsOpen start old → KeepsOpen start new
+  job_open strategies BeginFlush reply events t k = begin_open reply events t k
+  job_open strategies (RunFlush w) reply events t k = run_open w reply events t k
+  job_open strategies FlushToTables reply events t k = tables_open reply events t k
+  job_open strategies RegisterTables reply events t k = register_open reply events t k
+  job_open strategies AbandonFlush reply events t k = abandon_open reply events t k
+  job_open strategies (BeginCompaction at o) reply events t k = compaction_open strategies at o reply events t k
+  job_open strategies RunCompaction reply events t k = run_compaction_open reply events t k
+  job_open strategies FinishCompaction reply events t k = finish_open reply events t k
+  job_open strategies AbandonCompaction reply events t k = abandon_compaction_open reply events t k

@@ -1,5 +1,5 @@
 -- From a run of steps to the replay of its journal.
-use Rattle.std.proofs.Common.{◌≡◌, ℕ, ⊎_elim, List, [], ◌∷◌, ◌++◌, Option, Some, None, map, refl, sym, ap, ◌∙◌, subst, append-nil, append_assoc}
+use Rattle.std.proofs.Common.{◌≡◌, ℕ, List, [], ◌∷◌, ◌++◌, Option, Some, None, map, refl, sym, ap, ◌∙◌, subst, append-nil, append_assoc}
 use Rattle.std.specs.BTreeMap.{BTreeMap, is_at}
 use Rattle.std.specs.Map.{lookup}
 use Rattle.std.specs.Ordering.{nat_cmp}
@@ -18,20 +18,25 @@ use Rattle.lsm_state.specs.Core.{Core, state_of}
 use Rattle.lsm_state.specs.Calls.{Rotates}
 use Rattle.lsm_state.specs.FlushReads.{FlushesKeepReads}
 use Rattle.lsm_state.specs.ListSteps.{ListsAreSteps}
+use Rattle.lsm_noted.specs.NotedReads.{NotedCompactionsKeepReads}
 use Rattle.lsm_runs.specs.declared.steps.Counter.{Counter}
 use Rattle.lsm_runs.specs.declared.steps.Counter.TheVariants.{Seqno, Visible}
 use Rattle.lsm_runs.specs.declared.steps.Step.{Step as Call}
-use Rattle.lsm_runs.specs.declared.steps.Step.TheVariants.{Insert, Remove, RemoveWeak, AppendEntry, Write, Get, GetInternalEntry, ContainsKey, SizeOf, Range, Iter, Prefix, Len, IsEmpty, FirstKeyValue, LastKeyValue, RotateMemtable, Next, Set, FetchMax, AtSlot, Flush, FlushActiveMemtable, SetMoment, Count as CountOf, IsUncertain}
+use Rattle.lsm_runs.specs.declared.steps.Step.TheVariants.{Insert, Remove, RemoveWeak, AppendEntry, Write, Get, GetInternalEntry, ContainsKey, SizeOf, Range, Iter, Prefix, Len, IsEmpty, FirstKeyValue, LastKeyValue, RotateMemtable, Next, Set, FetchMax, AtSlot, Flush, FlushActiveMemtable, Compact, DoCompaction, MajorCompact, DropRange, GetNextTableId, SetMoment, Count as CountOf, IsUncertain, IsCompacting}
 use Rattle.lsm_runs.specs.declared.steps.Reply.{Reply}
 use Rattle.lsm_runs.specs.declared.steps.Reply.TheVariants.{Sizes, Number, Sealed, Done, Refused}
 use Rattle.lsm_state.specs.Listing.{Lists, ListsPrefix}
 use Rattle.lsm_runs.specs.Told.{Told}
 use Rattle.lsm_runs.specs.declared.slots.Job.{Job}
 use Rattle.lsm_runs.specs.Slots.{Stage, at_first, beside, waiting, Closes}
+use Rattle.lsm_runs.specs.Compacting.{Strategies}
 use Rattle.lsm_runs.specs.Runs.{Takes, TakesAlone, RanToEnd, TakesEntry, TakesBatch, TakesRotate, TakesNext, TakesCounter, with_counter, Ran, journal_of, StepAnswers, EachAnswers, RunEqualsReplay, without_low_reads}
 use Rattle.lsm_runs.proofs.LowReads.{without-append, writes_without, order_without}
 use Rattle.lsm_runs.proofs.ReadReplays.{Sound, same, takes_get, takes_get_entry, takes_pairs, get_answers, get_entry_answers, contains_answers, size_answers, pairs_answer, len_answers, empty_answers, end_answers}
-use Rattle.lsm_runs.proofs.FlushReplays.{kept_sound, job_keeps, flush_keeps, active_keeps, moment_keeps}
+use Rattle.lsm_runs.proofs.Keeping.{kept_sound}
+use Rattle.lsm_runs.proofs.FlushReplays.{flush_keeps, active_keeps, moment_keeps}
+use Rattle.lsm_runs.proofs.CompactionReplays.{compact_after, major_after, drop_after, table_id_after}
+use Rattle.lsm_runs.proofs.JobReplays.{flush_after, idle_after, job_after, AreMarked, first_marked, still_marked, slot_marked}
 
 -- ---- each call keeps the tree sound
 
@@ -79,88 +84,101 @@ takes_counter : (opened : List Entry) (start : Map) (counter : Counter) (n : ℕ
 takes_counter opened start counter n Done journal events old new t h = counter_put opened start counter n journal events old new t.0 t.1 h
 takes_counter opened start counter n reply journal events old new t h = absurd t
 
-alone_sound : (theory : Soundness) (laws : FlushesKeepReads) (opened : List Entry) (start : Map) (x : Call) (reply : Reply) (journal events : List Event) (old new : Core) → TakesAlone x reply events old new → InOrder opened (journal ++ events) → Sound opened start journal old → Sound opened start (journal ++ events) new
-alone_sound theory laws opened start (Insert k v n) reply journal events old new t order h = takes_entry theory opened start _ reply journal events old new t order h
-alone_sound theory laws opened start (Remove k n) reply journal events old new t order h = takes_entry theory opened start _ reply journal events old new t order h
-alone_sound theory laws opened start (RemoveWeak k n) reply journal events old new t order h = takes_entry theory opened start _ reply journal events old new t order h
-alone_sound theory laws opened start (AppendEntry e) reply journal events old new t order h = takes_entry theory opened start _ reply journal events old new t order h
-alone_sound theory laws opened start (Write ops) reply journal events old new t order h = takes_batch theory opened start ops reply journal events old new t order h
-alone_sound theory laws opened start (Get k s) reply journal events old new t order h = takes_get theory opened start k s reply journal events old new t order h
-alone_sound theory laws opened start (GetInternalEntry k s) reply journal events old new t order h = takes_get_entry opened start k s reply journal events old new t h
-alone_sound theory laws opened start (ContainsKey k s) reply journal events old new t order h = same opened start journal events old new t.0 t.1 h
-alone_sound theory laws opened start (SizeOf k s) reply journal events old new t order h = same opened start journal events old new t.0 t.1 h
-alone_sound theory laws opened start (Range low high s) reply journal events old new t order h = takes_pairs theory opened start (Between low high) (Lists old low high s) s reply journal events old new t order h
-alone_sound theory laws opened start (Iter s) reply journal events old new t order h = takes_pairs theory opened start (Between Unbounded Unbounded) (Lists old Unbounded Unbounded s) s reply journal events old new t order h
-alone_sound theory laws opened start (Prefix p s) reply journal events old new t order h = takes_pairs theory opened start (AskPrefix p) (ListsPrefix old p s) s reply journal events old new t order h
-alone_sound theory laws opened start (Len s) reply journal events old new t order h = same opened start journal events old new t.0 t.1 h
-alone_sound theory laws opened start (IsEmpty s) reply journal events old new t order h = same opened start journal events old new t.0 t.1 h
-alone_sound theory laws opened start (FirstKeyValue s) reply journal events old new t order h = same opened start journal events old new t.0 t.1 h
-alone_sound theory laws opened start (LastKeyValue s) reply journal events old new t order h = same opened start journal events old new t.0 t.1 h
-alone_sound theory laws opened start RotateMemtable reply journal events old new t order h = takes_rotate theory opened start reply journal events old new t order h
-alone_sound theory laws opened start (Next counter) reply journal events old new t order h = takes_next opened start counter reply journal events old new t h
-alone_sound theory laws opened start (Set counter n) reply journal events old new t order h = takes_counter opened start counter _ reply journal events old new t h
-alone_sound theory laws opened start (FetchMax counter n) reply journal events old new t order h = takes_counter opened start counter _ reply journal events old new t h
-alone_sound theory laws opened start (Flush w) reply journal events old new t order h = kept_sound opened start journal events old new (flush_keeps theory laws w reply events old new t) order h
-alone_sound theory laws opened start (FlushActiveMemtable w) reply journal events old new t order h = kept_sound opened start journal events old new (active_keeps theory laws w reply events old new t) order h
-alone_sound theory laws opened start (SetMoment n) reply journal events old new t order h = kept_sound opened start journal events old new (moment_keeps theory laws n reply events old new t) order h
-alone_sound theory laws opened start (CountOf what) reply journal events old new t order h = same opened start journal events old new t.0 t.1 h
-alone_sound theory laws opened start IsUncertain reply journal events old new t order h = same opened start journal events old new t.0 t.1 h
-alone_sound theory laws opened start (AtSlot slot step) reply journal events old new t order h = absurd t
+alone_sound : (theory : Soundness) (laws : FlushesKeepReads) (compactions : NotedCompactionsKeepReads) (strategies : Strategies) (opened : List Entry) (start : Map) (x : Call) (reply : Reply) (journal events : List Event) (old new : Core) → TakesAlone strategies x reply events old new → InOrder opened (journal ++ events) → Sound opened start journal old → Sound opened start (journal ++ events) new
+alone_sound theory laws compactions strategies opened start (Insert k v n) reply journal events old new t order h = takes_entry theory opened start _ reply journal events old new t order h
+alone_sound theory laws compactions strategies opened start (Remove k n) reply journal events old new t order h = takes_entry theory opened start _ reply journal events old new t order h
+alone_sound theory laws compactions strategies opened start (RemoveWeak k n) reply journal events old new t order h = takes_entry theory opened start _ reply journal events old new t order h
+alone_sound theory laws compactions strategies opened start (AppendEntry e) reply journal events old new t order h = takes_entry theory opened start _ reply journal events old new t order h
+alone_sound theory laws compactions strategies opened start (Write ops) reply journal events old new t order h = takes_batch theory opened start ops reply journal events old new t order h
+alone_sound theory laws compactions strategies opened start (Get k s) reply journal events old new t order h = takes_get theory opened start k s reply journal events old new t order h
+alone_sound theory laws compactions strategies opened start (GetInternalEntry k s) reply journal events old new t order h = takes_get_entry opened start k s reply journal events old new t h
+alone_sound theory laws compactions strategies opened start (ContainsKey k s) reply journal events old new t order h = same opened start journal events old new t.0 t.1 h
+alone_sound theory laws compactions strategies opened start (SizeOf k s) reply journal events old new t order h = same opened start journal events old new t.0 t.1 h
+alone_sound theory laws compactions strategies opened start (Range low high s) reply journal events old new t order h = takes_pairs theory opened start (Between low high) (Lists old low high s) s reply journal events old new t order h
+alone_sound theory laws compactions strategies opened start (Iter s) reply journal events old new t order h = takes_pairs theory opened start (Between Unbounded Unbounded) (Lists old Unbounded Unbounded s) s reply journal events old new t order h
+alone_sound theory laws compactions strategies opened start (Prefix p s) reply journal events old new t order h = takes_pairs theory opened start (AskPrefix p) (ListsPrefix old p s) s reply journal events old new t order h
+alone_sound theory laws compactions strategies opened start (Len s) reply journal events old new t order h = same opened start journal events old new t.0 t.1 h
+alone_sound theory laws compactions strategies opened start (IsEmpty s) reply journal events old new t order h = same opened start journal events old new t.0 t.1 h
+alone_sound theory laws compactions strategies opened start (FirstKeyValue s) reply journal events old new t order h = same opened start journal events old new t.0 t.1 h
+alone_sound theory laws compactions strategies opened start (LastKeyValue s) reply journal events old new t order h = same opened start journal events old new t.0 t.1 h
+alone_sound theory laws compactions strategies opened start RotateMemtable reply journal events old new t order h = takes_rotate theory opened start reply journal events old new t order h
+alone_sound theory laws compactions strategies opened start (Next counter) reply journal events old new t order h = takes_next opened start counter reply journal events old new t h
+alone_sound theory laws compactions strategies opened start (Set counter n) reply journal events old new t order h = takes_counter opened start counter _ reply journal events old new t h
+alone_sound theory laws compactions strategies opened start (FetchMax counter n) reply journal events old new t order h = takes_counter opened start counter _ reply journal events old new t h
+alone_sound theory laws compactions strategies opened start (Flush w) reply journal events old new t order h = kept_sound opened start journal events old new (flush_after journal events old new (flush_keeps theory laws w reply events old new t)) order h
+alone_sound theory laws compactions strategies opened start (FlushActiveMemtable w) reply journal events old new t order h = kept_sound opened start journal events old new (flush_after journal events old new (active_keeps theory laws w reply events old new t)) order h
+alone_sound theory laws compactions strategies opened start (Compact at w) reply journal events old new t order h = kept_sound opened start journal events old new (compact_after compactions (idle_after theory) strategies at _ reply journal events old new t) order h
+alone_sound theory laws compactions strategies opened start (DoCompaction at o) reply journal events old new t order h = kept_sound opened start journal events old new (compact_after compactions (idle_after theory) strategies at o reply journal events old new t) order h
+alone_sound theory laws compactions strategies opened start (MajorCompact target w) reply journal events old new t order h = kept_sound opened start journal events old new (major_after compactions (idle_after theory) target w reply journal events old new t) order h
+alone_sound theory laws compactions strategies opened start (DropRange low high) reply journal events old new t order h = kept_sound opened start journal events old new (drop_after compactions (idle_after theory) _ reply journal events old new t) order h
+alone_sound theory laws compactions strategies opened start GetNextTableId reply journal events old new t order h = kept_sound opened start journal events old new (table_id_after compactions (idle_after theory) reply journal events old new t) order h
+alone_sound theory laws compactions strategies opened start IsCompacting reply journal events old new t order h = same opened start journal events old new t.0 t.1 h
+alone_sound theory laws compactions strategies opened start (SetMoment n) reply journal events old new t order h = kept_sound opened start journal events old new (flush_after journal events old new (moment_keeps theory laws n reply events old new t)) order h
+alone_sound theory laws compactions strategies opened start (CountOf what) reply journal events old new t order h = same opened start journal events old new t.0 t.1 h
+alone_sound theory laws compactions strategies opened start IsUncertain reply journal events old new t order h = same opened start journal events old new t.0 t.1 h
+alone_sound theory laws compactions strategies opened start (AtSlot slot step) reply journal events old new t order h = absurd t
 
-pub takes_sound : (theory : Soundness) (laws : FlushesKeepReads) (opened : List Entry) (start : Map) (x : Call) (reply : Reply) (journal events : List Event) (old new : Stage) → Takes x reply events old new → InOrder opened (journal ++ events) → Sound opened start journal old.core → Sound opened start (journal ++ events) new.core
-takes_sound theory laws opened start (AtSlot slot step) reply journal events old new t order h = kept_sound opened start journal events old.core new.core (job_keeps theory laws step reply events (old.jobs slot) (new.jobs slot) old.core new.core t.0) order h
-takes_sound theory laws opened start x reply journal events old new t order h = alone_sound theory laws opened start x reply journal events old.core new.core t.0 order h
+pub takes_sound : (theory : Soundness) (laws : FlushesKeepReads) (compactions : NotedCompactionsKeepReads) (strategies : Strategies) (opened : List Entry) (start : Map) (x : Call) (reply : Reply) (journal events : List Event) (old new : Stage) → Takes strategies x reply events old new → AreMarked journal old.jobs → InOrder opened (journal ++ events) → Sound opened start journal old.core → Sound opened start (journal ++ events) new.core
+takes_sound theory laws compactions strategies opened start (AtSlot slot step) reply journal events old new t m order h =
+    kept_sound opened start journal events old.core new.core (job_after theory laws compactions strategies step reply journal events (old.jobs slot) (new.jobs slot) old.core new.core (m slot) t.0) order h
+takes_sound theory laws compactions strategies opened start x reply journal events old new t m order h = alone_sound theory laws compactions strategies opened start x reply journal events old.core new.core t.0 order h
 
-alone_answers : (lists : ListsAreSteps) (theory : Soundness) (opened : List Entry) (start : Map) (x : Call) (reply : Reply) (journal events : List Event) (old new : Core) → TakesAlone x reply events old new → Sound opened start journal old → StepAnswers opened start journal x reply
-alone_answers lists theory opened start (Get k s) reply journal events old new t h = get_answers theory opened start k s reply journal events old new t h
-alone_answers lists theory opened start (GetInternalEntry k s) reply journal events old new t h = get_entry_answers theory opened start k s reply journal events old new t h
-alone_answers lists theory opened start (ContainsKey k s) reply journal events old new t h = contains_answers theory opened start k s reply journal old t.2 h
-alone_answers lists theory opened start (SizeOf k s) reply journal events old new t h = size_answers theory opened start k s reply journal old t.2 h
-alone_answers lists theory opened start (Range low high s) reply journal events old new t h = pairs_answer theory opened start (Between low high) (Lists old low high s) s reply journal events old new t h
-alone_answers lists theory opened start (Iter s) reply journal events old new t h = pairs_answer theory opened start (Between Unbounded Unbounded) (Lists old Unbounded Unbounded s) s reply journal events old new t h
-alone_answers lists theory opened start (Prefix p s) reply journal events old new t h = pairs_answer theory opened start (AskPrefix p) (ListsPrefix old p s) s reply journal events old new t h
-alone_answers lists theory opened start (Len s) reply journal events old new t h = len_answers lists theory opened start s reply journal old t.2 h
-alone_answers lists theory opened start (IsEmpty s) reply journal events old new t h = empty_answers lists theory opened start s reply journal old t.2 h
-alone_answers lists theory opened start (FirstKeyValue s) reply journal events old new t h = end_answers lists theory opened start Front s reply journal old t.2 h
-alone_answers lists theory opened start (LastKeyValue s) reply journal events old new t h = end_answers lists theory opened start Back s reply journal old t.2 h
-alone_answers lists theory opened start step reply journal events old new t h = tt
+-- the watermark of each merge whose job waits stays marked
+pub takes_marked : (compactions : NotedCompactionsKeepReads) (strategies : Strategies) (x : Call) (reply : Reply) (journal events : List Event) (old new : Stage) → Takes strategies x reply events old new → AreMarked journal old.jobs → AreMarked (journal ++ events) new.jobs
+takes_marked compactions strategies (AtSlot slot step) reply journal events old new t m = slot_marked compactions strategies slot step reply journal events old new t m
+takes_marked compactions strategies x reply journal events old new t m = still_marked compactions journal events old.jobs new.jobs t.1 m
 
-step_answers : (lists : ListsAreSteps) (theory : Soundness) (opened : List Entry) (start : Map) (x : Call) (reply : Reply) (journal events : List Event) (old new : Stage) → Takes x reply events old new → Sound opened start journal old.core → StepAnswers opened start journal x reply
-step_answers lists theory opened start (AtSlot slot step) reply journal events old new t h = tt
-step_answers lists theory opened start x reply journal events old new t h = alone_answers lists theory opened start x reply journal events old.core new.core t.0 h
+alone_answers : (lists : ListsAreSteps) (theory : Soundness) (strategies : Strategies) (opened : List Entry) (start : Map) (x : Call) (reply : Reply) (journal events : List Event) (old new : Core) → TakesAlone strategies x reply events old new → Sound opened start journal old → StepAnswers opened start journal x reply
+alone_answers lists theory strategies opened start (Get k s) reply journal events old new t h = get_answers theory opened start k s reply journal events old new t h
+alone_answers lists theory strategies opened start (GetInternalEntry k s) reply journal events old new t h = get_entry_answers theory opened start k s reply journal events old new t h
+alone_answers lists theory strategies opened start (ContainsKey k s) reply journal events old new t h = contains_answers theory opened start k s reply journal old t.2 h
+alone_answers lists theory strategies opened start (SizeOf k s) reply journal events old new t h = size_answers theory opened start k s reply journal old t.2 h
+alone_answers lists theory strategies opened start (Range low high s) reply journal events old new t h = pairs_answer theory opened start (Between low high) (Lists old low high s) s reply journal events old new t h
+alone_answers lists theory strategies opened start (Iter s) reply journal events old new t h = pairs_answer theory opened start (Between Unbounded Unbounded) (Lists old Unbounded Unbounded s) s reply journal events old new t h
+alone_answers lists theory strategies opened start (Prefix p s) reply journal events old new t h = pairs_answer theory opened start (AskPrefix p) (ListsPrefix old p s) s reply journal events old new t h
+alone_answers lists theory strategies opened start (Len s) reply journal events old new t h = len_answers lists theory opened start s reply journal old t.2 h
+alone_answers lists theory strategies opened start (IsEmpty s) reply journal events old new t h = empty_answers lists theory opened start s reply journal old t.2 h
+alone_answers lists theory strategies opened start (FirstKeyValue s) reply journal events old new t h = end_answers lists theory opened start Front s reply journal old t.2 h
+alone_answers lists theory strategies opened start (LastKeyValue s) reply journal events old new t h = end_answers lists theory opened start Back s reply journal old t.2 h
+alone_answers lists theory strategies opened start step reply journal events old new t h = tt
+
+step_answers : (lists : ListsAreSteps) (theory : Soundness) (strategies : Strategies) (opened : List Entry) (start : Map) (x : Call) (reply : Reply) (journal events : List Event) (old new : Stage) → Takes strategies x reply events old new → Sound opened start journal old.core → StepAnswers opened start journal x reply
+step_answers lists theory strategies opened start (AtSlot slot step) reply journal events old new t h = tt
+step_answers lists theory strategies opened start x reply journal events old new t h = alone_answers lists theory strategies opened start x reply journal events old.core new.core t.0 h
 
 -- ---- the whole run
 
-ran_right : (lists : ListsAreSteps) (theory : Soundness) (laws : FlushesKeepReads) (opened : List Entry) (start : Map) (xs : List Call) (ts : List Told) (journal : List Event) (old new : Stage) → Ran xs ts old new → InOrder opened (journal ++ journal_of ts) → Sound opened start journal old.core → EachAnswers opened start journal xs ts × Sound opened start (journal ++ journal_of ts) new.core
-ran_right lists theory laws opened start [] [] journal old new r order h = (tt, rw (r, append-nil journal) h)
-ran_right lists theory laws opened start [] (t ∷ ts) journal old new r order h = absurd r
-ran_right lists theory laws opened start (x ∷ xs) [] journal old new r order h = absurd r
-ran_right lists theory laws opened start (x ∷ xs) (t ∷ ts) journal old new r order h =
+ran_right : (lists : ListsAreSteps) (theory : Soundness) (laws : FlushesKeepReads) (compactions : NotedCompactionsKeepReads) (strategies : Strategies) (opened : List Entry) (start : Map) (xs : List Call) (ts : List Told) (journal : List Event) (old new : Stage) → Ran strategies xs ts old new → AreMarked journal old.jobs → InOrder opened (journal ++ journal_of ts) → Sound opened start journal old.core → EachAnswers opened start journal xs ts × Sound opened start (journal ++ journal_of ts) new.core
+ran_right lists theory laws compactions strategies opened start [] [] journal old new r m order h = (tt, rw (r, append-nil journal) h)
+ran_right lists theory laws compactions strategies opened start [] (t ∷ ts) journal old new r m order h = absurd r
+ran_right lists theory laws compactions strategies opened start (x ∷ xs) [] journal old new r m order h = absurd r
+ran_right lists theory laws compactions strategies opened start (x ∷ xs) (t ∷ ts) journal old new r m order h =
     let joined : (journal ++ t.entries) ++ journal_of ts ≡ journal ++ (t.entries ++ journal_of ts) = append_assoc journal t.entries (journal_of ts) in
     let order' : InOrder opened ((journal ++ t.entries) ++ journal_of ts) = subst (InOrder opened) (sym joined) order in
-    let here = takes_sound theory laws opened start x t.reply journal t.entries old r.0 r.1 (theory.kept.front opened (journal ++ t.entries) (journal_of ts) order') h in
-    let rest = ran_right lists theory laws opened start xs ts (journal ++ t.entries) r.0 new r.2 order' here in
-    ((step_answers lists theory opened start x t.reply journal t.entries old r.0 r.1 h, rest.0), subst (λ js. Sound opened start js new.core) joined rest.1)
+    let here = takes_sound theory laws compactions strategies opened start x t.reply journal t.entries old r.0 r.1 m (theory.kept.front opened (journal ++ t.entries) (journal_of ts) order') h in
+    let marked = takes_marked compactions strategies x t.reply journal t.entries old r.0 r.1 m in
+    let rest = ran_right lists theory laws compactions strategies opened start xs ts (journal ++ t.entries) r.0 new r.2 marked order' here in
+    ((step_answers lists theory strategies opened start x t.reply journal t.entries old r.0 r.1 h, rest.0), subst (λ js. Sound opened start js new.core) joined rest.1)
 
--- an open flush is no part of what the theory sees
+-- what is open is no part of what the theory sees
 closed : (opened : List Entry) (start : Map) (journal : List Event) (old new : Core) → Closes old new → Sound opened start journal old → Sound opened start journal new
-closed opened start journal old new c h = ⊎_elim (λ (e : new ≡ old). rw e h) (λ (e : new ≡ record old { flush = None }). rw e h) c
+closed opened start journal old new c h = subst (λ (x : Core). Sound opened start journal x) (sym c.rest) h
 
-pub run_replays : (lists : ListsAreSteps) (theory : Soundness) (laws : FlushesKeepReads) (opened : List Entry) (start : Map) (xs : List Call) (ts : List Told) (old new : Core) → RanToEnd xs ts old new → RunEqualsReplay opened start xs ts old new
-run_replays lists theory laws opened start xs ts old new r is order =
-    let done = ran_right lists theory laws opened start xs ts [] (at_first old) r.0 r.1 order (theory.kept.opened opened start (state_of [] old) is) in
+pub run_replays : (lists : ListsAreSteps) (theory : Soundness) (laws : FlushesKeepReads) (compactions : NotedCompactionsKeepReads) (strategies : Strategies) (opened : List Entry) (start : Map) (xs : List Call) (ts : List Told) (old new : Core) → RanToEnd strategies xs ts old new → RunEqualsReplay opened start xs ts old new
+run_replays lists theory laws compactions strategies opened start xs ts old new r is order =
+    let done = ran_right lists theory laws compactions strategies opened start xs ts [] (at_first old) r.0 r.1 (first_marked old) order (theory.kept.opened opened start (state_of [] old) is) in
     (done.0, theory.right.reads opened start (state_of (without_low_reads opened (journal_of ts)) new) (closed opened start (journal_of ts) r.0.core new r.2 done.1))
 
 -- one more step
-pub ran_more : (xs : List Call) (ts : List Told) (x : Call) (t : Told) (old mid new : Stage) → Ran xs ts old mid → Takes x t.reply t.entries mid new → Ran (xs ++ x ∷ []) (ts ++ t ∷ []) old new
-ran_more [] [] x t old mid new r q = (new, subst (λ c. Takes x t.reply t.entries c new) r q, refl)
-ran_more [] (u ∷ ts) x t old mid new r q = absurd r
-ran_more (y ∷ xs) [] x t old mid new r q = absurd r
-ran_more (y ∷ xs) (u ∷ ts) x t old mid new r q = (r.0, r.1, ran_more xs ts x t r.0 mid new r.2 q)
+pub ran_more : (strategies : Strategies) (xs : List Call) (ts : List Told) (x : Call) (t : Told) (old mid new : Stage) → Ran strategies xs ts old mid → Takes strategies x t.reply t.entries mid new → Ran strategies (xs ++ x ∷ []) (ts ++ t ∷ []) old new
+ran_more strategies [] [] x t old mid new r q = (new, subst (λ c. Takes strategies x t.reply t.entries c new) r q, refl)
+ran_more strategies [] (u ∷ ts) x t old mid new r q = absurd r
+ran_more strategies (y ∷ xs) [] x t old mid new r q = absurd r
+ran_more strategies (y ∷ xs) (u ∷ ts) x t old mid new r q = (r.0, r.1, ran_more strategies xs ts x t r.0 mid new r.2 q)
 
 -- a map that is empty has free slots
 pub free_slots : (slots : BTreeMap ℕ (Option Job)) (c : Core) → slots.entries ≡ [] → beside c slots ≡ at_first c
 free_slots slots c empty = ap (λ es. record { core = c; jobs = λ n. waiting (lookup (is_at (nat_cmp n)) es) }) empty
 
-pub run_to_end : (xs : List Call) (ts : List Told) (slots : BTreeMap ℕ (Option Job)) (old : Core) (last : Stage) (new : Core) → slots.entries ≡ [] → Ran xs ts (beside old slots) last → Closes last.core new → RanToEnd xs ts old new
-run_to_end xs ts slots old last new empty r c = (last, subst (λ s. Ran xs ts s last) (free_slots slots old empty) r, c)
+pub run_to_end : (strategies : Strategies) (xs : List Call) (ts : List Told) (slots : BTreeMap ℕ (Option Job)) (old : Core) (last : Stage) (new : Core) → slots.entries ≡ [] → Ran strategies xs ts (beside old slots) last → Closes last.core new → RanToEnd strategies xs ts old new
+run_to_end strategies xs ts slots old last new empty r c = (last, subst (λ s. Ran strategies xs ts s last) (free_slots slots old empty) r, c)

@@ -1,4 +1,4 @@
--- What a step that counts may answer.
+-- What a step that asks for a number of the tree may answer.
 use Rattle.std.specs.Prelude.{◌≡◌, ℕ, ◌+◌, ◌++◌, [], length, slice_get, slice_index_or, Option, Some, is_some, option_map}
 use Rattle.lsm_below.specs.Optimizes.{tables_of}
 use Rattle.lsm_below.specs.Sums.{capped}
@@ -9,11 +9,11 @@ use Rattle.lsm_parts.specs.History.{named_size}
 use Rattle.lsm_state.specs.Core.{Core}
 use Rattle.lsm_state.specs.Counts.{tables_now, persisted_of, unflushed_of, counted_now}
 use Rattle.lsm_runs.specs.declared.steps.Count.{Count}
-use Rattle.lsm_runs.specs.declared.steps.Count.TheVariants.{TableCount, L0RunCount, LevelTableCount, SealedMemtableCount, VersionFreeListLen, ApproximateLen, DiskSpace, TombstoneCount, WeakTombstoneCount, WeakTombstoneReclaimableCount, VersionMemtableSizeSum, HighestPersistedSeqno, HighestMemtableSeqno, HighestSeqno}
+use Rattle.lsm_runs.specs.declared.steps.Count.TheVariants.{TableCount, L0RunCount, LevelTableCount, SealedMemtableCount, VersionFreeListLen, ApproximateLen, DiskSpace, TombstoneCount, WeakTombstoneCount, WeakTombstoneReclaimableCount, VersionMemtableSizeSum, HighestPersistedSeqno, HighestMemtableSeqno, HighestSeqno, Id, NextTableId, Moment}
 use Rattle.lsm_runs.specs.declared.steps.Reply.{Reply}
 use Rattle.lsm_runs.specs.declared.steps.Reply.TheVariants.{Counted, Truth}
 
--- each count of a tree
+-- each of these numbers
 abbrev pub count_of : Count → Core → Option ℕ
 count_of TableCount c = Some (capped (length (tables_now c)))
 count_of L0RunCount c = Some (length (slice_index_or c.history.latest.version.levels 0 []))
@@ -29,8 +29,11 @@ count_of VersionMemtableSizeSum c = Some (named_size c.history c.memtables)
 count_of HighestPersistedSeqno c = highest_of (persisted_of c)
 count_of HighestMemtableSeqno c = highest_of (unflushed_of c)
 count_of HighestSeqno c = highest_of (unflushed_of c ++ persisted_of c)
+count_of Id c = Some c.config.id
+count_of NextTableId c = Some c.next_table
+count_of Moment c = Some c.moment
 
--- the answer to a count
+-- the answer
 abbrev pub IsCounted : Count → Core → Reply → Type 0
 IsCounted what c (Counted n) = n ≡ count_of what c
 IsCounted what c reply = ⊥

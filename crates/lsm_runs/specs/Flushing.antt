@@ -13,11 +13,9 @@ use Rattle.lsm_state.specs.WholeFlushes.{Flushes, MarksFlush, RefusesRotation}
 use Rattle.lsm_state.specs.FlushReads.{register_events, flush_events}
 use Rattle.lsm_runs.specs.declared.slots.Job.{Job}
 use Rattle.lsm_runs.specs.declared.slots.Job.TheVariants.{Begun as BegunJob, Merged, Written}
-use Rattle.lsm_runs.specs.declared.steps.JobStep.{JobStep}
-use Rattle.lsm_runs.specs.declared.steps.JobStep.TheVariants.{BeginFlush, RunFlush, FlushToTables, RegisterTables, AbandonFlush}
 use Rattle.lsm_runs.specs.declared.steps.Reply.{Reply}
 use Rattle.lsm_runs.specs.declared.steps.Reply.TheVariants.{Begun, Done, Registered, Flushed, FlushedActive, RefusedActive, NoJob, SlotInUse, Refused}
-use Rattle.lsm_runs.specs.Slots.{Stage, flush_in}
+use Rattle.lsm_runs.specs.Slots.{flush_in}
 use Rattle.lsm_runs.specs.Told.{Told}
 
 -- ---- a call on the job in a slot: what waits there before it and after it, and the tree before it and after it
@@ -70,23 +68,11 @@ TakesRegister (Refused x) events was is old new = RegistersFrom (Err x) events w
 TakesRegister NoJob events was is old new = IsIdle events was is old new × HasNoWritten was
 TakesRegister reply events was is old new = ⊥
 
--- a job is given up, at whatever stage it is
+-- the job of a flush is given up, at whatever stage it is
 abbrev pub TakesAbandon : Reply → List Event → Option Job → Option Job → Core → Core → Type 0
-TakesAbandon Done events was is old new = (events ≡ []) × ((job : Job) × (was ≡ Some job) × (is ≡ None) × (new ≡ spent (flush_in job).number old)) × IsNoDeed old new
-TakesAbandon NoJob events was is old new = IsIdle events was is old new × (was ≡ None)
+TakesAbandon Done events was is old new = (events ≡ []) × ((job : SeenJob) × (flush_in was ≡ Some job) × (is ≡ None) × (new ≡ spent job.number old)) × IsNoDeed old new
+TakesAbandon NoJob events was is old new = IsIdle events was is old new × (flush_in was ≡ None)
 TakesAbandon reply events was is old new = ⊥
-
--- each of these calls
-abbrev pub TakesJob : JobStep → Reply → List Event → Option Job → Option Job → Core → Core → Type 0
-TakesJob BeginFlush reply events was is old new = TakesBegin reply events was is old new
-TakesJob (RunFlush w) reply events was is old new = TakesRun w reply events was is old new
-TakesJob FlushToTables reply events was is old new = TakesTables reply events was is old new
-TakesJob RegisterTables reply events was is old new = TakesRegister reply events was is old new
-TakesJob AbandonFlush reply events was is old new = TakesAbandon reply events was is old new
-
--- a call on the job in a slot, that leaves all other slots
-abbrev pub TakesInSlot : ℕ → JobStep → Reply → List Event → Stage → Stage → Type 0
-TakesInSlot slot step reply events old new = TakesJob step reply events (old.jobs slot) (new.jobs slot) old.core new.core × ((n : ℕ) → (n ≡ slot → ⊥) → new.jobs n ≡ old.jobs n)
 
 -- ---- a flush in one call
 

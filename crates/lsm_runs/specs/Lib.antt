@@ -3,6 +3,8 @@ pub mod Slots
 pub mod ReadSteps
 pub mod CountSteps
 pub mod Flushing
+pub mod Compacting
+pub mod JobSteps
 pub mod Files
 pub mod Runs
 pub mod Counting

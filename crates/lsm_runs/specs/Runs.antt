@@ -17,15 +17,18 @@ use Rattle.lsm_below.specs.declared.error.Error.TheVariants.{OutOfMemory, OutOfN
 use Rattle.lsm_state.specs.Held.{first_entries}
 use Rattle.lsm_state.specs.Core.{Core, state_of}
 use Rattle.lsm_state.specs.Calls.{Appends, WritesBatch, Rotates}
+use Rattle.lsm_state.specs.WholeCompactions.{options_at}
 use Rattle.lsm_runs.specs.declared.steps.Counter.{Counter}
 use Rattle.lsm_runs.specs.declared.steps.Counter.TheVariants.{Seqno, Visible}
 use Rattle.lsm_runs.specs.declared.steps.Step.{Step}
-use Rattle.lsm_runs.specs.declared.steps.Step.TheVariants.{Insert, Remove, RemoveWeak, AppendEntry, Write, Get, GetInternalEntry, ContainsKey, SizeOf, Range, Iter, Prefix, Len, IsEmpty, FirstKeyValue, LastKeyValue, RotateMemtable, Next, Set, FetchMax, AtSlot, Flush, FlushActiveMemtable, SetMoment, Count as CountOf, IsUncertain}
+use Rattle.lsm_runs.specs.declared.steps.Step.TheVariants.{Insert, Remove, RemoveWeak, AppendEntry, Write, Get, GetInternalEntry, ContainsKey, SizeOf, Range, Iter, Prefix, Len, IsEmpty, FirstKeyValue, LastKeyValue, RotateMemtable, Next, Set, FetchMax, AtSlot, Flush, FlushActiveMemtable, Compact, DoCompaction, MajorCompact, DropRange, GetNextTableId, SetMoment, Count as CountOf, IsUncertain, IsCompacting}
 use Rattle.lsm_runs.specs.declared.steps.Reply.{Reply}
 use Rattle.lsm_runs.specs.declared.steps.Reply.TheVariants.{Sizes, Number, Sealed, Done, Refused}
 use Rattle.lsm_runs.specs.ReadSteps.{TakesGet, TakesGetEntry, TakesSilent, IsContainsReply, IsSizeReply, TakesRange, TakesPrefix, IsLenReply, IsEmptyReply, IsEndReply, GetAnswers, GetEntryAnswers, ContainsAnswers, SizeAnswers, PairsAnswer, LenAnswers, EmptyAnswers, EndAnswers}
 use Rattle.lsm_runs.specs.CountSteps.{IsCounted, IsUncertainReply}
-use Rattle.lsm_runs.specs.Flushing.{TakesInSlot, TakesFlush, TakesFlushActive, TakesMoment}
+use Rattle.lsm_runs.specs.Flushing.{TakesFlush, TakesFlushActive, TakesMoment}
+use Rattle.lsm_runs.specs.Compacting.{Strategies, TakesCompact, TakesMajor, TakesDropRange, TakesTableId, IsCompactingReply}
+use Rattle.lsm_runs.specs.JobSteps.{TakesInSlot}
 use Rattle.lsm_runs.specs.Slots.{Stage, at_first, Closes}
 use Rattle.lsm_runs.specs.Told.{Told}
 
@@ -71,38 +74,44 @@ TakesCounter counter n Done events old new = (events ≡ []) × (new ≡ with_co
 TakesCounter counter n reply events old new = ⊥
 
 -- what a step that needs no slot may answer, add to the journal and do
-abbrev pub TakesAlone : Step → Reply → List Event → Core → Core → Type 0
-TakesAlone (Insert k v n) reply events old new = TakesEntry (op_entry k n (SetTo v)) reply events old new
-TakesAlone (Remove k n) reply events old new = TakesEntry (op_entry k n Del) reply events old new
-TakesAlone (RemoveWeak k n) reply events old new = TakesEntry (op_entry k n Weak) reply events old new
-TakesAlone (AppendEntry e) reply events old new = TakesEntry (plain e) reply events old new
-TakesAlone (Write ops) reply events old new = TakesBatch ops reply events old new
-TakesAlone (Get k s) reply events old new = TakesGet k s reply events old new
-TakesAlone (GetInternalEntry k s) reply events old new = TakesGetEntry k s reply events old new
-TakesAlone (ContainsKey k s) reply events old new = TakesSilent (IsContainsReply k s old) reply events old new
-TakesAlone (SizeOf k s) reply events old new = TakesSilent (IsSizeReply k s old) reply events old new
-TakesAlone (Range low high s) reply events old new = TakesRange low high s reply events old new
-TakesAlone (Iter s) reply events old new = TakesRange Unbounded Unbounded s reply events old new
-TakesAlone (Prefix p s) reply events old new = TakesPrefix p s reply events old new
-TakesAlone (Len s) reply events old new = TakesSilent (IsLenReply s old) reply events old new
-TakesAlone (IsEmpty s) reply events old new = TakesSilent (IsEmptyReply s old) reply events old new
-TakesAlone (FirstKeyValue s) reply events old new = TakesSilent (IsEndReply Front s old) reply events old new
-TakesAlone (LastKeyValue s) reply events old new = TakesSilent (IsEndReply Back s old) reply events old new
-TakesAlone RotateMemtable reply events old new = TakesRotate reply events old new
-TakesAlone (Next counter) reply events old new = TakesNext counter reply events old new
-TakesAlone (Set counter n) reply events old new = TakesCounter counter n reply events old new
-TakesAlone (FetchMax counter n) reply events old new = TakesCounter counter (max (counter_of counter old) n) reply events old new
-TakesAlone (Flush w) reply events old new = TakesFlush w reply events old new
-TakesAlone (FlushActiveMemtable w) reply events old new = TakesFlushActive w reply events old new
-TakesAlone (SetMoment n) reply events old new = TakesMoment n reply events old new
-TakesAlone (CountOf what) reply events old new = TakesSilent (IsCounted what old) reply events old new
-TakesAlone IsUncertain reply events old new = TakesSilent (IsUncertainReply old) reply events old new
-TakesAlone (AtSlot slot step) reply events old new = ⊥
+abbrev pub TakesAlone : Strategies → Step → Reply → List Event → Core → Core → Type 0
+TakesAlone strategies (Insert k v n) reply events old new = TakesEntry (op_entry k n (SetTo v)) reply events old new
+TakesAlone strategies (Remove k n) reply events old new = TakesEntry (op_entry k n Del) reply events old new
+TakesAlone strategies (RemoveWeak k n) reply events old new = TakesEntry (op_entry k n Weak) reply events old new
+TakesAlone strategies (AppendEntry e) reply events old new = TakesEntry (plain e) reply events old new
+TakesAlone strategies (Write ops) reply events old new = TakesBatch ops reply events old new
+TakesAlone strategies (Get k s) reply events old new = TakesGet k s reply events old new
+TakesAlone strategies (GetInternalEntry k s) reply events old new = TakesGetEntry k s reply events old new
+TakesAlone strategies (ContainsKey k s) reply events old new = TakesSilent (IsContainsReply k s old) reply events old new
+TakesAlone strategies (SizeOf k s) reply events old new = TakesSilent (IsSizeReply k s old) reply events old new
+TakesAlone strategies (Range low high s) reply events old new = TakesRange low high s reply events old new
+TakesAlone strategies (Iter s) reply events old new = TakesRange Unbounded Unbounded s reply events old new
+TakesAlone strategies (Prefix p s) reply events old new = TakesPrefix p s reply events old new
+TakesAlone strategies (Len s) reply events old new = TakesSilent (IsLenReply s old) reply events old new
+TakesAlone strategies (IsEmpty s) reply events old new = TakesSilent (IsEmptyReply s old) reply events old new
+TakesAlone strategies (FirstKeyValue s) reply events old new = TakesSilent (IsEndReply Front s old) reply events old new
+TakesAlone strategies (LastKeyValue s) reply events old new = TakesSilent (IsEndReply Back s old) reply events old new
+TakesAlone strategies RotateMemtable reply events old new = TakesRotate reply events old new
+TakesAlone strategies (Next counter) reply events old new = TakesNext counter reply events old new
+TakesAlone strategies (Set counter n) reply events old new = TakesCounter counter n reply events old new
+TakesAlone strategies (FetchMax counter n) reply events old new = TakesCounter counter (max (counter_of counter old) n) reply events old new
+TakesAlone strategies (Flush w) reply events old new = TakesFlush w reply events old new
+TakesAlone strategies (FlushActiveMemtable w) reply events old new = TakesFlushActive w reply events old new
+TakesAlone strategies (Compact at w) reply events old new = TakesCompact strategies at (options_at w old) reply events old new
+TakesAlone strategies (DoCompaction at o) reply events old new = TakesCompact strategies at o reply events old new
+TakesAlone strategies (MajorCompact target w) reply events old new = TakesMajor target w reply events old new
+TakesAlone strategies (DropRange low high) reply events old new = TakesDropRange (record { start = low; end = high }) reply events old new
+TakesAlone strategies GetNextTableId reply events old new = TakesTableId reply events old new
+TakesAlone strategies (SetMoment n) reply events old new = TakesMoment n reply events old new
+TakesAlone strategies (CountOf what) reply events old new = TakesSilent (IsCounted what old) reply events old new
+TakesAlone strategies IsUncertain reply events old new = TakesSilent (IsUncertainReply old) reply events old new
+TakesAlone strategies IsCompacting reply events old new = TakesSilent (IsCompactingReply old) reply events old new
+TakesAlone strategies (AtSlot slot step) reply events old new = ⊥
 
 -- what a step may answer, add to the journal and do: one that needs no slot leaves all of them
-abbrev pub Takes : Step → Reply → List Event → Stage → Stage → Type 0
-Takes (AtSlot slot step) reply events old new = TakesInSlot slot step reply events old new
-Takes step reply events old new = TakesAlone step reply events old.core new.core × (new.jobs ≡ old.jobs)
+abbrev pub Takes : Strategies → Step → Reply → List Event → Stage → Stage → Type 0
+Takes strategies (AtSlot slot step) reply events old new = TakesInSlot strategies slot step reply events old new
+Takes strategies step reply events old new = TakesAlone strategies step reply events old.core new.core × (new.jobs ≡ old.jobs)
 
 -- ---- outcomes
 
@@ -119,15 +128,15 @@ told_batch events (Err x) = record { reply = Refused x; entries = [] }
 -- ---- runs
 
 -- the steps, one after the other, lead from the old state to the new with these outcomes
-abbrev pub Ran : List Step → List Told → Stage → Stage → Type 0
-Ran [] [] old new = new ≡ old
-Ran (x ∷ xs) (t ∷ ts) old new = (mid : Stage) × Takes x t.reply t.entries old mid × Ran xs ts mid new
-Ran [] (t ∷ ts) old new = ⊥
-Ran (x ∷ xs) [] old new = ⊥
+abbrev pub Ran : Strategies → List Step → List Told → Stage → Stage → Type 0
+Ran strategies [] [] old new = new ≡ old
+Ran strategies (x ∷ xs) (t ∷ ts) old new = (mid : Stage) × Takes strategies x t.reply t.entries old mid × Ran strategies xs ts mid new
+Ran strategies [] (t ∷ ts) old new = ⊥
+Ran strategies (x ∷ xs) [] old new = ⊥
 
 -- they do so from free slots, and what is open behind them is given up
-abbrev pub RanToEnd : List Step → List Told → Core → Core → Type 0
-RanToEnd steps told old new = (last : Stage) × Ran steps told (at_first old) last × Closes last.core new
+abbrev pub RanToEnd : Strategies → List Step → List Told → Core → Core → Type 0
+RanToEnd strategies steps told old new = (last : Stage) × Ran strategies steps told (at_first old) last × Closes last.core new
 
 -- the journal of a run
 abbrev pub journal_of : List Told → List Event
@@ -181,13 +190,13 @@ abbrev pub Spares : List Event → Core → Core → Type 0
 Spares events old new = (s : ℕ) → AllByRecursion (IsSparedBy s) events → StaysAt s (state_of [] old) (state_of [] new)
 
 -- the steps lead from the old state to the new with these outcomes, and each leaves what its events spare
-abbrev pub RanSparing : List Step → List Told → Stage → Stage → Type 0
-RanSparing [] [] old new = new ≡ old
-RanSparing (x ∷ xs) (t ∷ ts) old new = (mid : Stage) × Takes x t.reply t.entries old mid × Spares t.entries old.core mid.core × RanSparing xs ts mid new
-RanSparing [] (t ∷ ts) old new = ⊥
-RanSparing (x ∷ xs) [] old new = ⊥
+abbrev pub RanSparing : Strategies → List Step → List Told → Stage → Stage → Type 0
+RanSparing strategies [] [] old new = new ≡ old
+RanSparing strategies (x ∷ xs) (t ∷ ts) old new = (mid : Stage) × Takes strategies x t.reply t.entries old mid × Spares t.entries old.core mid.core × RanSparing strategies xs ts mid new
+RanSparing strategies [] (t ∷ ts) old new = ⊥
+RanSparing strategies (x ∷ xs) [] old new = ⊥
 
 -- From a tree as opening left it, whenever the journal is in order, no step changes what a snapshot sees that is
 -- answered before and after, but a write, a clear or a drop at the snapshots above its sequence number.
-abbrev pub RunSparesAnswers : (opened : List Entry) (start : Map) → List Step → List Told → Core → Core → Type 0
-RunSparesAnswers opened start steps told old new = IsOpened opened start (state_of [] old) → InOrder opened (journal_of told) → (last : Stage) × RanSparing steps told (at_first old) last × Closes last.core new
+abbrev pub RunSparesAnswers : Strategies → (opened : List Entry) (start : Map) → List Step → List Told → Core → Core → Type 0
+RunSparesAnswers strategies opened start steps told old new = IsOpened opened start (state_of [] old) → InOrder opened (journal_of told) → (last : Stage) × RanSparing strategies steps told (at_first old) last × Closes last.core new

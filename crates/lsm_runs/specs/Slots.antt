@@ -1,18 +1,36 @@
 -- Jobs that wait in slots, beside the tree.
-use Rattle.std.specs.Prelude.{◌≡◌, ℕ, ◌⊎◌, List, [], ◌∷◌, Option, Some, None, IfSome, option_map}
+use Rattle.std.specs.Prelude.{◌≡◌, ℕ, ◌<◌, ◌≤◌, ◌⊎◌, List, [], ◌∷◌, ◌++◌, Option, Some, None, IfSome, option_map}
+use Rattle.std.specs.List.{AllByRecursion}
 use Rattle.std.specs.Ordering.{nat_cmp}
 use Rattle.std.specs.BTreeMap.{BTreeMap, get}
 use Rattle.lsm_jobs.specs.Jobs.{SeenJob, SeenOpen}
+use Rattle.lsm_merges.specs.Merges.{SeenCompaction}
+use Rattle.lsm_merges.specs.OpenMerges.{SeenOpenMerge, SeenMerges, IsMergeOf, ended}
 use Rattle.lsm_state.specs.Core.{Core}
 use Rattle.lsm_state.specs.Flushes.{spent}
+use Rattle.lsm_state.specs.Compactions.{Spends}
 use Rattle.lsm_runs.specs.declared.slots.Job.{Job}
-use Rattle.lsm_runs.specs.declared.slots.Job.TheVariants.{Begun, Merged, Written}
+use Rattle.lsm_runs.specs.declared.slots.Job.TheVariants.{Begun, Merged, Written, Compaction, Compacted}
 
--- the flush that a job belongs to
-abbrev pub flush_in : Job → SeenJob
-flush_in (Begun job) = job
-flush_in (Merged job) = job.job
-flush_in (Written job) = job.job
+-- ---- jobs
+
+-- the flush that a job in a place belongs to, if one waits there
+abbrev pub flush_in : Option Job → Option SeenJob
+flush_in None = None
+flush_in (Some (Begun job)) = Some job
+flush_in (Some (Merged job)) = Some job.job
+flush_in (Some (Written job)) = Some job.job
+flush_in (Some (Compaction job)) = None
+flush_in (Some (Compacted job)) = None
+
+-- the merge that it belongs to
+abbrev pub merge_in : Option Job → Option SeenCompaction
+merge_in None = None
+merge_in (Some (Begun job)) = None
+merge_in (Some (Merged job)) = None
+merge_in (Some (Written job)) = None
+merge_in (Some (Compaction job)) = Some job
+merge_in (Some (Compacted job)) = Some job.job
 
 -- ---- slots
 
@@ -48,7 +66,7 @@ beside c slots = record { core = c; jobs = job_in slots }
 
 -- the number of the flush whose job waits
 abbrev pub number_in : Option Job → Option ℕ
-number_in place = option_map (λ job. (flush_in job).number) place
+number_in place = option_map (λ (job : SeenJob). job.number) (flush_in place)
 
 -- a job of this flush waits in some slot
 abbrev pub WaitsFor : SeenOpen → (ℕ → Option Job) → Type 0
@@ -59,18 +77,46 @@ WaitsFor flush jobs = (n : ℕ) × (number_in (jobs n) ≡ Some flush.number)
 abbrev pub KeepsOpen : Option SeenOpen → Stage → Type 0
 KeepsOpen start s = ((s.core.flush ≡ start) × IfSome start (λ f. WaitsFor f s.jobs → ⊥)) ⊎ ((start ≡ None) × ((f : SeenOpen) × (s.core.flush ≡ Some f) × WaitsFor f s.jobs))
 
+-- ---- which merges are open
+
+-- the job of this merge waits in some slot
+abbrev pub HasJob : SeenOpenMerge → (ℕ → Option Job) → Type 0
+HasJob m jobs = (n : ℕ) × (job : SeenCompaction) × (merge_in (jobs n) ≡ Some job) × IsMergeOf job m
+
+-- the merges that were open at the start are so still, and behind them stand those whose jobs wait, which have later numbers
+pub record KeepsMerges (start : SeenMerges) (s : Stage) : Type 0 where
+  pub own : List SeenOpenMerge
+  pub underway : s.core.merges.underway ≡ start.underway ++ own
+  pub wait : AllByRecursion (λ m. HasJob m s.jobs) own
+  pub later : (n : ℕ) (job : SeenCompaction) → merge_in (s.jobs n) ≡ Some job → start.next ≤ job.number
+  pub first : AllByRecursion (λ m. m.number < start.next) start.underway
+  pub below : AllByRecursion (λ m. m.number < s.core.merges.next) s.core.merges.underway
+  pub next : start.next ≤ s.core.merges.next
+
 -- ---- the end of a run
 
--- the tree after the job in a slot is given up
-abbrev pub given_up : Option Job → Core → Core
-given_up None c = c
-given_up (Some job) c = spent (flush_in job).number c
+-- the job in a slot is given up
+abbrev pub GivesUp : Option Job → Core → Core → Type 0
+GivesUp None old new = new ≡ old
+GivesUp (Some (Begun job)) old new = new ≡ spent job.number old
+GivesUp (Some (Merged job)) old new = new ≡ spent job.job.number old
+GivesUp (Some (Written job)) old new = new ≡ spent job.job.number old
+GivesUp (Some (Compaction job)) old new = Spends job old new
+GivesUp (Some (Compacted job)) old new = Spends job.job old new
 
--- the tree after the jobs in these slots are given up, one after the other
-abbrev pub all_given_up : List (ℕ × Option Job) → Core → Core
-all_given_up [] c = c
-all_given_up (x ∷ xs) c = all_given_up xs (given_up x.1 c)
+-- the jobs in these slots are given up, one after the other
+abbrev pub GivesUpAll : List (ℕ × Option Job) → Core → Core → Type 0
+GivesUpAll [] old new = new ≡ old
+GivesUpAll (x ∷ xs) old new = (mid : Core) × GivesUp x.1 old mid × GivesUpAll xs mid new
 
--- the flush is no longer open, or nothing changes
-abbrev pub Closes : Core → Core → Type 0
-Closes old new = (new ≡ old) ⊎ (new ≡ record old { flush = None })
+-- the open merges without those of these numbers
+abbrev pub all_ended : List ℕ → SeenMerges → SeenMerges
+all_ended [] ms = ms
+all_ended (n ∷ numbers) ms = all_ended numbers (ended n ms)
+
+-- a flush and merges may be open no longer, and nothing else changes
+pub record Closes (old new : Core) : Type 0 where
+  pub rest : new ≡ record old { flush = new.flush; merges = new.merges }
+  pub flush : (new.flush ≡ old.flush) ⊎ (new.flush ≡ None)
+  pub numbers : List ℕ
+  pub merges : new.merges ≡ all_ended numbers old.merges

@@ -13,4 +13,4 @@ mod steps;
 
 pub use runner::run;
 pub use slots::Slot;
-pub use steps::{Count, Counter, JobStep, Outcome, Reply, Step};
+pub use steps::{Compacted, Count, Counter, JobStep, Outcome, Reply, Step};

@@ -9,6 +9,7 @@ ghost use Rattle.lsm_runs.specs.Told.{Told};
 ghost use Rattle.lsm_runs.specs.Counting.{RunIsInOrder};
 ghost use Rattle.lsm_runs.specs.ReadSteps.{TakesGet, TakesGetEntry, TakesSilent, IsContainsReply, IsSizeReply};
 ghost use Rattle.lsm_runs.specs.Files.{StaysStored, LeavesFiles};
+ghost use Rattle.lsm_runs.specs.Compacting.{strategies_of};
 ghost use Rattle.lsm_runs.specs.Slots.{beside, SameJobs};
 ghost use Rattle.lsm_runs.specs.Runs.{Takes, TakesEntry, TakesBatch, TakesRotate, TakesNext, TakesCounter, counter_of, told_entry, told_batch, Ran, RanToEnd, RunEqualsReplay, RunSparesAnswers};
 
@@ -17,7 +18,9 @@ use crate::{Counter, Outcome, Reply, Step};
 use lsm_below::{InternalValue, SeqNo, UserKey, UserValue, ValueType, share};
 use lsm_journal::read_entry;
 use lsm_model::{Answer, JournalEntry, Op, Question, counted_is_in_order, reads_are_sound};
+use lsm_noted::noted_compactions_keep_reads;
 use lsm_parts::Error;
+use lsm_pick::CompactionStrategy;
 use lsm_state::{TreeState, flushes_keep_reads, lists_are_steps};
 use lsm_store::Store;
 use std::alloc::{AllocError, Global};
@@ -316,9 +319,10 @@ fn take_step<S: Store>(
     alloc: Global,
     state: &mut TreeState<S>,
     slots: &mut Slots,
+    strategies: &[Box<dyn CompactionStrategy>],
     step: &Step,
 ) -> Result<Outcome, AllocError>
-    ensures ok { IfOk result (λ told. Takes step.now told.reply told.entries (beside state.old.core slots.old) (beside state.new.core slots.new)) }
+    ensures ok { IfOk result (λ told. Takes (strategies_of (λ b. may_choose b) (λ b. may_refuse b) strategies.now) step.now told.reply told.entries (beside state.old.core slots.old) (beside state.new.core slots.new)) }
     ensures err { OnErr result (state.new ≡ state.old) }
     ensures slots_err { OnErr result (SameJobs slots.old slots.new) }
     ensures files { S.tells → LeavesFiles S.world step.now state.old.store state.new.store state.old.core state.new.core }
@@ -344,12 +348,24 @@ fn take_step<S: Store>(
         Step::Next(counter) => Ok(next(alloc, state, *counter)),
         Step::Set(counter, seqno) => Ok(set(alloc, state, *counter, *seqno)),
         Step::FetchMax(counter, seqno) => Ok(fetch_max(alloc, state, *counter, *seqno)),
-        Step::AtSlot(slot, call) => flushes::at_slot(alloc, state, slots, *slot, *call),
+        Step::AtSlot(slot, call) => jobs::at_slot(alloc, state, slots, strategies, *slot, *call),
         Step::Flush(watermark) => flushes::flush(alloc, state, *watermark),
         Step::FlushActiveMemtable(watermark) => flushes::flush_active(alloc, state, *watermark),
+        Step::Compact(at, watermark) => {
+            compactions::compact(alloc, state, strategies, *at, *watermark)
+        }
+        Step::DoCompaction(at, options) => {
+            compactions::do_compaction(alloc, state, strategies, *at, *options)
+        }
+        Step::MajorCompact(target, watermark) => {
+            compactions::major_compact(alloc, state, *target, *watermark)
+        }
+        Step::DropRange(low, high) => compactions::drop_range(alloc, state, low, high),
+        Step::GetNextTableId => Ok(compactions::get_next_table_id(alloc, state)),
         Step::SetMoment(moment) => Ok(flushes::set_moment(alloc, state, *moment)),
         Step::Count(what) => Ok(counts::count(alloc, state, *what)),
         Step::IsUncertain => Ok(counts::is_uncertain(alloc, state)),
+        Step::IsCompacting => Ok(compactions::is_compacting(alloc, state)),
     }
 }
 
@@ -358,17 +374,18 @@ fn add_step<S: Store>(
     alloc: Global,
     state: &mut TreeState<S>,
     slots: &mut Slots,
+    strategies: &[Box<dyn CompactionStrategy>],
     step: &Step,
     outcomes: &mut Vec<Outcome>,
 ) -> Result<(), AllocError>
-    ensures ok { OnOk result ((told : Told) × (outcomes.new.items ≡ outcomes.old.items ++ told ∷ []) × Takes step.now told.reply told.entries (beside state.old.core slots.old) (beside state.new.core slots.new)) }
+    ensures ok { OnOk result ((told : Told) × (outcomes.new.items ≡ outcomes.old.items ++ told ∷ []) × Takes (strategies_of (λ b. may_choose b) (λ b. may_refuse b) strategies.now) step.now told.reply told.entries (beside state.old.core slots.old) (beside state.new.core slots.new)) }
     ensures err { OnErr result (state.new ≡ state.old) }
     ensures slots_err { OnErr result (SameJobs slots.old slots.new) }
     ensures outcomes_err { OnErr result (outcomes.new.items ≡ outcomes.old.items) }
     ensures stored { S.tells → StaysStored (S.world state.old.store) (S.world state.new.store) state.old.core state.new.core }
 {
     outcomes.try_reserve(1)?;
-    let outcome = take_step(alloc, state, slots, step)?;
+    let outcome = take_step(alloc, state, slots, strategies, step)?;
     outcomes.push(outcome)?;
     Ok(())
 }
@@ -377,15 +394,16 @@ fn take_steps<S: Store>(
     alloc: Global,
     state: &mut TreeState<S>,
     slots: &mut Slots,
+    strategies: &[Box<dyn CompactionStrategy>],
     steps: &[Step],
 ) -> Vec<Outcome>
     ensures bound { length result.items ≤ length steps.now }
-    ensures ran { Ran (take (length result.items) steps.now) result.items (beside state.old.core slots.old) (beside state.new.core slots.new) }
+    ensures ran { Ran (strategies_of (λ b. may_choose b) (λ b. may_refuse b) strategies.now) (take (length result.items) steps.now) result.items (beside state.old.core slots.old) (beside state.new.core slots.new) }
     ensures stored { S.tells → StaysStored (S.world state.old.store) (S.world state.new.store) state.old.core state.new.core }
 {
     let mut outcomes = Vec::new(alloc);
     for step in steps {
-        match add_step(alloc, state, slots, step, &mut outcomes) {
+        match add_step(alloc, state, slots, strategies, step, &mut outcomes) {
             Ok(()) => {}
             Err(_) => return outcomes,
         }
@@ -393,13 +411,14 @@ fn take_steps<S: Store>(
     outcomes
 }
 
-/// Takes the steps in turn, and returns each one's outcome.
+/// Takes the steps in turn, and returns each one's outcome. A step names a strategy by its index; where there is none it
+/// changes nothing.
 ///
 /// A step that is refused has that as its reply, and the run goes on with the next one. The run ends early only
 /// before a step for whose outcome, journal entries included, no memory is left: the tree is as it was before that
 /// step, and the outcomes are those of the steps that were taken. A job waits in its slot from one step to the next, and
-/// one that waits when the run ends is given up: each flush that a step begins ends within the run (`flush`). A step
-/// costs what its call costs, and a list of pairs is kept once, for the reply and the journal.
+/// one that waits when the run ends is given up: each flush and each merge that a step begins ends within the run (`flush`,
+/// `merges`). A step costs what its call costs, and a list of pairs is kept once, for the reply and the journal.
 ///
 /// Without an index the replay theorem holds (`replays`), no step changes what it is not to change (`spares`), and
 /// the premise of both follows from the order that callers keep by the counter (`in_order`).
@@ -407,28 +426,38 @@ fn take_steps<S: Store>(
 /// # Examples
 ///
 /// ```text
-/// let outcomes = run(alloc, &mut tree, &[Step::Write(Ops::new(ops)), Step::Get(key, 1)]);
+/// let outcomes = run(alloc, &mut tree, &strategies, &[Step::Write(Ops::new(ops)), Step::Compact(0, 1)]);
 /// ```
-pub fn run<S: Store>(alloc: Global, state: &mut TreeState<S>, steps: &[Step]) -> Vec<Outcome>
+pub fn run<S: Store>(
+    alloc: Global,
+    state: &mut TreeState<S>,
+    strategies: &[Box<dyn CompactionStrategy>],
+    steps: &[Step],
+) -> Vec<Outcome>
     ensures bound { length result.items ≤ length steps.now }
-    ensures ran { RanToEnd (take (length result.items) steps.now) result.items state.old.core state.new.core }
+    ensures ran { RanToEnd (strategies_of (λ b. may_choose b) (λ b. may_refuse b) strategies.now) (take (length result.items) steps.now) result.items state.old.core state.new.core }
     ensures replays { (opened : List Entry) (start : Map) → RunEqualsReplay opened start (take (length result.items) steps.now) result.items state.old.core state.new.core }
-    ensures spares { (opened : List Entry) (start : Map) → RunSparesAnswers opened start (take (length result.items) steps.now) result.items state.old.core state.new.core }
-    ensures in_order { RunIsInOrder (take (length result.items) steps.now) result.items state.old.core state.new.core }
-    // Each flush that a step begins is registered or given up, at the latest when the run ends.
+    ensures spares { (opened : List Entry) (start : Map) → RunSparesAnswers (strategies_of (λ b. may_choose b) (λ b. may_refuse b) strategies.now) opened start (take (length result.items) steps.now) result.items state.old.core state.new.core }
+    ensures in_order { RunIsInOrder (strategies_of (λ b. may_choose b) (λ b. may_refuse b) strategies.now) (take (length result.items) steps.now) result.items state.old.core state.new.core }
+    // Each flush and each merge that a step begins ends or is given up, at the latest when the run ends.
     ensures flush { state.new.core.flush ≡ state.old.core.flush }
+    ensures merges { state.new.core.merges.underway ≡ state.old.core.merges.underway }
     ensures stored { S.tells → StaysStored (S.world state.old.store) (S.world state.new.store) state.old.core state.new.core }
 {
     reads_are_sound();
     lists_are_steps();
     flushes_keep_reads();
+    noted_compactions_keep_reads();
     counted_is_in_order();
+    state.facts();
     let mut slots = Slots::new(alloc);
-    let outcomes = take_steps(alloc, state, &mut slots, steps);
-    flushes::give_up_all(state, slots);
+    let outcomes = take_steps(alloc, state, &mut slots, strategies, steps);
+    jobs::give_up_all(state, slots);
     outcomes
 }
 
+mod compactions;
 mod counts;
 mod flushes;
+mod jobs;
 mod ranges;

@@ -1,10 +1,11 @@
 // Jobs that wait in slots for their next call.
-ghost use Rattle.std.specs.Prelude.{◌≡◌, IsSome, OnOk};
+ghost use Rattle.std.specs.Prelude.{IsSome, OnOk};
 ghost use Rattle.std.specs.Ordering.{nat_cmp};
 ghost use Rattle.std.specs.BTreeMap.{get};
-ghost use Rattle.lsm_runs.specs.Slots.{SameJobs, flush_in};
+ghost use Rattle.lsm_runs.specs.Slots.{SameJobs};
 
 use lsm_jobs::{FlushJob, MergedFlush, WrittenFlush};
+use lsm_merges::{CompactionJob, MergedCompaction};
 use std::alloc::AllocError;
 use std::collections::BTreeMap;
 
@@ -20,23 +21,14 @@ pub enum Job {
     Merged(MergedFlush),
     /// One whose tables are written.
     Written(WrittenFlush),
+    /// A merge that was begun.
+    Compaction(CompactionJob),
+    /// One that was done.
+    Compacted(MergedCompaction),
 }
 
 /// Jobs by slot. None stands in a slot that is free again.
 pub type Slots = BTreeMap<Slot, Option<Job>>;
-
-impl Job {
-    /// The flush, to be abandoned.
-    pub fn into_flush(self) -> FlushJob
-        ensures { result ≡ flush_in self }
-    {
-        match self {
-            Job::Begun(job) => job,
-            Job::Merged(merged) => merged.into_job(),
-            Job::Written(written) => written.into_job(),
-        }
-    }
-}
 
 /// Makes room for a slot, in which the same waits.
 pub fn make_room(slots: &mut Slots, slot: Slot) -> Result<(), AllocError>

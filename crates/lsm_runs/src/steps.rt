@@ -3,9 +3,11 @@ ghost use Rattle.std.specs.Prelude.{◌≡◌};
 
 use crate::Slot;
 use lsm_below::{InternalValue, KvPair, MemtableId, SeqNo, UserKey, UserValue};
+use lsm_choices::Why;
 use lsm_jobs::Registered;
 use lsm_model::{JournalEntry, KvPairs, Ops};
 use lsm_parts::Error;
+use lsm_state::{Finished, Options};
 use std::marker::Model;
 use std::ops::Bound;
 
@@ -18,7 +20,7 @@ pub enum Counter {
     Visible,
 }
 
-/// What is counted of a tree: each is the method of `TreeState` that it is named after.
+/// What a tree tells as a number: each is the method of `TreeState` that it is named after.
 #[derive(Clone, Copy, Debug, PartialEq, Eq)]
 pub enum Count {
     /// How many tables the latest version has.
@@ -49,6 +51,12 @@ pub enum Count {
     HighestMemtableSeqno,
     /// That in both.
     HighestSeqno,
+    /// The tree's id.
+    Id,
+    /// The id of the next table.
+    NextTableId,
+    /// The moment at which tables are made.
+    Moment,
 }
 
 /// A call on a job, which waits in a slot from one call to the next.
@@ -62,8 +70,16 @@ pub enum JobStep {
     FlushToTables,
     /// Installs a job whose tables are written. The slot is free then.
     RegisterTables,
-    /// Gives up a job. The slot is free then.
+    /// Gives up the job of a flush. The slot is free then.
     AbandonFlush,
+    /// Begins a compaction, as the strategy of this index chooses, into a free slot: the job of a merge waits there then.
+    BeginCompaction(usize, Options),
+    /// Does the merge of a job.
+    RunCompaction,
+    /// Ends a merge that was done. The slot is free then.
+    FinishCompaction,
+    /// Gives up the job of a merge. The slot is free then.
+    AbandonCompaction,
 }
 
 /// A call on a tree, as data: each is the method of `TreeState` that it is named after.
@@ -115,12 +131,37 @@ pub enum Step {
     Flush(SeqNo),
     /// Seals the active memtable, and flushes all sealed ones, at a watermark.
     FlushActiveMemtable(SeqNo),
+    /// Compacts in one call as the strategy of this index chooses, at a watermark and at the tree's moment.
+    Compact(usize, SeqNo),
+    /// Compacts in one call as the strategy of this index chooses.
+    DoCompaction(usize, Options),
+    /// Merges all tables into the last level, cut at a target of bytes, at a watermark and at the tree's moment.
+    MajorCompact(u64, SeqNo),
+    /// Drops the tables whose whole key range lies within bounds.
+    DropRange(Bound<UserKey>, Bound<UserKey>),
+    /// Draws an id for a table.
+    GetNextTableId,
     /// Sets the moment at which tables are made.
     SetMoment(u64),
     /// Asks for a count of the tree.
     Count(Count),
     /// Asks whether a commit of unknown outcome came before.
     IsUncertain,
+    /// Asks whether an open merge works on a table.
+    IsCompacting,
+}
+
+/// What became of a compaction that was to be begun, or done in one call.
+#[derive(Clone, Copy, Debug, PartialEq, Eq)]
+pub enum Compacted {
+    /// Nothing was to be done.
+    DidNothing,
+    /// The choice was declined, or its merge at the end: the first reason that holds.
+    Declined(Why),
+    /// It was installed.
+    Installed,
+    /// A merge is open, and its job waits in the slot. No compaction in one call answers so.
+    Waits,
 }
 
 /// What a step replies.
@@ -129,7 +170,8 @@ pub enum Reply {
     /// Of an insert, a removal or an appended entry: the bytes that the entry counts, and those of the
     /// active memtable.
     Sizes(u64, u64),
-    /// Of a batch: the sequence number that it was written under. Of a counter: the one that was drawn.
+    /// Of a batch: the sequence number that it was written under. Of a counter: the one that was drawn. Of an id for a
+    /// table: that id.
     Number(SeqNo),
     /// Of a read of a key: its value, or None.
     Value(Option<UserValue>),
@@ -143,7 +185,7 @@ pub enum Reply {
     Pairs(KvPairs),
     /// Of a count: how many keys have a value.
     Count(usize),
-    /// Of a count of the tree: how many or how much, or None where there is nothing of the kind.
+    /// Of a number of the tree: how many or how much, or None where there is nothing of the kind.
     Counted(Option<u64>),
     /// Of a read of the least or the greatest key: its pair, or None where no key has a value.
     Pair(Option<KvPair>),
@@ -163,12 +205,18 @@ pub enum Reply {
     /// Of a flush of the active memtable that was refused: the id of the memtable that it sealed, which stays sealed,
     /// and why.
     RefusedActive(Option<MemtableId>, Error),
+    /// Of a compaction that is to be begun, or done in one call: what became of it.
+    Compacted(Compacted),
+    /// Of a merge that was to end: how it ended.
+    Finished(Finished),
+    /// Of a compaction: no strategy has this index. Nothing changed.
+    NoStrategy,
     /// Of a call on a job: no job waits in the slot that this may be done with. Nothing changed.
     NoJob,
     /// Of a job that is to be begun: another one waits in the slot. Nothing changed.
     SlotInUse,
-    /// The step was refused. It changed nothing, but that a flush may have used numbers and ids, and a job that was to be
-    /// registered is spent.
+    /// The step was refused. It changed nothing, but that a flush or a compaction may have used numbers and ids, and a job
+    /// that was to be registered or to end is spent; behind `AfterCommit` a compaction is installed.
     Refused(Error),
 }
 
@@ -197,7 +245,8 @@ impl Outcome {
 
     /// What the step adds to the journal: an accepted write its entry, an accepted batch its entries in
     /// their order, an answered `Get`, `Range`, `Iter` or `Prefix` the read, a flush that comes to register a job
-    /// its watermark, and the install where it is installed; nothing else adds any.
+    /// its watermark, and the install where it is installed; a compaction its watermark when it begins, the ranges of the
+    /// tables that it drops, and the install where it is installed; nothing else adds any.
     pub fn entries(&self) -> &[JournalEntry]
         ensures { result.now ≡ self.now.entries }
     {

@@ -4,24 +4,24 @@ use Rattle.std.proofs.lemmas.Slice.Eq.{bytes_eq-Decides}
 use Rattle.std.specs.Prelude.{codes}
 use Rattle.std.specs.declared.ops.Bound.{Bound}
 use Rattle.std.specs.declared.ops.Bound.TheVariants.{Included, Excluded, Unbounded}
-use Rattle.lsm_shell.specs.Bounds.{lower_of, upper_of, prefix_of, lower_word, upper_word, prefix_word}
+use Rattle.lsm_shell.specs.Bounds.{included_of, excluded_of, prefix_of, included_word, excluded_word, prefix_word}
 use Rattle.lsm_shell.specs.Word.{is_word}
 
 -- ---- the word that is written is the word that was read
 
-lower_read : (w : List ℕ) (b : Bool) → bytes_eq w (codes "-") ≡ b → lower_word (cond b Unbounded (Included w)) ≡ w
-lower_read w true e = sym ((bytes_eq-Decides w (codes "-")).0 e)
-lower_read w false e = rw e refl
+included_read : (w : List ℕ) (b : Bool) → bytes_eq w (codes "-") ≡ b → included_word (cond b Unbounded (Included w)) ≡ w
+included_read w true e = sym ((bytes_eq-Decides w (codes "-")).0 e)
+included_read w false e = rw e refl
 
-pub lower_written : (w : List ℕ) → lower_word (lower_of w) ≡ w
-lower_written w = lower_read w _ refl
+pub included_written : (w : List ℕ) → included_word (included_of w) ≡ w
+included_written w = included_read w _ refl
 
-upper_read : (w : List ℕ) (b : Bool) → bytes_eq w (codes "-") ≡ b → upper_word (cond b Unbounded (Excluded w)) ≡ w
-upper_read w true e = sym ((bytes_eq-Decides w (codes "-")).0 e)
-upper_read w false e = rw e refl
+excluded_read : (w : List ℕ) (b : Bool) → bytes_eq w (codes "-") ≡ b → excluded_word (cond b Unbounded (Excluded w)) ≡ w
+excluded_read w true e = sym ((bytes_eq-Decides w (codes "-")).0 e)
+excluded_read w false e = rw e refl
 
-pub upper_written : (w : List ℕ) → upper_word (upper_of w) ≡ w
-upper_written w = upper_read w _ refl
+pub excluded_written : (w : List ℕ) → excluded_word (excluded_of w) ≡ w
+excluded_written w = excluded_read w _ refl
 
 prefix_read : (w : List ℕ) (b : Bool) → bytes_eq w (codes "-") ≡ b → is_word w ≡ true → prefix_word (cond b [] w) ≡ w
 prefix_read w true e word = sym ((bytes_eq-Decides w (codes "-")).0 e)
@@ -33,23 +33,23 @@ prefix_written w word = prefix_read w _ refl word
 
 -- ---- the bound that is read is the bound that was written, where a word writes it
 
-lower_key : (k : List ℕ) (b : Bool) → bytes_eq k (codes "-") ≡ b → is_word (cond b [] k) ≡ true → lower_of (cond b [] k) ≡ Included k
-lower_key k true e word = cc
-lower_key k false e word = rw e refl
+included_key : (k : List ℕ) (b : Bool) → bytes_eq k (codes "-") ≡ b → is_word (cond b [] k) ≡ true → included_of (cond b [] k) ≡ Included k
+included_key k true e word = cc
+included_key k false e word = rw e refl
 
-pub lower_of-word : (bound : Bound (List ℕ)) → is_word (lower_word bound) ≡ true → lower_of (lower_word bound) ≡ bound
-lower_of-word Unbounded word = refl
-lower_of-word (Included k) word = lower_key k _ refl word
-lower_of-word (Excluded k) word = cc
+pub included_of-word : (bound : Bound (List ℕ)) → is_word (included_word bound) ≡ true → included_of (included_word bound) ≡ bound
+included_of-word Unbounded word = refl
+included_of-word (Included k) word = included_key k _ refl word
+included_of-word (Excluded k) word = cc
 
-upper_key : (k : List ℕ) (b : Bool) → bytes_eq k (codes "-") ≡ b → is_word (cond b [] k) ≡ true → upper_of (cond b [] k) ≡ Excluded k
-upper_key k true e word = cc
-upper_key k false e word = rw e refl
+excluded_key : (k : List ℕ) (b : Bool) → bytes_eq k (codes "-") ≡ b → is_word (cond b [] k) ≡ true → excluded_of (cond b [] k) ≡ Excluded k
+excluded_key k true e word = cc
+excluded_key k false e word = rw e refl
 
-pub upper_of-word : (bound : Bound (List ℕ)) → is_word (upper_word bound) ≡ true → upper_of (upper_word bound) ≡ bound
-upper_of-word Unbounded word = refl
-upper_of-word (Included k) word = cc
-upper_of-word (Excluded k) word = upper_key k _ refl word
+pub excluded_of-word : (bound : Bound (List ℕ)) → is_word (excluded_word bound) ≡ true → excluded_of (excluded_word bound) ≡ bound
+excluded_of-word Unbounded word = refl
+excluded_of-word (Included k) word = cc
+excluded_of-word (Excluded k) word = excluded_key k _ refl word
 
 prefix_key : (k : List ℕ) (b : Bool) → bytes_eq k (codes "-") ≡ b → is_word (cond b [] k) ≡ true → prefix_of (cond b [] k) ≡ k
 prefix_key k true e word = cc

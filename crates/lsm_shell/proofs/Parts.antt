@@ -79,23 +79,24 @@ no_words line parts e none words w =
     let all : list_all is_word parts ≡ true = subst (λ p. list_all is_word p ≡ true) e h.0 in
     absurd (let clash : true ≡ false = sym all ∙ none in cc)
 
-past_four : (a b c rest : List ℕ) (parts : List (List ℕ)) → parts_of rest ≡ parts → is_word rest ≡ false → list_all is_word (a ∷ b ∷ c ∷ parts) ≡ true → 4 < length (a ∷ b ∷ c ∷ parts)
-past_four a b c rest [] e none all = absurd (omega (arith, length-slice_split is_space rest, ap length e))
-past_four a b c rest (p ∷ []) e none all =
-    let behind_a = (both (is_word a) (list_all is_word (b ∷ c ∷ p ∷ [])) all).1 in
-    let behind_b = (both (is_word b) (list_all is_word (c ∷ p ∷ [])) behind_a).1 in
-    let behind_c = (both (is_word c) (list_all is_word (p ∷ [])) behind_b).1 in
-    let word : is_word p ≡ true = (both (is_word p) true behind_c).0 in
+past_five : (a b c d rest : List ℕ) (parts : List (List ℕ)) → parts_of rest ≡ parts → is_word rest ≡ false → list_all is_word (a ∷ b ∷ c ∷ d ∷ parts) ≡ true → 5 < length (a ∷ b ∷ c ∷ d ∷ parts)
+past_five a b c d rest [] e none all = absurd (omega (arith, length-slice_split is_space rest, ap length e))
+past_five a b c d rest (p ∷ []) e none all =
+    let behind_a = (both (is_word a) (list_all is_word (b ∷ c ∷ d ∷ p ∷ [])) all).1 in
+    let behind_b = (both (is_word b) (list_all is_word (c ∷ d ∷ p ∷ [])) behind_a).1 in
+    let behind_c = (both (is_word c) (list_all is_word (d ∷ p ∷ [])) behind_b).1 in
+    let behind_d = (both (is_word d) (list_all is_word (p ∷ [])) behind_c).1 in
+    let word : is_word p ≡ true = (both (is_word p) true behind_d).0 in
     let clash : true ≡ false = sym word ∙ (ap is_word (part_is rest p e) ∙ none) in
     cc
-past_four a b c rest (p ∷ q ∷ more) e none all = omega arith
+past_five a b c d rest (p ∷ q ∷ more) e none all = omega arith
 
--- a fourth part with a space in it is two parts or more, of which one may be no word
-pub too_many : (line a b c rest : List ℕ) → parts_of line ≡ a ∷ b ∷ c ∷ parts_of rest → is_word rest ≡ false → HasNoFewWords line
-too_many line a b c rest e none words w =
+-- a fifth part with a space in it is two parts or more, of which one may be no word
+pub too_many : (line a b c d rest : List ℕ) → parts_of line ≡ a ∷ b ∷ c ∷ d ∷ parts_of rest → is_word rest ≡ false → HasNoFewWords line
+too_many line a b c d rest e none words w =
     let h = words_in line words w in
-    let parts : a ∷ b ∷ c ∷ parts_of rest ≡ words = sym e ∙ h.1 in
-    subst (λ ws. 4 < length ws) parts (past_four a b c rest (parts_of rest) refl none (subst (λ ws. list_all is_word ws ≡ true) e h.0))
+    let parts : a ∷ b ∷ c ∷ d ∷ parts_of rest ≡ words = sym e ∙ h.1 in
+    subst (λ ws. 5 < length ws) parts (past_five a b c d rest (parts_of rest) refl none (subst (λ ws. list_all is_word ws ≡ true) e h.0))
 
 -- ---- words that are there if a test passes
 
@@ -118,6 +119,9 @@ three_are a b c p q r = rw (p, q, r) refl
 pub four_are : (a b c d : List ℕ) → is_word a ≡ true → is_word b ≡ true → is_word c ≡ true → is_word d ≡ true → list_all is_word (a ∷ b ∷ c ∷ d ∷ []) ≡ true
 four_are a b c d p q r s = rw (p, q, r, s) refl
 
+pub five_are : (a b c d e : List ℕ) → is_word a ≡ true → is_word b ≡ true → is_word c ≡ true → is_word d ≡ true → is_word e ≡ true → list_all is_word (a ∷ b ∷ c ∷ d ∷ e ∷ []) ≡ true
+five_are a b c d e p q r s t = rw (p, q, r, s, t) refl
+
 second_is_none : (a b : List ℕ) (more : List (List ℕ)) → is_word b ≡ false → list_all is_word (a ∷ b ∷ more) ≡ false
 second_is_none a b more p = grind (arith, common_steps)
 
@@ -133,3 +137,11 @@ third_is_none a b c more p = grind (arith, common_steps)
 pub no_third : (line a b rest c : List ℕ) (o : Option (Bor (List ℕ))) → parts_of line ≡ a ∷ b ∷ parts_of rest → MatchOption o (parts_of rest ≡ c ∷ []) (λ r. parts_of rest ≡ c ∷ parts_of r.now) → is_word c ≡ false → HasNoFewWords line
 no_third line a b rest c None e h none = no_words line (a ∷ b ∷ c ∷ []) (e ∙ ap (λ ps. a ∷ b ∷ ps) h) (third_is_none a b c [] none)
 no_third line a b rest c (Some r) e h none = no_words line (a ∷ b ∷ c ∷ parts_of r.now) (e ∙ ap (λ ps. a ∷ b ∷ ps) h) (third_is_none a b c (parts_of r.now) none)
+
+fourth_is_none : (a b c d : List ℕ) (more : List (List ℕ)) → is_word d ≡ false → list_all is_word (a ∷ b ∷ c ∷ d ∷ more) ≡ false
+fourth_is_none a b c d more p = grind (arith, common_steps)
+
+-- a line whose fourth part is no word
+pub no_fourth : (line a b c rest d : List ℕ) (o : Option (Bor (List ℕ))) → parts_of line ≡ a ∷ b ∷ c ∷ parts_of rest → MatchOption o (parts_of rest ≡ d ∷ []) (λ r. parts_of rest ≡ d ∷ parts_of r.now) → is_word d ≡ false → HasNoFewWords line
+no_fourth line a b c rest d None e h none = no_words line (a ∷ b ∷ c ∷ d ∷ []) (e ∙ ap (λ ps. a ∷ b ∷ c ∷ ps) h) (fourth_is_none a b c d [] none)
+no_fourth line a b c rest d (Some r) e h none = no_words line (a ∷ b ∷ c ∷ d ∷ parts_of r.now) (e ∙ ap (λ ps. a ∷ b ∷ c ∷ ps) h) (fourth_is_none a b c d (parts_of r.now) none)

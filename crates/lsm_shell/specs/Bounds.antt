@@ -3,13 +3,13 @@ use Rattle.std.specs.Prelude.{ℕ, List, [], ◌∷◌, codes, bytes_eq, if◌th
 use Rattle.std.specs.declared.ops.Bound.{Bound}
 use Rattle.std.specs.declared.ops.Bound.TheVariants.{Included, Excluded, Unbounded}
 
--- the lower bound that a word gives: its key is within
-abbrev pub lower_of : List ℕ → Bound (List ℕ)
-lower_of word = if bytes_eq word (codes "-") then Unbounded else Included word
+-- the bound that a word gives with its key within
+abbrev pub included_of : List ℕ → Bound (List ℕ)
+included_of word = if bytes_eq word (codes "-") then Unbounded else Included word
 
--- the upper bound that a word gives: its key is without
-abbrev pub upper_of : List ℕ → Bound (List ℕ)
-upper_of word = if bytes_eq word (codes "-") then Unbounded else Excluded word
+-- the bound that a word gives with its key without
+abbrev pub excluded_of : List ℕ → Bound (List ℕ)
+excluded_of word = if bytes_eq word (codes "-") then Unbounded else Excluded word
 
 -- the prefix that a word gives
 abbrev pub prefix_of : List ℕ → List ℕ
@@ -21,17 +21,17 @@ prefix_of word = if bytes_eq word (codes "-") then [] else word
 abbrev pub key_word : List ℕ → List ℕ
 key_word key = if bytes_eq key (codes "-") then [] else key
 
--- the word that gives a lower bound, the empty list where no word does
-abbrev pub lower_word : Bound (List ℕ) → List ℕ
-lower_word Unbounded = codes "-"
-lower_word (Included key) = key_word key
-lower_word (Excluded key) = []
+-- the word that gives a bound with its key within, the empty list where no word does
+abbrev pub included_word : Bound (List ℕ) → List ℕ
+included_word Unbounded = codes "-"
+included_word (Included key) = key_word key
+included_word (Excluded key) = []
 
--- the word that gives an upper bound, the empty list where no word does
-abbrev pub upper_word : Bound (List ℕ) → List ℕ
-upper_word Unbounded = codes "-"
-upper_word (Included key) = []
-upper_word (Excluded key) = key_word key
+-- the word that gives a bound with its key without, the empty list where no word does
+abbrev pub excluded_word : Bound (List ℕ) → List ℕ
+excluded_word Unbounded = codes "-"
+excluded_word (Included key) = []
+excluded_word (Excluded key) = key_word key
 
 -- the word that gives a prefix, the empty list where no word does
 abbrev pub prefix_word : List ℕ → List ℕ

@@ -1,6 +1,6 @@
 // The bounds and prefixes that words give.
 ghost use Rattle.std.specs.Prelude.{◌≡◌, IfOk, bytes_eq, codes};
-ghost use Rattle.lsm_shell.specs.Bounds.{lower_of, upper_of, prefix_of};
+ghost use Rattle.lsm_shell.specs.Bounds.{included_of, excluded_of, prefix_of};
 
 use bytes::Bytes;
 use lsm_below::UserKey;
@@ -14,9 +14,9 @@ fn is_open(word: &[u8]) -> bool
     matches!(word, b"-")
 }
 
-/// The lower bound that a word gives: from its key on, or open for `-`.
-pub fn parse_lower(alloc: Global, word: &[u8]) -> Result<Bound<UserKey>, AllocError>
-    ensures { IfOk result (λ bound. bound ≡ lower_of word.now) }
+/// The bound that a word gives with its key within, open for `-`.
+pub fn parse_included(alloc: Global, word: &[u8]) -> Result<Bound<UserKey>, AllocError>
+    ensures { IfOk result (λ bound. bound ≡ included_of word.now) }
 {
     if is_open(word) {
         return Ok(Bound::Unbounded);
@@ -24,9 +24,9 @@ pub fn parse_lower(alloc: Global, word: &[u8]) -> Result<Bound<UserKey>, AllocEr
     Ok(Bound::Included(Bytes::copy_from_slice(alloc, word)?))
 }
 
-/// The upper bound that a word gives: up to its key and without it, or open for `-`.
-pub fn parse_upper(alloc: Global, word: &[u8]) -> Result<Bound<UserKey>, AllocError>
-    ensures { IfOk result (λ bound. bound ≡ upper_of word.now) }
+/// The bound that a word gives with its key without, open for `-`.
+pub fn parse_excluded(alloc: Global, word: &[u8]) -> Result<Bound<UserKey>, AllocError>
+    ensures { IfOk result (λ bound. bound ≡ excluded_of word.now) }
 {
     if is_open(word) {
         return Ok(Bound::Unbounded);

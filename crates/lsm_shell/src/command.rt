@@ -1,17 +1,28 @@
 // What a line asks.
 ghost use Rattle.std.specs.Prelude.{◌≡◌, IfOk, bytes_eq, codes, option_map, Some};
-ghost use Rattle.lsm_shell.specs.Command.{command_of, command_of_one, command_of_other, command_of_word, command_of_key, command_of_two, command_of_pair, command_of_three, command_of_four};
+ghost use Rattle.lsm_shell.specs.Command.{command_of, command_of_one, command_of_other, command_of_word, command_of_key, command_of_two, command_of_pair, command_of_three, plan_of, command_of_plan, command_of_four, command_of_five, command_of_fifo};
 ghost use Rattle.lsm_shell.specs.Bounds.{prefix_of};
 ghost use Rattle.lsm_below.specs.Numbers.{plain_number};
 ghost use Rattle.lsm_shell.specs.declared.command.Command.TheVariants.{Prefix};
 ghost use Rattle.lsm_shell.specs.Spelling.{IsSpelledBy};
 
-use crate::bounds::{parse_lower, parse_prefix, parse_upper};
+use crate::bounds::{parse_excluded, parse_included, parse_prefix};
 use crate::word::{Words, split_words};
 use bytes::Bytes;
 use lsm_below::{SeqNo, UserKey, UserValue, parse_number};
 use std::alloc::{AllocError, Global};
 use std::ops::Bound;
+
+/// How a tree is to be compacted.
+#[derive(Clone, Copy)]
+pub enum Plan {
+    /// Levels that are over their target go into the next one.
+    Leveled,
+    /// All tables go into the last level.
+    Major,
+    /// Tables go that are past a limit of bytes, or are older than these seconds, 0 for any age.
+    Fifo(u64, u64),
+}
 
 /// What a line asks.
 #[derive(Drop)]
@@ -32,6 +43,10 @@ pub enum Command {
     Rotate,
     /// Flush it and what is sealed, at a watermark.
     Flush(SeqNo),
+    /// Compact so, at a watermark.
+    Compact(Plan, SeqNo),
+    /// Drop the tables that lie within bounds.
+    DropRange(Bound<UserKey>, Bound<UserKey>),
     /// Set the moment, in nanoseconds.
     Now(u64),
     /// Count tables, runs, sealed memtables, entries and bytes.
@@ -54,6 +69,9 @@ pub fn parse(alloc: Global, line: &[u8]) -> Result<Option<Command>, AllocError>
         Some(Words::Two(verb, key)) => parse_two(alloc, verb, key),
         Some(Words::Three(verb, key, last)) => parse_three(alloc, verb, key, last),
         Some(Words::Four(verb, low, high, last)) => parse_four(alloc, verb, low, high, last),
+        Some(Words::Five(verb, plan, limit, ttl, last)) => {
+            Ok(parse_five(verb, plan, limit, ttl, last))
+        }
         None => Ok(None),
     }
 }
@@ -140,7 +158,48 @@ fn parse_three(
     if is_prefix(verb) {
         return parse_prefix_at(alloc, key, last);
     }
+    if is_compact(verb) {
+        return Ok(parse_plan(key, last));
+    }
     parse_of_pair(alloc, verb, key, last)
+}
+
+fn is_compact(verb: &[u8]) -> bool
+    ensures { result ≡ bytes_eq verb.now (codes "compact") }
+{
+    verb == b"compact".as_slice()
+}
+
+fn is_leveled(word: &[u8]) -> bool
+    ensures { result ≡ bytes_eq word.now (codes "leveled") }
+{
+    word == b"leveled".as_slice()
+}
+
+fn is_major(word: &[u8]) -> bool
+    ensures { result ≡ bytes_eq word.now (codes "major") }
+{
+    word == b"major".as_slice()
+}
+
+fn plan_of(word: &[u8]) -> Option<Plan>
+    ensures { result ≡ plan_of word.now }
+{
+    if is_leveled(word) {
+        return Some(Plan::Leveled);
+    }
+    if is_major(word) {
+        return Some(Plan::Major);
+    }
+    None
+}
+
+fn parse_plan(plan: &[u8], watermark: &[u8]) -> Option<Command>
+    ensures { result ≡ command_of_plan plan.now watermark.now }
+{
+    let plan = plan_of(plan)?;
+    let watermark = parse_number(watermark)?;
+    Some(Command::Compact(plan, watermark))
 }
 
 fn parse_prefix_at(alloc: Global, prefix: &[u8], last: &[u8]) -> Result<Option<Command>, AllocError>
@@ -175,9 +234,14 @@ fn parse_of_pair(
             Ok(Some(Command::Get(key, Some(snapshot))))
         }
         b"range" => {
-            let low = parse_lower(alloc, key)?;
-            let high = parse_upper(alloc, last)?;
+            let low = parse_included(alloc, key)?;
+            let high = parse_excluded(alloc, last)?;
             Ok(Some(Command::Range(low, high, None)))
+        }
+        b"drop" => {
+            let low = parse_included(alloc, key)?;
+            let high = parse_included(alloc, last)?;
+            Ok(Some(Command::DropRange(low, high)))
         }
         _ => Ok(None),
     }
@@ -197,10 +261,43 @@ fn parse_four(
             let Some(snapshot) = parse_number(last) else {
                 return Ok(None);
             };
-            let low = parse_lower(alloc, low)?;
-            let high = parse_upper(alloc, high)?;
+            let low = parse_included(alloc, low)?;
+            let high = parse_excluded(alloc, high)?;
             Ok(Some(Command::Range(low, high, Some(snapshot))))
         }
         _ => Ok(None),
     }
+}
+
+fn is_fifo(plan: &[u8]) -> bool
+    ensures { result ≡ bytes_eq plan.now (codes "fifo") }
+{
+    plan == b"fifo".as_slice()
+}
+
+fn parse_five(
+    verb: &[u8],
+    plan: &[u8],
+    limit: &[u8],
+    ttl: &[u8],
+    watermark: &[u8],
+) -> Option<Command>
+    ensures { result ≡ command_of_five verb.now plan.now limit.now ttl.now watermark.now }
+{
+    if !is_compact(verb) {
+        return None;
+    }
+    if !is_fifo(plan) {
+        return None;
+    }
+    parse_fifo(limit, ttl, watermark)
+}
+
+fn parse_fifo(limit: &[u8], ttl: &[u8], watermark: &[u8]) -> Option<Command>
+    ensures { result ≡ command_of_fifo limit.now ttl.now watermark.now }
+{
+    let limit = parse_number(limit)?;
+    let ttl = parse_number(ttl)?;
+    let watermark = parse_number(watermark)?;
+    Some(Command::Compact(Plan::Fifo(limit, ttl), watermark))
 }

@@ -44,4 +44,6 @@ fn list_arguments<R: Env + AllocGlobal>(rt: &R) -> io::Result<Vec<String>> {
 }
 
 #[cfg(test)]
+mod compaction_rows;
+#[cfg(test)]
 mod tests;

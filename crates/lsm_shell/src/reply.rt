@@ -1,6 +1,6 @@
 // What is printed for a line.
 use lsm_below::{MemtableId, SeqNo, UserValue};
-use lsm_tree::{Error, IterGuard, TreeIter};
+use lsm_tree::{Error, IterGuard, TreeIter, Why};
 use std::io::{self, Write};
 
 /// What a tree counts: the tables and the runs of its first level, its sealed memtables, the entries of memtables and
@@ -27,10 +27,14 @@ pub enum Reply {
     Pairs(TreeIter),
     /// The memtable of this number was sealed.
     Rotated(MemtableId),
-    /// There was nothing to seal or to flush.
+    /// There was nothing to do.
     Nothing,
     /// Memtables of so many bytes were flushed, and the flush was installed or found stale.
     Flushed(u64, bool),
+    /// The compaction was installed.
+    Compacted,
+    /// The compaction was declined, for this reason.
+    Declined(Why),
     /// It is done.
     Done,
     /// What the tree counts.
@@ -62,6 +66,8 @@ impl Reply {
             Reply::Nothing => output.write_all(b"nothing\n"),
             Reply::Flushed(size, true) => writeln!(output, "flushed {size} installed"),
             Reply::Flushed(size, false) => writeln!(output, "flushed {size} stale"),
+            Reply::Compacted => output.write_all(b"installed\n"),
+            Reply::Declined(why) => writeln!(output, "declined {why:?}"),
             Reply::Done => output.write_all(b"ok\n"),
             Reply::Counted(stats) => write_stats(output, stats),
             Reply::Crashed => output.write_all(b"crashed\n"),

@@ -1,8 +1,11 @@
 // A tree that answers commands.
-use crate::command::{Command, parse};
+use crate::command::{Command, Plan, parse};
 use crate::reply::{Reply, Stats};
 use lsm_below::{SeqNo, UserKey};
-use lsm_tree::{Config, Error, FolderStore, MemStore, Op, Pass, Recorded, Store};
+use lsm_tree::{
+    Begun, Config, Error, Fifo, FolderStore, Leveled, MemStore, Op, OwnedBounds, Pass, Recorded,
+    Store,
+};
 use std::alloc::{AllocError, Global};
 use std::fs::Files;
 use std::ops::Bound;
@@ -130,6 +133,11 @@ fn run_on<S: Store>(
         Command::Prefix(key, snapshot) => prefix(tree, &key, snapshot),
         Command::Rotate => rotate(tree, &mut pass),
         Command::Flush(watermark) => flush(tree, &mut pass, watermark),
+        Command::Compact(plan, watermark) => compact(alloc, tree, &mut pass, plan, watermark),
+        Command::DropRange(start, end) => {
+            let bounds = OwnedBounds { start, end };
+            Ok(told(tree.drop_range(&mut pass, bounds)?))
+        }
         Command::Now(moment) => {
             tree.set_moment(moment);
             Ok(Reply::Done)
@@ -199,6 +207,33 @@ fn flush<S: Store>(
         Ok((_, Some((size, registered)))) => Ok(Reply::Flushed(size, registered.installed)),
         Ok((_, None)) => Ok(Reply::Nothing),
         Err((error, _)) => Err(error),
+    }
+}
+
+fn compact<S: Store>(
+    alloc: Global,
+    tree: &mut Recorded<S>,
+    pass: &mut Pass,
+    plan: Plan,
+    watermark: SeqNo,
+) -> Result<Reply, Error> {
+    let begun = match plan {
+        Plan::Leveled => tree.compact(pass, &Leveled::new(alloc)?, watermark)?,
+        Plan::Major => tree.major_compact(pass, u64::MAX, watermark)?,
+        Plan::Fifo(limit, ttl) => {
+            let fifo = Fifo::new(limit, Some(ttl), tree.moment());
+            tree.compact(pass, &fifo, watermark)?
+        }
+    };
+    Ok(told(begun))
+}
+
+/// What came of a compaction in one call, which hands out no job.
+fn told(begun: Begun) -> Reply {
+    match begun {
+        Begun::Installed => Reply::Compacted,
+        Begun::Declined(why) => Reply::Declined(why),
+        Begun::DidNothing | Begun::Job(_) => Reply::Nothing,
     }
 }
 

@@ -1,4 +1,8 @@
 // What is printed, and how a run ends.
+use crate::compaction_rows::{
+    ALL_DROPPED, DROPPED, EVICTING_MAJOR, FIFO_BY_AGE, FIFO_BY_LIMIT, FIFO_OF_TWO_RUNS,
+    FIRST_LEVELED, MAJOR,
+};
 use crate::shell::run_shell;
 use bytes::Bytes;
 use lsm_tree::{
@@ -13,7 +17,7 @@ use std::test::Fail;
 use std::thread::Threads;
 
 /// A line, and what is printed for it.
-type Row = (&'static [u8], &'static [u8]);
+pub type Row = (&'static [u8], &'static [u8]);
 
 /// A key is written, read, removed, and read at older snapshots.
 const REMOVED: [Row; 9] = [
@@ -108,7 +112,7 @@ const CLOSED: [Row; 9] = [
 ];
 
 /// Lines that ask nothing.
-const OTHERS: [&[u8]; 31] = [
+const OTHERS: [&[u8]; 41] = [
     b"",
     b" ",
     b"put a",
@@ -137,6 +141,16 @@ const OTHERS: [&[u8]; 31] = [
     b"flush",
     b"flush 01",
     b"flush a",
+    b"compact",
+    b"compact leveled",
+    b"compact leveled x",
+    b"compact minor 1",
+    b"compact major 1 2",
+    b"compact fifo 1 2",
+    b"compact fifo 1 x 2",
+    b"compact fifo 1 2 3 4",
+    b"drop a",
+    b"drop a b c",
     b"now -1",
     b"stats 1",
     b"reopen x",
@@ -200,6 +214,14 @@ fn answers_lines(rt: HostRuntime) -> Result<(), Fail> {
         FLUSHED_AWAY.as_slice(),
         CRASHED.as_slice(),
         CLOSED.as_slice(),
+        FIRST_LEVELED.as_slice(),
+        EVICTING_MAJOR.as_slice(),
+        MAJOR.as_slice(),
+        FIFO_BY_LIMIT.as_slice(),
+        FIFO_BY_AGE.as_slice(),
+        FIFO_OF_TWO_RUNS.as_slice(),
+        DROPPED.as_slice(),
+        ALL_DROPPED.as_slice(),
     ];
     for (number, rows) in tables.iter().enumerate() {
         assert!(rt; answers(&rt, rt.alloc(), rows)?, "table {number}");

@@ -10,13 +10,14 @@ pub fn is_word(bytes: &[u8]) -> bool
     !bytes.is_empty() && bytes.iter().all(|byte| matches!(byte, 33..=126))
 }
 
-/// One to four words.
+/// One to five words.
 #[derive(Clone, Copy)]
 pub enum Words<'a> {
     One(&'a [u8]),
     Two(&'a [u8], &'a [u8]),
     Three(&'a [u8], &'a [u8], &'a [u8]),
     Four(&'a [u8], &'a [u8], &'a [u8], &'a [u8]),
+    Five(&'a [u8], &'a [u8], &'a [u8], &'a [u8], &'a [u8]),
 }
 
 // What stands before the first space, and, where there is one, what stands after it.
@@ -30,7 +31,7 @@ fn split_at_space(line: &[u8]) -> (&[u8], Option<&[u8]>)
     }
 }
 
-/// The words of a line. None: it has more than four, as no command does, or something in it is
+/// The words of a line. None: it has more than five, as no command does, or something in it is
 /// no word.
 pub fn split_words(line: &[u8]) -> Option<Words<'_>>
     ensures { MatchOption result (HasNoFewWords line.now) (λ words. words_of line.now ≡ Some (list_of_words words)) }
@@ -53,6 +54,13 @@ pub fn split_words(line: &[u8]) -> Option<Words<'_>>
     let Some(rest) = rest else {
         return Some(Words::Three(first, second, third));
     };
-    // A fourth with a space in it is no word.
-    is_word(rest).then_some(Words::Four(first, second, third, rest))
+    let (fourth, rest) = split_at_space(rest);
+    if !is_word(fourth) {
+        return None;
+    }
+    let Some(rest) = rest else {
+        return Some(Words::Four(first, second, third, fourth));
+    };
+    // A fifth with a space in it is no word.
+    is_word(rest).then_some(Words::Five(first, second, third, fourth, rest))
 }

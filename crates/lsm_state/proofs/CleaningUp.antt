@@ -1,5 +1,6 @@
 -- Cleaning up keeps what a tree keeps.
 use Rattle.std.proofs.Common.{◌≡◌, ℕ, ◌≤◌, ◌<◌, Bool, true, false, cond, ◌||◌, List, [], ◌∷◌, ◌++◌, zero, suc, Result, Ok, Err, OnOk, Option, None, option_to_list, take, length, refl, sym, ap, ◌∙◌, subst, arith, eqb, leb, ltb}
+use Rattle.std.proofs.Math.Seq.{take-length}
 use Rattle.std.proofs.lemmas.Bool.Decides.{nat_tests}
 use Rattle.std.specs.Result.{is_ok}
 use Rattle.std.specs.List.{AllByRecursion}
@@ -98,6 +99,17 @@ module _ (ts : List SeenMemtable) (h : SeenHistory) (next : ℕ) (ids : KeepsIds
     held = all_held (oldest_named left) ts (versions_of left) (all_over h.latest.active_memtable h.latest (take k h.older) ages) (ids.held.0, all_take (NamesHeld (ids_of ts)) k h.older ids.held.1);
     older = ages;
   }
+
+-- a tree of which none went
+module _ (ts : List SeenMemtable) (h : SeenHistory) (next : ℕ) (ids : KeepsIds ts h next) where
+  abbrev with_older : List SuperVersion → SeenHistory
+  with_older older = record { latest = h.latest; older = older }
+
+  pub active_first : HasFirst ts (λ t. oldest_named h ≤ t.id)
+  active_first = subst (λ o. HasFirst ts (λ t. oldest_named (with_older o) ≤ t.id)) (take-length h.older) (first_over ts h next ids (length h.older))
+
+  pub ids_named : KeepsIds (from_id (oldest_named h) ts) h next
+  ids_named = subst (λ o. KeepsIds (from_id (oldest_named (with_older o)) ts) (with_older o) next) (take-length h.older) (ids_left ts h next ids (length h.older))
 
 -- what maintenance leaves
 module _ (w : ℕ) (r : Result (Unit {0}) Error) (h new : SeenHistory) (f : Forgets w r h new) where

@@ -138,17 +138,17 @@ module _ (c : Core) (v : SeenVersion) (action : Action) (events told : List Even
 
 -- ---- outcomes
 
-ok_no_err : {T : Type 0} (x : T) (e : Error) → IsErrOf (Ok x) e → ⊥
+pub ok_no_err : {T : Type 0} (x : T) (e : Error) → IsErrOf (Ok x) e → ⊥
 ok_no_err x e h = cc h
 
-err_is : {T : Type 0} (a b : Error) → IsErrOf {T = T} (Err a) b → a ≡ b
+pub err_is : {T : Type 0} (a b : Error) → IsErrOf {T = T} (Err a) b → a ≡ b
 err_is a b h = cc h
 
 -- what is the same to the theories
-abbrev LooksSame : Core → Core → Type 0
+abbrev pub LooksSame : Core → Core → Type 0
 LooksSame old new = (journal : List Event) (notes : List Note) → saved_of journal notes new ≡ saved_of journal notes old
 
-looks_same : (old new : Core) → (new ≡ old) ⊎ (new ≡ counted old) → LooksSame old new
+pub looks_same : (old new : Core) → (new ≡ old) ⊎ (new ≡ counted old) → LooksSame old new
 looks_same old new is journal notes = ⊎_elim (λ (same : new ≡ old). ap (saved_of journal notes) same) (λ (drawn : new ≡ counted old). ap (saved_of journal notes) drawn) is
 
 -- what follows of each outcome of an install

@@ -21,7 +21,7 @@ use Rattle.lsm_state.specs.declared.compaction.Finished.TheVariants.{Declined as
 use Rattle.lsm_state.specs.Core.{Core, state_of}
 use Rattle.lsm_state.specs.Deeds.{saved_of, HasOrder, IsNoDeed, IsMarkDeed, AreDone}
 use Rattle.lsm_state.specs.CompactionDeeds.{dropped_by, AreLostTelling, IsChoiceDeed, IsLostChoice, ChoiceDeeds, IsMarkedIn, merge_of, IsMergeDeed, IsLostMerge, MergeDeeds}
-use Rattle.lsm_state.specs.CompactionReads.{ranges_told, TellsChoice, TellsMerge, SparesReads, IsAny, SparesSnapshot, IsAnySnapshot, CompactionsKeepReads}
+use Rattle.lsm_state.specs.CompactionReads.{ranges_told, TellsChoice, TellsMerge, SparesReads, IsAny, AreSparedBy, IsAnySnapshot, CompactionsKeepReads}
 use Rattle.lsm_state.proofs.Outcomes.{Outcome, IsDone, IsLost, IsNothing, outcome_of}
 
 -- ---- the last of some events
@@ -58,7 +58,7 @@ module _ (theory : Soundness) where
   module _ (old new : Core) where
     -- ---- nothing, and a mark
 
-    nothing : (IsBefore : List Event → Type 0) (IsSpared : ℕ → Type 0) → IsNoDeed old new → SparesReads IsBefore [] IsSpared old new
+    pub nothing : (IsBefore : List Event → Type 0) (IsSpared : ℕ → Type 0) → IsNoDeed old new → SparesReads IsBefore [] IsSpared old new
     nothing IsBefore IsSpared none = record {
       right = λ opened start journal before order holds.
           subst (λ j. Holds opened start (state_of j new)) (sym (append-nil journal)) (subst (Holds opened start) (sym (ap (λ t. t.state) (none opened journal []))) holds);
@@ -103,38 +103,38 @@ module _ (theory : Soundness) where
   -- ---- choices
 
   module _ (w : ℕ) (old new : Core) where
-    choice_done : (choice : Choice) → IsChoiceDeed choice w old new → SparesReads IsAny (Mark w ∷ (ranges_told choice old ++ Install old.seqno ∷ [])) (SparesSnapshot choice old) old new
+    abbrev Goal : List Event → Type 0
+    Goal es = SparesReads IsAny es (AreSparedBy es) old new
+
+    choice_done : (choice : Choice) → IsChoiceDeed choice w old new → Goal (Mark w ∷ (ranges_told choice old ++ Install old.seqno ∷ []))
     choice_done DoNothing d = absurd d
-    choice_done (Move input) d = done old new w (Moved input.dest_level input.table_ids.keys (placed_in input.dest_level d.0)) (Install old.seqno ∷ []) IsAnySnapshot refl d.1 (λ s spared opened journal mid after step is. tt)
+    choice_done (Move input) d = done old new w (Moved input.dest_level input.table_ids.keys (placed_in input.dest_level d.0)) (Install old.seqno ∷ []) (AreSparedBy (Mark w ∷ (Install old.seqno ∷ []))) refl d.1 (λ s spared opened journal mid after step is. tt)
     choice_done (Merge input) d = absurd d
     choice_done (Drop ids) d =
-        done old new w (DroppedTables ids.keys) (dropped_by ids.keys old ++ Install old.seqno ∷ []) (SparesSnapshot (Drop ids) old) refl d
-        (λ s spared opened journal mid after step is. subst (λ n. s ≤ n) (sym (same_number mid.journal (journal ++ Mark w ∷ dropped_by ids.keys old) _ after.latest.number old.seqno (sym step.commit.journal ∙ is ∙ sym (append_assoc journal (Mark w ∷ dropped_by ids.keys old) (Install old.seqno ∷ []))))) spared)
+        done old new w (DroppedTables ids.keys) (dropped_by ids.keys old ++ Install old.seqno ∷ []) (AreSparedBy (Mark w ∷ (dropped_by ids.keys old ++ Install old.seqno ∷ []))) refl d
+        (λ s spared opened journal mid after step is. subst (λ n. s ≤ n) (sym (same_number mid.journal (journal ++ Mark w ∷ dropped_by ids.keys old) _ after.latest.number old.seqno (sym step.commit.journal ∙ is ∙ sym (append_assoc journal (Mark w ∷ dropped_by ids.keys old) (Install old.seqno ∷ []))))) spared.1.0)
 
-    choice_lost : (choice : Choice) → IsLostChoice choice w old new → SparesReads IsAny (Mark w ∷ ranges_told choice old) (SparesSnapshot choice old) old new
+    choice_lost : (choice : Choice) → IsLostChoice choice w old new → Goal (Mark w ∷ ranges_told choice old)
     choice_lost DoNothing d = absurd d
-    choice_lost (Move input) d = lost old new w (Moved input.dest_level input.table_ids.keys (placed_in input.dest_level d.0)) [] (Install old.seqno ∷ []) d.1 IsAnySnapshot d.2
+    choice_lost (Move input) d = lost old new w (Moved input.dest_level input.table_ids.keys (placed_in input.dest_level d.0)) [] (Install old.seqno ∷ []) d.1 (AreSparedBy (Mark w ∷ [])) d.2
     choice_lost (Merge input) d = absurd d
-    choice_lost (Drop ids) d = lost old new w (DroppedTables ids.keys) (dropped_by ids.keys old) (dropped_by ids.keys old ++ Install old.seqno ∷ []) d.0 (SparesSnapshot (Drop ids) old) d.1
+    choice_lost (Drop ids) d = lost old new w (DroppedTables ids.keys) (dropped_by ids.keys old) (dropped_by ids.keys old ++ Install old.seqno ∷ []) d.0 (AreSparedBy (Mark w ∷ dropped_by ids.keys old)) d.1
 
     module _ (choice : Choice) (events : List Event) where
-      abbrev Goal : List Event → Type 0
-      Goal es = SparesReads IsAny es (SparesSnapshot choice old) old new
-
       at : (es : List Event) → events ≡ es → Goal es → Goal events
       at es is goal = subst Goal (sym is) goal
 
       choices : (r : Result Begun Error) → ChoiceDeeds choice w r old new → TellsChoice choice w r old events → Goal events
       choices (Ok Installed) deeds tells = at (Mark w ∷ (ranges_told choice old ++ Install old.seqno ∷ [])) (tells.done (inl refl)) (choice_done choice (deeds.done (inl refl)))
-      choices (Ok DidNothing) deeds tells = at (Mark w ∷ []) (tells.told (λ h. cc h)) (mark old new w (SparesSnapshot choice old) (deeds.told (λ h. cc h)))
-      choices (Ok (Declined why)) deeds tells = at (Mark w ∷ []) (tells.told (λ h. cc h)) (mark old new w (SparesSnapshot choice old) (deeds.told (λ h. cc h)))
-      choices (Ok (Job job)) deeds tells = at (Mark w ∷ []) (tells.told (λ h. cc h)) (mark old new w (SparesSnapshot choice old) (deeds.told (λ h. cc h)))
+      choices (Ok DidNothing) deeds tells = at (Mark w ∷ []) (tells.told (λ h. cc h)) (mark old new w (AreSparedBy (Mark w ∷ [])) (deeds.told (λ h. cc h)))
+      choices (Ok (Declined why)) deeds tells = at (Mark w ∷ []) (tells.told (λ h. cc h)) (mark old new w (AreSparedBy (Mark w ∷ [])) (deeds.told (λ h. cc h)))
+      choices (Ok (Job job)) deeds tells = at (Mark w ∷ []) (tells.told (λ h. cc h)) (mark old new w (AreSparedBy (Mark w ∷ [])) (deeds.told (λ h. cc h)))
       choices (Err e) deeds tells = by_outcome (outcome_of e)
         where
           by_outcome : Outcome e → Goal events
           by_outcome (IsDone is) = at (Mark w ∷ (ranges_told choice old ++ Install old.seqno ∷ [])) (tells.done (inr (ap Err is))) (choice_done choice (deeds.done (inr (ap Err is))))
           by_outcome (IsLost is) = at (Mark w ∷ ranges_told choice old) (tells.lost (ap Err is)) (choice_lost choice (deeds.lost (ap Err is)))
-          by_outcome (IsNothing after known) = at (Mark w ∷ []) (tells.refused after known) (mark old new w (SparesSnapshot choice old) (deeds.refused after known))
+          by_outcome (IsNothing after known) = at (Mark w ∷ []) (tells.refused after known) (mark old new w (AreSparedBy (Mark w ∷ [])) (deeds.refused after known))
 
   -- ---- merges
 

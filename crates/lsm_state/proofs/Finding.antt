@@ -1,5 +1,5 @@
 -- Memtables whose ids fall are found by bisection.
-use Rattle.std.proofs.Common.{◌≡◌, ℕ, ◌<◌, ◌≤◌, ◌≢◌, Bool, true, false, cond, List, [], ◌∷◌, Option, Some, None, refl, sym, ap, ◌∙◌, arith, zero, suc, length, get_or, eqb, nat_lt}
+use Rattle.std.proofs.Common.{◌≡◌, ℕ, ◌<◌, ◌≤◌, ◌≢◌, Bool, true, false, cond, List, [], ◌∷◌, Option, Some, None, IsSome, refl, sym, ap, ◌∙◌, arith, zero, suc, length, get_or, eqb, nat_lt}
 use Rattle.std.proofs.lemmas.Bool.Decides.{nat_tests}
 use Rattle.std.specs.List.{AllWithin}
 use Rattle.std.specs.List.Sorted.{IsPartitionedBy}
@@ -89,3 +89,24 @@ pub past_end : (i n m : ℕ) → n ≡ m → (i < n → false ≡ true) → m �
 past_end i n m e h =
     let no : i < n → ⊥ = λ lt. cc (h lt) in
     omega arith
+
+-- the first one that isn't above an id is the memtable with it, if there is one
+pub found_there : (id : ℕ) (ts : List SeenMemtable) (n i : ℕ) (t : SeenMemtable) → FallFrom n (ids_of ts) → AllWithin (λ t. above id t ≡ true) ts 0 i → i < length ts → t ≡ get_or ts i t → above id t ≡ false → IsSome (held_at ts id) → held_at ts id ≡ Some t
+found_there id ts n i t f h lt is low there = by_case (eqb t.id id) refl
+  where
+    same_id : (a b : ℕ) → eqb a b ≡ true → a ≡ b
+    same_id a b e = grind (arith, nat_tests)
+
+    other_id : (a b : ℕ) → eqb a b ≡ false → a ≡ b → ⊥
+    other_id a b e same = grind (arith, nat_tests)
+
+    by_case : (b : Bool) → eqb t.id id ≡ b → held_at ts id ≡ Some t
+    by_case true e = sym (found id ts i t h lt is (same_id t.id id e))
+    by_case false e = let none = missed id ts n i t f h lt is low (other_id t.id id e) in absurd (cc (none, there))
+
+pub is_there : (o : Option SeenMemtable) → o ≡ None → IsSome o → ⊥
+is_there o none some = cc (none, some)
+
+pub there_is : (o : Option SeenMemtable) → (o ≡ None → ⊥) → IsSome o
+there_is None h = absurd (h refl)
+there_is (Some t) h = refl

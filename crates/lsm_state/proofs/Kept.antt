@@ -49,7 +49,7 @@ all_more : (n : ℕ) (ids named : List ℕ) → AllByRecursion (λ i. is_among i
 all_more n ids [] h = tt
 all_more n ids (i ∷ named) h = (or_true (eqb i n) (is_among ids i) h.0, all_more n ids named h.1)
 
-all_named_more : (n : ℕ) (ids : List ℕ) (versions : List SuperVersion) → NameHeld ids versions → NameHeld (n ∷ ids) versions
+pub all_named_more : (n : ℕ) (ids : List ℕ) (versions : List SuperVersion) → NameHeld ids versions → NameHeld (n ∷ ids) versions
 all_named_more n ids [] h = tt
 all_named_more n ids (sv ∷ versions) h = (all_more n ids (sv.active_memtable ∷ sv.sealed_memtables) h.0, all_named_more n ids versions h.1)
 
@@ -58,7 +58,7 @@ all_push P [] i h here = (here, tt)
 all_push P (j ∷ ids) i h here = (h.0, all_push P ids i h.1 here)
 
 -- the id is one of these, as the first
-among_first : (n : ℕ) (ids : List ℕ) → is_among (n ∷ ids) n ≡ true
+pub among_first : (n : ℕ) (ids : List ℕ) → is_among (n ∷ ids) n ≡ true
 among_first n ids = ap (λ b. b || is_among ids n) (eq-eqb n n refl)
 
 rise_push : (m a n : ℕ) (ids : List ℕ) → a < n → RiseFrom m (ids ++ a ∷ []) → RiseFrom m ((ids ++ a ∷ []) ++ n ∷ [])
@@ -70,7 +70,7 @@ first_push : (a n : ℕ) (ids : List ℕ) → first_or n (ids ++ a ∷ []) ≡ f
 first_push a n [] = refl
 first_push a n (i ∷ ids) = refl
 
-first_below : (n a : ℕ) (ts : List SeenMemtable) → FallFrom n (ids_of ts) → HasFirst ts (λ m. m.id ≡ a) → a < n
+pub first_below : (n a : ℕ) (ts : List SeenMemtable) → FallFrom n (ids_of ts) → HasFirst ts (λ m. m.id ≡ a) → a < n
 first_below n a [] f h = absurd h
 first_below n a (t ∷ ts) f h = subst (λ i. i < n) h f.0
 

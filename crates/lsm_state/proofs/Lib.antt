@@ -32,3 +32,5 @@ pub mod Merges
 pub mod Outcomes
 pub mod CompactionReads
 pub mod Wholes
+pub mod Clears
+pub mod ClearReads

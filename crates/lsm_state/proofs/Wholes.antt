@@ -53,9 +53,17 @@ begun_stays may_choose may_refuse o job old mid begins = by_lost old.lost refl
     by_lost (Some v) is = absurd (refused _ (begins.unrecoverable.1 (subst IsSome (sym is) refl)))
 
 -- what a crash leaves in how a compaction begins, and in what follows, it leaves in both together
+follows_uphold : (w v u : World) (begun r : Result Begun Error) (old mid new : Core) → ((job : SeenCompaction) → begun ≡ Ok (Job job) → versions_left mid ≡ versions_left old) → Follows begun r mid new → Upholds w v old mid → Upholds v u mid new → Upholds w u old new
+follows_uphold w v u (Ok DidNothing) r old mid new stays follows first second = upholds_join w v u old mid new (ap versions_left follows.1) first second
+follows_uphold w v u (Ok (Declined why)) r old mid new stays follows first second = upholds_join w v u old mid new (ap versions_left follows.1) first second
+follows_uphold w v u (Ok Installed) r old mid new stays follows first second = upholds_join w v u old mid new (ap versions_left follows.1) first second
+follows_uphold w v u (Ok (Job job)) r old mid new stays follows first second = upholds_behind w v u old mid new (stays job refl) first second
+follows_uphold w v u (Err e) r old mid new stays follows first second = upholds_join w v u old mid new (ap versions_left follows.1) first second
+
+pub choice_upholds : (w v u : World) (choice : Choice) (o : Options) (begun r : Result Begun Error) (old mid new : Core) → BeginsChoice choice o begun old mid → Follows begun r mid new → Upholds w v old mid → Upholds v u mid new → Upholds w u old new
+choice_upholds w v u choice o begun r old mid new begins follows first second =
+    follows_uphold w v u begun r old mid new (λ job is. job_stays choice o job old mid (subst (λ b. BeginsChoice choice o b old mid) is begins)) follows first second
+
 pub whole_upholds : (w v u : World) (may_choose : Relation Choice) (may_refuse : Relation ChooseError) (o : Options) (begun r : Result Begun Error) (old mid new : Core) → BeginsCompaction may_choose may_refuse o begun old mid → Follows begun r mid new → Upholds w v old mid → Upholds v u mid new → Upholds w u old new
-whole_upholds w v u may_choose may_refuse o (Ok DidNothing) r old mid new begins follows first second = upholds_join w v u old mid new (ap versions_left follows.1) first second
-whole_upholds w v u may_choose may_refuse o (Ok (Declined why)) r old mid new begins follows first second = upholds_join w v u old mid new (ap versions_left follows.1) first second
-whole_upholds w v u may_choose may_refuse o (Ok Installed) r old mid new begins follows first second = upholds_join w v u old mid new (ap versions_left follows.1) first second
-whole_upholds w v u may_choose may_refuse o (Ok (Job job)) r old mid new begins follows first second = upholds_behind w v u old mid new (begun_stays may_choose may_refuse o job old mid begins) first second
-whole_upholds w v u may_choose may_refuse o (Err e) r old mid new begins follows first second = upholds_join w v u old mid new (ap versions_left follows.1) first second
+whole_upholds w v u may_choose may_refuse o begun r old mid new begins follows first second =
+    follows_uphold w v u begun r old mid new (λ job is. begun_stays may_choose may_refuse o job old mid (subst (λ b. BeginsCompaction may_choose may_refuse o b old mid) is begins)) follows first second

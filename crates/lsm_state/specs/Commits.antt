@@ -1,8 +1,9 @@
 -- What a commit makes of a tree, and of its files.
-use Rattle.std.specs.Prelude.{◌≡◌, ℕ, ◌+◌, ◌≤◌, ◌^◌, max, List, ◌++◌, Some, None, Result, ◌⊎◌, OnOk, IfErr, IsErrOf, IsSome}
+use Rattle.std.specs.Prelude.{◌≡◌, ℕ, ◌+◌, ◌≤◌, ◌^◌, max, Bool, true, false, List, ◌∷◌, ◌++◌, Some, Result, ◌⊎◌, OnOk, IfErr, IsErrOf}
 use Rattle.lsm_below.specs.declared.error.Error.{Error}
 use Rattle.lsm_below.specs.declared.error.Error.TheVariants.{OutOfMemory, Store, CommitUnknown, OutOfNumbers}
 use Rattle.lsm_store.specs.World.{World}
+use Rattle.lsm_memtable.specs.Memtables.{SeenMemtable, new_memtable}
 use Rattle.lsm_files.specs.Stored.{IsStored, Leaves}
 use Rattle.lsm_parts.specs.declared.version.super_version.SuperVersion.{SuperVersion}
 use Rattle.lsm_parts.specs.History.{versions_of}
@@ -20,6 +21,21 @@ Upholds w w' old new = IsStored w (versions_left old) (written_of old) → IsSto
 abbrev pub counted : Core → Core
 counted c = record c { seqno = c.seqno + 1 }
 
+-- memtables with a new active one of this id, where there is to be one
+abbrev pub fronted : Bool → ℕ → List SeenMemtable → List SeenMemtable
+fronted false id memtables = memtables
+fronted true id memtables = new_memtable id ∷ memtables
+
+-- the id that is drawn next then
+abbrev pub next_id : Bool → ℕ → ℕ
+next_id false id = id
+next_id true id = id + 1
+
+-- the tree with a new active memtable of the next id, where there is to be one
+abbrev pub fresh_in : Bool → Core → Core
+fresh_in false c = c
+fresh_in true c = record c { memtables = new_memtable c.next_memtable ∷ c.memtables; next_memtable = c.next_memtable + 1 }
+
 -- the tree after the commit of a super version
 abbrev pub committed : SuperVersion → Core → Core
 committed next c = record c { history = record { latest = next; older = versions_of c.history }; seqno = c.seqno + 1; visible_seqno = max c.visible_seqno (c.seqno + 1) }
@@ -28,9 +44,9 @@ committed next c = record c { history = record { latest = next; older = versions
 abbrev pub doubted : SuperVersion → Core → Core
 doubted next c = record c { seqno = c.seqno + 1; lost = Some (next.version) }
 
--- the commit of a super version
-pub record Commits (next : SuperVersion) (r : Result Unit Error) (old new : Core) : Type 0 where
-  pub ok : OnOk r (new ≡ committed next old)
+-- the commit of a super version, with a new active memtable or not
+pub record Commits (fresh : Bool) (next : SuperVersion) (r : Result Unit Error) (old new : Core) : Type 0 where
+  pub ok : OnOk r (new ≡ committed next (fresh_in fresh old))
   pub unknown : IsErrOf r CommitUnknown → new ≡ doubted next old
   -- refused otherwise, it changes nothing but that the number may be used
   pub store : IsErrOf r Store → new ≡ counted old

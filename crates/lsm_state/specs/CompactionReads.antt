@@ -4,7 +4,8 @@ use Rattle.lsm_below.specs.Entries.{Entry}
 use Rattle.lsm_below.specs.declared.error.Error.{Error}
 use Rattle.lsm_below.specs.declared.error.Error.TheVariants.{CommitUnknown, AfterCommit}
 use Rattle.lsm_model.specs.Journal.{Event, Map, InOrder}
-use Rattle.lsm_model.specs.Steps.{StaysAt}
+use Rattle.std.specs.List.{AllByRecursion}
+use Rattle.lsm_model.specs.Steps.{StaysAt, IsSparedBy}
 use Rattle.lsm_model.specs.Sound.{Holds}
 use Rattle.lsm_model.specs.declared.journal.JournalEntry.TheVariants.{Mark, Install}
 use Rattle.lsm_merges.specs.Merges.{SeenCompaction}
@@ -52,17 +53,14 @@ pub record SparesReads (IsBefore : List Event → Type 0) (events : List Event) 
 abbrev pub IsAny : List Event → Type 0
 IsAny journal = Unit {0}
 
--- a drop spares snapshots that aren't above its number, all else spares all
-abbrev pub SparesSnapshot : Choice → Core → ℕ → Type 0
-SparesSnapshot DoNothing c s = Unit {0}
-SparesSnapshot (Move input) c s = Unit {0}
-SparesSnapshot (Merge input) c s = Unit {0}
-SparesSnapshot (Drop ids) c s = s ≤ c.seqno
+-- the snapshots that all these events spare
+abbrev pub AreSparedBy : List Event → ℕ → Type 0
+AreSparedBy events s = AllByRecursion (IsSparedBy s) events
 
 abbrev pub IsAnySnapshot : ℕ → Type 0
 IsAnySnapshot s = Unit {0}
 
 -- each call of a compaction does so; the end of a merge where its watermark was marked
 pub record CompactionsKeepReads : Type 0 where
-  pub choices : (choice : Choice) (w : ℕ) (r : Result Begun Error) (old new : Core) (events : List Event) → ChoiceDeeds choice w r old new → TellsChoice choice w r old events → SparesReads IsAny events (SparesSnapshot choice old) old new
+  pub choices : (choice : Choice) (w : ℕ) (r : Result Begun Error) (old new : Core) (events : List Event) → ChoiceDeeds choice w r old new → TellsChoice choice w r old events → SparesReads IsAny events (AreSparedBy events) old new
   pub merges : (job : SeenCompaction) (r : Result Finished Error) (old new : Core) (events : List Event) → MergeDeeds job r old new → TellsMerge r old events → SparesReads (IsMarkedIn job.settings.watermark) events IsAnySnapshot old new

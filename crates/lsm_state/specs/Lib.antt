@@ -22,3 +22,4 @@ pub mod Compactions
 pub mod CompactionDeeds
 pub mod WholeCompactions
 pub mod CompactionReads
+pub mod Clearing

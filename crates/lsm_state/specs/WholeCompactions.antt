@@ -14,7 +14,9 @@ use Rattle.lsm_state.specs.declared.compaction.Begun.TheVariants.{DidNothing, De
 use Rattle.lsm_state.specs.declared.compaction.Finished.{Finished}
 use Rattle.lsm_state.specs.declared.compaction.Finished.TheVariants.{Declined as Over, Installed as Done}
 use Rattle.lsm_state.specs.Core.{Core}
-use Rattle.lsm_state.specs.Compactions.{Relation, BeginsCompaction, Finishes, Spends}
+use Rattle.lsm_state.specs.Compactions.{Relation, BeginsChoice, BeginsCompaction, Finishes, Spends}
+use Rattle.lsm_state.specs.CompactionDeeds.{ChoiceDeeds, MergeDeeds}
+use Rattle.lsm_state.specs.Deeds.{IsNoDeed}
 
 -- ---- words
 
@@ -24,9 +26,9 @@ told_end (Ok Done) = Ok Installed
 told_end (Ok (Over why)) = Ok (Declined why)
 told_end (Err e) = Err e
 
--- an open merge is done and finished, or given up where there was no memory to do it
+-- an open merge is done and finished, with its deeds, or given up where there was no memory to do it
 abbrev pub Completes : SeenCompaction → Result Begun Error → Core → Core → Type 0
-Completes job r old new = ((r ≡ Err OutOfMemory) × Spends job old new) ⊎ ((end : Result Finished Error) × Finishes job end old new × (r ≡ told_end end))
+Completes job r old new = ((r ≡ Err OutOfMemory) × Spends job old new × IsNoDeed old new) ⊎ ((end : Result Finished Error) × Finishes job end old new × MergeDeeds job end old new × (r ≡ told_end end))
 
 -- what follows of how a compaction began: a merge is completed, and all else stays
 abbrev pub Follows : Result Begun Error → Result Begun Error → Core → Core → Type 0
@@ -37,6 +39,14 @@ Follows (Ok (Job job)) r mid new = Completes job r mid new
 Follows (Err e) r mid new = (r ≡ Err e) × (new ≡ mid)
 
 -- ---- calls
+
+-- what a choice that is done in one call answers and does
+pub record CompactsChoice (choice : Choice) (o : Options) (r : Result Begun Error) (old new : Core) : Type 0 where
+  pub begun : Result Begun Error
+  pub mid : Core
+  pub begins : BeginsChoice choice o begun old mid
+  pub deeds : ChoiceDeeds choice o.mvcc_gc_watermark begun old mid
+  pub follows : Follows begun r mid new
 
 -- what a compaction in one call answers and does
 pub record Compacts (may_choose : Relation Choice) (may_refuse : Relation ChooseError) (o : Options) (r : Result Begun Error) (old new : Core) : Type 0 where

@@ -18,7 +18,7 @@ use lsm_versions::changes_keep_tables;
 use std::collections::HashSet;
 
 /// A strategy's refusal, as the calls of a compaction tell it.
-fn told_as(error: ChooseError) -> Error
+pub fn told_as(error: ChooseError) -> Error
     ensures { result ≡ error_of error }
 {
     match error {

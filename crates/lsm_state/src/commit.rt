@@ -1,21 +1,24 @@
 // How a super version becomes the latest one, and what is cleaned up behind it.
-ghost use Rattle.std.specs.Prelude.{◌≡◌, ◌<◌, length, None, Some, true};
+ghost use Rattle.std.specs.Prelude.{◌≡◌, ◌≤◌, ◌<◌, length, None, Some, IfSome, is_some, true};
 ghost use Rattle.lsm_versions.specs.Levels.{all_of};
 ghost use Rattle.lsm_files.specs.Stored.{AreOnDisk, CountsFaults};
 ghost use Rattle.lsm_parts.specs.History.{versions_of};
 ghost use Rattle.lsm_parts.specs.Maintenance.{AreGone};
 ghost use Rattle.lsm_state.specs.Kept.{least_named, KeepsIds, KeepsTables};
-ghost use Rattle.lsm_state.specs.Commits.{Commits, Upholds};
+ghost use Rattle.lsm_state.specs.Held.{HasFirst};
+ghost use Rattle.lsm_state.specs.Commits.{fronted, next_id, fresh_in, Commits, Upholds};
 ghost use Rattle.lsm_state.specs.Cleaning.{Cleans};
 
-use crate::TreeState;
+use crate::sealed::Room;
+use crate::{Memtables, TreeState};
 use lsm_below::{MemtableId, SeqNo};
 use lsm_files::{commit_version, crashes_leave_versions};
-use lsm_parts::{Error, LIMIT, SuperVersion, SuperVersions, Version};
+use lsm_parts::{Error, LIMIT, SequenceNumberCounter, SuperVersion, SuperVersions, Version};
 use lsm_store::Store;
+use std::alloc::Global;
 
 /// The id of the oldest memtable that a super version names.
-fn oldest_memtable(version: &SuperVersion) -> MemtableId
+pub(crate) fn oldest_memtable(version: &SuperVersion) -> MemtableId
     ensures { result ≡ least_named version.now }
 {
     match version.sealed_memtables.as_slice().first() {
@@ -37,22 +40,44 @@ fn undo_commit(history: &mut SuperVersions, lost: &mut Option<Version>, error: &
     }
 }
 
+/// Seals the active memtable in favour of an empty one, where there is room for it, and uses its id.
+fn put_fresh(
+    alloc: Global,
+    memtables: &mut Memtables,
+    next_memtable: &mut SequenceNumberCounter,
+    room: Option<Room>,
+)
+    requires newer { HasFirst memtables.old (λ t. t.id < next_memtable.old) }
+    requires fits { IfSome room (λ r. length memtables.old ≤ r) }
+    requires number { IfSome room (λ _. next_memtable.old < LIMIT) }
+    ensures memtables { memtables.new ≡ fronted (is_some room) next_memtable.old memtables.old }
+    ensures number { next_memtable.new ≡ next_id (is_some room) next_memtable.old }
+{
+    if let Some(room) = room {
+        let id = next_memtable.get();
+        memtables.rotate_within(alloc, id, room);
+        next_memtable.set(id + 1);
+    }
+}
+
 impl<S: Store> TreeState<S> {
     /// Makes a super version the latest one, once its version is the current one on the disk, where its tables are
-    /// already. Every kind of commit goes through here.
+    /// already. Every kind of commit goes through here. Where it comes with room, its active memtable is a new one.
     ///
     /// # Errors
     ///
     /// `OutOfNumbers` where the counter stands at 2^63 or above. `OutOfMemory` where a growth was refused, `Store` where
     /// the version's file wasn't written, `CommitUnknown` where replacing `current` failed: nothing is installed, but the
     /// number may be used.
-    pub(crate) fn commit(&mut self, next: SuperVersion) -> Result<(), Error>
+    pub(crate) fn commit(&mut self, next: SuperVersion, room: Option<Room>) -> Result<(), Error>
         requires number { next.seqno ≡ self.old.core.seqno }
         requires later { self.old.core.history.latest.version.id < next.version.id }
         requires certain { self.old.core.lost ≡ None }
-        requires ids { KeepsIds self.old.core.memtables (record { latest = next; older = versions_of self.old.core.history }) self.old.core.next_memtable }
+        requires room { IfSome room (λ r. length self.old.core.memtables ≤ r) }
+        requires fresh { IfSome room (λ _. self.old.core.next_memtable < LIMIT) }
+        requires ids { KeepsIds (fresh_in (is_some room) self.old.core).memtables (record { latest = next; older = versions_of self.old.core.history }) (fresh_in (is_some room) self.old.core).next_memtable }
         requires tables { KeepsTables self.old.core.flush (record { latest = next; older = versions_of self.old.core.history }) self.old.core.next_table }
-        ensures commits { Commits next result self.old.core self.new.core }
+        ensures commits { Commits (is_some room) next result self.old.core self.new.core }
         ensures upholds { S.tells → AreOnDisk (S.world self.old.store) (all_of next.version.levels) → Upholds (S.world self.old.store) (S.world self.new.store) self.old.core self.new.core }
         ensures counts { CountsFaults (S.world self.old.store) (S.world self.new.store) result }
     {
@@ -67,9 +92,12 @@ impl<S: Store> TreeState<S> {
         match commit_version(self.alloc, &mut self.store, version) {
             Ok(()) => {
                 self.visible_seqno.fetch_max(number + 1);
+                let next = &mut self.next_memtable;
+                put_fresh(self.alloc, &mut self.memtables, next, room);
                 Ok(())
             }
             Err(error) => {
+                drop(room);
                 undo_commit(&mut self.history, &mut self.lost, &error);
                 Err(error)
             }

@@ -1,13 +1,13 @@
 // A compaction in one call.
 ghost use Rattle.std.specs.Prelude.{◌≡◌, IsSome};
 ghost use Rattle.lsm_state.specs.Commits.{Upholds};
-ghost use Rattle.lsm_state.specs.WholeCompactions.{Completes, Follows, Compacts, DropsRange, options_at, only_memory, major_choice};
+ghost use Rattle.lsm_state.specs.WholeCompactions.{Completes, Follows, CompactsChoice, Compacts, DropsRange, options_at, only_memory, major_choice};
 
 use crate::{Begun, Finished, Options, TreeState};
 use lsm_below::SeqNo;
 use lsm_merges::CompactionJob;
 use lsm_parts::Error;
-use lsm_pick::{CompactionStrategy, DropRange, Major, OwnedBounds};
+use lsm_pick::{Choice, CompactionStrategy, DropRange, Major, OwnedBounds};
 use lsm_store::Store;
 
 impl<S: Store> TreeState<S> {
@@ -45,6 +45,23 @@ impl<S: Store> TreeState<S> {
             Ok(Begun::Installed) => Ok(Begun::Installed),
             Err(error) => Err(error),
         }
+    }
+
+    /// Does a choice in one call: begins it as `begin_choice` does, and where it is a merge does and finishes it. Nothing comes
+    /// in between. The answer is never `Begun::Job`. The cost is that of the parts.
+    ///
+    /// # Errors
+    ///
+    /// Those of `begin_choice` and of `finish_compaction`; `OutOfMemory` where there was no memory to merge: the merge is given
+    /// up, and nothing is installed.
+    pub fn compact_choice(&mut self, choice: Choice, options: Options) -> Result<Begun, Error>
+        ensures compacts { CompactsChoice choice options result self.old.core self.new.core }
+        // What a crash leaves.
+        ensures upholds { S.tells → Upholds (S.world self.old.store) (S.world self.new.store) self.old.core self.new.core }
+        ensures no_call { IsSome self.old.core.lost → self.new.store ≡ self.old.store }
+    {
+        let begun = self.begin_choice(choice, options);
+        self.follow(begun)
     }
 
     /// `do_compaction`, with a strategy whose type is known.

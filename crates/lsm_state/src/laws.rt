@@ -1,4 +1,5 @@
-// What lists of reads, flushes and compactions are to the theory, as contracts of functions.
+// What lists of reads, flushes, compactions and clears are to the theory, as contracts of functions.
+ghost use Rattle.lsm_state.specs.Clearing.{ClearsKeepReads};
 ghost use Rattle.lsm_state.specs.CompactionDeeds.{CompactionsAreDeeds};
 ghost use Rattle.lsm_state.specs.CompactionReads.{CompactionsKeepReads};
 ghost use Rattle.lsm_state.specs.FlushLaws.{FlushesAreDeeds};
@@ -60,6 +61,14 @@ pub fn compactions_are_deeds()
 /// number; and behind it reads are right where they were. The end of a merge is such where its watermark was marked before.
 pub fn compactions_keep_reads()
     ensures { CompactionsKeepReads }
+{
+    reads_are_sound();
+}
+
+/// No clear changes what a snapshot sees that is answered before and after, but an answered one those above its number; and
+/// behind it reads are right where they were.
+pub fn clears_keep_reads()
+    ensures { ClearsKeepReads }
 {
     reads_are_sound();
 }

@@ -3,6 +3,7 @@
 //! | Module | Holds |
 //! |-|-|
 //! | `memtables` | the memtables that are held, by id |
+//! | `sealed` | one that takes no more writes, and room for one more |
 //! | `tree` | the tree: its counters, rotation |
 //! | `found` | what a store holds of it, before anything is changed |
 //! | `opening` | how it is opened over a store, and what it says of its version |
@@ -18,11 +19,13 @@
 //! | `beginning` | how a compaction begins: a move or a drop is installed, a merge becomes a job |
 //! | `finishing` | how a merge ends |
 //! | `compactions` | a compaction in one call |
+//! | `clearing` | a clear, and how unflushed entries are forgotten |
 //! | `settling` | how a version takes the place of the latest one, outside a flush |
-//! | `laws` | what reads, flushes and compactions are to the theory |
+//! | `laws` | what reads, flushes, compactions and clears are to the theory |
 #![tactic(auto)]
 
 mod beginning;
+mod clearing;
 mod commit;
 mod compaction;
 mod compactions;
@@ -37,16 +40,18 @@ mod opening;
 mod ranges;
 mod reads;
 mod register;
+mod sealed;
 mod settling;
 mod tree;
 mod writes;
 
+pub use beginning::told_as;
 pub use compaction::{Begun, Finished, Options};
 pub use compactions::do_compaction;
 pub use found::Found;
 pub use laws::{
-    compactions_are_deeds, compactions_keep_reads, flushes_are_deeds, flushes_keep_reads,
-    lists_are_steps, ranges_are_overlaid,
+    clears_keep_reads, compactions_are_deeds, compactions_keep_reads, flushes_are_deeds,
+    flushes_keep_reads, lists_are_steps, ranges_are_overlaid,
 };
 pub use lsm_below::{MAX_KEY_LEN, MAX_VALUE_LEN};
 use memtables::Memtables;

@@ -1,5 +1,5 @@
 // The memtables that are held, by id.
-ghost use Rattle.std.specs.Prelude.{◌≡◌, ℕ, ◌<◌, ◌≤◌, ◌∷◌, [], length, map, flat_map, sum_by, if◌then◌else◌, IfOk, IfErr, OnOk, OnErr, IsTrue, ◌↔◌, option_copied, MatchOption};
+ghost use Rattle.std.specs.Prelude.{◌≡◌, ℕ, ◌<◌, ◌≤◌, ◌∷◌, [], length, map, flat_map, sum_by, if◌then◌else◌, Some, IfOk, IfErr, OnOk, OnErr, IsTrue, IsSome, ◌↔◌, option_copied, MatchOption};
 ghost use Rattle.std.specs.List.{AllByRecursion, list_any};
 ghost use Rattle.lsm_below.specs.Entries.{top};
 ghost use Rattle.lsm_below.specs.Sums.{capped};
@@ -12,6 +12,7 @@ ghost use Rattle.lsm_state.specs.Held.{entries_of, held_at, size_at, put_first, 
 ghost use Rattle.lsm_state.specs.Cleaning.{from_id};
 
 use crate::counted::greater_of;
+use crate::sealed::{Room, Sealed};
 use lsm_below::{InternalValue, MemtableId, SeqNo};
 use lsm_jobs::SealedMemtable;
 use lsm_parts::{Error, Memtable, SuperVersions};
@@ -25,7 +26,7 @@ use std::mem;
 #[derive(Drop)]
 pub struct Memtables {
     active: Memtable,
-    sealed: VecDeque<SealedMemtable>,
+    sealed: VecDeque<Sealed>,
 }
 
 impl Model for Memtables {
@@ -43,7 +44,7 @@ impl Model for Memtables {
 }
 
 /// The memtable with this id, found by bisection.
-fn find_sealed(sealed: &VecDeque<SealedMemtable>, id: MemtableId) -> Option<&SealedMemtable>
+fn find_sealed(sealed: &VecDeque<Sealed>, id: MemtableId) -> Option<&Sealed>
     requires { (n : ℕ) × FallFrom n (ids_of sealed.now.items) }
     ensures { option_copied result ≡ held_at sealed.now.items id }
 {
@@ -53,6 +54,24 @@ fn find_sealed(sealed: &VecDeque<SealedMemtable>, id: MemtableId) -> Option<&Sea
         return Some(memtable);
     }
     None
+}
+
+/// The memtable with this id, which is one of these, shared. Refused only for want of memory.
+fn share_sealed(
+    sealed: &mut VecDeque<Sealed>,
+    alloc: Global,
+    id: MemtableId,
+) -> Result<SealedMemtable, AllocError>
+    requires falls { (n : ℕ) × FallFrom n (ids_of sealed.old.items) }
+    requires there { IsSome (held_at sealed.old.items id) }
+    ensures same { sealed.new.items ≡ sealed.old.items }
+    ensures ok { IfOk result (λ m. held_at sealed.old.items id ≡ Some m) }
+{
+    let at = sealed.partition_point(|memtable| id < memtable.id());
+    match sealed.get_mut(at) {
+        Some(memtable) => memtable.share(alloc),
+        None => unreachable!(),
+    }
 }
 
 /// The bytes that a memtable counts, where a super version names it; else none.
@@ -211,45 +230,54 @@ impl Memtables {
     {
         self.sealed.try_reserve(1)?;
         let sealed = mem::replace(&mut self.active, Memtable::new(alloc, id));
-        match SealedMemtable::new(alloc, sealed) {
-            Ok(sealed) => {
-                self.sealed.push_front(sealed)?;
-                Ok(())
-            }
-            Err(refused) => {
-                self.active = refused.value;
-                Err(Error::OutOfMemory)
-            }
-        }
+        self.sealed.push_front(Sealed::new(sealed))?;
+        Ok(())
+    }
+
+    /// Room to seal the active memtable. Refused only for want of memory. The cost is linear in the sealed memtables.
+    pub fn room(&self, alloc: Global) -> Result<Room, AllocError>
+        ensures { IfOk result (λ room. length self.now ≤ room) }
+    {
+        Room::new(alloc, self.sealed.len() + 1)
+    }
+
+    /// Seals the active memtable in favour of a new one, where there is room. It takes no memory. The cost is linear in the
+    /// sealed memtables.
+    pub fn rotate_within(&mut self, alloc: Global, id: MemtableId, room: Room)
+        requires newer { HasFirst self.old (λ t. t.id < id) }
+        requires fits { length self.old ≤ room }
+        ensures { self.new ≡ new_memtable id ∷ self.old }
+    {
+        let sealed = mem::replace(&mut self.active, Memtable::new(alloc, id));
+        self.sealed = room.fill(sealed, &mut self.sealed);
     }
 
     /// A sealed memtable by its id, shared. Refused only for want of memory.
-    fn share_one(&self, id: MemtableId) -> Result<SealedMemtable, AllocError>
-        requires { IsSealedIn self.now id }
+    fn share_one(&mut self, alloc: Global, id: MemtableId) -> Result<SealedMemtable, AllocError>
+        requires { IsSealedIn self.old id }
+        ensures same { self.new ≡ self.old }
         ensures id { IfOk result (λ m. m.id ≡ id) }
-        ensures entries { IfOk result (λ m. m.entries ≡ entries_of self.now id) }
+        ensures entries { IfOk result (λ m. m.entries ≡ entries_of self.old id) }
         ensures writable { IfOk result (λ m. IsWritable m.entries) }
     {
-        match find_sealed(&self.sealed, id) {
-            Some(memtable) => memtable.copy(),
-            None => unreachable!(),
-        }
+        share_sealed(&mut self.sealed, alloc, id)
     }
 
     /// Sealed memtables by their ids, shared: their entries are not copied. Refused only for want of memory.
     pub fn share(
-        &self,
+        &mut self,
         alloc: Global,
         ids: &[MemtableId],
     ) -> Result<Vec<SealedMemtable>, AllocError>
-        requires { AllByRecursion (IsSealedIn self.now) ids.now }
+        requires { AllByRecursion (IsSealedIn self.old) ids.now }
+        ensures same { self.new ≡ self.old }
         ensures ids { IfOk result (λ list. ids_in list.items ≡ ids.now) }
-        ensures entries { IfOk result (λ list. entries_in list.items ≡ map (entries_of self.now) ids.now) }
+        ensures entries { IfOk result (λ list. entries_in list.items ≡ map (entries_of self.old) ids.now) }
         ensures writable { IfOk result (λ list. AreWritable list.items) }
     {
         let mut list = Vec::with_capacity(alloc, ids.len())?;
         for id in ids {
-            list.push(self.share_one(*id)?)?;
+            list.push(self.share_one(alloc, *id)?)?;
         }
         Ok(list)
     }

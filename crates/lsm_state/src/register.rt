@@ -137,7 +137,7 @@ impl<S: Store> TreeState<S> {
         }
         let latest = self.history.latest_version();
         let next = flushed_version(self.alloc, job, latest, number)?;
-        self.commit(next)?;
+        self.commit(next, None)?;
         let cleaned = self.clean_up(job.watermark());
         Ok(Registered {
             installed: true,

@@ -16,7 +16,7 @@ use std::collections::HashSet;
 
 impl<S: Store> TreeState<S> {
     /// While nothing is done to a tree its files stay what they are, and a crash leaves one of its versions.
-    pub(crate) fn is_upheld(&self)
+    pub fn is_upheld(&self)
         ensures { S.tells → Upholds (S.world self.now.store) (S.world self.now.store) self.now.core self.now.core }
     {
         crashes_leave_versions(&self.store);
@@ -61,7 +61,7 @@ impl<S: Store> TreeState<S> {
             version,
             seqno: self.seqno.get(),
         };
-        self.commit(next)?;
+        self.commit(next, None)?;
         if !self.clean_up(watermark) {
             return Err(Error::AfterCommit);
         }

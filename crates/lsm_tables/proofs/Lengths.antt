@@ -1,9 +1,11 @@
 -- How many bytes an image has.
-use Rattle.std.proofs.Common.{◌≡◌, ℕ, ◌+◌, List, [], ◌∷◌, ◌++◌, length, refl, ap, ◌∙◌, arith}
+use Rattle.std.proofs.Common.{◌≡◌, ℕ, ◌+◌, ◌≤◌, List, [], ◌∷◌, ◌++◌, length, take, drop, refl, sym, ap, ◌∙◌, arith}
+use Rattle.std.proofs.Math.Seq.{drop-append_seam, drop-length}
 use Rattle.std.specs.List.{flat_map}
-use Rattle.std.proofs.lemmas.List.{length-append}
+use Rattle.std.proofs.lemmas.List.{append-nil, length-append, take_all}
 use Rattle.std.proofs.lemmas.List.Concat.{flat_map-cons}
 use Rattle.std.proofs.lemmas.List.Sums.{sum_by-cons}
+use Rattle.lsm_below.specs.Keys.{Bytes}
 use Rattle.lsm_below.specs.Entries.{Entry}
 use Rattle.lsm_tables.specs.Image.{head, front, spelled, image, entry_bytes}
 use Rattle.lsm_below.specs.declared.value_type.ValueType.{ValueType}
@@ -40,3 +42,20 @@ length_image m es =
     let f = length_front m (length es) in
     let r = length_all es in
     a ∙ omega (arith, f, r)
+
+-- ---- a front that is put in the place of another
+
+pub with_other_front : (m c d n : ℕ) (body bytes new : Bytes) → bytes ≡ front m d ++ body → new ≡ front m c ++ drop 20 bytes → n ≡ length bytes → take n (new ++ drop (length new) bytes) ≡ front m c ++ body
+with_other_front m c d n body bytes new is put whole =
+    let cut : drop 20 bytes ≡ body = ap (drop 20) is ∙ ap (λ (i : ℕ). drop i (front m d ++ body)) (sym (length_front m d)) ∙ drop-append_seam (front m d) body in
+    let made : new ≡ front m c ++ body = put ∙ ap (λ (b : Bytes). front m c ++ b) cut in
+    let old = ap (λ (b : Bytes). length b) is in
+    let now = ap (λ (b : Bytes). length b) made in
+    let a = length-append (front m d) body in
+    let b = length-append (front m c) body in
+    let f = length_front m d in
+    let g = length_front m c in
+    let same : length new ≡ length bytes = omega arith in
+    let none : drop (length new) bytes ≡ [] = ap (λ (i : ℕ). drop i bytes) same ∙ drop-length bytes in
+    let fits : length new ≤ n = omega arith in
+    ap (λ (l : Bytes). take n (new ++ l)) none ∙ ap (take n) (append-nil new) ∙ take_all n new fits ∙ made

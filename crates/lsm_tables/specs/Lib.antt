@@ -6,3 +6,4 @@ pub mod Tables
 pub mod Cutting
 pub mod Parts
 pub mod Spellings
+pub mod OpenImages

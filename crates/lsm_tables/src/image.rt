@@ -6,11 +6,13 @@
 
 mod layout;
 mod limits;
+mod open;
 mod reading;
 mod writing;
 
 pub(crate) use layout::{FRONT_LEN, HEAD_LEN};
 pub(crate) use limits::may_stand_behind;
 pub use limits::{fits_image, is_writable};
+pub use open::OpenImage;
 pub use reading::{decode, no_image_begins_another};
 pub use writing::{encode, encode_parts};

@@ -18,7 +18,9 @@ mod table;
 mod table_error;
 
 pub use checksum::{Checksum, sums_of_parts};
-pub use image::{decode, encode, encode_parts, fits_image, is_writable, no_image_begins_another};
+pub use image::{
+    OpenImage, decode, encode, encode_parts, fits_image, is_writable, no_image_begins_another,
+};
 pub use multi_writer::{
     MultiWriter, cuts_are_runs, first_ends_cut, kept_is_writable, size_of_entry, split_table,
     write_tables,

@@ -10,8 +10,8 @@ pub use lsm_model::{
 };
 pub use lsm_pick::leveled_is_lawful;
 pub use lsm_state::{
-    compactions_are_deeds, compactions_keep_reads, flushes_are_deeds, flushes_keep_reads,
-    lists_are_steps, ranges_are_overlaid,
+    clears_keep_reads, compactions_are_deeds, compactions_keep_reads, flushes_are_deeds,
+    flushes_keep_reads, lists_are_steps, ranges_are_overlaid,
 };
 pub use lsm_store::runs_of_calls;
 pub use lsm_tables::{cuts_are_runs, no_image_begins_another, sums_of_parts};

@@ -6,18 +6,22 @@
 //! | `shared_tree` | the calls of a tree behind the lock |
 //! | `shared_ranges` | its reads of many keys |
 //! | `shared_flushes` | its flushes |
+//! | `shared_compactions` | its compactions |
 //! | `shared_counts` | what is counted of it |
 //! | `recorded_tree` | the calls of a tree with its journal, behind the lock |
 //! | `recorded_flushes` | its flushes |
+//! | `recorded_compactions` | its compactions |
 //! | `recorded_counts` | what is counted of it |
 //! | `laws` | theorems as the contracts of functions that do nothing |
 #![tactic(auto)]
 
 mod handle;
 pub mod laws;
+mod recorded_compactions;
 mod recorded_counts;
 mod recorded_flushes;
 mod recorded_tree;
+mod shared_compactions;
 mod shared_counts;
 mod shared_flushes;
 mod shared_ranges;
@@ -55,6 +59,7 @@ pub use lsm_below::share;
 pub use lsm_choices::Input;
 pub use lsm_choices::Kind;
 pub use lsm_choices::Why;
+pub use lsm_choices::any_missing;
 pub use lsm_choices::first_reason;
 pub use lsm_choices::last_reason;
 pub use lsm_choices::last_reason_by_ids;
@@ -93,6 +98,7 @@ pub use lsm_merges::MergedCompaction;
 pub use lsm_merges::OpenMerges;
 pub use lsm_merges::RunSource;
 pub use lsm_merges::chosen_inputs;
+pub use lsm_merges::create_compaction_stream;
 pub use lsm_merges::merge_runs;
 pub use lsm_model::Answer;
 pub use lsm_model::JournalEntry;
@@ -125,6 +131,7 @@ pub use lsm_pick::Major;
 pub use lsm_pick::OwnedBounds;
 pub use lsm_recorded::Pass;
 pub use lsm_recorded::Recorded;
+pub use lsm_runs::Compacted;
 pub use lsm_runs::Count;
 pub use lsm_runs::Counter;
 pub use lsm_runs::JobStep;

@@ -2,7 +2,7 @@
 ghost use Rattle.std.specs.Prelude.{◌≡◌, ◌⊎◌};
 ghost use Rattle.lsm_state.specs.Flushes.{Begins, WritesTables, spent};
 ghost use Rattle.lsm_state.specs.WholeFlushes.{FlushesActive};
-ghost use Rattle.lsm_recorded.specs.Flushing.{SpendsUnnoted, RegistersNoted, RefusesUnnoted, FlushesNoted, NotesActive};
+ghost use Rattle.lsm_recorded.specs.Flushing.{SpendsUnnoted, IsSpentFlush, RegistersNoted, RefusesUnnoted, FlushesNoted, NotesActive};
 ghost use Rattle.lsm_tree.specs.Shared.{OnSomeTree, OnSomeRecorded};
 
 use crate::handle::Handle;
@@ -54,7 +54,7 @@ impl<S: Store> Handle<Recorded<S>> {
         pass: &mut Pass,
         job: WrittenFlush,
     ) -> Result<Registered, Error>
-        ensures { OnSomeRecorded S (λ old new. SpendsUnnoted job result old new pass.old pass.new ⊎ RegistersNoted job result old new pass.old pass.new) }
+        ensures { OnSomeRecorded S (λ old new. SpendsUnnoted (IsSpentFlush job) result old new pass.old pass.new ⊎ RegistersNoted job result old new pass.old pass.new) }
     {
         let mut tree = self.shared.lock(rt);
         let tree = &mut *tree;

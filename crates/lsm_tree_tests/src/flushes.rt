@@ -237,7 +237,7 @@ fn replies(alloc: Global, steps: Result<Vec<Step>, AllocError>) -> Option<Vec<Ou
     let Ok(mut state) = open_state(alloc) else {
         return None;
     };
-    let outcomes = run(alloc, &mut state, &steps);
+    let outcomes = run(alloc, &mut state, &[], &steps);
     drop(state);
     (outcomes.len() == steps.len()).then_some(outcomes)
 }

@@ -1,6 +1,11 @@
-//! Tests of the tree above its parts: runs of steps, trees with a journal, trees that are shared, and their flushes.
+//! Tests of the tree above its parts: runs of steps, trees with a journal, trees that are shared, and their flushes
+//! and compactions.
 #![tactic(auto)]
 
+#[cfg(test)]
+mod compaction_steps;
+#[cfg(test)]
+mod compactions;
 #[cfg(test)]
 mod flushes;
 #[cfg(test)]

@@ -21,7 +21,7 @@ fn batch(alloc: Global, pairs: &[(&'static str, &'static str)]) -> Result<Step, 
 fn run_new(alloc: Global, steps: Vec<Step>) -> Vec<Outcome> {
     let outcomes = match open_state(alloc) {
         Ok(mut state) => {
-            let outcomes = run(alloc, &mut state, &steps);
+            let outcomes = run(alloc, &mut state, &[], &steps);
             drop(state);
             outcomes
         }

@@ -1,5 +1,5 @@
 // What is counted of a tree with its journal, and what is told of it.
-ghost use Rattle.std.specs.Prelude.{◌≡◌, ◌+◌, ◌++◌, [], length, slice_get, slice_index_or};
+ghost use Rattle.std.specs.Prelude.{◌≡◌, ◌↔◌, ℕ, ◌+◌, ◌++◌, [], true, length, slice_get, slice_index_or, IsTrue};
 ghost use Rattle.std.specs.Option.{is_some, option_map};
 ghost use Rattle.lsm_below.specs.Optimizes.{tables_of};
 ghost use Rattle.lsm_below.specs.Sums.{capped};
@@ -7,6 +7,7 @@ ghost use Rattle.lsm_tables.specs.Tables.{tombstones, weak_tombstones, reclaimab
 ghost use Rattle.lsm_memtable.specs.Memtables.{highest_of};
 ghost use Rattle.lsm_versions.specs.Levels.{bytes_of};
 ghost use Rattle.lsm_versions.specs.declared.version.TreeType.TheVariants.{Standard};
+ghost use Rattle.lsm_merges.specs.OpenMerges.{hides};
 ghost use Rattle.lsm_parts.specs.History.{named_size};
 ghost use Rattle.lsm_state.specs.Counts.{tables_now, persisted_of, unflushed_of, counted_now};
 
@@ -63,6 +64,13 @@ impl<S: Store> Recorded<S> {
         ensures { result ≡ is_some self.now.tree.core.lost }
     {
         self.core.is_uncertain()
+    }
+
+    /// Whether an open merge works on a table.
+    pub fn is_compacting(&self) -> bool
+        ensures { IsTrue result ↔ ((i : ℕ) × (hides self.now.tree.core.merges.underway i ≡ true)) }
+    {
+        self.core.is_compacting()
     }
 
     /// How many runs the first level of the latest version has.

@@ -1,19 +1,15 @@
 // The calls of a flush, and what they add to a journal.
-ghost use Rattle.std.specs.Prelude.{◌≡◌, ◌⊎◌, ◌+◌, ◌≤◌, List, IsSome, vec_len, vec_capacity};
-ghost use Rattle.lsm_tables.specs.Tables.{SeenTable};
-ghost use Rattle.lsm_versions.specs.Levels.{SeenVersion};
-ghost use Rattle.lsm_files.specs.Stored.{IsStored, Leaves};
+ghost use Rattle.std.specs.Prelude.{◌≡◌, ◌⊎◌, ◌+◌, ◌≤◌, IsSome, vec_len, vec_capacity};
 ghost use Rattle.lsm_state.specs.Commits.{Upholds};
 ghost use Rattle.lsm_state.specs.Flushes.{Begins, WritesTables, Registers, spent};
 ghost use Rattle.lsm_state.specs.FlushReads.{register_events};
 ghost use Rattle.lsm_state.specs.WholeFlushes.{FlushesActive};
 ghost use Rattle.lsm_recorded.specs.Passes.{Notes};
-ghost use Rattle.lsm_recorded.specs.Flushing.{mark_events, is_installed, SpendsUnnoted, RegistersNoted, RefusesUnnoted, FlushesNoted, NotesActive, KeepsRecorded};
+ghost use Rattle.lsm_recorded.specs.Flushing.{mark_events, is_installed, SpendsUnnoted, IsSpentFlush, RegistersNoted, RefusesUnnoted, FlushesNoted, NotesActive, KeepsRecorded};
 
 use crate::pass::{Pass, make_room, put_entry};
 use crate::recorded::Recorded;
 use lsm_below::{MemtableId, SeqNo};
-use lsm_files::crashes_leave_versions;
 use lsm_jobs::{FlushJob, MergedFlush, Registered, WrittenFlush};
 use lsm_model::{JournalEntry, reads_are_sound};
 use lsm_parts::Error;
@@ -167,13 +163,6 @@ impl<S: Store> Recorded<S> {
         self.core.abandon_flush(job);
     }
 
-    /// Of files to which nothing is done, a crash leaves what they hold.
-    fn stays_stored(&self)
-        ensures { S.tells → (versions : List SeenVersion) (written : List SeenTable) → IsStored (S.world self.now.tree.store) versions written → Leaves (S.world self.now.tree.store) (S.world self.now.tree.store) versions }
-    {
-        crashes_leave_versions(self.core.store());
-    }
-
     /// Installs the tables of a job, as `TreeState::register_tables`, and notes the mark, whatever is answered, and the
     /// install where there is one. The job is spent whatever is answered. The cost is that of the tree's call.
     ///
@@ -186,7 +175,7 @@ impl<S: Store> Recorded<S> {
         pass: &mut Pass,
         job: WrittenFlush,
     ) -> Result<Registered, Error>
-        ensures registers { SpendsUnnoted job result self.old self.new pass.old pass.new ⊎ RegistersNoted job result self.old self.new pass.old pass.new }
+        ensures registers { SpendsUnnoted (IsSpentFlush job) result self.old self.new pass.old pass.new ⊎ RegistersNoted job result self.old self.new pass.old pass.new }
         // What a crash leaves.
         ensures upholds { S.tells → Upholds (S.world self.old.tree.store) (S.world self.new.tree.store) self.old.tree.core self.new.tree.core }
         ensures no_call { IsSome self.old.tree.core.lost → self.new.tree.store ≡ self.old.tree.store }

@@ -30,6 +30,9 @@ fn counted<S: Store>(state: &TreeState<S>, what: Count) -> Option<u64>
         Count::HighestPersistedSeqno => state.get_highest_persisted_seqno(),
         Count::HighestMemtableSeqno => state.get_highest_memtable_seqno(),
         Count::HighestSeqno => state.get_highest_seqno(),
+        Count::Id => Some(state.id()),
+        Count::NextTableId => Some(state.next_table_id()),
+        Count::Moment => Some(state.moment()),
     }
 }
 

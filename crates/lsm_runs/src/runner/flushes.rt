@@ -1,15 +1,13 @@
 // The calls of a flush, as steps.
-ghost use Rattle.std.specs.Prelude.{◌≡◌, ◌∷◌, [], ℕ, Option, IfOk, OnErr};
+ghost use Rattle.std.specs.Prelude.{◌≡◌, ◌∷◌, [], ℕ, IfOk, OnErr};
 ghost use Rattle.lsm_model.specs.declared.journal.JournalEntry.TheVariants.{Mark, Install};
-ghost use Rattle.lsm_jobs.specs.Jobs.{SeenOpen};
 ghost use Rattle.lsm_state.specs.FlushReads.{flush_events};
-ghost use Rattle.lsm_runs.specs.Flushing.{TakesBegin, TakesRun, TakesTables, TakesRegister, TakesAbandon, TakesJob, TakesFlush, TakesFlushActive, TakesMoment, TakesInSlot, FlushesNoted, told_registered, told_flush, told_active};
-ghost use Rattle.lsm_runs.specs.Files.{StaysStored, JobLeavesFiles};
-ghost use Rattle.lsm_runs.specs.Slots.{beside, SameJobs, KeepsOpen, given_up, all_given_up};
+ghost use Rattle.lsm_runs.specs.Flushing.{TakesBegin, TakesRun, TakesTables, TakesRegister, TakesAbandon, TakesFlush, TakesFlushActive, TakesMoment, FlushesNoted, told_registered, told_flush, told_active};
+ghost use Rattle.lsm_runs.specs.Files.{StaysStored};
 
 use super::{one_entry, refused, silent};
-use crate::slots::{Job, Slots, make_room};
-use crate::{JobStep, Outcome, Reply, Slot};
+use crate::slots::Job;
+use crate::{Outcome, Reply};
 use lsm_below::{MemtableId, SeqNo};
 use lsm_jobs::Registered;
 use lsm_model::JournalEntry;
@@ -20,7 +18,7 @@ use std::alloc::{AllocError, Global};
 
 // ---- calls on a job
 
-fn begin_flush<S: Store>(
+pub(super) fn begin_flush<S: Store>(
     alloc: Global,
     state: &mut TreeState<S>,
     place: &mut Option<Job>,
@@ -41,7 +39,7 @@ fn begin_flush<S: Store>(
     }
 }
 
-fn run_flush<S: Store>(
+pub(super) fn run_flush<S: Store>(
     alloc: Global,
     state: &TreeState<S>,
     place: &mut Option<Job>,
@@ -68,7 +66,7 @@ fn run_flush<S: Store>(
     }
 }
 
-fn flush_to_tables<S: Store>(
+pub(super) fn flush_to_tables<S: Store>(
     alloc: Global,
     state: &mut TreeState<S>,
     place: &mut Option<Job>,
@@ -133,7 +131,7 @@ fn of_registered(entries: Vec<JournalEntry>, registered: Result<Registered, Erro
     }
 }
 
-fn register_tables<S: Store>(
+pub(super) fn register_tables<S: Store>(
     alloc: Global,
     state: &mut TreeState<S>,
     place: &mut Option<Job>,
@@ -158,7 +156,7 @@ fn register_tables<S: Store>(
     }
 }
 
-fn abandon_flush<S: Store>(
+pub(super) fn abandon_flush<S: Store>(
     alloc: Global,
     state: &mut TreeState<S>,
     place: &mut Option<Job>,
@@ -166,53 +164,17 @@ fn abandon_flush<S: Store>(
     ensures takes { TakesAbandon result.reply result.entries place.old place.new state.old.core state.new.core }
     ensures store { state.new.store ≡ state.old.store }
 {
-    match place.take() {
-        Some(job) => {
-            state.abandon_flush(job.into_flush());
-            silent(alloc, Reply::Done)
+    let job = match place.take() {
+        Some(Job::Begun(job)) => job,
+        Some(Job::Merged(merged)) => merged.into_job(),
+        Some(Job::Written(written)) => written.into_job(),
+        other => {
+            *place = other;
+            return silent(alloc, Reply::NoJob);
         }
-        None => silent(alloc, Reply::NoJob),
-    }
-}
-
-/// Does a call on a job.
-fn take_job<S: Store>(
-    alloc: Global,
-    state: &mut TreeState<S>,
-    place: &mut Option<Job>,
-    step: JobStep,
-) -> Result<Outcome, AllocError>
-    ensures ok { IfOk result (λ told. TakesJob step told.reply told.entries place.old place.new state.old.core state.new.core) }
-    ensures err { OnErr result ((state.new ≡ state.old) × (place.new ≡ place.old)) }
-    ensures files { S.tells → JobLeavesFiles S.world step state.old.store state.new.store state.old.core state.new.core }
-{
-    match step {
-        JobStep::BeginFlush => Ok(begin_flush(alloc, state, place)),
-        JobStep::RunFlush(watermark) => Ok(run_flush(alloc, state, place, watermark)),
-        JobStep::FlushToTables => Ok(flush_to_tables(alloc, state, place)),
-        JobStep::RegisterTables => register_tables(alloc, state, place),
-        JobStep::AbandonFlush => Ok(abandon_flush(alloc, state, place)),
-    }
-}
-
-/// Does a call on the job that waits in a slot.
-pub(super) fn at_slot<S: Store>(
-    alloc: Global,
-    state: &mut TreeState<S>,
-    slots: &mut Slots,
-    slot: Slot,
-    step: JobStep,
-) -> Result<Outcome, AllocError>
-    ensures ok { IfOk result (λ told. TakesInSlot slot step told.reply told.entries (beside state.old.core slots.old) (beside state.new.core slots.new)) }
-    ensures err { OnErr result (state.new ≡ state.old) }
-    ensures slots_err { OnErr result (SameJobs slots.old slots.new) }
-    ensures files { S.tells → JobLeavesFiles S.world step state.old.store state.new.store state.old.core state.new.core }
-{
-    make_room(slots, slot)?;
-    let Some(place) = slots.get_mut(&slot) else {
-        unreachable!()
     };
-    take_job(alloc, state, place, step)
+    state.abandon_flush(job);
+    silent(alloc, Reply::Done)
 }
 
 // ---- flushes in one call
@@ -316,28 +278,4 @@ pub(super) fn set_moment<S: Store>(alloc: Global, state: &mut TreeState<S>, mome
 {
     state.set_moment(moment);
     silent(alloc, Reply::Done)
-}
-
-// ---- the end of a run
-
-/// Gives up a job, if one waits.
-fn give_up<S: Store>(state: &mut TreeState<S>, place: Option<Job>)
-    ensures core { state.new.core ≡ given_up place state.old.core }
-    ensures store { state.new.store ≡ state.old.store }
-{
-    if let Some(job) = place {
-        state.abandon_flush(job.into_flush());
-    }
-}
-
-/// Gives up all jobs that wait.
-pub(super) fn give_up_all<S: Store>(state: &mut TreeState<S>, slots: Slots)
-    ensures core { state.new.core ≡ all_given_up slots.entries state.old.core }
-    // What was open before a run whose jobs wait here is so again.
-    ensures flush { (start : Option SeenOpen) → KeepsOpen start (beside state.old.core slots) → state.new.core.flush ≡ start }
-    ensures store { state.new.store ≡ state.old.store }
-{
-    for (_, place) in slots {
-        give_up(state, place);
-    }
 }

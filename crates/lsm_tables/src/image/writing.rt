@@ -1,5 +1,5 @@
 // Writing the content of a table's file.
-ghost use Rattle.std.specs.Prelude.{◌≡◌, ◌++◌, OnOk, IfOk};
+ghost use Rattle.std.specs.Prelude.{◌≡◌, ◌++◌, ◌≤◌, length, OnOk, IfOk};
 ghost use Rattle.lsm_tables.specs.Image.{Fits, IsTable, type_code, head, front, spelled, image};
 
 use super::layout::{
@@ -34,7 +34,7 @@ fn head_of(key_len: u16, seqno: SeqNo, value_type: ValueType, value_len: u32) ->
 }
 
 #[tactic(auto, unfolding(crate::specs::Image::front))]
-fn front_of(made_at: u64, count: u64) -> [u8; FRONT_LEN]
+pub(super) fn front_of(made_at: u64, count: u64) -> [u8; FRONT_LEN]
     ensures { result ≡ front made_at count }
 {
     let mut out = [0u8; FRONT_LEN];
@@ -44,9 +44,10 @@ fn front_of(made_at: u64, count: u64) -> [u8; FRONT_LEN]
     out
 }
 
-fn put_entry(out: &mut Vec<u8>, entry: &InternalValue) -> Result<(), AllocError>
+pub(super) fn put_entry(out: &mut Vec<u8>, entry: &InternalValue) -> Result<(), AllocError>
     requires { Fits entry.now }
-    ensures { OnOk result (out.new.items ≡ out.old.items ++ spelled entry.now) }
+    ensures spelled { OnOk result (out.new.items ≡ out.old.items ++ spelled entry.now) }
+    ensures grows { length out.old.items ≤ length out.new.items }
 {
     let head = head_of(
         entry.key.user_key.len() as u16,

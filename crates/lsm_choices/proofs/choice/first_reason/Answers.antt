@@ -4,7 +4,7 @@ use Rattle.lsm_choices.proofs.choice.first_reason.Goals as goal
 
 pub returns-clause-value : goal.returns-clause-value
 returns-clause-value c =
-    rw (c.first_that_holds-first.ensures, c.should_decline_compaction.ensures, c.in_ok-any_missing.ensures, c.has_no_level.ensures, c.in_ok-overlap_in_move.ensures, c.gap_in_merge.ensures, c.in_ok-faults.ensures.order, c.in_ok-faults.ensures.eviction, c.levels-levels.ensures)
+    rw (c.first_that_holds-first.ensures, c.should_decline_compaction.ensures, c.in_ok-any_missing.ensures.value, c.has_no_level.ensures, c.in_ok-overlap_in_move.ensures, c.gap_in_merge.ensures, c.in_ok-faults.ensures.order, c.in_ok-faults.ensures.eviction, c.levels-levels.ensures)
 
 pub returns-clause-allowed : goal.returns-clause-allowed
 returns-clause-allowed c = λ none merges. allowed_first c.args.kind c.args.ids.now.keys c.args.to c.args.hidden.now c.args.version.now.levels c.facts.ensures.is.seven (sym (returns-clause-value c) ∙ none) merges

@@ -1,8 +1,8 @@
 use Rattle.std.proofs.Common.{◌≡◌, None, IfOk, sym, ◌∙◌}
 use Rattle.lsm_shell.specs.Command.{command_of}
-use Rattle.lsm_shell.proofs.Commands.{asks_one, asks_two, asks_three, asks_four, asks_none}
+use Rattle.lsm_shell.proofs.Commands.{asks_one, asks_two, asks_three, asks_four, asks_five, asks_none}
 use Rattle.lsm_shell.proofs.Spelling.{IsSpelledBy-same, IsSpelledBy-if_ok}
-use Rattle.lsm_shell.proofs.command.parse.Goals.{After-parse_one, After-parse_two, After-parse_three, After-parse_four, In-None}
+use Rattle.lsm_shell.proofs.command.parse.Goals.{After-parse_one, After-parse_two, After-parse_three, After-parse_four, After-parse_five, In-None}
 use Rattle.lsm_shell.proofs.command.parse.Goals as goal
 
 one : (c : After-parse_one) → c.parse_one.result ≡ command_of c.args.line.now
@@ -25,6 +25,11 @@ four c =
     let words = rw c.in-Some-Four.field-0-is at c.in-Some-Four.ensures in
     rw (asks_four c.args.line.now c.in-Some-Four.verb.now c.in-Some-Four.low.now c.in-Some-Four.high.now c.in-Some-Four.last.now words) c.parse_four.ensures
 
+five : (c : After-parse_five) → c.parse_five.result ≡ command_of c.args.line.now
+five c =
+    let words = rw c.in-Some-Five.field-0-is at c.in-Some-Five.ensures in
+    c.parse_five.ensures ∙ sym (asks_five c.args.line.now c.in-Some-Five.verb.now c.in-Some-Five.plan.now c.in-Some-Five.limit.now c.in-Some-Five.ttl.now c.in-Some-Five.last.now words)
+
 none_asked : (c : In-None) → None ≡ command_of c.args.line.now
 none_asked c = sym (asks_none c.args.line.now c.in-None.ensures)
 
@@ -39,6 +44,9 @@ returns-in-Some-Three c = record { value = three c; spelled = IsSpelledBy-if_ok 
 
 pub returns-in-Some-Four : goal.returns-in-Some-Four
 returns-in-Some-Four c = record { value = four c; spelled = IsSpelledBy-if_ok c.args.line.now c.parse_four.result (four c) }
+
+pub returns-in-Some-Five : goal.returns-in-Some-Five
+returns-in-Some-Five c = record { value = five c; spelled = IsSpelledBy-same c.args.line.now c.parse_five.result (five c) }
 
 pub returns-in-None : goal.returns-in-None
 returns-in-None c = record { value = none_asked c; spelled = IsSpelledBy-same c.args.line.now None (none_asked c) }

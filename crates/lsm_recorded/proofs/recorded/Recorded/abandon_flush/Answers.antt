@@ -1,7 +1,7 @@
 use Rattle.std.proofs.Common.{subst}
 use Rattle.lsm_versions.specs.Levels.{placed_of}
 use Rattle.lsm_recorded.specs.Recorded.{Stays}
-use Rattle.lsm_recorded.proofs.FlushingLemmas.{silent_recorded, spent_counter}
+use Rattle.lsm_recorded.proofs.FlushingLemmas.{unnoted_recorded, spent_goes}
 use Rattle.lsm_recorded.proofs.recorded.Recorded.abandon_flush.Goals as goal
 
 pub invariant_of-self : goal.invariant_of-self
@@ -9,7 +9,7 @@ invariant_of-self g c =
     let i = c.self.inside in
     let old = i.core.core in
     let new = c.abandon_flush.new.self.core in
-    (silent_recorded (placed_of i.opened.levels) i.least i.marks c.reads_are_sound.ensures i.floor old new i.journal.items (c.flushes_keep_reads.ensures.silent old new c.abandon_flush.ensures.deeds) (spent_counter c.args.job.number old new c.abandon_flush.ensures.core) c.self.invariant).0
+    (unnoted_recorded (placed_of i.opened.levels) i.least i.marks c.reads_are_sound.ensures i.floor old new i.journal.items (c.flushes_keep_reads.ensures.silent old new c.abandon_flush.ensures.deeds) (spent_goes c.args.job.number old new c.abandon_flush.ensures.core) c.self.invariant).0
 
 pub returns-clause-views : goal.returns-clause-views
 returns-clause-views g c =
@@ -17,4 +17,4 @@ returns-clause-views g c =
     let old = i.core.core in
     let new = c.abandon_flush.new.self.core in
     subst (λ t. Stays t.tree.core new) c.self.view_is
-    (silent_recorded (placed_of i.opened.levels) i.least i.marks c.reads_are_sound.ensures i.floor old new i.journal.items (c.flushes_keep_reads.ensures.silent old new c.abandon_flush.ensures.deeds) (spent_counter c.args.job.number old new c.abandon_flush.ensures.core) c.self.invariant).1
+    (unnoted_recorded (placed_of i.opened.levels) i.least i.marks c.reads_are_sound.ensures i.floor old new i.journal.items (c.flushes_keep_reads.ensures.silent old new c.abandon_flush.ensures.deeds) (spent_goes c.args.job.number old new c.abandon_flush.ensures.core) c.self.invariant).1

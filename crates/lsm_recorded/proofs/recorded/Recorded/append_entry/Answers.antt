@@ -1,7 +1,6 @@
 use Rattle.std.proofs.Common.{◌++◌, ◌∷◌, [], Ok, inr, sym, subst, ap, ◌∙◌, length}
 use Rattle.lsm_below.specs.Entries.{plain}
 use Rattle.lsm_model.specs.declared.journal.JournalEntry.TheVariants.{Write}
-use Rattle.lsm_state.specs.Core.{Core}
 use Rattle.lsm_state.specs.Calls.{Appends}
 use Rattle.lsm_versions.specs.Levels.{placed_of}
 use Rattle.lsm_recorded.specs.Recorded.{StaysTo}
@@ -16,7 +15,7 @@ invariant_of-self-2 g c =
     let a = subst (λ x. Appends x (Ok c.in_ok-sizes.sizes) i.core.core new) (ap plain c.into_plain-entry.ensures ∙ plain-plain c.args.entry) c.in_ok-sizes.ensures.appends in
     let noted = c.in_ok-note.ensures.0 ∙ c.into_plain-entry.ensures in
     rw (c.put_entry.ensures.journal, c.in_ok-make_room.ensures.journal, noted)
-    (recorded_write (placed_of i.opened.levels) i.least c.reads_are_sound.ensures i.marks c.mark_write.new.marks i.floor i.core.core new i.journal.items e c.self.invariant (rw (← c.self.view_is) at (sym c.keeps_order.ensures.is ∙ c.if-not-keeps_order.false)) a.step (ap (λ (x : Core). x.seqno) a.core)
+    (recorded_write (placed_of i.opened.levels) i.least c.reads_are_sound.ensures i.marks c.mark_write.new.marks i.floor i.core.core new i.journal.items e c.self.invariant (rw (← c.self.view_is) at (sym c.keeps_order.ensures.is ∙ c.if-not-keeps_order.false)) a.step a.core
     (write_marks i.marks c.reserve_mark.new.marks c.mark_write.new.marks c.in_ok-note.note.entry e noted c.in_ok-reserve_mark.ensures.same c.mark_write.ensures.is))
 
 pub returns-clause-views : goal.returns-clause-views

@@ -5,7 +5,8 @@ use Rattle.lsm_state.proofs.memtables.Memtables.share.Given as goal
 
 abbrev pub invariant-loop-id : goal.invariant-loop-id
 invariant-loop-id l = record {
+  same : l.self ≡ l.initial.self;
   ids : ids_in l.list.items ≡ take l.id-index l.ids;
-  entries : entries_in l.list.items ≡ map (entries_of l.self) (take l.id-index l.ids);
+  entries : entries_in l.list.items ≡ map (entries_of l.initial.self) (take l.id-index l.ids);
   writable : AreWritable l.list.items;
 }

@@ -1,4 +1,4 @@
-use Rattle.std.proofs.Common.{◌≡◌, ◌<◌, ◌∷◌, [], List, ⊎_elim, None, Some, ap, sym, subst, ◌∙◌, refl, Ok, Err, OnOk}
+use Rattle.std.proofs.Common.{◌≡◌, ◌<◌, ◌∷◌, [], List, ⊎_elim, None, Some, ap, sym, subst, ◌∙◌, refl, Ok, Err}
 use Rattle.lsm_below.specs.declared.error.Error.TheVariants.{OutOfMemory, Store, CommitUnknown}
 use Rattle.lsm_versions.specs.Levels.{SeenVersion, all_of}
 use Rattle.lsm_files.specs.Stored.{AreOnDisk}

@@ -1,0 +1,4 @@
+mod DroppedRanges
+mod Telling
+mod Compacting
+mod KeptReads

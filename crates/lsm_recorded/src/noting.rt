@@ -1,0 +1,62 @@
+// What a call came to, appended to a journal and to a pass.
+ghost use Rattle.std.specs.Prelude.{◌≡◌, ◌+◌, ◌≤◌, IfOk, OnOk, fold, length, take, vec_len, vec_capacity};
+ghost use Rattle.lsm_model.specs.Journal.{floor_after};
+ghost use Rattle.lsm_recorded.specs.Passes.{Notes};
+
+use crate::pass::{make_room, put_entry};
+use lsm_below::SeqNo;
+use lsm_journal::copy_journal;
+use lsm_model::JournalEntry;
+use std::alloc::{AllocError, Global};
+
+/// Copies of entries for a pass, and room for them there and in a journal.
+pub(crate) fn make_copies(
+    alloc: Global,
+    journal: &mut Vec<JournalEntry>,
+    pass: &mut Vec<(u64, JournalEntry)>,
+    entries: &[JournalEntry],
+) -> Result<Vec<JournalEntry>, AllocError>
+    ensures copies { IfOk result (λ copies. copies.items ≡ entries.now) }
+    ensures journal { journal.new.items ≡ journal.old.items }
+    ensures pass { pass.new.items ≡ pass.old.items }
+    ensures journal_room { IfOk result (λ copies. vec_len journal.new + vec_len copies ≤ vec_capacity journal.new) }
+    ensures pass_room { IfOk result (λ copies. vec_len pass.new + vec_len copies ≤ vec_capacity pass.new) }
+{
+    let copies = copy_journal(alloc, entries)?;
+    make_room(journal, pass, copies.len())?;
+    Ok(copies)
+}
+
+/// The greatest sequence number of an install or a clear, also among these entries.
+fn floor_behind(floor: SeqNo, entries: &[JournalEntry]) -> SeqNo
+    ensures { result ≡ fold floor_after floor entries.now }
+{
+    let mut highest = floor;
+    for entry in entries {
+        if let JournalEntry::Install(number) | JournalEntry::Clear(number) = entry {
+            highest = highest.max(*number);
+        }
+    }
+    highest
+}
+
+/// Appends entries to a journal, and copies of them, of which there may be more, with their places to a pass. There is room.
+/// The floor follows each install.
+pub(crate) fn put_entries(
+    journal: &mut Vec<JournalEntry>,
+    pass: &mut Vec<(u64, JournalEntry)>,
+    floor: &mut SeqNo,
+    entries: Vec<JournalEntry>,
+    copies: Vec<JournalEntry>,
+)
+    requires front { entries.items ≡ take (length entries.items) copies.items }
+    requires journal_room { vec_len journal.old + vec_len copies ≤ vec_capacity journal.old }
+    requires pass_room { vec_len pass.old + vec_len copies ≤ vec_capacity pass.old }
+    ensures noted { Notes entries.items journal.old.items journal.new.items pass.old.items pass.new.items }
+    ensures floor { floor.new ≡ fold floor_after floor.old entries.items }
+{
+    *floor = floor_behind(*floor, &entries);
+    for (entry, copy) in entries.into_iter().zip(copies) {
+        put_entry(journal, pass, entry, copy);
+    }
+}

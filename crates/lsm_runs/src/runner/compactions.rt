@@ -1,0 +1,287 @@
+// The calls of a compaction, as steps.
+ghost use Rattle.std.specs.Prelude.{◌≡◌, IfOk, OnErr};
+ghost use Rattle.lsm_state.specs.WholeCompactions.{options_at};
+ghost use Rattle.lsm_noted.specs.Noted.{IsAnswerOf, noted_of};
+ghost use Rattle.lsm_runs.specs.Compacting.{strategies_of, reply_of, job_of, end_reply_of, TakesBeginCompaction, TakesRunCompaction, TakesFinish, TakesAbandonCompaction, DoesAnswer, CompactsFrom, TakesCompact, TakesMajor, TakesDropRange, TakesTableId, IsCompactingReply};
+ghost use Rattle.lsm_runs.specs.ReadSteps.{TakesSilent};
+ghost use Rattle.lsm_runs.specs.Files.{StaysStored};
+
+use super::{refused, silent};
+use crate::slots::Job;
+use crate::{Compacted, Outcome, Reply};
+use lsm_below::{SeqNo, UserKey};
+use lsm_journal::copy_bound;
+use lsm_noted::{
+    Chosen, ask, ask_with, begin_chosen, compact_chosen, finish_entries, finish_noting,
+};
+use lsm_parts::Error;
+use lsm_pick::{CompactionStrategy, DropRange, Major, OwnedBounds};
+use lsm_state::{Begun, Finished, Options, TreeState};
+use lsm_store::Store;
+use std::alloc::{AllocError, Global};
+use std::ops::Bound;
+
+// ---- replies
+
+/// What is replied of a compaction, and the job that waits then.
+fn of_begun(begun: Result<Begun, Error>) -> (Reply, Option<Job>)
+    ensures reply { result.0 ≡ reply_of begun }
+    ensures job { result.1 ≡ job_of begun }
+{
+    let compacted = match begun {
+        Ok(Begun::DidNothing) => Compacted::DidNothing,
+        Ok(Begun::Declined(why)) => Compacted::Declined(why),
+        Ok(Begun::Installed) => Compacted::Installed,
+        Ok(Begun::Job(job)) => {
+            return (
+                Reply::Compacted(Compacted::Waits),
+                Some(Job::Compaction(job)),
+            );
+        }
+        Err(error) => return (Reply::Refused(error), None),
+    };
+    (Reply::Compacted(compacted), None)
+}
+
+/// What is replied of the end of a merge.
+fn of_finished(finished: Result<Finished, Error>) -> Reply
+    ensures { result ≡ end_reply_of finished }
+{
+    match finished {
+        Ok(finished) => Reply::Finished(finished),
+        Err(error) => Reply::Refused(error),
+    }
+}
+
+// ---- strategies
+
+/// Asks a strategy in a box.
+fn ask_boxed<S: Store>(
+    alloc: Global,
+    state: &TreeState<S>,
+    strategy: &Box<dyn CompactionStrategy>,
+    watermark: SeqNo,
+) -> Result<Chosen, AllocError>
+    ensures answer { IfOk result (λ c. IsAnswerOf (may_choose strategy.now) (may_refuse strategy.now) state.now.core c.answer) }
+    ensures noted { IfOk result (λ c. c.entries.items ≡ noted_of c.answer watermark state.now.core) }
+{
+    ask(alloc, state, &**strategy, watermark)
+}
+
+// ---- calls on a job
+
+pub(super) fn begin_compaction<S: Store>(
+    alloc: Global,
+    state: &mut TreeState<S>,
+    place: &mut Option<Job>,
+    strategies: &[Box<dyn CompactionStrategy>],
+    at: usize,
+    options: Options,
+) -> Result<Outcome, AllocError>
+    ensures ok { IfOk result (λ told. TakesBeginCompaction (strategies_of (λ b. may_choose b) (λ b. may_refuse b) strategies.now) at options told.reply told.entries place.old place.new state.old.core state.new.core) }
+    ensures err { OnErr result ((state.new ≡ state.old) × (place.new ≡ place.old)) }
+    ensures stored { S.tells → StaysStored (S.world state.old.store) (S.world state.new.store) state.old.core state.new.core }
+{
+    if place.is_some() {
+        return Ok(silent(alloc, Reply::SlotInUse));
+    }
+    let Some(strategy) = strategies.get(at) else {
+        return Ok(silent(alloc, Reply::NoStrategy));
+    };
+    let chosen = ask_boxed(alloc, state, strategy, options.mvcc_gc_watermark)?;
+    let (begun, entries) = begin_chosen(state, chosen, options);
+    let (reply, job) = of_begun(begun);
+    *place = job;
+    Ok(Outcome { reply, entries })
+}
+
+pub(super) fn run_compaction<S: Store>(
+    alloc: Global,
+    state: &TreeState<S>,
+    place: &mut Option<Job>,
+) -> Outcome
+    ensures { TakesRunCompaction result.reply result.entries place.old place.new state.now.core state.now.core }
+{
+    let job = match place.take() {
+        Some(Job::Compaction(job)) => job,
+        other => {
+            *place = other;
+            return silent(alloc, Reply::NoJob);
+        }
+    };
+    match job.run() {
+        Ok(merged) => {
+            *place = Some(Job::Compacted(merged));
+            silent(alloc, Reply::Done)
+        }
+        Err((error, job)) => {
+            *place = Some(Job::Compaction(job));
+            refused(alloc, error)
+        }
+    }
+}
+
+pub(super) fn finish_compaction<S: Store>(
+    alloc: Global,
+    state: &mut TreeState<S>,
+    place: &mut Option<Job>,
+) -> Result<Outcome, AllocError>
+    ensures ok { IfOk result (λ told. TakesFinish told.reply told.entries place.old place.new state.old.core state.new.core) }
+    ensures err { OnErr result ((state.new ≡ state.old) × (place.new ≡ place.old)) }
+    ensures stored { S.tells → StaysStored (S.world state.old.store) (S.world state.new.store) state.old.core state.new.core }
+{
+    let entries = finish_entries(alloc, state.seqno().get())?;
+    let merged = match place.take() {
+        Some(Job::Compacted(merged)) => merged,
+        other => {
+            *place = other;
+            return Ok(silent(alloc, Reply::NoJob));
+        }
+    };
+    let (finished, entries) = finish_noting(state, merged, entries);
+    let reply = of_finished(finished);
+    Ok(Outcome { reply, entries })
+}
+
+pub(super) fn abandon_compaction<S: Store>(
+    alloc: Global,
+    state: &mut TreeState<S>,
+    place: &mut Option<Job>,
+) -> Outcome
+    ensures takes { TakesAbandonCompaction result.reply result.entries place.old place.new state.old.core state.new.core }
+    ensures store { state.new.store ≡ state.old.store }
+{
+    let job = match place.take() {
+        Some(Job::Compaction(job)) => job,
+        Some(Job::Compacted(merged)) => merged.into_job(),
+        other => {
+            *place = other;
+            return silent(alloc, Reply::NoJob);
+        }
+    };
+    state.abandon_compaction(job);
+    silent(alloc, Reply::Done)
+}
+
+// ---- compactions in one call
+
+/// Does what was chosen in one call.
+fn compact_noting<S: Store>(state: &mut TreeState<S>, chosen: Chosen, options: Options) -> Outcome
+    requires { chosen.entries.items ≡ noted_of chosen.answer options.mvcc_gc_watermark state.old.core }
+    ensures does { DoesAnswer chosen.answer options result.reply result.entries state.old.core state.new.core }
+    ensures stored { S.tells → StaysStored (S.world state.old.store) (S.world state.new.store) state.old.core state.new.core }
+{
+    let (done, entries) = compact_chosen(state, chosen, options);
+    let (reply, _) = of_begun(done);
+    Outcome { reply, entries }
+}
+
+pub(super) fn do_compaction<S: Store>(
+    alloc: Global,
+    state: &mut TreeState<S>,
+    strategies: &[Box<dyn CompactionStrategy>],
+    at: usize,
+    options: Options,
+) -> Result<Outcome, AllocError>
+    ensures ok { IfOk result (λ told. TakesCompact (strategies_of (λ b. may_choose b) (λ b. may_refuse b) strategies.now) at options told.reply told.entries state.old.core state.new.core) }
+    ensures err { OnErr result (state.new ≡ state.old) }
+    ensures stored { S.tells → StaysStored (S.world state.old.store) (S.world state.new.store) state.old.core state.new.core }
+{
+    let Some(strategy) = strategies.get(at) else {
+        return Ok(silent(alloc, Reply::NoStrategy));
+    };
+    let chosen = ask_boxed(alloc, state, strategy, options.mvcc_gc_watermark)?;
+    Ok(compact_noting(state, chosen, options))
+}
+
+/// A watermark, and the tree's moment.
+fn options_of<S: Store>(state: &TreeState<S>, watermark: SeqNo) -> Options
+    ensures { result ≡ options_at watermark state.now.core }
+{
+    Options {
+        mvcc_gc_watermark: watermark,
+        moment: state.moment(),
+    }
+}
+
+pub(super) fn compact<S: Store>(
+    alloc: Global,
+    state: &mut TreeState<S>,
+    strategies: &[Box<dyn CompactionStrategy>],
+    at: usize,
+    watermark: SeqNo,
+) -> Result<Outcome, AllocError>
+    ensures ok { IfOk result (λ told. TakesCompact (strategies_of (λ b. may_choose b) (λ b. may_refuse b) strategies.now) at (options_at watermark state.old.core) told.reply told.entries state.old.core state.new.core) }
+    ensures err { OnErr result (state.new ≡ state.old) }
+    ensures stored { S.tells → StaysStored (S.world state.old.store) (S.world state.new.store) state.old.core state.new.core }
+{
+    let options = options_of(state, watermark);
+    do_compaction(alloc, state, strategies, at, options)
+}
+
+/// Does what a strategy of a known type answers, in one call.
+fn compact_with<S: Store, C: CompactionStrategy>(
+    alloc: Global,
+    state: &mut TreeState<S>,
+    strategy: &C,
+    watermark: SeqNo,
+) -> Result<Outcome, AllocError>
+    ensures ok { IfOk result (λ told. CompactsFrom (C.may_choose strategy.now) (C.may_refuse strategy.now) (options_at watermark state.old.core) told.reply told.entries state.old.core state.new.core) }
+    ensures err { OnErr result (state.new ≡ state.old) }
+    ensures stored { S.tells → StaysStored (S.world state.old.store) (S.world state.new.store) state.old.core state.new.core }
+{
+    let options = options_of(state, watermark);
+    let chosen = ask_with(alloc, state, strategy, watermark)?;
+    Ok(compact_noting(state, chosen, options))
+}
+
+pub(super) fn major_compact<S: Store>(
+    alloc: Global,
+    state: &mut TreeState<S>,
+    target: u64,
+    watermark: SeqNo,
+) -> Result<Outcome, AllocError>
+    ensures ok { IfOk result (λ told. TakesMajor target watermark told.reply told.entries state.old.core state.new.core) }
+    ensures err { OnErr result (state.new ≡ state.old) }
+    ensures stored { S.tells → StaysStored (S.world state.old.store) (S.world state.new.store) state.old.core state.new.core }
+{
+    compact_with(alloc, state, &Major::new(target), watermark)
+}
+
+pub(super) fn drop_range<S: Store>(
+    alloc: Global,
+    state: &mut TreeState<S>,
+    low: &Bound<UserKey>,
+    high: &Bound<UserKey>,
+) -> Result<Outcome, AllocError>
+    ensures ok { IfOk result (λ told. TakesDropRange (record { start = low.now; end = high.now }) told.reply told.entries state.old.core state.new.core) }
+    ensures err { OnErr result (state.new ≡ state.old) }
+    ensures stored { S.tells → StaysStored (S.world state.old.store) (S.world state.new.store) state.old.core state.new.core }
+{
+    let bounds = OwnedBounds {
+        start: copy_bound(low)?,
+        end: copy_bound(high)?,
+    };
+    if !state.is_uncertain() && bounds.is_reversed() {
+        return Ok(silent(alloc, Reply::Compacted(Compacted::DidNothing)));
+    }
+    compact_with(alloc, state, &DropRange::new(bounds), 0)
+}
+
+// ---- tables
+
+pub(super) fn get_next_table_id<S: Store>(alloc: Global, state: &mut TreeState<S>) -> Outcome
+    ensures takes { TakesTableId result.reply result.entries state.old.core state.new.core }
+    ensures store { state.new.store ≡ state.old.store }
+{
+    match state.get_next_table_id() {
+        Ok(id) => silent(alloc, Reply::Number(id)),
+        Err(error) => refused(alloc, error),
+    }
+}
+
+pub(super) fn is_compacting<S: Store>(alloc: Global, state: &TreeState<S>) -> Outcome
+    ensures { TakesSilent (IsCompactingReply state.now.core) result.reply result.entries state.now.core state.now.core }
+{
+    silent(alloc, Reply::Truth(state.is_compacting()))
+}

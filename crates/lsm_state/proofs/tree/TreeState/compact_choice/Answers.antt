@@ -1,0 +1,10 @@
+use Rattle.lsm_state.proofs.Wholes.{choice_upholds}
+use Rattle.lsm_state.proofs.tree.TreeState.compact_choice.Goals as goal
+
+pub returns-clause-upholds : goal.returns-clause-upholds
+returns-clause-upholds g c tells =
+    let w = g.S.Store.world in
+    let old = c.args.self.now in
+    let mid = c.begin_choice-begun.new.self in
+    let new = c.follow.new.self in
+    choice_upholds (w old.store) (w mid.store) (w new.store) c.args.choice c.args.options c.begin_choice-begun.result c.follow.result old.core mid.core new.core c.begin_choice-begun.ensures.begins c.follow.ensures.follows (c.begin_choice-begun.ensures.upholds tells) (c.follow.ensures.upholds tells)

@@ -1,0 +1,150 @@
+// The calls of a compaction, of a tree with its journal behind the lock.
+ghost use Rattle.std.specs.Prelude.{◌≡◌, ◌⊎◌, ◌↔◌, ℕ, true, IsTrue};
+ghost use Rattle.lsm_merges.specs.OpenMerges.{hides};
+ghost use Rattle.lsm_state.specs.Compactions.{Spends};
+ghost use Rattle.lsm_state.specs.WholeCompactions.{options_at, only_memory, major_choice};
+ghost use Rattle.lsm_recorded.specs.Flushing.{SpendsUnnoted};
+ghost use Rattle.lsm_recorded.specs.Compacting.{BeginsRecorded, FinishesRecorded, CompactsRecorded, DropsRecorded};
+ghost use Rattle.lsm_tree.specs.Shared.{OnSomeTree, AtSomeTree, OnSomeRecorded};
+
+use crate::handle::Handle;
+use lsm_below::SeqNo;
+use lsm_merges::{CompactionJob, MergedCompaction};
+use lsm_parts::Error;
+use lsm_pick::{CompactionStrategy, OwnedBounds};
+use lsm_recorded::{Pass, Recorded};
+use lsm_state::{Begun, Finished, Options};
+use lsm_store::Store;
+use std::sync::Wait;
+
+/// A compaction in its parts, or in one call, as those of the same names of `Recorded`, on the tree as the lock finds it. What
+/// is done is appended to the pass: the mark, whatever a strategy answers, the ranges of a drop, and the install.
+impl<S: Store> Handle<Recorded<S>> {
+    /// Asks a strategy for a choice and does it, as `Recorded::begin_compaction`. The strategy is asked under the lock.
+    pub fn begin_compaction(
+        &self,
+        rt: &impl Wait,
+        pass: &mut Pass,
+        strategy: &dyn CompactionStrategy,
+        options: Options,
+    ) -> Result<Begun, Error>
+        ensures { OnSomeRecorded S (λ old new. BeginsRecorded (may_choose strategy.now) (may_refuse strategy.now) options result old new pass.old pass.new) }
+    {
+        let mut tree = self.shared.lock(rt);
+        let tree = &mut *tree;
+        tree.facts();
+        let told = tree.begin_compaction(pass, strategy, options);
+        tree.facts();
+        told
+    }
+
+    /// Ends a merge that was done, as `Recorded::finish_compaction`. The lock is held while its files are written.
+    pub fn finish_compaction(
+        &self,
+        rt: &impl Wait,
+        pass: &mut Pass,
+        merged: MergedCompaction,
+    ) -> Result<Finished, Error>
+        ensures { OnSomeRecorded S (λ old new. SpendsUnnoted (Spends merged.job) result old new pass.old pass.new ⊎ FinishesRecorded merged.job result old new pass.old pass.new) }
+    {
+        let mut tree = self.shared.lock(rt);
+        let tree = &mut *tree;
+        tree.facts();
+        let told = tree.finish_compaction(pass, merged);
+        tree.facts();
+        told
+    }
+
+    /// Gives up a merge, as `Recorded::abandon_compaction`.
+    pub fn abandon_compaction(&self, rt: &impl Wait, pass: &mut Pass, job: CompactionJob)
+        ensures spends { OnSomeTree (λ old new. Spends job old new) }
+        ensures pass { pass.new ≡ pass.old }
+    {
+        let mut tree = self.shared.lock(rt);
+        let tree = &mut *tree;
+        tree.facts();
+        tree.abandon_compaction(pass, job);
+        tree.facts();
+    }
+
+    /// Compacts as a strategy chooses, in one call, as `Recorded::do_compaction`. The lock is held throughout.
+    pub fn do_compaction(
+        &self,
+        rt: &impl Wait,
+        pass: &mut Pass,
+        strategy: &dyn CompactionStrategy,
+        options: Options,
+    ) -> Result<Begun, Error>
+        ensures { OnSomeRecorded S (λ old new. CompactsRecorded (may_choose strategy.now) (may_refuse strategy.now) options result old new pass.old pass.new) }
+    {
+        let mut tree = self.shared.lock(rt);
+        let tree = &mut *tree;
+        tree.facts();
+        let told = tree.do_compaction(pass, strategy, options);
+        tree.facts();
+        told
+    }
+
+    /// The same at a watermark and at the tree's moment, as `Recorded::compact`. The lock is held throughout.
+    pub fn compact(
+        &self,
+        rt: &impl Wait,
+        pass: &mut Pass,
+        strategy: &dyn CompactionStrategy,
+        watermark: SeqNo,
+    ) -> Result<Begun, Error>
+        ensures { OnSomeRecorded S (λ old new. CompactsRecorded (may_choose strategy.now) (may_refuse strategy.now) (options_at watermark old.tree.core) result old new pass.old pass.new) }
+    {
+        let mut tree = self.shared.lock(rt);
+        let tree = &mut *tree;
+        tree.facts();
+        let told = tree.compact(pass, strategy, watermark);
+        tree.facts();
+        told
+    }
+
+    /// Merges all tables into the last level, as `Recorded::major_compact`. The lock is held throughout.
+    pub fn major_compact(
+        &self,
+        rt: &impl Wait,
+        pass: &mut Pass,
+        target: u64,
+        watermark: SeqNo,
+    ) -> Result<Begun, Error>
+        ensures { OnSomeRecorded S (λ old new. CompactsRecorded (major_choice target) only_memory (options_at watermark old.tree.core) result old new pass.old pass.new) }
+    {
+        let mut tree = self.shared.lock(rt);
+        let tree = &mut *tree;
+        tree.facts();
+        let told = tree.major_compact(pass, target, watermark);
+        tree.facts();
+        told
+    }
+
+    /// Drops the tables that lie within bounds, as `Recorded::drop_range`.
+    pub fn drop_range(
+        &self,
+        rt: &impl Wait,
+        pass: &mut Pass,
+        bounds: OwnedBounds,
+    ) -> Result<Begun, Error>
+        ensures { OnSomeRecorded S (λ old new. DropsRecorded bounds result old new pass.old pass.new) }
+    {
+        let mut tree = self.shared.lock(rt);
+        let tree = &mut *tree;
+        tree.facts();
+        let told = tree.drop_range(pass, bounds);
+        tree.facts();
+        told
+    }
+
+    /// Whether an open merge works on a table, as `Recorded::is_compacting`.
+    pub fn is_compacting(&self, rt: &impl Wait) -> bool
+        ensures { AtSomeTree (λ c. IsTrue result ↔ ((i : ℕ) × (hides c.merges.underway i ≡ true))) }
+    {
+        let tree = self.shared.lock(rt);
+        let tree = &*tree;
+        tree.facts();
+        tree.is_compacting()
+    }
+}
