@@ -7,6 +7,7 @@
 //! | `merges` | merges outside a tree, and those that are open |
 //! | `versions` | next versions, and what a version tells of its tables |
 //! | `hidden_sets` | hidden tables |
+//! | `streams` | streams over chosen tables |
 //! | `samples` | holds no test: what the others make tables and versions by |
 #![tactic(auto)]
 
@@ -20,5 +21,7 @@ mod hidden_sets;
 mod merges;
 #[cfg(test)]
 mod samples;
+#[cfg(test)]
+mod streams;
 #[cfg(test)]
 mod versions;
