@@ -3,6 +3,7 @@ use Rattle.std.proofs.Common.{◌≡◌, ◌≢◌, ◌⊎◌, inl, inr, ⊎_eli
 use Rattle.std.specs.List.{AllByRecursion}
 use Rattle.lsm_below.specs.declared.error.Error.{Error}
 use Rattle.lsm_below.specs.declared.error.Error.TheVariants as error
+use Rattle.lsm_below.specs.Members.{IsIn, each_in}
 use Rattle.lsm_store.specs.World.{Image, World, LeavesOnly}
 use Rattle.lsm_store.specs.Synced.{IsBeside, KeepsOthers}
 use Rattle.lsm_store.specs.Moments.{weakened, same_or_not}
@@ -17,13 +18,13 @@ use Rattle.lsm_manifest.specs.Spelling.{IsVersionFile}
 use Rattle.lsm_manifest.specs.Versions.{named_levels, file_of}
 use Rattle.lsm_manifest.specs.Persist.{naming, IsOldOrNew, IsPersisted, IsUncertain, KeepsRest, Persists, MayHaveLeft, NamesFile}
 use Rattle.lsm_manifest.specs.Told.{Told, TellsPersist}
-use Rattle.lsm_files.specs.Stored.{IsWhole, AreOnDisk, IsStored, HoldsOneOf, Leaves}
+use Rattle.lsm_files.specs.Stored.{AreOnDisk, IsFileOf, IsWhole, IsNaming, IsStored, HoldsOneOf, Leaves}
 use Rattle.lsm_files.specs.Commits.{Stores}
-use Rattle.lsm_files.proofs.Images.{Untouched, stands, tables_in, held_beside, on_beside, whole_beside}
-use Rattle.lsm_files.proofs.Removals.{AreApart, is_file, file_untouched, version_spared}
+use Rattle.lsm_files.proofs.Images.{Untouched, stands, tables_in, held_beside, on_beside, naming_beside, whole_beside}
+use Rattle.lsm_files.proofs.Removals.{AreApart, is_file, file_not_older, file_not_refused, file_untouched, version_spared}
 
 -- the name is that of the version's file, or `current`
-abbrev is_either : ℕ → List ℕ → Type 0
+abbrev pub is_either : ℕ → List ℕ → Type 0
 is_either id n = (n ≡ version_name id) ⊎ (n ≡ current_name)
 
 clash_memory : ◌≡◌ {A = Error} error.OutOfMemory error.CommitUnknown → ⊥
@@ -34,6 +35,14 @@ clash_store e = cc e
 
 other_letters : get_or (codes "version") 0 0 ≡ get_or current_name 0 0 → ⊥
 other_letters e = omega arith
+
+-- neither is one that opening refuses
+module _ (apart : AreApart) (plain : kind_of current_name ≡ Other) (id : ℕ) (small : id < 2 ^ 64) where
+  pub either_not_refused : (n : List ℕ) → kind_of n ≡ Refused → is_either id n → ⊥
+  either_not_refused n bad = ⊎_elim (λ e. file_not_refused apart id small n bad e) (λ e. let kind = sym plain ∙ (ap kind_of (sym e) ∙ bad) in absurd (cc kind))
+
+  pub either_not_older : is_either id (codes "version") → ⊥
+  either_not_older = ⊎_elim (λ e. file_not_older apart id small e) (λ e. other_letters (ap (λ (l : List ℕ). get_or l 0 0) e))
 
 module _ (apart : AreApart) (no_table : (i : ℕ) → table_name i ≢ current_name) (plain : kind_of current_name ≡ Other) (old : World) (latest next : SeenVersion) (tables : List SeenTable) (small : next.id < 2 ^ 64) (runs : AreRuns next.levels)
     (stored : IsStored old (latest ∷ []) tables) (other : next.id ≢ latest.id) (on_disk : AreOnDisk old (all_of next.levels)) where
@@ -51,10 +60,10 @@ module _ (apart : AreApart) (no_table : (i : ℕ) → table_name i ≢ current_n
   latest_out = ⊎_elim (λ e. free_file.files.0 e) (λ e. apart.version_not_current latest.id e)
 
   refused_out : (n : List ℕ) → kind_of n ≡ Refused → is_either next.id n → ⊥
-  refused_out n bad = ⊎_elim (λ e. free_file.in_tables n bad e) (λ e. let kind = sym plain ∙ (ap kind_of (sym e) ∙ bad) in absurd (cc kind))
+  refused_out = either_not_refused apart plain next.id small
 
   older_out : is_either next.id (codes "version") → ⊥
-  older_out = ⊎_elim (λ e. free_file.no_version e) (λ e. other_letters (ap (λ (l : List ℕ). get_or l 0 0) e))
+  older_out = either_not_older apart plain next.id small
 
   out_file : (n : List ℕ) → (is_either next.id n → ⊥) → n ≢ version_name next.id
   out_file n out e = out (inl e)
@@ -76,7 +85,7 @@ module _ (apart : AreApart) (no_table : (i : ℕ) → table_name i ≢ current_n
       (λ named. (
         next,
         inr (inl refl),
-        stands image next small reads runs named.0 named.1 (tables_in (is_either next.id) old image has (all_of next.levels) on_disk (tables_out (all_of next.levels)))
+        stands image next (file_of next) small reads runs named.0 named.1 (tables_in (is_either next.id) old image has (all_of next.levels) on_disk (tables_out (all_of next.levels)))
             (record { no_version = stored.no_version _ (has (codes "version") older_out); in_tables = λ n bad. stored.in_tables n _ bad (has n (refused_out n bad)) }),
       )) is.named
     where
@@ -96,8 +105,14 @@ module _ (apart : AreApart) (no_table : (i : ℕ) → table_name i ≢ current_n
       still : (n : List ℕ) (c : Option (List ℕ)) → (is_either next.id n → ⊥) → new.may n c → old.may n c
       still n c out may = (rest.may n c (out_file n out) (out_current n out)).0 may
 
+      next_file : IsFileOf new next (file_of next)
+      next_file = record { reads = reads; on_disk = file }
+
+      next_named : (c : Option (List ℕ)) → c ≡ Some (naming next.id (file_of next)) → IsNaming new next c
+      next_named c is = record { bytes = file_of next; file = next_file; named = is }
+
       next_whole : IsWhole new next
-      next_whole = record { id = small; reads = reads; runs = runs; file = file; tables = on_beside (is_either next.id) old new still (all_of next.levels) on_disk (tables_out (all_of next.levels)) }
+      next_whole = record { id = small; bytes = file_of next; file = next_file; runs = runs; tables = on_beside (is_either next.id) old new still (all_of next.levels) on_disk (tables_out (all_of next.levels)) }
 
       latest_whole : IsWhole new latest
       latest_whole = whole_beside (is_either next.id) old new still latest stored.whole.0 latest_out (tables_out (all_of latest.levels))
@@ -107,16 +122,23 @@ module _ (apart : AreApart) (no_table : (i : ℕ) → table_name i ≢ current_n
 
       pub next_stored : ((c : Option (List ℕ)) → new.may current_name c → c ≡ Some (naming next.id (file_of next))) → IsStored new (next ∷ []) tables
       next_stored current = record {
-        current = λ c may. (next, inl refl, current c may);
+        current = λ c may. (next, inl refl, next_named c (current c may));
         whole = (next_whole, tt);
         written = unnamed_on;
         no_version = λ c may. stored.no_version c (still (codes "version") c older_out may);
         in_tables = λ n c bad may. stored.in_tables n c bad (still n c (refused_out n bad) may);
       }
 
+      latest_named : (c : Option (List ℕ)) → (v : SeenVersion) × IsIn v (latest ∷ []) × IsNaming old v c → (v : SeenVersion) × IsIn v (latest ∷ (next ∷ [])) × IsNaming new v c
+      latest_named c named = (
+        named.0,
+        ⊎_elim (λ e. inl e) (λ none. absurd none) named.1,
+        naming_beside (is_either next.id) old new still named.0 c named.2 (each_in (λ v. is_either next.id (version_name v.id) → ⊥) (latest ∷ []) named.0 (latest_out, tt) named.1),
+      )
+
       pub both_stored : ((c : Option (List ℕ)) → new.may current_name c → old.may current_name c ⊎ (c ≡ Some (naming next.id (file_of next)))) → IsStored new (latest ∷ (next ∷ [])) tables
       both_stored current = record {
-        current = λ c may. ⊎_elim (λ before. let named = stored.current c before in (named.0, ⊎_elim (λ e. inl e) (λ none. absurd none) named.1, named.2)) (λ e. (next, inr (inl refl), e)) (current c may);
+        current = λ c may. ⊎_elim (λ before. latest_named c (stored.current c before)) (λ e. (next, inr (inl refl), next_named c e)) (current c may);
         whole = (latest_whole, (next_whole, tt));
         written = unnamed_on;
         no_version = λ c may. stored.no_version c (still (codes "version") c older_out may);
@@ -128,7 +150,9 @@ module _ (apart : AreApart) (no_table : (i : ℕ) → table_name i ≢ current_n
     of_ok : (u : Unit {0}) → IsPersisted next.id (file_of next) old new → LeavesOnly old new (IsOldOrNew next.id (file_of next) old) → IsVersionFile (named_levels next.levels) (file_of next) → Stores latest next tables old new (Ok u)
     of_ok u is leaves reads = record {
       ok = next_stored is.rest reads (λ c may. (is.version c).0 may) (λ c may. (is.current c).0 may);
+      committed = record { file = next_file is.rest reads (λ c may. (is.version c).0 may); current = λ c may. (is.current c).0 may };
       unknown = λ e. absurd (cc e);
+      doubted = λ e. absurd (cc e);
       refused = tt;
       leaves = left_either new reads leaves;
     }
@@ -136,7 +160,9 @@ module _ (apart : AreApart) (no_table : (i : ℕ) → table_name i ≢ current_n
     of_unknown : (e : Error) → e ≡ error.CommitUnknown → IsUncertain next.id (file_of next) old new → LeavesOnly old new (IsOldOrNew next.id (file_of next) old) → IsVersionFile (named_levels next.levels) (file_of next) → Stores latest next tables old new (Err e)
     of_unknown e is_unknown is leaves reads = record {
       ok = tt;
+      committed = tt;
       unknown = λ _. both_stored is.rest reads (λ c may. (is.version c).0 may) (λ c may. (is.current c).0 may);
+      doubted = λ _. next_file is.rest reads (λ c may. (is.version c).0 may);
       refused = inl (ap Err is_unknown);
       leaves = left_either new reads leaves;
     }
@@ -146,7 +172,9 @@ module _ (apart : AreApart) (no_table : (i : ℕ) → table_name i ≢ current_n
         let both = version_spared apart old new next.id small keeps leaves (latest ∷ []) tables stored (λ same. other (sym same), tt) in
         record {
           ok = tt;
+          committed = tt;
           unknown = λ is. absurd (certain (err_is e is));
+          doubted = λ is. absurd (certain (err_is e is));
           refused = inr both;
           leaves = widened new both.1;
         }

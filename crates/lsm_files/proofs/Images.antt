@@ -2,7 +2,7 @@
 use Rattle.std.proofs.Common.{◌≡◌, ℕ, ◌<◌, ◌^◌, List, [], ◌∷◌, map, Option, Some, refl, subst, codes}
 use Rattle.std.specs.List.{AllByRecursion}
 use Rattle.std.proofs.lemmas.List.Concat.{flat_map-cons}
-use Rattle.lsm_below.specs.Each.{each_left, each_right, each_weaker, each_both}
+use Rattle.lsm_below.specs.Each.{each_append, each_left, each_right, each_weaker, each_both}
 use Rattle.lsm_below.specs.Members.{each_in}
 use Rattle.lsm_below.specs.Optimizes.{tables_of}
 use Rattle.lsm_store.specs.World.{Image, World, IsImage, LeavesOnly}
@@ -14,10 +14,10 @@ use Rattle.lsm_manifest.specs.declared.kinds.NameKind.TheVariants.{Refused}
 use Rattle.lsm_manifest.specs.Names.{current_name, version_name, table_name}
 use Rattle.lsm_manifest.specs.Kinds.{kind_of}
 use Rattle.lsm_manifest.specs.Spelling.{IsVersionFile}
-use Rattle.lsm_manifest.specs.Versions.{named_table, named_runs, named_levels, file_of}
+use Rattle.lsm_manifest.specs.Versions.{named_table, named_runs, named_levels}
 use Rattle.lsm_manifest.specs.Persist.{naming}
 use Rattle.lsm_manifest.specs.Standing.{Pairwise, IsTableAt, AreTablesAt, HasGoodNames, StandsFor}
-use Rattle.lsm_files.specs.Stored.{table_file, IsTableOnDisk, AreOnDisk, IsWhole, IsStored, HoldsOneOf, Leaves}
+use Rattle.lsm_files.specs.Stored.{table_file, IsTableOnDisk, AreOnDisk, IsFileOf, IsWhole, IsNaming, IsStored, HoldsOneOf, Leaves}
 
 -- ---- tables, run by run and level by level
 
@@ -27,6 +27,11 @@ each_list P [] h = tt
 each_list {A} P (l ∷ lists) h =
     let all = subst (λ (xs : List A). AllByRecursion P xs) (flat_map-cons (λ (x : List A). x) l lists) h in
     (each_left P l (tables_of lists) all, each_list P lists (each_right P l (tables_of lists) all))
+
+-- and what holds of each list's items holds of each item of the lists
+pub each_joined : {A : Type 0} (P : A → Type 0) (lists : List (List A)) → AllByRecursion (AllByRecursion P) lists → AllByRecursion P (tables_of lists)
+each_joined P [] h = tt
+each_joined P (l ∷ lists) h = each_append P l (tables_of lists) h.0 (each_joined P lists h.1)
 
 paired : {A B : Type 0} (R : A → B → Type 0) (f : B → A) (xs : List B) → AllByRecursion (λ x. R (f x) x) xs → Pairwise R (map f xs) xs
 paired R f [] h = tt
@@ -49,11 +54,11 @@ tables_at image levels h =
     (each_weaker (AllByRecursion (IsTableIn image)) (λ r. Pairwise (IsTableAt image) (map named_table r) r)
     (λ r of_run. paired (IsTableAt image) named_table r (each_weaker (IsTableIn image) (λ t. IsTableAt image (named_table t) t) (table_at image) r of_run)) l of_level)) levels runs)
 
--- the image stands for a version that it names, whose files are whole
-pub stands : (image : Image) (v : SeenVersion) → v.id < 2 ^ 64 → IsVersionFile (named_levels v.levels) (file_of v) → AreRuns v.levels → image current_name ≡ Some (naming v.id (file_of v)) → image (version_name v.id) ≡ Some (file_of v) → AllByRecursion (IsTableIn image) (all_of v.levels) → HasGoodNames image
+-- the image stands for a version that it names by the bytes of its file, whose tables are whole
+pub stands : (image : Image) (v : SeenVersion) (bytes : List ℕ) → v.id < 2 ^ 64 → IsVersionFile (named_levels v.levels) bytes → AreRuns v.levels → image current_name ≡ Some (naming v.id bytes) → image (version_name v.id) ≡ Some bytes → AllByRecursion (IsTableIn image) (all_of v.levels) → HasGoodNames image
     → StandsFor image v.id (named_levels v.levels) v.levels
-stands image v small reads runs current file tables names = record {
-  named = record { id_fits = small; bytes = file_of v; current = current; version = file; reads = reads };
+stands image v bytes small reads runs current file tables names = record {
+  named = record { id_fits = small; bytes = bytes; current = current; version = file; reads = reads };
   tables = tables_at image v.levels tables;
   runs = runs;
   names = names;
@@ -82,8 +87,9 @@ module _ (changed : List ℕ → Type 0) (old : World) where
     }
 
     -- a version that is whole and that `current` names is held
-    pub held_whole : (v : SeenVersion) → IsWhole old v → (changed (version_name v.id) → ⊥) → AllByRecursion (λ t. changed (table_name t.id) → ⊥) (all_of v.levels) → image current_name ≡ Some (naming v.id (file_of v)) → HasGoodNames image → StandsFor image v.id (named_levels v.levels) v.levels
-    held_whole v whole file tables current names = stands image v whole.id whole.reads whole.runs current (whole.file _ (has (version_name v.id) file)) (tables_in (all_of v.levels) whole.tables tables) names
+    held_whole : (v : SeenVersion) → IsWhole old v → (changed (version_name v.id) → ⊥) → AllByRecursion (λ t. changed (table_name t.id) → ⊥) (all_of v.levels) → IsNaming old v (image current_name) → HasGoodNames image → StandsFor image v.id (named_levels v.levels) v.levels
+    held_whole v whole file tables current names =
+        stands image v current.bytes whole.id current.file.reads whole.runs current.named (current.file.on_disk _ (has (version_name v.id) file)) (tables_in (all_of v.levels) whole.tables tables) names
 
     pub held_beside : (versions : List SeenVersion) (tables : List SeenTable) → IsStored old versions tables → Untouched changed versions tables → HoldsOneOf versions image
     held_beside versions tables stored free =
@@ -99,8 +105,14 @@ module _ (changed : List ℕ → Type 0) (old : World) where
     pub on_beside : (tables : List SeenTable) → AreOnDisk old tables → AllByRecursion (λ t. changed (table_name t.id) → ⊥) tables → AreOnDisk new tables
     on_beside tables on free = each_both (IsTableOnDisk old) (λ t. changed (table_name t.id) → ⊥) (IsTableOnDisk new) (λ t is out. record { id = is.id; reads = is.reads; file = λ c may. is.file c (keeps (table_name t.id) c out may) }) tables on free
 
+    file_beside : (v : SeenVersion) (bytes : List ℕ) → IsFileOf old v bytes → (changed (version_name v.id) → ⊥) → IsFileOf new v bytes
+    file_beside v bytes is free = record { reads = is.reads; on_disk = λ c may. is.on_disk c (keeps (version_name v.id) c free may) }
+
+    pub naming_beside : (v : SeenVersion) (c : Option (List ℕ)) → IsNaming old v c → (changed (version_name v.id) → ⊥) → IsNaming new v c
+    naming_beside v c is free = record { bytes = is.bytes; file = file_beside v is.bytes is.file free; named = is.named }
+
     pub whole_beside : (v : SeenVersion) → IsWhole old v → (changed (version_name v.id) → ⊥) → AllByRecursion (λ t. changed (table_name t.id) → ⊥) (all_of v.levels) → IsWhole new v
-    whole_beside v is file tables = record { id = is.id; reads = is.reads; runs = is.runs; file = λ c may. is.file c (keeps (version_name v.id) c file may); tables = on_beside (all_of v.levels) is.tables tables }
+    whole_beside v is file tables = record { id = is.id; bytes = is.bytes; file = file_beside v is.bytes is.file file; runs = is.runs; tables = on_beside (all_of v.levels) is.tables tables }
 
     wholes_beside : (versions : List SeenVersion) → AllByRecursion (IsWhole old) versions → AllByRecursion (λ v. changed (version_name v.id) → ⊥) versions → AllByRecursion (λ v. AllByRecursion (λ t. changed (table_name t.id) → ⊥) (all_of v.levels)) versions → AllByRecursion (IsWhole new) versions
     wholes_beside [] is files tables = tt
@@ -108,7 +120,9 @@ module _ (changed : List ℕ → Type 0) (old : World) where
 
     pub stored_beside : (versions : List SeenVersion) (tables : List SeenTable) → IsStored old versions tables → Untouched changed versions tables → IsStored new versions tables
     stored_beside versions tables stored free = record {
-      current = λ c may. stored.current c (keeps current_name c free.current may);
+      current = λ c may.
+          let named = stored.current c (keeps current_name c free.current may) in
+          (named.0, named.1, naming_beside named.0 c named.2 (each_in (λ u. changed (version_name u.id) → ⊥) versions named.0 free.files named.1));
       whole = wholes_beside versions stored.whole free.files free.named;
       written = on_beside tables stored.written free.unnamed;
       no_version = λ c may. stored.no_version c (keeps (codes "version") c free.no_version may);

@@ -6,3 +6,4 @@ pub mod NextFiles
 pub mod Tabled
 pub mod WrittenFiles
 pub mod Beside
+pub mod Opened

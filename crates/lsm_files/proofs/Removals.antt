@@ -14,7 +14,7 @@ use Rattle.lsm_tables.specs.Tables.{SeenTable}
 use Rattle.lsm_model.specs.Steps.{among}
 use Rattle.lsm_versions.specs.Levels.{SeenVersion, all_of}
 use Rattle.lsm_versions.specs.TableLaws.{or_none, among_append}
-use Rattle.lsm_manifest.specs.declared.kinds.NameKind.TheVariants.{VersionFile}
+use Rattle.lsm_manifest.specs.declared.kinds.NameKind.TheVariants.{VersionFile, Refused}
 use Rattle.lsm_manifest.specs.Names.{current_name, version_name, table_name}
 use Rattle.lsm_manifest.specs.Kinds.{kind_of}
 use Rattle.lsm_files.specs.Stored.{Keeps, IsWhole, IsStored, HoldsOneOf}
@@ -34,6 +34,13 @@ pub record AreApart : Type 0 where
 abbrev pub is_file : ℕ → List ℕ → Type 0
 is_file id n = n ≡ version_name id
 
+-- it is none that opening refuses
+pub file_not_older : AreApart → (id : ℕ) → id < 2 ^ 64 → is_file id (codes "version") → ⊥
+file_not_older apart id small e = apart.no_older id small (sym e)
+
+pub file_not_refused : AreApart → (id : ℕ) → id < 2 ^ 64 → (n : List ℕ) → kind_of n ≡ Refused → is_file id n → ⊥
+file_not_refused apart id small n refused e = let kind = sym (apart.version_kind id small) ∙ (ap kind_of (sym e) ∙ refused) in absurd (cc kind)
+
 tables_free : AreApart → (id : ℕ) (tables : List SeenTable) → AllByRecursion (λ t. is_file id (table_name t.id) → ⊥) tables
 tables_free apart id [] = tt
 tables_free apart id (t ∷ tables) = (apart.table_no_version t.id id, tables_free apart id tables)
@@ -48,8 +55,8 @@ file_untouched apart w id small versions tables stored other = record {
   files = each_both (IsWhole w) (λ v. v.id ≢ id) (λ v. is_file id (version_name v.id) → ⊥) (λ v whole differs e. differs (apart.versions v.id id whole.id small e)) versions stored.whole other;
   named = named_free apart id versions;
   unnamed = tables_free apart id tables;
-  no_version = λ e. apart.no_older id small (sym e);
-  in_tables = λ n refused e. let kind = sym (apart.version_kind id small) ∙ (ap kind_of (sym e) ∙ refused) in absurd (cc kind);
+  no_version = file_not_older apart id small;
+  in_tables = file_not_refused apart id small;
 }
 
 -- a call that changes the file of a version with another id

@@ -1,5 +1,5 @@
 -- What a commit makes of a tree's files, and what removals of files leave of them.
-use Rattle.std.specs.Prelude.{◌≡◌, ◌≢◌, ℕ, true, false, List, [], ◌∷◌, Result, OnOk, OnErr, IsErrOf, ◌⊎◌}
+use Rattle.std.specs.Prelude.{◌≡◌, ◌≢◌, ℕ, true, false, List, [], ◌∷◌, Option, Some, Result, OnOk, OnErr, IsErrOf, ◌⊎◌}
 use Rattle.std.specs.List.{AllByRecursion}
 use Rattle.lsm_below.specs.declared.error.Error.{Error}
 use Rattle.lsm_below.specs.declared.error.Error.TheVariants.{CommitUnknown}
@@ -7,14 +7,23 @@ use Rattle.lsm_store.specs.World.{World}
 use Rattle.lsm_tables.specs.Tables.{SeenTable}
 use Rattle.lsm_model.specs.Steps.{among}
 use Rattle.lsm_versions.specs.Levels.{SeenVersion, all_of}
-use Rattle.lsm_manifest.specs.Names.{table_name}
-use Rattle.lsm_files.specs.Stored.{IsStored, AreOnDisk, Leaves}
+use Rattle.lsm_manifest.specs.Names.{current_name, table_name}
+use Rattle.lsm_manifest.specs.Versions.{file_of}
+use Rattle.lsm_manifest.specs.Persist.{naming}
+use Rattle.lsm_files.specs.Stored.{IsFileOf, IsStored, AreOnDisk, Leaves}
 
--- after Ok the next version alone is stored, and where the outcome is unknown both are; a crash meanwhile leaves either of
--- them, and where the commit was refused without doubt only the old one
+-- the version's file is the one that this crate writes of it, and `current` names the version by it
+pub record IsCommitted (w : World) (v : SeenVersion) : Type 0 where
+  pub file : IsFileOf w v (file_of v)
+  pub current : (c : Option (List ℕ)) → w.may current_name c → c ≡ Some (naming v.id (file_of v))
+
+-- after Ok the next version alone is stored, under the file that this crate writes of it, and where the outcome is unknown both
+-- are; a crash meanwhile leaves either of them, and where the commit was refused without doubt only the old one
 pub record Stores (latest next : SeenVersion) (written : List SeenTable) (old new : World) (r : Result Unit Error) : Type 0 where
   pub ok : OnOk r (IsStored new (next ∷ []) written)
+  pub committed : OnOk r (IsCommitted new next)
   pub unknown : IsErrOf r CommitUnknown → IsStored new (latest ∷ (next ∷ [])) written
+  pub doubted : IsErrOf r CommitUnknown → IsFileOf new next (file_of next)
   pub refused : OnErr r (IsErrOf r CommitUnknown ⊎ (IsStored new (latest ∷ []) written × Leaves old new (latest ∷ [])))
   pub leaves : Leaves old new (latest ∷ (next ∷ []))
 

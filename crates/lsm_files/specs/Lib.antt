@@ -2,3 +2,4 @@ pub mod Stored
 pub mod Writing
 pub mod Contents
 pub mod Commits
+pub mod Opening

@@ -12,7 +12,7 @@ use Rattle.lsm_manifest.specs.declared.kinds.NameKind.TheVariants.{Refused}
 use Rattle.lsm_manifest.specs.Names.{current_name, version_name, table_name}
 use Rattle.lsm_manifest.specs.Kinds.{kind_of}
 use Rattle.lsm_manifest.specs.Spelling.{IsVersionFile}
-use Rattle.lsm_manifest.specs.Versions.{named_levels, file_of}
+use Rattle.lsm_manifest.specs.Versions.{named_levels}
 use Rattle.lsm_manifest.specs.Persist.{naming}
 use Rattle.lsm_manifest.specs.Standing.{StandsFor}
 
@@ -35,18 +35,29 @@ pub record IsTableOnDisk (w : World) (t : SeenTable) : Type 0 where
 abbrev pub AreOnDisk : World → List SeenTable → Type 0
 AreOnDisk w tables = AllByRecursion (IsTableOnDisk w) tables
 
+-- the file of a version is on the disk with these bytes, and reads as the version
+pub record IsFileOf (w : World) (v : SeenVersion) (bytes : List ℕ) : Type 0 where
+  pub reads : IsVersionFile (named_levels v.levels) bytes
+  pub on_disk : IsOnDisk w (version_name v.id) bytes
+
 -- the file of a version and those of its tables are on the disk, and read as the version
 pub record IsWhole (w : World) (v : SeenVersion) : Type 0 where
   pub id : v.id < 2 ^ 64
-  pub reads : IsVersionFile (named_levels v.levels) (file_of v)
+  pub bytes : List ℕ
+  pub file : IsFileOf w v bytes
   pub runs : AreRuns v.levels
-  pub file : IsOnDisk w (version_name v.id) (file_of v)
   pub tables : AreOnDisk w (all_of v.levels)
+
+-- a content of `current` that names the version by the bytes of its file
+pub record IsNaming (w : World) (v : SeenVersion) (c : Option (List ℕ)) : Type 0 where
+  pub bytes : List ℕ
+  pub file : IsFileOf w v bytes
+  pub named : c ≡ Some (naming v.id bytes)
 
 -- `current` names one of these versions, which are whole; these tables, which no version names yet, are on the disk; and no
 -- crash brings back a name that opening refuses
 pub record IsStored (w : World) (versions : List SeenVersion) (unnamed : List SeenTable) : Type 0 where
-  pub current : (c : Option (List ℕ)) → w.may current_name c → (v : SeenVersion) × IsIn v versions × (c ≡ Some (naming v.id (file_of v)))
+  pub current : (c : Option (List ℕ)) → w.may current_name c → (v : SeenVersion) × IsIn v versions × IsNaming w v c
   pub whole : AllByRecursion (IsWhole w) versions
   pub written : AreOnDisk w unnamed
   pub no_version : (c : Option (List ℕ)) → w.may (codes "version") c → c ≡ None

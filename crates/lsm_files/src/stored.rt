@@ -4,7 +4,9 @@ ghost use Rattle.lsm_tables.specs.Tables.{SeenTable};
 ghost use Rattle.lsm_versions.specs.Levels.{SeenVersion};
 ghost use Rattle.lsm_files.specs.Stored.{IsStored, AreAmong, Leaves};
 ghost use Rattle.lsm_files.specs.Contents.{FilesAreTables};
+ghost use Rattle.lsm_files.specs.Opening.{OpeningStores};
 
+use lsm_manifest::{named_files_stay, names_are_apart};
 use lsm_store::Store;
 
 /// While nothing is done a crash leaves one of the versions that are stored.
@@ -21,3 +23,11 @@ pub fn crashes_leave_either<S: Store>(old: &S, mid: &S, new: &S)
 pub fn files_are_tables<S: Store>(store: &S)
     ensures { FilesAreTables (S.world store.now) }
 {}
+
+/// Where what is read has one possible content each, as after a crash, the version that is opened is stored behind it.
+pub fn opening_stores<S: Store>(_: &S)
+    ensures { OpeningStores S S.world }
+{
+    names_are_apart();
+    named_files_stay();
+}

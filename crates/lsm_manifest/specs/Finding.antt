@@ -1,17 +1,20 @@
 -- What an image stands for: the tables that opening finds in it, and the map that they show.
-use Rattle.std.specs.Prelude.{◌≡◌, ℕ, ◌^◌, List, Option, None, IsSome, Result, Ok, Err, codes}
+use Rattle.std.specs.Prelude.{◌≡◌, ℕ, ◌≤◌, ◌^◌, false, List, Option, None, IsSome, Result, Ok, Err, codes}
+use Rattle.std.specs.List.{AllByRecursion}
 use Rattle.lsm_below.specs.declared.error.Error.{Error}
 use Rattle.lsm_below.specs.declared.error.Error.TheVariants as error
 use Rattle.lsm_below.specs.Keys.{Bytes}
-use Rattle.lsm_below.specs.Entries.{stack, IsOrdered, IsSingle}
+use Rattle.lsm_below.specs.Entries.{above, stack, IsOrdered, IsSingle}
 use Rattle.lsm_store.specs.World.{Image, World}
 use Rattle.lsm_model.specs.Journal.{Map}
 use Rattle.lsm_model.specs.Views.{held, view}
+use Rattle.lsm_model.specs.Beginnings.{Stands, shown_by}
 use Rattle.lsm_versions.specs.Levels.{Levels as SeenLevels, empty_levels, placed_of, tables_shown}
 use Rattle.lsm_manifest.specs.declared.opening.Opened.{Opened}
 use Rattle.lsm_manifest.specs.declared.kinds.NameKind.TheVariants.{Refused}
-use Rattle.lsm_manifest.specs.Names.{current_name}
-use Rattle.lsm_manifest.specs.Kinds.{kind_of}
+use Rattle.lsm_manifest.specs.Names.{current_name, version_name, table_name}
+use Rattle.lsm_manifest.specs.Kinds.{kind_of, is_orphan}
+use Rattle.lsm_manifest.specs.Spelling.{ids_of, IsLayout}
 use Rattle.lsm_manifest.specs.Recovery.{Levels, IsNamed}
 use Rattle.lsm_manifest.specs.Standing.{HasGoodNames, HasSmallNumbers, StandsFor}
 use Rattle.lsm_manifest.specs.Pinned.{IsFixed, IsPinned}
@@ -65,6 +68,12 @@ TellsFiles image r = image (codes "version") ≡ None → IsSome (image current_
 abbrev pub TellsNew : World → World → Result Opened Error → Type 0
 TellsNew old new r = old.gives (codes "version") ≡ None → old.gives current_name ≡ None → Told TellsOpen (OpensNew old new) r
 
+-- beside a version of these levels no orphan is `current`, its file, or one of its tables' files
+pub record SparesNamed (id : ℕ) (ls : Levels) : Type 0 where
+  pub current : is_orphan id (ids_of ls) current_name ≡ false
+  pub version : is_orphan id (ids_of ls) (version_name id) ≡ false
+  pub tables : AllByRecursion (λ l. AllByRecursion (λ r. AllByRecursion (λ t. is_orphan id (ids_of ls) (table_name t.id) ≡ false) r) l) ls
+
 -- ---- what follows: each the contract of a function in `finding.rt`
 
 -- opening finds one list of tables in an image
@@ -78,3 +87,15 @@ MapIsOne = (image : Image) (m n : Map) → StandsForMap image m → StandsForMap
 -- what is found is opened
 abbrev pub OpeningFinds : (S : Type 0) → (S → World) → Type 0
 OpeningFinds S world = (old new : S) (ts : SeenLevels) (r : Result Opened Error) → Finds (world old).gives ts → TellsFiles (world old).gives r → TellsNew (world old) (world new) r → OpensFound (world old).gives ts r
+
+-- what is found is numbered below 2^64
+abbrev pub FoundNumbersFit : Type 0
+FoundNumbersFit = (image : Image) (ts : SeenLevels) → Finds image ts → above (held (placed_of ts)) ≤ 2 ^ 64
+
+-- an image in which tables are found that stand, as the theory of crashes has it, stands for the map that they show
+abbrev pub FoundTablesShow : Type 0
+FoundTablesShow = (image : Image) (ts : SeenLevels) → Finds image ts → Stands (placed_of ts) → StandsForMap image (shown_by (placed_of ts))
+
+-- what a version names is no orphan beside it
+abbrev pub NamedFilesStay : Type 0
+NamedFilesStay = (id : ℕ) (ls : Levels) → IsLayout ls → SparesNamed id ls

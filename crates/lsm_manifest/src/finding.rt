@@ -1,6 +1,10 @@
 // What images stand for, and that it is opened: laws, each as the contract of a function.
-ghost use Rattle.lsm_manifest.specs.Finding.{FoundOnce, MapIsOne, OpeningFinds};
+ghost use Rattle.lsm_store.specs.World.{Image, Begins};
+ghost use Rattle.lsm_model.specs.Journal.{Map};
+ghost use Rattle.lsm_manifest.specs.Finding.{StandsForMap, IsSettled, FoundOnce, MapIsOne, OpeningFinds, FoundNumbersFit, FoundTablesShow, NamedFilesStay};
 
+use lsm_below::plain_numbers_are_read;
+use lsm_model::tables_show_above;
 use lsm_store::Store;
 use lsm_tables::no_image_begins_another;
 
@@ -18,4 +22,27 @@ pub fn opening_finds<S: Store>(_: &S)
     ensures { OpeningFinds S S.world }
 {
     no_image_begins_another();
+}
+
+/// Tables that are found are numbered below 2^64, and where they stand, as the theory of crashes has it, the image stands
+/// for the map that they show.
+pub fn found_tables_show()
+    ensures numbers { FoundNumbersFit }
+    ensures shows { FoundTablesShow }
+{
+    tables_show_above();
+}
+
+/// What a crash left is settled: a store that begins with an image which stands for a map has one possible content for each
+/// name that is read, and stands for that map.
+pub fn crashes_settle<S: Store>(store: &S)
+    ensures settled { (image : Image) (m : Map) → StandsForMap image m → Begins image (S.world store.now) → IsSettled (S.world store.now) }
+    ensures stands { (image : Image) (m : Map) → StandsForMap image m → Begins image (S.world store.now) → StandsForMap (S.world store.now).gives m }
+{}
+
+/// What a version names is no orphan beside it, so an opening leaves it.
+pub fn named_files_stay()
+    ensures { NamedFilesStay }
+{
+    plain_numbers_are_read();
 }

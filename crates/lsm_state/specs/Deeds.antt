@@ -4,11 +4,12 @@ use Rattle.lsm_below.specs.Entries.{Entry, IsOrdered}
 use Rattle.lsm_model.specs.Journal.{Event}
 use Rattle.lsm_model.specs.Views.{sources}
 use Rattle.lsm_model.specs.Steps.{Action, Marked, Maintained}
-use Rattle.lsm_model.specs.Beginnings.{Note, Saved, Done, Lost, Deeds}
+use Rattle.lsm_model.specs.Beginnings.{Note, Saved, Done, Lost, Deeds, IsFresh}
 use Rattle.lsm_model.specs.declared.journal.JournalEntry.TheVariants.{Mark}
-use Rattle.lsm_versions.specs.Levels.{placed_of}
+use Rattle.lsm_versions.specs.declared.config.Config.{Config}
+use Rattle.lsm_versions.specs.Levels.{SeenVersion, placed_of}
 use Rattle.lsm_state.specs.Held.{entries_of}
-use Rattle.lsm_state.specs.Core.{Core, state_of, latest_of}
+use Rattle.lsm_state.specs.Core.{Core, state_of, latest_of, opened_core}
 
 -- the theory's state after a journal, with notes
 abbrev pub saved_of : List Event → List Note → Core → Saved
@@ -35,3 +36,7 @@ AreDone w action events noted old new = (opened : List Entry) (journal : List Ev
 abbrev pub AreLost : ℕ → Action → List Event → Core → Core → Core → Type 0
 AreLost w action events old would new = (opened : List Entry) (journal : List Event) (notes : List Note) → HasOrder old
     → Deeds opened (saved_of journal notes old) (Done (Marked w) ∷ (Lost action (state_of (journal ++ Mark w ∷ events) would) ∷ [])) (saved_of (journal ++ Mark w ∷ []) notes new)
+
+-- a tree as it opens with a version is fresh on the version's tables, whatever its counters
+abbrev pub OpenedIsFresh : Type 0
+OpenedIsFresh = (config : Config) (version : SeenVersion) (next_table : ℕ) → IsFresh (placed_of version.levels) (saved_of [] [] (opened_core config version next_table))

@@ -7,6 +7,7 @@ use Rattle.lsm_below.specs.declared.error.Error.{Error}
 use Rattle.lsm_model.specs.Journal.{Map}
 use Rattle.lsm_model.specs.Views.{held, sources, view, view_at}
 use Rattle.lsm_model.specs.Steps.{IsOpened}
+use Rattle.lsm_model.specs.Beginnings.{Stands, shown_by}
 use Rattle.lsm_manifest.specs.declared.opening.Opened.{Opened}
 use Rattle.lsm_manifest.specs.declared.found.Found.{Found as FoundFiles}
 use Rattle.lsm_state.specs.declared.found.Found.{Found}
@@ -38,7 +39,9 @@ abbrev pub StartsFrom : Core → Type 0
 StartsFrom c = (opened : List Entry) (start : Map) → opened ≡ held (latest_of c).tables → IsOrdered (opened ∷ []) → ((k : Bytes) → IsSingle (stack k opened))
     → ((k : Bytes) → get start k ≡ view_at k (above opened) (opened ∷ [])) → IsOpened opened start (state_of [] c)
 
--- the tree shows this map, and the replay starts from it
+-- the tree shows this map, and the replay starts from it; its tables stand as the theory of crashes has it, and show it alone
 pub record StartsWith (m : Map) (c : Core) : Type 0 where
   pub shows : view (2 ^ 64) (sources (entries_of c.memtables) (latest_of c)) ≡ m
   pub starts : IsOpened (held (latest_of c).tables) m (state_of [] c)
+  pub stands : Stands (latest_of c).tables
+  pub alone : shown_by (latest_of c).tables ≡ m

@@ -1,7 +1,8 @@
-// What lists of reads, flushes, compactions and clears are to the theory, as contracts of functions.
+// What lists of reads, flushes, compactions, clears and openings are to the theory, as contracts of functions.
 ghost use Rattle.lsm_state.specs.Clearing.{ClearsKeepReads};
 ghost use Rattle.lsm_state.specs.CompactionDeeds.{CompactionsAreDeeds};
 ghost use Rattle.lsm_state.specs.CompactionReads.{CompactionsKeepReads};
+ghost use Rattle.lsm_state.specs.Deeds.{OpenedIsFresh};
 ghost use Rattle.lsm_state.specs.FlushLaws.{FlushesAreDeeds};
 ghost use Rattle.lsm_state.specs.FlushReads.{FlushesKeepReads};
 ghost use Rattle.lsm_state.specs.ListSteps.{ListsAreSteps};
@@ -72,3 +73,8 @@ pub fn clears_keep_reads()
 {
     reads_are_sound();
 }
+
+/// A tree that was opened is a fresh one of the theory of crashes, on the tables of its version, whatever its counters.
+pub fn opened_trees_are_fresh()
+    ensures { OpenedIsFresh }
+{}

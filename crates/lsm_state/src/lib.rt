@@ -21,7 +21,7 @@
 //! | `compactions` | a compaction in one call |
 //! | `clearing` | a clear, and how unflushed entries are forgotten |
 //! | `settling` | how a version takes the place of the latest one, outside a flush |
-//! | `laws` | what reads, flushes, compactions and clears are to the theory |
+//! | `laws` | what reads, flushes, compactions, clears and openings are to the theory |
 #![tactic(auto)]
 
 mod beginning;
@@ -51,7 +51,7 @@ pub use compactions::do_compaction;
 pub use found::Found;
 pub use laws::{
     clears_keep_reads, compactions_are_deeds, compactions_keep_reads, flushes_are_deeds,
-    flushes_keep_reads, lists_are_steps, ranges_are_overlaid,
+    flushes_keep_reads, lists_are_steps, opened_trees_are_fresh, ranges_are_overlaid,
 };
 pub use lsm_below::{MAX_KEY_LEN, MAX_VALUE_LEN};
 use memtables::Memtables;

@@ -10,13 +10,14 @@ ghost use Rattle.lsm_manifest.specs.Told.{Told, TellsOpen};
 ghost use Rattle.lsm_manifest.specs.Opening.{Opens, OpensAs, LeavesStanding, IsAbove};
 ghost use Rattle.lsm_manifest.specs.Looking.{Looks};
 ghost use Rattle.lsm_manifest.specs.Finding.{StandsForMap, RefusesFound, IsSettled};
-ghost use Rattle.lsm_state.specs.Core.{opened_core};
+ghost use Rattle.lsm_files.specs.Stored.{IsStored};
+ghost use Rattle.lsm_state.specs.Core.{versions_left, written_of, opened_core};
 ghost use Rattle.lsm_state.specs.Opened.{files_told, store_left, files_found, store_held, StartsFrom, StartsWith};
 
 use crate::{Found, TreeState};
 use lsm_below::{Error, TableId};
-use lsm_manifest::{look_for_files, opening_finds};
-use lsm_model::{opening_starts, tables_show_above};
+use lsm_manifest::{found_tables_show, images_stand_once, look_for_files, opening_finds};
+use lsm_model::opening_starts;
 use lsm_parts::{Config, Version};
 use lsm_store::Store;
 use std::alloc::Global;
@@ -40,6 +41,8 @@ impl<S: Store> TreeState<S> {
         ensures refuses { S.tells → (m : Map) → StandsForMap (S.world store).gives m → IfErr result (λ e. RefusesFound (S.world store).gives e.0) }
         // Where what is read has one possible content each, every image meanwhile stands for the same map.
         ensures stands_for { S.tells → IsSettled (S.world store) → (m : Map) → StandsForMap (S.world store).gives m → LeavesOnly (S.world store) (S.world (store_left result)) (λ image. StandsForMap image m) }
+        // The files of the tree are then stored.
+        ensures stored { S.tells → IsSettled (S.world store) → IfOk result (λ t. IsStored (S.world t.store) (versions_left t.core) (written_of t.core)) }
         // What is opened, or the first thing that is wrong with the files; and what a crash in it may leave.
         ensures opens { S.tells → Told TellsOpen (Opens (S.world store) (S.world (store_left result))) (files_told result) }
         ensures leaves { S.tells → LeavesStanding (S.world store) (S.world (store_left result)) }
@@ -53,7 +56,8 @@ impl<S: Store> TreeState<S> {
     {
         opening_finds(&store);
         opening_starts();
-        tables_show_above();
+        found_tables_show();
+        images_stand_once();
         let found = TreeState::look(alloc, store)?;
         found.version().facts();
         found.open(config)

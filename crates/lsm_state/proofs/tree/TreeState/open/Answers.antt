@@ -22,7 +22,7 @@ returns-clause-shows g c tells m stands =
     let v = c.in_ok-found.found.files.opened.version in
     let is = subst (λ (u : SeenVersion). IsVersion u.levels) c.version.ensures c.facts.ensures.is in
     let laid = subst (λ (u : SeenVersion). IsLaidOut (placed_of u.levels)) c.version.ensures c.facts.ensures.laid in
-    starts_of c.opening_starts.ensures c.tables_show_above.ensures c.args.config v c.in_ok-found.found.files.opened.next_table_id (w c.args.store).gives m stands r c.open.ensures.core found is laid c.in_ok-found.ensures.small
+    starts_of c.opening_starts.ensures c.found_tables_show.ensures.shows c.images_stand_once.ensures.map c.args.config v c.in_ok-found.found.files.opened.next_table_id (w c.args.store).gives m stands r c.open.ensures.core found is laid
 
 pub returns-clause-refuses : goal.returns-clause-refuses
 returns-clause-refuses g c tells m stands =
@@ -49,3 +49,6 @@ returns-in_err-found-clause-stands_for g c tells settled m stands =
     let p = err_from_is_err_and c.from_residual.result c.from_residual.ensures.1 in
     let leaves = c.in_err-found.ensures.leaves tells in
     rw (p.1, p.2) (stands_then (w c.args.store) (w c.in_err-found.field-0.0.1) m settled stands leaves.stands leaves.new_moment)
+
+pub returns-clause-stored : goal.returns-clause-stored
+returns-clause-stored g c tells settled = c.open.ensures.stored tells c.args.store (c.in_ok-found.ensures.found tells) settled
