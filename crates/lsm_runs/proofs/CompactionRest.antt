@@ -75,7 +75,7 @@ IsOneOf e = ((e ≡ OutOfMemory) ⊎ ((e ≡ Store) ⊎ (e ≡ CommitUnknown))) 
 installed_work : (v : SeenVersion) (w : ℕ) (whole : Bool) (old new : Core) → IsInstalled v w whole old new → KeepsOpenWork old new
 installed_work v w whole old new i = kept_by old _ new i.rest (refl, refl)
 
-same_or_counted : (old new : Core) → (new ≡ old) ⊎ (new ≡ counted old) → KeepsOpenWork old new
+pub same_or_counted : (old new : Core) → (new ≡ old) ⊎ (new ≡ counted old) → KeepsOpenWork old new
 same_or_counted old new (inl e) = kept_by old old new e (refl, refl)
 same_or_counted old new (inr e) = kept_by old (counted old) new e (refl, refl)
 

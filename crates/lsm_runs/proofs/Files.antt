@@ -1,5 +1,5 @@
 -- What steps leave of a tree's files.
-use Rattle.std.proofs.Common.{◌≡◌, ◌⊎◌, inl, inr, ℕ, Bool, true, false, cond, ◌==◌, List, [], Option, Some, None, Ok, refl, sym, ap, subst}
+use Rattle.std.proofs.Common.{◌≡◌, ◌⊎◌, ⊎_elim, inl, inr, ℕ, ◌++◌, Bool, true, false, cond, ◌==◌, List, [], Option, Some, None, Ok, refl, sym, ap, subst}
 use Rattle.lsm_below.specs.Entries.{Entry}
 use Rattle.lsm_below.specs.Keys.{Bytes}
 use Rattle.lsm_model.specs.Journal.{Event}
@@ -8,24 +8,31 @@ use Rattle.lsm_model.specs.declared.question.Question.{Question}
 use Rattle.lsm_iter.specs.Guards.{Pair}
 use Rattle.lsm_jobs.specs.Jobs.{SeenJob, SeenOpen}
 use Rattle.lsm_merges.specs.Merges.{SeenCompaction}
-use Rattle.lsm_store.specs.World.{World}
-use Rattle.lsm_files.specs.Stored.{IsStored}
+use Rattle.lsm_below.specs.Members.{IsIn}
+use Rattle.lsm_store.specs.World.{Image, World}
+use Rattle.lsm_versions.specs.Levels.{SeenVersion}
+use Rattle.lsm_files.specs.Stored.{IsStored, HoldsOneOf, Leaves}
 use Rattle.lsm_state.specs.Core.{Core, versions_left, written_by, written_of}
 use Rattle.lsm_state.specs.Calls.{Rotates}
+use Rattle.lsm_state.specs.Commits.{Upholds}
 use Rattle.lsm_state.specs.Flushes.{Begins, spent_in}
 use Rattle.lsm_state.specs.Compactions.{Spends}
+use Rattle.lsm_state.specs.Clearing.{forgotten}
 use Rattle.lsm_runs.specs.declared.slots.Job.{Job}
 use Rattle.lsm_runs.specs.declared.steps.Counter.{Counter}
 use Rattle.lsm_runs.specs.declared.steps.Counter.TheVariants.{Seqno, Visible}
 use Rattle.lsm_runs.specs.declared.steps.JobStep.{JobStep}
 use Rattle.lsm_runs.specs.declared.steps.JobStep.TheVariants.{BeginFlush, RunFlush, FlushToTables, RegisterTables, AbandonFlush, BeginCompaction, RunCompaction, FinishCompaction, AbandonCompaction}
 use Rattle.lsm_runs.specs.declared.steps.Step.{Step}
-use Rattle.lsm_runs.specs.declared.steps.Step.TheVariants.{Insert, Remove, RemoveWeak, AppendEntry, Write, Get, GetInternalEntry, ContainsKey, SizeOf, Range, Iter, Prefix, Len, IsEmpty, FirstKeyValue, LastKeyValue, RotateMemtable, Next, Set, FetchMax, AtSlot, Flush, FlushActiveMemtable, Compact, DoCompaction, MajorCompact, DropRange, GetNextTableId, SetMoment, Count as CountOf, IsUncertain, IsCompacting}
+use Rattle.lsm_runs.specs.declared.steps.Step.TheVariants.{Insert, Remove, RemoveWeak, AppendEntry, Write, Get, GetInternalEntry, ContainsKey, SizeOf, Range, Iter, Prefix, Len, IsEmpty, FirstKeyValue, LastKeyValue, RotateMemtable, Next, Set, FetchMax, AtSlot, Flush, FlushActiveMemtable, Compact, DoCompaction, MajorCompact, DropRange, Clear, ClearActiveMemtable, GetNextTableId, SetMoment, Count as CountOf, IsUncertain, IsCompacting}
 use Rattle.lsm_runs.specs.declared.steps.Reply.{Reply}
 use Rattle.lsm_runs.specs.declared.steps.Reply.TheVariants.{Value, Entry as EntryOf, Pairs, Sizes, Number, Sealed, Done, Begun, NoJob, SlotInUse, Refused}
 use Rattle.lsm_runs.specs.Files.{StaysStored, JobLeavesFiles, LeavesFiles}
+use Rattle.lsm_runs.proofs.Clearing.{forgets_either}
+use Rattle.lsm_runs.proofs.Members.{in_either, in_first}
 use Rattle.lsm_runs.specs.Flushing.{TakesBegin, TakesRun, TakesAbandon, TakesMoment}
 use Rattle.lsm_runs.specs.Compacting.{Strategies, TakesRunCompaction, TakesAbandonCompaction, TakesTableId}
+use Rattle.lsm_runs.specs.Clearing.{TakesForget}
 use Rattle.lsm_runs.specs.JobSteps.{TakesJob}
 use Rattle.lsm_runs.specs.ReadSteps.{TakesGet, TakesGetEntry, TakesPairs}
 use Rattle.lsm_runs.specs.Runs.{Takes, TakesAlone, TakesEntry, TakesBatch, TakesRotate, TakesNext, TakesCounter, with_counter}
@@ -44,9 +51,9 @@ unfolding Needs
 rotated old None new r w h = rw r.1 h
 rotated old (Some id) new r w h = rw r.2 h
 
-pub rotated_stored : (w w' : World) (old mid new : Core) (id : Option ℕ) → Rotates old id mid → StaysStored w w' mid new → StaysStored w w' old new
-unfolding Needs
-rotated_stored w w' old mid new id r s h = s (rotated old id mid r w h)
+pub rotated_upheld : (w w' : World) (old mid new : Core) (id : Option ℕ) → Rotates old id mid → Upholds w w' mid new → Upholds w w' old new
+rotated_upheld w w' old mid new None r u = subst (λ c. Upholds w w' c new) r.1 u
+rotated_upheld w w' old mid new (Some id) r u = subst (λ c. Upholds w w' c new) r.2 u
 
 -- ---- calls on jobs
 
@@ -160,62 +167,87 @@ unfolding Needs
 moment_needs n Done events old new t w h = rw t.1 h
 moment_needs n reply events old new t w h = absurd t
 
+-- what isn't flushed stands in no file
+forget_needs : (reply : Reply) (events : List Event) (old new : Core) → TakesForget reply events old new → Needs old new
+unfolding Needs
+forget_needs reply events old new t w h = go (forgets_either reply events old new t)
+  where
+    go : (new ≡ old) ⊎ (new ≡ forgotten old) → IsStored w (versions_left new) (written_of new)
+    go (inl is) = rw is h
+    go (inr is) = rw is h
+
 -- ---- all steps
+
+-- what stood before stands before or after
+in_both : (v : SeenVersion) (xs ys : List SeenVersion) → IsIn v (xs ++ xs) → IsIn v (xs ++ ys)
+in_both v xs ys i = ⊎_elim (λ h. in_first v xs ys h) (λ h. in_first v xs ys h) (in_either v xs xs i)
 
 module _ {F : Type 0} (world : F → World) (was is : F) where
   -- where the store stays
-  kept : (old new : Core) → Needs old new → is ≡ was → StaysStored (world was) (world is) old new
+  kept : (old new : Core) → Upholds (world was) (world was) old old → Needs old new → is ≡ was → Upholds (world was) (world is) old new
   unfolding Needs
-  kept old new n e = rw e (n (world was))
+  kept old new up n e = rw e (λ h. (n (world was) h, more (up h).1))
+    where
+      among : (image : Image) → HoldsOneOf (versions_left old ++ versions_left old) image → HoldsOneOf (versions_left old ++ versions_left new) image
+      among image h = (h.0, in_both h.0 (versions_left old) (versions_left new) h.1, h.2)
 
-  job_stored : (strategies : Strategies) (step : JobStep) (reply : Reply) (events : List Event) (before after : Option Job) (old new : Core) → TakesJob strategies step reply events before after old new → JobLeavesFiles world step was is old new → StaysStored (world was) (world is) old new
-  job_stored strategies BeginFlush reply events before after old new t l = kept old new (begin_needs reply events before after old new t) l
-  job_stored strategies (RunFlush n) reply events before after old new t l = kept old new (run_needs n reply events before after old new t) l
-  job_stored strategies FlushToTables reply events before after old new t l = l
-  job_stored strategies RegisterTables reply events before after old new t l = l
-  job_stored strategies AbandonFlush reply events before after old new t l = kept old new (abandon_needs reply events before after old new t) l
-  job_stored strategies (BeginCompaction at o) reply events before after old new t l = l
-  job_stored strategies RunCompaction reply events before after old new t l = kept old new (run_compaction_needs reply events before after old new t) l
-  job_stored strategies FinishCompaction reply events before after old new t l = l
-  job_stored strategies AbandonCompaction reply events before after old new t l = kept old new (given_needs reply events before after old new t) l
+      more : Leaves (world was) (world was) (versions_left old ++ versions_left old) → Leaves (world was) (world was) (versions_left old ++ versions_left new)
+      more l = record {
+        later = l.later;
+        each = λ image since. among image (l.each image since);
+        before = λ t image low since. ⊎_elim (λ s. inl s) (λ h. inr (among image h)) (l.before t image low since);
+      }
 
-  alone_stored : (strategies : Strategies) (x : Step) (reply : Reply) (events : List Event) (old new : Core) → TakesAlone strategies x reply events old new → LeavesFiles world x was is old new → StaysStored (world was) (world is) old new
-  alone_stored strategies (Insert k v n) reply events old new t l = kept old new (entry_needs _ reply events old new t) l
-  alone_stored strategies (Remove k n) reply events old new t l = kept old new (entry_needs _ reply events old new t) l
-  alone_stored strategies (RemoveWeak k n) reply events old new t l = kept old new (entry_needs _ reply events old new t) l
-  alone_stored strategies (AppendEntry e) reply events old new t l = kept old new (entry_needs _ reply events old new t) l
-  alone_stored strategies (Write ops) reply events old new t l = kept old new (batch_needs ops reply events old new t) l
-  alone_stored strategies (Get k s) reply events old new t l = kept old new (get_needs k s reply events old new t) l
-  alone_stored strategies (GetInternalEntry k s) reply events old new t l = kept old new (get_entry_needs k s reply events old new t) l
-  alone_stored strategies (ContainsKey k s) reply events old new t l = kept old new (same old new t.1) l
-  alone_stored strategies (SizeOf k s) reply events old new t l = kept old new (same old new t.1) l
-  alone_stored strategies (Range low high s) reply events old new t l = kept old new (pairs_needs _ _ s reply events old new t) l
-  alone_stored strategies (Iter s) reply events old new t l = kept old new (pairs_needs _ _ s reply events old new t) l
-  alone_stored strategies (Prefix p s) reply events old new t l = kept old new (pairs_needs _ _ s reply events old new t) l
-  alone_stored strategies (Len s) reply events old new t l = kept old new (same old new t.1) l
-  alone_stored strategies (IsEmpty s) reply events old new t l = kept old new (same old new t.1) l
-  alone_stored strategies (FirstKeyValue s) reply events old new t l = kept old new (same old new t.1) l
-  alone_stored strategies (LastKeyValue s) reply events old new t l = kept old new (same old new t.1) l
-  alone_stored strategies RotateMemtable reply events old new t l = kept old new (rotate_needs reply events old new t) l
-  alone_stored strategies (Next counter) reply events old new t l = kept old new (next_needs counter reply events old new t) l
-  alone_stored strategies (Set counter n) reply events old new t l = kept old new (put_needs counter _ reply events old new t) l
-  alone_stored strategies (FetchMax counter n) reply events old new t l = kept old new (put_needs counter _ reply events old new t) l
-  alone_stored strategies (Flush n) reply events old new t l = l
-  alone_stored strategies (FlushActiveMemtable n) reply events old new t l = l
-  alone_stored strategies (Compact at n) reply events old new t l = l
-  alone_stored strategies (DoCompaction at o) reply events old new t l = l
-  alone_stored strategies (MajorCompact target n) reply events old new t l = l
-  alone_stored strategies (DropRange low high) reply events old new t l = l
-  alone_stored strategies GetNextTableId reply events old new t l = kept old new (table_id_needs reply events old new t) l
-  alone_stored strategies IsCompacting reply events old new t l = kept old new (same old new t.1) l
-  alone_stored strategies (SetMoment n) reply events old new t l = kept old new (moment_needs n reply events old new t) l
-  alone_stored strategies (CountOf what) reply events old new t l = kept old new (same old new t.1) l
-  alone_stored strategies IsUncertain reply events old new t l = kept old new (same old new t.1) l
-  alone_stored strategies (AtSlot slot step) reply events old new t l = absurd t
+  job_upheld : (strategies : Strategies) (step : JobStep) (reply : Reply) (events : List Event) (before after : Option Job) (old new : Core) → Upholds (world was) (world was) old old → TakesJob strategies step reply events before after old new → JobLeavesFiles world step was is old new → Upholds (world was) (world is) old new
+  job_upheld strategies BeginFlush reply events before after old new u t l = kept old new u (begin_needs reply events before after old new t) l
+  job_upheld strategies (RunFlush n) reply events before after old new u t l = kept old new u (run_needs n reply events before after old new t) l
+  job_upheld strategies FlushToTables reply events before after old new u t l = l
+  job_upheld strategies RegisterTables reply events before after old new u t l = l
+  job_upheld strategies AbandonFlush reply events before after old new u t l = kept old new u (abandon_needs reply events before after old new t) l
+  job_upheld strategies (BeginCompaction at o) reply events before after old new u t l = l
+  job_upheld strategies RunCompaction reply events before after old new u t l = kept old new u (run_compaction_needs reply events before after old new t) l
+  job_upheld strategies FinishCompaction reply events before after old new u t l = l
+  job_upheld strategies AbandonCompaction reply events before after old new u t l = kept old new u (given_needs reply events before after old new t) l
 
-  pub step_stored : (strategies : Strategies) (x : Step) (reply : Reply) (events : List Event) (old new : Stage) → Takes strategies x reply events old new → LeavesFiles world x was is old.core new.core → StaysStored (world was) (world is) old.core new.core
-  step_stored strategies (AtSlot slot step) reply events old new t l = job_stored strategies step reply events (old.jobs slot) (new.jobs slot) old.core new.core t.0 l
-  step_stored strategies x reply events old new t l = alone_stored strategies x reply events old.core new.core t.0 l
+  alone_upheld : (strategies : Strategies) (x : Step) (reply : Reply) (events : List Event) (old new : Core) → Upholds (world was) (world was) old old → TakesAlone strategies x reply events old new → LeavesFiles world x was is old new → Upholds (world was) (world is) old new
+  alone_upheld strategies (Insert k v n) reply events old new u t l = kept old new u (entry_needs _ reply events old new t) l
+  alone_upheld strategies (Remove k n) reply events old new u t l = kept old new u (entry_needs _ reply events old new t) l
+  alone_upheld strategies (RemoveWeak k n) reply events old new u t l = kept old new u (entry_needs _ reply events old new t) l
+  alone_upheld strategies (AppendEntry e) reply events old new u t l = kept old new u (entry_needs _ reply events old new t) l
+  alone_upheld strategies (Write ops) reply events old new u t l = kept old new u (batch_needs ops reply events old new t) l
+  alone_upheld strategies (Get k s) reply events old new u t l = kept old new u (get_needs k s reply events old new t) l
+  alone_upheld strategies (GetInternalEntry k s) reply events old new u t l = kept old new u (get_entry_needs k s reply events old new t) l
+  alone_upheld strategies (ContainsKey k s) reply events old new u t l = kept old new u (same old new t.1) l
+  alone_upheld strategies (SizeOf k s) reply events old new u t l = kept old new u (same old new t.1) l
+  alone_upheld strategies (Range low high s) reply events old new u t l = kept old new u (pairs_needs _ _ s reply events old new t) l
+  alone_upheld strategies (Iter s) reply events old new u t l = kept old new u (pairs_needs _ _ s reply events old new t) l
+  alone_upheld strategies (Prefix p s) reply events old new u t l = kept old new u (pairs_needs _ _ s reply events old new t) l
+  alone_upheld strategies (Len s) reply events old new u t l = kept old new u (same old new t.1) l
+  alone_upheld strategies (IsEmpty s) reply events old new u t l = kept old new u (same old new t.1) l
+  alone_upheld strategies (FirstKeyValue s) reply events old new u t l = kept old new u (same old new t.1) l
+  alone_upheld strategies (LastKeyValue s) reply events old new u t l = kept old new u (same old new t.1) l
+  alone_upheld strategies RotateMemtable reply events old new u t l = kept old new u (rotate_needs reply events old new t) l
+  alone_upheld strategies (Next counter) reply events old new u t l = kept old new u (next_needs counter reply events old new t) l
+  alone_upheld strategies (Set counter n) reply events old new u t l = kept old new u (put_needs counter _ reply events old new t) l
+  alone_upheld strategies (FetchMax counter n) reply events old new u t l = kept old new u (put_needs counter _ reply events old new t) l
+  alone_upheld strategies (Flush n) reply events old new u t l = l
+  alone_upheld strategies (FlushActiveMemtable n) reply events old new u t l = l
+  alone_upheld strategies (Compact at n) reply events old new u t l = l
+  alone_upheld strategies (DoCompaction at o) reply events old new u t l = l
+  alone_upheld strategies (MajorCompact target n) reply events old new u t l = l
+  alone_upheld strategies (DropRange low high) reply events old new u t l = l
+  alone_upheld strategies Clear reply events old new u t l = l
+  alone_upheld strategies ClearActiveMemtable reply events old new u t l = kept old new u (forget_needs reply events old new t) l
+  alone_upheld strategies GetNextTableId reply events old new u t l = kept old new u (table_id_needs reply events old new t) l
+  alone_upheld strategies IsCompacting reply events old new u t l = kept old new u (same old new t.1) l
+  alone_upheld strategies (SetMoment n) reply events old new u t l = kept old new u (moment_needs n reply events old new t) l
+  alone_upheld strategies (CountOf what) reply events old new u t l = kept old new u (same old new t.1) l
+  alone_upheld strategies IsUncertain reply events old new u t l = kept old new u (same old new t.1) l
+  alone_upheld strategies (AtSlot slot step) reply events old new u t l = absurd t
+
+  pub step_upheld : (strategies : Strategies) (x : Step) (reply : Reply) (events : List Event) (old new : Stage) → Upholds (world was) (world was) old.core old.core → Takes strategies x reply events old new → LeavesFiles world x was is old.core new.core → Upholds (world was) (world is) old.core new.core
+  step_upheld strategies (AtSlot slot step) reply events old new u t l = job_upheld strategies step reply events (old.jobs slot) (new.jobs slot) old.core new.core u t.0 l
+  step_upheld strategies x reply events old new u t l = alone_upheld strategies x reply events old.core new.core u t.0 l
 
   -- what is given up needs no tables
   pub closed_stored : (old new : Core) → Closes old new → is ≡ was → StaysStored (world was) (world is) old new

@@ -6,7 +6,6 @@ use Rattle.lsm_model.specs.Journal.{Event}
 use Rattle.lsm_jobs.specs.Jobs.{SeenJob}
 use Rattle.lsm_state.specs.declared.compaction.Options.{Options}
 use Rattle.lsm_state.specs.Core.{Core}
-use Rattle.lsm_state.specs.FlushReads.{FlushesKeepReads}
 use Rattle.lsm_noted.specs.NotedReads.{NotedCompactionsKeepReads}
 use Rattle.lsm_runs.specs.declared.slots.Job.{Job}
 use Rattle.lsm_runs.specs.declared.slots.Job.TheVariants.{Begun as BegunJob}
@@ -19,7 +18,7 @@ use Rattle.lsm_runs.specs.Flushing.{IsIdle, TakesBegin, TakesRun, TakesTables, T
 use Rattle.lsm_runs.specs.Compacting.{Strategies, TakesBeginCompaction, TakesRunCompaction, TakesFinish, TakesAbandonCompaction}
 use Rattle.lsm_runs.specs.JobSteps.{TakesJob, TakesInSlot}
 use Rattle.lsm_runs.proofs.FlushReplays.{KeepsRun, idle, begin_keeps, run_keeps, tables_keep, register_keeps, abandon_keeps}
-use Rattle.lsm_runs.proofs.Keeping.{KeepsAfter, keeps_flush}
+use Rattle.lsm_runs.proofs.Keeping.{KeepLaws, KeepsAfter, keeps_flush}
 use Rattle.lsm_runs.proofs.CompactionReplays.{IsMarkedAt, free_marked, stays_marked, begun_marked, begin_after, run_after, finish_after, abandon_after}
 
 pub flush_after : (journal events : List Event) (old new : Core) → KeepsRun events old new → KeepsAfter journal events old new
@@ -30,17 +29,17 @@ idle_after theory journal events old new none is = flush_after journal events ol
 
 -- ---- what such a call leaves of reads
 
-module _ (theory : Soundness) (flushes : FlushesKeepReads) (compactions : NotedCompactionsKeepReads) where
+module _ (laws : KeepLaws) where
   pub job_after : (strategies : Strategies) (step : JobStep) (reply : Reply) (journal events : List Event) (was is : Option Job) (old new : Core) → IsMarkedAt journal was → TakesJob strategies step reply events was is old new → KeepsAfter journal events old new
-  job_after strategies BeginFlush reply journal events was is old new m t = flush_after journal events old new (begin_keeps theory flushes reply events was is old new t)
-  job_after strategies (RunFlush w) reply journal events was is old new m t = flush_after journal events old new (run_keeps theory flushes w reply events was is old new t)
-  job_after strategies FlushToTables reply journal events was is old new m t = flush_after journal events old new (tables_keep theory flushes reply events was is old new t)
-  job_after strategies RegisterTables reply journal events was is old new m t = flush_after journal events old new (register_keeps theory flushes reply events was is old new t)
-  job_after strategies AbandonFlush reply journal events was is old new m t = flush_after journal events old new (abandon_keeps theory flushes reply events was is old new t)
-  job_after strategies (BeginCompaction at o) reply journal events was is old new m t = begin_after compactions (idle_after theory) strategies at o reply journal events was is old new t
-  job_after strategies RunCompaction reply journal events was is old new m t = run_after compactions (idle_after theory) reply journal events was is old new t
-  job_after strategies FinishCompaction reply journal events was is old new m t = finish_after compactions (idle_after theory) reply journal events was is old new m t
-  job_after strategies AbandonCompaction reply journal events was is old new m t = abandon_after compactions (idle_after theory) reply journal events was is old new t
+  job_after strategies BeginFlush reply journal events was is old new m t = flush_after journal events old new (begin_keeps laws.theory laws.flushes reply events was is old new t)
+  job_after strategies (RunFlush w) reply journal events was is old new m t = flush_after journal events old new (run_keeps laws.theory laws.flushes w reply events was is old new t)
+  job_after strategies FlushToTables reply journal events was is old new m t = flush_after journal events old new (tables_keep laws.theory laws.flushes reply events was is old new t)
+  job_after strategies RegisterTables reply journal events was is old new m t = flush_after journal events old new (register_keeps laws.theory laws.flushes reply events was is old new t)
+  job_after strategies AbandonFlush reply journal events was is old new m t = flush_after journal events old new (abandon_keeps laws.theory laws.flushes reply events was is old new t)
+  job_after strategies (BeginCompaction at o) reply journal events was is old new m t = begin_after laws.compactions (idle_after laws.theory) strategies at o reply journal events was is old new t
+  job_after strategies RunCompaction reply journal events was is old new m t = run_after laws.compactions (idle_after laws.theory) reply journal events was is old new t
+  job_after strategies FinishCompaction reply journal events was is old new m t = finish_after laws.compactions (idle_after laws.theory) reply journal events was is old new m t
+  job_after strategies AbandonCompaction reply journal events was is old new m t = abandon_after laws.compactions (idle_after laws.theory) reply journal events was is old new t
 
 -- ---- the watermarks of merges whose jobs wait
 

@@ -3,12 +3,14 @@ use Rattle.std.proofs.Common.{◌≡◌, ℕ, List, ◌++◌, refl, sym, ap, ◌
 use Rattle.lsm_below.specs.Entries.{Entry}
 use Rattle.lsm_model.specs.Journal.{Event, Map, InOrder}
 use Rattle.lsm_model.specs.Sound.{Holds}
+use Rattle.lsm_model.specs.Soundness.{Soundness}
 use Rattle.lsm_merges.specs.Merges.{SeenCompaction}
+use Rattle.lsm_state.specs.Clearing.{ClearsKeepReads}
 use Rattle.lsm_state.specs.Core.{Core, state_of}
 use Rattle.lsm_state.specs.CompactionDeeds.{IsMarkedIn}
 use Rattle.lsm_state.specs.CompactionReads.{SparesReads, IsAny, AreSparedBy, IsAnySnapshot}
-use Rattle.lsm_state.specs.FlushReads.{KeepsReads}
-use Rattle.lsm_noted.specs.NotedReads.{IsMarkedFor}
+use Rattle.lsm_state.specs.FlushReads.{KeepsReads, FlushesKeepReads}
+use Rattle.lsm_noted.specs.NotedReads.{IsMarkedFor, NotedCompactionsKeepReads}
 use Rattle.lsm_runs.specs.Runs.{without_low_reads, Spares}
 use Rattle.lsm_runs.proofs.LowReads.{kept_without, without-append, order_without}
 use Rattle.lsm_runs.proofs.ReadReplays.{Sound}
@@ -21,6 +23,13 @@ AreNoReads events = (opened : List Entry) → without_low_reads opened events �
 pub record KeepsAfter (journal events : List Event) (old new : Core) : Type 0 where
   pub unread : AreNoReads events
   pub spares : (opened : List Entry) → SparesReads (λ before. before ≡ without_low_reads opened journal) events (AreSparedBy events) old new
+
+-- the laws of what each kind of call leaves of reads
+pub record KeepLaws : Type 0 where
+  pub theory : Soundness
+  pub flushes : FlushesKeepReads
+  pub compactions : NotedCompactionsKeepReads
+  pub clears : ClearsKeepReads
 
 -- ---- ways to know it
 
@@ -44,7 +53,7 @@ keeps_flush journal events old new none k = record {
   };
 }
 
-marked_without : (opened : List Entry) (w : ℕ) (journal before : List Event) → before ≡ without_low_reads opened journal → IsMarkedIn w journal → IsMarkedIn w before
+pub marked_without : (opened : List Entry) (w : ℕ) (journal before : List Event) → before ≡ without_low_reads opened journal → IsMarkedIn w journal → IsMarkedIn w before
 marked_without opened w journal before is m = subst (IsMarkedIn w) (sym is) (λ s kept. m s (sym (kept_without opened s journal) ∙ kept))
 
 -- the end of a merge whose watermark is marked

@@ -2,6 +2,7 @@ pub mod LowReads
 pub mod Outcomes
 pub mod FlushOutcomes
 pub mod CompactionOutcomes
+pub mod Clearing
 pub mod Files
 pub mod ReadOutcomes
 pub mod ReadReplays
@@ -17,3 +18,11 @@ pub mod OpenWork
 pub mod OpenFlush
 mod OpenMerges
 mod GivingUp
+pub mod Members
+pub mod StepDeeds
+pub mod CallDeeds
+pub mod FlushDeeds
+pub mod MergeDeeds
+pub mod RunDeeds
+pub mod Crashed
+pub mod Living

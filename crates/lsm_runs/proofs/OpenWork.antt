@@ -19,13 +19,14 @@ use Rattle.lsm_state.specs.WholeFlushes.{Flushes}
 use Rattle.lsm_runs.specs.declared.steps.Counter.{Counter}
 use Rattle.lsm_runs.specs.declared.steps.Counter.TheVariants.{Seqno, Visible}
 use Rattle.lsm_runs.specs.declared.steps.Step.{Step}
-use Rattle.lsm_runs.specs.declared.steps.Step.TheVariants.{Insert, Remove, RemoveWeak, AppendEntry, Write, Get, GetInternalEntry, ContainsKey, SizeOf, Range, Iter, Prefix, Len, IsEmpty, FirstKeyValue, LastKeyValue, RotateMemtable, Next, Set, FetchMax, AtSlot, Flush, FlushActiveMemtable, Compact, DoCompaction, MajorCompact, DropRange, GetNextTableId, SetMoment, Count as CountOf, IsUncertain, IsCompacting}
+use Rattle.lsm_runs.specs.declared.steps.Step.TheVariants.{Insert, Remove, RemoveWeak, AppendEntry, Write, Get, GetInternalEntry, ContainsKey, SizeOf, Range, Iter, Prefix, Len, IsEmpty, FirstKeyValue, LastKeyValue, RotateMemtable, Next, Set, FetchMax, AtSlot, Flush, FlushActiveMemtable, Compact, DoCompaction, MajorCompact, DropRange, Clear, ClearActiveMemtable, GetNextTableId, SetMoment, Count as CountOf, IsUncertain, IsCompacting}
 use Rattle.lsm_runs.specs.declared.steps.Reply.{Reply}
 use Rattle.lsm_runs.specs.declared.steps.Reply.TheVariants.{Value, Entry as EntryOf, Pairs, Sizes, Number, Sealed, Done, Flushed, FlushedActive, RefusedActive, NoStrategy, Refused}
 use Rattle.lsm_runs.specs.ReadSteps.{TakesGet, TakesGetEntry, TakesPairs}
 use Rattle.lsm_runs.specs.Flushing.{TakesFlush, TakesFlushActive, TakesMoment}
 use Rattle.lsm_runs.specs.Compacting.{Strategies, CompactsFrom, TakesCompact, TakesDropRange, TakesTableId}
 use Rattle.lsm_runs.specs.Runs.{TakesAlone, TakesEntry, TakesBatch, TakesRotate, TakesNext, TakesCounter, with_counter}
+use Rattle.lsm_runs.proofs.Clearing.{clear_work, forget_work}
 use Rattle.lsm_runs.proofs.CompactionRest.{KeepsOpenWork, KeepsWork, AreBelow, kept_by, all_kept, compacted_work}
 
 join_work : (old mid new : Core) → KeepsOpenWork old mid → KeepsOpenWork mid new → KeepsOpenWork old new
@@ -149,6 +150,8 @@ alone_work strategies (Compact at w) reply events old new below t = compact_work
 alone_work strategies (DoCompaction at o) reply events old new below t = compact_work strategies at o reply events old new below t
 alone_work strategies (MajorCompact target w) reply events old new below t = compacts_work _ _ _ reply events old new below t
 alone_work strategies (DropRange low high) reply events old new below t = drop_work _ reply events old new below t
+alone_work strategies Clear reply events old new below t = all_kept old new (clear_work reply events old new t)
+alone_work strategies ClearActiveMemtable reply events old new below t = all_kept old new (forget_work reply events old new t)
 alone_work strategies GetNextTableId reply events old new below t = all_kept old new (table_id_work reply events old new t)
 alone_work strategies IsCompacting reply events old new below t = all_kept old new (kept_by old old new t.1 (refl, refl))
 alone_work strategies (SetMoment n) reply events old new below t = all_kept old new (moment_work n reply events old new t)

@@ -1,5 +1,5 @@
 -- From a run of steps to the replay of its journal.
-use Rattle.std.proofs.Common.{◌≡◌, ℕ, List, [], ◌∷◌, ◌++◌, Option, Some, None, map, refl, sym, ap, ◌∙◌, subst, append-nil, append_assoc}
+use Rattle.std.proofs.Common.{◌≡◌, inl, inr, ℕ, List, [], ◌∷◌, ◌++◌, Option, Some, None, map, refl, sym, ap, ◌∙◌, subst, append-nil, append_assoc}
 use Rattle.std.specs.BTreeMap.{BTreeMap, is_at}
 use Rattle.std.specs.Map.{lookup}
 use Rattle.std.specs.Ordering.{nat_cmp}
@@ -16,13 +16,12 @@ use Rattle.lsm_model.specs.declared.question.Question.TheVariants.{Between, Pref
 use Rattle.lsm_iter.specs.declared.tree_iter.End.TheVariants.{Front, Back}
 use Rattle.lsm_state.specs.Core.{Core, state_of}
 use Rattle.lsm_state.specs.Calls.{Rotates}
-use Rattle.lsm_state.specs.FlushReads.{FlushesKeepReads}
 use Rattle.lsm_state.specs.ListSteps.{ListsAreSteps}
 use Rattle.lsm_noted.specs.NotedReads.{NotedCompactionsKeepReads}
 use Rattle.lsm_runs.specs.declared.steps.Counter.{Counter}
 use Rattle.lsm_runs.specs.declared.steps.Counter.TheVariants.{Seqno, Visible}
 use Rattle.lsm_runs.specs.declared.steps.Step.{Step as Call}
-use Rattle.lsm_runs.specs.declared.steps.Step.TheVariants.{Insert, Remove, RemoveWeak, AppendEntry, Write, Get, GetInternalEntry, ContainsKey, SizeOf, Range, Iter, Prefix, Len, IsEmpty, FirstKeyValue, LastKeyValue, RotateMemtable, Next, Set, FetchMax, AtSlot, Flush, FlushActiveMemtable, Compact, DoCompaction, MajorCompact, DropRange, GetNextTableId, SetMoment, Count as CountOf, IsUncertain, IsCompacting}
+use Rattle.lsm_runs.specs.declared.steps.Step.TheVariants.{Insert, Remove, RemoveWeak, AppendEntry, Write, Get, GetInternalEntry, ContainsKey, SizeOf, Range, Iter, Prefix, Len, IsEmpty, FirstKeyValue, LastKeyValue, RotateMemtable, Next, Set, FetchMax, AtSlot, Flush, FlushActiveMemtable, Compact, DoCompaction, MajorCompact, DropRange, Clear, ClearActiveMemtable, GetNextTableId, SetMoment, Count as CountOf, IsUncertain, IsCompacting}
 use Rattle.lsm_runs.specs.declared.steps.Reply.{Reply}
 use Rattle.lsm_runs.specs.declared.steps.Reply.TheVariants.{Sizes, Number, Sealed, Done, Refused}
 use Rattle.lsm_state.specs.Listing.{Lists, ListsPrefix}
@@ -30,10 +29,11 @@ use Rattle.lsm_runs.specs.Told.{Told}
 use Rattle.lsm_runs.specs.declared.slots.Job.{Job}
 use Rattle.lsm_runs.specs.Slots.{Stage, at_first, beside, waiting, Closes}
 use Rattle.lsm_runs.specs.Compacting.{Strategies}
-use Rattle.lsm_runs.specs.Runs.{Takes, TakesAlone, RanToEnd, TakesEntry, TakesBatch, TakesRotate, TakesNext, TakesCounter, with_counter, Ran, journal_of, StepAnswers, EachAnswers, RunEqualsReplay, without_low_reads}
+use Rattle.lsm_runs.specs.Runs.{Takes, TakesAlone, RanToEnd, TakesEntry, TakesBatch, TakesRotate, TakesNext, TakesCounter, with_counter, Ran, IsPlainUse, journal_of, StepAnswers, EachAnswers, RunEqualsReplay, without_low_reads}
 use Rattle.lsm_runs.proofs.LowReads.{without-append, writes_without, order_without}
 use Rattle.lsm_runs.proofs.ReadReplays.{Sound, same, takes_get, takes_get_entry, takes_pairs, get_answers, get_entry_answers, contains_answers, size_answers, pairs_answer, len_answers, empty_answers, end_answers}
-use Rattle.lsm_runs.proofs.Keeping.{kept_sound}
+use Rattle.lsm_runs.proofs.Keeping.{KeepLaws, kept_sound}
+use Rattle.lsm_runs.proofs.Clearing.{clear_after}
 use Rattle.lsm_runs.proofs.FlushReplays.{flush_keeps, active_keeps, moment_keeps}
 use Rattle.lsm_runs.proofs.CompactionReplays.{compact_after, major_after, drop_after, table_id_after}
 use Rattle.lsm_runs.proofs.JobReplays.{flush_after, idle_after, job_after, AreMarked, first_marked, still_marked, slot_marked}
@@ -84,44 +84,46 @@ takes_counter : (opened : List Entry) (start : Map) (counter : Counter) (n : ℕ
 takes_counter opened start counter n Done journal events old new t h = counter_put opened start counter n journal events old new t.0 t.1 h
 takes_counter opened start counter n reply journal events old new t h = absurd t
 
-alone_sound : (theory : Soundness) (laws : FlushesKeepReads) (compactions : NotedCompactionsKeepReads) (strategies : Strategies) (opened : List Entry) (start : Map) (x : Call) (reply : Reply) (journal events : List Event) (old new : Core) → TakesAlone strategies x reply events old new → InOrder opened (journal ++ events) → Sound opened start journal old → Sound opened start (journal ++ events) new
-alone_sound theory laws compactions strategies opened start (Insert k v n) reply journal events old new t order h = takes_entry theory opened start _ reply journal events old new t order h
-alone_sound theory laws compactions strategies opened start (Remove k n) reply journal events old new t order h = takes_entry theory opened start _ reply journal events old new t order h
-alone_sound theory laws compactions strategies opened start (RemoveWeak k n) reply journal events old new t order h = takes_entry theory opened start _ reply journal events old new t order h
-alone_sound theory laws compactions strategies opened start (AppendEntry e) reply journal events old new t order h = takes_entry theory opened start _ reply journal events old new t order h
-alone_sound theory laws compactions strategies opened start (Write ops) reply journal events old new t order h = takes_batch theory opened start ops reply journal events old new t order h
-alone_sound theory laws compactions strategies opened start (Get k s) reply journal events old new t order h = takes_get theory opened start k s reply journal events old new t order h
-alone_sound theory laws compactions strategies opened start (GetInternalEntry k s) reply journal events old new t order h = takes_get_entry opened start k s reply journal events old new t h
-alone_sound theory laws compactions strategies opened start (ContainsKey k s) reply journal events old new t order h = same opened start journal events old new t.0 t.1 h
-alone_sound theory laws compactions strategies opened start (SizeOf k s) reply journal events old new t order h = same opened start journal events old new t.0 t.1 h
-alone_sound theory laws compactions strategies opened start (Range low high s) reply journal events old new t order h = takes_pairs theory opened start (Between low high) (Lists old low high s) s reply journal events old new t order h
-alone_sound theory laws compactions strategies opened start (Iter s) reply journal events old new t order h = takes_pairs theory opened start (Between Unbounded Unbounded) (Lists old Unbounded Unbounded s) s reply journal events old new t order h
-alone_sound theory laws compactions strategies opened start (Prefix p s) reply journal events old new t order h = takes_pairs theory opened start (AskPrefix p) (ListsPrefix old p s) s reply journal events old new t order h
-alone_sound theory laws compactions strategies opened start (Len s) reply journal events old new t order h = same opened start journal events old new t.0 t.1 h
-alone_sound theory laws compactions strategies opened start (IsEmpty s) reply journal events old new t order h = same opened start journal events old new t.0 t.1 h
-alone_sound theory laws compactions strategies opened start (FirstKeyValue s) reply journal events old new t order h = same opened start journal events old new t.0 t.1 h
-alone_sound theory laws compactions strategies opened start (LastKeyValue s) reply journal events old new t order h = same opened start journal events old new t.0 t.1 h
-alone_sound theory laws compactions strategies opened start RotateMemtable reply journal events old new t order h = takes_rotate theory opened start reply journal events old new t order h
-alone_sound theory laws compactions strategies opened start (Next counter) reply journal events old new t order h = takes_next opened start counter reply journal events old new t h
-alone_sound theory laws compactions strategies opened start (Set counter n) reply journal events old new t order h = takes_counter opened start counter _ reply journal events old new t h
-alone_sound theory laws compactions strategies opened start (FetchMax counter n) reply journal events old new t order h = takes_counter opened start counter _ reply journal events old new t h
-alone_sound theory laws compactions strategies opened start (Flush w) reply journal events old new t order h = kept_sound opened start journal events old new (flush_after journal events old new (flush_keeps theory laws w reply events old new t)) order h
-alone_sound theory laws compactions strategies opened start (FlushActiveMemtable w) reply journal events old new t order h = kept_sound opened start journal events old new (flush_after journal events old new (active_keeps theory laws w reply events old new t)) order h
-alone_sound theory laws compactions strategies opened start (Compact at w) reply journal events old new t order h = kept_sound opened start journal events old new (compact_after compactions (idle_after theory) strategies at _ reply journal events old new t) order h
-alone_sound theory laws compactions strategies opened start (DoCompaction at o) reply journal events old new t order h = kept_sound opened start journal events old new (compact_after compactions (idle_after theory) strategies at o reply journal events old new t) order h
-alone_sound theory laws compactions strategies opened start (MajorCompact target w) reply journal events old new t order h = kept_sound opened start journal events old new (major_after compactions (idle_after theory) target w reply journal events old new t) order h
-alone_sound theory laws compactions strategies opened start (DropRange low high) reply journal events old new t order h = kept_sound opened start journal events old new (drop_after compactions (idle_after theory) _ reply journal events old new t) order h
-alone_sound theory laws compactions strategies opened start GetNextTableId reply journal events old new t order h = kept_sound opened start journal events old new (table_id_after compactions (idle_after theory) reply journal events old new t) order h
-alone_sound theory laws compactions strategies opened start IsCompacting reply journal events old new t order h = same opened start journal events old new t.0 t.1 h
-alone_sound theory laws compactions strategies opened start (SetMoment n) reply journal events old new t order h = kept_sound opened start journal events old new (flush_after journal events old new (moment_keeps theory laws n reply events old new t)) order h
-alone_sound theory laws compactions strategies opened start (CountOf what) reply journal events old new t order h = same opened start journal events old new t.0 t.1 h
-alone_sound theory laws compactions strategies opened start IsUncertain reply journal events old new t order h = same opened start journal events old new t.0 t.1 h
-alone_sound theory laws compactions strategies opened start (AtSlot slot step) reply journal events old new t order h = absurd t
+alone_sound : (laws : KeepLaws) (strategies : Strategies) (opened : List Entry) (start : Map) (x : Call) (reply : Reply) (journal events : List Event) (old new : Core) → TakesAlone strategies x reply events old new → (x ≡ ClearActiveMemtable → ⊥) → InOrder opened (journal ++ events) → Sound opened start journal old → Sound opened start (journal ++ events) new
+alone_sound laws strategies opened start (Insert k v n) reply journal events old new t plain order h = takes_entry laws.theory opened start _ reply journal events old new t order h
+alone_sound laws strategies opened start (Remove k n) reply journal events old new t plain order h = takes_entry laws.theory opened start _ reply journal events old new t order h
+alone_sound laws strategies opened start (RemoveWeak k n) reply journal events old new t plain order h = takes_entry laws.theory opened start _ reply journal events old new t order h
+alone_sound laws strategies opened start (AppendEntry e) reply journal events old new t plain order h = takes_entry laws.theory opened start _ reply journal events old new t order h
+alone_sound laws strategies opened start (Write ops) reply journal events old new t plain order h = takes_batch laws.theory opened start ops reply journal events old new t order h
+alone_sound laws strategies opened start (Get k s) reply journal events old new t plain order h = takes_get laws.theory opened start k s reply journal events old new t order h
+alone_sound laws strategies opened start (GetInternalEntry k s) reply journal events old new t plain order h = takes_get_entry opened start k s reply journal events old new t h
+alone_sound laws strategies opened start (ContainsKey k s) reply journal events old new t plain order h = same opened start journal events old new t.0 t.1 h
+alone_sound laws strategies opened start (SizeOf k s) reply journal events old new t plain order h = same opened start journal events old new t.0 t.1 h
+alone_sound laws strategies opened start (Range low high s) reply journal events old new t plain order h = takes_pairs laws.theory opened start (Between low high) (Lists old low high s) s reply journal events old new t order h
+alone_sound laws strategies opened start (Iter s) reply journal events old new t plain order h = takes_pairs laws.theory opened start (Between Unbounded Unbounded) (Lists old Unbounded Unbounded s) s reply journal events old new t order h
+alone_sound laws strategies opened start (Prefix p s) reply journal events old new t plain order h = takes_pairs laws.theory opened start (AskPrefix p) (ListsPrefix old p s) s reply journal events old new t order h
+alone_sound laws strategies opened start (Len s) reply journal events old new t plain order h = same opened start journal events old new t.0 t.1 h
+alone_sound laws strategies opened start (IsEmpty s) reply journal events old new t plain order h = same opened start journal events old new t.0 t.1 h
+alone_sound laws strategies opened start (FirstKeyValue s) reply journal events old new t plain order h = same opened start journal events old new t.0 t.1 h
+alone_sound laws strategies opened start (LastKeyValue s) reply journal events old new t plain order h = same opened start journal events old new t.0 t.1 h
+alone_sound laws strategies opened start RotateMemtable reply journal events old new t plain order h = takes_rotate laws.theory opened start reply journal events old new t order h
+alone_sound laws strategies opened start (Next counter) reply journal events old new t plain order h = takes_next opened start counter reply journal events old new t h
+alone_sound laws strategies opened start (Set counter n) reply journal events old new t plain order h = takes_counter opened start counter _ reply journal events old new t h
+alone_sound laws strategies opened start (FetchMax counter n) reply journal events old new t plain order h = takes_counter opened start counter _ reply journal events old new t h
+alone_sound laws strategies opened start (Flush w) reply journal events old new t plain order h = kept_sound opened start journal events old new (flush_after journal events old new (flush_keeps laws.theory laws.flushes w reply events old new t)) order h
+alone_sound laws strategies opened start (FlushActiveMemtable w) reply journal events old new t plain order h = kept_sound opened start journal events old new (flush_after journal events old new (active_keeps laws.theory laws.flushes w reply events old new t)) order h
+alone_sound laws strategies opened start (Compact at w) reply journal events old new t plain order h = kept_sound opened start journal events old new (compact_after laws.compactions (idle_after laws.theory) strategies at _ reply journal events old new t) order h
+alone_sound laws strategies opened start (DoCompaction at o) reply journal events old new t plain order h = kept_sound opened start journal events old new (compact_after laws.compactions (idle_after laws.theory) strategies at o reply journal events old new t) order h
+alone_sound laws strategies opened start (MajorCompact target w) reply journal events old new t plain order h = kept_sound opened start journal events old new (major_after laws.compactions (idle_after laws.theory) target w reply journal events old new t) order h
+alone_sound laws strategies opened start (DropRange low high) reply journal events old new t plain order h = kept_sound opened start journal events old new (drop_after laws.compactions (idle_after laws.theory) _ reply journal events old new t) order h
+alone_sound laws strategies opened start Clear reply journal events old new t plain order h = kept_sound opened start journal events old new (clear_after laws.clears reply journal events old new t) order h
+alone_sound laws strategies opened start ClearActiveMemtable reply journal events old new t plain order h = absurd (plain refl)
+alone_sound laws strategies opened start GetNextTableId reply journal events old new t plain order h = kept_sound opened start journal events old new (table_id_after laws.compactions (idle_after laws.theory) reply journal events old new t) order h
+alone_sound laws strategies opened start IsCompacting reply journal events old new t plain order h = same opened start journal events old new t.0 t.1 h
+alone_sound laws strategies opened start (SetMoment n) reply journal events old new t plain order h = kept_sound opened start journal events old new (flush_after journal events old new (moment_keeps laws.theory laws.flushes n reply events old new t)) order h
+alone_sound laws strategies opened start (CountOf what) reply journal events old new t plain order h = same opened start journal events old new t.0 t.1 h
+alone_sound laws strategies opened start IsUncertain reply journal events old new t plain order h = same opened start journal events old new t.0 t.1 h
+alone_sound laws strategies opened start (AtSlot slot step) reply journal events old new t plain order h = absurd t
 
-pub takes_sound : (theory : Soundness) (laws : FlushesKeepReads) (compactions : NotedCompactionsKeepReads) (strategies : Strategies) (opened : List Entry) (start : Map) (x : Call) (reply : Reply) (journal events : List Event) (old new : Stage) → Takes strategies x reply events old new → AreMarked journal old.jobs → InOrder opened (journal ++ events) → Sound opened start journal old.core → Sound opened start (journal ++ events) new.core
-takes_sound theory laws compactions strategies opened start (AtSlot slot step) reply journal events old new t m order h =
-    kept_sound opened start journal events old.core new.core (job_after theory laws compactions strategies step reply journal events (old.jobs slot) (new.jobs slot) old.core new.core (m slot) t.0) order h
-takes_sound theory laws compactions strategies opened start x reply journal events old new t m order h = alone_sound theory laws compactions strategies opened start x reply journal events old.core new.core t.0 order h
+pub takes_sound : (laws : KeepLaws) (strategies : Strategies) (opened : List Entry) (start : Map) (x : Call) (reply : Reply) (journal events : List Event) (old new : Stage) → Takes strategies x reply events old new → (x ≡ ClearActiveMemtable → ⊥) → AreMarked journal old.jobs → InOrder opened (journal ++ events) → Sound opened start journal old.core → Sound opened start (journal ++ events) new.core
+takes_sound laws strategies opened start (AtSlot slot step) reply journal events old new t plain m order h =
+    kept_sound opened start journal events old.core new.core (job_after laws strategies step reply journal events (old.jobs slot) (new.jobs slot) old.core new.core (m slot) t.0) order h
+takes_sound laws strategies opened start x reply journal events old new t plain m order h = alone_sound laws strategies opened start x reply journal events old.core new.core t.0 plain order h
 
 -- the watermark of each merge whose job waits stays marked
 pub takes_marked : (compactions : NotedCompactionsKeepReads) (strategies : Strategies) (x : Call) (reply : Reply) (journal events : List Event) (old new : Stage) → Takes strategies x reply events old new → AreMarked journal old.jobs → AreMarked (journal ++ events) new.jobs
@@ -148,26 +150,26 @@ step_answers lists theory strategies opened start x reply journal events old new
 
 -- ---- the whole run
 
-ran_right : (lists : ListsAreSteps) (theory : Soundness) (laws : FlushesKeepReads) (compactions : NotedCompactionsKeepReads) (strategies : Strategies) (opened : List Entry) (start : Map) (xs : List Call) (ts : List Told) (journal : List Event) (old new : Stage) → Ran strategies xs ts old new → AreMarked journal old.jobs → InOrder opened (journal ++ journal_of ts) → Sound opened start journal old.core → EachAnswers opened start journal xs ts × Sound opened start (journal ++ journal_of ts) new.core
-ran_right lists theory laws compactions strategies opened start [] [] journal old new r m order h = (tt, rw (r, append-nil journal) h)
-ran_right lists theory laws compactions strategies opened start [] (t ∷ ts) journal old new r m order h = absurd r
-ran_right lists theory laws compactions strategies opened start (x ∷ xs) [] journal old new r m order h = absurd r
-ran_right lists theory laws compactions strategies opened start (x ∷ xs) (t ∷ ts) journal old new r m order h =
+ran_right : (lists : ListsAreSteps) (laws : KeepLaws) (strategies : Strategies) (opened : List Entry) (start : Map) (xs : List Call) (ts : List Told) (journal : List Event) (old new : Stage) → Ran strategies xs ts old new → IsPlainUse xs → AreMarked journal old.jobs → InOrder opened (journal ++ journal_of ts) → Sound opened start journal old.core → EachAnswers opened start journal xs ts × Sound opened start (journal ++ journal_of ts) new.core
+ran_right lists laws strategies opened start [] [] journal old new r plain m order h = (tt, rw (r, append-nil journal) h)
+ran_right lists laws strategies opened start [] (t ∷ ts) journal old new r plain m order h = absurd r
+ran_right lists laws strategies opened start (x ∷ xs) [] journal old new r plain m order h = absurd r
+ran_right lists laws strategies opened start (x ∷ xs) (t ∷ ts) journal old new r plain m order h =
     let joined : (journal ++ t.entries) ++ journal_of ts ≡ journal ++ (t.entries ++ journal_of ts) = append_assoc journal t.entries (journal_of ts) in
     let order' : InOrder opened ((journal ++ t.entries) ++ journal_of ts) = subst (InOrder opened) (sym joined) order in
-    let here = takes_sound theory laws compactions strategies opened start x t.reply journal t.entries old r.0 r.1 m (theory.kept.front opened (journal ++ t.entries) (journal_of ts) order') h in
-    let marked = takes_marked compactions strategies x t.reply journal t.entries old r.0 r.1 m in
-    let rest = ran_right lists theory laws compactions strategies opened start xs ts (journal ++ t.entries) r.0 new r.2 marked order' here in
-    ((step_answers lists theory strategies opened start x t.reply journal t.entries old r.0 r.1 h, rest.0), subst (λ js. Sound opened start js new.core) joined rest.1)
+    let here = takes_sound laws strategies opened start x t.reply journal t.entries old r.0 r.1 (λ is. plain (inl is)) m (laws.theory.kept.front opened (journal ++ t.entries) (journal_of ts) order') h in
+    let marked = takes_marked laws.compactions strategies x t.reply journal t.entries old r.0 r.1 m in
+    let rest = ran_right lists laws strategies opened start xs ts (journal ++ t.entries) r.0 new r.2 (λ i. plain (inr i)) marked order' here in
+    ((step_answers lists laws.theory strategies opened start x t.reply journal t.entries old r.0 r.1 h, rest.0), subst (λ js. Sound opened start js new.core) joined rest.1)
 
 -- what is open is no part of what the theory sees
 closed : (opened : List Entry) (start : Map) (journal : List Event) (old new : Core) → Closes old new → Sound opened start journal old → Sound opened start journal new
 closed opened start journal old new c h = subst (λ (x : Core). Sound opened start journal x) (sym c.rest) h
 
-pub run_replays : (lists : ListsAreSteps) (theory : Soundness) (laws : FlushesKeepReads) (compactions : NotedCompactionsKeepReads) (strategies : Strategies) (opened : List Entry) (start : Map) (xs : List Call) (ts : List Told) (old new : Core) → RanToEnd strategies xs ts old new → RunEqualsReplay opened start xs ts old new
-run_replays lists theory laws compactions strategies opened start xs ts old new r is order =
-    let done = ran_right lists theory laws compactions strategies opened start xs ts [] (at_first old) r.0 r.1 (first_marked old) order (theory.kept.opened opened start (state_of [] old) is) in
-    (done.0, theory.right.reads opened start (state_of (without_low_reads opened (journal_of ts)) new) (closed opened start (journal_of ts) r.0.core new r.2 done.1))
+pub run_replays : (lists : ListsAreSteps) (laws : KeepLaws) (strategies : Strategies) (opened : List Entry) (start : Map) (xs : List Call) (ts : List Told) (old new : Core) → RanToEnd strategies xs ts old new → RunEqualsReplay opened start xs ts old new
+run_replays lists laws strategies opened start xs ts old new r plain is order =
+    let done = ran_right lists laws strategies opened start xs ts [] (at_first old) r.0 r.1 plain (first_marked old) order (laws.theory.kept.opened opened start (state_of [] old) is) in
+    (done.0, laws.theory.right.reads opened start (state_of (without_low_reads opened (journal_of ts)) new) (closed opened start (journal_of ts) r.0.core new r.2 done.1))
 
 -- one more step
 pub ran_more : (strategies : Strategies) (xs : List Call) (ts : List Told) (x : Call) (t : Told) (old mid new : Stage) → Ran strategies xs ts old mid → Takes strategies x t.reply t.entries mid new → Ran strategies (xs ++ x ∷ []) (ts ++ t ∷ []) old new

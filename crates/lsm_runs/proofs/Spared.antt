@@ -1,5 +1,5 @@
 -- No step of a run changes an answer that it is not to change.
-use Rattle.std.proofs.Common.{◌≡◌, ℕ, ◌≤◌, List, [], ◌∷◌, ◌++◌, Option, Some, None, map, refl, sym, ap, ◌∙◌, subst, append_assoc}
+use Rattle.std.proofs.Common.{◌≡◌, inl, inr, ℕ, ◌≤◌, List, [], ◌∷◌, ◌++◌, Option, Some, None, map, refl, sym, ap, ◌∙◌, subst, append_assoc}
 use Rattle.std.specs.List.{AllByRecursion}
 use Rattle.lsm_below.specs.Keys.{Bytes}
 use Rattle.lsm_below.specs.Entries.{Entry}
@@ -13,21 +13,20 @@ use Rattle.lsm_model.specs.declared.question.Question.{Question}
 use Rattle.lsm_iter.specs.Guards.{Pair}
 use Rattle.lsm_state.specs.Core.{Core, state_of}
 use Rattle.lsm_state.specs.Calls.{Rotates}
-use Rattle.lsm_state.specs.FlushReads.{FlushesKeepReads}
-use Rattle.lsm_noted.specs.NotedReads.{NotedCompactionsKeepReads}
 use Rattle.lsm_runs.specs.declared.steps.Counter.{Counter}
 use Rattle.lsm_runs.specs.declared.steps.Counter.TheVariants.{Seqno, Visible}
 use Rattle.lsm_runs.specs.declared.steps.Step.{Step as Call}
-use Rattle.lsm_runs.specs.declared.steps.Step.TheVariants.{Insert, Remove, RemoveWeak, AppendEntry, Write, Get, GetInternalEntry, ContainsKey, SizeOf, Range, Iter, Prefix, Len, IsEmpty, FirstKeyValue, LastKeyValue, RotateMemtable, Next, Set, FetchMax, AtSlot, Flush, FlushActiveMemtable, Compact, DoCompaction, MajorCompact, DropRange, GetNextTableId, SetMoment, Count as CountOf, IsUncertain, IsCompacting}
+use Rattle.lsm_runs.specs.declared.steps.Step.TheVariants.{Insert, Remove, RemoveWeak, AppendEntry, Write, Get, GetInternalEntry, ContainsKey, SizeOf, Range, Iter, Prefix, Len, IsEmpty, FirstKeyValue, LastKeyValue, RotateMemtable, Next, Set, FetchMax, AtSlot, Flush, FlushActiveMemtable, Compact, DoCompaction, MajorCompact, DropRange, Clear, ClearActiveMemtable, GetNextTableId, SetMoment, Count as CountOf, IsUncertain, IsCompacting}
 use Rattle.lsm_runs.specs.declared.steps.Reply.{Reply}
 use Rattle.lsm_runs.specs.declared.steps.Reply.TheVariants.{Value, Entry as EntryOf, Pairs, Sizes, Number, Sealed, Done, Refused}
 use Rattle.lsm_runs.specs.Told.{Told}
 use Rattle.lsm_runs.specs.ReadSteps.{TakesGet, TakesGetEntry, TakesPairs}
 use Rattle.lsm_runs.specs.Slots.{Stage, at_first}
 use Rattle.lsm_runs.specs.Compacting.{Strategies}
-use Rattle.lsm_runs.specs.Runs.{Takes, TakesAlone, RanToEnd, TakesEntry, TakesBatch, TakesRotate, TakesNext, TakesCounter, with_counter, Ran, journal_of, without_low_reads, Spares, RanSparing, RunSparesAnswers}
+use Rattle.lsm_runs.specs.Runs.{Takes, TakesAlone, RanToEnd, TakesEntry, TakesBatch, TakesRotate, TakesNext, TakesCounter, with_counter, Ran, IsPlainUse, journal_of, without_low_reads, Spares, RanSparing, RunSparesAnswers}
 use Rattle.lsm_runs.proofs.LowReads.{without-append, writes_without, order_without}
-use Rattle.lsm_runs.proofs.Keeping.{kept_spares}
+use Rattle.lsm_runs.proofs.Keeping.{KeepLaws, kept_spares}
+use Rattle.lsm_runs.proofs.Clearing.{clear_after}
 use Rattle.lsm_runs.proofs.FlushReplays.{flush_keeps, active_keeps, moment_keeps}
 use Rattle.lsm_runs.proofs.CompactionReplays.{compact_after, major_after, drop_after, table_id_after}
 use Rattle.lsm_runs.proofs.JobReplays.{flush_after, idle_after, job_after, AreMarked, first_marked}
@@ -99,56 +98,58 @@ put_spares : (theory : Soundness) (counter : Counter) (n : ℕ) (reply : Reply) 
 put_spares theory counter n Done events old new t = counter_spares theory counter n events old new t.1
 put_spares theory counter n reply events old new t = absurd t
 
-alone_spares : (theory : Soundness) (laws : FlushesKeepReads) (compactions : NotedCompactionsKeepReads) (strategies : Strategies) (opened : List Entry) (start : Map) (x : Call) (reply : Reply) (journal events : List Event) (old new : Core) → TakesAlone strategies x reply events old new → InOrder opened (journal ++ events) → Sound opened start journal old → Spares events old new
-alone_spares theory laws compactions strategies opened start (Insert k v n) reply journal events old new t order h = entry_spares theory opened start _ reply journal events old new t order h
-alone_spares theory laws compactions strategies opened start (Remove k n) reply journal events old new t order h = entry_spares theory opened start _ reply journal events old new t order h
-alone_spares theory laws compactions strategies opened start (RemoveWeak k n) reply journal events old new t order h = entry_spares theory opened start _ reply journal events old new t order h
-alone_spares theory laws compactions strategies opened start (AppendEntry e) reply journal events old new t order h = entry_spares theory opened start _ reply journal events old new t order h
-alone_spares theory laws compactions strategies opened start (Write ops) reply journal events old new t order h = batch_spares theory opened start ops reply journal events old new t order h
-alone_spares theory laws compactions strategies opened start (Get k s) reply journal events old new t order h = get_spares theory k s reply events old new t
-alone_spares theory laws compactions strategies opened start (GetInternalEntry k s) reply journal events old new t order h = get_entry_spares theory k s reply events old new t
-alone_spares theory laws compactions strategies opened start (ContainsKey k s) reply journal events old new t order h = still theory events old new t.1
-alone_spares theory laws compactions strategies opened start (SizeOf k s) reply journal events old new t order h = still theory events old new t.1
-alone_spares theory laws compactions strategies opened start (Range low high s) reply journal events old new t order h = pairs_spares theory _ _ s reply events old new t
-alone_spares theory laws compactions strategies opened start (Iter s) reply journal events old new t order h = pairs_spares theory _ _ s reply events old new t
-alone_spares theory laws compactions strategies opened start (Prefix p s) reply journal events old new t order h = pairs_spares theory _ _ s reply events old new t
-alone_spares theory laws compactions strategies opened start (Len s) reply journal events old new t order h = still theory events old new t.1
-alone_spares theory laws compactions strategies opened start (IsEmpty s) reply journal events old new t order h = still theory events old new t.1
-alone_spares theory laws compactions strategies opened start (FirstKeyValue s) reply journal events old new t order h = still theory events old new t.1
-alone_spares theory laws compactions strategies opened start (LastKeyValue s) reply journal events old new t order h = still theory events old new t.1
-alone_spares theory laws compactions strategies opened start RotateMemtable reply journal events old new t order h = rotate_spares theory opened start reply journal events old new t order h
-alone_spares theory laws compactions strategies opened start (Next counter) reply journal events old new t order h = next_spares theory counter reply events old new t
-alone_spares theory laws compactions strategies opened start (Set counter n) reply journal events old new t order h = put_spares theory counter _ reply events old new t
-alone_spares theory laws compactions strategies opened start (FetchMax counter n) reply journal events old new t order h = put_spares theory counter _ reply events old new t
-alone_spares theory laws compactions strategies opened start (Flush w) reply journal events old new t order h = kept_spares opened start journal events old new (flush_after journal events old new (flush_keeps theory laws w reply events old new t)) order h
-alone_spares theory laws compactions strategies opened start (FlushActiveMemtable w) reply journal events old new t order h = kept_spares opened start journal events old new (flush_after journal events old new (active_keeps theory laws w reply events old new t)) order h
-alone_spares theory laws compactions strategies opened start (Compact at w) reply journal events old new t order h = kept_spares opened start journal events old new (compact_after compactions (idle_after theory) strategies at _ reply journal events old new t) order h
-alone_spares theory laws compactions strategies opened start (DoCompaction at o) reply journal events old new t order h = kept_spares opened start journal events old new (compact_after compactions (idle_after theory) strategies at o reply journal events old new t) order h
-alone_spares theory laws compactions strategies opened start (MajorCompact target w) reply journal events old new t order h = kept_spares opened start journal events old new (major_after compactions (idle_after theory) target w reply journal events old new t) order h
-alone_spares theory laws compactions strategies opened start (DropRange low high) reply journal events old new t order h = kept_spares opened start journal events old new (drop_after compactions (idle_after theory) _ reply journal events old new t) order h
-alone_spares theory laws compactions strategies opened start GetNextTableId reply journal events old new t order h = kept_spares opened start journal events old new (table_id_after compactions (idle_after theory) reply journal events old new t) order h
-alone_spares theory laws compactions strategies opened start IsCompacting reply journal events old new t order h = still theory events old new t.1
-alone_spares theory laws compactions strategies opened start (SetMoment n) reply journal events old new t order h = kept_spares opened start journal events old new (flush_after journal events old new (moment_keeps theory laws n reply events old new t)) order h
-alone_spares theory laws compactions strategies opened start (CountOf what) reply journal events old new t order h = still theory events old new t.1
-alone_spares theory laws compactions strategies opened start IsUncertain reply journal events old new t order h = still theory events old new t.1
-alone_spares theory laws compactions strategies opened start (AtSlot slot step) reply journal events old new t order h = absurd t
+alone_spares : (laws : KeepLaws) (strategies : Strategies) (opened : List Entry) (start : Map) (x : Call) (reply : Reply) (journal events : List Event) (old new : Core) → TakesAlone strategies x reply events old new → (x ≡ ClearActiveMemtable → ⊥) → InOrder opened (journal ++ events) → Sound opened start journal old → Spares events old new
+alone_spares laws strategies opened start (Insert k v n) reply journal events old new t plain order h = entry_spares laws.theory opened start _ reply journal events old new t order h
+alone_spares laws strategies opened start (Remove k n) reply journal events old new t plain order h = entry_spares laws.theory opened start _ reply journal events old new t order h
+alone_spares laws strategies opened start (RemoveWeak k n) reply journal events old new t plain order h = entry_spares laws.theory opened start _ reply journal events old new t order h
+alone_spares laws strategies opened start (AppendEntry e) reply journal events old new t plain order h = entry_spares laws.theory opened start _ reply journal events old new t order h
+alone_spares laws strategies opened start (Write ops) reply journal events old new t plain order h = batch_spares laws.theory opened start ops reply journal events old new t order h
+alone_spares laws strategies opened start (Get k s) reply journal events old new t plain order h = get_spares laws.theory k s reply events old new t
+alone_spares laws strategies opened start (GetInternalEntry k s) reply journal events old new t plain order h = get_entry_spares laws.theory k s reply events old new t
+alone_spares laws strategies opened start (ContainsKey k s) reply journal events old new t plain order h = still laws.theory events old new t.1
+alone_spares laws strategies opened start (SizeOf k s) reply journal events old new t plain order h = still laws.theory events old new t.1
+alone_spares laws strategies opened start (Range low high s) reply journal events old new t plain order h = pairs_spares laws.theory _ _ s reply events old new t
+alone_spares laws strategies opened start (Iter s) reply journal events old new t plain order h = pairs_spares laws.theory _ _ s reply events old new t
+alone_spares laws strategies opened start (Prefix p s) reply journal events old new t plain order h = pairs_spares laws.theory _ _ s reply events old new t
+alone_spares laws strategies opened start (Len s) reply journal events old new t plain order h = still laws.theory events old new t.1
+alone_spares laws strategies opened start (IsEmpty s) reply journal events old new t plain order h = still laws.theory events old new t.1
+alone_spares laws strategies opened start (FirstKeyValue s) reply journal events old new t plain order h = still laws.theory events old new t.1
+alone_spares laws strategies opened start (LastKeyValue s) reply journal events old new t plain order h = still laws.theory events old new t.1
+alone_spares laws strategies opened start RotateMemtable reply journal events old new t plain order h = rotate_spares laws.theory opened start reply journal events old new t order h
+alone_spares laws strategies opened start (Next counter) reply journal events old new t plain order h = next_spares laws.theory counter reply events old new t
+alone_spares laws strategies opened start (Set counter n) reply journal events old new t plain order h = put_spares laws.theory counter _ reply events old new t
+alone_spares laws strategies opened start (FetchMax counter n) reply journal events old new t plain order h = put_spares laws.theory counter _ reply events old new t
+alone_spares laws strategies opened start (Flush w) reply journal events old new t plain order h = kept_spares opened start journal events old new (flush_after journal events old new (flush_keeps laws.theory laws.flushes w reply events old new t)) order h
+alone_spares laws strategies opened start (FlushActiveMemtable w) reply journal events old new t plain order h = kept_spares opened start journal events old new (flush_after journal events old new (active_keeps laws.theory laws.flushes w reply events old new t)) order h
+alone_spares laws strategies opened start (Compact at w) reply journal events old new t plain order h = kept_spares opened start journal events old new (compact_after laws.compactions (idle_after laws.theory) strategies at _ reply journal events old new t) order h
+alone_spares laws strategies opened start (DoCompaction at o) reply journal events old new t plain order h = kept_spares opened start journal events old new (compact_after laws.compactions (idle_after laws.theory) strategies at o reply journal events old new t) order h
+alone_spares laws strategies opened start (MajorCompact target w) reply journal events old new t plain order h = kept_spares opened start journal events old new (major_after laws.compactions (idle_after laws.theory) target w reply journal events old new t) order h
+alone_spares laws strategies opened start (DropRange low high) reply journal events old new t plain order h = kept_spares opened start journal events old new (drop_after laws.compactions (idle_after laws.theory) _ reply journal events old new t) order h
+alone_spares laws strategies opened start Clear reply journal events old new t plain order h = kept_spares opened start journal events old new (clear_after laws.clears reply journal events old new t) order h
+alone_spares laws strategies opened start ClearActiveMemtable reply journal events old new t plain order h = absurd (plain refl)
+alone_spares laws strategies opened start GetNextTableId reply journal events old new t plain order h = kept_spares opened start journal events old new (table_id_after laws.compactions (idle_after laws.theory) reply journal events old new t) order h
+alone_spares laws strategies opened start IsCompacting reply journal events old new t plain order h = still laws.theory events old new t.1
+alone_spares laws strategies opened start (SetMoment n) reply journal events old new t plain order h = kept_spares opened start journal events old new (flush_after journal events old new (moment_keeps laws.theory laws.flushes n reply events old new t)) order h
+alone_spares laws strategies opened start (CountOf what) reply journal events old new t plain order h = still laws.theory events old new t.1
+alone_spares laws strategies opened start IsUncertain reply journal events old new t plain order h = still laws.theory events old new t.1
+alone_spares laws strategies opened start (AtSlot slot step) reply journal events old new t plain order h = absurd t
 
-takes_spares : (theory : Soundness) (laws : FlushesKeepReads) (compactions : NotedCompactionsKeepReads) (strategies : Strategies) (opened : List Entry) (start : Map) (x : Call) (reply : Reply) (journal events : List Event) (old new : Stage) → Takes strategies x reply events old new → AreMarked journal old.jobs → InOrder opened (journal ++ events) → Sound opened start journal old.core → Spares events old.core new.core
-takes_spares theory laws compactions strategies opened start (AtSlot slot step) reply journal events old new t m order h =
-    kept_spares opened start journal events old.core new.core (job_after theory laws compactions strategies step reply journal events (old.jobs slot) (new.jobs slot) old.core new.core (m slot) t.0) order h
-takes_spares theory laws compactions strategies opened start x reply journal events old new t m order h = alone_spares theory laws compactions strategies opened start x reply journal events old.core new.core t.0 order h
+takes_spares : (laws : KeepLaws) (strategies : Strategies) (opened : List Entry) (start : Map) (x : Call) (reply : Reply) (journal events : List Event) (old new : Stage) → Takes strategies x reply events old new → (x ≡ ClearActiveMemtable → ⊥) → AreMarked journal old.jobs → InOrder opened (journal ++ events) → Sound opened start journal old.core → Spares events old.core new.core
+takes_spares laws strategies opened start (AtSlot slot step) reply journal events old new t plain m order h =
+    kept_spares opened start journal events old.core new.core (job_after laws strategies step reply journal events (old.jobs slot) (new.jobs slot) old.core new.core (m slot) t.0) order h
+takes_spares laws strategies opened start x reply journal events old new t plain m order h = alone_spares laws strategies opened start x reply journal events old.core new.core t.0 plain order h
 
-ran_sparing : (theory : Soundness) (laws : FlushesKeepReads) (compactions : NotedCompactionsKeepReads) (strategies : Strategies) (opened : List Entry) (start : Map) (xs : List Call) (ts : List Told) (journal : List Event) (old new : Stage) → Ran strategies xs ts old new → AreMarked journal old.jobs → InOrder opened (journal ++ journal_of ts) → Sound opened start journal old.core → RanSparing strategies xs ts old new
-ran_sparing theory laws compactions strategies opened start [] [] journal old new r m order h = r
-ran_sparing theory laws compactions strategies opened start [] (t ∷ ts) journal old new r m order h = absurd r
-ran_sparing theory laws compactions strategies opened start (x ∷ xs) [] journal old new r m order h = absurd r
-ran_sparing theory laws compactions strategies opened start (x ∷ xs) (t ∷ ts) journal old new r m order h =
+ran_sparing : (laws : KeepLaws) (strategies : Strategies) (opened : List Entry) (start : Map) (xs : List Call) (ts : List Told) (journal : List Event) (old new : Stage) → Ran strategies xs ts old new → IsPlainUse xs → AreMarked journal old.jobs → InOrder opened (journal ++ journal_of ts) → Sound opened start journal old.core → RanSparing strategies xs ts old new
+ran_sparing laws strategies opened start [] [] journal old new r plain m order h = r
+ran_sparing laws strategies opened start [] (t ∷ ts) journal old new r plain m order h = absurd r
+ran_sparing laws strategies opened start (x ∷ xs) [] journal old new r plain m order h = absurd r
+ran_sparing laws strategies opened start (x ∷ xs) (t ∷ ts) journal old new r plain m order h =
     let order' : InOrder opened ((journal ++ t.entries) ++ journal_of ts) = subst (InOrder opened) (sym (append_assoc journal t.entries (journal_of ts))) order in
-    let front = theory.kept.front opened (journal ++ t.entries) (journal_of ts) order' in
-    let here = takes_sound theory laws compactions strategies opened start x t.reply journal t.entries old r.0 r.1 m front h in
-    let marked = takes_marked compactions strategies x t.reply journal t.entries old r.0 r.1 m in
-    (r.0, r.1, takes_spares theory laws compactions strategies opened start x t.reply journal t.entries old r.0 r.1 m front h, ran_sparing theory laws compactions strategies opened start xs ts (journal ++ t.entries) r.0 new r.2 marked order' here)
+    let front = laws.theory.kept.front opened (journal ++ t.entries) (journal_of ts) order' in
+    let here = takes_sound laws strategies opened start x t.reply journal t.entries old r.0 r.1 (λ is. plain (inl is)) m front h in
+    let marked = takes_marked laws.compactions strategies x t.reply journal t.entries old r.0 r.1 m in
+    (r.0, r.1, takes_spares laws strategies opened start x t.reply journal t.entries old r.0 r.1 (λ is. plain (inl is)) m front h, ran_sparing laws strategies opened start xs ts (journal ++ t.entries) r.0 new r.2 (λ i. plain (inr i)) marked order' here)
 
-pub run_spares : (theory : Soundness) (laws : FlushesKeepReads) (compactions : NotedCompactionsKeepReads) (strategies : Strategies) (opened : List Entry) (start : Map) (xs : List Call) (ts : List Told) (old new : Core) → RanToEnd strategies xs ts old new → RunSparesAnswers strategies opened start xs ts old new
-run_spares theory laws compactions strategies opened start xs ts old new r is order =
-    (r.0, ran_sparing theory laws compactions strategies opened start xs ts [] (at_first old) r.0 r.1 (first_marked old) order (theory.kept.opened opened start (state_of [] old) is), r.2)
+pub run_spares : (laws : KeepLaws) (strategies : Strategies) (opened : List Entry) (start : Map) (xs : List Call) (ts : List Told) (old new : Core) → RanToEnd strategies xs ts old new → RunSparesAnswers strategies opened start xs ts old new
+run_spares laws strategies opened start xs ts old new r plain is order =
+    (r.0, ran_sparing laws strategies opened start xs ts [] (at_first old) r.0 r.1 plain (first_marked old) order (laws.theory.kept.opened opened start (state_of [] old) is), r.2)

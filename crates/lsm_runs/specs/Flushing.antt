@@ -1,14 +1,14 @@
 -- What a step of a flush may answer, add to the journal and do.
-use Rattle.std.specs.Prelude.{◌≡◌, ◌⊎◌, ℕ, Bool, true, List, [], Option, Some, None, IsSome, is_some, option_map, Result, Ok, Err, IfOk}
+use Rattle.std.specs.Prelude.{◌≡◌, ◌⊎◌, ℕ, Bool, true, List, [], Option, Some, None, IsSome, is_some, option_map, Result, Ok, Err, IfOk, IsErrOf}
 use Rattle.lsm_below.specs.declared.error.Error.{Error}
-use Rattle.lsm_below.specs.declared.error.Error.TheVariants.{OutOfMemory}
+use Rattle.lsm_below.specs.declared.error.Error.TheVariants.{OutOfMemory, CommitUnknown}
 use Rattle.lsm_model.specs.Journal.{Event}
 use Rattle.lsm_jobs.specs.Jobs.{SeenJob, SeenMerged, SeenWritten, IsMergedFrom}
 use Rattle.lsm_jobs.specs.declared.jobs.Registered.{Registered as Outcome}
 use Rattle.lsm_state.specs.Core.{Core}
 use Rattle.lsm_state.specs.Calls.{Rotates}
 use Rattle.lsm_state.specs.Deeds.{IsNoDeed}
-use Rattle.lsm_state.specs.Flushes.{Begins, WritesTables, Registers, IsFlushDeed, spent}
+use Rattle.lsm_state.specs.Flushes.{Begins, WritesTables, Registers, IsFlushDeed, IsLostFlush, spent}
 use Rattle.lsm_state.specs.WholeFlushes.{Flushes, MarksFlush, RefusesRotation}
 use Rattle.lsm_state.specs.FlushReads.{register_events, flush_events}
 use Rattle.lsm_runs.specs.declared.slots.Job.{Job}
@@ -60,7 +60,7 @@ TakesTables reply events was is old new = ⊥
 
 -- a job whose tables are written is registered: its slot is free whatever is answered
 abbrev pub RegistersFrom : Result Outcome Error → List Event → Option Job → Option Job → Core → Core → Type 0
-RegistersFrom r events was is old new = (job : SeenWritten) × (was ≡ Some (Written job)) × (is ≡ None) × (events ≡ register_events job.watermark old.seqno r) × Registers job r old new × IfOk r (λ a. a.installed ≡ true → IsFlushDeed job old new)
+RegistersFrom r events was is old new = (job : SeenWritten) × (was ≡ Some (Written job)) × (is ≡ None) × (events ≡ register_events job.watermark old.seqno r) × Registers job r old new × IfOk r (λ a. a.installed ≡ true → IsFlushDeed job old new) × (IsErrOf r CommitUnknown → IsLostFlush job old new)
 
 abbrev pub TakesRegister : Reply → List Event → Option Job → Option Job → Core → Core → Type 0
 TakesRegister (Registered a) events was is old new = RegistersFrom (Ok a) events was is old new

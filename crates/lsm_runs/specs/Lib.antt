@@ -4,7 +4,11 @@ pub mod ReadSteps
 pub mod CountSteps
 pub mod Flushing
 pub mod Compacting
+pub mod Clearing
 pub mod JobSteps
 pub mod Files
 pub mod Runs
 pub mod Counting
+pub mod Noting
+pub mod Crashes
+pub mod Lives

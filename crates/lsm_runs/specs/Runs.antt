@@ -4,6 +4,7 @@ use Rattle.std.specs.List.{AllByRecursion}
 use Rattle.std.specs.declared.ops.Bound.TheVariants.{Unbounded}
 use Rattle.lsm_below.specs.Keys.{Bytes}
 use Rattle.lsm_below.specs.Entries.{Entry, above, plain}
+use Rattle.lsm_below.specs.Members.{IsIn}
 use Rattle.lsm_model.specs.Journal.{Event, Map, InOrder}
 use Rattle.lsm_model.specs.Steps.{IsOpened, ReadsEqualReplay, StaysAt, IsSparedBy}
 use Rattle.lsm_model.specs.Ops.{op_entry, op_entries}
@@ -21,13 +22,14 @@ use Rattle.lsm_state.specs.WholeCompactions.{options_at}
 use Rattle.lsm_runs.specs.declared.steps.Counter.{Counter}
 use Rattle.lsm_runs.specs.declared.steps.Counter.TheVariants.{Seqno, Visible}
 use Rattle.lsm_runs.specs.declared.steps.Step.{Step}
-use Rattle.lsm_runs.specs.declared.steps.Step.TheVariants.{Insert, Remove, RemoveWeak, AppendEntry, Write, Get, GetInternalEntry, ContainsKey, SizeOf, Range, Iter, Prefix, Len, IsEmpty, FirstKeyValue, LastKeyValue, RotateMemtable, Next, Set, FetchMax, AtSlot, Flush, FlushActiveMemtable, Compact, DoCompaction, MajorCompact, DropRange, GetNextTableId, SetMoment, Count as CountOf, IsUncertain, IsCompacting}
+use Rattle.lsm_runs.specs.declared.steps.Step.TheVariants.{Insert, Remove, RemoveWeak, AppendEntry, Write, Get, GetInternalEntry, ContainsKey, SizeOf, Range, Iter, Prefix, Len, IsEmpty, FirstKeyValue, LastKeyValue, RotateMemtable, Next, Set, FetchMax, AtSlot, Flush, FlushActiveMemtable, Compact, DoCompaction, MajorCompact, DropRange, Clear, ClearActiveMemtable, GetNextTableId, SetMoment, Count as CountOf, IsUncertain, IsCompacting}
 use Rattle.lsm_runs.specs.declared.steps.Reply.{Reply}
 use Rattle.lsm_runs.specs.declared.steps.Reply.TheVariants.{Sizes, Number, Sealed, Done, Refused}
 use Rattle.lsm_runs.specs.ReadSteps.{TakesGet, TakesGetEntry, TakesSilent, IsContainsReply, IsSizeReply, TakesRange, TakesPrefix, IsLenReply, IsEmptyReply, IsEndReply, GetAnswers, GetEntryAnswers, ContainsAnswers, SizeAnswers, PairsAnswer, LenAnswers, EmptyAnswers, EndAnswers}
 use Rattle.lsm_runs.specs.CountSteps.{IsCounted, IsUncertainReply}
 use Rattle.lsm_runs.specs.Flushing.{TakesFlush, TakesFlushActive, TakesMoment}
 use Rattle.lsm_runs.specs.Compacting.{Strategies, TakesCompact, TakesMajor, TakesDropRange, TakesTableId, IsCompactingReply}
+use Rattle.lsm_runs.specs.Clearing.{TakesClear, TakesForget}
 use Rattle.lsm_runs.specs.JobSteps.{TakesInSlot}
 use Rattle.lsm_runs.specs.Slots.{Stage, at_first, Closes}
 use Rattle.lsm_runs.specs.Told.{Told}
@@ -101,6 +103,8 @@ TakesAlone strategies (Compact at w) reply events old new = TakesCompact strateg
 TakesAlone strategies (DoCompaction at o) reply events old new = TakesCompact strategies at o reply events old new
 TakesAlone strategies (MajorCompact target w) reply events old new = TakesMajor target w reply events old new
 TakesAlone strategies (DropRange low high) reply events old new = TakesDropRange (record { start = low; end = high }) reply events old new
+TakesAlone strategies Clear reply events old new = TakesClear reply events old new
+TakesAlone strategies ClearActiveMemtable reply events old new = TakesForget reply events old new
 TakesAlone strategies GetNextTableId reply events old new = TakesTableId reply events old new
 TakesAlone strategies (SetMoment n) reply events old new = TakesMoment n reply events old new
 TakesAlone strategies (CountOf what) reply events old new = TakesSilent (IsCounted what old) reply events old new
@@ -143,6 +147,10 @@ abbrev pub journal_of : List Told → List Event
 journal_of [] = []
 journal_of (t ∷ ts) = t.entries ++ journal_of ts
 
+-- plain use: no step forgets what isn't flushed
+abbrev pub IsPlainUse : List Step → Type 0
+IsPlainUse steps = IsIn ClearActiveMemtable steps → ⊥
+
 -- ---- what the reads answer
 
 -- a step answers right, if it reads
@@ -175,12 +183,12 @@ is_no_low_read opened event = true
 abbrev pub without_low_reads : List Entry → List Event → List Event
 without_low_reads opened journal = filter (is_no_low_read opened) journal
 
--- From a tree as opening left it, whenever the journal is in order: each step answers right, every super version
--- stays ordered, views equal replays, and kept snapshots are answered. In order speaks of the journal alone: a
+-- From a tree as opening left it, in plain use, whenever the journal is in order: each step answers right, every super
+-- version stays ordered, views equal replays, and kept snapshots are answered. In order speaks of the journal alone: a
 -- counter that is set back is no matter for it, so long as the writes themselves keep their order.
 abbrev pub RunEqualsReplay : (opened : List Entry) (start : Map) → List Step → List Told → Core → Core → Type 0
 RunEqualsReplay opened start steps told old new =
-    IsOpened opened start (state_of [] old) → InOrder opened (journal_of told)
+    IsPlainUse steps → IsOpened opened start (state_of [] old) → InOrder opened (journal_of told)
     → EachAnswers opened start [] steps told × ReadsEqualReplay opened start (state_of (without_low_reads opened (journal_of told)) new)
 
 -- ---- what the steps leave
@@ -196,7 +204,7 @@ RanSparing strategies (x ∷ xs) (t ∷ ts) old new = (mid : Stage) × Takes str
 RanSparing strategies [] (t ∷ ts) old new = ⊥
 RanSparing strategies (x ∷ xs) [] old new = ⊥
 
--- From a tree as opening left it, whenever the journal is in order, no step changes what a snapshot sees that is
--- answered before and after, but a write, a clear or a drop at the snapshots above its sequence number.
+-- From a tree as opening left it, in plain use, whenever the journal is in order, no step changes what a snapshot sees
+-- that is answered before and after, but a write, a clear or a drop at the snapshots above its sequence number.
 abbrev pub RunSparesAnswers : Strategies → (opened : List Entry) (start : Map) → List Step → List Told → Core → Core → Type 0
-RunSparesAnswers strategies opened start steps told old new = IsOpened opened start (state_of [] old) → InOrder opened (journal_of told) → (last : Stage) × RanSparing strategies steps told (at_first old) last × Closes last.core new
+RunSparesAnswers strategies opened start steps told old new = IsPlainUse steps → IsOpened opened start (state_of [] old) → InOrder opened (journal_of told) → (last : Stage) × RanSparing strategies steps told (at_first old) last × Closes last.core new

@@ -4,13 +4,19 @@
 //! |-|-|
 //! | `steps` | calls as data, and what each replies |
 //! | `slots` | jobs that wait for their next call |
-//! | `runner` | a list of calls on a tree, with the replay theorem |
+//! | `runner` | a list of calls on a tree, with the replay theorem, and what a crash leaves |
+//! | `life` | a tree from its opening on, and what a crash leaves of it |
+//! | `watch` | who is told of a run, step by step |
 #![tactic(auto)]
 
+mod life;
 mod runner;
 mod slots;
 mod steps;
+mod watch;
 
-pub use runner::run;
+pub use life::{crashes_begin_lives, live};
+pub use runner::{run, run_told};
 pub use slots::Slot;
 pub use steps::{Compacted, Count, Counter, JobStep, Outcome, Reply, Step};
+pub use watch::Watch;

@@ -1,5 +1,5 @@
 // A list of calls on a tree, with the replay theorem.
-ghost use Rattle.std.specs.Prelude.{◌≡◌, ◌≤◌, ◌++◌, ◌∷◌, [], List, max, map, take, length, IfOk, OnOk, OnErr};
+ghost use Rattle.std.specs.Prelude.{◌≡◌, ◌≤◌, ◌++◌, ◌∷◌, [], List, map, take, length, IfOk, OnOk, OnErr};
 ghost use Rattle.lsm_below.specs.Entries.{Entry, plain};
 ghost use Rattle.lsm_model.specs.Journal.{Map};
 ghost use Rattle.lsm_model.specs.Ops.{op_entry, op_entries};
@@ -8,20 +8,29 @@ ghost use Rattle.lsm_model.specs.declared.journal.JournalEntry.TheVariants.{Writ
 ghost use Rattle.lsm_runs.specs.Told.{Told};
 ghost use Rattle.lsm_runs.specs.Counting.{RunIsInOrder};
 ghost use Rattle.lsm_runs.specs.ReadSteps.{TakesGet, TakesGetEntry, TakesSilent, IsContainsReply, IsSizeReply};
+ghost use Rattle.lsm_state.specs.Commits.{Upholds};
 ghost use Rattle.lsm_runs.specs.Files.{StaysStored, LeavesFiles};
+ghost use Rattle.lsm_runs.specs.Crashes.{watched, RanWatched, RunLeaves, RunRecovers};
 ghost use Rattle.lsm_runs.specs.Compacting.{strategies_of};
 ghost use Rattle.lsm_runs.specs.Slots.{beside, SameJobs};
-ghost use Rattle.lsm_runs.specs.Runs.{Takes, TakesEntry, TakesBatch, TakesRotate, TakesNext, TakesCounter, counter_of, told_entry, told_batch, Ran, RanToEnd, RunEqualsReplay, RunSparesAnswers};
+ghost use Rattle.lsm_runs.specs.Runs.{Takes, TakesEntry, TakesBatch, TakesRotate, told_entry, told_batch, Ran, RanToEnd, RunEqualsReplay, RunSparesAnswers};
 
 use crate::slots::Slots;
-use crate::{Counter, Outcome, Reply, Step};
+use crate::watch::Unwatched;
+use crate::{Outcome, Reply, Step, Watch};
 use lsm_below::{InternalValue, SeqNo, UserKey, UserValue, ValueType, share};
 use lsm_journal::read_entry;
-use lsm_model::{Answer, JournalEntry, Op, Question, counted_is_in_order, reads_are_sound};
+use lsm_manifest::found_tables_show;
+use lsm_model::{
+    Answer, JournalEntry, Op, Question, counted_is_in_order, deeds_join, every_crash_recovers,
+    reads_are_sound,
+};
 use lsm_noted::noted_compactions_keep_reads;
 use lsm_parts::Error;
 use lsm_pick::CompactionStrategy;
-use lsm_state::{TreeState, flushes_keep_reads, lists_are_steps};
+use lsm_state::{
+    TreeState, clears_keep_reads, flushes_are_deeds, flushes_keep_reads, lists_are_steps,
+};
 use lsm_store::Store;
 use std::alloc::{AllocError, Global};
 
@@ -259,7 +268,7 @@ fn size_of<S: Store>(alloc: Global, state: &TreeState<S>, key: &UserKey, snapsho
     }
 }
 
-// ---- rotation and counters
+// ---- rotation
 
 fn rotate_memtable<S: Store>(alloc: Global, state: &mut TreeState<S>) -> Outcome
     ensures takes { TakesRotate result.reply result.entries state.old.core state.new.core }
@@ -269,47 +278,6 @@ fn rotate_memtable<S: Store>(alloc: Global, state: &mut TreeState<S>) -> Outcome
         Ok(sealed) => silent(alloc, Reply::Sealed(sealed)),
         Err(error) => refused(alloc, error),
     }
-}
-
-fn next<S: Store>(alloc: Global, state: &mut TreeState<S>, counter: Counter) -> Outcome
-    ensures takes { TakesNext counter result.reply result.entries state.old.core state.new.core }
-    ensures store { state.new.store ≡ state.old.store }
-{
-    let drawn = match counter {
-        Counter::Seqno => state.seqno_mut().next(),
-        Counter::Visible => state.visible_seqno_mut().next(),
-    };
-    match drawn {
-        Ok(number) => silent(alloc, Reply::Number(number)),
-        Err(error) => refused(alloc, error),
-    }
-}
-
-fn set<S: Store>(alloc: Global, state: &mut TreeState<S>, counter: Counter, seqno: SeqNo) -> Outcome
-    ensures takes { TakesCounter counter seqno result.reply result.entries state.old.core state.new.core }
-    ensures store { state.new.store ≡ state.old.store }
-{
-    match counter {
-        Counter::Seqno => state.seqno_mut().set(seqno),
-        Counter::Visible => state.visible_seqno_mut().set(seqno),
-    }
-    silent(alloc, Reply::Done)
-}
-
-fn fetch_max<S: Store>(
-    alloc: Global,
-    state: &mut TreeState<S>,
-    counter: Counter,
-    seqno: SeqNo,
-) -> Outcome
-    ensures takes { TakesCounter counter (max (counter_of counter state.old.core) seqno) result.reply result.entries state.old.core state.new.core }
-    ensures store { state.new.store ≡ state.old.store }
-{
-    match counter {
-        Counter::Seqno => state.seqno_mut().fetch_max(seqno),
-        Counter::Visible => state.visible_seqno_mut().fetch_max(seqno),
-    }
-    silent(alloc, Reply::Done)
 }
 
 // ---- runs
@@ -325,7 +293,7 @@ fn take_step<S: Store>(
     ensures ok { IfOk result (λ told. Takes (strategies_of (λ b. may_choose b) (λ b. may_refuse b) strategies.now) step.now told.reply told.entries (beside state.old.core slots.old) (beside state.new.core slots.new)) }
     ensures err { OnErr result (state.new ≡ state.old) }
     ensures slots_err { OnErr result (SameJobs slots.old slots.new) }
-    ensures files { S.tells → LeavesFiles S.world step.now state.old.store state.new.store state.old.core state.new.core }
+    ensures files { S.tells → OnOk result (LeavesFiles S.world step.now state.old.store state.new.store state.old.core state.new.core) }
 {
     match step {
         Step::Insert(key, value, seqno) => insert(alloc, state, key, value, *seqno),
@@ -345,9 +313,9 @@ fn take_step<S: Store>(
         Step::FirstKeyValue(snapshot) => Ok(ranges::first_key_value(alloc, state, *snapshot)),
         Step::LastKeyValue(snapshot) => Ok(ranges::last_key_value(alloc, state, *snapshot)),
         Step::RotateMemtable => Ok(rotate_memtable(alloc, state)),
-        Step::Next(counter) => Ok(next(alloc, state, *counter)),
-        Step::Set(counter, seqno) => Ok(set(alloc, state, *counter, *seqno)),
-        Step::FetchMax(counter, seqno) => Ok(fetch_max(alloc, state, *counter, *seqno)),
+        Step::Next(counter) => Ok(counters::next(alloc, state, *counter)),
+        Step::Set(counter, seqno) => Ok(counters::set(alloc, state, *counter, *seqno)),
+        Step::FetchMax(counter, seqno) => Ok(counters::fetch_max(alloc, state, *counter, *seqno)),
         Step::AtSlot(slot, call) => jobs::at_slot(alloc, state, slots, strategies, *slot, *call),
         Step::Flush(watermark) => flushes::flush(alloc, state, *watermark),
         Step::FlushActiveMemtable(watermark) => flushes::flush_active(alloc, state, *watermark),
@@ -361,6 +329,8 @@ fn take_step<S: Store>(
             compactions::major_compact(alloc, state, *target, *watermark)
         }
         Step::DropRange(low, high) => compactions::drop_range(alloc, state, low, high),
+        Step::Clear => clears::clear(alloc, state),
+        Step::ClearActiveMemtable => Ok(clears::clear_active_memtable(alloc, state)),
         Step::GetNextTableId => Ok(compactions::get_next_table_id(alloc, state)),
         Step::SetMoment(moment) => Ok(flushes::set_moment(alloc, state, *moment)),
         Step::Count(what) => Ok(counts::count(alloc, state, *what)),
@@ -382,32 +352,81 @@ fn add_step<S: Store>(
     ensures err { OnErr result (state.new ≡ state.old) }
     ensures slots_err { OnErr result (SameJobs slots.old slots.new) }
     ensures outcomes_err { OnErr result (outcomes.new.items ≡ outcomes.old.items) }
-    ensures stored { S.tells → StaysStored (S.world state.old.store) (S.world state.new.store) state.old.core state.new.core }
+    ensures upholds { S.tells → Upholds (S.world state.old.store) (S.world state.new.store) state.old.core state.new.core }
 {
+    state.is_upheld();
     outcomes.try_reserve(1)?;
     let outcome = take_step(alloc, state, slots, strategies, step)?;
     outcomes.push(outcome)?;
     Ok(())
 }
 
-fn take_steps<S: Store>(
+fn take_steps<S: Store, W: Watch>(
     alloc: Global,
     state: &mut TreeState<S>,
     slots: &mut Slots,
     strategies: &[Box<dyn CompactionStrategy>],
     steps: &[Step],
+    watch: &mut W,
 ) -> Vec<Outcome>
     ensures bound { length result.items ≤ length steps.now }
     ensures ran { Ran (strategies_of (λ b. may_choose b) (λ b. may_refuse b) strategies.now) (take (length result.items) steps.now) result.items (beside state.old.core slots.old) (beside state.new.core slots.new) }
     ensures stored { S.tells → StaysStored (S.world state.old.store) (S.world state.new.store) state.old.core state.new.core }
+    ensures watched { S.tells → RanWatched S.world W.gives (strategies_of (λ b. may_choose b) (λ b. may_refuse b) strategies.now) (take (length result.items) steps.now) result.items (watched state.old slots.old watch.old) (watched state.new slots.new watch.new) }
 {
     let mut outcomes = Vec::new(alloc);
     for step in steps {
         match add_step(alloc, state, slots, strategies, step, &mut outcomes) {
-            Ok(()) => {}
+            Ok(()) => watch.told(state),
             Err(_) => return outcomes,
         }
     }
+    outcomes
+}
+
+/// Takes the steps in turn, as `run`, and tells a watcher after each. From the moment that the watcher is told on, a crash
+/// leaves a beginning of the calls that holds all that was covered by then (`crashes`): each memtable whose flush was
+/// installed, and each answered clear.
+///
+/// # Examples
+///
+/// ```text
+/// let outcomes = run_told(alloc, &mut tree, &strategies, &steps, &mut watch);
+/// ```
+pub fn run_told<S: Store, W: Watch>(
+    alloc: Global,
+    state: &mut TreeState<S>,
+    strategies: &[Box<dyn CompactionStrategy>],
+    steps: &[Step],
+    watch: &mut W,
+) -> Vec<Outcome>
+    ensures bound { length result.items ≤ length steps.now }
+    ensures ran { RanToEnd (strategies_of (λ b. may_choose b) (λ b. may_refuse b) strategies.now) (take (length result.items) steps.now) result.items state.old.core state.new.core }
+    ensures replays { (opened : List Entry) (start : Map) → RunEqualsReplay opened start (take (length result.items) steps.now) result.items state.old.core state.new.core }
+    ensures spares { (opened : List Entry) (start : Map) → RunSparesAnswers (strategies_of (λ b. may_choose b) (λ b. may_refuse b) strategies.now) opened start (take (length result.items) steps.now) result.items state.old.core state.new.core }
+    ensures in_order { RunIsInOrder (strategies_of (λ b. may_choose b) (λ b. may_refuse b) strategies.now) (take (length result.items) steps.now) result.items state.old.core state.new.core }
+    // Each flush and each merge that a step begins ends or is given up, at the latest when the run ends.
+    ensures flush { state.new.core.flush ≡ state.old.core.flush }
+    ensures merges { state.new.core.merges.underway ≡ state.old.core.merges.underway }
+    ensures stored { S.tells → StaysStored (S.world state.old.store) (S.world state.new.store) state.old.core state.new.core }
+    // What a crash leaves at each moment.
+    ensures crashes { S.tells → (opened : List Entry) (start : Map) → RunRecovers S.world W.gives (strategies_of (λ b. may_choose b) (λ b. may_refuse b) strategies.now) opened start (take (length result.items) steps.now) result.items state.old.store state.new.store watch.old watch.new state.old.core }
+{
+    every_crash_recovers();
+    found_tables_show();
+    deeds_join();
+    flushes_are_deeds();
+    reads_are_sound();
+    lists_are_steps();
+    flushes_keep_reads();
+    noted_compactions_keep_reads();
+    clears_keep_reads();
+    counted_is_in_order();
+    state.facts();
+    let mut slots = Slots::new(alloc);
+    let outcomes = take_steps(alloc, state, &mut slots, strategies, steps, watch);
+    state.is_upheld();
+    jobs::give_up_all(state, slots);
     outcomes
 }
 
@@ -420,8 +439,10 @@ fn take_steps<S: Store>(
 /// one that waits when the run ends is given up: each flush and each merge that a step begins ends within the run (`flush`,
 /// `merges`). A step costs what its call costs, and a list of pairs is kept once, for the reply and the journal.
 ///
-/// Without an index the replay theorem holds (`replays`), no step changes what it is not to change (`spares`), and
-/// the premise of both follows from the order that callers keep by the counter (`in_order`).
+/// Without an index, and where no step forgets what isn't flushed (`ClearActiveMemtable`), the replay theorem holds
+/// (`replays`) and no step changes what it is not to change (`spares`). That the journal is in order, the other premise of both,
+/// follows from the order that callers keep by the counter (`in_order`). Over a store that holds the tree's files a crash at any
+/// moment of the run leaves a beginning of its calls, and behind the run one that holds all that it covered (`crashes`).
 ///
 /// # Examples
 ///
@@ -442,21 +463,16 @@ pub fn run<S: Store>(
     // Each flush and each merge that a step begins ends or is given up, at the latest when the run ends.
     ensures flush { state.new.core.flush ≡ state.old.core.flush }
     ensures merges { state.new.core.merges.underway ≡ state.old.core.merges.underway }
+    // What a crash leaves at each moment.
+    ensures crashes { S.tells → (opened : List Entry) (start : Map) → RunLeaves S.world (strategies_of (λ b. may_choose b) (λ b. may_refuse b) strategies.now) opened start (take (length result.items) steps.now) result.items state.old.store state.new.store state.old.core }
     ensures stored { S.tells → StaysStored (S.world state.old.store) (S.world state.new.store) state.old.core state.new.core }
 {
-    reads_are_sound();
-    lists_are_steps();
-    flushes_keep_reads();
-    noted_compactions_keep_reads();
-    counted_is_in_order();
-    state.facts();
-    let mut slots = Slots::new(alloc);
-    let outcomes = take_steps(alloc, state, &mut slots, strategies, steps);
-    jobs::give_up_all(state, slots);
-    outcomes
+    run_told(alloc, state, strategies, steps, &mut Unwatched)
 }
 
+mod clears;
 mod compactions;
+mod counters;
 mod counts;
 mod flushes;
 mod jobs;

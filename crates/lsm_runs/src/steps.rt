@@ -139,6 +139,10 @@ pub enum Step {
     MajorCompact(u64, SeqNo),
     /// Drops the tables whose whole key range lies within bounds.
     DropRange(Bound<UserKey>, Bound<UserKey>),
+    /// Clears the tree.
+    Clear,
+    /// Forgets what isn't flushed. The replay theorem isn't promised of a run that has this step.
+    ClearActiveMemtable,
     /// Draws an id for a table.
     GetNextTableId,
     /// Sets the moment at which tables are made.
@@ -191,7 +195,10 @@ pub enum Reply {
     Pair(Option<KvPair>),
     /// Of a rotation: the id of the memtable that was sealed, or None where it was empty.
     Sealed(Option<MemtableId>),
-    /// Of a counter or a moment that was set, of a job that was merged, written or given up: nothing.
+    /// Of a clear: the sequence number of its commit.
+    Cleared(SeqNo),
+    /// Of a counter or a moment that was set, of a job that was merged, written or given up, of unflushed entries that were
+    /// to be forgotten: nothing.
     Done,
     /// Of a flush that is to be begun: whether a job waits in the slot now, or nothing is sealed.
     Begun(bool),
@@ -215,8 +222,8 @@ pub enum Reply {
     NoJob,
     /// Of a job that is to be begun: another one waits in the slot. Nothing changed.
     SlotInUse,
-    /// The step was refused. It changed nothing, but that a flush or a compaction may have used numbers and ids, and a job
-    /// that was to be registered or to end is spent; behind `AfterCommit` a compaction is installed.
+    /// The step was refused. It changed nothing, but that a flush, a compaction or a clear may have used numbers and ids, and a
+    /// job that was to be registered or to end is spent; behind `AfterCommit` a compaction is installed.
     Refused(Error),
 }
 
@@ -246,7 +253,7 @@ impl Outcome {
     /// What the step adds to the journal: an accepted write its entry, an accepted batch its entries in
     /// their order, an answered `Get`, `Range`, `Iter` or `Prefix` the read, a flush that comes to register a job
     /// its watermark, and the install where it is installed; a compaction its watermark when it begins, the ranges of the
-    /// tables that it drops, and the install where it is installed; nothing else adds any.
+    /// tables that it drops, and the install where it is installed; an answered clear the clear; nothing else adds any.
     pub fn entries(&self) -> &[JournalEntry]
         ensures { result.now ≡ self.now.entries }
     {

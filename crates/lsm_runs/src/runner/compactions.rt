@@ -4,7 +4,7 @@ ghost use Rattle.lsm_state.specs.WholeCompactions.{options_at};
 ghost use Rattle.lsm_noted.specs.Noted.{IsAnswerOf, noted_of};
 ghost use Rattle.lsm_runs.specs.Compacting.{strategies_of, reply_of, job_of, end_reply_of, TakesBeginCompaction, TakesRunCompaction, TakesFinish, TakesAbandonCompaction, DoesAnswer, CompactsFrom, TakesCompact, TakesMajor, TakesDropRange, TakesTableId, IsCompactingReply};
 ghost use Rattle.lsm_runs.specs.ReadSteps.{TakesSilent};
-ghost use Rattle.lsm_runs.specs.Files.{StaysStored};
+ghost use Rattle.lsm_state.specs.Commits.{Upholds};
 
 use super::{refused, silent};
 use crate::slots::Job;
@@ -80,8 +80,9 @@ pub(super) fn begin_compaction<S: Store>(
 ) -> Result<Outcome, AllocError>
     ensures ok { IfOk result (λ told. TakesBeginCompaction (strategies_of (λ b. may_choose b) (λ b. may_refuse b) strategies.now) at options told.reply told.entries place.old place.new state.old.core state.new.core) }
     ensures err { OnErr result ((state.new ≡ state.old) × (place.new ≡ place.old)) }
-    ensures stored { S.tells → StaysStored (S.world state.old.store) (S.world state.new.store) state.old.core state.new.core }
+    ensures upholds { S.tells → Upholds (S.world state.old.store) (S.world state.new.store) state.old.core state.new.core }
 {
+    state.is_upheld();
     if place.is_some() {
         return Ok(silent(alloc, Reply::SlotInUse));
     }
@@ -128,8 +129,9 @@ pub(super) fn finish_compaction<S: Store>(
 ) -> Result<Outcome, AllocError>
     ensures ok { IfOk result (λ told. TakesFinish told.reply told.entries place.old place.new state.old.core state.new.core) }
     ensures err { OnErr result ((state.new ≡ state.old) × (place.new ≡ place.old)) }
-    ensures stored { S.tells → StaysStored (S.world state.old.store) (S.world state.new.store) state.old.core state.new.core }
+    ensures upholds { S.tells → Upholds (S.world state.old.store) (S.world state.new.store) state.old.core state.new.core }
 {
+    state.is_upheld();
     let entries = finish_entries(alloc, state.seqno().get())?;
     let merged = match place.take() {
         Some(Job::Compacted(merged)) => merged,
@@ -169,7 +171,7 @@ pub(super) fn abandon_compaction<S: Store>(
 fn compact_noting<S: Store>(state: &mut TreeState<S>, chosen: Chosen, options: Options) -> Outcome
     requires { chosen.entries.items ≡ noted_of chosen.answer options.mvcc_gc_watermark state.old.core }
     ensures does { DoesAnswer chosen.answer options result.reply result.entries state.old.core state.new.core }
-    ensures stored { S.tells → StaysStored (S.world state.old.store) (S.world state.new.store) state.old.core state.new.core }
+    ensures upholds { S.tells → Upholds (S.world state.old.store) (S.world state.new.store) state.old.core state.new.core }
 {
     let (done, entries) = compact_chosen(state, chosen, options);
     let (reply, _) = of_begun(done);
@@ -185,8 +187,9 @@ pub(super) fn do_compaction<S: Store>(
 ) -> Result<Outcome, AllocError>
     ensures ok { IfOk result (λ told. TakesCompact (strategies_of (λ b. may_choose b) (λ b. may_refuse b) strategies.now) at options told.reply told.entries state.old.core state.new.core) }
     ensures err { OnErr result (state.new ≡ state.old) }
-    ensures stored { S.tells → StaysStored (S.world state.old.store) (S.world state.new.store) state.old.core state.new.core }
+    ensures upholds { S.tells → Upholds (S.world state.old.store) (S.world state.new.store) state.old.core state.new.core }
 {
+    state.is_upheld();
     let Some(strategy) = strategies.get(at) else {
         return Ok(silent(alloc, Reply::NoStrategy));
     };
@@ -213,7 +216,7 @@ pub(super) fn compact<S: Store>(
 ) -> Result<Outcome, AllocError>
     ensures ok { IfOk result (λ told. TakesCompact (strategies_of (λ b. may_choose b) (λ b. may_refuse b) strategies.now) at (options_at watermark state.old.core) told.reply told.entries state.old.core state.new.core) }
     ensures err { OnErr result (state.new ≡ state.old) }
-    ensures stored { S.tells → StaysStored (S.world state.old.store) (S.world state.new.store) state.old.core state.new.core }
+    ensures upholds { S.tells → Upholds (S.world state.old.store) (S.world state.new.store) state.old.core state.new.core }
 {
     let options = options_of(state, watermark);
     do_compaction(alloc, state, strategies, at, options)
@@ -228,8 +231,9 @@ fn compact_with<S: Store, C: CompactionStrategy>(
 ) -> Result<Outcome, AllocError>
     ensures ok { IfOk result (λ told. CompactsFrom (C.may_choose strategy.now) (C.may_refuse strategy.now) (options_at watermark state.old.core) told.reply told.entries state.old.core state.new.core) }
     ensures err { OnErr result (state.new ≡ state.old) }
-    ensures stored { S.tells → StaysStored (S.world state.old.store) (S.world state.new.store) state.old.core state.new.core }
+    ensures upholds { S.tells → Upholds (S.world state.old.store) (S.world state.new.store) state.old.core state.new.core }
 {
+    state.is_upheld();
     let options = options_of(state, watermark);
     let chosen = ask_with(alloc, state, strategy, watermark)?;
     Ok(compact_noting(state, chosen, options))
@@ -243,7 +247,7 @@ pub(super) fn major_compact<S: Store>(
 ) -> Result<Outcome, AllocError>
     ensures ok { IfOk result (λ told. TakesMajor target watermark told.reply told.entries state.old.core state.new.core) }
     ensures err { OnErr result (state.new ≡ state.old) }
-    ensures stored { S.tells → StaysStored (S.world state.old.store) (S.world state.new.store) state.old.core state.new.core }
+    ensures upholds { S.tells → Upholds (S.world state.old.store) (S.world state.new.store) state.old.core state.new.core }
 {
     compact_with(alloc, state, &Major::new(target), watermark)
 }
@@ -256,8 +260,9 @@ pub(super) fn drop_range<S: Store>(
 ) -> Result<Outcome, AllocError>
     ensures ok { IfOk result (λ told. TakesDropRange (record { start = low.now; end = high.now }) told.reply told.entries state.old.core state.new.core) }
     ensures err { OnErr result (state.new ≡ state.old) }
-    ensures stored { S.tells → StaysStored (S.world state.old.store) (S.world state.new.store) state.old.core state.new.core }
+    ensures upholds { S.tells → Upholds (S.world state.old.store) (S.world state.new.store) state.old.core state.new.core }
 {
+    state.is_upheld();
     let bounds = OwnedBounds {
         start: copy_bound(low)?,
         end: copy_bound(high)?,

@@ -3,7 +3,7 @@ ghost use Rattle.std.specs.Prelude.{◌≡◌, ◌∷◌, [], ℕ, IfOk, OnErr};
 ghost use Rattle.lsm_model.specs.declared.journal.JournalEntry.TheVariants.{Mark, Install};
 ghost use Rattle.lsm_state.specs.FlushReads.{flush_events};
 ghost use Rattle.lsm_runs.specs.Flushing.{TakesBegin, TakesRun, TakesTables, TakesRegister, TakesAbandon, TakesFlush, TakesFlushActive, TakesMoment, FlushesNoted, told_registered, told_flush, told_active};
-ghost use Rattle.lsm_runs.specs.Files.{StaysStored};
+ghost use Rattle.lsm_state.specs.Commits.{Upholds};
 
 use super::{one_entry, refused, silent};
 use crate::slots::Job;
@@ -72,8 +72,9 @@ pub(super) fn flush_to_tables<S: Store>(
     place: &mut Option<Job>,
 ) -> Outcome
     ensures takes { TakesTables result.reply result.entries place.old place.new state.old.core state.new.core }
-    ensures stored { S.tells → StaysStored (S.world state.old.store) (S.world state.new.store) state.old.core state.new.core }
+    ensures upholds { S.tells → Upholds (S.world state.old.store) (S.world state.new.store) state.old.core state.new.core }
 {
+    state.is_upheld();
     let job = match place.take() {
         Some(Job::Merged(job)) => job,
         other => {
@@ -138,8 +139,9 @@ pub(super) fn register_tables<S: Store>(
 ) -> Result<Outcome, AllocError>
     ensures ok { IfOk result (λ told. TakesRegister told.reply told.entries place.old place.new state.old.core state.new.core) }
     ensures err { OnErr result ((state.new ≡ state.old) × (place.new ≡ place.old)) }
-    ensures stored { S.tells → StaysStored (S.world state.old.store) (S.world state.new.store) state.old.core state.new.core }
+    ensures upholds { S.tells → Upholds (S.world state.old.store) (S.world state.new.store) state.old.core state.new.core }
 {
+    state.is_upheld();
     let job = match place.take() {
         Some(Job::Written(job)) => job,
         other => {
@@ -204,7 +206,7 @@ fn flush_noting<S: Store>(
 ) -> (Result<Option<(u64, Registered)>, Error>, Vec<JournalEntry>)
     requires { entries.items ≡ Mark watermark ∷ (Install state.old.core.seqno ∷ []) }
     ensures flushes { FlushesNoted watermark result.0 result.1.items state.old.core state.new.core }
-    ensures stored { S.tells → StaysStored (S.world state.old.store) (S.world state.new.store) state.old.core state.new.core }
+    ensures upholds { S.tells → Upholds (S.world state.old.store) (S.world state.new.store) state.old.core state.new.core }
 {
     let (flushed, marked) = state.flush_with_mark(watermark);
     let entries = noted(entries, marked, &flushed);
@@ -232,8 +234,9 @@ pub(super) fn flush<S: Store>(
 ) -> Result<Outcome, AllocError>
     ensures ok { IfOk result (λ told. TakesFlush watermark told.reply told.entries state.old.core state.new.core) }
     ensures err { OnErr result (state.new ≡ state.old) }
-    ensures stored { S.tells → StaysStored (S.world state.old.store) (S.world state.new.store) state.old.core state.new.core }
+    ensures upholds { S.tells → Upholds (S.world state.old.store) (S.world state.new.store) state.old.core state.new.core }
 {
+    state.is_upheld();
     let entries = flush_entries(alloc, watermark, state.seqno().get())?;
     let (flushed, entries) = flush_noting(state, watermark, entries);
     Ok(of_flush(entries, flushed))
@@ -261,8 +264,9 @@ pub(super) fn flush_active<S: Store>(
 ) -> Result<Outcome, AllocError>
     ensures ok { IfOk result (λ told. TakesFlushActive watermark told.reply told.entries state.old.core state.new.core) }
     ensures err { OnErr result (state.new ≡ state.old) }
-    ensures stored { S.tells → StaysStored (S.world state.old.store) (S.world state.new.store) state.old.core state.new.core }
+    ensures upholds { S.tells → Upholds (S.world state.old.store) (S.world state.new.store) state.old.core state.new.core }
 {
+    state.is_upheld();
     let entries = flush_entries(alloc, watermark, state.seqno().get())?;
     let sealed = match state.rotate_memtable() {
         Ok(sealed) => sealed,

@@ -1,5 +1,5 @@
 // Calls on the jobs that wait in slots, and the end of a run.
-ghost use Rattle.std.specs.Prelude.{◌≡◌, Option, IfOk, OnErr};
+ghost use Rattle.std.specs.Prelude.{◌≡◌, Option, IfOk, OnOk, OnErr};
 ghost use Rattle.lsm_jobs.specs.Jobs.{SeenOpen};
 ghost use Rattle.lsm_merges.specs.OpenMerges.{SeenMerges};
 ghost use Rattle.lsm_runs.specs.Compacting.{strategies_of};
@@ -25,7 +25,7 @@ fn take_job<S: Store>(
 ) -> Result<Outcome, AllocError>
     ensures ok { IfOk result (λ told. TakesJob (strategies_of (λ b. may_choose b) (λ b. may_refuse b) strategies.now) step told.reply told.entries place.old place.new state.old.core state.new.core) }
     ensures err { OnErr result ((state.new ≡ state.old) × (place.new ≡ place.old)) }
-    ensures files { S.tells → JobLeavesFiles S.world step state.old.store state.new.store state.old.core state.new.core }
+    ensures files { S.tells → OnOk result (JobLeavesFiles S.world step state.old.store state.new.store state.old.core state.new.core) }
 {
     match step {
         JobStep::BeginFlush => Ok(flushes::begin_flush(alloc, state, place)),
@@ -54,7 +54,7 @@ pub(super) fn at_slot<S: Store>(
     ensures ok { IfOk result (λ told. TakesInSlot (strategies_of (λ b. may_choose b) (λ b. may_refuse b) strategies.now) slot step told.reply told.entries (beside state.old.core slots.old) (beside state.new.core slots.new)) }
     ensures err { OnErr result (state.new ≡ state.old) }
     ensures slots_err { OnErr result (SameJobs slots.old slots.new) }
-    ensures files { S.tells → JobLeavesFiles S.world step state.old.store state.new.store state.old.core state.new.core }
+    ensures files { S.tells → OnOk result (JobLeavesFiles S.world step state.old.store state.new.store state.old.core state.new.core) }
 {
     make_room(slots, slot)?;
     let Some(place) = slots.get_mut(&slot) else {

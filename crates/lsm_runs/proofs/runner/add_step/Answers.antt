@@ -1,10 +1,10 @@
 use Rattle.lsm_runs.specs.Slots.{beside}
-use Rattle.lsm_runs.proofs.Files.{step_stored}
+use Rattle.lsm_runs.proofs.Files.{step_upheld}
 use Rattle.lsm_runs.proofs.runner.add_step.Goals as goal
 
-pub returns-clause-stored : goal.returns-clause-stored
-returns-clause-stored g c tells =
+pub returns-clause-upholds : goal.returns-clause-upholds
+returns-clause-upholds g c tells =
     let old = c.args.state.now in
     let new = c.take_step.new.state in
     let told = c.in_ok-outcome.outcome in
-    step_stored g.S.Store.world old.store new.store _ c.args.step.now told.reply told.entries (beside old.core c.args.slots.now) (beside new.core c.take_step.new.slots) c.in_ok-outcome.ensures.ok (c.take_step.ensures.files tells)
+    step_upheld g.S.Store.world old.store new.store _ c.args.step.now told.reply told.entries (beside old.core c.args.slots.now) (beside new.core c.take_step.new.slots) (c.is_upheld.ensures tells) c.in_ok-outcome.ensures.ok (c.in_ok-outcome.ensures.files tells)

@@ -1,43 +1,5 @@
-use Rattle.std.proofs.Common.{subst, sym}
-use Rattle.lsm_runs.specs.Slots.{beside}
-use Rattle.lsm_runs.proofs.Counting.{run_in_order}
-use Rattle.lsm_runs.proofs.Files.{closed_stored}
-use Rattle.lsm_runs.proofs.GivingUp.{all_closes}
-use Rattle.lsm_runs.proofs.OpenMerges.{KeepsStart, start_kept, ran_kept}
-use Rattle.lsm_runs.proofs.Replays.{run_replays, run_to_end, free_slots}
-use Rattle.lsm_runs.proofs.Spared.{run_spares}
+use Rattle.lsm_runs.proofs.Crashed.{run_leaves}
 use Rattle.lsm_runs.proofs.runner.run.Goals as goal
 
-pub returns-clause-ran : goal.returns-clause-ran
-returns-clause-ran g c =
-    let mid = c.take_steps-outcomes.new.state.core in
-    run_to_end _ _ _ c.new-slots.result c.args.state.now.core (beside mid c.take_steps-outcomes.new.slots) _ c.new-slots.ensures.empty c.take_steps-outcomes.ensures.ran
-    (all_closes c.take_steps-outcomes.new.slots.entries mid _ c.give_up_all.ensures.core)
-
-pub returns-clause-replays : goal.returns-clause-replays
-returns-clause-replays g c opened start = run_replays c.lists_are_steps.ensures c.reads_are_sound.ensures c.flushes_keep_reads.ensures c.noted_compactions_keep_reads.ensures _ opened start _ _ _ _ (returns-clause-ran g c)
-
-pub returns-clause-spares : goal.returns-clause-spares
-returns-clause-spares g c opened start = run_spares c.reads_are_sound.ensures c.flushes_keep_reads.ensures c.noted_compactions_keep_reads.ensures _ opened start _ _ _ _ (returns-clause-ran g c)
-
-pub returns-clause-in_order : goal.returns-clause-in_order
-returns-clause-in_order g c = run_in_order c.counted_is_in_order.ensures _ _ _ _ _ (returns-clause-ran g c)
-
-pub returns-clause-flush : goal.returns-clause-flush
-returns-clause-flush g c =
-    let old = c.args.state.now.core in
-    c.give_up_all.ensures.flush old.flush
-    (ran_kept _ old _ _ (beside old c.new-slots.result) (beside c.take_steps-outcomes.new.state.core c.take_steps-outcomes.new.slots) c.take_steps-outcomes.ensures.ran
-    (subst (KeepsStart old) (sym (free_slots c.new-slots.result old c.new-slots.ensures.empty)) (start_kept old c.facts.ensures.merges))).0
-
-pub returns-clause-merges : goal.returns-clause-merges
-returns-clause-merges g c =
-    let old = c.args.state.now.core in
-    c.give_up_all.ensures.merges old.merges
-    (ran_kept _ old _ _ (beside old c.new-slots.result) (beside c.take_steps-outcomes.new.state.core c.take_steps-outcomes.new.slots) c.take_steps-outcomes.ensures.ran
-    (subst (KeepsStart old) (sym (free_slots c.new-slots.result old c.new-slots.ensures.empty)) (start_kept old c.facts.ensures.merges))).1
-
-pub returns-clause-stored : goal.returns-clause-stored
-returns-clause-stored g c tells h =
-    let mid = c.take_steps-outcomes.new.state.core in
-    closed_stored g.S.Store.world _ _ _ _ (all_closes c.take_steps-outcomes.new.slots.entries mid _ c.give_up_all.ensures.core) c.give_up_all.ensures.store (c.take_steps-outcomes.ensures.stored tells h)
+pub returns-clause-crashes : goal.returns-clause-crashes
+returns-clause-crashes g c tells opened start = run_leaves g.S.Store.world _ _ opened start _ _ _ _ _ _ _ (c.run_told.ensures.crashes tells opened start)

@@ -1,5 +1,6 @@
 use Rattle.std.proofs.Common.{◌∙◌, ◌+◌, ◌++◌, ap, [], ◌∷◌, sym, length, length-append, take}
 use Rattle.std.proofs.lemmas.List.{take_more}
+use Rattle.lsm_runs.proofs.Crashed.{watched_more}
 use Rattle.lsm_runs.proofs.Replays.{ran_more}
 use Rattle.lsm_runs.proofs.runner.take_steps.Goals as goal
 
@@ -11,5 +12,6 @@ loop-step-preserved g c =
     record {
       ran = rw (h.1, more) (ran_more _ _ _ x h.0 _ _ _ c.loop-step.invariant.ran h.2);
       many = ap (λ l. length l) h.1 ∙ length-append _ _ ∙ ap (λ n. n + 1) c.loop-step.invariant.many;
-      stored = λ tells h. c.in-Ok.ensures.stored tells (c.loop-step.invariant.stored tells h);
+      stored = λ tells h. (c.in-Ok.ensures.upholds tells (c.loop-step.invariant.stored tells h)).0;
+      watched = λ tells. rw (h.1, more) (watched_more g.S.Store.world g.W.Watch.gives _ _ _ x h.0 _ _ _ (c.loop-step.invariant.watched tells) h.2 (c.in-Ok.ensures.upholds tells) (c.told.ensures tells));
     }

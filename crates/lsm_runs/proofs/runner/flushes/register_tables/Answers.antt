@@ -7,4 +7,4 @@ returns-in-Ok-clause-ok g c =
     let job = c.in-Some-Written.job in
     let old = c.args.state.now.core in
     registered_taken job c.register_tables.result c.of_registered.result c.args.place.now c.take.new.self old c.register_tables.new.self.core
-    (c.of_registered.ensures job.watermark old.seqno (search rules)) (search rules) (search rules) c.register_tables.ensures.registers c.register_tables.ensures.deeds
+    (c.of_registered.ensures job.watermark old.seqno (search rules)) (search rules) (search rules) c.register_tables.ensures.registers c.register_tables.ensures.deeds c.register_tables.ensures.lost

@@ -1,0 +1,11 @@
+use Rattle.std.proofs.Common.{ap}
+use Rattle.lsm_state.specs.Core.{Core}
+use Rattle.lsm_runs.proofs.Living.{lived}
+use Rattle.lsm_runs.proofs.life.live.Goals as goal
+
+pub returns-clause-lives : goal.returns-clause-lives
+returns-clause-lives g c tells settled m stands =
+    let opened = c.in-Ok.ensures in
+    let ran = c.run_told-outcomes in
+    lived g.S.Store.world g.W.Watch.gives _ m _ _ c.args.store c.in-Ok.tree.store ran.new.state.store c.args.watch.now ran.new.watch c.in-Ok.tree.core ran.new.state.core
+    (opened.shows tells m stands) (ap (λ (t : Core). t.lost) opened.core) (opened.stored tells settled) (opened.stands_for tells settled m stands) ran.ensures.ran (ran.ensures.replays _ m) (ran.ensures.spares _ m) (ran.ensures.crashes tells _ m)

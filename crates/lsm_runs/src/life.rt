@@ -1,0 +1,65 @@
+// A tree from its opening on.
+ghost use Rattle.std.specs.Prelude.{ℕ, List, take, length, ◌≤◌, IfOk, IfErr};
+ghost use Rattle.lsm_store.specs.World.{Image, Begins, LeavesOnly};
+ghost use Rattle.lsm_model.specs.Journal.{Event, Map};
+ghost use Rattle.lsm_model.specs.Beginnings.{Note};
+ghost use Rattle.lsm_manifest.specs.Finding.{StandsForMap, IsSettled, RefusesFound};
+ghost use Rattle.lsm_runs.specs.Compacting.{strategies_of};
+ghost use Rattle.lsm_runs.specs.Crashes.{HoldsBeginning};
+ghost use Rattle.lsm_runs.specs.Lives.{Lives, LivesAgain};
+
+use crate::{Outcome, Step, Watch, run_told};
+use lsm_below::Error;
+use lsm_manifest::crashes_settle;
+use lsm_parts::Config;
+use lsm_pick::CompactionStrategy;
+use lsm_state::TreeState;
+use lsm_store::Store;
+use std::alloc::Global;
+
+/// Opens the tree of a store, and takes steps on it, as `run_told`. It answers the tree and each step's outcome, or the refusal of
+/// the opening beside the store.
+///
+/// Where the store stands for a map, the whole of what this library promises holds (`lives`): each answered read is that of
+/// the replay, which starts from the map; and at each moment since the call began a crash leaves a beginning of the calls, since
+/// each moment that the watcher was told one that holds all that was covered by then. What a crash leaves begins the next
+/// life (`crashes_begin_lives`), so this holds over any number of crashes, while a tree is opened too.
+///
+/// # Errors
+///
+/// Those of `TreeState::open`. Where the store stands for a map, these are want of memory, a fault of the store, or a sequence
+/// number of 2^63 or more; a crash meanwhile leaves what stands for the map.
+///
+/// # Examples
+///
+/// ```text
+/// let (tree, outcomes) = live(alloc, config, store, &strategies, &steps, &mut watch)?;
+/// ```
+pub fn live<S: Store, W: Watch>(
+    alloc: Global,
+    config: Config,
+    store: S,
+    strategies: &[Box<dyn CompactionStrategy>],
+    steps: &[Step],
+    watch: &mut W,
+) -> Result<(TreeState<S>, Vec<Outcome>), (Error, S)>
+    ensures bound { IfOk result (λ r. length r.1.items ≤ length steps.now) }
+    ensures lives { S.tells → IsSettled (S.world store) → (m : Map) → StandsForMap (S.world store).gives m → IfOk result (λ r. Lives S.world W.gives (strategies_of (λ b. may_choose b) (λ b. may_refuse b) strategies.now) m (take (length r.1.items) steps.now) r.1.items store r.0.store watch.old watch.new r.0.core) }
+    ensures refused { S.tells → (m : Map) → StandsForMap (S.world store).gives m → IfErr result (λ e. RefusesFound (S.world store).gives e.0) }
+    ensures stands { S.tells → IsSettled (S.world store) → (m : Map) → StandsForMap (S.world store).gives m → IfErr result (λ e. LeavesOnly (S.world store) (S.world e.1) (λ image. StandsForMap image m)) }
+{
+    let mut tree = match TreeState::open(alloc, config, store) {
+        Ok(tree) => tree,
+        Err(refused) => return Err(refused),
+    };
+    let outcomes = run_told(alloc, &mut tree, strategies, steps, watch);
+    Ok((tree, outcomes))
+}
+
+/// What a crash leaves of a life begins the next one: a store that begins with it is settled, and stands for a map that is a
+/// beginning of the calls so far.
+pub fn crashes_begin_lives<S: Store>(store: &S)
+    ensures { (start : Map) (journal : List Event) (notes : List Note) (least : ℕ) (image : Image) → HoldsBeginning start journal notes least image → Begins image (S.world store.now) → LivesAgain start journal notes least (S.world store.now) }
+{
+    crashes_settle(store);
+}

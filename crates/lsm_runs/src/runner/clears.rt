@@ -1,0 +1,50 @@
+// A clear, and how unflushed entries are forgotten, as steps.
+ghost use Rattle.std.specs.Prelude.{◌≡◌, IfOk, OnErr};
+ghost use Rattle.lsm_runs.specs.Clearing.{TakesClear, TakesForget, told_clear};
+ghost use Rattle.lsm_state.specs.Commits.{Upholds};
+
+use super::{one_entry, refused, silent};
+use crate::{Outcome, Reply};
+use lsm_below::SeqNo;
+use lsm_model::JournalEntry;
+use lsm_parts::Error;
+use lsm_state::TreeState;
+use lsm_store::Store;
+use std::alloc::{AllocError, Global};
+
+/// The outcome of a clear, which is noted if it was answered.
+fn of_clear(alloc: Global, entries: Vec<JournalEntry>, cleared: Result<SeqNo, Error>) -> Outcome
+    ensures { result ≡ told_clear entries.items cleared }
+{
+    match cleared {
+        Ok(number) => Outcome {
+            reply: Reply::Cleared(number),
+            entries,
+        },
+        Err(error) => refused(alloc, error),
+    }
+}
+
+pub(super) fn clear<S: Store>(
+    alloc: Global,
+    state: &mut TreeState<S>,
+) -> Result<Outcome, AllocError>
+    ensures ok { IfOk result (λ told. TakesClear told.reply told.entries state.old.core state.new.core) }
+    ensures err { OnErr result (state.new ≡ state.old) }
+    ensures upholds { S.tells → Upholds (S.world state.old.store) (S.world state.new.store) state.old.core state.new.core }
+{
+    state.is_upheld();
+    let entries = one_entry(alloc, JournalEntry::Clear(state.seqno().get()))?;
+    let cleared = state.clear();
+    Ok(of_clear(alloc, entries, cleared))
+}
+
+pub(super) fn clear_active_memtable<S: Store>(alloc: Global, state: &mut TreeState<S>) -> Outcome
+    ensures takes { TakesForget result.reply result.entries state.old.core state.new.core }
+    ensures store { state.new.store ≡ state.old.store }
+{
+    match state.clear_active_memtable() {
+        Ok(()) => silent(alloc, Reply::Done),
+        Err(error) => refused(alloc, error),
+    }
+}
