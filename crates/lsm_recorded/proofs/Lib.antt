@@ -7,6 +7,7 @@ pub mod Telling
 pub mod FlushingLemmas
 pub mod GoingOn
 pub mod CompactingLemmas
+pub mod ClearingLemmas
 pub mod FlushedFiles
 pub mod OpenedLemmas
 pub mod HeldLemmas

@@ -21,25 +21,25 @@ use Rattle.lsm_recorded.specs.Recorded.{AreMarked, IsRecorded, Stays, StaysBehin
 use Rattle.lsm_recorded.proofs.MarksLemmas.{in_order_push}
 use Rattle.lsm_recorded.proofs.RecordedLemmas.{recorded}
 
--- marks and dropped ranges, and behind them at most an install under this number
+-- marks and dropped ranges, and behind them at most an install or a clear under this number
 abbrev pub IsTold : ℕ → List Event → Type 0
 IsTold n [] = Unit {0}
 IsTold n (Watermark w ∷ es) = IsTold n es
 IsTold n (Dropped ranges m ∷ es) = IsTold n es
 IsTold n (Install m ∷ es) = (m ≡ n) × (es ≡ [])
+IsTold n (Clear m ∷ es) = (m ≡ n) × (es ≡ [])
 IsTold n (Write e ∷ es) = ⊥
-IsTold n (Clear m ∷ es) = ⊥
 IsTold n (Read at question answer ∷ es) = ⊥
 
 -- what no such event changes stays
-quiet : {A : Type 0} (f : A → Event → A) (n : ℕ) (a : A) (es : List Event) → ((b : A) (w : ℕ) → f b (Watermark w) ≡ b) → ((b : A) (ranges : List Range) (m : ℕ) → f b (Dropped ranges m) ≡ b) → ((b : A) (m : ℕ) → f b (Install m) ≡ b) → IsTold n es → fold f a es ≡ a
-quiet f n a [] mark drop install t = refl
-quiet f n a (Watermark w ∷ es) mark drop install t = ap (λ b. fold f b es) (mark a w) ∙ quiet f n a es mark drop install t
-quiet f n a (Dropped ranges m ∷ es) mark drop install t = ap (λ b. fold f b es) (drop a ranges m) ∙ quiet f n a es mark drop install t
-quiet f n a (Install m ∷ es) mark drop install t = ap (λ b. fold f b es) (install a m) ∙ ap (fold f a) t.1
-quiet f n a (Write e ∷ es) mark drop install t = absurd t
-quiet f n a (Clear m ∷ es) mark drop install t = absurd t
-quiet f n a (Read at question answer ∷ es) mark drop install t = absurd t
+quiet : {A : Type 0} (f : A → Event → A) (n : ℕ) (a : A) (es : List Event) → ((b : A) (w : ℕ) → f b (Watermark w) ≡ b) → ((b : A) (ranges : List Range) (m : ℕ) → f b (Dropped ranges m) ≡ b) → ((b : A) (m : ℕ) → f b (Install m) ≡ b) → ((b : A) (m : ℕ) → f b (Clear m) ≡ b) → IsTold n es → fold f a es ≡ a
+quiet f n a [] mark drop install clear t = refl
+quiet f n a (Watermark w ∷ es) mark drop install clear t = ap (λ b. fold f b es) (mark a w) ∙ quiet f n a es mark drop install clear t
+quiet f n a (Dropped ranges m ∷ es) mark drop install clear t = ap (λ b. fold f b es) (drop a ranges m) ∙ quiet f n a es mark drop install clear t
+quiet f n a (Install m ∷ es) mark drop install clear t = ap (λ b. fold f b es) (install a m) ∙ ap (fold f a) t.1
+quiet f n a (Clear m ∷ es) mark drop install clear t = ap (λ b. fold f b es) (clear a m) ∙ ap (fold f a) t.1
+quiet f n a (Write e ∷ es) mark drop install clear t = absurd t
+quiet f n a (Read at question answer ∷ es) mark drop install clear t = absurd t
 
 -- ---- the next number
 
@@ -62,9 +62,9 @@ module _ (opened : List Placed) (least : ℕ) (marks : BTreeMap Bytes Mark) wher
   -- marks of keys stay
   same_marks : (n : ℕ) (journal es : List Event) (k : Bytes) → IsTold n es → mark_in first (journal ++ es) k ≡ mark_in first journal k
   same_marks n journal es k t =
-      let next = fold-append (next_after k) (above (stack k first)) journal es ∙ quiet (next_after k) n (fold (next_after k) (above (stack k first)) journal) es (λ b w. refl) (λ b ranges m. refl) (λ b m. refl) t in
-      let sets = fold-append (sets_after k) (values (stack k first)) journal es ∙ quiet (sets_after k) n (fold (sets_after k) (values (stack k first)) journal) es (λ b w. refl) (λ b ranges m. refl) (λ b m. refl) t in
-      let weak = fold-append (weak_after k) false journal es ∙ quiet (weak_after k) n (fold (weak_after k) false journal) es (λ b w. refl) (λ b ranges m. refl) (λ b m. refl) t in
+      let next = fold-append (next_after k) (above (stack k first)) journal es ∙ quiet (next_after k) n (fold (next_after k) (above (stack k first)) journal) es (λ b w. refl) (λ b ranges m. refl) (λ b m. refl) (λ b m. refl) t in
+      let sets = fold-append (sets_after k) (values (stack k first)) journal es ∙ quiet (sets_after k) n (fold (sets_after k) (values (stack k first)) journal) es (λ b w. refl) (λ b ranges m. refl) (λ b m. refl) (λ b m. refl) t in
+      let weak = fold-append (weak_after k) false journal es ∙ quiet (weak_after k) n (fold (weak_after k) false journal) es (λ b w. refl) (λ b ranges m. refl) (λ b m. refl) (λ b m. refl) t in
       rw (next, sets, weak) refl
 
   -- the events come in order
@@ -77,8 +77,8 @@ module _ (opened : List Placed) (least : ℕ) (marks : BTreeMap Bytes Mark) wher
       subst (InOrder first) (append_assoc journal (Dropped ranges m ∷ []) es)
       (told_in_order n (journal ++ Dropped ranges m ∷ []) es t (in_order_push first journal (Dropped ranges m) order tt) (rw (fold-append next_number_after (above first) journal (Dropped ranges m ∷ [])) up))
   told_in_order n journal (Install m ∷ es) t order up = subst (λ l. InOrder first (journal ++ Install m ∷ l)) (sym t.1) (in_order_push first journal (Install m) order (subst (λ x. next_number first journal ≤ x) (sym t.0) up))
+  told_in_order n journal (Clear m ∷ es) t order up = subst (λ l. InOrder first (journal ++ Clear m ∷ l)) (sym t.1) (in_order_push first journal (Clear m) order (subst (λ x. next_number first journal ≤ x) (sym t.0) up))
   told_in_order n journal (Write e ∷ es) t order up = absurd t
-  told_in_order n journal (Clear m ∷ es) t order up = absurd t
   told_in_order n journal (Read at question answer ∷ es) t order up = absurd t
 
   -- and are counted

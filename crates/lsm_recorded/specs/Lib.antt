@@ -9,3 +9,4 @@ pub mod Recorded
 pub mod Opened
 pub mod Flushing
 pub mod Compacting
+pub mod Clearing

@@ -7,6 +7,7 @@
 //! | `recorded::range` | its reads of many keys |
 //! | `recorded::flushing` | the calls of a flush, and what they note |
 //! | `recorded::compacting` | the calls of a compaction, and what they note |
+//! | `recorded::clearing` | a clear, and what it notes |
 //! | `recorded::counted` | what is counted of it |
 //! | `pass` | what one caller's calls add to a journal |
 //! | `marks` | what was written to each key, by which a write in order is told |

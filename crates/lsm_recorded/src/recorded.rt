@@ -388,6 +388,7 @@ impl<S: Store> Recorded<S> {
     }
 }
 
+mod clearing;
 mod compacting;
 mod counted;
 mod flushing;

@@ -1,2 +1,3 @@
 mod OwnOr
 pub mod RecordedReads
+pub mod Gates

@@ -7,6 +7,7 @@
 //! | `shared_ranges` | its reads of many keys |
 //! | `shared_flushes` | its flushes |
 //! | `shared_compactions` | its compactions |
+//! | `gate` | who does the merge of a compaction while no lock is held |
 //! | `shared_counts` | what is counted of it |
 //! | `recorded_tree` | the calls of a tree with its journal, behind the lock |
 //! | `recorded_flushes` | its flushes |
@@ -15,6 +16,7 @@
 //! | `laws` | theorems as the contracts of functions that do nothing |
 #![tactic(auto)]
 
+mod gate;
 mod handle;
 pub mod laws;
 mod recorded_compactions;
@@ -27,6 +29,8 @@ mod shared_flushes;
 mod shared_ranges;
 mod shared_tree;
 
+pub use gate::Gate;
+pub use gate::RunJob;
 pub use handle::Handle;
 pub use handle::RecordedTree;
 pub use handle::Tree;
@@ -139,7 +143,10 @@ pub use lsm_runs::Outcome;
 pub use lsm_runs::Reply;
 pub use lsm_runs::Slot;
 pub use lsm_runs::Step;
+pub use lsm_runs::Watch;
+pub use lsm_runs::live;
 pub use lsm_runs::run;
+pub use lsm_runs::run_told;
 pub use lsm_state::Begun;
 pub use lsm_state::Finished;
 pub use lsm_state::MAX_KEY_LEN;

@@ -1,12 +1,14 @@
 // The calls of a compaction, of a tree with its journal behind the lock.
-ghost use Rattle.std.specs.Prelude.{◌≡◌, ◌⊎◌, ◌↔◌, ℕ, true, IsTrue};
+ghost use Rattle.std.specs.Prelude.{◌≡◌, ◌⊎◌, ◌↔◌, ℕ, true, IfOk, IfErr, IsTrue};
 ghost use Rattle.lsm_merges.specs.OpenMerges.{hides};
 ghost use Rattle.lsm_state.specs.Compactions.{Spends};
 ghost use Rattle.lsm_state.specs.WholeCompactions.{options_at, only_memory, major_choice};
 ghost use Rattle.lsm_recorded.specs.Flushing.{SpendsUnnoted};
 ghost use Rattle.lsm_recorded.specs.Compacting.{BeginsRecorded, FinishesRecorded, CompactsRecorded, DropsRecorded};
 ghost use Rattle.lsm_tree.specs.Shared.{OnSomeTree, AtSomeTree, OnSomeRecorded};
+ghost use Rattle.lsm_tree.specs.Gates.{IsNoJob, EndsGatedRecorded, CompactsGatedRecorded};
 
+use crate::gate::{Gate, told_end};
 use crate::handle::Handle;
 use lsm_below::SeqNo;
 use lsm_merges::{CompactionJob, MergedCompaction};
@@ -101,6 +103,77 @@ impl<S: Store> Handle<Recorded<S>> {
         let told = tree.compact(pass, strategy, watermark);
         tree.facts();
         told
+    }
+
+    /// `begin_compaction` at a watermark, and at the moment of the tree.
+    fn begin_at(
+        &self,
+        rt: &impl Wait,
+        pass: &mut Pass,
+        strategy: &dyn CompactionStrategy,
+        watermark: SeqNo,
+    ) -> Result<Begun, Error>
+        ensures { OnSomeRecorded S (λ old new. BeginsRecorded (may_choose strategy.now) (may_refuse strategy.now) (options_at watermark old.tree.core) result old new pass.old pass.new) }
+    {
+        let mut tree = self.shared.lock(rt);
+        let tree = &mut *tree;
+        tree.facts();
+        let options = Options {
+            mvcc_gc_watermark: watermark,
+            moment: tree.moment(),
+        };
+        let told = tree.begin_compaction(pass, strategy, options);
+        tree.facts();
+        told
+    }
+
+    /// Ends the merge of a job: finishes what a gate did, and gives up what it gave back.
+    fn end_gated(
+        &self,
+        rt: &impl Wait,
+        pass: &mut Pass,
+        passed: Result<MergedCompaction, (Error, CompactionJob)>,
+    ) -> Result<Begun, Error>
+        requires { IfErr passed (λ e. e.0 ≡ Error.OutOfMemory) }
+        ensures done { IfOk passed (λ m. EndsGatedRecorded S m.job result pass.old pass.new) }
+        ensures back { IfErr passed (λ e. EndsGatedRecorded S e.1 result pass.old pass.new) }
+        ensures no_job { IsNoJob result }
+    {
+        match passed {
+            Ok(merged) => told_end(self.finish_compaction(rt, pass, merged)),
+            Err((error, job)) => {
+                self.abandon_compaction(rt, pass, job);
+                Err(error)
+            }
+        }
+    }
+
+    /// Compacts as a strategy chooses, and has a gate do the merge where there is one, as `Tree::compact_gated`: the gate is
+    /// handed the job while no lock is held. The pass gets the mark as the compaction begins, and what is installed where it
+    /// is: behind a merge, the entries of other callers may stand in between. The answer is never `Begun::Job`.
+    ///
+    /// # Errors
+    ///
+    /// Those of `begin_compaction` and of `finish_compaction`; `OutOfMemory` where the gate gives the job back: it is given up
+    /// then, and nothing is installed.
+    pub fn compact_gated(
+        &self,
+        rt: &impl Wait,
+        pass: &mut Pass,
+        strategy: &dyn CompactionStrategy,
+        watermark: SeqNo,
+        gate: &impl Gate,
+    ) -> Result<Begun, Error>
+        ensures gated { CompactsGatedRecorded S (may_choose strategy.now) (may_refuse strategy.now) watermark result pass.old pass.new }
+        ensures no_job { IsNoJob result }
+    {
+        match self.begin_at(rt, pass, strategy, watermark) {
+            Ok(Begun::Job(job)) => self.end_gated(rt, pass, gate.pass(job)),
+            Ok(Begun::DidNothing) => Ok(Begun::DidNothing),
+            Ok(Begun::Declined(why)) => Ok(Begun::Declined(why)),
+            Ok(Begun::Installed) => Ok(Begun::Installed),
+            Err(error) => Err(error),
+        }
     }
 
     /// Merges all tables into the last level, as `Recorded::major_compact`. The lock is held throughout.

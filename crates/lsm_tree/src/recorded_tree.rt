@@ -1,5 +1,5 @@
 // The calls of a tree with its journal, behind the lock.
-ghost use Rattle.std.specs.Prelude.{◌≡◌, [], ◌∷◌, map, IfOk, IfErr, OnOk, OnErr};
+ghost use Rattle.std.specs.Prelude.{◌≡◌, [], ◌∷◌, ◌⊎◌, map, IfOk, IfErr, OnOk, OnErr};
 ghost use Rattle.lsm_below.specs.Entries.{plain};
 ghost use Rattle.lsm_model.specs.Ops.{op_entry, op_entries};
 ghost use Rattle.lsm_model.specs.declared.journal.JournalEntry.TheVariants.{Write as WriteEntry, Read as ReadEntry};
@@ -9,7 +9,9 @@ ghost use Rattle.lsm_model.specs.declared.op.Op.TheVariants.{Set, Del, Weak};
 ghost use Rattle.lsm_recorded.specs.Closing.{ListTogether};
 ghost use Rattle.lsm_state.specs.Calls.{Appends, WritesBatch, Rotates};
 ghost use Rattle.lsm_recorded.specs.Recorded.{OwnOr};
-ghost use Rattle.lsm_tree.specs.Shared.{OnSomeTree, RefusesRecordedRead, AgreesFromSome, RefusesSharedRotation, Puts};
+ghost use Rattle.lsm_recorded.specs.Flushing.{RefusesUnnoted};
+ghost use Rattle.lsm_recorded.specs.Clearing.{ClearsNoted};
+ghost use Rattle.lsm_tree.specs.Shared.{OnSomeTree, OnSomeRecorded, RefusesRecordedRead, AgreesFromSome, RefusesSharedRotation, Puts};
 
 use crate::handle::Handle;
 use lsm_below::{InternalValue, MemtableId, SeqNo, UserKey, UserValue};
@@ -190,6 +192,18 @@ impl<S: Store> Handle<Recorded<S>> {
         let tree = &mut *tree;
         tree.facts();
         let told = tree.write(pass, ops);
+        tree.facts();
+        told
+    }
+
+    /// Clears the tree, as `Recorded::clear`. The lock is held while the version's file is written.
+    pub fn clear(&self, rt: &impl Wait, pass: &mut Pass) -> Result<SeqNo, Error>
+        ensures { OnSomeRecorded S (λ old new. RefusesUnnoted result old new pass.old pass.new ⊎ ClearsNoted result old new pass.old pass.new) }
+    {
+        let mut tree = self.shared.lock(rt);
+        let tree = &mut *tree;
+        tree.facts();
+        let told = tree.clear(pass);
         tree.facts();
         told
     }

@@ -1,10 +1,13 @@
 // The calls of a compaction, of a tree behind the lock.
-ghost use Rattle.std.specs.Prelude.{◌≡◌, ◌↔◌, ℕ, true, IsTrue};
+ghost use Rattle.std.specs.Prelude.{◌≡◌, ◌↔◌, ℕ, true, IfOk, IfErr, IsTrue};
+ghost use Rattle.lsm_merges.specs.Merges.{SeenCompaction};
 ghost use Rattle.lsm_merges.specs.OpenMerges.{hides};
 ghost use Rattle.lsm_state.specs.Compactions.{BeginsCompaction, Finishes, Spends};
 ghost use Rattle.lsm_state.specs.WholeCompactions.{Compacts, DropsRange, options_at, only_memory, major_choice};
 ghost use Rattle.lsm_tree.specs.Shared.{OnSomeTree, AtSomeTree};
+ghost use Rattle.lsm_tree.specs.Gates.{IsNoJob, EndsGated, CompactsGated};
 
+use crate::gate::{Gate, told_end};
 use crate::handle::Handle;
 use lsm_below::SeqNo;
 use lsm_merges::{CompactionJob, MergedCompaction};
@@ -104,6 +107,81 @@ impl<S: Store> Handle<TreeState<S>> {
         let told = tree.compact(strategy, watermark);
         tree.facts();
         told
+    }
+
+    /// `begin_compaction` at a watermark, and at the moment of the tree.
+    fn begin_at(
+        &self,
+        rt: &impl Wait,
+        strategy: &dyn CompactionStrategy,
+        watermark: SeqNo,
+    ) -> Result<Begun, Error>
+        ensures { OnSomeTree (λ old new. BeginsCompaction (may_choose strategy.now) (may_refuse strategy.now) (options_at watermark old) result old new) }
+    {
+        let mut tree = self.shared.lock(rt);
+        let tree = &mut *tree;
+        tree.facts();
+        let options = Options {
+            mvcc_gc_watermark: watermark,
+            moment: tree.moment(),
+        };
+        let told = tree.begin_compaction(strategy, options);
+        tree.facts();
+        told
+    }
+
+    /// Ends the merge of a job: finishes what a gate did, and gives up what it gave back.
+    fn end_gated(
+        &self,
+        rt: &impl Wait,
+        passed: Result<MergedCompaction, (Error, CompactionJob)>,
+    ) -> Result<Begun, Error>
+        requires { IfErr passed (λ e. e.0 ≡ Error.OutOfMemory) }
+        ensures done { IfOk passed (λ m. EndsGated m.job result) }
+        ensures back { IfErr passed (λ e. EndsGated e.1 result) }
+        ensures no_job { IsNoJob result }
+    {
+        match passed {
+            Ok(merged) => told_end(self.finish_compaction(rt, merged)),
+            Err((error, job)) => {
+                self.abandon_compaction(rt, job);
+                Err(error)
+            }
+        }
+    }
+
+    /// Compacts as a strategy chooses, at a watermark and at the tree's moment, and has a gate do the merge where there is one.
+    /// The strategy is asked under the lock, where a move or a drop is installed; the gate is handed the job while no lock is
+    /// held; the end of the merge is checked and installed under the lock again. Other callers may come in between, and what
+    /// they did may decline the merge. The answer is never `Begun::Job`.
+    ///
+    /// # Examples
+    ///
+    /// ```text
+    /// let begun = tree.compact_gated(rt, &Leveled::new(alloc)?, watermark, &RunJob)?;
+    /// ```
+    ///
+    /// # Errors
+    ///
+    /// Those of `begin_compaction` and of `finish_compaction`; `OutOfMemory` where the gate gives the job back: it is given up
+    /// then, and nothing is installed.
+    pub fn compact_gated(
+        &self,
+        rt: &impl Wait,
+        strategy: &dyn CompactionStrategy,
+        watermark: SeqNo,
+        gate: &impl Gate,
+    ) -> Result<Begun, Error>
+        ensures gated { CompactsGated (may_choose strategy.now) (may_refuse strategy.now) watermark result }
+        ensures no_job { IsNoJob result }
+    {
+        match self.begin_at(rt, strategy, watermark) {
+            Ok(Begun::Job(job)) => self.end_gated(rt, gate.pass(job)),
+            Ok(Begun::DidNothing) => Ok(Begun::DidNothing),
+            Ok(Begun::Declined(why)) => Ok(Begun::Declined(why)),
+            Ok(Begun::Installed) => Ok(Begun::Installed),
+            Err(error) => Err(error),
+        }
     }
 
     /// Merges all tables into the last level, as `TreeState::major_compact`. The lock is held throughout.

@@ -5,6 +5,7 @@ ghost use Rattle.lsm_below.specs.Entries.{plain};
 ghost use Rattle.lsm_model.specs.Ops.{op_entry};
 ghost use Rattle.lsm_model.specs.declared.op.Op.TheVariants.{Set, Del, Weak};
 ghost use Rattle.lsm_state.specs.Calls.{Appends, WritesBatch, Gives, GivesEntry, Rotates, value_size};
+ghost use Rattle.lsm_state.specs.Clearing.{Clears, ForgetsUnflushed};
 ghost use Rattle.lsm_tree.specs.Shared.{OnSomeTree, AtSomeTree, RefusesSharedRead, RefusesSharedLook, RefusesSharedRotation};
 
 use crate::handle::Handle;
@@ -152,6 +153,30 @@ impl<S: Store> Handle<TreeState<S>> {
         let tree = &mut *tree;
         tree.facts();
         let told = tree.write(ops);
+        tree.facts();
+        told
+    }
+
+    /// Clears the tree, as `TreeState::clear`. The lock is held while the version's file is written.
+    pub fn clear(&self, rt: &impl Wait) -> Result<SeqNo, Error>
+        ensures { OnSomeTree (λ old new. Clears result old new) }
+    {
+        let mut tree = self.shared.lock(rt);
+        let tree = &mut *tree;
+        tree.facts();
+        let told = tree.clear();
+        tree.facts();
+        told
+    }
+
+    /// Forgets what isn't flushed, as `TreeState::clear_active_memtable`.
+    pub fn clear_active_memtable(&self, rt: &impl Wait) -> Result<(), Error>
+        ensures { OnSomeTree (λ old new. ForgetsUnflushed result old new) }
+    {
+        let mut tree = self.shared.lock(rt);
+        let tree = &mut *tree;
+        tree.facts();
+        let told = tree.clear_active_memtable();
         tree.facts();
         told
     }

@@ -10,7 +10,7 @@ invariant_of-self-2 g c =
     let begun = c.begin_chosen-begun in
     let es = begun.result.1.items in
     let told = c.put_entries.ensures.noted.behind ∙ ap (λ j. j ++ es) c.make_copies-made.ensures.journal in
-    (begin_recorded (placed_of i.opened.levels) i.least i.marks c.reads_are_sound.ensures c.noted_compactions_keep_reads.ensures i.floor c.put_entries.new.floor i.core.core begun.new.tree.core i.journal.items c.put_entries.new.journal.items c.args.chosen.answer c.args.options begun.result.0 es begun.ensures.begins told c.put_entries.ensures.floor c.self.invariant).0
+    (begin_recorded (placed_of i.opened.levels) i.least i.marks c.reads_are_sound.ensures i.floor c.put_entries.new.floor i.core.core begun.new.tree.core i.journal.items c.put_entries.new.journal.items c.noted_compactions_keep_reads.ensures c.args.chosen.answer c.args.options begun.result.0 es begun.ensures.begins told c.put_entries.ensures.floor c.self.invariant).0
 
 pub returns-clause-views : goal.returns-clause-views
 returns-clause-views g c =
@@ -18,5 +18,5 @@ returns-clause-views g c =
     let begun = c.begin_chosen-begun in
     let es = begun.result.1.items in
     let told = c.put_entries.ensures.noted.behind ∙ ap (λ j. j ++ es) c.make_copies-made.ensures.journal in
-    let all = (begin_recorded (placed_of i.opened.levels) i.least i.marks c.reads_are_sound.ensures c.noted_compactions_keep_reads.ensures i.floor c.put_entries.new.floor i.core.core begun.new.tree.core i.journal.items c.put_entries.new.journal.items c.args.chosen.answer c.args.options begun.result.0 es begun.ensures.begins told c.put_entries.ensures.floor c.self.invariant).1 in
+    let all = (begin_recorded (placed_of i.opened.levels) i.least i.marks c.reads_are_sound.ensures i.floor c.put_entries.new.floor i.core.core begun.new.tree.core i.journal.items c.put_entries.new.journal.items c.noted_compactions_keep_reads.ensures c.args.chosen.answer c.args.options begun.result.0 es begun.ensures.begins told c.put_entries.ensures.floor c.self.invariant).1 in
     subst (λ t. StaysBehind t.journal c.put_entries.new.journal.items t.tree.core begun.new.tree.core) c.self.view_is all

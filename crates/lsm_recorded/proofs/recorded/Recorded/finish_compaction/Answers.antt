@@ -25,7 +25,7 @@ invariant_of-self-2 g c =
     let ended = c.finish_noting-entries in
     let es = ended.result.1.items in
     let told = c.put_entries.ensures.noted.behind ∙ ap (λ j. j ++ es) c.make_finish-made.ensures.journal in
-    (finish_recorded (placed_of i.opened.levels) i.least i.marks c.reads_are_sound.ensures c.noted_compactions_keep_reads.ensures i.floor c.put_entries.new.floor i.core.core ended.new.tree.core i.journal.items c.put_entries.new.journal.items c.args.merged.job ended.result.0 es ended.ensures.ends told c.put_entries.ensures.floor c.self.invariant).0
+    (finish_recorded (placed_of i.opened.levels) i.least i.marks c.reads_are_sound.ensures i.floor c.put_entries.new.floor i.core.core ended.new.tree.core i.journal.items c.put_entries.new.journal.items c.noted_compactions_keep_reads.ensures c.args.merged.job ended.result.0 es ended.ensures.ends told c.put_entries.ensures.floor c.self.invariant).0
 
 pub returns-clause-views : goal.returns-clause-views
 returns-clause-views g c =
@@ -33,5 +33,5 @@ returns-clause-views g c =
     let ended = c.finish_noting-entries in
     let es = ended.result.1.items in
     let told = c.put_entries.ensures.noted.behind ∙ ap (λ j. j ++ es) c.make_finish-made.ensures.journal in
-    let all = (finish_recorded (placed_of i.opened.levels) i.least i.marks c.reads_are_sound.ensures c.noted_compactions_keep_reads.ensures i.floor c.put_entries.new.floor i.core.core ended.new.tree.core i.journal.items c.put_entries.new.journal.items c.args.merged.job ended.result.0 es ended.ensures.ends told c.put_entries.ensures.floor c.self.invariant).1 in
+    let all = (finish_recorded (placed_of i.opened.levels) i.least i.marks c.reads_are_sound.ensures i.floor c.put_entries.new.floor i.core.core ended.new.tree.core i.journal.items c.put_entries.new.journal.items c.noted_compactions_keep_reads.ensures c.args.merged.job ended.result.0 es ended.ensures.ends told c.put_entries.ensures.floor c.self.invariant).1 in
     subst (λ t. Stays t.tree.core ended.new.tree.core) c.self.view_is all

@@ -1,0 +1,48 @@
+// A clear, and what it adds to a journal.
+ghost use Rattle.std.specs.Prelude.{◌≡◌, ◌⊎◌, IsSome};
+ghost use Rattle.lsm_state.specs.Commits.{Upholds};
+ghost use Rattle.lsm_recorded.specs.Flushing.{RefusesUnnoted};
+ghost use Rattle.lsm_recorded.specs.Clearing.{ClearsNoted};
+
+use crate::pass::{Pass, make_room, put_entry};
+use crate::recorded::Recorded;
+use lsm_below::SeqNo;
+use lsm_model::{JournalEntry, reads_are_sound};
+use lsm_parts::Error;
+use lsm_state::clears_keep_reads;
+use lsm_store::Store;
+
+impl<S: Store> Recorded<S> {
+    ghost use Rattle.lsm_recorded.specs.Recorded.{StaysBehind};
+
+    /// Clears the tree, as `TreeState::clear`, and notes the clear where it is answered. Snapshots up to the number that it
+    /// answers see what they saw, and where it is refused all do. The cost is that of the tree's call.
+    ///
+    /// # Errors
+    ///
+    /// As `TreeState::clear`; and `OutOfMemory`, before anything is done, where there is no room for the note: then nothing
+    /// changes.
+    pub fn clear(&mut self, pass: &mut Pass) -> Result<SeqNo, Error>
+        ensures clears { RefusesUnnoted result self.old self.new pass.old pass.new ⊎ ClearsNoted result self.old self.new pass.old pass.new }
+        // What a crash leaves.
+        ensures upholds { S.tells → Upholds (S.world self.old.tree.store) (S.world self.new.tree.store) self.old.tree.core self.new.tree.core }
+        ensures no_call { IsSome self.old.tree.core.lost → self.new.tree.store ≡ self.old.tree.store }
+        ensures views { StaysBehind self.old.journal self.new.journal self.old.tree.core self.new.tree.core }
+        ensures opened { self.new.opened ≡ self.old.opened }
+    {
+        reads_are_sound();
+        clears_keep_reads();
+        self.is_upheld();
+        if make_room(&mut self.journal, &mut pass.entries, 1).is_err() {
+            return Err(Error::OutOfMemory);
+        }
+        let number = match self.core.clear() {
+            Ok(number) => number,
+            Err(error) => return Err(error),
+        };
+        let (entry, copy) = (JournalEntry::Clear(number), JournalEntry::Clear(number));
+        put_entry(&mut self.journal, &mut pass.entries, entry, copy);
+        self.floor = self.floor.max(number);
+        Ok(number)
+    }
+}

@@ -1,0 +1,58 @@
+// Who does the merge of a compaction while no lock is held.
+ghost use Rattle.std.specs.Prelude.{◌≡◌, IfOk, IfErr};
+ghost use Rattle.lsm_merges.specs.Merges.{AreFilesOf};
+ghost use Rattle.lsm_state.specs.WholeCompactions.{told_end};
+
+use lsm_merges::{CompactionJob, MergedCompaction};
+use lsm_parts::Error;
+use lsm_state::{Begun, Finished};
+
+/// Does the merge of a compaction between its beginning and its end, while no lock is held: see `Tree::compact_gated`.
+///
+/// It may wait, before the merge or behind it, or let only so many merges run at a time.
+///
+/// # Examples
+///
+/// ```text
+/// struct Counted { merges: AtomicU64 }
+///
+/// impl Gate for Counted {
+///     fn pass(&self, job: CompactionJob) -> Result<MergedCompaction, (Error, CompactionJob)> {
+///         self.merges.fetch_add(1, Ordering::SeqCst);
+///         job.run()
+///     }
+/// }
+/// ```
+pub trait Gate {
+    /// Runs a job, and answers as `CompactionJob::run` does, of this very job.
+    ///
+    /// # Errors
+    ///
+    /// `OutOfMemory`; the job comes back beside it.
+    fn pass(&self, job: CompactionJob) -> Result<MergedCompaction, (Error, CompactionJob)>
+        ensures job { IfOk result (λ m. m.job ≡ job) }
+        ensures files { IfOk result (λ m. AreFilesOf job.settings job.inputs m.files) }
+        ensures back { IfErr result (λ e. e.1 ≡ job) }
+        ensures memory { IfErr result (λ e. e.0 ≡ Error.OutOfMemory) };
+}
+
+/// Runs each job at once.
+#[derive(Clone, Copy, Debug)]
+pub struct RunJob;
+
+impl Gate for RunJob {
+    fn pass(&self, job: CompactionJob) -> Result<MergedCompaction, (Error, CompactionJob)> {
+        job.run()
+    }
+}
+
+/// The end of a merge, as the whole compaction tells it.
+pub(crate) fn told_end(finished: Result<Finished, Error>) -> Result<Begun, Error>
+    ensures { result ≡ told_end finished }
+{
+    match finished {
+        Ok(Finished::Installed) => Ok(Begun::Installed),
+        Ok(Finished::Declined(why)) => Ok(Begun::Declined(why)),
+        Err(error) => Err(error),
+    }
+}
