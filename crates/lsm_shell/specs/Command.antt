@@ -4,7 +4,7 @@ use Rattle.lsm_shell.specs.Bounds.{included_of, excluded_of, prefix_of}
 use Rattle.lsm_below.specs.Numbers.{plain_number}
 use Rattle.lsm_shell.specs.Word.{words_of}
 use Rattle.lsm_shell.specs.declared.command.Command.{Command}
-use Rattle.lsm_shell.specs.declared.command.Command.TheVariants.{Put, Del, Weak, Get, Range, Prefix, Rotate, Flush, Compact, DropRange, Now, Stats, Crash, Reopen}
+use Rattle.lsm_shell.specs.declared.command.Command.TheVariants.{Put, Del, Weak, Get, Range, Prefix, Rotate, Flush, Compact, DropRange, Clear, Now, Stats, Crash, Reopen}
 use Rattle.lsm_shell.specs.declared.command.Plan.{Plan}
 use Rattle.lsm_shell.specs.declared.command.Plan.TheVariants.{Leveled, Major, Fifo}
 
@@ -13,6 +13,7 @@ abbrev pub command_of_other : List ℕ → Option Command
 command_of_other verb =
     if bytes_eq verb (codes "stats") then Some Stats
     else if bytes_eq verb (codes "crash") then Some Crash
+    else if bytes_eq verb (codes "clear") then Some Clear
     else None
 
 -- what a line of one word asks

@@ -4,7 +4,7 @@ use Rattle.std.specs.List.{list_all, join_with_byte}
 use Rattle.lsm_shell.specs.Bounds.{included_word, excluded_word, prefix_word}
 use Rattle.lsm_shell.specs.Word.{is_word}
 use Rattle.lsm_shell.specs.declared.command.Command.{Command}
-use Rattle.lsm_shell.specs.declared.command.Command.TheVariants.{Put, Del, Weak, Get, Range, Prefix, Rotate, Flush, Compact, DropRange, Now, Stats, Crash, Reopen}
+use Rattle.lsm_shell.specs.declared.command.Command.TheVariants.{Put, Del, Weak, Get, Range, Prefix, Rotate, Flush, Compact, DropRange, Clear, Now, Stats, Crash, Reopen}
 use Rattle.lsm_shell.specs.declared.command.Plan.TheVariants.{Leveled, Major, Fifo}
 
 -- the words that a command is written in
@@ -24,6 +24,7 @@ spelling_of (Compact Leveled watermark) = codes "compact" ∷ codes "leveled" �
 spelling_of (Compact Major watermark) = codes "compact" ∷ codes "major" ∷ decimal watermark ∷ []
 spelling_of (Compact (Fifo limit ttl) watermark) = codes "compact" ∷ codes "fifo" ∷ decimal limit ∷ decimal ttl ∷ decimal watermark ∷ []
 spelling_of (DropRange low high) = codes "drop" ∷ included_word low ∷ included_word high ∷ []
+spelling_of Clear = codes "clear" ∷ []
 spelling_of (Now moment) = codes "now" ∷ decimal moment ∷ []
 spelling_of Stats = codes "stats" ∷ []
 spelling_of Crash = codes "crash" ∷ []
@@ -46,6 +47,7 @@ HasFitNumber (Compact Leveled watermark) = watermark < 2 ^ 64
 HasFitNumber (Compact Major watermark) = watermark < 2 ^ 64
 HasFitNumber (Compact (Fifo limit ttl) watermark) = (limit < 2 ^ 64) × (ttl < 2 ^ 64) × (watermark < 2 ^ 64)
 HasFitNumber (DropRange low high) = Unit {0}
+HasFitNumber Clear = Unit {0}
 HasFitNumber (Now moment) = moment < 2 ^ 64
 HasFitNumber Stats = Unit {0}
 HasFitNumber Crash = Unit {0}

@@ -47,6 +47,8 @@ pub enum Command {
     Compact(Plan, SeqNo),
     /// Drop the tables that lie within bounds.
     DropRange(Bound<UserKey>, Bound<UserKey>),
+    /// Clear the tree.
+    Clear,
     /// Set the moment, in nanoseconds.
     Now(u64),
     /// Count tables, runs, sealed memtables, entries and bytes.
@@ -106,6 +108,7 @@ fn parse_other(verb: &[u8]) -> Option<Command>
     match verb {
         b"stats" => Some(Command::Stats),
         b"crash" => Some(Command::Crash),
+        b"clear" => Some(Command::Clear),
         _ => None,
     }
 }

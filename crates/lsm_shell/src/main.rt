@@ -46,4 +46,6 @@ fn list_arguments<R: Env + AllocGlobal>(rt: &R) -> io::Result<Vec<String>> {
 #[cfg(test)]
 mod compaction_rows;
 #[cfg(test)]
+mod folder_tests;
+#[cfg(test)]
 mod tests;

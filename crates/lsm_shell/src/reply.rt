@@ -35,6 +35,8 @@ pub enum Reply {
     Compacted,
     /// The compaction was declined, for this reason.
     Declined(Why),
+    /// The tree was cleared, under this number.
+    Cleared(SeqNo),
     /// It is done.
     Done,
     /// What the tree counts.
@@ -68,6 +70,7 @@ impl Reply {
             Reply::Flushed(size, false) => writeln!(output, "flushed {size} stale"),
             Reply::Compacted => output.write_all(b"installed\n"),
             Reply::Declined(why) => writeln!(output, "declined {why:?}"),
+            Reply::Cleared(number) => writeln!(output, "cleared {number}"),
             Reply::Done => output.write_all(b"ok\n"),
             Reply::Counted(stats) => write_stats(output, stats),
             Reply::Crashed => output.write_all(b"crashed\n"),

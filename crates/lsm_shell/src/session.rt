@@ -138,6 +138,7 @@ fn run_on<S: Store>(
             let bounds = OwnedBounds { start, end };
             Ok(told(tree.drop_range(&mut pass, bounds)?))
         }
+        Command::Clear => Ok(Reply::Cleared(tree.clear(&mut pass)?)),
         Command::Now(moment) => {
             tree.set_moment(moment);
             Ok(Reply::Done)

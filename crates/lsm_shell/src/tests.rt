@@ -4,13 +4,9 @@ use crate::compaction_rows::{
     FIRST_LEVELED, MAJOR,
 };
 use crate::shell::run_shell;
-use bytes::Bytes;
-use lsm_tree::{
-    Error, FolderStore, Store, StoreError, Table, Version, ids_are_own, is_run, persist_version,
-};
 use std::alloc::{AllocError, Global};
 use std::cell::Cell;
-use std::fs::{self, Files};
+use std::fs::Files;
 use std::io::{self, ErrorKind, Read, Write};
 use std::sync::Wait;
 use std::test::Fail;
@@ -111,8 +107,26 @@ const CLOSED: [Row; 9] = [
     (b"reopen", b"opened 0"),
 ];
 
+/// Behind a clear nothing is read, but at the snapshots that aren't above its number.
+const CLEARED: [Row; 14] = [
+    (b"clear", b"cleared 0"),
+    (b"put a x", b"ok 1"),
+    (b"flush 0", b"flushed 50 installed"),
+    (b"put b y", b"ok 3"),
+    (b"clear", b"cleared 4"),
+    (b"range - -", b"end 0"),
+    (b"range - - 4", b"a x\nb y\nend 2"),
+    (b"stats", b"tables 0 runs 0 sealed 0 len 0 bytes 0"),
+    (b"put b z", b"ok 5"),
+    (b"get b", b"value z"),
+    (b"get b 5", b"none"),
+    (b"crash", b"crashed"),
+    (b"reopen", b"opened 0"),
+    (b"range - -", b"end 0"),
+];
+
 /// Lines that ask nothing.
-const OTHERS: [&[u8]; 41] = [
+const OTHERS: [&[u8]; 42] = [
     b"",
     b" ",
     b"put a",
@@ -153,11 +167,12 @@ const OTHERS: [&[u8]; 41] = [
     b"drop a b c",
     b"now -1",
     b"stats 1",
+    b"clear 1",
     b"reopen x",
 ];
 
 /// Whether a run prints this, writes that to the errors, and ends with the status.
-fn ends<R, I>(
+pub fn ends<R, I>(
     rt: &R,
     alloc: Global,
     arguments: Option<&[String]>,
@@ -188,8 +203,13 @@ fn push_line(text: &mut Vec<u8>, line: &[u8]) -> Result<(), AllocError> {
     text.extend_from_slice(b"\n")
 }
 
-/// Whether a run prints for each line what its row says.
-fn answers<R>(rt: &R, alloc: Global, rows: &[Row]) -> Result<bool, AllocError>
+/// Whether a run with these arguments prints for each line what its row says.
+pub fn answers_with<R>(
+    rt: &R,
+    alloc: Global,
+    arguments: &[String],
+    rows: &[Row],
+) -> Result<bool, AllocError>
 where
     R: Threads + Wait + Sync + Files + Alloc + Clone + Drop,
 {
@@ -199,7 +219,21 @@ where
         push_line(&mut input, line)?;
         push_line(&mut printed, answer)?;
     }
-    Ok(prints(rt, alloc, &input, &printed))
+    Ok(ends(
+        rt,
+        alloc,
+        Some(arguments),
+        input.as_slice(),
+        (&printed, b"", 0),
+    ))
+}
+
+/// Whether a run without arguments does.
+fn answers<R>(rt: &R, alloc: Global, rows: &[Row]) -> Result<bool, AllocError>
+where
+    R: Threads + Wait + Sync + Files + Alloc + Clone + Drop,
+{
+    answers_with(rt, alloc, &[], rows)
 }
 
 #[test]
@@ -214,6 +248,7 @@ fn answers_lines(rt: HostRuntime) -> Result<(), Fail> {
         FLUSHED_AWAY.as_slice(),
         CRASHED.as_slice(),
         CLOSED.as_slice(),
+        CLEARED.as_slice(),
         FIRST_LEVELED.as_slice(),
         EVICTING_MAJOR.as_slice(),
         MAJOR.as_slice(),
@@ -293,87 +328,6 @@ fn takes_arguments(rt: HostRuntime) -> Result<(), Fail> {
     let empty = vec![in rt.alloc(); String::new(rt.alloc())]?;
     assert!(rt; ends(&rt, rt.alloc(), Some(&empty), input, USAGE));
     assert!(rt; ends(&rt, rt.alloc(), None, input, USAGE));
-    Ok(())
-}
-
-const FOLDER: &str = "lsm_shell_test";
-
-/// The content of a table's file: a is x, numbered 0.
-const TABLE: [u8; 37] = [
-    0x4c, 0x53, 0x4d, 0x54, 0, 0, 0, 0, 0, 0, 0, 0, 1, 0, 0, 0, 0, 0, 0, 0, 1, 0, 0, 0, 0, 0, 0, 0,
-    0, 0, 0, 1, 0, 0, 0, 0x61, 0x78,
-];
-
-fn put_table(store: &mut impl Store) -> Result<(), StoreError> {
-    store.write("tables/3", &TABLE)?;
-    store.sync("tables/3")
-}
-
-/// The version of one table in level 0.
-fn version_of_table(alloc: Global) -> Result<Version, Error> {
-    let Ok(table) = Table::recover(alloc, 3, Bytes::from_static(&TABLE)) else {
-        return Err(Error::Unrecoverable);
-    };
-    let first = Version::new(alloc, 4);
-    let tables = vec![in alloc; table]?;
-    if !is_run(&tables) || !ids_are_own(alloc, &tables, first.levels())? {
-        return Err(Error::Unrecoverable);
-    }
-    first.with_new_l0_run(alloc, &tables)
-}
-
-/// Puts the files of a tree with one table into a store.
-fn fill(alloc: Global, store: &mut impl Store) -> Result<(), Error> {
-    if put_table(store).is_err() {
-        return Err(Error::Store);
-    }
-    persist_version(alloc, store, &version_of_table(alloc)?)
-}
-
-/// Whether a run over a folder prints this for the input, and ends so.
-fn answers_over<R>(
-    rt: &R,
-    alloc: Global,
-    folder: &str,
-    told: (&[u8], u8),
-) -> Result<bool, AllocError>
-where
-    R: Threads + Wait + Sync + Files + Alloc + Clone + Drop,
-{
-    let arguments = vec![in alloc; String::from_str(alloc, folder)?]?;
-    let input = b"get a\nput b y\nrange - -\n".as_slice();
-    Ok(ends(rt, alloc, Some(&arguments), input, (told.0, b"", told.1)))
-}
-
-#[test]
-fn a_folder_is_read_again(rt: HostRuntime) -> Result<(), Fail> {
-    let alloc = rt.alloc();
-    let _ = fs::remove_dir_all(&rt, FOLDER);
-    let mut store = FolderStore::new(&rt, alloc, FOLDER)?;
-    let filled = fill(alloc, &mut store);
-    assert!(rt; filled.is_ok());
-    // What a session writes is not kept, so each prints the same.
-    let read = b"value x\nok 1\na x\nb y\nend 2\n";
-    assert!(rt; answers_over(&rt, alloc, FOLDER, (read, 0))?);
-    assert!(rt; answers_over(&rt, alloc, FOLDER, (read, 0))?);
-    // What isn't a folder, and a folder of an older format.
-    assert!(rt;
-        answers_over(
-            &rt,
-            alloc,
-            "lsm_shell_test/current",
-            (b"error 2 Store\n", 1)
-        )?
-    );
-    // A folder isn't crashed; what is flushed into it stays there.
-    let arguments = vec![in alloc; String::from_str(alloc, FOLDER)?]?;
-    let input = b"crash\nput b z\nflush 0\nreopen\nget b\n".as_slice();
-    let told = b"error 0 Usage\nok 1\nflushed 50 installed\nopened 2\nvalue z\n";
-    assert!(rt; ends(&rt, alloc, Some(&arguments), input, (told, b"", 0)));
-    store.write("version", b"2")?;
-    drop(store);
-    assert!(rt; answers_over(&rt, alloc, FOLDER, (b"error 5 InvalidVersion\n", 1))?);
-    fs::remove_dir_all(&rt, FOLDER)?;
     Ok(())
 }
 
