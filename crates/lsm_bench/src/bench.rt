@@ -2,18 +2,15 @@
 ghost use Rattle.std.specs.Prelude.{◌≡◌, IfOk};
 ghost use Rattle.lsm_bench.specs.Kinds.{kind_of};
 
-use crate::arguments::Plan;
 use crate::lists::list;
 use crate::merges::{ingest, merge_all};
-use crate::orders::Orders;
-use crate::places::{Folder, Memory, Place};
 use crate::points;
 use crate::progress::Progress;
 use crate::report::{Figures, Tally, print_figures};
-use crate::resident::resident_bytes;
 use crate::trees::{AnyTree, open_owned, reopen};
 use crate::workloads::{FOLDER_WORKLOADS, Filling, Ingest, Job, Kind, Listing, WORKLOADS, Wanted};
 use anyhow::{Context, Result};
+use lsm_bench_parts::{Folder, Memory, Orders, Place, Plan, resident_bytes};
 use lsm_tree::Store;
 use std::alloc::Global;
 use std::io::{IsTerminal, Write};

@@ -1,7 +1,7 @@
 // Workloads that read many keys at a time.
-use crate::keys::{RANGE, group_of, user_key};
 use crate::report::Tally;
 use crate::workloads::Listing;
+use lsm_bench_parts::{RANGE, group_of, user_key};
 use lsm_tree::{Error, InternalValue, SeqNo, Store, TreeIter, TreeState};
 use std::alloc::Global;
 use std::ops::Bound;

@@ -11,38 +11,28 @@
 //!
 //! | Module | Holds |
 //! |-|-|
-//! | `arguments` | what the program's arguments ask |
-//! | `orders` | the orders of keys |
-//! | `keys` | keys and values |
 //! | `workloads` | the table of workloads |
 //! | `points` | workloads that write or read one key at a time, on any tree, and flushes |
 //! | `lists` | workloads that read many keys at a time |
 //! | `merges` | workloads that merge tables |
-//! | `places` | where trees stand: in memory, or in a folder |
 //! | `trees` | the trees that workloads find |
 //! | `bench` | the run of one workload after the other |
 //! | `report` | the line of a workload |
 //! | `progress` | how far the run is, on a terminal |
-//! | `resident` | the bytes of this process in memory |
 #![tactic(auto)]
 
-mod arguments;
 mod bench;
-mod keys;
 mod lists;
 mod merges;
-mod orders;
-mod places;
 mod points;
 mod progress;
 mod report;
-mod resident;
 mod trees;
 mod workloads;
 
 use anyhow::Error;
-use arguments::{BadArguments, parse_arguments};
 use bench::run_workloads;
+use lsm_bench_parts::{BadArguments, parse_arguments};
 use progress::Progress;
 use std::io::ErrorKind;
 use std::process::ExitCode;
@@ -87,6 +77,3 @@ fn tell_fault(rt: &impl Eprint, error: Error) -> ExitCode {
     let _ = eprintln!(rt; "lsm_bench: {error:#}");
     ExitCode::FAILURE
 }
-
-#[cfg(test)]
-mod tests;

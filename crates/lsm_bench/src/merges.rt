@@ -1,10 +1,10 @@
 // Workloads that merge tables, on a tree with one owner.
 ghost use Rattle.std.specs.Prelude.{◌<◌};
 
-use crate::keys::put_len;
 use crate::points::{flush_seen, put_all};
 use crate::report::Tally;
 use crate::workloads::Ingest;
+use lsm_bench_parts::put_len;
 use lsm_tree::{CompactionStrategy, Error, Leveled, SeqNo, Store, TableId, TreeState};
 use std::alloc::Global;
 

@@ -1,11 +1,10 @@
 // Workloads that write or read one key at a time, on any tree, and flushes.
 ghost use Rattle.std.specs.Prelude.{◌≡◌, ◌<◌, [], ◌∷◌, IfOk};
-ghost use Rattle.lsm_bench.specs.Keys.{key_bytes, value_bytes};
+ghost use Rattle.lsm_bench_parts.specs.Keys.{key_bytes, value_bytes};
 
-use crate::keys::{absent_key_of, key_of, user_key, user_value};
-use crate::orders::Orders;
 use crate::report::Tally;
 use crate::workloads::{Filling, Wanted};
+use lsm_bench_parts::{Orders, absent_key_of, key_of, user_key, user_value};
 use lsm_tree::{
     Error, MemtableId, Op, Pass, Recorded, Registered, SeqNo, Store, Tree, TreeState, UserKey,
     UserValue,

@@ -1,5 +1,5 @@
 // The line of a workload.
-use crate::arguments::Plan;
+use lsm_bench_parts::Plan;
 use std::io;
 use std::time::Duration;
 

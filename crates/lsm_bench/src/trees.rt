@@ -1,10 +1,10 @@
 // The trees that workloads find.
 ghost use Rattle.std.specs.Prelude.{◌≡◌, IfOk};
 
-use crate::orders::Orders;
 use crate::points::{self, Locked, Noted};
 use crate::report::Tally;
 use crate::workloads::{Filling, Kind, Wanted};
+use lsm_bench_parts::Orders;
 use lsm_tree::{Config, Error, Handle, Pass, Recorded, Store, Tree, TreeState};
 use std::alloc::Global;
 use std::sync::Wait;

@@ -4,7 +4,7 @@ use crate::keys::{absent_key_of, key_of};
 use crate::orders::shuffled;
 use crate::places::{Folder, Place};
 use crate::resident::find_resident;
-use lsm_tree::Store;
+use lsm_store::Store;
 use rand_core::{Rng, SeedableRng};
 use rand_xoshiro::SplitMix64;
 use std::alloc::{AllocError, Global};

@@ -1,8 +1,8 @@
 // The keys and values that workloads write and read, by their id.
 ghost use Rattle.std.specs.Prelude.{◌≡◌, IfOk};
-ghost use Rattle.lsm_bench.specs.Keys.{group_bytes, key_bytes, absent_bytes, value_bytes};
+ghost use Rattle.lsm_bench_parts.specs.Keys.{group_bytes, key_bytes, absent_bytes, value_bytes};
 
-use lsm_tree::{UserKey, UserValue};
+use lsm_below::{UserKey, UserValue};
 use std::alloc::{AllocError, Global};
 
 /// How many ids share the first half of their keys.

@@ -1,6 +1,6 @@
 // Where the trees of workloads stand.
 use anyhow::{Context, Result, ensure};
-use lsm_tree::{FolderStore, MemStore, Store, StoreError};
+use lsm_store::{FolderStore, MemStore, Store, StoreError};
 use std::alloc::Global;
 use std::fs;
 use std::io::ErrorKind;
