@@ -14,6 +14,7 @@
 //! | `flushes` | flushes, old snapshots over them, and what a crash leaves |
 //! | `compactions` | compactions: which are declined and why, open merges, strategies, dropped ranges |
 //! | `clears` | clears, what comes too late behind one, and what is left of one that fails |
+//! | `crashes` | crashes at each store call, and what is opened behind each |
 //! | `trees` | writes, reads of one key and rotation of a tree |
 //! | `tree_ranges` | a tree's reads of many keys |
 //! | `samples` | what several of these make, and how they look at what is given |
@@ -29,6 +30,8 @@ mod clears;
 mod compactions;
 #[cfg(test)]
 mod counters;
+#[cfg(test)]
+mod crashes;
 #[cfg(test)]
 mod errors;
 #[cfg(test)]

@@ -1,4 +1,4 @@
-// Compactions of a tree under a list of calls: what each answers, and what it notes.
+// Compactions and clears of a tree under a list of calls: what each answers, and what it notes.
 use crate::samples::{open_state, text};
 use lsm_tree::{
     Choice, ChooseError, Compacted, CompactionState, CompactionStrategy, Config, Count, Error,
@@ -16,19 +16,20 @@ fn only(alloc: Global, id: TableId) -> Result<HashSet<TableId>, AllocError> {
     Ok(ids)
 }
 
-/// Merges one table into the last level.
+/// Moves or merges one table into the last level.
 #[derive(Drop)]
-struct MergesOne {
+struct TakesOne {
     id: TableId,
+    moves: bool,
 }
 
-impl CompactionStrategy for MergesOne {
+impl CompactionStrategy for TakesOne {
     ghost may_choose = { λ s config hidden version choice. Unit {0} };
 
     ghost may_refuse = { λ s config hidden version e. Unit {0} };
 
     fn get_name(&self) -> &'static str {
-        "MergesOne"
+        "TakesOne"
     }
 
     fn choose(
@@ -38,12 +39,17 @@ impl CompactionStrategy for MergesOne {
         _config: &Config,
         _state: &CompactionState,
     ) -> Result<Choice, ChooseError> {
-        Ok(Choice::Merge(Input {
+        let input = Input {
             table_ids: only(alloc, self.id)?,
             dest_level: 6,
             canonical_level: 6,
             target_size: u64::MAX,
-        }))
+        };
+        Ok(if self.moves {
+            Choice::Move(input)
+        } else {
+            Choice::Merge(input)
+        })
     }
 }
 
@@ -55,6 +61,8 @@ const SECOND_TABLE: usize = 1;
 const MAJOR: usize = 2;
 
 const LEVELED: usize = 3;
+
+const FIRST_MOVED: usize = 4;
 
 /// A call.
 #[derive(Clone, Copy)]
@@ -73,6 +81,8 @@ enum Call {
     Major(u64, SeqNo),
     /// From a key to another one, both included.
     DropRange(&'static str, &'static str),
+    Clear,
+    Forget,
     Count(Count),
     NextTableId,
     IsCompacting,
@@ -87,6 +97,7 @@ enum Told {
     Flushed,
     Compacted(Compacted),
     Finished(Finished),
+    Cleared(SeqNo),
     TooOld,
     Counted(u64),
     Truth(bool),
@@ -104,6 +115,7 @@ enum Note {
     Mark(SeqNo),
     Dropped(SeqNo),
     Install(SeqNo),
+    Clear(SeqNo),
 }
 
 /// A call, its reply, and what it notes.
@@ -134,6 +146,8 @@ fn step_of(alloc: Global, call: Call) -> Result<Step, AllocError> {
         Call::DropRange(low, high) => {
             Step::DropRange(Bound::Included(text(low)), Bound::Included(text(high)))
         }
+        Call::Clear => Step::Clear,
+        Call::Forget => Step::ClearActiveMemtable,
         Call::Count(what) => Step::Count(what),
         Call::NextTableId => Step::GetNextTableId,
         Call::IsCompacting => Step::IsCompacting,
@@ -151,10 +165,23 @@ fn steps_of(alloc: Global, rows: &[Row]) -> Result<Vec<Step>, AllocError> {
 /// The outcomes of steps on a new tree.
 fn outcomes(alloc: Global, steps: &[Step]) -> Result<Vec<Outcome>, Error> {
     let mut strategies: Vec<Box<dyn CompactionStrategy>> = Vec::new(alloc);
-    strategies.push(Box::new(alloc, MergesOne { id: 0 })?)?;
-    strategies.push(Box::new(alloc, MergesOne { id: 1 })?)?;
+    strategies.push(Box::new(
+        alloc,
+        TakesOne {
+            id: 0,
+            moves: false,
+        },
+    )?)?;
+    strategies.push(Box::new(
+        alloc,
+        TakesOne {
+            id: 1,
+            moves: false,
+        },
+    )?)?;
     strategies.push(Box::new(alloc, Major::default())?)?;
     strategies.push(Box::new(alloc, Leveled::new(alloc)?)?)?;
+    strategies.push(Box::new(alloc, TakesOne { id: 0, moves: true })?)?;
     let mut state = open_state(alloc)?;
     let told = run(alloc, &mut state, &strategies, steps);
     drop(state);
@@ -176,6 +203,7 @@ fn is_told(reply: &Reply, told: Told) -> bool {
         (Told::Flushed, reply) => is_flushed(reply),
         (Told::Compacted(wanted), Reply::Compacted(compacted)) => *compacted == wanted,
         (Told::Finished(wanted), Reply::Finished(finished)) => *finished == wanted,
+        (Told::Cleared(wanted), Reply::Cleared(number)) => *number == wanted,
         (Told::TooOld, Reply::Refused(Error::SnapshotTooOld)) => true,
         (Told::Counted(wanted), Reply::Counted(count)) => *count == Some(wanted),
         (Told::Truth(wanted), Reply::Truth(truth)) => *truth == wanted,
@@ -194,6 +222,7 @@ fn is_noted(entry: &JournalEntry, note: Note) -> bool {
         (Note::Mark(wanted), JournalEntry::Mark(watermark)) => *watermark == wanted,
         (Note::Dropped(wanted), JournalEntry::Dropped(_, number)) => *number == wanted,
         (Note::Install(wanted), JournalEntry::Install(number)) => *number == wanted,
+        (Note::Clear(wanted), JournalEntry::Clear(number)) => *number == wanted,
         _ => false,
     }
 }
@@ -386,5 +415,70 @@ const ONE_CALL: [Row; 25] = [
 #[test]
 fn compactions_are_steps(rt: HostRuntime) -> Result<(), Fail> {
     assert_eq!(rt; first_wrong(rt.alloc(), &ONE_CALL)?, 25);
+    Ok(())
+}
+
+/// A table that was cleared isn't moved.
+const MOVE_AFTER_CLEAR: [Row; 6] = [
+    (Call::Set("a", "x"), Told::Number(0), &[Note::Write(0)]),
+    (
+        Call::Flush(0),
+        Told::Flushed,
+        &[Note::Mark(0), Note::Install(1)],
+    ),
+    (Call::Clear, Told::Cleared(2), &[Note::Clear(2)]),
+    (
+        Call::Do(FIRST_MOVED, 0),
+        Told::Compacted(Compacted::Declined(Why::Missing)),
+        &[Note::Mark(0)],
+    ),
+    (Call::Count(Count::TableCount), Told::Counted(0), &[]),
+    (Call::Get("a", 2), Told::Value("x"), &[Note::Read(2)]),
+];
+
+/// A merge that was begun before a clear isn't installed.
+const FINISH_AFTER_CLEAR: [Row; 9] = [
+    (Call::Set("a", "x"), Told::Number(0), &[Note::Write(0)]),
+    (
+        Call::Flush(0),
+        Told::Flushed,
+        &[Note::Mark(0), Note::Install(1)],
+    ),
+    (
+        Call::Begin(1, MAJOR, 0),
+        Told::Compacted(Compacted::Waits),
+        &[Note::Mark(0)],
+    ),
+    (Call::At(1, JobStep::RunCompaction), Told::Done, &[]),
+    (Call::Clear, Told::Cleared(2), &[Note::Clear(2)]),
+    (
+        Call::At(1, JobStep::FinishCompaction),
+        Told::Finished(Finished::Declined(Why::Stale)),
+        &[],
+    ),
+    (Call::IsCompacting, Told::Truth(false), &[]),
+    (Call::Count(Count::TableCount), Told::Counted(0), &[]),
+    (Call::Get("a", 3), Told::NoValue, &[Note::Read(3)]),
+];
+
+/// What isn't flushed is forgotten, at every snapshot that reads the latest super version.
+const FORGETTING: [Row; 6] = [
+    (Call::Set("a", "x"), Told::Number(0), &[Note::Write(0)]),
+    (
+        Call::Flush(0),
+        Told::Flushed,
+        &[Note::Mark(0), Note::Install(1)],
+    ),
+    (Call::Set("b", "y"), Told::Number(2), &[Note::Write(2)]),
+    (Call::Forget, Told::Done, &[]),
+    (Call::Get("b", 3), Told::NoValue, &[Note::Read(3)]),
+    (Call::Get("a", 3), Told::Value("x"), &[Note::Read(3)]),
+];
+
+#[test]
+fn clears_are_steps(rt: HostRuntime) -> Result<(), Fail> {
+    assert_eq!(rt; first_wrong(rt.alloc(), &MOVE_AFTER_CLEAR)?, 6);
+    assert_eq!(rt; first_wrong(rt.alloc(), &FINISH_AFTER_CLEAR)?, 9);
+    assert_eq!(rt; first_wrong(rt.alloc(), &FORGETTING)?, 6);
     Ok(())
 }

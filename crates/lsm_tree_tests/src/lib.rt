@@ -1,7 +1,9 @@
-//! Tests of the tree above its parts: runs of steps, trees with a journal, trees that are shared, and their flushes
-//! and compactions.
+//! Tests of the tree above its parts: runs of steps, trees with a journal, trees that are shared, and their flushes,
+//! compactions and clears.
 #![tactic(auto)]
 
+#[cfg(test)]
+mod clears;
 #[cfg(test)]
 mod compaction_steps;
 #[cfg(test)]
@@ -9,7 +11,11 @@ mod compactions;
 #[cfg(test)]
 mod flushes;
 #[cfg(test)]
+mod gates;
+#[cfg(test)]
 mod handles;
+#[cfg(test)]
+mod lives;
 #[cfg(test)]
 mod recorded;
 #[cfg(test)]

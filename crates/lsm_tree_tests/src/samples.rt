@@ -1,5 +1,5 @@
 // What several tests write, and the trees that they begin with.
-use lsm_tree::{Config, Error, MemStore, Recorded, TreeState, UserKey};
+use lsm_tree::{Config, Error, Handle, MemStore, Recorded, RecordedTree, Tree, TreeState, UserKey};
 use std::alloc::Global;
 
 /// A key or a value of these letters.
@@ -21,4 +21,15 @@ pub(crate) fn open_recorded(alloc: Global, config: Config) -> Result<Recorded, E
         Ok(tree) => Ok(tree),
         Err((error, _)) => Err(error),
     }
+}
+
+/// A new tree that several callers may share.
+pub(crate) fn open_shared(alloc: Global) -> Result<Tree, Error> {
+    Ok(Handle::new(alloc, open_state(alloc)?)?)
+}
+
+/// A new tree with its journal that several callers may share.
+pub(crate) fn share_recorded(alloc: Global) -> Result<RecordedTree, Error> {
+    let core = open_recorded(alloc, Config::new(0, 0, 0))?;
+    Ok(Handle::new(alloc, core)?)
 }
