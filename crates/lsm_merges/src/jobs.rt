@@ -111,7 +111,7 @@ impl CompactionJob {
     }
 
     /// Merges the tables into what a snapshot from the watermark on, or between two kept ones, may read of them, and cuts
-    /// that into the contents of files. Beside these the entries of one table are in memory, whose bytes are shared. The
+    /// that into the contents of files. Each entry is spelled when its turn comes, and shares its bytes until then. The
     /// cost is linear in the bytes, and logarithmic in the runs for each entry.
     ///
     /// # Errors

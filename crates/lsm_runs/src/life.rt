@@ -20,9 +20,10 @@ use std::alloc::Global;
 /// Opens the tree of a store, and takes steps on it, as `run_told`. It answers the tree and each step's outcome, or the refusal of
 /// the opening beside the store.
 ///
-/// Where the store stands for a map, the whole of what this library promises holds (`lives`): each answered read is that of
-/// the replay, which starts from the map; and at each moment since the call began a crash leaves a beginning of the calls, since
-/// each moment that the watcher was told one that holds all that was covered by then. What a crash leaves begins the next
+/// Where the store stands for a map, and what opening reads of it has one possible content each, this holds (`lives`) of steps
+/// in plain use whose journal is in order: each answered read is that of the replay, which starts from the map; and at each
+/// moment since the call began a crash leaves, outside dropped ranges, a beginning of the calls, since each moment that the
+/// watcher was told one that holds all that was covered by then. What a crash leaves begins the next
 /// life (`crashes_begin_lives`), so this holds over any number of crashes, while a tree is opened too.
 ///
 /// # Errors
