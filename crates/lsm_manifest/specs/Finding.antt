@@ -68,6 +68,17 @@ TellsFiles image r = image (codes "version") ≡ None → IsSome (image current_
 abbrev pub TellsNew : World → World → Result Opened Error → Type 0
 TellsNew old new r = old.gives (codes "version") ≡ None → old.gives current_name ≡ None → Told TellsOpen (OpensNew old new) r
 
+-- ---- what opening reads
+
+-- the images have the same in `current`, in the file of the version that it names and those of its tables, and in the names that
+-- opening refuses
+pub record AgreesInRead (a b : Image) : Type 0 where
+  pub current : b current_name ≡ a current_name
+  pub version : (id : ℕ) (ls : Levels) → IsNamed a id ls → b (version_name id) ≡ a (version_name id)
+  pub tables : (id : ℕ) (ls : Levels) → IsNamed a id ls → AllByRecursion (λ l. AllByRecursion (λ r. AllByRecursion (λ t. b (table_name t.id) ≡ a (table_name t.id)) r) l) ls
+  pub no_version : b (codes "version") ≡ a (codes "version")
+  pub in_tables : (n : List ℕ) → kind_of n ≡ Refused → b n ≡ a n
+
 -- beside a version of these levels no orphan is `current`, its file, or one of its tables' files
 pub record SparesNamed (id : ℕ) (ls : Levels) : Type 0 where
   pub current : is_orphan id (ids_of ls) current_name ≡ false
@@ -99,3 +110,7 @@ FoundTablesShow = (image : Image) (ts : SeenLevels) → Finds image ts → Stand
 -- what a version names is no orphan beside it
 abbrev pub NamedFilesStay : Type 0
 NamedFilesStay = (id : ℕ) (ls : Levels) → IsLayout ls → SparesNamed id ls
+
+-- images that differ only in names that opening doesn't read stand for the same
+abbrev pub UnreadNamesDontMatter : Type 0
+UnreadNamesDontMatter = (a b : Image) → AgreesInRead a b → ((ts : SeenLevels) → Finds a ts → Finds b ts) × ((m : Map) → StandsForMap a m → StandsForMap b m)

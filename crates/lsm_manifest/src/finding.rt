@@ -1,7 +1,7 @@
 // What images stand for, and that it is opened: laws, each as the contract of a function.
 ghost use Rattle.lsm_store.specs.World.{Image, Begins};
 ghost use Rattle.lsm_model.specs.Journal.{Map};
-ghost use Rattle.lsm_manifest.specs.Finding.{StandsForMap, IsSettled, FoundOnce, MapIsOne, OpeningFinds, FoundNumbersFit, FoundTablesShow, NamedFilesStay};
+ghost use Rattle.lsm_manifest.specs.Finding.{StandsForMap, IsSettled, FoundOnce, MapIsOne, OpeningFinds, FoundNumbersFit, FoundTablesShow, NamedFilesStay, UnreadNamesDontMatter};
 
 use lsm_below::plain_numbers_are_read;
 use lsm_model::tables_show_above;
@@ -33,11 +33,16 @@ pub fn found_tables_show()
     tables_show_above();
 }
 
+/// Images that differ only in names that opening doesn't read stand for the same: other files don't matter.
+pub fn unread_names_dont_matter()
+    ensures { UnreadNamesDontMatter }
+{}
+
 /// What a crash left is settled: a store that begins with an image which stands for a map has one possible content for each
 /// name that is read, and stands for that map.
-pub fn crashes_settle<S: Store>(store: &S)
-    ensures settled { (image : Image) (m : Map) → StandsForMap image m → Begins image (S.world store.now) → IsSettled (S.world store.now) }
-    ensures stands { (image : Image) (m : Map) → StandsForMap image m → Begins image (S.world store.now) → StandsForMap (S.world store.now).gives m }
+pub fn crashes_settle<S: Store>(_: &S)
+    ensures settled { (store : S) (image : Image) (m : Map) → StandsForMap image m → Begins image (S.world store) → IsSettled (S.world store) }
+    ensures stands { (store : S) (image : Image) (m : Map) → StandsForMap image m → Begins image (S.world store) → StandsForMap (S.world store).gives m }
 {}
 
 /// What a version names is no orphan beside it, so an opening leaves it.
