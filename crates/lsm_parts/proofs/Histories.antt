@@ -1,5 +1,5 @@
 -- What a lookup in the history finds.
-use Rattle.std.proofs.Common.{◌≡◌, ℕ, ◌+◌, ◌-◌, ◌<◌, ◌≤◌, ◌↔◌, refl, Bool, true, false, not, List, [], ◌∷◌, Option, Some, None, IsSome, IfSome, option_copied, length, cond, sym, ◌∙◌, ap, subst, arith, zero, suc, get_or, eq-eqb, nat_lt}
+use Rattle.std.proofs.Common.{◌≡◌, ℕ, ◌+◌, ◌-◌, ◌<◌, ◌≤◌, ◌↔◌, refl, Bool, true, false, not, List, [], ◌∷◌, Option, Some, None, IsSome, IfSome, option_copied, length, cond, sym, ◌∙◌, ap, subst, arith, zero, suc, get_or, nat_lt}
 use Rattle.std.proofs.lemmas.Bool.Decides.{nat_tests}
 use Rattle.std.specs.Borrow.{Bor}
 use Rattle.std.specs.List.{find, fold, AllWithin}
@@ -7,7 +7,7 @@ use Rattle.std.specs.List.Sorted.{IsPartitionedBy, IsPartitionPoint}
 use Rattle.lsm_parts.specs.declared.version.super_version.SuperVersion.{SuperVersion}
 use Rattle.lsm_below.specs.Sums.{capped}
 use Rattle.lsm_memtable.specs.Memtables.{SeenMemtable}
-use Rattle.lsm_parts.specs.History.{SeenHistory, oldest, found_version, versions_of, NumbersFall}
+use Rattle.lsm_parts.specs.History.{oldest, NumbersFall}
 
 -- the last one is the oldest
 pub oldest_last : (latest : SuperVersion) (older : List SuperVersion) (v : SuperVersion) → 0 < length older → v ≡ get_or older (length older - 1) v → oldest latest older ≡ v

@@ -1,7 +1,6 @@
 -- How many super versions are needed.
-use Rattle.std.proofs.Common.{◌≡◌, ℕ, ◌+◌, ◌-◌, ◌<◌, ◌≤◌, Bool, true, false, not, cond, List, [], ◌∷◌, take, drop, length, get_or, zero, suc, nat_lt, refl, sym, ap, ◌∙◌, subst, arith}
-use Rattle.std.specs.List.{AllByRecursion, AllWithin}
-use Rattle.std.proofs.lemmas.List.{length-take-le, take-take}
+use Rattle.std.proofs.Common.{◌≡◌, ℕ, ◌+◌, ◌<◌, ◌≤◌, Bool, true, false, not, cond, List, [], ◌∷◌, length, get_or, zero, suc, nat_lt, refl, ap, ◌∙◌, arith}
+use Rattle.std.specs.List.{AllWithin}
 use Rattle.lsm_parts.specs.declared.version.super_version.SuperVersion.{SuperVersion}
 use Rattle.std.specs.List.Sorted.{IsPartitionPoint}
 use Rattle.lsm_parts.proofs.Histories.{unnot, passes}

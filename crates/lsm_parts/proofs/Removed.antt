@@ -1,9 +1,9 @@
 -- Files of versions that are removed, the oldest first.
-use Rattle.std.proofs.Common.{◌≡◌, ◌≢◌, ◌⊎◌, inl, inr, ⊎_elim, ℕ, ◌+◌, ◌-◌, ◌<◌, ◌≤◌, ◌^◌, min, Bool, true, false, List, [], ◌∷◌, take, drop, length, get_or, zero, suc, Option, None, Result, Ok, Err, refl, sym, ap, ◌∙◌, subst, arith}
+use Rattle.std.proofs.Common.{◌≡◌, ◌⊎◌, ⊎_elim, ℕ, ◌+◌, ◌-◌, ◌<◌, ◌≤◌, List, [], ◌∷◌, take, drop, length, get_or, zero, suc, None, refl, sym, ap, ◌∙◌, subst}
 use Rattle.std.specs.List.{AllByRecursion}
 use Rattle.std.proofs.lemmas.List.{drop_more, length-take-le, take-take}
 use Rattle.lsm_below.specs.Each.{each_weaker}
-use Rattle.lsm_store.specs.World.{Image, World, LeavesOnly}
+use Rattle.lsm_store.specs.World.{World}
 use Rattle.lsm_store.specs.Synced.{KeepsOthers}
 use Rattle.lsm_store.specs.Moments.{joined, same_or_not}
 use Rattle.lsm_tables.specs.Tables.{SeenTable}
@@ -11,8 +11,8 @@ use Rattle.lsm_versions.specs.Levels.{SeenVersion}
 use Rattle.lsm_manifest.specs.Names.{version_name}
 use Rattle.lsm_files.specs.Stored.{IsStored, HoldsOneOf, Leaves}
 use Rattle.lsm_parts.specs.declared.version.super_version.SuperVersion.{SuperVersion}
-use Rattle.lsm_parts.specs.History.{SeenHistory, AreLaid, NumbersFall}
-use Rattle.lsm_parts.specs.Maintenance.{IsNoOlder, KeepsNewer, KeepsVersions}
+use Rattle.lsm_parts.specs.History.{SeenHistory, NumbersFall}
+use Rattle.lsm_parts.specs.Maintenance.{KeepsNewer, KeepsVersions}
 
 -- the files of all older super versions behind the first n are gone, and beside files of older versions nothing has changed
 pub record KeepsFiles (tells : Type 0) (h : SeenHistory) (n : ℕ) (old new : World) : Type 0 where

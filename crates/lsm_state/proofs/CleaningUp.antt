@@ -1,21 +1,20 @@
 -- Cleaning up keeps what a tree keeps.
-use Rattle.std.proofs.Common.{◌≡◌, ℕ, ◌≤◌, ◌<◌, Bool, true, false, cond, ◌||◌, List, [], ◌∷◌, ◌++◌, zero, suc, Result, Ok, Err, OnOk, Option, None, option_to_list, take, length, refl, sym, ap, ◌∙◌, subst, arith, eqb, leb, ltb}
+use Rattle.std.proofs.Common.{◌≡◌, ℕ, ◌≤◌, ◌<◌, Bool, true, false, cond, ◌||◌, List, [], ◌∷◌, ◌++◌, zero, suc, Result, Option, None, option_to_list, take, length, refl, sym, ap, ◌∙◌, subst, arith, eqb, leb}
 use Rattle.std.proofs.Math.Seq.{take-length}
 use Rattle.std.proofs.lemmas.Bool.Decides.{nat_tests}
-use Rattle.std.specs.Result.{is_ok}
 use Rattle.std.specs.List.{AllByRecursion}
 use Rattle.lsm_below.specs.declared.error.Error.{Error}
 use Rattle.lsm_store.specs.World.{World}
 use Rattle.lsm_memtable.specs.Memtables.{SeenMemtable}
 use Rattle.lsm_jobs.specs.Jobs.{SeenOpen}
 use Rattle.lsm_parts.specs.declared.version.super_version.SuperVersion.{SuperVersion}
-use Rattle.lsm_parts.specs.History.{SeenHistory, oldest, versions_of}
+use Rattle.lsm_parts.specs.History.{SeenHistory, versions_of}
 use Rattle.lsm_parts.specs.Maintenance.{Forgets, KeepsVersions}
 use Rattle.lsm_state.specs.Held.{HasFirst, ids_of, FallFrom, is_among}
 use Rattle.lsm_state.specs.Kept.{named_by, least_named, NamesHeld, NameHeld, NameOlder, KeepsIds, KeepsTables}
 use Rattle.lsm_state.specs.Core.{Core, versions_left, written_of}
 use Rattle.lsm_state.specs.Commits.{Upholds}
-use Rattle.lsm_state.specs.Cleaning.{from_id, oldest_named, answer_of}
+use Rattle.lsm_state.specs.Cleaning.{from_id, oldest_named}
 use Rattle.lsm_state.proofs.Forgetting.{least_down, all_over, older_take}
 use Rattle.lsm_state.proofs.Upholding.{upheld, among_left}
 

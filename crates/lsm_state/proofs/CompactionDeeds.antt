@@ -1,13 +1,13 @@
 -- What a compaction does, as deeds of the theory of crashes.
-use Rattle.std.proofs.Common.{◌≡◌, ℕ, ◌≤◌, ◌⊎◌, inl, inr, ⊎_elim, Bool, true, false, cond, List, [], ◌∷◌, ◌++◌, map, fold, option_to_list, Option, None, Some, IsSome, Result, Ok, Err, IfOk, OnOk, IfErr, IsErrOf, refl, sym, ap, ◌∙◌, subst, append_assoc, append-nil}
+use Rattle.std.proofs.Common.{◌≡◌, ℕ, ◌⊎◌, inl, inr, ⊎_elim, Bool, true, false, List, [], ◌∷◌, ◌++◌, map, fold, option_to_list, Option, None, Some, IsSome, Result, Ok, Err, IfOk, OnOk, IfErr, IsErrOf, refl, sym, ap, ◌∙◌, subst, append_assoc, append-nil}
 use Rattle.std.proofs.lemmas.Grind.{fold-append}
 use Rattle.lsm_below.specs.declared.error.Error.{Error}
 use Rattle.lsm_below.specs.declared.error.Error.TheVariants.{OutOfMemory, Store, CommitUnknown, OutOfNumbers, TooManyRuns, AfterCommit, Unrecoverable}
 use Rattle.lsm_below.specs.Entries.{Entry}
 use Rattle.lsm_model.specs.Journal.{Event, is_kept, kept_after}
 use Rattle.lsm_model.specs.Views.{HasDistinctIds}
-use Rattle.lsm_model.specs.Steps.{State, Action, Step, Marked, Maintained, Moved, DroppedTables, among}
-use Rattle.lsm_model.specs.Beginnings.{Note, Deeds, Done, Lost, IsDone, IsLost, is_commit, is_lost, noted_by, noted_lost, told_lost}
+use Rattle.lsm_model.specs.Steps.{State, Action, Step, Maintained, Moved, DroppedTables}
+use Rattle.lsm_model.specs.Beginnings.{Note, Deeds, Done, Lost, IsDone, is_commit, is_lost, noted_by, noted_lost, told_lost}
 use Rattle.lsm_model.specs.declared.journal.JournalEntry.TheVariants.{Mark, Install}
 use Rattle.lsm_versions.specs.Levels.{SeenVersion, HasOwnIds, all_of, placed_in, placed_of}
 use Rattle.lsm_versions.specs.Installs.{MovesAreSteps, DropsAreSteps}
@@ -29,7 +29,7 @@ use Rattle.lsm_state.specs.Kept.{NameOlder, IsKeptTree}
 use Rattle.lsm_state.specs.Core.{Core, state_of}
 use Rattle.lsm_state.specs.Commits.{counted, committed, doubted}
 use Rattle.lsm_state.specs.Cleaning.{Cleans}
-use Rattle.lsm_state.specs.Deeds.{saved_of, HasOrder, IsNoDeed, IsMarkDeed, AreDone}
+use Rattle.lsm_state.specs.Deeds.{saved_of, IsNoDeed, IsMarkDeed, AreDone}
 use Rattle.lsm_state.specs.Flushes.{with_next_table}
 use Rattle.lsm_state.specs.Settling.{next_in, IsInstalled, IsDoubted, SettlesSome}
 use Rattle.lsm_state.specs.Compactions.{levels_of, reason_of, IsMovedTo, IsDroppedFrom, IsNotMoved, IsNotDropped, IsMergedInto, InstallsChoice, OpensMerge, InstallsMerge, EndsFor, Ends, Spends, closed, job_for, Does, BeginsChoice, Finishes}

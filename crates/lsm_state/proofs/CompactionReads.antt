@@ -1,14 +1,14 @@
 -- What a compaction leaves of reads.
-use Rattle.std.proofs.Common.{◌≡◌, inl, inr, ℕ, ◌≤◌, true, false, cond, eqb, ltb, List, [], ◌∷◌, ◌++◌, Option, Some, Result, Ok, Err, refl, sym, ap, ◌∙◌, subst, fold, append_assoc, append-nil}
+use Rattle.std.proofs.Common.{◌≡◌, inl, inr, ℕ, ◌≤◌, true, false, cond, eqb, ltb, List, [], ◌∷◌, ◌++◌, Some, Result, Ok, Err, refl, sym, ap, ◌∙◌, subst, fold, append_assoc, append-nil}
 use Rattle.std.proofs.lemmas.Grind.{fold-append}
 use Rattle.lsm_below.specs.Entries.{Entry}
 use Rattle.lsm_below.specs.declared.error.Error.{Error}
 use Rattle.lsm_model.specs.Journal.{Event, Map, InOrder}
-use Rattle.lsm_model.specs.Steps.{State, Action, Marked, Moved, Merged, DroppedTables, Maintained, Step, StaysAt, Spares}
+use Rattle.lsm_model.specs.Steps.{State, Action, Marked, Moved, DroppedTables, Maintained, Step, StaysAt, Spares}
 use Rattle.lsm_model.specs.Sound.{Holds}
 use Rattle.lsm_model.specs.Soundness.{Soundness}
 use Rattle.lsm_model.specs.Views.{SuperVersion, found_at, front, lookup}
-use Rattle.lsm_model.specs.Beginnings.{Deeds, Done, Lost, is_commit}
+use Rattle.lsm_model.specs.Beginnings.{Done, Lost, is_commit}
 use Rattle.lsm_model.specs.declared.journal.JournalEntry.TheVariants.{Mark, Install}
 use Rattle.lsm_versions.specs.Levels.{placed_in}
 use Rattle.lsm_merges.specs.Merges.{SeenCompaction}

@@ -1,9 +1,8 @@
 -- What a flush leaves of reads.
-use Rattle.std.proofs.Common.{◌≡◌, ◌⊎◌, ⊎_elim, inl, inr, ℕ, Bool, true, false, cond, List, [], ◌∷◌, ◌++◌, Option, Some, None, IsSome, Result, Ok, Err, IfOk, IsErrOf, refl, sym, ap, ◌∙◌, subst, append-nil}
-use Rattle.lsm_below.specs.Entries.{Entry}
+use Rattle.std.proofs.Common.{◌≡◌, ◌⊎◌, ⊎_elim, inl, inr, ℕ, Bool, true, false, cond, List, [], ◌∷◌, ◌++◌, Option, Some, None, Result, Ok, Err, IfOk, IsErrOf, refl, sym, ap, subst, append-nil}
 use Rattle.lsm_below.specs.declared.error.Error.{Error}
 use Rattle.lsm_below.specs.declared.error.Error.TheVariants.{OutOfMemory, Store, CommitUnknown, Unrecoverable, OutOfNumbers, TooManyRuns}
-use Rattle.lsm_model.specs.Journal.{Event, Map, InOrder}
+use Rattle.lsm_model.specs.Journal.{Event}
 use Rattle.lsm_model.specs.Steps.{Marked, Flushed, Maintained, StaysAt}
 use Rattle.lsm_model.specs.Sound.{Holds}
 use Rattle.lsm_model.specs.Soundness.{Soundness}
@@ -15,7 +14,7 @@ use Rattle.lsm_jobs.specs.Jobs.{SeenWritten}
 use Rattle.lsm_jobs.specs.declared.jobs.Registered.{Registered}
 use Rattle.lsm_state.specs.Core.{Core, state_of}
 use Rattle.lsm_state.specs.Commits.{counted}
-use Rattle.lsm_state.specs.Deeds.{saved_of, IsNoDeed, AreDone}
+use Rattle.lsm_state.specs.Deeds.{saved_of, AreDone}
 use Rattle.lsm_state.specs.Flushes.{Registers, Doubts, IsFlushDeed, spent}
 use Rattle.lsm_state.specs.WholeFlushes.{Flushes, MarksFlush, LeavesRest, InstallsWhole}
 use Rattle.lsm_state.specs.FlushReads.{register_events, flush_events, KeepsReads, FlushesKeepReads}

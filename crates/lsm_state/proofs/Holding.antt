@@ -1,10 +1,9 @@
 -- Memtables that are held, by their ids.
-use Rattle.std.proofs.Common.{◌≡◌, ℕ, ◌+◌, ◌<◌, ◌≤◌, Bool, true, false, cond, ◌||◌, List, [], ◌∷◌, ◌++◌, Option, Some, None, map, reverse, filter, take, length, zero, suc, get_or, refl, sym, ap, ◌∙◌, subst, arith, eqb, leb}
+use Rattle.std.proofs.Common.{◌≡◌, ℕ, ◌+◌, ◌<◌, ◌≤◌, Bool, true, false, cond, ◌||◌, List, [], ◌∷◌, ◌++◌, Some, None, reverse, take, length, zero, suc, get_or, refl, sym, ap, ◌∙◌, subst, arith, eqb, leb}
 use Rattle.std.proofs.lemmas.Bool.Decides.{nat_tests}
 use Rattle.std.proofs.lemmas.List.{reverse-append}
 use Rattle.std.specs.List.{AllByRecursion, AllWithin}
 use Rattle.std.specs.List.Sorted.{IsPartitionedBy, IsPartitionPoint}
-use Rattle.lsm_below.specs.Entries.{Entry}
 use Rattle.lsm_tables.specs.Cutting.{IsWritable}
 use Rattle.lsm_memtable.specs.Memtables.{SeenMemtable}
 use Rattle.lsm_parts.specs.History.{SeenHistory}

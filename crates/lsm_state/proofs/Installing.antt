@@ -1,12 +1,12 @@
 -- A flush that is installed keeps what a tree keeps.
-use Rattle.std.proofs.Common.{◌≡◌, ℕ, ◌+◌, ◌-◌, ◌<◌, ◌≤◌, ◌^◌, true, List, [], ◌∷◌, ◌++◌, Option, None, drop, length, option_to_list, zero, suc, refl, sym, ap, ◌∙◌, subst, arith}
+use Rattle.std.proofs.Common.{◌≡◌, ℕ, ◌+◌, ◌-◌, ◌<◌, ◌^◌, true, List, [], ◌∷◌, ◌++◌, Option, None, drop, length, zero, suc, sym, subst, arith}
 use Rattle.std.specs.List.{AllByRecursion}
 use Rattle.std.specs.List.Sorted.{IsPermutation}
 use Rattle.std.proofs.lemmas.List.Sorted.{All-permutation}
 use Rattle.std.proofs.lemmas.List.Elements.{recursion_from_All, All-from_recursion}
 use Rattle.lsm_below.specs.Each.{each_weaker, each_append}
 use Rattle.lsm_below.specs.Members.{IsIn}
-use Rattle.lsm_store.specs.World.{Image, World}
+use Rattle.lsm_store.specs.World.{World}
 use Rattle.lsm_store.specs.Moments.{joined}
 use Rattle.lsm_tables.specs.Tables.{SeenTable}
 use Rattle.lsm_memtable.specs.Memtables.{SeenMemtable}
@@ -17,11 +17,11 @@ use Rattle.lsm_parts.specs.declared.version.super_version.SuperVersion.{SuperVer
 use Rattle.lsm_parts.specs.History.{SeenHistory, versions_of}
 use Rattle.lsm_state.specs.Held.{HasFirst, ids_of, is_among}
 use Rattle.lsm_state.specs.Kept.{NameOlder, KeepsIds, KeepsTables}
-use Rattle.lsm_state.specs.Core.{Core, versions_left, written_by, written_of}
+use Rattle.lsm_state.specs.Core.{Core, versions_left, written_of}
 use Rattle.lsm_state.specs.Commits.{Upholds}
 use Rattle.lsm_state.specs.Flushes.{IsFlushedOf}
 use Rattle.lsm_state.proofs.FlushSteps.{names_older}
-use Rattle.lsm_state.proofs.Upholding.{among_left, among_right, leaves_more}
+use Rattle.lsm_state.proofs.Upholding.{among_right, leaves_more}
 use Rattle.lsm_state.proofs.Writing.{below_now}
 
 all_drop : (P : ℕ → Type 0) (n : ℕ) (ids : List ℕ) → AllByRecursion P ids → AllByRecursion P (drop n ids)

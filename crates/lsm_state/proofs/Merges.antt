@@ -1,5 +1,5 @@
 -- The tables that a merge made, and the version that has them in place of its inputs.
-use Rattle.std.proofs.Common.{◌≡◌, ℕ, ◌+◌, ◌-◌, ◌<◌, ◌≤◌, ◌^◌, Bool, true, false, List, [], ◌∷◌, ◌++◌, map, length, None, zero, suc, eqb, eq-eqb, ⊎_elim, ◌⊎◌, inl, inr, ◌||◌, Err, IsErrOf, refl, sym, ap, ◌∙◌, subst, arith}
+use Rattle.std.proofs.Common.{◌≡◌, ℕ, ◌+◌, ◌-◌, ◌<◌, ◌≤◌, ◌^◌, Bool, true, false, List, [], ◌∷◌, ◌++◌, map, length, zero, suc, eqb, eq-eqb, ⊎_elim, ◌⊎◌, inl, inr, ◌||◌, Err, IsErrOf, refl, sym, ap, ◌∙◌, subst, arith}
 use Rattle.std.specs.Prelude.{nat_eq}
 use Rattle.std.specs.List.{AllByRecursion, IsDistinct, list_any, range_with_len}
 use Rattle.std.specs.List.Sorted.{IsPermutation}
@@ -173,10 +173,6 @@ module _ (c : Core) (kept : IsKeptTree c) (law : ChangesKeepTables) (job : SeenC
 pub spent_upholds : (w : World) (old new : Core) (n : ℕ) (found : Bool) → (found ≡ true → new ≡ closed n old) → (found ≡ false → new ≡ old) → Upholds w w old old → Upholds w w old new
 spent_upholds w old new n true closes other up = subst (Upholds w w old) (sym (closes refl)) up
 spent_upholds w old new n false closes other up = subst (Upholds w w old) (sym (other refl)) up
-
--- ids of tables are used
-pub may_later : (job : SeenCompaction) (c new : Core) → new ≡ with_next_table new.next_table c → MayMerge job c → MayMerge job new
-may_later job c new is may = subst (MayMerge job) (sym is) (record { certain = may.certain; level = may.level; allowed = may.allowed; stands = may.stands; same = may.same })
 
 module _ {T : Type 0} (job : SeenCompaction) (e : Error) (old new : Core) where
   -- files weren't written

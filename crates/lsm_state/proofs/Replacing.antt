@@ -1,29 +1,25 @@
 -- A version that takes the place of the latest one keeps what a tree keeps, and the files of those that went may go.
-use Rattle.std.proofs.Common.{◌≡◌, ℕ, ◌+◌, ◌-◌, ◌<◌, ◌≤◌, ◌^◌, ◌||◌, Bool, true, false, not, cond, List, [], ◌∷◌, ◌++◌, map, filter, Option, Some, None, option_to_list, Result, Ok, Err, IfErr, inr, refl, sym, ap, ◌∙◌, subst, arith, eqb}
-use Rattle.std.specs.Prelude.{nat_eq}
+use Rattle.std.proofs.Common.{◌≡◌, ℕ, ◌+◌, ◌-◌, ◌<◌, ◌^◌, ◌||◌, Bool, true, false, not, cond, List, [], ◌∷◌, ◌++◌, map, Option, None, option_to_list, Result, Ok, Err, IfErr, inr, refl, sym, ap, ◌∙◌, subst, arith, eqb}
 use Rattle.std.specs.List.{AllByRecursion, IsDistinct, list_any}
 use Rattle.std.specs.List.Sorted.{IsPermutation}
 use Rattle.std.proofs.lemmas.Bool.Decides.{nat_tests}
 use Rattle.lsm_below.specs.declared.error.Error.{Error}
-use Rattle.lsm_below.specs.declared.error.Error.TheVariants.{OutOfMemory, Store, CommitUnknown, OutOfNumbers, AfterCommit}
+use Rattle.lsm_below.specs.declared.error.Error.TheVariants.{AfterCommit}
 use Rattle.lsm_below.specs.Each.{each_left, each_right, each_weaker, each_append, each_both, each_filter}
 use Rattle.lsm_store.specs.World.{World}
 use Rattle.lsm_tables.specs.Tables.{SeenTable}
 use Rattle.lsm_model.specs.Steps.{among}
 use Rattle.lsm_versions.specs.Levels.{SeenVersion, all_of, HasOwnIds, left_in}
-use Rattle.lsm_files.specs.Stored.{IsStored, IsTableOnDisk, AreOnDisk}
 use Rattle.lsm_files.specs.Commits.{AreOthers, SparesTables}
 use Rattle.lsm_jobs.specs.Jobs.{SeenOpen}
 use Rattle.lsm_parts.specs.History.{SeenHistory, versions_of}
-use Rattle.lsm_state.specs.Held.{ids_of}
 use Rattle.lsm_state.specs.Kept.{KeepsTables}
 use Rattle.lsm_state.specs.Core.{Core, versions_left, written_by, written_of}
 use Rattle.lsm_state.specs.Commits.{Upholds}
 use Rattle.lsm_state.specs.Settling.{with_version, IsInstalled, Settles}
-use Rattle.lsm_state.proofs.Distinct.{own_behind}
 use Rattle.lsm_state.proofs.Installing.{each_permuted}
 use Rattle.lsm_state.proofs.Upholding.{upheld, among_left}
-use Rattle.lsm_state.proofs.Writing.{own_now, below_now}
+use Rattle.lsm_state.proofs.Writing.{below_now}
 
 -- ---- ids of tables
 
@@ -61,13 +57,6 @@ own_apart (x ∷ xs) ys own others apart = (
   to_ids x.id (xs ++ ys) (each_append (λ t. eqb x.id t.id ≡ false) xs ys (of_ids x.id xs own.0) (each_weaker (IsApart (x ∷ xs)) (λ t. eqb x.id t.id ≡ false) (λ t a. a.0) ys apart)),
   own_apart xs ys own.1 others (each_weaker (IsApart (x ∷ xs)) (IsApart xs) (λ t a. a.1) ys apart),
 )
-
--- tables from an id on are apart from tables below it
-other_id : (i j n : ℕ) → n ≤ i → j < n → eqb j i ≡ false
-other_id i j n le lt = grind (arith, nat_tests)
-
-pub above_apart : (n : ℕ) (xs ys : List SeenTable) → AllByRecursion (λ t. t.id < n) xs → AllByRecursion (λ t. n ≤ t.id) ys → AllByRecursion (IsApart xs) ys
-above_apart n xs ys below above = each_weaker (λ t. n ≤ t.id) (IsApart xs) (λ t le. each_weaker (λ u. u.id < n) (λ u. eqb u.id t.id ≡ false) (λ u lt. other_id t.id u.id n le lt) xs below) ys above
 
 -- a version that has a run, and what is left of the latest one
 module _ (flush : Option SeenOpen) (h : SeenHistory) (n : ℕ) (k : KeepsTables flush h n) (ids : List ℕ) (run : List SeenTable) (v : SeenVersion) (same : IsPermutation (run ++ left_in ids (all_of h.latest.version.levels)) (all_of v.levels)) where

@@ -1,7 +1,6 @@
 -- Memtables that are listed by their ids.
-use Rattle.std.proofs.Common.{◌≡◌, ℕ, List, [], ◌∷◌, ◌++◌, Option, Some, None, MatchOption, map, flat_map, reverse, option_to_list, Bor, refl, sym, ap, ◌∙◌, append-nil, append_assoc}
+use Rattle.std.proofs.Common.{◌≡◌, ℕ, List, [], ◌++◌, Option, Some, None, MatchOption, map, flat_map, option_to_list, Bor, refl, sym, ap, ◌∙◌, append-nil}
 use Rattle.std.proofs.lemmas.Grind.{flat_map-append}
-use Rattle.std.proofs.lemmas.List.{reverse-append}
 use Rattle.std.proofs.lemmas.List.Folds.{flat_map-map}
 use Rattle.std.specs.declared.ops.Bound.{Bound}
 use Rattle.lsm_below.specs.Keys.{Bytes}

@@ -1,10 +1,9 @@
 -- Calls keep a tree's files stored, and a crash meanwhile leaves one of its versions.
-use Rattle.std.proofs.Common.{◌≡◌, ◌≢◌, ℕ, ◌<◌, List, [], ◌∷◌, ◌++◌, Option, Some, None, Result, Ok, Err, IsErrOf, option_to_list, refl, sym, ap, ◌∙◌, subst, arith, inl, inr, ⊎_elim}
-use Rattle.std.specs.List.{AllByRecursion}
+use Rattle.std.proofs.Common.{◌≡◌, ◌<◌, List, [], ◌∷◌, ◌++◌, Some, None, Result, Ok, Err, IsErrOf, option_to_list, refl, sym, ap, ◌∙◌, subst, arith, inl, inr, ⊎_elim}
 use Rattle.lsm_below.specs.Members.{IsIn, each_in}
 use Rattle.lsm_below.specs.declared.error.Error.{Error}
 use Rattle.lsm_below.specs.declared.error.Error.TheVariants.{CommitUnknown}
-use Rattle.lsm_store.specs.World.{Image, World}
+use Rattle.lsm_store.specs.World.{World}
 use Rattle.lsm_store.specs.Moments.{weakened}
 use Rattle.lsm_tables.specs.Tables.{SeenTable}
 use Rattle.lsm_versions.specs.Levels.{SeenVersion, all_of}

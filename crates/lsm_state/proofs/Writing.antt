@@ -1,5 +1,5 @@
 -- Tables that are written for a flush: what a tree keeps of their ids, and what is stored of them.
-use Rattle.std.proofs.Common.{◌≡◌, ℕ, ◌+◌, ◌-◌, ◌<◌, ◌≤◌, ◌^◌, Bool, true, false, cond, List, [], ◌∷◌, ◌++◌, Option, Some, None, Result, Ok, Err, IfOk, map, length, option_to_list, suc, refl, sym, ap, ◌∙◌, subst, arith, eqb}
+use Rattle.std.proofs.Common.{◌≡◌, ℕ, ◌+◌, ◌-◌, ◌<◌, ◌≤◌, ◌^◌, Bool, true, false, cond, List, [], ◌∷◌, ◌++◌, Option, Some, None, map, length, option_to_list, suc, refl, sym, ap, ◌∙◌, subst, arith, eqb}
 use Rattle.std.specs.Prelude.{nat_eq}
 use Rattle.std.specs.List.{AllByRecursion, IsDistinct}
 use Rattle.std.proofs.lemmas.Bool.Decides.{nat_tests}
@@ -8,7 +8,7 @@ use Rattle.lsm_below.specs.Entries.{Entry}
 use Rattle.lsm_store.specs.World.{World}
 use Rattle.lsm_tables.specs.Tables.{SeenTable}
 use Rattle.lsm_versions.specs.Levels.{SeenVersion, all_of, HasOwnIds}
-use Rattle.lsm_files.specs.Stored.{IsStored, AreOnDisk, Leaves}
+use Rattle.lsm_files.specs.Stored.{IsStored, AreOnDisk}
 use Rattle.lsm_files.specs.Writing.{HoldEntries, KeepsStored}
 use Rattle.lsm_jobs.specs.Jobs.{SeenOpen}
 use Rattle.lsm_parts.specs.History.{SeenHistory}

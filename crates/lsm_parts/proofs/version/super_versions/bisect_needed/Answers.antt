@@ -1,8 +1,7 @@
-use Rattle.std.proofs.Common.{◌≡◌, ◌<◌, ◌≤◌, ℕ, false, not, length, nat_lt, get_or, sym, ap, subst, ◌∙◌, arith, rules, tests}
-use Rattle.std.specs.List.Sorted.{IsPartitionPoint}
+use Rattle.std.proofs.Common.{◌<◌, ◌≤◌, false, not, length, nat_lt, sym, subst, ◌∙◌, arith, rules, tests}
 use Rattle.std.proofs.lemmas.List.Sorted.{IsPartitionPoint-from_clause}
 use Rattle.lsm_parts.specs.declared.version.super_version.SuperVersion.{SuperVersion}
-use Rattle.lsm_parts.proofs.Histories.{above_first, unnot}
+use Rattle.lsm_parts.proofs.Histories.{above_first}
 use Rattle.lsm_parts.proofs.Maintained.{needed_point, needed_end}
 use Rattle.lsm_parts.proofs.version.super_versions.bisect_needed.Goals as goal
 

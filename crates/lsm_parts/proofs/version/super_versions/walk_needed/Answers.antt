@@ -1,4 +1,4 @@
-use Rattle.std.proofs.Common.{◌≡◌, ◌<◌, ◌≤◌, ℕ, length, nat_lt, sym, ap, subst, ◌∙◌, arith}
+use Rattle.std.proofs.Common.{◌<◌, ◌≤◌, length, nat_lt, sym, ap, subst, ◌∙◌, arith}
 use Rattle.lsm_parts.specs.declared.version.super_version.SuperVersion.{SuperVersion}
 use Rattle.lsm_parts.proofs.Maintained.{needed_at, needed_all}
 use Rattle.lsm_parts.proofs.version.super_versions.walk_needed.Goals as goal

@@ -2,7 +2,7 @@ use Rattle.std.proofs.Common.{◌≤◌, ◌∷◌, ap, subst, sym, ◌∙◌, r
 use Rattle.std.proofs.lemmas.List.Sorted.{IsPartitionPoint-from_clause}
 use Rattle.lsm_tables.specs.Cutting.{IsWritable}
 use Rattle.lsm_memtable.specs.Memtables.{SeenMemtable}
-use Rattle.lsm_state.specs.Held.{HasFirst, FallFrom, ids_of}
+use Rattle.lsm_state.specs.Held.{HasFirst}
 use Rattle.lsm_state.specs.Cleaning.{from_id}
 use Rattle.lsm_state.proofs.Holding.{from_first, taken_from, from_active, all_taken, fall_taken}
 use Rattle.lsm_state.proofs.memtables.Memtables.forget_before.Goals as goal

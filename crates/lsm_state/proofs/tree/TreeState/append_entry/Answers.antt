@@ -1,10 +1,6 @@
-use Rattle.std.proofs.Common.{sym, ◌∙◌, subst, ap, ◌≡◌, None}
-use Rattle.lsm_tables.specs.Image.{Fits}
-use Rattle.lsm_below.specs.Entries.{plain}
-use Rattle.lsm_state.specs.Refusals.{entry_refusal}
+use Rattle.std.proofs.Common.{sym, ◌∙◌, subst}
 use Rattle.lsm_state.specs.Core.{Core}
 use Rattle.lsm_state.specs.Calls.{Appends}
-use Rattle.lsm_state.proofs.Fitting.{plain_fits}
 use Rattle.lsm_state.proofs.Steps.{appended, with_memtables}
 use Rattle.lsm_state.proofs.tree.TreeState.append_entry.Goals as goal
 

@@ -1,4 +1,4 @@
-use Rattle.std.proofs.Common.{◌≡◌, Result, Ok, Err, Option, None, sym, subst, ap, ◌∙◌}
+use Rattle.std.proofs.Common.{◌≡◌, Result, Ok, Err, Option, None, sym, subst, ◌∙◌}
 use Rattle.lsm_below.specs.declared.error.Error.{Error}
 use Rattle.lsm_choices.specs.declared.choice.Why.{Why}
 use Rattle.lsm_pick.specs.declared.choice.Choice.TheVariants.{DoNothing}

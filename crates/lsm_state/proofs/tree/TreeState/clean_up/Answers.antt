@@ -1,8 +1,6 @@
 use Rattle.std.proofs.Common.{◌≡◌, ◌≤◌, None, ap, sym, subst, ◌∙◌, refl}
-use Rattle.lsm_parts.specs.History.{SeenHistory}
-use Rattle.lsm_parts.specs.Maintenance.{KeepsVersions}
 use Rattle.lsm_state.specs.Held.{HasFirst}
-use Rattle.lsm_state.specs.Kept.{KeepsIds, KeepsTables, least_named}
+use Rattle.lsm_state.specs.Kept.{KeepsIds, least_named}
 use Rattle.lsm_state.specs.Core.{Core}
 use Rattle.lsm_state.specs.Commits.{Upholds}
 use Rattle.lsm_state.specs.Cleaning.{from_id}

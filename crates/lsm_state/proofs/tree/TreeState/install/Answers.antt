@@ -1,4 +1,4 @@
-use Rattle.std.proofs.Common.{◌≡◌, ◌∷◌, ◌++◌, ◌<◌, ap, sym, subst, ◌∙◌, refl, option_to_list}
+use Rattle.std.proofs.Common.{◌≡◌, ◌∷◌, ◌++◌, ap, sym, subst, ◌∙◌, refl, option_to_list}
 use Rattle.std.specs.List.Sorted.{IsPermutation}
 use Rattle.lsm_versions.specs.Levels.{all_of}
 use Rattle.lsm_parts.specs.History.{versions_of}

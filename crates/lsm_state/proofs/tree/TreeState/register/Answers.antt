@@ -1,10 +1,10 @@
-use Rattle.std.proofs.Common.{◌≡◌, ◌<◌, ◌++◌, None, Some, true, false, ap, sym, subst, ◌∙◌, refl, IsErrOf, IfOk}
+use Rattle.std.proofs.Common.{◌≡◌, true, false, ap, sym, subst, ◌∙◌}
 use Rattle.std.specs.Option.{is_some}
 use Rattle.std.proofs.lemmas.Result.{IfOk-weaker}
 use Rattle.lsm_files.specs.Stored.{AreOnDisk}
 use Rattle.lsm_state.specs.Core.{Core}
 use Rattle.lsm_state.specs.Commits.{Upholds}
-use Rattle.lsm_state.specs.Flushes.{IsCurrent, MayInstall, Installs, Doubts, IsFlushDeed, IsLostFlush, spent, spent_in}
+use Rattle.lsm_state.specs.Flushes.{IsCurrent, Installs, Doubts, IsFlushDeed, spent, spent_in}
 use Rattle.lsm_state.proofs.Writing.{tables_spent}
 use Rattle.lsm_state.proofs.Registering.{none_of, spent_upholds, may_install, install_upholds}
 use Rattle.lsm_state.proofs.tree.TreeState.register.Goals as goal

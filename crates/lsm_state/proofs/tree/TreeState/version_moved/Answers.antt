@@ -1,5 +1,5 @@
 use Rattle.std.proofs.Common.{subst}
-use Rattle.lsm_versions.specs.Levels.{SeenVersion, Moves}
+use Rattle.lsm_versions.specs.Levels.{Moves}
 use Rattle.lsm_state.specs.Compactions.{IsMovedTo}
 use Rattle.lsm_state.proofs.Choices.{moved_settles, moved_on_disk}
 use Rattle.lsm_state.proofs.tree.TreeState.version_moved.Goals as goal

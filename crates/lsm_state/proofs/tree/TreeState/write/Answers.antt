@@ -1,6 +1,4 @@
 use Rattle.std.proofs.Common.{◌∙◌, ap, sym, subst}
-use Rattle.std.specs.List.{AllByRecursion}
-use Rattle.lsm_tables.specs.Image.{Fits}
 use Rattle.lsm_state.specs.Core.{Core}
 use Rattle.lsm_state.specs.Refusals.{batch_refusal}
 use Rattle.lsm_model.specs.Ops.{op_entries}

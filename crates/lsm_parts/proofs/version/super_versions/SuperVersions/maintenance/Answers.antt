@@ -1,9 +1,8 @@
-use Rattle.std.proofs.Common.{◌≡◌, ◌≤◌, ◌<◌, ◌+◌, ◌-◌, ◌∷◌, ℕ, List, length, take, drop, get_or, true, refl, sym, ap, subst, ◌∙◌, arith, rules, None}
+use Rattle.std.proofs.Common.{◌≡◌, ◌≤◌, ◌<◌, ◌+◌, ◌-◌, List, length, take, drop, get_or, sym, ap, subst, ◌∙◌, arith, rules, None}
 use Rattle.std.proofs.lemmas.List.{length-take-le, take_all, get_or-take}
-use Rattle.lsm_versions.specs.Levels.{SeenVersion}
 use Rattle.lsm_manifest.specs.Names.{version_name}
 use Rattle.lsm_parts.specs.declared.version.super_version.SuperVersion.{SuperVersion}
-use Rattle.lsm_parts.specs.History.{SeenHistory, AreLaid, NumbersFall}
+use Rattle.lsm_parts.specs.History.{SeenHistory, NumbersFall}
 use Rattle.lsm_parts.specs.Versions.{IsLaid}
 use Rattle.std.specs.List.{AllByRecursion}
 use Rattle.lsm_parts.specs.Maintenance.{needed, KeepsNewer, KeepsVersions}
