@@ -1,7 +1,7 @@
 -- A compaction in one call: what its beginning tells, and what the end of its merge tells behind it.
-use Rattle.std.proofs.Common.{◌≡◌, ◌⊎◌, ⊎_elim, inl, inr, ℕ, List, [], ◌∷◌, ◌++◌, length, take, refl, sym, ap, ◌∙◌, subst, append-nil, Option, None, Some, IsSome, Result, Ok, Err, IsErrOf}
+use Rattle.std.proofs.Common.{◌≡◌, ◌⊎◌, ⊎_elim, inl, inr, ℕ, List, [], ◌∷◌, ◌++◌, length, take, refl, sym, ap, ◌∙◌, subst, append-nil, Option, None, Some, IsSome, Result, Ok, Err}
 use Rattle.lsm_below.specs.declared.error.Error.{Error}
-use Rattle.lsm_below.specs.declared.error.Error.TheVariants.{OutOfMemory, CommitUnknown, AfterCommit}
+use Rattle.lsm_below.specs.declared.error.Error.TheVariants.{CommitUnknown, AfterCommit}
 use Rattle.lsm_model.specs.Journal.{Event}
 use Rattle.lsm_model.specs.declared.journal.JournalEntry.TheVariants.{Mark, Install}
 use Rattle.lsm_versions.specs.Levels.{SeenVersion}
@@ -13,7 +13,6 @@ use Rattle.lsm_pick.specs.declared.choice.Choice.TheVariants.{DoNothing, Move, M
 use Rattle.lsm_state.specs.declared.compaction.Options.{Options}
 use Rattle.lsm_state.specs.declared.compaction.Begun.{Begun}
 use Rattle.lsm_state.specs.declared.compaction.Begun.TheVariants.{DidNothing, Declined, Installed, Job}
-use Rattle.lsm_state.specs.declared.compaction.Finished.{Finished}
 use Rattle.lsm_state.specs.Core.{Core}
 use Rattle.lsm_state.specs.Compactions.{reason_of, Does, OpensMerge, BeginsChoice}
 use Rattle.lsm_state.specs.CompactionReads.{TellsChoice, ranges_told}

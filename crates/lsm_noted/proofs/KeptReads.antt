@@ -1,14 +1,11 @@
 -- What compactions leave of reads, beside what they tell.
-use Rattle.std.proofs.Common.{◌≡◌, ◌⊎◌, ⊎_elim, Option, None, Some, IsSome, ℕ, ◌≤◌, Bool, true, false, cond, ltb, List, [], ◌∷◌, ◌++◌, refl, sym, ap, ◌∙◌, subst, append_assoc, append-nil, fold, Result, Ok, Err, IsErrOf, arith}
-use Rattle.std.specs.List.{AllByRecursion}
+use Rattle.std.proofs.Common.{◌≡◌, ◌⊎◌, ⊎_elim, Option, None, Some, IsSome, ℕ, ◌≤◌, true, false, cond, ltb, List, [], ◌∷◌, ◌++◌, refl, sym, ap, ◌∙◌, subst, append_assoc, append-nil, fold, Result, Ok, Err, IsErrOf, arith}
 use Rattle.std.proofs.lemmas.Grind.{fold-append}
-use Rattle.lsm_below.specs.Entries.{Entry}
 use Rattle.lsm_below.specs.declared.error.Error.{Error}
 use Rattle.lsm_below.specs.declared.error.Error.TheVariants.{OutOfMemory, Unrecoverable, CommitUnknown, AfterCommit}
 use Rattle.lsm_model.specs.Soundness.{Soundness}
-use Rattle.lsm_model.specs.Journal.{Event, Map, InOrder, is_kept, kept_after}
-use Rattle.lsm_model.specs.Steps.{Marked, StaysAt, IsSparedBy}
-use Rattle.lsm_model.specs.Views.{SuperVersion}
+use Rattle.lsm_model.specs.Journal.{Event, InOrder, is_kept, kept_after}
+use Rattle.lsm_model.specs.Steps.{Marked, StaysAt}
 use Rattle.lsm_model.specs.Sound.{Holds}
 use Rattle.lsm_model.specs.declared.journal.JournalEntry.TheVariants.{Mark, Install, Write, Clear, Dropped, Read}
 use Rattle.lsm_versions.specs.Levels.{SeenVersion}
@@ -16,7 +13,6 @@ use Rattle.lsm_choices.specs.declared.choice.Why.{Why}
 use Rattle.lsm_choices.specs.declared.choice.Why.TheVariants.{UnknownJob}
 use Rattle.lsm_choices.specs.declared.input.Input.{Input}
 use Rattle.lsm_merges.specs.Merges.{SeenCompaction}
-use Rattle.lsm_merges.specs.OpenMerges.{IsOpenIn}
 use Rattle.lsm_pick.specs.declared.choice.Choice.{Choice}
 use Rattle.lsm_state.specs.declared.compaction.Options.{Options}
 use Rattle.lsm_state.specs.declared.compaction.Begun.{Begun}

@@ -1,14 +1,14 @@
 -- Which of the entries that were made come to be.
-use Rattle.std.proofs.Common.{◌≡◌, ◌⊎◌, ⊎_elim, ℕ, List, [], ◌∷◌, ◌++◌, length, take, refl, sym, ap, ◌∙◌, Result, Ok, Err, IsErrOf}
+use Rattle.std.proofs.Common.{◌≡◌, ◌⊎◌, ⊎_elim, ℕ, List, ◌∷◌, length, take, refl, sym, ap, ◌∙◌, Result, Ok, Err, IsErrOf}
 use Rattle.std.proofs.lemmas.List.{length-take, take_min}
 use Rattle.lsm_below.specs.declared.error.Error.{Error}
 use Rattle.lsm_below.specs.declared.error.Error.TheVariants.{CommitUnknown, AfterCommit}
 use Rattle.lsm_model.specs.Journal.{Event}
-use Rattle.lsm_model.specs.declared.journal.JournalEntry.TheVariants.{Mark, Install}
+use Rattle.lsm_model.specs.declared.journal.JournalEntry.TheVariants.{Mark}
 use Rattle.lsm_pick.specs.declared.choice.Choice.{Choice}
 use Rattle.lsm_pick.specs.declared.choice.Choice.TheVariants.{DoNothing, Move, Merge, Drop}
 use Rattle.lsm_state.specs.declared.compaction.Begun.{Begun}
-use Rattle.lsm_state.specs.declared.compaction.Begun.TheVariants.{DidNothing, Declined, Installed, Job}
+use Rattle.lsm_state.specs.declared.compaction.Begun.TheVariants.{Installed}
 use Rattle.lsm_state.specs.Core.{Core}
 use Rattle.lsm_state.specs.CompactionReads.{ranges_told, TellsChoice}
 use Rattle.lsm_noted.specs.Noted.{noted_of, kept_of}
