@@ -1,15 +1,14 @@
 -- What writes, reads and counters are to the theory of crashes.
-use Rattle.std.proofs.Common.{◌≡◌, ℕ, ◌+◌, ◌≤◌, Bool, true, false, cond, List, [], ◌∷◌, ◌++◌, length, Option, Some, None, append-nil, map, nat_le, arith, refl, sym, ap, ◌∙◌, subst}
+use Rattle.std.proofs.Common.{◌≡◌, ℕ, ◌+◌, ◌≤◌, true, false, cond, List, [], ◌∷◌, ◌++◌, length, Option, Some, None, append-nil, map, nat_le, arith, refl, sym, ap, ◌∙◌, subst}
 use Rattle.lsm_below.specs.Keys.{Bytes}
 use Rattle.lsm_below.specs.Entries.{Entry, above}
-use Rattle.lsm_below.specs.declared.error.Error.{Error}
 use Rattle.lsm_below.specs.declared.error.Error.TheVariants.{CommitUnknown}
 use Rattle.lsm_model.specs.Soundness.{Soundness}
 use Rattle.lsm_model.specs.Journal.{Event, Map}
 use Rattle.lsm_model.specs.Views.{SuperVersion}
-use Rattle.lsm_model.specs.Steps.{State, Wrote, Rotated, Asked, Cleared as ClearedBy, Step}
+use Rattle.lsm_model.specs.Steps.{Wrote, Rotated, Asked, Cleared as ClearedBy, Step}
 use Rattle.lsm_model.specs.Ops.{op_entries}
-use Rattle.lsm_model.specs.Beginnings.{Note, Deed, Deeds, Done, Lost, SealedAt, ClearedTo, ClearLost}
+use Rattle.lsm_model.specs.Beginnings.{Note, Deeds, Done, Lost, SealedAt, ClearedTo, ClearLost}
 use Rattle.lsm_model.specs.declared.op.Op.{Op}
 use Rattle.lsm_model.specs.declared.journal.JournalEntry.TheVariants.{Write as Noted, Read, Clear as Emptied}
 use Rattle.lsm_model.specs.declared.question.Question.{Question}

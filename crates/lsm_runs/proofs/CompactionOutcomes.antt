@@ -7,13 +7,12 @@ use Rattle.lsm_pick.specs.declared.choice.ChooseError.{ChooseError}
 use Rattle.lsm_state.specs.declared.compaction.Options.{Options}
 use Rattle.lsm_state.specs.declared.compaction.Begun.{Begun}
 use Rattle.lsm_state.specs.declared.compaction.Begun.TheVariants.{DidNothing, Declined, Installed, Job as BegunJob}
-use Rattle.lsm_state.specs.declared.compaction.Finished.{Finished}
 use Rattle.lsm_state.specs.Core.{Core}
 use Rattle.lsm_state.specs.Compactions.{Relation}
 use Rattle.lsm_noted.specs.Noted.{IsAnswerOf}
 use Rattle.lsm_runs.specs.declared.slots.Job.{Job}
 use Rattle.lsm_runs.specs.declared.steps.Reply.{Reply}
-use Rattle.lsm_runs.specs.Compacting.{Strategies, strategies_of, relation_of, reply_of, end_reply_of, BeginsFrom, TakesBeginCompaction, EndsFrom, TakesFinish, CompactsFrom, TakesCompact}
+use Rattle.lsm_runs.specs.Compacting.{Strategies, strategies_of, relation_of, reply_of, BeginsFrom, TakesBeginCompaction, CompactsFrom, TakesCompact}
 
 -- what a strategy of a list answered
 pub asked_at : {B : Type 0} (may_choose : B → Relation Choice) (may_refuse : B → Relation ChooseError) (list : List B) (at : ℕ) (strategy : B) (c : Core) (answer : Result Choice Error) → slice_get list at ≡ Some strategy → IsAnswerOf (may_choose strategy) (may_refuse strategy) c answer → IsAnswerOf ((strategies_of may_choose may_refuse list).may_choose at) ((strategies_of may_choose may_refuse list).may_refuse at) c answer
@@ -41,11 +40,3 @@ module _ (strategies : Strategies) (at : ℕ) (o : Options) (events : List Event
       go (Ok Installed) c = (there, c)
       go (Ok (BegunJob job)) c = (there, c)
       go (Err x) c = (there, c)
-
--- a merge that ended
-pub ended_taken : (reply : Reply) (end : Result Finished Error) (events : List Event) (was is : Option Job) (old new : Core) → reply ≡ end_reply_of end → EndsFrom reply events was is old new → TakesFinish reply events was is old new
-ended_taken reply end events was is old new e t = subst (λ x. TakesFinish x events was is old new) (sym e) (go end (subst (λ x. EndsFrom x events was is old new) e t))
-  where
-    go : (r : Result Finished Error) → EndsFrom (end_reply_of r) events was is old new → TakesFinish (end_reply_of r) events was is old new
-    go (Ok finished) b = b
-    go (Err x) b = b

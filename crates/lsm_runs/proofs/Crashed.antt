@@ -1,11 +1,11 @@
 -- From the steps of a run to what a crash leaves at each moment of it.
-use Rattle.std.proofs.Common.{◌≡◌, ◌⊎◌, ⊎_elim, inl, inr, ℕ, ◌≤◌, arith, List, [], ◌∷◌, ◌++◌, map, option_to_list, Option, refl, sym, ap, ◌∙◌, subst, append-nil, append_assoc}
+use Rattle.std.proofs.Common.{◌≡◌, ◌⊎◌, ⊎_elim, inl, inr, ℕ, arith, List, [], ◌∷◌, ◌++◌, map, option_to_list, refl, sym, ap, ◌∙◌, subst, append-nil, append_assoc}
 use Rattle.lsm_below.specs.Entries.{Entry}
 use Rattle.lsm_below.specs.Members.{IsIn}
 use Rattle.lsm_store.specs.World.{Image, World, LeavesOnly}
 use Rattle.lsm_model.specs.Journal.{Event, Map, InOrder}
 use Rattle.lsm_model.specs.Views.{Placed, HasDistinctIds}
-use Rattle.lsm_model.specs.Beginnings.{Note, Saved, Deed, Deeds, IsFound, IsStart, Recovers, EveryCrashRecovers, DeedsJoin, versions, covered, shown_by}
+use Rattle.lsm_model.specs.Beginnings.{Note, Saved, Deed, Deeds, IsFound, IsStart, EveryCrashRecovers, DeedsJoin, versions, covered, shown_by}
 use Rattle.lsm_versions.specs.Levels.{SeenVersion, placed_of}
 use Rattle.lsm_manifest.specs.Finding.{Named, FoundTablesShow}
 use Rattle.lsm_manifest.specs.Versions.{named_levels}

@@ -19,13 +19,12 @@ use Rattle.lsm_state.specs.Flushes.{sealed_ids, spent, Registers, flush_of, IsFl
 use Rattle.lsm_state.specs.FlushReads.{register_events, flush_events}
 use Rattle.lsm_state.specs.WholeFlushes.{Flushes, InstallsWhole, RefusesRotation}
 use Rattle.lsm_runs.specs.declared.slots.Job.{Job}
-use Rattle.lsm_runs.specs.declared.slots.Job.TheVariants.{Written}
 use Rattle.lsm_runs.specs.declared.steps.JobStep.TheVariants.{RegisterTables}
 use Rattle.lsm_runs.specs.declared.steps.Reply.{Reply}
 use Rattle.lsm_runs.specs.declared.steps.Reply.TheVariants.{Begun, Done as NothingMore, Registered, Flushed, FlushedActive, RefusedActive, NoJob, SlotInUse, Refused}
 use Rattle.lsm_runs.specs.declared.steps.Step.TheVariants.{Flush, FlushActiveMemtable}
-use Rattle.lsm_runs.specs.Flushing.{TakesBegin, TakesRun, TakesTables, TakesRegister, RegistersFrom, TakesAbandon, TakesFlush, TakesFlushActive, TakesMoment, FlushesNoted, FlushesRotated}
-use Rattle.lsm_runs.specs.Noting.{sealed_note, sealed_behind, flushed_note, ids_in, job_notes, alone_notes}
+use Rattle.lsm_runs.specs.Flushing.{TakesBegin, TakesRun, TakesTables, TakesRegister, TakesAbandon, TakesFlush, TakesFlushActive, TakesMoment, FlushesNoted, FlushesRotated}
+use Rattle.lsm_runs.specs.Noting.{sealed_note, sealed_behind, flushed_note, job_notes, alone_notes}
 use Rattle.lsm_runs.proofs.CallDeeds.{rotated_deeds}
 use Rattle.lsm_runs.proofs.StepDeeds.{HasDeeds, IsRight, IsSame, idle, nothing, no_deed, mark, order_of, right_behind, then}
 

@@ -3,6 +3,7 @@ pub mod Outcomes
 pub mod FlushOutcomes
 pub mod CompactionOutcomes
 pub mod Clearing
+pub mod Resting
 pub mod Files
 pub mod ReadOutcomes
 pub mod ReadReplays
@@ -12,6 +13,7 @@ pub mod CompactionReplays
 pub mod CompactionRest
 pub mod JobReplays
 pub mod Replays
+pub mod Unknown
 pub mod Spared
 mod Counting
 pub mod OpenWork
@@ -26,3 +28,4 @@ pub mod MergeDeeds
 pub mod RunDeeds
 pub mod Crashed
 pub mod Living
+pub mod LifeAfterLife

@@ -1,5 +1,5 @@
 -- From the opening of a tree and the run behind it to its life.
-use Rattle.std.proofs.Common.{◌≡◌, inl, ℕ, ◌≤◌, arith, List, [], length, Option, None, refl}
+use Rattle.std.proofs.Common.{◌≡◌, inl, ℕ, arith, List, [], None, refl}
 use Rattle.lsm_store.specs.World.{Image, World, LeavesOnly}
 use Rattle.lsm_model.specs.Journal.{Event, Map, InOrder}
 use Rattle.lsm_model.specs.Beginnings.{Note}

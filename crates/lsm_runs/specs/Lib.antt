@@ -9,6 +9,8 @@ pub mod JobSteps
 pub mod Files
 pub mod Runs
 pub mod Counting
+pub mod Unknown
 pub mod Noting
 pub mod Crashes
 pub mod Lives
+pub mod LifeAfterLife

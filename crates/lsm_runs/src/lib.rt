@@ -15,7 +15,7 @@ mod slots;
 mod steps;
 mod watch;
 
-pub use life::{crashes_begin_lives, live};
+pub use life::{any_number_of_lives, crashes_begin_lives, live};
 pub use runner::{run, run_told};
 pub use slots::Slot;
 pub use steps::{Compacted, Count, Counter, JobStep, Outcome, Reply, Step};

@@ -6,6 +6,7 @@ ghost use Rattle.lsm_model.specs.Beginnings.{Note};
 ghost use Rattle.lsm_manifest.specs.Finding.{StandsForMap, IsSettled, RefusesFound};
 ghost use Rattle.lsm_runs.specs.Compacting.{strategies_of};
 ghost use Rattle.lsm_runs.specs.Crashes.{HoldsBeginning};
+ghost use Rattle.lsm_runs.specs.LifeAfterLife.{AnyNumberOfLives};
 ghost use Rattle.lsm_runs.specs.Lives.{Lives, LivesAgain};
 
 use crate::{Outcome, Step, Watch, run_told};
@@ -61,6 +62,26 @@ pub fn live<S: Store, W: Watch>(
 /// beginning of the calls so far.
 pub fn crashes_begin_lives<S: Store>(store: &S)
     ensures { (start : Map) (journal : List Event) (notes : List Note) (least : ℕ) (image : Image) → HoldsBeginning start journal notes least image → Begins image (S.world store.now) → LivesAgain start journal notes least (S.world store.now) }
+{
+    crashes_settle(store);
+}
+
+/// Over any number of crashes, with any list of strategies: a store that begins with what a crash left is settled and stands
+/// for a map, the tree of `live` starts from that map, and what the next crash leaves stands for a beginning of its calls,
+/// outside dropped ranges, which holds all that was covered at that moment, or for the same map, where the tree was still being
+/// opened.
+///
+/// # Examples
+///
+/// ```text
+/// any_number_of_lives(&store, &watch, &strategies);
+/// ```
+pub fn any_number_of_lives<S: Store, W: Watch>(
+    store: &S,
+    _: &W,
+    strategies: &[Box<dyn CompactionStrategy>],
+)
+    ensures { AnyNumberOfLives S.world W.gives (strategies_of (λ b. may_choose b) (λ b. may_refuse b) strategies.now) }
 {
     crashes_settle(store);
 }

@@ -1,5 +1,5 @@
 // A list of calls on a tree, with the replay theorem.
-ghost use Rattle.std.specs.Prelude.{◌≡◌, ◌≤◌, ◌++◌, ◌∷◌, [], List, map, take, length, IfOk, OnOk, OnErr};
+ghost use Rattle.std.specs.Prelude.{◌≡◌, ◌≤◌, ◌++◌, ◌∷◌, [], List, map, take, length, IsSome, IfOk, OnOk, OnErr};
 ghost use Rattle.lsm_below.specs.Entries.{Entry, plain};
 ghost use Rattle.lsm_model.specs.Journal.{Map};
 ghost use Rattle.lsm_model.specs.Ops.{op_entry, op_entries};
@@ -12,6 +12,7 @@ ghost use Rattle.lsm_state.specs.Commits.{Upholds};
 ghost use Rattle.lsm_runs.specs.Files.{StaysStored, LeavesFiles};
 ghost use Rattle.lsm_runs.specs.Crashes.{watched, RanWatched, RunLeaves, RunRecovers};
 ghost use Rattle.lsm_runs.specs.Compacting.{strategies_of};
+ghost use Rattle.lsm_runs.specs.Unknown.{RanUnknown, RunStops};
 ghost use Rattle.lsm_runs.specs.Slots.{beside, SameJobs};
 ghost use Rattle.lsm_runs.specs.Runs.{Takes, TakesEntry, TakesBatch, TakesRotate, told_entry, told_batch, Ran, RanToEnd, RunEqualsReplay, RunSparesAnswers};
 
@@ -294,6 +295,7 @@ fn take_step<S: Store>(
     ensures err { OnErr result (state.new ≡ state.old) }
     ensures slots_err { OnErr result (SameJobs slots.old slots.new) }
     ensures files { S.tells → OnOk result (LeavesFiles S.world step.now state.old.store state.new.store state.old.core state.new.core) }
+    ensures no_call { IsSome state.old.core.lost → state.new.store ≡ state.old.store }
 {
     match step {
         Step::Insert(key, value, seqno) => insert(alloc, state, key, value, *seqno),
@@ -353,6 +355,7 @@ fn add_step<S: Store>(
     ensures slots_err { OnErr result (SameJobs slots.old slots.new) }
     ensures outcomes_err { OnErr result (outcomes.new.items ≡ outcomes.old.items) }
     ensures upholds { S.tells → Upholds (S.world state.old.store) (S.world state.new.store) state.old.core state.new.core }
+    ensures no_call { IsSome state.old.core.lost → state.new.store ≡ state.old.store }
 {
     state.is_upheld();
     outcomes.try_reserve(1)?;
@@ -373,6 +376,7 @@ fn take_steps<S: Store, W: Watch>(
     ensures ran { Ran (strategies_of (λ b. may_choose b) (λ b. may_refuse b) strategies.now) (take (length result.items) steps.now) result.items (beside state.old.core slots.old) (beside state.new.core slots.new) }
     ensures stored { S.tells → StaysStored (S.world state.old.store) (S.world state.new.store) state.old.core state.new.core }
     ensures watched { S.tells → RanWatched S.world W.gives (strategies_of (λ b. may_choose b) (λ b. may_refuse b) strategies.now) (take (length result.items) steps.now) result.items (watched state.old slots.old watch.old) (watched state.new slots.new watch.new) }
+    ensures unknown { RanUnknown (strategies_of (λ b. may_choose b) (λ b. may_refuse b) strategies.now) (take (length result.items) steps.now) result.items (beside state.old.core slots.old) (beside state.new.core slots.new) state.old.store state.new.store }
 {
     let mut outcomes = Vec::new(alloc);
     for step in steps {
@@ -411,6 +415,8 @@ pub fn run_told<S: Store, W: Watch>(
     ensures stored { S.tells → StaysStored (S.world state.old.store) (S.world state.new.store) state.old.core state.new.core }
     // What a crash leaves at each moment.
     ensures crashes { S.tells → (opened : List Entry) (start : Map) → RunRecovers S.world W.gives (strategies_of (λ b. may_choose b) (λ b. may_refuse b) strategies.now) opened start (take (length result.items) steps.now) result.items state.old.store state.new.store watch.old watch.new state.old.core }
+    // Behind a commit of unknown outcome no step calls the store.
+    ensures unknown { RunStops (strategies_of (λ b. may_choose b) (λ b. may_refuse b) strategies.now) (take (length result.items) steps.now) result.items state.old.store state.new.store state.old.core state.new.core }
 {
     every_crash_recovers();
     found_tables_show();
@@ -442,7 +448,8 @@ pub fn run_told<S: Store, W: Watch>(
 /// Without an index, and where no step forgets what isn't flushed (`ClearActiveMemtable`), the replay theorem holds
 /// (`replays`) and no step changes what it is not to change (`spares`). That the journal is in order, the other premise of both,
 /// follows from the order that callers keep by the counter (`in_order`). Over a store that holds the tree's files a crash at any
-/// moment of the run leaves a beginning of its calls, and behind the run one that holds all that it covered (`crashes`).
+/// moment of the run leaves a beginning of its calls, and behind the run one that holds all that it covered (`crashes`). From
+/// a step that leaves the outcome of a commit unknown on, none makes a commit or removes a name (`unknown`).
 ///
 /// # Examples
 ///
@@ -466,6 +473,8 @@ pub fn run<S: Store>(
     // What a crash leaves at each moment.
     ensures crashes { S.tells → (opened : List Entry) (start : Map) → RunLeaves S.world (strategies_of (λ b. may_choose b) (λ b. may_refuse b) strategies.now) opened start (take (length result.items) steps.now) result.items state.old.store state.new.store state.old.core }
     ensures stored { S.tells → StaysStored (S.world state.old.store) (S.world state.new.store) state.old.core state.new.core }
+    // Behind a commit of unknown outcome no step calls the store.
+    ensures unknown { RunStops (strategies_of (λ b. may_choose b) (λ b. may_refuse b) strategies.now) (take (length result.items) steps.now) result.items state.old.store state.new.store state.old.core state.new.core }
 {
     run_told(alloc, state, strategies, steps, &mut Unwatched)
 }

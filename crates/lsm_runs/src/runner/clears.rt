@@ -1,5 +1,5 @@
 // A clear, and how unflushed entries are forgotten, as steps.
-ghost use Rattle.std.specs.Prelude.{◌≡◌, IfOk, OnErr};
+ghost use Rattle.std.specs.Prelude.{◌≡◌, IfOk, OnErr, IsSome};
 ghost use Rattle.lsm_runs.specs.Clearing.{TakesClear, TakesForget, told_clear};
 ghost use Rattle.lsm_state.specs.Commits.{Upholds};
 
@@ -32,6 +32,7 @@ pub(super) fn clear<S: Store>(
     ensures ok { IfOk result (λ told. TakesClear told.reply told.entries state.old.core state.new.core) }
     ensures err { OnErr result (state.new ≡ state.old) }
     ensures upholds { S.tells → Upholds (S.world state.old.store) (S.world state.new.store) state.old.core state.new.core }
+    ensures no_call { IsSome state.old.core.lost → state.new.store ≡ state.old.store }
 {
     state.is_upheld();
     let entries = one_entry(alloc, JournalEntry::Clear(state.seqno().get()))?;

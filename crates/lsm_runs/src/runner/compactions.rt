@@ -1,5 +1,5 @@
 // The calls of a compaction, as steps.
-ghost use Rattle.std.specs.Prelude.{◌≡◌, IfOk, OnErr};
+ghost use Rattle.std.specs.Prelude.{◌≡◌, IfOk, OnErr, IsSome};
 ghost use Rattle.lsm_state.specs.WholeCompactions.{options_at};
 ghost use Rattle.lsm_noted.specs.Noted.{IsAnswerOf, noted_of};
 ghost use Rattle.lsm_runs.specs.Compacting.{strategies_of, reply_of, job_of, end_reply_of, TakesBeginCompaction, TakesRunCompaction, TakesFinish, TakesAbandonCompaction, DoesAnswer, CompactsFrom, TakesCompact, TakesMajor, TakesDropRange, TakesTableId, IsCompactingReply};
@@ -81,6 +81,7 @@ pub(super) fn begin_compaction<S: Store>(
     ensures ok { IfOk result (λ told. TakesBeginCompaction (strategies_of (λ b. may_choose b) (λ b. may_refuse b) strategies.now) at options told.reply told.entries place.old place.new state.old.core state.new.core) }
     ensures err { OnErr result ((state.new ≡ state.old) × (place.new ≡ place.old)) }
     ensures upholds { S.tells → Upholds (S.world state.old.store) (S.world state.new.store) state.old.core state.new.core }
+    ensures no_call { IsSome state.old.core.lost → state.new.store ≡ state.old.store }
 {
     state.is_upheld();
     if place.is_some() {
@@ -130,6 +131,7 @@ pub(super) fn finish_compaction<S: Store>(
     ensures ok { IfOk result (λ told. TakesFinish told.reply told.entries place.old place.new state.old.core state.new.core) }
     ensures err { OnErr result ((state.new ≡ state.old) × (place.new ≡ place.old)) }
     ensures upholds { S.tells → Upholds (S.world state.old.store) (S.world state.new.store) state.old.core state.new.core }
+    ensures no_call { IsSome state.old.core.lost → state.new.store ≡ state.old.store }
 {
     state.is_upheld();
     let entries = finish_entries(alloc, state.seqno().get())?;
@@ -172,6 +174,7 @@ fn compact_noting<S: Store>(state: &mut TreeState<S>, chosen: Chosen, options: O
     requires { chosen.entries.items ≡ noted_of chosen.answer options.mvcc_gc_watermark state.old.core }
     ensures does { DoesAnswer chosen.answer options result.reply result.entries state.old.core state.new.core }
     ensures upholds { S.tells → Upholds (S.world state.old.store) (S.world state.new.store) state.old.core state.new.core }
+    ensures no_call { IsSome state.old.core.lost → state.new.store ≡ state.old.store }
 {
     let (done, entries) = compact_chosen(state, chosen, options);
     let (reply, _) = of_begun(done);
@@ -188,6 +191,7 @@ pub(super) fn do_compaction<S: Store>(
     ensures ok { IfOk result (λ told. TakesCompact (strategies_of (λ b. may_choose b) (λ b. may_refuse b) strategies.now) at options told.reply told.entries state.old.core state.new.core) }
     ensures err { OnErr result (state.new ≡ state.old) }
     ensures upholds { S.tells → Upholds (S.world state.old.store) (S.world state.new.store) state.old.core state.new.core }
+    ensures no_call { IsSome state.old.core.lost → state.new.store ≡ state.old.store }
 {
     state.is_upheld();
     let Some(strategy) = strategies.get(at) else {
@@ -217,6 +221,7 @@ pub(super) fn compact<S: Store>(
     ensures ok { IfOk result (λ told. TakesCompact (strategies_of (λ b. may_choose b) (λ b. may_refuse b) strategies.now) at (options_at watermark state.old.core) told.reply told.entries state.old.core state.new.core) }
     ensures err { OnErr result (state.new ≡ state.old) }
     ensures upholds { S.tells → Upholds (S.world state.old.store) (S.world state.new.store) state.old.core state.new.core }
+    ensures no_call { IsSome state.old.core.lost → state.new.store ≡ state.old.store }
 {
     let options = options_of(state, watermark);
     do_compaction(alloc, state, strategies, at, options)
@@ -232,6 +237,7 @@ fn compact_with<S: Store, C: CompactionStrategy>(
     ensures ok { IfOk result (λ told. CompactsFrom (C.may_choose strategy.now) (C.may_refuse strategy.now) (options_at watermark state.old.core) told.reply told.entries state.old.core state.new.core) }
     ensures err { OnErr result (state.new ≡ state.old) }
     ensures upholds { S.tells → Upholds (S.world state.old.store) (S.world state.new.store) state.old.core state.new.core }
+    ensures no_call { IsSome state.old.core.lost → state.new.store ≡ state.old.store }
 {
     state.is_upheld();
     let options = options_of(state, watermark);
@@ -248,6 +254,7 @@ pub(super) fn major_compact<S: Store>(
     ensures ok { IfOk result (λ told. TakesMajor target watermark told.reply told.entries state.old.core state.new.core) }
     ensures err { OnErr result (state.new ≡ state.old) }
     ensures upholds { S.tells → Upholds (S.world state.old.store) (S.world state.new.store) state.old.core state.new.core }
+    ensures no_call { IsSome state.old.core.lost → state.new.store ≡ state.old.store }
 {
     compact_with(alloc, state, &Major::new(target), watermark)
 }
@@ -261,6 +268,7 @@ pub(super) fn drop_range<S: Store>(
     ensures ok { IfOk result (λ told. TakesDropRange (record { start = low.now; end = high.now }) told.reply told.entries state.old.core state.new.core) }
     ensures err { OnErr result (state.new ≡ state.old) }
     ensures upholds { S.tells → Upholds (S.world state.old.store) (S.world state.new.store) state.old.core state.new.core }
+    ensures no_call { IsSome state.old.core.lost → state.new.store ≡ state.old.store }
 {
     state.is_upheld();
     let bounds = OwnedBounds {

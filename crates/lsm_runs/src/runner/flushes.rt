@@ -1,5 +1,5 @@
 // The calls of a flush, as steps.
-ghost use Rattle.std.specs.Prelude.{◌≡◌, ◌∷◌, [], ℕ, IfOk, OnErr};
+ghost use Rattle.std.specs.Prelude.{◌≡◌, ◌∷◌, [], ℕ, IfOk, OnErr, IsSome};
 ghost use Rattle.lsm_model.specs.declared.journal.JournalEntry.TheVariants.{Mark, Install};
 ghost use Rattle.lsm_state.specs.FlushReads.{flush_events};
 ghost use Rattle.lsm_runs.specs.Flushing.{TakesBegin, TakesRun, TakesTables, TakesRegister, TakesAbandon, TakesFlush, TakesFlushActive, TakesMoment, FlushesNoted, told_registered, told_flush, told_active};
@@ -73,6 +73,7 @@ pub(super) fn flush_to_tables<S: Store>(
 ) -> Outcome
     ensures takes { TakesTables result.reply result.entries place.old place.new state.old.core state.new.core }
     ensures upholds { S.tells → Upholds (S.world state.old.store) (S.world state.new.store) state.old.core state.new.core }
+    ensures no_call { IsSome state.old.core.lost → state.new.store ≡ state.old.store }
 {
     state.is_upheld();
     let job = match place.take() {
@@ -140,6 +141,7 @@ pub(super) fn register_tables<S: Store>(
     ensures ok { IfOk result (λ told. TakesRegister told.reply told.entries place.old place.new state.old.core state.new.core) }
     ensures err { OnErr result ((state.new ≡ state.old) × (place.new ≡ place.old)) }
     ensures upholds { S.tells → Upholds (S.world state.old.store) (S.world state.new.store) state.old.core state.new.core }
+    ensures no_call { IsSome state.old.core.lost → state.new.store ≡ state.old.store }
 {
     state.is_upheld();
     let job = match place.take() {
@@ -207,6 +209,7 @@ fn flush_noting<S: Store>(
     requires { entries.items ≡ Mark watermark ∷ (Install state.old.core.seqno ∷ []) }
     ensures flushes { FlushesNoted watermark result.0 result.1.items state.old.core state.new.core }
     ensures upholds { S.tells → Upholds (S.world state.old.store) (S.world state.new.store) state.old.core state.new.core }
+    ensures no_call { IsSome state.old.core.lost → state.new.store ≡ state.old.store }
 {
     let (flushed, marked) = state.flush_with_mark(watermark);
     let entries = noted(entries, marked, &flushed);
@@ -235,6 +238,7 @@ pub(super) fn flush<S: Store>(
     ensures ok { IfOk result (λ told. TakesFlush watermark told.reply told.entries state.old.core state.new.core) }
     ensures err { OnErr result (state.new ≡ state.old) }
     ensures upholds { S.tells → Upholds (S.world state.old.store) (S.world state.new.store) state.old.core state.new.core }
+    ensures no_call { IsSome state.old.core.lost → state.new.store ≡ state.old.store }
 {
     state.is_upheld();
     let entries = flush_entries(alloc, watermark, state.seqno().get())?;
@@ -265,6 +269,7 @@ pub(super) fn flush_active<S: Store>(
     ensures ok { IfOk result (λ told. TakesFlushActive watermark told.reply told.entries state.old.core state.new.core) }
     ensures err { OnErr result (state.new ≡ state.old) }
     ensures upholds { S.tells → Upholds (S.world state.old.store) (S.world state.new.store) state.old.core state.new.core }
+    ensures no_call { IsSome state.old.core.lost → state.new.store ≡ state.old.store }
 {
     state.is_upheld();
     let entries = flush_entries(alloc, watermark, state.seqno().get())?;

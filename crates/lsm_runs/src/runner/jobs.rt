@@ -1,5 +1,5 @@
 // Calls on the jobs that wait in slots, and the end of a run.
-ghost use Rattle.std.specs.Prelude.{◌≡◌, Option, IfOk, OnOk, OnErr};
+ghost use Rattle.std.specs.Prelude.{◌≡◌, Option, IsSome, IfOk, OnOk, OnErr};
 ghost use Rattle.lsm_jobs.specs.Jobs.{SeenOpen};
 ghost use Rattle.lsm_merges.specs.OpenMerges.{SeenMerges};
 ghost use Rattle.lsm_runs.specs.Compacting.{strategies_of};
@@ -26,6 +26,7 @@ fn take_job<S: Store>(
     ensures ok { IfOk result (λ told. TakesJob (strategies_of (λ b. may_choose b) (λ b. may_refuse b) strategies.now) step told.reply told.entries place.old place.new state.old.core state.new.core) }
     ensures err { OnErr result ((state.new ≡ state.old) × (place.new ≡ place.old)) }
     ensures files { S.tells → OnOk result (JobLeavesFiles S.world step state.old.store state.new.store state.old.core state.new.core) }
+    ensures no_call { IsSome state.old.core.lost → state.new.store ≡ state.old.store }
 {
     match step {
         JobStep::BeginFlush => Ok(flushes::begin_flush(alloc, state, place)),
@@ -55,6 +56,7 @@ pub(super) fn at_slot<S: Store>(
     ensures err { OnErr result (state.new ≡ state.old) }
     ensures slots_err { OnErr result (SameJobs slots.old slots.new) }
     ensures files { S.tells → OnOk result (JobLeavesFiles S.world step state.old.store state.new.store state.old.core state.new.core) }
+    ensures no_call { IsSome state.old.core.lost → state.new.store ≡ state.old.store }
 {
     make_room(slots, slot)?;
     let Some(place) = slots.get_mut(&slot) else {

@@ -2,6 +2,7 @@ use Rattle.std.proofs.Common.{subst, sym, take, length}
 use Rattle.lsm_runs.specs.Slots.{beside}
 use Rattle.lsm_runs.proofs.Counting.{run_in_order}
 use Rattle.lsm_runs.specs.Crashes.{watched}
+use Rattle.lsm_runs.proofs.Unknown.{run_unknown}
 use Rattle.lsm_runs.proofs.Crashed.{run_recovers, then_store}
 use Rattle.lsm_runs.proofs.Keeping.{KeepLaws}
 use Rattle.lsm_runs.proofs.Files.{closed_stored}
@@ -16,6 +17,12 @@ returns-clause-ran g c =
     let mid = c.take_steps-outcomes.new.state.core in
     run_to_end _ _ _ c.new-slots.result c.args.state.now.core (beside mid c.take_steps-outcomes.new.slots) _ c.new-slots.ensures.empty c.take_steps-outcomes.ensures.ran
     (all_closes c.take_steps-outcomes.new.slots.entries mid _ c.give_up_all.ensures.core)
+
+pub returns-clause-unknown : goal.returns-clause-unknown
+returns-clause-unknown g c =
+    let mid = c.take_steps-outcomes.new.state in
+    run_unknown _ _ _ c.new-slots.result c.args.state.now.core (beside mid.core c.take_steps-outcomes.new.slots) _ _ _ _ c.new-slots.ensures.empty c.take_steps-outcomes.ensures.unknown
+    (all_closes c.take_steps-outcomes.new.slots.entries mid.core _ c.give_up_all.ensures.core) c.give_up_all.ensures.store
 
 pub returns-clause-replays : goal.returns-clause-replays
 returns-clause-replays g c opened start =

@@ -2,6 +2,7 @@ use Rattle.std.proofs.Common.{◌∙◌, ◌+◌, ◌++◌, ap, [], ◌∷◌, s
 use Rattle.std.proofs.lemmas.List.{take_more}
 use Rattle.lsm_runs.proofs.Crashed.{watched_more}
 use Rattle.lsm_runs.proofs.Replays.{ran_more}
+use Rattle.lsm_runs.proofs.Unknown.{unknown_more, step_unknown}
 use Rattle.lsm_runs.proofs.runner.take_steps.Goals as goal
 
 pub loop-step-preserved : goal.loop-step-preserved
@@ -11,6 +12,7 @@ loop-step-preserved g c =
     let more = take_more c.args.steps.now c.loop-step.step-index x c.loop-step-test.true ∙ ap (λ y. take c.loop-step.step-index c.args.steps.now ++ y ∷ []) (sym c.step-item.is) in
     record {
       ran = rw (h.1, more) (ran_more _ _ _ x h.0 _ _ _ c.loop-step.invariant.ran h.2);
+      unknown = rw (h.1, more) (unknown_more _ _ _ x h.0 _ _ _ _ _ _ c.loop-step.invariant.unknown h.2 (step_unknown _ x h.0 _ _ _ _ h.2 c.in-Ok.ensures.no_call));
       many = ap (λ l. length l) h.1 ∙ length-append _ _ ∙ ap (λ n. n + 1) c.loop-step.invariant.many;
       stored = λ tells h. (c.in-Ok.ensures.upholds tells (c.loop-step.invariant.stored tells h)).0;
       watched = λ tells. rw (h.1, more) (watched_more g.S.Store.world g.W.Watch.gives _ _ _ x h.0 _ _ _ (c.loop-step.invariant.watched tells) h.2 (c.in-Ok.ensures.upholds tells) (c.told.ensures tells));
