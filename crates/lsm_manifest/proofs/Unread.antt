@@ -1,5 +1,5 @@
 -- Names that opening doesn't read don't matter.
-use Rattle.std.proofs.Common.{◌≡◌, ℕ, List, ◌∙◌}
+use Rattle.std.proofs.Common.{◌≡◌, ℕ, ◌∙◌}
 use Rattle.std.specs.List.{AllByRecursion}
 use Rattle.lsm_store.specs.World.{Image}
 use Rattle.lsm_tables.specs.Tables.{SeenTable}
