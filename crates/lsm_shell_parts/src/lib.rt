@@ -1,0 +1,25 @@
+//! What the program `lsm_shell` is made of: a shell over a versioned tree, which reads lines, asks the tree, and prints the
+//! answers.
+//!
+//! | Module | Holds |
+//! |-|-|
+//! | `word` | words and numbers |
+//! | `bounds` | the bounds and prefixes that words give |
+//! | `command` | what a line asks |
+//! | `reply` | what is printed for a line |
+//! | `session` | a tree that answers commands |
+//! | `arguments` | what the program's arguments ask |
+//! | `threads` | callers in threads of their own, on one tree |
+//! | `shell` | the run from the first line to the last |
+#![tactic(auto)]
+
+mod arguments;
+mod bounds;
+mod command;
+mod reply;
+mod session;
+mod shell;
+mod threads;
+mod word;
+
+pub use shell::run_shell;

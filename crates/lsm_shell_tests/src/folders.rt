@@ -1,0 +1,133 @@
+// What is printed over a folder.
+use crate::shells::{Row, answers_with, ends};
+use bytes::Bytes;
+use lsm_tree::{
+    Error, FolderStore, Store, StoreError, Table, Version, ids_are_own, is_run, persist_version,
+};
+use std::alloc::{AllocError, Global};
+use std::fs::{self, Files};
+use std::sync::Wait;
+use std::test::Fail;
+use std::thread::Threads;
+
+const FOLDER: &str = "lsm_shell_test";
+
+/// The content of a table's file: a is x, numbered 0.
+const TABLE: [u8; 37] = [
+    0x4c, 0x53, 0x4d, 0x54, 0, 0, 0, 0, 0, 0, 0, 0, 1, 0, 0, 0, 0, 0, 0, 0, 1, 0, 0, 0, 0, 0, 0, 0,
+    0, 0, 0, 1, 0, 0, 0, 0x61, 0x78,
+];
+
+fn put_table(store: &mut impl Store) -> Result<(), StoreError> {
+    store.write("tables/3", &TABLE)?;
+    store.sync("tables/3")
+}
+
+/// The version of one table in level 0.
+fn version_of_table(alloc: Global) -> Result<Version, Error> {
+    let Ok(table) = Table::recover(alloc, 3, Bytes::from_static(&TABLE)) else {
+        return Err(Error::Unrecoverable);
+    };
+    let first = Version::new(alloc, 4);
+    let tables = vec![in alloc; table]?;
+    if !is_run(&tables) || !ids_are_own(alloc, &tables, first.levels())? {
+        return Err(Error::Unrecoverable);
+    }
+    first.with_new_l0_run(alloc, &tables)
+}
+
+/// Puts the files of a tree with one table into a store.
+fn fill(alloc: Global, store: &mut impl Store) -> Result<(), Error> {
+    if put_table(store).is_err() {
+        return Err(Error::Store);
+    }
+    persist_version(alloc, store, &version_of_table(alloc)?)
+}
+
+/// Whether a run over a folder prints this for the input, and ends so.
+fn answers_over<R>(
+    rt: &R,
+    alloc: Global,
+    folder: &str,
+    told: (&[u8], u8),
+) -> Result<bool, AllocError>
+where
+    R: Threads + Wait + Sync + Files + Alloc + Clone + Drop,
+{
+    let arguments = vec![in alloc; String::from_str(alloc, folder)?]?;
+    let input = b"get a\nput b y\nrange - -\n".as_slice();
+    Ok(ends(rt, alloc, Some(&arguments), input, (told.0, b"", told.1)))
+}
+
+#[test]
+fn a_folder_is_read_again(rt: HostRuntime) -> Result<(), Fail> {
+    let alloc = rt.alloc();
+    let _ = fs::remove_dir_all(&rt, FOLDER);
+    let mut store = FolderStore::new(&rt, alloc, FOLDER)?;
+    let filled = fill(alloc, &mut store);
+    assert!(rt; filled.is_ok());
+    // What a session writes is not kept, so each prints the same.
+    let read = b"value x\nok 1\na x\nb y\nend 2\n";
+    assert!(rt; answers_over(&rt, alloc, FOLDER, (read, 0))?);
+    assert!(rt; answers_over(&rt, alloc, FOLDER, (read, 0))?);
+    // What isn't a folder, and a folder of an older format.
+    assert!(rt;
+        answers_over(
+            &rt,
+            alloc,
+            "lsm_shell_test/current",
+            (b"error 2 Store\n", 1)
+        )?
+    );
+    // A folder isn't crashed; what is flushed into it stays there.
+    let arguments = vec![in alloc; String::from_str(alloc, FOLDER)?]?;
+    let input = b"crash\nput b z\nflush 0\nreopen\nget b\n".as_slice();
+    let told = b"error 0 Usage\nok 1\nflushed 50 installed\nopened 2\nvalue z\n";
+    assert!(rt; ends(&rt, alloc, Some(&arguments), input, (told, b"", 0)));
+    store.write("version", b"2")?;
+    drop(store);
+    assert!(rt; answers_over(&rt, alloc, FOLDER, (b"error 5 InvalidVersion\n", 1))?);
+    fs::remove_dir_all(&rt, FOLDER)?;
+    Ok(())
+}
+
+/// A clear stays where the tree is opened again.
+const CLEARED: [Row; 6] = [
+    (b"clear", b"cleared 1"),
+    (b"get a", b"none"),
+    (b"get a 1", b"value x"),
+    (b"reopen", b"opened 0"),
+    (b"get a", b"none"),
+    (b"clear", b"cleared 0"),
+];
+
+/// A clear of unknown outcome leaves what is read, and refuses what would write files until the tree is opened again.
+const UNKNOWN: [Row; 8] = [
+    (b"clear", b"error 3 CommitUnknown"),
+    (b"get a", b"value x"),
+    (b"put b y", b"ok 2"),
+    (b"get b", b"value y"),
+    (b"flush 0", b"error 4 Unrecoverable"),
+    (b"clear", b"error 4 Unrecoverable"),
+    (b"reopen", b"opened 1"),
+    (b"get a", b"value x"),
+];
+
+#[test]
+fn a_folder_is_cleared(rt: HostRuntime) -> Result<(), Fail> {
+    let alloc = rt.alloc();
+    let folder = "lsm_shell_clear";
+    let _ = fs::remove_dir_all(&rt, folder);
+    let mut store = FolderStore::new(&rt, alloc, folder)?;
+    let arguments = vec![in alloc; String::from_str(alloc, folder)?]?;
+    let filled = fill(alloc, &mut store);
+    assert!(rt; filled.is_ok());
+    // No file can be made that would replace `current`.
+    fs::create_dir_all(&rt, "lsm_shell_clear/replace.new")?;
+    assert!(rt; answers_with(&rt, alloc, &arguments, &UNKNOWN)?);
+    fs::remove_dir_all(&rt, "lsm_shell_clear/replace.new")?;
+    assert!(rt; answers_with(&rt, alloc, &arguments, &CLEARED)?);
+    drop(store);
+    fs::remove_dir_all(&rt, folder)?;
+    Ok(())
+}

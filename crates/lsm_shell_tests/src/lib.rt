@@ -1,0 +1,9 @@
+//! Tests of the program `lsm_shell`: what is printed for lines, over a store in memory and over a folder, and how a run ends.
+#![tactic(auto)]
+
+#[cfg(test)]
+mod compaction_rows;
+#[cfg(test)]
+mod folders;
+#[cfg(test)]
+mod shells;
