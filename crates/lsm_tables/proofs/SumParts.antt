@@ -25,8 +25,5 @@ square_is m p h = sym (mul-mod (p ^ h) (p ^ h) m) ∙ ap (λ (k : ℕ). k % m) (
 pub cut : (q : ℕ) (s f r : List ℕ) → f ≡ take q s → r ≡ drop q s → s ≡ f ++ r
 cut q s f r ef er = sym (ap (λ (x : List ℕ). x ++ r) ef ∙ ap (λ (x : List ℕ). take q s ++ x) er ∙ take-append-drop q s)
 
-pub five_parts : (s a b c d e r1 r2 r3 : List ℕ) → s ≡ a ++ r1 → r1 ≡ b ++ r2 → r2 ≡ c ++ r3 → r3 ≡ d ++ e → ((((a ++ b) ++ c) ++ d) ++ e) ≡ s
-five_parts s a b c d e r1 r2 r3 h1 h2 h3 h4 =
-    append_assoc ((a ++ b) ++ c) d e ∙ ap (λ (x : List ℕ). ((a ++ b) ++ c) ++ x) (sym h4)
-    ∙ append_assoc (a ++ b) c r3 ∙ ap (λ (x : List ℕ). (a ++ b) ++ x) (sym h3)
-    ∙ append_assoc a b r2 ∙ ap (λ (x : List ℕ). a ++ x) (sym h2) ∙ sym h1
+pub three_parts : (s a b c r : List ℕ) → s ≡ a ++ r → r ≡ b ++ c → (a ++ b) ++ c ≡ s
+three_parts s a b c r h1 h2 = append_assoc a b c ∙ ap (λ (x : List ℕ). a ++ x) (sym h2) ∙ sym h1

@@ -5,6 +5,8 @@ ghost use Rattle.lsm_tables.specs.Sum.{prime, step, sum_of};
 
 const PRIME: u128 = 1_099_511_628_211;
 
+const SQUARED_PRIME: u128 = 1_208_925_820_571_204_291_060_521;
+
 /// The checksum of a file's bytes: `s`, from 0, with `s = (s * 1099511628211 + byte + 1) mod 2^128`
 /// for each byte in turn. It tells an honest mistake; no claim that damage is found rests on it.
 ///
@@ -15,18 +17,24 @@ const PRIME: u128 = 1_099_511_628_211;
 #[derive(Clone, Copy, Debug, PartialEq, Eq)]
 pub struct Checksum(u128);
 
-/// The sums of four parts of one length.
+/// The sums of two parts of one length.
 struct Sums {
     first: u128,
     second: u128,
-    third: u128,
-    fourth: u128,
 }
 
 fn with_byte(sum: u128, byte: u8) -> u128
     ensures { result ≡ step sum byte }
 {
     sum.wrapping_mul(PRIME).wrapping_add(byte as u128 + 1)
+}
+
+/// The sum with two more bytes, by one multiplication of it.
+fn with_pair(sum: u128, first: u8, second: u8) -> u128
+    ensures { result ≡ step (step sum first) second }
+{
+    let pair = (first as u64 + 1) * PRIME as u64 + second as u64 + 1;
+    sum.wrapping_mul(SQUARED_PRIME).wrapping_add(pair as u128)
 }
 
 /// The sum goes on over more bytes.
@@ -63,52 +71,34 @@ fn joined(first: u128, power: u128, second: u128) -> u128
     first.wrapping_mul(power).wrapping_add(second)
 }
 
-/// Four parts of one length, side by side: no sum waits for another.
-fn four_sums(first: &[u8], second: &[u8], third: &[u8], fourth: &[u8]) -> Sums
+/// Two parts of one length, an even one, side by side: neither sum waits for the other.
+fn two_sums(first: &[u8], second: &[u8]) -> Sums
     requires second { length second.now ≡ length first.now }
-    requires third { length third.now ≡ length first.now }
-    requires fourth { length fourth.now ≡ length first.now }
+    requires even { length first.now % 2 ≡ 0 }
     ensures first { result.first ≡ sum_of first.now }
     ensures second { result.second ≡ sum_of second.now }
-    ensures third { result.third ≡ sum_of third.now }
-    ensures fourth { result.fourth ≡ sum_of fourth.now }
 {
     let mut a = 0;
     let mut b = 0;
-    let mut c = 0;
-    let mut d = 0;
-    for i in 0..first.len() {
-        a = with_byte(a, first[i]);
-        b = with_byte(b, second[i]);
-        c = with_byte(c, third[i]);
-        d = with_byte(d, fourth[i]);
+    for pair in 0..first.len() / 2 {
+        let i = 2 * pair;
+        a = with_pair(a, first[i], first[i + 1]);
+        b = with_pair(b, second[i], second[i + 1]);
     }
     Sums {
         first: a,
         second: b,
-        third: c,
-        fourth: d,
     }
 }
 
 fn sum_of_bytes(bytes: &[u8]) -> u128
     ensures { result ≡ sum_of bytes.now }
 {
-    let quarter = bytes.len() / 4;
-    let (first, rest) = bytes.split_at(quarter);
-    let (second, rest) = rest.split_at(quarter);
-    let (third, rest) = rest.split_at(quarter);
-    let (fourth, last) = rest.split_at(quarter);
-    let Sums {
-        first,
-        second,
-        third,
-        fourth,
-    } = four_sums(first, second, third, fourth);
-    let power = power(quarter);
-    let sum = joined(first, power, second);
-    let sum = joined(sum, power, third);
-    let sum = joined(sum, power, fourth);
+    let half = bytes.len() / 4 * 2;
+    let (first, rest) = bytes.split_at(half);
+    let (second, last) = rest.split_at(half);
+    let Sums { first, second } = two_sums(first, second);
+    let sum = joined(first, power(half), second);
     sum_on(sum, last)
 }
 

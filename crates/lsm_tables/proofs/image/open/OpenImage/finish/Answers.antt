@@ -1,6 +1,5 @@
 use Rattle.std.proofs.Common.{ℕ, List, sym, ap, subst, ◌++◌, ◌∙◌, drop, arith}
 use Rattle.std.specs.List.{flat_map}
-use Rattle.lsm_below.specs.Entries.{Entry}
 use Rattle.lsm_tables.specs.Image.{front, spelled, image}
 use Rattle.lsm_tables.specs.OpenImages.{SeenOpenImage, Spells}
 use Rattle.lsm_tables.proofs.Lengths.{with_other_front}
