@@ -1,10 +1,6 @@
 // What strategies ask of tables and levels.
-ghost use Rattle.std.specs.Prelude.{◌≡◌, ℕ, ◌-◌, ◌*◌, ◌^◌, ◌<◌, ◌≤◌, List, [], ◌∷◌, cond, length, IfOk, OnOk};
-ghost use Rattle.std.specs.List.{list_any, filter};
-ghost use Rattle.lsm_below.specs.Optimizes.{tables_of};
-ghost use Rattle.lsm_below.specs.Ranges.{IsHull};
-ghost use Rattle.lsm_tables.specs.Tables.{SeenTable};
-ghost use Rattle.lsm_versions.specs.Levels.{range, bytes_of, is_busy};
+ghost use Rattle.std.specs.Prelude.{◌≡◌, ◌-◌, ◌*◌, ◌^◌, ◌≤◌, [], ◌∷◌, cond, length, IfOk, OnOk};
+ghost use Rattle.lsm_versions.specs.Levels.{bytes_of, is_busy};
 ghost use Rattle.lsm_choices.specs.Choices.{AreIdsOf};
 ghost use Rattle.lsm_pick.specs.Tables.{is_upto, is_any_hidden, AddsIds};
 
