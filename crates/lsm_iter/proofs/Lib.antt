@@ -15,3 +15,5 @@ pub mod Lents
 pub mod Joined
 pub mod Disjoint
 pub mod Touched
+pub mod Walks
+pub mod Lendings

@@ -53,7 +53,7 @@ impl<'a> Model for Cursor<'a> {
 }
 
 /// Whether an entry is a value: a tombstone shows nothing.
-fn is_a_value(entry: &InternalValue) -> bool
+pub(crate) fn is_a_value(entry: &InternalValue) -> bool
     ensures { result ≡ is_value entry.now }
 {
     !entry.is_tombstone()

@@ -5,7 +5,9 @@ ghost use Rattle.lsm_iter.specs.Left.{copied_within};
 ghost use Rattle.lsm_iter.specs.Puts.{AddsCursors, PutsCursors};
 
 use crate::cursor::Cursor;
-use crate::making::{lend_index, lend_memtables, push_copies, push_index, push_version};
+use crate::lender::Lender;
+use crate::making::{self, push_copies, push_index, push_version};
+use crate::sources::{lend_index, lend_memtables, lend_version};
 use crate::{Memtable, Version};
 use lsm_below::{SeqNo, UserKey};
 use std::alloc::{AllocError, Global};
@@ -80,9 +82,27 @@ impl<'a> IterState<'a> {
             (λ cursors. AddsCursors bounds.now.0 bounds.now.1 (parts_at snapshot self.now) 0 [] cursors.items) }
     {
         let mut cursors = Vec::with_capacity(alloc, self.memtables.len().saturating_add(1))?;
-        lend_index(&mut cursors, self.overlay, bounds)?;
-        lend_memtables(&mut cursors, &self.memtables, bounds, snapshot)?;
+        making::lend_index(&mut cursors, self.overlay, bounds)?;
+        making::lend_memtables(&mut cursors, &self.memtables, bounds, snapshot)?;
         push_version(alloc, &mut cursors, self.version, bounds, snapshot)?;
         Ok(cursors)
+    }
+
+    /// A lender for each source, the newest source first: the index, the memtables, and the tables. Refused only for want
+    /// of memory.
+    pub(crate) fn lenders(
+        &self,
+        alloc: Global,
+        bounds: &(Bound<UserKey>, Bound<UserKey>),
+        snapshot: SeqNo,
+    ) -> Result<Vec<Lender<'a>>, AllocError>
+        ensures { IfOk result
+            (λ lenders. AddsCursors bounds.now.0 bounds.now.1 (parts_at snapshot self.now) 0 [] lenders.items) }
+    {
+        let mut lenders = Vec::with_capacity(alloc, self.memtables.len().saturating_add(1))?;
+        lend_index(&mut lenders, self.overlay, bounds)?;
+        lend_memtables(&mut lenders, &self.memtables, bounds, snapshot)?;
+        lend_version(alloc, &mut lenders, self.version, bounds, snapshot)?;
+        Ok(lenders)
     }
 }

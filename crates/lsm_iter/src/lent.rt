@@ -140,7 +140,7 @@ impl<'a> Lent<'a> {
     }
 
     /// The entry at this end, if there is one.
-    pub(crate) fn peek(&self, end: End) -> Option<&InternalValue>
+    pub(crate) fn peek(&self, end: End) -> Option<&'a InternalValue>
         ensures { option_copied result ≡ end_item end self.now }
     {
         match end {

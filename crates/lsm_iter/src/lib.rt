@@ -14,17 +14,24 @@
 
 mod copies;
 mod cursor;
+mod cut;
+mod flat;
 mod guard;
 mod iter_state;
 mod laws;
+mod lender;
+mod lending;
 mod lent;
 mod making;
 mod outermost;
+mod pairs;
 mod prefix;
 mod shared;
 mod shown_ends;
+mod sources;
 mod tree_iter;
 mod trim;
+mod walk;
 
 pub use guard::{Guard, IterGuard, RangeItem};
 pub use iter_state::IterState;
@@ -32,6 +39,7 @@ pub use laws::shown_is_the_view;
 pub use lsm_below::Error;
 use lsm_memtable::Memtable;
 use lsm_versions::Version;
+pub use pairs::Pairs;
 pub use prefix::prefix_to_range;
 pub use shown_ends::{count_shown, end_shown};
 pub use tree_iter::{End, TreeIter, take_ends};

@@ -15,7 +15,7 @@ use std::cmp::Ordering;
 
 /// How an entry stands to another one, seen from an end.
 #[derive(Clone, Copy)]
-enum Standing {
+pub(crate) enum Standing {
     /// Its key is nearer to the end.
     Outside,
     /// It has the same key, and is newer.
@@ -27,7 +27,7 @@ enum Standing {
 }
 
 /// How the second entry stands to the first one.
-fn stands_to(end: End, entry: &InternalValue, other: &InternalValue) -> Standing
+pub(crate) fn stands_to(end: End, entry: &InternalValue, other: &InternalValue) -> Standing
     ensures { result ≡ standing end entry.now other.now }
 {
     let order = match end {

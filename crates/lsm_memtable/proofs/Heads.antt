@@ -1,7 +1,8 @@
 -- What heads say of keys.
 use Rattle.std.proofs.Common.{◌≡◌, ℕ, zero, suc, ◌+◌, ◌-◌, ◌*◌, ◌^◌, ◌<◌, ◌≤◌, ◌++◌, min, subst, true, false, nat_le, List, [], ◌∷◌, length, get_or, take, drop, map, refl, sym, ◌∙◌, ap, arith, inl, inr, ◌⊎◌, add-one}
 use Rattle.std.specs.List.{All, insert, remove}
-use Rattle.std.specs.Ordering.{nat_cmp, ordering_then, ordering_reverse}
+use Rattle.std.specs.Ordering.{nat_cmp, ordering_then, ordering_reverse, is_eq}
+use Rattle.std.specs.FinMap.{slice_cmp-IsAntisymmetric, nat_cmp-IsAntisymmetric}
 use Rattle.std.specs.Cmp.Lexicographic.{slice_cmp}
 use Rattle.std.specs.declared.cmp.Ordering.{Ordering}
 use Rattle.std.specs.declared.cmp.Ordering.TheVariants.{Less, Equal, Greater}
@@ -14,6 +15,7 @@ use Rattle.std.proofs.lemmas.List.Elements.{All-append, All-take, All-drop, All-
 use Rattle.lsm_below.specs.declared.value.InternalValue.{InternalValue}
 use Rattle.lsm_below.specs.Sorted.{by_ordering}
 use Rattle.lsm_below.specs.Lookups.{stands_before}
+use Rattle.lsm_below.specs.Slots.{same_key}
 use Rattle.lsm_memtable.proofs.Dealt.{same_lower, same_upper, all_lower, all_upper}
 use Rattle.lsm_below.specs.Keys.{AreBytes}
 use Rattle.lsm_below.specs.Entries.{HasBytes}
@@ -188,3 +190,28 @@ module _ (xs : List InternalValue) (hs : List ℕ) (place keep head : ℕ) (e : 
 -- a head that was read is that of the entry
 pub head_read : (entries : List InternalValue) (heads : List ℕ) (place other : ℕ) (d : InternalValue) → place < length entries → heads ≡ map entry_head entries → other ≡ get_or heads place other → other ≡ entry_head (get_or entries place d)
 head_read entries heads place other d lt same read = read ∙ (ap (λ l. get_or l place other) same ∙ get_or-map entry_head entries place d other lt)
+
+-- ---- two entries of one key
+
+other_key : (a b : List ℕ) → (a ≡ b → ⊥) → false ≡ is_eq (slice_cmp nat_cmp a b)
+other_key a b apart = go (slice_cmp nat_cmp a b) refl
+  where
+    go : (r : Ordering) → slice_cmp nat_cmp a b ≡ r → false ≡ is_eq r
+    go Less is = refl
+    go Equal is = absurd (apart (slice_cmp-IsAntisymmetric nat_cmp-IsAntisymmetric a b is))
+    go Greater is = refl
+
+-- other heads, other keys
+pub heads_apart : (e f : InternalValue) → (entry_head e ≡ entry_head f → ⊥) → false ≡ same_key e f
+heads_apart e f apart = other_key e.key.user_key f.key.user_key (λ same. apart (ap key_head same))
+
+-- other lengths, other keys
+pub lengths_apart : (e f : InternalValue) → (length e.key.user_key ≡ length f.key.user_key → ⊥) → false ≡ same_key e f
+lengths_apart e f apart = other_key e.key.user_key f.key.user_key (λ same. apart (ap (λ (l : List ℕ). length l) same))
+
+-- a short key of one head and length is the same
+pub head_one : (e f : InternalValue) → HasBytes e → HasBytes f → entry_head e ≡ entry_head f → length e.key.user_key ≡ length f.key.user_key → length e.key.user_key ≤ 16 → true ≡ same_key e f
+head_one e f he hf head len le =
+    let same = (same_keys 16 0 0 e.key.user_key f.key.user_key he hf len (omega (arith, len, le)) head).1 in
+    let tie = ap (λ k. slice_cmp nat_cmp k f.key.user_key) same ∙ its_own_reverse (slice_cmp nat_cmp f.key.user_key f.key.user_key) (nat_list_cmp_total.antisymm f.key.user_key f.key.user_key) in
+    sym (ap is_eq tie)

@@ -13,6 +13,7 @@ ghost use Rattle.lsm_memtable.specs.Blocks.{CountsDigits};
 
 use crate::Steps;
 use crate::spread::spread;
+use crate::stretch::Stretch;
 use lsm_below::{InternalKey, InternalValue, UserKey, entries_are_parted};
 use std::alloc::{AllocError, Global};
 use std::cmp::Ordering;
@@ -26,7 +27,7 @@ pub(crate) const MOST: usize = 64;
 const HALF: usize = 32;
 
 /// How many bytes of a key its head holds.
-const HEAD: usize = 16;
+pub(crate) const HEAD: usize = 16;
 
 /// For how many more entries a block has room when it was made or has grown.
 const STEP: usize = 8;
@@ -138,6 +139,13 @@ impl Block {
         ensures { result.now ≡ self.now }
     {
         &self.entries
+    }
+
+    /// The entries with their heads.
+    pub(crate) fn stretch(&self) -> Stretch<'_>
+        ensures { result ≡ self.now }
+    {
+        Stretch::new(&self.entries, &self.heads)
     }
 
     pub(crate) fn at(&self, place: usize) -> &InternalValue

@@ -11,7 +11,7 @@ ghost use Rattle.lsm_iter.specs.Ends.{EndShown, NumberShown};
 
 use crate::{Memtables, TreeState, lists_are_steps};
 use lsm_below::{InternalValue, MemtableId, SeqNo, UserKey};
-use lsm_iter::{End, Guard, IterState, TreeIter, count_shown, end_shown};
+use lsm_iter::{End, Guard, IterState, Pairs, TreeIter, count_shown, end_shown};
 use lsm_parts::{Error, Memtable, SuperVersion};
 use lsm_store::Store;
 use std::alloc::{AllocError, Global};
@@ -81,6 +81,23 @@ fn range_of(
     let list = memtables_of(alloc, memtables, version)?;
     let state = IterState::new(&version.version, list, index);
     TreeIter::create_range(alloc, &state, bounds, snapshot)
+}
+
+/// What is shown within bounds by a super version, under an index, lent.
+fn pairs_of<'a>(
+    alloc: Global,
+    memtables: &'a Memtables,
+    version: &'a SuperVersion,
+    bounds: &(Bound<UserKey>, Bound<UserKey>),
+    snapshot: SeqNo,
+    index: Option<(&'a Memtable, SeqNo)>,
+) -> Result<Pairs<'a>, Error>
+    ensures shows { IfOk result (λ pairs. Shows bounds.now.0 bounds.now.1 (counting memtables.now index.entry snapshot (shown_as version.now)) pairs) }
+    ensures memory { IfErr result (λ e. e ≡ Error.OutOfMemory) }
+{
+    let list = memtables_of(alloc, memtables, version)?;
+    let state = IterState::new(&version.version, list, index);
+    Pairs::create_range(alloc, &state, bounds, snapshot)
 }
 
 /// What is shown of the keys that begin so by a super version, under an index.
@@ -154,6 +171,34 @@ impl<S: Store> TreeState<S> {
         lists_are_steps();
         match self.version_at(snapshot) {
             Ok(version) => range_of(
+                self.alloc,
+                &self.memtables,
+                version,
+                bounds,
+                snapshot,
+                index,
+            ),
+            Err(error) => Err(error),
+        }
+    }
+
+    /// What a snapshot shows within bounds, as `range`, lent by the tree: no entry is copied and no owner counted, at the
+    /// making and at each step. The tree doesn't change while the pairs are there. Only the list of its sources needs memory.
+    ///
+    /// `SnapshotTooOld` exactly where no super version is found for the snapshot; else only memory may be missing.
+    pub fn pairs<'a>(
+        &'a self,
+        bounds: &(Bound<UserKey>, Bound<UserKey>),
+        snapshot: SeqNo,
+        index: Option<(&'a Memtable, SeqNo)>,
+    ) -> Result<Pairs<'a>, Error>
+        ensures ok { IfOk result (λ pairs. Ranges self.now.core index.entry bounds.now.0 bounds.now.1 snapshot pairs) }
+        ensures step { index.entry ≡ None → IfOk result (λ pairs. IsRangeStep self.now.core bounds.now.0 bounds.now.1 snapshot pairs) }
+        ensures refuses { RefusesRead self.now.core snapshot result }
+    {
+        lists_are_steps();
+        match self.version_at(snapshot) {
+            Ok(version) => pairs_of(
                 self.alloc,
                 &self.memtables,
                 version,

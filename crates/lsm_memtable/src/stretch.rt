@@ -1,0 +1,199 @@
+// Entries that follow each other in a block, with the heads of their keys.
+ghost use Rattle.std.specs.Prelude.{◌≡◌, ◌-◌, ◌≤◌, [], ◌∷◌, ◌++◌, length, take, drop, MatchOption};
+ghost use Rattle.lsm_below.specs.Entries.{HasBytes};
+ghost use Rattle.lsm_below.specs.Slots.{same_key};
+ghost use Rattle.lsm_memtable.specs.Heads.{entry_head, AreHeads};
+
+use crate::block::HEAD;
+use lsm_below::{InternalValue, has_same_key};
+use std::marker::Model;
+
+/// An entry that is lent, with the head of its key: its first 16 bytes as a number.
+#[derive(Drop)]
+pub struct Headed<'a> {
+    entry: &'a InternalValue,
+    head: u128,
+}
+
+impl<'a> Model for Headed<'a> {
+    ghost use Rattle.std.specs.Prelude.{◌≡◌};
+    ghost use Rattle.lsm_below.specs.Entries.{Entry, HasBytes};
+    ghost use Rattle.lsm_memtable.specs.Heads.{entry_head};
+
+    ghost Value = { Entry };
+
+    ghost view = { λ h. h.entry.now };
+
+    ghost invariant = { λ h. (h.head ≡ entry_head h.entry.now) × HasBytes h.entry.now };
+}
+
+/// Whether two keys of one head are the same. Where the lengths tell, no byte of them is read.
+#[inline(never)]
+fn has_same_rest(entry: &InternalValue, other: &InternalValue) -> bool
+    requires own { HasBytes entry.now }
+    requires other { HasBytes other.now }
+    requires head { entry_head entry.now ≡ entry_head other.now }
+    ensures { result ≡ same_key entry.now other.now }
+{
+    let len = entry.key.user_key.len();
+    if len != other.key.user_key.len() {
+        return false;
+    }
+    if len <= HEAD {
+        return true;
+    }
+    has_same_key(entry, other)
+}
+
+impl<'a> Headed<'a> {
+    /// The entry.
+    #[inline(always)]
+    pub fn entry(&self) -> &'a InternalValue
+        ensures { result.now ≡ self.now }
+    {
+        self.entry
+    }
+
+    /// Whether two entries have one key. Where the heads or the lengths tell, no byte of a key is read.
+    #[inline(always)]
+    pub fn has_same_key(&self, other: &Headed<'_>) -> bool
+        ensures { result ≡ same_key self.now other.now }
+    {
+        if self.head == other.head {
+            has_same_rest(self.entry, other.entry)
+        } else {
+            false
+        }
+    }
+}
+
+/// Entries that follow each other in a block, with the heads of their keys.
+#[derive(Drop)]
+pub(crate) struct Stretch<'a> {
+    entries: &'a [InternalValue],
+    heads: &'a [u128],
+}
+
+impl<'a> Model for Stretch<'a> {
+    ghost use Rattle.std.specs.Prelude.{List};
+    ghost use Rattle.lsm_below.specs.Entries.{Entry};
+    ghost use Rattle.lsm_memtable.specs.Heads.{AreHeads};
+
+    ghost Value = { List Entry };
+
+    ghost view = { λ s. s.entries.now };
+
+    ghost invariant = { λ s. AreHeads s.heads.now s.entries.now };
+}
+
+impl<'a> Stretch<'a> {
+    /// Entries with such heads.
+    pub(crate) fn new(entries: &'a [InternalValue], heads: &'a [u128]) -> Stretch<'a>
+        requires { AreHeads heads.now entries.now }
+        ensures { result ≡ entries.now }
+    {
+        Stretch { entries, heads }
+    }
+
+    /// No entry.
+    pub(crate) fn empty() -> Stretch<'a>
+        ensures { result ≡ [] }
+    {
+        Stretch {
+            entries: &[],
+            heads: &[],
+        }
+    }
+
+    /// The entries alone.
+    pub(crate) fn entries(&self) -> &'a [InternalValue]
+        ensures { result.now ≡ self.now }
+    {
+        self.entries
+    }
+
+    /// The same entries once more.
+    pub(crate) fn copy(&self) -> Stretch<'a>
+        ensures { result ≡ self.now }
+    {
+        Stretch {
+            entries: self.entries,
+            heads: self.heads,
+        }
+    }
+
+    pub(crate) fn len(&self) -> usize
+        ensures { result ≡ length self.now }
+    {
+        self.entries.len()
+    }
+
+    /// The first entry.
+    #[inline(always)]
+    pub(crate) fn first(&self) -> Option<Headed<'a>>
+        ensures { MatchOption result (self.now ≡ []) (λ h. self.now ≡ h ∷ drop 1 self.now) }
+    {
+        if self.entries.is_empty() {
+            return None;
+        }
+        Some(Headed {
+            entry: &self.entries[0],
+            head: self.heads[0],
+        })
+    }
+
+    /// The last entry.
+    #[inline(always)]
+    pub(crate) fn last(&self) -> Option<Headed<'a>>
+        ensures { MatchOption result (self.now ≡ []) (λ h. self.now ≡ take (length self.now - 1) self.now ++ h ∷ []) }
+    {
+        if self.entries.is_empty() {
+            return None;
+        }
+        let at = self.entries.len() - 1;
+        Some(Headed {
+            entry: &self.entries[at],
+            head: self.heads[at],
+        })
+    }
+
+    /// Without the first so many.
+    #[inline(always)]
+    pub(crate) fn behind(&self, count: usize) -> Stretch<'a>
+        requires { count ≤ length self.now }
+        ensures { result ≡ drop count self.now }
+    {
+        Stretch {
+            entries: &self.entries[count..],
+            heads: &self.heads[count..],
+        }
+    }
+
+    /// The first so many.
+    #[inline(always)]
+    pub(crate) fn up_to(&self, count: usize) -> Stretch<'a>
+        requires { count ≤ length self.now }
+        ensures { result ≡ take count self.now }
+    {
+        Stretch {
+            entries: &self.entries[..count],
+            heads: &self.heads[..count],
+        }
+    }
+
+    /// The first entry, and those behind it.
+    pub(crate) fn split_first(&self) -> Option<(Headed<'a>, Stretch<'a>)>
+        ensures { MatchOption result (self.now ≡ []) (λ p. self.now ≡ p.0 ∷ p.1) }
+    {
+        let headed = self.first()?;
+        Some((headed, self.behind(1)))
+    }
+
+    /// The last entry, and those before it.
+    pub(crate) fn split_last(&self) -> Option<(Headed<'a>, Stretch<'a>)>
+        ensures { MatchOption result (self.now ≡ []) (λ p. self.now ≡ p.1 ++ p.0 ∷ []) }
+    {
+        let headed = self.last()?;
+        Some((headed, self.up_to(self.entries.len() - 1)))
+    }
+}
