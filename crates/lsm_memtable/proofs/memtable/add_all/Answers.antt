@@ -23,4 +23,5 @@ returns-clause-sound c =
       blocks = c.take_all_back.ensures.sound;
       count = c.requires.count ∙ ap (λ l. length l) (sym same);
       highest = c.requires.highest ∙ ap highest_of (sym same);
+      arena = c.add_entries.ensures.sound.arena;
     }
