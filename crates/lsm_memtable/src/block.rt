@@ -1,7 +1,8 @@
 // Up to 64 entries in order, with the heads of their keys.
 ghost use Rattle.std.specs.Prelude.{◌≡◌, ℕ, ◌+◌, ◌-◌, ◌<◌, ◌≤◌, [], ◌∷◌, ◌++◌, length, min, IfOk, OnOk, OnErr, true, false, slice_index_or, slice_set};
 ghost use Rattle.std.specs.List.{insert, remove};
-ghost use Rattle.std.specs.Ordering.{is_eq};
+ghost use Rattle.std.specs.Ordering.{is_eq, nat_cmp};
+ghost use Rattle.std.specs.Cmp.Lexicographic.{slice_cmp};
 ghost use Rattle.lsm_below.specs.declared.value.InternalValue.{InternalValue};
 ghost use Rattle.lsm_below.specs.Entries.{entry_cmp, key_cmp, HasBytes};
 ghost use Rattle.lsm_below.specs.Sorted.{Rises};
@@ -110,6 +111,21 @@ fn stands_ahead(entry: &InternalValue, key: &[u8], number: u128) -> bool
         Ordering::Equal => entry.key.seqno as u128 >= number,
         Ordering::Greater => false,
     }
+}
+
+/// Whether the entry has this key. Their keys have one head, so that two of one length which the head holds whole are the
+/// same, and no byte of them is read.
+fn has_key(entry: &InternalValue, key: &[u8]) -> bool
+    requires own { HasBytes entry.now }
+    requires bytes { AreBytes key.now }
+    requires head { entry_head entry.now ≡ key_head key.now }
+    ensures { result ≡ is_eq (slice_cmp nat_cmp entry.now.key.user_key key.now) }
+{
+    let own = entry.key.user_key.as_slice();
+    if own.len() == key.len() && key.len() <= HEAD {
+        return true;
+    }
+    own == key
 }
 
 impl Block {
@@ -232,12 +248,25 @@ impl Block {
         low
     }
 
+    /// Whether the entry there has this key. Where the heads differ it looks at nothing else.
+    pub(crate) fn has_key(&self, place: usize, key: &[u8]) -> bool
+        requires { place < length self.now }
+        ensures { (d : InternalValue) → result ≡ is_eq (slice_cmp nat_cmp (slice_index_or self.now place d).key.user_key key.now) }
+    {
+        let head = head_of(key);
+        let other = self.heads[place];
+        if other != head {
+            return false;
+        }
+        has_key(&self.entries[place], key)
+    }
+
     /// Whether the entry there has this key and sequence number.
     pub(crate) fn is_same(&self, place: usize, key: &InternalKey) -> bool
         requires { place < length self.now }
         ensures { (d : InternalValue) → result ≡ is_eq (key_cmp (slice_index_or self.now place d).key key.now) }
     {
-        self.entries[place].key.cmp(key).is_eq()
+        self.has_key(place, key.user_key.as_slice()) && self.entries[place].key.seqno == key.seqno
     }
 
     /// Puts the entry over the one there, which it returns.

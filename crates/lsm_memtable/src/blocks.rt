@@ -95,7 +95,7 @@ pub(crate) fn first_visible<'a>(
     }
     let entry = block.at(place.at);
     steps.tick_compared();
-    if entry.key.user_key.as_slice() == key {
+    if block.has_key(place.at, key) {
         Some(entry)
     } else {
         None
