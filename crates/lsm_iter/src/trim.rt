@@ -12,7 +12,7 @@ ghost use Rattle.lsm_iter.specs.Trims.{IsTrimmed, Trims, counts};
 ghost use Rattle.lsm_iter.specs.declared.tree_iter.End.TheVariants.{Front, Back};
 
 use crate::End;
-use lsm_below::{InternalValue, SeqNo, UserKey, entries_are_ordered, has_same_key, places_within};
+use lsm_below::{InternalValue, SeqNo, UserKey, entries_are_ordered, has_same_key};
 use lsm_tables::Table;
 use std::alloc::AllocError;
 use std::marker::Model;
@@ -216,7 +216,7 @@ impl Trim {
     {
         table.facts();
         let entries = table.entries();
-        let (start, end) = places_within(entries, &bounds.0, &bounds.1);
+        let (start, end) = table.places(&bounds.0, &bounds.1);
         let low = start + hidden_len(&entries[start..end], below);
         let high = low + left_len(&entries[low..end], below);
         let table = table.copy()?;

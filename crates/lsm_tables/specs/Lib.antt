@@ -7,3 +7,4 @@ pub mod Cutting
 pub mod Parts
 pub mod Spellings
 pub mod OpenImages
+pub mod Heads
