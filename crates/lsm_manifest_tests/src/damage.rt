@@ -124,7 +124,7 @@ fn are_same(alloc: Global, left: &mut MemStore, right: &mut MemStore) -> Result<
 }
 
 /// The store as opening leaves it, and what is refused.
-fn open(alloc: Global, store: MemStore) -> (MemStore, Option<Error>) {
+pub fn open(alloc: Global, store: MemStore) -> (MemStore, Option<Error>) {
     match TreeState::open(alloc, Config::new(0, 10, 10), store) {
         Ok(tree) => (tree.into_store(), None),
         Err((error, store)) => (store, Some(error)),
