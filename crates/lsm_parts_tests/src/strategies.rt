@@ -63,20 +63,24 @@ fn levels_behind(
     Ok(plays(alloc, tree, &steps) && levels(alloc, tree, wanted)?)
 }
 
-/// Whether so many tables are in the levels 0, 5 and 6, and none elsewhere, under this many installs.
+/// Whether so many tables are in the levels 0, 5 and 6, and none elsewhere, while the counter stands here.
 fn has_levels(tree: &TreeState, counts: [usize; 3], next: SeqNo) -> bool {
     tree.level_table_count(0) == Some(counts[0])
         && tree.level_table_count(5) == Some(counts[1])
         && tree.level_table_count(6) == Some(counts[2])
-        && tree.table_count() == counts[0] + counts[1] + counts[2]
+        && tree.table_count()
+            == counts[0]
+                .saturating_add(counts[1])
+                .saturating_add(counts[2])
         && tree.seqno().get() == next
 }
 
-/// The table of a = 1 is moved, that of a = 2 stays, and those of a = 2 and a = 3 are merged above the first.
+/// The table of a = 1 is moved, so no other is made; that of a = 2 stays, and those of a = 2 and a = 3 are merged above the first.
 fn fills_two_levels(alloc: Global, tree: &mut TreeState) -> Result<bool, Error> {
     Ok(
         levels_behind(alloc, tree, ("1", 0), Told::Installed)?
             && has_levels(tree, [0, 0, 1], 3)
+            && tree.next_table_id() == 1
             && levels_behind(alloc, tree, ("2", 3), Told::Nothing)?
             && has_levels(tree, [1, 0, 1], 5)
             && levels_behind(alloc, tree, ("3", 5), Told::Installed)?

@@ -204,7 +204,7 @@ impl<S: Store> Handle<TreeState<S>> {
     ///
     /// `OutOfNumbers` where the next id is 2^63 or more; then nothing changes.
     pub fn get_next_table_id(&self, rt: &impl Wait) -> Result<TableId, Error>
-        ensures draws { IfOk result (λ id. OnSomeTree (λ old new. (id ≡ old.next_table) × (new ≡ with_next_table (id + 1) old))) }
+        ensures draws { IfOk result (λ id. OnSomeTree (λ old new. (id ≡ old.next_table) × (new ≡ with_next_table (old.next_table + 1) old))) }
         ensures only { IfErr result (λ e. e ≡ Error.OutOfNumbers) }
         ensures out_of_numbers { IsErrOf result Error.OutOfNumbers → AtSomeTree (λ c. LIMIT ≤ c.next_table) }
     {
