@@ -154,8 +154,8 @@ fn a_second_start_reads_what_the_first_one_flushed(rt: HostRuntime) -> Result<()
     let folder = "lsm_shell_twice";
     let _ = fs::remove_dir_all(&rt, folder);
     let arguments = vec![in alloc; String::from_str(alloc, folder)?]?;
-    assert!(rt; answers_with(&rt, alloc, &arguments, &FIRST_START)?);
-    assert!(rt; answers_with(&rt, alloc, &arguments, &SECOND_START)?);
+    assert!(rt; answers_with(&rt, alloc, &arguments, &FIRST_START, b"")?);
+    assert!(rt; answers_with(&rt, alloc, &arguments, &SECOND_START, b"")?);
     fs::remove_dir_all(&rt, folder)?;
     Ok(())
 }
