@@ -65,7 +65,8 @@ HELP
 print_version() {
     version=$(sed -n 's/^## \([0-9][0-9.]*\).*/\1/p' "$root/CHANGELOG.md" | head -n 1)
     commit=$(git -C "$root" rev-parse --short HEAD 2> /dev/null) || commit=unknown
-    echo "jadvork $version, commit $commit"
+    changed=$(git -C "$root" status --porcelain 2> /dev/null) || changed=
+    echo "jadvork $version, commit $commit${changed:+ with changes}"
 }
 
 refuse() {
