@@ -1,6 +1,6 @@
 //! A strategy of one's own: it merges all tables once the first level has enough runs.
 //!
-//! A strategy promises nothing. What it chooses is checked, and declined where it would change an answer.
+//! A strategy need not be right: a merge or a move that would change an answer is declined.
 #![tactic(auto)]
 
 use anyhow::Result;
