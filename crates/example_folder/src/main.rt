@@ -6,16 +6,13 @@
 use anyhow::Result;
 use lsm_tree::{Config, FolderStore, IterGuard, Op, Store, TreeState, UserKey};
 use std::alloc::Global;
-use std::fs::Files;
 
-/// The tree that the folder holds, or a new one. Its counters stand above all that was found.
-fn open<R: Files + Alloc + Clone + Drop>(
-    rt: &R,
-    alloc: Global,
-) -> Result<TreeState<FolderStore<R>>> {
+/// The tree that the folder holds, or a new one. Its counters start above all that was found.
+fn open(rt: &HostRuntime) -> Result<TreeState<FolderStore<HostRuntime>>> {
+    let alloc = rt.alloc();
     let store = FolderStore::new(rt, alloc, "runs")?;
     let config = Config::new(0, 0, 0);
-    let tree = TreeState::open_after(alloc, config, store).map_err(|refused| refused.0)?;
+    let tree = TreeState::open_raised(alloc, config, store).map_err(|refused| refused.0)?;
     Ok(tree)
 }
 
@@ -40,12 +37,12 @@ fn list_runs<S: Store>(rt: &impl Print, tree: &TreeState<S>) -> Result<()> {
 }
 
 fn main(rt: HostRuntime) -> Result<()> {
-    let mut tree = open(&rt, rt.alloc())?;
+    let mut tree = open(&rt)?;
     let added = add_run(rt.alloc(), &mut tree);
     drop(tree);
     added?;
 
-    let tree = open(&rt, rt.alloc())?;
+    let tree = open(&rt)?;
     let listed = list_runs(&rt, &tree);
     drop(tree);
     listed
