@@ -133,6 +133,22 @@ fn damage<S: Store>(alloc: Global, store: &mut S) -> Result<String, OpenError>
     damage_from_current(alloc, store, refused)
 }
 
+/// The file that is damaged, if one is.
+fn look_for_damage<S: Store>(alloc: Global, store: &mut S) -> Result<Option<String>, OpenError>
+    ensures none { S.tells → IfOk result (λ name. IfNone name (IsOpenable (S.world store.old).gives)) }
+    ensures some { S.tells → IfOk result (λ name. IfSome name (λ _. IsDamaged (S.world store.old).gives)) }
+    ensures same { S.tells → Same (S.world store.old) (S.world store.new) }
+    ensures counts { CountsStore (S.world store.old) (S.world store.new) result }
+{
+    match look(alloc, store) {
+        Ok(_) => return Ok(None),
+        Err(OpenError::Fault(_)) => {}
+        Err(why) => return Err(why),
+    }
+    let name = damage(alloc, store)?;
+    Ok(Some(name))
+}
+
 /// The name of the file that keeps a tree from being opened, the first one in the order of the checks, and None where
 /// nothing does: a file `version`, `current`, the version's file, a name in `tables/` that a tree doesn't give, or a
 /// table that is missing, damaged or numbered too high. Of runs that aren't sorted or not disjoint it is the version's file.
@@ -147,12 +163,8 @@ pub fn damaged_file<S: Store>(alloc: Global, store: &mut S) -> Result<Option<Str
     ensures same { S.tells → Same (S.world store.old) (S.world store.new) }
     ensures counts { Told TellsOpen (CountsStore (S.world store.old) (S.world store.new)) result }
 {
-    match look(alloc, store) {
-        Ok(_) => Ok(None),
-        Err(OpenError::Fault(_)) => match damage(alloc, store) {
-            Ok(name) => Ok(Some(name)),
-            Err(why) => Err(tell_open(why)),
-        },
+    match look_for_damage(alloc, store) {
+        Ok(name) => Ok(name),
         Err(why) => Err(tell_open(why)),
     }
 }

@@ -133,6 +133,33 @@ fn causes_are_told(rt: HostRuntime) -> Result<(), Fail> {
     Ok(())
 }
 
+/// What a first start flushes, and what it doesn't.
+const FIRST_START: [Row; 3] = [
+    (b"put a x", b"ok 0"),
+    (b"flush 0", b"flushed 50 installed"),
+    (b"put b y", b"ok 2"),
+];
+
+/// What a second start reads of that. It goes on with the numbers above what it found.
+const SECOND_START: [Row; 4] = [
+    (b"get a", b"value x"),
+    (b"get b", b"none"),
+    (b"stats", b"tables 1 runs 1 sealed 0 len 1 bytes 37"),
+    (b"put b z", b"ok 1"),
+];
+
+#[test]
+fn a_second_start_reads_what_the_first_one_flushed(rt: HostRuntime) -> Result<(), Fail> {
+    let alloc = rt.alloc();
+    let folder = "lsm_shell_twice";
+    let _ = fs::remove_dir_all(&rt, folder);
+    let arguments = vec![in alloc; String::from_str(alloc, folder)?]?;
+    assert!(rt; answers_with(&rt, alloc, &arguments, &FIRST_START, b"")?);
+    assert!(rt; answers_with(&rt, alloc, &arguments, &SECOND_START, b"")?);
+    fs::remove_dir_all(&rt, folder)?;
+    Ok(())
+}
+
 /// A clear stays where the tree is opened again.
 const CLEARED: [Row; 6] = [
     (b"clear", b"cleared 1"),

@@ -8,11 +8,11 @@
 //! | `shared_flushes` | its flushes |
 //! | `shared_compactions` | its compactions |
 //! | `gate` | who does the merge of a compaction while no lock is held |
-//! | `shared_counts` | what is counted of it |
+//! | `shared_counts` | what is counted and told of it |
 //! | `recorded_tree` | the calls of a tree with its journal, behind the lock |
 //! | `recorded_flushes` | its flushes |
 //! | `recorded_compactions` | its compactions |
-//! | `recorded_counts` | what is counted of it |
+//! | `recorded_counts` | what is counted and told of it |
 //! | `laws` | theorems as the contracts of functions that do nothing |
 #![tactic(auto)]
 
