@@ -1,9 +1,11 @@
 // The store over a folder: what its calls leave in the file system, and what it refuses.
 
-use lsm_store::{FolderStore, Store, StoreError};
-use std::alloc::Global;
-use std::fs;
+use lsm_store::{FolderCall, FolderFault, FolderStore, Store, StoreError};
+use std::alloc::{AllocError, Global};
+use std::fs::{self, File, Files};
+use std::io::ErrorKind;
 use std::test::Fail;
+use std::thread::{self, Threads};
 
 const FOLDER: &str = "lsm_folder_store_test";
 
@@ -63,6 +65,7 @@ fn a_folder_keeps_files(rt: HostRuntime) -> Result<(), Fail> {
     assert!(rt; lists(&mut store, alloc, &["v0", "current", "tables/7"])?);
     store.remove("v9")?;
     assert!(rt; refuses(&mut store, alloc));
+    drop(store);
     let mut again = FolderStore::new(&rt, alloc, FOLDER)?;
     assert!(rt; has(&mut again, alloc, "v0", Some(b"old"))?);
     assert!(rt; has(&mut again, alloc, "current", Some(b"1"))?);
@@ -72,5 +75,139 @@ fn a_folder_keeps_files(rt: HostRuntime) -> Result<(), Fail> {
     assert!(rt; lists(&mut again, alloc, &["v0", "current"])?);
     assert_eq!(rt; again.failures(), 0);
     fs::remove_dir_all(&rt, FOLDER)?;
+    Ok(())
+}
+
+/// Whether this is what a call of this kind about this name failed with.
+fn is_fault(fault: Option<&FolderFault>, name: &str, call: FolderCall, kind: ErrorKind) -> bool {
+    fault.is_some_and(|fault| {
+        fault.name.as_str() == name && fault.call == call && fault.error.kind() == kind
+    })
+}
+
+/// Whether the folder is refused to whoever opens it now, and why.
+fn is_taken<R>(rt: &R, alloc: Global, folder: &str) -> bool
+where
+    R: Files<File = File> + Alloc + Clone + Drop,
+{
+    match FolderStore::new(rt, alloc, folder) {
+        Ok(_) => false,
+        Err(fault) => is_fault(
+            Some(&fault),
+            folder,
+            FolderCall::Lock,
+            ErrorKind::WouldBlock,
+        ),
+    }
+}
+
+#[test]
+fn a_folder_has_one_owner(rt: HostRuntime) -> Result<(), Fail> {
+    let folder = "lsm_folder_store_owner/and/its/way";
+    let _ = fs::remove_dir_all(&rt, "lsm_folder_store_owner");
+    let mut store = FolderStore::new(&rt, rt.alloc(), folder)?;
+    assert!(rt; is_taken(&rt, rt.alloc(), folder));
+    assert!(rt; lists(&mut store, rt.alloc(), &[])?);
+    drop(store);
+    assert!(rt; !is_taken(&rt, rt.alloc(), folder));
+    fs::remove_dir_all(&rt, "lsm_folder_store_owner")?;
+    Ok(())
+}
+
+/// How many of two stores that are opened at once are there while the other is.
+fn count_owners<R>(rt: &R, alloc: Global, folder: &str) -> Result<usize, AllocError>
+where
+    R: Threads + Sync + Send + Files<File = File> + Alloc + Clone + Drop,
+{
+    let open = |_: usize| FolderStore::new(rt, alloc, folder);
+    let stores = thread::map_indices(rt, alloc, 2, &open)?;
+    Ok(stores.iter().filter(|store| store.is_ok()).count())
+}
+
+#[test]
+fn of_two_at_once_one_opens(rt: HostRuntime) -> Result<(), Fail> {
+    let folder = "lsm_folder_store_race";
+    for _ in 0..20 {
+        assert_eq!(rt; count_owners(&rt, rt.alloc(), folder)?, 1);
+    }
+    fs::remove_dir_all(&rt, folder)?;
+    Ok(())
+}
+
+/// Whether nothing is there under a path.
+fn is_absent(files: &impl Files, path: &str) -> bool {
+    fs::symlink_metadata(files, path).is_err_and(|error| error.kind() == ErrorKind::NotFound)
+}
+
+#[test]
+fn what_fails_leaves_nothing(rt: HostRuntime) -> Result<(), Fail> {
+    let folder = "lsm_folder_store_full";
+    let _ = fs::remove_dir_all(&rt, folder);
+    let mut store = FolderStore::new(&rt, rt.alloc(), folder)?;
+    assert!(rt; store.last_fault().is_none());
+    // A device that is always full.
+    rt.symlink("/dev/full", "lsm_folder_store_full/tables/7")?;
+    rt.symlink("/dev/full", "lsm_folder_store_full/replace.new")?;
+    let written = store.write("tables/7", b"entries");
+    assert!(rt; matches!(written, Err(StoreError::Fault)));
+    assert!(rt;
+        is_fault(
+            store.last_fault(),
+            "tables/7",
+            FolderCall::Write,
+            ErrorKind::StorageFull
+        )
+    );
+    assert!(rt; is_absent(&rt, "lsm_folder_store_full/tables/7"));
+    let replaced = store.replace("current", b"1");
+    assert!(rt; matches!(replaced, Err(StoreError::Fault)));
+    assert!(rt;
+        is_fault(
+            store.last_fault(),
+            "current",
+            FolderCall::Replace,
+            ErrorKind::StorageFull
+        )
+    );
+    assert!(rt; is_absent(&rt, "lsm_folder_store_full/replace.new"));
+    // A file in a folder that is absent isn't begun.
+    assert!(rt; store.write("other/1", b"x").is_err());
+    assert!(rt;
+        is_fault(
+            store.last_fault(),
+            "other/1",
+            FolderCall::Write,
+            ErrorKind::NotFound
+        )
+    );
+    assert!(rt; lists(&mut store, rt.alloc(), &[])?);
+    fs::remove_dir_all(&rt, folder)?;
+    Ok(())
+}
+
+#[test]
+fn a_file_is_no_folder(rt: HostRuntime) -> Result<(), Fail> {
+    let path = "lsm_folder_store_file";
+    let _ = fs::remove_file(&rt, path);
+    fs::write(&rt, path, b"x")?;
+    let made = FolderStore::new(&rt, rt.alloc(), path).err();
+    assert!(rt;
+        is_fault(
+            made.as_ref(),
+            path,
+            FolderCall::Make,
+            ErrorKind::NotADirectory
+        )
+    );
+    let nameless = FolderStore::new(&rt, rt.alloc(), "").err();
+    assert!(rt;
+        is_fault(
+            nameless.as_ref(),
+            "",
+            FolderCall::Make,
+            ErrorKind::InvalidInput
+        )
+    );
+    fs::remove_file(&rt, path)?;
     Ok(())
 }

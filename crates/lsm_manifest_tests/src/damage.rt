@@ -3,7 +3,7 @@
 
 use crate::samples::{NO_TABLE, Sections, TABLE, Told, bytes_of, file, is_told, put_table};
 use lsm_below::Error;
-use lsm_manifest::write_current;
+use lsm_manifest::{damaged_file, write_current};
 use lsm_parts::Config;
 use lsm_state::TreeState;
 use lsm_store::{MemStore, Store, StoreError};
@@ -124,11 +124,16 @@ fn are_same(alloc: Global, left: &mut MemStore, right: &mut MemStore) -> Result<
 }
 
 /// The store as opening leaves it, and what is refused.
-fn open(alloc: Global, store: MemStore) -> (MemStore, Option<Error>) {
+pub fn open(alloc: Global, store: MemStore) -> (MemStore, Option<Error>) {
     match TreeState::open(alloc, Config::new(0, 10, 10), store) {
         Ok(tree) => (tree.into_store(), None),
         Err((error, store)) => (store, Some(error)),
     }
+}
+
+/// Whether a file is said to be damaged.
+fn is_damaged(alloc: Global, store: &mut MemStore) -> bool {
+    matches!(damaged_file(alloc, store), Ok(Some(_)))
 }
 
 /// Whether what is refused is what is wanted: then each name keeps its content, and else orphans are gone.
@@ -141,9 +146,9 @@ fn is_as(
 ) -> Result<bool, StoreError> {
     match (found, wanted) {
         (Some(error), Some(wanted)) => Ok(
-            is_told(error, wanted) && are_same(alloc, store, before)?,
+            is_told(error, wanted) && are_same(alloc, store, before)? && is_damaged(alloc, before),
         ),
-        (None, None) => Ok(store.list(alloc)?.len() == 4),
+        (None, None) => Ok(store.list(alloc)?.len() == 4 && !is_damaged(alloc, before)),
         _ => Ok(false),
     }
 }
@@ -226,12 +231,32 @@ fn told_of_byte(damaged: Damaged, sums: Sums, place: usize, byte: u8) -> Option<
     }
 }
 
+/// The name of the file.
+fn name_of(damaged: Damaged) -> &'static str {
+    match damaged {
+        Damaged::Current => "current",
+        Damaged::Version => "v5",
+        Damaged::First => "tables/3",
+        Damaged::Second => "tables/4",
+    }
+}
+
+/// Whether this damage is said to be in its file.
+fn is_named(alloc: Global, damaged: Damaged, sums: Sums, bytes: &[u8]) -> Result<bool, Fail> {
+    let mut store = MemStore::new(alloc);
+    fill(alloc, &mut store, damaged, sums, bytes)?;
+    let named = damaged_file(alloc, &mut store)?;
+    Ok(named.is_some_and(|name| name.as_str() == name_of(damaged)))
+}
+
 fn check_cuts(rt: &impl Abort, alloc: Global, damaged: Damaged, sums: Sums) -> Result<(), Fail> {
     let good = whole(alloc, damaged)?;
     for len in 0..good.len() {
         let told = told_of_cut(damaged, sums);
         let well = row(alloc, damaged, sums, &good[..len], Some(told))?;
         assert!(rt; well, "{damaged:?}, {sums:?}, {len} bytes");
+        let named = is_named(alloc, damaged, sums, &good[..len])?;
+        assert!(rt; named, "{damaged:?}, {sums:?}, {len} bytes");
     }
     Ok(())
 }
@@ -333,5 +358,34 @@ fn a_partial_first_version_is_written_again(rt: HostRuntime) -> Result<(), Fail>
     drop(store);
     filled?;
     assert!(rt; well? && !refused);
+    Ok(())
+}
+
+/// Whether this name is said to keep a store from being opened that has it beside these.
+fn is_told_of(alloc: Global, names: &[&str], wanted: Option<&str>) -> Result<bool, Fail> {
+    let mut store = MemStore::new(alloc);
+    for name in names {
+        store.replace(name, b"1")?;
+    }
+    let named = damaged_file(alloc, &mut store)?;
+    Ok(match (named, wanted) {
+        (Some(name), Some(wanted)) => name.as_str() == wanted,
+        (None, None) => true,
+        _ => false,
+    })
+}
+
+#[test]
+fn names_that_are_refused_are_told(rt: HostRuntime) -> Result<(), Fail> {
+    let rows: [(&[&str], Option<&str>); 5] = [
+        (&[], None),
+        (&["tables/7", "v3", "notes"], None),
+        (&["tables/7", "tables/05"], Some("tables/05")),
+        (&["tables/05", "version"], Some("version")),
+        (&["tables/05", "current"], Some("current")),
+    ];
+    for (names, wanted) in rows {
+        assert!(rt; is_told_of(rt.alloc(), names, wanted)?, "{wanted:?}");
+    }
     Ok(())
 }

@@ -1,11 +1,11 @@
 // What an iterator owns, and what a step that is refused leaves of it.
 
 use crate::layers::{INDEX, Layers, open_filled};
-use crate::samples::{TABLE, file, fill, put_run};
-use lsm_below::{Error, InternalValue, UserKey};
+use lsm_below::{Error, InternalValue, SeqNo, UserKey};
 use lsm_iter::{End, Guard, IterGuard, TreeIter};
+use lsm_model::Op;
 use lsm_state::TreeState;
-use lsm_store::{MemStore, Store, StoreError};
+use lsm_store::MemStore;
 use std::alloc::Global;
 use std::test::Fail;
 
@@ -14,32 +14,24 @@ fn text(letters: &'static str) -> UserKey {
     UserKey::from_static(letters.as_bytes())
 }
 
-/// Version 5 with table 3, which holds a = 1 at 0.
-fn fill_one(alloc: Global, store: &mut MemStore) -> Result<(), StoreError> {
-    let mut table = TABLE;
-    table[36] = b'1';
-    let mut layout = Vec::new(alloc);
-    layout.extend_from_slice(&[7, 1])?;
-    put_run(&mut layout, &[(3, &table)])?;
-    layout.extend_from_slice(&[0; 6])?;
-    fill(alloc, store, &file(&layout))?;
-    store.replace("tables/3", &table)
+fn write(
+    alloc: Global,
+    tree: &mut TreeState,
+    key: &'static str,
+    value: &'static str,
+) -> Result<SeqNo, Error> {
+    tree.write(vec![in alloc; (text(key), Op::Set(text(value)))]?)
 }
 
-/// Writes b = 2 at 1 and c = 3 at 2 over the table.
-fn write_two(tree: &mut TreeState) -> Result<(), Error> {
-    tree.insert(text("b"), text("2"), 1)?;
-    tree.insert(text("c"), text("3"), 2)?;
-    Ok(())
-}
-
-/// Writes over all three, below the snapshot of an iterator that was made before.
-fn change_all(tree: &mut TreeState) -> Result<(), Error> {
-    tree.remove(text("a"), 3)?;
-    tree.insert(text("b"), text("4"), 4)?;
-    tree.remove(text("c"), 5)?;
-    tree.rotate_memtable()?;
-    Ok(())
+/// a = 1 (0) in a table (1), and b = 2 (2) and c = 3 (3) above it.
+fn write_three(alloc: Global, tree: &mut TreeState) -> Result<bool, Error> {
+    let first = write(alloc, tree, "a", "1")?;
+    let flushed = tree.flush_active_memtable(0);
+    let is_flushed =
+        matches!(flushed, Ok((Some(_), Some((50, registered)))) if registered.installed);
+    let second = write(alloc, tree, "b", "2")?;
+    let third = write(alloc, tree, "c", "3")?;
+    Ok(is_flushed && first == 0 && second == 2 && third == 3)
 }
 
 /// Whether this pair is given.
@@ -69,31 +61,29 @@ fn gives_others(iter: &mut TreeIter) -> bool {
         && iter.held() == 0
 }
 
-/// A tree with a = 1 in a table, and b = 2 and c = 3 above it.
-fn open_three(alloc: Global) -> Result<TreeState, Error> {
-    let mut store = MemStore::new(alloc);
-    let filled = fill_one(alloc, &mut store);
-    let mut tree = open_filled(alloc, store, filled)?;
-    match write_two(&mut tree) {
-        Ok(()) => Ok(tree),
-        Err(error) => Err(error),
-    }
+/// Whether an iterator that was made and stepped gives the same where its tree is cleared (4).
+fn stands(mut iter: TreeIter, tree: &mut TreeState) -> Result<bool, Error> {
+    let stepped = gives_c(&mut iter);
+    let number = tree.clear()?;
+    let is_cleared = number == 4 && tree.table_count() == 0 && tree.approximate_len() == 0;
+    Ok(stepped && is_cleared && gives_others(&mut iter))
 }
 
-/// Whether an iterator that was made and stepped gives the same where its tree was written to, and where it is gone.
-fn stands(mut iter: TreeIter, mut tree: TreeState) -> Result<bool, Error> {
-    let stepped = gives_c(&mut iter);
-    let changed = change_all(&mut tree);
-    drop(tree);
-    changed?;
-    Ok(stepped && gives_others(&mut iter))
+/// Whether it is so of an iterator at 4.
+fn is_stepped_over_a_clear(alloc: Global, tree: &mut TreeState) -> Result<bool, Error> {
+    if !write_three(alloc, tree)? {
+        return Ok(false);
+    }
+    let iter = tree.iter(4, None)?;
+    stands(iter, tree)
 }
 
 #[test]
 fn an_iterator_owns_what_it_copied(rt: HostRuntime) -> Result<(), Fail> {
-    let tree = open_three(rt.alloc())?;
-    let iter = tree.iter(9, None)?;
-    assert!(rt; stands(iter, tree)?);
+    let mut tree = open_filled(rt.alloc(), MemStore::new(rt.alloc()), Ok(()))?;
+    let well = is_stepped_over_a_clear(rt.alloc(), &mut tree);
+    drop(tree);
+    assert!(rt; well?);
     Ok(())
 }
 

@@ -70,7 +70,7 @@ fn input(alloc: Global, list: &[TableId], to: u8) -> Result<Input, AllocError> {
     })
 }
 
-fn answered(begun: Begun) -> Told {
+pub fn answered(begun: Begun) -> Told {
     match begun {
         Begun::DidNothing => Told::Nothing,
         Begun::Declined(why) => Told::Declined(why),
@@ -165,7 +165,7 @@ pub fn shows(tree: &TreeState, name: &str, snapshot: SeqNo, text: &str) -> bool 
     }
 }
 
-fn is_too_old(tree: &TreeState, snapshot: SeqNo) -> bool {
+pub fn is_too_old(tree: &TreeState, snapshot: SeqNo) -> bool {
     matches!(tree.get(b"a", snapshot), Err(Error::SnapshotTooOld))
 }
 
@@ -221,7 +221,7 @@ const BELOW: [(Step, Told); 5] = [
 ];
 
 /// Keys a, b and c, each in a table of its own.
-const THREE: [(Step, Told); 6] = [
+pub const THREE: [(Step, Told); 6] = [
     (Step::Set("a", "x"), Told::Number(0)),
     (Step::Flush(0), DONE),
     (Step::Set("b", "x"), Told::Number(2)),
@@ -393,110 +393,6 @@ fn a_job_of_another_tree_is_unknown(rt: HostRuntime) -> Result<(), Fail> {
     let mut tree = open(rt.alloc())?;
     assert!(rt; plays(rt.alloc(), &mut tree, &TWICE));
     assert!(rt; finish_given_up(rt.alloc(), &mut tree)?);
-    drop(tree);
-    Ok(())
-}
-
-// ---- strategies
-
-#[test]
-fn a_leveled_compaction_merges_four_runs(rt: HostRuntime) -> Result<(), Fail> {
-    let mut tree = open(rt.alloc())?;
-    let steps = [
-        (Step::Set("a", "1"), Told::Number(0)),
-        (Step::Flush(0), DONE),
-        (Step::Set("a", "2"), Told::Number(2)),
-        (Step::Flush(0), DONE),
-        (Step::Set("a", "3"), Told::Number(4)),
-        (Step::Flush(0), DONE),
-        (Step::Leveled(0), Told::Nothing),
-        (Step::Set("a", "4"), Told::Number(6)),
-        (Step::Flush(0), DONE),
-        (Step::Leveled(8), Told::Installed),
-    ];
-    assert!(rt; plays(rt.alloc(), &mut tree, &steps));
-    assert!(rt; tree.l0_run_count() == 0 && tree.table_count() == 1);
-    assert!(rt; tree.level_table_count(6) == Some(1) && tree.level_table_count(7) == None);
-    assert!(rt; tree.approximate_len() == 1);
-    assert!(rt; shows(&tree, "a", 9, "4") && is_too_old(&tree, 7));
-    drop(tree);
-    Ok(())
-}
-
-#[test]
-fn fifo_drops_what_passes_its_limit(rt: HostRuntime) -> Result<(), Fail> {
-    let mut tree = open(rt.alloc())?;
-    assert!(rt; plays(rt.alloc(), &mut tree, &THREE));
-    assert!(rt; tree.table_count() == 3 && tree.disk_space() == 111);
-    assert!(rt;
-        plays(
-            rt.alloc(),
-            &mut tree,
-            &[(Step::Fifo(1, None, 3), Told::Installed)]
-        )
-    );
-    assert!(rt; tree.table_count() == 0);
-    drop(tree);
-    Ok(())
-}
-
-#[test]
-fn fifo_drops_what_is_too_old(rt: HostRuntime) -> Result<(), Fail> {
-    let mut tree = open(rt.alloc())?;
-    let steps = [
-        (Step::Now(1000), DONE),
-        (Step::Set("a", "x"), Told::Number(0)),
-        (Step::Flush(0), DONE),
-        (Step::Now(1005), DONE),
-        (Step::Set("b", "x"), Told::Number(2)),
-        (Step::Flush(0), DONE),
-        (Step::Now(1011), DONE),
-    ];
-    assert!(rt; plays(rt.alloc(), &mut tree, &steps));
-    assert!(rt; tree.table_count() == 2 && tree.l0_run_count() == 1);
-    let by_age = [(Step::Fifo(u64::MAX, Some(10), 0), Told::Installed)];
-    assert!(rt; plays(rt.alloc(), &mut tree, &by_age));
-    assert!(rt; tree.table_count() == 1 && shows(&tree, "a", 5, "") && shows(&tree, "b", 5, "x"));
-    drop(tree);
-    Ok(())
-}
-
-#[test]
-fn a_range_is_dropped_with_the_tables_within(rt: HostRuntime) -> Result<(), Fail> {
-    let mut tree = open(rt.alloc())?;
-    assert!(rt; plays(rt.alloc(), &mut tree, &THREE));
-    assert!(rt;
-        plays(
-            rt.alloc(),
-            &mut tree,
-            &[(Step::DropRange("a", "b"), Told::Installed)]
-        )
-    );
-    assert!(rt; tree.table_count() == 1);
-    assert!(rt; shows(&tree, "b", 7, "") && shows(&tree, "c", 7, "x") && shows(&tree, "b", 6, "x"));
-    assert!(rt;
-        plays(
-            rt.alloc(),
-            &mut tree,
-            &[(Step::DropBetween("b"), Told::Installed)]
-        )
-    );
-    assert!(rt;
-        plays(
-            rt.alloc(),
-            &mut tree,
-            &[(Step::DropRange("c", "a"), Told::Nothing)]
-        )
-    );
-    assert!(rt; tree.table_count() == 1 && tree.seqno().get() == 8);
-    assert!(rt;
-        plays(
-            rt.alloc(),
-            &mut tree,
-            &[(Step::Set("b", "z"), Told::Number(8))]
-        )
-    );
-    assert!(rt; shows(&tree, "b", 9, "z"));
     drop(tree);
     Ok(())
 }

@@ -1,9 +1,9 @@
-// Crashes at each store call of a script, and within the opening behind it: the tree that is opened shows a beginning of the
-// writes, with all that a flush covered.
+// Crashes at each store call of a script, and at each call of the opening behind it: the tree that is opened shows a beginning
+// of the writes, with all that a flush covered.
 use crate::compactions::{Step, Told, shows, take};
 use lsm_parts::{Config, Error};
 use lsm_state::TreeState;
-use lsm_store::{Fault, MemStore, Pick};
+use lsm_store::{Fault, MemStore, Pick, Store};
 use std::alloc::Global;
 use std::test::Fail;
 
@@ -26,8 +26,6 @@ const EVICTING: [Step; 6] = [
 
 /// More calls than a script or an opening makes.
 const CALLS: u64 = 48;
-
-const OPENING_CALLS: u64 = 10;
 
 const NAMES: [&str; 10] = [
     "current", "v0", "v1", "v2", "v3", "v4", "tables/0", "tables/1", "tables/2", "tables/3",
@@ -108,17 +106,45 @@ fn stopped(alloc: Global, script: &[Step], call: u64) -> (MemStore, usize) {
     }
 }
 
-/// Whether the tree that a crash leaves of this store opens, and shows a beginning.
-fn reopens(
+/// In how many ways a crash is picked: nothing is, or one name that isn't synced is left as the byte 0, or one that was
+/// removed or replaced as it was before.
+const WAYS: usize = 21;
+
+/// Whether two stores have the same under a name.
+fn have_same(alloc: Global, one: &mut MemStore, other: &mut MemStore, name: &str) -> bool {
+    match (one.read(alloc, name), other.read(alloc, name)) {
+        (Ok(one), Ok(other)) => one == other,
+        _ => false,
+    }
+}
+
+/// What a crash leaves of a store with a pick; None where it isn't possible, or is what is left without a pick.
+fn picked(
     alloc: Global,
     store: &MemStore,
-    script: &[Step],
-    covered: usize,
-) -> Result<bool, Error> {
-    let Some(left) = store.crash(&[])? else {
-        return Ok(false);
+    name: &str,
+    pick: Pick<'_>,
+) -> Result<Option<MemStore>, Error> {
+    let (Some(mut left), Some(mut usual)) = (store.crash(&[(name, pick)])?, store.crash(&[])?)
+    else {
+        return Ok(None);
     };
-    match TreeState::open(alloc, Config::new(0, 10, 10), left) {
+    let is_usual = have_same(alloc, &mut left, &mut usual, name);
+    Ok(if is_usual { None } else { Some(left) })
+}
+
+/// What a crash leaves of a store in one of these ways, if anything else than in the other ones.
+fn crashed(alloc: Global, store: &MemStore, way: usize) -> Result<Option<MemStore>, Error> {
+    match NAMES.get(way / 2) {
+        Some(name) if way % 2 == 0 => picked(alloc, store, *name, Pick::Bytes(b"\0")),
+        Some(name) => picked(alloc, store, *name, Pick::Before),
+        None => Ok(store.crash(&[])?),
+    }
+}
+
+/// Whether this store opens, and the tree shows a beginning.
+fn opens(alloc: Global, store: MemStore, script: &[Step], covered: usize) -> Result<bool, Error> {
+    match TreeState::open(alloc, Config::new(0, 10, 10), store) {
         Ok(tree) => {
             let right = is_beginning(&tree, script, covered);
             drop(tree);
@@ -128,66 +154,69 @@ fn reopens(
     }
 }
 
-/// The same where an opening before it stops at this call.
-fn reopens_behind(
-    alloc: Global,
-    left: &MemStore,
-    script: &[Step],
-    covered: usize,
-    call: u64,
-) -> Result<bool, Error> {
-    let Some(mut store) = left.crash(&[])? else {
-        return Ok(false);
-    };
-    store.fail(call, Fault::FromHere);
-    let store = match TreeState::open(alloc, Config::new(0, 10, 10), store) {
-        Ok(tree) => tree.into_store(),
-        Err((_, store)) => store,
-    };
-    reopens(alloc, &store, script, covered)
-}
-
-/// Whether it is so at each stop of the opening, where the crash leaves this; true where it can't.
-fn survives(
+/// Whether it does so however it is crashed.
+fn reopens(
     alloc: Global,
     store: &MemStore,
-    picks: &[(&str, Pick<'_>)],
     script: &[Step],
     covered: usize,
 ) -> Result<bool, Error> {
-    let Some(left) = store.crash(picks)? else {
-        return Ok(true);
-    };
-    for call in 1..OPENING_CALLS {
-        if !reopens_behind(alloc, &left, script, covered, call)? {
-            return Ok(false);
+    for way in 0..WAYS {
+        if let Some(left) = crashed(alloc, store, way)? {
+            if !opens(alloc, left, script, covered)? {
+                return Ok(false);
+            }
         }
     }
     Ok(true)
 }
 
-/// Whether it is so of each name that isn't synced, as the byte 0, and of each that was removed or replaced, as before.
+/// The store behind an opening that stops at this call, if it makes so many. A crash leaves of the store that is opened just that.
+fn stopped_opening(alloc: Global, left: &MemStore, call: u64) -> Result<MemStore, Error> {
+    let Some(mut store) = left.crash(&[])? else {
+        return Err(Error::Unrecoverable);
+    };
+    store.fail(call, Fault::FromHere);
+    match TreeState::open(alloc, Config::new(0, 10, 10), store) {
+        Ok(tree) => Ok(tree.into_store()),
+        Err((_, store)) => Ok(store),
+    }
+}
+
+/// Whether it is so of what a crash left, at each stop of its opening and behind the whole of it.
+fn survives(
+    alloc: Global,
+    left: &MemStore,
+    script: &[Step],
+    covered: usize,
+) -> Result<bool, Error> {
+    for call in 1..CALLS {
+        let store = stopped_opening(alloc, left, call)?;
+        if !reopens(alloc, &store, script, covered)? {
+            return Ok(false);
+        }
+        if store.failures() == 0 {
+            return Ok(true);
+        }
+    }
+    Ok(false)
+}
+
+/// Whether it is so however a store is crashed.
 fn survives_all(
     alloc: Global,
     store: &MemStore,
     script: &[Step],
     covered: usize,
 ) -> Result<bool, Error> {
-    for name in &NAMES {
-        if !survives(
-            alloc,
-            store,
-            &[(*name, Pick::Bytes(b"\0"))],
-            script,
-            covered,
-        )? {
-            return Ok(false);
-        }
-        if !survives(alloc, store, &[(*name, Pick::Before)], script, covered)? {
-            return Ok(false);
+    for way in 0..WAYS {
+        if let Some(left) = crashed(alloc, store, way)? {
+            if !survives(alloc, &left, script, covered)? {
+                return Ok(false);
+            }
         }
     }
-    survives(alloc, store, &[], script, covered)
+    Ok(true)
 }
 
 /// The first call from which on the store may not fail, or `CALLS`.

@@ -150,11 +150,20 @@ fn is_done(done: Result<Registered, Error>) -> bool {
     }
 }
 
+/// Whether the latest super version was installed under this number, the last one that was drawn.
+fn is_installed_under(tree: &TreeState, number: SeqNo) -> bool {
+    match tree.get_version_for_snapshot(u64::MAX) {
+        Ok(latest) => latest.seqno == number && tree.seqno().get() == number.saturating_add(1),
+        Err(_) => false,
+    }
+}
+
 #[test]
 fn what_is_sealed_meanwhile_stays_sealed(rt: HostRuntime) -> Result<(), Fail> {
     let mut tree = open(rt.alloc())?;
     assert!(rt; is_done(flush_behind(rt.alloc(), &mut tree)));
-    assert!(rt; tree.table_count() == 1);
+    assert!(rt; is_installed_under(&tree, 2));
+    assert!(rt; tree.table_count() == 1 && tree.sealed_memtable_count() == 1);
     assert!(rt; matches!(tree.begin_flush(), Ok(Some(_))));
     assert!(rt; shows(&tree, "a", 3, "y"));
     assert!(rt; shows(&tree, "a", 2, "y"));
@@ -182,14 +191,29 @@ fn a_weak_pair_is_flushed_away(rt: HostRuntime) -> Result<(), Fail> {
     Ok(())
 }
 
+/// Whether the active memtable, of one value of one letter, is flushed in one call.
+fn flushes_active(tree: &mut TreeState) -> bool {
+    match tree.flush_active_memtable(0) {
+        Ok((Some(_), Some((50, registered)))) => registered.installed,
+        _ => false,
+    }
+}
+
 /// Sets a and flushes it so many times.
 fn flush_times(alloc: Global, tree: &mut TreeState, times: u32) -> bool {
     for _ in 0..times {
-        if set(alloc, tree, "a", "v").is_err() || !is_installed(flush(tree, 0)) {
+        if set(alloc, tree, "a", "v").is_err() || !flushes_active(tree) {
             return false;
         }
     }
     true
+}
+
+/// Whether the flush of the active memtable is refused, and its value is read at the counter.
+fn is_one_too_many(tree: &mut TreeState) -> bool {
+    let refused = tree.flush_active_memtable(0);
+    matches!(refused, Err((Error::TooManyRuns, Some(_))))
+        && shows(tree, "a", tree.seqno().get(), "w")
 }
 
 #[test]
@@ -197,9 +221,8 @@ fn a_level_takes_255_runs(rt: HostRuntime) -> Result<(), Fail> {
     let mut tree = open(rt.alloc())?;
     assert!(rt; flush_times(rt.alloc(), &mut tree, 255));
     assert!(rt; set(rt.alloc(), &mut tree, "a", "w").is_ok());
-    assert!(rt; matches!(flush(&mut tree, 0), Err(Error::TooManyRuns)));
-    assert!(rt; shows(&tree, "a", 511, "w"));
-    assert!(rt; tree.table_count() == 255);
+    assert!(rt; is_one_too_many(&mut tree));
+    assert!(rt; tree.l0_run_count() == 255 && tree.table_count() == 255);
     drop(tree);
     Ok(())
 }

@@ -12,7 +12,8 @@
 //! | `prefixes` | the bounds of the keys that begin alike |
 //! | `iterators` | what iterators give over memtables, from both ends |
 //! | `flushes` | flushes, old snapshots over them, and what a crash leaves |
-//! | `compactions` | compactions: which are declined and why, open merges, strategies, dropped ranges |
+//! | `compactions` | compactions: which are declined and why, open merges |
+//! | `strategies` | what strategies do to a tree, and dropped ranges |
 //! | `clears` | clears, what comes too late behind one, and what is left of one that fails |
 //! | `crashes` | crashes at each store call, and what is opened behind each |
 //! | `trees` | writes, reads of one key and rotation of a tree |
@@ -48,6 +49,8 @@ mod memtables;
 mod prefixes;
 #[cfg(test)]
 mod samples;
+#[cfg(test)]
+mod strategies;
 #[cfg(test)]
 mod tree_ranges;
 #[cfg(test)]

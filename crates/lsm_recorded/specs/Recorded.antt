@@ -67,7 +67,3 @@ StaysBehind journal journal' old new = (events : List Event) → journal' ≡ jo
 pub record RefusesRecorded {A : Type 0} (least : ℕ) (c : Core) (s : ℕ) (r : Result A Error) : Type 0 where
   pub out_of_order : IsErrOf r OutOfOrder ↔ s < least
   pub refuses : least ≤ s → RefusesRead c s r
-
--- the configuration, with both counters above what was opened
-abbrev pub raised : ℕ → Config → Config
-raised least config = record { id = config.id; seqno = max config.seqno least; visible_seqno = max config.visible_seqno least }

@@ -26,7 +26,7 @@ ghost use Rattle.lsm_recorded.specs.Passes.{Notes};
 ghost use Rattle.lsm_recorded.specs.Closing.{ListTogether};
 
 use crate::closing::list_together;
-use crate::marks::{Mark, is_allowed, mark_write, read_mark, reserve_mark};
+use crate::marks::{Mark, is_allowed, mark_write, read_mark, reserve_mark, share_marked};
 use crate::notes::{make_note, make_notes, mark_notes, put_notes, reserve_notes};
 use crate::pass::{Pass, make_room, note_entry, put_entry};
 use lsm_below::{InternalValue, MemtableId, SeqNo, UserKey, UserValue, ValueType, share};
@@ -191,7 +191,8 @@ impl<S: Store> Recorded<S> {
             return Err(Error::OutOfOrder);
         }
         let value = self.core.get(key.as_slice(), snapshot)?;
-        let entry = read_entry(snapshot, key, &value)?;
+        let key = share_marked(&self.marks, key)?;
+        let entry = read_entry(snapshot, &key, &value)?;
         note_entry(self.alloc, &mut self.journal, &mut pass.entries, entry)?;
         Ok(value)
     }

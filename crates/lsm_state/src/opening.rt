@@ -1,9 +1,12 @@
 // A tree is opened over a store, and gives it back.
-ghost use Rattle.std.specs.Prelude.{◌≡◌, ℕ, Ok, Err, length, IfOk, IfErr};
+ghost use Rattle.std.specs.Prelude.{◌≡◌, ◌≤◌, ℕ, [], Ok, Err, length, IfOk, IfErr};
+ghost use Rattle.lsm_below.specs.Entries.{above};
 ghost use Rattle.lsm_below.specs.Sums.{capped};
 ghost use Rattle.lsm_store.specs.World.{LeavesOnly, Same};
-ghost use Rattle.lsm_model.specs.Journal.{Map};
-ghost use Rattle.lsm_versions.specs.Levels.{Levels as SeenLevels, all_of};
+ghost use Rattle.lsm_model.specs.Journal.{Map, next_number};
+ghost use Rattle.lsm_model.specs.Views.{held};
+ghost use Rattle.lsm_versions.specs.Configs.{raised};
+ghost use Rattle.lsm_versions.specs.Levels.{Levels as SeenLevels, all_of, placed_of};
 ghost use Rattle.lsm_manifest.specs.Recovery.{Levels, CountsStore};
 ghost use Rattle.lsm_manifest.specs.Standing.{HasSmallNumbers, StandsFor};
 ghost use Rattle.lsm_manifest.specs.Told.{Told, TellsOpen};
@@ -24,7 +27,8 @@ use std::alloc::Global;
 
 impl<S: Store> TreeState<S> {
     /// The tree that the files of a store hold, or a new one where there is no `current`. Its memtable is empty, its
-    /// counters start where the configuration says. Files that no version names are removed after all checks. Each
+    /// counters start where the configuration says: start them above all that the store may hold, else what is written is
+    /// hidden by older entries with greater sequence numbers, and lost at the next merge. `open_raised` does so. Files that no version names are removed after all checks. Each
     /// named file is read once; from then on reads make no store call.
     ///
     /// Refused, it gives the store back beside the error.
@@ -60,6 +64,41 @@ impl<S: Store> TreeState<S> {
         images_stand_once();
         let found = TreeState::look(alloc, store)?;
         found.version().facts();
+        found.open(config)
+    }
+
+    /// The tree that the files of a store hold, as `open`, but its counters start above the sequence numbers of all that
+    /// was found, or where the configuration says, if that is higher. So what is written is newer than what is there, and a
+    /// snapshot at the visible counter sees all that is there: this is how a tree is opened again whose counters nobody has
+    /// kept.
+    ///
+    /// # Errors
+    ///
+    /// As `open`.
+    pub fn open_raised(alloc: Global, config: Config, store: S) -> Result<TreeState<S>, (Error, S)>
+        // Both counters stand above what was found, and the order of writes begins there.
+        ensures core { IfOk result (λ t. t.core ≡ opened_core (raised (capped (above (held (placed_of t.core.history.latest.version.levels)))) config) t.core.history.latest.version t.core.next_table) }
+        ensures counted { IfOk result (λ t. next_number (held (placed_of t.core.history.latest.version.levels)) [] ≤ t.core.seqno) }
+        ensures visible { IfOk result (λ t. next_number (held (placed_of t.core.history.latest.version.levels)) [] ≤ t.core.visible_seqno) }
+        // All else is as of `open`.
+        ensures shows { S.tells → (m : Map) → StandsForMap (S.world store).gives m → IfOk result (λ t. StartsWith m t.core) }
+        ensures refuses { S.tells → (m : Map) → StandsForMap (S.world store).gives m → IfErr result (λ e. RefusesFound (S.world store).gives e.0) }
+        ensures stands_for { S.tells → IsSettled (S.world store) → (m : Map) → StandsForMap (S.world store).gives m → LeavesOnly (S.world store) (S.world (store_left result)) (λ image. StandsForMap image m) }
+        ensures stored { S.tells → IsSettled (S.world store) → IfOk result (λ t. IsStored (S.world t.store) (versions_left t.core) (written_of t.core)) }
+        ensures opens { S.tells → Told TellsOpen (Opens (S.world store) (S.world (store_left result))) (files_told result) }
+        ensures leaves { S.tells → LeavesStanding (S.world store) (S.world (store_left result)) }
+        ensures starts { IfOk result (λ t. StartsFrom t.core) }
+        ensures next { IfOk result (λ t. IsAbove t.core.next_table t.core.history.latest.version.levels) }
+        ensures small { IfOk result (λ t. HasSmallNumbers t.core.history.latest.version.levels) }
+        ensures counts { Told TellsOpen (CountsStore (S.world store) (S.world (store_left result))) (files_told result) }
+    {
+        opening_finds(&store);
+        opening_starts();
+        found_tables_show();
+        images_stand_once();
+        let found = TreeState::look(alloc, store)?;
+        found.version().facts();
+        let config = found.raised(config);
         found.open(config)
     }
 
