@@ -1,15 +1,18 @@
 -- Counters that stand above what was found.
-use Rattle.std.proofs.Common.{◌≡◌, ℕ, ◌+◌, ◌^◌, ◌<◌, ◌≤◌, List, [], ◌∷◌, ◌++◌, map, max, refl, ap, ◌∙◌, arith}
+use Rattle.std.proofs.Common.{◌≡◌, ℕ, ◌+◌, ◌^◌, ◌<◌, ◌≤◌, List, [], ◌∷◌, ◌++◌, map, max, Result, Ok, Err, IfOk, refl, ap, ◌∙◌, arith}
 use Rattle.std.specs.List.{AllByRecursion}
 use Rattle.lsm_below.specs.Entries.{Entry, above}
 use Rattle.lsm_below.specs.Optimizes.{tables_of}
 use Rattle.lsm_below.specs.Sums.{capped}
 use Rattle.lsm_tables.specs.Tables.{SeenTable}
-use Rattle.lsm_model.specs.Journal.{next_number}
 use Rattle.lsm_model.specs.Views.{Placed, placed_at, placed_from, held}
 use Rattle.lsm_versions.specs.Levels.{Levels, placed_of, placed_in, shown_table, shown_levels}
 use Rattle.lsm_versions.specs.TableLaws.{map_append, placed_cons, held_both, above-append}
+use Rattle.lsm_versions.specs.Configs.{raised}
+use Rattle.lsm_versions.specs.declared.config.Config.{Config}
 use Rattle.lsm_manifest.specs.Standing.{HasSmallNumbers}
+use Rattle.lsm_state.specs.Core.{Core, Seen, opened_core}
+use Rattle.lsm_state.specs.Opened.{found_entries}
 
 abbrev IsSmall : Entry → Type 0
 IsSmall e = e.key.seqno < 2 ^ 63
@@ -40,6 +43,18 @@ small_levels n [] h = omega arith
 small_levels n (runs ∷ levels) h =
     rw (placed_cons n runs levels) (both (placed_in n (tables_of runs)) (placed_from (n + 1) (shown_levels levels)) (small_runs n runs h.0) (small_levels (n + 1) levels h.1))
 
--- a counter that is raised so stands above all
-pub raised_above : (levels : Levels) (n : ℕ) → HasSmallNumbers levels → next_number (held (placed_of levels)) [] ≤ max n (capped (above (held (placed_of levels))))
-raised_above levels n small = let h = small_levels 0 levels small in omega (arith, h)
+-- a number that is raised so stands above all
+raised_above : (levels : Levels) (n m : ℕ) → HasSmallNumbers levels → m ≡ max n (capped (above (held (placed_of levels)))) → above (held (placed_of levels)) ≤ m
+raised_above levels n m small is = let h = small_levels 0 levels small in omega (arith, h, is)
+
+-- so do both counters of a tree that is opened so
+abbrev IsRaised : Config → Core → Type 0
+IsRaised config c = c ≡ opened_core (raised (capped (above (found_entries c))) config) c.history.latest.version c.next_table
+
+pub seqno_above : {S E : Type 0} (config : Config) (r : Result (Seen S) E) → IfOk r (λ t. IsRaised config t.core) → IfOk r (λ t. HasSmallNumbers t.core.history.latest.version.levels) → IfOk r (λ t. above (found_entries t.core) ≤ t.core.seqno)
+seqno_above config (Ok t) is small = raised_above t.core.history.latest.version.levels config.seqno t.core.seqno small (ap (λ (c : Core). c.seqno) is)
+seqno_above config (Err e) is small = tt
+
+pub visible_above : {S E : Type 0} (config : Config) (r : Result (Seen S) E) → IfOk r (λ t. IsRaised config t.core) → IfOk r (λ t. HasSmallNumbers t.core.history.latest.version.levels) → IfOk r (λ t. above (found_entries t.core) ≤ t.core.visible_seqno)
+visible_above config (Ok t) is small = raised_above t.core.history.latest.version.levels config.visible_seqno t.core.visible_seqno small (ap (λ (c : Core). c.visible_seqno) is)
+visible_above config (Err e) is small = tt

@@ -1,5 +1,5 @@
 // What a store holds of a tree, before anything is changed.
-ghost use Rattle.std.specs.Prelude.{◌≡◌, IfOk};
+ghost use Rattle.std.specs.Prelude.{◌≡◌, IfOk, if◌then◌else◌};
 ghost use Rattle.lsm_below.specs.Entries.{above};
 ghost use Rattle.lsm_below.specs.Sums.{capped};
 ghost use Rattle.lsm_model.specs.Views.{held};
@@ -51,6 +51,13 @@ impl<S: Store> Found<S> {
         ensures { result ≡ raised (capped (above (held (placed_of self.now.files.opened.version.levels)))) config }
     {
         config.raised(self.version().next_seqno())
+    }
+
+    /// The configuration, with its counters above all that was found, or as they are.
+    pub(crate) fn config_for(&self, config: Config, raises: bool) -> Config
+        ensures { result ≡ (if raises then raised (capped (above (held (placed_of self.now.files.opened.version.levels)))) config else config) }
+    {
+        if raises { self.raised(config) } else { config }
     }
 
     /// The store, in exchange.
