@@ -4,11 +4,11 @@
 
 use crate::samples::{Call, make, make_each};
 use lsm_store::{FolderCall, FolderFault, FolderStore, Store, StoreError};
-use std::alloc::{AllocError, Global};
+use std::alloc::Global;
 use std::fs::{self, File, Files};
 use std::io::{self, ErrorKind};
 use std::test::Fail;
-use std::thread::{self, Threads};
+use std::thread;
 
 const FOLDER: &str = "lsm_folder_store_test";
 
@@ -146,21 +146,20 @@ fn a_folder_has_one_owner(rt: HostRuntime) -> Result<(), Fail> {
     Ok(())
 }
 
-/// How many of two stores that are opened at once are there while the other is.
-fn count_owners<R>(rt: &R, alloc: Global, folder: &str) -> Result<usize, AllocError>
-where
-    R: Threads + Sync + Send + Files<File = File> + Alloc + Clone + Drop,
-{
-    let open = |_: usize| FolderStore::new(rt, alloc, folder);
-    let stores = thread::map_indices(rt, alloc, 2, &open)?;
-    Ok(stores.iter().filter(|store| store.is_ok()).count())
+fn count_there<T, E>(opened: &[Result<T, E>]) -> usize {
+    opened.iter().filter(|store| store.is_ok()).count()
 }
 
+/// Of two stores that are opened at once one is there while the other is.
 #[test]
 fn of_two_at_once_one_opens(rt: HostRuntime) -> Result<(), Fail> {
-    let folder = "lsm_folder_store_race";
+    let (alloc, folder) = (rt.alloc(), "lsm_folder_store_race");
+    let open = |_: usize| FolderStore::new(&rt, alloc, folder);
     for _ in 0..20 {
-        assert!(rt; count_owners(&rt, rt.alloc(), folder)? == 1);
+        let opened = thread::map_indices(&rt, alloc, 2, &open)?;
+        let count = count_there(&opened);
+        drop(opened);
+        assert!(rt; count == 1, "{count} owners");
     }
     fs::remove_dir_all(&rt, folder)?;
     Ok(())
