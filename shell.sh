@@ -74,7 +74,7 @@ refuse() {
     exit 2
 }
 
-# Whether a word is text: the program takes no other. It is asked where there is nothing to tell it here.
+# Whether a word is UTF-8, as the program asks. Where iconv is absent, the program is left to say so.
 is_text() {
     command -v iconv > /dev/null || return 0
     printf '%s' "$1" | iconv -f UTF-8 -t UTF-8 > /dev/null 2>&1

@@ -192,8 +192,8 @@ impl<S: Store> Recorded<S> {
             return Err(Error::OutOfOrder);
         }
         let value = self.core.get(key.as_slice(), snapshot)?;
-        let key = share_marked(&self.marks, key)?;
-        let entry = read_entry(snapshot, &key, &value)?;
+        let shared = share_marked(&self.marks, key)?;
+        let entry = read_entry(snapshot, &shared, &value)?;
         note_entry(self.alloc, &mut self.journal, &mut pass.entries, entry)?;
         Ok(value)
     }
