@@ -3,7 +3,7 @@ ghost use Rattle.std.specs.Prelude.{IfOk, IsSome};
 
 use crate::lists::list;
 use crate::merges::{ingest, merge_all};
-use crate::points::{self, Noted, Points};
+use crate::points::{self, Locked, Noted, Points};
 use crate::progress::Progress;
 use crate::report::{Figures, Tally, print_figures};
 use crate::trees::{Slot, Trees, open_locked, open_owned, open_recorded, reopen};
@@ -171,13 +171,21 @@ impl<P: Place> Bench<'_, P> {
         filling: Filling,
     ) -> Result<Figures>
     where
-        R: AllocGlobal + Clone + Clock + Files + Wait,
+        R: AllocGlobal + Clone + Clock + Files,
         ensures { IfOk result (λ _. IsSome slot.new.tree) }
     {
         slot.clear();
         let before = self.resident_bytes(rt)?;
-        let tree = open_owned(self.alloc, self.place.store(self.alloc)?)?;
-        self.fill(rt, slot, tree, filling, before)
+        slot.put(
+            open_owned(self.alloc, self.place.store(self.alloc)?)?,
+            filling,
+        );
+        let Some(tree) = &mut slot.tree else {
+            unreachable!()
+        };
+        let figures = self.fill(rt, tree, filling)?;
+        slot.added = self.resident_bytes(rt)?.saturating_sub(before);
+        Ok(figures)
     }
 
     fn fill_locked<R>(
@@ -190,10 +198,14 @@ impl<P: Place> Bench<'_, P> {
         R: AllocGlobal + Clone + Clock + Files + Wait,
         ensures { IfOk result (λ _. IsSome slot.new.tree) }
     {
-        slot.clear();
-        let before = self.resident_bytes(rt)?;
-        let tree = open_locked(self.alloc, self.place.store(self.alloc)?)?;
-        self.fill(rt, slot, tree, filling, before)
+        slot.put(
+            open_locked(self.alloc, self.place.store(self.alloc)?)?,
+            filling,
+        );
+        let Some(tree) = &slot.tree else {
+            unreachable!()
+        };
+        self.fill(rt, &mut Locked { rt, tree }, filling)
     }
 
     fn fill_recorded<R>(
@@ -203,41 +215,30 @@ impl<P: Place> Bench<'_, P> {
         filling: Filling,
     ) -> Result<Figures>
     where
-        R: AllocGlobal + Clone + Clock + Files + Wait,
+        R: AllocGlobal + Clone + Clock + Files,
         ensures { IfOk result (λ _. IsSome slot.new.tree) }
     {
-        slot.clear();
-        let before = self.resident_bytes(rt)?;
-        let tree = open_recorded(self.alloc, self.place.store(self.alloc)?)?;
-        self.fill(rt, slot, tree, filling, before)
+        slot.put(
+            open_recorded(self.alloc, self.place.store(self.alloc)?)?,
+            filling,
+        );
+        let Some(tree) = &mut slot.tree else {
+            unreachable!()
+        };
+        self.fill(rt, tree, filling)
     }
 
-    /// Fills a tree, and keeps it. So many bytes of this process were in memory before it was opened.
-    fn fill<R, T>(
-        &self,
-        rt: &R,
-        slot: &mut Slot<T>,
-        mut tree: T,
-        filling: Filling,
-        before: u64,
-    ) -> Result<Figures>
-    where
-        R: AllocGlobal + Clone + Clock + Files + Wait,
-        T: Points,
-        ensures { IfOk result (λ _. IsSome slot.new.tree) }
-    {
+    /// Fills a tree.
+    fn fill<R: Clock, T: Points>(&self, rt: &R, tree: &mut T, filling: Filling) -> Result<Figures> {
         let start = Instant::now(rt)?;
-        let tally = points::fill(rt, self.alloc, &mut tree, filling, self.orders)?;
-        let time = start.elapsed(rt)?;
-        let added = self.resident_bytes(rt)?.saturating_sub(before);
-        slot.put(tree, filling, added);
-        Ok(Figures { tally, time })
+        let tally = points::fill(self.alloc, tree, filling, self.orders)?;
+        timed(rt, start, tally)
     }
 
     /// Finds a tree with one owner that was filled so: the one that is left, or a new one.
     fn find<R>(&self, rt: &R, slot: &mut Slot<TreeState<P::Store>>, filling: Filling) -> Result<()>
     where
-        R: AllocGlobal + Clone + Clock + Files + Wait,
+        R: AllocGlobal + Clone + Clock + Files,
         ensures { IfOk result (λ _. IsSome slot.new.tree) }
     {
         if !slot.has(filling) {
@@ -259,13 +260,27 @@ impl<P: Place> Bench<'_, P> {
         R: AllocGlobal + Clone + Clock + Files + Wait,
     {
         match kind {
-            Kind::Owned => {
-                self.find(rt, &mut trees.owned, filling)?;
-                self.get_all(rt, &mut trees.owned, wanted)
-            }
+            Kind::Owned => self.get_owned(rt, &mut trees.owned, filling, wanted),
             Kind::Locked => self.get_locked(rt, &mut trees.locked, filling, wanted),
             Kind::Recorded => self.get_recorded(rt, &mut trees.recorded, filling, wanted),
         }
+    }
+
+    fn get_owned<R>(
+        &self,
+        rt: &R,
+        slot: &mut Slot<TreeState<P::Store>>,
+        filling: Filling,
+        wanted: Wanted,
+    ) -> Result<Figures>
+    where
+        R: AllocGlobal + Clone + Clock + Files,
+    {
+        self.find(rt, slot, filling)?;
+        let Some(tree) = &mut slot.tree else {
+            unreachable!()
+        };
+        self.get_all(rt, tree, wanted)
     }
 
     fn get_locked<R>(
@@ -281,7 +296,10 @@ impl<P: Place> Bench<'_, P> {
         if !slot.has(filling) {
             self.fill_locked(rt, slot, filling)?;
         }
-        self.get_all(rt, slot, wanted)
+        let Some(tree) = &slot.tree else {
+            unreachable!()
+        };
+        self.get_all(rt, &mut Locked { rt, tree }, wanted)
     }
 
     fn get_recorded<R>(
@@ -292,12 +310,26 @@ impl<P: Place> Bench<'_, P> {
         wanted: Wanted,
     ) -> Result<Figures>
     where
-        R: AllocGlobal + Clone + Clock + Files + Wait,
+        R: AllocGlobal + Clone + Clock + Files,
     {
         if !slot.has(filling) {
             self.fill_recorded(rt, slot, filling)?;
         }
-        self.get_all(rt, slot, wanted)
+        let Some(tree) = &mut slot.tree else {
+            unreachable!()
+        };
+        self.get_all(rt, tree, wanted)
+    }
+
+    fn get_all<R: Clock, T: Points>(
+        &self,
+        rt: &R,
+        tree: &mut T,
+        wanted: Wanted,
+    ) -> Result<Figures> {
+        let start = Instant::now(rt)?;
+        let tally = points::get_all(self.alloc, tree, wanted, &self.orders.reads)?;
+        timed(rt, start, tally)
     }
 
     /// The bytes of this process in memory, 0 in a run that has no line for them.
@@ -308,20 +340,6 @@ impl<P: Place> Bench<'_, P> {
         resident_bytes(rt)
     }
 
-    fn get_all<R, T>(&self, rt: &R, slot: &mut Slot<T>, wanted: Wanted) -> Result<Figures>
-    where
-        R: Clock + Wait,
-        T: Points,
-        requires { IsSome slot.old.tree }
-    {
-        let Some(tree) = &mut slot.tree else {
-            unreachable!()
-        };
-        let start = Instant::now(rt)?;
-        let tally = points::get_all(rt, self.alloc, tree, wanted, &self.orders.reads)?;
-        timed(rt, start, tally)
-    }
-
     fn list<R>(
         &self,
         rt: &R,
@@ -330,7 +348,7 @@ impl<P: Place> Bench<'_, P> {
         listing: Listing,
     ) -> Result<Figures>
     where
-        R: AllocGlobal + Clone + Clock + Files + Wait,
+        R: AllocGlobal + Clone + Clock + Files,
     {
         self.find(rt, slot, filling)?;
         let Some(tree) = &slot.tree else {
@@ -344,7 +362,7 @@ impl<P: Place> Bench<'_, P> {
     /// How many bytes a key the tree's puts added to this process. It takes no time.
     fn weigh<R>(&self, rt: &R, slot: &mut Slot<TreeState<P::Store>>) -> Result<Figures>
     where
-        R: AllocGlobal + Clone + Clock + Files + Wait,
+        R: AllocGlobal + Clone + Clock + Files,
     {
         self.find(rt, slot, Filling::Random)?;
         let ops = self.plan.keys;
@@ -358,14 +376,14 @@ impl<P: Place> Bench<'_, P> {
     /// Flushes the active memtable. The check is the bytes that it counted.
     fn flush<R>(&self, rt: &R, slot: &mut Slot<TreeState<P::Store>>) -> Result<Figures>
     where
-        R: AllocGlobal + Clone + Clock + Files + Wait,
+        R: AllocGlobal + Clone + Clock + Files,
     {
         self.find(rt, slot, Filling::Random)?;
         let Some(tree) = &mut slot.tree else {
             unreachable!()
         };
         let start = Instant::now(rt)?;
-        let check = points::flush(rt, tree)?;
+        let check = points::flush(tree)?;
         slot.filling = Filling::Flat;
         let ops = self.plan.keys;
         timed(rt, start, Tally { ops, check })
@@ -380,7 +398,7 @@ impl<P: Place> Bench<'_, P> {
         wanted: Option<Wanted>,
     ) -> Result<Figures>
     where
-        R: AllocGlobal + Clone + Clock + Files + Wait,
+        R: AllocGlobal + Clone + Clock + Files,
     {
         self.find(rt, slot, Filling::Flat)?;
         let start = Instant::now(rt)?;
@@ -389,7 +407,7 @@ impl<P: Place> Bench<'_, P> {
             unreachable!()
         };
         let tally = match wanted {
-            Some(wanted) => points::get_all(rt, self.alloc, tree, wanted, &self.orders.reads)?,
+            Some(wanted) => points::get_all(self.alloc, tree, wanted, &self.orders.reads)?,
             None => Tally {
                 ops: self.plan.keys,
                 check: tree.approximate_len() as u64,
@@ -401,7 +419,7 @@ impl<P: Place> Bench<'_, P> {
     /// Merges all tables of a tree. The check is how many entries are left.
     fn merge<R>(&self, rt: &R, slot: &mut Slot<TreeState<P::Store>>) -> Result<Figures>
     where
-        R: AllocGlobal + Clone + Clock + Files + Wait,
+        R: AllocGlobal + Clone + Clock + Files,
     {
         self.find(rt, slot, Filling::Runs)?;
         let Some(tree) = &mut slot.tree else {
@@ -416,16 +434,16 @@ impl<P: Place> Bench<'_, P> {
     /// Puts all keys into an empty tree, with flushes and compactions in between.
     fn ingest<R>(&self, rt: &R, trees: &mut Trees<P::Store>, way: Ingest) -> Result<Figures>
     where
-        R: AllocGlobal + Clone + Clock + Files + Wait,
+        R: AllocGlobal + Clone + Clock + Files,
     {
         trees.clear();
         let tree = open_owned(self.alloc, self.place.store(self.alloc)?)?;
-        trees.owned.put(tree, Filling::Merged, 0);
+        trees.owned.put(tree, Filling::Merged);
         let Some(tree) = &mut trees.owned.tree else {
             unreachable!()
         };
         let start = Instant::now(rt)?;
-        let tally = ingest(rt, self.alloc, tree, way, &self.orders.puts)?;
+        let tally = ingest(self.alloc, tree, way, &self.orders.puts)?;
         timed(rt, start, tally)
     }
 }

@@ -7,7 +7,6 @@ use crate::workloads::Ingest;
 use lsm_bench_parts::put_len;
 use lsm_tree::{CompactionStrategy, Error, Leveled, SeqNo, Store, TableId, TreeState};
 use std::alloc::Global;
-use std::sync::Wait;
 
 /// A table of a merge ends as soon as its entries have so many bytes: 64 MiB.
 const TARGET: u64 = 67_108_864;
@@ -34,7 +33,6 @@ pub fn merge_all<S: Store>(tree: &mut TreeState<S>, keys: usize) -> Result<Tally
 
 /// Puts keys into a tree in parts, each of which is flushed, and merges tables as it is said.
 pub fn ingest<S: Store>(
-    rt: &impl Wait,
     alloc: Global,
     tree: &mut TreeState<S>,
     way: Ingest,
@@ -42,23 +40,22 @@ pub fn ingest<S: Store>(
 ) -> Result<Tally, Error> {
     match way {
         Ingest::Once => {
-            put_and_flush(rt, alloc, tree, ids)?;
+            put_and_flush(alloc, tree, ids)?;
             merge_all(tree, ids.len())
         }
-        Ingest::Leveled => mix(rt, alloc, tree, ids),
+        Ingest::Leveled => mix(alloc, tree, ids),
     }
 }
 
 /// Puts keys in four parts, and flushes each.
 fn put_and_flush<S: Store>(
-    rt: &impl Wait,
     alloc: Global,
     tree: &mut TreeState<S>,
     ids: &[u64],
 ) -> Result<(), Error> {
     for part in ids.chunks(ids.len().div_ceil(QUARTERS).max(1)) {
-        put_all(rt, alloc, tree, part)?;
-        flush_seen(rt, tree)?;
+        put_all(alloc, tree, part)?;
+        flush_seen(tree)?;
     }
     Ok(())
 }
@@ -75,9 +72,9 @@ fn bytes_from<S: Store>(tree: &TreeState<S>, first: TableId) -> u64 {
 }
 
 /// Flushes what was put, and returns the bytes of the tables that were written.
-fn flush_counted<S: Store>(rt: &impl Wait, tree: &mut TreeState<S>) -> Result<u64, Error> {
+fn flush_counted<S: Store>(tree: &mut TreeState<S>) -> Result<u64, Error> {
     let first = tree.next_table_id();
-    flush_seen(rt, tree)?;
+    flush_seen(tree)?;
     Ok(bytes_from(tree, first))
 }
 
@@ -94,17 +91,12 @@ fn compact_counted<S: Store>(
 
 /// Puts keys in 16 parts; flushes each, and compacts behind it as `Leveled` chooses. The check is the write amplification in
 /// per cent: how many bytes of tables were written for 100 bytes of keys and values.
-fn mix<S: Store>(
-    rt: &impl Wait,
-    alloc: Global,
-    tree: &mut TreeState<S>,
-    ids: &[u64],
-) -> Result<Tally, Error> {
+fn mix<S: Store>(alloc: Global, tree: &mut TreeState<S>, ids: &[u64]) -> Result<Tally, Error> {
     let leveled = Leveled::new(alloc)?;
     let mut written = 0u64;
     for part in ids.chunks(ids.len().div_ceil(PARTS).max(1)) {
-        put_all(rt, alloc, tree, part)?;
-        written = written.saturating_add(flush_counted(rt, tree)?);
+        put_all(alloc, tree, part)?;
+        written = written.saturating_add(flush_counted(tree)?);
         written = written.saturating_add(compact_counted(tree, &leveled)?);
     }
     let put = put_len(ids.len());

@@ -12,25 +12,24 @@ use lsm_tree::{
 use std::alloc::{AllocError, Global};
 use std::sync::Wait;
 
-/// A tree that is written to and read from one key at a time, and flushed. `rt` waits for the lock of one that has a lock.
-pub trait Points: Drop {
+/// A tree that is written to and read from one key at a time, and flushed.
+pub trait Points {
     /// Writes a batch, and returns its sequence number.
-    fn write(&mut self, rt: &impl Wait, ops: Vec<(UserKey, Op)>) -> Result<SeqNo, Error>;
+    fn write(&mut self, ops: Vec<(UserKey, Op)>) -> Result<SeqNo, Error>;
 
     /// The value of a key at a snapshot.
     fn get(
         &mut self,
-        rt: &impl Wait,
         alloc: Global,
         key: &[u8],
         snapshot: SeqNo,
     ) -> Result<Option<UserValue>, Error>;
 
     /// The snapshot that sees every write so far.
-    fn snapshot(&self, rt: &impl Wait) -> SeqNo;
+    fn snapshot(&self) -> SeqNo;
 
     /// Flushes the active memtable at a watermark, and returns the bytes that it counted.
-    fn flush(&mut self, rt: &impl Wait, watermark: SeqNo) -> Result<u64, Error>;
+    fn flush(&mut self, watermark: SeqNo) -> Result<u64, Error>;
 }
 
 /// At this watermark a flush keeps what any snapshot sees.
@@ -49,13 +48,12 @@ fn size_of(flushed: Flushed) -> Result<u64, Error> {
 }
 
 impl<S: Store> Points for TreeState<S> {
-    fn write(&mut self, _rt: &impl Wait, ops: Vec<(UserKey, Op)>) -> Result<SeqNo, Error> {
+    fn write(&mut self, ops: Vec<(UserKey, Op)>) -> Result<SeqNo, Error> {
         self.write(ops)
     }
 
     fn get(
         &mut self,
-        _rt: &impl Wait,
         _alloc: Global,
         key: &[u8],
         snapshot: SeqNo,
@@ -63,36 +61,42 @@ impl<S: Store> Points for TreeState<S> {
         TreeState::get(self, key, snapshot)
     }
 
-    fn snapshot(&self, _rt: &impl Wait) -> SeqNo {
+    fn snapshot(&self) -> SeqNo {
         self.visible_seqno().get()
     }
 
-    fn flush(&mut self, _rt: &impl Wait, watermark: SeqNo) -> Result<u64, Error> {
+    fn flush(&mut self, watermark: SeqNo) -> Result<u64, Error> {
         size_of(self.flush_active_memtable(watermark))
     }
 }
 
-impl<S: Store> Points for Tree<S> {
-    fn write(&mut self, rt: &impl Wait, ops: Vec<(UserKey, Op)>) -> Result<SeqNo, Error> {
-        Tree::write(self, rt, ops)
+/// A tree behind its lock, with what waits for the lock.
+#[derive(Drop)]
+pub struct Locked<'a, R, S: Store> {
+    pub rt: &'a R,
+    pub tree: &'a Tree<S>,
+}
+
+impl<R: Wait, S: Store> Points for Locked<'_, R, S> {
+    fn write(&mut self, ops: Vec<(UserKey, Op)>) -> Result<SeqNo, Error> {
+        self.tree.write(self.rt, ops)
     }
 
     fn get(
         &mut self,
-        rt: &impl Wait,
         _alloc: Global,
         key: &[u8],
         snapshot: SeqNo,
     ) -> Result<Option<UserValue>, Error> {
-        Tree::get(self, rt, key, snapshot)
+        self.tree.get(self.rt, key, snapshot)
     }
 
-    fn snapshot(&self, rt: &impl Wait) -> SeqNo {
-        self.visible_number(rt)
+    fn snapshot(&self) -> SeqNo {
+        self.tree.visible_number(self.rt)
     }
 
-    fn flush(&mut self, rt: &impl Wait, watermark: SeqNo) -> Result<u64, Error> {
-        size_of(self.flush_active_memtable(rt, watermark))
+    fn flush(&mut self, watermark: SeqNo) -> Result<u64, Error> {
+        size_of(self.tree.flush_active_memtable(self.rt, watermark))
     }
 }
 
@@ -104,13 +108,12 @@ pub struct Noted<S: Store> {
 }
 
 impl<S: Store> Points for Noted<S> {
-    fn write(&mut self, _rt: &impl Wait, ops: Vec<(UserKey, Op)>) -> Result<SeqNo, Error> {
+    fn write(&mut self, ops: Vec<(UserKey, Op)>) -> Result<SeqNo, Error> {
         self.tree.write(&mut self.pass, ops)
     }
 
     fn get(
         &mut self,
-        _rt: &impl Wait,
         alloc: Global,
         key: &[u8],
         snapshot: SeqNo,
@@ -119,47 +122,45 @@ impl<S: Store> Points for Noted<S> {
         self.tree.get(&mut self.pass, &key, snapshot)
     }
 
-    fn snapshot(&self, _rt: &impl Wait) -> SeqNo {
+    fn snapshot(&self) -> SeqNo {
         self.tree.visible_seqno().get()
     }
 
-    fn flush(&mut self, _rt: &impl Wait, watermark: SeqNo) -> Result<u64, Error> {
+    fn flush(&mut self, watermark: SeqNo) -> Result<u64, Error> {
         size_of(self.tree.flush_active_memtable(&mut self.pass, watermark))
     }
 }
 
 /// Flushes the active memtable, as `Points::flush`, and keeps what any snapshot sees, so that no memtable goes.
-pub fn flush<T: Points>(rt: &impl Wait, tree: &mut T) -> Result<u64, Error> {
-    tree.flush(rt, KEEP_ALL)
+pub fn flush<T: Points>(tree: &mut T) -> Result<u64, Error> {
+    tree.flush(KEEP_ALL)
 }
 
 /// Flushes the active memtable, and keeps what snapshots from now on see, so that memtables which were flushed before go.
-pub fn flush_seen<T: Points>(rt: &impl Wait, tree: &mut T) -> Result<u64, Error> {
-    let watermark = tree.snapshot(rt);
-    tree.flush(rt, watermark)
+pub fn flush_seen<T: Points>(tree: &mut T) -> Result<u64, Error> {
+    let watermark = tree.snapshot();
+    tree.flush(watermark)
 }
 
 /// Puts as many entries as there are keys into a tree, one after the other. The check is the last sequence number, which
 /// counts the writes before it.
 pub fn fill<T: Points>(
-    rt: &impl Wait,
     alloc: Global,
     tree: &mut T,
     filling: Filling,
     orders: &Orders,
 ) -> Result<Tally, Error> {
     match filling {
-        Filling::Rising => put_all(rt, alloc, tree, &orders.rising),
-        Filling::Random => put_all(rt, alloc, tree, &orders.puts),
-        Filling::Same => put_same(rt, alloc, tree, &orders.rising),
-        Filling::Flat => put_parts(rt, alloc, tree, &orders.puts, 1),
-        Filling::Runs | Filling::Merged => put_parts(rt, alloc, tree, &orders.puts, 4),
+        Filling::Rising => put_all(alloc, tree, &orders.rising),
+        Filling::Random => put_all(alloc, tree, &orders.puts),
+        Filling::Same => put_same(alloc, tree, &orders.rising),
+        Filling::Flat => put_parts(alloc, tree, &orders.puts, 1),
+        Filling::Runs | Filling::Merged => put_parts(alloc, tree, &orders.puts, 4),
     }
 }
 
 /// Puts the key of each id with its value, in so many parts at most, each of which is flushed.
 fn put_parts<T: Points>(
-    rt: &impl Wait,
     alloc: Global,
     tree: &mut T,
     ids: &[u64],
@@ -169,8 +170,8 @@ fn put_parts<T: Points>(
 {
     let mut check = 0;
     for part in ids.chunks(ids.len().div_ceil(parts).max(1)) {
-        check = put_all(rt, alloc, tree, part)?.check;
-        flush_seen(rt, tree)?;
+        check = put_all(alloc, tree, part)?.check;
+        flush_seen(tree)?;
     }
     Ok(Tally {
         ops: ids.len(),
@@ -179,15 +180,10 @@ fn put_parts<T: Points>(
 }
 
 /// Puts the key of each id with its value.
-pub fn put_all<T: Points>(
-    rt: &impl Wait,
-    alloc: Global,
-    tree: &mut T,
-    ids: &[u64],
-) -> Result<Tally, Error> {
+pub fn put_all<T: Points>(alloc: Global, tree: &mut T, ids: &[u64]) -> Result<Tally, Error> {
     let mut check = 0;
     for id in ids {
-        check = tree.write(rt, set(alloc, *id, *id)?)?;
+        check = tree.write(set(alloc, *id, *id)?)?;
     }
     Ok(Tally {
         ops: ids.len(),
@@ -196,15 +192,10 @@ pub fn put_all<T: Points>(
 }
 
 /// Puts the key of id 0 with the value of each id.
-fn put_same<T: Points>(
-    rt: &impl Wait,
-    alloc: Global,
-    tree: &mut T,
-    ids: &[u64],
-) -> Result<Tally, Error> {
+fn put_same<T: Points>(alloc: Global, tree: &mut T, ids: &[u64]) -> Result<Tally, Error> {
     let mut check = 0;
     for id in ids {
-        check = tree.write(rt, set(alloc, 0, *id)?)?;
+        check = tree.write(set(alloc, 0, *id)?)?;
     }
     Ok(Tally {
         ops: ids.len(),
@@ -223,20 +214,19 @@ fn set(alloc: Global, key: u64, value: u64) -> Result<Vec<(UserKey, Op)>, AllocE
 
 /// Gets a key for each id, one after the other. The check is the sum of the lengths of their values.
 pub fn get_all<T: Points>(
-    rt: &impl Wait,
     alloc: Global,
     tree: &mut T,
     wanted: Wanted,
     ids: &[u64],
 ) -> Result<Tally, Error> {
-    let snapshot = tree.snapshot(rt);
+    let snapshot = tree.snapshot();
     let mut check = 0u64;
     for id in ids {
         let key = match wanted {
             Wanted::Present => key_of(*id),
             Wanted::Absent => absent_key_of(*id),
         };
-        if let Some(value) = tree.get(rt, alloc, &key, snapshot)? {
+        if let Some(value) = tree.get(alloc, &key, snapshot)? {
             check = check.wrapping_add(value.len() as u64);
         }
     }

@@ -47,7 +47,7 @@ pub fn open_recorded<S: Store>(alloc: Global, store: S) -> Result<Noted<S>, Erro
 pub struct Slot<T> {
     pub tree: Option<T>,
     pub filling: Filling,
-    /// The bytes that the puts added to this process.
+    /// The bytes that the puts added to this process, of a tree with one owner.
     pub added: u64,
 }
 
@@ -65,12 +65,12 @@ impl<T: Drop> Slot<T> {
     }
 
     /// Keeps a tree, in the place of the one before.
-    pub fn put(&mut self, tree: T, filling: Filling, added: u64)
+    pub fn put(&mut self, tree: T, filling: Filling)
         ensures { IsSome self.new.tree }
     {
         drop(self.tree.replace(tree));
         self.filling = filling;
-        self.added = added;
+        self.added = 0;
     }
 
     /// Whether there is a tree that was filled so.
@@ -121,6 +121,6 @@ pub fn reopen<S: Store>(alloc: Global, slot: &mut Slot<TreeState<S>>) -> Result<
         unreachable!()
     };
     let tree = reopened(alloc, tree)?;
-    slot.put(tree, slot.filling, slot.added);
+    slot.put(tree, slot.filling);
     Ok(())
 }
