@@ -59,7 +59,7 @@ where
             let opened = open_folder(rt, alloc, folder);
             answer_lines(alloc, opened, console)
         }
-        Mode::Threads(callers) => report_callers(rt, alloc, callers, console.output),
+        Mode::Threads(callers) => report_callers(rt, alloc, callers, console),
     };
     told.unwrap_or(FAULT)
 }
@@ -83,11 +83,19 @@ where
 }
 
 /// Starts the callers, prints what came of it, and gives the status.
-fn report_callers<P, W>(rt: &P, alloc: Global, callers: u8, mut output: W) -> io::Result<u8>
+fn report_callers<P, R, W, E>(
+    rt: &P,
+    alloc: Global,
+    callers: u8,
+    mut console: Console<R, W, E>,
+) -> io::Result<u8>
 where
     P: Threads + Wait + Sync,
+    R: Read + Drop,
     W: Write + Drop,
+    E: Write + Drop,
 {
+    let output = &mut console.output;
     let status = match call_all(rt, alloc, callers) {
         Ok(Some(entries)) => {
             writeln!(output, "threads {callers} entries {entries} all equal")?;
