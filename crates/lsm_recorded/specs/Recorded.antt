@@ -1,5 +1,5 @@
 -- A tree with the journal of its calls, and what always holds of it.
-use Rattle.std.specs.Prelude.{◌≡◌, ℕ, ◌<◌, ◌≤◌, ◌⊎◌, ◌↔◌, ◌++◌, max, List, [], Result, Err, IsErrOf}
+use Rattle.std.specs.Prelude.{◌≡◌, ℕ, ◌<◌, ◌≤◌, ◌⊎◌, ◌↔◌, ◌++◌, List, [], Result, Err, IsErrOf}
 use Rattle.std.specs.BTreeMap.{BTreeMap}
 use Rattle.std.specs.List.{AllByRecursion}
 use Rattle.lsm_model.specs.Views.{Placed, held}
@@ -12,7 +12,6 @@ use Rattle.lsm_model.specs.Steps.{ReadsEqualReplay, StaysAt}
 use Rattle.lsm_model.specs.Sound.{Holds}
 use Rattle.lsm_below.specs.declared.error.Error.{Error}
 use Rattle.lsm_below.specs.declared.error.Error.TheVariants.{OutOfMemory, OutOfOrder}
-use Rattle.lsm_versions.specs.declared.config.Config.{Config}
 use Rattle.lsm_state.specs.Core.{Core, Seen, state_of}
 use Rattle.lsm_state.specs.Calls.{RefusesRead}
 use Rattle.lsm_state.specs.CompactionDeeds.{IsMarkedIn}

@@ -1,6 +1,5 @@
 // The calls of a compaction, of a tree behind the lock.
 ghost use Rattle.std.specs.Prelude.{◌≡◌, ◌↔◌, ℕ, true, IfOk, IfErr, IsTrue};
-ghost use Rattle.lsm_merges.specs.Merges.{SeenCompaction};
 ghost use Rattle.lsm_merges.specs.OpenMerges.{hides};
 ghost use Rattle.lsm_state.specs.Compactions.{BeginsChoice, BeginsCompaction, Finishes, Spends};
 ghost use Rattle.lsm_state.specs.WholeCompactions.{Compacts, DropsRange, options_at, only_memory, major_choice};

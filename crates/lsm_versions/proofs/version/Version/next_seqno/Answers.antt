@@ -1,8 +1,5 @@
-use Rattle.std.proofs.Common.{◌≡◌, ◌+◌, ℕ, ap, ◌∙◌, sym, subst, arith}
-use Rattle.lsm_below.specs.Entries.{above}
+use Rattle.std.proofs.Common.{◌≡◌, ◌+◌, ℕ, ap, ◌∙◌, arith}
 use Rattle.lsm_below.specs.Sums.{capped}
-use Rattle.lsm_model.specs.Views.{held}
-use Rattle.lsm_versions.specs.Levels.{SeenVersion, placed_of}
 use Rattle.lsm_versions.specs.declared.totals.Totals.{Totals}
 use Rattle.lsm_versions.proofs.Numbers.{above_none, above_some}
 use Rattle.lsm_versions.proofs.version.Version.next_seqno.Goals as goal

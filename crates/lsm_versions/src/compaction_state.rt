@@ -1,9 +1,9 @@
 // What a strategy is told of the open jobs.
 ghost use Rattle.std.specs.Prelude.{◌≡◌, []};
 ghost use Rattle.std.specs.Borrow.{sem};
-ghost use Rattle.lsm_pick.specs.Lending.{LendsHidden};
+ghost use Rattle.lsm_versions.specs.Lending.{LendsHidden};
 
-use lsm_versions::HiddenSet;
+use crate::HiddenSet;
 use std::alloc::Global;
 use std::marker::Model;
 
