@@ -5,8 +5,6 @@
 #[cfg(test)]
 mod clears;
 #[cfg(test)]
-mod compaction_steps;
-#[cfg(test)]
 mod compactions;
 #[cfg(test)]
 mod flushes;
@@ -15,10 +13,6 @@ mod gates;
 #[cfg(test)]
 mod handles;
 #[cfg(test)]
-mod lives;
-#[cfg(test)]
 mod recorded;
-#[cfg(test)]
-mod runs;
 #[cfg(test)]
 mod samples;
