@@ -1,6 +1,6 @@
 // That no lock is held while a gate has a job.
-use crate::calls::text;
-use crate::shared::{open_shared, set};
+use crate::calls::{Call, Count, FLUSHED_0, Flush, Key, Row};
+use crate::shared::{first_wrong_on, open_shared};
 use lsm_tree::{Begun, CompactionJob, Error, Gate, Major, MergedCompaction, Tree};
 use std::alloc::{AllocError, Global};
 use std::sync::{Arc, Mutex, Wait};
@@ -8,20 +8,14 @@ use std::test::Fail;
 use std::thread;
 
 /// a = x, in a table.
-fn set_in_table(rt: &impl Wait, alloc: Global, tree: &Tree) -> Result<(), Error> {
-    set(rt, alloc, tree, "a", "x")?;
-    match tree.flush_active_memtable(rt, 0) {
-        Ok(_) => Ok(()),
-        Err((error, _)) => Err(error),
-    }
-}
+const FILLED: [Row; 2] = [
+    (Call::Set("a", "x"), "Ok(0)"),
+    (Call::Flush(Flush::Active(0)), FLUSHED_0),
+];
 
-fn shows(rt: &impl Wait, tree: &Tree, snapshot: u64) -> bool {
-    match tree.get(rt, b"a", snapshot) {
-        Ok(found) => found == Some(text("x")),
-        Err(_) => false,
-    }
-}
+const FOUND: [Row; 1] = [(Call::Key(Key::Get, "a", 2), "Ok(Some(b\"x\"))")];
+
+const MERGED: [Row; 1] = [(Call::Count(Count::Level(6)), "Some(1)")];
 
 /// How often a flag is looked at.
 const TURNS: u32 = 10_000_000;
@@ -81,27 +75,26 @@ fn merges_behind_get<R: Wait>(rt: &R, tree: &Tree, flags: &Flags) -> bool {
 }
 
 /// Whether a = x is read while the gate has the job.
-fn reads_meanwhile(rt: &impl Wait, tree: &Tree, flags: &Flags) -> bool {
+fn reads_meanwhile(rt: &impl Wait, alloc: Global, tree: &Tree, flags: &Flags) -> bool {
     let is_begun = is_raised(rt, &flags.begun);
-    let is_found = shows(rt, tree, 2);
+    let right = first_wrong_on(rt, alloc, tree, &FOUND);
     raise(rt, &flags.answered);
-    is_begun && is_found
+    is_begun && right == 1
 }
 
 #[test]
 fn no_lock_is_held_while_a_gate_has_the_job(rt: HostRuntime) -> Result<(), Fail> {
     let alloc = rt.alloc();
     let tree = open_shared(alloc)?;
-    let filled = set_in_table(&rt, alloc, &tree);
-    assert!(rt; matches!(filled, Ok(())));
+    assert_eq!(rt; first_wrong_on(&rt, alloc, &tree, &FILLED), 2);
     let flags = lower_flags(alloc)?;
     let (one, ones) = (tree.clone()?, Arc::try_clone(&flags)?);
     let (two, twos) = (tree.clone()?, Arc::try_clone(&flags)?);
     let merge = thread::spawn(&rt, move || merges_behind_get(&rt, &one, &ones))?;
-    let read = thread::spawn(&rt, move || reads_meanwhile(&rt, &two, &twos))?;
+    let read = thread::spawn(&rt, move || reads_meanwhile(&rt, alloc, &two, &twos))?;
     let (merged, found) = (merge.join(&rt), read.join(&rt));
     assert!(rt; merged && found);
-    assert!(rt; tree.level_table_count(&rt, 6) == Some(1));
+    assert_eq!(rt; first_wrong_on(&rt, alloc, &tree, &MERGED), 1);
     drop(flags);
     drop(tree);
     Ok(())

@@ -43,12 +43,29 @@ const WRITES: [Row; 5] = [
     (Call::Count(Count::Visible), "1"),
 ];
 
+/// a is flushed and b isn't: what isn't flushed is forgotten, and then all.
+const CLEARS: [Row; 11] = [
+    (Call::Set("a", "x"), "Ok(0)"),
+    (Call::Flush(Flush::Active(0)), FLUSHED_0),
+    (Call::Set("b", "x"), "Ok(2)"),
+    (Call::Bare(Bare::Forget), "Ok(())"),
+    (Call::Key(Key::Contains, "a", 3), "Ok(true)"),
+    (Call::Key(Key::Contains, "b", 3), "Ok(false)"),
+    (Call::Bare(Bare::Clear), "Ok(3)"),
+    (Call::Key(Key::Contains, "a", 4), "Ok(false)"),
+    (Call::Key(Key::Contains, "a", 3), "Ok(true)"),
+    (Call::Count(Count::Tables), "0"),
+    (Call::Count(Count::Visible), "4"),
+];
+
 #[test]
-fn a_shared_tree_is_written_in_each_way(rt: HostRuntime) -> Result<(), Fail> {
-    assert_eq!(rt; first_wrong(&rt, rt.alloc(), &ITSELF)?, 5);
-    assert_eq!(rt; first_wrong(&rt, rt.alloc(), &COUNTERS)?, 5);
-    assert_eq!(rt; first_wrong(&rt, rt.alloc(), &NUMBERS)?, 7);
-    assert_eq!(rt; first_wrong(&rt, rt.alloc(), &WRITES)?, 5);
+fn a_shared_tree_is_written_and_cleared(rt: HostRuntime) -> Result<(), Fail> {
+    let alloc = rt.alloc();
+    assert_eq!(rt; first_wrong(&rt, alloc, &ITSELF)?, 5);
+    assert_eq!(rt; first_wrong(&rt, alloc, &COUNTERS)?, 5);
+    assert_eq!(rt; first_wrong(&rt, alloc, &NUMBERS)?, 7);
+    assert_eq!(rt; first_wrong(&rt, alloc, &WRITES)?, 5);
+    assert_eq!(rt; first_wrong(&rt, alloc, &CLEARS)?, 11);
     Ok(())
 }
 
@@ -146,27 +163,6 @@ fn a_shared_tree_is_flushed(rt: HostRuntime) -> Result<(), Fail> {
     assert_eq!(rt; first_wrong(&rt, rt.alloc(), &FLUSH_IN_PARTS)?, 8);
     assert_eq!(rt; first_wrong(&rt, rt.alloc(), &FLUSH_AGAIN)?, 7);
     assert_eq!(rt; first_wrong(&rt, rt.alloc(), &COUNTS)?, 17);
-    Ok(())
-}
-
-/// a is flushed and b isn't: what isn't flushed is forgotten, and then all.
-const CLEARS: [Row; 11] = [
-    (Call::Set("a", "x"), "Ok(0)"),
-    (Call::Flush(Flush::Active(0)), FLUSHED_0),
-    (Call::Set("b", "x"), "Ok(2)"),
-    (Call::Bare(Bare::Forget), "Ok(())"),
-    (Call::Key(Key::Contains, "a", 3), "Ok(true)"),
-    (Call::Key(Key::Contains, "b", 3), "Ok(false)"),
-    (Call::Bare(Bare::Clear), "Ok(3)"),
-    (Call::Key(Key::Contains, "a", 4), "Ok(false)"),
-    (Call::Key(Key::Contains, "a", 3), "Ok(true)"),
-    (Call::Count(Count::Tables), "0"),
-    (Call::Count(Count::Visible), "4"),
-];
-
-#[test]
-fn a_shared_tree_is_cleared(rt: HostRuntime) -> Result<(), Fail> {
-    assert_eq!(rt; first_wrong(&rt, rt.alloc(), &CLEARS)?, 11);
     Ok(())
 }
 

@@ -3,7 +3,7 @@
 use crate::calls::{
     Bare, Call, Compact, Count, FLUSHED, FLUSHED_0, FLUSHED_1, Flush, Gated, Key, REGISTERED, Row,
 };
-use crate::noted::first_wrong_noted;
+use crate::noted::first_wrong;
 use crate::notes::Note;
 use std::test::Fail;
 
@@ -48,21 +48,30 @@ const LISTS_NOTES: [Note; 4] = [
     Note::Read(1, "Pairs(KvPairs { list: [(b\"a\", b\"x\")] })"),
 ];
 
+const CLEARS: [Row; 3] = [
+    (Call::Set("a", "x"), "Ok(0)"),
+    (Call::Bare(Bare::Clear), "Ok(1)"),
+    (Call::Key(Key::Get, "a", 2), "Ok(None)"),
+];
+
+const CLEARS_NOTES: [Note; 3] = [Note::Write, Note::Clear(1), Note::Read(2, "Found(None)")];
+
 #[test]
-fn writes_and_reads_are_noted(rt: HostRuntime) -> Result<(), Fail> {
+fn writes_reads_and_clears_are_noted(rt: HostRuntime) -> Result<(), Fail> {
     let alloc = rt.alloc();
-    assert_eq!(rt; first_wrong_noted(&rt, alloc, 0, &ITSELF, &[])?, Some(3));
+    assert_eq!(rt; first_wrong(&rt, alloc, 0, &ITSELF, &[])?, Some(3));
     assert_eq!(rt;
-        first_wrong_noted(&rt, alloc, 0, &OWN_WRITE, &OWN_WRITE_NOTES)?,
+        first_wrong(&rt, alloc, 0, &OWN_WRITE, &OWN_WRITE_NOTES)?,
         Some(2)
     );
     assert_eq!(rt;
-        first_wrong_noted(&rt, alloc, 3, &WRITES, &WRITES_NOTES)?,
+        first_wrong(&rt, alloc, 3, &WRITES, &WRITES_NOTES)?,
         Some(5)
     );
+    assert_eq!(rt; first_wrong(&rt, alloc, 0, &LISTS, &LISTS_NOTES)?, Some(4));
     assert_eq!(rt;
-        first_wrong_noted(&rt, alloc, 0, &LISTS, &LISTS_NOTES)?,
-        Some(4)
+        first_wrong(&rt, alloc, 0, &CLEARS, &CLEARS_NOTES)?,
+        Some(3)
     );
     Ok(())
 }
@@ -92,23 +101,8 @@ const FLUSHES_NOTES: [Note; 9] = [
 
 #[test]
 fn flushes_are_noted(rt: HostRuntime) -> Result<(), Fail> {
-    let found = first_wrong_noted(&rt, rt.alloc(), 0, &FLUSHES, &FLUSHES_NOTES)?;
+    let found = first_wrong(&rt, rt.alloc(), 0, &FLUSHES, &FLUSHES_NOTES)?;
     assert_eq!(rt; found, Some(7));
-    Ok(())
-}
-
-const CLEARS: [Row; 3] = [
-    (Call::Set("a", "x"), "Ok(0)"),
-    (Call::Bare(Bare::Clear), "Ok(1)"),
-    (Call::Key(Key::Get, "a", 2), "Ok(None)"),
-];
-
-const CLEARS_NOTES: [Note; 3] = [Note::Write, Note::Clear(1), Note::Read(2, "Found(None)")];
-
-#[test]
-fn a_clear_behind_the_lock_is_noted(rt: HostRuntime) -> Result<(), Fail> {
-    let found = first_wrong_noted(&rt, rt.alloc(), 0, &CLEARS, &CLEARS_NOTES)?;
-    assert_eq!(rt; found, Some(3));
     Ok(())
 }
 
@@ -193,11 +187,11 @@ const GATES_NOTES: [Note; 6] = [
 #[test]
 fn compactions_are_noted(rt: HostRuntime) -> Result<(), Fail> {
     let alloc = rt.alloc();
-    let found = first_wrong_noted(&rt, alloc, 0, &COMPACTIONS, &COMPACTIONS_NOTES)?;
+    let found = first_wrong(&rt, alloc, 0, &COMPACTIONS, &COMPACTIONS_NOTES)?;
     assert_eq!(rt; found, Some(9));
-    let found = first_wrong_noted(&rt, alloc, 0, &ONE_CALL, &ONE_CALL_NOTES)?;
+    let found = first_wrong(&rt, alloc, 0, &ONE_CALL, &ONE_CALL_NOTES)?;
     assert_eq!(rt; found, Some(8));
-    let found = first_wrong_noted(&rt, alloc, 0, &GATES, &GATES_NOTES)?;
+    let found = first_wrong(&rt, alloc, 0, &GATES, &GATES_NOTES)?;
     assert_eq!(rt; found, Some(7));
     Ok(())
 }

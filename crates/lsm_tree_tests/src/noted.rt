@@ -91,7 +91,7 @@ fn answers(rt: &impl Wait, alloc: Global, tree: &RecordedTree, pass: &mut Pass, 
 }
 
 /// The first row that a tree doesn't answer so, or how many rows there are.
-pub(crate) fn first_wrong(
+pub(crate) fn first_wrong_on(
     rt: &impl Wait,
     alloc: Global,
     tree: &RecordedTree,
@@ -123,8 +123,8 @@ fn closes(rt: &impl Wait, alloc: Global, tree: &RecordedTree, pass: Pass, notes:
     }
 }
 
-/// The first row that a new tree doesn't answer so, or how many rows there are. None where its calls note something else.
-pub(crate) fn first_wrong_noted(
+/// The same of a new tree. None where its calls note something else.
+pub(crate) fn first_wrong(
     rt: &impl Wait,
     alloc: Global,
     number: SeqNo,
@@ -133,7 +133,7 @@ pub(crate) fn first_wrong_noted(
 ) -> Result<Option<usize>, Error> {
     let tree = open_noted(alloc, number)?;
     let mut pass = Pass::new(alloc);
-    let right = first_wrong(rt, alloc, &tree, &mut pass, rows);
+    let right = first_wrong_on(rt, alloc, &tree, &mut pass, rows);
     let is_passed = are_passed(alloc, &pass, notes);
     let is_closed = closes(rt, alloc, &tree, pass, notes);
     drop(tree);

@@ -1,18 +1,18 @@
 // The calls of a row on a recorded tree with one owner.
 use crate::calls::{
-    AT_0, Bare, Call, Compact, Count, Flush, Key, Row, compacted, everything, job_of, merged, says,
-    text,
+    AT_0, Bare, Call, Compact, Count, Flush, Key, List, Row, Walk, compacted, everything, job_of,
+    merged, says, text,
 };
 use crate::notes::{Note, are_noted, are_passed};
 use lsm_tree::{
-    Begun, Config, Error, Finished, InternalValue, Leveled, Major, MemStore, Op, Pass, Recorded,
-    SeqNo,
+    Begun, Config, Error, Finished, Guard, InternalValue, IterGuard, Leveled, Major, MemStore, Op,
+    Pass, Recorded, SeqNo, TreeIter,
 };
 use std::alloc::Global;
 use std::ops::Bound;
 
 /// A new tree, whose counters start at this number.
-pub(crate) fn open_recorded(alloc: Global, number: SeqNo) -> Result<Recorded, Error> {
+fn open_recorded(alloc: Global, number: SeqNo) -> Result<Recorded, Error> {
     match Recorded::open(alloc, Config::new(0, number, number), MemStore::new(alloc)) {
         Ok(tree) => Ok(tree),
         Err((error, _)) => Err(error),
@@ -113,6 +113,29 @@ fn compacts(
 
 // ---- rows
 
+/// Whether a pair of this key is given.
+fn has_key(pair: Option<Guard>, name: &[u8]) -> bool {
+    match pair {
+        Some(guard) => match guard.key() {
+            Ok(key) => key.as_slice() == name,
+            Err(_) => false,
+        },
+        None => false,
+    }
+}
+
+/// Whether the iterator gives the keys `a` and `ab` alone, the greater first.
+fn gives_two(iter: Result<TreeIter, Error>) -> bool {
+    match iter {
+        Ok(mut iter) => {
+            has_key(iter.next_back(), b"ab")
+                && has_key(iter.next_back(), b"a")
+                && iter.next_back().is_none()
+        }
+        Err(_) => false,
+    }
+}
+
 fn answers(alloc: Global, tree: &mut Recorded, pass: &mut Pass, row: &Row) -> bool {
     let told = row.1;
     match &row.0 {
@@ -142,29 +165,19 @@ fn answers(alloc: Global, tree: &mut Recorded, pass: &mut Pass, row: &Row) -> bo
             says(alloc, tree.flush_active_memtable(pass, *watermark), told)
         }
         Call::Compact(what) => compacts(alloc, tree, pass, what, told),
+        Call::List(List::Walk(Walk::CreateRange)) => {
+            let bounds = (Bound::Included(text("a")), Bound::Excluded(text("b")));
+            says(alloc, gives_two(tree.create_range(&bounds, 3)), told)
+        }
+        Call::List(List::Walk(Walk::CreatePrefix)) => {
+            says(alloc, gives_two(tree.create_prefix(&text("a"), 3)), told)
+        }
         _ => false,
     }
 }
 
-/// The first row that a tree doesn't answer so, or how many rows there are.
-pub(crate) fn first_wrong(
-    alloc: Global,
-    tree: &mut Recorded,
-    pass: &mut Pass,
-    rows: &[Row],
-) -> usize {
-    let mut right: usize = 0;
-    for row in rows {
-        if !answers(alloc, tree, pass, row) {
-            break;
-        }
-        right = right.saturating_add(1);
-    }
-    right
-}
-
 /// The first row that a new tree doesn't answer so, or how many rows there are. None where its calls note something else.
-pub(crate) fn first_wrong_noted(
+pub(crate) fn first_wrong(
     alloc: Global,
     number: SeqNo,
     rows: &[Row],
@@ -172,7 +185,13 @@ pub(crate) fn first_wrong_noted(
 ) -> Result<Option<usize>, Error> {
     let mut tree = open_recorded(alloc, number)?;
     let mut pass = Pass::new(alloc);
-    let right = first_wrong(alloc, &mut tree, &mut pass, rows);
+    let mut right: usize = 0;
+    for row in rows {
+        if !answers(alloc, &mut tree, &mut pass, row) {
+            break;
+        }
+        right = right.saturating_add(1);
+    }
     let is_so = are_passed(alloc, &pass, notes) && are_noted(alloc, tree.journal(), notes);
     drop(pass);
     drop(tree);

@@ -1,6 +1,6 @@
 // Two callers, and for which passes a journal is given out.
 use crate::calls::{Call, Key, Row, text};
-use crate::noted::{first_wrong, one_pass, open_noted, set};
+use crate::noted::{first_wrong_on, one_pass, open_noted, set};
 use lsm_tree::{Answer, Error, JournalEntry, Pass, Question, RecordedTree, UserValue};
 use std::alloc::Global;
 use std::sync::Wait;
@@ -124,8 +124,8 @@ fn answers_elsewhere(
         return false;
     };
     let mut dropped = Pass::new(alloc);
-    let is_right = first_wrong(rt, alloc, &tree, &mut dropped, before) == before.len()
-        && first_wrong(rt, alloc, &tree, pass, rows) == rows.len();
+    let is_right = first_wrong_on(rt, alloc, &tree, &mut dropped, before) == before.len()
+        && first_wrong_on(rt, alloc, &tree, pass, rows) == rows.len();
     drop(dropped);
     drop(tree);
     is_right
@@ -136,23 +136,31 @@ fn has_places(pass: &Pass, places: [u64; 2]) -> bool {
     pass.entries().iter().map(|noted| noted.0).eq(places)
 }
 
-/// Whether a pass with the entries of `OWN_WRITE` is given back, of which one is another.
-fn gives_back_altered(rt: &impl Wait, alloc: Global, tree: &RecordedTree) -> bool {
+/// The rows of another tree whose entries are dropped, and those behind them whose entries a pass has.
+type Elsewhere = (&'static [Row], &'static [Row]);
+
+/// One of the entries of `OWN_WRITE` is another.
+const ONE_ALTERED: [Elsewhere; 1] = [(&[], &ALTERED)];
+
+/// The read comes before the write: of calls on two other trees.
+const REVERSED: [Elsewhere; 2] = [(&SET, &GET), (&[], &SET)];
+
+/// Whether a pass with entries of other trees, at these places, is given back.
+fn is_given_back(
+    rt: &impl Wait,
+    alloc: Global,
+    tree: &RecordedTree,
+    trees: &[Elsewhere],
+    places: [u64; 2],
+) -> bool {
     let mut pass = Pass::new(alloc);
-    let is_made = answers_elsewhere(rt, alloc, &mut pass, &[], &ALTERED);
-    let is_placed = has_places(&pass, [0, 1]);
+    let mut is_made = true;
+    for (before, rows) in trees {
+        is_made = is_made && answers_elsewhere(rt, alloc, &mut pass, before, rows);
+    }
+    let is_placed = has_places(&pass, places);
     let back = given_back(rt, tree, one_pass(alloc, pass));
     is_made && is_placed && back == Some(1)
-}
-
-/// Whether one is given back with the read before the write: of calls on two other trees.
-fn gives_back_reversed(rt: &impl Wait, alloc: Global, tree: &RecordedTree) -> bool {
-    let mut pass = Pass::new(alloc);
-    let is_read = answers_elsewhere(rt, alloc, &mut pass, &SET, &GET);
-    let is_set = answers_elsewhere(rt, alloc, &mut pass, &[], &SET);
-    let is_placed = has_places(&pass, [1, 0]);
-    let back = given_back(rt, tree, one_pass(alloc, pass));
-    is_read && is_set && is_placed && back == Some(1)
 }
 
 /// Whether two are given back that have the same entries.
@@ -168,7 +176,7 @@ fn gives_back_doubled(rt: &impl Wait, alloc: Global, tree: &RecordedTree) -> boo
 /// Whether a pass of this tree is given back, while that of other calls is missing.
 fn gives_back_alone(rt: &impl Wait, alloc: Global, tree: &RecordedTree, pass: Pass) -> bool {
     let mut other = Pass::new(alloc);
-    let right = first_wrong(rt, alloc, tree, &mut other, &OTHER_WRITE);
+    let right = first_wrong_on(rt, alloc, tree, &mut other, &OTHER_WRITE);
     drop(other);
     right == 2 && given_back(rt, tree, one_pass(alloc, pass)) == Some(1)
 }
@@ -178,9 +186,9 @@ fn passes_that_list_something_else_are_given_back(rt: HostRuntime) -> Result<(),
     let alloc = rt.alloc();
     let tree = open_noted(alloc, 0)?;
     let mut pass = Pass::new(alloc);
-    assert_eq!(rt; first_wrong(&rt, alloc, &tree, &mut pass, &OWN_WRITE), 2);
-    assert!(rt; gives_back_altered(&rt, alloc, &tree));
-    assert!(rt; gives_back_reversed(&rt, alloc, &tree));
+    assert_eq!(rt; first_wrong_on(&rt, alloc, &tree, &mut pass, &OWN_WRITE), 2);
+    assert!(rt; is_given_back(&rt, alloc, &tree, &ONE_ALTERED, [0, 1]));
+    assert!(rt; is_given_back(&rt, alloc, &tree, &REVERSED, [1, 0]));
     assert!(rt; gives_back_doubled(&rt, alloc, &tree));
     assert!(rt; gives_back_alone(&rt, alloc, &tree, pass));
     drop(tree);

@@ -1,11 +1,9 @@
 // What no contract says: that calls succeed where memory is ample, and are noted with their places.
 use crate::calls::{
-    Bare, Call, Compact, Count, FLUSHED_0, FLUSHED_1, FLUSHED_2, Flush, Key, Row, text,
+    Bare, Call, Compact, Count, FLUSHED_0, FLUSHED_1, FLUSHED_2, Flush, Key, List, Row, Walk,
 };
 use crate::notes::Note;
-use crate::owned::{first_wrong, first_wrong_noted, open_recorded};
-use lsm_tree::{Error, Guard, IterGuard, Pass, Recorded, TreeIter};
-use std::ops::Bound;
+use crate::owned::first_wrong;
 use std::test::Fail;
 
 /// A number that isn't above the earlier one of the key, or not below the counter, is refused.
@@ -23,7 +21,7 @@ const REMOVALS: [Row; 3] = [
     (Call::Key(Key::Append, "d", 0), "Ok((49, 147))"),
 ];
 
-const REMOVALS_NOTES: [Note; 3] = [Note::Write, Note::Write, Note::Write];
+const THREE_WRITES: [Note; 3] = [Note::Write, Note::Write, Note::Write];
 
 /// A weakly removed key has one value.
 const WEAK: [Row; 4] = [
@@ -33,21 +31,34 @@ const WEAK: [Row; 4] = [
     (Call::Count(Count::Visible), "2"),
 ];
 
+/// No write comes below a clear.
+const CLEARS: [Row; 6] = [
+    (Call::Set("a", "x"), "Ok(0)"),
+    (Call::Bare(Bare::Clear), "Ok(1)"),
+    (Call::Key(Key::Get, "a", 1), "Ok(Some(b\"x\"))"),
+    (Call::Key(Key::Get, "a", 2), "Ok(None)"),
+    (Call::Insert("b", "y", 0), "Err(OutOfOrder)"),
+    (Call::Insert("b", "y", 1), "Ok((50, 50))"),
+];
+
+const CLEARS_NOTES: [Note; 5] = [
+    Note::Write,
+    Note::Clear(1),
+    Note::Read(1, "Found(Some(b\"x\"))"),
+    Note::Read(2, "Found(None)"),
+    Note::Write,
+];
+
 #[test]
-fn writes_keep_their_order(rt: HostRuntime) -> Result<(), Fail> {
+fn writes_and_clears_keep_their_order(rt: HostRuntime) -> Result<(), Fail> {
     let alloc = rt.alloc();
+    assert_eq!(rt; first_wrong(alloc, 2, &ORDER, &[Note::Write])?, Some(5));
+    assert_eq!(rt; first_wrong(alloc, 2, &REMOVALS, &THREE_WRITES)?, Some(3));
     assert_eq!(rt;
-        first_wrong_noted(alloc, 2, &ORDER, &[Note::Write])?,
-        Some(5)
-    );
-    assert_eq!(rt;
-        first_wrong_noted(alloc, 2, &REMOVALS, &REMOVALS_NOTES)?,
-        Some(3)
-    );
-    assert_eq!(rt;
-        first_wrong_noted(alloc, 0, &WEAK, &[Note::Write, Note::Write])?,
+        first_wrong(alloc, 0, &WEAK, &[Note::Write, Note::Write])?,
         Some(4)
     );
+    assert_eq!(rt; first_wrong(alloc, 0, &CLEARS, &CLEARS_NOTES)?, Some(6));
     Ok(())
 }
 
@@ -106,90 +117,21 @@ const LISTS_NOTES: [Note; 7] = [
     ),
 ];
 
-#[test]
-fn reads_are_noted(rt: HostRuntime) -> Result<(), Fail> {
-    assert_eq!(rt;
-        first_wrong_noted(rt.alloc(), 1, &GETS, &GETS_NOTES)?,
-        Some(4)
-    );
-    assert_eq!(rt;
-        first_wrong_noted(rt.alloc(), 3, &LISTS, &LISTS_NOTES)?,
-        Some(7)
-    );
-    Ok(())
-}
-
-/// Two keys that begin with `a` and one that doesn't.
-const THREE: [Row; 3] = [
+/// Two keys that begin with `a` and one that doesn't, and iterators, which aren't noted.
+const ITERATORS: [Row; 5] = [
     (Call::Insert("a", "x", 0), "Ok((50, 50))"),
     (Call::Insert("ab", "y", 1), "Ok((51, 101))"),
     (Call::Insert("b", "z", 2), "Ok((50, 151))"),
-];
-
-/// Whether a pair of this key is given.
-fn has_key(pair: Option<Guard>, name: &[u8]) -> bool {
-    match pair {
-        Some(guard) => match guard.key() {
-            Ok(key) => key.as_slice() == name,
-            Err(_) => false,
-        },
-        None => false,
-    }
-}
-
-/// Whether the iterator gives the keys `a` and `ab` alone, the greater first.
-fn gives_two(iter: Result<TreeIter, Error>) -> bool {
-    match iter {
-        Ok(mut iter) => {
-            has_key(iter.next_back(), b"ab")
-                && has_key(iter.next_back(), b"a")
-                && iter.next_back().is_none()
-        }
-        Err(_) => false,
-    }
-}
-
-fn lends(tree: &Recorded) -> bool {
-    let bounds = (Bound::Included(text("a")), Bound::Excluded(text("b")));
-    gives_two(tree.create_range(&bounds, 3)) && gives_two(tree.create_prefix(&text("a"), 3))
-}
-
-#[test]
-fn iterators_are_not_noted(rt: HostRuntime) -> Result<(), Fail> {
-    let mut tree = open_recorded(rt.alloc(), 3)?;
-    let mut pass = Pass::new(rt.alloc());
-    assert_eq!(rt; first_wrong(rt.alloc(), &mut tree, &mut pass, &THREE), 3);
-    drop(pass);
-    assert!(rt; lends(&tree));
-    assert_eq!(rt; tree.journal().len(), 3);
-    drop(tree);
-    Ok(())
-}
-
-/// No write comes below a clear.
-const CLEARS: [Row; 6] = [
-    (Call::Set("a", "x"), "Ok(0)"),
-    (Call::Bare(Bare::Clear), "Ok(1)"),
-    (Call::Key(Key::Get, "a", 1), "Ok(Some(b\"x\"))"),
-    (Call::Key(Key::Get, "a", 2), "Ok(None)"),
-    (Call::Insert("b", "y", 0), "Err(OutOfOrder)"),
-    (Call::Insert("b", "y", 1), "Ok((50, 50))"),
-];
-
-const CLEARS_NOTES: [Note; 5] = [
-    Note::Write,
-    Note::Clear(1),
-    Note::Read(1, "Found(Some(b\"x\"))"),
-    Note::Read(2, "Found(None)"),
-    Note::Write,
+    (Call::List(List::Walk(Walk::CreateRange)), "true"),
+    (Call::List(List::Walk(Walk::CreatePrefix)), "true"),
 ];
 
 #[test]
-fn a_clear_is_noted(rt: HostRuntime) -> Result<(), Fail> {
-    assert_eq!(rt;
-        first_wrong_noted(rt.alloc(), 0, &CLEARS, &CLEARS_NOTES)?,
-        Some(6)
-    );
+fn reads_are_noted(rt: HostRuntime) -> Result<(), Fail> {
+    let alloc = rt.alloc();
+    assert_eq!(rt; first_wrong(alloc, 1, &GETS, &GETS_NOTES)?, Some(4));
+    assert_eq!(rt; first_wrong(alloc, 3, &LISTS, &LISTS_NOTES)?, Some(7));
+    assert_eq!(rt; first_wrong(alloc, 3, &ITERATORS, &THREE_WRITES)?, Some(5));
     Ok(())
 }
 
@@ -239,7 +181,7 @@ const COMPACTIONS_NOTES: [Note; 21] = [
 
 #[test]
 fn compactions_are_noted(rt: HostRuntime) -> Result<(), Fail> {
-    let found = first_wrong_noted(rt.alloc(), 0, &COMPACTIONS, &COMPACTIONS_NOTES)?;
+    let found = first_wrong(rt.alloc(), 0, &COMPACTIONS, &COMPACTIONS_NOTES)?;
     assert_eq!(rt; found, Some(15));
     Ok(())
 }

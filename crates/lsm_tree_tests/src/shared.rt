@@ -169,16 +169,22 @@ fn answers(rt: &impl Wait, alloc: Global, tree: &Tree, row: &Row) -> bool {
     }
 }
 
-/// The first row that a new tree doesn't answer so, or how many rows there are.
-pub(crate) fn first_wrong(rt: &impl Wait, alloc: Global, rows: &[Row]) -> Result<usize, Error> {
-    let tree = open_shared(alloc)?;
+/// The first row that a tree doesn't answer so, or how many rows there are.
+pub(crate) fn first_wrong_on(rt: &impl Wait, alloc: Global, tree: &Tree, rows: &[Row]) -> usize {
     let mut right: usize = 0;
     for row in rows {
-        if !answers(rt, alloc, &tree, row) {
+        if !answers(rt, alloc, tree, row) {
             break;
         }
         right = right.saturating_add(1);
     }
+    right
+}
+
+/// The same of a new tree.
+pub(crate) fn first_wrong(rt: &impl Wait, alloc: Global, rows: &[Row]) -> Result<usize, Error> {
+    let tree = open_shared(alloc)?;
+    let right = first_wrong_on(rt, alloc, &tree, rows);
     drop(tree);
     Ok(right)
 }
