@@ -10,7 +10,7 @@
 //! | `lives` | a crash, and the life that it begins |
 //! | `calls` | steps as rows of a table |
 //! | `rows` | a table of calls, of what each answers and of what it notes |
-//! | `strategies` | the strategies of each run |
+//! | `strategies` | the strategies of each run, and a run on a new tree |
 #![tactic(auto)]
 
 #[cfg(test)]

@@ -1,12 +1,9 @@
 // A table of calls, of what each answers and of what it notes.
 use crate::calls::{Call, step_of};
-use crate::strategies::strategies;
+use crate::strategies::outcomes;
 use lsm_below::{Error, SeqNo};
 use lsm_model::JournalEntry;
-use lsm_runs::{Outcome, Step, run};
-use lsm_state::TreeState;
-use lsm_store::MemStore;
-use lsm_versions::Config;
+use lsm_runs::{Outcome, Step};
 use std::alloc::{AllocError, Global};
 use std::fmt::Debug;
 
@@ -91,19 +88,6 @@ pub(crate) fn first_wrong(alloc: Global, told: &[Outcome], rows: &[Row]) -> usiz
         right = right.saturating_add(1);
     }
     right
-}
-
-/// The outcomes of steps on a new tree.
-fn outcomes(alloc: Global, steps: &[Step]) -> Result<Vec<Outcome>, Error> {
-    let strategies = strategies(alloc)?;
-    match TreeState::open(alloc, Config::new(0, 0, 0), MemStore::new(alloc)) {
-        Ok(mut tree) => {
-            let told = run(alloc, &mut tree, &strategies, steps);
-            drop(tree);
-            Ok(told)
-        }
-        Err((error, _)) => Err(error),
-    }
 }
 
 /// The first row that a new tree doesn't answer so, or how many rows there are.

@@ -1,7 +1,10 @@
-// The strategies of each run, by their indexes.
-use lsm_below::TableId;
+// The strategies of each run, by their indexes, and a run on a new tree.
+use lsm_below::{Error, TableId};
 use lsm_choices::Input;
 use lsm_pick::{Choice, ChooseError, CompactionStrategy, Leveled, Major};
+use lsm_runs::{Outcome, Step, run};
+use lsm_state::TreeState;
+use lsm_store::MemStore;
 use lsm_versions::{CompactionState, Config, Version};
 use std::alloc::{AllocError, Global};
 use std::collections::HashSet;
@@ -23,6 +26,21 @@ pub(crate) const FIRST_MOVED: usize = 4;
 
 /// No strategy has this index.
 pub(crate) const NONE: usize = 9;
+
+fn run_new(
+    alloc: Global,
+    strategies: &[Box<dyn CompactionStrategy>],
+    steps: &[Step],
+) -> Result<Vec<Outcome>, Error> {
+    match TreeState::open(alloc, Config::new(0, 0, 0), MemStore::new(alloc)) {
+        Ok(mut tree) => {
+            let told = run(alloc, &mut tree, strategies, steps);
+            drop(tree);
+            Ok(told)
+        }
+        Err((error, _)) => Err(error),
+    }
+}
 
 fn only(alloc: Global, id: TableId) -> Result<HashSet<TableId>, AllocError> {
     let mut ids = HashSet::new(alloc);
@@ -67,20 +85,23 @@ impl CompactionStrategy for TakesOne {
     }
 }
 
-fn takes_one(
-    alloc: Global,
-    id: TableId,
-    moves: bool,
-) -> Result<Box<dyn CompactionStrategy>, AllocError> {
-    Ok(Box::new(alloc, TakesOne { id, moves })?)
-}
-
-pub(crate) fn strategies(alloc: Global) -> Result<Vec<Box<dyn CompactionStrategy>>, AllocError> {
+/// The outcomes of steps on a new tree.
+pub(crate) fn outcomes(alloc: Global, steps: &[Step]) -> Result<Vec<Outcome>, Error> {
+    let merges_first = TakesOne {
+        id: 0,
+        moves: false,
+    };
+    let merges_second = TakesOne {
+        id: 1,
+        moves: false,
+    };
     let mut strategies: Vec<Box<dyn CompactionStrategy>> = Vec::new(alloc);
-    strategies.push(takes_one(alloc, 0, false)?)?;
-    strategies.push(takes_one(alloc, 1, false)?)?;
+    strategies.push(Box::new(alloc, merges_first)?)?;
+    strategies.push(Box::new(alloc, merges_second)?)?;
     strategies.push(Box::new(alloc, Major::default())?)?;
     strategies.push(Box::new(alloc, Leveled::new(alloc)?)?)?;
-    strategies.push(takes_one(alloc, 0, true)?)?;
-    Ok(strategies)
+    strategies.push(Box::new(alloc, TakesOne { id: 0, moves: true })?)?;
+    let told = run_new(alloc, &strategies, steps);
+    drop(strategies);
+    told
 }
