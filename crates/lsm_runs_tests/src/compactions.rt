@@ -92,12 +92,6 @@ const SLOTS: [Row; 31] = [
     (Call::Count(Count::NextTableId), "Counted(Some(5))", &[]),
 ];
 
-#[test]
-fn merges_wait_in_slots(rt: HostRuntime) -> Result<(), Fail> {
-    assert_eq!(rt; run_rows(rt.alloc(), &SLOTS)?, 31);
-    Ok(())
-}
-
 /// Four values of a, each flushed, are merged into one; then the tables of a and of b are cut apart, and that of a dropped.
 const ONE_CALL: [Row; 25] = [
     (Call::Set(&[("a", "1")]), "Number(0)", &[Note::Write(0)]),
@@ -189,6 +183,7 @@ const ONE_CALL: [Row; 25] = [
 
 #[test]
 fn compactions_are_steps(rt: HostRuntime) -> Result<(), Fail> {
+    assert_eq!(rt; run_rows(rt.alloc(), &SLOTS)?, 31);
     assert_eq!(rt; run_rows(rt.alloc(), &ONE_CALL)?, 25);
     Ok(())
 }

@@ -35,12 +35,6 @@ const JOB: [Row; 15] = [
     ),
 ];
 
-#[test]
-fn a_job_waits_in_its_slot(rt: HostRuntime) -> Result<(), Fail> {
-    assert_eq!(rt; run_rows(rt.alloc(), &JOB)?, 15);
-    Ok(())
-}
-
 /// Flushes in one call: of the sealed memtable, of the active one, and of nothing; and what is counted behind them.
 const ONE_CALL: [Row; 11] = [
     (Call::At(At::SetMoment, 5), "Done", &[]),
@@ -66,6 +60,7 @@ const ONE_CALL: [Row; 11] = [
 
 #[test]
 fn flushes_are_steps(rt: HostRuntime) -> Result<(), Fail> {
+    assert_eq!(rt; run_rows(rt.alloc(), &JOB)?, 15);
     assert_eq!(rt; run_rows(rt.alloc(), &ONE_CALL)?, 11);
     Ok(())
 }

@@ -58,12 +58,6 @@ const LISTS: [Row; 14] = [
     (Call::Key(Key::Prefix, "", 3), A_C, &[Note::Listed(3, A_C)]),
 ];
 
-#[test]
-fn lists_pairs(rt: HostRuntime) -> Result<(), Fail> {
-    assert_eq!(rt; run_rows(rt.alloc(), &LISTS)?, 14);
-    Ok(())
-}
-
 /// The same tree, and what is told of a key, of how many there are, and of both ends. Nothing of it is noted.
 const QUESTIONS: [Row; 19] = [
     (
@@ -96,7 +90,8 @@ const QUESTIONS: [Row; 19] = [
 ];
 
 #[test]
-fn answers_questions(rt: HostRuntime) -> Result<(), Fail> {
+fn reads_are_steps(rt: HostRuntime) -> Result<(), Fail> {
+    assert_eq!(rt; run_rows(rt.alloc(), &LISTS)?, 14);
     assert_eq!(rt; run_rows(rt.alloc(), &QUESTIONS)?, 19);
     Ok(())
 }

@@ -96,8 +96,7 @@ fn merge_in_parts(
 ) -> Result<Finished, Error> {
     let job = job_of(tree.begin_compaction(rt, pass, &Major::new(u64::MAX), AT_0))?;
     set(rt, alloc, tree, pass, ("a", "z"))?;
-    let merged = merged(job)?;
-    tree.finish_compaction(rt, pass, merged)
+    tree.finish_compaction(rt, pass, merged(job)?)
 }
 
 /// A merge is begun and given up.

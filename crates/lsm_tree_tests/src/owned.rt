@@ -65,8 +65,7 @@ fn counts(alloc: Global, tree: &Recorded, call: &Count, told: &str) -> bool {
 
 fn merge_in_parts(tree: &mut Recorded, pass: &mut Pass) -> Result<Finished, Error> {
     let job = job_of(tree.begin_compaction(pass, &Major::new(u64::MAX), AT_0))?;
-    let merged = merged(job)?;
-    tree.finish_compaction(pass, merged)
+    tree.finish_compaction(pass, merged(job)?)
 }
 
 /// A merge is begun and given up.

@@ -88,11 +88,12 @@ fn merge_in_parts(rt: &impl Wait, alloc: Global, tree: &Tree) -> Result<Finished
     let job = job_of(tree.begin_compaction(rt, &Major::new(u64::MAX), AT_0))?;
     let is_compacting = tree.is_compacting(rt);
     set(rt, alloc, tree, "a", "z")?;
-    let merged = merged(job)?;
-    if !is_compacting {
-        return Err(Error::Unrecoverable);
+    let finished = tree.finish_compaction(rt, merged(job)?)?;
+    if is_compacting {
+        Ok(finished)
+    } else {
+        Err(Error::Unrecoverable)
     }
-    tree.finish_compaction(rt, merged)
 }
 
 /// A merge is begun and given up.
