@@ -77,12 +77,13 @@ fn writes_reads_and_clears_are_noted(rt: HostRuntime) -> Result<(), Fail> {
 }
 
 /// a = x is flushed at watermark 0 in parts, a = y in one call at watermark 2, and a = z behind a job that is given up.
-const FLUSHES: [Row; 7] = [
+const FLUSHES: [Row; 8] = [
     (Call::Set("a", "x"), "Ok(0)"),
     (Call::Flush(Flush::InParts), REGISTERED),
     (Call::Set("a", "y"), "Ok(2)"),
     (Call::Flush(Flush::Active(2)), FLUSHED_1),
     (Call::Set("a", "z"), "Ok(4)"),
+    (Call::Bare(Bare::Rotate), "Ok(Some(2))"),
     (Call::Flush(Flush::GiveUp), "Ok(())"),
     (Call::Flush(Flush::Sealed(0)), FLUSHED),
 ];
@@ -102,7 +103,7 @@ const FLUSHES_NOTES: [Note; 9] = [
 #[test]
 fn flushes_are_noted(rt: HostRuntime) -> Result<(), Fail> {
     let found = first_wrong(&rt, rt.alloc(), 0, &FLUSHES, &FLUSHES_NOTES)?;
-    assert_eq!(rt; found, Some(7));
+    assert_eq!(rt; found, Some(8));
     Ok(())
 }
 
