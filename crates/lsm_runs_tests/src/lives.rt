@@ -32,14 +32,14 @@ fn left(tree: TreeState) -> Result<MemStore, Error> {
     }
 }
 
-/// What a crash leaves of a life, all of whose rows are right.
+/// The first row that a life doesn't answer so, or how many rows there are, and what a crash leaves of it.
 fn after_life(
     alloc: Global,
     number: u64,
     store: MemStore,
     rows: &[Row],
     watch: &mut Counted,
-) -> Result<MemStore, Error> {
+) -> Result<(usize, MemStore), Error> {
     let steps = steps_of(alloc, rows)?;
     let strategies: Vec<Box<dyn CompactionStrategy>> = Vec::new(alloc);
     let config = Config::new(0, number, number);
@@ -48,10 +48,10 @@ fn after_life(
             let right = first_wrong(alloc, &told, rows);
             drop(told);
             drop(steps);
-            if right != rows.len() {
-                return Err(Error::Unrecoverable);
+            match left(tree) {
+                Ok(store) => Ok((right, store)),
+                Err(error) => Err(error),
             }
-            left(tree)
         }
         Err((error, _)) => Err(error),
     }
@@ -86,9 +86,10 @@ const READS: [Row; 2] = [
 fn a_crash_begins_the_next_life(rt: HostRuntime) -> Result<(), Fail> {
     let alloc = rt.alloc();
     let mut watch = Counted { steps: 0 };
-    let store = after_life(alloc, 0, MemStore::new(alloc), &WRITES, &mut watch)?;
-    assert!(rt; watch.steps == 3);
-    drop(after_life(alloc, 10, store, &READS, &mut watch)?);
-    assert!(rt; watch.steps == 5);
+    let (right, store) = after_life(alloc, 0, MemStore::new(alloc), &WRITES, &mut watch)?;
+    assert_eq!(rt; (right, watch.steps), (3, 3));
+    let (right, store) = after_life(alloc, 10, store, &READS, &mut watch)?;
+    drop(store);
+    assert_eq!(rt; (right, watch.steps), (2, 5));
     Ok(())
 }

@@ -68,14 +68,17 @@ fn is_noted(alloc: Global, entry: &JournalEntry, note: &Note) -> bool {
     }
 }
 
+fn are_noted(alloc: Global, entries: &[JournalEntry], notes: &[Note]) -> bool {
+    for (entry, note) in entries.iter().zip(notes) {
+        if !is_noted(alloc, entry, note) {
+            return false;
+        }
+    }
+    entries.len() == notes.len()
+}
+
 fn is_row(alloc: Global, outcome: &Outcome, row: &Row) -> bool {
-    let entries = outcome.entries();
-    is_spelled(alloc, outcome.reply(), row.1)
-        && entries.len() == row.2.len()
-        && entries
-            .iter()
-            .zip(row.2)
-            .all(|(entry, note)| is_noted(alloc, entry, note))
+    is_spelled(alloc, outcome.reply(), row.1) && are_noted(alloc, outcome.entries(), row.2)
 }
 
 /// The first row that isn't answered so, or how many rows there are.

@@ -30,11 +30,12 @@ fn is_noted(alloc: Global, entry: &JournalEntry, note: &Note) -> bool {
 
 /// Whether a journal is so.
 pub(crate) fn are_noted(alloc: Global, journal: &[JournalEntry], notes: &[Note]) -> bool {
+    for (entry, note) in journal.iter().zip(notes) {
+        if !is_noted(alloc, entry, note) {
+            return false;
+        }
+    }
     journal.len() == notes.len()
-        && journal
-            .iter()
-            .zip(notes)
-            .all(|(entry, note)| is_noted(alloc, entry, note))
 }
 
 /// Whether the entries of a pass are so, at the places from 0 on.

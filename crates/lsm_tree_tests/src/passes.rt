@@ -133,7 +133,10 @@ fn answers_elsewhere(
 
 /// Whether a pass has two entries, at these places.
 fn has_places(pass: &Pass, places: [u64; 2]) -> bool {
-    pass.entries().iter().map(|noted| noted.0).eq(places)
+    match pass.entries() {
+        [(first, _), (second, _)] => [*first, *second] == places,
+        _ => false,
+    }
 }
 
 /// The rows of another tree whose entries are dropped, and those behind them whose entries a pass has.
