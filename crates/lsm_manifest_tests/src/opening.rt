@@ -243,63 +243,67 @@ fn refuses(
     answers(alloc, store, Some((told, "")))
 }
 
-#[test]
-fn damaged_manifests_are_refused(rt: HostRuntime) -> Result<(), Fail> {
-    let rows: [(u64, File<'_>, Told); 9] = [
-        (5, (&ONE_TABLE, &[], &[0]), UNRECOVERABLE),
-        (5, (&TWICE, &[], &[]), UNRECOVERABLE),
-        (5, (&ONE_TABLE, &[(147, 1)], &[]), (6, "ChecksumType", 1)),
-        (5, (&ONE_TABLE[..44], &[], &[]), UNRECOVERABLE),
-        (5, (&ONE_TABLE, &[(23, 2)], &[]), (5, "", 2)),
-        (5, (&ONE_TABLE, &[(70, 1)], &[]), (7, "TreeType", 0)),
-        (0, (&NO_TABLE, &[], &[0]), UNRECOVERABLE),
-        (0, (&TWICE, &[], &[]), UNRECOVERABLE),
-        (0, (&NO_TABLE, &[(23, 2)], &[]), (5, "", 2)),
-    ];
-    for row in rows {
-        let mut store = MemStore::new(rt.alloc());
-        let well = refuses(rt.alloc(), &mut store, row, &[]);
-        drop(store);
-        assert!(rt; well?, "{row:?}");
-    }
-    Ok(())
-}
+/// `ONE_TABLE`, `FIRST` and `TABLE`, each without its last byte.
+const CUT_LAYOUT: [u8; 44] = [
+    7, 1, 1, 0, 0, 0, 3, 0, 0, 0, 0, 0, 0, 0, 0, 0xb7, 0x2e, 0x25, 0xe2, 0xac, 0x01, 0x46, 0x38,
+    0x51, 0xbb, 0x09, 0x02, 0x2a, 0xf9, 0x67, 0x5b, 0, 0, 0, 0, 0, 0, 0, 0, 0, 0, 0, 0, 0,
+];
+
+const CUT_FIRST: [u8; 24] = [
+    0, 0, 0, 0, 0, 0, 0, 0, 0x4a, 0xbb, 0x83, 0x9b, 0x26, 0x16, 0x00, 0x78, 0x47, 0xe4, 0x4e, 0x4c,
+    0x82, 0x30, 0xc0, 0x1d,
+];
+
+const CUT_TABLE: [u8; 36] = [
+    0x4c, 0x53, 0x4d, 0x54, 0, 0, 0, 0, 0, 0, 0, 0, 1, 0, 0, 0, 0, 0, 0, 0, 1, 0, 0, 0, 0, 0, 0, 0,
+    0, 0, 0, 1, 0, 0, 0, 0x61,
+];
+
+/// A version with its file, what is changed then, and how that is refused.
+type Refusal = (u64, File<'static>, Changes<'static>, Told);
+
+const REFUSALS: [Refusal; 20] = [
+    // Files of versions.
+    (5, (&ONE_TABLE, &[], &[0]), &[], UNRECOVERABLE),
+    (5, (&TWICE, &[], &[]), &[], UNRECOVERABLE),
+    (
+        5,
+        (&ONE_TABLE, &[(147, 1)], &[]),
+        &[],
+        (6, "ChecksumType", 1),
+    ),
+    (5, (&CUT_LAYOUT, &[], &[]), &[], UNRECOVERABLE),
+    (5, (&ONE_TABLE, &[(23, 2)], &[]), &[], (5, "", 2)),
+    (5, (&ONE_TABLE, &[(70, 1)], &[]), &[], (7, "TreeType", 0)),
+    (0, (&NO_TABLE, &[], &[0]), &[], UNRECOVERABLE),
+    (0, (&TWICE, &[], &[]), &[], UNRECOVERABLE),
+    (0, (&NO_TABLE, &[(23, 2)], &[]), &[], (5, "", 2)),
+    // Other files.
+    (5, ONE, &[("version", Some(b""))], (5, "", 1)),
+    (5, ONE, &[("current", Some(&CUT_FIRST))], (7, "current", 0)),
+    (5, ONE, &[("current", Some(&FIRST))], UNRECOVERABLE),
+    (5, ONE, &[("v5", Some(b"1"))], MISMATCH),
+    (5, ONE, &[("v5", None)], UNRECOVERABLE),
+    (5, ONE, &[("tables/05", Some(&TABLE))], UNRECOVERABLE),
+    (5, ONE, &[("tables/3", None)], UNRECOVERABLE),
+    (5, ONE, &[("tables/3", Some(&CUT_TABLE))], MISMATCH),
+    (
+        5,
+        ONE,
+        &[("tables/3", Some(b"1")), ("tables/x", Some(b"1"))],
+        UNRECOVERABLE,
+    ),
+    (0, NONE, &[("tables/05", Some(&TABLE))], UNRECOVERABLE),
+    (0, NONE, &[("current", Some(&CUT_FIRST))], (7, "current", 0)),
+];
 
 #[test]
 fn damaged_stores_are_refused(rt: HostRuntime) -> Result<(), Fail> {
-    let rows: [(u64, File<'_>, Told, Changes<'_>); 11] = [
-        (5, ONE, (5, "", 1), &[("version", Some(b""))]),
-        (
-            5,
-            ONE,
-            (7, "current", 0),
-            &[("current", Some(&FIRST[..24]))],
-        ),
-        (5, ONE, UNRECOVERABLE, &[("current", Some(&FIRST))]),
-        (5, ONE, MISMATCH, &[("v5", Some(b"1"))]),
-        (5, ONE, UNRECOVERABLE, &[("v5", None)]),
-        (5, ONE, UNRECOVERABLE, &[("tables/05", Some(&TABLE))]),
-        (5, ONE, UNRECOVERABLE, &[("tables/3", None)]),
-        (5, ONE, MISMATCH, &[("tables/3", Some(&TABLE[..36]))]),
-        (
-            5,
-            ONE,
-            UNRECOVERABLE,
-            &[("tables/3", Some(b"1")), ("tables/x", Some(b"1"))],
-        ),
-        (0, NONE, UNRECOVERABLE, &[("tables/05", Some(&TABLE))]),
-        (
-            0,
-            NONE,
-            (7, "current", 0),
-            &[("current", Some(&FIRST[..24]))],
-        ),
-    ];
-    for (id, file, told, changes) in rows {
+    for (id, file, changes, told) in REFUSALS {
         let mut store = MemStore::new(rt.alloc());
         let well = refuses(rt.alloc(), &mut store, (id, file, told), changes);
         drop(store);
-        assert!(rt; well?, "{changes:?}");
+        assert!(rt; well?, "{told:?}, {changes:?}");
     }
     Ok(())
 }
