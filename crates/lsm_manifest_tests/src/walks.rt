@@ -44,20 +44,22 @@ pub fn steps(iter: &mut TreeIter, end: End, wanted: Shown) -> bool {
 
 /// Whether the iterator gives just these, and then nothing from either end.
 fn walks(iter: &mut TreeIter, turns: Turns, wanted: &[Shown]) -> bool {
-    let mut rest = wanted;
+    let mut first: usize = 0;
+    let mut last = wanted.len();
     for taken in 0..wanted.len() {
         let end = turns[taken % 3];
-        let split = match end {
-            End::Front => rest.split_first(),
-            End::Back => rest.split_last(),
+        let at = match end {
+            End::Front => first,
+            End::Back => last.saturating_sub(1),
         };
-        let Some((pair, others)) = split else {
-            return false;
-        };
-        if !steps(iter, end, *pair) {
-            return false;
+        match wanted.get(at) {
+            Some(pair) if steps(iter, end, *pair) => {}
+            _ => return false,
         }
-        rest = others;
+        match end {
+            End::Front => first = first.saturating_add(1),
+            End::Back => last = at,
+        }
     }
     iter.next().is_none() && iter.next_back().is_none() && iter.next().is_none()
 }

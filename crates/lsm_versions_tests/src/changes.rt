@@ -2,6 +2,7 @@
 use crate::samples::{Row, THREE, hidden, ids, table, version};
 use lsm_below::{Error, TableId, is_run};
 use lsm_choices::{Kind, first_reason, pick_run_indexes};
+use lsm_tables::Table;
 use lsm_versions::{Version, ids_are_own};
 use std::alloc::Global;
 use std::process::Abort;
@@ -96,22 +97,33 @@ fn changed(
     }
 }
 
-/// Whether the version has just these runs.
-fn has_runs(version: &Version, wanted: &[(usize, &[TableId])]) -> bool {
-    let mut left = wanted;
-    for (at, level) in version.levels().iter().enumerate() {
-        for run in level.iter() {
-            let Some((first, others)) = left.split_first() else {
-                return false;
-            };
-            let ids = run.as_slice().iter().map(|table| table.id());
-            if first.0 != at || !ids.eq(first.1.iter().copied()) {
-                return false;
-            }
-            left = others;
+/// Whether just these are tables.
+fn are(tables: &[Table], list: &[TableId]) -> bool {
+    if tables.len() != list.len() {
+        return false;
+    }
+    for at in 0..list.len() {
+        if tables[at].id() != list[at] {
+            return false;
         }
     }
-    left.is_empty()
+    true
+}
+
+/// Whether the version has just these runs.
+fn has_runs(version: &Version, wanted: &[(usize, &[TableId])]) -> bool {
+    let mut seen: usize = 0;
+    let levels = version.levels();
+    for at in 0..levels.len() {
+        for run in levels[at].as_slice() {
+            match wanted.get(seen) {
+                Some((level, list)) if *level == at && are(run.as_slice(), *list) => {}
+                _ => return false,
+            }
+            seen = seen.saturating_add(1);
+        }
+    }
+    seen == wanted.len()
 }
 
 /// Whether this is what is wanted.

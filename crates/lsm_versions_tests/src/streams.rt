@@ -1,10 +1,24 @@
 // Streams over chosen tables.
+ghost use Rattle.std.specs.Iterator.{IsFinite};
+
 use crate::samples::{THREE, ids, version};
-use lsm_below::{Error, SeqNo, TableId};
+use lsm_below::{Error, InternalValue, SeqNo, TableId};
 use lsm_merges::create_compaction_stream;
 use lsm_versions::Version;
 use std::alloc::Global;
 use std::test::Fail;
+
+/// How many entries a stream gives.
+fn count_of<I: Iterator<Item = Result<InternalValue, Error>>>(stream: I) -> Result<usize, Error>
+    requires { I.can_next stream × IsFinite (I.remaining stream) }
+{
+    let mut count: usize = 0;
+    for entry in stream {
+        entry?;
+        count = count.saturating_add(1);
+    }
+    Ok(count)
+}
 
 /// How many entries a stream over these tables gives, or None where there is none.
 fn count(
@@ -14,15 +28,10 @@ fn count(
     watermark: SeqNo,
 ) -> Result<Option<usize>, Error> {
     let ids = ids(alloc, list)?;
-    let Some(stream) = create_compaction_stream(alloc, version, &ids, watermark)? else {
-        return Ok(None);
-    };
-    let mut count: usize = 0;
-    for entry in stream {
-        entry?;
-        count = count.saturating_add(1);
+    match create_compaction_stream(alloc, version, &ids, watermark)? {
+        Some(stream) => Ok(Some(count_of(stream)?)),
+        None => Ok(None),
     }
-    Ok(Some(count))
 }
 
 /// The tables of a stream, its watermark, and how many entries it gives, or None where there is none.
