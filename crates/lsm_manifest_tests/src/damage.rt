@@ -2,7 +2,9 @@
 // read off the formats.
 
 use crate::opening::{Wanted, answers};
-use crate::samples::{MISMATCH, OTHER, TABLE, Told, UNRECOVERABLE, change, fill, put_version};
+use crate::samples::{
+    MISMATCH, OTHER, Runs, TABLE, Told, UNRECOVERABLE, change, fill, put_version,
+};
 use lsm_store::{MemStore, Store, StoreError};
 use std::alloc::Global;
 use std::test::Fail;
@@ -20,6 +22,8 @@ const SECTIONS: [(usize, usize); 6] = [
     (118, 211),
 ];
 
+const ONE_RUN: Runs = [&[2], &[]];
+
 /// Two names that are orphans.
 const ORPHANS: [(&str, Option<&[u8]>); 2] = [("v4", Some(b"1")), ("tables/7", Some(b"1"))];
 
@@ -29,17 +33,12 @@ type Place = (&'static str, bool);
 /// Makes these bytes a file of the store.
 fn put(alloc: Global, store: &mut MemStore, at: Place, bytes: &[u8]) -> Result<(), StoreError> {
     let (name, is_remade) = at;
-    let first = if is_remade && name == "tables/3" {
-        bytes
-    } else {
-        &TABLE
+    let tables: [&[u8]; 2] = match at {
+        ("tables/3", true) => [bytes, &OTHER],
+        ("tables/4", true) => [&TABLE, bytes],
+        _ => [&TABLE, &OTHER],
     };
-    let second = if is_remade && name == "tables/4" {
-        bytes
-    } else {
-        &OTHER
-    };
-    fill(alloc, store, [&[&[(3, first), (4, second)]], &[]])?;
+    fill(alloc, store, ONE_RUN, &tables)?;
     change(store, &ORPHANS)?;
     if is_remade && name == "v5" {
         return put_version(store, 5, bytes);

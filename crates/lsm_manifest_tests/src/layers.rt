@@ -2,7 +2,7 @@
 //
 // The value of an entry is the least byte of its sequence number, so that a value tells which entry is given.
 
-use crate::samples::{Run, fill};
+use crate::samples::{Runs, fill};
 use lsm_below::{Error, InternalValue, SeqNo, UserKey, UserValue, ValueType};
 use lsm_parts::{Config, Memtable};
 use lsm_state::TreeState;
@@ -113,20 +113,23 @@ fn table_of(alloc: Global, entries: &[Entry]) -> Result<Vec<u8>, AllocError> {
     out.extend_from_slice(&(entries.len() as u64).to_le_bytes())?;
     for (key, number, kind) in entries {
         let [low, high, ..] = key.len().to_le_bytes();
-        let least = least_byte(*number);
-        let (code, len, value): (u8, u8, &[u8]) = match kind {
-            ValueType::Value => (0, 1, &[least]),
-            ValueType::Tombstone => (1, 0, &[]),
-            ValueType::WeakTombstone => (2, 0, &[]),
+        let (code, len): (u8, u8) = match kind {
+            ValueType::Value => (0, 1),
+            ValueType::Tombstone => (1, 0),
+            ValueType::WeakTombstone => (2, 0),
         };
         out.extend_from_slice(&[low, high])?;
         out.extend_from_slice(&number.to_le_bytes())?;
         out.extend_from_slice(&[code, len, 0, 0, 0])?;
         out.extend_from_slice(key.as_bytes())?;
-        out.extend_from_slice(value)?;
+        if len > 0 {
+            out.push(least_byte(*number))?;
+        }
     }
     Ok(out)
 }
+
+const THREE_RUNS: Runs = [&[1, 1], &[2]];
 
 /// Version 5 with tables 3 to 6 in three runs.
 fn fill_layers(alloc: Global, store: &mut MemStore) -> Result<(), StoreError> {
@@ -134,9 +137,8 @@ fn fill_layers(alloc: Global, store: &mut MemStore) -> Result<(), StoreError> {
     let older = table_of(alloc, &OLDER)?;
     let left = table_of(alloc, &LEFT)?;
     let right = table_of(alloc, &RIGHT)?;
-    let upper: [Run<'_>; 2] = [&[(3, &newest)], &[(4, &older)]];
-    let lower: [Run<'_>; 1] = [&[(5, &left), (6, &right)]];
-    fill(alloc, store, [&upper, &lower])
+    let tables: [&[u8]; 4] = [&newest, &older, &left, &right];
+    fill(alloc, store, THREE_RUNS, &tables)
 }
 
 /// Writes the entries of the sealed memtable, and those of the active one.

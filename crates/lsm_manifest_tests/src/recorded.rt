@@ -1,7 +1,7 @@
 // A recorded tree is opened where its tables are in order, and its writes and snapshots come after them.
 
 use crate::opening::{ONE, fill_with, open};
-use crate::samples::{LATER, TABLE, fill};
+use crate::samples::{LATER, Runs, TABLE, fill};
 use lsm_below::{Error, UserKey};
 use lsm_iter::{IterGuard, TreeIter};
 use lsm_model::Op;
@@ -116,11 +116,13 @@ fn open_recorded(alloc: Global, store: MemStore) -> (MemStore, u8) {
     }
 }
 
+const TWO_RUNS: Runs = [&[1, 1], &[]];
+
 /// Whether version 5 with these two runs in its first level, and a table that it doesn't name, is refused as
 /// unrecoverable with all files left, and is opened without a journal; or, where they are in order, is opened.
-fn is_told(alloc: Global, first: &[u8], second: &[u8], wanted: u8) -> Result<bool, Fail> {
+fn is_told(alloc: Global, tables: &[&[u8]], wanted: u8) -> Result<bool, Fail> {
     let mut store = MemStore::new(alloc);
-    let filled = fill(alloc, &mut store, [&[&[(3, first)], &[(4, second)]], &[]]);
+    let filled = fill(alloc, &mut store, TWO_RUNS, tables);
     let added = store.replace("tables/7", b"1");
     let (mut store, told) = open_recorded(alloc, store);
     let left = store.list(alloc);
@@ -136,12 +138,13 @@ fn is_told(alloc: Global, first: &[u8], second: &[u8], wanted: u8) -> Result<boo
 
 #[test]
 fn tables_out_of_order_are_unrecoverable(rt: HostRuntime) -> Result<(), Fail> {
-    for (first, second, wanted) in [
-        (&TABLE, &LATER, 4),
-        (&LATER, &TABLE, 0),
-        (&TABLE, &TABLE, 4),
-    ] {
-        assert!(rt; is_told(rt.alloc(), first, second, wanted)?);
+    let rows: [([&[u8]; 2], u8); 3] = [
+        ([&TABLE, &LATER], 4),
+        ([&LATER, &TABLE], 0),
+        ([&TABLE, &TABLE], 4),
+    ];
+    for (tables, wanted) in rows {
+        assert!(rt; is_told(rt.alloc(), &tables, wanted)?);
     }
     Ok(())
 }

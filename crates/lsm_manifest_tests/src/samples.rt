@@ -47,8 +47,8 @@ const HEAD: [&[u8]; 6] = [
 /// A version's file: its layout, places with other bytes, and what follows.
 pub type File<'a> = (&'a [u8], &'a [(usize, u8)], &'a [u8]);
 
-/// A run: its tables' ids and contents.
-pub type Run<'a> = &'a [(u64, &'a [u8])];
+/// How many tables the runs of the first two levels have.
+pub type Runs = [&'static [u8]; 2];
 
 /// Names with new contents, or removed.
 pub type Changes<'a> = &'a [(&'a str, Option<&'a [u8]>)];
@@ -70,27 +70,33 @@ pub fn bytes_of(alloc: Global, file: File<'_>) -> Result<Vec<u8>, AllocError> {
     Ok(out)
 }
 
-/// A run in a layout.
-fn put_run(out: &mut Vec<u8>, run: Run<'_>) -> Result<(), AllocError> {
-    let [low, high, ..] = run.len().to_le_bytes();
-    out.extend_from_slice(&[low, high, 0, 0])?;
-    for (id, bytes) in run {
-        out.extend_from_slice(&id.to_le_bytes())?;
-        out.push(0)?;
-        out.extend_from_slice(&Checksum::of(*bytes).into_u128().to_le_bytes())?;
-        out.extend_from_slice(&[0; 8])?;
-    }
-    Ok(())
+/// A table in a layout.
+fn put_table(out: &mut Vec<u8>, id: u64, bytes: &[u8]) -> Result<(), AllocError> {
+    out.extend_from_slice(&id.to_le_bytes())?;
+    out.push(0)?;
+    out.extend_from_slice(&Checksum::of(bytes).into_u128().to_le_bytes())?;
+    out.extend_from_slice(&[0; 8])
 }
 
-/// The layout whose first two levels have these runs.
-fn layout_of(alloc: Global, levels: [&[Run<'_>]; 2]) -> Result<Vec<u8>, AllocError> {
+/// The id of the table at a place of a list.
+fn id_at(place: usize) -> u64 {
+    (place as u64).saturating_add(3)
+}
+
+/// The layout whose first two levels have runs of so many of the tables, in their order.
+fn layout_of(alloc: Global, levels: Runs, tables: &[&[u8]]) -> Result<Vec<u8>, AllocError> {
     let mut out = vec![in alloc; 7]?;
+    let mut place: usize = 0;
     for runs in levels {
         let [count, ..] = runs.len().to_le_bytes();
         out.push(count)?;
-        for run in runs {
-            put_run(&mut out, *run)?;
+        for len in runs {
+            out.extend_from_slice(&[*len, 0, 0, 0])?;
+            for _ in 0..*len {
+                let table = tables.get(place).copied().unwrap_or_default();
+                put_table(&mut out, id_at(place), table)?;
+                place = place.saturating_add(1);
+            }
         }
     }
     out.extend_from_slice(&[0; 5])?;
@@ -104,20 +110,17 @@ pub fn put_version(store: &mut MemStore, id: u64, file: &[u8]) -> Result<(), Sto
     store.replace("current", &write_current(id, sum))
 }
 
-/// Version 5, whose first two levels have these runs, and the files of their tables.
+/// Version 5, whose first two levels have runs of these tables, and their files, from table 3 on.
 pub fn fill(
     alloc: Global,
     store: &mut MemStore,
-    levels: [&[Run<'_>]; 2],
+    levels: Runs,
+    tables: &[&[u8]],
 ) -> Result<(), StoreError> {
-    let layout = layout_of(alloc, levels)?;
+    let layout = layout_of(alloc, levels, tables)?;
     put_version(store, 5, &bytes_of(alloc, (&layout, &[], &[]))?)?;
-    for runs in levels {
-        for run in runs {
-            for (id, bytes) in *run {
-                store.replace(table_name(*id).as_str(), *bytes)?;
-            }
-        }
+    for place in 0..tables.len() {
+        store.replace(table_name(id_at(place)).as_str(), tables[place])?;
     }
     Ok(())
 }
