@@ -130,7 +130,10 @@ fn count_told(alloc: Global, store: &mut MemStore, at: Place) -> Result<usize, F
         for mask in [1, 255] {
             let byte = bytes[place] ^ mask;
             bytes[place] = byte;
-            let wanted = told_of_byte(at, place, byte).map(|told| (told, ""));
+            let wanted = match told_of_byte(at, place, byte) {
+                Some(told) => Some((told, "")),
+                None => None,
+            };
             is_well = is_well && tells(alloc, store, at, &bytes, wanted)?;
             bytes[place] = byte ^ mask;
         }
