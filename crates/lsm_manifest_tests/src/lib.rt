@@ -7,7 +7,6 @@
 //! | `files` | files of tables that are written, and removed |
 //! | `trees` | a tree that is opened over a store, its reads and writes |
 //! | `damage` | stores with a damaged file: each cut, each changed byte, each doubled section |
-//! | `changed` | a new tree's files, of which one is changed |
 //! | `recorded` | a recorded tree that is opened over a store, and the order of its tables |
 //! | `iterators` | what iterators give over tables, memtables and an index, from both ends |
 //! | `holding` | what an iterator owns, and a step that is refused |
@@ -18,8 +17,6 @@
 //! | `newest` | holds none: a slow answer to compare with |
 #![tactic(auto)]
 
-#[cfg(test)]
-mod changed;
 #[cfg(test)]
 mod damage;
 #[cfg(test)]

@@ -4,7 +4,7 @@ use lsm_below::Error;
 use lsm_iter::{End, Guard, IterGuard, TreeIter};
 use std::ops::Bound;
 
-/// A key, and the least byte of the sequence number of its entry.
+/// A key, and the least byte of the sequence number of its entry, which is its value.
 pub type Shown = (&'static str, u8);
 
 /// A bound that is written as text.
@@ -24,23 +24,16 @@ pub const WALKS: [Turns; 5] = [
 
 /// Whether this pair is given.
 pub fn is(pair: Option<Guard>, wanted: Shown) -> bool {
-    match pair {
-        Some(guard) => has(guard, wanted),
-        None => false,
-    }
-}
-
-fn has(guard: Guard, wanted: Shown) -> bool {
-    match guard.into_inner() {
-        Ok((key, value)) => {
+    match pair.map(|guard| guard.into_inner()) {
+        Some(Ok((key, value))) => {
             key.as_slice() == wanted.0.as_bytes() && value.as_slice() == [wanted.1].as_slice()
         }
-        Err(_) => false,
+        _ => false,
     }
 }
 
 /// Whether the iterator gives this pair at this end, and owns no more than before.
-fn steps(iter: &mut TreeIter, end: End, wanted: Shown) -> bool {
+pub fn steps(iter: &mut TreeIter, end: End, wanted: Shown) -> bool {
     let held = iter.held();
     let given = match end {
         End::Front => iter.next(),
@@ -49,36 +42,24 @@ fn steps(iter: &mut TreeIter, end: End, wanted: Shown) -> bool {
     is(given, wanted) && iter.held() <= held
 }
 
-/// The place of the next one from this end, where so many were taken from the front, and so many of all in all.
-fn next_place(end: End, fronts: usize, taken: usize, all: usize) -> usize {
-    match end {
-        End::Front => fronts,
-        End::Back => all
-            .saturating_add(fronts)
-            .saturating_sub(taken.saturating_add(1)),
-    }
-}
-
-/// How many were taken from the front, with one more from this end.
-fn count_front(end: End, fronts: usize) -> usize {
-    match end {
-        End::Front => fronts.saturating_add(1),
-        End::Back => fronts,
-    }
-}
-
 /// Whether the iterator gives just these, and then nothing from either end.
 fn walks(iter: &mut TreeIter, turns: Turns, wanted: &[Shown]) -> bool {
-    let mut fronts: usize = 0;
+    let mut first: usize = 0;
+    let mut last = wanted.len();
     for taken in 0..wanted.len() {
         let end = turns[taken % 3];
-        let Some(pair) = wanted.get(next_place(end, fronts, taken, wanted.len())) else {
-            return false;
+        let at = match end {
+            End::Front => first,
+            End::Back => last.saturating_sub(1),
         };
-        if !steps(iter, end, *pair) {
-            return false;
+        match wanted.get(at) {
+            Some(pair) if steps(iter, end, *pair) => {}
+            _ => return false,
         }
-        fronts = count_front(end, fronts);
+        match end {
+            End::Front => first = first.saturating_add(1),
+            End::Back => last = at,
+        }
     }
     iter.next().is_none() && iter.next_back().is_none() && iter.next().is_none()
 }
