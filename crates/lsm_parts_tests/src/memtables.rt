@@ -1,22 +1,39 @@
 // Look-ups, sizes and bounds of a memtable, and how many steps its calls take.
-use crate::samples::{Bounds, all, entry, excluded, included, set, tombstone};
-use lsm_below::{InternalValue, SeqNo};
+use crate::samples::Edge::{In, Out};
+use crate::samples::{ALL, Edge, Entry, bounds, filled, item};
+use lsm_below::SeqNo;
 use lsm_parts::{Error, Iter, Memtable, Steps};
 use std::alloc::Global;
-use std::process::Abort;
+use std::test::Fail;
 
 // ---- look-ups
 
-fn set_two_keys(table: &mut Memtable) -> Result<(), Error> {
-    set(table, "hello-key-999991", "hello-value-999991", 0)?;
-    set(table, "hello-key-999991", "hello-value-999991-2", 1)?;
-    for seqno in [0, 255, 99] {
-        set(table, "abc", "", seqno)?;
-    }
-    Ok(())
-}
+const TWO_KEYS: [Entry; 5] = [
+    ("hello-key-999991", Some("hello-value-999991"), 0),
+    ("hello-key-999991", Some("hello-value-999991-2"), 1),
+    ("abc", Some(""), 0),
+    ("abc", Some(""), 255),
+    ("abc", Some(""), 99),
+];
 
-/// Whether a look-up finds this sequence number and value, or nothing.
+/// A key, a snapshot, and the sequence number and value that are found, or nothing.
+const LOOKUPS: [(&str, SeqNo, Option<(SeqNo, &str)>); 10] = [
+    ("abc", u64::MAX, Some((255, ""))),
+    ("abc", 100, Some((99, ""))),
+    ("abc", 50, Some((0, ""))),
+    ("abc", 0, None),
+    (
+        "hello-key-999991",
+        u64::MAX,
+        Some((1, "hello-value-999991-2")),
+    ),
+    ("hello-key-999991", 1, Some((0, "hello-value-999991"))),
+    ("hello-key-999991", 2, Some((1, "hello-value-999991-2"))),
+    ("hello-key-99999", u64::MAX, None),
+    ("hello-key-99999", 1, None),
+    ("hello-key-99999", 2, None),
+];
+
 fn finds(table: &Memtable, key: &str, snapshot: SeqNo, want: Option<(SeqNo, &str)>) -> bool {
     match (table.get(key.as_bytes(), snapshot), want) {
         (Some(entry), Some((seqno, value))) => {
@@ -27,41 +44,27 @@ fn finds(table: &Memtable, key: &str, snapshot: SeqNo, want: Option<(SeqNo, &str
     }
 }
 
-fn finds_each(rt: &impl Abort, table: &Memtable) {
-    let lookups = [
-        ("abc", u64::MAX, Some((255, ""))),
-        ("abc", 100, Some((99, ""))),
-        ("abc", 50, Some((0, ""))),
-        ("abc", 0, None),
-        (
-            "hello-key-999991",
-            u64::MAX,
-            Some((1, "hello-value-999991-2")),
-        ),
-        ("hello-key-999991", 1, Some((0, "hello-value-999991"))),
-        ("hello-key-999991", 2, Some((1, "hello-value-999991-2"))),
-        ("hello-key-99999", u64::MAX, None),
-        ("hello-key-99999", 1, None),
-        ("hello-key-99999", 2, None),
-    ];
-    for (key, snapshot, want) in lookups {
-        assert!(rt; finds(table, key, snapshot, want), "{key} at {snapshot}");
-    }
-}
-
 #[test]
-fn finds_the_newest_below_the_snapshot(rt: HostRuntime) {
-    let mut table = Memtable::new(rt.alloc(), 0);
-    assert!(rt; set_two_keys(&mut table).is_ok());
-    finds_each(&rt, &table);
+fn finds_the_newest_below_the_snapshot(rt: HostRuntime) -> Result<(), Fail> {
+    let table = filled(rt.alloc(), 0, &TWO_KEYS)?;
+    for (key, snapshot, want) in LOOKUPS {
+        assert!(rt; finds(&table, key, snapshot, want), "{key} at {snapshot}");
+    }
     drop(table);
+    Ok(())
 }
 
 // ---- sizes
 
-/// Puts an entry in, and says whether it counts these sizes and there are so many entries.
-fn counts(table: &mut Memtable, item: InternalValue, sizes: (u64, u64), len: usize) -> bool {
-    match table.insert(item) {
+/// What is put in, the sizes that are counted for it, and how many entries there are then.
+const SIZES: [(Entry, (u64, u64), usize); 3] = [
+    (("a", Some("my_value"), 0), (57, 57), 1),
+    (("a", None, 1), (49, 106), 2),
+    (("a", Some("x"), 1), (50, 156), 2),
+];
+
+fn counts(table: &mut Memtable, entry: &Entry, sizes: (u64, u64), len: usize) -> bool {
+    match table.insert(item(entry)) {
         Ok(found) => found == sizes && table.len() == len,
         Err(_) => false,
     }
@@ -70,19 +73,37 @@ fn counts(table: &mut Memtable, item: InternalValue, sizes: (u64, u64), len: usi
 #[test]
 fn counts_replaced_entries_again(rt: HostRuntime) {
     let mut table = Memtable::new(rt.alloc(), 0);
-    assert!(rt; counts(&mut table, entry("a", "my_value", 0), (57, 57), 1));
-    assert!(rt; counts(&mut table, tombstone("a", 1), (49, 106), 2));
-    assert!(rt; counts(&mut table, entry("a", "x", 1), (50, 156), 2));
-    assert_eq!(rt; table.size(), 156);
-    assert_eq!(rt; table.get_highest_seqno(), Some(1));
+    for (entry, sizes, len) in SIZES {
+        assert!(rt; counts(&mut table, &entry, sizes, len), "{len} entries");
+    }
+    assert!(rt; table.size() == 156 && table.get_highest_seqno() == Some(1));
     drop(table);
 }
 
 // ---- bounds
 
-fn set_batch(alloc: Global, table: &mut Memtable) -> Result<(), Error> {
-    let batch = vec![in alloc; entry("b", "", 1), entry("a", "", 1), entry("a", "", 2)]?;
-    table.insert_all(batch)
+/// Bounds, how many entries lie within, and the first one's sequence number.
+const BOUNDS: [((Edge, Edge), usize, Option<SeqNo>); 4] = [
+    (ALL, 3, Some(2)),
+    ((In(b"a"), Out(b"b")), 2, Some(2)),
+    ((Out(b"a"), In(b"b")), 1, Some(1)),
+    ((In(b"b"), In(b"a")), 0, None),
+];
+
+/// Bounds of a part, how many entries it gives, other bounds, and how many it gives once it is cut again.
+const CUTS: [((Edge, Edge), usize, (Edge, Edge), usize); 2] = [
+    (ALL, 3, (In(b"a"), Out(b"b")), 2),
+    ((In(b"a"), Out(b"b")), 2, (In(b"b"), In(b"b")), 0),
+];
+
+fn batch(alloc: Global) -> Result<Memtable, Error> {
+    let mut table = Memtable::new(alloc, 0);
+    table.insert_all(vec![in alloc;
+        item(&("b", Some(""), 1)),
+        item(&("a", Some(""), 1)),
+        item(&("a", Some(""), 2)),
+    ]?)?;
+    Ok(table)
 }
 
 fn number_of(entries: Iter<'_>) -> usize {
@@ -93,29 +114,45 @@ fn number_of(entries: Iter<'_>) -> usize {
     count
 }
 
-/// Whether so many entries lie within bounds, the first one with this sequence number.
-fn lends(table: &Memtable, bounds: Bounds, count: usize, first: Option<SeqNo>) -> bool {
+fn lends(table: &Memtable, edges: (Edge, Edge), count: usize, first: Option<SeqNo>) -> bool {
+    let bounds = bounds(edges);
     number_of(table.range(&bounds)) == count
         && table.range(&bounds).next().map(|entry| entry.key.seqno) == first
 }
 
-fn ends_with_b(table: &Memtable) -> bool {
+fn cuts(
+    table: &Memtable,
+    edges: (Edge, Edge),
+    count: usize,
+    again: (Edge, Edge),
+    left: usize,
+) -> bool {
+    let part = table.span().within(&bounds(edges));
+    number_of(part.iter()) == count && number_of(part.within(&bounds(again)).iter()) == left
+}
+
+fn ends_with(table: &Memtable, name: &str) -> bool {
     match table.iter().next_back() {
-        Some(entry) => entry.key.user_key.as_slice() == b"b".as_slice(),
+        Some(entry) => entry.key.user_key.as_slice() == name.as_bytes(),
         None => false,
     }
 }
 
 #[test]
-fn lends_what_lies_within_bounds(rt: HostRuntime) {
-    let mut table = Memtable::new(rt.alloc(), 0);
-    assert!(rt; set_batch(rt.alloc(), &mut table).is_ok());
-    assert!(rt; lends(&table, all(), 3, Some(2)));
-    assert!(rt; lends(&table, (included("a"), excluded("b")), 2, Some(2)));
-    assert!(rt; lends(&table, (excluded("a"), included("b")), 1, Some(1)));
-    assert!(rt; lends(&table, (included("b"), included("a")), 0, None));
-    assert!(rt; ends_with_b(&table));
+fn lends_and_cuts_what_lies_within_bounds(rt: HostRuntime) -> Result<(), Fail> {
+    let table = batch(rt.alloc())?;
+    for (edges, count, first) in BOUNDS {
+        assert!(rt; lends(&table, edges, count, first), "{count} entries");
+    }
+    for (edges, count, again, left) in CUTS {
+        assert!(rt;
+            cuts(&table, edges, count, again, left),
+            "{left} of {count}"
+        );
+    }
+    assert!(rt; ends_with(&table, "b"));
     drop(table);
+    Ok(())
 }
 
 // ---- steps
@@ -124,7 +161,7 @@ fn lends_what_lies_within_bounds(rt: HostRuntime) {
 fn moves_few(table: &mut Memtable, count: SeqNo) -> bool {
     for seqno in 0..count {
         let mut steps = Steps::new();
-        let done = table.insert_counted(entry("a", "", seqno), &mut steps);
+        let done = table.insert_counted(item(&("a", Some(""), seqno)), &mut steps);
         if done.is_err() || steps.moved > 64 {
             return false;
         }
@@ -150,8 +187,7 @@ fn takes_few_steps(rt: HostRuntime) {
     let mut table = Memtable::new(rt.alloc(), 0);
     assert!(rt; compares_few(&table, 0, 8));
     assert!(rt; moves_few(&mut table, 200));
-    assert!(rt; compares_few(&table, 200, 11));
-    assert_eq!(rt; table.len(), 200);
+    assert!(rt; compares_few(&table, 200, 11) && table.len() == 200);
     drop(table);
 }
 
@@ -163,27 +199,5 @@ fn counts_stop_at_the_greatest_number(rt: HostRuntime) {
     };
     steps.tick_compared();
     steps.tick_moved();
-    assert_eq!(rt; (steps.compared, steps.moved), (u64::MAX, u64::MAX));
-}
-
-/// Whether a part between bounds gives this many entries, and so many once it is cut again.
-fn cuts_again(
-    table: &Memtable,
-    bounds: &Bounds,
-    count: usize,
-    again: &Bounds,
-    left: usize,
-) -> bool {
-    let part = table.span().within(bounds);
-    number_of(part.iter()) == count && number_of(part.within(again).iter()) == left
-}
-
-#[test]
-fn cuts_a_part_again(rt: HostRuntime) {
-    let mut table = Memtable::new(rt.alloc(), 0);
-    assert!(rt; set_batch(rt.alloc(), &mut table).is_ok());
-    let low = (included("a"), excluded("b"));
-    assert!(rt; cuts_again(&table, &all(), 3, &low, 2));
-    assert!(rt; cuts_again(&table, &low, 2, &(included("b"), included("b")), 0));
-    drop(table);
+    assert!(rt; steps.compared == u64::MAX && steps.moved == u64::MAX);
 }

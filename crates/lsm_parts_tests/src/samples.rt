@@ -1,9 +1,7 @@
-// What several tests make, and how they look at what they are given.
-use lsm_below::{InternalValue, SeqNo, UserKey, UserValue, ValueType};
+// What several tests make of rows of data, and how they look at what iterators give.
+use lsm_below::{InternalValue, MemtableId, SeqNo, UserKey, UserValue, ValueType};
 use lsm_iter::{Guard, IterGuard, TreeIter};
-use lsm_parts::{Config, Error, Memtable};
-use lsm_state::TreeState;
-use lsm_store::MemStore;
+use lsm_parts::{Error, Memtable};
 use std::alloc::Global;
 use std::ops::Bound;
 
@@ -12,75 +10,114 @@ pub type Bounds = (Bound<UserKey>, Bound<UserKey>);
 /// The number of what an index holds.
 pub const INDEX: SeqNo = 9_223_372_036_854_775_808;
 
+/// A key, its value or None for a tombstone, and its number.
+pub type Entry = (&'static str, Option<&'static str>, SeqNo);
+
+/// What an index has: a is set and b removed.
+pub const OVER_A_B: [Entry; 2] = [("a", Some("o"), INDEX), ("b", None, INDEX)];
+
+/// An end of a range of keys.
+#[derive(Clone, Copy)]
+pub enum Edge {
+    Open,
+    /// Included.
+    In(&'static [u8]),
+    /// Excluded.
+    Out(&'static [u8]),
+}
+
+pub const ALL: (Edge, Edge) = (Edge::Open, Edge::Open);
+
 pub fn key(text: &'static str) -> UserKey {
     UserKey::from_static(text.as_bytes())
-}
-
-pub fn all() -> Bounds {
-    (Bound::Unbounded, Bound::Unbounded)
-}
-
-pub fn included(text: &'static str) -> Bound<UserKey> {
-    Bound::Included(key(text))
-}
-
-pub fn excluded(text: &'static str) -> Bound<UserKey> {
-    Bound::Excluded(key(text))
 }
 
 pub fn value(text: &'static str) -> UserValue {
     UserValue::from_static(text.as_bytes())
 }
 
-pub fn entry(name: &'static str, text: &'static str, seqno: SeqNo) -> InternalValue {
-    InternalValue::from_components(key(name), value(text), seqno, ValueType::Value)
-}
-
-pub fn tombstone(name: &'static str, seqno: SeqNo) -> InternalValue {
-    InternalValue::new_tombstone(key(name), seqno)
-}
-
-pub fn set(
-    table: &mut Memtable,
-    name: &'static str,
-    text: &'static str,
-    seqno: SeqNo,
-) -> Result<(), Error> {
-    table.insert(entry(name, text, seqno))?;
-    Ok(())
-}
-
-pub fn remove(table: &mut Memtable, name: &'static str, seqno: SeqNo) -> Result<(), Error> {
-    table.insert(tombstone(name, seqno))?;
-    Ok(())
-}
-
-/// Sets a and removes b in an index.
-pub fn set_over_a_b(index: &mut Memtable) -> Result<(), Error> {
-    set(index, "a", "o", INDEX)?;
-    remove(index, "b", INDEX)
-}
-
-pub fn open(alloc: Global) -> Result<TreeState, Error> {
-    match TreeState::open(alloc, Config::new(0, 0, 0), MemStore::new(alloc)) {
-        Ok(tree) => Ok(tree),
-        Err((error, _)) => Err(error),
+pub fn item(entry: &Entry) -> InternalValue {
+    match entry.1 {
+        Some(text) => InternalValue::from_components(
+            key(entry.0),
+            value(text),
+            entry.2,
+            ValueType::Value,
+        ),
+        None => InternalValue::new_tombstone(key(entry.0), entry.2),
     }
 }
 
-pub fn has_key(guard: Guard, name: &[u8]) -> bool {
-    match guard.key() {
-        Ok(key) => key.as_slice() == name,
-        Err(_) => false,
+/// A memtable of these entries.
+pub fn filled(alloc: Global, id: MemtableId, entries: &[Entry]) -> Result<Memtable, Error> {
+    let mut table = Memtable::new(alloc, id);
+    for entry in entries {
+        table.insert(item(entry))?;
+    }
+    Ok(table)
+}
+
+fn bound(edge: Edge) -> Bound<UserKey> {
+    match edge {
+        Edge::Open => Bound::Unbounded,
+        Edge::In(key) => Bound::Included(UserKey::from_static(key)),
+        Edge::Out(key) => Bound::Excluded(UserKey::from_static(key)),
     }
 }
 
-/// Whether a pair of this key was given.
-pub fn gives(guard: Option<Guard>, name: &[u8]) -> bool {
+pub fn bounds(edges: (Edge, Edge)) -> Bounds {
+    (bound(edges.0), bound(edges.1))
+}
+
+// ---- what is given
+
+/// Whether a pair of this key was given: none where the name is empty.
+pub fn gives(guard: Option<Guard>, name: &str) -> bool {
     match guard {
-        Some(guard) => has_key(guard, name),
-        None => false,
+        Some(guard) => match guard.key() {
+            Ok(key) => key.as_slice() == name.as_bytes(),
+            Err(_) => false,
+        },
+        None => name.is_empty(),
     }
+}
+
+/// Whether an entry of this sequence number was given.
+fn has_number(entry: Option<Result<InternalValue, Error>>, seqno: SeqNo) -> bool {
+    match entry {
+        Some(Ok(entry)) => entry.key.seqno == seqno,
+        _ => false,
+    }
+}
+
+/// A step of an iterator, and what it gives: a key, none where it is empty, or the number of an entry.
+#[derive(Clone, Copy)]
+pub enum Turn {
+    Front(&'static str),
+    Back(&'static str),
+    FrontEntry(SeqNo),
+    BackEntry(SeqNo),
+}
+
+fn turns_so(iter: &mut TreeIter, turn: Turn) -> bool {
+    match turn {
+        Turn::Front(name) => gives(iter.next(), name),
+        Turn::Back(name) => gives(iter.next_back(), name),
+        Turn::FrontEntry(seqno) => has_number(iter.next_entry(), seqno),
+        Turn::BackEntry(seqno) => has_number(iter.next_entry_back(), seqno),
+    }
+}
+
+/// Whether an iterator takes all these steps so.
+pub fn takes(iter: Result<TreeIter, Error>, turns: &[Turn]) -> bool {
+    let Ok(mut iter) = iter else {
+        return false;
+    };
+    let mut right = true;
+    for turn in turns {
+        right = right && turns_so(&mut iter, *turn);
+    }
+    right
 }
 
 /// The keys and values that are given, one after the other.

@@ -1,0 +1,223 @@
+// Scripts on a tree: rows, jobs that stay open over rows, and crashes between them.
+use crate::rows::{Row, plays};
+use crate::steps::{Told, flushes_times, registered, written};
+use crate::works::begin_merge;
+use lsm_below::{SeqNo, TableId};
+use lsm_merges::{CompactionJob, MergedCompaction};
+use lsm_parts::{Config, Error};
+use lsm_state::{Finished, TreeState};
+use lsm_store::{Fault, MemStore};
+use std::alloc::Global;
+use std::process::Abort;
+use std::test::Fail;
+
+/// How a store comes to be opened again.
+#[derive(Clone, Copy)]
+pub enum Opening {
+    /// As a crash leaves it.
+    Crashed,
+    /// As it is, with a call of it that fails.
+    Failing(u64, Fault),
+}
+
+/// What becomes of the job of a merge.
+#[derive(Clone, Copy)]
+pub enum End {
+    /// It is finished, with rows before it is run and before that.
+    Finished(&'static [Row], &'static [Row]),
+    /// It is given up behind these rows.
+    GivenUp(&'static [Row]),
+    /// It is finished in another tree.
+    Elsewhere,
+}
+
+/// A part of a script.
+#[derive(Clone, Copy)]
+pub enum Part {
+    Plays(&'static [Row]),
+    /// A begins to be flushed so many times.
+    Fill(u32),
+    /// A flush with rows before it is run and before its tables are registered, and how it ends.
+    FlushOver(&'static [Row], &'static [Row], Told),
+    /// A flush that is given up behind these rows.
+    FlushGivenUp(&'static [Row]),
+    /// A merge of tables into a level, what becomes of its job, and what is answered.
+    Merge(&'static [TableId], u8, End, Told),
+    /// The tree is opened again, with its counters from a number on.
+    Reopen(Opening, SeqNo),
+}
+
+/// What a script shows, and its parts.
+pub type Script = (&'static str, &'static [Part]);
+
+// ---- opening
+
+pub fn open(alloc: Global, next: SeqNo, store: MemStore) -> Result<TreeState, Error> {
+    match TreeState::open(alloc, Config::new(0, next, next), store) {
+        Ok(tree) => Ok(tree),
+        Err((error, _)) => Err(error),
+    }
+}
+
+fn opened_as(mut store: MemStore, opening: Opening) -> Result<MemStore, Error> {
+    match opening {
+        Opening::Crashed => match store.crash(&[])? {
+            Some(left) => Ok(left),
+            None => Err(Error::Unrecoverable),
+        },
+        Opening::Failing(call, fault) => {
+            store.fail(call, fault);
+            Ok(store)
+        }
+    }
+}
+
+fn reopened(
+    alloc: Global,
+    tree: TreeState,
+    opening: Opening,
+    next: SeqNo,
+) -> Result<TreeState, Error> {
+    open(alloc, next, opened_as(tree.into_store(), opening)?)
+}
+
+// ---- jobs
+
+fn told_if(right: bool, told: Told) -> Told {
+    if right { told } else { Told::Wrong }
+}
+
+fn flush_over(
+    alloc: Global,
+    tree: &mut TreeState,
+    first: &[Row],
+    then: &[Row],
+) -> Result<Told, Error> {
+    let Some(job) = tree.begin_flush()? else {
+        return Ok(Told::Nothing);
+    };
+    let before = plays(alloc, tree, first);
+    let written = written(tree, job, 0)?;
+    let right = plays(alloc, tree, then) && before;
+    Ok(told_if(right, registered(tree, written)?))
+}
+
+fn flush_given_up(alloc: Global, tree: &mut TreeState, rows: &[Row]) -> Result<bool, Error> {
+    let Some(job) = tree.begin_flush()? else {
+        return Ok(false);
+    };
+    let right = plays(alloc, tree, rows);
+    tree.abandon_flush(job);
+    Ok(right)
+}
+
+fn merged(job: CompactionJob) -> Result<MergedCompaction, Error> {
+    match job.run() {
+        Ok(merged) => Ok(merged),
+        Err((error, _)) => Err(error),
+    }
+}
+
+fn finished(tree: &mut TreeState, merged: MergedCompaction) -> Result<Told, Error> {
+    match tree.finish_compaction(merged)? {
+        Finished::Installed => Ok(Told::Installed),
+        Finished::Declined(why) => Ok(Told::Declined(why)),
+    }
+}
+
+fn merge_over(
+    alloc: Global,
+    tree: &mut TreeState,
+    job: CompactionJob,
+    first: &[Row],
+    then: &[Row],
+) -> Result<Told, Error> {
+    let before = plays(alloc, tree, first);
+    let merged = merged(job)?;
+    let right = plays(alloc, tree, then) && before;
+    Ok(told_if(right, finished(tree, merged)?))
+}
+
+/// A merge is finished in a new tree.
+fn finished_elsewhere(alloc: Global, job: CompactionJob) -> Result<Told, Error> {
+    let mut other = open(alloc, 0, MemStore::new(alloc))?;
+    let told = match merged(job) {
+        Ok(merged) => finished(&mut other, merged),
+        Err(error) => Err(error),
+    };
+    drop(other);
+    told
+}
+
+fn given_up(alloc: Global, tree: &mut TreeState, job: CompactionJob, rows: &[Row]) -> Told {
+    let right = plays(alloc, tree, rows);
+    tree.abandon_compaction(job);
+    told_if(right, Told::Nothing)
+}
+
+fn ended(alloc: Global, tree: &mut TreeState, job: CompactionJob, end: End) -> Result<Told, Error> {
+    match end {
+        End::Finished(first, then) => merge_over(alloc, tree, job, first, then),
+        End::GivenUp(rows) => Ok(given_up(alloc, tree, job, rows)),
+        End::Elsewhere => finished_elsewhere(alloc, job),
+    }
+}
+
+fn merges(
+    alloc: Global,
+    tree: &mut TreeState,
+    list: &[TableId],
+    to: u8,
+    end: End,
+) -> Result<Told, Error> {
+    match begin_merge(alloc, tree, list, to)? {
+        Some(job) => ended(alloc, tree, job, end),
+        None => Ok(Told::Wrong),
+    }
+}
+
+// ---- all
+
+fn is_right(alloc: Global, tree: &mut TreeState, part: Part) -> Result<bool, Error> {
+    match part {
+        Part::Plays(rows) => Ok(plays(alloc, tree, rows)),
+        Part::Fill(times) => Ok(flushes_times(alloc, tree, times)),
+        Part::FlushOver(first, then, told) => Ok(flush_over(alloc, tree, first, then)? == told),
+        Part::FlushGivenUp(rows) => flush_given_up(alloc, tree, rows),
+        Part::Merge(list, to, end, told) => Ok(merges(alloc, tree, list, to, end)? == told),
+        Part::Reopen(..) => Ok(true),
+    }
+}
+
+/// The tree behind a part, and whether that is as it says.
+fn behind(alloc: Global, mut tree: TreeState, part: Part) -> Result<(TreeState, bool), Error> {
+    if let Part::Reopen(opening, next) = part {
+        return Ok((reopened(alloc, tree, opening, next)?, true));
+    }
+    let right = is_right(alloc, &mut tree, part)?;
+    Ok((tree, right))
+}
+
+/// The place of the first part of a script in a new tree that isn't as it says.
+fn first_wrong(alloc: Global, parts: &[Part]) -> Result<Option<usize>, Error> {
+    let mut tree = open(alloc, 0, MemStore::new(alloc))?;
+    let mut wrong = None;
+    for (place, part) in parts.iter().enumerate() {
+        let (next, right) = behind(alloc, tree, *part)?;
+        tree = next;
+        if !right && wrong.is_none() {
+            wrong = Some(place);
+        }
+    }
+    drop(tree);
+    Ok(wrong)
+}
+
+/// Plays each script in a tree of its own.
+pub fn play_all(rt: &impl Abort, alloc: Global, scripts: &[Script]) -> Result<(), Fail> {
+    for script in scripts {
+        let wrong = first_wrong(alloc, script.1)?;
+        assert!(rt; wrong.is_none(), "{}: {wrong:?}", script.0);
+    }
+    Ok(())
+}
