@@ -7,7 +7,7 @@ use crate::scripts::Part::{FlushOver, Merge, Plays, Reopen};
 use crate::scripts::{End, Script, play_all};
 use crate::steps::Step::{Clear, Compact, Flush, Forget, Rotate, Set};
 use crate::steps::Told::{Declined, Done, Number, Refused, RefusedSealed, Sealed, Stale};
-use crate::works::Work;
+use crate::works::{Kind, Work};
 use lsm_choices::Why;
 use lsm_store::Fault;
 use std::test::Fail;
@@ -19,7 +19,7 @@ const SNAPSHOTS: [Script; 3] = [
             Does(Set("a", "x"), Number(0)),
             Does(Flush(0), Done),
             Does(Set("b", "y"), Number(2)),
-            Does(Rotate, Sealed(1)),
+            Does(Rotate, Sealed(Some(1))),
             Does(Set("c", "z"), Number(3)),
             Does(Clear, Number(4)),
             Does(Set("b", "w"), Number(5)),
@@ -55,7 +55,10 @@ const SNAPSHOTS: [Script; 3] = [
             Does(Set("a", "x"), Number(0)),
             Does(Flush(0), Done),
             Does(Clear, Number(2)),
-            Does(Compact(Work::Move(&[0], 6)), Declined(Why::Missing)),
+            Does(
+                Compact(Work::Choose(Kind::Move, &[0], 6)),
+                Declined(Why::Missing),
+            ),
             Shows("a", 2, "x"),
             Shows("a", 3, ""),
             Has(Count::Tables, 0),
@@ -76,7 +79,7 @@ const FORGOTTEN: [Script; 3] = [
             Does(Set("a", "x"), Number(0)),
             Does(Flush(0), Done),
             Does(Set("b", "y"), Number(2)),
-            Does(Rotate, Sealed(1)),
+            Does(Rotate, Sealed(Some(1))),
             Does(Set("c", "z"), Number(3)),
             Does(Forget, Done),
             Shows("a", 1, "x"),
@@ -89,7 +92,7 @@ const FORGOTTEN: [Script; 3] = [
         "nothing is forgotten where nothing was written",
         &[Plays(&[
             Does(Set("b", "y"), Number(0)),
-            Does(Rotate, Sealed(0)),
+            Does(Rotate, Sealed(Some(0))),
             Does(Forget, Done),
             Shows("b", 1, "y"),
         ])],
@@ -117,7 +120,10 @@ fn what_is_not_flushed_is_forgotten(rt: HostRuntime) -> Result<(), Fail> {
 // ---- jobs that come too late
 
 /// b = y (0), sealed.
-const SEALED: [Row; 2] = [Does(Set("b", "y"), Number(0)), Does(Rotate, Sealed(0))];
+const SEALED: [Row; 2] = [
+    Does(Set("b", "y"), Number(0)),
+    Does(Rotate, Sealed(Some(0))),
+];
 
 const LATE: [Script; 3] = [
     (

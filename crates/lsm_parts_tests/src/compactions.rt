@@ -1,12 +1,12 @@
 // Compactions of a tree: which are declined and why, and what is left of old snapshots.
-use crate::rows::Row::{Does, Has, Shows, TooOld};
-use crate::rows::{Count, Row};
+use crate::rows::Row::{Does, Has, Shows};
+use crate::rows::{Count, Row, TOO_OLD};
 use crate::samples::Edge::In;
 use crate::scripts::Part::{Merge, Plays};
 use crate::scripts::{End, Script, play_all};
 use crate::steps::Step::{Compact, Del, Flush, Set};
 use crate::steps::Told::{Declined, Done, Installed, Job, Nothing, Number};
-use crate::works::Work;
+use crate::works::{Kind, Work};
 use lsm_choices::Why;
 use std::test::Fail;
 
@@ -27,7 +27,7 @@ const EVICTIONS: [Script; 3] = [
             Plays(&[
                 Does(Compact(Work::Major(5)), Installed),
                 Has(Count::Tables, 0),
-                TooOld("a", 4),
+                Shows("a", 4, TOO_OLD),
                 Shows("a", 5, ""),
                 Shows("a", 6, ""),
             ]),
@@ -51,11 +51,17 @@ const EVICTIONS: [Script; 3] = [
         &[Plays(&[
             Does(Set("a", "1"), Number(0)),
             Does(Flush(0), Done),
-            Does(Compact(Work::Move(&[0], 5)), Installed),
+            Does(Compact(Work::Choose(Kind::Move, &[0], 5)), Installed),
             Does(Set("a", "2"), Number(3)),
             Does(Flush(0), Done),
-            Does(Compact(Work::Move(&[1], 6)), Declined(Why::Order)),
-            Does(Compact(Work::Move(&[1], 7)), Declined(Why::NoSuchLevel)),
+            Does(
+                Compact(Work::Choose(Kind::Move, &[1], 6)),
+                Declined(Why::Order),
+            ),
+            Does(
+                Compact(Work::Choose(Kind::Move, &[1], 7)),
+                Declined(Why::NoSuchLevel),
+            ),
             Shows("a", 5, "2"),
             Shows("a", 2, "1"),
         ])],
@@ -81,7 +87,7 @@ const TWICE: [Row; 4] = [
 const BELOW: [Row; 5] = [
     Does(Set("a", "1"), Number(0)),
     Does(Flush(0), Done),
-    Does(Compact(Work::Move(&[0], 6)), Installed),
+    Does(Compact(Work::Choose(Kind::Move, &[0], 6)), Installed),
     Does(Set("a", "2"), Number(3)),
     Does(Flush(0), Done),
 ];
@@ -103,7 +109,10 @@ const REASONS: [Script; 10] = [
         &[
             Plays(&TWICE),
             Plays(&[
-                Does(Compact(Work::Move(&[0, 1], 6)), Declined(Why::Overlap)),
+                Does(
+                    Compact(Work::Choose(Kind::Move, &[0, 1], 6)),
+                    Declined(Why::Overlap),
+                ),
                 Has(Count::Next, 4),
             ]),
         ],
@@ -113,7 +122,10 @@ const REASONS: [Script; 10] = [
         &[
             Plays(&TWICE),
             Plays(&[
-                Does(Compact(Work::Move(&[0], 7)), Declined(Why::NoSuchLevel)),
+                Does(
+                    Compact(Work::Choose(Kind::Move, &[0], 7)),
+                    Declined(Why::NoSuchLevel),
+                ),
                 Has(Count::Next, 4),
             ]),
         ],
@@ -123,7 +135,10 @@ const REASONS: [Script; 10] = [
         &[
             Plays(&TWICE),
             Plays(&[
-                Does(Compact(Work::Merge(&[0], 7)), Declined(Why::NoSuchLevel)),
+                Does(
+                    Compact(Work::Choose(Kind::Merge, &[0], 7)),
+                    Declined(Why::NoSuchLevel),
+                ),
                 Has(Count::Next, 4),
             ]),
         ],
@@ -133,7 +148,10 @@ const REASONS: [Script; 10] = [
         &[
             Plays(&TWICE),
             Plays(&[
-                Does(Compact(Work::Move(&[2], 6)), Declined(Why::Missing)),
+                Does(
+                    Compact(Work::Choose(Kind::Move, &[2], 6)),
+                    Declined(Why::Missing),
+                ),
                 Has(Count::Next, 4),
             ]),
         ],
@@ -143,7 +161,10 @@ const REASONS: [Script; 10] = [
         &[
             Plays(&TWICE),
             Plays(&[
-                Does(Compact(Work::Drop(&[2])), Declined(Why::Missing)),
+                Does(
+                    Compact(Work::Choose(Kind::Drop, &[2], 0)),
+                    Declined(Why::Missing),
+                ),
                 Has(Count::Next, 4),
             ]),
         ],
@@ -153,7 +174,10 @@ const REASONS: [Script; 10] = [
         &[
             Plays(&TWICE),
             Plays(&[
-                Does(Compact(Work::Move(&[1], 6)), Declined(Why::Order)),
+                Does(
+                    Compact(Work::Choose(Kind::Move, &[1], 6)),
+                    Declined(Why::Order),
+                ),
                 Has(Count::Next, 4),
             ]),
         ],
@@ -163,7 +187,10 @@ const REASONS: [Script; 10] = [
         &[
             Plays(&BELOW),
             Plays(&[
-                Does(Compact(Work::Move(&[1], 6)), Declined(Why::Eviction)),
+                Does(
+                    Compact(Work::Choose(Kind::Move, &[1], 6)),
+                    Declined(Why::Eviction),
+                ),
                 Has(Count::Next, 5),
             ]),
         ],
@@ -173,7 +200,10 @@ const REASONS: [Script; 10] = [
         &[
             Plays(&BELOW),
             Plays(&[
-                Does(Compact(Work::Merge(&[1], 6)), Declined(Why::Eviction)),
+                Does(
+                    Compact(Work::Choose(Kind::Merge, &[1], 6)),
+                    Declined(Why::Eviction),
+                ),
                 Has(Count::Next, 5),
             ]),
         ],
@@ -183,7 +213,7 @@ const REASONS: [Script; 10] = [
         &[
             Plays(&BELOW),
             Plays(&[
-                Does(Compact(Work::Merge(&[0, 1], 6)), Job),
+                Does(Compact(Work::Choose(Kind::Merge, &[0, 1], 6)), Job),
                 Has(Count::Next, 5),
             ]),
         ],
@@ -193,7 +223,10 @@ const REASONS: [Script; 10] = [
         &[
             Plays(&THREE),
             Plays(&[
-                Does(Compact(Work::Merge(&[0, 2], 6)), Declined(Why::Gap)),
+                Does(
+                    Compact(Work::Choose(Kind::Merge, &[0, 2], 6)),
+                    Declined(Why::Gap),
+                ),
                 Has(Count::Next, 6),
             ]),
         ],
@@ -223,7 +256,10 @@ const OPEN: [Script; 4] = [
                     Has(Count::Compacting, 1),
                     Does(Compact(Work::Major(0)), Nothing),
                     Does(Compact(Work::DropRange(In(b"a"), In(b"z"))), Nothing),
-                    Does(Compact(Work::Move(&[0], 6)), Declined(Why::Hidden)),
+                    Does(
+                        Compact(Work::Choose(Kind::Move, &[0], 6)),
+                        Declined(Why::Hidden),
+                    ),
                 ]),
                 Nothing,
             ),

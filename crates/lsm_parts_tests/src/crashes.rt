@@ -44,7 +44,7 @@ fn take_all(alloc: Global, tree: &mut TreeState, steps: &[Step]) -> usize {
     let mut writes: usize = 0;
     let mut covered: usize = 0;
     for step in steps {
-        match (take(alloc, tree, *step), step) {
+        match (take(alloc, tree, step), step) {
             (Told::Number(_), _) => writes = writes.saturating_add(1),
             (Told::Done, Step::Flush(_)) => covered = writes,
             _ => {}

@@ -1,6 +1,6 @@
 // Flushes of a tree, old snapshots over them, and what a crash leaves.
-use crate::rows::Row::{Does, Has, Reads, Shows, TooOld};
-use crate::rows::{Count, Row};
+use crate::rows::Row::{Does, Has, Reads, Shows};
+use crate::rows::{Count, Row, TOO_OLD};
 use crate::scripts::Opening::{Crashed, Failing};
 use crate::scripts::Part::{Fill, FlushGivenUp, FlushOver, Plays, Reopen};
 use crate::scripts::{Script, play_all};
@@ -29,7 +29,7 @@ const SNAPSHOTS: [Script; 3] = [
             Does(FlushParts(0), Installed),
             Does(Set("a", "2"), Number(2)),
             Does(FlushParts(3), Installed),
-            TooOld("a", 1),
+            Shows("a", 1, TOO_OLD),
             Shows("a", 2, "1"),
             Shows("a", 3, "2"),
             Shows("a", 4, "2"),
@@ -62,7 +62,7 @@ const JOBS: [Script; 3] = [
             Plays(&[
                 Does(BeginFlush, Nothing),
                 Does(Set("a", "x"), Number(0)),
-                Does(Rotate, Sealed(0)),
+                Does(Rotate, Sealed(Some(0))),
             ]),
             FlushGivenUp(&[Does(BeginFlush, Refused(13))]),
             Plays(&[Does(BeginFlush, Job)]),
@@ -71,9 +71,15 @@ const JOBS: [Script; 3] = [
     (
         "what is sealed meanwhile stays sealed",
         &[
-            Plays(&[Does(Set("a", "x"), Number(0)), Does(Rotate, Sealed(0))]),
+            Plays(&[
+                Does(Set("a", "x"), Number(0)),
+                Does(Rotate, Sealed(Some(0))),
+            ]),
             FlushOver(
-                &[Does(Set("a", "y"), Number(1)), Does(Rotate, Sealed(1))],
+                &[
+                    Does(Set("a", "y"), Number(1)),
+                    Does(Rotate, Sealed(Some(1))),
+                ],
                 &[],
                 Installed,
             ),

@@ -1,11 +1,10 @@
 // What a guard hands out.
-use crate::samples::{key, value};
+use crate::samples::bytes;
 use lsm_below::{UserKey, UserValue};
 use lsm_iter::{Guard, IterGuard};
 use lsm_parts::Error;
 
 /// What a guard is asked for.
-#[derive(Clone, Copy)]
 enum Ask {
     Key,
     Size,
@@ -27,12 +26,12 @@ fn of_length(guard: Guard, len: usize) -> Result<Given, Error> {
     Ok((Some(key), value, None))
 }
 
-fn given(guard: Guard, ask: Ask) -> Result<Given, Error> {
+fn given(guard: Guard, ask: &Ask) -> Result<Given, Error> {
     match ask {
         Ask::Key => Ok((Some(guard.key()?), None, None)),
         Ask::Size => Ok((None, None, Some(guard.size()?))),
         Ask::Pair => whole(guard),
-        Ask::PairIf(len) => of_length(guard, len),
+        Ask::PairIf(len) => of_length(guard, *len),
     }
 }
 
@@ -45,33 +44,23 @@ const GIVEN: [(Ask, Option<&str>, Option<&str>, Option<u32>); 5] = [
     (Ask::PairIf(0), Some("a"), None, None),
 ];
 
-fn is_key(found: &Option<UserKey>, want: Option<&str>) -> bool {
+fn is(found: Option<UserKey>, want: Option<&str>) -> bool {
     match (found, want) {
-        (Some(key), Some(text)) => key.as_slice() == text.as_bytes(),
+        (Some(found), Some(text)) => found.as_slice() == text.as_bytes(),
         (None, None) => true,
         _ => false,
     }
 }
 
-fn is_value(found: &Option<UserValue>, want: Option<&str>) -> bool {
-    match (found, want) {
-        (Some(value), Some(text)) => value.as_slice() == text.as_bytes(),
-        (None, None) => true,
-        _ => false,
-    }
-}
-
-fn hands_out(ask: Ask, want: (Option<&str>, Option<&str>, Option<u32>)) -> bool {
-    match given(Guard::new(Ok((key("a"), value("xyz")))), ask) {
-        Ok((key, value, size)) => {
-            is_key(&key, want.0) && is_value(&value, want.1) && size == want.2
-        }
+fn hands_out(row: &(Ask, Option<&str>, Option<&str>, Option<u32>)) -> bool {
+    match given(Guard::new(Ok((bytes("a"), bytes("xyz")))), &row.0) {
+        Ok((key, value, size)) => is(key, row.1) && is(value, row.2) && size == row.3,
         Err(_) => false,
     }
 }
 
 /// Whether a guard without a pair says why.
-fn says_why(ask: Ask) -> bool {
+fn says_why(ask: &Ask) -> bool {
     matches!(
         given(Guard::new(Err(Error::OutOfMemory)), ask),
         Err(Error::OutOfMemory)
@@ -80,8 +69,7 @@ fn says_why(ask: Ask) -> bool {
 
 #[test]
 fn a_guard_hands_out_what_is_wanted(rt: HostRuntime) {
-    for (ask, key, value, size) in GIVEN {
-        assert!(rt; hands_out(ask, (key, value, size)));
-        assert!(rt; says_why(ask));
+    for (place, row) in GIVEN.iter().enumerate() {
+        assert!(rt; hands_out(row) && says_why(&row.0), "row {place}");
     }
 }

@@ -1,15 +1,15 @@
 // What iterators give over memtables, from both ends.
-use crate::samples::Edge::{In, Out};
+use crate::samples::Edge::{In, Open, Out};
 use crate::samples::Turn::{Back, BackEntry, Front, FrontEntry};
-use crate::samples::{ALL, Edge, Entry, INDEX, OVER_A_B, Turn, bounds, filled, is, lists, takes};
+use crate::samples::{Edge, Entry, INDEX, OVER_A_B, Turn, bounds, filled, is, lists, takes};
 use lsm_below::{InternalValue, SeqNo};
 use lsm_iter::{End, IterGuard, IterState, TreeIter, end_shown, take_ends};
 use lsm_parts::{Error, Memtable, Version};
 use std::alloc::Global;
+use std::process::Abort;
 use std::test::Fail;
 
 /// What is asked of what a snapshot shows, and what is given.
-#[derive(Clone, Copy)]
 enum Ask {
     /// What is listed within bounds.
     Range(Edge, Edge, &'static str),
@@ -55,20 +55,16 @@ const BENEATH: Shown = (&[&A_B], INDEX);
 
 const SNAPSHOTS: [Row; 8] = [
     // A snapshot sees what is below it.
-    (ONE, 3, Ask::Range(Edge::Open, Edge::Open, "1x3y5z")),
-    (ONE, 2, Ask::Range(Edge::Open, Edge::Open, "1x3y")),
-    (ONE, 0, Ask::Range(Edge::Open, Edge::Open, "")),
+    (ONE, 3, Ask::Range(Open, Open, "1x3y5z")),
+    (ONE, 2, Ask::Range(Open, Open, "1x3y")),
+    (ONE, 0, Ask::Range(Open, Open, "")),
     // The newest source is no matter, but the number is.
-    (BOTH, 9, Ask::Range(Edge::Open, Edge::Open, "1x3w")),
-    (BOTH, 8, Ask::Range(Edge::Open, Edge::Open, "1x3w5z")),
-    (
-        (&[&ODD, &CHANGED], 0),
-        9,
-        Ask::Range(Edge::Open, Edge::Open, "1x3w"),
-    ),
+    (BOTH, 9, Ask::Range(Open, Open, "1x3w")),
+    (BOTH, 8, Ask::Range(Open, Open, "1x3w5z")),
+    ((&[&ODD, &CHANGED], 0), 9, Ask::Range(Open, Open, "1x3w")),
     // An index counts below its own number.
-    (OVER, 2, Ask::Range(Edge::Open, Edge::Open, "ao")),
-    (BENEATH, 2, Ask::Range(Edge::Open, Edge::Open, "axby")),
+    (OVER, 2, Ask::Range(Open, Open, "ao")),
+    (BENEATH, 2, Ask::Range(Open, Open, "axby")),
 ];
 
 const BOUNDS: [Row; 6] = [
@@ -132,14 +128,14 @@ fn state<'a>(
 // ---- what is given
 
 fn taken(alloc: Global, mut iter: TreeIter, ends: &[End]) -> Result<Vec<u8>, Error> {
-    let mut bytes = Vec::new(alloc);
+    let mut keys = Vec::new(alloc);
     for pair in take_ends(alloc, &mut iter, ends)? {
         match pair {
-            Some(guard) => bytes.extend_from_slice(guard.key()?.as_slice())?,
-            None => bytes.push(b'-')?,
+            Some(guard) => keys.extend_from_slice(guard.key()?.as_slice())?,
+            None => keys.push(b'-')?,
         }
     }
-    Ok(bytes)
+    Ok(keys)
 }
 
 fn takes_so(alloc: Global, iter: Result<TreeIter, Error>, ends: &[End], text: &str) -> bool {
@@ -163,7 +159,7 @@ fn ends_so(
     snapshot: SeqNo,
     want: (Option<SeqNo>, Option<SeqNo>),
 ) -> bool {
-    let all = bounds(ALL);
+    let all = bounds(&Open, &Open);
     is_numbered(end_shown(alloc, state, End::Front, &all, snapshot), want.0)
         && is_numbered(end_shown(alloc, state, End::Back, &all, snapshot), want.1)
 }
@@ -171,30 +167,33 @@ fn ends_so(
 fn range(
     alloc: Global,
     state: &IterState<'_>,
-    edges: (Edge, Edge),
     snapshot: SeqNo,
+    low: &Edge,
+    high: &Edge,
 ) -> Result<TreeIter, Error> {
-    TreeIter::create_range(alloc, state, &bounds(edges), snapshot)
+    TreeIter::create_range(alloc, state, &bounds(low, high), snapshot)
 }
 
-fn prefix(
-    alloc: Global,
-    state: &IterState<'_>,
-    prefix: &str,
-    snapshot: SeqNo,
-) -> Result<TreeIter, Error> {
-    TreeIter::create_prefix(alloc, state, prefix.as_bytes(), snapshot)
-}
-
-fn answers(alloc: Global, state: &IterState<'_>, snapshot: SeqNo, ask: Ask) -> bool {
+fn answers(alloc: Global, state: &IterState<'_>, snapshot: SeqNo, ask: &Ask) -> bool {
     match ask {
         Ask::Range(low, high, text) => {
-            lists(alloc, range(alloc, state, (low, high), snapshot), text)
+            lists(alloc, range(alloc, state, snapshot, low, high), *text)
         }
-        Ask::Prefix(name, text) => lists(alloc, prefix(alloc, state, name, snapshot), text),
-        Ask::Steps(turns) => takes(range(alloc, state, ALL, snapshot), turns),
-        Ask::Takes(ends, text) => takes_so(alloc, range(alloc, state, ALL, snapshot), ends, text),
-        Ask::Ends(first, last) => ends_so(alloc, state, snapshot, (first, last)),
+        Ask::Prefix(name, text) => lists(
+            alloc,
+            TreeIter::create_prefix(alloc, state, name.as_bytes(), snapshot),
+            *text,
+        ),
+        Ask::Steps(turns) => takes(range(alloc, state, snapshot, &Open, &Open), *turns),
+        Ask::Takes(ends, text) => {
+            takes_so(
+                alloc,
+                range(alloc, state, snapshot, &Open, &Open),
+                *ends,
+                *text,
+            )
+        }
+        Ask::Ends(first, last) => ends_so(alloc, state, snapshot, (*first, *last)),
     }
 }
 
@@ -206,46 +205,37 @@ fn answers_over(
 ) -> bool {
     let version = Version::new(alloc, 0);
     match state(alloc, &version, tables, index) {
-        Ok(state) => answers(alloc, &state, row.1, row.2),
+        Ok(state) => answers(alloc, &state, row.1, &row.2),
         Err(_) => false,
     }
 }
 
-fn is_right(alloc: Global, row: &Row) -> Result<bool, Error> {
+fn is_right(alloc: Global, index: &Memtable, row: &Row) -> Result<bool, Error> {
     let tables = tables(alloc, row.0.0)?;
-    let index = filled(alloc, 1, &OVER_A_B)?;
-    let number = row.0.1;
-    let over = if number > 0 {
-        Some((&index, number))
+    let over = if row.0.1 > 0 {
+        Some((index, row.0.1))
     } else {
         None
     };
     Ok(answers_over(alloc, &tables, over, row))
 }
 
-fn first_wrong(alloc: Global, rows: &[Row]) -> Result<Option<usize>, Error> {
+fn are_right(rt: &impl Abort, alloc: Global, rows: &[Row]) -> Result<(), Fail> {
+    let index = filled(alloc, 1, &OVER_A_B)?;
     for (place, row) in rows.iter().enumerate() {
-        if !is_right(alloc, row)? {
-            return Ok(Some(place));
-        }
+        assert!(rt; is_right(alloc, &index, row)?, "row {place}");
     }
-    Ok(None)
+    drop(index);
+    Ok(())
 }
 
 #[test]
 fn a_snapshot_sees_what_is_below_it(rt: HostRuntime) -> Result<(), Fail> {
-    assert_eq!(rt; first_wrong(rt.alloc(), &SNAPSHOTS)?, None);
-    Ok(())
+    are_right(&rt, rt.alloc(), &SNAPSHOTS)
 }
 
 #[test]
-fn bounds_take_their_keys_in_or_leave_them_out(rt: HostRuntime) -> Result<(), Fail> {
-    assert_eq!(rt; first_wrong(rt.alloc(), &BOUNDS)?, None);
-    Ok(())
-}
-
-#[test]
-fn both_ends_meet(rt: HostRuntime) -> Result<(), Fail> {
-    assert_eq!(rt; first_wrong(rt.alloc(), &ENDS)?, None);
-    Ok(())
+fn both_ends_and_bounds_are_kept(rt: HostRuntime) -> Result<(), Fail> {
+    are_right(&rt, rt.alloc(), &BOUNDS)?;
+    are_right(&rt, rt.alloc(), &ENDS)
 }

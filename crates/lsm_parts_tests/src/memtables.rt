@@ -1,6 +1,6 @@
 // Look-ups, sizes and bounds of a memtable, and how many steps its calls take.
-use crate::samples::Edge::{In, Out};
-use crate::samples::{ALL, Edge, Entry, bounds, filled, item};
+use crate::samples::Edge::{In, Open, Out};
+use crate::samples::{Edge, Entry, bounds, filled, item};
 use lsm_below::SeqNo;
 use lsm_parts::{Error, Iter, Memtable, Steps};
 use std::alloc::Global;
@@ -82,18 +82,15 @@ fn counts_replaced_entries_again(rt: HostRuntime) {
 
 // ---- bounds
 
-/// Bounds, how many entries lie within, and the first one's sequence number.
-const BOUNDS: [((Edge, Edge), usize, Option<SeqNo>); 4] = [
-    (ALL, 3, Some(2)),
-    ((In(b"a"), Out(b"b")), 2, Some(2)),
-    ((Out(b"a"), In(b"b")), 1, Some(1)),
-    ((In(b"b"), In(b"a")), 0, None),
-];
+/// Bounds, how many entries lie within, the first one's number, and how many of these lie within other bounds.
+type Cut = ((Edge, Edge), usize, Option<SeqNo>, (Edge, Edge), usize);
 
-/// Bounds of a part, how many entries it gives, other bounds, and how many it gives once it is cut again.
-const CUTS: [((Edge, Edge), usize, (Edge, Edge), usize); 2] = [
-    (ALL, 3, (In(b"a"), Out(b"b")), 2),
-    ((In(b"a"), Out(b"b")), 2, (In(b"b"), In(b"b")), 0),
+const CUTS: [Cut; 5] = [
+    ((Open, Open), 3, Some(2), (In(b"a"), Out(b"b")), 2),
+    ((In(b"a"), Out(b"b")), 2, Some(2), (In(b"b"), In(b"b")), 0),
+    ((In(b"a"), Out(b"b")), 2, Some(2), (Open, Open), 2),
+    ((Out(b"a"), In(b"b")), 1, Some(1), (Open, Open), 1),
+    ((In(b"b"), In(b"a")), 0, None, (Open, Open), 0),
 ];
 
 fn batch(alloc: Global) -> Result<Memtable, Error> {
@@ -114,21 +111,13 @@ fn number_of(entries: Iter<'_>) -> usize {
     count
 }
 
-fn lends(table: &Memtable, edges: (Edge, Edge), count: usize, first: Option<SeqNo>) -> bool {
-    let bounds = bounds(edges);
-    number_of(table.range(&bounds)) == count
-        && table.range(&bounds).next().map(|entry| entry.key.seqno) == first
-}
-
-fn cuts(
-    table: &Memtable,
-    edges: (Edge, Edge),
-    count: usize,
-    again: (Edge, Edge),
-    left: usize,
-) -> bool {
-    let part = table.span().within(&bounds(edges));
-    number_of(part.iter()) == count && number_of(part.within(&bounds(again)).iter()) == left
+fn cuts(table: &Memtable, cut: &Cut) -> bool {
+    let within = bounds(&cut.0.0, &cut.0.1);
+    let part = table.span().within(&within);
+    number_of(table.range(&within)) == cut.1
+        && table.range(&within).next().map(|entry| entry.key.seqno) == cut.2
+        && number_of(part.iter()) == cut.1
+        && number_of(part.within(&bounds(&cut.3.0, &cut.3.1)).iter()) == cut.4
 }
 
 fn ends_with(table: &Memtable, name: &str) -> bool {
@@ -141,14 +130,8 @@ fn ends_with(table: &Memtable, name: &str) -> bool {
 #[test]
 fn lends_and_cuts_what_lies_within_bounds(rt: HostRuntime) -> Result<(), Fail> {
     let table = batch(rt.alloc())?;
-    for (edges, count, first) in BOUNDS {
-        assert!(rt; lends(&table, edges, count, first), "{count} entries");
-    }
-    for (edges, count, again, left) in CUTS {
-        assert!(rt;
-            cuts(&table, edges, count, again, left),
-            "{left} of {count}"
-        );
+    for (place, cut) in CUTS.iter().enumerate() {
+        assert!(rt; cuts(&table, cut), "row {place}");
     }
     assert!(rt; ends_with(&table, "b"));
     drop(table);
@@ -181,6 +164,17 @@ fn compares_few(table: &Memtable, count: SeqNo, most: u64) -> bool {
     true
 }
 
+/// Whether counts of steps stop at the greatest number.
+fn stops_at_the_greatest() -> bool {
+    let mut steps = Steps {
+        compared: u64::MAX,
+        moved: u64::MAX - 1,
+    };
+    steps.tick_compared();
+    steps.tick_moved();
+    steps.compared == u64::MAX && steps.moved == u64::MAX
+}
+
 // 200 entries stand in at most 6 blocks, and 6 has three binary digits.
 #[test]
 fn takes_few_steps(rt: HostRuntime) {
@@ -188,16 +182,6 @@ fn takes_few_steps(rt: HostRuntime) {
     assert!(rt; compares_few(&table, 0, 8));
     assert!(rt; moves_few(&mut table, 200));
     assert!(rt; compares_few(&table, 200, 11) && table.len() == 200);
+    assert!(rt; stops_at_the_greatest());
     drop(table);
-}
-
-#[test]
-fn counts_stop_at_the_greatest_number(rt: HostRuntime) {
-    let mut steps = Steps {
-        compared: u64::MAX,
-        moved: u64::MAX - 1,
-    };
-    steps.tick_compared();
-    steps.tick_moved();
-    assert!(rt; steps.compared == u64::MAX && steps.moved == u64::MAX);
 }

@@ -18,25 +18,25 @@ const PREFIXES: [(&[u8], Edge, Edge); 7] = [
     (&[255, 255, 255], In(&[255, 255, 255]), Open),
 ];
 
-fn is_edge(bound: &Bound<UserKey>, edge: Edge) -> bool {
+fn is_edge(bound: &Bound<UserKey>, edge: &Edge) -> bool {
     match (bound, edge) {
-        (Bound::Included(key), Edge::In(bytes)) => key.as_slice() == bytes,
-        (Bound::Excluded(key), Edge::Out(bytes)) => key.as_slice() == bytes,
+        (Bound::Included(key), Edge::In(bytes)) => key.as_slice() == *bytes,
+        (Bound::Excluded(key), Edge::Out(bytes)) => key.as_slice() == *bytes,
         (Bound::Unbounded, Edge::Open) => true,
         _ => false,
     }
 }
 
-fn spans(alloc: Global, prefix: &[u8], lower: Edge, upper: Edge) -> bool {
-    match prefix_to_range(alloc, prefix) {
-        Ok((low, high)) => is_edge(&low, lower) && is_edge(&high, upper),
+fn spans(alloc: Global, row: &(&[u8], Edge, Edge)) -> bool {
+    match prefix_to_range(alloc, row.0) {
+        Ok((low, high)) => is_edge(&low, &row.1) && is_edge(&high, &row.2),
         Err(_) => false,
     }
 }
 
 #[test]
 fn prefixes_end_before_the_next_byte(rt: HostRuntime) {
-    for (prefix, lower, upper) in PREFIXES {
-        assert!(rt; spans(rt.alloc(), prefix, lower, upper), "{prefix:?}");
+    for (place, row) in PREFIXES.iter().enumerate() {
+        assert!(rt; spans(rt.alloc(), row), "row {place}");
     }
 }

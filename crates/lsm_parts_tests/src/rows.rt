@@ -1,13 +1,12 @@
 // Rows of a script on a tree: calls with what they answer, and looks at what it shows and counts.
-use crate::samples::{Edge, OVER_A_B, Turn, bounds, filled, gives, lists, takes};
+use crate::samples::{Bounds, Edge, OVER_A_B, Turn, bounds, filled, gives, lists, takes};
 use crate::steps::{Step, Told, take};
 use lsm_below::{MemtableId, SeqNo};
-use lsm_parts::{Error, Memtable, SuperVersion, VersionId};
+use lsm_parts::{Error, VersionId};
 use lsm_state::TreeState;
 use std::alloc::Global;
 
 /// What is counted of a tree.
-#[derive(Clone, Copy)]
 pub enum Count {
     Tables,
     NextTable,
@@ -28,18 +27,15 @@ pub enum Count {
 
 pub const ABSENT: u64 = u64::MAX;
 
+pub const TOO_OLD: &str = "too old";
+
 /// A row of a script.
-#[derive(Clone, Copy)]
 pub enum Row {
     /// A call, and what it answers.
     Does(Step, Told),
     Has(Count, u64),
-    /// So many tables are in the levels 0, 5 and 6, and none elsewhere.
-    Levels(usize, usize, usize),
-    /// A key has this value at a snapshot: none where it is empty.
+    /// A key has this value at a snapshot: none where it is empty. `TOO_OLD` where the snapshot is.
     Shows(&'static str, SeqNo, &'static str),
-    /// A snapshot of a key is too old.
-    TooOld(&'static str, SeqNo),
     /// The size of a key's value at a snapshot.
     Holds(&'static str, SeqNo, Option<u32>),
     /// The number of the entry that decides of a key at a snapshot.
@@ -62,20 +58,16 @@ pub enum Row {
 
 // ---- numbers
 
-fn tables_of(tree: &TreeState, level: usize) -> u64 {
-    match tree.level_table_count(level) {
-        Some(count) => count as u64,
-        None => ABSENT,
-    }
-}
-
-fn counted(tree: &TreeState, count: Count) -> u64 {
+fn counted(tree: &TreeState, count: &Count) -> u64 {
     match count {
         Count::Tables => tree.table_count() as u64,
         Count::NextTable => tree.next_table_id(),
         Count::Sealed => tree.sealed_memtable_count() as u64,
         Count::Runs => tree.l0_run_count() as u64,
-        Count::Level(level) => tables_of(tree, level),
+        Count::Level(level) => match tree.level_table_count(*level) {
+            Some(tables) => tables as u64,
+            None => ABSENT,
+        },
         Count::Entries => tree.approximate_len() as u64,
         Count::Bytes => tree.disk_space(),
         Count::Next => tree.seqno().get(),
@@ -87,41 +79,24 @@ fn counted(tree: &TreeState, count: Count) -> u64 {
     }
 }
 
-fn has_levels(tree: &TreeState, counts: [usize; 3]) -> bool {
-    tree.level_table_count(0) == Some(counts[0])
-        && tree.level_table_count(5) == Some(counts[1])
-        && tree.level_table_count(6) == Some(counts[2])
-        && tree.table_count()
-            == counts[0]
-                .saturating_add(counts[1])
-                .saturating_add(counts[2])
-}
-
 // ---- one key
 
 pub fn shows(tree: &TreeState, name: &str, snapshot: SeqNo, text: &str) -> bool {
     match tree.get(name.as_bytes(), snapshot) {
         Ok(Some(found)) => found.as_slice() == text.as_bytes(),
         Ok(None) => text.is_empty(),
+        Err(Error::SnapshotTooOld) => text == TOO_OLD,
         Err(_) => false,
     }
 }
 
-fn is_too_old(tree: &TreeState, name: &str, snapshot: SeqNo) -> bool {
-    matches!(
-        tree.get(name.as_bytes(), snapshot),
-        Err(Error::SnapshotTooOld)
-    )
-}
-
-fn contains(tree: &TreeState, name: &str, snapshot: SeqNo) -> Option<bool> {
-    tree.contains_key(name.as_bytes(), snapshot).ok()
-}
-
 fn holds(tree: &TreeState, name: &str, snapshot: SeqNo, size: Option<u32>) -> bool {
-    match tree.size_of(name.as_bytes(), snapshot) {
-        Ok(found) => found == size && contains(tree, name, snapshot) == Some(size.is_some()),
-        Err(_) => false,
+    match (
+        tree.size_of(name.as_bytes(), snapshot),
+        tree.contains_key(name.as_bytes(), snapshot),
+    ) {
+        (Ok(found), Ok(contained)) => found == size && contained == size.is_some(),
+        _ => false,
     }
 }
 
@@ -135,17 +110,6 @@ fn decides(tree: &TreeState, name: &str, snapshot: SeqNo, seqno: Option<SeqNo>) 
 
 // ---- super versions
 
-fn is_version(
-    version: &SuperVersion,
-    memtables: (MemtableId, &[MemtableId]),
-    numbers: (VersionId, SeqNo),
-) -> bool {
-    version.active_memtable == memtables.0
-        && version.sealed_memtables.as_slice() == memtables.1
-        && version.version.id() == numbers.0
-        && version.seqno == numbers.1
-}
-
 fn reads(
     tree: &TreeState,
     snapshot: SeqNo,
@@ -153,7 +117,11 @@ fn reads(
     numbers: (VersionId, SeqNo),
 ) -> bool {
     match tree.get_version_for_snapshot(snapshot) {
-        Ok(version) => is_version(version, memtables, numbers),
+        Ok(version) => {
+            version.active_memtable == memtables.0
+                && version.sealed_memtables.as_slice() == memtables.1
+                && (version.version.id(), version.seqno) == numbers
+        }
         Err(_) => false,
     }
 }
@@ -181,16 +149,15 @@ fn has_ends(tree: &TreeState, snapshot: SeqNo, first: &str, last: &str) -> bool 
 fn lists_range(
     alloc: Global,
     tree: &TreeState,
-    edges: (Edge, Edge),
+    bounds: &Bounds,
     snapshot: SeqNo,
     text: &str,
 ) -> bool {
-    let bounds = bounds(edges);
-    lists(alloc, tree.range(&bounds, snapshot, None), text)
-        && lists(alloc, tree.create_range(&bounds, snapshot, None), text)
+    lists(alloc, tree.range(bounds, snapshot, None), text)
+        && lists(alloc, tree.create_range(bounds, snapshot, None), text)
         && lists(
             alloc,
-            tree.create_internal_range(&bounds, snapshot, None),
+            tree.create_internal_range(bounds, snapshot, None),
             text,
         )
 }
@@ -211,66 +178,52 @@ fn lists_prefix(
         )
 }
 
-/// Whether both calls for all keys give these, under what the index has below a number.
+/// Whether both calls for all keys give these, under what an index has below a number.
 fn lists_under(
-    alloc: Global,
-    tree: &TreeState,
-    snapshot: SeqNo,
-    index: (&Memtable, SeqNo),
-    text: &str,
-) -> bool {
-    lists(alloc, tree.iter(snapshot, Some(index)), text)
-        && lists(alloc, tree.create_iter(snapshot, Some(index)), text)
-}
-
-fn lists_under_index(
     alloc: Global,
     tree: &TreeState,
     number: SeqNo,
     snapshot: SeqNo,
     text: &str,
 ) -> bool {
-    match filled(alloc, 0, &OVER_A_B) {
-        Ok(index) => lists_under(alloc, tree, snapshot, (&index, number), text),
-        Err(_) => false,
-    }
+    let Ok(index) = filled(alloc, 0, &OVER_A_B) else {
+        return false;
+    };
+    lists(alloc, tree.iter(snapshot, Some((&index, number))), text)
+        && lists(
+            alloc,
+            tree.create_iter(snapshot, Some((&index, number))),
+            text,
+        )
 }
 
 // ---- all
 
-fn is_right(alloc: Global, tree: &mut TreeState, row: Row) -> bool {
+fn is_right(alloc: Global, tree: &mut TreeState, row: &Row) -> bool {
     match row {
-        Row::Does(step, told) => take(alloc, tree, step) == told,
-        Row::Has(count, number) => counted(tree, count) == number,
-        Row::Levels(first, fifth, sixth) => has_levels(tree, [first, fifth, sixth]),
-        Row::Shows(name, snapshot, text) => shows(tree, name, snapshot, text),
-        Row::TooOld(name, snapshot) => is_too_old(tree, name, snapshot),
-        Row::Holds(name, snapshot, size) => holds(tree, name, snapshot, size),
-        Row::Decides(name, snapshot, seqno) => decides(tree, name, snapshot, seqno),
+        Row::Does(step, told) => take(alloc, tree, step) == *told,
+        Row::Has(count, number) => counted(tree, count) == *number,
+        Row::Shows(name, snapshot, text) => shows(tree, *name, *snapshot, *text),
+        Row::Holds(name, snapshot, size) => holds(tree, *name, *snapshot, *size),
+        Row::Decides(name, snapshot, seqno) => decides(tree, *name, *snapshot, *seqno),
         Row::Reads(snapshot, active, sealed, id, seqno) => {
-            reads(tree, snapshot, (active, sealed), (id, seqno))
+            reads(tree, *snapshot, (*active, *sealed), (*id, *seqno))
         }
-        Row::Counts(snapshot, len) => counts(tree, snapshot, len),
-        Row::Ends(snapshot, first, last) => has_ends(tree, snapshot, first, last),
-        Row::Takes(snapshot, turns) => takes(tree.iter(snapshot, None), turns),
-        Row::Range(low, high, snapshot, text) => lists_range(
-            alloc,
-            tree,
-            (low, high),
-            snapshot,
-            text,
-        ),
-        Row::Prefix(prefix, snapshot, text) => lists_prefix(alloc, tree, prefix, snapshot, text),
-        Row::Under(number, snapshot, text) => lists_under_index(
-            alloc, tree, number, snapshot, text,
-        ),
+        Row::Counts(snapshot, len) => counts(tree, *snapshot, *len),
+        Row::Ends(snapshot, first, last) => has_ends(tree, *snapshot, *first, *last),
+        Row::Takes(snapshot, turns) => takes(tree.iter(*snapshot, None), *turns),
+        Row::Range(low, high, snapshot, text) => {
+            lists_range(alloc, tree, &bounds(low, high), *snapshot, *text)
+        }
+        Row::Prefix(prefix, snapshot, text) => lists_prefix(alloc, tree, *prefix, *snapshot, *text),
+        Row::Under(number, snapshot, text) => lists_under(alloc, tree, *number, *snapshot, *text),
     }
 }
 
 /// Whether each row is as it says, up to the first that isn't.
 pub fn plays(alloc: Global, tree: &mut TreeState, rows: &[Row]) -> bool {
     for row in rows {
-        if !is_right(alloc, tree, *row) {
+        if !is_right(alloc, tree, row) {
             return false;
         }
     }

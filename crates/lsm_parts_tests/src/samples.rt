@@ -1,5 +1,5 @@
 // What several tests make of rows of data, and how they look at what iterators give.
-use lsm_below::{InternalValue, MemtableId, SeqNo, UserKey, UserValue, ValueType};
+use lsm_below::{InternalValue, MemtableId, SeqNo, UserKey, ValueType};
 use lsm_iter::{Guard, IterGuard, TreeIter};
 use lsm_parts::{Error, Memtable};
 use std::alloc::Global;
@@ -17,7 +17,6 @@ pub type Entry = (&'static str, Option<&'static str>, SeqNo);
 pub const OVER_A_B: [Entry; 2] = [("a", Some("o"), INDEX), ("b", None, INDEX)];
 
 /// An end of a range of keys.
-#[derive(Clone, Copy)]
 pub enum Edge {
     Open,
     /// Included.
@@ -26,25 +25,20 @@ pub enum Edge {
     Out(&'static [u8]),
 }
 
-pub const ALL: (Edge, Edge) = (Edge::Open, Edge::Open);
-
-pub fn key(text: &'static str) -> UserKey {
+/// A key or a value.
+pub fn bytes(text: &'static str) -> UserKey {
     UserKey::from_static(text.as_bytes())
-}
-
-pub fn value(text: &'static str) -> UserValue {
-    UserValue::from_static(text.as_bytes())
 }
 
 pub fn item(entry: &Entry) -> InternalValue {
     match entry.1 {
         Some(text) => InternalValue::from_components(
-            key(entry.0),
-            value(text),
+            bytes(entry.0),
+            bytes(text),
             entry.2,
             ValueType::Value,
         ),
-        None => InternalValue::new_tombstone(key(entry.0), entry.2),
+        None => InternalValue::new_tombstone(bytes(entry.0), entry.2),
     }
 }
 
@@ -57,16 +51,16 @@ pub fn filled(alloc: Global, id: MemtableId, entries: &[Entry]) -> Result<Memtab
     Ok(table)
 }
 
-fn bound(edge: Edge) -> Bound<UserKey> {
+fn bound(edge: &Edge) -> Bound<UserKey> {
     match edge {
         Edge::Open => Bound::Unbounded,
-        Edge::In(key) => Bound::Included(UserKey::from_static(key)),
-        Edge::Out(key) => Bound::Excluded(UserKey::from_static(key)),
+        Edge::In(key) => Bound::Included(UserKey::from_static(*key)),
+        Edge::Out(key) => Bound::Excluded(UserKey::from_static(*key)),
     }
 }
 
-pub fn bounds(edges: (Edge, Edge)) -> Bounds {
-    (bound(edges.0), bound(edges.1))
+pub fn bounds(low: &Edge, high: &Edge) -> Bounds {
+    (bound(low), bound(high))
 }
 
 // ---- what is given
@@ -91,7 +85,6 @@ fn has_number(entry: Option<Result<InternalValue, Error>>, seqno: SeqNo) -> bool
 }
 
 /// A step of an iterator, and what it gives: a key, none where it is empty, or the number of an entry.
-#[derive(Clone, Copy)]
 pub enum Turn {
     Front(&'static str),
     Back(&'static str),
@@ -99,12 +92,12 @@ pub enum Turn {
     BackEntry(SeqNo),
 }
 
-fn turns_so(iter: &mut TreeIter, turn: Turn) -> bool {
+fn turns_so(iter: &mut TreeIter, turn: &Turn) -> bool {
     match turn {
-        Turn::Front(name) => gives(iter.next(), name),
-        Turn::Back(name) => gives(iter.next_back(), name),
-        Turn::FrontEntry(seqno) => has_number(iter.next_entry(), seqno),
-        Turn::BackEntry(seqno) => has_number(iter.next_entry_back(), seqno),
+        Turn::Front(name) => gives(iter.next(), *name),
+        Turn::Back(name) => gives(iter.next_back(), *name),
+        Turn::FrontEntry(seqno) => has_number(iter.next_entry(), *seqno),
+        Turn::BackEntry(seqno) => has_number(iter.next_entry_back(), *seqno),
     }
 }
 
@@ -115,20 +108,20 @@ pub fn takes(iter: Result<TreeIter, Error>, turns: &[Turn]) -> bool {
     };
     let mut right = true;
     for turn in turns {
-        right = right && turns_so(&mut iter, *turn);
+        right = right && turns_so(&mut iter, turn);
     }
     right
 }
 
 /// The keys and values that are given, one after the other.
 fn listed(alloc: Global, iter: TreeIter) -> Result<Vec<u8>, Error> {
-    let mut bytes = Vec::new(alloc);
+    let mut found = Vec::new(alloc);
     for guard in iter {
         let (key, value) = guard.into_inner()?;
-        bytes.extend_from_slice(key.as_slice())?;
-        bytes.extend_from_slice(value.as_slice())?;
+        found.extend_from_slice(key.as_slice())?;
+        found.extend_from_slice(value.as_slice())?;
     }
-    Ok(bytes)
+    Ok(found)
 }
 
 /// Whether the bytes are those of this text.

@@ -1,18 +1,17 @@
 // Scripts on a tree: rows, jobs that stay open over rows, and crashes between them.
 use crate::rows::{Row, plays};
 use crate::steps::{Told, flushes_times, registered, written};
-use crate::works::begin_merge;
+use crate::works::{Kind, choose};
 use lsm_below::{SeqNo, TableId};
 use lsm_merges::{CompactionJob, MergedCompaction};
 use lsm_parts::{Config, Error};
-use lsm_state::{Finished, TreeState};
+use lsm_state::{Begun, Finished, TreeState};
 use lsm_store::{Fault, MemStore};
 use std::alloc::Global;
 use std::process::Abort;
 use std::test::Fail;
 
 /// How a store comes to be opened again.
-#[derive(Clone, Copy)]
 pub enum Opening {
     /// As a crash leaves it.
     Crashed,
@@ -21,7 +20,6 @@ pub enum Opening {
 }
 
 /// What becomes of the job of a merge.
-#[derive(Clone, Copy)]
 pub enum End {
     /// It is finished, with rows before it is run and before that.
     Finished(&'static [Row], &'static [Row]),
@@ -32,7 +30,6 @@ pub enum End {
 }
 
 /// A part of a script.
-#[derive(Clone, Copy)]
 pub enum Part {
     Plays(&'static [Row]),
     /// A begins to be flushed so many times.
@@ -59,14 +56,14 @@ pub fn open(alloc: Global, next: SeqNo, store: MemStore) -> Result<TreeState, Er
     }
 }
 
-fn opened_as(mut store: MemStore, opening: Opening) -> Result<MemStore, Error> {
+fn opened_as(mut store: MemStore, opening: &Opening) -> Result<MemStore, Error> {
     match opening {
         Opening::Crashed => match store.crash(&[])? {
             Some(left) => Ok(left),
             None => Err(Error::Unrecoverable),
         },
         Opening::Failing(call, fault) => {
-            store.fail(call, fault);
+            store.fail(*call, *fault);
             Ok(store)
         }
     }
@@ -75,17 +72,13 @@ fn opened_as(mut store: MemStore, opening: Opening) -> Result<MemStore, Error> {
 fn reopened(
     alloc: Global,
     tree: TreeState,
-    opening: Opening,
+    opening: &Opening,
     next: SeqNo,
 ) -> Result<TreeState, Error> {
     open(alloc, next, opened_as(tree.into_store(), opening)?)
 }
 
 // ---- jobs
-
-fn told_if(right: bool, told: Told) -> Told {
-    if right { told } else { Told::Wrong }
-}
 
 fn flush_over(
     alloc: Global,
@@ -99,7 +92,8 @@ fn flush_over(
     let before = plays(alloc, tree, first);
     let written = written(tree, job, 0)?;
     let right = plays(alloc, tree, then) && before;
-    Ok(told_if(right, registered(tree, written)?))
+    let told = registered(tree, written)?;
+    Ok(if right { told } else { Told::Wrong })
 }
 
 fn flush_given_up(alloc: Global, tree: &mut TreeState, rows: &[Row]) -> Result<bool, Error> {
@@ -135,7 +129,8 @@ fn merge_over(
     let before = plays(alloc, tree, first);
     let merged = merged(job)?;
     let right = plays(alloc, tree, then) && before;
-    Ok(told_if(right, finished(tree, merged)?))
+    let told = finished(tree, merged)?;
+    Ok(if right { told } else { Told::Wrong })
 }
 
 /// A merge is finished in a new tree.
@@ -152,13 +147,18 @@ fn finished_elsewhere(alloc: Global, job: CompactionJob) -> Result<Told, Error> 
 fn given_up(alloc: Global, tree: &mut TreeState, job: CompactionJob, rows: &[Row]) -> Told {
     let right = plays(alloc, tree, rows);
     tree.abandon_compaction(job);
-    told_if(right, Told::Nothing)
+    if right { Told::Nothing } else { Told::Wrong }
 }
 
-fn ended(alloc: Global, tree: &mut TreeState, job: CompactionJob, end: End) -> Result<Told, Error> {
+fn ended(
+    alloc: Global,
+    tree: &mut TreeState,
+    job: CompactionJob,
+    end: &End,
+) -> Result<Told, Error> {
     match end {
-        End::Finished(first, then) => merge_over(alloc, tree, job, first, then),
-        End::GivenUp(rows) => Ok(given_up(alloc, tree, job, rows)),
+        End::Finished(first, then) => merge_over(alloc, tree, job, *first, *then),
+        End::GivenUp(rows) => Ok(given_up(alloc, tree, job, *rows)),
         End::Elsewhere => finished_elsewhere(alloc, job),
     }
 }
@@ -168,56 +168,53 @@ fn merges(
     tree: &mut TreeState,
     list: &[TableId],
     to: u8,
-    end: End,
+    end: &End,
 ) -> Result<Told, Error> {
-    match begin_merge(alloc, tree, list, to)? {
-        Some(job) => ended(alloc, tree, job, end),
-        None => Ok(Told::Wrong),
+    match choose(alloc, tree, &Kind::Merge, list, to)? {
+        Begun::Job(job) => ended(alloc, tree, job, end),
+        _ => Ok(Told::Wrong),
     }
 }
 
 // ---- all
 
-fn is_right(alloc: Global, tree: &mut TreeState, part: Part) -> Result<bool, Error> {
+fn is_right(alloc: Global, tree: &mut TreeState, part: &Part) -> Result<bool, Error> {
     match part {
-        Part::Plays(rows) => Ok(plays(alloc, tree, rows)),
-        Part::Fill(times) => Ok(flushes_times(alloc, tree, times)),
-        Part::FlushOver(first, then, told) => Ok(flush_over(alloc, tree, first, then)? == told),
-        Part::FlushGivenUp(rows) => flush_given_up(alloc, tree, rows),
-        Part::Merge(list, to, end, told) => Ok(merges(alloc, tree, list, to, end)? == told),
+        Part::Plays(rows) => Ok(plays(alloc, tree, *rows)),
+        Part::Fill(times) => Ok(flushes_times(alloc, tree, *times)),
+        Part::FlushOver(first, then, told) => Ok(flush_over(alloc, tree, *first, *then)? == *told),
+        Part::FlushGivenUp(rows) => flush_given_up(alloc, tree, *rows),
+        Part::Merge(list, to, end, told) => Ok(merges(alloc, tree, *list, *to, end)? == *told),
         Part::Reopen(..) => Ok(true),
     }
 }
 
 /// The tree behind a part, and whether that is as it says.
-fn behind(alloc: Global, mut tree: TreeState, part: Part) -> Result<(TreeState, bool), Error> {
+fn behind(alloc: Global, mut tree: TreeState, part: &Part) -> Result<(TreeState, bool), Error> {
     if let Part::Reopen(opening, next) = part {
-        return Ok((reopened(alloc, tree, opening, next)?, true));
+        return Ok((reopened(alloc, tree, opening, *next)?, true));
     }
     let right = is_right(alloc, &mut tree, part)?;
     Ok((tree, right))
 }
 
-/// The place of the first part of a script in a new tree that isn't as it says.
-fn first_wrong(alloc: Global, parts: &[Part]) -> Result<Option<usize>, Error> {
+/// Whether each part of a script is as it says, in a new tree.
+fn is_played(alloc: Global, parts: &[Part]) -> Result<bool, Error> {
     let mut tree = open(alloc, 0, MemStore::new(alloc))?;
-    let mut wrong = None;
-    for (place, part) in parts.iter().enumerate() {
-        let (next, right) = behind(alloc, tree, *part)?;
+    let mut played = true;
+    for part in parts {
+        let (next, right) = behind(alloc, tree, part)?;
         tree = next;
-        if !right && wrong.is_none() {
-            wrong = Some(place);
-        }
+        played = played && right;
     }
     drop(tree);
-    Ok(wrong)
+    Ok(played)
 }
 
 /// Plays each script in a tree of its own.
 pub fn play_all(rt: &impl Abort, alloc: Global, scripts: &[Script]) -> Result<(), Fail> {
     for script in scripts {
-        let wrong = first_wrong(alloc, script.1)?;
-        assert!(rt; wrong.is_none(), "{}: {wrong:?}", script.0);
+        assert!(rt; is_played(alloc, script.1)?, "{}", script.0);
     }
     Ok(())
 }

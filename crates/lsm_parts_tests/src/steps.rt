@@ -1,5 +1,5 @@
 // Calls on a tree as rows of data, and what each answers.
-use crate::samples::{key, value};
+use crate::samples::bytes;
 use crate::works::{Work, compact};
 use lsm_below::{MemtableId, SeqNo, UserKey};
 use lsm_choices::Why;
@@ -7,10 +7,9 @@ use lsm_jobs::{FlushJob, Registered, WrittenFlush};
 use lsm_model::Op;
 use lsm_parts::Error;
 use lsm_state::TreeState;
-use std::alloc::{AllocError, Global};
+use std::alloc::Global;
 
 /// A call on a tree.
-#[derive(Clone, Copy)]
 pub enum Step {
     /// Writes under the next number.
     Set(&'static str, &'static str),
@@ -46,10 +45,10 @@ pub enum Told {
     /// The number of a write or a clear.
     Number(SeqNo),
     /// The size of an entry, and that of its memtable.
-    Sizes(u64, u64),
+    Sizes((u64, u64)),
     Done,
-    /// The memtable that was sealed.
-    Sealed(MemtableId),
+    /// The memtable that was sealed, if anything was written to it.
+    Sealed(Option<MemtableId>),
     Installed,
     /// Installed, with files left that nothing needs.
     Unclean,
@@ -75,28 +74,6 @@ pub fn outcome(answer: Result<Told, Error>) -> Told {
     }
 }
 
-fn numbered(answer: Result<SeqNo, Error>) -> Told {
-    match answer {
-        Ok(number) => Told::Number(number),
-        Err(error) => Told::Refused(error.number()),
-    }
-}
-
-fn sized(answer: Result<(u64, u64), Error>) -> Told {
-    match answer {
-        Ok((item, table)) => Told::Sizes(item, table),
-        Err(error) => Told::Refused(error.number()),
-    }
-}
-
-fn rotated(answer: Result<Option<MemtableId>, Error>) -> Told {
-    match answer {
-        Ok(Some(id)) => Told::Sealed(id),
-        Ok(None) => Told::Nothing,
-        Err(error) => Told::Refused(error.number()),
-    }
-}
-
 fn done(answer: Result<(), Error>) -> Told {
     match answer {
         Ok(()) => Told::Done,
@@ -115,21 +92,7 @@ fn is_job(answer: Result<Option<FlushJob>, Error>) -> Told {
 // ---- writes
 
 fn write(alloc: Global, tree: &mut TreeState, name: &'static str, op: Op) -> Result<SeqNo, Error> {
-    tree.write(vec![in alloc; (key(name), op)]?)
-}
-
-type Ops = Vec<(UserKey, Op)>;
-
-fn ops(alloc: Global, list: &[(&'static str, Option<&'static str>)]) -> Result<Ops, AllocError> {
-    let mut ops = Vec::new(alloc);
-    for (name, text) in list {
-        let op = match *text {
-            Some(text) => Op::Set(value(text)),
-            None => Op::Del,
-        };
-        ops.push((key(*name), op))?;
-    }
-    Ok(ops)
+    tree.write(vec![in alloc; (bytes(name), op)]?)
 }
 
 fn batch(
@@ -137,12 +100,20 @@ fn batch(
     tree: &mut TreeState,
     list: &[(&'static str, Option<&'static str>)],
 ) -> Result<SeqNo, Error> {
-    tree.write(ops(alloc, list)?)
+    let mut ops = Vec::new(alloc);
+    for (name, text) in list {
+        let op = match *text {
+            Some(text) => Op::Set(bytes(text)),
+            None => Op::Del,
+        };
+        ops.push((bytes(*name), op))?;
+    }
+    tree.write(ops)
 }
 
 fn insert_long(alloc: Global, tree: &mut TreeState, len: usize) -> Result<(u64, u64), Error> {
     let key = UserKey::copy_from_slice(alloc, &vec![in alloc; b'a'; len]?)?;
-    tree.insert(key, value("x"), 0)
+    tree.insert(key, bytes("x"), 0)
 }
 
 // ---- flushes
@@ -209,7 +180,7 @@ fn flushes_letter(tree: &mut TreeState) -> bool {
 /// Sets a and flushes it so many times.
 pub fn flushes_times(alloc: Global, tree: &mut TreeState, times: u32) -> bool {
     for _ in 0..times {
-        let set = write(alloc, tree, "a", Op::Set(value("v")));
+        let set = write(alloc, tree, "a", Op::Set(bytes("v")));
         if set.is_err() || !flushes_letter(tree) {
             return false;
         }
@@ -219,32 +190,35 @@ pub fn flushes_times(alloc: Global, tree: &mut TreeState, times: u32) -> bool {
 
 // ---- all
 
-fn count_from(tree: &mut TreeState, seqno: SeqNo) -> Told {
-    tree.seqno_mut().set(seqno);
-    Told::Done
-}
-
-fn move_to(tree: &mut TreeState, seconds: u64) -> Told {
-    tree.set_moment(seconds.saturating_mul(1_000_000_000));
-    Told::Done
-}
-
-pub fn take(alloc: Global, tree: &mut TreeState, step: Step) -> Told {
+pub fn take(alloc: Global, tree: &mut TreeState, step: &Step) -> Told {
     match step {
-        Step::Set(name, text) => numbered(write(alloc, tree, name, Op::Set(value(text)))),
-        Step::Del(name) => numbered(write(alloc, tree, name, Op::Del)),
-        Step::Weak(name) => numbered(write(alloc, tree, name, Op::Weak)),
-        Step::Batch(list) => numbered(batch(alloc, tree, list)),
-        Step::Clear => numbered(tree.clear()),
-        Step::Insert(name, text, seqno) => sized(tree.insert(key(name), value(text), seqno)),
-        Step::Remove(name, seqno) => sized(tree.remove(key(name), seqno)),
-        Step::Long(len) => sized(insert_long(alloc, tree, len)),
-        Step::Counter(seqno) => count_from(tree, seqno),
-        Step::Now(seconds) => move_to(tree, seconds),
-        Step::Rotate => rotated(tree.rotate_memtable()),
+        Step::Set(name, text) => {
+            outcome(write(alloc, tree, *name, Op::Set(bytes(*text))).map(Told::Number))
+        }
+        Step::Del(name) => outcome(write(alloc, tree, *name, Op::Del).map(Told::Number)),
+        Step::Weak(name) => outcome(write(alloc, tree, *name, Op::Weak).map(Told::Number)),
+        Step::Batch(list) => outcome(batch(alloc, tree, *list).map(Told::Number)),
+        Step::Clear => outcome(tree.clear().map(Told::Number)),
+        Step::Insert(name, text, seqno) => {
+            outcome(
+                tree.insert(bytes(*name), bytes(*text), *seqno)
+                    .map(Told::Sizes),
+            )
+        }
+        Step::Remove(name, seqno) => outcome(tree.remove(bytes(*name), *seqno).map(Told::Sizes)),
+        Step::Long(len) => outcome(insert_long(alloc, tree, *len).map(Told::Sizes)),
+        Step::Counter(seqno) => {
+            tree.seqno_mut().set(*seqno);
+            Told::Done
+        }
+        Step::Now(seconds) => {
+            tree.set_moment(seconds.saturating_mul(1_000_000_000));
+            Told::Done
+        }
+        Step::Rotate => outcome(tree.rotate_memtable().map(Told::Sealed)),
         Step::Forget => done(tree.clear_active_memtable()),
-        Step::Flush(watermark) => flush(tree, watermark),
-        Step::FlushParts(watermark) => outcome(flush_by_parts(tree, watermark)),
+        Step::Flush(watermark) => flush(tree, *watermark),
+        Step::FlushParts(watermark) => outcome(flush_by_parts(tree, *watermark)),
         Step::BeginFlush => is_job(tree.begin_flush()),
         Step::Compact(work) => outcome(compact(alloc, tree, work)),
     }

@@ -1,7 +1,7 @@
 // What strategies do to a tree, by its numbers, its levels and what it shows.
 use crate::compactions::THREE;
-use crate::rows::Row::{Does, Has, Levels, Shows, TooOld};
-use crate::rows::{ABSENT, Count};
+use crate::rows::Row::{Does, Has, Shows};
+use crate::rows::{ABSENT, Count, TOO_OLD};
 use crate::samples::Edge::{In, Out};
 use crate::scripts::Part::Plays;
 use crate::scripts::{Script, play_all};
@@ -30,7 +30,7 @@ const LEVELED: [Script; 2] = [
             Has(Count::Level(7), ABSENT),
             Has(Count::Entries, 1),
             Shows("a", 9, "4"),
-            TooOld("a", 7),
+            Shows("a", 7, TOO_OLD),
         ])],
     ),
     // The table of a = 1 is moved, so no other is made; that of a = 2 stays, and those of a = 2 and a = 3 are merged above
@@ -41,22 +41,34 @@ const LEVELED: [Script; 2] = [
             Does(Set("a", "1"), Number(0)),
             Does(Flush(0), Done),
             Does(Compact(Work::Small), Installed),
-            Levels(0, 0, 1),
+            Has(Count::Level(0), 0),
+            Has(Count::Level(5), 0),
+            Has(Count::Level(6), 1),
+            Has(Count::Tables, 1),
             Has(Count::Next, 3),
             Has(Count::NextTable, 1),
             Does(Set("a", "2"), Number(3)),
             Does(Flush(0), Done),
             Does(Compact(Work::Small), Nothing),
-            Levels(1, 0, 1),
+            Has(Count::Level(0), 1),
+            Has(Count::Level(5), 0),
+            Has(Count::Level(6), 1),
+            Has(Count::Tables, 2),
             Has(Count::Next, 5),
             Does(Set("a", "3"), Number(5)),
             Does(Flush(0), Done),
             Does(Compact(Work::Small), Installed),
-            Levels(0, 1, 1),
+            Has(Count::Level(0), 0),
+            Has(Count::Level(5), 1),
+            Has(Count::Level(6), 1),
+            Has(Count::Tables, 2),
             Has(Count::Next, 8),
             Has(Count::Entries, 3),
             Does(Compact(Work::Small), Installed),
-            Levels(0, 0, 1),
+            Has(Count::Level(0), 0),
+            Has(Count::Level(5), 0),
+            Has(Count::Level(6), 1),
+            Has(Count::Tables, 1),
             Has(Count::Next, 9),
             Has(Count::Entries, 3),
             Shows("a", 9, "3"),

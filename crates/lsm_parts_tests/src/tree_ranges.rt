@@ -12,9 +12,9 @@ use std::test::Fail;
 
 /// Keys 1, 3 and 5, at 0, 1 and 2, each of 1 + 1 + 48 bytes.
 const ODD: [Row; 3] = [
-    Does(Insert("1", "a", 0), Sizes(50, 50)),
-    Does(Insert("3", "b", 1), Sizes(50, 100)),
-    Does(Insert("5", "c", 2), Sizes(50, 150)),
+    Does(Insert("1", "a", 0), Sizes((50, 50))),
+    Does(Insert("3", "b", 1), Sizes((50, 100))),
+    Does(Insert("5", "c", 2), Sizes((50, 150))),
 ];
 
 const COUNTS: [Script; 4] = [
@@ -27,8 +27,8 @@ const COUNTS: [Script; 4] = [
     (
         "sizes are counted",
         &[Plays(&[
-            Does(Insert("a", "my_value", 0), Sizes(57, 57)),
-            Does(Remove("a", 1), Sizes(49, 106)),
+            Does(Insert("a", "my_value", 0), Sizes((57, 57))),
+            Does(Remove("a", 1), Sizes((49, 106))),
             Holds("a", 1, Some(8)),
             Holds("b", 1, None),
             Holds("a", 2, None),
@@ -52,8 +52,8 @@ const LISTS: [Script; 3] = [
     (
         "an index lies over the tree",
         &[Plays(&[
-            Does(Insert("a", "x", 0), Sizes(50, 50)),
-            Does(Insert("b", "y", 1), Sizes(50, 100)),
+            Does(Insert("a", "x", 0), Sizes((50, 50))),
+            Does(Insert("b", "y", 1), Sizes((50, 100))),
             Under(INDEX + 1, 2, "ao"),
             Under(INDEX, 2, "axby"),
         ])],
@@ -73,9 +73,9 @@ const LISTS: [Script; 3] = [
     (
         "a prefix takes the keys that begin so",
         &[Plays(&[
-            Does(Insert("a", "1", 0), Sizes(50, 50)),
-            Does(Insert("ab", "2", 1), Sizes(51, 101)),
-            Does(Insert("b", "3", 2), Sizes(50, 151)),
+            Does(Insert("a", "1", 0), Sizes((50, 50))),
+            Does(Insert("ab", "2", 1), Sizes((51, 101))),
+            Does(Insert("b", "3", 2), Sizes((50, 151))),
             Prefix("a", 3, "a1ab2"),
             Prefix("ab", 3, "ab2"),
             Prefix("c", 3, ""),

@@ -4,7 +4,7 @@ use crate::rows::{Count, Row};
 use crate::scripts::Part::Plays;
 use crate::scripts::{Script, play_all};
 use crate::steps::Step::{Batch, Counter, Del, Insert, Long, Remove, Rotate, Set, Weak};
-use crate::steps::Told::{Done, Nothing, Number, Refused, Sealed, Sizes};
+use crate::steps::Told::{Done, Number, Refused, Sealed, Sizes};
 use std::test::Fail;
 
 const WRITES: [Script; 6] = [
@@ -21,7 +21,7 @@ const WRITES: [Script; 6] = [
         "a tombstone hides the value above it",
         &[Plays(&[
             Does(Set("a", "x"), Number(0)),
-            Does(Remove("a", 1), Sizes(49, 99)),
+            Does(Remove("a", 1), Sizes((49, 99))),
             Shows("a", 2, ""),
             Shows("a", 1, "x"),
         ])],
@@ -30,7 +30,7 @@ const WRITES: [Script; 6] = [
     (
         "refuses what is too long",
         &[Plays(&[
-            Does(Long(65_535), Sizes(65_584, 65_584)),
+            Does(Long(65_535), Sizes((65_584, 65_584))),
             Does(Long(65_536), Refused(10)),
         ])],
     ),
@@ -67,9 +67,9 @@ fn writes_are_numbered_and_read(rt: HostRuntime) -> Result<(), Fail> {
 /// Sets the key, removes it, and seals the memtable; a second time there is nothing to seal.
 const SEAL: [Row; 4] = [
     Does(Set("a", "x"), Number(0)),
-    Does(Remove("a", 1), Sizes(49, 99)),
-    Does(Rotate, Sealed(0)),
-    Does(Rotate, Nothing),
+    Does(Remove("a", 1), Sizes((49, 99))),
+    Does(Rotate, Sealed(Some(0))),
+    Does(Rotate, Sealed(None)),
 ];
 
 const ROTATIONS: [Script; 3] = [

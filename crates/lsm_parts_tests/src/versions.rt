@@ -10,29 +10,22 @@ use std::test::Fail;
 
 // ---- sealed memtables
 
-fn sealed(alloc: Global) -> Result<SealedMemtables, Error> {
-    SealedMemtables::new(alloc).add(3)?.add(1)?.add(2)
-}
-
-fn rest_of(list: &SealedMemtables) -> Result<SealedMemtables, Error> {
-    list.remove(1)?.copy()
+/// Whether ids are listed as they were added, and all but one that is removed.
+fn lists_added(alloc: Global) -> Result<bool, Error> {
+    let list = SealedMemtables::new(alloc).add(3)?.add(1)?.add(2)?;
+    let rest = list.remove(1)?.copy()?;
+    Ok(list.as_slice() == [3, 1, 2].as_slice() && rest.as_slice() == [3, 2].as_slice())
 }
 
 #[test]
 fn lists_sealed_memtables(rt: HostRuntime) -> Result<(), Fail> {
-    let list = sealed(rt.alloc())?;
-    let rest = rest_of(&list)?;
-    let right = list.as_slice() == [3, 1, 2].as_slice() && rest.as_slice() == [3, 2].as_slice();
-    drop(rest);
-    drop(list);
-    assert!(rt; right);
+    assert!(rt; lists_added(rt.alloc())?);
     Ok(())
 }
 
 // ---- the history
 
 /// A change of a history of super versions.
-#[derive(Clone, Copy)]
 enum Change {
     /// A super version of this active memtable, of a version of this id, under this number.
     Append(MemtableId, VersionId, SeqNo),
@@ -66,15 +59,15 @@ fn append_copied(
     })
 }
 
-fn make(alloc: Global, history: &mut SuperVersions, change: Change) -> Result<(), Error> {
+fn make(alloc: Global, history: &mut SuperVersions, change: &Change) -> Result<(), Error> {
     match change {
         Change::Append(active, id, seqno) => {
-            history.append_version(super_version(alloc, active, id, seqno))
+            history.append_version(super_version(alloc, *active, *id, *seqno))
         }
-        Change::Copied(active, seqno) => append_copied(history, active, seqno),
-        Change::Rotate(id) => history.rotate_latest(id),
+        Change::Copied(active, seqno) => append_copied(history, *active, *seqno),
+        Change::Rotate(id) => history.rotate_latest(*id),
         Change::Replace(active, seqno) => {
-            history.replace_latest_version(super_version(alloc, active, 0, seqno));
+            history.replace_latest_version(super_version(alloc, *active, 0, *seqno));
             Ok(())
         }
     }
@@ -83,23 +76,33 @@ fn make(alloc: Global, history: &mut SuperVersions, change: Change) -> Result<()
 fn history(alloc: Global, changes: &[Change]) -> Result<SuperVersions, Error> {
     let mut history = SuperVersions::new(alloc, Version::new(alloc, 0));
     for step in changes {
-        make(alloc, &mut history, *step)?;
+        make(alloc, &mut history, step)?;
     }
     Ok(history)
 }
 
-/// Changes, how many super versions there are then, and which memtable is active at a snapshot: none where it is too old.
+/// Changes, how many super versions there are then, the sizes of those of the memtables 0, 1 and 2 that they name, each of
+/// 49 bytes, and which memtable is active at a snapshot: none where that is too old.
 type History = (
     &'static [Change],
     usize,
+    u64,
     &'static [(SeqNo, Option<MemtableId>)],
 );
 
-const HISTORIES: [History; 3] = [
+const HISTORIES: [History; 5] = [
+    (&[], 1, 49, &[(0, Some(0))]),
+    (
+        &[Change::Append(2, 0, 1)],
+        2,
+        98,
+        &[(1, Some(0)), (2, Some(2))],
+    ),
     // A snapshot reads what was installed before it.
     (
         &[Change::Append(1, 0, 5), Change::Copied(2, 9)],
         3,
+        147,
         &[
             (0, Some(0)),
             (1, Some(0)),
@@ -119,6 +122,7 @@ const HISTORIES: [History; 3] = [
             Change::Append(5, 0, 7),
         ],
         5,
+        147,
         &[
             (0, Some(0)),
             (2, Some(0)),
@@ -129,7 +133,7 @@ const HISTORIES: [History; 3] = [
         ],
     ),
     // A snapshot below all is too old.
-    (&[Change::Replace(1, 5)], 1, &[(5, None), (0, Some(1))]),
+    (&[Change::Replace(1, 5)], 1, 49, &[(5, None), (0, Some(1))]),
 ];
 
 fn reads(history: &SuperVersions, snapshot: SeqNo, active: Option<MemtableId>) -> bool {
@@ -140,27 +144,15 @@ fn reads(history: &SuperVersions, snapshot: SeqNo, active: Option<MemtableId>) -
     }
 }
 
-fn reads_all(history: &SuperVersions, len: usize, rows: &[(SeqNo, Option<MemtableId>)]) -> bool {
-    let mut right = history.len() == len;
+fn reads_all(history: &SuperVersions, rows: &[(SeqNo, Option<MemtableId>)]) -> bool {
+    let mut right = true;
     for (snapshot, active) in rows {
         right = right && reads(history, *snapshot, *active);
     }
     right
 }
 
-#[test]
-fn a_snapshot_reads_what_was_installed_before_it(rt: HostRuntime) -> Result<(), Fail> {
-    for (changes, len, rows) in HISTORIES {
-        let history = history(rt.alloc(), changes)?;
-        assert!(rt; reads_all(&history, len, rows), "{len} super versions");
-        drop(history);
-    }
-    Ok(())
-}
-
-// ---- sizes
-
-/// Three memtables of rising ids, each with a tombstone of 1 + 48 bytes.
+/// Memtables 0, 1 and 2, each with a tombstone of 1 + 48 bytes.
 fn three(alloc: Global) -> Result<Vec<Memtable>, Error> {
     let mut memtables = Vec::new(alloc);
     for id in [0, 1, 2] {
@@ -169,17 +161,22 @@ fn three(alloc: Global) -> Result<Vec<Memtable>, Error> {
     Ok(memtables)
 }
 
-/// The sum of the sizes of those that a history names.
-fn sum_of(alloc: Global, changes: &[Change]) -> Result<u64, Error> {
-    let memtables = three(alloc)?;
-    let history = history(alloc, changes)?;
-    Ok(history.memtable_size_sum(&memtables))
+fn is_right(alloc: Global, memtables: &Vec<Memtable>, case: &History) -> Result<bool, Error> {
+    let history = history(alloc, case.0)?;
+    Ok(
+        history.len() == case.1
+            && history.memtable_size_sum(memtables) == case.2
+            && reads_all(&history, case.3),
+    )
 }
 
 #[test]
-fn sums_the_memtables_that_are_named(rt: HostRuntime) -> Result<(), Fail> {
-    assert!(rt; sum_of(rt.alloc(), &[])? == 49);
-    assert!(rt; sum_of(rt.alloc(), &[Change::Append(2, 0, 1)])? == 98);
+fn a_snapshot_reads_what_was_installed_before_it(rt: HostRuntime) -> Result<(), Fail> {
+    let memtables = three(rt.alloc())?;
+    for (place, case) in HISTORIES.iter().enumerate() {
+        assert!(rt; is_right(rt.alloc(), &memtables, case)?, "row {place}");
+    }
+    drop(memtables);
     Ok(())
 }
 

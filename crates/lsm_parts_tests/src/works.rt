@@ -3,7 +3,6 @@ use crate::samples::{Edge, bounds};
 use crate::steps::Told;
 use lsm_below::{SeqNo, TableId};
 use lsm_choices::Input;
-use lsm_merges::CompactionJob;
 use lsm_parts::Error;
 use lsm_pick::{Choice, Fifo, Leveled, OwnedBounds};
 use lsm_state::{Begun, Options, TreeState};
@@ -11,7 +10,6 @@ use std::alloc::{AllocError, Global};
 use std::collections::HashSet;
 
 /// A compaction.
-#[derive(Clone, Copy)]
 pub enum Work {
     /// At a watermark.
     Major(SeqNo),
@@ -21,12 +19,15 @@ pub enum Work {
     /// A limit of bytes, seconds to live, and a watermark; its moment is the tree's.
     Fifo(u64, Option<u64>, SeqNo),
     DropRange(Edge, Edge),
-    /// Tables of these ids go to a level.
-    Move(&'static [TableId], u8),
-    /// Tables of these ids are to be merged into a level; its job is dropped, and so stays open.
-    Merge(&'static [TableId], u8),
-    /// Tables of these ids are dropped.
-    Drop(&'static [TableId]),
+    /// Something is to become of tables of these ids, maybe in a level; the job of a merge is dropped, and so stays open.
+    Choose(Kind, &'static [TableId], u8),
+}
+
+/// What is to become of tables.
+pub enum Kind {
+    Move,
+    Merge,
+    Drop,
 }
 
 fn ids(alloc: Global, list: &[TableId]) -> Result<HashSet<TableId>, AllocError> {
@@ -46,21 +47,23 @@ fn input(alloc: Global, list: &[TableId], to: u8) -> Result<Input, AllocError> {
     })
 }
 
-fn begin(tree: &mut TreeState, choice: Choice) -> Result<Begun, Error> {
+fn choice(alloc: Global, kind: &Kind, list: &[TableId], to: u8) -> Result<Choice, AllocError> {
+    match kind {
+        Kind::Move => Ok(Choice::Move(input(alloc, list, to)?)),
+        Kind::Merge => Ok(Choice::Merge(input(alloc, list, to)?)),
+        Kind::Drop => Ok(Choice::Drop(ids(alloc, list)?)),
+    }
+}
+
+pub fn choose(
+    alloc: Global,
+    tree: &mut TreeState,
+    kind: &Kind,
+    list: &[TableId],
+    to: u8,
+) -> Result<Begun, Error> {
     let options = Options::from_tree(tree);
-    tree.begin_choice(choice, options)
-}
-
-fn move_to(alloc: Global, tree: &mut TreeState, list: &[TableId], to: u8) -> Result<Begun, Error> {
-    begin(tree, Choice::Move(input(alloc, list, to)?))
-}
-
-fn merge(alloc: Global, tree: &mut TreeState, list: &[TableId], to: u8) -> Result<Begun, Error> {
-    begin(tree, Choice::Merge(input(alloc, list, to)?))
-}
-
-fn drop_tables(alloc: Global, tree: &mut TreeState, list: &[TableId]) -> Result<Begun, Error> {
-    begin(tree, Choice::Drop(ids(alloc, list)?))
+    tree.begin_choice(choice(alloc, kind, list, to)?, options)
 }
 
 fn leveled(alloc: Global, tree: &mut TreeState, watermark: SeqNo) -> Result<Begun, Error> {
@@ -85,46 +88,27 @@ fn fifo(
     tree.compact(&fifo, watermark)
 }
 
-fn drop_range(tree: &mut TreeState, edges: (Edge, Edge)) -> Result<Begun, Error> {
-    let (start, end) = bounds(edges);
+fn drop_range(tree: &mut TreeState, low: &Edge, high: &Edge) -> Result<Begun, Error> {
+    let (start, end) = bounds(low, high);
     tree.drop_range(OwnedBounds { start, end })
 }
 
-fn begun(alloc: Global, tree: &mut TreeState, work: Work) -> Result<Begun, Error> {
+fn begun(alloc: Global, tree: &mut TreeState, work: &Work) -> Result<Begun, Error> {
     match work {
-        Work::Major(watermark) => tree.major_compact(u64::MAX, watermark),
-        Work::Leveled(watermark) => leveled(alloc, tree, watermark),
+        Work::Major(watermark) => tree.major_compact(u64::MAX, *watermark),
+        Work::Leveled(watermark) => leveled(alloc, tree, *watermark),
         Work::Small => level_small(alloc, tree),
-        Work::Fifo(limit, ttl, watermark) => fifo(tree, limit, ttl, watermark),
-        Work::DropRange(low, high) => drop_range(tree, (low, high)),
-        Work::Move(list, to) => move_to(alloc, tree, list, to),
-        Work::Merge(list, to) => merge(alloc, tree, list, to),
-        Work::Drop(list) => drop_tables(alloc, tree, list),
+        Work::Fifo(limit, ttl, watermark) => fifo(tree, *limit, *ttl, *watermark),
+        Work::DropRange(low, high) => drop_range(tree, low, high),
+        Work::Choose(kind, list, to) => choose(alloc, tree, kind, list, *to),
     }
 }
 
-fn answered(begun: Begun) -> Told {
-    match begun {
-        Begun::DidNothing => Told::Nothing,
-        Begun::Declined(why) => Told::Declined(why),
-        Begun::Installed => Told::Installed,
-        Begun::Job(_) => Told::Job,
-    }
-}
-
-pub fn compact(alloc: Global, tree: &mut TreeState, work: Work) -> Result<Told, Error> {
-    Ok(answered(begun(alloc, tree, work)?))
-}
-
-/// The job of a merge of tables of these ids into a level.
-pub fn begin_merge(
-    alloc: Global,
-    tree: &mut TreeState,
-    list: &[TableId],
-    to: u8,
-) -> Result<Option<CompactionJob>, Error> {
-    match merge(alloc, tree, list, to)? {
-        Begun::Job(job) => Ok(Some(job)),
-        _ => Ok(None),
+pub fn compact(alloc: Global, tree: &mut TreeState, work: &Work) -> Result<Told, Error> {
+    match begun(alloc, tree, work)? {
+        Begun::DidNothing => Ok(Told::Nothing),
+        Begun::Declined(why) => Ok(Told::Declined(why)),
+        Begun::Installed => Ok(Told::Installed),
+        Begun::Job(_) => Ok(Told::Job),
     }
 }
