@@ -67,11 +67,6 @@ const SNAPSHOTS: [Script; 3] = [
     ),
 ];
 
-#[test]
-fn snapshots_see_what_a_clear_leaves(rt: HostRuntime) -> Result<(), Fail> {
-    play_all(&rt, rt.alloc(), &SNAPSHOTS)
-}
-
 const FORGOTTEN: [Script; 3] = [
     (
         "what isn't flushed is forgotten",
@@ -111,11 +106,6 @@ const FORGOTTEN: [Script; 3] = [
         ])],
     ),
 ];
-
-#[test]
-fn what_is_not_flushed_is_forgotten(rt: HostRuntime) -> Result<(), Fail> {
-    play_all(&rt, rt.alloc(), &FORGOTTEN)
-}
 
 // ---- jobs that come too late
 
@@ -177,11 +167,6 @@ const LATE: [Script; 3] = [
         ],
     ),
 ];
-
-#[test]
-fn jobs_over_a_clear_are_stale(rt: HostRuntime) -> Result<(), Fail> {
-    play_all(&rt, rt.alloc(), &LATE)
-}
 
 // ---- faults
 
@@ -273,6 +258,13 @@ const FAILING: [Script; 6] = [
         ],
     ),
 ];
+
+#[test]
+fn snapshots_see_what_a_clear_leaves(rt: HostRuntime) -> Result<(), Fail> {
+    play_all(&rt, rt.alloc(), &SNAPSHOTS)?;
+    play_all(&rt, rt.alloc(), &FORGOTTEN)?;
+    play_all(&rt, rt.alloc(), &LATE)
+}
 
 #[test]
 fn a_clear_that_fails_uses_its_number(rt: HostRuntime) -> Result<(), Fail> {

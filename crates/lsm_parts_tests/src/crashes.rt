@@ -9,6 +9,7 @@ use lsm_parts::{Config, Error};
 use lsm_state::TreeState;
 use lsm_store::{Fault, MemStore, Pick, Store};
 use std::alloc::Global;
+use std::process::Abort;
 use std::test::Fail;
 
 /// Steps, and what a and b have behind each number of writes: none where it is empty.
@@ -181,31 +182,23 @@ fn withstands(alloc: Global, script: &Script, call: u64) -> Result<bool, Error> 
     }
 }
 
-/// The first call from which on the store may not fail, or `CALLS`.
-fn first_wrong(alloc: Global, script: &Script) -> Result<u64, Error> {
+/// Both writes are covered where the store never fails, and it may fail from each call on.
+fn stays_safe(rt: &impl Abort, alloc: Global, script: &Script) -> Result<(), Fail> {
+    let (store, covered) = stopped(alloc, MemStore::new(alloc), 0, CALLS, script.0);
+    drop(store);
+    assert!(rt; covered == 2);
     for call in 1..CALLS {
-        if !withstands(alloc, script, call)? {
-            return Ok(call);
-        }
+        assert!(rt; withstands(alloc, script, call)?, "from call {call} on");
     }
-    Ok(CALLS)
-}
-
-/// How many writes are covered where the store never fails.
-fn covered(alloc: Global, script: &Script) -> usize {
-    stopped(alloc, MemStore::new(alloc), 0, CALLS, script.0).1
+    Ok(())
 }
 
 #[test]
 fn a_crash_around_a_flush_leaves_a_beginning(rt: HostRuntime) -> Result<(), Fail> {
-    assert!(rt; covered(rt.alloc(), &AROUND_A_FLUSH) == 2);
-    assert_eq!(rt; first_wrong(rt.alloc(), &AROUND_A_FLUSH)?, CALLS);
-    Ok(())
+    stays_safe(&rt, rt.alloc(), &AROUND_A_FLUSH)
 }
 
 #[test]
 fn a_crash_around_an_evicting_merge_leaves_a_beginning(rt: HostRuntime) -> Result<(), Fail> {
-    assert!(rt; covered(rt.alloc(), &EVICTING) == 2);
-    assert_eq!(rt; first_wrong(rt.alloc(), &EVICTING)?, CALLS);
-    Ok(())
+    stays_safe(&rt, rt.alloc(), &EVICTING)
 }

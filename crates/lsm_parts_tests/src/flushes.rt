@@ -49,11 +49,6 @@ const SNAPSHOTS: [Script; 3] = [
     ),
 ];
 
-#[test]
-fn snapshots_are_answered_over_flushes(rt: HostRuntime) -> Result<(), Fail> {
-    play_all(&rt, rt.alloc(), &SNAPSHOTS)
-}
-
 const JOBS: [Script; 3] = [
     // `FlushOpen`, until it is given up.
     (
@@ -111,11 +106,6 @@ const JOBS: [Script; 3] = [
     ),
 ];
 
-#[test]
-fn flushes_take_what_was_sealed_before(rt: HostRuntime) -> Result<(), Fail> {
-    play_all(&rt, rt.alloc(), &JOBS)
-}
-
 // ---- crashes
 
 /// a = x, flushed.
@@ -169,6 +159,12 @@ const CRASHES: [Script; 3] = [
         ],
     ),
 ];
+
+#[test]
+fn flushes_take_what_was_sealed_before(rt: HostRuntime) -> Result<(), Fail> {
+    play_all(&rt, rt.alloc(), &SNAPSHOTS)?;
+    play_all(&rt, rt.alloc(), &JOBS)
+}
 
 #[test]
 fn a_crash_leaves_what_was_committed(rt: HostRuntime) -> Result<(), Fail> {

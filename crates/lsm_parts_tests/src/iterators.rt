@@ -127,7 +127,8 @@ fn state<'a>(
 
 // ---- what is given
 
-fn taken(alloc: Global, mut iter: TreeIter, ends: &[End]) -> Result<Vec<u8>, Error> {
+fn taken(alloc: Global, iter: Result<TreeIter, Error>, ends: &[End]) -> Result<Vec<u8>, Error> {
+    let mut iter = iter?;
     let mut keys = Vec::new(alloc);
     for pair in take_ends(alloc, &mut iter, ends)? {
         match pair {
@@ -136,13 +137,6 @@ fn taken(alloc: Global, mut iter: TreeIter, ends: &[End]) -> Result<Vec<u8>, Err
         }
     }
     Ok(keys)
-}
-
-fn takes_so(alloc: Global, iter: Result<TreeIter, Error>, ends: &[End], text: &str) -> bool {
-    match iter {
-        Ok(iter) => is(taken(alloc, iter, ends), text),
-        Err(_) => false,
-    }
 }
 
 /// Whether the entry that is found has this sequence number, or none is.
@@ -185,14 +179,10 @@ fn answers(alloc: Global, state: &IterState<'_>, snapshot: SeqNo, ask: &Ask) -> 
             *text,
         ),
         Ask::Steps(turns) => takes(range(alloc, state, snapshot, &Open, &Open), *turns),
-        Ask::Takes(ends, text) => {
-            takes_so(
-                alloc,
-                range(alloc, state, snapshot, &Open, &Open),
-                *ends,
-                *text,
-            )
-        }
+        Ask::Takes(ends, text) => is(
+            taken(alloc, range(alloc, state, snapshot, &Open, &Open), *ends),
+            *text,
+        ),
         Ask::Ends(first, last) => ends_so(alloc, state, snapshot, (*first, *last)),
     }
 }

@@ -69,15 +69,6 @@ fn opened_as(mut store: MemStore, opening: &Opening) -> Result<MemStore, Error> 
     }
 }
 
-fn reopened(
-    alloc: Global,
-    tree: TreeState,
-    opening: &Opening,
-    next: SeqNo,
-) -> Result<TreeState, Error> {
-    open(alloc, next, opened_as(tree.into_store(), opening)?)
-}
-
 // ---- jobs
 
 fn flush_over(
@@ -192,7 +183,8 @@ fn is_right(alloc: Global, tree: &mut TreeState, part: &Part) -> Result<bool, Er
 /// The tree behind a part, and whether that is as it says.
 fn behind(alloc: Global, mut tree: TreeState, part: &Part) -> Result<(TreeState, bool), Error> {
     if let Part::Reopen(opening, next) = part {
-        return Ok((reopened(alloc, tree, opening, *next)?, true));
+        let store = opened_as(tree.into_store(), opening)?;
+        return Ok((open(alloc, *next, store)?, true));
     }
     let right = is_right(alloc, &mut tree, part)?;
     Ok((tree, right))

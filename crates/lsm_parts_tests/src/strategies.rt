@@ -76,11 +76,6 @@ const LEVELED: [Script; 2] = [
     ),
 ];
 
-#[test]
-fn leveled_compactions_fill_levels(rt: HostRuntime) -> Result<(), Fail> {
-    play_all(&rt, rt.alloc(), &LEVELED)
-}
-
 const DROPS: [Script; 3] = [
     (
         "fifo drops what passes its limit",
@@ -134,6 +129,7 @@ const DROPS: [Script; 3] = [
 ];
 
 #[test]
-fn tables_are_dropped_by_limits_and_ranges(rt: HostRuntime) -> Result<(), Fail> {
+fn strategies_fill_levels_and_drop_tables(rt: HostRuntime) -> Result<(), Fail> {
+    play_all(&rt, rt.alloc(), &LEVELED)?;
     play_all(&rt, rt.alloc(), &DROPS)
 }

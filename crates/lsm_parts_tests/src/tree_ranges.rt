@@ -43,11 +43,6 @@ const COUNTS: [Script; 4] = [
     ),
 ];
 
-#[test]
-fn keys_are_counted_from_both_ends(rt: HostRuntime) -> Result<(), Fail> {
-    play_all(&rt, rt.alloc(), &COUNTS)
-}
-
 const LISTS: [Script; 3] = [
     (
         "an index lies over the tree",
@@ -85,6 +80,7 @@ const LISTS: [Script; 3] = [
 ];
 
 #[test]
-fn a_list_keeps_its_bounds(rt: HostRuntime) -> Result<(), Fail> {
+fn keys_are_counted_and_listed(rt: HostRuntime) -> Result<(), Fail> {
+    play_all(&rt, rt.alloc(), &COUNTS)?;
     play_all(&rt, rt.alloc(), &LISTS)
 }

@@ -59,11 +59,6 @@ const WRITES: [Script; 6] = [
     ),
 ];
 
-#[test]
-fn writes_are_numbered_and_read(rt: HostRuntime) -> Result<(), Fail> {
-    play_all(&rt, rt.alloc(), &WRITES)
-}
-
 /// Sets the key, removes it, and seals the memtable; a second time there is nothing to seal.
 const SEAL: [Row; 4] = [
     Does(Set("a", "x"), Number(0)),
@@ -99,6 +94,7 @@ const ROTATIONS: [Script; 3] = [
 ];
 
 #[test]
-fn rotation_seals_what_is_read(rt: HostRuntime) -> Result<(), Fail> {
+fn writes_are_numbered_sealed_and_read(rt: HostRuntime) -> Result<(), Fail> {
+    play_all(&rt, rt.alloc(), &WRITES)?;
     play_all(&rt, rt.alloc(), &ROTATIONS)
 }

@@ -144,14 +144,6 @@ fn reads(history: &SuperVersions, snapshot: SeqNo, active: Option<MemtableId>) -
     }
 }
 
-fn reads_all(history: &SuperVersions, rows: &[(SeqNo, Option<MemtableId>)]) -> bool {
-    let mut right = true;
-    for (snapshot, active) in rows {
-        right = right && reads(history, *snapshot, *active);
-    }
-    right
-}
-
 /// Memtables 0, 1 and 2, each with a tombstone of 1 + 48 bytes.
 fn three(alloc: Global) -> Result<Vec<Memtable>, Error> {
     let mut memtables = Vec::new(alloc);
@@ -163,11 +155,12 @@ fn three(alloc: Global) -> Result<Vec<Memtable>, Error> {
 
 fn is_right(alloc: Global, memtables: &Vec<Memtable>, case: &History) -> Result<bool, Error> {
     let history = history(alloc, case.0)?;
-    Ok(
-        history.len() == case.1
-            && history.memtable_size_sum(memtables) == case.2
-            && reads_all(&history, case.3),
-    )
+    let mut right = history.len() == case.1 && history.memtable_size_sum(memtables) == case.2;
+    for (snapshot, active) in case.3 {
+        right = right && reads(&history, *snapshot, *active);
+    }
+    drop(history);
+    Ok(right)
 }
 
 #[test]
