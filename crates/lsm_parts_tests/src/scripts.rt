@@ -1,6 +1,6 @@
 // Scripts on a tree: rows, jobs that stay open over rows, and crashes between them.
 use crate::rows::{Row, plays};
-use crate::steps::{Told, flushes_times, registered, written};
+use crate::steps::{Told, flushes_times, outcome, registered, written};
 use crate::works::{Kind, choose};
 use lsm_below::{SeqNo, TableId};
 use lsm_merges::{CompactionJob, MergedCompaction};
@@ -87,13 +87,13 @@ fn flush_over(
     Ok(if right { told } else { Told::Wrong })
 }
 
-fn flush_given_up(alloc: Global, tree: &mut TreeState, rows: &[Row]) -> Result<bool, Error> {
+fn flush_given_up(alloc: Global, tree: &mut TreeState, rows: &[Row]) -> Result<Told, Error> {
     let Some(job) = tree.begin_flush()? else {
-        return Ok(false);
+        return Ok(Told::Wrong);
     };
     let right = plays(alloc, tree, rows);
     tree.abandon_flush(job);
-    Ok(right)
+    Ok(if right { Told::Nothing } else { Told::Wrong })
 }
 
 fn merged(job: CompactionJob) -> Result<MergedCompaction, Error> {
@@ -169,14 +169,18 @@ fn merges(
 
 // ---- all
 
-fn is_right(alloc: Global, tree: &mut TreeState, part: &Part) -> Result<bool, Error> {
+fn is_right(alloc: Global, tree: &mut TreeState, part: &Part) -> bool {
     match part {
-        Part::Plays(rows) => Ok(plays(alloc, tree, *rows)),
-        Part::Fill(times) => Ok(flushes_times(alloc, tree, *times)),
-        Part::FlushOver(first, then, told) => Ok(flush_over(alloc, tree, *first, *then)? == *told),
-        Part::FlushGivenUp(rows) => flush_given_up(alloc, tree, *rows),
-        Part::Merge(list, to, end, told) => Ok(merges(alloc, tree, *list, *to, end)? == *told),
-        Part::Reopen(..) => Ok(true),
+        Part::Plays(rows) => plays(alloc, tree, *rows),
+        Part::Fill(times) => flushes_times(alloc, tree, *times),
+        Part::FlushOver(first, then, told) => {
+            outcome(flush_over(alloc, tree, *first, *then)) == *told
+        }
+        Part::FlushGivenUp(rows) => outcome(flush_given_up(alloc, tree, *rows)) == Told::Nothing,
+        Part::Merge(list, to, end, told) => {
+            outcome(merges(alloc, tree, *list, *to, end)) == *told
+        }
+        Part::Reopen(..) => true,
     }
 }
 
@@ -186,7 +190,7 @@ fn behind(alloc: Global, mut tree: TreeState, part: &Part) -> Result<(TreeState,
         let store = opened_as(tree.into_store(), opening)?;
         return Ok((open(alloc, *next, store)?, true));
     }
-    let right = is_right(alloc, &mut tree, part)?;
+    let right = is_right(alloc, &mut tree, part);
     Ok((tree, right))
 }
 
