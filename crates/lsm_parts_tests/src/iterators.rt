@@ -1,8 +1,8 @@
 // What iterators give over memtables, from both ends.
 use crate::samples::Edge::{In, Open, Out};
 use crate::samples::Turn::{Back, BackEntry, Front, FrontEntry};
-use crate::samples::{Edge, Entry, INDEX, OVER_A_B, Turn, bounds, filled, is, lists, takes};
-use lsm_below::{InternalValue, SeqNo};
+use crate::samples::{Edge, Entry, INDEX, OVER_A_B, Turn, bounds, filled, is, listed, takes};
+use lsm_below::SeqNo;
 use lsm_iter::{End, IterGuard, IterState, TreeIter, end_shown, take_ends};
 use lsm_parts::{Error, Memtable, Version};
 use std::alloc::Global;
@@ -139,23 +139,24 @@ fn taken(alloc: Global, iter: Result<TreeIter, Error>, ends: &[End]) -> Result<V
     Ok(keys)
 }
 
-/// Whether the entry that is found has this sequence number, or none is.
-fn is_numbered(entry: Result<Option<InternalValue>, Error>, seqno: Option<SeqNo>) -> bool {
-    match entry {
-        Ok(entry) => entry.map(|entry| entry.key.seqno) == seqno,
-        Err(_) => false,
-    }
-}
-
+/// Whether the first and the last entry have these sequence numbers.
 fn ends_so(
     alloc: Global,
     state: &IterState<'_>,
-    snapshot: SeqNo,
+    at: SeqNo,
     want: (Option<SeqNo>, Option<SeqNo>),
 ) -> bool {
     let all = bounds(&Open, &Open);
-    is_numbered(end_shown(alloc, state, End::Front, &all, snapshot), want.0)
-        && is_numbered(end_shown(alloc, state, End::Back, &all, snapshot), want.1)
+    match (
+        end_shown(alloc, state, End::Front, &all, at),
+        end_shown(alloc, state, End::Back, &all, at),
+    ) {
+        (Ok(first), Ok(last)) => {
+            first.map(|entry| entry.key.seqno) == want.0
+                && last.map(|entry| entry.key.seqno) == want.1
+        }
+        _ => false,
+    }
 }
 
 fn range(
@@ -171,11 +172,16 @@ fn range(
 fn answers(alloc: Global, state: &IterState<'_>, snapshot: SeqNo, ask: &Ask) -> bool {
     match ask {
         Ask::Range(low, high, text) => {
-            lists(alloc, range(alloc, state, snapshot, low, high), *text)
+            is(
+                listed(alloc, range(alloc, state, snapshot, low, high)),
+                *text,
+            )
         }
-        Ask::Prefix(name, text) => lists(
-            alloc,
-            TreeIter::create_prefix(alloc, state, name.as_bytes(), snapshot),
+        Ask::Prefix(name, text) => is(
+            listed(
+                alloc,
+                TreeIter::create_prefix(alloc, state, name.as_bytes(), snapshot),
+            ),
             *text,
         ),
         Ask::Steps(turns) => takes(range(alloc, state, snapshot, &Open, &Open), *turns),

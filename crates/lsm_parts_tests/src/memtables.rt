@@ -164,17 +164,6 @@ fn compares_few(table: &Memtable, count: SeqNo, most: u64) -> bool {
     true
 }
 
-/// Whether counts of steps stop at the greatest number.
-fn stops_at_the_greatest() -> bool {
-    let mut steps = Steps {
-        compared: u64::MAX,
-        moved: u64::MAX - 1,
-    };
-    steps.tick_compared();
-    steps.tick_moved();
-    steps.compared == u64::MAX && steps.moved == u64::MAX
-}
-
 // 200 entries stand in at most 6 blocks, and 6 has three binary digits.
 #[test]
 fn takes_few_steps(rt: HostRuntime) {
@@ -182,6 +171,13 @@ fn takes_few_steps(rt: HostRuntime) {
     assert!(rt; compares_few(&table, 0, 8));
     assert!(rt; moves_few(&mut table, 200));
     assert!(rt; compares_few(&table, 200, 11) && table.len() == 200);
-    assert!(rt; stops_at_the_greatest());
     drop(table);
+    // Counts stop at the greatest number.
+    let mut steps = Steps {
+        compared: u64::MAX,
+        moved: u64::MAX - 1,
+    };
+    steps.tick_compared();
+    steps.tick_moved();
+    assert!(rt; steps.compared == u64::MAX && steps.moved == u64::MAX);
 }

@@ -1,5 +1,5 @@
 // Rows of a script on a tree: calls with what they answer, and looks at what it shows and counts.
-use crate::samples::{Bounds, Edge, OVER_A_B, Turn, bounds, filled, gives, lists, takes};
+use crate::samples::{Bounds, Edge, OVER_A_B, Turn, bounds, filled, gives, is, listed, takes};
 use crate::steps::{Step, Told, take};
 use lsm_below::{MemtableId, SeqNo};
 use lsm_parts::{Error, VersionId};
@@ -146,53 +146,34 @@ fn has_ends(tree: &TreeState, snapshot: SeqNo, first: &str, last: &str) -> bool 
 }
 
 /// Whether each call for a range gives these.
-fn lists_range(
-    alloc: Global,
-    tree: &TreeState,
-    bounds: &Bounds,
-    snapshot: SeqNo,
-    text: &str,
-) -> bool {
-    lists(alloc, tree.range(bounds, snapshot, None), text)
-        && lists(alloc, tree.create_range(bounds, snapshot, None), text)
-        && lists(
-            alloc,
-            tree.create_internal_range(bounds, snapshot, None),
+fn lists_range(alloc: Global, tree: &TreeState, bounds: &Bounds, at: SeqNo, text: &str) -> bool {
+    is(listed(alloc, tree.range(bounds, at, None)), text)
+        && is(listed(alloc, tree.create_range(bounds, at, None)), text)
+        && is(
+            listed(alloc, tree.create_internal_range(bounds, at, None)),
             text,
         )
 }
 
 /// Whether each call for a prefix gives these.
-fn lists_prefix(
-    alloc: Global,
-    tree: &TreeState,
-    prefix: &str,
-    snapshot: SeqNo,
-    text: &str,
-) -> bool {
-    lists(alloc, tree.prefix(prefix.as_bytes(), snapshot, None), text)
-        && lists(
-            alloc,
-            tree.create_prefix(prefix.as_bytes(), snapshot, None),
-            text,
-        )
+fn lists_prefix(alloc: Global, tree: &TreeState, prefix: &str, at: SeqNo, text: &str) -> bool {
+    is(
+        listed(alloc, tree.prefix(prefix.as_bytes(), at, None)),
+        text,
+    ) && is(
+        listed(alloc, tree.create_prefix(prefix.as_bytes(), at, None)),
+        text,
+    )
 }
 
 /// Whether both calls for all keys give these, under what an index has below a number.
-fn lists_under(
-    alloc: Global,
-    tree: &TreeState,
-    number: SeqNo,
-    snapshot: SeqNo,
-    text: &str,
-) -> bool {
+fn lists_under(alloc: Global, tree: &TreeState, number: SeqNo, at: SeqNo, text: &str) -> bool {
     let Ok(index) = filled(alloc, 0, &OVER_A_B) else {
         return false;
     };
-    lists(alloc, tree.iter(snapshot, Some((&index, number))), text)
-        && lists(
-            alloc,
-            tree.create_iter(snapshot, Some((&index, number))),
+    is(listed(alloc, tree.iter(at, Some((&index, number)))), text)
+        && is(
+            listed(alloc, tree.create_iter(at, Some((&index, number)))),
             text,
         )
 }

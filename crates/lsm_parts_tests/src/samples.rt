@@ -114,7 +114,8 @@ pub fn takes(iter: Result<TreeIter, Error>, turns: &[Turn]) -> bool {
 }
 
 /// The keys and values that are given, one after the other.
-fn listed(alloc: Global, iter: TreeIter) -> Result<Vec<u8>, Error> {
+pub fn listed(alloc: Global, iter: Result<TreeIter, Error>) -> Result<Vec<u8>, Error> {
+    let iter = iter?;
     let mut found = Vec::new(alloc);
     for guard in iter {
         let (key, value) = guard.into_inner()?;
@@ -128,14 +129,6 @@ fn listed(alloc: Global, iter: TreeIter) -> Result<Vec<u8>, Error> {
 pub fn is(bytes: Result<Vec<u8>, Error>, text: &str) -> bool {
     match bytes {
         Ok(bytes) => bytes.as_slice() == text.as_bytes(),
-        Err(_) => false,
-    }
-}
-
-/// Whether just these keys and values are given.
-pub fn lists(alloc: Global, iter: Result<TreeIter, Error>, text: &str) -> bool {
-    match iter {
-        Ok(iter) => is(listed(alloc, iter), text),
         Err(_) => false,
     }
 }

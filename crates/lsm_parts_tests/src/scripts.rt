@@ -135,12 +135,6 @@ fn finished_elsewhere(alloc: Global, job: CompactionJob) -> Result<Told, Error> 
     told
 }
 
-fn given_up(alloc: Global, tree: &mut TreeState, job: CompactionJob, rows: &[Row]) -> Told {
-    let right = plays(alloc, tree, rows);
-    tree.abandon_compaction(job);
-    if right { Told::Nothing } else { Told::Wrong }
-}
-
 fn ended(
     alloc: Global,
     tree: &mut TreeState,
@@ -149,7 +143,11 @@ fn ended(
 ) -> Result<Told, Error> {
     match end {
         End::Finished(first, then) => merge_over(alloc, tree, job, *first, *then),
-        End::GivenUp(rows) => Ok(given_up(alloc, tree, job, *rows)),
+        End::GivenUp(rows) => {
+            let right = plays(alloc, tree, *rows);
+            tree.abandon_compaction(job);
+            Ok(if right { Told::Nothing } else { Told::Wrong })
+        }
         End::Elsewhere => finished_elsewhere(alloc, job),
     }
 }

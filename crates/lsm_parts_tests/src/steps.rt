@@ -3,7 +3,7 @@ use crate::samples::bytes;
 use crate::works::{Work, compact};
 use lsm_below::{MemtableId, SeqNo, UserKey};
 use lsm_choices::Why;
-use lsm_jobs::{FlushJob, Registered, WrittenFlush};
+use lsm_jobs::{FlushJob, WrittenFlush};
 use lsm_model::Op;
 use lsm_parts::Error;
 use lsm_state::TreeState;
@@ -147,18 +147,14 @@ pub fn registered(tree: &mut TreeState, written: WrittenFlush) -> Result<Told, E
     })
 }
 
-fn finish_flush(tree: &mut TreeState, job: FlushJob, watermark: SeqNo) -> Result<Told, Error> {
-    let written = written(tree, job, watermark)?;
-    registered(tree, written)
-}
-
 /// Seals the active memtable and flushes what is sealed, by the parts of a flush.
 fn flush_by_parts(tree: &mut TreeState, watermark: SeqNo) -> Result<Told, Error> {
     tree.rotate_memtable()?;
-    match tree.begin_flush()? {
-        Some(job) => finish_flush(tree, job, watermark),
-        None => Ok(Told::Nothing),
-    }
+    let Some(job) = tree.begin_flush()? else {
+        return Ok(Told::Nothing);
+    };
+    let written = written(tree, job, watermark)?;
+    registered(tree, written)
 }
 
 fn flush(tree: &mut TreeState, watermark: SeqNo) -> Told {
@@ -169,19 +165,12 @@ fn flush(tree: &mut TreeState, watermark: SeqNo) -> Told {
     }
 }
 
-/// Whether the active memtable, of one value of one letter, is flushed in one call.
-fn flushes_letter(tree: &mut TreeState) -> bool {
-    match tree.flush_active_memtable(0) {
-        Ok((Some(_), Some((50, registered)))) => registered.installed,
-        _ => false,
-    }
-}
-
-/// Sets a and flushes it so many times.
+/// Whether a is set and the active memtable, of that value of one letter, is flushed in one call, so many times.
 pub fn flushes_times(alloc: Global, tree: &mut TreeState, times: u32) -> bool {
     for _ in 0..times {
         let set = write(alloc, tree, "a", Op::Set(bytes("v")));
-        if set.is_err() || !flushes_letter(tree) {
+        let flushed = tree.flush_active_memtable(0);
+        if set.is_err() || !matches!(flushed, Ok((Some(_), Some((50, done)))) if done.installed) {
             return false;
         }
     }

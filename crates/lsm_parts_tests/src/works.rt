@@ -78,28 +78,19 @@ fn level_small(alloc: Global, tree: &mut TreeState) -> Result<Begun, Error> {
     tree.compact(&small, 0)
 }
 
-fn fifo(
-    tree: &mut TreeState,
-    limit: u64,
-    ttl: Option<u64>,
-    watermark: SeqNo,
-) -> Result<Begun, Error> {
-    let fifo = Fifo::new(limit, ttl, tree.moment());
-    tree.compact(&fifo, watermark)
-}
-
-fn drop_range(tree: &mut TreeState, low: &Edge, high: &Edge) -> Result<Begun, Error> {
-    let (start, end) = bounds(low, high);
-    tree.drop_range(OwnedBounds { start, end })
-}
-
 fn begun(alloc: Global, tree: &mut TreeState, work: &Work) -> Result<Begun, Error> {
     match work {
         Work::Major(watermark) => tree.major_compact(u64::MAX, *watermark),
         Work::Leveled(watermark) => leveled(alloc, tree, *watermark),
         Work::Small => level_small(alloc, tree),
-        Work::Fifo(limit, ttl, watermark) => fifo(tree, *limit, *ttl, *watermark),
-        Work::DropRange(low, high) => drop_range(tree, low, high),
+        Work::Fifo(limit, ttl, watermark) => {
+            let fifo = Fifo::new(*limit, *ttl, tree.moment());
+            tree.compact(&fifo, *watermark)
+        }
+        Work::DropRange(low, high) => {
+            let (start, end) = bounds(low, high);
+            tree.drop_range(OwnedBounds { start, end })
+        }
         Work::Choose(kind, list, to) => choose(alloc, tree, kind, list, *to),
     }
 }
