@@ -1,7 +1,8 @@
 // What iterators give over memtables, from both ends.
+use crate::given::Turn::{Back, BackEntry, Front, FrontEntry};
+use crate::given::{Turn, is, listed, takes};
 use crate::samples::Edge::{In, Open, Out};
-use crate::samples::Turn::{Back, BackEntry, Front, FrontEntry};
-use crate::samples::{Edge, Entry, INDEX, OVER_A_B, Turn, bounds, filled, is, listed, takes};
+use crate::samples::{Edge, Entry, INDEX, OVER_A_B, bounds, filled};
 use lsm_below::SeqNo;
 use lsm_iter::{End, IterGuard, IterState, TreeIter, end_shown, take_ends};
 use lsm_parts::{Error, Memtable, Version};

@@ -22,7 +22,8 @@
 //!
 //! | Module | Holds |
 //! |-|-|
-//! | `samples` | keys, entries and bounds of text, and how the others look at what is given |
+//! | `samples` | keys, entries and bounds of text |
+//! | `given` | how the others look at what iterators give |
 //! | `steps` | the calls, and what they answer |
 //! | `works` | those that compact |
 //! | `rows` | calls with what they answer, and looks at what a tree shows and counts |
@@ -44,6 +45,8 @@ mod crashes;
 mod errors;
 #[cfg(test)]
 mod flushes;
+#[cfg(test)]
+mod given;
 #[cfg(test)]
 mod guards;
 #[cfg(test)]

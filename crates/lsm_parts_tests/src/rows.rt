@@ -1,5 +1,6 @@
 // Rows of a script on a tree: calls with what they answer, and looks at what it shows and counts.
-use crate::samples::{Bounds, Edge, OVER_A_B, Turn, bounds, filled, gives, is, listed, takes};
+use crate::given::{Turn, gives, is, listed, takes};
+use crate::samples::{Bounds, Edge, OVER_A_B, bounds, filled};
 use crate::steps::{Step, Told, take};
 use lsm_below::{MemtableId, SeqNo};
 use lsm_parts::{Error, VersionId};

@@ -1,9 +1,9 @@
 // A tree's reads of many keys.
+use crate::given::Turn::{Back, Front};
 use crate::rows::Row;
 use crate::rows::Row::{Counts, Does, Ends, Holds, Prefix, Range, Takes, Under};
 use crate::samples::Edge::{In, Out};
 use crate::samples::INDEX;
-use crate::samples::Turn::{Back, Front};
 use crate::scripts::Part::Plays;
 use crate::scripts::{Script, play_all};
 use crate::steps::Step::{Insert, Remove};
