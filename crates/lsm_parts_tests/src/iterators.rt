@@ -3,12 +3,11 @@ use crate::given::Turn::{Back, BackEntry, Front, FrontEntry};
 use crate::given::{Turn, is, listed, takes};
 use crate::samples::Edge::{In, Open, Out};
 use crate::samples::{Edge, Entry, INDEX, OVER_A_B, bounds, filled};
-use lsm_below::SeqNo;
+use lsm_below::{InternalValue, SeqNo};
 use lsm_iter::{End, IterGuard, IterState, TreeIter, end_shown, take_ends};
 use lsm_parts::{Error, Memtable, Version};
 use std::alloc::Global;
 use std::process::Abort;
-use std::test::Fail;
 
 /// What is asked of what a snapshot shows, and what is given.
 enum Ask {
@@ -140,7 +139,15 @@ fn taken(alloc: Global, iter: Result<TreeIter, Error>, ends: &[End]) -> Result<V
     Ok(keys)
 }
 
-/// Whether the first and the last entry have these sequence numbers.
+/// Whether the entry that is found has this sequence number, or none is.
+fn is_numbered(entry: Result<Option<InternalValue>, Error>, seqno: Option<SeqNo>) -> bool {
+    match entry {
+        Ok(Some(entry)) => Some(entry.key.seqno) == seqno,
+        Ok(None) => seqno.is_none(),
+        Err(_) => false,
+    }
+}
+
 fn ends_so(
     alloc: Global,
     state: &IterState<'_>,
@@ -148,16 +155,8 @@ fn ends_so(
     want: (Option<SeqNo>, Option<SeqNo>),
 ) -> bool {
     let all = bounds(&Open, &Open);
-    match (
-        end_shown(alloc, state, End::Front, &all, at),
-        end_shown(alloc, state, End::Back, &all, at),
-    ) {
-        (Ok(first), Ok(last)) => {
-            first.map(|entry| entry.key.seqno) == want.0
-                && last.map(|entry| entry.key.seqno) == want.1
-        }
-        _ => false,
-    }
+    is_numbered(end_shown(alloc, state, End::Front, &all, at), want.0)
+        && is_numbered(end_shown(alloc, state, End::Back, &all, at), want.1)
 }
 
 fn range(
@@ -207,32 +206,30 @@ fn answers_over(
     }
 }
 
-fn is_right(alloc: Global, index: &Memtable, row: &Row) -> Result<bool, Error> {
+fn is_right(alloc: Global, row: &Row) -> Result<bool, Error> {
     let tables = tables(alloc, row.0.0)?;
+    let index = filled(alloc, 1, &OVER_A_B)?;
     let over = if row.0.1 > 0 {
-        Some((index, row.0.1))
+        Some((&index, row.0.1))
     } else {
         None
     };
     Ok(answers_over(alloc, &tables, over, row))
 }
 
-fn are_right(rt: &impl Abort, alloc: Global, rows: &[Row]) -> Result<(), Fail> {
-    let index = filled(alloc, 1, &OVER_A_B)?;
+fn are_right(rt: &impl Abort, alloc: Global, rows: &[Row]) {
     for (place, row) in rows.iter().enumerate() {
-        assert!(rt; is_right(alloc, &index, row)?, "row {place}");
+        assert!(rt; matches!(is_right(alloc, row), Ok(true)), "row {place}");
     }
-    drop(index);
-    Ok(())
 }
 
 #[test]
-fn a_snapshot_sees_what_is_below_it(rt: HostRuntime) -> Result<(), Fail> {
-    are_right(&rt, rt.alloc(), &SNAPSHOTS)
+fn a_snapshot_sees_what_is_below_it(rt: HostRuntime) {
+    are_right(&rt, rt.alloc(), &SNAPSHOTS);
 }
 
 #[test]
-fn both_ends_and_bounds_are_kept(rt: HostRuntime) -> Result<(), Fail> {
-    are_right(&rt, rt.alloc(), &BOUNDS)?;
-    are_right(&rt, rt.alloc(), &ENDS)
+fn both_ends_and_bounds_are_kept(rt: HostRuntime) {
+    are_right(&rt, rt.alloc(), &BOUNDS);
+    are_right(&rt, rt.alloc(), &ENDS);
 }

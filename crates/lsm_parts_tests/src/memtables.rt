@@ -1,7 +1,7 @@
 // Look-ups, sizes and bounds of a memtable, and how many steps its calls take.
 use crate::samples::Edge::{In, Open, Out};
 use crate::samples::{Edge, Entry, bounds, filled, item};
-use lsm_below::SeqNo;
+use lsm_below::{InternalValue, SeqNo};
 use lsm_parts::{Error, Iter, Memtable, Steps};
 use std::alloc::Global;
 use std::test::Fail;
@@ -63,6 +63,14 @@ const SIZES: [(Entry, (u64, u64), usize); 3] = [
     (("a", Some("x"), 1), (50, 156), 2),
 ];
 
+/// The sequence number of the entry that is lent, if one is.
+fn number(entry: Option<&InternalValue>) -> Option<SeqNo> {
+    match entry {
+        Some(entry) => Some(entry.key.seqno),
+        None => None,
+    }
+}
+
 fn counts(table: &mut Memtable, entry: &Entry, sizes: (u64, u64), len: usize) -> bool {
     match table.insert(item(entry)) {
         Ok(found) => found == sizes && table.len() == len,
@@ -115,7 +123,7 @@ fn cuts(table: &Memtable, cut: &Cut) -> bool {
     let within = bounds(&cut.0.0, &cut.0.1);
     let part = table.span().within(&within);
     number_of(table.range(&within)) == cut.1
-        && table.range(&within).next().map(|entry| entry.key.seqno) == cut.2
+        && number(table.range(&within).next()) == cut.2
         && number_of(part.iter()) == cut.1
         && number_of(part.within(&bounds(&cut.3.0, &cut.3.1)).iter()) == cut.4
 }
@@ -157,7 +165,7 @@ fn compares_few(table: &Memtable, count: SeqNo, most: u64) -> bool {
     for seqno in 0..count {
         let mut steps = Steps::new();
         let found = table.get_counted(b"a", seqno.saturating_add(1), &mut steps);
-        if found.map(|entry| entry.key.seqno) != Some(seqno) || steps.compared > most {
+        if number(found) != Some(seqno) || steps.compared > most {
             return false;
         }
     }

@@ -74,6 +74,27 @@ pub fn outcome(answer: Result<Told, Error>) -> Told {
     }
 }
 
+fn numbered(answer: Result<SeqNo, Error>) -> Told {
+    match answer {
+        Ok(number) => Told::Number(number),
+        Err(error) => Told::Refused(error.number()),
+    }
+}
+
+fn sized(answer: Result<(u64, u64), Error>) -> Told {
+    match answer {
+        Ok(sizes) => Told::Sizes(sizes),
+        Err(error) => Told::Refused(error.number()),
+    }
+}
+
+fn rotated(answer: Result<Option<MemtableId>, Error>) -> Told {
+    match answer {
+        Ok(sealed) => Told::Sealed(sealed),
+        Err(error) => Told::Refused(error.number()),
+    }
+}
+
 fn done(answer: Result<(), Error>) -> Told {
     match answer {
         Ok(()) => Told::Done,
@@ -181,21 +202,14 @@ pub fn flushes_times(alloc: Global, tree: &mut TreeState, times: u32) -> bool {
 
 pub fn take(alloc: Global, tree: &mut TreeState, step: &Step) -> Told {
     match step {
-        Step::Set(name, text) => {
-            outcome(write(alloc, tree, *name, Op::Set(bytes(*text))).map(Told::Number))
-        }
-        Step::Del(name) => outcome(write(alloc, tree, *name, Op::Del).map(Told::Number)),
-        Step::Weak(name) => outcome(write(alloc, tree, *name, Op::Weak).map(Told::Number)),
-        Step::Batch(list) => outcome(batch(alloc, tree, *list).map(Told::Number)),
-        Step::Clear => outcome(tree.clear().map(Told::Number)),
-        Step::Insert(name, text, seqno) => {
-            outcome(
-                tree.insert(bytes(*name), bytes(*text), *seqno)
-                    .map(Told::Sizes),
-            )
-        }
-        Step::Remove(name, seqno) => outcome(tree.remove(bytes(*name), *seqno).map(Told::Sizes)),
-        Step::Long(len) => outcome(insert_long(alloc, tree, *len).map(Told::Sizes)),
+        Step::Set(name, text) => numbered(write(alloc, tree, *name, Op::Set(bytes(*text)))),
+        Step::Del(name) => numbered(write(alloc, tree, *name, Op::Del)),
+        Step::Weak(name) => numbered(write(alloc, tree, *name, Op::Weak)),
+        Step::Batch(list) => numbered(batch(alloc, tree, *list)),
+        Step::Clear => numbered(tree.clear()),
+        Step::Insert(name, text, seqno) => sized(tree.insert(bytes(*name), bytes(*text), *seqno)),
+        Step::Remove(name, seqno) => sized(tree.remove(bytes(*name), *seqno)),
+        Step::Long(len) => sized(insert_long(alloc, tree, *len)),
         Step::Counter(seqno) => {
             tree.seqno_mut().set(*seqno);
             Told::Done
@@ -204,7 +218,7 @@ pub fn take(alloc: Global, tree: &mut TreeState, step: &Step) -> Told {
             tree.set_moment(seconds.saturating_mul(1_000_000_000));
             Told::Done
         }
-        Step::Rotate => outcome(tree.rotate_memtable().map(Told::Sealed)),
+        Step::Rotate => rotated(tree.rotate_memtable()),
         Step::Forget => done(tree.clear_active_memtable()),
         Step::Flush(watermark) => flush(tree, *watermark),
         Step::FlushParts(watermark) => outcome(flush_by_parts(tree, *watermark)),

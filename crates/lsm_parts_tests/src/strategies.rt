@@ -8,7 +8,6 @@ use crate::scripts::{Script, play_all};
 use crate::steps::Step::{Compact, Flush, Now, Set};
 use crate::steps::Told::{Done, Installed, Nothing, Number};
 use crate::works::Work;
-use std::test::Fail;
 
 const LEVELED: [Script; 2] = [
     (
@@ -129,7 +128,7 @@ const DROPS: [Script; 3] = [
 ];
 
 #[test]
-fn strategies_fill_levels_and_drop_tables(rt: HostRuntime) -> Result<(), Fail> {
-    play_all(&rt, rt.alloc(), &LEVELED)?;
-    play_all(&rt, rt.alloc(), &DROPS)
+fn strategies_fill_levels_and_drop_tables(rt: HostRuntime) {
+    play_all(&rt, rt.alloc(), &LEVELED);
+    play_all(&rt, rt.alloc(), &DROPS);
 }

@@ -8,7 +8,6 @@ use crate::scripts::Part::Plays;
 use crate::scripts::{Script, play_all};
 use crate::steps::Step::{Insert, Remove};
 use crate::steps::Told::Sizes;
-use std::test::Fail;
 
 /// Keys 1, 3 and 5, at 0, 1 and 2, each of 1 + 1 + 48 bytes.
 const ODD: [Row; 3] = [
@@ -80,7 +79,7 @@ const LISTS: [Script; 3] = [
 ];
 
 #[test]
-fn keys_are_counted_and_listed(rt: HostRuntime) -> Result<(), Fail> {
-    play_all(&rt, rt.alloc(), &COUNTS)?;
-    play_all(&rt, rt.alloc(), &LISTS)
+fn keys_are_counted_and_listed(rt: HostRuntime) {
+    play_all(&rt, rt.alloc(), &COUNTS);
+    play_all(&rt, rt.alloc(), &LISTS);
 }

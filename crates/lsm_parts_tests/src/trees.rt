@@ -5,7 +5,6 @@ use crate::scripts::Part::Plays;
 use crate::scripts::{Script, play_all};
 use crate::steps::Step::{Batch, Counter, Del, Insert, Long, Remove, Rotate, Set, Weak};
 use crate::steps::Told::{Done, Number, Refused, Sealed, Sizes};
-use std::test::Fail;
 
 const WRITES: [Script; 6] = [
     (
@@ -94,7 +93,7 @@ const ROTATIONS: [Script; 3] = [
 ];
 
 #[test]
-fn writes_are_numbered_sealed_and_read(rt: HostRuntime) -> Result<(), Fail> {
-    play_all(&rt, rt.alloc(), &WRITES)?;
-    play_all(&rt, rt.alloc(), &ROTATIONS)
+fn writes_are_numbered_sealed_and_read(rt: HostRuntime) {
+    play_all(&rt, rt.alloc(), &WRITES);
+    play_all(&rt, rt.alloc(), &ROTATIONS);
 }
