@@ -2,7 +2,7 @@
 use crate::given::Turn::{Back, BackEntry, Front, FrontEntry};
 use crate::given::{Turn, is, listed, takes};
 use crate::samples::Edge::{In, Open, Out};
-use crate::samples::{Edge, Entry, INDEX, OVER_A_B, bounds, filled};
+use crate::samples::{Edge, Entry, INDEX, OVER_A_B, add, bounds, filled};
 use lsm_below::{InternalValue, SeqNo};
 use lsm_iter::{End, IterGuard, IterState, TreeIter, end_shown, take_ends};
 use lsm_parts::{Error, Memtable, Version};
@@ -104,12 +104,12 @@ const ENDS: [Row; 7] = [
 
 // ---- what is shown
 
-fn tables(alloc: Global, lists: &[&[Entry]]) -> Result<Vec<Memtable>, Error> {
+fn tables(alloc: Global, lists: &[&[Entry]]) -> Vec<Memtable> {
     let mut tables = Vec::new(alloc);
     for list in lists {
-        tables.push(filled(alloc, 0, list)?)?;
+        add(&mut tables, filled(alloc, 0, list));
     }
-    Ok(tables)
+    tables
 }
 
 fn state<'a>(
@@ -207,14 +207,17 @@ fn answers_over(
 }
 
 fn is_right(alloc: Global, row: &Row) -> Result<bool, Error> {
-    let tables = tables(alloc, row.0.0)?;
     let index = filled(alloc, 1, &OVER_A_B)?;
+    let tables = tables(alloc, row.0.0);
     let over = if row.0.1 > 0 {
         Some((&index, row.0.1))
     } else {
         None
     };
-    Ok(answers_over(alloc, &tables, over, row))
+    let right = answers_over(alloc, &tables, over, row);
+    drop(tables);
+    drop(index);
+    Ok(right)
 }
 
 fn are_right(rt: &impl Abort, alloc: Global, rows: &[Row]) {

@@ -50,6 +50,13 @@ pub fn filled(alloc: Global, id: MemtableId, entries: &[Entry]) -> Result<Memtab
     Ok(table)
 }
 
+/// Adds a memtable. One that memory was refused to is missing then from what is asked of them.
+pub fn add(tables: &mut Vec<Memtable>, table: Result<Memtable, Error>) {
+    if let Ok(table) = table {
+        let _ = tables.push(table);
+    }
+}
+
 fn bound(edge: &Edge) -> Bound<UserKey> {
     match edge {
         Edge::Open => Bound::Unbounded,

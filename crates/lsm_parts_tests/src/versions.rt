@@ -1,5 +1,5 @@
 // Sealed memtables, the history of super versions, and which of them maintenance forgets.
-use crate::samples::filled;
+use crate::samples::{add, filled};
 use lsm_below::{MemtableId, SeqNo};
 use lsm_parts::{
     Error, Memtable, SealedMemtables, SuperVersion, SuperVersions, Version, VersionId,
@@ -143,23 +143,23 @@ fn reads(history: &SuperVersions, snapshot: SeqNo, active: Option<MemtableId>) -
 }
 
 /// Memtables 0, 1 and 2, each with a tombstone of 1 + 48 bytes.
-fn three(alloc: Global) -> Result<Vec<Memtable>, Error> {
+fn three(alloc: Global) -> Vec<Memtable> {
     let mut memtables = Vec::new(alloc);
     for id in [0, 1, 2] {
-        memtables.push(filled(alloc, id, &[("a", None, 0)])?)?;
+        add(&mut memtables, filled(alloc, id, &[("a", None, 0)]));
     }
-    Ok(memtables)
+    memtables
 }
 
 fn is_right(alloc: Global, case: &History) -> Result<bool, Error> {
-    let memtables = three(alloc)?;
     let history = history(alloc, case.0)?;
+    let memtables = three(alloc);
     let mut right = history.len() == case.1 && history.memtable_size_sum(&memtables) == case.2;
     for (snapshot, active) in case.3 {
         right = right && reads(&history, *snapshot, *active);
     }
-    drop(history);
     drop(memtables);
+    drop(history);
     Ok(right)
 }
 
