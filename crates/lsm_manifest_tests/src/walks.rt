@@ -42,24 +42,36 @@ pub fn steps(iter: &mut TreeIter, end: End, wanted: Shown) -> bool {
     is(given, wanted) && iter.held() <= held
 }
 
+/// The place of the next one from this end, where so many were taken from the front, and so many of all in all.
+fn next_place(end: End, fronts: usize, taken: usize, all: usize) -> usize {
+    match end {
+        End::Front => fronts,
+        End::Back => all
+            .saturating_add(fronts)
+            .saturating_sub(taken.saturating_add(1)),
+    }
+}
+
+/// How many were taken from the front, with one more from this end.
+fn count_front(end: End, fronts: usize) -> usize {
+    match end {
+        End::Front => fronts.saturating_add(1),
+        End::Back => fronts,
+    }
+}
+
 /// Whether the iterator gives just these, and then nothing from either end.
 fn walks(iter: &mut TreeIter, turns: Turns, wanted: &[Shown]) -> bool {
-    let mut first: usize = 0;
-    let mut last = wanted.len();
+    let mut fronts: usize = 0;
     for taken in 0..wanted.len() {
         let end = turns[taken % 3];
-        let at = match end {
-            End::Front => first,
-            End::Back => last.saturating_sub(1),
+        let Some(pair) = wanted.get(next_place(end, fronts, taken, wanted.len())) else {
+            return false;
         };
-        match wanted.get(at) {
-            Some(pair) if steps(iter, end, *pair) => {}
-            _ => return false,
+        if !steps(iter, end, *pair) {
+            return false;
         }
-        match end {
-            End::Front => first = first.saturating_add(1),
-            End::Back => last = at,
-        }
+        fronts = count_front(end, fronts);
     }
     iter.next().is_none() && iter.next_back().is_none() && iter.next().is_none()
 }
