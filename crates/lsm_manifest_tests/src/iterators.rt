@@ -85,16 +85,18 @@ fn count_shown(layers: &Layers, rows: &[Row]) -> Result<usize, Error> {
     Ok(rows.len())
 }
 
+/// What the rows of each table are about, and the table.
+const TABLES: [(&str, &[Row]); 5] = [
+    ("a snapshot shows the newest below it", &SNAPSHOTS),
+    ("bounds of each kind are kept", &BOUNDS),
+    ("an index lies over all layers", &ALL_UNDER),
+    ("an index lies over all layers, in bounds", &UNDER),
+    ("a prefix shows what begins so", &PREFIXES),
+];
+
 #[test]
 fn each_row_is_shown(rt: HostRuntime) -> Result<(), Fail> {
-    let tables: [(&str, &[Row]); 5] = [
-        ("a snapshot shows the newest below it", &SNAPSHOTS),
-        ("bounds of each kind are kept", &BOUNDS),
-        ("an index lies over all layers", &ALL_UNDER),
-        ("an index lies over all layers, in bounds", &UNDER),
-        ("a prefix shows what begins so", &PREFIXES),
-    ];
-    for (name, rows) in tables {
+    for (name, rows) in TABLES {
         let layers = make_layers(rt.alloc())?;
         let shown = count_shown(&layers, rows);
         drop(layers);
