@@ -221,7 +221,7 @@ const SCRIPTS: [(&str, &[Step]); 5] = [
     ),
 ];
 
-fn make(rt: &(impl Files<File = File> + Alloc), made: Make) -> io::Result<()> {
+fn make_file(rt: &(impl Files<File = File> + Alloc), made: Make) -> io::Result<()> {
     match made {
         Make::Written(path, bytes) => fs::write(rt, path, bytes),
         Make::Removed(path) => fs::remove_file(rt, path),
@@ -258,7 +258,7 @@ where
             Ok(is_told?)
         }
         Step::Made(made) => {
-            make(rt, made)?;
+            make_file(rt, made)?;
             Ok(true)
         }
         Step::Printed(rows, told) => {
