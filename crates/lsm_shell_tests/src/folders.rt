@@ -1,15 +1,16 @@
 // What is printed over a folder.
-use crate::shells::{Row, Told, answers_with, arguments_of, ends};
+use crate::shells::{Row, answers_with, ends};
 use bytes::Bytes;
 use lsm_tree::{
     Error, FolderStore, Store, StoreError, Table, Version, ids_are_own, is_run, persist_version,
 };
 use std::alloc::{AllocError, Global};
 use std::fs::{self, File, Files};
-use std::io;
 use std::sync::Wait;
 use std::test::Fail;
 use std::thread::Threads;
+
+const FOLDER: &str = "lsm_shell_test";
 
 /// The content of a table's file: a is x, numbered 0.
 const TABLE: [u8; 37] = [
@@ -43,6 +44,21 @@ fn fill(alloc: Global, store: &mut impl Store) -> Result<(), Error> {
     persist_version(alloc, store, &version_of_table(alloc)?)
 }
 
+/// Whether a run over a folder prints this for the input, writes that to the errors, and ends so.
+fn answers_over<R>(
+    rt: &R,
+    alloc: Global,
+    folder: &str,
+    told: (&[u8], &[u8], u8),
+) -> Result<bool, AllocError>
+where
+    R: Threads + Wait + Sync + Files<File = File> + Alloc + Clone + Drop,
+{
+    let arguments = vec![in alloc; String::from_str(alloc, folder)?]?;
+    let input = b"get a\nput b y\nrange - -\n".as_slice();
+    Ok(ends(rt, alloc, Some(&arguments), input, told))
+}
+
 /// A folder with the files of a tree of one table.
 fn filled<R>(rt: &R, alloc: Global, folder: &str) -> Result<FolderStore<R>, Fail>
 where
@@ -54,29 +70,68 @@ where
     Ok(store)
 }
 
-/// What a session reads of the table. What it writes is not kept, so each prints the same.
-const READ: [Row; 3] = [
-    (b"get a", b"value x"),
-    (b"put b y", b"ok 1"),
-    (b"range - -", b"a x\nb y\nend 2"),
-];
+#[test]
+fn a_folder_is_read_again(rt: HostRuntime) -> Result<(), Fail> {
+    let alloc = rt.alloc();
+    drop(filled(&rt, alloc, FOLDER)?);
+    // What a session writes is not kept, so each prints the same.
+    let read = b"value x\nok 1\na x\nb y\nend 2\n";
+    assert!(rt; answers_over(&rt, alloc, FOLDER, (read, b"", 0))?);
+    assert!(rt; answers_over(&rt, alloc, FOLDER, (read, b"", 0))?);
+    // A folder isn't crashed; what is flushed into it stays there.
+    let arguments = vec![in alloc; String::from_str(alloc, FOLDER)?]?;
+    let input = b"crash\nput b z\nflush 0\nreopen\nget b\n".as_slice();
+    let told = b"error 0 Usage\nok 1\nflushed 50 installed\nopened 2\nvalue z\n";
+    assert!(rt; ends(&rt, alloc, Some(&arguments), input, (told, b"", 0)));
+    fs::remove_dir_all(&rt, FOLDER)?;
+    Ok(())
+}
 
-/// A folder isn't crashed; what is flushed into it stays there.
-const KEPT: [Row; 5] = [
-    (b"crash", b"error 0 Usage"),
-    (b"put b z", b"ok 1"),
-    (b"flush 0", b"flushed 50 installed"),
-    (b"reopen", b"opened 2"),
-    (b"get b", b"value z"),
-];
+/// What is told of a folder that isn't opened: what isn't one, one that another session has open, and one of an older format.
+#[test]
+fn refused_folders_are_told(rt: HostRuntime) -> Result<(), Fail> {
+    let alloc = rt.alloc();
+    let folder = "lsm_shell_refused";
+    let store = filled(&rt, alloc, folder)?;
+    let failed = b"error 2 Store\n";
+    let owned = b"lsm_shell_refused: lock: another session has the folder open\n";
+    assert!(rt; answers_over(&rt, alloc, folder, (failed, owned, 1))?);
+    drop(store);
+    let file = b"lsm_shell_refused/current: make: Not a directory (os error 20)\n";
+    assert!(rt; answers_over(&rt, alloc, "lsm_shell_refused/current", (failed, file, 1))?);
+    fs::write(&rt, "lsm_shell_refused/version", b"2")?;
+    let (told, older) = (
+        b"error 5 InvalidVersion\n",
+        b"version: open: format byte 1\n",
+    );
+    assert!(rt; answers_over(&rt, alloc, folder, (told, older, 1))?);
+    fs::remove_file(&rt, "lsm_shell_refused/version")?;
+    fs::write(&rt, "lsm_shell_refused/tables/3", b"x")?;
+    let (told, damaged) = (
+        b"error 20 ChecksumMismatch\n",
+        b"tables/3: open: a checksum differs\n",
+    );
+    assert!(rt; answers_over(&rt, alloc, folder, (told, damaged, 1))?);
+    fs::remove_dir_all(&rt, folder)?;
+    Ok(())
+}
 
 /// Why a call of the store failed is written to the errors, and the answer stays what it is.
-const FULL: [Row; 4] = [
-    (b"put b y", b"ok 1"),
-    (b"flush 0", b"error 2 Store"),
-    (b"get b", b"value y"),
-    (b"flush 0", b"flushed 50 installed"),
-];
+#[test]
+fn causes_are_told(rt: HostRuntime) -> Result<(), Fail> {
+    let alloc = rt.alloc();
+    let folder = "lsm_shell_full";
+    drop(filled(&rt, alloc, folder)?);
+    // A device that is always full, under the name of the next table.
+    rt.symlink("/dev/full", "lsm_shell_full/tables/4")?;
+    let arguments = vec![in alloc; String::from_str(alloc, folder)?]?;
+    let input = b"put b y\nflush 0\nget b\nflush 0\n".as_slice();
+    let told = b"ok 1\nerror 2 Store\nvalue y\nflushed 50 installed\n";
+    let cause = b"tables/4: write: No space left on device (os error 28)\n";
+    assert!(rt; ends(&rt, alloc, Some(&arguments), input, (told, cause, 0)));
+    fs::remove_dir_all(&rt, folder)?;
+    Ok(())
+}
 
 /// What a first start flushes, and what it doesn't.
 const FIRST_START: [Row; 3] = [
@@ -92,6 +147,18 @@ const SECOND_START: [Row; 4] = [
     (b"stats", b"tables 1 runs 1 sealed 0 len 1 bytes 37"),
     (b"put b z", b"ok 1"),
 ];
+
+#[test]
+fn a_second_start_reads_what_the_first_one_flushed(rt: HostRuntime) -> Result<(), Fail> {
+    let alloc = rt.alloc();
+    let folder = "lsm_shell_twice";
+    let _ = fs::remove_dir_all(&rt, folder);
+    let arguments = vec![in alloc; String::from_str(alloc, folder)?]?;
+    assert!(rt; answers_with(&rt, alloc, &arguments, &FIRST_START, b"")?);
+    assert!(rt; answers_with(&rt, alloc, &arguments, &SECOND_START, b"")?);
+    fs::remove_dir_all(&rt, folder)?;
+    Ok(())
+}
 
 /// A clear stays where the tree is opened again.
 const CLEARED: [Row; 6] = [
@@ -115,171 +182,18 @@ const UNKNOWN: [Row; 8] = [
     (b"get a", b"value x"),
 ];
 
-/// What is made of files.
-#[derive(Clone, Copy)]
-enum Make {
-    Written(&'static str, &'static [u8]),
-    Removed(&'static str),
-    Linked(&'static str, &'static str),
-    Folder(&'static str),
-    NoFolder(&'static str),
-}
-
-/// A step of a script over a folder.
-#[derive(Clone, Copy)]
-enum Step {
-    /// The folder has the files of a tree of one table.
-    Filled,
-    /// It is filled, and while it is open, a session over it tells this.
-    Open(Told<'static>),
-    Made(Make),
-    /// A session over it prints for each line what its row says, and writes this to the errors.
-    Printed(&'static [Row], &'static [u8]),
-    /// A session over the file or folder of this name tells this.
-    Refused(&'static str, Told<'static>),
-}
-
-/// A folder that another session has open, what isn't one, one of an older format, and a damaged one.
-const REFUSED: [Step; 7] = [
-    Step::Open((
-        b"error 2 Store\n",
-        b"lsm_shell_refused: lock: another session has the folder open\n",
-        1,
-    )),
-    Step::Refused(
-        "lsm_shell_refused/current",
-        (
-            b"error 2 Store\n",
-            b"lsm_shell_refused/current: make: Not a directory (os error 20)\n",
-            1,
-        ),
-    ),
-    Step::Made(Make::Written("lsm_shell_refused/version", b"2")),
-    Step::Refused(
-        "lsm_shell_refused",
-        (
-            b"error 5 InvalidVersion\n",
-            b"version: open: format byte 1\n",
-            1,
-        ),
-    ),
-    Step::Made(Make::Removed("lsm_shell_refused/version")),
-    Step::Made(Make::Written("lsm_shell_refused/tables/3", b"x")),
-    Step::Refused(
-        "lsm_shell_refused",
-        (
-            b"error 20 ChecksumMismatch\n",
-            b"tables/3: open: a checksum differs\n",
-            1,
-        ),
-    ),
-];
-
-const SCRIPTS: [(&str, &[Step]); 5] = [
-    (
-        "lsm_shell_test",
-        &[
-            Step::Filled,
-            Step::Printed(&READ, b""),
-            Step::Printed(&READ, b""),
-            Step::Printed(&KEPT, b""),
-        ],
-    ),
-    ("lsm_shell_refused", &REFUSED),
-    (
-        "lsm_shell_full",
-        &[
-            Step::Filled,
-            // A device that is always full, under the name of the next table.
-            Step::Made(Make::Linked("/dev/full", "lsm_shell_full/tables/4")),
-            Step::Printed(
-                &FULL,
-                b"tables/4: write: No space left on device (os error 28)\n",
-            ),
-        ],
-    ),
-    (
-        "lsm_shell_twice",
-        &[
-            Step::Printed(&FIRST_START, b""),
-            Step::Printed(&SECOND_START, b""),
-        ],
-    ),
-    (
-        "lsm_shell_clear",
-        &[
-            Step::Filled,
-            // No file can be made that would replace `current`.
-            Step::Made(Make::Folder("lsm_shell_clear/replace.new")),
-            Step::Printed(
-                &UNKNOWN,
-                b"current: replace: Is a directory (os error 21)\n",
-            ),
-            Step::Made(Make::NoFolder("lsm_shell_clear/replace.new")),
-            Step::Printed(&CLEARED, b""),
-        ],
-    ),
-];
-
-fn make_file(rt: &(impl Files<File = File> + Alloc), made: Make) -> io::Result<()> {
-    match made {
-        Make::Written(path, bytes) => fs::write(rt, path, bytes),
-        Make::Removed(path) => fs::remove_file(rt, path),
-        Make::Linked(target, path) => rt.symlink(target, path),
-        Make::Folder(path) => fs::create_dir_all(rt, path),
-        Make::NoFolder(path) => fs::remove_dir_all(rt, path),
-    }
-}
-
-/// Whether a session over a folder tells this.
-fn tells<R>(rt: &R, alloc: Global, folder: &str, told: Told<'_>) -> Result<bool, AllocError>
-where
-    R: Threads + Wait + Sync + Files<File = File> + Alloc + Clone + Drop,
-{
-    let arguments = arguments_of(alloc, folder)?;
-    let input = b"get a\nput b y\nrange - -\n".as_slice();
-    Ok(ends(rt, alloc, Some(&arguments), input, told))
-}
-
-/// Whether a step over a folder is as it says.
-fn goes<R>(rt: &R, alloc: Global, folder: &str, step: Step) -> Result<bool, Fail>
-where
-    R: Threads + Wait + Sync + Files<File = File> + Alloc + Clone + Drop,
-{
-    match step {
-        Step::Filled => {
-            drop(filled(rt, alloc, folder)?);
-            Ok(true)
-        }
-        Step::Open(told) => {
-            let store = filled(rt, alloc, folder)?;
-            let is_told = tells(rt, alloc, folder, told);
-            drop(store);
-            Ok(is_told?)
-        }
-        Step::Made(made) => {
-            make_file(rt, made)?;
-            Ok(true)
-        }
-        Step::Printed(rows, told) => {
-            let arguments = arguments_of(alloc, folder)?;
-            Ok(answers_with(rt, alloc, &arguments, rows, told)?)
-        }
-        Step::Refused(name, told) => Ok(tells(rt, alloc, name, told)?),
-    }
-}
-
 #[test]
-fn folders_are_told(rt: HostRuntime) -> Result<(), Fail> {
-    for (folder, steps) in SCRIPTS {
-        let _ = fs::remove_dir_all(&rt, folder);
-        for at in 0..steps.len() {
-            assert!(rt;
-                goes(&rt, rt.alloc(), folder, steps[at])?,
-                "{folder} at {at}"
-            );
-        }
-        fs::remove_dir_all(&rt, folder)?;
-    }
+fn a_folder_is_cleared(rt: HostRuntime) -> Result<(), Fail> {
+    let alloc = rt.alloc();
+    let folder = "lsm_shell_clear";
+    drop(filled(&rt, alloc, folder)?);
+    let arguments = vec![in alloc; String::from_str(alloc, folder)?]?;
+    // No file can be made that would replace `current`.
+    fs::create_dir_all(&rt, "lsm_shell_clear/replace.new")?;
+    let cause = b"current: replace: Is a directory (os error 21)\n";
+    assert!(rt; answers_with(&rt, alloc, &arguments, &UNKNOWN, cause)?);
+    fs::remove_dir_all(&rt, "lsm_shell_clear/replace.new")?;
+    assert!(rt; answers_with(&rt, alloc, &arguments, &CLEARED, b"")?);
+    fs::remove_dir_all(&rt, folder)?;
     Ok(())
 }

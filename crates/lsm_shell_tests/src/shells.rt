@@ -171,8 +171,15 @@ const OTHERS: [&[u8]; 42] = [
     b"reopen x",
 ];
 
-/// What a run prints, what it writes to the errors, and its status.
-pub type Told<'a> = (&'a [u8], &'a [u8], u8);
+/// A console at which nobody types.
+fn console<R, W, E>(input: R, output: W, errors: E) -> Console<R, W, E> {
+    Console {
+        input,
+        output,
+        errors,
+        is_terminal: false,
+    }
+}
 
 /// Whether a run prints this, writes that to the errors, and ends with the status.
 pub fn ends<R, I>(
@@ -180,7 +187,7 @@ pub fn ends<R, I>(
     alloc: Global,
     arguments: Option<&[String]>,
     input: I,
-    told: Told<'_>,
+    told: (&[u8], &[u8], u8),
 ) -> bool
 where
     R: Threads + Wait + Sync + Files<File = File> + Alloc + Clone + Drop,
@@ -188,12 +195,7 @@ where
 {
     let mut printed = Vec::new(alloc);
     let mut errors = Vec::new(alloc);
-    let console = Console {
-        input,
-        output: &mut printed,
-        errors: &mut errors,
-        is_terminal: false,
-    };
+    let console = console(input, &mut printed, &mut errors);
     let status = run_shell(rt, alloc, arguments, console);
     printed.as_slice() == told.0 && errors.as_slice() == told.1 && status == told.2
 }
@@ -238,6 +240,14 @@ where
     ))
 }
 
+/// Whether a run without arguments does.
+fn answers<R>(rt: &R, alloc: Global, rows: &[Row]) -> Result<bool, AllocError>
+where
+    R: Threads + Wait + Sync + Files<File = File> + Alloc + Clone + Drop,
+{
+    answers_with(rt, alloc, &[], rows, b"")
+}
+
 #[test]
 fn answers_lines(rt: HostRuntime) -> Result<(), Fail> {
     let tables = [
@@ -261,14 +271,11 @@ fn answers_lines(rt: HostRuntime) -> Result<(), Fail> {
         ALL_DROPPED.as_slice(),
     ];
     for (number, rows) in tables.iter().enumerate() {
-        assert!(rt;
-            answers_with(&rt, rt.alloc(), &[], rows, b"")?,
-            "table {number}"
-        );
+        assert!(rt; answers(&rt, rt.alloc(), rows)?, "table {number}");
     }
     for line in OTHERS {
         assert!(rt;
-            answers_with(&rt, rt.alloc(), &[], &[(line, b"error 0 Usage")], b"")?,
+            answers(&rt, rt.alloc(), &[(line, b"error 0 Usage")])?,
             "at {line:?}"
         );
     }
@@ -295,7 +302,7 @@ fn answers_long_lines(rt: HostRuntime) -> Result<(), Fail> {
 }
 
 /// The arguments between single spaces, none for an empty text.
-pub fn arguments_of(alloc: Global, text: &str) -> Result<Vec<String>, AllocError> {
+fn arguments_of(alloc: Global, text: &str) -> Result<Vec<String>, AllocError> {
     let mut words = Vec::new(alloc);
     for word in text.split(' ') {
         if !word.is_empty() {
@@ -306,11 +313,11 @@ pub fn arguments_of(alloc: Global, text: &str) -> Result<Vec<String>, AllocError
 }
 
 /// What is told of arguments that ask nothing.
-const USAGE: Told<'static> = (b"", b"usage: lsm_shell [FOLDER | threads N]\n", 2);
+const USAGE: (&[u8], &[u8], u8) = (b"", b"usage: lsm_shell [FOLDER | threads N]\n", 2);
 
 #[test]
 fn takes_arguments(rt: HostRuntime) -> Result<(), Fail> {
-    let table: [(&str, Told<'_>); 10] = [
+    let table: [(&str, (&[u8], &[u8], u8)); 10] = [
         ("threads 1", (b"threads 1 entries 20 all equal\n", b"", 0)),
         ("threads 2", (b"threads 2 entries 40 all equal\n", b"", 0)),
         ("threads 4", (b"threads 4 entries 80 all equal\n", b"", 0)),
@@ -378,12 +385,7 @@ fn ends_at_a_fault(rt: HostRuntime) {
 
     let mut errors = Vec::new(rt.alloc());
     let input = b"put a x\nget a\n".as_slice();
-    let console = Console {
-        input,
-        output: BrokenOutput,
-        errors: &mut errors,
-        is_terminal: false,
-    };
+    let console = console(input, BrokenOutput, &mut errors);
     let status = run_shell(&rt, rt.alloc(), Some(&[]), console);
     assert_eq!(rt; (status, errors.len()), (1, 0));
 }
@@ -439,12 +441,7 @@ fn answers_before_it_asks_on(rt: HostRuntime) {
         answered: &answered,
     };
     let mut errors = Vec::new(rt.alloc());
-    let console = Console {
-        input,
-        output,
-        errors: &mut errors,
-        is_terminal: false,
-    };
+    let console = console(input, output, &mut errors);
     let status = run_shell(&rt, rt.alloc(), Some(&[]), console);
     assert_eq!(rt;
         (status, answered.get()),
