@@ -1,21 +1,133 @@
-// That no lock is held while a gate has a job.
-use crate::calls::{Call, Count, FLUSHED_0, Flush, Key, Row};
-use crate::shared::{first_wrong_on, open_shared};
-use lsm_tree::{Begun, CompactionJob, Error, Gate, Major, MergedCompaction, Tree};
+// Compactions whose merge a gate does: no lock is held meanwhile, and a job that comes back is given up.
+use crate::samples::{open_shared, share_recorded, text};
+use lsm_tree::{
+    Begun, CompactionJob, Error, Gate, JournalEntry, Leveled, Major, MergedCompaction, Op, Pass,
+    RecordedTree, RunJob, Tree,
+};
 use std::alloc::{AllocError, Global};
 use std::sync::{Arc, Mutex, Wait};
 use std::test::Fail;
 use std::thread;
 
+fn is_installed(begun: &Result<Begun, Error>) -> bool {
+    matches!(begun, Ok(Begun::Installed))
+}
+
+fn did_nothing(begun: &Result<Begun, Error>) -> bool {
+    matches!(begun, Ok(Begun::DidNothing))
+}
+
+/// Gives each job back.
+#[derive(Drop)]
+struct Closed;
+
+impl Gate for Closed {
+    fn pass(&self, job: CompactionJob) -> Result<MergedCompaction, (Error, CompactionJob)> {
+        Err((Error::OutOfMemory, job))
+    }
+}
+
+fn is_given_back(begun: &Result<Begun, Error>) -> bool {
+    matches!(begun, Err(Error::OutOfMemory))
+}
+
+// ---- a shared tree
+
 /// a = x, in a table.
-const FILLED: [Row; 2] = [
-    (Call::Set("a", "x"), "Ok(0)"),
-    (Call::Flush(Flush::Active(0)), FLUSHED_0),
-];
+fn set_in_table(rt: &impl Wait, alloc: Global, tree: &Tree) -> Result<(), Error> {
+    tree.write(rt, vec![in alloc; (text("a"), Op::Set(text("x")))]?)?;
+    match tree.flush_active_memtable(rt, 0) {
+        Ok(_) => Ok(()),
+        Err((error, _)) => Err(error),
+    }
+}
 
-const FOUND: [Row; 1] = [(Call::Key(Key::Get, "a", 2), "Ok(Some(b\"x\"))")];
+fn shows(rt: &impl Wait, tree: &Tree, snapshot: u64) -> bool {
+    match tree.get(rt, b"a", snapshot) {
+        Ok(found) => found == Some(text("x")),
+        Err(_) => false,
+    }
+}
 
-const MERGED: [Row; 1] = [(Call::Count(Count::Level(6)), "Some(1)")];
+/// The strategy of levels finds nothing to do, and so nothing comes to the gate; a table is merged, by the second gate.
+fn compacts(rt: &impl Wait, alloc: Global, tree: &Tree) -> Result<bool, Error> {
+    let major = Major::new(u64::MAX);
+    let leveled = Leveled::new(alloc)?;
+    let waits = did_nothing(&tree.compact_gated(rt, &leveled, 0, &Closed));
+    set_in_table(rt, alloc, tree)?;
+    let is_refused = is_given_back(&tree.compact_gated(rt, &major, 0, &Closed));
+    let is_free = !tree.is_compacting(rt) && tree.level_table_count(rt, 0) == Some(1);
+    let merges = is_installed(&tree.compact_gated(rt, &major, 0, &RunJob));
+    Ok(waits && is_refused && is_free && merges)
+}
+
+#[test]
+fn a_gate_does_the_merge(rt: HostRuntime) -> Result<(), Fail> {
+    let tree = open_shared(rt.alloc())?;
+    let done = compacts(&rt, rt.alloc(), &tree);
+    assert!(rt; matches!(done, Ok(true)));
+    assert!(rt; !tree.is_compacting(&rt) && tree.level_table_count(&rt, 6) == Some(1));
+    assert!(rt; shows(&rt, &tree, 3));
+    drop(tree);
+    Ok(())
+}
+
+// ---- with a journal
+
+fn record_in_table(
+    rt: &impl Wait,
+    alloc: Global,
+    tree: &RecordedTree,
+    pass: &mut Pass,
+) -> Result<(), Error> {
+    tree.write(rt, pass, vec![in alloc; (text("a"), Op::Set(text("x")))]?)?;
+    match tree.flush_active_memtable(rt, pass, 0) {
+        Ok(_) => Ok(()),
+        Err((error, _)) => Err(error),
+    }
+}
+
+/// A table is merged, by the second gate.
+fn record_merge(
+    rt: &impl Wait,
+    alloc: Global,
+    tree: &RecordedTree,
+    pass: &mut Pass,
+) -> Result<bool, Error> {
+    let major = Major::new(u64::MAX);
+    record_in_table(rt, alloc, tree, pass)?;
+    let is_refused = is_given_back(&tree.compact_gated(rt, pass, &major, 0, &Closed));
+    let is_free = !tree.is_compacting(rt) && tree.level_table_count(rt, 0) == Some(1);
+    let merges = is_installed(&tree.compact_gated(rt, pass, &major, 2, &RunJob));
+    Ok(is_refused && is_free && merges && tree.level_table_count(rt, 6) == Some(1))
+}
+
+/// Whether the entries are a write with its flush, the mark of the merge that is given up, and that of the other with its install.
+fn tells_of_gates(pass: &Pass) -> bool {
+    let mut entries = pass.entries().iter().map(|noted| &noted.1);
+    matches!(entries.next(), Some(JournalEntry::Write(_)))
+        && matches!(entries.next(), Some(JournalEntry::Mark(0)))
+        && matches!(entries.next(), Some(JournalEntry::Install(1)))
+        && matches!(entries.next(), Some(JournalEntry::Mark(0)))
+        && matches!(entries.next(), Some(JournalEntry::Mark(2)))
+        && matches!(entries.next(), Some(JournalEntry::Install(2)))
+        && entries.next().is_none()
+}
+
+#[test]
+fn what_goes_through_a_gate_is_noted(rt: HostRuntime) -> Result<(), Fail> {
+    let alloc = rt.alloc();
+    let tree = share_recorded(alloc)?;
+    let mut pass = Pass::new(alloc);
+    let done = record_merge(&rt, alloc, &tree, &mut pass);
+    assert!(rt; matches!(done, Ok(true)));
+    assert!(rt; tells_of_gates(&pass));
+    drop(pass);
+    drop(tree);
+    Ok(())
+}
+
+// ---- no lock is held
 
 /// How often a flag is looked at.
 const TURNS: u32 = 10_000_000;
@@ -70,31 +182,31 @@ impl<R: Wait> Gate for BehindGet<'_, R> {
 
 fn merges_behind_get<R: Wait>(rt: &R, tree: &Tree, flags: &Flags) -> bool {
     let gate = BehindGet { rt, flags };
-    let begun = tree.compact_gated(rt, &Major::new(u64::MAX), 0, &gate);
-    matches!(begun, Ok(Begun::Installed))
+    is_installed(&tree.compact_gated(rt, &Major::new(u64::MAX), 0, &gate))
 }
 
 /// Whether a = x is read while the gate has the job.
-fn reads_meanwhile(rt: &impl Wait, alloc: Global, tree: &Tree, flags: &Flags) -> bool {
+fn reads_meanwhile(rt: &impl Wait, tree: &Tree, flags: &Flags) -> bool {
     let is_begun = is_raised(rt, &flags.begun);
-    let right = first_wrong_on(rt, alloc, tree, &FOUND);
+    let is_found = shows(rt, tree, 2);
     raise(rt, &flags.answered);
-    is_begun && right == 1
+    is_begun && is_found
 }
 
 #[test]
 fn no_lock_is_held_while_a_gate_has_the_job(rt: HostRuntime) -> Result<(), Fail> {
     let alloc = rt.alloc();
     let tree = open_shared(alloc)?;
-    assert_eq!(rt; first_wrong_on(&rt, alloc, &tree, &FILLED), 2);
+    let filled = set_in_table(&rt, alloc, &tree);
+    assert!(rt; matches!(filled, Ok(())));
     let flags = lower_flags(alloc)?;
     let (one, ones) = (tree.clone()?, Arc::try_clone(&flags)?);
     let (two, twos) = (tree.clone()?, Arc::try_clone(&flags)?);
     let merge = thread::spawn(&rt, move || merges_behind_get(&rt, &one, &ones))?;
-    let read = thread::spawn(&rt, move || reads_meanwhile(&rt, alloc, &two, &twos))?;
+    let read = thread::spawn(&rt, move || reads_meanwhile(&rt, &two, &twos))?;
     let (merged, found) = (merge.join(&rt), read.join(&rt));
     assert!(rt; merged && found);
-    assert_eq!(rt; first_wrong_on(&rt, alloc, &tree, &MERGED), 1);
+    assert!(rt; tree.level_table_count(&rt, 6) == Some(1));
     drop(flags);
     drop(tree);
     Ok(())

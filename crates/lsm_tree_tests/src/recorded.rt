@@ -1,187 +1,212 @@
-// What no contract says: that calls succeed where memory is ample, and are noted with their places.
-use crate::calls::{
-    Bare, Call, Compact, Count, FLUSHED_0, FLUSHED_1, FLUSHED_2, Flush, Key, List, Row, Walk,
+// What no contract says: that calls succeed where memory is ample.
+//
+// Helpers borrow the tree, and each test drops it by a call. A proof takes a tree that is dropped at the end
+// of a block to all its pieces, and does so once more for each `?` before it.
+use crate::samples::{open_recorded, text};
+use lsm_tree::{
+    Config, Error, Guard, InternalValue, IterGuard, Op, Pass, Recorded, SeqNo, TreeIter,
 };
-use crate::notes::Note;
-use crate::owned::first_wrong;
+use std::alloc::Global;
+use std::ops::Bound;
 use std::test::Fail;
 
-/// A number that isn't above the earlier one of the key, or not below the counter, is refused.
-const ORDER: [Row; 5] = [
-    (Call::Insert("a", "x", 1), "Ok((50, 50))"),
-    (Call::Insert("a", "y", 0), "Err(OutOfOrder)"),
-    (Call::Insert("a", "y", 1), "Err(OutOfOrder)"),
-    (Call::Insert("b", "y", 2), "Err(OutOfOrder)"),
-    (Call::Count(Count::Seqno), "2"),
-];
+fn open(alloc: Global, seqno: SeqNo) -> Result<Recorded, Error> {
+    open_recorded(alloc, Config::new(0, seqno, seqno))
+}
 
-const REMOVALS: [Row; 3] = [
-    (Call::Key(Key::Remove, "b", 0), "Ok((49, 49))"),
-    (Call::Key(Key::RemoveWeak, "c", 1), "Ok((49, 98))"),
-    (Call::Key(Key::Append, "d", 0), "Ok((49, 147))"),
-];
+/// Whether a key is set and counts two bytes and 48, of so many in all.
+fn sets(tree: &mut Recorded, pass: &mut Pass, key: &'static str, seqno: SeqNo, total: u64) -> bool {
+    match tree.insert(pass, text(key), text("x"), seqno) {
+        Ok(sizes) => sizes == (50, total),
+        Err(_) => false,
+    }
+}
 
-const THREE_WRITES: [Note; 3] = [Note::Write, Note::Write, Note::Write];
-
-/// A weakly removed key has one value.
-const WEAK: [Row; 4] = [
-    (Call::SetWeak("a"), "Ok(0)"),
-    (Call::Set("a", "x"), "Ok(1)"),
-    (Call::Set("a", "y"), "Err(OutOfOrder)"),
-    (Call::Count(Count::Visible), "2"),
-];
-
-/// No write comes below a clear.
-const CLEARS: [Row; 6] = [
-    (Call::Set("a", "x"), "Ok(0)"),
-    (Call::Bare(Bare::Clear), "Ok(1)"),
-    (Call::Key(Key::Get, "a", 1), "Ok(Some(b\"x\"))"),
-    (Call::Key(Key::Get, "a", 2), "Ok(None)"),
-    (Call::Insert("b", "y", 0), "Err(OutOfOrder)"),
-    (Call::Insert("b", "y", 1), "Ok((50, 50))"),
-];
-
-const CLEARS_NOTES: [Note; 5] = [
-    Note::Write,
-    Note::Clear(1),
-    Note::Read(1, "Found(Some(b\"x\"))"),
-    Note::Read(2, "Found(None)"),
-    Note::Write,
-];
+fn is_out_of_order(tree: &mut Recorded, pass: &mut Pass, key: &'static str, seqno: SeqNo) -> bool {
+    let told = tree.insert(pass, text(key), text("y"), seqno);
+    matches!(told, Err(Error::OutOfOrder))
+}
 
 #[test]
-fn writes_and_clears_keep_their_order(rt: HostRuntime) -> Result<(), Fail> {
-    let alloc = rt.alloc();
-    assert_eq!(rt; first_wrong(alloc, 2, &ORDER, &[Note::Write])?, Some(5));
-    assert_eq!(rt; first_wrong(alloc, 2, &REMOVALS, &THREE_WRITES)?, Some(3));
-    assert_eq!(rt;
-        first_wrong(alloc, 0, &WEAK, &[Note::Write, Note::Write])?,
-        Some(4)
-    );
-    assert_eq!(rt; first_wrong(alloc, 0, &CLEARS, &CLEARS_NOTES)?, Some(6));
+fn numbers_keep_their_order(rt: HostRuntime) -> Result<(), Fail> {
+    let mut tree = open(rt.alloc(), 2)?;
+    let mut pass = Pass::new(rt.alloc());
+    assert!(rt; sets(&mut tree, &mut pass, "a", 1, 50));
+    // Not above the earlier number of the key, or not below the counter.
+    assert!(rt; is_out_of_order(&mut tree, &mut pass, "a", 0));
+    assert!(rt; is_out_of_order(&mut tree, &mut pass, "a", 1));
+    assert!(rt; is_out_of_order(&mut tree, &mut pass, "b", 2));
+    assert_eq!(rt; tree.journal().len(), 1);
+    assert_eq!(rt; tree.seqno().get(), 2);
+    drop(pass);
+    drop(tree);
     Ok(())
 }
 
-/// A rotation isn't noted.
-const GETS: [Row; 4] = [
-    (Call::Insert("a", "x", 0), "Ok((50, 50))"),
-    (Call::Key(Key::Get, "a", 0), "Ok(None)"),
-    (Call::Bare(Bare::Rotate), "Ok(Some(0))"),
-    (Call::Key(Key::Get, "a", 1), "Ok(Some(b\"x\"))"),
-];
+fn removes(tree: &mut Recorded, pass: &mut Pass) -> bool {
+    matches!(tree.remove(pass, text("b"), 0), Ok((49, 49)))
+}
 
-const GETS_NOTES: [Note; 3] = [
-    Note::Write,
-    Note::Read(0, "Found(None)"),
-    Note::Read(1, "Found(Some(b\"x\"))"),
-];
+fn removes_weakly(tree: &mut Recorded, pass: &mut Pass) -> bool {
+    matches!(tree.remove_weak(pass, text("c"), 1), Ok((49, 98)))
+}
 
-const LISTS: [Row; 7] = [
-    (Call::Insert("a", "x", 0), "Ok((50, 50))"),
-    (Call::Insert("ab", "y", 1), "Ok((51, 101))"),
-    (Call::Insert("b", "z", 2), "Ok((50, 151))"),
-    (
-        Call::Between("a", "b", 3),
-        "Ok(KvPairs { list: [(b\"a\", b\"x\"), (b\"ab\", b\"y\")] })",
-    ),
-    (
-        Call::Between("a", "b", 1),
-        "Ok(KvPairs { list: [(b\"a\", b\"x\")] })",
-    ),
-    (
-        Call::Key(Key::Prefix, "a", 3),
-        "Ok(KvPairs { list: [(b\"a\", b\"x\"), (b\"ab\", b\"y\")] })",
-    ),
-    (
-        Call::Key(Key::Prefix, "", 3),
-        "Ok(KvPairs { list: [(b\"a\", b\"x\"), (b\"ab\", b\"y\"), (b\"b\", b\"z\")] })",
-    ),
-];
-
-const LISTS_NOTES: [Note; 7] = [
-    Note::Write,
-    Note::Write,
-    Note::Write,
-    Note::Read(
-        3,
-        "Pairs(KvPairs { list: [(b\"a\", b\"x\"), (b\"ab\", b\"y\")] })",
-    ),
-    Note::Read(1, "Pairs(KvPairs { list: [(b\"a\", b\"x\")] })"),
-    Note::Read(
-        3,
-        "Pairs(KvPairs { list: [(b\"a\", b\"x\"), (b\"ab\", b\"y\")] })",
-    ),
-    Note::Read(
-        3,
-        "Pairs(KvPairs { list: [(b\"a\", b\"x\"), (b\"ab\", b\"y\"), (b\"b\", b\"z\")] })",
-    ),
-];
-
-/// Two keys that begin with `a` and one that doesn't, and iterators, which aren't noted.
-const ITERATORS: [Row; 5] = [
-    (Call::Insert("a", "x", 0), "Ok((50, 50))"),
-    (Call::Insert("ab", "y", 1), "Ok((51, 101))"),
-    (Call::Insert("b", "z", 2), "Ok((50, 151))"),
-    (Call::List(List::Walk(Walk::CreateRange)), "true"),
-    (Call::List(List::Walk(Walk::CreatePrefix)), "true"),
-];
+fn appends(tree: &mut Recorded, pass: &mut Pass) -> bool {
+    let entry = InternalValue::new_tombstone(text("d"), 0);
+    matches!(tree.append_entry(pass, entry), Ok((49, 147)))
+}
 
 #[test]
-fn reads_are_noted(rt: HostRuntime) -> Result<(), Fail> {
-    let alloc = rt.alloc();
-    assert_eq!(rt; first_wrong(alloc, 1, &GETS, &GETS_NOTES)?, Some(4));
-    assert_eq!(rt; first_wrong(alloc, 3, &LISTS, &LISTS_NOTES)?, Some(7));
-    assert_eq!(rt; first_wrong(alloc, 3, &ITERATORS, &THREE_WRITES)?, Some(5));
+fn keys_are_removed_in_each_way(rt: HostRuntime) -> Result<(), Fail> {
+    let mut tree = open(rt.alloc(), 2)?;
+    let mut pass = Pass::new(rt.alloc());
+    assert!(rt; removes(&mut tree, &mut pass));
+    assert!(rt; removes_weakly(&mut tree, &mut pass));
+    assert!(rt; appends(&mut tree, &mut pass));
+    assert_eq!(rt; tree.journal().len(), 3);
+    drop(pass);
+    drop(tree);
     Ok(())
 }
 
-/// A merge that is given up, one in parts, those in one call, and what is left to do: nothing for the strategy of levels, and
-/// everything for a drop.
-const COMPACTIONS: [Row; 15] = [
-    (Call::Set("a", "x"), "Ok(0)"),
-    (Call::Flush(Flush::Active(0)), FLUSHED_0),
-    (Call::Compact(Compact::GiveUp), "Ok(true)"),
-    (Call::Compact(Compact::InParts), "Ok(Installed)"),
-    (Call::Set("a", "y"), "Ok(3)"),
-    (Call::Flush(Flush::Active(0)), FLUSHED_1),
-    (Call::Compact(Compact::Major), "Ok(Installed)"),
-    (Call::Set("a", "z"), "Ok(6)"),
-    (Call::Flush(Flush::Active(0)), FLUSHED_2),
-    (Call::Compact(Compact::All), "Ok(Installed)"),
-    (Call::Compact(Compact::Levels), "Ok(DidNothing)"),
-    (Call::Compact(Compact::DoLevels), "Ok(DidNothing)"),
-    (Call::Compact(Compact::DropAll), "Ok(Installed)"),
-    (Call::Count(Count::Tables), "0"),
-    (Call::Count(Count::IsCompacting), "false"),
-];
+/// A batch of one write to the key `a`.
+fn write_one(alloc: Global, tree: &mut Recorded, pass: &mut Pass, op: Op) -> Result<SeqNo, Error> {
+    tree.write(pass, vec![in alloc; (text("a"), op)]?)
+}
 
-const COMPACTIONS_NOTES: [Note; 21] = [
-    Note::Write,
-    Note::Mark(0),
-    Note::Install(1),
-    Note::Mark(0),
-    Note::Mark(0),
-    Note::Install(2),
-    Note::Write,
-    Note::Mark(0),
-    Note::Install(4),
-    Note::Mark(0),
-    Note::Install(5),
-    Note::Write,
-    Note::Mark(0),
-    Note::Install(7),
-    Note::Mark(0),
-    Note::Install(8),
-    Note::Mark(0),
-    Note::Mark(0),
-    Note::Mark(0),
-    Note::Dropped(9),
-    Note::Install(9),
-];
+fn writes(alloc: Global, tree: &mut Recorded, pass: &mut Pass, op: Op, number: SeqNo) -> bool {
+    match write_one(alloc, tree, pass, op) {
+        Ok(told) => told == number,
+        Err(_) => false,
+    }
+}
+
+fn may_not_set(alloc: Global, tree: &mut Recorded, pass: &mut Pass) -> bool {
+    let told = write_one(alloc, tree, pass, Op::Set(text("y")));
+    matches!(told, Err(Error::OutOfOrder))
+}
 
 #[test]
-fn compactions_are_noted(rt: HostRuntime) -> Result<(), Fail> {
-    let found = first_wrong(rt.alloc(), 0, &COMPACTIONS, &COMPACTIONS_NOTES)?;
-    assert_eq!(rt; found, Some(15));
+fn a_weakly_removed_key_has_one_value(rt: HostRuntime) -> Result<(), Fail> {
+    let mut tree = open(rt.alloc(), 0)?;
+    let mut pass = Pass::new(rt.alloc());
+    assert!(rt; writes(rt.alloc(), &mut tree, &mut pass, Op::Weak, 0));
+    assert!(rt; writes(rt.alloc(), &mut tree, &mut pass, Op::Set(text("x")), 1));
+    assert!(rt; may_not_set(rt.alloc(), &mut tree, &mut pass));
+    assert_eq!(rt; tree.visible_seqno().get(), 2);
+    drop(pass);
+    drop(tree);
+    Ok(())
+}
+
+fn finds_nothing(tree: &mut Recorded, pass: &mut Pass, snapshot: SeqNo) -> bool {
+    matches!(tree.get(pass, &text("a"), snapshot), Ok(None))
+}
+
+fn finds(tree: &mut Recorded, pass: &mut Pass, snapshot: SeqNo) -> bool {
+    match tree.get(pass, &text("a"), snapshot) {
+        Ok(value) => value == Some(text("x")),
+        Err(_) => false,
+    }
+}
+
+fn seals(tree: &mut Recorded, pass: &mut Pass) -> bool {
+    matches!(tree.rotate_memtable(pass), Ok(Some(0)))
+}
+
+/// Whether the entries have places from 0 on, so many.
+fn has_places(pass: &Pass, count: u64) -> bool {
+    pass.entries().iter().map(|noted| noted.0).eq(0..count)
+}
+
+#[test]
+fn calls_are_noted_with_their_places(rt: HostRuntime) -> Result<(), Fail> {
+    let mut tree = open(rt.alloc(), 1)?;
+    let mut pass = Pass::new(rt.alloc());
+    assert!(rt; sets(&mut tree, &mut pass, "a", 0, 50));
+    assert!(rt; finds_nothing(&mut tree, &mut pass, 0));
+    assert!(rt; seals(&mut tree, &mut pass));
+    assert!(rt; finds(&mut tree, &mut pass, 1));
+    assert_eq!(rt; tree.journal().len(), 3);
+    assert!(rt; has_places(&pass, 3));
+    drop(pass);
+    drop(tree);
+    Ok(())
+}
+
+/// Whether two keys that begin with `a` and one that doesn't are set.
+fn sets_three(tree: &mut Recorded, pass: &mut Pass) -> bool {
+    matches!(tree.insert(pass, text("a"), text("x"), 0), Ok(_))
+        && matches!(tree.insert(pass, text("ab"), text("y"), 1), Ok(_))
+        && matches!(tree.insert(pass, text("b"), text("z"), 2), Ok(_))
+}
+
+fn ranges(tree: &mut Recorded, pass: &mut Pass, snapshot: SeqNo, count: usize) -> bool {
+    let bounds = (Bound::Included(text("a")), Bound::Excluded(text("b")));
+    match tree.range(pass, &bounds, snapshot) {
+        Ok(pairs) => pairs.as_slice().len() == count,
+        Err(_) => false,
+    }
+}
+
+fn prefixes(tree: &mut Recorded, pass: &mut Pass, prefix: &'static str, count: usize) -> bool {
+    match tree.prefix(pass, &text(prefix), 3) {
+        Ok(pairs) => pairs.as_slice().len() == count,
+        Err(_) => false,
+    }
+}
+
+#[test]
+fn ranges_and_prefixes_are_noted(rt: HostRuntime) -> Result<(), Fail> {
+    let mut tree = open(rt.alloc(), 3)?;
+    let mut pass = Pass::new(rt.alloc());
+    assert!(rt; sets_three(&mut tree, &mut pass));
+    assert!(rt; ranges(&mut tree, &mut pass, 3, 2));
+    assert!(rt; ranges(&mut tree, &mut pass, 1, 1));
+    assert!(rt; prefixes(&mut tree, &mut pass, "a", 2));
+    assert!(rt; prefixes(&mut tree, &mut pass, "", 3));
+    assert!(rt; has_places(&pass, 7));
+    drop(pass);
+    drop(tree);
+    Ok(())
+}
+
+/// Whether a pair of this key is given.
+fn has_key(pair: Option<Guard>, name: &[u8]) -> bool {
+    match pair {
+        Some(guard) => match guard.key() {
+            Ok(key) => key.as_slice() == name,
+            Err(_) => false,
+        },
+        None => false,
+    }
+}
+
+/// Whether the iterator gives the keys `a` and `ab` alone, the greater first.
+fn gives_two(iter: Result<TreeIter, Error>) -> bool {
+    match iter {
+        Ok(mut iter) => {
+            has_key(iter.next_back(), b"ab")
+                && has_key(iter.next_back(), b"a")
+                && iter.next_back().is_none()
+        }
+        Err(_) => false,
+    }
+}
+
+fn lends(tree: &Recorded) -> bool {
+    let bounds = (Bound::Included(text("a")), Bound::Excluded(text("b")));
+    gives_two(tree.create_range(&bounds, 3)) && gives_two(tree.create_prefix(&text("a"), 3))
+}
+
+#[test]
+fn iterators_are_not_noted(rt: HostRuntime) -> Result<(), Fail> {
+    let mut tree = open(rt.alloc(), 3)?;
+    let mut pass = Pass::new(rt.alloc());
+    assert!(rt; sets_three(&mut tree, &mut pass));
+    assert!(rt; lends(&tree));
+    assert_eq!(rt; tree.journal().len(), 3);
+    drop(pass);
+    drop(tree);
     Ok(())
 }

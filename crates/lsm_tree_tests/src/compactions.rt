@@ -1,0 +1,368 @@
+// Compactions of shared trees, with a journal and without, and of a recorded tree with one owner.
+use crate::samples::{open_recorded, open_state, text};
+use lsm_tree::{
+    Begun, Choice, CompactionJob, Config, Error, Finished, Handle, JournalEntry, Leveled, Major,
+    Op, Options, OwnedBounds, Pass, Recorded, RecordedTree, Tree, Why,
+};
+use std::alloc::Global;
+use std::collections::HashSet;
+use std::ops::Bound;
+use std::sync::Wait;
+use std::test::Fail;
+
+/// At a watermark, at moment 0.
+fn at(watermark: u64) -> Options {
+    Options {
+        mvcc_gc_watermark: watermark,
+        moment: 0,
+    }
+}
+
+/// All keys.
+fn everything() -> OwnedBounds {
+    OwnedBounds {
+        start: Bound::Unbounded,
+        end: Bound::Unbounded,
+    }
+}
+
+fn job_of(begun: Begun) -> Result<CompactionJob, Error> {
+    match begun {
+        Begun::Job(job) => Ok(job),
+        _ => Err(Error::Unrecoverable),
+    }
+}
+
+fn is_installed(begun: &Result<Begun, Error>) -> bool {
+    matches!(begun, Ok(Begun::Installed))
+}
+
+fn did_nothing(begun: &Result<Begun, Error>) -> bool {
+    matches!(begun, Ok(Begun::DidNothing))
+}
+
+// ---- a shared tree
+
+fn open_tree(alloc: Global) -> Result<Tree, Error> {
+    Ok(Handle::new(alloc, open_state(alloc)?)?)
+}
+
+fn set(
+    rt: &impl Wait,
+    alloc: Global,
+    tree: &Tree,
+    key: &'static str,
+    value: &'static str,
+) -> Result<u64, Error> {
+    tree.write(rt, vec![in alloc; (text(key), Op::Set(text(value)))]?)
+}
+
+/// Sets a key, and flushes it into a table.
+fn set_in_table(
+    rt: &impl Wait,
+    alloc: Global,
+    tree: &Tree,
+    key: &'static str,
+    value: &'static str,
+) -> Result<(), Error> {
+    set(rt, alloc, tree, key, value)?;
+    match tree.flush_active_memtable(rt, 0) {
+        Ok(_) => Ok(()),
+        Err((error, _)) => Err(error),
+    }
+}
+
+/// Two tables are merged with no lock held, while a = z is written.
+fn merge_in_parts(rt: &impl Wait, alloc: Global, tree: &Tree) -> Result<Finished, Error> {
+    set_in_table(rt, alloc, tree, "a", "x")?;
+    set_in_table(rt, alloc, tree, "a", "y")?;
+    let begun = tree.begin_compaction(rt, &Major::new(u64::MAX), at(0))?;
+    let job = job_of(begun)?;
+    if !tree.is_compacting(rt) {
+        return Err(Error::Unrecoverable);
+    }
+    set(rt, alloc, tree, "a", "z")?;
+    match job.run() {
+        Ok(merged) => tree.finish_compaction(rt, merged),
+        Err((error, _)) => Err(error),
+    }
+}
+
+fn shows(rt: &impl Wait, tree: &Tree, snapshot: u64, value: &'static str) -> bool {
+    match tree.get(rt, b"a", snapshot) {
+        Ok(found) => found == Some(text(value)),
+        Err(_) => false,
+    }
+}
+
+#[test]
+fn a_shared_tree_is_merged_in_parts(rt: HostRuntime) -> Result<(), Fail> {
+    let tree = open_tree(rt.alloc())?;
+    let done = merge_in_parts(&rt, rt.alloc(), &tree);
+    assert!(rt; matches!(done, Ok(Finished::Installed)));
+    assert!(rt; !tree.is_compacting(&rt));
+    assert!(rt; tree.level_table_count(&rt, 6) == Some(1));
+    assert!(rt; shows(&rt, &tree, 1, "x"));
+    assert!(rt; shows(&rt, &tree, 3, "y"));
+    assert!(rt; shows(&rt, &tree, 6, "z"));
+    drop(tree);
+    Ok(())
+}
+
+/// A merge is begun and given up: its tables aren't in use any more.
+fn gives_up(rt: &impl Wait, tree: &Tree) -> Result<bool, Error> {
+    let begun = tree.begin_compaction(rt, &Major::new(u64::MAX), at(0))?;
+    tree.abandon_compaction(rt, job_of(begun)?);
+    Ok(!tree.is_compacting(rt))
+}
+
+/// Each compaction in one call: the strategy of levels finds nothing to do, two tables are merged, and all are dropped.
+fn compacts(rt: &impl Wait, alloc: Global, tree: &Tree) -> Result<bool, Error> {
+    set_in_table(rt, alloc, tree, "a", "x")?;
+    set_in_table(rt, alloc, tree, "a", "y")?;
+    let given_up = gives_up(rt, tree)?;
+    let leveled = Leveled::new(alloc)?;
+    let waits = did_nothing(&tree.compact(rt, &leveled, 0));
+    let merges = is_installed(&tree.do_compaction(rt, &Major::new(u64::MAX), at(0)));
+    set_in_table(rt, alloc, tree, "b", "z")?;
+    let merges_all = is_installed(&tree.major_compact(rt, u64::MAX, 0));
+    let drops = is_installed(&tree.drop_range(rt, everything()));
+    Ok(given_up && waits && merges && merges_all && drops && tree.table_count(rt) == 0)
+}
+
+#[test]
+fn a_shared_tree_compacts_in_one_call(rt: HostRuntime) -> Result<(), Fail> {
+    let tree = open_tree(rt.alloc())?;
+    let done = compacts(&rt, rt.alloc(), &tree);
+    assert!(rt; matches!(done, Ok(true)));
+    drop(tree);
+    Ok(())
+}
+
+/// The tables 0 and 1 are to be dropped.
+fn drop_both(alloc: Global) -> Result<Choice, Error> {
+    let mut ids = HashSet::new(alloc);
+    ids.insert(0)?;
+    ids.insert(1)?;
+    Ok(Choice::Drop(ids))
+}
+
+/// A choice of the caller's own: declined while a table of it isn't there, and then done.
+fn does_choices(rt: &impl Wait, alloc: Global, tree: &Tree) -> Result<bool, Error> {
+    set_in_table(rt, alloc, tree, "a", "x")?;
+    let missing = tree.begin_choice(rt, drop_both(alloc)?, at(0))?;
+    let is_declined = matches!(missing, Begun::Declined(Why::Missing));
+    set_in_table(rt, alloc, tree, "b", "y")?;
+    let drops = is_installed(&tree.begin_choice(rt, drop_both(alloc)?, at(0)));
+    Ok(is_declined && drops && tree.table_count(rt) == 0)
+}
+
+#[test]
+fn a_shared_tree_does_a_choice(rt: HostRuntime) -> Result<(), Fail> {
+    let tree = open_tree(rt.alloc())?;
+    let done = does_choices(&rt, rt.alloc(), &tree);
+    assert!(rt; matches!(done, Ok(true)));
+    drop(tree);
+    Ok(())
+}
+
+// ---- with a journal
+
+fn open(alloc: Global) -> Result<RecordedTree, Error> {
+    let core = open_recorded(alloc, Config::new(0, 0, 0))?;
+    Ok(Handle::new(alloc, core)?)
+}
+
+fn record(
+    rt: &impl Wait,
+    alloc: Global,
+    tree: &RecordedTree,
+    pass: &mut Pass,
+    value: &'static str,
+) -> Result<u64, Error> {
+    tree.write(rt, pass, vec![in alloc; (text("a"), Op::Set(text(value)))]?)
+}
+
+fn record_in_table(
+    rt: &impl Wait,
+    alloc: Global,
+    tree: &RecordedTree,
+    pass: &mut Pass,
+    value: &'static str,
+) -> Result<(), Error> {
+    record(rt, alloc, tree, pass, value)?;
+    match tree.flush_active_memtable(rt, pass, 0) {
+        Ok(_) => Ok(()),
+        Err((error, _)) => Err(error),
+    }
+}
+
+/// Two tables are merged in parts, with a write in between.
+fn record_merge(
+    rt: &impl Wait,
+    alloc: Global,
+    tree: &RecordedTree,
+    pass: &mut Pass,
+) -> Result<bool, Error> {
+    record_in_table(rt, alloc, tree, pass, "x")?;
+    record_in_table(rt, alloc, tree, pass, "y")?;
+    let begun = tree.begin_compaction(rt, pass, &Major::new(u64::MAX), at(0))?;
+    let job = job_of(begun)?;
+    record(rt, alloc, tree, pass, "z")?;
+    let merged = job.run().map_err(|refused| refused.0)?;
+    let finished = tree.finish_compaction(rt, pass, merged)?;
+    Ok(finished == Finished::Installed && !tree.is_compacting(rt))
+}
+
+/// The strategy of levels finds nothing to do, and then all tables are dropped.
+fn record_drop(
+    rt: &impl Wait,
+    alloc: Global,
+    tree: &RecordedTree,
+    pass: &mut Pass,
+) -> Result<bool, Error> {
+    let leveled = Leveled::new(alloc)?;
+    let waits = did_nothing(&tree.compact(rt, pass, &leveled, 0));
+    let drops = is_installed(&tree.drop_range(rt, pass, everything()));
+    Ok(waits && drops && tree.table_count(rt) == 0)
+}
+
+/// Whether these are two writes, each with the mark and the install of its flush behind it.
+fn tells_of_tables(noted: &[(u64, JournalEntry)]) -> bool {
+    let mut entries = noted.iter().map(|noted| &noted.1);
+    matches!(entries.next(), Some(JournalEntry::Write(_)))
+        && matches!(entries.next(), Some(JournalEntry::Mark(0)))
+        && matches!(entries.next(), Some(JournalEntry::Install(1)))
+        && matches!(entries.next(), Some(JournalEntry::Write(_)))
+        && matches!(entries.next(), Some(JournalEntry::Mark(0)))
+        && matches!(entries.next(), Some(JournalEntry::Install(3)))
+        && entries.next().is_none()
+}
+
+/// Whether these are the mark of a merge, a write in between and its install; the mark where nothing is to be done; and a drop.
+fn tells_of_compactions(noted: &[(u64, JournalEntry)]) -> bool {
+    let mut entries = noted.iter().map(|noted| &noted.1);
+    matches!(entries.next(), Some(JournalEntry::Mark(0)))
+        && matches!(entries.next(), Some(JournalEntry::Write(_)))
+        && matches!(entries.next(), Some(JournalEntry::Install(5)))
+        && matches!(entries.next(), Some(JournalEntry::Mark(0)))
+        && matches!(entries.next(), Some(JournalEntry::Mark(0)))
+        && matches!(entries.next(), Some(JournalEntry::Dropped(_, 6)))
+        && matches!(entries.next(), Some(JournalEntry::Install(6)))
+        && entries.next().is_none()
+}
+
+fn tells_of_all(pass: &Pass) -> bool {
+    let noted = pass.entries();
+    noted.len() == 13 && tells_of_tables(&noted[..6]) && tells_of_compactions(&noted[6..])
+}
+
+/// Whether a pass lists the journal, which has so many entries.
+fn closes(rt: &impl Wait, alloc: Global, tree: &RecordedTree, pass: Pass, count: usize) -> bool {
+    let mut passes = Vec::new(alloc);
+    let _ = passes.push(pass);
+    match tree.close(rt, passes) {
+        Ok(journal) => journal.len() == count,
+        Err(_) => false,
+    }
+}
+
+#[test]
+fn compactions_are_noted(rt: HostRuntime) -> Result<(), Fail> {
+    let alloc = rt.alloc();
+    let tree = open(alloc)?;
+    let mut pass = Pass::new(alloc);
+    let merged = record_merge(&rt, alloc, &tree, &mut pass);
+    assert!(rt; matches!(merged, Ok(true)));
+    let dropped = record_drop(&rt, alloc, &tree, &mut pass);
+    assert!(rt; matches!(dropped, Ok(true)));
+    assert!(rt; tells_of_all(&pass));
+    assert!(rt; closes(&rt, alloc, &tree, pass, 13));
+    drop(tree);
+    Ok(())
+}
+
+/// A merge is given up, and one is done in one call with all that is left to do.
+fn record_in_one_call(
+    rt: &impl Wait,
+    alloc: Global,
+    tree: &RecordedTree,
+    pass: &mut Pass,
+) -> Result<bool, Error> {
+    record_in_table(rt, alloc, tree, pass, "x")?;
+    let begun = tree.begin_compaction(rt, pass, &Major::new(u64::MAX), at(0))?;
+    tree.abandon_compaction(rt, pass, job_of(begun)?);
+    let is_free = !tree.is_compacting(rt);
+    let merges = is_installed(&tree.do_compaction(rt, pass, &Major::new(u64::MAX), at(0)));
+    record_in_table(rt, alloc, tree, pass, "y")?;
+    let merges_all = is_installed(&tree.major_compact(rt, pass, u64::MAX, 0));
+    Ok(is_free && merges && merges_all)
+}
+
+#[test]
+fn a_recorded_tree_compacts_in_one_call(rt: HostRuntime) -> Result<(), Fail> {
+    let alloc = rt.alloc();
+    let tree = open(alloc)?;
+    let mut pass = Pass::new(alloc);
+    let done = record_in_one_call(&rt, alloc, &tree, &mut pass);
+    assert!(rt; matches!(done, Ok(true)));
+    // Two writes and two flushes, the mark of what was given up, and two marks with their installs.
+    assert!(rt; closes(&rt, alloc, &tree, pass, 11));
+    drop(tree);
+    Ok(())
+}
+
+// ---- with one owner
+
+fn record_alone(
+    alloc: Global,
+    tree: &mut Recorded,
+    pass: &mut Pass,
+    value: &'static str,
+) -> Result<(), Error> {
+    tree.write(pass, vec![in alloc; (text("a"), Op::Set(text(value)))]?)?;
+    match tree.flush_active_memtable(pass, 0) {
+        Ok(_) => Ok(()),
+        Err((error, _)) => Err(error),
+    }
+}
+
+/// Each call once: a merge that is given up, one in parts, and those in one call.
+fn compacts_alone(alloc: Global, tree: &mut Recorded, pass: &mut Pass) -> Result<bool, Error> {
+    record_alone(alloc, tree, pass, "x")?;
+    let begun = tree.begin_compaction(pass, &Major::new(u64::MAX), at(0))?;
+    let is_open = tree.is_compacting();
+    tree.abandon_compaction(pass, job_of(begun)?);
+    let begun = tree.begin_compaction(pass, &Major::new(u64::MAX), at(0))?;
+    let merged = job_of(begun)?.run().map_err(|refused| refused.0)?;
+    let finished = tree.finish_compaction(pass, merged)?;
+    record_alone(alloc, tree, pass, "y")?;
+    let merges = is_installed(&tree.compact_with(pass, &Major::new(u64::MAX), at(0)));
+    record_alone(alloc, tree, pass, "z")?;
+    let merges_all = is_installed(&tree.major_compact(pass, u64::MAX, 0));
+    Ok(is_open && finished == Finished::Installed && merges && merges_all)
+}
+
+/// What is left to do: nothing for the strategy of levels, and everything for a drop.
+fn drops_alone(alloc: Global, tree: &mut Recorded, pass: &mut Pass) -> Result<bool, Error> {
+    let leveled = Leveled::new(alloc)?;
+    let waits = did_nothing(&tree.compact(pass, &leveled, 0));
+    let still_waits = did_nothing(&tree.do_compaction(pass, &leveled, at(0)));
+    let drops = is_installed(&tree.drop_range(pass, everything()));
+    Ok(waits && still_waits && drops && tree.table_count() == 0 && !tree.is_compacting())
+}
+
+#[test]
+fn a_recorded_tree_with_one_owner_compacts(rt: HostRuntime) -> Result<(), Fail> {
+    let alloc = rt.alloc();
+    let mut tree = open_recorded(alloc, Config::new(0, 0, 0))?;
+    let mut pass = Pass::new(alloc);
+    let done = compacts_alone(alloc, &mut tree, &mut pass);
+    assert!(rt; matches!(done, Ok(true)));
+    let dropped = drops_alone(alloc, &mut tree, &mut pass);
+    assert!(rt; matches!(dropped, Ok(true)));
+    assert_eq!(rt; pass.entries().len(), tree.journal().len());
+    drop(pass);
+    drop(tree);
+    Ok(())
+}
