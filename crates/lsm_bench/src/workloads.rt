@@ -9,10 +9,11 @@ pub enum Job {
     Get(Kind, Filling, Wanted),
     /// Reads many keys at a time, of a tree with one owner.
     List(Filling, Listing),
-    /// Tells how many bytes a key the last fill in random order added to this process, in the place of a check.
-    Weigh(Kind),
-    /// Flushes the active memtable, which has all keys. It leaves a flat tree.
-    Flush(Kind),
+    /// Tells how many bytes a key the fill in random order of a tree with one owner added to this process, in the place
+    /// of a check.
+    Weigh,
+    /// Flushes the active memtable of a tree with one owner, which has all keys. It leaves a flat tree.
+    Flush,
     /// Closes a flat tree with one owner and opens it again; and then gets keys, where it is said which.
     Reopen(Option<Wanted>),
     /// Merges the four runs of a tree with one owner into one in the last level.
@@ -31,7 +32,7 @@ pub enum Ingest {
 }
 
 /// A kind of tree.
-#[derive(Clone, Copy, PartialEq, Eq)]
+#[derive(Clone, Copy)]
 pub enum Kind {
     /// One owner has it.
     Owned,
@@ -84,7 +85,7 @@ pub enum Listing {
 /// is weighed, before other trees have left memory behind.
 pub const WORKLOADS: [(&str, Job); 26] = [
     ("put_rand", Job::Fill(Kind::Owned, Filling::Random)),
-    ("bytes_mem", Job::Weigh(Kind::Owned)),
+    ("bytes_mem", Job::Weigh),
     (
         "get_mem",
         Job::Get(Kind::Owned, Filling::Random, Wanted::Present),
@@ -100,7 +101,7 @@ pub const WORKLOADS: [(&str, Job); 26] = [
         Job::List(Filling::Random, Listing::OpenRanges),
     ),
     ("prefix_mem", Job::List(Filling::Random, Listing::Groups)),
-    ("flush_mem", Job::Flush(Kind::Owned)),
+    ("flush_mem", Job::Flush),
     (
         "get_flat",
         Job::Get(Kind::Owned, Filling::Flat, Wanted::Present),
@@ -140,7 +141,7 @@ pub const WORKLOADS: [(&str, Job); 26] = [
 
 /// The same of trees that stand in a folder. They run behind those, where a folder was given.
 pub const FOLDER_WORKLOADS: [(&str, Job); 3] = [
-    ("flush_disk", Job::Flush(Kind::Owned)),
+    ("flush_disk", Job::Flush),
     ("reopen_disk", Job::Reopen(None)),
     ("reopen_read_disk", Job::Reopen(Some(Wanted::Present))),
 ];

@@ -1,5 +1,5 @@
 // What was written to each key so far, by which a write in order is told without the journal.
-ghost use Rattle.std.specs.Prelude.{◌≡◌, ◌+◌, ◌^◌, ◌<◌, OnOk, IsSome, ◌&&◌};
+ghost use Rattle.std.specs.Prelude.{◌≡◌, ◌+◌, ◌^◌, ◌<◌, OnOk, IfOk, IsSome, ◌&&◌};
 ghost use Rattle.std.specs.BTreeMap as tree;
 ghost use Rattle.lsm_below.specs.Keys.{Bytes, bytes_cmp};
 ghost use Rattle.lsm_recorded.specs.Marks.{mark_of, marked, marked_by, mark_allows, next_mark};
@@ -31,6 +31,20 @@ pub(crate) fn read_mark(marks: &BTreeMap<UserKey, Mark>, key: &UserKey) -> Mark
     match marks.get(key) {
         Some(mark) => *mark,
         None => NOTHING,
+    }
+}
+
+/// The key, which shares the bytes of the key that is marked, if one is: so a journal keeps no bytes of its own for each
+/// read of a key.
+pub(crate) fn share_marked(
+    marks: &BTreeMap<UserKey, Mark>,
+    key: &UserKey,
+) -> Result<UserKey, AllocError>
+    ensures { IfOk result (λ shared. shared ≡ key.now) }
+{
+    match marks.get_key_value(key) {
+        Some((marked, _)) => share(marked),
+        None => share(key),
     }
 }
 

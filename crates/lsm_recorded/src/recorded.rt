@@ -26,7 +26,7 @@ ghost use Rattle.lsm_recorded.specs.Passes.{Notes};
 ghost use Rattle.lsm_recorded.specs.Closing.{ListTogether};
 
 use crate::closing::list_together;
-use crate::marks::{Mark, is_allowed, mark_write, read_mark, reserve_mark};
+use crate::marks::{Mark, is_allowed, mark_write, read_mark, reserve_mark, share_marked};
 use crate::notes::{make_note, make_notes, mark_notes, put_notes, reserve_notes};
 use crate::pass::{Pass, make_room, note_entry, put_entry};
 use lsm_below::{InternalValue, MemtableId, SeqNo, UserKey, UserValue, ValueType, share};
@@ -43,9 +43,10 @@ use std::marker::Model;
 /// A tree with the journal of its calls, a history in memory that its answers are proved against. It is no
 /// write-ahead log: nothing of it is stored.
 ///
-/// The journal grows with every write and every answered read and is never cut: by an entry for each, and for a range
-/// by a list of its pairs. Keys and values share their bytes with the tree. A write costs what the tree's own costs and
-/// a look-up in the marks of all keys written so far, which is logarithmic in their number; a read what the tree's costs.
+/// The journal grows with every write and every answered read and is never cut: by some 160 bytes for each, and for a
+/// range by a list of its pairs. Keys and values share their bytes with the tree, also the key of a `get`, if it was ever
+/// written. A write or a `get` costs what the tree's own costs and a look-up in the marks of all keys written so far, which
+/// is logarithmic in their number; a range what the tree's costs.
 ///
 /// # Examples
 ///
@@ -191,7 +192,8 @@ impl<S: Store> Recorded<S> {
             return Err(Error::OutOfOrder);
         }
         let value = self.core.get(key.as_slice(), snapshot)?;
-        let entry = read_entry(snapshot, key, &value)?;
+        let shared = share_marked(&self.marks, key)?;
+        let entry = read_entry(snapshot, &shared, &value)?;
         note_entry(self.alloc, &mut self.journal, &mut pass.entries, entry)?;
         Ok(value)
     }

@@ -338,6 +338,7 @@ fn take_step<S: Store>(
         Step::Count(what) => Ok(counts::count(alloc, state, *what)),
         Step::IsUncertain => Ok(counts::is_uncertain(alloc, state)),
         Step::IsCompacting => Ok(compactions::is_compacting(alloc, state)),
+        Step::TreeType => Ok(counts::tree_type(alloc, state)),
     }
 }
 

@@ -1,9 +1,7 @@
-use Rattle.std.proofs.Common.{◌≡◌, ◌∷◌, ◌++◌, [], List, Ok, ap, sym, subst, ◌∙◌, arith}
-use Rattle.lsm_below.specs.Entries.{Entry}
+use Rattle.std.proofs.Common.{◌≡◌, ◌∷◌, ◌++◌, [], List, ap, sym, subst, ◌∙◌, arith}
 use Rattle.lsm_below.specs.Keys.{Bytes}
 use Rattle.lsm_tables.specs.Image.{image}
 use Rattle.lsm_merges.specs.OpenTables.{IsOpenWith, IsUnderway, IsWriting}
-use Rattle.lsm_merges.specs.declared.open_table.OpenTable.{OpenTable}
 use Rattle.lsm_merges.proofs.Underway.{cut_off, closes, takes_in, ends_by, goes_by}
 use Rattle.lsm_merges.proofs.writing.take_entry.Goals.{then-ends_before+in_ok-next+in_ok-into_file+in_ok-push, else-ends_before}
 use Rattle.lsm_merges.proofs.writing.take_entry.Goals as goal

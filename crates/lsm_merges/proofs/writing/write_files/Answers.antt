@@ -1,6 +1,5 @@
-use Rattle.std.proofs.Common.{◌≡◌, List, Some, ap, sym, subst, ◌∙◌, arith}
+use Rattle.std.proofs.Common.{◌≡◌, Some, sym, subst, ◌∙◌, arith}
 use Rattle.std.proofs.lemmas.Result.{IfOk-weaker}
-use Rattle.lsm_below.specs.Entries.{Entry}
 use Rattle.lsm_below.specs.Streams.{Gives}
 use Rattle.lsm_tables.specs.Cutting.{AreImagesOf}
 use Rattle.lsm_merges.specs.OpenTables.{IsUnderway, IsWriting}

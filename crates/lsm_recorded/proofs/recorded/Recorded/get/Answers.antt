@@ -16,7 +16,7 @@ invariant_of-self-2 g c =
     let not_below = c.if-snapshot-self.false in
     let is = c.self.invariant.least_is in
     let up : above (held opened) ≤ c.args.snapshot = omega arith in
-    rw (c.in_ok-note_entry.ensures.ok.behind, c.in_ok-entry.ensures)
+    rw (c.in_ok-note_entry.ensures.ok.behind, c.in_ok-entry.ensures, c.in_ok-shared.ensures)
     (recorded_read opened i.least c.reads_are_sound.ensures i.marks i.floor i.core.core i.journal.items c.args.key.now c.args.snapshot c.in_ok-value.value c.self.invariant up (subst (λ z. IsGetStep i.core.core z c.args.snapshot c.in_ok-value.value) c.as_slice.ensures c.in_ok-value.ensures.step))
 
 pub returns-clause-replay : goal.returns-clause-replay
