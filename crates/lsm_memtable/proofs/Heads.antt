@@ -1,12 +1,8 @@
 -- What heads say of keys.
 use Rattle.std.proofs.Common.{◌≡◌, ℕ, zero, suc, ◌+◌, ◌-◌, ◌*◌, ◌^◌, ◌<◌, ◌≤◌, ◌++◌, min, subst, true, false, nat_le, List, [], ◌∷◌, length, get_or, take, drop, map, refl, sym, ◌∙◌, ap, arith, inl, inr, ◌⊎◌, add-one}
 use Rattle.std.specs.List.{All, insert, remove}
-<<<<<<< ours
-use Rattle.std.specs.Ordering.{nat_cmp, ordering_then, ordering_reverse, is_eq}
-use Rattle.std.specs.FinMap.{slice_cmp-IsAntisymmetric, nat_cmp-IsAntisymmetric}
-=======
 use Rattle.std.specs.Ordering.{is_eq, nat_cmp, ordering_then, ordering_reverse}
->>>>>>> theirs
+use Rattle.std.specs.FinMap.{slice_cmp-IsAntisymmetric, nat_cmp-IsAntisymmetric}
 use Rattle.std.specs.Cmp.Lexicographic.{slice_cmp}
 use Rattle.std.specs.declared.cmp.Ordering.{Ordering}
 use Rattle.std.specs.declared.cmp.Ordering.TheVariants.{Less, Equal, Greater}
@@ -195,7 +191,22 @@ module _ (xs : List InternalValue) (hs : List ℕ) (place keep head : ℕ) (e : 
 pub head_read : (entries : List InternalValue) (heads : List ℕ) (place other : ℕ) (d : InternalValue) → place < length entries → heads ≡ map entry_head entries → other ≡ get_or heads place other → other ≡ entry_head (get_or entries place d)
 head_read entries heads place other d lt same read = read ∙ (ap (λ l. get_or l place other) same ∙ get_or-map entry_head entries place d other lt)
 
-<<<<<<< ours
+-- keys of one head and one length which the head holds whole tie
+pub keys_tie : (xs ys : List ℕ) → AreBytes xs → AreBytes ys → key_head xs ≡ key_head ys → length xs ≡ length ys → length ys ≤ 16 → slice_cmp nat_cmp xs ys ≡ Equal
+keys_tie xs ys hx hy head len le =
+    let same = (same_keys 16 0 0 xs ys hx hy len le head).1 in
+    ap (λ k. slice_cmp nat_cmp k ys) same ∙ its_own_reverse (slice_cmp nat_cmp ys ys) (nat_list_cmp_total.antisymm ys ys)
+
+-- keys of two heads don't tie
+pub keys_apart : (xs ys : List ℕ) → AreBytes xs → AreBytes ys → (key_head xs ≡ key_head ys → ⊥) → false ≡ is_eq (slice_cmp nat_cmp xs ys)
+keys_apart xs ys hx hy apart = elim (cases_lt (key_head xs) (key_head ys)) [
+  | inl less ↦ sym (ap is_eq (head_less xs ys hx hy less))
+  | inr ge ↦ elim (cases_lt (key_head ys) (key_head xs)) [
+    | inl less ↦ sym (ap is_eq (nat_list_cmp_total.antisymm xs ys ∙ ap ordering_reverse (head_less ys xs hy hx less)))
+    | inr le ↦ absurd (apart (omega arith))
+  ]
+]
+
 -- ---- two entries of one key
 
 other_key : (a b : List ℕ) → (a ≡ b → ⊥) → false ≡ is_eq (slice_cmp nat_cmp a b)
@@ -216,24 +227,4 @@ lengths_apart e f apart = other_key e.key.user_key f.key.user_key (λ same. apar
 
 -- a short key of one head and length is the same
 pub head_one : (e f : InternalValue) → HasBytes e → HasBytes f → entry_head e ≡ entry_head f → length e.key.user_key ≡ length f.key.user_key → length e.key.user_key ≤ 16 → true ≡ same_key e f
-head_one e f he hf head len le =
-    let same = (same_keys 16 0 0 e.key.user_key f.key.user_key he hf len (omega (arith, len, le)) head).1 in
-    let tie = ap (λ k. slice_cmp nat_cmp k f.key.user_key) same ∙ its_own_reverse (slice_cmp nat_cmp f.key.user_key f.key.user_key) (nat_list_cmp_total.antisymm f.key.user_key f.key.user_key) in
-    sym (ap is_eq tie)
-=======
--- keys of one head and one length which the head holds whole tie
-pub keys_tie : (xs ys : List ℕ) → AreBytes xs → AreBytes ys → key_head xs ≡ key_head ys → length xs ≡ length ys → length ys ≤ 16 → slice_cmp nat_cmp xs ys ≡ Equal
-keys_tie xs ys hx hy head len le =
-    let same = (same_keys 16 0 0 xs ys hx hy len le head).1 in
-    ap (λ k. slice_cmp nat_cmp k ys) same ∙ its_own_reverse (slice_cmp nat_cmp ys ys) (nat_list_cmp_total.antisymm ys ys)
-
--- keys of two heads don't tie
-pub keys_apart : (xs ys : List ℕ) → AreBytes xs → AreBytes ys → (key_head xs ≡ key_head ys → ⊥) → false ≡ is_eq (slice_cmp nat_cmp xs ys)
-keys_apart xs ys hx hy apart = elim (cases_lt (key_head xs) (key_head ys)) [
-  | inl less ↦ sym (ap is_eq (head_less xs ys hx hy less))
-  | inr ge ↦ elim (cases_lt (key_head ys) (key_head xs)) [
-    | inl less ↦ sym (ap is_eq (nat_list_cmp_total.antisymm xs ys ∙ ap ordering_reverse (head_less ys xs hy hx less)))
-    | inr le ↦ absurd (apart (omega arith))
-  ]
-]
->>>>>>> theirs
+head_one e f he hf head len le = sym (ap is_eq (keys_tie e.key.user_key f.key.user_key he hf head len (omega (arith, len, le))))
