@@ -6,7 +6,7 @@ use crate::merges::{ingest, merge_all};
 use crate::points::{self, Locked, Noted, Points};
 use crate::progress::Progress;
 use crate::report::{Figures, Tally, print_figures};
-use crate::trees::{Slot, Trees, open_locked, open_owned, open_recorded, reopen};
+use crate::trees::{Slot, Trees, close, open_locked, open_owned, open_recorded, reopen};
 use crate::workloads::{FOLDER_WORKLOADS, Filling, Ingest, Job, Kind, Listing, WORKLOADS, Wanted};
 use anyhow::{Context, Result};
 use lsm_bench_parts::{Folder, Memory, Orders, Place, Plan, resident_bytes};
@@ -116,7 +116,7 @@ impl<P: Place> Bench<'_, P> {
     {
         let plan = self.plan;
         for (place, (name, job)) in workloads.iter().enumerate() {
-            if matches!(job, Job::Weigh) && !plan.with_times {
+            if !plan.has_row(name) || matches!(job, Job::Weigh) && !plan.with_times {
                 continue;
             }
             progress.show(place.saturating_add(1), workloads.len(), name);
@@ -389,7 +389,7 @@ impl<P: Place> Bench<'_, P> {
         timed(rt, start, Tally { ops, check })
     }
 
-    /// Closes a tree and opens it again, and gets keys where it is said which. Without them the check is how many entries
+    /// Opens a tree again that was closed, and gets keys where it is said which. Without them the check is how many entries
     /// it reads.
     fn reopen<R>(
         &self,
@@ -401,8 +401,9 @@ impl<P: Place> Bench<'_, P> {
         R: AllocGlobal + Clone + Clock + Files,
     {
         self.find(rt, slot, Filling::Flat)?;
+        let closed = close(slot);
         let start = Instant::now(rt)?;
-        reopen(self.alloc, slot)?;
+        slot.put(reopen(self.alloc, closed)?, Filling::Flat);
         let Some(tree) = &mut slot.tree else {
             unreachable!()
         };

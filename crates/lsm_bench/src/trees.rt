@@ -1,5 +1,5 @@
 // The trees that stay between workloads, one at a time.
-ghost use Rattle.std.specs.Prelude.{◌≡◌, IfOk, IsSome, true};
+ghost use Rattle.std.specs.Prelude.{◌≡◌, IsSome, true};
 
 use crate::points::Noted;
 use crate::workloads::Filling;
@@ -106,21 +106,27 @@ impl<S: Store> Trees<S> {
     }
 }
 
-/// Closes a tree, and opens it again from its store, with its counters where they were.
-fn reopened<S: Store>(alloc: Global, tree: TreeState<S>) -> Result<TreeState<S>, Error> {
-    let config = Config::new(tree.id(), tree.seqno().get(), tree.visible_seqno().get());
-    open_state(alloc, config, tree.into_store())
+/// A tree that was closed: its store, and where its counters were.
+#[derive(Drop)]
+pub struct Closed<S: Store> {
+    config: Config,
+    store: S,
 }
 
-/// Closes the tree and opens it again.
-pub fn reopen<S: Store>(alloc: Global, slot: &mut Slot<TreeState<S>>) -> Result<(), Error>
+/// Closes the tree, which lets go of all that it holds in memory.
+pub fn close<S: Store>(slot: &mut Slot<TreeState<S>>) -> Closed<S>
     requires { IsSome slot.old.tree }
-    ensures { IfOk result (λ _. IsSome slot.new.tree) }
 {
     let Some(tree) = slot.tree.take() else {
         unreachable!()
     };
-    let tree = reopened(alloc, tree)?;
-    slot.put(tree, slot.filling);
-    Ok(())
+    Closed {
+        config: Config::new(tree.id(), tree.seqno().get(), tree.visible_seqno().get()),
+        store: tree.into_store(),
+    }
+}
+
+/// Opens a tree again from its store, with its counters where they were.
+pub fn reopen<S: Store>(alloc: Global, closed: Closed<S>) -> Result<TreeState<S>, Error> {
+    open_state(alloc, closed.config, closed.store)
 }
