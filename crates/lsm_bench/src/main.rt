@@ -56,7 +56,7 @@ fn main(rt: HostRuntime) -> ExitCode {
         Err(error) => return tell_fault(&rt, Error::from(error)),
     };
     let plan = match parse_arguments(&words) {
-        Ok(plan) if plan.rows.iter().all(|row| is_workload(row.as_str())) => plan,
+        Ok(plan) if are_workloads(plan.rows) => plan,
         Ok(_) => return tell_usage(&rt, BadArguments::NoRow),
         Err(error) => return tell_usage(&rt, error),
     };
@@ -74,6 +74,14 @@ fn main(rt: HostRuntime) -> ExitCode {
 fn list_arguments<R: Env + AllocGlobal>(rt: &R) -> io::Result<Vec<String>> {
     let words = env::args(rt)?.skip(1).collect(rt.alloc())?;
     Ok(words)
+}
+
+/// Whether there is a workload of each of these names.
+fn are_workloads(rows: Option<&[String]>) -> bool {
+    match rows {
+        Some(rows) => rows.iter().all(|row| is_workload(row.as_str())),
+        None => true,
+    }
 }
 
 /// Says what is measured, and on how many processors. The run goes on where this can't be told.

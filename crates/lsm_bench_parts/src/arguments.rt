@@ -15,14 +15,17 @@ pub struct Plan<'a> {
     pub with_times: bool,
     /// Where the trees on the disk stand. Without it no workload has one.
     pub folder: Option<&'a str>,
-    /// The workloads that are run. Without any, all are.
-    pub rows: &'a [String],
+    /// The workloads that are run. Without them, all are.
+    pub rows: Option<&'a [String]>,
 }
 
 impl Plan<'_> {
     /// Whether the workload of this name is run.
     pub fn has_row(&self, name: &str) -> bool {
-        self.rows.is_empty() || self.rows.iter().any(|row| row.as_str() == name)
+        match self.rows {
+            Some(rows) => rows.iter().any(|row| row.as_str() == name),
+            None => true,
+        }
     }
 }
 
@@ -31,7 +34,7 @@ pub const CHECKS: Plan<'static> = Plan {
     keys: 1_000,
     with_times: false,
     folder: None,
-    rows: &[],
+    rows: None,
 };
 
 /// Stands for no folder, where workloads are named behind it.
@@ -72,8 +75,12 @@ fn parse_plan<'a>(
         Ok(keys) if 1 <= keys && keys <= MOST_KEYS => Ok(Plan {
             keys,
             with_times: true,
-            folder: if folder == NO_FOLDER { None } else { Some(folder) },
-            rows,
+            folder: if folder == NO_FOLDER {
+                None
+            } else {
+                Some(folder)
+            },
+            rows: if rows.is_empty() { None } else { Some(rows) },
         }),
         _ => Err(BadArguments::NoNumber),
     }

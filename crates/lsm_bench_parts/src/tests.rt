@@ -30,7 +30,9 @@ type Asked = Result<(usize, Option<&'static str>, usize), BadArguments>;
 fn asks(words: &[String], told: &Asked) -> bool {
     match (parse_arguments(words), told) {
         (Ok(plan), Ok((keys, folder, rows))) => {
-            plan.keys == *keys && plan.folder == *folder && plan.rows.len() == *rows
+            plan.keys == *keys
+                && plan.folder == *folder
+                && plan.rows.map_or(0, |named| named.len()) == *rows
         }
         (Err(error), Err(told)) => error == *told,
         _ => false,
