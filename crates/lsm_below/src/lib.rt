@@ -63,6 +63,6 @@ pub use number::{parse_number, plain_numbers_are_read};
 pub use optimize::optimize_runs;
 pub use run::{Run, is_run};
 pub use same::{has_same_parts, have_same_parts};
-pub use source::{Source, has_same_key};
+pub use source::{AsEntry, Source, has_same_key};
 pub use value::InternalValue;
 pub use value_type::ValueType;
