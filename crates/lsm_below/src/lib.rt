@@ -8,6 +8,7 @@
 //! | `value_type` | what an entry does to its key |
 //! | `key` | a user key with its sequence number, and the order of entries |
 //! | `value` | an entry: a key and its value |
+//! | `head` | the head of a key, its first 16 bytes as a number, and entries that are lent with it |
 //! | `key_range` | all keys from a least to a greatest one, and what has such a range |
 //! | `run` | tables sorted by their keys, no two of which share one |
 //! | `optimize` | joins runs where their tables allow it |
@@ -26,6 +27,7 @@
 
 mod compaction_stream;
 mod error;
+mod head;
 mod heap;
 mod ids;
 mod key;
@@ -47,6 +49,7 @@ mod value_type;
 
 pub use compaction_stream::{CompactionStream, compact};
 pub use error::Error;
+pub use head::{Headed, head_of};
 pub use ids::{KvPair, MemtableId, SeqNo, TableId, TreeId, UserKey, UserValue, share};
 pub use key::InternalKey;
 pub use key_range::{KeyRange, Ranged};
