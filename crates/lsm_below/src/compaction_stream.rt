@@ -11,7 +11,7 @@ ghost use Rattle.lsm_below.specs.Slots.{all_of, compacted, left_of, calls_left};
 
 use crate::merger::Merger;
 use crate::source::{AsEntry, Source, next_past, take_next};
-use crate::{InternalValue, SeqNo, ValueType};
+use crate::{SeqNo, ValueType};
 use std::alloc::{AllocError, Global};
 use std::marker::Model;
 
@@ -42,21 +42,24 @@ impl<S: Source> Model for CompactionStream<S> {
 }
 
 /// Whether an entry is dropped that has no older one of its key after it.
-fn drops_alone(entry: &InternalValue, evict: bool) -> bool
-    ensures { result ≡ goes_alone evict entry.now }
+fn drops_alone<I: AsEntry>(entry: &I, evict: bool) -> bool
+    ensures { result ≡ goes_alone evict (I.shows entry.now) }
 {
     evict
-        && match entry.key.value_type {
+        && match entry.as_entry().key.value_type {
             ValueType::Value => false,
             ValueType::Tombstone | ValueType::WeakTombstone => true,
         }
 }
 
 /// Whether an entry is dropped, where the next one of its key is below the watermark.
-fn drops_with(entry: &InternalValue, below: &InternalValue, evict: bool) -> bool
-    ensures { result ≡ goes_with evict entry.now below.now }
+fn drops_with<I: AsEntry>(entry: &I, below: &I, evict: bool) -> bool
+    ensures { result ≡ goes_with evict (I.shows entry.now) (I.shows below.now) }
 {
-    match (entry.key.value_type, below.key.value_type) {
+    match (
+        entry.as_entry().key.value_type,
+        below.as_entry().key.value_type,
+    ) {
         (ValueType::Tombstone, _) => evict,
         (ValueType::WeakTombstone, ValueType::Value) => true,
         _ => false,
@@ -77,13 +80,13 @@ fn judge<S: Source>(
         (λ r. length (all_of (option_map S.Item.shows r.1) (S.rest source.new).entries) ≤ length (S.rest source.old).entries) }
 {
     match next_past(source, true, entry)? {
-        None => Ok((drops_alone(entry.as_entry(), evict), None)),
+        None => Ok((drops_alone(entry, evict), None)),
         Some(below) => {
             if !entry.has_same_key(&below) {
-                Ok((drops_alone(entry.as_entry(), evict), Some(below)))
+                Ok((drops_alone(entry, evict), Some(below)))
             } else if below.as_entry().key.seqno < watermark {
                 let next = next_past(source, false, &below)?;
-                Ok((drops_with(entry.as_entry(), below.as_entry(), evict), next))
+                Ok((drops_with(entry, &below, evict), next))
             } else {
                 Ok((false, Some(below)))
             }

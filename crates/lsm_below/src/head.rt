@@ -9,7 +9,7 @@ ghost use Rattle.lsm_below.specs.Lookups.{stands_before};
 ghost use Rattle.lsm_below.specs.Slots.{is_before, same_key};
 
 use crate::InternalValue;
-use crate::source::{has_same_key, stands_before};
+use crate::source::{AsEntry, has_same_key, stands_before};
 use std::cmp::Ordering;
 use std::marker::Model;
 
@@ -190,5 +190,21 @@ impl<'a> Headed<'a> {
         } else {
             false
         }
+    }
+}
+
+impl<'a> AsEntry for Headed<'a> {
+    ghost shows = { λ headed. headed };
+
+    fn as_entry(&self) -> &InternalValue {
+        self.entry
+    }
+
+    fn stands_before(&self, other: &Self) -> bool {
+        self.stands_before(other)
+    }
+
+    fn has_same_key(&self, other: &Self) -> bool {
+        self.has_same_key(other)
     }
 }

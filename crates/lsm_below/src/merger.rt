@@ -131,10 +131,11 @@ fn slots_of<S: Source>(alloc: Global, sources: Vec<S>) -> Result<Vec<Slot<S>>, A
     ensures { IfOk result
         (λ slots. slots.items ≡ map (λ s. record { head = None; source = s }) sources.items) }
 {
-    sources
-        .into_iter()
-        .map(|source| Slot { head: None, source })
-        .collect(alloc)
+    let mut slots = Vec::with_capacity(alloc, sources.len())?;
+    for source in sources {
+        slots.push(Slot { head: None, source })?;
+    }
+    Ok(slots)
 }
 
 /// The numbers below this one, from the last.
