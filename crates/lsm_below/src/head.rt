@@ -1,9 +1,9 @@
 // The head of a key, its first 16 bytes as a number, and entries that are lent with it.
-ghost use Rattle.std.specs.Prelude.{◌≡◌, slice_index_or};
+ghost use Rattle.std.specs.Prelude.{◌≡◌, ◌<◌, length, slice_index_or};
 ghost use Rattle.std.specs.Ordering.{is_eq, nat_cmp};
 ghost use Rattle.std.specs.Cmp.Lexicographic.{slice_cmp};
-ghost use Rattle.lsm_below.specs.Entries.{HasBytes};
-ghost use Rattle.lsm_below.specs.Heads.{key_head, entry_head};
+ghost use Rattle.lsm_below.specs.Entries.{Entry, HasBytes};
+ghost use Rattle.lsm_below.specs.Heads.{key_head, entry_head, AreHeads};
 ghost use Rattle.lsm_below.specs.Keys.{AreBytes};
 ghost use Rattle.lsm_below.specs.Lookups.{stands_before};
 ghost use Rattle.lsm_below.specs.Slots.{is_before, same_key};
@@ -131,6 +131,16 @@ impl<'a> Headed<'a> {
         ensures { result ≡ entry.now }
     {
         Headed { entry, head }
+    }
+
+    /// The entry at a place of a list, beside which the heads stand.
+    #[inline(always)]
+    pub fn at(heads: &[u128], entries: &'a [InternalValue], place: usize) -> Headed<'a>
+        requires heads { AreHeads heads.now entries.now }
+        requires place { place < length entries.now }
+        ensures { (d : Entry) → result ≡ slice_index_or entries.now place d }
+    {
+        Headed::new(&entries[place], heads[place])
     }
 
     /// The entry.
