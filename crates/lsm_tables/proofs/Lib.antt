@@ -9,7 +9,5 @@ pub mod Cutting
 pub mod CutRuns
 pub mod Keeping
 pub mod Lists
-pub mod Heads
-pub mod HeadBytes
 pub mod Search
 pub mod Bounds

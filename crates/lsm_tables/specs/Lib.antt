@@ -8,4 +8,3 @@ pub mod Cutting
 pub mod Parts
 pub mod Spellings
 pub mod OpenImages
-pub mod Heads

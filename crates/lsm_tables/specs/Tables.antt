@@ -5,7 +5,7 @@ use Rattle.lsm_below.specs.Keys.{Bytes}
 use Rattle.lsm_below.specs.Ranges.{Range, in_range}
 use Rattle.lsm_below.specs.Entries.{Entry, is_tombstone_type, is_value, is_weak}
 use Rattle.lsm_below.specs.Slots.{same_key}
-use Rattle.lsm_tables.specs.Heads.{AreHeads}
+use Rattle.lsm_below.specs.Heads.{AreHeads}
 use Rattle.lsm_tables.specs.Image.{IsTable, image, entry_bytes}
 use Rattle.lsm_tables.specs.Sum.{sum_of}
 use Rattle.lsm_tables.specs.declared.table.counts.Counts.{Counts}

@@ -1,57 +1,20 @@
 // The heads of a table's keys, by which look-ups go.
-ghost use Rattle.std.specs.Prelude.{◌≡◌, ℕ, ◌-◌, ◌<◌, ◌≤◌, length, map, take, drop, not, true, false, IfOk, IfSome, IfNone, option_copied, slice_index_or};
-ghost use Rattle.std.specs.Ordering.{is_eq, nat_cmp};
-ghost use Rattle.std.specs.Cmp.Lexicographic.{slice_cmp};
+ghost use Rattle.std.specs.Prelude.{◌≡◌, ℕ, ◌-◌, ◌<◌, ◌≤◌, length, map, take, drop, not, true, false, IfOk, option_copied, slice_index_or};
 ghost use Rattle.lsm_below.specs.declared.value.InternalValue.{InternalValue};
-ghost use Rattle.lsm_below.specs.Entries.{entry_cmp, HasBytes, top};
-ghost use Rattle.lsm_below.specs.Keys.{AreBytes};
+ghost use Rattle.lsm_below.specs.Entries.{entry_cmp};
 ghost use Rattle.std.specs.List.{AllByRecursion};
 ghost use Rattle.std.specs.List.Sorted.{IsPartitionPoint};
 ghost use Rattle.lsm_below.specs.Lookups.{is_visible, stands_before, is_from, is_to, within};
 ghost use Rattle.lsm_tables.specs.Image.{Fits};
 ghost use Rattle.lsm_below.specs.Sorted.{Rises, first};
-ghost use Rattle.lsm_tables.specs.Heads.{key_head, entry_head, AreHeads};
+ghost use Rattle.lsm_below.specs.Heads.{key_head, entry_head, AreHeads};
 
-use lsm_below::{InternalValue, SeqNo, UserKey, entries_are_parted};
+use lsm_below::{Headed, InternalValue, SeqNo, UserKey, entries_are_parted, head_of};
 use std::alloc::{AllocError, Global};
-use std::cmp::Ordering;
 use std::ops::Bound;
-
-/// How many bytes of a key its head holds.
-const HEAD: usize = 16;
 
 /// Above all sequence numbers: all entries of a key are below it.
 const ABOVE_ALL: u128 = 18_446_744_073_709_551_616;
-
-/// A byte of the key, and zero after its end.
-fn byte_at(key: &[u8], place: usize) -> u8
-    ensures { result ≡ slice_index_or key.now place 0 }
-{
-    if place < key.len() { key[place] } else { 0 }
-}
-
-/// The first 16 bytes of the key as a number, big endian, with zeros after a short key.
-fn head_of(key: &[u8]) -> u128
-    ensures head { result ≡ key_head key.now }
-    ensures bytes { AreBytes key.now }
-{
-    match key.first_chunk::<HEAD>() {
-        Some(bytes) => u128::from_be_bytes(*bytes),
-        None => padded_head(key),
-    }
-}
-
-/// `head_of`, byte by byte.
-fn padded_head(key: &[u8]) -> u128
-    ensures head { result ≡ key_head key.now }
-    ensures bytes { AreBytes key.now }
-{
-    let mut head: u128 = 0;
-    for place in 0..HEAD {
-        head = head * 256 + byte_at(key, place) as u128;
-    }
-    head
-}
 
 /// The heads of the keys of entries. Refused only for want of memory.
 pub(super) fn heads_of(alloc: Global, entries: &[InternalValue]) -> Result<Vec<u128>, AllocError>
@@ -64,87 +27,6 @@ pub(super) fn heads_of(alloc: Global, entries: &[InternalValue]) -> Result<Vec<u
     Ok(heads)
 }
 
-/// Whether the entry comes before each entry of the key with a sequence number below this. Their keys have one head, so
-/// that two of one length which the head holds whole are the same, and no byte of them is read.
-fn stands_ahead(entry: &InternalValue, key: &[u8], number: u128) -> bool
-    requires own { HasBytes entry.now }
-    requires bytes { AreBytes key.now }
-    requires head { entry_head entry.now ≡ key_head key.now }
-    ensures { result ≡ stands_before key.now number entry.now }
-{
-    let own = entry.key.user_key.as_slice();
-    if own.len() == key.len() && key.len() <= HEAD {
-        return entry.key.seqno as u128 >= number;
-    }
-    match own.cmp(key) {
-        Ordering::Less => true,
-        Ordering::Equal => entry.key.seqno as u128 >= number,
-        Ordering::Greater => false,
-    }
-}
-
-/// Whether the entry has this key. Their keys have one head, so that two of one length which the head holds whole are the
-/// same, and no byte of them is read.
-fn has_key(entry: &InternalValue, key: &[u8]) -> bool
-    requires own { HasBytes entry.now }
-    requires bytes { AreBytes key.now }
-    requires head { entry_head entry.now ≡ key_head key.now }
-    ensures { result ≡ is_eq (slice_cmp nat_cmp entry.now.key.user_key key.now) }
-{
-    let own = entry.key.user_key.as_slice();
-    if own.len() == key.len() && key.len() <= HEAD {
-        return true;
-    }
-    own == key
-}
-
-/// Whether the entry there comes before each entry of the key with a sequence number below this. Where the heads differ
-/// it looks at nothing else.
-fn is_ahead(
-    heads: &[u128],
-    entries: &[InternalValue],
-    place: usize,
-    head: u128,
-    key: &[u8],
-    number: u128,
-) -> bool
-    requires heads { AreHeads heads.now entries.now }
-    requires place { place < length entries.now }
-    requires bytes { AreBytes key.now }
-    requires head { head ≡ key_head key.now }
-    ensures { (d : InternalValue) → result ≡ stands_before key.now number (slice_index_or entries.now place d) }
-{
-    let other = heads[place];
-    if other < head {
-        return true;
-    }
-    if head < other {
-        return false;
-    }
-    stands_ahead(&entries[place], key, number)
-}
-
-/// Whether the entry there has this key. Where the heads differ it looks at nothing else.
-fn has_key_at(
-    heads: &[u128],
-    entries: &[InternalValue],
-    place: usize,
-    head: u128,
-    key: &[u8],
-) -> bool
-    requires heads { AreHeads heads.now entries.now }
-    requires place { place < length entries.now }
-    requires bytes { AreBytes key.now }
-    requires head { head ≡ key_head key.now }
-    ensures { (d : InternalValue) → result ≡ is_eq (slice_cmp nat_cmp (slice_index_or entries.now place d).key.user_key key.now) }
-{
-    let other = heads[place];
-    if other != head {
-        return false;
-    }
-    has_key(&entries[place], key)
-}
-
 /// How many entries come before each entry of the key with a sequence number below this.
 fn place_below(
     heads: &[u128],
@@ -155,7 +37,6 @@ fn place_below(
 ) -> usize
     requires heads { AreHeads heads.now entries.now }
     requires rises { Rises entry_cmp entries.now }
-    requires bytes { AreBytes key.now }
     requires head { head ≡ key_head key.now }
     ensures bound { result ≤ length entries.now }
     ensures before { (j : ℕ) (d : InternalValue) → j < result → stands_before key.now number (slice_index_or entries.now j d) ≡ true }
@@ -166,7 +47,7 @@ fn place_below(
     let mut high = entries.len();
     while low < high {
         let mid = low + (high - low) / 2;
-        if is_ahead(heads, entries, mid, head, key, number) {
+        if Headed::at(heads, entries, mid).is_ahead(head, key, number) {
             low = mid + 1;
         } else {
             high = mid;
@@ -192,9 +73,9 @@ pub(super) fn find<'a>(
     if at == entries.len() {
         return None;
     }
-    let entry = &entries[at];
-    if has_key_at(heads, entries, at, head, key) {
-        Some(entry)
+    let entry = Headed::at(heads, entries, at);
+    if entry.has_key(head, key) {
+        Some(entry.entry())
     } else {
         None
     }

@@ -3,7 +3,7 @@ use Rattle.std.specs.List.Sorted.{IsPartitionPoint}
 use Rattle.lsm_below.specs.Entries.{Entry}
 use Rattle.lsm_below.specs.Lookups.{is_from}
 use Rattle.lsm_tables.specs.Image.{Fits}
-use Rattle.lsm_tables.proofs.Heads.{all_at}
+use Rattle.std.proofs.lemmas.List.Elements.{All-from_recursion}
 use Rattle.lsm_tables.proofs.Bounds.{from_included, from_excluded}
 use Rattle.lsm_tables.proofs.table.heads.lower_place.Goals as goal
 
@@ -15,8 +15,8 @@ returns-in-Included-clause-parts c =
     let before = rw c.as_slice-key.ensures at c.place_below.ensures.before in
     let behind = rw c.as_slice-key.ensures at c.place_below.ensures.behind in
     subst (λ x. IsPartitionPoint (λ (e : Entry). not (is_from x e.key.user_key) ≡ true) (λ (e : Entry). not (is_from x e.key.user_key) ≡ false) es c.place_below.result) (sym c.in-Included.is) (
-      λ j d _ lt. let inside : j < length es = omega arith in from_included k (get_or es j d) (all_at Fits es j d inside c.requires.each).seqno ∙ before j d lt,
-      λ j d le lt. from_included k (get_or es j d) (all_at Fits es j d lt c.requires.each).seqno ∙ behind j d le lt,
+      λ j d _ lt. let inside : j < length es = omega arith in from_included k (get_or es j d) (All-from_recursion Fits es c.requires.each j d inside).seqno ∙ before j d lt,
+      λ j d le lt. from_included k (get_or es j d) (All-from_recursion Fits es c.requires.each j d lt).seqno ∙ behind j d le lt,
     )
 
 pub returns-in-Excluded-clause-parts : goal.returns-in-Excluded-clause-parts

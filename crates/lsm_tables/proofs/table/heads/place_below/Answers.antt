@@ -1,4 +1,5 @@
-use Rattle.std.proofs.Common.{sym, ◌∙◌, ◌+◌, ◌-◌, ◌/◌, arith}
+use Rattle.std.proofs.Common.{sym, ap, ◌∙◌, ◌+◌, ◌-◌, ◌/◌, arith}
+use Rattle.lsm_below.specs.Lookups.{stands_before}
 use Rattle.lsm_tables.proofs.Search.{all_ahead, none_ahead}
 use Rattle.lsm_tables.proofs.table.heads.place_below.Goals as goal
 
@@ -9,7 +10,7 @@ loop-low-preserved-then-is_ahead c =
     let mid = c.loop-low.low + (c.loop-low.high - c.loop-low.low) / 2 in (
       omega arith,
       i.1,
-      all_ahead c.entries_are_parted.ensures c.args.entries.now c.requires.rises c.args.key.now c.args.number mid (omega arith) (λ d. sym (c.is_ahead.ensures d) ∙ c.if-is_ahead.true),
+      all_ahead c.entries_are_parted.ensures c.args.entries.now c.requires.rises c.args.key.now c.args.number mid (omega arith) (λ d. sym (c.is_ahead.ensures ∙ ap (stands_before c.args.key.now c.args.number) (c.at.ensures d)) ∙ c.if-is_ahead.true),
       i.3,
     )
 
@@ -21,5 +22,5 @@ loop-low-preserved c =
       omega arith,
       omega arith,
       i.2,
-      none_ahead c.entries_are_parted.ensures c.args.entries.now c.requires.rises c.args.key.now c.args.number mid (omega arith) (λ d. sym (c.is_ahead.ensures d) ∙ c.if-is_ahead.false),
+      none_ahead c.entries_are_parted.ensures c.args.entries.now c.requires.rises c.args.key.now c.args.number mid (omega arith) (λ d. sym (c.is_ahead.ensures ∙ ap (stands_before c.args.key.now c.args.number) (c.at.ensures d)) ∙ c.if-is_ahead.false),
     )

@@ -1,6 +1,0 @@
-use Rattle.std.proofs.Common.{◌≡◌, ◌-◌, ◌^◌, ◌<◌, drop}
-use Rattle.lsm_tables.specs.Heads.{head_from}
-use Rattle.lsm_tables.proofs.table.heads.padded_head.Given as goal
-
-abbrev pub invariant-loop-place : goal.invariant-loop-place
-invariant-loop-place l = (l.head < 256 ^ l.place) × (head_from l.head (16 - l.place) (drop l.place l.key) ≡ head_from 0 16 l.key)
