@@ -25,6 +25,7 @@ take_entry-requires g c =
     let all = (g.S.Source.rest c.args.source).entries in
     let rest = (g.S.Source.rest c.next_entry.new.self).entries in
     let at = c.entries in
-    let e = c.in-Some-Ok.entry in
-    let gives = subst (λ r. Gives (g.S.Source.rest at.source) (Some r) (g.S.Source.rest c.next_entry.new.self)) c.in-Some-Ok.field-0-is c.in-Some-Ok.ensures.gives in
-    next_fits c.args.target c.args.made_at all at.files.items at.table e rest (subst (IsWriting c.args.target c.args.made_at all at.files.items at.table) gives.1 at.invariant)
+    let shows = g.S.Item.AsEntry.shows in
+    let e = shows c.in-Some-Ok.entry in
+    let gives = subst (λ r. Gives shows (g.S.Source.rest at.source) (Some r) (g.S.Source.rest c.next_entry.new.self)) c.in-Some-Ok.field-0-is c.in-Some-Ok.ensures.gives in
+    next_fits shows c.args.target c.args.made_at all at.files.items at.table e rest (subst (IsWriting shows c.args.target c.args.made_at all at.files.items at.table) gives.1 at.invariant)
