@@ -6,18 +6,21 @@ use Rattle.std.specs.List.{take-map, drop-map}
 use Rattle.std.proofs.lemmas.List.Elements.{All-take, All-drop}
 use Rattle.lsm_below.specs.declared.value.InternalValue.{InternalValue}
 use Rattle.lsm_below.specs.Entries.{HasBytes}
-use Rattle.lsm_memtable.specs.Heads.{entry_head, AreHeads}
+use Rattle.lsm_below.specs.Heads.{entry_head, AreHeads}
 
 -- the first so many, with their heads
 pub heads_to : (n : ℕ) (hs : List ℕ) (es : List InternalValue) → AreHeads hs es → AreHeads (take n hs) (take n es)
-heads_to n hs es h = (ap (take n) h.0 ∙ take-map entry_head n es, All-take HasBytes n es h.1)
+heads_to n hs es h = record { same = ap (take n) h.same ∙ take-map entry_head n es; bytes = All-take HasBytes n es h.bytes }
 
 -- without the first so many
 pub heads_from : (n : ℕ) (hs : List ℕ) (es : List InternalValue) → AreHeads hs es → AreHeads (take (length hs - n) (drop n hs)) (take (length es - n) (drop n es))
 heads_from n hs es h =
-    let len : length hs ≡ length es = ap (λ (l : List ℕ). length l) h.0 ∙ length-map es entry_head in
-    let there : drop n hs ≡ map entry_head (drop n es) = ap (drop n) h.0 ∙ drop-map entry_head n es in
-    (ap (λ k. take (k - n) (drop n hs)) len ∙ ap (take (length es - n)) there ∙ take-map entry_head (length es - n) (drop n es), All-take HasBytes (length es - n) (drop n es) (All-drop HasBytes n es h.1))
+    let len : length hs ≡ length es = ap (λ (l : List ℕ). length l) h.same ∙ length-map es entry_head in
+    let there : drop n hs ≡ map entry_head (drop n es) = ap (drop n) h.same ∙ drop-map entry_head n es in
+    record {
+      same = ap (λ k. take (k - n) (drop n hs)) len ∙ ap (take (length es - n)) there ∙ take-map entry_head (length es - n) (drop n es);
+      bytes = All-take HasBytes (length es - n) (drop n es) (All-drop HasBytes n es h.bytes);
+    }
 
 module _ {X : Type 0} where
   -- the last one of the last part is left out
@@ -32,9 +35,3 @@ module _ {X : Type 0} where
       let D = take (length C - 1) C in
       let some : 0 < length C = let n = ap (λ (l : List X). length l) is in omega (arith, n, length-append D (h ∷ [])) in
       ap (λ l. A ++ (B ++ l)) is ∙ (ap (λ l. A ++ l) (sym (append_assoc B D (h ∷ []))) ∙ (sym (append_assoc A (B ++ D) (h ∷ [])) ∙ ap (λ l. l ++ h ∷ []) (last_dropped A B C some)))
-
-  -- without the last one
-  pub without_last : (all rest : List X) (h : X) → all ≡ rest ++ h ∷ [] → rest ≡ take (length all - 1) all
-  without_last all rest h is =
-      let len : length all - 1 ≡ length rest = let n = ap (λ (l : List X). length l) is in omega (arith, n, length-append rest (h ∷ [])) in
-      sym (ap (λ k. take k all) len ∙ (ap (take (length rest)) is ∙ take-append_seam rest (h ∷ [])))

@@ -29,4 +29,3 @@ pub use iter::Iter;
 pub use memtable::Memtable;
 pub use span::Span;
 pub use steps::Steps;
-pub use stretch::Headed;

@@ -18,7 +18,7 @@ use crate::{Iter, Span, Steps};
 use bytes::BytesMut;
 use lsm_below::{
     ENTRY_OVERHEAD, Error, InternalKey, InternalValue, MemtableId, SeqNo, UserKey,
-    entries_are_ordered, entries_are_parted, first_visible_is_top,
+    entries_are_ordered, entries_are_parted, first_visible_is_top, slices_hold_bytes,
 };
 use std::alloc::{AllocError, Global};
 use std::collections::VecDeque;
@@ -176,6 +176,7 @@ fn add_entry(
     let Some(more) = content.count.checked_add(1) else {
         return Err(AllocError);
     };
+    slices_hold_bytes(entry.key.user_key.as_slice());
     let size = content.size.saturating_add(size_of_entry(&entry));
     let highest = content.highest.unwrap_or(0).max(entry.key.seqno);
     let entry = housed(&mut content.arena, alloc, entry, content.size);

@@ -1,71 +1,9 @@
 // Entries that follow each other in a block, with the heads of their keys.
 ghost use Rattle.std.specs.Prelude.{◌≡◌, ◌-◌, ◌≤◌, [], ◌∷◌, ◌++◌, length, take, drop, MatchOption};
-ghost use Rattle.lsm_below.specs.Entries.{HasBytes};
-ghost use Rattle.lsm_below.specs.Slots.{same_key};
-ghost use Rattle.lsm_memtable.specs.Heads.{entry_head, AreHeads};
+ghost use Rattle.lsm_below.specs.Heads.{AreHeads};
 
-use crate::block::HEAD;
-use lsm_below::{InternalValue, has_same_key};
+use lsm_below::{Headed, InternalValue};
 use std::marker::Model;
-
-/// An entry that is lent, with the head of its key: its first 16 bytes as a number.
-#[derive(Drop)]
-pub struct Headed<'a> {
-    entry: &'a InternalValue,
-    head: u128,
-}
-
-impl<'a> Model for Headed<'a> {
-    ghost use Rattle.std.specs.Prelude.{◌≡◌};
-    ghost use Rattle.lsm_below.specs.Entries.{Entry, HasBytes};
-    ghost use Rattle.lsm_memtable.specs.Heads.{entry_head};
-
-    ghost Value = { Entry };
-
-    ghost view = { λ h. h.entry.now };
-
-    ghost invariant = { λ h. (h.head ≡ entry_head h.entry.now) × HasBytes h.entry.now };
-}
-
-/// Whether two keys of one head are the same. Where the lengths tell, no byte of them is read.
-#[inline(never)]
-fn has_same_rest(entry: &InternalValue, other: &InternalValue) -> bool
-    requires own { HasBytes entry.now }
-    requires other { HasBytes other.now }
-    requires head { entry_head entry.now ≡ entry_head other.now }
-    ensures { result ≡ same_key entry.now other.now }
-{
-    let len = entry.key.user_key.len();
-    if len != other.key.user_key.len() {
-        return false;
-    }
-    if len <= HEAD {
-        return true;
-    }
-    has_same_key(entry, other)
-}
-
-impl<'a> Headed<'a> {
-    /// The entry.
-    #[inline(always)]
-    pub fn entry(&self) -> &'a InternalValue
-        ensures { result.now ≡ self.now }
-    {
-        self.entry
-    }
-
-    /// Whether two entries have one key. Where the heads or the lengths tell, no byte of a key is read.
-    #[inline(always)]
-    pub fn has_same_key(&self, other: &Headed<'_>) -> bool
-        ensures { result ≡ same_key self.now other.now }
-    {
-        if self.head == other.head {
-            has_same_rest(self.entry, other.entry)
-        } else {
-            false
-        }
-    }
-}
 
 /// Entries that follow each other in a block, with the heads of their keys.
 #[derive(Drop)]
@@ -77,7 +15,7 @@ pub(crate) struct Stretch<'a> {
 impl<'a> Model for Stretch<'a> {
     ghost use Rattle.std.specs.Prelude.{List};
     ghost use Rattle.lsm_below.specs.Entries.{Entry};
-    ghost use Rattle.lsm_memtable.specs.Heads.{AreHeads};
+    ghost use Rattle.lsm_below.specs.Heads.{AreHeads};
 
     ghost Value = { List Entry };
 
@@ -136,10 +74,7 @@ impl<'a> Stretch<'a> {
         if self.entries.is_empty() {
             return None;
         }
-        Some(Headed {
-            entry: &self.entries[0],
-            head: self.heads[0],
-        })
+        Some(Headed::at(self.heads, self.entries, 0))
     }
 
     /// The last entry.
@@ -151,10 +86,7 @@ impl<'a> Stretch<'a> {
             return None;
         }
         let at = self.entries.len() - 1;
-        Some(Headed {
-            entry: &self.entries[at],
-            head: self.heads[at],
-        })
+        Some(Headed::at(self.heads, self.entries, at))
     }
 
     /// Without the first so many.
