@@ -3,7 +3,7 @@ use Rattle.std.proofs.lemmas.Result.{IfOk-weaker}
 use Rattle.lsm_below.specs.Streams.{Gives}
 use Rattle.lsm_tables.specs.Cutting.{AreImagesOf}
 use Rattle.lsm_merges.specs.OpenTables.{IsUnderway, IsWriting}
-use Rattle.lsm_merges.proofs.Underway.{ends_with, next_fits}
+use Rattle.lsm_merges.proofs.Underway.{ends_with, first_writing, next_fits}
 use Rattle.lsm_merges.proofs.writing.write_files.Goals as goal
 
 pub returns-in-None-clause-ok : goal.returns-in-None-clause-ok
@@ -19,6 +19,9 @@ returns-in-None-clause-ok g c =
     IfOk-weaker c.with_open.result _ (λ files. AreImagesOf target made_at all files.items)
     (λ files is. subst (AreImagesOf target made_at all) (sym is) images)
     (c.with_open.ensures.ok made_at w.pending w.has)
+
+pub entries-init : goal.entries-init
+entries-init g c = rw c.new-files.ensures.items (first_writing g.S.Item.AsEntry.shows c.args.target c.args.made_at (g.S.Source.rest c.args.source).entries c.in_ok-table.table c.requires.writable c.in_ok-table.ensures)
 
 pub take_entry-requires : goal.take_entry-requires
 take_entry-requires g c =

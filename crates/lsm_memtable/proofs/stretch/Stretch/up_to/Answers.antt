@@ -1,5 +1,0 @@
-use Rattle.lsm_memtable.proofs.Stretches.{heads_to}
-use Rattle.lsm_memtable.proofs.stretch.Stretch.up_to.Goals as goal
-
-pub invariant_of-result : goal.invariant_of-result
-invariant_of-result c = heads_to c.args.count c.self.inside.heads.now c.self.inside.entries.now c.self.invariant
