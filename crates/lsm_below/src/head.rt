@@ -206,14 +206,17 @@ impl<'a> Headed<'a> {
 impl<'a> AsEntry for Headed<'a> {
     ghost shows = { λ headed. headed };
 
+    #[inline(always)]
     fn as_entry(&self) -> &InternalValue {
         self.entry
     }
 
+    #[inline(always)]
     fn stands_before(&self, other: &Self) -> bool {
         self.stands_before(other)
     }
 
+    #[inline(always)]
     fn has_same_key(&self, other: &Self) -> bool {
         self.has_same_key(other)
     }

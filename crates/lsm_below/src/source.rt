@@ -7,7 +7,14 @@ ghost use Rattle.lsm_below.specs.Slots.{is_before, same_key, is_repeat, past, al
 
 use crate::InternalValue;
 
-/// What a source returns for an entry: the entry itself, or something that lends it.
+/// What a source returns for an entry: the entry itself, or something that lends it. Two of them are compared as their
+/// entries are.
+///
+/// ```text
+/// for item in compact(alloc, sources, watermark, true)? {
+///     write(item?.as_entry())?;
+/// }
+/// ```
 pub trait AsEntry: Drop {
     ghost use Rattle.lsm_below.specs.Entries.{Entry};
     ghost use Rattle.lsm_below.specs.Slots.{is_before, same_key};

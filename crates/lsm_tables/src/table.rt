@@ -12,11 +12,11 @@ ghost use Rattle.lsm_tables.specs.declared.table_error.TableError.TheVariants.{B
 mod counts;
 mod heads;
 
-use crate::image::decode;
+use crate::image::decode_headed;
 use crate::{Checksum, TableError};
 use bytes::Bytes;
 use counts::{Counts, count};
-use heads::{find, heads_of, places};
+use heads::{find, places};
 use lsm_below::{
     InternalValue, KeyRange, Ranged, SeqNo, Stretch, TableId, UserKey, entries_are_ordered,
     entries_are_parted, first_visible_is_top, keys_are_ordered, share,
@@ -112,10 +112,9 @@ impl Table {
     {
         let checksum = Checksum::of(bytes.as_slice());
         let file_size = bytes.len() as u64;
-        let (created_at, entries) = decode(alloc, bytes)?;
+        let (created_at, entries, heads) = decode_headed(alloc, bytes)?;
         let key_range = range_between(&entries)?;
         let counts = count(&entries);
-        let heads = heads_of(alloc, &entries)?;
         let inner = TableInner {
             id,
             created_at,

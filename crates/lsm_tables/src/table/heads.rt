@@ -1,5 +1,5 @@
 // The heads of a table's keys, by which look-ups go.
-ghost use Rattle.std.specs.Prelude.{◌≡◌, ℕ, ◌-◌, ◌<◌, ◌≤◌, length, map, take, drop, not, true, false, IfOk, option_copied, slice_index_or};
+ghost use Rattle.std.specs.Prelude.{◌≡◌, ℕ, ◌-◌, ◌<◌, ◌≤◌, length, take, drop, not, true, false, option_copied, slice_index_or};
 ghost use Rattle.lsm_below.specs.declared.value.InternalValue.{InternalValue};
 ghost use Rattle.lsm_below.specs.Entries.{entry_cmp};
 ghost use Rattle.std.specs.List.{AllByRecursion};
@@ -7,25 +7,13 @@ ghost use Rattle.std.specs.List.Sorted.{IsPartitionPoint};
 ghost use Rattle.lsm_below.specs.Lookups.{is_visible, stands_before, is_from, is_to, within};
 ghost use Rattle.lsm_tables.specs.Image.{Fits};
 ghost use Rattle.lsm_below.specs.Sorted.{Rises, first};
-ghost use Rattle.lsm_below.specs.Heads.{key_head, entry_head, AreHeads};
+ghost use Rattle.lsm_below.specs.Heads.{key_head, AreHeads};
 
 use lsm_below::{Headed, InternalValue, SeqNo, UserKey, entries_are_parted, head_of};
-use std::alloc::{AllocError, Global};
 use std::ops::Bound;
 
 /// Above all sequence numbers: all entries of a key are below it.
 const ABOVE_ALL: u128 = 18_446_744_073_709_551_616;
-
-/// The heads of the keys of entries. Refused only for want of memory.
-pub(super) fn heads_of(alloc: Global, entries: &[InternalValue]) -> Result<Vec<u128>, AllocError>
-    ensures { IfOk result (λ heads. heads.items ≡ map entry_head entries.now) }
-{
-    let mut heads = Vec::with_capacity(alloc, entries.len())?;
-    for entry in entries {
-        heads.push(head_of(entry.key.user_key.as_slice()))?;
-    }
-    Ok(heads)
-}
 
 /// How many entries come before each entry of the key with a sequence number below this.
 fn place_below(

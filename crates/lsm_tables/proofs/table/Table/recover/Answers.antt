@@ -1,8 +1,4 @@
-use Rattle.std.proofs.Common.{length, map, sym, ap, subst, ◌∙◌}
-use Rattle.std.specs.List.{All}
-use Rattle.std.proofs.lemmas.List.Elements.{All-from_recursion}
-use Rattle.lsm_below.specs.Entries.{HasBytes}
-use Rattle.lsm_below.specs.Heads.{entry_head}
+use Rattle.std.proofs.Common.{length, sym, ap, subst, ◌∙◌}
 use Rattle.lsm_tables.specs.Sum.{sum_of}
 use Rattle.lsm_tables.specs.Tables.{IsKeptTable, IsCountOf, range_of}
 use Rattle.lsm_tables.proofs.Lengths.{length_image}
@@ -14,10 +10,7 @@ invariant_of-result c =
     let es = c.in_ok-created_at.entries.items in
     subst IsKeptTable (sym c.in_ok-new.ensures.ok) record {
       table = read.table;
-      heads = record {
-        same = c.in_ok-heads.ensures ∙ ap (map entry_head) c.deref-3.ensures.value;
-        bytes = subst (All HasBytes) c.deref-2.ensures.value (All-from_recursion HasBytes _ c.count-counts.ensures.bytes);
-      };
+      heads = c.in_ok-created_at.ensures.heads;
       range = c.in_ok-key_range.ensures ∙ ap range_of c.deref.ensures.value;
       size = c.len-file_size.ensures.value ∙ ap length read.spelling ∙ length_image c.in_ok-created_at.created_at es;
       sum = c.of-checksum.ensures ∙ ap sum_of (c.as_slice.ensures ∙ read.spelling);
