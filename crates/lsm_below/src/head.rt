@@ -9,7 +9,7 @@ ghost use Rattle.lsm_below.specs.Lookups.{stands_before};
 ghost use Rattle.lsm_below.specs.Slots.{is_before, same_key};
 
 use crate::InternalValue;
-use crate::source::{has_same_key, stands_before};
+use crate::source::{AsEntry, has_same_key, stands_before};
 use std::cmp::Ordering;
 use std::marker::Model;
 
@@ -200,5 +200,24 @@ impl<'a> Headed<'a> {
         } else {
             false
         }
+    }
+}
+
+impl<'a> AsEntry for Headed<'a> {
+    ghost shows = { λ headed. headed };
+
+    #[inline(always)]
+    fn as_entry(&self) -> &InternalValue {
+        self.entry
+    }
+
+    #[inline(always)]
+    fn stands_before(&self, other: &Self) -> bool {
+        self.stands_before(other)
+    }
+
+    #[inline(always)]
+    fn has_same_key(&self, other: &Self) -> bool {
+        self.has_same_key(other)
     }
 }

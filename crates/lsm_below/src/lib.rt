@@ -13,7 +13,8 @@
 //! | `run` | tables sorted by their keys, no two of which share one |
 //! | `optimize` | joins runs where their tables allow it |
 //! | `same` | whether two entries are the same in all their parts |
-//! | `source` | what gives entries in order, one at a time |
+//! | `stretch` | entries that follow each other, lent with their heads |
+//! | `source` | what gives entries in order, one at a time, owned or lent |
 //! | `list_source` | a list of entries, as a source |
 //! | `slot` | a source and its first entry |
 //! | `heap` | the indexes of slots, as a heap |
@@ -44,6 +45,7 @@ mod run;
 mod same;
 mod slot;
 mod source;
+mod stretch;
 mod value;
 mod value_type;
 
@@ -66,6 +68,7 @@ pub use number::{parse_number, plain_numbers_are_read};
 pub use optimize::optimize_runs;
 pub use run::{Run, is_run};
 pub use same::{has_same_parts, have_same_parts};
-pub use source::{Source, has_same_key};
+pub use source::{AsEntry, Source, has_same_key};
+pub use stretch::Stretch;
 pub use value::InternalValue;
 pub use value_type::ValueType;

@@ -13,8 +13,9 @@ ghost use Rattle.lsm_memtable.specs.Blocks.{CountsDigits};
 
 use crate::Steps;
 use crate::spread::spread;
-use crate::stretch::Stretch;
-use lsm_below::{Headed, InternalKey, InternalValue, UserKey, entries_are_parted, head_of};
+use lsm_below::{
+    Headed, InternalKey, InternalValue, Stretch, UserKey, entries_are_parted, head_of,
+};
 use std::alloc::{AllocError, Global};
 use std::marker::Model;
 use std::mem;

@@ -9,8 +9,7 @@ ghost use Rattle.lsm_memtable.specs.Iters.{TakesFirst, TakesLast};
 use crate::block::Block;
 use crate::blocks::Place;
 use crate::part::Part;
-use crate::stretch::Stretch;
-use lsm_below::{Headed, InternalValue};
+use lsm_below::{Headed, InternalValue, Stretch};
 use std::collections::VecDeque;
 use std::marker::Model;
 

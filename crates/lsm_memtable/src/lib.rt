@@ -6,7 +6,6 @@
 //! | `spread` | items that move to two vectors, with one more at a place |
 //! | `block` | up to 64 entries in order, with the heads of their keys |
 //! | `blocks` | blocks that together are one list: search, insert, split |
-//! | `stretch` | entries that follow each other in a block, with the heads of their keys |
 //! | `part` | blocks that follow each other, in the two slices that a ring has of them |
 //! | `bounds` | where bounds cut blocks |
 //! | `iter` | the entries between two places, from both ends |
@@ -23,7 +22,6 @@ mod part;
 mod span;
 mod spread;
 mod steps;
-mod stretch;
 
 pub use iter::Iter;
 pub use memtable::Memtable;

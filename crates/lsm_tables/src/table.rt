@@ -18,7 +18,7 @@ use bytes::Bytes;
 use counts::{Counts, count};
 use heads::{find, places};
 use lsm_below::{
-    InternalValue, KeyRange, Ranged, SeqNo, TableId, UserKey, entries_are_ordered,
+    InternalValue, KeyRange, Ranged, SeqNo, Stretch, TableId, UserKey, entries_are_ordered,
     entries_are_parted, first_visible_is_top, keys_are_ordered, share,
 };
 use std::alloc::{AllocError, Global};
@@ -149,6 +149,13 @@ impl Table {
         ensures { result.now ≡ self.now.entries }
     {
         &self.inner.entries
+    }
+
+    /// The entries, lent with the heads of their keys.
+    pub fn headed_entries(&self) -> Stretch<'_>
+        ensures { result ≡ self.now.entries }
+    {
+        Stretch::new(&self.inner.entries, &self.inner.heads)
     }
 
     /// What every table meets: it has an entry at least, its entries rise and fit a file, their keys have the

@@ -2,19 +2,19 @@
 ghost use Rattle.std.specs.Iterator.{IsFinite};
 
 use crate::samples::{THREE, ids, version};
-use lsm_below::{Error, InternalValue, SeqNo, TableId};
+use lsm_below::{AsEntry, Error, SeqNo, TableId};
 use lsm_merges::create_compaction_stream;
 use lsm_versions::Version;
 use std::alloc::Global;
 use std::test::Fail;
 
 /// How many entries a stream gives.
-fn count_of<I: Iterator<Item = Result<InternalValue, Error>>>(stream: I) -> Result<usize, Error>
+fn count_of<E: AsEntry, I: Iterator<Item = Result<E, Error>>>(stream: I) -> Result<usize, Error>
     requires { I.can_next stream × IsFinite (I.remaining stream) }
 {
     let mut count: usize = 0;
     for entry in stream {
-        entry?;
+        drop(entry?);
         count = count.saturating_add(1);
     }
     Ok(count)

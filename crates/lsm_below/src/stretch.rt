@@ -1,13 +1,13 @@
-// Entries that follow each other in a block, with the heads of their keys.
+// Entries that follow each other, with the heads of their keys.
 ghost use Rattle.std.specs.Prelude.{◌≡◌, ◌-◌, ◌≤◌, [], ◌∷◌, ◌++◌, length, take, drop, MatchOption};
 ghost use Rattle.lsm_below.specs.Heads.{AreHeads};
 
-use lsm_below::{Headed, InternalValue};
+use crate::{Headed, InternalValue};
 use std::marker::Model;
 
-/// Entries that follow each other in a block, with the heads of their keys.
+/// Entries that follow each other, with the heads of their keys.
 #[derive(Drop)]
-pub(crate) struct Stretch<'a> {
+pub struct Stretch<'a> {
     entries: &'a [InternalValue],
     heads: &'a [u128],
 }
@@ -26,7 +26,7 @@ impl<'a> Model for Stretch<'a> {
 
 impl<'a> Stretch<'a> {
     /// Entries with such heads.
-    pub(crate) fn new(entries: &'a [InternalValue], heads: &'a [u128]) -> Stretch<'a>
+    pub fn new(entries: &'a [InternalValue], heads: &'a [u128]) -> Stretch<'a>
         requires { AreHeads heads.now entries.now }
         ensures { result ≡ entries.now }
     {
@@ -34,7 +34,7 @@ impl<'a> Stretch<'a> {
     }
 
     /// No entry.
-    pub(crate) fn empty() -> Stretch<'a>
+    pub fn empty() -> Stretch<'a>
         ensures { result ≡ [] }
     {
         Stretch {
@@ -44,14 +44,14 @@ impl<'a> Stretch<'a> {
     }
 
     /// The entries alone.
-    pub(crate) fn entries(&self) -> &'a [InternalValue]
+    pub fn entries(&self) -> &'a [InternalValue]
         ensures { result.now ≡ self.now }
     {
         self.entries
     }
 
     /// The same entries once more.
-    pub(crate) fn copy(&self) -> Stretch<'a>
+    pub fn copy(&self) -> Stretch<'a>
         ensures { result ≡ self.now }
     {
         Stretch {
@@ -60,7 +60,8 @@ impl<'a> Stretch<'a> {
         }
     }
 
-    pub(crate) fn len(&self) -> usize
+    /// How many there are.
+    pub fn len(&self) -> usize
         ensures { result ≡ length self.now }
     {
         self.entries.len()
@@ -68,7 +69,7 @@ impl<'a> Stretch<'a> {
 
     /// The first entry.
     #[inline(always)]
-    pub(crate) fn first(&self) -> Option<Headed<'a>>
+    pub fn first(&self) -> Option<Headed<'a>>
         ensures { MatchOption result (self.now ≡ []) (λ h. self.now ≡ h ∷ drop 1 self.now) }
     {
         if self.entries.is_empty() {
@@ -79,7 +80,7 @@ impl<'a> Stretch<'a> {
 
     /// The last entry.
     #[inline(always)]
-    pub(crate) fn last(&self) -> Option<Headed<'a>>
+    pub fn last(&self) -> Option<Headed<'a>>
         ensures { MatchOption result (self.now ≡ []) (λ h. self.now ≡ take (length self.now - 1) self.now ++ h ∷ []) }
     {
         if self.entries.is_empty() {
@@ -91,7 +92,7 @@ impl<'a> Stretch<'a> {
 
     /// Without the first so many.
     #[inline(always)]
-    pub(crate) fn behind(&self, count: usize) -> Stretch<'a>
+    pub fn behind(&self, count: usize) -> Stretch<'a>
         requires { count ≤ length self.now }
         ensures { result ≡ drop count self.now }
     {
@@ -103,7 +104,7 @@ impl<'a> Stretch<'a> {
 
     /// The first so many.
     #[inline(always)]
-    pub(crate) fn up_to(&self, count: usize) -> Stretch<'a>
+    pub fn up_to(&self, count: usize) -> Stretch<'a>
         requires { count ≤ length self.now }
         ensures { result ≡ take count self.now }
     {
@@ -114,7 +115,7 @@ impl<'a> Stretch<'a> {
     }
 
     /// The first entry, and those behind it.
-    pub(crate) fn split_first(&self) -> Option<(Headed<'a>, Stretch<'a>)>
+    pub fn split_first(&self) -> Option<(Headed<'a>, Stretch<'a>)>
         ensures { MatchOption result (self.now ≡ []) (λ p. self.now ≡ p.0 ∷ p.1) }
     {
         let headed = self.first()?;
@@ -122,7 +123,7 @@ impl<'a> Stretch<'a> {
     }
 
     /// The last entry, and those before it.
-    pub(crate) fn split_last(&self) -> Option<(Headed<'a>, Stretch<'a>)>
+    pub fn split_last(&self) -> Option<(Headed<'a>, Stretch<'a>)>
         ensures { MatchOption result (self.now ≡ []) (λ p. self.now ≡ p.1 ++ p.0 ∷ []) }
     {
         let headed = self.last()?;
