@@ -2,8 +2,6 @@
 use Rattle.std.proofs.Common.{◌≡◌, ℕ, List, [], ◌∷◌, ◌++◌, map, flat_map, sym, ap, ◌∙◌, subst, arith, append-nil}
 use Rattle.std.specs.List.{All}
 use Rattle.std.specs.declared.ops.Bound.{Bound}
-use Rattle.std.proofs.lemmas.Grind.{flat_map-append}
-use Rattle.std.proofs.lemmas.List.Sums.{sum_by-append}
 use Rattle.std.proofs.lemmas.List.Elements.{All-append, All-nil, All-cons}
 use Rattle.lsm_below.specs.Keys.{Bytes}
 use Rattle.lsm_below.specs.Entries.{Entry, entry_cmp, HasBytes}
@@ -12,27 +10,19 @@ use Rattle.lsm_below.specs.Lookups.{within}
 use Rattle.lsm_tables.specs.Tables.{SeenTable}
 use Rattle.lsm_iter.specs.Reads.{Part, at}
 use Rattle.lsm_iter.specs.Left.{SeenCursor, copied, left_of, held_in}
-use Rattle.lsm_iter.specs.Puts.{AddsCursors, PutsCursors}
+use Rattle.lsm_iter.specs.Puts.{PutsCursors}
 use Rattle.lsm_iter.proofs.Puts.{tables_left, tables_rise}
-
--- one more is there
-pub left_pushed : (old new : List SeenCursor) (c : SeenCursor) → new ≡ old ++ c ∷ [] → left_of new ≡ left_of old ++ c.left
-left_pushed old new c pushed = ap left_of pushed ∙ flat_map-append (λ x. x.left) old (c ∷ []) ∙ ap (λ l. left_of old ++ l) (append-nil c.left)
-
-pub held_pushed : (old new : List SeenCursor) (c : SeenCursor) → new ≡ old ++ c ∷ [] → c.held ≡ 0 → held_in new ≡ held_in old
-held_pushed old new c pushed none = let sum = ap held_in pushed ∙ sum_by-append (λ x. x.held) old (c ∷ []) in omega (arith, none)
-
--- nothing is left of one that isn't there
-pub left_kept : (old : List SeenCursor) (l : List Entry) → l ≡ [] → left_of old ≡ left_of old ++ l
-left_kept old l none = sym (ap (λ l. left_of old ++ l) none ∙ append-nil (left_of old))
 
 module _ (low high : Bound Bytes) where
   -- what lies of a part
-  pub adds_left : (part : Part) (old new : List SeenCursor) (l : List Entry) → left_of new ≡ left_of old ++ l → held_in new ≡ held_in old → l ≡ copied low high part → Rises entry_cmp (within low high part.entries) → AddsCursors low high (part ∷ []) 0 old new
-  adds_left part old new l left held is rise = record {
-    left = left ∙ ap (λ l. left_of old ++ l) (is ∙ sym (append-nil (copied low high part)));
-    held = omega (arith, held);
-    rise = All-cons (λ part. Rises entry_cmp (within low high part.entries)) part [] rise (All-nil (λ part. Rises entry_cmp (within low high part.entries)));
+  pub puts_part : (part : Part) (old new : List SeenCursor) (l : List Entry) → left_of new ≡ left_of old ++ l → held_in new ≡ held_in old → l ≡ copied low high part → Rises entry_cmp (within low high part.entries) → All HasBytes l → PutsCursors low high (part ∷ []) 0 old new
+  puts_part part old new l left held is rise bytes = record {
+    adds = record {
+      left = left ∙ ap (λ l. left_of old ++ l) (is ∙ sym (append-nil (copied low high part)));
+      held = omega (arith, held);
+      rise = All-cons (λ part. Rises entry_cmp (within low high part.entries)) part [] rise (All-nil (λ part. Rises entry_cmp (within low high part.entries)));
+    };
+    bytes = λ all. subst (All HasBytes) (sym left) (All-append HasBytes (left_of old) l all bytes);
   }
 
   -- what lies of a run

@@ -11,7 +11,6 @@ pub mod Alone
 pub mod Steps
 pub mod Tops
 pub mod Trims
-pub mod Lents
 pub mod Joined
 pub mod Disjoint
 pub mod Touched

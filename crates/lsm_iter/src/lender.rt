@@ -96,9 +96,11 @@ fn value_of(entry: Option<&InternalValue>) -> Option<&InternalValue>
 impl<'a> Lender<'a> {
     /// What is left of a part of a memtable.
     pub(crate) fn memtable(span: &Span<'a>, below: SeqNo) -> Lender<'a>
-        ensures { result ≡ record { left = tops (at below span.now); held = 0 } }
+        ensures is { result ≡ record { left = tops (at below span.now); held = 0 } }
+        ensures bytes { All HasBytes result.left }
     {
         span.facts();
+        span.keys_hold_bytes();
         let entries = Walk::new(span.iter(), below);
         entries.facts();
         Lender {

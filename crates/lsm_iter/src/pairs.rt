@@ -2,8 +2,9 @@
 ghost use Rattle.std.specs.Prelude.{◌≡◌, List, length, option_copied, IfOk, IfErr};
 ghost use Rattle.std.specs.Iterator.{at_most};
 ghost use Rattle.lsm_below.specs.declared.error.Error.{Error};
-ghost use Rattle.lsm_below.specs.Entries.{Entry};
-ghost use Rattle.lsm_iter.specs.Shown.{Shows};
+ghost use Rattle.std.specs.List.{All};
+ghost use Rattle.lsm_below.specs.Entries.{Entry, HasBytes};
+ghost use Rattle.lsm_iter.specs.Shown.{Shows, ShowsPrefix};
 ghost use Rattle.lsm_iter.specs.Left.{Takes};
 ghost use Rattle.lsm_iter.specs.declared.tree_iter.End.{End};
 ghost use Rattle.lsm_iter.specs.Reads.{counted_at};
@@ -12,6 +13,7 @@ ghost use Rattle.lsm_iter.specs.declared.tree_iter.End.TheVariants.{Front, Back}
 
 use crate::lender::Lender;
 use crate::lending::{lend_first, lend_shown};
+use crate::prefix::prefix_to_range;
 use crate::{End, Error, IterState};
 use lsm_below::{InternalValue, SeqNo, UserKey, UserValue, entries_are_ordered, merges_by_key};
 use lsm_model::maps_are_read;
@@ -20,14 +22,19 @@ use std::marker::Model;
 use std::ops::Bound;
 
 /// The keys and values that a snapshot shows in the bounds, by rising key, from both ends, lent by the tree. It owns no
-/// entry and counts no owner, and the tree doesn't change while it is there. No step needs memory.
+/// entry and counts no owner, and the tree doesn't change while it is there.
+///
+/// Making it costs a search in each memtable and in each table in the bounds, and memory for the list of these. A step
+/// needs no memory: it compares the keys at one end of all sources once, and passes what the snapshot doesn't show.
 ///
 /// # Examples
 ///
 /// ```text
 /// let mut pairs = tree.pairs(&bounds, snapshot, None)?;
+/// let least = pairs.next();
+/// let greatest = pairs.next_back();
 /// while let Some((key, value)) = pairs.next() {
-///     total += value.len();
+///     total += key.len() + value.len();
 /// }
 /// ```
 #[derive(Drop)]
@@ -64,6 +71,7 @@ impl<'a> Pairs<'a> {
         snapshot: SeqNo,
     ) -> Result<Pairs<'a>, Error>
         ensures shows { IfOk result (λ pairs. Shows bounds.now.0 bounds.now.1 (counted_at snapshot state.now) pairs) }
+        ensures bytes { IfOk result (All HasBytes) }
         ensures memory { IfErr result (λ e. e ≡ Error.OutOfMemory) }
     {
         entries_are_ordered();
@@ -74,19 +82,49 @@ impl<'a> Pairs<'a> {
         })
     }
 
+    /// What a snapshot shows of the keys that begin so, as `create_range`. Refused only for want of memory.
+    pub fn create_prefix(
+        alloc: Global,
+        state: &IterState<'a>,
+        prefix: &[u8],
+        snapshot: SeqNo,
+    ) -> Result<Pairs<'a>, Error>
+        ensures shows { IfOk result (λ pairs. ShowsPrefix prefix.now (counted_at snapshot state.now) pairs) }
+        ensures memory { IfErr result (λ e. e ≡ Error.OutOfMemory) }
+    {
+        let bounds = prefix_to_range(alloc, prefix)?;
+        let pairs = Pairs::create_range(alloc, state, &bounds, snapshot)?;
+        Ok(pairs)
+    }
+
+    /// Takes the first entry of what is left.
+    #[inline(always)]
+    pub(crate) fn take_front(&mut self) -> Option<&'a InternalValue>
+        ensures { Takes Front self.old (option_copied result) self.new }
+    {
+        lend_first(&mut self.lenders)
+    }
+
+    /// Takes the entry at an end of what is left.
+    pub(crate) fn take_end(&mut self, end: End) -> Option<&'a InternalValue>
+        ensures { Takes end self.old (option_copied result) self.new }
+    {
+        lend_shown(end, &mut self.lenders)
+    }
+
     /// Lends the first pair of what is left.
     #[inline(always)]
     fn lend(&mut self) -> Option<(&'a UserKey, &'a UserValue)>
         ensures { LendsPair Front self.old result self.new }
     {
-        pair_of(lend_first(&mut self.lenders))
+        pair_of(self.take_front())
     }
 
     /// Lends the last pair of what is left.
     fn lend_back(&mut self) -> Option<(&'a UserKey, &'a UserValue)>
         ensures { LendsPair Back self.old result self.new }
     {
-        pair_of(lend_shown(End::Back, &mut self.lenders))
+        pair_of(self.take_end(End::Back))
     }
 }
 

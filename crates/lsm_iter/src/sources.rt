@@ -5,7 +5,7 @@ ghost use Rattle.lsm_below.specs.Optimizes.{tables_of as all_tables};
 ghost use Rattle.lsm_versions.specs.Levels.{all_of};
 ghost use Rattle.lsm_iter.specs.Reads.{at, index_of, tables_of};
 ghost use Rattle.lsm_iter.specs.Left.{left_of, held_in};
-ghost use Rattle.lsm_iter.specs.Puts.{AddsCursors, PutsCursors};
+ghost use Rattle.lsm_iter.specs.Puts.{PutsCursors};
 ghost use Rattle.lsm_iter.specs.Shared.{IsSound};
 
 use crate::lender::Lender;
@@ -37,11 +37,13 @@ fn lend_memtable<'a>(
     below: SeqNo,
 ) -> Result<(), AllocError>
     ensures { OnOk result
-        (AddsCursors bounds.now.0 bounds.now.1 (at below memtable.now.entries ∷ []) 0 lenders.old.items lenders.new.items) }
+        (PutsCursors bounds.now.0 bounds.now.1 (at below memtable.now.entries ∷ []) 0 lenders.old.items lenders.new.items) }
 {
     let span = memtable.span().within(bounds);
     span.facts();
-    push_lender(lenders, Lender::memtable(&span, below))
+    let lender = Lender::memtable(&span, below);
+    push_lender(lenders, lender)?;
+    Ok(())
 }
 
 /// Appends a lender for an index, which is lent.
@@ -51,7 +53,7 @@ pub(crate) fn lend_index<'a>(
     bounds: &(Bound<UserKey>, Bound<UserKey>),
 ) -> Result<(), AllocError>
     ensures { OnOk result
-        (AddsCursors bounds.now.0 bounds.now.1 (option_to_list (index_of overlay.entry)) 0 lenders.old.items lenders.new.items) }
+        (PutsCursors bounds.now.0 bounds.now.1 (option_to_list (index_of overlay.entry)) 0 lenders.old.items lenders.new.items) }
 {
     match overlay {
         Some((index, below)) => lend_memtable(lenders, index, bounds, below),
@@ -67,7 +69,7 @@ pub(crate) fn lend_memtables<'a>(
     below: SeqNo,
 ) -> Result<(), AllocError>
     ensures { OnOk result
-        (AddsCursors bounds.now.0 bounds.now.1 (map (λ m. at below m.now.entries) memtables.now) 0 lenders.old.items lenders.new.items) }
+        (PutsCursors bounds.now.0 bounds.now.1 (map (λ m. at below m.now.entries) memtables.now) 0 lenders.old.items lenders.new.items) }
 {
     for memtable in memtables {
         lend_memtable(lenders, memtable, bounds, below)?;

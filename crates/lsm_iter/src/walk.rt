@@ -10,8 +10,8 @@ ghost use Rattle.lsm_iter.specs.Trims.{IsTrimmed, Trims, counts, hides};
 ghost use Rattle.lsm_iter.specs.declared.tree_iter.End.TheVariants.{Front, Back};
 
 use crate::End;
-use lsm_below::{InternalValue, SeqNo};
-use lsm_memtable::{Headed, Iter};
+use lsm_below::{Headed, InternalValue, SeqNo};
+use lsm_memtable::Iter;
 use std::marker::Model;
 
 /// Whether an entry is left behind one that was passed: it counts, and has another key.

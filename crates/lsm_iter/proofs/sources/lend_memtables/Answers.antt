@@ -1,7 +1,7 @@
 use Rattle.std.proofs.Common.{map, subst, arith}
 use Rattle.std.proofs.lemmas.List.{take_all}
 use Rattle.lsm_iter.specs.Reads.{at}
-use Rattle.lsm_iter.specs.Puts.{AddsCursors}
+use Rattle.lsm_iter.specs.Puts.{PutsCursors}
 use Rattle.lsm_iter.proofs.Puts.{memtable_lent}
 use Rattle.lsm_iter.proofs.sources.lend_memtables.Goals as goal
 
@@ -12,5 +12,5 @@ loop-memtable-preserved c =
 
 pub returns : goal.returns
 returns c =
-    subst (λ ms. AddsCursors c.args.bounds.now.0 c.args.bounds.now.1 (map (λ m. at c.args.below m.now.entries) ms) 0 c.args.lenders.now.items c.loop-memtable.lenders.items)
+    subst (λ ms. PutsCursors c.args.bounds.now.0 c.args.bounds.now.1 (map (λ m. at c.args.below m.now.entries) ms) 0 c.args.lenders.now.items c.loop-memtable.lenders.items)
     (take_all c.loop-memtable.memtable-index c.args.memtables.now (omega (arith, c.loop-memtable-test.false))) c.loop-memtable.invariant

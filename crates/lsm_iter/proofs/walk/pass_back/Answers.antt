@@ -4,8 +4,7 @@ use Rattle.lsm_below.specs.Sorted.{Rises}
 use Rattle.lsm_iter.specs.Reads.{at}
 use Rattle.lsm_iter.specs.Left.{tops}
 use Rattle.lsm_iter.proofs.Rises.{rises_left}
-use Rattle.lsm_iter.proofs.Lents.{dropped_more}
-use Rattle.lsm_iter.proofs.Walks.{seen_back, back_step, back_end}
+use Rattle.lsm_iter.proofs.Walks.{dropped_more, seen_back, back_step, back_end}
 use Rattle.lsm_iter.proofs.walk.pass_back.Goals as goal
 
 pub returns-then-not-is_hidden-clause-trims : goal.returns-then-not-is_hidden-clause-trims

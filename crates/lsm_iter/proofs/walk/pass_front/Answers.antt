@@ -1,7 +1,7 @@
 use Rattle.std.proofs.Common.{◌∷◌, ◌++◌, [], filter, option_copied, sym, ap, ◌∙◌}
 use Rattle.lsm_iter.specs.Cursors.{firsts_after}
 use Rattle.lsm_iter.specs.Trims.{counts}
-use Rattle.lsm_iter.proofs.Lents.{front_step, passed_more}
+use Rattle.lsm_iter.proofs.Walks.{front_step, passed_more}
 use Rattle.lsm_iter.proofs.walk.pass_front.Goals as goal
 
 pub loop-next-preserved : goal.loop-next-preserved

@@ -2,7 +2,7 @@ use Rattle.std.proofs.Common.{◌∷◌, ◌++◌, [], sym, ap, ◌∙◌, subst
 use Rattle.lsm_below.specs.Entries.{entry_cmp}
 use Rattle.lsm_below.specs.Sorted.{Rises}
 use Rattle.lsm_iter.proofs.Rises.{rises_left}
-use Rattle.lsm_iter.proofs.Lents.{past_last}
+use Rattle.lsm_iter.proofs.Walks.{past_last}
 use Rattle.lsm_iter.proofs.walk.skip_back.Goals as goal
 
 pub pass_back-requires : goal.pass_back-requires

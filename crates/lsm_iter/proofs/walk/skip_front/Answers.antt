@@ -2,7 +2,7 @@ use Rattle.std.proofs.Common.{◌∷◌, sym, ap, ◌∙◌, subst}
 use Rattle.lsm_below.specs.Entries.{entry_cmp}
 use Rattle.lsm_below.specs.Sorted.{Rises}
 use Rattle.lsm_iter.proofs.Rises.{rises_right}
-use Rattle.lsm_iter.proofs.Lents.{past_first}
+use Rattle.lsm_iter.proofs.Walks.{past_first}
 use Rattle.lsm_iter.proofs.walk.skip_front.Goals as goal
 
 pub returns-clause-takes : goal.returns-clause-takes

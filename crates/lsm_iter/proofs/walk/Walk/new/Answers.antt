@@ -2,7 +2,7 @@ use Rattle.std.proofs.Common.{subst}
 use Rattle.lsm_below.specs.Entries.{entry_cmp}
 use Rattle.lsm_below.specs.Sorted.{Rises}
 use Rattle.lsm_iter.proofs.Rises.{rises_left, rises_right}
-use Rattle.lsm_iter.proofs.Lents.{both_trimmed}
+use Rattle.lsm_iter.proofs.Walks.{both_trimmed}
 use Rattle.lsm_iter.proofs.walk.Walk.new.Goals as goal
 
 pub pass_back-requires : goal.pass_back-requires
