@@ -8,8 +8,8 @@ ghost use Rattle.lsm_below.specs.Streams.{IsInOrder};
 
 use crate::samples::{T, V, W, entry};
 use lsm_below::{
-    AsEntry, CompactionStream, InternalValue, ListSource, Merger, MvccStream, SeqNo, Source, ValueType,
-    compact,
+    AsEntry, CompactionStream, InternalValue, ListSource, Merger, MvccStream, SeqNo, Source,
+    ValueType, compact,
 };
 use std::alloc::{AllocError, Global};
 use std::test::Fail;
