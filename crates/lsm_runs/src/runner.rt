@@ -221,7 +221,7 @@ fn get<S: Store>(
 {
     match state.get(key.as_slice(), snapshot) {
         Ok(value) => {
-            let read = read_entry(snapshot, key, &value)?;
+            let read = read_entry(snapshot, share(key)?, &value)?;
             let entries = one_entry(alloc, read)?;
             Ok(Outcome {
                 reply: Reply::Value(value),
