@@ -18,7 +18,7 @@ use Rattle.lsm_recorded.specs.declared.notes.Note.{Note}
 use Rattle.lsm_recorded.specs.Marks.{mark_in, mark_allows, marked_by, marked_all, mark_tells_order, op_type, op_allowed}
 use Rattle.lsm_recorded.specs.Order.{keeps_order, batch_keeps_order}
 use Rattle.lsm_recorded.specs.Notes.{journal_entry, pass_entry, HaveNumber, HaveMarks, HasRoom}
-use Rattle.lsm_recorded.proofs.MarksLemmas.{order_told, marked_by_same, marked_all_same}
+use Rattle.lsm_recorded.proofs.MarksLemmas.{order_told, marked_by_same}
 
 -- ---- the test of order
 
@@ -113,7 +113,3 @@ journal_entries (x ∷ notes) = ap (λ l. Write x.entry ∷ l) (journal_entries 
 pub pass_entries : (notes : List Note) → map pass_entry notes ≡ map Write (map (λ (n : Note). n.copy) notes)
 pass_entries [] = refl
 pass_entries (x ∷ notes) = ap (λ l. Write x.copy ∷ l) (pass_entries notes)
-
--- the marks after a batch, for which room was made first
-pub batch_marks : (f g h : Bytes → Mark) (es fs : List Entry) → es ≡ fs → ((q : Bytes) → g q ≡ f q) → ((q : Bytes) → h q ≡ marked_all es g q) → (q : Bytes) → h q ≡ marked_all fs f q
-batch_marks f g h es fs is same after q = after q ∙ ap (λ l. marked_all l g q) is ∙ marked_all_same g f fs same q

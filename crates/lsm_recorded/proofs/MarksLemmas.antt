@@ -1,5 +1,5 @@
 -- Marks agree with the journal.
-use Rattle.std.proofs.Common.{Option, None, is_some, ◌≡◌, ℕ, zero, suc, not, ◌==◌, ◌+◌, ◌<◌, ◌≤◌, max, min, Bool, true, false, cond, ◌&&◌, ◌||◌, nat_lt, nat_le, List, [], ◌∷◌, ◌++◌, Some, unwrap_or, refl, sym, ap, ◌∙◌, subst, arith, map, append-nil, append_assoc, ltb-true}
+use Rattle.std.proofs.Common.{Option, ◌≡◌, ℕ, zero, suc, not, ◌==◌, ◌+◌, ◌<◌, ◌≤◌, max, min, Bool, true, false, cond, ◌&&◌, ◌||◌, nat_lt, nat_le, List, [], ◌∷◌, ◌++◌, Some, unwrap_or, refl, sym, ap, ◌∙◌, subst, arith, map, append-nil, append_assoc, ltb-true}
 use Rattle.std.specs.List.{list_any, list_all}
 use Rattle.std.proofs.lemmas.Bool.Decides.{nat_tests}
 use Rattle.std.specs.BTreeMap as tree
@@ -91,14 +91,6 @@ neither false b h = (refl, h)
 pub floor-writes : (es : List Entry) (journal : List Event) → floor (journal ++ map Write es) ≡ floor journal
 floor-writes [] journal = ap floor (append-nil journal)
 floor-writes (e ∷ es) journal = ap floor (sym (append_assoc journal (Write e ∷ []) (map Write es))) ∙ floor-writes es (journal ++ Write e ∷ []) ∙ floor-write journal e
-
--- a key that isn't there has no mark
-pub no_mark_of : (marks : BTreeMap Bytes Mark) (k : Bytes) (b : Bool) → b ≡ is_some (tree.get bytes_cmp marks k) → b ≡ false → no_mark ≡ mark_of marks k
-no_mark_of marks k b is absent = go (tree.get bytes_cmp marks k) (sym is ∙ absent)
-  where
-    go : (o : Option Mark) → is_some o ≡ false → no_mark ≡ unwrap_or o no_mark
-    go None h = refl
-    go (Some m) h = absurd (cc h)
 
 -- the mark that is there is the key's
 pub mark_there : (marks : BTreeMap Bytes Mark) (k : Bytes) (m : Mark) → Some m ≡ tree.get bytes_cmp marks k → m ≡ mark_of marks k

@@ -2,7 +2,6 @@ use Rattle.std.proofs.Common.{◌≡◌, ◌&&◌, true, ap, sym, subst, ◌∙�
 use Rattle.std.proofs.lemmas.List.{get_or_default}
 use Rattle.std.proofs.lemmas.List.Folds.{list_all_more}
 use Rattle.std.specs.BTreeMap as tree
-use Rattle.std.specs.List.{list_all}
 use borrow.Author.Count.{below_more}
 use Rattle.lsm_below.specs.Keys.{Bytes, bytes_cmp}
 use Rattle.lsm_model.specs.declared.op.Op.{Op}
