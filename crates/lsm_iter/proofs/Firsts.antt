@@ -1,5 +1,5 @@
 -- The newest entry of each key, of entries in order.
-use Rattle.std.proofs.Common.{◌≡◌, ℕ, ◌≤◌, append_assoc, true, false, Bool, not, cond, ◌&&◌, List, [], ◌∷◌, ◌++◌, length, filter, Option, Some, None, refl, sym, ap, ◌∙◌, subst, arith, ltb}
+use Rattle.std.proofs.Common.{◌≡◌, ℕ, ◌≤◌, true, false, cond, ◌&&◌, List, [], ◌∷◌, length, Option, Some, None, refl, sym, ap, ◌∙◌, subst, arith, ltb}
 use Rattle.std.specs.List.{All, AllByRecursion}
 use Rattle.std.proofs.lemmas.Bool.{le-ltb}
 use Rattle.std.proofs.lemmas.List.Elements.{All-from_recursion, All-contains, All-filter, All-cons, All-head, All-tail, recursion_from_All, filter_passes}
@@ -13,12 +13,10 @@ use Rattle.std.specs.declared.ops.Bound.{Bound}
 use Rattle.lsm_below.specs.Laws.{EntriesAreOrdered, MergesByKey}
 use Rattle.lsm_iter.specs.Shown.{by_key, IsNewestOf}
 use Rattle.lsm_iter.specs.Reads.{Part, at, counted, cut}
-use Rattle.lsm_iter.specs.Left.{tops, copied, newest_in, last_item}
-use Rattle.lsm_iter.specs.Cursors.{firsts_after, repeats}
+use Rattle.lsm_iter.specs.Left.{tops, copied, newest_in}
 use Rattle.lsm_iter.proofs.Rises.{rises_filter}
 use Rattle.lsm_iter.proofs.Shown.{ascends, lowers, rises_keys}
 use Rattle.lsm_iter.proofs.Newest.{newest_is}
-use Rattle.lsm_iter.proofs.Alone.{last_push}
 
 -- of entries in order, none of which is newer than the first, that is the newest
 first_newest : (x : Entry) (xs : List Entry) → AllByRecursion (λ f. f.key.seqno ≤ x.key.seqno) xs → Some x ≡ later x (newest_in xs)

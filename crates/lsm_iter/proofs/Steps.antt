@@ -1,5 +1,5 @@
 -- A step of one cursor, and of the one with the outermost key.
-use Rattle.std.proofs.Common.{◌≡◌, ◌≢◌, ℕ, ◌<◌, ◌≤◌, Bool, true, false, cond, Option, None, Some, is_some, Result, Ok, Err, OnErr, List, [], ◌∷◌, MatchOption, option_to_list, filter, get_or, set, length, refl, sym, ap, ◌∙◌, subst, arith}
+use Rattle.std.proofs.Common.{◌≡◌, ◌≢◌, ℕ, ◌<◌, ◌≤◌, true, cond, Option, None, Some, Result, Ok, Err, OnErr, List, [], ◌∷◌, MatchOption, option_to_list, filter, get_or, set, length, refl, sym, ap, ◌∙◌, subst, arith}
 use Rattle.std.proofs.lemmas.List.{get_or_default}
 use Rattle.lsm_below.specs.Entries.{Entry, is_value}
 use Rattle.lsm_below.specs.Sorted.{Rises}

@@ -9,7 +9,7 @@ ghost use Rattle.lsm_iter.specs.Left.{end_item, copied, Takes};
 
 use crate::End;
 use crate::trim::{hidden_len, left_len, outermost, past_back, past_front};
-use lsm_below::{InternalValue, SeqNo, UserKey, places_within};
+use lsm_below::{InternalValue, SeqNo, UserKey};
 use lsm_tables::Table;
 use std::marker::Model;
 use std::ops::Bound;
@@ -49,7 +49,7 @@ impl<'a> Cut<'a> {
     {
         table.facts();
         let entries = table.entries();
-        let (start, end) = places_within(entries, &bounds.0, &bounds.1);
+        let (start, end) = table.places(&bounds.0, &bounds.1);
         let low = start + hidden_len(&entries[start..end], below);
         let high = low + left_len(&entries[low..end], below);
         Cut {

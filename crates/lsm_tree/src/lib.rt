@@ -75,6 +75,7 @@ pub use lsm_iter::End;
 pub use lsm_iter::Guard;
 pub use lsm_iter::IterGuard;
 pub use lsm_iter::IterState;
+pub use lsm_iter::Pairs;
 pub use lsm_iter::RangeItem;
 pub use lsm_iter::TreeIter;
 pub use lsm_iter::prefix_to_range;
