@@ -6,9 +6,7 @@ ghost use Rattle.lsm_tables.specs.Cutting.{IsWritable};
 ghost use Rattle.lsm_jobs.specs.Jobs.{entries_in, first_source, kept_in, KeptOf, AreWritable};
 
 use crate::{MemtableSource, SealedMemtable};
-use lsm_below::{
-    AsEntry, Error, InternalValue, SeqNo, Source, all_is_kept, compact, has_same_key,
-};
+use lsm_below::{AsEntry, Error, InternalValue, SeqNo, Source, all_is_kept, compact, has_same_key};
 use lsm_memtable::{Iter, Memtable};
 use lsm_tables::{Parts, kept_is_writable};
 use std::alloc::{AllocError, Global};
