@@ -132,9 +132,9 @@ fn pair_weight(pair: (&UserKey, &UserValue)) -> u64 {
 }
 
 /// The sum over all pairs.
-fn sum_pairs(mut pairs: Pairs<'_>) -> u64 {
+fn sum_pairs(pairs: Pairs<'_>) -> u64 {
     let mut sum = 0u64;
-    while let Some(pair) = pairs.next() {
+    for pair in pairs {
         sum = sum.wrapping_add(pair_weight(pair));
     }
     sum
@@ -159,9 +159,8 @@ fn lend_all<S: Store>(tree: &TreeState<S>, snapshot: SeqNo) -> Result<u64, Error
 
 fn lend_back<S: Store>(tree: &TreeState<S>, snapshot: SeqNo) -> Result<u64, Error> {
     let bounds = (Bound::Unbounded, Bound::Unbounded);
-    let mut pairs = tree.pairs(&bounds, snapshot, None)?;
     let mut sum = 0u64;
-    while let Some(pair) = pairs.next_back() {
+    for pair in tree.pairs(&bounds, snapshot, None)?.rev() {
         sum = sum.wrapping_add(pair_weight(pair));
     }
     Ok(sum)

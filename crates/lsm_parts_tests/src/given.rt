@@ -1,6 +1,6 @@
 // How several tests look at what iterators give.
-use lsm_below::{InternalValue, SeqNo};
-use lsm_iter::{Guard, IterGuard, TreeIter};
+use lsm_below::{InternalValue, SeqNo, UserKey, UserValue};
+use lsm_iter::{Guard, IterGuard, Pairs, TreeIter};
 use lsm_parts::Error;
 use std::alloc::Global;
 
@@ -62,6 +62,35 @@ pub fn listed(alloc: Global, iter: Result<TreeIter, Error>) -> Result<Vec<u8>, E
         found.extend_from_slice(value.as_slice())?;
     }
     Ok(found)
+}
+
+/// The keys and values that are lent, one after the other.
+pub fn lent(alloc: Global, pairs: Result<Pairs<'_>, Error>) -> Result<Vec<u8>, Error> {
+    let pairs = pairs?;
+    let mut found = Vec::new(alloc);
+    for (key, value) in pairs {
+        found.extend_from_slice(key.as_slice())?;
+        found.extend_from_slice(value.as_slice())?;
+    }
+    Ok(found)
+}
+
+/// Whether pairs lend these two keys from their ends, the last one first.
+pub fn lends_ends(pairs: Result<Pairs<'_>, Error>, first: &str, last: &str) -> bool {
+    let Ok(mut pairs) = pairs else {
+        return false;
+    };
+    let back = pairs.next_back();
+    let front = pairs.next();
+    has_key(back, last) && has_key(front, first)
+}
+
+/// Whether a pair of this key was lent: none where the name is empty.
+fn has_key(pair: Option<(&UserKey, &UserValue)>, name: &str) -> bool {
+    match pair {
+        Some((key, _)) => key.as_slice() == name.as_bytes(),
+        None => name.is_empty(),
+    }
 }
 
 /// Whether the bytes are those of this text.

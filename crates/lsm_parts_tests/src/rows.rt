@@ -1,6 +1,6 @@
 // Rows of a script on a tree: calls with what they answer, and looks at what it shows and counts.
-use crate::given::{Turn, gives, is, listed, takes};
-use crate::samples::{Bounds, Edge, OVER_A_B, bounds, filled};
+use crate::given::{Turn, gives, is, lends_ends, lent, listed, takes};
+use crate::samples::{ALL, Bounds, Edge, OVER_A_B, bounds, filled};
 use crate::steps::{Step, Told, take};
 use lsm_below::{MemtableId, SeqNo};
 use lsm_parts::{Error, VersionId};
@@ -141,7 +141,11 @@ fn has_ends(tree: &TreeState, snapshot: SeqNo, first: &str, last: &str) -> bool 
         tree.first_key_value(snapshot, None),
         tree.last_key_value(snapshot, None),
     ) {
-        (Ok(found_first), Ok(found_last)) => gives(found_first, first) && gives(found_last, last),
+        (Ok(found_first), Ok(found_last)) => {
+            gives(found_first, first)
+                && gives(found_last, last)
+                && lends_ends(tree.pairs(&ALL, snapshot, None), first, last)
+        }
         _ => false,
     }
 }
@@ -154,6 +158,7 @@ fn lists_range(alloc: Global, tree: &TreeState, bounds: &Bounds, at: SeqNo, text
             listed(alloc, tree.create_internal_range(bounds, at, None)),
             text,
         )
+        && is(lent(alloc, tree.pairs(bounds, at, None)), text)
 }
 
 /// Whether each call for a prefix gives these.
@@ -163,6 +168,9 @@ fn lists_prefix(alloc: Global, tree: &TreeState, prefix: &str, at: SeqNo, text: 
         text,
     ) && is(
         listed(alloc, tree.create_prefix(prefix.as_bytes(), at, None)),
+        text,
+    ) && is(
+        lent(alloc, tree.pairs_with_prefix(prefix.as_bytes(), at, None)),
         text,
     )
 }
@@ -175,6 +183,10 @@ fn lists_under(alloc: Global, tree: &TreeState, number: SeqNo, at: SeqNo, text: 
     is(listed(alloc, tree.iter(at, Some((&index, number)))), text)
         && is(
             listed(alloc, tree.create_iter(at, Some((&index, number)))),
+            text,
+        )
+        && is(
+            lent(alloc, tree.pairs(&ALL, at, Some((&index, number)))),
             text,
         )
 }

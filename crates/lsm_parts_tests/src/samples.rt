@@ -6,6 +6,9 @@ use std::ops::Bound;
 
 pub type Bounds = (Bound<UserKey>, Bound<UserKey>);
 
+/// All keys.
+pub const ALL: Bounds = (Bound::Unbounded, Bound::Unbounded);
+
 /// The number of what an index holds.
 pub const INDEX: SeqNo = 9_223_372_036_854_775_808;
 
