@@ -3,9 +3,9 @@ use Rattle.std.specs.List.{list_any}
 use Rattle.std.specs.BTreeSet.{contains}
 use Rattle.std.specs.Borrow.{Bor}
 use Rattle.lsm_below.specs.Keys.{Bytes, is_same}
-use Rattle.lsm_state.proofs.Repeats.{keys_cmp}
-use Rattle.lsm_state.specs.Refusals.{repeats, keys_of}
-use Rattle.lsm_state.proofs.writes.has_repeats.Given as goal
+use Rattle.lsm_model.proofs.Doubled.{keys_cmp}
+use Rattle.lsm_model.specs.Ops.{repeats, keys_of}
+use Rattle.lsm_model.proofs.repeats.has_repeats.Given as goal
 
 abbrev pub invariant-loop-key : goal.invariant-loop-key
 invariant-loop-key l = record {

@@ -7,7 +7,7 @@ use Rattle.lsm_model.specs.declared.op.Op.{Op}
 use Rattle.std.specs.declared.cmp.Ordering.{Ordering}
 use Rattle.lsm_below.specs.Orders.{same_swap}
 use Rattle.lsm_below.specs.Keys.{Bytes, bytes_cmp, is_same}
-use Rattle.lsm_state.specs.Refusals.{repeats, keys_of}
+use Rattle.lsm_model.specs.Ops.{repeats, keys_of}
 
 -- the order of keys that are borrowed
 abbrev pub keys_cmp : Bor Bytes → Bor Bytes → Ordering

@@ -2,9 +2,9 @@ use Rattle.std.proofs.Common.{◌≡◌, ◌+◌, true, false, take, drop, sym, 
 use Rattle.std.specs.List.{list_any}
 use Rattle.std.specs.BTreeSet.{contains}
 use Rattle.lsm_below.specs.Keys.{is_same}
-use Rattle.lsm_state.specs.Refusals.{repeats, keys_of}
-use Rattle.lsm_state.proofs.Repeats.{keys_cmp, grown, still_once, comes_twice, keys_more, keys_whole, few_once}
-use Rattle.lsm_state.proofs.writes.has_repeats.Goals as goal
+use Rattle.lsm_model.specs.Ops.{repeats, keys_of}
+use Rattle.lsm_model.proofs.Doubled.{keys_cmp, grown, still_once, comes_twice, keys_more, keys_whole, few_once}
+use Rattle.lsm_model.proofs.repeats.has_repeats.Goals as goal
 
 pub returns-then-not-is_new : goal.returns-then-not-is_new
 returns-then-not-is_new c =
