@@ -34,9 +34,14 @@ front number count = 76 ∷ 83 ∷ 77 ∷ 76 ∷ [] ++ little_bytes 8 number ++ 
 abbrev pub spelling : ℕ → Batch → Bytes
 spelling number ops = front number (length ops) ++ flat_map spelled ops
 
+-- an operation within the widths
+pub record OpFits (p : Bytes × Op) : Type 0 where
+  pub key : length p.0 < 2 ^ 16
+  pub value : length (op_value p.1) < 2 ^ 32
+
 -- what a record can spell: its entries fit files, and no key comes twice
 pub record IsBatch (number : ℕ) (ops : Batch) : Type 0 where
-  pub number : number < 2 ^ 64
+  pub number_fits : number < 2 ^ 64
   pub count : length ops < 2 ^ 32
   pub each : AllByRecursion Fits (op_entries number ops)
   pub once : repeats (keys_of ops) ≡ false
@@ -44,7 +49,7 @@ pub record IsBatch (number : ℕ) (ops : Batch) : Type 0 where
 -- the bytes are the record of this batch under this sequence number
 pub record IsRecordOf (number : ℕ) (ops : Batch) (bytes : Bytes) : Type 0 where
   pub batch : IsBatch number ops
-  pub spelled : bytes ≡ spelling number ops
+  pub written : bytes ≡ spelling number ops
 
 -- the bytes are no record
 abbrev pub IsNoRecord : Bytes → Type 0

@@ -1,9 +1,9 @@
 // Writing a record.
-ghost use Rattle.std.specs.Prelude.{◌≡◌, ◌<◌, ◌^◌, ◌++◌, false, length, OnOk, IfOk};
+ghost use Rattle.std.specs.Prelude.{◌≡◌, ◌++◌, false, OnOk, IfOk};
 ghost use Rattle.std.specs.List.{AllByRecursion};
 ghost use Rattle.lsm_tables.specs.Image.{Fits};
 ghost use Rattle.lsm_model.specs.Ops.{op_entries, op_value, keys_of, repeats};
-ghost use Rattle.lsm_log.specs.Records.{IsRecordOf, code_of, head, front, spelled, spelling};
+ghost use Rattle.lsm_log.specs.Records.{IsRecordOf, code_of, head, front, spelled, OpFits};
 
 use crate::layout::{
     COUNT_PLACE, DEL_CODE, FRONT_LEN, HEAD_LEN, MAGIC, NUMBER_PLACE, SET_CODE, TYPE_PLACE,
@@ -60,15 +60,15 @@ fn front_of(number: SeqNo, count: u32) -> [u8; FRONT_LEN]
     out
 }
 
-fn put_operation(out: &mut Vec<u8>, key: &UserKey, op: &Op) -> Result<(), AllocError>
-    requires key { length key.now < 2 ^ 16 }
-    requires value { length (op_value op.now) < 2 ^ 32 }
-    ensures { OnOk result (out.new.items ≡ out.old.items ++ spelled (key.now, op.now)) }
+fn put_operation(out: &mut Vec<u8>, operation: &(UserKey, Op)) -> Result<(), AllocError>
+    requires { OpFits operation.now }
+    ensures { OnOk result (out.new.items ≡ out.old.items ++ spelled operation.now) }
 {
-    let value = value_of(op);
-    let head = head_of(key.len() as u16, code_of(op), value.len() as u32);
+    let key = operation.0.as_slice();
+    let value = value_of(&operation.1);
+    let head = head_of(key.len() as u16, code_of(&operation.1), value.len() as u32);
     out.extend_from_slice(&head)?;
-    out.extend_from_slice(key.as_slice())?;
+    out.extend_from_slice(key)?;
     out.extend_from_slice(value)
 }
 
@@ -102,8 +102,8 @@ pub fn encode(alloc: Global, number: SeqNo, ops: &[(UserKey, Op)]) -> Result<Vec
     }
     let mut out = Vec::with_capacity(alloc, size_of(ops))?;
     out.extend_from_slice(&front_of(number, ops.len() as u32))?;
-    for (key, op) in ops {
-        put_operation(&mut out, key, op)?;
+    for operation in ops {
+        put_operation(&mut out, operation)?;
     }
     Ok(out)
 }
