@@ -1,1 +1,4 @@
 pub mod RecordSpells
+pub mod NameLemmas
+pub mod Listed
+pub mod Loaded

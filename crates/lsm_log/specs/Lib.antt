@@ -1,2 +1,4 @@
 pub mod Records
 pub mod RecordReading
+pub mod LogNames
+pub mod Logs

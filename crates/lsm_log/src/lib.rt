@@ -4,14 +4,25 @@
 //! |-|-|
 //! | `record`, `record_error` | what a record tells, and what reading one refuses |
 //! | `layout`, `writing`, `reading` | a record's bytes |
+//! | `names`, `kinds` | the names of records, and what a name is to a log |
+//! | `listing`, `log`, `loading` | which records a store has, and those that are read |
 #![tactic(auto)]
 
+mod kinds;
 mod layout;
+mod listing;
+mod loading;
+mod log;
+mod names;
 mod reading;
 mod record;
 mod record_error;
 mod writing;
 
+pub use kinds::LogName;
+pub use loading::read_log;
+pub use log::Log;
+pub use names::{RecordName, record_name};
 pub use reading::{decode, no_record_begins_another};
 pub use record::Record;
 pub use record_error::RecordError;
