@@ -2,3 +2,4 @@ pub mod RecordSpells
 pub mod NameLemmas
 pub mod Listed
 pub mod Loaded
+pub mod Changed

@@ -1,7 +1,7 @@
 -- Which records a store has, from its names.
-use Rattle.std.proofs.Common.{◌≡◌, ◌⊎◌, inl, inr, ⊎_elim, ℕ, zero, suc, ◌<◌, ◌^◌, Bool, true, false, List, [], ◌∷◌, ◌++◌, length, take, get_or, map, ◌+◌, Option, Some, None, refl, ap, sym, subst, ◌∙◌, arith}
+use Rattle.std.proofs.Common.{◌≡◌, ⊎_elim, ℕ, zero, suc, ◌<◌, Bool, true, false, List, [], ◌∷◌, ◌++◌, length, take, get_or, map, ◌+◌, Option, Some, None, refl, ap, sym, subst, ◌∙◌, arith}
 use Rattle.std.specs.Prelude.{◌↔◌, IsSome, Contains}
-use Rattle.std.specs.List.{list_any, filter_map, Any}
+use Rattle.std.specs.List.{list_any, filter_map}
 use Rattle.std.specs.List.Sorted.{IsStrictlyIncreasing}
 use Rattle.std.specs.String.{string_bytes}
 use Rattle.std.specs.declared.string.String.{String}
@@ -13,8 +13,6 @@ use Rattle.std.proofs.lemmas.List.Elements.{filter_map-append, Contains-append_r
 use Rattle.std.proofs.lemmas.List.Folds.{list_any-from_Any, Any-from_list_any}
 use Rattle.lsm_below.specs.Numbers.{PlainNumbersAreRead}
 use Rattle.lsm_store.specs.World.{Image, Lists}
-use Rattle.lsm_log.specs.declared.kinds.LogName.{LogName}
-use Rattle.lsm_log.specs.declared.kinds.LogName.TheVariants.{RecordFile, Refused}
 use Rattle.lsm_log.specs.LogNames.{record_name, kind_of, kind_is_refused, is_refused, kind_number, number_in}
 use Rattle.lsm_log.specs.Logs.{HasGoodNames, HasBadName, IsThere, AreNumbers}
 use Rattle.lsm_log.proofs.NameLemmas.{record_kind, kind_is, number_kind, refused_kind}

@@ -1,5 +1,5 @@
 -- Records that are read, and those below them.
-use Rattle.std.proofs.Common.{◌≡◌, ◌⊎◌, ⊎_elim, ℕ, zero, suc, ◌+◌, ◌-◌, ◌<◌, ◌≤◌, List, [], ◌∷◌, ◌++◌, length, take, drop, get_or, map, Some, None, refl, ap, sym, subst, ◌∙◌, arith}
+use Rattle.std.proofs.Common.{◌≡◌, ◌⊎◌, ⊎_elim, ℕ, zero, suc, ◌+◌, ◌<◌, ◌≤◌, List, [], ◌∷◌, ◌++◌, length, take, drop, get_or, map, ap, sym, subst, ◌∙◌, arith}
 use Rattle.std.specs.Prelude.{◌↔◌, Contains}
 use Rattle.std.specs.List.{All, AllByRecursion}
 use Rattle.std.specs.List.Sorted.{IsStrictlyIncreasing}
@@ -10,7 +10,7 @@ use Rattle.lsm_below.specs.Each.{each_append}
 use Rattle.lsm_store.specs.World.{Image, World, Same}
 use Rattle.lsm_store.specs.Moments.{image_same}
 use Rattle.lsm_log.specs.declared.record.Record.{Record}
-use Rattle.lsm_log.specs.Logs.{IsThere, AreNumbers, IsRecordAt, IsNoRecordAt, LacksOne, IsLogFrom, IsBadLog}
+use Rattle.lsm_log.specs.Logs.{IsThere, AreNumbers, IsRecordAt, IsLogFrom}
 
 -- ---- parts of numbers that rise
 
@@ -56,14 +56,16 @@ module _ (image : Image) (from at : ℕ) (ns : List ℕ) (are : AreNumbers image
   either k there = Contains-append_cases (take at ns) (drop at ns) k (subst (λ l. Contains l k) (sym (take-append-drop at ns)) ((are.each k).1 there))
 
   pub passed_are : (k : ℕ) → Contains (take at ns) k ↔ (IsThere image k × (k < from))
-  passed_are k =
-      (λ h. ((are.each k).0 (of_front k h), All-contains (λ x. x < from) (take at ns) k before h),
-       λ h. ⊎_elim (λ front. front) (λ back. let le : from ≤ k = All-contains (λ x. from ≤ x) (drop at ns) k behind back in absurd (omega (arith, le, h.1))) (either k h.0))
+  passed_are k = (
+    λ h. ((are.each k).0 (of_front k h), All-contains (λ x. x < from) (take at ns) k before h),
+    λ h. ⊎_elim (λ front. front) (λ back. let le : from ≤ k = All-contains (λ x. from ≤ x) (drop at ns) k behind back in absurd (omega (arith, le, h.1))) (either k h.0),
+  )
 
   pub read_are : (k : ℕ) → Contains (drop at ns) k ↔ (IsThere image k × (from ≤ k))
-  read_are k =
-      (λ h. ((are.each k).0 (of_back k h), All-contains (λ x. from ≤ x) (drop at ns) k behind h),
-       λ h. ⊎_elim (λ front. let lt : k < from = All-contains (λ x. x < from) (take at ns) k before front in absurd (omega (arith, lt, h.1))) (λ back. back) (either k h.0))
+  read_are k = (
+    λ h. ((are.each k).0 (of_back k h), All-contains (λ x. from ≤ x) (drop at ns) k behind h),
+    λ h. ⊎_elim (λ front. let lt : k < from = All-contains (λ x. x < from) (take at ns) k before front in absurd (omega (arith, lt, h.1))) (λ back. back) (either k h.0),
+  )
 
   pub log_is : (passed : List ℕ) (records : List Record) → passed ≡ take at ns → map (λ (r : Record). r.number) records ≡ drop at ns → AllByRecursion (λ (r : Record). IsRecordAt image r.number r) records → IsLogFrom image from passed records
   log_is passed records front back each = record {

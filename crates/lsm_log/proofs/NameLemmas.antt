@@ -1,5 +1,5 @@
 -- What names are to a log.
-use Rattle.std.proofs.Common.{◌≡◌, ◌≢◌, ℕ, ◌<◌, ◌^◌, Bool, true, false, ◌||◌, cond, ltb, List, [], ◌∷◌, ◌++◌, take, drop, Option, Some, None, refl, ap, sym, subst, ◌∙◌, codes, decimal, arith}
+use Rattle.std.proofs.Common.{◌≡◌, ℕ, ◌<◌, ◌^◌, Bool, true, false, ◌||◌, cond, ltb, List, [], ◌∷◌, ◌++◌, take, drop, Option, Some, None, refl, ap, sym, subst, ◌∙◌, codes, decimal, arith}
 use Rattle.std.specs.Prelude.{bytes_eq, nat_eq}
 use Rattle.std.specs.List.{starts_with}
 use Rattle.std.specs.Str.Parse.{AllDigits}
@@ -11,7 +11,7 @@ use Rattle.std.proofs.lemmas.Fmt.{decimal_is_IsNumeral, decimal_injective}
 use Rattle.lsm_below.specs.Numbers.{PlainNumbersAreRead, plain_number, plain_number-is}
 use Rattle.lsm_log.specs.declared.kinds.LogName.{LogName}
 use Rattle.lsm_log.specs.declared.kinds.LogName.TheVariants.{RecordFile, Skipped, Refused, Other}
-use Rattle.lsm_log.specs.LogNames.{record_name, numbered, kind_in_log, kind_of, kind_is_refused, is_refused, kind_number, number_in}
+use Rattle.lsm_log.specs.LogNames.{record_name, numbered, kind_in_log, kind_of, kind_is_refused, kind_number}
 
 pub names_apart : (i j : ℕ) → i < 2 ^ 64 → j < 2 ^ 64 → record_name i ≡ record_name j → i ≡ j
 names_apart i j a b e = decimal_injective i j a b (ap (drop 4) e)

@@ -83,7 +83,7 @@ fn read_each<S: Store>(
 }
 
 /// The place of the first number that isn't below this one.
-fn first_from(numbers: &[SeqNo], from: SeqNo) -> usize
+pub(crate) fn first_from(numbers: &[SeqNo], from: SeqNo) -> usize
     requires { IsStrictlyIncreasing numbers.now }
     ensures within { result ≤ length numbers.now }
     ensures before { All (λ k. k < from) (take result numbers.now) }

@@ -20,6 +20,7 @@ returns-clause-same c k =
     let old = c.args.numbers.items in
     let sorted = c.sort_unstable.new.self.items in
     let out = c.dedup.new.self.items in
-    let is : out ≡ dedup eqb sorted = dedup_is eqb sorted out c.dedup.ensures.filtered in
-    (λ at. Contains-permutation sorted old k (IsPermutation-sym old sorted c.sort_unstable.ensures.permutation) (Contains-from_dedup eqb sorted k (subst (λ (l : List ℕ). Contains l k) is at)),
-     λ at. subst (λ (l : List ℕ). Contains l k) (sym is) (Contains-dedup_nat sorted k (Contains-permutation old sorted k c.sort_unstable.ensures.permutation at)))
+    let is : out ≡ dedup eqb sorted = dedup_is eqb sorted out c.dedup.ensures.filtered in (
+      λ at. Contains-permutation sorted old k (IsPermutation-sym old sorted c.sort_unstable.ensures.permutation) (Contains-from_dedup eqb sorted k (subst (λ (l : List ℕ). Contains l k) is at)),
+      λ at. subst (λ (l : List ℕ). Contains l k) (sym is) (Contains-dedup_nat sorted k (Contains-permutation old sorted k c.sort_unstable.ensures.permutation at)),
+    )

@@ -1,4 +1,4 @@
-use Rattle.std.proofs.Common.{◌<◌, ◌≤◌, ℕ, arith}
+use Rattle.std.proofs.Common.{◌<◌, ℕ}
 use Rattle.std.proofs.lemmas.List.Elements.{All-more}
 use Rattle.lsm_log.proofs.Loaded.{none_below}
 use Rattle.lsm_log.proofs.loading.first_from.Goals as goal

@@ -1,5 +1,4 @@
-use Rattle.std.proofs.Common.{◌≡◌, ◌∙◌, ℕ, List, map, take, get_or, Err, refl, sym, ap, subst, rules}
-use Rattle.std.specs.Prelude.{IsErrOf, Contains}
+use Rattle.std.proofs.Common.{◌≡◌, ◌∙◌, ℕ, map, get_or, Err, refl, sym, ap, subst, rules}
 use Rattle.std.specs.List.{AllByRecursion}
 use Rattle.std.proofs.lemmas.Result.{err_from_is_err_and}
 use Rattle.std.proofs.lemmas.List.Elements.{Contains-get_or}
