@@ -3,3 +3,4 @@ pub mod NameLemmas
 pub mod Listed
 pub mod Loaded
 pub mod Changed
+pub mod BesideTree

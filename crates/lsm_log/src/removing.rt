@@ -5,11 +5,12 @@ ghost use Rattle.lsm_store.specs.World.{LeavesOnly, OldOr};
 ghost use Rattle.lsm_store.specs.Synced.{Leaves};
 ghost use Rattle.lsm_log.specs.LogNames.{record_name};
 ghost use Rattle.lsm_log.specs.Logs.{CountsFaults};
-ghost use Rattle.lsm_log.specs.Changes.{IsBelow, ClearsRecords, AreCleared};
+ghost use Rattle.lsm_log.specs.Changes.{IsBelow, ClearsRecords, AreCleared, Spares};
 
 use crate::loading::first_from;
 use crate::record_name;
 use lsm_below::{Error, SeqNo};
+use lsm_manifest::names_are_apart;
 use lsm_store::{Store, StoreError};
 
 fn remove_record<S: Store>(store: &mut S, number: SeqNo) -> Result<(), Error>
@@ -60,9 +61,12 @@ pub fn remove_below<S: Store>(store: &mut S, from: SeqNo, numbers: &[SeqNo]) -> 
     ensures gone { S.tells → OnOk result ((k : ℕ) → Contains numbers.now k → k < from → (S.world store.new).gives (record_name k) ≡ None) }
     ensures clears { S.tells → ClearsRecords (IsBelow from) (S.world store.old) (S.world store.new) }
     ensures any_moment { S.tells → LeavesOnly (S.world store.old) (S.world store.new) (AreCleared (IsBelow from) (S.world store.old)) }
+    // What is stored of a tree beside them stays so.
+    ensures stored { S.tells → Spares (S.world store.old) (S.world store.new) }
     ensures only { IfErr result (λ e. e ≡ Error.Store) }
     ensures counts { CountsFaults (S.world store.old) (S.world store.new) result }
 {
+    names_are_apart();
     let at = first_from(numbers, from);
     remove_each(store, before(numbers, at))
 }

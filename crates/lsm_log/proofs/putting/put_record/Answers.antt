@@ -1,15 +1,9 @@
-use Rattle.std.proofs.Common.{◌≡◌, ◌∙◌, List, ℕ, Some, subst}
-use Rattle.lsm_store.specs.World.{Only, OldOr, Changes}
-use Rattle.lsm_log.specs.LogNames.{record_name}
-use Rattle.lsm_log.proofs.Changed.{put_leaves}
+use Rattle.lsm_log.proofs.BesideTree.{TreeKinds, put_spares}
 use Rattle.lsm_log.proofs.putting.put_record.Goals as goal
 
-pub returns-in-Ok-clause-any_moment : goal.returns-in-Ok-clause-any_moment
-returns-in-Ok-clause-any_moment g c tells =
+pub returns-clause-stored : goal.returns-clause-stored
+returns-clause-stored g c tells =
     let w = g.S.Store.world in
-    let old = w c.args.store.now in
-    let new = w c.replace.new.self in
-    let bytes = c.args.content.now in
-    let name : c.as_str.result.now ≡ record_name c.args.number = c.as_str.ensures.value ∙ c.record_name.ensures in
-    put_leaves c.args.number bytes old new c.replace.result (g.met.S.Store.only_now tells c.args.store.now)
-    (subst (λ (m : List ℕ). Changes m (OldOr (old.may m) (Some bytes)) (Only (Some bytes)) (Some bytes) old new c.replace.result) name (c.replace.ensures.changes tells))
+    let n = c.names_are_apart.ensures in
+    let kinds : TreeKinds = record { version_kind = n.version_kind; table_kind = n.table_kind } in
+    put_spares kinds c.args.number c.args.content.now (w c.args.store.now) (w c.put_alone.new.store) (c.put_alone.ensures.puts tells).keeps (c.put_alone.ensures.any_moment tells)
