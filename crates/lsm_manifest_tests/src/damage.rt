@@ -1,7 +1,9 @@
 // A store with one damaged file: each cut, each changed byte and each doubled section. What is refused, and how, is
 // read off the formats.
 
-use crate::samples::{NO_TABLE, Sections, TABLE, Told, bytes_of, file, is_told, put_table};
+use crate::samples::{
+    FROM_0, NO_TABLE, Sections, TABLE, Told, bytes_of, file, is_told, newest, put_table,
+};
 use lsm_below::Error;
 use lsm_manifest::write_current;
 use lsm_parts::Config;
@@ -310,10 +312,10 @@ fn len_of(alloc: Global, store: &mut MemStore, name: &str) -> Result<usize, Stor
 }
 
 fn is_new(alloc: Global, store: &mut MemStore) -> Result<bool, StoreError> {
-    let version = bytes_of(alloc, &file(&NO_TABLE))?;
+    let version = bytes_of(alloc, &newest(&NO_TABLE, &FROM_0))?;
     Ok(
         store.list(alloc)?.len() == 2
-            && len_of(alloc, store, "v0")? == 141
+            && len_of(alloc, store, "v0")? == 166
             && len_of(alloc, store, "current")? == 25
             && store
                 .read(alloc, "v0")?

@@ -1,13 +1,16 @@
 // What is opened, what is removed, and each refusal.
 
 use crate::samples::{
-    NO_TABLE, ONE_TABLE, Sections, TABLE, Told, bytes_of, file, fill, has, is_told,
+    FROM_0, FROM_1, NO_TABLE, ONE_TABLE, Sections, TABLE, Told, bytes_of, file, fill, has, is_told,
+    newest,
 };
 use lsm_below::Error;
 use lsm_manifest::{
     get_current_version, open_files, persist_version, recover, table_name, version_name,
+    write_current,
 };
 use lsm_store::{Fault, MemStore, Store, StoreError};
+use lsm_tables::Checksum;
 use std::alloc::Global;
 use std::test::Fail;
 
@@ -53,11 +56,13 @@ fn is_refused(alloc: Global, store: &mut MemStore, wanted: Told) -> bool {
 
 fn new_tree(alloc: Global, store: &mut MemStore) -> Result<bool, Fail> {
     let opened = is_opened(alloc, store, 0, 0, 0)?;
-    let bytes = bytes_of(alloc, &file(&NO_TABLE))?;
+    let bytes = bytes_of(alloc, &newest(&NO_TABLE, &FROM_0))?;
+    let current = write_current(0, Checksum::of(&bytes).into_u128());
     Ok(
         opened
+            && bytes.len() == 166
             && has(alloc, store, "v0", Some(&bytes))?
-            && has(alloc, store, "current", Some(&FIRST))?
+            && has(alloc, store, "current", Some(&current))?
             && get_current_version(alloc, store)? == 0
             && is_opened(alloc, store, 0, 1, 0)?,
     )
@@ -224,9 +229,14 @@ fn persists(alloc: Global, store: &mut MemStore) -> Result<bool, Fail> {
     let persisted = persist_version(alloc, store, &opened.version);
     drop(opened);
     persisted?;
-    let bytes = bytes_of(alloc, &file(&ONE_TABLE))?;
+    let bytes = bytes_of(alloc, &newest(&ONE_TABLE, &FROM_1))?;
     let recovery = recover(alloc, store)?;
-    Ok(has(alloc, store, "v5", Some(&bytes))? && recovery.curr_version_id == 5)
+    Ok(
+        has(alloc, store, "v5", Some(&bytes))?
+            && bytes.len() == 203
+            && recovery.curr_version_id == 5
+            && recovery.log_from == Some(1),
+    )
 }
 
 #[test]

@@ -44,6 +44,23 @@ pub fn file(layout: &[u8]) -> Sections<'_> {
     }
 }
 
+/// The section of a log that is read from 0 on, and from 1 on.
+pub const FROM_0: [u8; 25] = *b"\x08log_from\x08\0\0\0\0\0\0\0\0\0\0\0\0\0\0\0";
+
+pub const FROM_1: [u8; 25] = *b"\x08log_from\x08\0\0\0\0\0\0\0\x01\0\0\0\0\0\0\0";
+
+/// A good file of the newest format with this layout, and the section that tells from which number a log is read.
+pub fn newest<'a>(layout: &'a [u8], from: &'a [u8]) -> Sections<'a> {
+    Sections {
+        format: 4,
+        tree: 0,
+        levels: 7,
+        filter: 0,
+        layout,
+        tail: from,
+    }
+}
+
 fn put(out: &mut Vec<u8>, head: &[u8], content: &[u8]) -> Result<(), AllocError> {
     out.extend_from_slice(head)?;
     out.extend_from_slice(content)
