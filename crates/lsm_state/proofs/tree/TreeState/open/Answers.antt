@@ -52,3 +52,8 @@ returns-in_err-found-clause-stands_for g c tells settled m stands =
 
 pub returns-clause-stored : goal.returns-clause-stored
 returns-clause-stored g c tells settled = c.open.ensures.stored tells c.args.store (c.in_ok-found.ensures.found tells) settled
+
+pub returns-in_err-found-clause-leaves : goal.returns-in_err-found-clause-leaves
+returns-in_err-found-clause-leaves g c tells =
+    let p = err_from_is_err_and c.from_residual.result c.from_residual.ensures.1 in
+    rw (p.1, p.2) (c.in_err-found.ensures.leaves tells)
