@@ -1,5 +1,5 @@
 -- What taking the least head leaves.
-use Rattle.std.proofs.Common.{◌≡◌, ℕ, ◌<◌, true, false, List, [], ◌∷◌, Option, Some, None, MatchOption, length, get_or, set, map, refl, sym, ap, ◌∙◌, arith}
+use Rattle.std.proofs.Common.{◌≡◌, ℕ, ◌<◌, true, false, List, [], ◌∷◌, Option, Some, None, MatchOption, length, get_or, set, map, option_map, refl, sym, ap, ◌∙◌, arith}
 use Rattle.std.specs.List.{IsFirstBest}
 use Rattle.std.specs.Cmp.{IsStrictWeakOrder}
 use Rattle.std.proofs.lemmas.List.{length-map, get_or-map, map-set}
@@ -45,9 +45,10 @@ module _ {S : Type 0} (f : S → List InternalValue) (h : S → Option InternalV
       let lt' : k < length slots = omega arith in
       ap (λ x. head_before (Some e) x) (heads_at k lt') ∙ ap (λ x. head_before x (h (get_or slots k d))) (sym is) ∙ best.2 k d lt
 
-  pub taken : (r : Option InternalValue) → r ≡ h (get_or slots b d) → ((e : InternalValue) → h (get_or slots b d) ≡ Some e → f (get_or slots b d) ≡ e ∷ f t) → MatchOption r (merged (map f slots) ≡ []) (λ e. merged (map f slots) ≡ e ∷ merged (map f (set slots b t)))
-  taken None is at = nothing_left (map f slots) (none_below None (sym is))
-  taken (Some e) is at =
+  pub taken : {I : Type 0} (shows : I → InternalValue) (r : Option I) → option_map shows r ≡ h (get_or slots b d) → ((e : InternalValue) → h (get_or slots b d) ≡ Some e → f (get_or slots b d) ≡ e ∷ f t) → MatchOption r (merged (map f slots) ≡ []) (λ x. merged (map f slots) ≡ shows x ∷ merged (map f (set slots b t)))
+  taken shows None is at = nothing_left (map f slots) (none_below None (sym is))
+  taken shows (Some x) is at =
+      let e = shows x in
       let lt : b < length (map f slots) = omega (arith, length-map slots f, best.0) in
       popped (map f slots) b e (f t) lt (get_or-map f slots b d [] best.0 ∙ at e (sym is)) (none_below (Some e) (sym is)) (all_above e (sym is))
       ∙ ap (λ ls. e ∷ merged ls) (sym (map-set f slots b t))

@@ -9,6 +9,7 @@ pub mod Greedy
 pub mod Sorted
 pub mod Sums
 pub mod Entries
+pub mod Heads
 pub mod Streams
 pub mod Slots
 pub mod Lookups

@@ -91,13 +91,13 @@ pub record Compacting : Type 0 where
   pub over : Bool
 
 -- a call's refusal, if it is one, is of these
-abbrev pub RefusesOnly : {E : Type 0} → (E → Type 0) → Option (Result Entry E) → Type 0
+abbrev pub RefusesOnly : {I E : Type 0} → (E → Type 0) → Option (Result I E) → Type 0
 RefusesOnly may None = Unit {0}
 RefusesOnly may (Some (Ok e)) = Unit {0}
 RefusesOnly may (Some (Err x)) = may x
 
--- one call: nothing, where nothing is left; the first of what is left; or a refusal, which ends the stream
-abbrev pub Gives : {E : Type 0} → Rest → Option (Result Entry E) → Rest → Type 0
-Gives s None t = (s.entries ≡ []) × (t ≡ ended)
-Gives s (Some (Ok e)) t = (s.over ≡ false) × (s.entries ≡ e ∷ t.entries) × (t.over ≡ false)
-Gives s (Some (Err x)) t = (s.over ≡ false) × (t ≡ ended)
+-- one call: nothing, where nothing is left; what shows the first of what is left; or a refusal, which ends the stream
+abbrev pub Gives : {I E : Type 0} → (I → Entry) → Rest → Option (Result I E) → Rest → Type 0
+Gives shows s None t = (s.entries ≡ []) × (t ≡ ended)
+Gives shows s (Some (Ok e)) t = (s.over ≡ false) × (s.entries ≡ shows e ∷ t.entries) × (t.over ≡ false)
+Gives shows s (Some (Err x)) t = (s.over ≡ false) × (t ≡ ended)

@@ -1,6 +1,6 @@
 // What a compaction keeps.
 
-ghost use Rattle.std.specs.Prelude.{IfErr, ◌≡◌, ◌≤◌, [], ◌∷◌, ◌++◌, length, false, IfOk, MatchOption, List, flat_map, map};
+ghost use Rattle.std.specs.Prelude.{IfErr, ◌≡◌, ◌≤◌, [], ◌∷◌, ◌++◌, length, false, IfOk, MatchOption, List, flat_map, map, option_map};
 ghost use Rattle.std.specs.List.{All};
 ghost use Rattle.std.specs.List.Sorted.{IsPermutation};
 ghost use Rattle.lsm_below.specs.declared.value.InternalValue.{InternalValue};
@@ -10,8 +10,8 @@ ghost use Rattle.lsm_below.specs.Streams.{Gives, RefusesOnly, IsInOrder, IsByKey
 ghost use Rattle.lsm_below.specs.Slots.{all_of, compacted, left_of, calls_left};
 
 use crate::merger::Merger;
-use crate::source::{Source, has_same_key, next_past, take_next};
-use crate::{InternalValue, SeqNo, ValueType};
+use crate::source::{AsEntry, Source, next_past, take_next};
+use crate::{SeqNo, ValueType};
 use std::alloc::{AllocError, Global};
 use std::marker::Model;
 
@@ -24,7 +24,7 @@ use std::marker::Model;
 /// ```
 #[derive(Drop)]
 pub struct CompactionStream<S: Source> {
-    pending: Option<InternalValue>,
+    pending: Option<S::Item>,
     source: S,
     watermark: SeqNo,
     evict: bool,
@@ -32,30 +32,34 @@ pub struct CompactionStream<S: Source> {
 }
 
 impl<S: Source> Model for CompactionStream<S> {
+    ghost use Rattle.std.specs.Prelude.{option_map};
     ghost use Rattle.lsm_below.specs.Streams.{Compacting};
     ghost use Rattle.lsm_below.specs.Slots.{all_of};
 
     ghost Value = { Compacting };
 
-    ghost view = { λ m. record { input = all_of m.pending (S.rest m.source).entries; watermark = m.watermark; evict = m.evict; over = m.over } };
+    ghost view = { λ m. record { input = all_of (option_map S.Item.shows m.pending) (S.rest m.source).entries; watermark = m.watermark; evict = m.evict; over = m.over } };
 }
 
 /// Whether an entry is dropped that has no older one of its key after it.
-fn drops_alone(entry: &InternalValue, evict: bool) -> bool
-    ensures { result ≡ goes_alone evict entry.now }
+fn drops_alone<I: AsEntry>(entry: &I, evict: bool) -> bool
+    ensures { result ≡ goes_alone evict (I.shows entry.now) }
 {
     evict
-        && match entry.key.value_type {
+        && match entry.as_entry().key.value_type {
             ValueType::Value => false,
             ValueType::Tombstone | ValueType::WeakTombstone => true,
         }
 }
 
 /// Whether an entry is dropped, where the next one of its key is below the watermark.
-fn drops_with(entry: &InternalValue, below: &InternalValue, evict: bool) -> bool
-    ensures { result ≡ goes_with evict entry.now below.now }
+fn drops_with<I: AsEntry>(entry: &I, below: &I, evict: bool) -> bool
+    ensures { result ≡ goes_with evict (I.shows entry.now) (I.shows below.now) }
 {
-    match (entry.key.value_type, below.key.value_type) {
+    match (
+        entry.as_entry().key.value_type,
+        below.as_entry().key.value_type,
+    ) {
         (ValueType::Tombstone, _) => evict,
         (ValueType::WeakTombstone, ValueType::Value) => true,
         _ => false,
@@ -65,22 +69,22 @@ fn drops_with(entry: &InternalValue, below: &InternalValue, evict: bool) -> bool
 /// Whether the entry is dropped, and what comes after it.
 fn judge<S: Source>(
     source: &mut S,
-    entry: &InternalValue,
+    entry: &S::Item,
     watermark: SeqNo,
     evict: bool,
-) -> Result<(bool, Option<InternalValue>), S::Error>
+) -> Result<(bool, Option<S::Item>), S::Error>
     ensures cause { IfErr result S.may_refuse }
     ensures kept { IfOk result
-        (λ r. compacted watermark evict (entry.now ∷ (S.rest source.old).entries) ≡ unless r.0 entry.now ++ compacted watermark evict (all_of r.1 (S.rest source.new).entries)) }
+        (λ r. compacted watermark evict (S.Item.shows entry.now ∷ (S.rest source.old).entries) ≡ unless r.0 (S.Item.shows entry.now) ++ compacted watermark evict (all_of (option_map S.Item.shows r.1) (S.rest source.new).entries)) }
     ensures shorter { IfOk result
-        (λ r. length (all_of r.1 (S.rest source.new).entries) ≤ length (S.rest source.old).entries) }
+        (λ r. length (all_of (option_map S.Item.shows r.1) (S.rest source.new).entries) ≤ length (S.rest source.old).entries) }
 {
     match next_past(source, true, entry)? {
         None => Ok((drops_alone(entry, evict), None)),
         Some(below) => {
-            if !has_same_key(entry, &below) {
+            if !entry.has_same_key(&below) {
                 Ok((drops_alone(entry, evict), Some(below)))
-            } else if below.key.seqno < watermark {
+            } else if below.as_entry().key.seqno < watermark {
                 let next = next_past(source, false, &below)?;
                 Ok((drops_with(entry, &below, evict), next))
             } else {
@@ -92,15 +96,15 @@ fn judge<S: Source>(
 
 /// The next entry that is kept.
 fn next_kept<S: Source>(
-    pending: &mut Option<InternalValue>,
+    pending: &mut Option<S::Item>,
     source: &mut S,
     watermark: SeqNo,
     evict: bool,
-) -> Option<Result<InternalValue, S::Error>>
+) -> Option<Result<S::Item, S::Error>>
     ensures cause { RefusesOnly S.may_refuse result }
     ensures entry { MatchOption result
-        (compacted watermark evict (all_of pending.old (S.rest source.old).entries) ≡ [])
-        (λ r. IfOk r (λ e. compacted watermark evict (all_of pending.old (S.rest source.old).entries) ≡ e ∷ compacted watermark evict (all_of pending.new (S.rest source.new).entries))) }
+        (compacted watermark evict (all_of (option_map S.Item.shows pending.old) (S.rest source.old).entries) ≡ [])
+        (λ r. IfOk r (λ e. compacted watermark evict (all_of (option_map S.Item.shows pending.old) (S.rest source.old).entries) ≡ S.Item.shows e ∷ compacted watermark evict (all_of (option_map S.Item.shows pending.new) (S.rest source.new).entries))) }
 {
     loop {
         let entry = match take_next(pending, source) {
@@ -199,6 +203,8 @@ pub fn compact<S: Source>(
 }
 
 impl<S: Source> Source for CompactionStream<S> {
+    type Item = S::Item;
+
     type Error = S::Error;
 
     ghost use Rattle.lsm_below.specs.Slots.{left_of};
@@ -207,7 +213,7 @@ impl<S: Source> Source for CompactionStream<S> {
 
     ghost may_refuse = { S.may_refuse };
 
-    fn next_entry(&mut self) -> Option<Result<InternalValue, S::Error>> {
+    fn next_entry(&mut self) -> Option<Result<S::Item, S::Error>> {
         if self.over {
             return None;
         }
@@ -231,13 +237,13 @@ impl<S: Source> Source for CompactionStream<S> {
 }
 
 impl<S: Source> Iterator for CompactionStream<S> {
-    type Item = Result<InternalValue, S::Error>;
+    type Item = Result<S::Item, S::Error>;
 
-    ghost next_gives = { λ s r t. Gives (left_of s) r (left_of t) × RefusesOnly S.may_refuse r };
+    ghost next_gives = { λ s r t. Gives S.Item.shows (left_of s) r (left_of t) × RefusesOnly S.may_refuse r };
 
     ghost remaining = { λ s. calls_left (left_of s) };
 
-    fn next(&mut self) -> Option<Result<InternalValue, S::Error>> {
+    fn next(&mut self) -> Option<Result<S::Item, S::Error>> {
         self.next_entry()
     }
 }

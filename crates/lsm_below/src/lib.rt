@@ -8,11 +8,13 @@
 //! | `value_type` | what an entry does to its key |
 //! | `key` | a user key with its sequence number, and the order of entries |
 //! | `value` | an entry: a key and its value |
+//! | `head` | the head of a key, its first 16 bytes as a number, and entries that are lent with it |
 //! | `key_range` | all keys from a least to a greatest one, and what has such a range |
 //! | `run` | tables sorted by their keys, no two of which share one |
 //! | `optimize` | joins runs where their tables allow it |
 //! | `same` | whether two entries are the same in all their parts |
-//! | `source` | what gives entries in order, one at a time |
+//! | `stretch` | entries that follow each other, lent with their heads |
+//! | `source` | what gives entries in order, one at a time, owned or lent |
 //! | `list_source` | a list of entries, as a source |
 //! | `slot` | a source and its first entry |
 //! | `heap` | the indexes of slots, as a heap |
@@ -26,6 +28,7 @@
 
 mod compaction_stream;
 mod error;
+mod head;
 mod heap;
 mod ids;
 mod key;
@@ -42,11 +45,13 @@ mod run;
 mod same;
 mod slot;
 mod source;
+mod stretch;
 mod value;
 mod value_type;
 
 pub use compaction_stream::{CompactionStream, compact};
 pub use error::Error;
+pub use head::{Headed, head_of};
 pub use ids::{KvPair, MemtableId, SeqNo, TableId, TreeId, UserKey, UserValue, share};
 pub use key::InternalKey;
 pub use key_range::{KeyRange, Ranged};
@@ -63,6 +68,7 @@ pub use number::{parse_number, plain_numbers_are_read};
 pub use optimize::optimize_runs;
 pub use run::{Run, is_run};
 pub use same::{has_same_parts, have_same_parts};
-pub use source::{Source, has_same_key};
+pub use source::{AsEntry, Source, has_same_key};
+pub use stretch::Stretch;
 pub use value::InternalValue;
 pub use value_type::ValueType;

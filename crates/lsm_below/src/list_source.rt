@@ -67,6 +67,8 @@ impl ListSource {
 }
 
 impl Source for ListSource {
+    type Item = InternalValue;
+
     type Error = AllocError;
 
     ghost rest = { λ s. rest_of s.over s.entries.items };

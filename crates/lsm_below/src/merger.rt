@@ -1,6 +1,6 @@
 // All entries of several sources, in order.
 
-ghost use Rattle.std.specs.Prelude.{IfErr, ◌≡◌, ◌+◌, [], ◌∷◌, map, flat_map, IfOk, OnOk, OnSome, IfSome, MatchOption, true, false};
+ghost use Rattle.std.specs.Prelude.{IfErr, ◌≡◌, ◌+◌, [], ◌∷◌, map, flat_map, IfOk, OnOk, OnSome, IfSome, MatchOption, option_map, true, false};
 ghost use Rattle.std.specs.List.{All, range_with_len};
 ghost use Rattle.std.specs.List.Sorted.{IsPermutation};
 ghost use Rattle.std.proofs.Props.{props};
@@ -9,7 +9,6 @@ ghost use Rattle.lsm_below.specs.Entries.{IsFalling, stack};
 ghost use Rattle.lsm_below.specs.Streams.{Gives, RefusesOnly, Merges, IsInOrder};
 ghost use Rattle.lsm_below.specs.Slots.{merged, all_of, calls_left, IsQueue};
 
-use crate::InternalValue;
 use crate::heap::sink;
 use crate::slot::{Slot, fill_slot};
 use crate::source::Source;
@@ -32,17 +31,17 @@ pub struct Merger<S: Source> {
     order: Vec<usize>,
     waiting: usize,
     over: bool,
-    ghost queue: { over ≡ false → IsQueue (map (λ s. s.head) slots.items) (map (λ s. all_of s.head (S.rest s.source).entries) slots.items) order.items waiting } by { Prim.hlevel props },
+    ghost queue: { over ≡ false → IsQueue (map (λ s. option_map S.Item.shows s.head) slots.items) (map (λ s. all_of (option_map S.Item.shows s.head) (S.rest s.source).entries) slots.items) order.items waiting } by { Prim.hlevel props },
 }
 
 impl<S: Source> Model for Merger<S> {
-    ghost use Rattle.std.specs.Prelude.{map};
+    ghost use Rattle.std.specs.Prelude.{map, option_map};
     ghost use Rattle.lsm_below.specs.Streams.{Rest};
     ghost use Rattle.lsm_below.specs.Slots.{rest_of, merged, all_of};
 
     ghost Value = { Rest };
 
-    ghost view = { λ m. rest_of m.over (merged (map (λ s. all_of s.head (S.rest s.source).entries) m.slots.items)) };
+    ghost view = { λ m. rest_of m.over (merged (map (λ s. all_of (option_map S.Item.shows s.head) (S.rest s.source).entries) m.slots.items)) };
 }
 
 /// Asks for the head of the slot at a place, and moves its index down to where it belongs. The index of a source that has
@@ -52,12 +51,12 @@ fn settle_place<S: Source>(
     order: &mut Vec<usize>,
     place: usize,
 ) -> Result<(), S::Error>
-    requires { IsQueue (map (λ s. s.head) slots.old) (map (λ s. all_of s.head (S.rest s.source).entries) slots.old) order.old.items (place + 1) }
+    requires { IsQueue (map (λ s. option_map S.Item.shows s.head) slots.old) (map (λ s. all_of (option_map S.Item.shows s.head) (S.rest s.source).entries) slots.old) order.old.items (place + 1) }
     ensures same { OnOk result
-        (map (λ s. all_of s.head (S.rest s.source).entries) slots.new ≡ map (λ s. all_of s.head (S.rest s.source).entries) slots.old) }
+        (map (λ s. all_of (option_map S.Item.shows s.head) (S.rest s.source).entries) slots.new ≡ map (λ s. all_of (option_map S.Item.shows s.head) (S.rest s.source).entries) slots.old) }
     ensures cause { IfErr result S.may_refuse }
     ensures queue { OnOk result
-        (IsQueue (map (λ s. s.head) slots.new) (map (λ s. all_of s.head (S.rest s.source).entries) slots.new) order.new.items place) }
+        (IsQueue (map (λ s. option_map S.Item.shows s.head) slots.new) (map (λ s. all_of (option_map S.Item.shows s.head) (S.rest s.source).entries) slots.new) order.new.items place) }
 {
     let index = order[place];
     let found = fill_slot(&mut slots[index])?;
@@ -74,12 +73,12 @@ fn settle<S: Source>(
     order: &mut Vec<usize>,
     waiting: usize,
 ) -> Result<(), S::Error>
-    requires { IsQueue (map (λ s. s.head) slots.old) (map (λ s. all_of s.head (S.rest s.source).entries) slots.old) order.old.items waiting }
+    requires { IsQueue (map (λ s. option_map S.Item.shows s.head) slots.old) (map (λ s. all_of (option_map S.Item.shows s.head) (S.rest s.source).entries) slots.old) order.old.items waiting }
     ensures same { OnOk result
-        (map (λ s. all_of s.head (S.rest s.source).entries) slots.new ≡ map (λ s. all_of s.head (S.rest s.source).entries) slots.old) }
+        (map (λ s. all_of (option_map S.Item.shows s.head) (S.rest s.source).entries) slots.new ≡ map (λ s. all_of (option_map S.Item.shows s.head) (S.rest s.source).entries) slots.old) }
     ensures cause { IfErr result S.may_refuse }
     ensures queue { OnOk result
-        (IsQueue (map (λ s. s.head) slots.new) (map (λ s. all_of s.head (S.rest s.source).entries) slots.new) order.new.items 0) }
+        (IsQueue (map (λ s. option_map S.Item.shows s.head) slots.new) (map (λ s. all_of (option_map S.Item.shows s.head) (S.rest s.source).entries) slots.new) order.new.items 0) }
 {
     let mut place = waiting;
     while place > 0 {
@@ -90,13 +89,13 @@ fn settle<S: Source>(
 }
 
 /// Takes the head at the top.
-fn take_least<S: Source>(slots: &mut [Slot<S>], order: &[usize]) -> Option<InternalValue>
-    requires { IsQueue (map (λ s. s.head) slots.old) (map (λ s. all_of s.head (S.rest s.source).entries) slots.old) order.now 0 }
+fn take_least<S: Source>(slots: &mut [Slot<S>], order: &[usize]) -> Option<S::Item>
+    requires { IsQueue (map (λ s. option_map S.Item.shows s.head) slots.old) (map (λ s. all_of (option_map S.Item.shows s.head) (S.rest s.source).entries) slots.old) order.now 0 }
     ensures least { MatchOption result
-        (merged (map (λ s. all_of s.head (S.rest s.source).entries) slots.old) ≡ [])
-        (λ e. merged (map (λ s. all_of s.head (S.rest s.source).entries) slots.old) ≡ e ∷ merged (map (λ s. all_of s.head (S.rest s.source).entries) slots.new)) }
+        (merged (map (λ s. all_of (option_map S.Item.shows s.head) (S.rest s.source).entries) slots.old) ≡ [])
+        (λ e. merged (map (λ s. all_of (option_map S.Item.shows s.head) (S.rest s.source).entries) slots.old) ≡ S.Item.shows e ∷ merged (map (λ s. all_of (option_map S.Item.shows s.head) (S.rest s.source).entries) slots.new)) }
     ensures queue { OnSome result
-        (IsQueue (map (λ s. s.head) slots.new) (map (λ s. all_of s.head (S.rest s.source).entries) slots.new) order.now 1) }
+        (IsQueue (map (λ s. option_map S.Item.shows s.head) slots.new) (map (λ s. all_of (option_map S.Item.shows s.head) (S.rest s.source).entries) slots.new) order.now 1) }
 {
     if order.is_empty() {
         return None;
@@ -109,14 +108,14 @@ fn pull<S: Source>(
     slots: &mut [Slot<S>],
     order: &mut Vec<usize>,
     waiting: usize,
-) -> Option<Result<InternalValue, S::Error>>
-    requires { IsQueue (map (λ s. s.head) slots.old) (map (λ s. all_of s.head (S.rest s.source).entries) slots.old) order.old.items waiting }
+) -> Option<Result<S::Item, S::Error>>
+    requires { IsQueue (map (λ s. option_map S.Item.shows s.head) slots.old) (map (λ s. all_of (option_map S.Item.shows s.head) (S.rest s.source).entries) slots.old) order.old.items waiting }
     ensures cause { RefusesOnly S.may_refuse result }
     ensures entry { MatchOption result
-        (merged (map (λ s. all_of s.head (S.rest s.source).entries) slots.old) ≡ [])
-        (λ r. IfOk r (λ e. merged (map (λ s. all_of s.head (S.rest s.source).entries) slots.old) ≡ e ∷ merged (map (λ s. all_of s.head (S.rest s.source).entries) slots.new))) }
+        (merged (map (λ s. all_of (option_map S.Item.shows s.head) (S.rest s.source).entries) slots.old) ≡ [])
+        (λ r. IfOk r (λ e. merged (map (λ s. all_of (option_map S.Item.shows s.head) (S.rest s.source).entries) slots.old) ≡ S.Item.shows e ∷ merged (map (λ s. all_of (option_map S.Item.shows s.head) (S.rest s.source).entries) slots.new))) }
     ensures queue { IfSome result (λ r. OnOk r
-        (IsQueue (map (λ s. s.head) slots.new) (map (λ s. all_of s.head (S.rest s.source).entries) slots.new) order.new.items 1)) }
+        (IsQueue (map (λ s. option_map S.Item.shows s.head) slots.new) (map (λ s. all_of (option_map S.Item.shows s.head) (S.rest s.source).entries) slots.new) order.new.items 1)) }
 {
     if let Err(error) = settle(slots, order, waiting) {
         return Some(Err(error));
@@ -132,10 +131,11 @@ fn slots_of<S: Source>(alloc: Global, sources: Vec<S>) -> Result<Vec<Slot<S>>, A
     ensures { IfOk result
         (λ slots. slots.items ≡ map (λ s. record { head = None; source = s }) sources.items) }
 {
-    sources
-        .into_iter()
-        .map(|source| Slot { head: None, source })
-        .collect(alloc)
+    let mut slots = Vec::with_capacity(alloc, sources.len())?;
+    for source in sources {
+        slots.push(Slot { head: None, source })?;
+    }
+    Ok(slots)
 }
 
 /// The numbers below this one, from the last.
@@ -178,13 +178,15 @@ impl<S: Source> Merger<S> {
 }
 
 impl<S: Source> Source for Merger<S> {
+    type Item = S::Item;
+
     type Error = S::Error;
 
     ghost rest = { λ m. m };
 
     ghost may_refuse = { S.may_refuse };
 
-    fn next_entry(&mut self) -> Option<Result<InternalValue, S::Error>> {
+    fn next_entry(&mut self) -> Option<Result<S::Item, S::Error>> {
         if self.over {
             return None;
         }
@@ -206,13 +208,13 @@ impl<S: Source> Source for Merger<S> {
 }
 
 impl<S: Source> Iterator for Merger<S> {
-    type Item = Result<InternalValue, S::Error>;
+    type Item = Result<S::Item, S::Error>;
 
-    ghost next_gives = { λ s r t. Gives s r t × RefusesOnly S.may_refuse r };
+    ghost next_gives = { λ s r t. Gives S.Item.shows s r t × RefusesOnly S.may_refuse r };
 
     ghost remaining = { calls_left };
 
-    fn next(&mut self) -> Option<Result<InternalValue, S::Error>> {
+    fn next(&mut self) -> Option<Result<S::Item, S::Error>> {
         self.next_entry()
     }
 }

@@ -1,10 +1,9 @@
 // The first entry of each key.
 
-ghost use Rattle.std.specs.Prelude.{◌≡◌, [], ◌∷◌, false, IfOk, MatchOption};
+ghost use Rattle.std.specs.Prelude.{◌≡◌, [], ◌∷◌, false, IfOk, MatchOption, option_map};
 ghost use Rattle.lsm_below.specs.Streams.{Rest, Gives, RefusesOnly, IsInOrder, IsByKey, first_of};
 ghost use Rattle.lsm_below.specs.Slots.{all_of, firsts, calls_left};
 
-use crate::InternalValue;
 use crate::source::{Source, next_past, take_next};
 use std::marker::Model;
 
@@ -17,29 +16,30 @@ use std::marker::Model;
 /// ```
 #[derive(Drop)]
 pub struct MvccStream<S: Source> {
-    pending: Option<InternalValue>,
+    pending: Option<S::Item>,
     source: S,
     over: bool,
 }
 
 impl<S: Source> Model for MvccStream<S> {
+    ghost use Rattle.std.specs.Prelude.{option_map};
     ghost use Rattle.lsm_below.specs.Streams.{Rest};
     ghost use Rattle.lsm_below.specs.Slots.{rest_of, firsts, all_of};
 
     ghost Value = { Rest };
 
-    ghost view = { λ m. rest_of m.over (firsts (all_of m.pending (S.rest m.source).entries)) };
+    ghost view = { λ m. rest_of m.over (firsts (all_of (option_map S.Item.shows m.pending) (S.rest m.source).entries)) };
 }
 
 /// The next entry, past the others of its key.
 fn next_first<S: Source>(
-    pending: &mut Option<InternalValue>,
+    pending: &mut Option<S::Item>,
     source: &mut S,
-) -> Option<Result<InternalValue, S::Error>>
+) -> Option<Result<S::Item, S::Error>>
     ensures cause { RefusesOnly S.may_refuse result }
     ensures entry { MatchOption result
-        (firsts (all_of pending.old (S.rest source.old).entries) ≡ [])
-        (λ r. IfOk r (λ e. firsts (all_of pending.old (S.rest source.old).entries) ≡ e ∷ firsts (all_of pending.new (S.rest source.new).entries))) }
+        (firsts (all_of (option_map S.Item.shows pending.old) (S.rest source.old).entries) ≡ [])
+        (λ r. IfOk r (λ e. firsts (all_of (option_map S.Item.shows pending.old) (S.rest source.old).entries) ≡ S.Item.shows e ∷ firsts (all_of (option_map S.Item.shows pending.new) (S.rest source.new).entries))) }
 {
     let entry = match take_next(pending, source) {
         Some(Ok(entry)) => entry,
@@ -71,13 +71,15 @@ impl<S: Source> MvccStream<S> {
 }
 
 impl<S: Source> Source for MvccStream<S> {
+    type Item = S::Item;
+
     type Error = S::Error;
 
     ghost rest = { λ m. m };
 
     ghost may_refuse = { S.may_refuse };
 
-    fn next_entry(&mut self) -> Option<Result<InternalValue, S::Error>> {
+    fn next_entry(&mut self) -> Option<Result<S::Item, S::Error>> {
         if self.over {
             return None;
         }
@@ -96,13 +98,13 @@ impl<S: Source> Source for MvccStream<S> {
 }
 
 impl<S: Source> Iterator for MvccStream<S> {
-    type Item = Result<InternalValue, S::Error>;
+    type Item = Result<S::Item, S::Error>;
 
-    ghost next_gives = { λ s r t. Gives s r t × RefusesOnly S.may_refuse r };
+    ghost next_gives = { λ s r t. Gives S.Item.shows s r t × RefusesOnly S.may_refuse r };
 
     ghost remaining = { calls_left };
 
-    fn next(&mut self) -> Option<Result<InternalValue, S::Error>> {
+    fn next(&mut self) -> Option<Result<S::Item, S::Error>> {
         self.next_entry()
     }
 }

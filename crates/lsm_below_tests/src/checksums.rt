@@ -17,23 +17,26 @@ fn plain_sum(bytes: &[u8]) -> u128 {
     total
 }
 
+/// Bytes and their sums.
+const ROWS: [(&[u8], u128); 5] = [
+    (b"", 0),
+    (b"\0", 1),
+    (b"\0\0", 1_099_511_628_212),
+    (b"a", 98),
+    (b"ab", 107_752_139_564_777),
+];
+
 #[test]
 fn rows(rt: HostRuntime) {
-    for (bytes, wanted) in [
-        (b"".as_slice(), 0),
-        (b"\0".as_slice(), 1),
-        (b"\0\0".as_slice(), 1_099_511_628_212),
-        (b"a".as_slice(), 98),
-        (b"ab".as_slice(), 107_752_139_564_777),
-    ] {
-        assert_eq!(rt; sum(bytes), wanted, "{bytes:?}");
+    for (bytes, wanted) in &ROWS {
+        assert!(rt; sum(bytes) == *wanted, "{wanted}");
     }
 }
 
 #[test]
 fn parts_side_by_side(rt: HostRuntime) {
     let bytes = b"nineteen bytes long";
-    assert_eq!(rt; sum(bytes), plain_sum(bytes));
+    assert!(rt; sum(bytes) == plain_sum(bytes));
     sums_of_parts();
 }
 

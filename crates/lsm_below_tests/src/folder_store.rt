@@ -1,9 +1,14 @@
 // The store over a folder: what its calls leave in the file system, and what it refuses.
+//
+// What owns a store borrows it to a helper, and has no `?` after: a deep value that is dropped is long to prove.
 
-use lsm_store::{FolderStore, Store, StoreError};
+use crate::samples::{Call, make, make_each};
+use lsm_store::{FolderCall, FolderFault, FolderStore, Store, StoreError};
 use std::alloc::Global;
-use std::fs;
+use std::fs::{self, File, Files};
+use std::io::{self, ErrorKind};
 use std::test::Fail;
+use std::thread;
 
 const FOLDER: &str = "lsm_folder_store_test";
 
@@ -22,6 +27,20 @@ fn has(
     })
 }
 
+/// Whether each of these names has this content.
+fn has_each(
+    store: &mut impl Store,
+    alloc: Global,
+    files: &[(&str, &[u8])],
+) -> Result<bool, StoreError> {
+    for (name, bytes) in files {
+        if !has(store, alloc, name, Some(bytes))? {
+            return Ok(false);
+        }
+    }
+    Ok(true)
+}
+
 /// Whether just these names are listed, in any order.
 fn lists(store: &mut impl Store, alloc: Global, wanted: &[&str]) -> Result<bool, StoreError> {
     let names = store.list(alloc)?;
@@ -33,44 +52,189 @@ fn lists(store: &mut impl Store, alloc: Global, wanted: &[&str]) -> Result<bool,
     Ok(names.len() == wanted.len())
 }
 
-/// The calls of a store in turn, on one file of the folder and one of its subfolder.
-fn fill(store: &mut impl Store) -> Result<(), StoreError> {
-    store.write("v0", b"partial")?;
-    store.write("v0", b"old")?;
-    store.sync("v0")?;
-    store.write("tables/7", b"entries")?;
-    store.sync("tables/7")?;
-    store.replace("current", b"0")?;
-    store.replace("current", b"1")
+/// Calls on one file of the folder and one of its subfolder, and the removal of an absent name.
+const CALLS: [Call; 8] = [
+    Call::Write("v0", b"partial"),
+    Call::Write("v0", b"old"),
+    Call::Sync("v0"),
+    Call::Write("tables/7", b"entries"),
+    Call::Sync("tables/7"),
+    Call::Replace("current", b"0"),
+    Call::Replace("current", b"1"),
+    Call::Remove("v9"),
+];
+
+/// What is there then.
+const FILES: [(&str, &[u8]); 3] = [("v0", b"old"), ("current", b"1"), ("tables/7", b"entries")];
+
+fn fills(store: &mut impl Store, alloc: Global) -> Result<bool, StoreError> {
+    let is_empty = lists(store, alloc, &[])?;
+    let is_filled = make_each(store, &CALLS)?;
+    Ok(is_empty && is_filled && lists(store, alloc, &["v0", "current", "tables/7"])?)
 }
 
 /// Refused calls, each of which counts: an absent name isn't synced, a file isn't made where its folder is absent,
 /// and a folder isn't read.
-fn refuses(store: &mut impl Store, alloc: Global) -> bool {
-    matches!(store.sync("v9"), Err(StoreError::Fault))
-        && matches!(store.write("other/1", b"x"), Err(StoreError::Fault))
-        && matches!(store.read(alloc, "tables"), Err(StoreError::Fault))
-        && store.failures() == 3
+fn refuses(store: &mut impl Store, alloc: Global) -> Result<bool, StoreError> {
+    let is_synced = make(store, Call::Sync("v9"))?;
+    let is_written = make(store, Call::Write("other/1", b"x"))?;
+    let read = store.read(alloc, "tables");
+    Ok(!is_synced && !is_written && matches!(read, Err(StoreError::Fault)) && store.failures() == 3)
+}
+
+/// Whether the files are there, and one is no more once it is removed.
+fn removes_one(store: &mut impl Store, alloc: Global) -> Result<bool, StoreError> {
+    let is_there = has_each(store, alloc, &FILES)?;
+    store.remove("tables/7")?;
+    let is_gone = has(store, alloc, "tables/7", None)?;
+    let is_listed = lists(store, alloc, &["v0", "current"])?;
+    Ok(is_there && is_gone && is_listed && store.failures() == 0)
 }
 
 #[test]
 fn a_folder_keeps_files(rt: HostRuntime) -> Result<(), Fail> {
-    let alloc = rt.alloc();
     let _ = fs::remove_dir_all(&rt, FOLDER);
-    let mut store = FolderStore::new(&rt, alloc, FOLDER)?;
-    assert!(rt; lists(&mut store, alloc, &[])?);
-    fill(&mut store)?;
-    assert!(rt; lists(&mut store, alloc, &["v0", "current", "tables/7"])?);
-    store.remove("v9")?;
-    assert!(rt; refuses(&mut store, alloc));
-    let mut again = FolderStore::new(&rt, alloc, FOLDER)?;
-    assert!(rt; has(&mut again, alloc, "v0", Some(b"old"))?);
-    assert!(rt; has(&mut again, alloc, "current", Some(b"1"))?);
-    assert!(rt; has(&mut again, alloc, "tables/7", Some(b"entries"))?);
-    again.remove("tables/7")?;
-    assert!(rt; has(&mut again, alloc, "tables/7", None)?);
-    assert!(rt; lists(&mut again, alloc, &["v0", "current"])?);
-    assert_eq!(rt; again.failures(), 0);
+    let mut store = FolderStore::new(&rt, rt.alloc(), FOLDER)?;
+    let filled = fills(&mut store, rt.alloc());
+    let refused = refuses(&mut store, rt.alloc());
+    drop(store);
+    assert!(rt; filled? && refused?);
+    let mut again = FolderStore::new(&rt, rt.alloc(), FOLDER)?;
+    let removed = removes_one(&mut again, rt.alloc());
+    drop(again);
+    assert!(rt; removed?);
     fs::remove_dir_all(&rt, FOLDER)?;
+    Ok(())
+}
+
+/// Whether this is what a call of this kind about this name failed with.
+fn is_fault(fault: Option<&FolderFault>, name: &str, call: FolderCall, kind: ErrorKind) -> bool {
+    fault.is_some_and(|fault| {
+        fault.name.as_str() == name && fault.call == call && fault.error.kind() == kind
+    })
+}
+
+/// Whether a folder is refused to whoever opens it now, by such a fault.
+fn is_refused<R>(rt: &R, alloc: Global, folder: &str, call: FolderCall, kind: ErrorKind) -> bool
+where
+    R: Files<File = File> + Alloc + Clone + Drop,
+{
+    match FolderStore::new(rt, alloc, folder) {
+        Ok(_) => false,
+        Err(fault) => is_fault(Some(&fault), folder, call, kind),
+    }
+}
+
+fn is_taken<R>(rt: &R, alloc: Global, folder: &str) -> bool
+where
+    R: Files<File = File> + Alloc + Clone + Drop,
+{
+    is_refused(rt, alloc, folder, FolderCall::Lock, ErrorKind::WouldBlock)
+}
+
+#[test]
+fn a_folder_has_one_owner(rt: HostRuntime) -> Result<(), Fail> {
+    let folder = "lsm_folder_store_owner/and/its/way";
+    let _ = fs::remove_dir_all(&rt, "lsm_folder_store_owner");
+    let mut store = FolderStore::new(&rt, rt.alloc(), folder)?;
+    let is_taken_now = is_taken(&rt, rt.alloc(), folder);
+    let listed = lists(&mut store, rt.alloc(), &[]);
+    drop(store);
+    assert!(rt; is_taken_now && listed?);
+    assert!(rt; !is_taken(&rt, rt.alloc(), folder));
+    fs::remove_dir_all(&rt, "lsm_folder_store_owner")?;
+    Ok(())
+}
+
+fn count_there<T, E>(opened: &[Result<T, E>]) -> usize {
+    opened.iter().filter(|store| store.is_ok()).count()
+}
+
+/// Of two stores that are opened at once one is there while the other is.
+#[test]
+fn of_two_at_once_one_opens(rt: HostRuntime) -> Result<(), Fail> {
+    let (alloc, folder) = (rt.alloc(), "lsm_folder_store_race");
+    let open = |_: usize| FolderStore::new(&rt, alloc, folder);
+    for _ in 0..20 {
+        let opened = thread::map_indices(&rt, alloc, 2, &open)?;
+        let count = count_there(&opened);
+        drop(opened);
+        assert!(rt; count == 1, "{count} owners");
+    }
+    fs::remove_dir_all(&rt, folder)?;
+    Ok(())
+}
+
+/// Whether nothing is there under a path.
+fn is_absent(files: &impl Files, path: &str) -> bool {
+    fs::symlink_metadata(files, path).is_err_and(|error| error.kind() == ErrorKind::NotFound)
+}
+
+/// Whether a call fails, and tells this fault.
+fn fails<R>(store: &mut FolderStore<R>, call: Call, kind: ErrorKind) -> bool
+where
+    R: Files<File = File> + Alloc + Clone + Drop,
+{
+    let is_made = make(store, call);
+    matches!(is_made, Ok(false))
+        && match call {
+            Call::Write(name, _) => is_fault(store.last_fault(), name, FolderCall::Write, kind),
+            Call::Replace(name, _) => {
+                is_fault(store.last_fault(), name, FolderCall::Replace, kind)
+            }
+            Call::Sync(_) | Call::Remove(_) => false,
+        }
+}
+
+/// Names that stand for a device that is always full.
+fn link_full(files: &impl Files) -> io::Result<()> {
+    files.symlink("/dev/full", "lsm_folder_store_full/tables/7")?;
+    files.symlink("/dev/full", "lsm_folder_store_full/replace.new")
+}
+
+/// Calls that fail, the last of which is about a file in a folder that is absent, and why.
+const FAILING: [(Call, ErrorKind); 3] = [
+    (Call::Write("tables/7", b"entries"), ErrorKind::StorageFull),
+    (Call::Replace("current", b"1"), ErrorKind::StorageFull),
+    (Call::Write("other/1", b"x"), ErrorKind::NotFound),
+];
+
+/// Whether each of these calls fails as it must, and nothing is listed after.
+fn all_fail<R>(store: &mut FolderStore<R>, alloc: Global) -> Result<bool, StoreError>
+where
+    R: Files<File = File> + Alloc + Clone + Drop,
+{
+    let mut all = store.last_fault().is_none();
+    for (call, kind) in &FAILING {
+        all = fails(store, *call, *kind) && all;
+    }
+    Ok(all && lists(store, alloc, &[])?)
+}
+
+#[test]
+fn what_fails_leaves_nothing(rt: HostRuntime) -> Result<(), Fail> {
+    let folder = "lsm_folder_store_full";
+    let _ = fs::remove_dir_all(&rt, folder);
+    let mut store = FolderStore::new(&rt, rt.alloc(), folder)?;
+    let linked = link_full(&rt);
+    let failed = all_fail(&mut store, rt.alloc());
+    drop(store);
+    linked?;
+    assert!(rt; failed?);
+    assert!(rt; is_absent(&rt, "lsm_folder_store_full/tables/7"));
+    assert!(rt; is_absent(&rt, "lsm_folder_store_full/replace.new"));
+    fs::remove_dir_all(&rt, folder)?;
+    Ok(())
+}
+
+#[test]
+fn a_file_is_no_folder(rt: HostRuntime) -> Result<(), Fail> {
+    let path = "lsm_folder_store_file";
+    let alloc = rt.alloc();
+    let _ = fs::remove_file(&rt, path);
+    fs::write(&rt, path, b"x")?;
+    assert!(rt; is_refused(&rt, alloc, path, FolderCall::Make, ErrorKind::NotADirectory));
+    assert!(rt; is_refused(&rt, alloc, "", FolderCall::Make, ErrorKind::InvalidInput));
+    fs::remove_file(&rt, path)?;
     Ok(())
 }

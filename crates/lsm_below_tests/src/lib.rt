@@ -12,7 +12,7 @@
 //! | `multi_writer` | where entries are cut into tables |
 //! | `mem_store` | the store in memory: its faults and its crashes |
 //! | `folder_store` | the store over a folder |
-//! | `samples` | holds no test: what the others make entries, ranges and runs by |
+//! | `samples` | holds no test: what the others make entries, ranges and runs by, and calls of stores |
 #![tactic(auto)]
 
 #[cfg(test)]

@@ -5,17 +5,9 @@
 mod looks;
 mod scripts;
 
+use crate::samples::Call;
 use lsm_store::{MemStore, Pick, Store, StoreError};
 use std::alloc::Global;
-
-/// A call on a name.
-#[derive(Clone, Copy)]
-enum Call {
-    Write(&'static str, &'static [u8]),
-    Sync(&'static str),
-    Replace(&'static str, &'static [u8]),
-    Remove(&'static str),
-}
 
 const A: &str = "a";
 
@@ -38,21 +30,6 @@ fn is_same(a: Option<&[u8]>, b: Option<&[u8]>) -> bool {
         (Some(a), Some(b)) => a == b,
         (None, None) => true,
         _ => false,
-    }
-}
-
-/// Whether the call was answered; a refusal for memory is handed on.
-fn make(store: &mut MemStore, call: Call) -> Result<bool, StoreError> {
-    let answer = match call {
-        Call::Write(name, bytes) => store.write(name, bytes),
-        Call::Sync(name) => store.sync(name),
-        Call::Replace(name, bytes) => store.replace(name, bytes),
-        Call::Remove(name) => store.remove(name),
-    };
-    match answer {
-        Ok(()) => Ok(true),
-        Err(StoreError::Fault) => Ok(false),
-        Err(StoreError::OutOfMemory) => Err(StoreError::OutOfMemory),
     }
 }
 

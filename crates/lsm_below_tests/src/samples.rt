@@ -3,6 +3,7 @@
 use lsm_below::{
     InternalValue, KeyRange, Ranged, Run, SeqNo, UserKey, UserValue, ValueType, is_run,
 };
+use lsm_store::{Store, StoreError};
 use std::process::Abort;
 
 pub const V: ValueType = ValueType::Value;
@@ -30,4 +31,37 @@ pub fn run_of<T: Ranged + Drop>(rt: &impl Abort, tables: Vec<T>) -> Run<T> {
         Some(run) => run,
         None => panic!(rt; "no table"),
     }
+}
+
+/// A call of a store on a name.
+#[derive(Clone, Copy)]
+pub enum Call {
+    Write(&'static str, &'static [u8]),
+    Sync(&'static str),
+    Replace(&'static str, &'static [u8]),
+    Remove(&'static str),
+}
+
+/// Whether the call was answered; a refusal for memory is handed on.
+pub fn make(store: &mut impl Store, call: Call) -> Result<bool, StoreError> {
+    let answer = match call {
+        Call::Write(name, bytes) => store.write(name, bytes),
+        Call::Sync(name) => store.sync(name),
+        Call::Replace(name, bytes) => store.replace(name, bytes),
+        Call::Remove(name) => store.remove(name),
+    };
+    match answer {
+        Ok(()) => Ok(true),
+        Err(StoreError::Fault) => Ok(false),
+        Err(StoreError::OutOfMemory) => Err(StoreError::OutOfMemory),
+    }
+}
+
+/// Makes these calls. Whether each was answered.
+pub fn make_each(store: &mut impl Store, calls: &[Call]) -> Result<bool, StoreError> {
+    let mut all = true;
+    for call in calls {
+        all = make(store, *call)? && all;
+    }
+    Ok(all)
 }

@@ -8,8 +8,8 @@ ghost use Rattle.lsm_below.specs.Streams.{IsInOrder};
 
 use crate::samples::{T, V, W, entry};
 use lsm_below::{
-    CompactionStream, InternalValue, ListSource, Merger, MvccStream, SeqNo, Source, ValueType,
-    compact,
+    AsEntry, CompactionStream, InternalValue, ListSource, Merger, MvccStream, SeqNo, Source,
+    ValueType, compact,
 };
 use std::alloc::{AllocError, Global};
 use std::test::Fail;
@@ -70,7 +70,7 @@ fn merged_two(
 /// Whether the next entry is there and has this sequence number.
 fn gives_next<S: Source>(source: &mut S, number: SeqNo) -> bool {
     match source.next_entry() {
-        Some(Ok(entry)) => entry.key.seqno == number,
+        Some(Ok(entry)) => entry.as_entry().key.seqno == number,
         Some(Err(_)) | None => false,
     }
 }
@@ -158,6 +158,8 @@ struct Refusing {
 }
 
 impl Source for Refusing {
+    type Item = InternalValue;
+
     type Error = u8;
 
     ghost rest = { λ s. record { entries = []; over = s.over } };

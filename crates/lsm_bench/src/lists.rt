@@ -2,7 +2,9 @@
 use crate::report::Tally;
 use crate::workloads::Listing;
 use lsm_bench_parts::{RANGE, group_of, user_key};
-use lsm_tree::{Error, InternalValue, SeqNo, Store, TreeIter, TreeState};
+use lsm_tree::{
+    Error, InternalValue, Pairs, SeqNo, Store, TreeIter, TreeState, UserKey, UserValue,
+};
 use std::alloc::Global;
 use std::ops::Bound;
 
@@ -27,6 +29,26 @@ pub fn list<S: Store>(
         Listing::Ranges => (some.len(), list_ranges(alloc, tree, some, snapshot)?),
         Listing::OpenRanges => (few.len(), list_open_ranges(alloc, tree, few, snapshot)?),
         Listing::Groups => (some.len(), list_groups(tree, some, snapshot)?),
+        lent => return list_lent(alloc, tree, lent, ids.len(), some),
+    };
+    Ok(Tally { ops, check })
+}
+
+/// Lists pairs that are lent, as `list`: all, or those of some ids.
+fn list_lent<S: Store>(
+    alloc: Global,
+    tree: &TreeState<S>,
+    listing: Listing,
+    all: usize,
+    some: &[u64],
+) -> Result<Tally, Error> {
+    let snapshot = tree.visible_seqno().get();
+    let (ops, check) = match listing {
+        Listing::PairsBack => (all, lend_back(tree, snapshot)?),
+        Listing::PairRanges => (some.len(), lend_ranges(alloc, tree, some, snapshot)?),
+        Listing::PairOpenRanges => (some.len(), lend_open_ranges(alloc, tree, some, snapshot)?),
+        Listing::PairGroups => (some.len(), lend_groups(tree, some, snapshot)?),
+        _ => (all, lend_all(tree, snapshot)?),
     };
     Ok(Tally { ops, check })
 }
@@ -97,6 +119,89 @@ fn sum_first(mut iter: TreeIter) -> Result<u64, Error> {
             break;
         };
         sum = sum.wrapping_add(weight(&entry?));
+    }
+    Ok(sum)
+}
+
+// ---- pairs that are lent
+
+/// What a pair adds to a sum, as `weight`.
+fn pair_weight(pair: (&UserKey, &UserValue)) -> u64 {
+    let first = pair.1.as_slice().first().copied().unwrap_or(0);
+    u64::from(first).wrapping_add(pair.0.len() as u64)
+}
+
+/// The sum over all pairs.
+fn sum_pairs(pairs: Pairs<'_>) -> u64 {
+    let mut sum = 0u64;
+    for pair in pairs {
+        sum = sum.wrapping_add(pair_weight(pair));
+    }
+    sum
+}
+
+/// The sum over as many pairs as a range goes over.
+fn sum_first_pairs(mut pairs: Pairs<'_>) -> u64 {
+    let mut sum = 0u64;
+    for _ in 0..RANGE {
+        let Some(pair) = pairs.next() else {
+            break;
+        };
+        sum = sum.wrapping_add(pair_weight(pair));
+    }
+    sum
+}
+
+fn lend_all<S: Store>(tree: &TreeState<S>, snapshot: SeqNo) -> Result<u64, Error> {
+    let bounds = (Bound::Unbounded, Bound::Unbounded);
+    Ok(sum_pairs(tree.pairs(&bounds, snapshot, None)?))
+}
+
+fn lend_back<S: Store>(tree: &TreeState<S>, snapshot: SeqNo) -> Result<u64, Error> {
+    let bounds = (Bound::Unbounded, Bound::Unbounded);
+    let mut sum = 0u64;
+    for pair in tree.pairs(&bounds, snapshot, None)?.rev() {
+        sum = sum.wrapping_add(pair_weight(pair));
+    }
+    Ok(sum)
+}
+
+fn lend_ranges<S: Store>(
+    alloc: Global,
+    tree: &TreeState<S>,
+    ids: &[u64],
+    snapshot: SeqNo,
+) -> Result<u64, Error> {
+    let mut sum = 0u64;
+    for id in ids {
+        let low = Bound::Included(user_key(alloc, *id)?);
+        let high = Bound::Excluded(user_key(alloc, id.saturating_add(RANGE))?);
+        sum = sum.wrapping_add(sum_pairs(tree.pairs(&(low, high), snapshot, None)?));
+    }
+    Ok(sum)
+}
+
+/// As `lend_ranges`, but no range has an upper bound, and as many pairs are taken of it.
+fn lend_open_ranges<S: Store>(
+    alloc: Global,
+    tree: &TreeState<S>,
+    ids: &[u64],
+    snapshot: SeqNo,
+) -> Result<u64, Error> {
+    let mut sum = 0u64;
+    for id in ids {
+        let low = Bound::Included(user_key(alloc, *id)?);
+        let pairs = tree.pairs(&(low, Bound::Unbounded), snapshot, None)?;
+        sum = sum.wrapping_add(sum_first_pairs(pairs));
+    }
+    Ok(sum)
+}
+
+fn lend_groups<S: Store>(tree: &TreeState<S>, ids: &[u64], snapshot: SeqNo) -> Result<u64, Error> {
+    let mut sum = 0u64;
+    for id in ids {
+        let pairs = tree.pairs_with_prefix(&group_of(*id), snapshot, None)?;
+        sum = sum.wrapping_add(sum_pairs(pairs));
     }
     Ok(sum)
 }

@@ -3,8 +3,12 @@
 //! `lsm_bench N` runs each workload on N keys and prints a line for it, `workload N ops seconds check`. The check
 //! depends on every answer, so that no call can be left out unseen. Without arguments N is 1,000 and no line has
 //! seconds, so that the lines are the same on every machine. `lsm_bench N FOLDER` adds workloads on trees in that
-//! folder, which is to be absent or empty, and takes away at the end what it made. docs/PERFORMANCE.md says what each
-//! workload does.
+//! folder, which is to be absent or empty, and takes away at the end what it made. Workloads that are named behind the
+//! folder, or behind `-` for none, are run alone, so that a profile sees one of them. docs/PERFORMANCE.md says what
+//! each workload does.
+//!
+//! On standard error it says at first which program this is and how many processors it may use: `rt run` builds
+//! `out/lsm_bench` of what is proved alone, and any other program that has these sources may be slower.
 //!
 //! It ends with status 0; with 1 where memory, the clock, the output or the folder failed it, and says so; and with 2
 //! where its arguments ask nothing.
@@ -32,12 +36,14 @@ mod workloads;
 
 use anyhow::Error;
 use bench::run_workloads;
-use lsm_bench_parts::{BadArguments, parse_arguments};
+use lsm_bench_parts::{BadArguments, Plan, parse_arguments};
 use progress::Progress;
 use std::io::ErrorKind;
 use std::process::ExitCode;
-use std::rt::Env;
+use std::rt::{Env, Files};
+use std::thread::{Threads, available_parallelism};
 use std::{env, io};
+use workloads::is_workload;
 
 const USAGE: u8 = 2;
 
@@ -50,9 +56,13 @@ fn main(rt: HostRuntime) -> ExitCode {
         Err(error) => return tell_fault(&rt, Error::from(error)),
     };
     let plan = match parse_arguments(&words) {
-        Ok(plan) => plan,
+        Ok(plan) if are_workloads(plan.rows) => plan,
+        Ok(_) => return tell_usage(&rt, BadArguments::NoRow),
         Err(error) => return tell_usage(&rt, error),
     };
+    if plan.with_times {
+        tell_program(&rt, plan);
+    }
     let mut progress = Progress::new(rt.stderr());
     match run_workloads(&rt, &rt, &mut progress, plan) {
         Ok(()) => ExitCode::SUCCESS,
@@ -66,9 +76,29 @@ fn list_arguments<R: Env + AllocGlobal>(rt: &R) -> io::Result<Vec<String>> {
     Ok(words)
 }
 
+/// Whether there is a workload of each of these names.
+fn are_workloads(rows: Option<&[String]>) -> bool {
+    match rows {
+        Some(rows) => rows.iter().all(|row| is_workload(row.as_str())),
+        None => true,
+    }
+}
+
+/// Says what is measured, and on how many processors. The run goes on where this can't be told.
+fn tell_program<R: Env + AllocGlobal + Files + Threads + Eprint>(rt: &R, plan: Plan<'_>) {
+    let cores = available_parallelism(rt).map_or(0, |count| count.get());
+    let path = env::current_exe(rt);
+    let program = match &path {
+        Ok(path) => path.as_str(),
+        Err(_) => "lsm_bench",
+    };
+    let keys = plan.keys;
+    let _ = eprintln!(rt; "{program}: {keys} keys of 16 bytes, values of 100, {cores} processors");
+}
+
 /// Says why the arguments ask nothing. Nothing is left to be told where even this can't be written.
 fn tell_usage(rt: &impl Eprint, error: BadArguments) -> ExitCode {
-    let _ = eprintln!(rt; "lsm_bench: {error}\nusage: lsm_bench [N [FOLDER]]");
+    let _ = eprintln!(rt; "lsm_bench: {error}\nusage: lsm_bench [N [FOLDER | - [WORKLOAD ..]]]");
     ExitCode::from(USAGE)
 }
 

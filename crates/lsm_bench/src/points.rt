@@ -102,14 +102,14 @@ impl<R: Wait, S: Store> Points for Locked<'_, R, S> {
 
 /// A recorded tree, with the pass of its one caller.
 #[derive(Drop)]
-pub struct Noted<'a, S: Store> {
-    pub tree: &'a mut Recorded<S>,
-    pub pass: &'a mut Pass,
+pub struct Noted<S: Store> {
+    pub tree: Recorded<S>,
+    pub pass: Pass,
 }
 
-impl<S: Store> Points for Noted<'_, S> {
+impl<S: Store> Points for Noted<S> {
     fn write(&mut self, ops: Vec<(UserKey, Op)>) -> Result<SeqNo, Error> {
-        self.tree.write(self.pass, ops)
+        self.tree.write(&mut self.pass, ops)
     }
 
     fn get(
@@ -119,7 +119,7 @@ impl<S: Store> Points for Noted<'_, S> {
         snapshot: SeqNo,
     ) -> Result<Option<UserValue>, Error> {
         let key = UserKey::copy_from_slice(alloc, key)?;
-        self.tree.get(self.pass, &key, snapshot)
+        self.tree.get(&mut self.pass, &key, snapshot)
     }
 
     fn snapshot(&self) -> SeqNo {
@@ -127,7 +127,7 @@ impl<S: Store> Points for Noted<'_, S> {
     }
 
     fn flush(&mut self, watermark: SeqNo) -> Result<u64, Error> {
-        size_of(self.tree.flush_active_memtable(self.pass, watermark))
+        size_of(self.tree.flush_active_memtable(&mut self.pass, watermark))
     }
 }
 

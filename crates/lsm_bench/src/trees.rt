@@ -1,21 +1,10 @@
-// The trees that workloads find.
-ghost use Rattle.std.specs.Prelude.{◌≡◌, IfOk};
+// The trees that stay between workloads, one at a time.
+ghost use Rattle.std.specs.Prelude.{◌≡◌, IsSome, true};
 
-use crate::points::{self, Locked, Noted};
-use crate::report::Tally;
-use crate::workloads::{Filling, Kind, Wanted};
-use lsm_bench_parts::Orders;
+use crate::points::Noted;
+use crate::workloads::Filling;
 use lsm_tree::{Config, Error, Handle, Pass, Recorded, Store, Tree, TreeState};
 use std::alloc::Global;
-use std::sync::Wait;
-
-/// A tree of any kind.
-#[derive(Drop)]
-pub enum AnyTree<S: Store> {
-    Owned(TreeState<S>),
-    Locked(Tree<S>),
-    Recorded(Recorded<S>, Pass),
-}
 
 /// Where the counters of an empty tree start.
 const START: Config = Config {
@@ -31,103 +20,113 @@ fn open_state<S: Store>(alloc: Global, config: Config, store: S) -> Result<TreeS
     }
 }
 
-fn open_recorded<S: Store>(alloc: Global, store: S) -> Result<Recorded<S>, Error> {
-    match Recorded::open(alloc, START, store) {
-        Ok(tree) => Ok(tree),
-        Err((error, _)) => Err(error),
-    }
-}
-
 /// A tree with one owner, of an empty store.
 pub fn open_owned<S: Store>(alloc: Global, store: S) -> Result<TreeState<S>, Error> {
     open_state(alloc, START, store)
 }
 
-/// Closes a tree, and opens it again from its store, with its counters where they were.
-pub fn reopen<S: Store>(alloc: Global, tree: TreeState<S>) -> Result<TreeState<S>, Error> {
-    let config = Config::new(tree.id(), tree.seqno().get(), tree.visible_seqno().get());
-    open_state(alloc, config, tree.into_store())
+/// A tree behind a lock, of an empty store.
+pub fn open_locked<S: Store + Send>(alloc: Global, store: S) -> Result<Tree<S>, Error> {
+    let tree = Handle::new(alloc, open_state(alloc, START, store)?)?;
+    Ok(tree)
 }
 
-impl<S: Store> AnyTree<S> {
-    ghost use Rattle.lsm_bench.specs.Kinds.{kind_of};
-
-    /// The tree of an empty store.
-    pub fn open(alloc: Global, kind: Kind, store: S) -> Result<AnyTree<S>, Error>
-    where
-        S: Send,
-        ensures { IfOk result (λ tree. kind_of tree ≡ kind) }
-    {
-        Ok(match kind {
-            Kind::Owned => AnyTree::Owned(open_state(alloc, START, store)?),
-            Kind::Locked => {
-                AnyTree::Locked(Handle::new(alloc, open_state(alloc, START, store)?)?)
-            }
-            Kind::Recorded => AnyTree::Recorded(open_recorded(alloc, store)?, Pass::new(alloc)),
-        })
+/// A recorded tree, of an empty store.
+pub fn open_recorded<S: Store>(alloc: Global, store: S) -> Result<Noted<S>, Error> {
+    match Recorded::open(alloc, START, store) {
+        Ok(tree) => Ok(Noted {
+            tree,
+            pass: Pass::new(alloc),
+        }),
+        Err((error, _)) => Err(error),
     }
+}
 
-    /// Its kind.
-    pub fn kind(&self) -> Kind
-        ensures { result ≡ kind_of self.now }
-    {
-        match self {
-            AnyTree::Owned(_) => Kind::Owned,
-            AnyTree::Locked(_) => Kind::Locked,
-            AnyTree::Recorded(_, _) => Kind::Recorded,
+/// A tree of one kind, and how it was filled.
+#[derive(Drop)]
+pub struct Slot<T> {
+    pub tree: Option<T>,
+    pub filling: Filling,
+    /// The bytes that the puts added to this process, of a tree with one owner.
+    pub added: u64,
+}
+
+impl<T: Drop> Slot<T> {
+    fn new() -> Slot<T> {
+        Slot {
+            tree: None,
+            filling: Filling::Rising,
+            added: 0,
         }
     }
 
-    /// Fills the tree, as `points::fill`.
-    pub fn fill(
-        &mut self,
-        rt: &impl Wait,
-        alloc: Global,
-        filling: Filling,
-        orders: &Orders,
-    ) -> Result<Tally, Error>
-        ensures { kind_of self.new ≡ kind_of self.old }
+    pub fn clear(&mut self) {
+        drop(self.tree.take());
+    }
+
+    /// Keeps a tree, in the place of the one before.
+    pub fn put(&mut self, tree: T, filling: Filling)
+        ensures { IsSome self.new.tree }
     {
-        match self {
-            AnyTree::Owned(tree) => points::fill(alloc, tree, filling, orders),
-            AnyTree::Locked(tree) => {
-                points::fill(alloc, &mut Locked { rt, tree }, filling, orders)
-            }
-            AnyTree::Recorded(tree, pass) => {
-                points::fill(alloc, &mut Noted { tree, pass }, filling, orders)
-            }
+        drop(self.tree.replace(tree));
+        self.filling = filling;
+        self.added = 0;
+    }
+
+    /// Whether there is a tree that was filled so.
+    pub fn has(&self, filling: Filling) -> bool
+        ensures { result ≡ true → IsSome self.now.tree }
+    {
+        self.filling == filling && self.tree.is_some()
+    }
+}
+
+/// A tree of each kind at most.
+#[derive(Drop)]
+pub struct Trees<S: Store> {
+    pub owned: Slot<TreeState<S>>,
+    pub locked: Slot<Tree<S>>,
+    pub recorded: Slot<Noted<S>>,
+}
+
+impl<S: Store> Trees<S> {
+    pub fn new() -> Trees<S> {
+        Trees {
+            owned: Slot::new(),
+            locked: Slot::new(),
+            recorded: Slot::new(),
         }
     }
 
-    /// Gets keys, as `points::get_all`.
-    pub fn get_all(
-        &mut self,
-        rt: &impl Wait,
-        alloc: Global,
-        wanted: Wanted,
-        ids: &[u64],
-    ) -> Result<Tally, Error>
-        ensures { kind_of self.new ≡ kind_of self.old }
-    {
-        match self {
-            AnyTree::Owned(tree) => points::get_all(alloc, tree, wanted, ids),
-            AnyTree::Locked(tree) => {
-                points::get_all(alloc, &mut Locked { rt, tree }, wanted, ids)
-            }
-            AnyTree::Recorded(tree, pass) => {
-                points::get_all(alloc, &mut Noted { tree, pass }, wanted, ids)
-            }
-        }
+    /// No two trees stand in memory.
+    pub fn clear(&mut self) {
+        self.owned.clear();
+        self.locked.clear();
+        self.recorded.clear();
     }
+}
 
-    /// Flushes the active memtable, and returns the bytes that it counted.
-    pub fn flush(&mut self, rt: &impl Wait) -> Result<u64, Error>
-        ensures { kind_of self.new ≡ kind_of self.old }
-    {
-        match self {
-            AnyTree::Owned(tree) => points::flush(tree),
-            AnyTree::Locked(tree) => points::flush(&mut Locked { rt, tree }),
-            AnyTree::Recorded(tree, pass) => points::flush(&mut Noted { tree, pass }),
-        }
+/// A tree that was closed: its store, and where its counters were.
+#[derive(Drop)]
+pub struct Closed<S: Store> {
+    config: Config,
+    store: S,
+}
+
+/// Closes the tree, which lets go of all that it holds in memory.
+pub fn close<S: Store>(slot: &mut Slot<TreeState<S>>) -> Closed<S>
+    requires { IsSome slot.old.tree }
+{
+    let Some(tree) = slot.tree.take() else {
+        unreachable!()
+    };
+    Closed {
+        config: Config::new(tree.id(), tree.seqno().get(), tree.visible_seqno().get()),
+        store: tree.into_store(),
     }
+}
+
+/// Opens a tree again from its store, with its counters where they were.
+pub fn reopen<S: Store>(alloc: Global, closed: Closed<S>) -> Result<TreeState<S>, Error> {
+    open_state(alloc, closed.config, closed.store)
 }

@@ -9,11 +9,12 @@ pub enum Job {
     Get(Kind, Filling, Wanted),
     /// Reads many keys at a time, of a tree with one owner.
     List(Filling, Listing),
-    /// Tells how many bytes a key the last fill in random order added to this process, in the place of a check.
-    Weigh(Kind),
-    /// Flushes the active memtable, which has all keys. It leaves a flat tree.
-    Flush(Kind),
-    /// Closes a flat tree with one owner and opens it again; and then gets keys, where it is said which.
+    /// Tells how many bytes a key the fill in random order of a tree with one owner added to this process, in the place
+    /// of a check.
+    Weigh,
+    /// Flushes the active memtable of a tree with one owner, which has all keys. It leaves a flat tree.
+    Flush,
+    /// Opens a flat tree with one owner again, which was closed; and then gets keys, where it is said which.
     Reopen(Option<Wanted>),
     /// Merges the four runs of a tree with one owner into one in the last level.
     Major,
@@ -31,7 +32,7 @@ pub enum Ingest {
 }
 
 /// A kind of tree.
-#[derive(Clone, Copy, PartialEq, Eq)]
+#[derive(Clone, Copy)]
 pub enum Kind {
     /// One owner has it.
     Owned,
@@ -76,15 +77,25 @@ pub enum Listing {
     OpenRanges,
     /// The keys that begin as that of an id does, for some ids.
     Groups,
+    /// All pairs, lent, once.
+    Pairs,
+    /// The same from behind.
+    PairsBack,
+    /// As `Ranges`, lent.
+    PairRanges,
+    /// As `OpenRanges`, lent.
+    PairOpenRanges,
+    /// As `Groups`, lent.
+    PairGroups,
 }
 
 /// The name of each workload, and what it does, in the order in which they run.
 ///
 /// Those that read one tree stand behind the one that makes it, so that it is done once. The first is the fill that
 /// is weighed, before other trees have left memory behind.
-pub const WORKLOADS: [(&str, Job); 26] = [
+pub const WORKLOADS: [(&str, Job); 37] = [
     ("put_rand", Job::Fill(Kind::Owned, Filling::Random)),
-    ("bytes_mem", Job::Weigh(Kind::Owned)),
+    ("bytes_mem", Job::Weigh),
     (
         "get_mem",
         Job::Get(Kind::Owned, Filling::Random, Wanted::Present),
@@ -100,7 +111,24 @@ pub const WORKLOADS: [(&str, Job); 26] = [
         Job::List(Filling::Random, Listing::OpenRanges),
     ),
     ("prefix_mem", Job::List(Filling::Random, Listing::Groups)),
-    ("flush_mem", Job::Flush(Kind::Owned)),
+    ("pairs_mem", Job::List(Filling::Random, Listing::Pairs)),
+    (
+        "pairs_back_mem",
+        Job::List(Filling::Random, Listing::PairsBack),
+    ),
+    (
+        "pairs100_mem",
+        Job::List(Filling::Random, Listing::PairRanges),
+    ),
+    (
+        "pairs100_open_mem",
+        Job::List(Filling::Random, Listing::PairOpenRanges),
+    ),
+    (
+        "pairs_prefix_mem",
+        Job::List(Filling::Random, Listing::PairGroups),
+    ),
+    ("flush_mem", Job::Flush),
     (
         "get_flat",
         Job::Get(Kind::Owned, Filling::Flat, Wanted::Present),
@@ -112,12 +140,27 @@ pub const WORKLOADS: [(&str, Job); 26] = [
     ("scan_flat", Job::List(Filling::Flat, Listing::All)),
     ("range100_flat", Job::List(Filling::Flat, Listing::Ranges)),
     ("prefix_flat", Job::List(Filling::Flat, Listing::Groups)),
+    ("pairs_flat", Job::List(Filling::Flat, Listing::Pairs)),
+    (
+        "pairs_back_flat",
+        Job::List(Filling::Flat, Listing::PairsBack),
+    ),
+    (
+        "pairs100_flat",
+        Job::List(Filling::Flat, Listing::PairRanges),
+    ),
+    (
+        "pairs_prefix_flat",
+        Job::List(Filling::Flat, Listing::PairGroups),
+    ),
     ("reopen_mem", Job::Reopen(None)),
     ("reopen_read_mem", Job::Reopen(Some(Wanted::Present))),
     (
         "get_runs4",
         Job::Get(Kind::Owned, Filling::Runs, Wanted::Present),
     ),
+    ("scan_runs4", Job::List(Filling::Runs, Listing::All)),
+    ("pairs_runs4", Job::List(Filling::Runs, Listing::Pairs)),
     ("major4", Job::Major),
     ("ingest4", Job::Ingest(Ingest::Once)),
     ("mixed", Job::Ingest(Ingest::Leveled)),
@@ -140,7 +183,13 @@ pub const WORKLOADS: [(&str, Job); 26] = [
 
 /// The same of trees that stand in a folder. They run behind those, where a folder was given.
 pub const FOLDER_WORKLOADS: [(&str, Job); 3] = [
-    ("flush_disk", Job::Flush(Kind::Owned)),
+    ("flush_disk", Job::Flush),
     ("reopen_disk", Job::Reopen(None)),
     ("reopen_read_disk", Job::Reopen(Some(Wanted::Present))),
 ];
+
+/// Whether there is a workload of this name.
+pub fn is_workload(name: &str) -> bool {
+    let is_it = |row: &(&str, Job)| row.0 == name;
+    WORKLOADS.iter().any(is_it) || FOLDER_WORKLOADS.iter().any(is_it)
+}

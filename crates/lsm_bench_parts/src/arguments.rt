@@ -15,6 +15,18 @@ pub struct Plan<'a> {
     pub with_times: bool,
     /// Where the trees on the disk stand. Without it no workload has one.
     pub folder: Option<&'a str>,
+    /// The workloads that are run. Without them, all are.
+    pub rows: Option<&'a [String]>,
+}
+
+impl Plan<'_> {
+    /// Whether the workload of this name is run.
+    pub fn has_row(&self, name: &str) -> bool {
+        match self.rows {
+            Some(rows) => rows.iter().any(|row| row.as_str() == name),
+            None => true,
+        }
+    }
 }
 
 /// The run without arguments. What it prints is the same on every machine.
@@ -22,7 +34,11 @@ pub const CHECKS: Plan<'static> = Plan {
     keys: 1_000,
     with_times: false,
     folder: None,
+    rows: None,
 };
+
+/// Stands for no folder, where workloads are named behind it.
+const NO_FOLDER: &str = "-";
 
 /// Why arguments ask nothing that the program does.
 #[derive(Debug, PartialEq, Eq, Drop, Error)]
@@ -31,32 +47,40 @@ pub enum BadArguments {
     NoText,
     #[error("N, the number of keys, is to be from 1 to 100000000")]
     NoNumber,
-    #[error("two arguments at most are taken: N and a folder")]
-    TooMany,
+    #[error("there is no such workload")]
+    NoRow,
 }
 
-/// What these arguments ask.
+/// What these arguments ask: how many keys, a folder or `-`, and names of workloads.
 pub fn parse_arguments(words: &[String]) -> Result<Plan<'_>, BadArguments>
     ensures none { words.now ≡ [] → IsOk result × IfOk result (λ plan. (plan.keys ≡ 1000) × ((plan.with_times ≡ false) × (plan.folder ≡ None))) }
     ensures keys { IfOk result (λ plan. (1 ≤ plan.keys) × (plan.keys ≤ MOST_KEYS)) }
 {
     match words {
         [] => Ok(CHECKS),
-        [count] => parse_plan(count.as_str(), None),
-        [count, folder] => parse_plan(count.as_str(), Some(folder.as_str())),
-        _ => Err(BadArguments::TooMany),
+        [count] => parse_plan(count.as_str(), NO_FOLDER, &[]),
+        [count, folder, rows @ ..] => parse_plan(count.as_str(), folder.as_str(), rows),
     }
 }
 
-/// A run with times on so many keys, and with trees in a folder where there is one.
-fn parse_plan<'a>(count: &str, folder: Option<&'a str>) -> Result<Plan<'a>, BadArguments>
+/// A run with times on so many keys, with trees in a folder where there is one, of these workloads.
+fn parse_plan<'a>(
+    count: &str,
+    folder: &'a str,
+    rows: &'a [String],
+) -> Result<Plan<'a>, BadArguments>
     ensures { IfOk result (λ plan. (1 ≤ plan.keys) × (plan.keys ≤ MOST_KEYS)) }
 {
     match count.parse::<usize>() {
         Ok(keys) if 1 <= keys && keys <= MOST_KEYS => Ok(Plan {
             keys,
             with_times: true,
-            folder,
+            folder: if folder == NO_FOLDER {
+                None
+            } else {
+                Some(folder)
+            },
+            rows: if rows.is_empty() { None } else { Some(rows) },
         }),
         _ => Err(BadArguments::NoNumber),
     }

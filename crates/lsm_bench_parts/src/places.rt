@@ -1,8 +1,8 @@
 // Where the trees of workloads stand.
 use anyhow::{Context, Result, ensure};
-use lsm_store::{FolderStore, MemStore, Store, StoreError};
+use lsm_store::{FolderStore, MemStore, Store};
 use std::alloc::Global;
-use std::fs;
+use std::fs::{self, File};
 use std::io::ErrorKind;
 use std::rt::Files;
 
@@ -11,7 +11,7 @@ pub trait Place {
     type Store: Store + Send;
 
     /// The store for a tree.
-    fn store(&self, alloc: Global) -> Result<Self::Store, StoreError>;
+    fn store(&self, alloc: Global) -> Result<Self::Store>;
 }
 
 /// Trees stand in memory.
@@ -21,7 +21,7 @@ pub struct Memory;
 impl Place for Memory {
     type Store = MemStore;
 
-    fn store(&self, alloc: Global) -> Result<MemStore, StoreError> {
+    fn store(&self, alloc: Global) -> Result<MemStore> {
         Ok(MemStore::new(alloc))
     }
 }
@@ -35,7 +35,7 @@ pub struct Folder<'a, R> {
     is_made: bool,
 }
 
-impl<'a, R: AllocGlobal + Clone + Drop + Files + Send> Folder<'a, R> {
+impl<'a, R: AllocGlobal + Clone + Drop + Files<File = File> + Send> Folder<'a, R> {
     /// Makes the folder where it is absent. Refused where it isn't empty.
     pub fn take(rt: &'a R, path: &'a str) -> Result<Folder<'a, R>> {
         let is_made = match fs::create_dir(rt, path) {
@@ -56,6 +56,8 @@ impl<'a, R: AllocGlobal + Clone + Drop + Files + Send> Folder<'a, R> {
         }
         let tables = format!(in alloc; "{}/tables", self.path)?;
         fs::remove_dir(self.rt, tables.as_str())?;
+        let lock = format!(in alloc; "{}/lock", self.path)?;
+        fs::remove_file(self.rt, lock.as_str())?;
         if self.is_made {
             fs::remove_dir(self.rt, self.path)?;
         }
@@ -63,10 +65,10 @@ impl<'a, R: AllocGlobal + Clone + Drop + Files + Send> Folder<'a, R> {
     }
 }
 
-impl<R: AllocGlobal + Clone + Drop + Files + Send> Place for Folder<'_, R> {
+impl<R: AllocGlobal + Clone + Drop + Files<File = File> + Send> Place for Folder<'_, R> {
     type Store = FolderStore<R>;
 
-    fn store(&self, alloc: Global) -> Result<FolderStore<R>, StoreError> {
-        FolderStore::new(self.rt, alloc, self.path)
+    fn store(&self, alloc: Global) -> Result<FolderStore<R>> {
+        Ok(FolderStore::new(self.rt, alloc, self.path)?)
     }
 }

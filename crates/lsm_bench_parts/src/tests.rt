@@ -1,5 +1,5 @@
 // What no contract says: which arguments and folders are taken, which order a seed gives, and the bytes of a key.
-use crate::arguments::{BadArguments, CHECKS, Plan, parse_arguments};
+use crate::arguments::{BadArguments, CHECKS, parse_arguments};
 use crate::keys::{absent_key_of, key_of};
 use crate::orders::shuffled;
 use crate::places::{Folder, Place};
@@ -24,18 +24,31 @@ fn words_of(alloc: Global, text: &str) -> Result<Vec<String>, AllocError> {
     Ok(words)
 }
 
+/// What arguments ask: keys, a folder, and how many workloads they name.
+type Asked = Result<(usize, Option<&'static str>, usize), BadArguments>;
+
+fn asks(words: &[String], told: &Asked) -> bool {
+    match (parse_arguments(words), told) {
+        (Ok(plan), Ok((keys, folder, rows))) => {
+            plan.keys == *keys
+                && plan.folder == *folder
+                && plan.rows.map_or(0, |named| named.len()) == *rows
+        }
+        (Err(error), Err(told)) => error == *told,
+        _ => false,
+    }
+}
+
 #[test]
 fn takes_arguments(rt: HostRuntime) -> Result<(), Fail> {
-    let timed = |keys, folder| Ok(Plan {
-        keys,
-        with_times: true,
-        folder,
-    });
-    let table = [
-        ("", Ok(CHECKS)),
-        ("1", timed(1, None)),
-        ("100000000", timed(100_000_000, None)),
-        ("1000 folder", timed(1_000, Some("folder"))),
+    let table: [(&str, Asked); 14] = [
+        ("", Ok((1_000, None, 0))),
+        ("1", Ok((1, None, 0))),
+        ("100000000", Ok((100_000_000, None, 0))),
+        ("1000 folder", Ok((1_000, Some("folder"), 0))),
+        ("1000 -", Ok((1_000, None, 0))),
+        ("1000 - get_mem scan_mem", Ok((1_000, None, 2))),
+        ("1000 folder flush_disk", Ok((1_000, Some("folder"), 1))),
         ("0", Err(BadArguments::NoNumber)),
         ("100000001", Err(BadArguments::NoNumber)),
         ("18446744073709551616", Err(BadArguments::NoNumber)),
@@ -43,12 +56,20 @@ fn takes_arguments(rt: HostRuntime) -> Result<(), Fail> {
         ("1k", Err(BadArguments::NoNumber)),
         ("folder", Err(BadArguments::NoNumber)),
         ("folder 1000", Err(BadArguments::NoNumber)),
-        ("1000 folder more", Err(BadArguments::TooMany)),
     ];
     for (text, told) in table {
         let words = words_of(rt.alloc(), text)?;
-        assert!(rt; parse_arguments(&words) == told, "at {text}");
+        assert!(rt; asks(&words, &told), "at {text}");
     }
+    Ok(())
+}
+
+#[test]
+fn runs_the_rows_that_are_named(rt: HostRuntime) -> Result<(), Fail> {
+    let words = words_of(rt.alloc(), "10 - get_mem scan_mem")?;
+    let plan = parse_arguments(&words)?;
+    assert!(rt; plan.has_row("get_mem") && plan.has_row("scan_mem") && !plan.has_row("put_seq"));
+    assert!(rt; CHECKS.has_row("put_seq"));
     Ok(())
 }
 

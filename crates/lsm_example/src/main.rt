@@ -1,4 +1,4 @@
-//! The tree as a library. The README shows the lines of `show` between its two marks.
+//! The tree as a library: a batch, reads at two snapshots, and a range.
 //!
 //! `TreeState` is the tree with one owner. It keeps no journal: `Recorded` does, for those who ask for one.
 #![tactic(auto)]
@@ -15,7 +15,6 @@ fn text(letters: &'static str) -> UserKey {
 
 /// Writes, and reads at two snapshots. It borrows the tree, so that `main` alone drops it.
 fn show(rt: &impl Print, alloc: Global, tree: &mut TreeState) -> Result<()> {
-    // README: from here
     let (one, two) = (Op::Set(text("1")), Op::Set(text("2")));
     tree.write(vec![in alloc; (text("a"), one), (text("b"), two)]?)?;
     let before = tree.visible_seqno().get();
@@ -28,7 +27,6 @@ fn show(rt: &impl Print, alloc: Global, tree: &mut TreeState) -> Result<()> {
         let (key, value) = pair.into_inner()?;
         println!(rt; "{key:?} has {value:?}")?;
     }
-    // README: to here
     Ok(())
 }
 

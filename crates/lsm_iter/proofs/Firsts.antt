@@ -1,5 +1,5 @@
 -- The newest entry of each key, of entries in order.
-use Rattle.std.proofs.Common.{◌≡◌, ℕ, ◌≤◌, append_assoc, true, false, Bool, not, cond, ◌&&◌, List, [], ◌∷◌, ◌++◌, length, filter, Option, Some, None, refl, sym, ap, ◌∙◌, subst, arith, ltb}
+use Rattle.std.proofs.Common.{◌≡◌, ℕ, ◌≤◌, true, false, cond, ◌&&◌, List, [], ◌∷◌, length, Option, Some, None, refl, sym, ap, ◌∙◌, subst, arith, ltb}
 use Rattle.std.specs.List.{All, AllByRecursion}
 use Rattle.std.proofs.lemmas.Bool.{le-ltb}
 use Rattle.std.proofs.lemmas.List.Elements.{All-from_recursion, All-contains, All-filter, All-cons, All-head, All-tail, recursion_from_All, filter_passes}
@@ -13,12 +13,10 @@ use Rattle.std.specs.declared.ops.Bound.{Bound}
 use Rattle.lsm_below.specs.Laws.{EntriesAreOrdered, MergesByKey}
 use Rattle.lsm_iter.specs.Shown.{by_key, IsNewestOf}
 use Rattle.lsm_iter.specs.Reads.{Part, at, counted, cut}
-use Rattle.lsm_iter.specs.Left.{tops, copied, newest_in, last_item}
-use Rattle.lsm_iter.specs.Cursors.{firsts_after, repeats}
+use Rattle.lsm_iter.specs.Left.{tops, copied, newest_in}
 use Rattle.lsm_iter.proofs.Rises.{rises_filter}
 use Rattle.lsm_iter.proofs.Shown.{ascends, lowers, rises_keys}
 use Rattle.lsm_iter.proofs.Newest.{newest_is}
-use Rattle.lsm_iter.proofs.Alone.{last_push}
 
 -- of entries in order, none of which is newer than the first, that is the newest
 first_newest : (x : Entry) (xs : List Entry) → AllByRecursion (λ f. f.key.seqno ≤ x.key.seqno) xs → Some x ≡ later x (newest_in xs)
@@ -58,35 +56,6 @@ module _ (entries : EntriesAreOrdered) (merging : MergesByKey) (part : Part) (ri
   pub tops_rise : Rises by_key (tops part)
   tops_rise = firsts_rise entries merging (counted part) counted_rise
 
--- ---- copies, one after the other
-
-after_one : (o : Option Entry) (e : Entry) (es : List Entry) → repeats o e ≡ false → firsts_after o (e ∷ es) ≡ e ∷ changes e es
-after_one None e es h = refl
-after_one (Some l) e es h = ap (λ b. cond b (changes l es) (e ∷ changes e es)) h
-
-both_of : (a b : Bool) → (a && not b) ≡ true → (a ≡ true) × (b ≡ false)
-both_of true true h = absurd (cc h)
-both_of true false h = (refl, refl)
-both_of false b h = absurd (cc h)
-
-pub copied_more : (s : ℕ) (all list new rest more : List Entry) (last : Option Entry) (e copy : Entry) → last ≡ last_item list → tops (at s all) ≡ list ++ firsts_after (last_item list) (filter (λ f. ltb f.key.seqno s) rest) → rest ≡ e ∷ more → (ltb e.key.seqno s && not (repeats last e)) ≡ true
-    → copy ≡ e → new ≡ list ++ copy ∷ [] → (Some e ≡ last_item new) × (tops (at s all) ≡ new ++ firsts_after (last_item new) (filter (λ f. ltb f.key.seqno s) more))
-copied_more s all list new rest more last e copy ends is next left same pushed =
-    let counts = λ (f : Entry). ltb f.key.seqno s in
-    let new_is : new ≡ list ++ e ∷ [] = pushed ∙ ap (λ x. list ++ x ∷ []) same in
-    let ends_so : last_item new ≡ Some e = ap last_item new_is ∙ last_push list e in
-    let both = both_of (ltb e.key.seqno s) (repeats last e) left in
-    let once : repeats (last_item list) e ≡ false = ap (λ o. repeats o e) (sym ends) ∙ both.1 in (
-      sym ends_so,
-      is
-          ∙ ap (λ l. list ++ firsts_after (last_item list) (filter counts l)) next
-          ∙ ap (λ b. list ++ firsts_after (last_item list) (cond b (e ∷ filter counts more) (filter counts more))) both.0
-          ∙ ap (λ l. list ++ l) (after_one (last_item list) e (filter counts more) once)
-          ∙ sym (append_assoc list (e ∷ []) (changes e (filter counts more)))
-          ∙ ap (λ l. l ++ changes e (filter counts more)) (sym new_is)
-          ∙ ap (λ o. new ++ firsts_after o (filter counts more)) (sym ends_so),
-    )
-
 -- ---- what all entries have, the first of each key have
 
 changes_all : (P : Entry → Type 0) (e : Entry) (es : List Entry) → All P es → All P (changes e es)
@@ -99,6 +68,10 @@ changes_all P e (f ∷ es) h = elim (same_key e f) as (λ b. All P (cond b (chan
 firsts_all : (P : Entry → Type 0) (es : List Entry) → All P es → All P (firsts es)
 firsts_all P [] h = h
 firsts_all P (e ∷ es) h = All-cons P e (changes e es) (All-head P e es h) (changes_all P e es (All-tail P e es h))
+
+-- those of a part too
+pub tops_all : (P : Entry → Type 0) (s : ℕ) (es : List Entry) → All P es → All P (tops (at s es))
+tops_all P s es h = firsts_all P (counted (at s es)) (All-filter (λ e. ltb e.key.seqno s) P es h)
 
 pub copied_all : (P : Entry → Type 0) (low high : Bound Bytes) (s : ℕ) (es : List Entry) → AllByRecursion P es → All P (copied low high (at s es))
 copied_all P low high s es h =

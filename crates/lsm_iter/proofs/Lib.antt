@@ -11,7 +11,8 @@ pub mod Alone
 pub mod Steps
 pub mod Tops
 pub mod Trims
-pub mod Lents
 pub mod Joined
 pub mod Disjoint
 pub mod Touched
+pub mod Walks
+pub mod Lendings

@@ -104,11 +104,11 @@ memtable_copied low high s ms i m a b c lt is h k =
 -- ---- memtables that are lent, one after the other
 
 pub memtable_lent : (low high : Bound Bytes) (s : ℕ) (ms : List (Bor SeenMemtable)) (i : ℕ) (m : Bor SeenMemtable) (a b c : List SeenCursor) → i < length ms → m ≡ get_or ms i m
-    → AddsCursors low high (map (λ m. at s m.now.entries) (take i ms)) 0 a b → AddsCursors low high (at s m.now.entries ∷ []) 0 b c → AddsCursors low high (map (λ m. at s m.now.entries) (take (i + 1) ms)) 0 a c
+    → PutsCursors low high (map (λ m. at s m.now.entries) (take i ms)) 0 a b → PutsCursors low high (at s m.now.entries ∷ []) 0 b c → PutsCursors low high (map (λ m. at s m.now.entries) (take (i + 1) ms)) 0 a c
 memtable_lent low high s ms i m a b c lt is h k =
     let f = λ (m : Bor SeenMemtable). at s m.now.entries in
     let more : map f (take (i + 1) ms) ≡ map f (take i ms) ++ f m ∷ [] = map_more f ms i m lt ∙ ap (λ x. map f (take i ms) ++ f x ∷ []) (sym is) in
-    subst (λ parts. AddsCursors low high parts 0 a c) (sym more) (adds_then low high (map f (take i ms)) (f m ∷ []) 0 0 a b c h k)
+    subst (λ parts. PutsCursors low high parts 0 a c) (sym more) (puts_then low high (map f (take i ms)) (f m ∷ []) 0 0 a b c h k)
 
 -- ---- runs of tables, one after the other
 
@@ -196,17 +196,17 @@ module _ (low high : Bound Bytes) (s : ℕ) (version : SeenVersion) (memtables :
   abbrev all_parts : List Part
   all_parts = parts_at s (state_of version memtables overlay)
 
-  pub adds_all : (n m : ℕ) → AddsCursors low high top n a b → AddsCursors low high mid m b c → AddsCursors low high under 0 c d → AddsCursors low high all_parts (n + (m + 0)) a d
+  adds_all : (n m : ℕ) → AddsCursors low high top n a b → AddsCursors low high mid m b c → AddsCursors low high under 0 c d → AddsCursors low high all_parts (n + (m + 0)) a d
   adds_all n m h k t =
       let parts : top ++ (mid ++ under) ≡ all_parts = ap (λ l. top ++ l) (ap (λ l. l ++ under) (seen_parts s memtables) ∙ sym (map-append (at s) (map (λ m. m.now.entries) memtables) (reads.tables_of version))) in
       subst (λ l. AddsCursors low high l (n + (m + 0)) a d) parts (adds_then low high top (mid ++ under) n (m + 0) a b d h (adds_then low high mid under m 0 b c d k t))
+
+  pub puts_each : (n m : ℕ) → PutsCursors low high top n a b → PutsCursors low high mid m b c → PutsCursors low high under 0 c d → PutsCursors low high all_parts (n + (m + 0)) a d
+  puts_each n m h k t = record { adds = adds_all n m h.adds k.adds t.adds; bytes = λ all. t.bytes (k.bytes (h.bytes all)) }
 
   pub puts_all : PutsCursors low high top (number_copied low high top) a b → PutsCursors low high mid (number_copied low high mid) b c → PutsCursors low high under 0 c d → PutsCursors low high all_parts (copied_within low high s (state_of version memtables overlay)) a d
   puts_all h k t =
       let owned : number_copied low high top + (number_copied low high mid + 0) ≡ copied_within low high s (state_of version memtables overlay) =
       (let sum = number_append low high top (map (at s) (map (λ m. m.now.entries) memtables)) in
       let same : number_copied low high mid ≡ number_copied low high (map (at s) (map (λ m. m.now.entries) memtables)) = ap (number_copied low high) (seen_parts s memtables) in omega arith) in
-      record {
-        adds = subst (λ n. AddsCursors low high all_parts n a d) owned (adds_all (number_copied low high top) (number_copied low high mid) h.adds k.adds t.adds);
-        bytes = λ all. t.bytes (k.bytes (h.bytes all));
-      }
+      subst (λ n. PutsCursors low high all_parts n a d) owned (puts_each (number_copied low high top) (number_copied low high mid) h k t)

@@ -1,5 +1,5 @@
 -- A step of one cursor, and of the one with the outermost key.
-use Rattle.std.proofs.Common.{◌≡◌, ◌≢◌, ℕ, ◌<◌, ◌≤◌, Bool, true, false, cond, Option, None, Some, is_some, Result, Ok, Err, OnErr, List, [], ◌∷◌, MatchOption, option_to_list, filter, get_or, set, length, refl, sym, ap, ◌∙◌, subst, arith}
+use Rattle.std.proofs.Common.{◌≡◌, ◌≢◌, ℕ, ◌<◌, ◌≤◌, true, cond, Option, None, Some, Result, Ok, Err, OnErr, List, [], ◌∷◌, MatchOption, option_to_list, filter, get_or, set, length, refl, sym, ap, ◌∙◌, subst, arith}
 use Rattle.std.proofs.lemmas.List.{get_or_default}
 use Rattle.lsm_below.specs.Entries.{Entry, is_value}
 use Rattle.lsm_below.specs.Sorted.{Rises}
@@ -29,18 +29,6 @@ module _ (end : End) (s t : List Entry) where
       go : (o : Option Entry) → Takes end s o t → option_to_list v ≡ filter is_value (option_to_list o) → MatchOption o ((v ≡ None) × (s ≡ []) × (t ≡ [])) (λ e. IsTaken end s e t × (option_to_list v ≡ filter is_value (e ∷ [])))
       go None taken is = (none_of v is, taken.0, taken.1)
       go (Some e) taken is = (taken, is)
-
-  -- an entry is passed
-  pub passes : (b : Bool) → Takes end s (end_item end s) t → MatchOption (end_item end s) (b ≡ false) (λ e. b ≡ is_value e) → (v : Option Entry) × TakesValue end s v t × (b ≡ is_some v)
-  passes b taken is = go (end_item end s) taken is
-    where
-      go : (o : Option Entry) → Takes end s o t → MatchOption o (b ≡ false) (λ e. b ≡ is_value e) → (v : Option Entry) × MatchOption o ((v ≡ None) × (s ≡ []) × (t ≡ [])) (λ e. IsTaken end s e t × (option_to_list v ≡ filter is_value (e ∷ []))) × (b ≡ is_some v)
-      go None taken is = (None, (refl, taken.0, taken.1), is)
-      go (Some e) taken is = kind (is_value e) refl
-        where
-          kind : (c : Bool) → is_value e ≡ c → (v : Option Entry) × (IsTaken end s e t × (option_to_list v ≡ filter is_value (e ∷ []))) × (b ≡ is_some v)
-          kind true h = (Some e, (taken, sym (ap (λ c. cond c (e ∷ []) []) h)), is ∙ h)
-          kind false h = (None, (taken, sym (ap (λ c. cond c (e ∷ []) []) h)), is ∙ h)
 
 -- ---- the cursor with the outermost key
 

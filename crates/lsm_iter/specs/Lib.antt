@@ -10,3 +10,4 @@ pub mod Puts
 pub mod Trims
 pub mod Shared
 pub mod Answers
+pub mod Lenders

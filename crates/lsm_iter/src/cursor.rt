@@ -1,7 +1,7 @@
 // A cursor: what is left of a source, one entry of each key, from both ends.
-ghost use Rattle.std.specs.Prelude.{◌≡◌, ◌≤◌, true, flat_map, Some, false, option_copied, option_to_list, is_some, filter, Option, MatchOption, IfOk, OnErr};
+ghost use Rattle.std.specs.Prelude.{◌≡◌, ◌≤◌, true, flat_map, Some, option_copied, option_to_list, filter, IfOk, OnErr};
 ghost use Rattle.std.specs.List.{All};
-ghost use Rattle.lsm_below.specs.Entries.{Entry, HasBytes, is_value};
+ghost use Rattle.lsm_below.specs.Entries.{Entry, HasBytes, entry_cmp, is_value};
 ghost use Rattle.lsm_below.specs.Sorted.{Rises};
 ghost use Rattle.lsm_below.specs.Sums.{capped};
 ghost use Rattle.lsm_iter.specs.Shown.{by_key};
@@ -12,34 +12,30 @@ ghost use Rattle.lsm_iter.specs.Shared.{IsSound};
 
 use crate::End;
 use crate::copies::Copies;
-use crate::lent::{Lent, is_left};
 use crate::prefix::key_has_bytes;
 use crate::shared::Shared;
-use lsm_below::{
-    InternalValue, Run, SeqNo, UserKey, entries_are_ordered, has_same_key, merges_by_key,
-};
+use crate::walk::Walk;
+use lsm_below::{InternalValue, Run, SeqNo, UserKey, entries_are_ordered, merges_by_key};
 use lsm_memtable::{Iter, Span};
 use lsm_tables::Table;
 use std::alloc::{AllocError, Global};
 use std::marker::Model;
 use std::ops::Bound;
 
-/// Where a cursor's entries stand: copies of those of a memtable, in tables that are shared, or in a memtable that is
-/// borrowed.
+/// Where a cursor's entries stand: copies of those of a memtable, or in tables that are shared.
 #[derive(Drop)]
-pub(crate) enum Held<'a> {
+pub(crate) enum Held {
     Copied(Copies),
     Shared(Shared),
-    Lent(Lent<'a>),
 }
 
 /// What is left of a source: of each key the newest entry that counts, by rising key, from both ends.
 #[derive(Drop)]
-pub(crate) struct Cursor<'a> {
-    held: Held<'a>,
+pub(crate) struct Cursor {
+    held: Held,
 }
 
-impl<'a> Model for Cursor<'a> {
+impl Model for Cursor {
     ghost use Rattle.lsm_below.specs.Sorted.{Rises};
     ghost use Rattle.lsm_iter.specs.Shown.{by_key};
     ghost use Rattle.lsm_iter.specs.Left.{SeenCursor};
@@ -53,7 +49,7 @@ impl<'a> Model for Cursor<'a> {
 }
 
 /// Whether an entry is a value: a tombstone shows nothing.
-fn is_a_value(entry: &InternalValue) -> bool
+pub(crate) fn is_a_value(entry: &InternalValue) -> bool
     ensures { result ≡ is_value entry.now }
 {
     !entry.is_tombstone()
@@ -73,52 +69,37 @@ fn value_of(entry: Option<InternalValue>) -> Option<InternalValue>
 
 /// Copies of the newest entry of each key that counts, which share the bytes. Refused only for want of memory.
 fn copy_tops(alloc: Global, entries: Iter<'_>, below: SeqNo) -> Result<Copies, AllocError>
+    requires { Rises entry_cmp entries }
     ensures is { IfOk result (λ list. list ≡ tops (at below entries.entry)) }
     ensures bytes { IfOk result (All HasBytes) }
 {
     let mut list = Copies::new(alloc);
-    let mut last = None;
-    let mut rest = entries;
-    while let Some(entry) = rest.next() {
-        if is_left(last, entry, below) {
-            key_has_bytes(&entry.key.user_key);
-            list.push(alloc, entry.copy()?)?;
-            last = Some(entry);
-        }
+    let mut walk = Walk::new(entries, below);
+    while let Some(entry) = walk.take_front() {
+        key_has_bytes(&entry.key.user_key);
+        list.push(alloc, entry.copy()?)?;
     }
     Ok(list)
 }
 
 /// The entry at an end of a cursor.
-fn peek_in<'a>(end: End, held: &'a Held<'_>) -> Option<&'a InternalValue>
+fn peek_in(end: End, held: &Held) -> Option<&InternalValue>
     ensures { option_copied result ≡ end_item end (left_in held.now) }
 {
     match held {
         Held::Copied(list) => list.peek(end),
         Held::Shared(tables) => tables.peek(end),
-        Held::Lent(entries) => entries.peek(end),
     }
 }
 
 /// Leaves out the entry at an end of a cursor.
-fn skip_in(end: End, held: &mut Held<'_>)
+fn skip_in(end: End, held: &mut Held)
     ensures takes { Takes end (left_in held.old) (end_item end (left_in held.old)) (left_in held.new) }
     ensures owned { owned_in held.new ≤ owned_in held.old }
 {
     match held {
         Held::Copied(list) => list.skip(end),
         Held::Shared(tables) => tables.skip(end),
-        Held::Lent(entries) => entries.skip(end),
-    }
-}
-
-/// Whether there is an entry, and it is a value.
-fn has_value(entry: Option<&InternalValue>) -> bool
-    ensures { MatchOption (option_copied entry.entry) (result ≡ false) (λ e. result ≡ is_value e) }
-{
-    match entry {
-        Some(entry) => is_a_value(entry),
-        None => false,
     }
 }
 
@@ -134,7 +115,7 @@ fn copy_of_value(entry: Option<&InternalValue>) -> Result<Option<InternalValue>,
 }
 
 /// Takes the entry at an end of a cursor, if it is a value.
-fn take_in(end: End, held: &mut Held<'_>) -> Result<Option<InternalValue>, AllocError>
+fn take_in(end: End, held: &mut Held) -> Result<Option<InternalValue>, AllocError>
     ensures takes { IfOk result (λ v. TakesValue end (left_in held.old) v (left_in held.new)) }
     ensures rises { Rises by_key (left_in held.old) → Rises by_key (left_in held.new) }
     ensures owned { owned_in held.new ≤ owned_in held.old }
@@ -148,13 +129,9 @@ fn take_in(end: End, held: &mut Held<'_>) -> Result<Option<InternalValue>, Alloc
     Ok(value)
 }
 
-impl<'a> Cursor<'a> {
+impl Cursor {
     /// Copies of the newest entry of each key that counts, of a part of a memtable. Refused only for want of memory.
-    pub(crate) fn copied(
-        alloc: Global,
-        span: &Span<'_>,
-        below: SeqNo,
-    ) -> Result<Cursor<'a>, AllocError>
+    pub(crate) fn copied(alloc: Global, span: &Span<'_>, below: SeqNo) -> Result<Cursor, AllocError>
         ensures is { IfOk result (λ c. c ≡ copies_of (at below span.now)) }
         ensures bytes { IfOk result (λ c. All HasBytes c.left) }
     {
@@ -173,7 +150,7 @@ impl<'a> Cursor<'a> {
         run: &Run<Table>,
         bounds: &(Bound<UserKey>, Bound<UserKey>),
         below: SeqNo,
-    ) -> Result<Cursor<'a>, AllocError>
+    ) -> Result<Cursor, AllocError>
         requires { All IsSound run.now }
         ensures left { IfOk result (λ c. c.left ≡ flat_map (λ t. copied bounds.now.0 bounds.now.1 (at below t.entries)) run.now) }
         ensures held { IfOk result (λ c. c.held ≡ 0) }
@@ -184,18 +161,6 @@ impl<'a> Cursor<'a> {
         Ok(Cursor {
             held: Held::Shared(tables),
         })
-    }
-
-    /// What is left of a part of a memtable, of which no entry is copied.
-    pub(crate) fn lent(span: &Span<'a>, below: SeqNo) -> Cursor<'a>
-        ensures { result ≡ record { left = tops (at below span.now); held = 0 } }
-    {
-        span.facts();
-        let entries = Lent::new(span.iter(), below);
-        entries.facts();
-        Cursor {
-            held: Held::Lent(entries),
-        }
     }
 
     /// What every cursor meets: its keys rise.
@@ -232,24 +197,13 @@ impl<'a> Cursor<'a> {
         take_in(end, &mut self.held)
     }
 
-    /// Leaves out the entry at this end, and returns whether it is a value.
-    pub(crate) fn pass(&mut self, end: End) -> bool
-        ensures rises { Rises by_key self.old.left }
-        ensures takes { (v : Option Entry) × TakesValue end self.old.left v self.new.left × (result ≡ is_some v) }
-        ensures held { self.new.held ≤ self.old.held }
-    {
-        let is_value = has_value(self.peek(end));
-        self.skip(end);
-        is_value
-    }
-
     /// How many entries the cursor owns.
     pub(crate) fn held(&self) -> usize
         ensures { result ≡ capped self.now.held }
     {
         match &self.held {
             Held::Copied(list) => list.len(),
-            Held::Shared(_) | Held::Lent(_) => 0,
+            Held::Shared(_) => 0,
         }
     }
 }

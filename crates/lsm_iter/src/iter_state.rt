@@ -2,10 +2,12 @@
 ghost use Rattle.std.specs.Prelude.{◌≡◌, [], IfOk};
 ghost use Rattle.lsm_iter.specs.Reads.{parts_at, state_of};
 ghost use Rattle.lsm_iter.specs.Left.{copied_within};
-ghost use Rattle.lsm_iter.specs.Puts.{AddsCursors, PutsCursors};
+ghost use Rattle.lsm_iter.specs.Puts.{PutsCursors};
 
 use crate::cursor::Cursor;
-use crate::making::{lend_index, lend_memtables, push_copies, push_index, push_version};
+use crate::lender::Lender;
+use crate::making::{push_copies, push_index, push_version};
+use crate::sources::{lend_index, lend_memtables, lend_version};
 use crate::{Memtable, Version};
 use lsm_below::{SeqNo, UserKey};
 use std::alloc::{AllocError, Global};
@@ -58,7 +60,7 @@ impl<'a> IterState<'a> {
         alloc: Global,
         bounds: &(Bound<UserKey>, Bound<UserKey>),
         snapshot: SeqNo,
-    ) -> Result<Vec<Cursor<'static>>, AllocError>
+    ) -> Result<Vec<Cursor>, AllocError>
         ensures { IfOk result
             (λ cursors. PutsCursors bounds.now.0 bounds.now.1 (parts_at snapshot self.now) (copied_within bounds.now.0 bounds.now.1 snapshot self.now) [] cursors.items) }
     {
@@ -68,21 +70,22 @@ impl<'a> IterState<'a> {
         push_version(alloc, &mut cursors, self.version, bounds, snapshot)?;
         Ok(cursors)
     }
-    /// The same without copies: the index and the memtables are lent, and the tables are shared. Refused only for want
+
+    /// A lender for each source, the newest source first: the index, the memtables, and the tables. Refused only for want
     /// of memory.
-    pub(crate) fn lent_cursors(
+    pub(crate) fn lenders(
         &self,
         alloc: Global,
         bounds: &(Bound<UserKey>, Bound<UserKey>),
         snapshot: SeqNo,
-    ) -> Result<Vec<Cursor<'a>>, AllocError>
+    ) -> Result<Vec<Lender<'a>>, AllocError>
         ensures { IfOk result
-            (λ cursors. AddsCursors bounds.now.0 bounds.now.1 (parts_at snapshot self.now) 0 [] cursors.items) }
+            (λ lenders. PutsCursors bounds.now.0 bounds.now.1 (parts_at snapshot self.now) 0 [] lenders.items) }
     {
-        let mut cursors = Vec::with_capacity(alloc, self.memtables.len().saturating_add(1))?;
-        lend_index(&mut cursors, self.overlay, bounds)?;
-        lend_memtables(&mut cursors, &self.memtables, bounds, snapshot)?;
-        push_version(alloc, &mut cursors, self.version, bounds, snapshot)?;
-        Ok(cursors)
+        let mut lenders = Vec::with_capacity(alloc, self.memtables.len().saturating_add(1))?;
+        lend_index(&mut lenders, self.overlay, bounds)?;
+        lend_memtables(&mut lenders, &self.memtables, bounds, snapshot)?;
+        lend_version(alloc, &mut lenders, self.version, bounds, snapshot)?;
+        Ok(lenders)
     }
 }

@@ -3,28 +3,37 @@
 //! | Module | Holds |
 //! |-|-|
 //! | `prefix` | the bounds of the keys that begin alike |
-//! | `iter_state`, `making` | what an iterator reads; cursors for it |
-//! | `cursor`, `copies`, `lent`, `trim`, `shared` | what is left of a source, from both ends; of entries that were copied; of a memtable that is borrowed; of a table in bounds; of a run of tables |
+//! | `iter_state` | what an iterator reads |
+//! | `making`, `cursor`, `copies`, `trim`, `shared` | what an iterator keeps of its sources, from both ends: copies of a memtable's entries, and shares of the tables of a run |
 //! | `outermost` | the first key that cursors have, seen from an end |
 //! | `tree_iter` | an iterator over what a snapshot shows, from both ends |
-//! | `shown_ends` | the entry at an end of what a snapshot shows, and how many there are, without a list |
+//! | `sources`, `lender`, `walk`, `cut`, `flat` | the same of sources that are lent: of a memtable, of a table in bounds, of a run of tables |
+//! | `lending` | the first key that lenders have, seen from an end |
+//! | `pairs` | what a snapshot shows, lent by the tree |
+//! | `shown_ends` | the entry at an end of what a snapshot shows, and how many there are |
 //! | `guard` | what an iterator over pairs returns |
 //! | `laws` | what the list of what is shown is in the theory's words |
 #![tactic(auto)]
 
 mod copies;
 mod cursor;
+mod cut;
+mod flat;
 mod guard;
 mod iter_state;
 mod laws;
-mod lent;
+mod lender;
+mod lending;
 mod making;
 mod outermost;
+mod pairs;
 mod prefix;
 mod shared;
 mod shown_ends;
+mod sources;
 mod tree_iter;
 mod trim;
+mod walk;
 
 pub use guard::{Guard, IterGuard, RangeItem};
 pub use iter_state::IterState;
@@ -32,6 +41,7 @@ pub use laws::shown_is_the_view;
 pub use lsm_below::Error;
 use lsm_memtable::Memtable;
 use lsm_versions::Version;
+pub use pairs::Pairs;
 pub use prefix::prefix_to_range;
 pub use shown_ends::{count_shown, end_shown};
 pub use tree_iter::{End, TreeIter, take_ends};

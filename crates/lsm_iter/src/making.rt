@@ -5,7 +5,7 @@ ghost use Rattle.lsm_below.specs.Optimizes.{tables_of as all_tables};
 ghost use Rattle.lsm_versions.specs.Levels.{all_of};
 ghost use Rattle.lsm_iter.specs.Reads.{at, index_of, tables_of};
 ghost use Rattle.lsm_iter.specs.Left.{copied};
-ghost use Rattle.lsm_iter.specs.Puts.{AddsCursors, PutsCursors, number_copied};
+ghost use Rattle.lsm_iter.specs.Puts.{PutsCursors, number_copied};
 ghost use Rattle.lsm_iter.specs.Shared.{IsSound};
 
 use crate::cursor::Cursor;
@@ -19,7 +19,7 @@ use std::ops::Bound;
 /// Appends a cursor over copies of what lies of a memtable within bounds.
 fn push_copy(
     alloc: Global,
-    cursors: &mut Vec<Cursor<'_>>,
+    cursors: &mut Vec<Cursor>,
     memtable: &Memtable,
     bounds: &(Bound<UserKey>, Bound<UserKey>),
     below: SeqNo,
@@ -37,7 +37,7 @@ fn push_copy(
 /// Appends a cursor for an index.
 pub(crate) fn push_index(
     alloc: Global,
-    cursors: &mut Vec<Cursor<'_>>,
+    cursors: &mut Vec<Cursor>,
     overlay: Option<(&Memtable, SeqNo)>,
     bounds: &(Bound<UserKey>, Bound<UserKey>),
 ) -> Result<(), AllocError>
@@ -53,7 +53,7 @@ pub(crate) fn push_index(
 /// Appends a cursor for each memtable.
 pub(crate) fn push_copies(
     alloc: Global,
-    cursors: &mut Vec<Cursor<'_>>,
+    cursors: &mut Vec<Cursor>,
     memtables: &[&Memtable],
     bounds: &(Bound<UserKey>, Bound<UserKey>),
     below: SeqNo,
@@ -67,57 +67,10 @@ pub(crate) fn push_copies(
     Ok(())
 }
 
-/// Appends a cursor of what lies of a memtable within bounds, of which no entry is copied.
-fn lend_memtable<'a>(
-    cursors: &mut Vec<Cursor<'a>>,
-    memtable: &'a Memtable,
-    bounds: &(Bound<UserKey>, Bound<UserKey>),
-    below: SeqNo,
-) -> Result<(), AllocError>
-    ensures { OnOk result
-        (AddsCursors bounds.now.0 bounds.now.1 (at below memtable.now.entries ∷ []) 0 cursors.old.items cursors.new.items) }
-{
-    let span = memtable.span().within(bounds);
-    span.facts();
-    cursors.push(Cursor::lent(&span, below))?;
-    Ok(())
-}
-
-/// Appends a cursor for an index, which is lent.
-pub(crate) fn lend_index<'a>(
-    cursors: &mut Vec<Cursor<'a>>,
-    overlay: Option<(&'a Memtable, SeqNo)>,
-    bounds: &(Bound<UserKey>, Bound<UserKey>),
-) -> Result<(), AllocError>
-    ensures { OnOk result
-        (AddsCursors bounds.now.0 bounds.now.1 (option_to_list (index_of overlay.entry)) 0 cursors.old.items cursors.new.items) }
-{
-    match overlay {
-        Some((index, below)) => lend_memtable(cursors, index, bounds, below),
-        None => Ok(()),
-    }
-}
-
-/// Appends a cursor for each memtable, which are lent.
-pub(crate) fn lend_memtables<'a>(
-    cursors: &mut Vec<Cursor<'a>>,
-    memtables: &[&'a Memtable],
-    bounds: &(Bound<UserKey>, Bound<UserKey>),
-    below: SeqNo,
-) -> Result<(), AllocError>
-    ensures { OnOk result
-        (AddsCursors bounds.now.0 bounds.now.1 (map (λ m. at below m.now.entries) memtables.now) 0 cursors.old.items cursors.new.items) }
-{
-    for memtable in memtables {
-        lend_memtable(cursors, memtable, bounds, below)?;
-    }
-    Ok(())
-}
-
 /// Appends a cursor for a run, whose tables are walked one after the other.
 fn push_run(
     alloc: Global,
-    cursors: &mut Vec<Cursor<'_>>,
+    cursors: &mut Vec<Cursor>,
     run: &Run<Table>,
     bounds: &(Bound<UserKey>, Bound<UserKey>),
     below: SeqNo,
@@ -133,7 +86,7 @@ fn push_run(
 /// Appends a cursor for each run of a level.
 fn push_runs(
     alloc: Global,
-    cursors: &mut Vec<Cursor<'_>>,
+    cursors: &mut Vec<Cursor>,
     runs: &[Run<Table>],
     bounds: &(Bound<UserKey>, Bound<UserKey>),
     below: SeqNo,
@@ -150,7 +103,7 @@ fn push_runs(
 /// Appends a cursor for each run of each level.
 fn push_levels(
     alloc: Global,
-    cursors: &mut Vec<Cursor<'_>>,
+    cursors: &mut Vec<Cursor>,
     levels: &[Level],
     bounds: &(Bound<UserKey>, Bound<UserKey>),
     below: SeqNo,
@@ -167,7 +120,7 @@ fn push_levels(
 /// Appends a cursor for each run of a version, in the order of a walk.
 pub(crate) fn push_version(
     alloc: Global,
-    cursors: &mut Vec<Cursor<'_>>,
+    cursors: &mut Vec<Cursor>,
     version: &Version,
     bounds: &(Bound<UserKey>, Bound<UserKey>),
     below: SeqNo,

@@ -1,6 +1,5 @@
 // The outermost key of cursors: the first one seen from an end.
-ghost use Rattle.std.specs.Prelude.{◌≡◌, ◌≢◌, ◌+◌, ◌<◌, ◌≤◌, [], length, is_some, Option, MatchOption, IfOk, OnErr};
-ghost use Rattle.lsm_below.specs.Entries.{Entry};
+ghost use Rattle.std.specs.Prelude.{◌≡◌, ◌≢◌, ◌+◌, ◌<◌, ◌≤◌, [], length, MatchOption, IfOk, OnErr};
 ghost use Rattle.lsm_below.specs.Sorted.{Rises};
 ghost use Rattle.lsm_iter.specs.Shown.{by_key};
 ghost use Rattle.lsm_iter.specs.Left.{left_of, held_in, shown_list, end_item, Takes};
@@ -15,7 +14,7 @@ use std::cmp::Ordering;
 
 /// How an entry stands to another one, seen from an end.
 #[derive(Clone, Copy)]
-enum Standing {
+pub(crate) enum Standing {
     /// Its key is nearer to the end.
     Outside,
     /// It has the same key, and is newer.
@@ -27,7 +26,7 @@ enum Standing {
 }
 
 /// How the second entry stands to the first one.
-fn stands_to(end: End, entry: &InternalValue, other: &InternalValue) -> Standing
+pub(crate) fn stands_to(end: End, entry: &InternalValue, other: &InternalValue) -> Standing
     ensures { result ≡ standing end entry.now other.now }
 {
     let order = match end {
@@ -48,7 +47,7 @@ fn stands_to(end: End, entry: &InternalValue, other: &InternalValue) -> Standing
 }
 
 /// How an entry stands to the one at an end of a cursor: outside, where that has none.
-fn stands_at(end: End, cursor: &Cursor<'_>, other: &InternalValue) -> Standing
+fn stands_at(end: End, cursor: &Cursor, other: &InternalValue) -> Standing
     ensures rises { Rises by_key cursor.now.left }
     ensures is { MatchOption (end_item end cursor.now.left) (result ≡ Outside) (λ e. result ≡ standing end e other.now) }
 {
@@ -60,7 +59,7 @@ fn stands_at(end: End, cursor: &Cursor<'_>, other: &InternalValue) -> Standing
 
 /// Of the cursors up to this one the place of the one with the outermost key, where that of those before it is
 /// known. Where two have one key, the older entry goes, which no step would show.
-fn outer_of(end: End, cursors: &mut [Cursor<'_>], outer: Option<usize>, at: usize) -> Option<usize>
+fn outer_of(end: End, cursors: &mut [Cursor], outer: Option<usize>, at: usize) -> Option<usize>
     requires at { at < length cursors.old }
     requires outer { IsOutermost end cursors.old at outer }
     ensures outer { IsOutermost end cursors.new (at + 1) result }
@@ -87,7 +86,7 @@ fn outer_of(end: End, cursors: &mut [Cursor<'_>], outer: Option<usize>, at: usiz
 }
 
 /// The place of the cursor with the outermost key, which no other one has. One comparison a cursor.
-fn outermost_at(end: End, cursors: &mut [Cursor<'_>]) -> Option<usize>
+fn outermost_at(end: End, cursors: &mut [Cursor]) -> Option<usize>
     ensures outer { IsOutermost end cursors.new (length cursors.new) result }
     ensures same { ShowSame cursors.old cursors.new }
 {
@@ -101,7 +100,7 @@ fn outermost_at(end: End, cursors: &mut [Cursor<'_>]) -> Option<usize>
 /// Takes the entry at this end of what cursors show. Refused only for want of memory, where something is left.
 pub(crate) fn take_shown(
     end: End,
-    cursors: &mut [Cursor<'_>],
+    cursors: &mut [Cursor],
 ) -> Result<Option<InternalValue>, AllocError>
     ensures takes { IfOk result (λ entry. Takes end (shown_list (left_of cursors.old)) entry (shown_list (left_of cursors.new))) }
     ensures held { held_in cursors.new ≤ held_in cursors.old }
@@ -113,20 +112,6 @@ pub(crate) fn take_shown(
         };
         if let Some(entry) = cursors[at].take(end)? {
             return Ok(Some(entry));
-        }
-    }
-}
-
-/// Passes the entry at this end of what cursors show, and returns whether there was one.
-pub(crate) fn pass_shown(end: End, cursors: &mut [Cursor<'_>]) -> bool
-    ensures { (entry : Option Entry) × Takes end (shown_list (left_of cursors.old)) entry (shown_list (left_of cursors.new)) × (result ≡ is_some entry) }
-{
-    loop {
-        let Some(at) = outermost_at(end, cursors) else {
-            return false;
-        };
-        if cursors[at].pass(end) {
-            return true;
         }
     }
 }

@@ -75,7 +75,10 @@ fn push_part(parts: &mut VecDeque<Trim>, part: Trim) -> Result<(), AllocError>
 }
 
 /// The tables of a run from the first to the last one that reach into the bounds: the others have nothing there.
-fn touched<'a>(run: &'a Run<Table>, bounds: &(Bound<UserKey>, Bound<UserKey>)) -> &'a [Table]
+pub(crate) fn touched<'a>(
+    run: &'a Run<Table>,
+    bounds: &(Bound<UserKey>, Bound<UserKey>),
+) -> &'a [Table]
     requires { All IsSound run.now }
     ensures run { IsRun (λ t. range_of t.entries) result.now }
     ensures sound { All IsSound result.now }

@@ -48,7 +48,7 @@ pub enum End {
 /// ```
 #[derive(Drop)]
 pub struct TreeIter {
-    cursors: Vec<Cursor<'static>>,
+    cursors: Vec<Cursor>,
 }
 
 impl Model for TreeIter {

@@ -12,7 +12,7 @@ ghost use Rattle.lsm_iter.specs.Trims.{IsTrimmed, Trims, counts};
 ghost use Rattle.lsm_iter.specs.declared.tree_iter.End.TheVariants.{Front, Back};
 
 use crate::End;
-use lsm_below::{InternalValue, SeqNo, UserKey, entries_are_ordered, has_same_key, places_within};
+use lsm_below::{InternalValue, SeqNo, UserKey, entries_are_ordered, has_same_key};
 use lsm_tables::Table;
 use std::alloc::AllocError;
 use std::marker::Model;
@@ -22,6 +22,7 @@ use std::ops::Bound;
 const NEAR: usize = 8;
 
 /// How many entries have the key of the first one, by binary search.
+#[inline(never)]
 fn far_group_len(entries: &[InternalValue]) -> usize
     requires some { 0 < length entries.now }
     requires rises { Rises entry_cmp entries.now }
@@ -35,6 +36,7 @@ fn far_group_len(entries: &[InternalValue]) -> usize
 }
 
 /// How many entries have the key of the first one: they are the first ones. Few are counted one by one.
+#[inline(always)]
 fn group_len(entries: &[InternalValue]) -> usize
     requires some { 0 < length entries.now }
     requires rises { Rises entry_cmp entries.now }
@@ -54,7 +56,8 @@ fn group_len(entries: &[InternalValue]) -> usize
 }
 
 /// How many entries come before the first one that counts.
-fn hidden_len(entries: &[InternalValue], below: SeqNo) -> usize
+#[inline(always)]
+pub(crate) fn hidden_len(entries: &[InternalValue], below: SeqNo) -> usize
     ensures inside { result ≤ length entries.now }
     ensures trims { Trims Front below entries.now (drop result entries.now) }
 {
@@ -122,7 +125,7 @@ fn newest_place(entries: &[InternalValue], below: SeqNo) -> usize
 }
 
 /// How many entries there are up to the newest one, that counts, of the last key.
-fn left_len(entries: &[InternalValue], below: SeqNo) -> usize
+pub(crate) fn left_len(entries: &[InternalValue], below: SeqNo) -> usize
     requires { Rises entry_cmp entries.now }
     ensures inside { result ≤ length entries.now }
     ensures trims { Trims Back below entries.now (take result entries.now) }
@@ -135,7 +138,8 @@ fn left_len(entries: &[InternalValue], below: SeqNo) -> usize
 }
 
 /// The place behind the first entry's key, and what doesn't count behind it.
-fn past_front(entries: &[InternalValue], below: SeqNo) -> usize
+#[inline(always)]
+pub(crate) fn past_front(entries: &[InternalValue], below: SeqNo) -> usize
     requires some { 0 < length entries.now }
     requires rises { Rises entry_cmp entries.now }
     requires trimmed { IsTrimmed below entries.now }
@@ -148,7 +152,7 @@ fn past_front(entries: &[InternalValue], below: SeqNo) -> usize
 }
 
 /// How many entries are left without the last one.
-fn past_back(entries: &[InternalValue], below: SeqNo) -> usize
+pub(crate) fn past_back(entries: &[InternalValue], below: SeqNo) -> usize
     requires some { 0 < length entries.now }
     requires rises { Rises entry_cmp entries.now }
     requires trimmed { IsTrimmed below entries.now }
@@ -184,7 +188,8 @@ impl Model for Trim {
 }
 
 /// The entry at this end.
-fn outermost(end: End, entries: &[InternalValue]) -> Option<&InternalValue>
+#[inline(always)]
+pub(crate) fn outermost(end: End, entries: &[InternalValue]) -> Option<&InternalValue>
     ensures { option_copied result ≡ end_item end entries.now }
 {
     match end {
@@ -211,7 +216,7 @@ impl Trim {
     {
         table.facts();
         let entries = table.entries();
-        let (start, end) = places_within(entries, &bounds.0, &bounds.1);
+        let (start, end) = table.places(&bounds.0, &bounds.1);
         let low = start + hidden_len(&entries[start..end], below);
         let high = low + left_len(&entries[low..end], below);
         let table = table.copy()?;

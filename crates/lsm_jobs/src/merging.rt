@@ -6,7 +6,7 @@ ghost use Rattle.lsm_tables.specs.Cutting.{IsWritable};
 ghost use Rattle.lsm_jobs.specs.Jobs.{entries_in, first_source, kept_in, KeptOf, AreWritable};
 
 use crate::{MemtableSource, SealedMemtable};
-use lsm_below::{Error, InternalValue, SeqNo, Source, all_is_kept, compact, has_same_key};
+use lsm_below::{AsEntry, Error, InternalValue, SeqNo, Source, all_is_kept, compact, has_same_key};
 use lsm_memtable::{Iter, Memtable};
 use lsm_tables::{Parts, kept_is_writable};
 use std::alloc::{AllocError, Global};
@@ -20,7 +20,7 @@ pub(crate) enum Kept {
     Listed(Vec<InternalValue>),
 }
 
-/// What a source gives. Refused where the source is, or for want of memory.
+/// What a source gives: copies, which share keys and values. Refused where the source is, or for want of memory.
 fn take_all<S: Source<Error = Error>>(
     alloc: Global,
     mut source: S,
@@ -34,7 +34,7 @@ fn take_all<S: Source<Error = Error>>(
         match source.next_entry() {
             None => return Ok(list),
             Some(Err(error)) => return Err(error),
-            Some(Ok(entry)) => list.push(entry)?,
+            Some(Ok(entry)) => list.push(entry.as_entry().copy()?)?,
         }
     }
 }

@@ -1,5 +1,5 @@
 // Whether a job is what it was: its memtables, its tables.
-ghost use Rattle.std.specs.Prelude.{◌≡◌, ◌↔◌, IsTrue, map};
+ghost use Rattle.std.specs.Prelude.{◌≡◌, ◌↔◌, IsTrue};
 
 use lsm_below::{has_same_parts, have_same_parts};
 use lsm_memtable::{Iter, Memtable};

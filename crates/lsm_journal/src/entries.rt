@@ -18,14 +18,14 @@ pub fn share_value(value: &Option<UserValue>) -> Result<Option<UserValue>, Alloc
     }
 }
 
-/// What an answered get adds to a journal.
+/// What an answered get of a key adds to a journal. It shares the value.
 pub fn read_entry(
     snapshot: SeqNo,
-    key: &UserKey,
+    key: UserKey,
     value: &Option<UserValue>,
 ) -> Result<JournalEntry, AllocError>
-    ensures { IfOk result (λ entry. entry ≡ ReadEntry snapshot (GetQuestion key.now) (Found value.now)) }
+    ensures { IfOk result (λ entry. entry ≡ ReadEntry snapshot (GetQuestion key) (Found value.now)) }
 {
     let told = Answer::Found(share_value(value)?);
-    Ok(JournalEntry::Read(snapshot, Question::Get(share(key)?), told))
+    Ok(JournalEntry::Read(snapshot, Question::Get(key), told))
 }

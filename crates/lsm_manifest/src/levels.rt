@@ -56,7 +56,7 @@ fn levels_of(alloc: Global, levels: Vec<Vec<Vec<Table>>>) -> Result<Vec<Level>, 
     Ok(made)
 }
 
-fn table_is_small(table: &Table) -> bool
+pub(crate) fn table_is_small(table: &Table) -> bool
     ensures { IsTrue result ↔ AllByRecursion (λ e. e.key.seqno < 2 ^ 63) table.now.entries }
 {
     table.get_highest_seqno() < 1 << 63

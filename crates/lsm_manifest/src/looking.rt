@@ -18,7 +18,8 @@ use lsm_store::{Store, StoreError};
 use lsm_versions::Version;
 use std::alloc::Global;
 
-fn names_of<S: Store>(alloc: Global, store: &mut S) -> Result<Vec<String>, OpenError>
+/// All names of a store.
+pub(crate) fn names_of<S: Store>(alloc: Global, store: &mut S) -> Result<Vec<String>, OpenError>
     ensures names { S.tells → IfOk result (λ v. Lists (S.world store.old).gives (map string_bytes v.items)) }
     ensures refusal { StoreOnly result }
     ensures same { S.tells → Same (S.world store.old) (S.world store.new) }

@@ -1,18 +1,15 @@
 // What iterators give over tables, memtables and an index, beside the rows that are written down.
 
-use crate::layers::Layers;
+use crate::layers::{Layers, make_layers};
 use crate::newest::shown_within;
-use crate::rows::{ALL_UNDER, BOUNDS, PREFIXES, SNAPSHOTS, UNDER};
+use crate::rows::{ALL_UNDER, Asked, BOUNDS, PREFIXES, Row, SNAPSHOTS, UNDER};
 use crate::walks::{Shown, Text, Turns, WALKS, gives, is};
 use lsm_below::{Error, SeqNo, UserKey};
 use lsm_iter::{Guard, TreeIter};
+use lsm_parts::Memtable;
 use std::alloc::Global;
 use std::ops::Bound;
-use std::process::Abort;
 use std::test::Fail;
-
-/// A snapshot, and the number below which an index counts, if there is one.
-type At = (SeqNo, Option<SeqNo>);
 
 fn key_of(bound: Text) -> Bound<UserKey> {
     match bound {
@@ -22,40 +19,21 @@ fn key_of(bound: Text) -> Bound<UserKey> {
     }
 }
 
-fn range_of(layers: &Layers, lower: Text, upper: Text, at: At) -> Result<TreeIter, Error> {
-    let bounds = (key_of(lower), key_of(upper));
-    layers
-        .tree
-        .create_internal_range(&bounds, at.0, layers.index_at(at.1))
+/// The index, where it counts, with the number below which it does.
+fn index_at(layers: &Layers, below: Option<SeqNo>) -> Option<(&Memtable, SeqNo)> {
+    Some((&layers.1, below?))
 }
 
-/// Whether each walk over a range gives just these.
-fn is_shown(
-    layers: &Layers,
-    lower: Text,
-    upper: Text,
-    at: At,
-    wanted: &[Shown],
-) -> Result<bool, Error> {
-    for turns in WALKS {
-        if !gives(range_of(layers, lower, upper, at), turns, wanted)? {
-            return Ok(false);
-        }
-    }
-    Ok(true)
-}
-
-/// Whether each walk over the keys that begin so gives just these.
-fn begin_so(layers: &Layers, prefix: &str, at: At, wanted: &[Shown]) -> Result<bool, Error> {
-    for turns in WALKS {
-        let made = layers
-            .tree
-            .prefix(prefix.as_bytes(), at.0, layers.index_at(at.1));
-        if !gives(made, turns, wanted)? {
-            return Ok(false);
-        }
-    }
-    Ok(true)
+/// An iterator over what a row asks for.
+fn iter_of(layers: &Layers, row: &Row) -> Result<TreeIter, Error> {
+    let (asked, snapshot, below, _) = *row;
+    let index = index_at(layers, below);
+    let bounds = match asked {
+        Asked::Prefix(prefix) => return layers.0.prefix(prefix.as_bytes(), snapshot, index),
+        Asked::Range(lower, upper) => (key_of(lower), key_of(upper)),
+        Asked::All => (Bound::Unbounded, Bound::Unbounded),
+    };
+    layers.0.create_internal_range(&bounds, snapshot, index)
 }
 
 /// Whether the pair at an end is this one, or there is none.
@@ -66,113 +44,80 @@ fn is_end(found: Result<Option<Guard>, Error>, wanted: Option<&Shown>) -> Result
     }
 }
 
-/// Whether the calls that keep no list tell how many there are of these, and both ends.
-fn are_told(layers: &Layers, at: At, wanted: &[Shown]) -> Result<bool, Error> {
-    let (snapshot, below) = at;
-    let first = layers
-        .tree
-        .first_key_value(snapshot, layers.index_at(below));
-    let last = layers.tree.last_key_value(snapshot, layers.index_at(below));
-    let len = layers.tree.len(snapshot, layers.index_at(below))?;
-    let is_empty = layers.tree.is_empty(snapshot, layers.index_at(below))?;
+/// Whether the calls that keep no list tell how many there are of a row's, and both ends.
+fn are_told(layers: &Layers, row: &Row) -> Result<bool, Error> {
+    let (_, snapshot, below, wanted) = *row;
+    let tree = &layers.0;
     Ok(
-        len == wanted.len()
-            && is_empty == wanted.is_empty()
-            && is_end(first, wanted.first())?
-            && is_end(last, wanted.last())?,
+        tree.len(snapshot, index_at(layers, below))? == wanted.len()
+            && tree.is_empty(snapshot, index_at(layers, below))? == wanted.is_empty()
+            && is_end(
+                tree.first_key_value(snapshot, index_at(layers, below)),
+                wanted.first(),
+            )?
+            && is_end(
+                tree.last_key_value(snapshot, index_at(layers, below)),
+                wanted.last(),
+            )?,
     )
 }
 
-/// Whether just these are shown of all keys, by each call.
-fn are_all(layers: &Layers, at: At, wanted: &[Shown]) -> Result<bool, Error> {
-    Ok(
-        is_shown(layers, Bound::Unbounded, Bound::Unbounded, at, wanted)?
-            && are_told(layers, at, wanted)?,
-    )
+/// Whether each walk gives just what a row says, and so do the other calls where it asks for all keys.
+fn is_shown(layers: &Layers, row: &Row) -> Result<bool, Error> {
+    for turns in WALKS {
+        if !gives(iter_of(layers, row), turns, row.3)? {
+            return Ok(false);
+        }
+    }
+    match row.0 {
+        Asked::All => are_told(layers, row),
+        _ => Ok(true),
+    }
 }
 
-fn check_snapshots(rt: &impl Abort, layers: &Layers) -> Result<(), Fail> {
-    for (snapshot, wanted) in SNAPSHOTS {
-        let well = are_all(layers, (snapshot, None), wanted)?;
-        assert!(rt; well, "at {snapshot}");
+/// How many rows are shown, up to the first that isn't.
+fn count_shown(layers: &Layers, rows: &[Row]) -> Result<usize, Error> {
+    for at in 0..rows.len() {
+        if !is_shown(layers, &rows[at])? {
+            return Ok(at);
+        }
+    }
+    Ok(rows.len())
+}
+
+/// What the rows of each table are about, and the table.
+const TABLES: [(&str, &[Row]); 5] = [
+    ("a snapshot shows the newest below it", &SNAPSHOTS),
+    ("bounds of each kind are kept", &BOUNDS),
+    ("an index lies over all layers", &ALL_UNDER),
+    ("an index lies over all layers, in bounds", &UNDER),
+    ("a prefix shows what begins so", &PREFIXES),
+];
+
+#[test]
+fn each_row_is_shown(rt: HostRuntime) -> Result<(), Fail> {
+    for (name, rows) in TABLES {
+        let layers = make_layers(rt.alloc())?;
+        let shown = count_shown(&layers, rows);
+        drop(layers);
+        assert_eq!(rt; shown?, rows.len(), "{name}");
     }
     Ok(())
 }
 
-#[test]
-fn a_snapshot_shows_the_newest_below_it(rt: HostRuntime) -> Result<(), Fail> {
-    let layers = Layers::open(rt.alloc())?;
-    let checked = check_snapshots(&rt, &layers);
+/// Whether an iterator gives just a row's when its tree is gone, with its store and the index.
+fn outlives(alloc: Global, row: &Row, turns: Turns) -> Result<bool, Error> {
+    let layers = make_layers(alloc)?;
+    let made = iter_of(&layers, row);
     drop(layers);
-    checked
-}
-
-fn check_bounds(rt: &impl Abort, layers: &Layers) -> Result<(), Fail> {
-    for (lower, upper, wanted) in BOUNDS {
-        let well = is_shown(layers, lower, upper, (20, None), wanted)?;
-        assert!(rt; well, "{lower:?} to {upper:?}");
-    }
-    Ok(())
-}
-
-#[test]
-fn bounds_of_each_kind_are_kept(rt: HostRuntime) -> Result<(), Fail> {
-    let layers = Layers::open(rt.alloc())?;
-    let checked = check_bounds(&rt, &layers);
-    drop(layers);
-    checked
-}
-
-fn check_index(rt: &impl Abort, layers: &Layers) -> Result<(), Fail> {
-    for (snapshot, below, wanted) in ALL_UNDER {
-        let well = are_all(layers, (snapshot, Some(below)), wanted)?;
-        assert!(rt; well, "{snapshot} under {below}");
-    }
-    for (lower, upper, snapshot, below, wanted) in UNDER {
-        let well = is_shown(layers, lower, upper, (snapshot, Some(below)), wanted)?;
-        assert!(rt; well, "{lower:?} to {upper:?}");
-    }
-    Ok(())
-}
-
-#[test]
-fn an_index_lies_over_all_layers(rt: HostRuntime) -> Result<(), Fail> {
-    let layers = Layers::open(rt.alloc())?;
-    let checked = check_index(&rt, &layers);
-    drop(layers);
-    checked
-}
-
-fn check_prefixes(rt: &impl Abort, layers: &Layers) -> Result<(), Fail> {
-    for (prefix, snapshot, below, wanted) in PREFIXES {
-        let well = begin_so(layers, prefix, (snapshot, below), wanted)?;
-        assert!(rt; well, "{prefix} at {snapshot}");
-    }
-    Ok(())
-}
-
-#[test]
-fn a_prefix_shows_what_begins_so(rt: HostRuntime) -> Result<(), Fail> {
-    let layers = Layers::open(rt.alloc())?;
-    let checked = check_prefixes(&rt, &layers);
-    drop(layers);
-    checked
-}
-
-/// Whether an iterator gives just these when its tree is gone, with its store and the index.
-fn outlives(alloc: Global, at: At, turns: Turns, wanted: &[Shown]) -> Result<bool, Error> {
-    let layers = Layers::open(alloc)?;
-    let made = range_of(&layers, Bound::Unbounded, Bound::Unbounded, at);
-    drop(layers);
-    gives(made, turns, wanted)
+    gives(made, turns, row.3)
 }
 
 #[test]
 fn iterators_outlive_their_tree(rt: HostRuntime) -> Result<(), Fail> {
-    for (snapshot, below, wanted) in ALL_UNDER {
+    for row in &ALL_UNDER {
         for turns in WALKS {
-            let well = outlives(rt.alloc(), (snapshot, Some(below)), turns, wanted)?;
-            assert!(rt; well, "{snapshot} under {below}");
+            assert!(rt; outlives(rt.alloc(), row, turns)?, "{turns:?}");
         }
     }
     Ok(())
@@ -181,30 +126,34 @@ fn iterators_outlive_their_tree(rt: HostRuntime) -> Result<(), Fail> {
 /// Snapshots at which each layer shows something and hides something.
 const SOME: [SeqNo; 3] = [3, 11, 22];
 
-/// Keys with an entry and without one, at which bounds are set.
-const ENDS: [&str; 8] = ["", "a", "ab", "b", "c", "f", "gg", "i"];
+/// Bounds at keys with an entry and without one.
+const ENDS: [Text; 16] = [
+    Bound::Included(""),
+    Bound::Included("a"),
+    Bound::Included("ab"),
+    Bound::Included("b"),
+    Bound::Included("c"),
+    Bound::Included("f"),
+    Bound::Included("gg"),
+    Bound::Included("i"),
+    Bound::Excluded(""),
+    Bound::Excluded("a"),
+    Bound::Excluded("ab"),
+    Bound::Excluded("b"),
+    Bound::Excluded("c"),
+    Bound::Excluded("f"),
+    Bound::Excluded("gg"),
+    Bound::Excluded("i"),
+];
 
 /// Whether bounds show at these snapshots what the slow answer has.
 fn agrees(alloc: Global, layers: &Layers, lower: Text, upper: Text) -> Result<bool, Error> {
     for snapshot in SOME {
         let wanted = shown_within(alloc, lower, upper, snapshot)?;
-        if !is_shown(layers, lower, upper, (snapshot, None), &wanted)? {
-            return Ok(false);
-        }
-    }
-    Ok(true)
-}
-
-/// Whether bounds of each kind at two keys agree.
-fn agree_at(
-    alloc: Global,
-    layers: &Layers,
-    low: &'static str,
-    high: &'static str,
-) -> Result<bool, Error> {
-    for lower in [Bound::Included(low), Bound::Excluded(low)] {
-        for upper in [Bound::Included(high), Bound::Excluded(high)] {
-            if !agrees(alloc, layers, lower, upper)? {
+        for turns in WALKS {
+            let bounds = (key_of(lower), key_of(upper));
+            let made = layers.0.create_internal_range(&bounds, snapshot, None);
+            if !gives(made, turns, &wanted)? {
                 return Ok(false);
             }
         }
@@ -212,20 +161,23 @@ fn agree_at(
     Ok(true)
 }
 
-fn check_all(rt: &impl Abort, alloc: Global, layers: &Layers) -> Result<(), Fail> {
-    for low in ENDS {
-        for high in ENDS {
-            let well = agree_at(alloc, layers, low, high)?;
-            assert!(rt; well, "{low} to {high}");
+/// How many lower bounds agree with each upper one, up to the first that doesn't.
+fn count_agreeing(alloc: Global, layers: &Layers) -> Result<usize, Error> {
+    for at in 0..ENDS.len() {
+        for upper in ENDS {
+            if !agrees(alloc, layers, ENDS[at], upper)? {
+                return Ok(at);
+            }
         }
     }
-    Ok(())
+    Ok(ENDS.len())
 }
 
 #[test]
 fn all_bounds_agree_with_a_slow_answer(rt: HostRuntime) -> Result<(), Fail> {
-    let layers = Layers::open(rt.alloc())?;
-    let checked = check_all(&rt, rt.alloc(), &layers);
+    let layers = make_layers(rt.alloc())?;
+    let agreeing = count_agreeing(rt.alloc(), &layers);
     drop(layers);
-    checked
+    assert_eq!(rt; agreeing?, 16);
+    Ok(())
 }

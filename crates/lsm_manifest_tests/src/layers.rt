@@ -2,15 +2,15 @@
 //
 // The value of an entry is the least byte of its sequence number, so that a value tells which entry is given.
 
-use crate::samples::{file, fill, put_run};
+use crate::samples::{Runs, fill};
 use lsm_below::{Error, InternalValue, SeqNo, UserKey, UserValue, ValueType};
 use lsm_parts::{Config, Memtable};
 use lsm_state::TreeState;
-use lsm_store::{MemStore, Store, StoreError};
+use lsm_store::{MemStore, StoreError};
 use std::alloc::{AllocError, Global};
 
 /// The key of an entry, its sequence number, and what it does to its key.
-pub type Row = (&'static str, SeqNo, ValueType);
+pub type Entry = (&'static str, SeqNo, ValueType);
 
 /// The number of the first write of an index.
 pub const INDEX: SeqNo = 9_223_372_036_854_775_808;
@@ -22,7 +22,7 @@ const GONE: ValueType = ValueType::Tombstone;
 const WEAK: ValueType = ValueType::WeakTombstone;
 
 /// The first level's newest run.
-pub const NEWEST: [Row; 7] = [
+pub const NEWEST: [Entry; 7] = [
     ("ab", 15, GONE),
     ("c", 25, VALUE),
     ("c", 14, VALUE),
@@ -33,7 +33,7 @@ pub const NEWEST: [Row; 7] = [
 ];
 
 /// The first level's other run.
-pub const OLDER: [Row; 6] = [
+pub const OLDER: [Entry; 6] = [
     ("a", 8, VALUE),
     ("b", 9, GONE),
     ("d", 10, WEAK),
@@ -43,7 +43,7 @@ pub const OLDER: [Row; 6] = [
 ];
 
 /// The first table of the second level's run.
-pub const LEFT: [Row; 4] = [
+pub const LEFT: [Entry; 4] = [
     ("a", 1, VALUE),
     ("ab", 2, VALUE),
     ("b", 3, VALUE),
@@ -51,7 +51,7 @@ pub const LEFT: [Row; 4] = [
 ];
 
 /// The second table of that run. It has so many entries of one key that they are searched.
-pub const RIGHT: [Row; 18] = [
+pub const RIGHT: [Entry; 18] = [
     ("c", 4, VALUE),
     ("d", 5, VALUE),
     ("d", 2, VALUE),
@@ -73,10 +73,10 @@ pub const RIGHT: [Row; 18] = [
 ];
 
 /// The sealed memtable.
-pub const SEALED: [Row; 3] = [("b", 18, VALUE), ("e", 19, GONE), ("j", 5, VALUE)];
+pub const SEALED: [Entry; 3] = [("b", 18, VALUE), ("e", 19, GONE), ("j", 5, VALUE)];
 
 /// The active memtable.
-pub const ACTIVE: [Row; 4] = [
+pub const ACTIVE: [Entry; 4] = [
     ("g", 21, VALUE),
     ("h", 20, VALUE),
     ("j", 22, VALUE),
@@ -84,7 +84,7 @@ pub const ACTIVE: [Row; 4] = [
 ];
 
 /// The index, whose first entry is older than the tree's of that key.
-const OVER: [Row; 7] = [
+const OVER: [Entry; 7] = [
     ("a", 5, VALUE),
     ("ab", INDEX + 40, VALUE),
     ("b", INDEX + 41, GONE),
@@ -100,47 +100,36 @@ pub fn least_byte(number: SeqNo) -> u8 {
     byte
 }
 
-/// What a row's value is.
-fn value_of(alloc: Global, row: Row) -> Result<UserValue, AllocError> {
-    UserValue::copy_from_slice(alloc, &[least_byte(row.1)])
-}
-
-/// The entry of a row.
-fn entry_of(alloc: Global, row: Row) -> Result<InternalValue, AllocError> {
-    let key = UserKey::from_static(row.0.as_bytes());
-    let value = value_of(alloc, row)?;
-    Ok(InternalValue::from_components(key, value, row.1, row.2))
-}
-
-/// An entry in a table's file.
-fn put_row(out: &mut Vec<u8>, row: Row) -> Result<(), AllocError> {
-    let (key, number, value_type) = row;
-    let [low, high, ..] = key.len().to_le_bytes();
-    let (code, len): (u8, u8) = match value_type {
-        ValueType::Value => (0, 1),
-        ValueType::Tombstone => (1, 0),
-        ValueType::WeakTombstone => (2, 0),
-    };
-    out.extend_from_slice(&[low, high])?;
-    out.extend_from_slice(&number.to_le_bytes())?;
-    out.extend_from_slice(&[code, len, 0, 0, 0])?;
-    out.extend_from_slice(key.as_bytes())?;
-    if len > 0 {
-        out.push(least_byte(number))?;
-    }
-    Ok(())
+fn entry_of(alloc: Global, entry: Entry) -> Result<InternalValue, AllocError> {
+    let (key, number, kind) = entry;
+    let key = UserKey::from_static(key.as_bytes());
+    let value = UserValue::copy_from_slice(alloc, &[least_byte(number)])?;
+    Ok(InternalValue::from_components(key, value, number, kind))
 }
 
 /// The content of a table's file, made at 0.
-fn table_of(alloc: Global, rows: &[Row]) -> Result<Vec<u8>, AllocError> {
-    let mut out = Vec::new(alloc);
-    out.extend_from_slice(b"LSMT\0\0\0\0\0\0\0\0")?;
-    out.extend_from_slice(&(rows.len() as u64).to_le_bytes())?;
-    for row in rows {
-        put_row(&mut out, *row)?;
+fn table_of(alloc: Global, entries: &[Entry]) -> Result<Vec<u8>, AllocError> {
+    let mut out = b"LSMT\0\0\0\0\0\0\0\0".to_vec(alloc)?;
+    out.extend_from_slice(&(entries.len() as u64).to_le_bytes())?;
+    for (key, number, kind) in entries {
+        let [low, high, ..] = key.len().to_le_bytes();
+        let (code, len): (u8, u8) = match kind {
+            ValueType::Value => (0, 1),
+            ValueType::Tombstone => (1, 0),
+            ValueType::WeakTombstone => (2, 0),
+        };
+        out.extend_from_slice(&[low, high])?;
+        out.extend_from_slice(&number.to_le_bytes())?;
+        out.extend_from_slice(&[code, len, 0, 0, 0])?;
+        out.extend_from_slice(key.as_bytes())?;
+        if len > 0 {
+            out.push(least_byte(*number))?;
+        }
     }
     Ok(out)
 }
+
+const THREE_RUNS: Runs = [&[1, 1], &[2]];
 
 /// Version 5 with tables 3 to 6 in three runs.
 fn fill_layers(alloc: Global, store: &mut MemStore) -> Result<(), StoreError> {
@@ -148,36 +137,20 @@ fn fill_layers(alloc: Global, store: &mut MemStore) -> Result<(), StoreError> {
     let older = table_of(alloc, &OLDER)?;
     let left = table_of(alloc, &LEFT)?;
     let right = table_of(alloc, &RIGHT)?;
-    let mut layout = Vec::new(alloc);
-    layout.extend_from_slice(&[7, 2])?;
-    put_run(&mut layout, &[(3, &newest)])?;
-    put_run(&mut layout, &[(4, &older)])?;
-    layout.push(1)?;
-    put_run(&mut layout, &[(5, &left), (6, &right)])?;
-    layout.extend_from_slice(&[0; 5])?;
-    fill(alloc, store, &file(&layout))?;
-    for (name, table) in [
-        ("tables/3", &newest),
-        ("tables/4", &older),
-        ("tables/5", &left),
-        ("tables/6", &right),
-    ] {
-        store.replace(name, table)?;
-    }
-    Ok(())
+    let tables: [&[u8]; 4] = [&newest, &older, &left, &right];
+    fill(alloc, store, THREE_RUNS, &tables)
 }
 
-fn write_rows(alloc: Global, tree: &mut TreeState, rows: &[Row]) -> Result<(), Error> {
-    for row in rows {
-        tree.append_entry(entry_of(alloc, *row)?)?;
-    }
-    Ok(())
-}
-
+/// Writes the entries of the sealed memtable, and those of the active one.
 fn write_layers(alloc: Global, tree: &mut TreeState) -> Result<(), Error> {
-    write_rows(alloc, tree, &SEALED)?;
+    for entry in SEALED {
+        tree.append_entry(entry_of(alloc, entry)?)?;
+    }
     tree.rotate_memtable()?;
-    write_rows(alloc, tree, &ACTIVE)
+    for entry in ACTIVE {
+        tree.append_entry(entry_of(alloc, entry)?)?;
+    }
+    Ok(())
 }
 
 /// The tree of a store, which was filled or refused to be.
@@ -193,6 +166,7 @@ pub fn open_filled(
     }
 }
 
+/// The tree with all its layers.
 fn open_layers(alloc: Global) -> Result<TreeState, Error> {
     let mut store = MemStore::new(alloc);
     let filled = fill_layers(alloc, &mut store);
@@ -203,31 +177,13 @@ fn open_layers(alloc: Global) -> Result<TreeState, Error> {
     }
 }
 
-fn make_index(alloc: Global) -> Result<Memtable, Error> {
-    let mut index = Memtable::new(alloc, 9);
-    for row in OVER {
-        index.insert(entry_of(alloc, row)?)?;
-    }
-    Ok(index)
-}
-
 /// The tree with all its layers, and the index.
-#[derive(Drop)]
-pub struct Layers {
-    pub tree: TreeState,
-    index: Memtable,
-}
+pub type Layers = (TreeState, Memtable);
 
-impl Layers {
-    pub fn open(alloc: Global) -> Result<Layers, Error> {
-        Ok(Layers {
-            tree: open_layers(alloc)?,
-            index: make_index(alloc)?,
-        })
+pub fn make_layers(alloc: Global) -> Result<Layers, Error> {
+    let mut index = Memtable::new(alloc, 9);
+    for entry in OVER {
+        index.insert(entry_of(alloc, entry)?)?;
     }
-
-    /// The index, with the number below which it counts.
-    pub fn index_at(&self, below: Option<SeqNo>) -> Option<(&Memtable, SeqNo)> {
-        Some((&self.index, below?))
-    }
+    Ok((open_layers(alloc)?, index))
 }

@@ -1,16 +1,17 @@
 // What is opened, what is removed, and each refusal.
 
 use crate::samples::{
-    FROM_0, FROM_1, NO_TABLE, ONE_TABLE, Sections, TABLE, Told, bytes_of, file, fill, has, is_told,
-    newest,
+    Changes, File, MISMATCH, NO_TABLE, ONE_TABLE, TABLE, Told, UNRECOVERABLE, bytes_of, change,
+    has, has_just, is_told, put_version,
 };
 use lsm_below::Error;
 use lsm_manifest::{
-    get_current_version, open_files, persist_version, recover, table_name, version_name,
-    write_current,
+    damaged_file, get_current_version, open_files, persist_version, recover, table_name,
+    version_name,
 };
+use lsm_parts::Config;
+use lsm_state::TreeState;
 use lsm_store::{Fault, MemStore, Store, StoreError};
-use lsm_tables::Checksum;
 use std::alloc::Global;
 use std::test::Fail;
 
@@ -20,14 +21,29 @@ const FIRST: [u8; 25] = [
     0x82, 0x30, 0xc0, 0x1d, 0,
 ];
 
-fn change(store: &mut MemStore, changes: &[(&str, Option<&[u8]>)]) -> Result<(), StoreError> {
-    for (name, bytes) in changes {
-        match bytes {
-            Some(bytes) => store.replace(name, bytes)?,
-            None => store.remove(name)?,
-        }
+/// The version's file with one table, and the one with none.
+pub const ONE: File<'static> = (&ONE_TABLE, &[], &[]);
+
+const NONE: File<'static> = (&NO_TABLE, &[], &[]);
+
+/// A version with its file, and what is changed then.
+pub fn fill_with(
+    alloc: Global,
+    store: &mut MemStore,
+    id: u64,
+    file: File<'_>,
+    changes: Changes<'_>,
+) -> Result<(), StoreError> {
+    put_version(store, id, &bytes_of(alloc, file)?)?;
+    change(store, changes)
+}
+
+/// The store as opening leaves it with counters that begin so, and what is refused.
+pub fn open(alloc: Global, start: u64, store: MemStore) -> (MemStore, Option<Error>) {
+    match TreeState::open(alloc, Config::new(0, start, start), store) {
+        Ok(tree) => (tree.into_store(), None),
+        Err((error, store)) => (store, Some(error)),
     }
-    Ok(())
 }
 
 /// Whether the store is opened as this version, with one table or none.
@@ -54,57 +70,151 @@ fn is_refused(alloc: Global, store: &mut MemStore, wanted: Told) -> bool {
     }
 }
 
-fn new_tree(alloc: Global, store: &mut MemStore) -> Result<bool, Fail> {
-    let opened = is_opened(alloc, store, 0, 0, 0)?;
-    let bytes = bytes_of(alloc, &newest(&NO_TABLE, &FROM_0))?;
-    let current = write_current(0, Checksum::of(&bytes).into_u128());
+/// Whether the stores have the same names with the same contents.
+fn are_same(alloc: Global, left: &mut MemStore, right: &mut MemStore) -> Result<bool, StoreError> {
+    let names = left.list(alloc)?;
+    for name in &names {
+        let found = left.read(alloc, name)?;
+        if found.is_none() || found != right.read(alloc, name)? {
+            return Ok(false);
+        }
+    }
+    Ok(names.len() == right.list(alloc)?.len())
+}
+
+/// How a store is refused, and which file is said to be damaged, or "" where any may be. None where it is opened.
+pub type Wanted = Option<(Told, &'static str)>;
+
+/// Whether a file is said to be damaged, and it is this one or "".
+fn is_named(damaged: &Option<String>, file: &str) -> bool {
+    match damaged {
+        Some(name) => file.is_empty() || name.as_str() == file,
+        None => false,
+    }
+}
+
+/// Whether what was refused is what is wanted: then each name keeps its content, and else orphans are gone.
+fn is_as(
+    alloc: Global,
+    store: &mut MemStore,
+    before: &mut MemStore,
+    found: Option<&Error>,
+    wanted: Wanted,
+) -> Result<bool, Fail> {
+    let damaged = damaged_file(alloc, before)?;
+    match (found, wanted) {
+        (Some(error), Some((told, file))) => Ok(
+            is_told(error, told)
+                && is_named(&damaged, file)
+                && is_refused(alloc, store, told)
+                && are_same(alloc, store, before)?,
+        ),
+        (None, None) => Ok(damaged.is_none() && store.list(alloc)?.len() == 4),
+        _ => Ok(false),
+    }
+}
+
+/// Whether a store like this one is refused so, or opened where nothing is wanted.
+pub fn answers(alloc: Global, before: &mut MemStore, wanted: Wanted) -> Result<bool, Fail> {
+    let Some(store) = before.crash(&[])? else {
+        return Ok(false);
+    };
+    let (mut store, found) = open(alloc, 10, store);
+    let well = is_as(alloc, &mut store, before, found.as_ref(), wanted);
+    drop(found);
+    drop(store);
+    well
+}
+
+/// Whether the store has just the files of a new tree.
+fn is_new(alloc: Global, store: &mut MemStore) -> Result<bool, Fail> {
+    let bytes = bytes_of(alloc, NONE)?;
+    let files: Changes<'_> = &[("v0", Some(&bytes)), ("current", Some(&FIRST))];
     Ok(
-        opened
-            && bytes.len() == 166
-            && has(alloc, store, "v0", Some(&bytes))?
-            && has(alloc, store, "current", Some(&current))?
+        has_just(alloc, store, files)?
             && get_current_version(alloc, store)? == 0
             && is_opened(alloc, store, 0, 1, 0)?,
     )
 }
 
+/// Whether a store with these contents becomes a new tree's, by its files or as a tree.
+fn begins(alloc: Global, store: &mut MemStore, changes: Changes<'_>) -> Result<bool, Fail> {
+    change(store, changes)?;
+    let Some(other) = store.crash(&[])? else {
+        return Ok(false);
+    };
+    let (mut other, found) = open(alloc, 10, other);
+    let is_well = is_new(alloc, &mut other);
+    let refused = found.is_some();
+    drop(found);
+    drop(other);
+    Ok(is_well? && !refused && is_opened(alloc, store, 0, 0, 0)? && is_new(alloc, store)?)
+}
+
+/// A first opening that was cut off left the beginning of a version's file, and no `current`.
+const PARTIAL: [(&str, Option<&[u8]>); 1] = [("v0", Some(b"partial"))];
+
 #[test]
 fn a_new_tree_has_version_0(rt: HostRuntime) -> Result<(), Fail> {
-    let mut store = MemStore::new(rt.alloc());
-    let well = new_tree(rt.alloc(), &mut store);
-    drop(store);
-    assert!(rt; well?);
+    let rows: [Changes<'_>; 2] = [&[], &PARTIAL];
+    for changes in rows {
+        let mut store = MemStore::new(rt.alloc());
+        let well = begins(rt.alloc(), &mut store, changes);
+        drop(store);
+        assert!(rt; well?);
+    }
     Ok(())
 }
 
-/// What is there beside the version and its table, and whether it stays.
-const BESIDE: [(&str, bool); 7] = [
-    ("v4", false),
-    ("v6", false),
-    ("vx", false),
-    ("tables/9", false),
-    ("tables/.DS_Store", true),
-    ("tables/._9", true),
-    ("other", true),
+/// What is there beside the version, and what is left of it.
+const BESIDE: [(&str, Option<&[u8]>); 8] = [
+    ("tables/3", Some(&TABLE)),
+    ("v4", Some(b"1")),
+    ("v6", Some(b"1")),
+    ("vx", Some(b"1")),
+    ("tables/9", Some(b"1")),
+    ("tables/.DS_Store", Some(b"1")),
+    ("tables/._9", Some(b"1")),
+    ("other", Some(b"1")),
 ];
 
+const LEFT: [(&str, Option<&[u8]>); 8] = [
+    ("tables/3", Some(&TABLE)),
+    ("v4", None),
+    ("v6", None),
+    ("vx", None),
+    ("tables/9", None),
+    ("tables/.DS_Store", Some(b"1")),
+    ("tables/._9", Some(b"1")),
+    ("other", Some(b"1")),
+];
+
+/// Whether orphans go, and are gone.
 fn orphans_go(alloc: Global, store: &mut MemStore) -> Result<bool, Fail> {
-    fill(alloc, store, &file(&ONE_TABLE))?;
-    for (name, _) in BESIDE {
-        store.replace(name, b"1")?;
-    }
-    let mut well = is_opened(alloc, store, 5, 4, 1)?;
-    for (name, stays) in BESIDE {
-        let wanted = if stays { Some(b"1".as_slice()) } else { None };
-        well = well && has(alloc, store, name, wanted)?;
-    }
-    Ok(well && has(alloc, store, "tables/3", Some(&TABLE))? && is_opened(alloc, store, 5, 4, 1)?)
+    fill_with(alloc, store, 5, ONE, &BESIDE)?;
+    Ok(
+        is_opened(alloc, store, 5, 4, 1)?
+            && has(alloc, store, &LEFT)?
+            && is_opened(alloc, store, 5, 4, 1)?,
+    )
+}
+
+/// Whether the version that is opened becomes the current one once more.
+fn persists(alloc: Global, store: &mut MemStore) -> Result<bool, Fail> {
+    let went = orphans_go(alloc, store)?;
+    let opened = open_files(alloc, store)?;
+    let persisted = persist_version(alloc, store, &opened.version);
+    drop(opened);
+    persisted?;
+    let bytes = bytes_of(alloc, ONE)?;
+    let recovery = recover(alloc, store)?;
+    Ok(went && has(alloc, store, &[("v5", Some(&bytes))])? && recovery.curr_version_id == 5)
 }
 
 #[test]
-fn orphans_are_removed(rt: HostRuntime) -> Result<(), Fail> {
+fn orphans_are_removed_and_a_version_persisted(rt: HostRuntime) -> Result<(), Fail> {
     let mut store = MemStore::new(rt.alloc());
-    let well = orphans_go(rt.alloc(), &mut store);
+    let well = persists(rt.alloc(), &mut store);
     drop(store);
     assert!(rt; well?);
     assert!(rt; version_name(5).as_str() == "v5" && table_name(9).as_str() == "tables/9");
@@ -119,131 +229,140 @@ const TWICE: [u8; 82] = [
     0xf9, 0x67, 0x5b, 0, 0, 0, 0, 0, 0, 0, 0, 0, 0, 0, 0, 0,
 ];
 
-/// The type of a checksum is 1.
-const TYPED: [u8; 45] = [
-    7, 1, 1, 0, 0, 0, 3, 0, 0, 0, 0, 0, 0, 0, 1, 0xb7, 0x2e, 0x25, 0xe2, 0xac, 0x01, 0x46, 0x38,
-    0x51, 0xbb, 0x09, 0x02, 0x2a, 0xf9, 0x67, 0x5b, 0, 0, 0, 0, 0, 0, 0, 0, 0, 0, 0, 0, 0, 0,
-];
-
-/// Whether the files, changed so, are refused so, and an orphan beside them stays.
+/// Whether the version and table 3, changed so, are refused so, with an orphan beside them that stays.
 fn refuses(
     alloc: Global,
     store: &mut MemStore,
-    file: &Sections<'_>,
-    changes: &[(&str, Option<&[u8]>)],
-    wanted: Told,
+    row: (u64, File<'_>, Told),
+    changes: Changes<'_>,
 ) -> Result<bool, Fail> {
-    fill(alloc, store, file)?;
-    store.replace("v4", b"1")?;
+    let (id, file, told) = row;
+    let beside: Changes<'_> = &[("tables/3", Some(&TABLE)), ("v4", Some(b"1"))];
+    fill_with(alloc, store, id, file, beside)?;
     change(store, changes)?;
-    Ok(is_refused(alloc, store, wanted) && has(alloc, store, "v4", Some(b"1"))?)
+    answers(alloc, store, Some((told, "")))
 }
 
-fn row(
-    alloc: Global,
-    file: &Sections<'_>,
-    changes: &[(&str, Option<&[u8]>)],
-    wanted: Told,
-) -> Result<bool, Fail> {
-    let mut store = MemStore::new(alloc);
-    let well = refuses(alloc, &mut store, file, changes, wanted);
-    drop(store);
-    well
-}
+/// `ONE_TABLE`, `FIRST` and `TABLE`, each without its last byte.
+const CUT_LAYOUT: [u8; 44] = [
+    7, 1, 1, 0, 0, 0, 3, 0, 0, 0, 0, 0, 0, 0, 0, 0xb7, 0x2e, 0x25, 0xe2, 0xac, 0x01, 0x46, 0x38,
+    0x51, 0xbb, 0x09, 0x02, 0x2a, 0xf9, 0x67, 0x5b, 0, 0, 0, 0, 0, 0, 0, 0, 0, 0, 0, 0, 0,
+];
 
-#[test]
-fn damaged_manifests_are_refused(rt: HostRuntime) -> Result<(), Fail> {
-    let good = file(&ONE_TABLE);
-    let rows = [
-        (Sections { tail: &[0], ..good }, Told::Number(4)),
-        (
-            Sections {
-                layout: &TWICE,
-                ..good
-            },
-            Told::Number(4),
-        ),
-        (
-            Sections {
-                layout: &TYPED,
-                ..good
-            },
-            Told::Tag("ChecksumType", 1),
-        ),
-        (
-            Sections {
-                layout: &ONE_TABLE[..44],
-                ..good
-            },
-            Told::Number(4),
-        ),
-        (Sections { format: 2, ..good }, Told::Version(2)),
-        (Sections { tree: 1, ..good }, Told::Header("TreeType")),
-    ];
-    for (file, wanted) in rows {
-        assert!(rt; row(rt.alloc(), &file, &[], wanted)?);
-    }
-    Ok(())
-}
+const CUT_FIRST: [u8; 24] = [
+    0, 0, 0, 0, 0, 0, 0, 0, 0x4a, 0xbb, 0x83, 0x9b, 0x26, 0x16, 0x00, 0x78, 0x47, 0xe4, 0x4e, 0x4c,
+    0x82, 0x30, 0xc0, 0x1d,
+];
+
+const CUT_TABLE: [u8; 36] = [
+    0x4c, 0x53, 0x4d, 0x54, 0, 0, 0, 0, 0, 0, 0, 0, 1, 0, 0, 0, 0, 0, 0, 0, 1, 0, 0, 0, 0, 0, 0, 0,
+    0, 0, 0, 1, 0, 0, 0, 0x61,
+];
+
+/// A version with its file, what is changed then, and how that is refused.
+type Refusal = (u64, File<'static>, Changes<'static>, Told);
+
+const REFUSALS: [Refusal; 20] = [
+    // Files of versions.
+    (5, (&ONE_TABLE, &[], &[0]), &[], UNRECOVERABLE),
+    (5, (&TWICE, &[], &[]), &[], UNRECOVERABLE),
+    (
+        5,
+        (&ONE_TABLE, &[(147, 1)], &[]),
+        &[],
+        (6, "ChecksumType", 1),
+    ),
+    (5, (&CUT_LAYOUT, &[], &[]), &[], UNRECOVERABLE),
+    (5, (&ONE_TABLE, &[(23, 2)], &[]), &[], (5, "", 2)),
+    (5, (&ONE_TABLE, &[(70, 1)], &[]), &[], (7, "TreeType", 0)),
+    (0, (&NO_TABLE, &[], &[0]), &[], UNRECOVERABLE),
+    (0, (&TWICE, &[], &[]), &[], UNRECOVERABLE),
+    (0, (&NO_TABLE, &[(23, 2)], &[]), &[], (5, "", 2)),
+    // Other files.
+    (5, ONE, &[("version", Some(b""))], (5, "", 1)),
+    (5, ONE, &[("current", Some(&CUT_FIRST))], (7, "current", 0)),
+    (5, ONE, &[("current", Some(&FIRST))], UNRECOVERABLE),
+    (5, ONE, &[("v5", Some(b"1"))], MISMATCH),
+    (5, ONE, &[("v5", None)], UNRECOVERABLE),
+    (5, ONE, &[("tables/05", Some(&TABLE))], UNRECOVERABLE),
+    (5, ONE, &[("tables/3", None)], UNRECOVERABLE),
+    (5, ONE, &[("tables/3", Some(&CUT_TABLE))], MISMATCH),
+    (
+        5,
+        ONE,
+        &[("tables/3", Some(b"1")), ("tables/x", Some(b"1"))],
+        UNRECOVERABLE,
+    ),
+    (0, NONE, &[("tables/05", Some(&TABLE))], UNRECOVERABLE),
+    (0, NONE, &[("current", Some(&CUT_FIRST))], (7, "current", 0)),
+];
 
 #[test]
 fn damaged_stores_are_refused(rt: HostRuntime) -> Result<(), Fail> {
-    let good = file(&ONE_TABLE);
-    let rows: [(&str, Option<&[u8]>, Told); 8] = [
-        ("version", Some(b""), Told::Version(1)),
-        ("current", Some(&FIRST[..24]), Told::Header("current")),
-        ("current", Some(&FIRST), Told::Number(4)),
-        ("v5", Some(b"1"), Told::Number(20)),
-        ("v5", None, Told::Number(4)),
-        ("tables/05", Some(&TABLE), Told::Number(4)),
-        ("tables/3", None, Told::Number(4)),
-        ("tables/3", Some(&TABLE[..36]), Told::Number(20)),
-    ];
-    for (name, bytes, wanted) in rows {
-        assert!(rt; row(rt.alloc(), &good, &[(name, bytes)], wanted)?);
+    for (id, file, changes, told) in REFUSALS {
+        let mut store = MemStore::new(rt.alloc());
+        let well = refuses(rt.alloc(), &mut store, (id, file, told), changes);
+        drop(store);
+        assert!(rt; well?, "{told:?}, {changes:?}");
     }
     Ok(())
 }
 
-/// Whether the first version is refused so where this call of the store fails.
-fn fails(alloc: Global, store: &mut MemStore, call: u64, wanted: Told) -> bool {
-    store.fail(call, Fault::Once);
-    is_refused(alloc, store, wanted)
+/// How many bytes of a new tree's version are refused, each changed alone, up to the first that isn't.
+fn count_refused(alloc: Global, store: &mut MemStore) -> Result<usize, Fail> {
+    let mut other = bytes_of(alloc, NONE)?;
+    for place in 0..other.len() {
+        other[place] ^= 1;
+        if !refuses(alloc, store, (0, NONE, MISMATCH), &[("v0", Some(&other))])? {
+            return Ok(place);
+        }
+        other[place] ^= 1;
+    }
+    Ok(other.len())
+}
+
+#[test]
+fn a_changed_byte_is_refused(rt: HostRuntime) -> Result<(), Fail> {
+    let mut store = MemStore::new(rt.alloc());
+    let refused = count_refused(rt.alloc(), &mut store);
+    drop(store);
+    assert_eq!(rt; refused?, 141);
+    Ok(())
 }
 
 #[test]
 fn faults_of_a_commit_are_told(rt: HostRuntime) -> Result<(), Fail> {
     for (call, number) in [(1, 2), (2, 2), (3, 2), (4, 3)] {
         let mut store = MemStore::new(rt.alloc());
-        let well = fails(rt.alloc(), &mut store, call, Told::Number(number));
+        store.fail(call, Fault::Once);
+        let well = is_refused(rt.alloc(), &mut store, (number, "", 0));
         drop(store);
-        assert!(rt; well);
+        assert!(rt; well, "at {call}");
     }
     Ok(())
 }
 
-/// The version that is opened becomes the current one once more.
-fn persists(alloc: Global, store: &mut MemStore) -> Result<bool, Fail> {
-    fill(alloc, store, &file(&ONE_TABLE))?;
-    let opened = open_files(alloc, store)?;
-    let persisted = persist_version(alloc, store, &opened.version);
-    drop(opened);
-    persisted?;
-    let bytes = bytes_of(alloc, &newest(&ONE_TABLE, &FROM_1))?;
-    let recovery = recover(alloc, store)?;
-    Ok(
-        has(alloc, store, "v5", Some(&bytes))?
-            && bytes.len() == 203
-            && recovery.curr_version_id == 5
-            && recovery.log_from == Some(1),
-    )
+/// Whether this name is said to keep a store from being opened that has it beside these.
+fn is_told_of(alloc: Global, names: &[&str], wanted: Option<&str>) -> Result<bool, Fail> {
+    let mut store = MemStore::new(alloc);
+    for name in names {
+        store.replace(*name, b"1")?;
+    }
+    let named = damaged_file(alloc, &mut store)?;
+    Ok(named.as_ref().map(|name| name.as_str()) == wanted)
 }
 
 #[test]
-fn a_version_is_persisted(rt: HostRuntime) -> Result<(), Fail> {
-    let mut store = MemStore::new(rt.alloc());
-    let well = persists(rt.alloc(), &mut store);
-    drop(store);
-    assert!(rt; well?);
+fn names_that_are_refused_are_told(rt: HostRuntime) -> Result<(), Fail> {
+    let rows: [(&[&str], Option<&str>); 5] = [
+        (&[], None),
+        (&["tables/7", "v3", "notes"], None),
+        (&["tables/7", "tables/05"], Some("tables/05")),
+        (&["tables/05", "version"], Some("version")),
+        (&["tables/05", "current"], Some("current")),
+    ];
+    for (names, wanted) in rows {
+        assert!(rt; is_told_of(rt.alloc(), names, wanted)?, "{wanted:?}");
+    }
     Ok(())
 }

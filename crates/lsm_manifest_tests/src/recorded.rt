@@ -1,33 +1,23 @@
 // A recorded tree is opened where its tables are in order, and its writes and snapshots come after them.
 
-use crate::samples::{ONE_TABLE, TABLE, file, fill, put_run};
+use crate::opening::{ONE, fill_with, open};
+use crate::samples::{LATER, Runs, TABLE, fill};
 use lsm_below::{Error, UserKey};
 use lsm_iter::{IterGuard, TreeIter};
 use lsm_model::Op;
 use lsm_parts::Config;
 use lsm_recorded::{Pass, Recorded};
-use lsm_state::TreeState;
-use lsm_store::{MemStore, Store, StoreError};
+use lsm_store::{MemStore, Store};
 use std::alloc::Global;
 use std::ops::Bound;
 use std::test::Fail;
 
-/// The table a = x at 5, made at 0.
-const LATER: [u8; 37] = [
-    0x4c, 0x53, 0x4d, 0x54, 0, 0, 0, 0, 0, 0, 0, 0, 1, 0, 0, 0, 0, 0, 0, 0, 1, 0, 5, 0, 0, 0, 0, 0,
-    0, 0, 0, 1, 0, 0, 0, 0x61, 0x78,
-];
-
-fn a() -> UserKey {
-    UserKey::from_static(b"a")
-}
+const A: &[u8] = b"a";
 
 /// Whether a read of a at this snapshot answers x.
-fn reads(tree: &mut Recorded<MemStore>, pass: &mut Pass, snapshot: u64) -> Result<bool, Error> {
-    Ok(match tree.get(pass, &a(), snapshot)? {
-        Some(value) => value.as_slice() == b"x".as_slice(),
-        None => false,
-    })
+fn reads(tree: &mut Recorded, pass: &mut Pass, snapshot: u64) -> Result<bool, Error> {
+    let found = tree.get(pass, &UserKey::from_static(A), snapshot)?;
+    Ok(found.is_some_and(|value| value.as_slice() == b"x".as_slice()))
 }
 
 /// Whether a call was refused as out of order.
@@ -38,36 +28,28 @@ fn is_late<T: Drop>(told: Result<T, Error>) -> bool {
     }
 }
 
-/// Whether a tree whose table holds a = x at 0 counts it as an earlier write.
-fn counts(alloc: Global, tree: &mut Recorded<MemStore>, pass: &mut Pass) -> Result<bool, Error> {
-    let early = is_late(tree.get(pass, &a(), 0));
-    let again = is_late(tree.remove(pass, a(), 0));
-    let twice = tree.write(pass, vec![in alloc; (a(), Op::Del)]?)?;
-    Ok(early && again && twice == 1)
-}
-
 /// Whether just a is given, from its end.
 fn gives_a(made: Result<TreeIter, Error>) -> Result<bool, Error> {
     let mut iter = made?;
-    Ok(match iter.next_back() {
-        Some(guard) => guard.key()? == a() && iter.next().is_none(),
-        None => false,
-    })
+    match iter.next_back() {
+        Some(guard) => Ok(guard.key()?.as_slice() == A && iter.next().is_none()),
+        None => Ok(false),
+    }
 }
 
 /// Whether iterators over bounds and over a prefix give what the table holds, and early ones are refused.
-fn lends(tree: &Recorded<MemStore>) -> Result<bool, Error> {
+fn lends(tree: &Recorded) -> Result<bool, Error> {
     let all = (Bound::Unbounded, Bound::Unbounded);
+    let a = UserKey::from_static(A);
     Ok(
         is_late(tree.create_range(&all, 0))
-            && is_late(tree.create_prefix(&a(), 0))
+            && is_late(tree.create_prefix(&a, 0))
             && gives_a(tree.create_range(&all, 1))?
-            && gives_a(tree.create_prefix(&a(), 1))?
-            && tree.journal().is_empty(),
+            && gives_a(tree.create_prefix(&a, 1))?,
     )
 }
 
-fn tells(tree: &Recorded<MemStore>) -> bool {
+fn starts(tree: &Recorded) -> bool {
     tree.table_count() == 1
         && tree.current_version().id() == 5
         && tree.next_table_id() == 4
@@ -76,17 +58,26 @@ fn tells(tree: &Recorded<MemStore>) -> bool {
         && tree.journal().is_empty()
 }
 
-fn is_well(alloc: Global, tree: &mut Recorded<MemStore>) -> Result<bool, Error> {
-    let mut pass = Pass::new(alloc);
+/// Whether a tree whose table holds a = x at 0 counts it as an earlier write.
+fn counts(alloc: Global, tree: &mut Recorded, pass: &mut Pass) -> Result<bool, Error> {
+    let first = reads(tree, pass, 1)?;
+    let early = is_late(tree.get(pass, &UserKey::from_static(A), 0));
+    let again = is_late(tree.remove(pass, UserKey::from_static(A), 0));
+    let number = tree.write(pass, vec![in alloc; (UserKey::from_static(A), Op::Del)]?)?;
     Ok(
-        tells(tree)
-            && lends(tree)?
-            && reads(tree, &mut pass, 1)?
-            && counts(alloc, tree, &mut pass)?
-            && !reads(tree, &mut pass, 2)?
-            && reads(tree, &mut pass, 1)?
+        first
+            && early
+            && again
+            && number == 1
+            && !reads(tree, pass, 2)?
+            && reads(tree, pass, 1)?
             && tree.journal().len() == 4,
     )
+}
+
+fn is_well(alloc: Global, tree: &mut Recorded) -> Result<bool, Error> {
+    let mut pass = Pass::new(alloc);
+    Ok(starts(tree) && lends(tree)? && tree.journal().is_empty() && counts(alloc, tree, &mut pass)?)
 }
 
 /// The store of a recorded tree that was opened over it, and whether the tree was as it has to be.
@@ -96,43 +87,25 @@ fn take_turn(alloc: Global, store: MemStore) -> (MemStore, Result<bool, Error>) 
             let well = is_well(alloc, &mut tree);
             (tree.into_store(), well)
         }
-        Err((_, store)) => (store, Ok(false)),
+        Err((error, store)) => (store, Err(error)),
     }
 }
 
 #[test]
 fn an_opened_journal_starts_from_its_tables(rt: HostRuntime) -> Result<(), Fail> {
     let mut store = MemStore::new(rt.alloc());
-    let filled = fill(rt.alloc(), &mut store, &file(&ONE_TABLE));
+    let filled = fill_with(
+        rt.alloc(),
+        &mut store,
+        5,
+        ONE,
+        &[("tables/3", Some(&TABLE))],
+    );
     let (store, well) = take_turn(rt.alloc(), store);
     drop(store);
     filled?;
     assert!(rt; well?);
     Ok(())
-}
-
-/// Version 5 with two runs in the first level, of one table each, and a table that it doesn't name.
-fn fill_two(
-    alloc: Global,
-    store: &mut MemStore,
-    first: &[u8],
-    second: &[u8],
-) -> Result<(), StoreError> {
-    let mut layout = Vec::new(alloc);
-    layout.extend_from_slice(&[7, 2])?;
-    put_run(&mut layout, &[(3, first)])?;
-    put_run(&mut layout, &[(4, second)])?;
-    layout.extend_from_slice(&[0; 6])?;
-    fill(alloc, store, &file(&layout))?;
-    store.replace("tables/3", first)?;
-    store.replace("tables/4", second)?;
-    store.replace("tables/7", b"1")
-}
-
-/// How many names the store lists.
-fn count_names(alloc: Global, store: &mut MemStore) -> Result<usize, StoreError> {
-    let names = store.list(alloc)?;
-    Ok(names.len())
 }
 
 /// The store, and the number of the error that the recorded tree is refused with, or 0.
@@ -143,35 +116,35 @@ fn open_recorded(alloc: Global, store: MemStore) -> (MemStore, u8) {
     }
 }
 
-/// The store, and whether the tree opens.
-fn open_tree(alloc: Global, store: MemStore) -> (MemStore, bool) {
-    match TreeState::open(alloc, Config::new(0, 0, 0), store) {
-        Ok(tree) => (tree.into_store(), true),
-        Err((_, store)) => (store, false),
-    }
-}
+const TWO_RUNS: Runs = [&[1, 1], &[]];
 
-/// Whether these runs are refused as unrecoverable with all files left, and are opened without a journal; or, where
-/// they are in order, are opened.
-fn is_told(alloc: Global, first: &[u8], second: &[u8], wanted: u8) -> Result<bool, StoreError> {
+/// Whether version 5 with these two runs in its first level, and a table that it doesn't name, is refused as
+/// unrecoverable with all files left, and is opened without a journal; or, where they are in order, is opened.
+fn is_told(alloc: Global, tables: &[&[u8]], wanted: u8) -> Result<bool, Fail> {
     let mut store = MemStore::new(alloc);
-    let filled = fill_two(alloc, &mut store, first, second);
+    let filled = fill(alloc, &mut store, TWO_RUNS, tables);
+    let added = store.replace("tables/7", b"1");
     let (mut store, told) = open_recorded(alloc, store);
-    let left = count_names(alloc, &mut store);
-    let (store, opened) = open_tree(alloc, store);
+    let left = store.list(alloc);
+    let (store, refused) = open(alloc, 0, store);
+    let opened = refused.is_none();
+    drop(refused);
     drop(store);
     filled?;
-    Ok(told == wanted && left? == (if wanted == 0 { 4 } else { 5 }) && opened)
+    added?;
+    let count = if wanted == 0 { 4 } else { 5 };
+    Ok(told == wanted && left?.len() == count && opened)
 }
 
 #[test]
 fn tables_out_of_order_are_unrecoverable(rt: HostRuntime) -> Result<(), Fail> {
-    for (first, second, wanted) in [
-        (&TABLE, &LATER, 4),
-        (&LATER, &TABLE, 0),
-        (&TABLE, &TABLE, 4),
-    ] {
-        assert!(rt; is_told(rt.alloc(), first, second, wanted)?);
+    let rows: [([&[u8]; 2], u8); 3] = [
+        ([&TABLE, &LATER], 4),
+        ([&LATER, &TABLE], 0),
+        ([&TABLE, &TABLE], 4),
+    ];
+    for (tables, wanted) in rows {
+        assert!(rt; is_told(rt.alloc(), &tables, wanted)?);
     }
     Ok(())
 }

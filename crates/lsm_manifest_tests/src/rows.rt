@@ -3,16 +3,36 @@
 
 use crate::layers::INDEX;
 use crate::walks::{Shown, Text};
+use Asked::{All, Prefix, Range};
 use lsm_below::SeqNo;
-use std::ops::Bound;
+use std::ops::Bound::{Excluded, Included, Unbounded};
 
-/// Snapshots, and what they show.
-pub const SNAPSHOTS: [(SeqNo, &[Shown]); 10] = [
-    (0, &[]),
-    (1, &[("i", 0)]),
-    (3, &[("a", 1), ("ab", 2), ("b", 1), ("d", 2), ("i", 2)]),
+/// Which keys are asked for.
+#[derive(Clone, Copy)]
+pub enum Asked {
+    All,
+    Range(Text, Text),
+    Prefix(&'static str),
+}
+
+/// What is asked for at a snapshot, under an index with the number below which it counts, if there is one, and what is
+/// shown.
+pub type Row = (Asked, SeqNo, Option<SeqNo>, &'static [Shown]);
+
+/// All keys at snapshots.
+pub const SNAPSHOTS: [Row; 10] = [
+    (All, 0, None, &[]),
+    (All, 1, None, &[("i", 0)]),
     (
+        All,
+        3,
+        None,
+        &[("a", 1), ("ab", 2), ("b", 1), ("d", 2), ("i", 2)],
+    ),
+    (
+        All,
         10,
+        None,
         &[
             ("a", 8),
             ("ab", 2),
@@ -25,11 +45,15 @@ pub const SNAPSHOTS: [(SeqNo, &[Shown]); 10] = [
         ],
     ),
     (
+        All,
         12,
+        None,
         &[("a", 8), ("ab", 2), ("c", 4), ("f", 7), ("i", 11), ("j", 5)],
     ),
     (
+        All,
         13,
+        None,
         &[
             ("a", 8),
             ("ab", 2),
@@ -41,7 +65,9 @@ pub const SNAPSHOTS: [(SeqNo, &[Shown]); 10] = [
         ],
     ),
     (
+        All,
         19,
+        None,
         &[
             ("a", 8),
             ("b", 18),
@@ -55,7 +81,9 @@ pub const SNAPSHOTS: [(SeqNo, &[Shown]); 10] = [
         ],
     ),
     (
+        All,
         20,
+        None,
         &[
             ("a", 8),
             ("b", 18),
@@ -67,7 +95,9 @@ pub const SNAPSHOTS: [(SeqNo, &[Shown]); 10] = [
         ],
     ),
     (
+        All,
         22,
+        None,
         &[
             ("a", 8),
             ("b", 18),
@@ -79,7 +109,9 @@ pub const SNAPSHOTS: [(SeqNo, &[Shown]); 10] = [
         ],
     ),
     (
+        All,
         31,
+        None,
         &[
             ("a", 8),
             ("b", 18),
@@ -93,68 +125,76 @@ pub const SNAPSHOTS: [(SeqNo, &[Shown]); 10] = [
     ),
 ];
 
-/// Bounds, and what is shown in them at 20.
-pub const BOUNDS: [(Text, Text, &[Shown]); 22] = [
+/// Bounds at 20.
+pub const BOUNDS: [Row; 22] = [
     (
-        Bound::Included("b"),
-        Bound::Included("d"),
+        Range(Included("b"), Included("d")),
+        20,
+        None,
         &[("b", 18), ("c", 14), ("d", 13)],
     ),
     (
-        Bound::Included("b"),
-        Bound::Excluded("d"),
+        Range(Included("b"), Excluded("d")),
+        20,
+        None,
         &[("b", 18), ("c", 14)],
     ),
     (
-        Bound::Excluded("b"),
-        Bound::Included("d"),
+        Range(Excluded("b"), Included("d")),
+        20,
+        None,
         &[("c", 14), ("d", 13)],
     ),
-    (Bound::Excluded("b"), Bound::Excluded("d"), &[("c", 14)]),
+    (Range(Excluded("b"), Excluded("d")), 20, None, &[("c", 14)]),
     (
-        Bound::Unbounded,
-        Bound::Included("c"),
+        Range(Unbounded, Included("c")),
+        20,
+        None,
         &[("a", 8), ("b", 18), ("c", 14)],
     ),
     (
-        Bound::Unbounded,
-        Bound::Excluded("c"),
+        Range(Unbounded, Excluded("c")),
+        20,
+        None,
         &[("a", 8), ("b", 18)],
     ),
     (
-        Bound::Included("h"),
-        Bound::Unbounded,
+        Range(Included("h"), Unbounded),
+        20,
+        None,
         &[("h", 17), ("i", 12)],
     ),
-    (Bound::Excluded("h"), Bound::Unbounded, &[("i", 12)]),
+    (Range(Excluded("h"), Unbounded), 20, None, &[("i", 12)]),
     // Bounds that are no key, and one that is hidden or none at this snapshot.
     (
-        Bound::Included("aa"),
-        Bound::Excluded("cc"),
+        Range(Included("aa"), Excluded("cc")),
+        20,
+        None,
         &[("b", 18), ("c", 14)],
     ),
-    (Bound::Included("ab"), Bound::Included("b"), &[("b", 18)]),
-    (Bound::Included("e"), Bound::Included("g"), &[("f", 16)]),
-    (Bound::Included("e"), Bound::Excluded("f"), &[]),
-    (Bound::Included(""), Bound::Included("a"), &[("a", 8)]),
-    (Bound::Included("i"), Bound::Included("i"), &[("i", 12)]),
+    (Range(Included("ab"), Included("b")), 20, None, &[("b", 18)]),
+    (Range(Included("e"), Included("g")), 20, None, &[("f", 16)]),
+    (Range(Included("e"), Excluded("f")), 20, None, &[]),
+    (Range(Included(""), Included("a")), 20, None, &[("a", 8)]),
+    (Range(Included("i"), Included("i")), 20, None, &[("i", 12)]),
     // No room between them.
-    (Bound::Included("b"), Bound::Excluded("b"), &[]),
-    (Bound::Excluded("b"), Bound::Included("b"), &[]),
-    (Bound::Excluded("b"), Bound::Excluded("b"), &[]),
-    (Bound::Included("d"), Bound::Included("b"), &[]),
-    (Bound::Excluded("i"), Bound::Excluded("a"), &[]),
+    (Range(Included("b"), Excluded("b")), 20, None, &[]),
+    (Range(Excluded("b"), Included("b")), 20, None, &[]),
+    (Range(Excluded("b"), Excluded("b")), 20, None, &[]),
+    (Range(Included("d"), Included("b")), 20, None, &[]),
+    (Range(Excluded("i"), Excluded("a")), 20, None, &[]),
     // Beyond all keys.
-    (Bound::Excluded("j"), Bound::Unbounded, &[]),
-    (Bound::Unbounded, Bound::Excluded("a"), &[]),
-    (Bound::Included("x"), Bound::Included("z"), &[]),
+    (Range(Excluded("j"), Unbounded), 20, None, &[]),
+    (Range(Unbounded, Excluded("a")), 20, None, &[]),
+    (Range(Included("x"), Included("z")), 20, None, &[]),
 ];
 
-/// A snapshot and the number of an index, and what is shown of all keys.
-pub const ALL_UNDER: [(SeqNo, SeqNo, &[Shown]); 5] = [
+/// All keys under the index.
+pub const ALL_UNDER: [Row; 5] = [
     (
+        All,
         20,
-        INDEX + 50,
+        Some(INDEX + 50),
         &[
             ("a", 8),
             ("ab", 40),
@@ -166,8 +206,9 @@ pub const ALL_UNDER: [(SeqNo, SeqNo, &[Shown]); 5] = [
         ],
     ),
     (
+        All,
         20,
-        INDEX + 51,
+        Some(INDEX + 51),
         &[
             ("a", 8),
             ("ab", 40),
@@ -179,47 +220,54 @@ pub const ALL_UNDER: [(SeqNo, SeqNo, &[Shown]); 5] = [
             ("k", 44),
         ],
     ),
-    (3, 6, &[("a", 5), ("ab", 2), ("b", 1), ("d", 2), ("i", 2)]),
-    (3, 5, &[("a", 1), ("ab", 2), ("b", 1), ("d", 2), ("i", 2)]),
-    (0, 6, &[("a", 5)]),
+    (
+        All,
+        3,
+        Some(6),
+        &[("a", 5), ("ab", 2), ("b", 1), ("d", 2), ("i", 2)],
+    ),
+    (
+        All,
+        3,
+        Some(5),
+        &[("a", 1), ("ab", 2), ("b", 1), ("d", 2), ("i", 2)],
+    ),
+    (All, 0, Some(6), &[("a", 5)]),
 ];
 
-/// Bounds, a snapshot and the number of an index, and what is shown.
-pub const UNDER: [(Text, Text, SeqNo, SeqNo, &[Shown]); 4] = [
-    (Bound::Unbounded, Bound::Excluded("b"), 0, 6, &[("a", 5)]),
+/// Bounds under the index.
+pub const UNDER: [Row; 4] = [
+    (Range(Unbounded, Excluded("b")), 0, Some(6), &[("a", 5)]),
     (
-        Bound::Excluded("a"),
-        Bound::Excluded("d"),
+        Range(Excluded("a"), Excluded("d")),
         20,
-        INDEX + 50,
+        Some(INDEX + 50),
         &[("ab", 40), ("c", 42)],
     ),
     (
-        Bound::Included("j"),
-        Bound::Included("k"),
+        Range(Included("j"), Included("k")),
         20,
-        INDEX + 50,
+        Some(INDEX + 50),
         &[("k", 44)],
     ),
     (
-        Bound::Included("b"),
-        Bound::Included("b"),
+        Range(Included("b"), Included("b")),
         20,
-        INDEX + 50,
+        Some(INDEX + 50),
         &[],
     ),
 ];
 
-/// Prefixes, a snapshot and the number of an index if there is one, and what is shown.
-pub const PREFIXES: [(&str, SeqNo, Option<SeqNo>, &[Shown]); 7] = [
-    ("a", 20, None, &[("a", 8)]),
-    ("a", 10, None, &[("a", 8), ("ab", 2)]),
-    ("ab", 10, None, &[("ab", 2)]),
-    ("a", 20, Some(INDEX + 50), &[("a", 8), ("ab", 40)]),
-    ("e", 20, None, &[]),
-    ("x", 31, None, &[]),
+/// Keys that begin so.
+pub const PREFIXES: [Row; 7] = [
+    (Prefix("a"), 20, None, &[("a", 8)]),
+    (Prefix("a"), 10, None, &[("a", 8), ("ab", 2)]),
+    (Prefix("ab"), 10, None, &[("ab", 2)]),
+    (Prefix("a"), 20, Some(INDEX + 50), &[("a", 8), ("ab", 40)]),
+    (Prefix("e"), 20, None, &[]),
+    (Prefix("x"), 31, None, &[]),
     (
-        "",
+        Prefix(""),
         3,
         None,
         &[("a", 1), ("ab", 2), ("b", 1), ("d", 2), ("i", 2)],

@@ -1,7 +1,7 @@
-// Files, byte by byte, and the errors that they are refused with.
+// Files, byte by byte, stores of them, and the errors that they are refused with.
 
 use lsm_below::Error;
-use lsm_manifest::write_current;
+use lsm_manifest::{table_name, version_name, write_current};
 use lsm_store::{MemStore, Store, StoreError};
 use lsm_tables::Checksum;
 use std::alloc::{AllocError, Global};
@@ -10,6 +10,18 @@ use std::alloc::{AllocError, Global};
 pub const TABLE: [u8; 37] = [
     0x4c, 0x53, 0x4d, 0x54, 0, 0, 0, 0, 0, 0, 0, 0, 1, 0, 0, 0, 0, 0, 0, 0, 1, 0, 0, 0, 0, 0, 0, 0,
     0, 0, 0, 1, 0, 0, 0, 0x61, 0x78,
+];
+
+/// The table a = x at 5, made at 0.
+pub const LATER: [u8; 37] = [
+    0x4c, 0x53, 0x4d, 0x54, 0, 0, 0, 0, 0, 0, 0, 0, 1, 0, 0, 0, 0, 0, 0, 0, 1, 0, 5, 0, 0, 0, 0, 0,
+    0, 0, 0, 1, 0, 0, 0, 0x61, 0x78,
+];
+
+/// The table c = y at 1, made at 0.
+pub const OTHER: [u8; 37] = [
+    0x4c, 0x53, 0x4d, 0x54, 0, 0, 0, 0, 0, 0, 0, 0, 1, 0, 0, 0, 0, 0, 0, 0, 1, 0, 1, 0, 0, 0, 0, 0,
+    0, 0, 0, 1, 0, 0, 0, 0x63, 0x79,
 ];
 
 /// Seven levels with no run.
@@ -21,147 +33,142 @@ pub const ONE_TABLE: [u8; 45] = [
     0x51, 0xbb, 0x09, 0x02, 0x2a, 0xf9, 0x67, 0x5b, 0, 0, 0, 0, 0, 0, 0, 0, 0, 0, 0, 0, 0, 0,
 ];
 
-/// What a version's file has in its sections, and after them.
-#[derive(Clone, Copy)]
-pub struct Sections<'a> {
-    pub format: u8,
-    pub tree: u8,
-    pub levels: u8,
-    pub filter: u8,
-    pub layout: &'a [u8],
-    pub tail: &'a [u8],
-}
+/// The sections of a version's file, up to the layout's length: each section's name after its length, and its content
+/// after the length of that. The format is at 23, the tree type at 70, the level count at 91, the hash type at 117.
+const HEAD: [&[u8]; 6] = [
+    b"\x0eformat_version\x01\0\0\0\0\0\0\0\x03",
+    b"\x0dcrate_version\x06\0\0\0\0\0\0\x003.1.10",
+    b"\x09tree_type\x01\0\0\0\0\0\0\0\0",
+    b"\x0blevel_count\x01\0\0\0\0\0\0\0\x07",
+    b"\x10filter_hash_type\x01\0\0\0\0\0\0\0\0",
+    b"\x06tables",
+];
 
-/// A file with this layout.
-pub fn file(layout: &[u8]) -> Sections<'_> {
-    Sections {
-        format: 3,
-        tree: 0,
-        levels: 7,
-        filter: 0,
-        layout,
-        tail: &[],
-    }
-}
+/// A version's file: its layout, places with other bytes, and what follows.
+pub type File<'a> = (&'a [u8], &'a [(usize, u8)], &'a [u8]);
 
-/// The section of a log that is read from 0 on, and from 1 on.
-pub const FROM_0: [u8; 25] = *b"\x08log_from\x08\0\0\0\0\0\0\0\0\0\0\0\0\0\0\0";
+/// How many tables the runs of the first two levels have.
+pub type Runs = [&'static [u8]; 2];
 
-pub const FROM_1: [u8; 25] = *b"\x08log_from\x08\0\0\0\0\0\0\0\x01\0\0\0\0\0\0\0";
+/// Names with new contents, or removed.
+pub type Changes<'a> = &'a [(&'a str, Option<&'a [u8]>)];
 
-/// A good file of the newest format with this layout, and the section that tells from which number a log is read.
-pub fn newest<'a>(layout: &'a [u8], from: &'a [u8]) -> Sections<'a> {
-    Sections {
-        format: 4,
-        tree: 0,
-        levels: 7,
-        filter: 0,
-        layout,
-        tail: from,
-    }
-}
-
-fn put(out: &mut Vec<u8>, head: &[u8], content: &[u8]) -> Result<(), AllocError> {
-    out.extend_from_slice(head)?;
-    out.extend_from_slice(content)
-}
-
-/// The bytes of a version's file: each section's name after its length, and the length of its content.
-pub fn bytes_of(alloc: Global, file: &Sections<'_>) -> Result<Vec<u8>, AllocError> {
+/// The bytes of a version's file.
+pub fn bytes_of(alloc: Global, file: File<'_>) -> Result<Vec<u8>, AllocError> {
     let mut out = Vec::new(alloc);
-    put(
-        &mut out,
-        b"\x0eformat_version\x01\0\0\0\0\0\0\0",
-        &[file.format],
-    )?;
-    put(&mut out, b"\x0dcrate_version\x06\0\0\0\0\0\0\0", b"3.1.10")?;
-    put(&mut out, b"\x09tree_type\x01\0\0\0\0\0\0\0", &[file.tree])?;
-    put(
-        &mut out,
-        b"\x0blevel_count\x01\0\0\0\0\0\0\0",
-        &[file.levels],
-    )?;
-    put(
-        &mut out,
-        b"\x10filter_hash_type\x01\0\0\0\0\0\0\0",
-        &[file.filter],
-    )?;
-    let len = (file.layout.len() as u64).to_le_bytes();
-    out.extend_from_slice(b"\x06tables")?;
-    put(&mut out, &len, file.layout)?;
-    out.extend_from_slice(file.tail)?;
+    for part in HEAD {
+        out.extend_from_slice(part)?;
+    }
+    out.extend_from_slice(&(file.0.len() as u64).to_le_bytes())?;
+    out.extend_from_slice(file.0)?;
+    out.extend_from_slice(file.2)?;
+    for (place, byte) in file.1 {
+        if let Some(found) = out.get_mut(*place) {
+            *found = *byte;
+        }
+    }
     Ok(out)
 }
 
 /// A table in a layout.
-pub fn put_table(out: &mut Vec<u8>, id: u64, bytes: &[u8]) -> Result<(), AllocError> {
+fn put_table(out: &mut Vec<u8>, id: u64, bytes: &[u8]) -> Result<(), AllocError> {
     out.extend_from_slice(&id.to_le_bytes())?;
     out.push(0)?;
     out.extend_from_slice(&Checksum::of(bytes).into_u128().to_le_bytes())?;
     out.extend_from_slice(&[0; 8])
 }
 
-/// A run in a layout: the tables with these ids and contents.
-pub fn put_run(out: &mut Vec<u8>, tables: &[(u64, &[u8])]) -> Result<(), AllocError> {
-    let [low, high, ..] = tables.len().to_le_bytes();
-    out.extend_from_slice(&[low, high, 0, 0])?;
-    for (id, bytes) in tables {
-        put_table(out, *id, *bytes)?;
+/// The id of the table at a place of a list.
+fn id_at(place: usize) -> u64 {
+    (place as u64).saturating_add(3)
+}
+
+/// The layout whose first two levels have runs of so many of the tables, in their order.
+fn layout_of(alloc: Global, levels: Runs, tables: &[&[u8]]) -> Result<Vec<u8>, AllocError> {
+    let mut out = vec![in alloc; 7]?;
+    let mut place: usize = 0;
+    for runs in levels {
+        let [count, ..] = runs.len().to_le_bytes();
+        out.push(count)?;
+        for len in runs {
+            out.extend_from_slice(&[*len, 0, 0, 0])?;
+            for _ in 0..*len {
+                let table = tables.get(place).copied().unwrap_or_default();
+                put_table(&mut out, id_at(place), table)?;
+                place = place.saturating_add(1);
+            }
+        }
+    }
+    out.extend_from_slice(&[0; 5])?;
+    Ok(out)
+}
+
+/// This file is the version's, which `current` names with the file's own sum.
+pub fn put_version(store: &mut MemStore, id: u64, file: &[u8]) -> Result<(), StoreError> {
+    let sum = Checksum::of(file).into_u128();
+    store.replace(version_name(id).as_str(), file)?;
+    store.replace("current", &write_current(id, sum))
+}
+
+/// Version 5, whose first two levels have runs of these tables, and their files, from table 3 on.
+pub fn fill(
+    alloc: Global,
+    store: &mut MemStore,
+    levels: Runs,
+    tables: &[&[u8]],
+) -> Result<(), StoreError> {
+    let layout = layout_of(alloc, levels, tables)?;
+    put_version(store, 5, &bytes_of(alloc, (&layout, &[], &[]))?)?;
+    for place in 0..tables.len() {
+        store.replace(table_name(id_at(place)).as_str(), tables[place])?;
     }
     Ok(())
 }
 
-/// An error, with what it carries.
-#[derive(Clone, Copy)]
-pub enum Told {
-    Number(u8),
-    Version(u8),
-    Tag(&'static str, u8),
-    Header(&'static str),
+pub fn change(store: &mut MemStore, changes: Changes<'_>) -> Result<(), StoreError> {
+    for (name, bytes) in changes {
+        match bytes {
+            Some(bytes) => store.replace(*name, *bytes)?,
+            None => store.remove(*name)?,
+        }
+    }
+    Ok(())
 }
+
+/// Whether the store has these contents, and has no content where there is none.
+pub fn has(alloc: Global, store: &mut MemStore, contents: Changes<'_>) -> Result<bool, StoreError> {
+    for (name, wanted) in contents {
+        let found = store.read(alloc, *name)?;
+        if found.as_ref().map(|found| found.as_slice()) != *wanted {
+            return Ok(false);
+        }
+    }
+    Ok(true)
+}
+
+/// Whether the store has just these contents.
+pub fn has_just(
+    alloc: Global,
+    store: &mut MemStore,
+    contents: Changes<'_>,
+) -> Result<bool, StoreError> {
+    Ok(store.list(alloc)?.len() == contents.len() && has(alloc, store, contents)?)
+}
+
+/// An error's number, with the text and the byte that it carries.
+pub type Told = (u8, &'static str, u8);
+
+pub const UNRECOVERABLE: Told = (4, "", 0);
+
+pub const MISMATCH: Told = (20, "", 0);
 
 /// Whether the error is this one.
 pub fn is_told(error: &Error, wanted: Told) -> bool {
-    match wanted {
-        Told::Number(number) => error.number() == number,
-        Told::Version(wanted) => match error {
-            Error::InvalidVersion(byte) => *byte == wanted,
-            _ => false,
-        },
-        Told::Tag(text, wanted) => match error {
-            Error::InvalidTag(name, byte) => *name == text && *byte == wanted,
-            _ => false,
-        },
-        Told::Header(text) => match error {
-            Error::InvalidHeader(name) => *name == text,
-            _ => false,
-        },
-    }
-}
-
-/// Version 5 with this file, which `current` names with its own sum, and table 3.
-pub fn fill(alloc: Global, store: &mut MemStore, file: &Sections<'_>) -> Result<(), StoreError> {
-    let bytes = bytes_of(alloc, file)?;
-    store.replace("v5", &bytes)?;
-    store.replace(
-        "current",
-        &write_current(5, Checksum::of(&bytes).into_u128()),
-    )?;
-    store.replace("tables/3", &TABLE)
-}
-
-/// Whether the store has these bytes under the name.
-pub fn has(
-    alloc: Global,
-    store: &mut MemStore,
-    name: &str,
-    bytes: Option<&[u8]>,
-) -> Result<bool, StoreError> {
-    Ok(match store.read(alloc, name)? {
-        Some(found) => match bytes {
-            Some(bytes) => found.as_slice() == bytes,
-            None => false,
-        },
-        None => bytes.is_none(),
-    })
+    let (text, byte) = match error {
+        Error::InvalidVersion(byte) => ("", *byte),
+        Error::InvalidTag(name, byte) => (*name, *byte),
+        Error::InvalidHeader(name) => (*name, 0),
+        _ => ("", 0),
+    };
+    error.number() == wanted.0 && text == wanted.1 && byte == wanted.2
 }

@@ -4,7 +4,7 @@ use lsm_below::Error;
 use lsm_iter::{End, Guard, IterGuard, TreeIter};
 use std::ops::Bound;
 
-/// A key, and the least byte of the sequence number of its entry.
+/// A key, and the least byte of the sequence number of its entry, which is its value.
 pub type Shown = (&'static str, u8);
 
 /// A bound that is written as text.
@@ -24,23 +24,16 @@ pub const WALKS: [Turns; 5] = [
 
 /// Whether this pair is given.
 pub fn is(pair: Option<Guard>, wanted: Shown) -> bool {
-    match pair {
-        Some(guard) => has(guard, wanted),
-        None => false,
-    }
-}
-
-fn has(guard: Guard, wanted: Shown) -> bool {
-    match guard.into_inner() {
-        Ok((key, value)) => {
+    match pair.map(|guard| guard.into_inner()) {
+        Some(Ok((key, value))) => {
             key.as_slice() == wanted.0.as_bytes() && value.as_slice() == [wanted.1].as_slice()
         }
-        Err(_) => false,
+        _ => false,
     }
 }
 
 /// Whether the iterator gives this pair at this end, and owns no more than before.
-fn steps(iter: &mut TreeIter, end: End, wanted: Shown) -> bool {
+pub fn steps(iter: &mut TreeIter, end: End, wanted: Shown) -> bool {
     let held = iter.held();
     let given = match end {
         End::Front => iter.next(),

@@ -1,190 +1,66 @@
--- What heads say of keys.
-use Rattle.std.proofs.Common.{◌≡◌, ℕ, zero, suc, ◌+◌, ◌-◌, ◌*◌, ◌^◌, ◌<◌, ◌≤◌, ◌++◌, min, subst, true, false, nat_le, List, [], ◌∷◌, length, get_or, take, drop, map, refl, sym, ◌∙◌, ap, arith, inl, inr, ◌⊎◌, add-one}
+-- Heads beside entries of which one is put, or one goes.
+use Rattle.std.proofs.Common.{◌≡◌, ℕ, zero, suc, ◌+◌, ◌++◌, min, subst, List, [], ◌∷◌, length, set, take, drop, map, refl, sym, ◌∙◌, ap}
 use Rattle.std.specs.List.{All, insert, remove}
-use Rattle.std.specs.Ordering.{nat_cmp, ordering_then, ordering_reverse}
-use Rattle.std.specs.Cmp.Lexicographic.{slice_cmp}
-use Rattle.std.specs.declared.cmp.Ordering.{Ordering}
-use Rattle.std.specs.declared.cmp.Ordering.TheVariants.{Less, Equal, Greater}
-use Rattle.std.proofs.Math.Nat.{pow-suc, pow-le-pow_right}
-use Rattle.std.proofs.lemmas.Bool.{cases_lt}
-use Rattle.std.proofs.lemmas.Bool.Decides.{nat_tests}
-use Rattle.std.proofs.lemmas.Cmp.{nat_list_cmp_total}
-use Rattle.std.proofs.lemmas.List.{drop_more, drop_all, get_or_past, length-map}
-use Rattle.std.proofs.lemmas.List.Elements.{All-append, All-take, All-drop, All-cons}
-use Rattle.lsm_below.specs.declared.value.InternalValue.{InternalValue}
-use Rattle.lsm_below.specs.Sorted.{by_ordering}
-use Rattle.lsm_below.specs.Lookups.{stands_before}
+use Rattle.std.proofs.lemmas.List.{length-map, map-set}
+use Rattle.std.proofs.lemmas.List.Elements.{All-append, All-take, All-drop, All-cons, All-set}
 use Rattle.lsm_memtable.proofs.Dealt.{same_lower, same_upper, all_lower, all_upper}
-use Rattle.lsm_below.specs.Keys.{AreBytes}
-use Rattle.lsm_below.specs.Entries.{HasBytes}
-use Rattle.lsm_memtable.specs.Heads.{head_from, key_head, entry_head}
-
-less_is : (x y : ℕ) → x < y → nat_cmp x y ≡ Less
-less_is x y lt = grind (arith, nat_tests)
-
-same_is : (x y : ℕ) → x ≡ y → nat_cmp x y ≡ Equal
-same_is x y e = grind (arith, nat_tests)
-
-no_less : (xs : List ℕ) → slice_cmp nat_cmp xs [] ≡ Less → ⊥
-no_less [] h = cc h
-no_less (x ∷ xs) h = cc h
-
--- a lesser number comes from a lesser start, or from the same start and a lesser key
-head_order : (n a b : ℕ) (xs ys : List ℕ) → AreBytes xs → AreBytes ys → head_from a n xs < head_from b n ys → (a < b) ⊎ ((a ≡ b) × (slice_cmp nat_cmp xs ys ≡ Less))
-unfolding head_from
-head_order zero a b xs ys hx hy lt = inl lt
-head_order (suc n) a b [] [] hx hy lt = elim (head_order n (a * 256) (b * 256) [] [] hx hy lt) [
-  | inl less ↦ inl (omega arith)
-  | inr h ↦ absurd (no_less [] h.1)
-]
-head_order (suc n) a b [] (y ∷ ys) hx hy lt =
-    let y_in : y < 256 = hy 0 in
-    elim (head_order n (a * 256) (b * 256 + y) [] ys hx (λ i. hy (suc i)) lt) [
-      | inl less ↦ elim (cases_lt a b) [ inl l ↦ inl l | inr g ↦ inr (omega arith, refl) ]
-      | inr h ↦ let e = h.0 in elim (cases_lt a b) [ inl l ↦ inl l | inr g ↦ inr (omega arith, refl) ]
-    ]
-head_order (suc n) a b (x ∷ xs) [] hx hy lt = elim (head_order n (a * 256 + x) (b * 256) xs [] (λ i. hx (suc i)) hy lt) [
-  | inl less ↦ inl (omega arith)
-  | inr h ↦ absurd (no_less xs h.1)
-]
-head_order (suc n) a b (x ∷ xs) (y ∷ ys) hx hy lt =
-    let x_in : x < 256 = hx 0 in
-    let y_in : y < 256 = hy 0 in
-    elim (head_order n (a * 256 + x) (b * 256 + y) xs ys (λ i. hx (suc i)) (λ i. hy (suc i)) lt) [
-      | inl less ↦ elim (cases_lt a b) [
-        | inl l ↦ inl l
-        | inr g ↦ inr (omega arith, ap (λ o. ordering_then o (slice_cmp nat_cmp xs ys)) (less_is x y (omega arith)))
-      ]
-      | inr h ↦ let e = h.0 in elim (cases_lt a b) [
-        | inl l ↦ inl l
-        | inr g ↦ inr (omega arith, ap (λ o. ordering_then o (slice_cmp nat_cmp xs ys)) (same_is x y (omega arith)) ∙ h.1)
-      ]
-    ]
-
--- the lesser head has the lesser key
-pub head_less : (xs ys : List ℕ) → AreBytes xs → AreBytes ys → key_head xs < key_head ys → slice_cmp nat_cmp xs ys ≡ Less
-head_less xs ys hx hy lt = elim (head_order 16 0 0 xs ys hx hy lt) [
-  | inl less ↦ absurd (omega arith)
-  | inr h ↦ h.1
-]
-
-pub head_ahead : (e : InternalValue) (key : List ℕ) (s : ℕ) → HasBytes e → AreBytes key → key_head e.key.user_key < key_head key → true ≡ stands_before key s e
-head_ahead e key s he hk lt = sym (ap (λ o. by_ordering o true (nat_le s e.key.seqno) false) (head_less e.key.user_key key he hk lt))
-
-pub head_behind : (e : InternalValue) (key : List ℕ) (s : ℕ) → HasBytes e → AreBytes key → key_head key < key_head e.key.user_key → false ≡ stands_before key s e
-head_behind e key s he hk lt = sym (ap (λ o. by_ordering o true (nat_le s e.key.seqno) false) (nat_list_cmp_total.antisymm e.key.user_key key ∙ ap ordering_reverse (head_less key e.key.user_key hk he lt)))
-
--- keys of one length which their equal numbers hold whole
-same_keys : (n a b : ℕ) (xs ys : List ℕ) → AreBytes xs → AreBytes ys → length xs ≡ length ys → length ys ≤ n → head_from a n xs ≡ head_from b n ys → (a ≡ b) × (xs ≡ ys)
-unfolding head_from
-same_keys zero a b [] [] hx hy len le e = (e, refl)
-same_keys zero a b [] (y ∷ ys) hx hy len le e = absurd (omega arith)
-same_keys zero a b (x ∷ xs) ys hx hy len le e = absurd (omega arith)
-same_keys (suc n) a b [] [] hx hy len le e = let h = (same_keys n (a * 256) (b * 256) [] [] hx hy refl (omega arith) e).0 in (omega arith, refl)
-same_keys (suc n) a b [] (y ∷ ys) hx hy len le e = absurd (omega arith)
-same_keys (suc n) a b (x ∷ xs) [] hx hy len le e = absurd (omega arith)
-same_keys (suc n) a b (x ∷ xs) (y ∷ ys) hx hy len le e =
-    let x_in : x < 256 = hx 0 in
-    let y_in : y < 256 = hy 0 in
-    let h = same_keys n (a * 256 + x) (b * 256 + y) xs ys (λ i. hx (suc i)) (λ i. hy (suc i)) (omega arith) (omega arith) e in
-    let start = h.0 in
-    let first : x ≡ y = omega arith in
-    (omega arith, ap (λ z. z ∷ xs) first ∙ ap (λ l. y ∷ l) h.1)
-
-its_own_reverse : (o : Ordering) → o ≡ ordering_reverse o → o ≡ Equal
-its_own_reverse Less e = absurd (cc e)
-its_own_reverse Equal e = refl
-its_own_reverse Greater e = absurd (cc e)
-
--- the entry's key is this one, so that its number decides
-pub head_same : (e : InternalValue) (key : List ℕ) (s : ℕ) → HasBytes e → AreBytes key → entry_head e ≡ key_head key → length e.key.user_key ≡ length key → length key ≤ 16 → nat_le s e.key.seqno ≡ stands_before key s e
-head_same e key s he hk head len le =
-    let same = (same_keys 16 0 0 e.key.user_key key he hk len le head).1 in
-    let tie = ap (λ k. slice_cmp nat_cmp k key) same ∙ its_own_reverse (slice_cmp nat_cmp key key) (nat_list_cmp_total.antisymm key key) in
-    sym (ap (λ o. by_ordering o true (nat_le s e.key.seqno) false) tie)
-
-here : (a n x : ℕ) (xs : List ℕ) → head_from a (suc n) (x ∷ xs) ≡ head_from (a * 256 + x) n xs
-unfolding head_from
-here a n x xs = refl
-
-past_end : (a n : ℕ) → head_from a (suc n) [] ≡ head_from (a * 256) n []
-unfolding head_from
-past_end a n = refl
-
--- one more byte
-pub head_step : (so_far p : ℕ) (key : List ℕ) → p < 16 → head_from so_far (16 - p) (drop p key) ≡ head_from (so_far * 256 + get_or key p 0) (16 - (p + 1)) (drop (p + 1) key)
-head_step so_far p key lt =
-    let rest : 16 - p ≡ suc (16 - (p + 1)) = omega arith in
-    ap (λ n. head_from so_far n (drop p key)) rest ∙ elim (cases_lt p (length key)) [
-      | inl within ↦ ap (λ l. head_from so_far (suc (16 - (p + 1))) l) (drop_more key p 0 within) ∙ here so_far (16 - (p + 1)) (get_or key p 0) (drop (p + 1) key)
-      | inr past ↦
-          ap (λ l. head_from so_far (suc (16 - (p + 1))) l) (drop_all p key past) ∙ (past_end so_far (16 - (p + 1))
-          ∙ (ap (λ l. head_from (so_far * 256) (16 - (p + 1)) l) (sym (drop_all (p + 1) key (omega arith)))
-          ∙ ap (λ k. head_from k (16 - (p + 1)) (drop (p + 1) key)) (zero_more (so_far * 256) (get_or key p 0) (get_or_past key p 0 past))))
-    ]
-  where
-    zero_more : (a x : ℕ) → x ≡ 0 → a ≡ a + x
-    zero_more a x e = omega arith
-
-pub head_all : (so_far : ℕ) (key : List ℕ) (p : ℕ) → p ≡ 16 → head_from so_far (16 - p) (drop p key) ≡ so_far
-unfolding head_from
-head_all so_far key p e = ap (λ k. head_from so_far (16 - k) (drop k key)) e
-
-pub head_room : (p head byte : ℕ) → p < 16 → head < 256 ^ p → byte < 256 → (head * 256 + byte < 256 ^ (p + 1)) × (head * 256 + byte < 2 ^ 128)
-head_room p head byte lt below in_byte =
-    let more : head * 256 + byte < 256 ^ (p + 1) = rw (add-one, pow-suc) (omega arith) in
-    (more, omega (arith, pow-le-pow_right {n = 256} (omega arith) {i = p + 1} {j = 16} (omega arith)))
+use Rattle.lsm_below.specs.Entries.{Entry, HasBytes}
+use Rattle.lsm_below.specs.Heads.{entry_head, AreHeads}
 
 module _ {X Y : Type 0} (f : X → Y) where
-  pub map_insert : (xs : List X) (i : ℕ) (x : X) → map f (insert xs i x) ≡ insert (map f xs) i (f x)
+  map_insert : (xs : List X) (i : ℕ) (x : X) → map f (insert xs i x) ≡ insert (map f xs) i (f x)
   map_insert [] zero x = refl
   map_insert [] (suc i) x = refl
   map_insert (y ∷ xs) zero x = refl
   map_insert (y ∷ xs) (suc i) x = ap (λ l. f y ∷ l) (map_insert xs i x)
 
-  pub map_remove : (xs : List X) (i : ℕ) → map f (remove xs i) ≡ remove (map f xs) i
+  map_remove : (xs : List X) (i : ℕ) → map f (remove xs i) ≡ remove (map f xs) i
   map_remove [] zero = refl
   map_remove [] (suc i) = refl
   map_remove (y ∷ xs) zero = refl
   map_remove (y ∷ xs) (suc i) = ap (λ l. f y ∷ l) (map_remove xs i)
 
-  pub get_or-map : (xs : List X) (i : ℕ) (d : X) (e : Y) → i < length xs → get_or (map f xs) i e ≡ f (get_or xs i d)
-  get_or-map [] i d e lt = absurd (omega arith)
-  get_or-map (x ∷ xs) zero d e lt = refl
-  get_or-map (x ∷ xs) (suc i) d e lt = get_or-map xs i d e (omega arith)
-
-pub All_insert : {X : Type 0} (P : X → Type 0) (xs : List X) (i : ℕ) (x : X) → P x → All P xs → All P (insert xs i x)
+All_insert : {X : Type 0} (P : X → Type 0) (xs : List X) (i : ℕ) (x : X) → P x → All P xs → All P (insert xs i x)
 All_insert P xs i x p all = All-append P (take i xs) (x ∷ drop i xs) (All-take P i xs all) (All-cons P x (drop i xs) p (All-drop P i xs all))
 
-pub All_remove : {X : Type 0} (P : X → Type 0) (xs : List X) (i : ℕ) → All P xs → All P (remove xs i)
+All_remove : {X : Type 0} (P : X → Type 0) (xs : List X) (i : ℕ) → All P xs → All P (remove xs i)
 All_remove P xs i all = All-append P (take i xs) (drop (suc i) xs) (All-take P i xs all) (All-drop P (suc i) xs all)
 
--- the head of the last entry
-pub last_read : (entries : List InternalValue) (heads : List ℕ) (last : ℕ) (d : InternalValue) → 0 < length entries → heads ≡ map entry_head entries → last ≡ get_or heads (length heads - 1) 0 → last ≡ entry_head (get_or entries (length entries - 1) d)
-last_read entries heads last d some same is =
-    let len : length heads ≡ length entries = ap (λ (l : List ℕ). length l) same ∙ length-map entries entry_head in
-    is ∙ (ap (λ n. get_or heads (n - 1) 0) len ∙ (ap (λ l. get_or l (length entries - 1) 0) same ∙ get_or-map entry_head entries (length entries - 1) d 0 (omega arith)))
+-- with the head and the entry e at a place
+module _ (heads : List ℕ) (entries : List Entry) (place head : ℕ) (e : Entry) (are : AreHeads heads entries) (head_is : head ≡ entry_head e) (own : HasBytes e) where
+  pub heads_put : AreHeads (insert heads place head) (insert entries place e)
+  heads_put = record {
+    same = ap (λ h. insert heads place h) head_is ∙ (ap (λ l. insert l place (entry_head e)) are.same ∙ sym (map_insert entry_head entries place e));
+    bytes = All_insert HasBytes entries place e own are.bytes;
+  }
 
--- heads and entries that were dealt alike, with one more
-module _ (xs : List InternalValue) (hs : List ℕ) (place keep head : ℕ) (e : InternalValue) (lower_heads upper_heads : List ℕ) (lower upper : List InternalValue) (same : hs ≡ map entry_head xs) (head_is : head ≡ entry_head e)
-    (heads_dealt : lower_heads ++ upper_heads ≡ insert hs place head) (dealt : lower ++ upper ≡ insert xs place e) (heads_len : length lower_heads ≡ min keep (length hs + 1)) (len : length lower ≡ min keep (length xs + 1)) where
-  both_parts : lower_heads ++ upper_heads ≡ map entry_head (lower ++ upper)
-  both_parts = heads_dealt ∙ (ap (λ l. insert l place head) same ∙ (ap (λ h. insert (map entry_head xs) place h) head_is ∙ (sym (map_insert entry_head xs place e) ∙ ap (map entry_head) (sym dealt))))
+  pub heads_set : AreHeads (set heads place head) (set entries place e)
+  heads_set = record {
+    same = ap (λ h. set heads place h) head_is ∙ (ap (λ l. set l place (entry_head e)) are.same ∙ sym (map-set entry_head entries place e));
+    bytes = All-set HasBytes entries place e own are.bytes;
+  }
 
-  both_lens : length lower_heads ≡ length lower
-  both_lens = heads_len ∙ (ap (λ n. min keep (n + 1)) (ap (λ (l : List ℕ). length l) same ∙ length-map xs entry_head) ∙ sym len)
+  -- dealt alike to two lists
+  module _ (keep : ℕ) (lower_heads upper_heads : List ℕ) (lower upper : List Entry)
+      (heads_dealt : lower_heads ++ upper_heads ≡ insert heads place head) (dealt : lower ++ upper ≡ insert entries place e) (heads_len : length lower_heads ≡ min keep (length heads + 1)) (len : length lower ≡ min keep (length entries + 1)) where
+    both_parts : lower_heads ++ upper_heads ≡ map entry_head (lower ++ upper)
+    both_parts = heads_dealt ∙ (heads_put.same ∙ ap (map entry_head) (sym dealt))
 
-  pub heads_lower : lower_heads ≡ map entry_head lower
-  heads_lower = same_lower entry_head lower_heads upper_heads lower upper both_parts both_lens
+    both_bytes : All HasBytes (lower ++ upper)
+    both_bytes = subst (All HasBytes) (sym dealt) heads_put.bytes
 
-  pub heads_upper : upper_heads ≡ map entry_head upper
-  heads_upper = same_upper entry_head lower_heads upper_heads lower upper both_parts both_lens
+    both_lens : length lower_heads ≡ length lower
+    both_lens = heads_len ∙ (ap (λ n. min keep (n + 1)) (ap (λ (l : List ℕ). length l) are.same ∙ length-map entries entry_head) ∙ sym len)
 
-  pub bytes_dealt : All HasBytes xs → HasBytes e → All HasBytes lower × All HasBytes upper
-  bytes_dealt all own =
-      let whole = subst (λ l. All HasBytes l) (sym dealt) (All_insert HasBytes xs place e own all) in
-      (all_lower HasBytes lower upper whole, all_upper HasBytes lower upper whole)
+    pub heads_lower : AreHeads lower_heads lower
+    heads_lower = record { same = same_lower entry_head lower_heads upper_heads lower upper both_parts both_lens; bytes = all_lower HasBytes lower upper both_bytes }
 
--- a head that was read is that of the entry
-pub head_read : (entries : List InternalValue) (heads : List ℕ) (place other : ℕ) (d : InternalValue) → place < length entries → heads ≡ map entry_head entries → other ≡ get_or heads place other → other ≡ entry_head (get_or entries place d)
-head_read entries heads place other d lt same read = read ∙ (ap (λ l. get_or l place other) same ∙ get_or-map entry_head entries place d other lt)
+    pub heads_upper : AreHeads upper_heads upper
+    heads_upper = record { same = same_upper entry_head lower_heads upper_heads lower upper both_parts both_lens; bytes = all_upper HasBytes lower upper both_bytes }
+
+-- without those at a place
+pub heads_removed : (heads : List ℕ) (entries : List Entry) (place : ℕ) → AreHeads heads entries → AreHeads (remove heads place) (remove entries place)
+heads_removed heads entries place are = record {
+  same = ap (λ l. remove l place) are.same ∙ sym (map_remove entry_head entries place);
+  bytes = All_remove HasBytes entries place are.bytes;
+}

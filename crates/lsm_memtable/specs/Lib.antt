@@ -1,5 +1,4 @@
 pub mod Memtables
-pub mod Heads
 pub mod Blocks
 pub mod Contents
 pub mod Undo

@@ -1,21 +1,22 @@
 // Up to 64 entries in order, with the heads of their keys.
 ghost use Rattle.std.specs.Prelude.{◌≡◌, ℕ, ◌+◌, ◌-◌, ◌<◌, ◌≤◌, [], ◌∷◌, ◌++◌, length, min, IfOk, OnOk, OnErr, true, false, slice_index_or, slice_set};
 ghost use Rattle.std.specs.List.{insert, remove};
-ghost use Rattle.std.specs.Ordering.{is_eq};
+ghost use Rattle.std.specs.Ordering.{is_eq, nat_cmp};
+ghost use Rattle.std.specs.Cmp.Lexicographic.{slice_cmp};
 ghost use Rattle.lsm_below.specs.declared.value.InternalValue.{InternalValue};
-ghost use Rattle.lsm_below.specs.Entries.{entry_cmp, key_cmp, HasBytes};
+ghost use Rattle.lsm_below.specs.Entries.{entry_cmp, key_cmp};
 ghost use Rattle.lsm_below.specs.Sorted.{Rises};
 ghost use Rattle.lsm_below.specs.Lookups.{stands_before};
 ghost use Rattle.lsm_below.specs.Sums.{capped};
-ghost use Rattle.lsm_below.specs.Keys.{AreBytes};
-ghost use Rattle.lsm_memtable.specs.Heads.{key_head, entry_head};
+ghost use Rattle.lsm_below.specs.Heads.{key_head};
 ghost use Rattle.lsm_memtable.specs.Blocks.{CountsDigits};
 
 use crate::Steps;
 use crate::spread::spread;
-use lsm_below::{InternalKey, InternalValue, UserKey, entries_are_parted};
+use lsm_below::{
+    Headed, InternalKey, InternalValue, Stretch, UserKey, entries_are_parted, head_of,
+};
 use std::alloc::{AllocError, Global};
-use std::cmp::Ordering;
 use std::marker::Model;
 use std::mem;
 
@@ -24,9 +25,6 @@ pub(crate) const MOST: usize = 64;
 
 /// How many entries a full block keeps at least when it is split.
 const HALF: usize = 32;
-
-/// How many bytes of a key its head holds.
-const HEAD: usize = 16;
 
 /// For how many more entries a block has room when it was made or has grown.
 const STEP: usize = 8;
@@ -43,7 +41,7 @@ pub(crate) struct Block {
 impl Model for Block {
     ghost use Rattle.std.specs.Prelude.{◌≡◌, ◌-◌, List, length, slice_index_or};
     ghost use Rattle.lsm_below.specs.declared.value.InternalValue.{InternalValue};
-    ghost use Rattle.lsm_memtable.specs.Heads.{AreHeads};
+    ghost use Rattle.lsm_below.specs.Heads.{AreHeads};
 
     ghost Value = { List InternalValue };
 
@@ -59,55 +57,6 @@ fn last_of(heads: &[u128]) -> u128
     match heads.last() {
         Some(head) => *head,
         None => 0,
-    }
-}
-
-/// A byte of the key, and zero after its end.
-fn byte_at(key: &[u8], place: usize) -> u8
-    ensures { result ≡ slice_index_or key.now place 0 }
-{
-    if place < key.len() { key[place] } else { 0 }
-}
-
-/// The first 16 bytes of the key as a number, big endian, with zeros after a short key.
-pub(crate) fn head_of(key: &[u8]) -> u128
-    ensures head { result ≡ key_head key.now }
-    ensures bytes { AreBytes key.now }
-{
-    match key.first_chunk::<HEAD>() {
-        Some(bytes) => u128::from_be_bytes(*bytes),
-        None => padded_head(key),
-    }
-}
-
-/// `head_of`, byte by byte.
-fn padded_head(key: &[u8]) -> u128
-    ensures head { result ≡ key_head key.now }
-    ensures bytes { AreBytes key.now }
-{
-    let mut head: u128 = 0;
-    for place in 0..HEAD {
-        head = head * 256 + byte_at(key, place) as u128;
-    }
-    head
-}
-
-/// Whether the entry comes before each entry of the key with a sequence number below this. Their keys have one head, so
-/// that two of one length which the head holds whole are the same, and no byte of them is read.
-fn stands_ahead(entry: &InternalValue, key: &[u8], number: u128) -> bool
-    requires own { HasBytes entry.now }
-    requires bytes { AreBytes key.now }
-    requires head { entry_head entry.now ≡ key_head key.now }
-    ensures { result ≡ stands_before key.now number entry.now }
-{
-    let own = entry.key.user_key.as_slice();
-    if own.len() == key.len() && key.len() <= HEAD {
-        return entry.key.seqno as u128 >= number;
-    }
-    match own.cmp(key) {
-        Ordering::Less => true,
-        Ordering::Equal => entry.key.seqno as u128 >= number,
-        Ordering::Greater => false,
     }
 }
 
@@ -140,6 +89,13 @@ impl Block {
         &self.entries
     }
 
+    /// The entries with their heads.
+    pub(crate) fn stretch(&self) -> Stretch<'_>
+        ensures { result ≡ self.now }
+    {
+        Stretch::new(&self.entries, &self.heads)
+    }
+
     pub(crate) fn at(&self, place: usize) -> &InternalValue
         requires { place < length self.now }
         ensures { result.now ≡ slice_index_or self.now place result.now }
@@ -164,14 +120,7 @@ impl Block {
         ensures moved { steps.new.moved ≡ steps.old.moved }
     {
         steps.tick_compared();
-        let other = self.heads[place];
-        if other < head {
-            return true;
-        }
-        if head < other {
-            return false;
-        }
-        stands_ahead(&self.entries[place], key, number)
+        Headed::at(&self.heads, &self.entries, place).is_ahead(head, key, number)
     }
 
     /// `is_ahead` for the last entry. Where the heads differ it looks at nothing else.
@@ -189,15 +138,8 @@ impl Block {
         ensures moved { steps.new.moved ≡ steps.old.moved }
     {
         steps.tick_compared();
-        let last = self.last;
-        if last < head {
-            return true;
-        }
-        if head < last {
-            return false;
-        }
         let at = self.entries.len() - 1;
-        stands_ahead(&self.entries[at], key, number)
+        Headed::new(&self.entries[at], self.last).is_ahead(head, key, number)
     }
 
     /// How many entries come before each entry of the key with a sequence number below this.
@@ -224,12 +166,20 @@ impl Block {
         low
     }
 
+    /// Whether the entry there has this key. Where the heads differ it looks at nothing else.
+    pub(crate) fn has_key(&self, place: usize, key: &[u8]) -> bool
+        requires { place < length self.now }
+        ensures { (d : InternalValue) → result ≡ is_eq (slice_cmp nat_cmp (slice_index_or self.now place d).key.user_key key.now) }
+    {
+        Headed::at(&self.heads, &self.entries, place).has_key(head_of(key), key)
+    }
+
     /// Whether the entry there has this key and sequence number.
     pub(crate) fn is_same(&self, place: usize, key: &InternalKey) -> bool
         requires { place < length self.now }
         ensures { (d : InternalValue) → result ≡ is_eq (key_cmp (slice_index_or self.now place d).key key.now) }
     {
-        self.entries[place].key.cmp(key).is_eq()
+        self.has_key(place, key.user_key.as_slice()) && self.entries[place].key.seqno == key.seqno
     }
 
     /// Puts the entry over the one there, which it returns.

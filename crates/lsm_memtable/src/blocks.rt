@@ -6,14 +6,16 @@ ghost use Rattle.lsm_below.specs.declared.value.InternalValue.{InternalValue};
 ghost use Rattle.lsm_below.specs.Entries.{entry_cmp, key_cmp};
 ghost use Rattle.lsm_below.specs.Sorted.{put, first};
 ghost use Rattle.lsm_below.specs.Lookups.{is_visible, stands_before};
-ghost use Rattle.lsm_memtable.specs.Heads.{key_head};
+ghost use Rattle.lsm_below.specs.Heads.{key_head};
 ghost use Rattle.lsm_memtable.specs.Blocks.{joined, spot, AreBlocks, IsFilled, IsPlace, CountsDigits};
 ghost use Rattle.lsm_memtable.specs.Undo.{Undoes, AreUndone, undo_of};
 
 use crate::Steps;
-use crate::block::{Block, MOST, head_of};
+use crate::block::{Block, MOST};
 use crate::part::Part;
-use lsm_below::{InternalKey, InternalValue, SeqNo, entries_are_ordered, entries_are_parted};
+use lsm_below::{
+    InternalKey, InternalValue, SeqNo, entries_are_ordered, entries_are_parted, head_of,
+};
 use std::alloc::{AllocError, Global};
 use std::collections::VecDeque;
 
@@ -95,7 +97,7 @@ pub(crate) fn first_visible<'a>(
     }
     let entry = block.at(place.at);
     steps.tick_compared();
-    if entry.key.user_key.as_slice() == key {
+    if block.has_key(place.at, key) {
         Some(entry)
     } else {
         None

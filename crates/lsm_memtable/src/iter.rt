@@ -9,7 +9,7 @@ ghost use Rattle.lsm_memtable.specs.Iters.{TakesFirst, TakesLast};
 use crate::block::Block;
 use crate::blocks::Place;
 use crate::part::Part;
-use lsm_below::InternalValue;
+use lsm_below::{Headed, InternalValue, Stretch};
 use std::collections::VecDeque;
 use std::marker::Model;
 
@@ -25,9 +25,9 @@ use std::marker::Model;
 /// ```
 #[derive(Drop)]
 pub struct Iter<'a> {
-    front: &'a [InternalValue],
+    front: Stretch<'a>,
     middle: Part<'a>,
-    back: &'a [InternalValue],
+    back: Stretch<'a>,
 }
 
 impl<'a> Model for Iter<'a> {
@@ -39,21 +39,21 @@ impl<'a> Model for Iter<'a> {
 
     ghost Value = { List Entry };
 
-    ghost view = { λ s. s.front.now ++ (joined (blocks_of s.middle) ++ s.back.now) };
+    ghost view = { λ s. s.front ++ (joined (blocks_of s.middle) ++ s.back) };
 
     ghost invariant = { λ s. All IsFilled (blocks_of s.middle) };
 }
 
 /// The first entry, and what comes after it.
 fn split_front<'a>(
-    front: &'a [InternalValue],
+    front: Stretch<'a>,
     middle: Part<'a>,
-    back: &'a [InternalValue],
-) -> Option<(&'a InternalValue, Iter<'a>)>
+    back: Stretch<'a>,
+) -> Option<(Headed<'a>, Iter<'a>)>
     requires { All IsFilled (blocks_of middle) }
     ensures { MatchOption result
-        (front.now ++ (joined (blocks_of middle.entry) ++ back.now) ≡ [])
-        (λ p. front.now ++ (joined (blocks_of middle.entry) ++ back.now) ≡ p.0.now ∷ p.1) }
+        (front.entry ++ (joined (blocks_of middle.entry) ++ back.entry) ≡ [])
+        (λ p. front.entry ++ (joined (blocks_of middle.entry) ++ back.entry) ≡ p.0 ∷ p.1) }
 {
     if let Some((entry, front)) = front.split_first() {
         let rest = Iter {
@@ -68,11 +68,11 @@ fn split_front<'a>(
         let rest = Iter {
             front,
             middle,
-            back: &[],
+            back: Stretch::empty(),
         };
         return Some((entry, rest));
     };
-    let (entry, front) = block.as_slice().split_first()?;
+    let (entry, front) = block.stretch().split_first()?;
     let rest = Iter {
         front,
         middle,
@@ -83,14 +83,14 @@ fn split_front<'a>(
 
 /// The last entry, and what is before it.
 fn split_back<'a>(
-    front: &'a [InternalValue],
+    front: Stretch<'a>,
     middle: Part<'a>,
-    back: &'a [InternalValue],
-) -> Option<(&'a InternalValue, Iter<'a>)>
+    back: Stretch<'a>,
+) -> Option<(Headed<'a>, Iter<'a>)>
     requires { All IsFilled (blocks_of middle) }
     ensures { MatchOption result
-        (front.now ++ (joined (blocks_of middle.entry) ++ back.now) ≡ [])
-        (λ p. front.now ++ (joined (blocks_of middle.entry) ++ back.now) ≡ p.1 ++ p.0.now ∷ []) }
+        (front.entry ++ (joined (blocks_of middle.entry) ++ back.entry) ≡ [])
+        (λ p. front.entry ++ (joined (blocks_of middle.entry) ++ back.entry) ≡ p.1 ++ p.0 ∷ []) }
 {
     if let Some((entry, back)) = back.split_last() {
         let rest = Iter {
@@ -103,13 +103,13 @@ fn split_back<'a>(
     let Some((block, middle)) = middle.split_last() else {
         let (entry, back) = front.split_last()?;
         let rest = Iter {
-            front: &[],
+            front: Stretch::empty(),
             middle,
             back,
         };
         return Some((entry, rest));
     };
-    let (entry, back) = block.as_slice().split_last()?;
+    let (entry, back) = block.stretch().split_last()?;
     let rest = Iter {
         front,
         middle,
@@ -120,36 +120,38 @@ fn split_back<'a>(
 
 /// The entries of the first block, or what is left of it, and what comes after them.
 fn split_block<'a>(
-    front: &'a [InternalValue],
+    front: Stretch<'a>,
     middle: Part<'a>,
-    back: &'a [InternalValue],
+    back: Stretch<'a>,
 ) -> Option<(&'a [InternalValue], Iter<'a>)>
     requires { All IsFilled (blocks_of middle) }
     ensures parts { MatchOption result
-        (front.now ++ (joined (blocks_of middle.entry) ++ back.now) ≡ [])
-        (λ p. front.now ++ (joined (blocks_of middle.entry) ++ back.now) ≡ p.0.now ++ p.1) }
+        (front.entry ++ (joined (blocks_of middle.entry) ++ back.entry) ≡ [])
+        (λ p. front.entry ++ (joined (blocks_of middle.entry) ++ back.entry) ≡ p.0.now ++ p.1) }
     ensures some { IfSome result (λ p. 0 < length p.0.now) }
 {
-    if !front.is_empty() {
+    let entries = front.entries();
+    if !entries.is_empty() {
         let rest = Iter {
-            front: &[],
+            front: Stretch::empty(),
             middle,
             back,
         };
-        return Some((front, rest));
+        return Some((entries, rest));
     }
     if let Some((block, middle)) = middle.split_first() {
         let rest = Iter {
-            front: &[],
+            front: Stretch::empty(),
             middle,
             back,
         };
         return Some((block.as_slice(), rest));
     }
-    if back.is_empty() {
+    let entries = back.entries();
+    if entries.is_empty() {
         return None;
     }
-    Some((back, nothing()))
+    Some((entries, nothing()))
 }
 
 impl<'a> Iterator for Iter<'a> {
@@ -160,9 +162,9 @@ impl<'a> Iterator for Iter<'a> {
     ghost remaining = { λ s. at_most (length s) };
 
     fn next(&mut self) -> Option<&'a InternalValue> {
-        let (entry, rest) = split_front(self.front, self.middle, self.back)?;
+        let (headed, rest) = split_front(self.front.copy(), self.middle, self.back.copy())?;
         *self = rest;
-        Some(entry)
+        Some(headed.entry())
     }
 }
 
@@ -170,9 +172,9 @@ impl<'a> DoubleEndedIterator for Iter<'a> {
     ghost next_back_gives = { TakesLast };
 
     fn next_back(&mut self) -> Option<&'a InternalValue> {
-        let (entry, rest) = split_back(self.front, self.middle, self.back)?;
+        let (headed, rest) = split_back(self.front.copy(), self.middle, self.back.copy())?;
         *self = rest;
-        Some(entry)
+        Some(headed.entry())
     }
 }
 
@@ -182,9 +184,94 @@ impl<'a> Iter<'a> {
         ensures parts { MatchOption result (self.old ≡ []) (λ block. self.old ≡ block.now ++ self.new) }
         ensures some { IfSome result (λ block. 0 < length block.now) }
     {
-        let (block, rest) = split_block(self.front, self.middle, self.back)?;
+        let (block, rest) = split_block(self.front.copy(), self.middle, self.back.copy())?;
         *self = rest;
         Some(block)
+    }
+
+    /// The first entry, where the first block is done.
+    #[inline(never)]
+    fn first_behind(&self) -> Option<Headed<'a>>
+        ensures { MatchOption result (self.now ≡ []) (λ h. self.now ≡ h ∷ drop 1 self.now) }
+    {
+        let (headed, _) = split_front(self.front.copy(), self.middle, self.back.copy())?;
+        Some(headed)
+    }
+
+    /// The first entry, with its head.
+    #[inline(always)]
+    pub fn first_headed(&self) -> Option<Headed<'a>>
+        ensures { MatchOption result (self.now ≡ []) (λ h. self.now ≡ h ∷ drop 1 self.now) }
+    {
+        match self.front.first() {
+            Some(headed) => Some(headed),
+            None => self.first_behind(),
+        }
+    }
+
+    /// The last entry, where the last block is done.
+    #[inline(never)]
+    fn last_before(&self) -> Option<Headed<'a>>
+        ensures { MatchOption result (self.now ≡ []) (λ h. self.now ≡ take (length self.now - 1) self.now ++ h ∷ []) }
+    {
+        let (headed, _) = split_back(self.front.copy(), self.middle, self.back.copy())?;
+        Some(headed)
+    }
+
+    /// The last entry, with its head.
+    #[inline(always)]
+    pub fn last_headed(&self) -> Option<Headed<'a>>
+        ensures { MatchOption result (self.now ≡ []) (λ h. self.now ≡ take (length self.now - 1) self.now ++ h ∷ []) }
+    {
+        match self.back.last() {
+            Some(headed) => Some(headed),
+            None => self.last_before(),
+        }
+    }
+
+    /// Leaves the first entry out, where the first block is done.
+    #[inline(never)]
+    fn drop_behind(&mut self)
+        ensures { self.new ≡ drop 1 self.old }
+    {
+        if let Some((_, rest)) = split_front(self.front.copy(), self.middle, self.back.copy()) {
+            *self = rest;
+        }
+    }
+
+    /// Leaves the first entry out, if there is one.
+    #[inline(always)]
+    pub fn drop_first(&mut self)
+        ensures { self.new ≡ drop 1 self.old }
+    {
+        if self.front.len() == 0 {
+            self.drop_behind();
+        } else {
+            self.front = self.front.behind(1);
+        }
+    }
+
+    /// Leaves the last entry out, where the last block is done.
+    #[inline(never)]
+    fn drop_before(&mut self)
+        ensures { self.new ≡ take (length self.old - 1) self.old }
+    {
+        if let Some((_, rest)) = split_back(self.front.copy(), self.middle, self.back.copy()) {
+            *self = rest;
+        }
+    }
+
+    /// Leaves the last entry out, if there is one.
+    #[inline(always)]
+    pub fn drop_last(&mut self)
+        ensures { self.new ≡ take (length self.old - 1) self.old }
+    {
+        let len = self.back.len();
+        if len == 0 {
+            self.drop_before();
+        } else {
+            self.back = self.back.up_to(len - 1);
+        }
     }
 
     /// The same entries once more, from both ends.
@@ -192,9 +279,9 @@ impl<'a> Iter<'a> {
         ensures { result ≡ self.now }
     {
         Iter {
-            front: self.front,
+            front: self.front.copy(),
             middle: self.middle,
-            back: self.back,
+            back: self.back.copy(),
         }
     }
 }
@@ -204,9 +291,9 @@ fn nothing<'a>() -> Iter<'a>
     ensures { result ≡ [] }
 {
     Iter {
-        front: &[],
+        front: Stretch::empty(),
         middle: Part::empty(),
-        back: &[],
+        back: Stretch::empty(),
     }
 }
 
@@ -216,9 +303,9 @@ pub(crate) fn whole(blocks: &VecDeque<Block>) -> Iter<'_>
     ensures { result ≡ joined blocks.now.items }
 {
     Iter {
-        front: &[],
+        front: Stretch::empty(),
         middle: Part::all(blocks),
-        back: &[],
+        back: Stretch::empty(),
     }
 }
 
@@ -231,9 +318,9 @@ fn across<'a>(blocks: &'a VecDeque<Block>, from: Place, to: Place) -> Iter<'a>
     ensures { result ≡ take (spot blocks.now.items to.block to.at - spot blocks.now.items from.block from.at) (drop (spot blocks.now.items from.block from.at) (joined blocks.now.items)) }
 {
     Iter {
-        front: &blocks[from.block].as_slice()[from.at..],
+        front: blocks[from.block].stretch().behind(from.at),
         middle: Part::of(blocks, from.block + 1, to.block),
-        back: &blocks[to.block].as_slice()[..to.at],
+        back: blocks[to.block].stretch().up_to(to.at),
     }
 }
 
@@ -246,9 +333,12 @@ fn inside<'a>(blocks: &'a VecDeque<Block>, from: Place, to: Place) -> Iter<'a>
     ensures { result ≡ take (spot blocks.now.items to.block to.at - spot blocks.now.items from.block from.at) (drop (spot blocks.now.items from.block from.at) (joined blocks.now.items)) }
 {
     Iter {
-        front: &blocks[from.block].as_slice()[from.at..to.at],
+        front: blocks[from.block]
+            .stretch()
+            .behind(from.at)
+            .up_to(to.at - from.at),
         middle: Part::empty(),
-        back: &[],
+        back: Stretch::empty(),
     }
 }
 

@@ -1,5 +1,6 @@
 // A sorted table of entries in memory.
 ghost use Rattle.std.specs.Prelude.{◌≡◌, ◌+◌, ◌<◌, ◌≤◌, ◌↔◌, [], List, length, IsTrue, IfOk, IfErr, OnOk, OnErr, IfSome, IfNone, option_copied, vec_len, vec_capacity, true, MatchOption};
+ghost use Rattle.std.specs.Bool.{OnTrue};
 ghost use Rattle.lsm_below.specs.declared.value.InternalValue.{InternalValue};
 ghost use Rattle.lsm_below.specs.Entries.{Entry, entry_cmp, top};
 ghost use Rattle.lsm_below.specs.Sorted.{Rises};
@@ -14,9 +15,10 @@ use crate::bounds::blocks_within;
 use crate::iter::whole;
 use crate::span::span_of;
 use crate::{Iter, Span, Steps};
+use bytes::BytesMut;
 use lsm_below::{
-    ENTRY_OVERHEAD, Error, InternalValue, MemtableId, SeqNo, UserKey, entries_are_ordered,
-    entries_are_parted, first_visible_is_top,
+    ENTRY_OVERHEAD, Error, InternalKey, InternalValue, MemtableId, SeqNo, UserKey,
+    entries_are_ordered, entries_are_parted, first_visible_is_top, slices_hold_bytes,
 };
 use std::alloc::{AllocError, Global};
 use std::collections::VecDeque;
@@ -27,7 +29,8 @@ use std::ops::Bound;
 /// each stands once. It takes any sequence number, and any key and value.
 ///
 /// The entries stand in blocks of at most 64. `get` and `insert` are logarithmic, and `insert` moves at most 64
-/// of the entries that are there.
+/// of the entries that are there. Keys and values of up to 1,024 bytes together are copied into chunks of 1 to 64 KiB; an
+/// entry that is copied out shares its chunk, which stays in memory as long as one of its entries does.
 ///
 /// # Examples
 ///
@@ -44,14 +47,24 @@ pub struct Memtable {
     flagged: bool,
 }
 
-/// The entries, how many there are, the sizes of all accepted inserts, and the greatest sequence number.
+/// The entries, how many there are, the sizes of all accepted inserts, the greatest sequence number, and the rest of
+/// the chunk that the next entry's bytes go to, which holds none between two inserts.
 #[derive(Drop)]
 struct Content {
     blocks: VecDeque<Block>,
     count: usize,
     size: u64,
     highest: Option<SeqNo>,
+    arena: BytesMut,
 }
+
+/// The longest key and value together that are copied into a chunk.
+const MOST_COPIED: usize = 1024;
+
+/// The shortest chunk, and the longest.
+const FIRST_CHUNK: u64 = 1024;
+
+const LONGEST_CHUNK: u64 = 65_536;
 
 impl Model for Memtable {
     ghost use Rattle.std.specs.Prelude.{◌≡◌};
@@ -84,6 +97,65 @@ fn count_after(count: usize, more: usize, replaced: &Option<InternalValue>) -> u
     }
 }
 
+/// Makes room for the bytes of an entry of at most 1,024, in a new chunk where there is too little: as long as all
+/// inserts so far, from 1 KiB to 64 KiB. False where the chunk is refused, and then nothing changes.
+fn has_room(arena: &mut BytesMut, alloc: Global, len: usize, size: u64) -> bool
+    requires empty { arena.old.items ≡ [] }
+    requires short { len ≤ 1024 }
+    ensures empty { arena.new.items ≡ [] }
+    ensures room { OnTrue result (len ≤ arena.new.spare) }
+{
+    if len <= arena.capacity() {
+        return true;
+    }
+    let chunk = size.max(FIRST_CHUNK).min(LONGEST_CHUNK) as usize;
+    let Ok(chunk) = BytesMut::with_capacity(alloc, chunk) else {
+        return false;
+    };
+    *arena = chunk;
+    true
+}
+
+/// The entry with its key and value, one behind the other, cut from the chunk. There is room for them. Refused only
+/// for want of memory.
+fn copied(arena: &mut BytesMut, entry: &InternalValue) -> Result<InternalValue, AllocError>
+    requires empty { arena.old.items ≡ [] }
+    requires room { length entry.now.key.user_key + length entry.now.value ≤ arena.old.spare }
+    ensures ok { IfOk result (λ e. e ≡ entry.now) }
+    ensures empty { arena.new.items ≡ [] }
+{
+    let user_key = entry.key.user_key.as_slice();
+    arena.extend_reserved(user_key);
+    arena.extend_reserved(entry.value.as_slice());
+    let both = arena.freeze_to(arena.len());
+    arena.clear();
+    let mut value = both?;
+    let user_key = value.split_to(user_key.len())?;
+    let key = InternalKey {
+        user_key,
+        seqno: entry.key.seqno,
+        value_type: entry.key.value_type,
+    };
+    Ok(InternalValue { key, value })
+}
+
+/// The entry, its bytes copied into a chunk that entries share: so they need no memory and no count of owners of their
+/// own. Left as it is where it has more than 1,024 bytes, or where memory for the chunk is refused.
+fn housed(arena: &mut BytesMut, alloc: Global, entry: InternalValue, size: u64) -> InternalValue
+    requires { arena.old.items ≡ [] }
+    ensures same { result ≡ entry }
+    ensures empty { arena.new.items ≡ [] }
+{
+    let len = entry.key.user_key.len().saturating_add(entry.value.len());
+    if len > MOST_COPIED || !has_room(arena, alloc, len, size) {
+        return entry;
+    }
+    match copied(arena, &entry) {
+        Ok(copy) => copy,
+        Err(_) => entry,
+    }
+}
+
 /// Puts an entry in its place, and returns the one that it replaces. Refused only for want of memory, also where
 /// there are 2^64 - 1 entries, and then nothing changes.
 fn add_entry(
@@ -104,8 +176,10 @@ fn add_entry(
     let Some(more) = content.count.checked_add(1) else {
         return Err(AllocError);
     };
+    slices_hold_bytes(entry.key.user_key.as_slice());
     let size = content.size.saturating_add(size_of_entry(&entry));
     let highest = content.highest.unwrap_or(0).max(entry.key.seqno);
+    let entry = housed(&mut content.arena, alloc, entry, content.size);
     let replaced = put_entry(&mut content.blocks, alloc, entry, steps)?;
     content.count = count_after(content.count, more, &replaced);
     content.size = size;
@@ -191,6 +265,7 @@ impl Memtable {
                 count: 0,
                 size: 0,
                 highest: None,
+                arena: BytesMut::new(alloc),
             },
             flagged: false,
         }

@@ -1,7 +1,8 @@
 // A part of a memtable between two places, which may be cut again.
 ghost use Rattle.std.specs.Prelude.{◌≡◌, ◌≤◌, max, min, true, false};
 ghost use Rattle.lsm_below.specs.Lookups.{within};
-ghost use Rattle.lsm_below.specs.Entries.{entry_cmp};
+ghost use Rattle.std.specs.List.{All};
+ghost use Rattle.lsm_below.specs.Entries.{HasBytes, entry_cmp};
 ghost use Rattle.lsm_below.specs.Sorted.{Rises};
 ghost use Rattle.lsm_memtable.specs.Blocks.{joined, spot, AreBlocks, HasPlace};
 
@@ -32,15 +33,16 @@ pub struct Span<'a> {
 
 impl<'a> Model for Span<'a> {
     ghost use Rattle.std.specs.Prelude.{List};
-    ghost use Rattle.lsm_below.specs.Entries.{Entry};
-    ghost use Rattle.lsm_memtable.specs.Blocks.{AreBlocks};
+    ghost use Rattle.std.specs.List.{All};
+    ghost use Rattle.lsm_below.specs.Entries.{Entry, HasBytes};
+    ghost use Rattle.lsm_memtable.specs.Blocks.{joined, AreBlocks};
     ghost use Rattle.lsm_memtable.specs.Spans.{between, ArePlaces};
 
     ghost Value = { List Entry };
 
     ghost view = { λ s. between s.blocks.now.items s.from.block s.from.at s.to.block s.to.at };
 
-    ghost invariant = { λ s. AreBlocks s.blocks.now.items × ArePlaces s.blocks.now.items s.from.block s.from.at s.to.block s.to.at };
+    ghost invariant = { λ s. AreBlocks s.blocks.now.items × ArePlaces s.blocks.now.items s.from.block s.from.at s.to.block s.to.at × All HasBytes (joined s.blocks.now.items) };
 }
 
 /// Whether a place stands before another one.
@@ -90,7 +92,8 @@ fn earlier(blocks: &VecDeque<Block>, left: Place, right: Place) -> Place
 
 /// All entries of blocks.
 pub(crate) fn span_of(blocks: &VecDeque<Block>) -> Span<'_>
-    requires { AreBlocks blocks.now.items }
+    requires blocks { AreBlocks blocks.now.items }
+    requires bytes { All HasBytes (joined blocks.now.items) }
     ensures { result ≡ joined blocks.now.items }
 {
     let from = Place { block: 0, at: 0 };
@@ -114,6 +117,13 @@ impl<'a> Span<'a> {
     /// What every such part meets: its entries stand in order.
     pub fn facts(&self)
         ensures { Rises entry_cmp self.now }
+    {
+        let _ = &self.from;
+    }
+
+    /// The keys of its entries have the numbers of bytes.
+    pub fn keys_hold_bytes(&self)
+        ensures { All HasBytes self.now }
     {
         let _ = &self.from;
     }

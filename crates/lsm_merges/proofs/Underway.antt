@@ -1,6 +1,5 @@
 -- Tables that are written while their entries come.
 use Rattle.std.proofs.Common.{◌≡◌, ℕ, zero, suc, ◌+◌, ◌-◌, ◌^◌, ◌<◌, ◌≤◌, Bool, true, false, not, ◌&&◌, nat_lt, nat_le, List, [], ◌∷◌, ◌++◌, length, get_or, take, drop, map, refl, sym, ap, subst, ◌∙◌, append_assoc, arith, inl, inr}
-use Rattle.std.specs.List.{AllByRecursion}
 use Rattle.std.proofs.Math.Seq.{drop-append_seam, take-append_seam, take-length, get_or-append_seam}
 use Rattle.std.proofs.lemmas.Bool.{cases_lt, and_parts, and_from, ltb-true, lt-ltb, leb-true, le-leb}
 use Rattle.std.proofs.lemmas.List.{append-nil, get_or_append_left, get_or-append-add, take-append-le, map-append, length-append}
@@ -142,20 +141,20 @@ module _ (target made_at : ℕ) (all : List Entry) (files : List Bytes) (pending
       }
 
 -- it is in the table that is open then
-pub takes_in : (target made_at : ℕ) (all : List Entry) (files : List Bytes) (pending : List Entry) (held : ℕ) (e : Entry) (rest : List Entry) (new : OpenTable) → IsUnderway target made_at all files pending held (e ∷ rest) → (0 < length pending → same_key (get_or pending (length pending - 1) e) e ≡ false → entry_bytes pending < target) → IsOpenWith made_at (pending ++ e ∷ []) new → IsWriting target made_at all files new rest
-takes_in target made_at all files pending held e rest new h goes_on has = record {
+pub takes_in : {I : Type 0} (shows : I → Entry) (target made_at : ℕ) (all : List Entry) (files : List Bytes) (pending : List Entry) (held : ℕ) (e : Entry) (rest : List Entry) (new : OpenTable I) → IsUnderway target made_at all files pending held (e ∷ rest) → (0 < length pending → same_key (get_or pending (length pending - 1) e) e ≡ false → entry_bytes pending < target) → IsOpenWith shows made_at (pending ++ e ∷ []) new → IsWriting shows target made_at all files new rest
+takes_in shows target made_at all files pending held e rest new h goes_on has = record {
   pending = pending ++ e ∷ [];
   has = has;
   underway = takes target made_at all files pending held e rest h goes_on new.held has.held;
 }
 
 -- an entry that is to come fits
-pub next_fits : (target made_at : ℕ) (all : List Entry) (files : List Bytes) (table : OpenTable) (e : Entry) (rest : List Entry) → IsWriting target made_at all files table (e ∷ rest) → Fits e
-next_fits target made_at all files table e rest w = (each_right Fits w.pending (e ∷ rest) w.underway.writable.each).0
+pub next_fits : {I : Type 0} (shows : I → Entry) (target made_at : ℕ) (all : List Entry) (files : List Bytes) (table : OpenTable I) (e : Entry) (rest : List Entry) → IsWriting shows target made_at all files table (e ∷ rest) → Fits e
+next_fits shows target made_at all files table e rest w = (each_right Fits w.pending (e ∷ rest) w.underway.writable.each).0
 
 -- nothing was written yet
-pub first_writing : (target made_at : ℕ) (all : List Entry) (table : OpenTable) → IsWritable all → IsOpenWith made_at [] table → IsWriting target made_at all [] table all
-first_writing target made_at all table writable has = record {
+pub first_writing : {I : Type 0} (shows : I → Entry) (target made_at : ℕ) (all : List Entry) (table : OpenTable I) → IsWritable all → IsOpenWith shows made_at [] table → IsWriting shows target made_at all [] table all
+first_writing shows target made_at all table writable has = record {
   pending = [];
   has = has;
   underway = subst (λ n. IsUnderway target made_at all [] [] n all) (sym has.held) (begins target made_at all writable);

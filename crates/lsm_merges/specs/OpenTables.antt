@@ -12,12 +12,12 @@ use Rattle.lsm_merges.specs.declared.open_table.OpenTable.{OpenTable}
 
 -- ---- the table that is open
 
--- it has these entries: its file's content spells them, their bytes are counted, and the last one is at hand
-pub record IsOpenWith (made_at : ℕ) (es : List Entry) (t : OpenTable) : Type 0 where
+-- it has these entries: its file's content spells them, their bytes are counted, and what shows the last one is at hand
+pub record IsOpenWith {I : Type 0} (shows : I → Entry) (made_at : ℕ) (es : List Entry) (t : OpenTable I) : Type 0 where
   pub moment : t.image.made_at ≡ made_at
   pub spells : Spells es t.image
   pub held : t.held ≡ capped (entry_bytes es)
-  pub last : MatchOption t.last (es ≡ []) (λ e. (front : List Entry) × (es ≡ front ++ e ∷ []))
+  pub last : MatchOption t.last (es ≡ []) (λ x. (front : List Entry) × (es ≡ front ++ shows x ∷ []))
 
 -- does it end before an entry? It has the target, and none of its entries has the entry's key
 abbrev pub is_end : ℕ → ℕ → List Entry → Entry → Bool
@@ -40,7 +40,7 @@ pub record IsUnderway (target made_at : ℕ) (all : List Entry) (files : List By
   pub ended_nowhere : EndedNowhere target pending
 
 -- the same of the table that is open
-pub record IsWriting (target made_at : ℕ) (all : List Entry) (files : List Bytes) (open_table : OpenTable) (rest : List Entry) : Type 0 where
+pub record IsWriting {I : Type 0} (shows : I → Entry) (target made_at : ℕ) (all : List Entry) (files : List Bytes) (open_table : OpenTable I) (rest : List Entry) : Type 0 where
   pub pending : List Entry
-  pub has : IsOpenWith made_at pending open_table
+  pub has : IsOpenWith shows made_at pending open_table
   pub underway : IsUnderway target made_at all files pending open_table.held rest

@@ -2,7 +2,6 @@
 ghost use Rattle.std.specs.Prelude.{◌≡◌, map, false, IfOk, IfErr};
 ghost use Rattle.std.specs.List.{AllByRecursion};
 ghost use Rattle.lsm_below.specs.Slots.{rest_of};
-ghost use Rattle.lsm_tables.specs.Cutting.{IsWritable};
 ghost use Rattle.lsm_tables.specs.Image.{IsTable};
 ghost use Rattle.lsm_versions.specs.Levels.{AreCovered};
 ghost use Rattle.lsm_merges.specs.Merges.{sources_in, AreFilesOf, IsSoundRun};

@@ -6,8 +6,7 @@ ghost use Rattle.lsm_merges.specs.OpenMerges.{IsMergeOf, IsOpenIn, AreOpen, hide
 
 use crate::{CompactionJob, MergeSettings};
 use lsm_below::{Error, TableId};
-use lsm_pick::CompactionState;
-use lsm_versions::LIMIT;
+use lsm_versions::{CompactionState, LIMIT};
 use std::alloc::{AllocError, Global};
 use std::collections::HashSet;
 use std::marker::Model;

@@ -1,15 +1,13 @@
 // The entries of a run of tables as a source of a merge.
 ghost use Rattle.std.specs.Prelude.{◌≡◌, ◌++◌, ◌∷◌, [], false, MatchOption};
 ghost use Rattle.lsm_below.specs.Slots.{rest_of};
-ghost use Rattle.lsm_below.specs.declared.error.Error.TheVariants.{OutOfMemory};
 ghost use Rattle.lsm_merges.specs.Merges.{run_entries};
 
-use lsm_below::{Error, InternalValue, Run, Source};
+use lsm_below::{Error, Headed, Run, Source, Stretch};
 use lsm_tables::Table;
 use std::marker::Model;
 
-/// The entries of the tables of a run in order, as a source. It makes no list of them, and shares each entry's bytes when
-/// its turn comes.
+/// The entries of the tables of a run in order, as a source. It lends them out of the tables, and refuses none.
 ///
 /// ```text
 /// let source = RunSource::new(&run);
@@ -17,7 +15,7 @@ use std::marker::Model;
 #[derive(Drop)]
 pub struct RunSource<'a> {
     // What is left of the table whose turn it is, and the tables after it.
-    entries: &'a [InternalValue],
+    entries: Stretch<'a>,
     tables: &'a [Table],
     over: bool,
 }
@@ -30,7 +28,7 @@ impl<'a> Model for RunSource<'a> {
 
     ghost Value = { Rest };
 
-    ghost view = { λ s. rest_of s.over (s.entries.now ++ run_entries s.tables.now) };
+    ghost view = { λ s. rest_of s.over (s.entries ++ run_entries s.tables.now) };
 }
 
 impl<'a> RunSource<'a> {
@@ -39,7 +37,7 @@ impl<'a> RunSource<'a> {
         ensures { result ≡ rest_of false (run_entries run.now) }
     {
         RunSource {
-            entries: &[],
+            entries: Stretch::empty(),
             tables: run.as_slice(),
             over: false,
         }
@@ -50,7 +48,7 @@ impl<'a> RunSource<'a> {
         ensures { result ≡ rest_of false table.now.entries }
     {
         RunSource {
-            entries: table.entries(),
+            entries: table.headed_entries(),
             tables: &[],
             over: false,
         }
@@ -60,16 +58,16 @@ impl<'a> RunSource<'a> {
 /// An entry and what comes after it.
 #[derive(Drop)]
 struct FrontEntry<'a> {
-    entry: &'a InternalValue,
-    entries: &'a [InternalValue],
+    entry: Headed<'a>,
+    entries: Stretch<'a>,
     tables: &'a [Table],
 }
 
 /// The first entry of a table's rest, or of the tables after it.
-fn front_entry<'a>(entries: &'a [InternalValue], tables: &'a [Table]) -> Option<FrontEntry<'a>>
+fn front_entry<'a>(entries: &Stretch<'a>, tables: &'a [Table]) -> Option<FrontEntry<'a>>
     ensures { MatchOption result
         (entries.now ++ run_entries tables.now ≡ [])
-        (λ f. entries.now ++ run_entries tables.now ≡ f.entry.now ∷ (f.entries.now ++ run_entries f.tables.now)) }
+        (λ f. entries.now ++ run_entries tables.now ≡ f.entry ∷ (f.entries ++ run_entries f.tables.now)) }
 {
     if let Some((entry, entries)) = entries.split_first() {
         return Some(FrontEntry {
@@ -80,7 +78,7 @@ fn front_entry<'a>(entries: &'a [InternalValue], tables: &'a [Table]) -> Option<
     }
     let (table, tables) = tables.split_first()?;
     table.facts();
-    let (entry, entries) = table.entries().split_first()?;
+    let (entry, entries) = table.headed_entries().split_first()?;
     Some(FrontEntry {
         entry,
         entries,
@@ -88,29 +86,30 @@ fn front_entry<'a>(entries: &'a [InternalValue], tables: &'a [Table]) -> Option<
     })
 }
 
-impl Source for RunSource<'_> {
+impl<'a> Source for RunSource<'a> {
+    type Item = Headed<'a>;
+
     type Error = Error;
 
     ghost rest = { λ s. s };
 
-    ghost may_refuse = { λ e. e ≡ OutOfMemory };
+    ghost may_refuse = { λ _. ⊥ };
 
-    fn next_entry(&mut self) -> Option<Result<InternalValue, Error>> {
+    fn next_entry(&mut self) -> Option<Result<Headed<'a>, Error>> {
         if self.over {
             return None;
         }
-        let Some(front) = front_entry(self.entries, self.tables) else {
+        let Some(front) = front_entry(&self.entries, self.tables) else {
             self.over = true;
             return None;
         };
-        self.entries = front.entries;
-        self.tables = front.tables;
-        match front.entry.copy() {
-            Ok(copy) => Some(Ok(copy)),
-            Err(_) => {
-                self.over = true;
-                Some(Err(Error::OutOfMemory))
-            }
-        }
+        let FrontEntry {
+            entry,
+            entries,
+            tables,
+        } = front;
+        self.entries = entries;
+        self.tables = tables;
+        Some(Ok(entry))
     }
 }

@@ -8,14 +8,14 @@ ghost use Rattle.lsm_merges.specs.OpenTables.{IsOpenWith, IsWriting};
 
 use crate::open_table::OpenTable;
 use bytes::Bytes;
-use lsm_below::{Error, InternalValue, Source};
+use lsm_below::{AsEntry, Error, Source};
 use lsm_tables::first_ends_cut;
 use std::alloc::Global;
 use std::mem;
 
 /// The files, with that of the table that is still open.
-fn with_open(mut files: Vec<Bytes>, table: OpenTable) -> Result<Vec<Bytes>, Error>
-    ensures ok { (made_at : ℕ) (es : List Entry) → IsOpenWith made_at es table → IfOk result (λ all. all.items ≡ with_last made_at files.items es) }
+fn with_open<I: AsEntry>(mut files: Vec<Bytes>, table: OpenTable<I>) -> Result<Vec<Bytes>, Error>
+    ensures ok { (made_at : ℕ) (es : List Entry) → IsOpenWith I.shows made_at es table → IfOk result (λ all. all.items ≡ with_last made_at files.items es) }
     ensures memory { IfErr result (λ e. e ≡ Error.OutOfMemory) }
 {
     if !table.is_empty() {
@@ -25,16 +25,16 @@ fn with_open(mut files: Vec<Bytes>, table: OpenTable) -> Result<Vec<Bytes>, Erro
 }
 
 /// Takes an entry into the table that is open, which ends before it where it is to.
-fn take_entry(
+fn take_entry<I: AsEntry>(
     alloc: Global,
     files: &mut Vec<Bytes>,
-    table: &mut OpenTable,
+    table: &mut OpenTable<I>,
     target: u64,
     made_at: u64,
-    entry: InternalValue,
+    entry: I,
 ) -> Result<(), Error>
-    requires { Fits entry }
-    ensures ok { (all rest : List Entry) → IsWriting target made_at all files.old.items table.old (entry ∷ rest) → OnOk result (IsWriting target made_at all files.new.items table.new rest) }
+    requires { Fits (I.shows entry) }
+    ensures ok { (all rest : List Entry) → IsWriting I.shows target made_at all files.old.items table.old (I.shows entry ∷ rest) → OnOk result (IsWriting I.shows target made_at all files.new.items table.new rest) }
     ensures memory { IfErr result (λ e. e ≡ Error.OutOfMemory) }
 {
     first_ends_cut();

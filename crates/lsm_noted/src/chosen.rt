@@ -1,8 +1,6 @@
 // A strategy's choice, beside what a journal notes of it if it is done.
-ghost use Rattle.std.specs.Prelude.{◌≡◌, ◌∷◌, [], None, IfOk, IfErr};
-ghost use Rattle.lsm_model.specs.Steps.{among};
+ghost use Rattle.std.specs.Prelude.{◌≡◌, ◌∷◌, [], IfOk};
 ghost use Rattle.lsm_model.specs.declared.journal.JournalEntry.TheVariants.{Mark};
-ghost use Rattle.lsm_state.specs.Compactions.{MayAnswer};
 ghost use Rattle.lsm_state.specs.CompactionDeeds.{dropped_by};
 ghost use Rattle.lsm_noted.specs.Noted.{IsAnswerOf, noted_of};
 

@@ -1,218 +1,205 @@
-// Crashes at each store call of a script, and within the opening behind it: the tree that is opened shows a beginning of the
-// writes, with all that a flush covered.
-use crate::compactions::{Step, Told, shows, take};
+// Crashes at each store call of a script, and at each call of the opening behind it: the tree that is opened shows a beginning
+// of the writes, with all that a flush covered.
+use crate::rows::shows;
+use crate::scripts::open;
+use crate::steps::Step::{Compact, Del, Flush, Set};
+use crate::steps::{Step, Told, take};
+use crate::works::Work;
 use lsm_parts::{Config, Error};
 use lsm_state::TreeState;
-use lsm_store::{Fault, MemStore, Pick};
+use lsm_store::{Fault, MemStore, Pick, Store};
 use std::alloc::Global;
-use std::test::Fail;
+use std::process::Abort;
 
-const AROUND_A_FLUSH: [Step; 4] = [
-    Step::Set("a", "x"),
-    Step::Flush(0),
-    Step::Set("b", "y"),
-    Step::Flush(0),
-];
+/// Steps, and what a and b have behind each number of writes: none where it is empty.
+type Script = (&'static [Step], &'static [(&'static str, &'static str)]);
+
+const AROUND_A_FLUSH: Script = (
+    &[Set("a", "x"), Flush(0), Set("b", "y"), Flush(0)],
+    &[("", ""), ("x", ""), ("x", "y")],
+);
 
 /// The last merge evicts the tombstone.
-const EVICTING: [Step; 6] = [
-    Step::Set("a", "x"),
-    Step::Flush(0),
-    Step::Major(0),
-    Step::Del("a"),
-    Step::Flush(0),
-    Step::Major(5),
-];
+const EVICTING: Script = (
+    &[
+        Set("a", "x"),
+        Flush(0),
+        Compact(Work::Major(0)),
+        Del("a"),
+        Flush(0),
+        Compact(Work::Major(5)),
+    ],
+    &[("", ""), ("x", ""), ("", "")],
+);
 
 /// More calls than a script or an opening makes.
 const CALLS: u64 = 48;
-
-const OPENING_CALLS: u64 = 10;
 
 const NAMES: [&str; 10] = [
     "current", "v0", "v1", "v2", "v3", "v4", "tables/0", "tables/1", "tables/2", "tables/3",
 ];
 
-/// Whether a step writes this key, or None where it writes none.
-fn writes_key(step: &Step, name: &str) -> Option<bool> {
-    match step {
-        Step::Set(key, _) | Step::Del(key) => Some(*key == name),
-        _ => None,
-    }
-}
-
-/// The place of the last of so many writes that is to this key.
-fn last_write(script: &[Step], writes: usize, name: &str) -> Option<usize> {
-    let mut last = None;
-    let mut count: usize = 0;
-    for (place, step) in script.iter().enumerate() {
-        if let Some(own) = writes_key(step, name) {
-            if own && count < writes {
-                last = Some(place);
-            }
-            count = count.saturating_add(1);
-        }
-    }
-    last
-}
-
-/// Whether a tree shows of a key what so many writes leave.
-fn shows_after(tree: &TreeState, script: &[Step], writes: usize, name: &str) -> bool {
-    match last_write(script, writes, name) {
-        Some(place) => match script.get(place) {
-            Some(Step::Set(_, text)) => shows(tree, name, 10, text),
-            _ => shows(tree, name, 10, ""),
-        },
-        None => shows(tree, name, 10, ""),
-    }
-}
-
-fn shows_beginning(tree: &TreeState, script: &[Step], writes: usize) -> bool {
-    shows_after(tree, script, writes, "a") && shows_after(tree, script, writes, "b")
-}
-
-/// Whether a tree shows what some of the first writes leave, so many at least.
-fn is_beginning(tree: &TreeState, script: &[Step], least: usize) -> bool {
-    for writes in least..script.len().saturating_add(1) {
-        if shows_beginning(tree, script, writes) {
-            return true;
-        }
-    }
-    false
-}
-
 /// Takes all steps, whatever each answers, and returns how many writes an installed flush covers.
-fn take_all(alloc: Global, tree: &mut TreeState, script: &[Step]) -> usize {
+fn take_all(alloc: Global, tree: &mut TreeState, steps: &[Step]) -> usize {
     let mut writes: usize = 0;
     let mut covered: usize = 0;
-    for step in script {
-        match (take(alloc, tree, *step), step) {
-            (Ok(Told::Number(_)), _) => writes = writes.saturating_add(1),
-            (Ok(Told::Done), Step::Flush(_)) => covered = writes,
+    for step in steps {
+        match (take(alloc, tree, step), step) {
+            (Told::Number(_), _) => writes = writes.saturating_add(1),
+            (Told::Done, Step::Flush(_)) => covered = writes,
             _ => {}
         }
     }
     covered
 }
 
-/// The store that a script leaves which fails from this call on, and how many writes are covered.
-fn stopped(alloc: Global, script: &[Step], call: u64) -> (MemStore, usize) {
-    let mut store = MemStore::new(alloc);
+/// The store that an opening and these steps leave where it fails from this call on, and how many writes are covered.
+fn stopped(
+    alloc: Global,
+    mut store: MemStore,
+    next: u64,
+    call: u64,
+    steps: &[Step],
+) -> (MemStore, usize) {
     store.fail(call, Fault::FromHere);
-    match TreeState::open(alloc, Config::new(0, 0, 0), store) {
+    match TreeState::open(alloc, Config::new(0, next, next), store) {
         Ok(mut tree) => {
-            let covered = take_all(alloc, &mut tree, script);
+            let covered = take_all(alloc, &mut tree, steps);
             (tree.into_store(), covered)
         }
         Err((_, store)) => (store, 0),
     }
 }
 
-/// Whether the tree that a crash leaves of this store opens, and shows a beginning.
-fn reopens(
-    alloc: Global,
-    store: &MemStore,
-    script: &[Step],
-    covered: usize,
-) -> Result<bool, Error> {
-    let Some(left) = store.crash(&[])? else {
-        return Ok(false);
-    };
-    match TreeState::open(alloc, Config::new(0, 10, 10), left) {
-        Ok(tree) => {
-            let right = is_beginning(&tree, script, covered);
-            drop(tree);
-            Ok(right)
-        }
-        Err((error, _)) => Err(error),
+// ---- crashes
+
+/// In how many ways a crash is picked: nothing is, or one name that isn't synced is left as the byte 0, or one that was
+/// removed or replaced as it was before.
+const WAYS: usize = 21;
+
+/// Whether two stores have the same under a name.
+fn have_same(alloc: Global, one: &mut MemStore, other: &mut MemStore, name: &str) -> bool {
+    match (one.read(alloc, name), other.read(alloc, name)) {
+        (Ok(one), Ok(other)) => one == other,
+        _ => false,
     }
 }
 
-/// The same where an opening before it stops at this call.
-fn reopens_behind(
-    alloc: Global,
-    left: &MemStore,
-    script: &[Step],
-    covered: usize,
-    call: u64,
-) -> Result<bool, Error> {
-    let Some(mut store) = left.crash(&[])? else {
-        return Ok(false);
-    };
-    store.fail(call, Fault::FromHere);
-    let store = match TreeState::open(alloc, Config::new(0, 10, 10), store) {
-        Ok(tree) => tree.into_store(),
-        Err((_, store)) => store,
-    };
-    reopens(alloc, &store, script, covered)
-}
-
-/// Whether it is so at each stop of the opening, where the crash leaves this; true where it can't.
-fn survives(
+/// What a crash leaves of a store with a pick; None where it isn't possible, or is what is left without a pick.
+fn picked(
     alloc: Global,
     store: &MemStore,
-    picks: &[(&str, Pick<'_>)],
-    script: &[Step],
-    covered: usize,
-) -> Result<bool, Error> {
-    let Some(left) = store.crash(picks)? else {
-        return Ok(true);
+    name: &str,
+    pick: Pick<'_>,
+) -> Result<Option<MemStore>, Error> {
+    let (Some(mut left), Some(mut usual)) = (store.crash(&[(name, pick)])?, store.crash(&[])?)
+    else {
+        return Ok(None);
     };
-    for call in 1..OPENING_CALLS {
-        if !reopens_behind(alloc, &left, script, covered, call)? {
-            return Ok(false);
+    let is_usual = have_same(alloc, &mut left, &mut usual, name);
+    Ok(if is_usual { None } else { Some(left) })
+}
+
+/// What a crash leaves of a store in one of these ways, if anything else than in the other ones.
+fn crashed(alloc: Global, store: &MemStore, way: usize) -> Result<Option<MemStore>, Error> {
+    match NAMES.get(way / 2) {
+        Some(name) if way % 2 == 0 => picked(alloc, store, *name, Pick::Bytes(b"\0")),
+        Some(name) => picked(alloc, store, *name, Pick::Before),
+        None => Ok(store.crash(&[])?),
+    }
+}
+
+// ---- openings
+
+/// Whether this store opens, and the tree shows one of these beginnings.
+fn opens(alloc: Global, store: MemStore, beginnings: &[(&str, &str)]) -> Result<bool, Error> {
+    let tree = open(alloc, 10, store)?;
+    let mut right = false;
+    for (a, b) in beginnings {
+        right = right || (shows(&tree, "a", 10, a) && shows(&tree, "b", 10, b));
+    }
+    drop(tree);
+    Ok(right)
+}
+
+/// Whether it does so however it is crashed.
+fn reopens(alloc: Global, store: &MemStore, beginnings: &[(&str, &str)]) -> Result<bool, Error> {
+    for way in 0..WAYS {
+        if let Some(left) = crashed(alloc, store, way)? {
+            if !opens(alloc, left, beginnings)? {
+                return Ok(false);
+            }
         }
     }
     Ok(true)
 }
 
-/// Whether it is so of each name that isn't synced, as the byte 0, and of each that was removed or replaced, as before.
+/// The store behind an opening that stops at this call, if it makes so many. A crash leaves of the store that is opened just that.
+fn stopped_opening(alloc: Global, left: &MemStore, call: u64) -> Result<MemStore, Error> {
+    match left.crash(&[])? {
+        Some(store) => Ok(stopped(alloc, store, 10, call, &[]).0),
+        None => Err(Error::Unrecoverable),
+    }
+}
+
+/// Whether it is so of what a crash left, at each stop of its opening and behind the whole of it.
+fn survives(alloc: Global, left: &MemStore, beginnings: &[(&str, &str)]) -> Result<bool, Error> {
+    for call in 1..CALLS {
+        let store = stopped_opening(alloc, left, call)?;
+        if !reopens(alloc, &store, beginnings)? {
+            return Ok(false);
+        }
+        if store.failures() == 0 {
+            return Ok(true);
+        }
+    }
+    Ok(false)
+}
+
+/// Whether it is so however a store is crashed.
 fn survives_all(
     alloc: Global,
     store: &MemStore,
-    script: &[Step],
-    covered: usize,
+    beginnings: &[(&str, &str)],
 ) -> Result<bool, Error> {
-    for name in &NAMES {
-        if !survives(
-            alloc,
-            store,
-            &[(*name, Pick::Bytes(b"\0"))],
-            script,
-            covered,
-        )? {
-            return Ok(false);
-        }
-        if !survives(alloc, store, &[(*name, Pick::Before)], script, covered)? {
-            return Ok(false);
+    for way in 0..WAYS {
+        if let Some(left) = crashed(alloc, store, way)? {
+            if !survives(alloc, &left, beginnings)? {
+                return Ok(false);
+            }
         }
     }
-    survives(alloc, store, &[], script, covered)
+    Ok(true)
 }
 
-/// The first call from which on the store may not fail, or `CALLS`.
-fn first_wrong(alloc: Global, script: &[Step]) -> Result<u64, Error> {
+/// Whether the tree shows a beginning, with all that is covered, where a store fails from this call on.
+fn withstands(alloc: Global, script: &Script, call: u64) -> Result<bool, Error> {
+    let (store, covered) = stopped(alloc, MemStore::new(alloc), 0, call, script.0);
+    match script.1.get(covered..) {
+        Some(beginnings) => survives_all(alloc, &store, beginnings),
+        None => Ok(false),
+    }
+}
+
+/// Both writes are covered where the store never fails, and it may fail from each call on.
+fn stays_safe(rt: &impl Abort, alloc: Global, script: &Script) {
+    let (store, covered) = stopped(alloc, MemStore::new(alloc), 0, CALLS, script.0);
+    drop(store);
+    assert!(rt; covered == 2);
     for call in 1..CALLS {
-        let (store, covered) = stopped(alloc, script, call);
-        if !survives_all(alloc, &store, script, covered)? {
-            return Ok(call);
-        }
+        assert!(rt;
+            matches!(withstands(alloc, script, call), Ok(true)),
+            "from call {call} on"
+        );
     }
-    Ok(CALLS)
 }
 
 #[test]
-fn a_crash_around_a_flush_leaves_a_beginning(rt: HostRuntime) -> Result<(), Fail> {
-    let alloc = rt.alloc();
-    assert!(rt; stopped(alloc, &AROUND_A_FLUSH, CALLS).1 == 2);
-    assert_eq!(rt; first_wrong(alloc, &AROUND_A_FLUSH)?, CALLS);
-    Ok(())
+fn a_crash_around_a_flush_leaves_a_beginning(rt: HostRuntime) {
+    stays_safe(&rt, rt.alloc(), &AROUND_A_FLUSH);
 }
 
 #[test]
-fn a_crash_around_an_evicting_merge_leaves_a_beginning(rt: HostRuntime) -> Result<(), Fail> {
-    let alloc = rt.alloc();
-    assert!(rt; stopped(alloc, &EVICTING, CALLS).1 == 2);
-    assert_eq!(rt; first_wrong(alloc, &EVICTING)?, CALLS);
-    Ok(())
+fn a_crash_around_an_evicting_merge_leaves_a_beginning(rt: HostRuntime) {
+    stays_safe(&rt, rt.alloc(), &EVICTING);
 }

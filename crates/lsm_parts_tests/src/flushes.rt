@@ -1,280 +1,171 @@
 // Flushes of a tree, old snapshots over them, and what a crash leaves.
-use crate::samples::{key, open, value};
-use lsm_below::SeqNo;
-use lsm_jobs::{FlushJob, Registered, WrittenFlush};
-use lsm_model::Op;
-use lsm_parts::{Config, Error};
-use lsm_state::TreeState;
-use lsm_store::{Fault, MemStore};
-use std::alloc::Global;
-use std::test::Fail;
+use crate::rows::Row::{Does, Has, Reads, Shows};
+use crate::rows::{Count, Row, TOO_OLD};
+use crate::scripts::Opening::{Crashed, Failing};
+use crate::scripts::Part::{Fill, FlushGivenUp, FlushOver, Plays, Reopen};
+use crate::scripts::{Script, play_all};
+use crate::steps::Step::{BeginFlush, Del, Flush, FlushParts, Rotate, Set, Weak};
+use crate::steps::Told::{Installed, Job, Nothing, Number, Refused, RefusedSealed, Sealed};
+use lsm_store::Fault;
 
-fn write(alloc: Global, tree: &mut TreeState, name: &'static str, op: Op) -> Result<SeqNo, Error> {
-    tree.write(vec![in alloc; (key(name), op)]?)
-}
+const SNAPSHOTS: [Script; 3] = [
+    (
+        "snapshots keep their answers over a flush",
+        &[Plays(&[
+            Does(Set("a", "x"), Number(0)),
+            Does(FlushParts(0), Installed),
+            Does(Del("a"), Number(2)),
+            Shows("a", 0, ""),
+            Shows("a", 1, "x"),
+            Shows("a", 2, "x"),
+            Shows("a", 3, ""),
+        ])],
+    ),
+    (
+        "a snapshot below the watermark is too old",
+        &[Plays(&[
+            Does(Set("a", "1"), Number(0)),
+            Does(FlushParts(0), Installed),
+            Does(Set("a", "2"), Number(2)),
+            Does(FlushParts(3), Installed),
+            Shows("a", 1, TOO_OLD),
+            Shows("a", 2, "1"),
+            Shows("a", 3, "2"),
+            Shows("a", 4, "2"),
+        ])],
+    ),
+    (
+        "a weak pair is flushed away",
+        &[Plays(&[
+            Does(Set("a", "x"), Number(0)),
+            Does(Weak("a"), Number(1)),
+            Does(FlushParts(2), Installed),
+            Has(Count::Tables, 0),
+            Shows("a", 1, "x"),
+            Shows("a", 2, ""),
+            Shows("a", 3, ""),
+        ])],
+    ),
+];
 
-fn set(
-    alloc: Global,
-    tree: &mut TreeState,
-    name: &'static str,
-    text: &'static str,
-) -> Result<SeqNo, Error> {
-    write(alloc, tree, name, Op::Set(value(text)))
-}
-
-/// Merges a job and writes its tables.
-pub fn written(
-    tree: &mut TreeState,
-    job: FlushJob,
-    watermark: SeqNo,
-) -> Result<WrittenFlush, Error> {
-    let merged = match job.run(watermark) {
-        Ok(merged) => merged,
-        Err((error, _)) => return Err(error),
-    };
-    match tree.flush_to_tables(merged) {
-        Ok(written) => Ok(written),
-        Err((error, _)) => Err(error),
-    }
-}
-
-/// Merges a job, writes its tables and registers them.
-fn finish(tree: &mut TreeState, job: FlushJob, watermark: SeqNo) -> Result<Registered, Error> {
-    let written = written(tree, job, watermark)?;
-    tree.register_tables(written)
-}
-
-/// Seals the active memtable and flushes what is sealed, by the parts of a flush. None where nothing is sealed.
-fn flush(tree: &mut TreeState, watermark: SeqNo) -> Result<Option<Registered>, Error> {
-    tree.rotate_memtable()?;
-    match tree.begin_flush()? {
-        Some(job) => Ok(Some(finish(tree, job, watermark)?)),
-        None => Ok(None),
-    }
-}
-
-fn is_installed(done: Result<Option<Registered>, Error>) -> bool {
-    match done {
-        Ok(Some(registered)) => registered.installed && registered.cleaned,
-        _ => false,
-    }
-}
-
-fn shows(tree: &TreeState, name: &str, snapshot: SeqNo, text: &str) -> bool {
-    match tree.get(name.as_bytes(), snapshot) {
-        Ok(Some(found)) => found.as_slice() == text.as_bytes(),
-        _ => false,
-    }
-}
-
-fn shows_nothing(tree: &TreeState, name: &str, snapshot: SeqNo) -> bool {
-    matches!(tree.get(name.as_bytes(), snapshot), Ok(None))
-}
-
-/// a = x (0), a flush (1), a is removed (2).
-fn flush_between(alloc: Global, tree: &mut TreeState) -> bool {
-    set(alloc, tree, "a", "x").is_ok()
-        && is_installed(flush(tree, 0))
-        && matches!(write(alloc, tree, "a", Op::Del), Ok(2))
-}
-
-#[test]
-fn snapshots_keep_their_answers_over_a_flush(rt: HostRuntime) -> Result<(), Fail> {
-    let mut tree = open(rt.alloc())?;
-    assert!(rt; flush_between(rt.alloc(), &mut tree));
-    assert!(rt; shows_nothing(&tree, "a", 0));
-    assert!(rt; shows(&tree, "a", 1, "x"));
-    assert!(rt; shows(&tree, "a", 2, "x"));
-    assert!(rt; shows_nothing(&tree, "a", 3));
-    drop(tree);
-    Ok(())
-}
-
-/// a = 1 (0), a flush (1), a = 2 (2), a flush at watermark 3 (3).
-fn flush_past(alloc: Global, tree: &mut TreeState) -> bool {
-    set(alloc, tree, "a", "1").is_ok()
-        && is_installed(flush(tree, 0))
-        && set(alloc, tree, "a", "2").is_ok()
-        && is_installed(flush(tree, 3))
-}
-
-#[test]
-fn a_snapshot_below_the_watermark_is_too_old(rt: HostRuntime) -> Result<(), Fail> {
-    let mut tree = open(rt.alloc())?;
-    assert!(rt; flush_past(rt.alloc(), &mut tree));
-    assert!(rt; matches!(tree.get(b"a", 1), Err(Error::SnapshotTooOld)));
-    assert!(rt; shows(&tree, "a", 2, "1"));
-    assert!(rt; shows(&tree, "a", 3, "2"));
-    assert!(rt; shows(&tree, "a", 4, "2"));
-    drop(tree);
-    Ok(())
-}
-
-/// Begins a flush twice, gives it up, and says whether it could be begun again.
-fn begin_again(tree: &mut TreeState) -> bool {
-    let Ok(Some(job)) = tree.begin_flush() else {
-        return false;
-    };
-    let open = matches!(tree.begin_flush(), Err(Error::FlushOpen));
-    tree.abandon_flush(job);
-    open && matches!(tree.begin_flush(), Ok(Some(_)))
-}
-
-#[test]
-fn a_second_flush_waits_for_the_first(rt: HostRuntime) -> Result<(), Fail> {
-    let mut tree = open(rt.alloc())?;
-    assert!(rt; matches!(tree.begin_flush(), Ok(None)));
-    assert!(rt; set(rt.alloc(), &mut tree, "a", "x").is_ok());
-    assert!(rt; tree.rotate_memtable().is_ok());
-    assert!(rt; begin_again(&mut tree));
-    drop(tree);
-    Ok(())
-}
-
-/// a = x (0), sealed; while its flush is open a = y (1), sealed too.
-fn flush_behind(alloc: Global, tree: &mut TreeState) -> Result<Registered, Error> {
-    set(alloc, tree, "a", "x")?;
-    tree.rotate_memtable()?;
-    let Some(job) = tree.begin_flush()? else {
-        return Err(Error::Unrecoverable);
-    };
-    set(alloc, tree, "a", "y")?;
-    tree.rotate_memtable()?;
-    finish(tree, job, 0)
-}
-
-fn is_done(done: Result<Registered, Error>) -> bool {
-    match done {
-        Ok(registered) => registered.installed && registered.cleaned,
-        Err(_) => false,
-    }
-}
-
-#[test]
-fn what_is_sealed_meanwhile_stays_sealed(rt: HostRuntime) -> Result<(), Fail> {
-    let mut tree = open(rt.alloc())?;
-    assert!(rt; is_done(flush_behind(rt.alloc(), &mut tree)));
-    assert!(rt; tree.table_count() == 1);
-    assert!(rt; matches!(tree.begin_flush(), Ok(Some(_))));
-    assert!(rt; shows(&tree, "a", 3, "y"));
-    assert!(rt; shows(&tree, "a", 2, "y"));
-    assert!(rt; shows(&tree, "a", 1, "x"));
-    drop(tree);
-    Ok(())
-}
-
-/// a = x (0), a is removed weakly (1), a flush at watermark 2 (2).
-fn flush_pair(alloc: Global, tree: &mut TreeState) -> bool {
-    set(alloc, tree, "a", "x").is_ok()
-        && write(alloc, tree, "a", Op::Weak).is_ok()
-        && is_installed(flush(tree, 2))
-}
-
-#[test]
-fn a_weak_pair_is_flushed_away(rt: HostRuntime) -> Result<(), Fail> {
-    let mut tree = open(rt.alloc())?;
-    assert!(rt; flush_pair(rt.alloc(), &mut tree));
-    assert!(rt; tree.table_count() == 0);
-    assert!(rt; shows(&tree, "a", 1, "x"));
-    assert!(rt; shows_nothing(&tree, "a", 2));
-    assert!(rt; shows_nothing(&tree, "a", 3));
-    drop(tree);
-    Ok(())
-}
-
-/// Sets a and flushes it so many times.
-fn flush_times(alloc: Global, tree: &mut TreeState, times: u32) -> bool {
-    for _ in 0..times {
-        if set(alloc, tree, "a", "v").is_err() || !is_installed(flush(tree, 0)) {
-            return false;
-        }
-    }
-    true
-}
-
-#[test]
-fn a_level_takes_255_runs(rt: HostRuntime) -> Result<(), Fail> {
-    let mut tree = open(rt.alloc())?;
-    assert!(rt; flush_times(rt.alloc(), &mut tree, 255));
-    assert!(rt; set(rt.alloc(), &mut tree, "a", "w").is_ok());
-    assert!(rt; matches!(flush(&mut tree, 0), Err(Error::TooManyRuns)));
-    assert!(rt; shows(&tree, "a", 511, "w"));
-    assert!(rt; tree.table_count() == 255);
-    drop(tree);
-    Ok(())
-}
+const JOBS: [Script; 3] = [
+    // `FlushOpen`, until it is given up.
+    (
+        "a second flush waits for the first",
+        &[
+            Plays(&[
+                Does(BeginFlush, Nothing),
+                Does(Set("a", "x"), Number(0)),
+                Does(Rotate, Sealed(Some(0))),
+            ]),
+            FlushGivenUp(&[Does(BeginFlush, Refused(13))]),
+            Plays(&[Does(BeginFlush, Job)]),
+        ],
+    ),
+    (
+        "what is sealed meanwhile stays sealed",
+        &[
+            Plays(&[
+                Does(Set("a", "x"), Number(0)),
+                Does(Rotate, Sealed(Some(0))),
+            ]),
+            FlushOver(
+                &[
+                    Does(Set("a", "y"), Number(1)),
+                    Does(Rotate, Sealed(Some(1))),
+                ],
+                &[],
+                Installed,
+            ),
+            Plays(&[
+                Reads(u64::MAX, 2, &[1], 1, 2),
+                Has(Count::Next, 3),
+                Has(Count::Tables, 1),
+                Has(Count::Sealed, 1),
+                Does(BeginFlush, Job),
+                Shows("a", 3, "y"),
+                Shows("a", 2, "y"),
+                Shows("a", 1, "x"),
+            ]),
+        ],
+    ),
+    // `TooManyRuns`, behind a rotation that stays.
+    (
+        "a level takes 255 runs",
+        &[
+            Fill(255),
+            Plays(&[
+                Does(Set("a", "w"), Number(510)),
+                Does(Flush(0), RefusedSealed(14)),
+                Shows("a", 511, "w"),
+                Has(Count::Runs, 255),
+                Has(Count::Tables, 255),
+            ]),
+        ],
+    ),
+];
 
 // ---- crashes
 
-/// The tree that a crash leaves, with both counters at 10.
-pub fn crashed(alloc: Global, tree: TreeState) -> Result<TreeState, Error> {
-    let Some(left) = tree.into_store().crash(&[])? else {
-        return Err(Error::Unrecoverable);
-    };
-    match TreeState::open(alloc, Config::new(0, 10, 10), left) {
-        Ok(tree) => Ok(tree),
-        Err((error, _)) => Err(error),
-    }
-}
+/// a = x, flushed.
+pub const KEPT: [Row; 2] = [
+    Does(Set("a", "x"), Number(0)),
+    Does(FlushParts(0), Installed),
+];
 
-#[test]
-fn a_crash_leaves_what_was_flushed(rt: HostRuntime) -> Result<(), Fail> {
-    let mut tree = open(rt.alloc())?;
-    assert!(rt; set(rt.alloc(), &mut tree, "a", "x").is_ok());
-    assert!(rt; is_installed(flush(&mut tree, 0)));
-    assert!(rt; set(rt.alloc(), &mut tree, "b", "y").is_ok());
-    let left = crashed(rt.alloc(), tree)?;
-    assert!(rt; shows(&left, "a", 10, "x"));
-    assert!(rt; shows_nothing(&left, "b", 10));
-    drop(left);
-    Ok(())
-}
-
-/// A tree with a = x flushed, whose store fails at this call from its opening on.
-pub fn failing(alloc: Global, call: u64, fault: Fault) -> Result<TreeState, Error> {
-    let mut tree = open(alloc)?;
-    set(alloc, &mut tree, "a", "x")?;
-    flush(&mut tree, 0)?;
-    let mut store = tree.into_store();
-    store.fail(call, fault);
-    match TreeState::open(alloc, Config::new(0, 2, 2), store) {
-        Ok(tree) => Ok(tree),
-        Err((error, _)) => Err(error),
-    }
-}
-
-/// b = y and its flush, and then another one.
-fn flush_over(alloc: Global, tree: &mut TreeState) -> Result<bool, Error> {
-    set(alloc, tree, "b", "y")?;
-    let first = matches!(flush(tree, 0), Err(Error::CommitUnknown));
-    let second = matches!(tree.begin_flush(), Err(Error::Unrecoverable));
-    Ok(first && second)
-}
-
-#[test]
-fn nothing_is_committed_behind_an_unknown_outcome(rt: HostRuntime) -> Result<(), Fail> {
+const CRASHES: [Script; 3] = [
+    (
+        "a crash leaves what was flushed",
+        &[
+            Plays(&KEPT),
+            Plays(&[Does(Set("b", "y"), Number(2))]),
+            Reopen(Crashed, 10),
+            Plays(&[Shows("a", 10, "x"), Shows("b", 10, "")]),
+        ],
+    ),
     // An opening lists, reads `current`, `v1` and a table, and removes `v0`; a flush writes and syncs a table and `v2`.
-    let mut tree = failing(rt.alloc(), 10, Fault::Once)?;
-    assert!(rt; matches!(flush_over(rt.alloc(), &mut tree), Ok(true)));
-    assert!(rt; shows(&tree, "b", 10, "y"));
-    let left = crashed(rt.alloc(), tree)?;
-    assert!(rt; shows(&left, "a", 10, "x"));
-    assert!(rt; shows_nothing(&left, "b", 10));
-    drop(left);
-    Ok(())
+    // `CommitUnknown`, and then `Unrecoverable`.
+    (
+        "nothing is committed behind an unknown outcome",
+        &[
+            Plays(&KEPT),
+            Reopen(Failing(10, Fault::Once), 2),
+            Plays(&[
+                Does(Set("b", "y"), Number(2)),
+                Does(FlushParts(0), Refused(3)),
+                Does(BeginFlush, Refused(4)),
+                Shows("b", 10, "y"),
+            ]),
+            Reopen(Crashed, 10),
+            Plays(&[Shows("a", 10, "x"), Shows("b", 10, "")]),
+        ],
+    ),
+    // The write of `v2` fails: `Store`.
+    (
+        "a flush whose version is not written changes nothing",
+        &[
+            Plays(&KEPT),
+            Reopen(Failing(8, Fault::Once), 2),
+            Plays(&[
+                Does(Set("b", "y"), Number(2)),
+                Does(FlushParts(0), Refused(2)),
+                Has(Count::Tables, 1),
+                Does(FlushParts(0), Installed),
+                Has(Count::Tables, 2),
+            ]),
+            Reopen(Crashed, 10),
+            Plays(&[Shows("b", 10, "y")]),
+        ],
+    ),
+];
+
+#[test]
+fn flushes_take_what_was_sealed_before(rt: HostRuntime) {
+    play_all(&rt, rt.alloc(), &SNAPSHOTS);
+    play_all(&rt, rt.alloc(), &JOBS);
 }
 
 #[test]
-fn a_flush_whose_version_is_not_written_changes_nothing(rt: HostRuntime) -> Result<(), Fail> {
-    // The write of `v2`.
-    let mut tree = failing(rt.alloc(), 8, Fault::Once)?;
-    assert!(rt; set(rt.alloc(), &mut tree, "b", "y").is_ok());
-    assert!(rt; matches!(flush(&mut tree, 0), Err(Error::Store)));
-    assert!(rt; tree.table_count() == 1);
-    assert!(rt; is_installed(flush(&mut tree, 0)));
-    assert!(rt; tree.table_count() == 2);
-    let left = crashed(rt.alloc(), tree)?;
-    assert!(rt; shows(&left, "b", 10, "y"));
-    drop(left);
-    Ok(())
+fn a_crash_leaves_what_was_committed(rt: HostRuntime) {
+    play_all(&rt, rt.alloc(), &CRASHES);
 }

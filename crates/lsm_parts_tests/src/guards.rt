@@ -1,65 +1,75 @@
 // What a guard hands out.
-use crate::samples::{has_key, key, value};
+use crate::samples::bytes;
 use lsm_below::{UserKey, UserValue};
 use lsm_iter::{Guard, IterGuard};
 use lsm_parts::Error;
 
-fn pair() -> Guard {
-    Guard::new(Ok((key("a"), value("xyz"))))
+/// What a guard is asked for.
+enum Ask {
+    Key,
+    Size,
+    Pair,
+    /// The value only of keys of this length.
+    PairIf(usize),
 }
 
-fn has_size(guard: Guard, wanted: u32) -> bool {
-    match guard.size() {
-        Ok(size) => size == wanted,
+/// What it hands out: a key, a value and a size, as far as each is.
+type Given = (Option<UserKey>, Option<UserValue>, Option<u32>);
+
+fn whole(guard: Guard) -> Result<Given, Error> {
+    let (key, value) = guard.into_inner()?;
+    Ok((Some(key), Some(value), None))
+}
+
+fn of_length(guard: Guard, len: usize) -> Result<Given, Error> {
+    let (key, value) = guard.into_inner_if(|key| key.len() == len)?;
+    Ok((Some(key), value, None))
+}
+
+fn given(guard: Guard, ask: &Ask) -> Result<Given, Error> {
+    match ask {
+        Ask::Key => Ok((Some(guard.key()?), None, None)),
+        Ask::Size => Ok((None, None, Some(guard.size()?))),
+        Ask::Pair => whole(guard),
+        Ask::PairIf(len) => of_length(guard, *len),
+    }
+}
+
+/// What is asked of a guard of the pair a = xyz, and the key, the value and the size that it hands out.
+const GIVEN: [(Ask, Option<&str>, Option<&str>, Option<u32>); 5] = [
+    (Ask::Key, Some("a"), None, None),
+    (Ask::Size, None, None, Some(3)),
+    (Ask::Pair, Some("a"), Some("xyz"), None),
+    (Ask::PairIf(1), Some("a"), Some("xyz"), None),
+    (Ask::PairIf(0), Some("a"), None, None),
+];
+
+fn is(found: Option<UserKey>, want: Option<&str>) -> bool {
+    match (found, want) {
+        (Some(found), Some(text)) => found.as_slice() == text.as_bytes(),
+        (None, None) => true,
+        _ => false,
+    }
+}
+
+fn hands_out(row: &(Ask, Option<&str>, Option<&str>, Option<u32>)) -> bool {
+    match given(Guard::new(Ok((bytes("a"), bytes("xyz")))), &row.0) {
+        Ok((key, value, size)) => is(key, row.1) && is(value, row.2) && size == row.3,
         Err(_) => false,
     }
 }
 
-fn has_value(guard: Guard, wanted: &[u8]) -> bool {
-    match guard.into_inner() {
-        Ok((_, value)) => value.as_slice() == wanted,
-        Err(_) => false,
-    }
-}
-
-/// What is handed out where only keys of this length get their value.
-fn of_length(guard: Guard, len: usize) -> Result<(UserKey, Option<UserValue>), Error> {
-    guard.into_inner_if(|key| key.len() == len)
-}
-
-/// Whether the key is handed out, with a value or without.
-fn hands_out(
-    pair: Result<(UserKey, Option<UserValue>), Error>,
-    name: &[u8],
-    has_value: bool,
-) -> bool {
-    match pair {
-        Ok((key, value)) => key.as_slice() == name && value.is_some() == has_value,
-        Err(_) => false,
-    }
+/// Whether a guard without a pair says why.
+fn says_why(ask: &Ask) -> bool {
+    matches!(
+        given(Guard::new(Err(Error::OutOfMemory)), ask),
+        Err(Error::OutOfMemory)
+    )
 }
 
 #[test]
 fn a_guard_hands_out_what_is_wanted(rt: HostRuntime) {
-    assert!(rt; has_key(pair(), b"a"));
-    assert!(rt; has_size(pair(), 3));
-    assert!(rt; has_value(pair(), b"xyz"));
-    assert!(rt; hands_out(of_length(pair(), 1), b"a", true));
-    assert!(rt; hands_out(of_length(pair(), 0), b"a", false));
-}
-
-fn refused() -> Guard {
-    Guard::new(Err(Error::OutOfMemory))
-}
-
-fn lacks_memory<T: Drop>(answer: Result<T, Error>) -> bool {
-    matches!(answer, Err(Error::OutOfMemory))
-}
-
-#[test]
-fn a_guard_without_a_pair_says_why(rt: HostRuntime) {
-    assert!(rt; lacks_memory(refused().key()));
-    assert!(rt; lacks_memory(refused().size()));
-    assert!(rt; lacks_memory(refused().into_inner()));
-    assert!(rt; lacks_memory(of_length(refused(), 1)));
+    for (place, row) in GIVEN.iter().enumerate() {
+        assert!(rt; hands_out(row) && says_why(&row.0), "row {place}");
+    }
 }

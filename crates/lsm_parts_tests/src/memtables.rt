@@ -1,22 +1,39 @@
 // Look-ups, sizes and bounds of a memtable, and how many steps its calls take.
-use crate::samples::{Bounds, all, entry, excluded, included, set, tombstone};
+use crate::samples::Edge::{In, Open, Out};
+use crate::samples::{Edge, Entry, bounds, filled, item};
 use lsm_below::{InternalValue, SeqNo};
 use lsm_parts::{Error, Iter, Memtable, Steps};
 use std::alloc::Global;
-use std::process::Abort;
+use std::test::Fail;
 
 // ---- look-ups
 
-fn set_two_keys(table: &mut Memtable) -> Result<(), Error> {
-    set(table, "hello-key-999991", "hello-value-999991", 0)?;
-    set(table, "hello-key-999991", "hello-value-999991-2", 1)?;
-    for seqno in [0, 255, 99] {
-        set(table, "abc", "", seqno)?;
-    }
-    Ok(())
-}
+const TWO_KEYS: [Entry; 5] = [
+    ("hello-key-999991", Some("hello-value-999991"), 0),
+    ("hello-key-999991", Some("hello-value-999991-2"), 1),
+    ("abc", Some(""), 0),
+    ("abc", Some(""), 255),
+    ("abc", Some(""), 99),
+];
 
-/// Whether a look-up finds this sequence number and value, or nothing.
+/// A key, a snapshot, and the sequence number and value that are found, or nothing.
+const LOOKUPS: [(&str, SeqNo, Option<(SeqNo, &str)>); 10] = [
+    ("abc", u64::MAX, Some((255, ""))),
+    ("abc", 100, Some((99, ""))),
+    ("abc", 50, Some((0, ""))),
+    ("abc", 0, None),
+    (
+        "hello-key-999991",
+        u64::MAX,
+        Some((1, "hello-value-999991-2")),
+    ),
+    ("hello-key-999991", 1, Some((0, "hello-value-999991"))),
+    ("hello-key-999991", 2, Some((1, "hello-value-999991-2"))),
+    ("hello-key-99999", u64::MAX, None),
+    ("hello-key-99999", 1, None),
+    ("hello-key-99999", 2, None),
+];
+
 fn finds(table: &Memtable, key: &str, snapshot: SeqNo, want: Option<(SeqNo, &str)>) -> bool {
     match (table.get(key.as_bytes(), snapshot), want) {
         (Some(entry), Some((seqno, value))) => {
@@ -27,41 +44,35 @@ fn finds(table: &Memtable, key: &str, snapshot: SeqNo, want: Option<(SeqNo, &str
     }
 }
 
-fn finds_each(rt: &impl Abort, table: &Memtable) {
-    let lookups = [
-        ("abc", u64::MAX, Some((255, ""))),
-        ("abc", 100, Some((99, ""))),
-        ("abc", 50, Some((0, ""))),
-        ("abc", 0, None),
-        (
-            "hello-key-999991",
-            u64::MAX,
-            Some((1, "hello-value-999991-2")),
-        ),
-        ("hello-key-999991", 1, Some((0, "hello-value-999991"))),
-        ("hello-key-999991", 2, Some((1, "hello-value-999991-2"))),
-        ("hello-key-99999", u64::MAX, None),
-        ("hello-key-99999", 1, None),
-        ("hello-key-99999", 2, None),
-    ];
-    for (key, snapshot, want) in lookups {
-        assert!(rt; finds(table, key, snapshot, want), "{key} at {snapshot}");
-    }
-}
-
 #[test]
-fn finds_the_newest_below_the_snapshot(rt: HostRuntime) {
-    let mut table = Memtable::new(rt.alloc(), 0);
-    assert!(rt; set_two_keys(&mut table).is_ok());
-    finds_each(&rt, &table);
+fn finds_the_newest_below_the_snapshot(rt: HostRuntime) -> Result<(), Fail> {
+    let table = filled(rt.alloc(), 0, &TWO_KEYS)?;
+    for (key, snapshot, want) in LOOKUPS {
+        assert!(rt; finds(&table, key, snapshot, want), "{key} at {snapshot}");
+    }
     drop(table);
+    Ok(())
 }
 
 // ---- sizes
 
-/// Puts an entry in, and says whether it counts these sizes and there are so many entries.
-fn counts(table: &mut Memtable, item: InternalValue, sizes: (u64, u64), len: usize) -> bool {
-    match table.insert(item) {
+/// What is put in, the sizes that are counted for it, and how many entries there are then.
+const SIZES: [(Entry, (u64, u64), usize); 3] = [
+    (("a", Some("my_value"), 0), (57, 57), 1),
+    (("a", None, 1), (49, 106), 2),
+    (("a", Some("x"), 1), (50, 156), 2),
+];
+
+/// The sequence number of the entry that is lent, if one is.
+fn number(entry: Option<&InternalValue>) -> Option<SeqNo> {
+    match entry {
+        Some(entry) => Some(entry.key.seqno),
+        None => None,
+    }
+}
+
+fn counts(table: &mut Memtable, entry: &Entry, sizes: (u64, u64), len: usize) -> bool {
+    match table.insert(item(entry)) {
         Ok(found) => found == sizes && table.len() == len,
         Err(_) => false,
     }
@@ -70,19 +81,34 @@ fn counts(table: &mut Memtable, item: InternalValue, sizes: (u64, u64), len: usi
 #[test]
 fn counts_replaced_entries_again(rt: HostRuntime) {
     let mut table = Memtable::new(rt.alloc(), 0);
-    assert!(rt; counts(&mut table, entry("a", "my_value", 0), (57, 57), 1));
-    assert!(rt; counts(&mut table, tombstone("a", 1), (49, 106), 2));
-    assert!(rt; counts(&mut table, entry("a", "x", 1), (50, 156), 2));
-    assert_eq!(rt; table.size(), 156);
-    assert_eq!(rt; table.get_highest_seqno(), Some(1));
+    for (entry, sizes, len) in SIZES {
+        assert!(rt; counts(&mut table, &entry, sizes, len), "{len} entries");
+    }
+    assert!(rt; table.size() == 156 && table.get_highest_seqno() == Some(1));
     drop(table);
 }
 
 // ---- bounds
 
-fn set_batch(alloc: Global, table: &mut Memtable) -> Result<(), Error> {
-    let batch = vec![in alloc; entry("b", "", 1), entry("a", "", 1), entry("a", "", 2)]?;
-    table.insert_all(batch)
+/// Bounds, how many entries lie within, the first one's number, and how many of these lie within other bounds.
+type Cut = ((Edge, Edge), usize, Option<SeqNo>, (Edge, Edge), usize);
+
+const CUTS: [Cut; 5] = [
+    ((Open, Open), 3, Some(2), (In(b"a"), Out(b"b")), 2),
+    ((In(b"a"), Out(b"b")), 2, Some(2), (In(b"b"), In(b"b")), 0),
+    ((In(b"a"), Out(b"b")), 2, Some(2), (Open, Open), 2),
+    ((Out(b"a"), In(b"b")), 1, Some(1), (Open, Open), 1),
+    ((In(b"b"), In(b"a")), 0, None, (Open, Open), 0),
+];
+
+fn batch(alloc: Global) -> Result<Memtable, Error> {
+    let mut table = Memtable::new(alloc, 0);
+    table.insert_all(vec![in alloc;
+        item(&("b", Some(""), 1)),
+        item(&("a", Some(""), 1)),
+        item(&("a", Some(""), 2)),
+    ]?)?;
+    Ok(table)
 }
 
 fn number_of(entries: Iter<'_>) -> usize {
@@ -93,29 +119,31 @@ fn number_of(entries: Iter<'_>) -> usize {
     count
 }
 
-/// Whether so many entries lie within bounds, the first one with this sequence number.
-fn lends(table: &Memtable, bounds: Bounds, count: usize, first: Option<SeqNo>) -> bool {
-    number_of(table.range(&bounds)) == count
-        && table.range(&bounds).next().map(|entry| entry.key.seqno) == first
+fn cuts(table: &Memtable, cut: &Cut) -> bool {
+    let within = bounds(&cut.0.0, &cut.0.1);
+    let part = table.span().within(&within);
+    number_of(table.range(&within)) == cut.1
+        && number(table.range(&within).next()) == cut.2
+        && number_of(part.iter()) == cut.1
+        && number_of(part.within(&bounds(&cut.3.0, &cut.3.1)).iter()) == cut.4
 }
 
-fn ends_with_b(table: &Memtable) -> bool {
+fn ends_with(table: &Memtable, name: &str) -> bool {
     match table.iter().next_back() {
-        Some(entry) => entry.key.user_key.as_slice() == b"b".as_slice(),
+        Some(entry) => entry.key.user_key.as_slice() == name.as_bytes(),
         None => false,
     }
 }
 
 #[test]
-fn lends_what_lies_within_bounds(rt: HostRuntime) {
-    let mut table = Memtable::new(rt.alloc(), 0);
-    assert!(rt; set_batch(rt.alloc(), &mut table).is_ok());
-    assert!(rt; lends(&table, all(), 3, Some(2)));
-    assert!(rt; lends(&table, (included("a"), excluded("b")), 2, Some(2)));
-    assert!(rt; lends(&table, (excluded("a"), included("b")), 1, Some(1)));
-    assert!(rt; lends(&table, (included("b"), included("a")), 0, None));
-    assert!(rt; ends_with_b(&table));
+fn lends_and_cuts_what_lies_within_bounds(rt: HostRuntime) -> Result<(), Fail> {
+    let table = batch(rt.alloc())?;
+    for (place, cut) in CUTS.iter().enumerate() {
+        assert!(rt; cuts(&table, cut), "row {place}");
+    }
+    assert!(rt; ends_with(&table, "b"));
     drop(table);
+    Ok(())
 }
 
 // ---- steps
@@ -124,7 +152,7 @@ fn lends_what_lies_within_bounds(rt: HostRuntime) {
 fn moves_few(table: &mut Memtable, count: SeqNo) -> bool {
     for seqno in 0..count {
         let mut steps = Steps::new();
-        let done = table.insert_counted(entry("a", "", seqno), &mut steps);
+        let done = table.insert_counted(item(&("a", Some(""), seqno)), &mut steps);
         if done.is_err() || steps.moved > 64 {
             return false;
         }
@@ -137,7 +165,7 @@ fn compares_few(table: &Memtable, count: SeqNo, most: u64) -> bool {
     for seqno in 0..count {
         let mut steps = Steps::new();
         let found = table.get_counted(b"a", seqno.saturating_add(1), &mut steps);
-        if found.map(|entry| entry.key.seqno) != Some(seqno) || steps.compared > most {
+        if number(found) != Some(seqno) || steps.compared > most {
             return false;
         }
     }
@@ -150,40 +178,14 @@ fn takes_few_steps(rt: HostRuntime) {
     let mut table = Memtable::new(rt.alloc(), 0);
     assert!(rt; compares_few(&table, 0, 8));
     assert!(rt; moves_few(&mut table, 200));
-    assert!(rt; compares_few(&table, 200, 11));
-    assert_eq!(rt; table.len(), 200);
+    assert!(rt; compares_few(&table, 200, 11) && table.len() == 200);
     drop(table);
-}
-
-#[test]
-fn counts_stop_at_the_greatest_number(rt: HostRuntime) {
+    // Counts stop at the greatest number.
     let mut steps = Steps {
         compared: u64::MAX,
         moved: u64::MAX - 1,
     };
     steps.tick_compared();
     steps.tick_moved();
-    assert_eq!(rt; (steps.compared, steps.moved), (u64::MAX, u64::MAX));
-}
-
-/// Whether a part between bounds gives this many entries, and so many once it is cut again.
-fn cuts_again(
-    table: &Memtable,
-    bounds: &Bounds,
-    count: usize,
-    again: &Bounds,
-    left: usize,
-) -> bool {
-    let part = table.span().within(bounds);
-    number_of(part.iter()) == count && number_of(part.within(again).iter()) == left
-}
-
-#[test]
-fn cuts_a_part_again(rt: HostRuntime) {
-    let mut table = Memtable::new(rt.alloc(), 0);
-    assert!(rt; set_batch(rt.alloc(), &mut table).is_ok());
-    let low = (included("a"), excluded("b"));
-    assert!(rt; cuts_again(&table, &all(), 3, &low, 2));
-    assert!(rt; cuts_again(&table, &low, 2, &(included("b"), included("b")), 0));
-    drop(table);
+    assert!(rt; steps.compared == u64::MAX && steps.moved == u64::MAX);
 }

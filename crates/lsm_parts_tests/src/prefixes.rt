@@ -1,62 +1,42 @@
 // The bounds of the keys that begin alike.
+use crate::samples::Edge;
+use crate::samples::Edge::{In, Open, Out};
 use lsm_below::UserKey;
 use lsm_iter::prefix_to_range;
 use std::alloc::Global;
 use std::ops::Bound;
 
-fn begins_at(bound: &Bound<UserKey>, wanted: &[u8]) -> bool {
-    match bound {
-        Bound::Included(key) => key.as_slice() == wanted,
-        Bound::Excluded(_) | Bound::Unbounded => false,
+/// A prefix, and the bounds of the keys that begin so.
+const PREFIXES: [(&[u8], Edge, Edge); 7] = [
+    (b"abc", In(b"abc"), Out(b"abd")),
+    (&[0, 250], In(&[0, 250]), Out(&[0, 251])),
+    (&[0, 250, 50], In(&[0, 250, 50]), Out(&[0, 250, 51])),
+    (&[0, 255], In(&[0, 255]), Out(&[1])),
+    (&[0, 2, 255], In(&[0, 2, 255]), Out(&[0, 3])),
+    // Some prefixes have no end.
+    (&[], Open, Open),
+    (&[255, 255, 255], In(&[255, 255, 255]), Open),
+];
+
+fn is_edge(bound: &Bound<UserKey>, edge: &Edge) -> bool {
+    match (bound, edge) {
+        (Bound::Included(key), Edge::In(bytes)) => key.as_slice() == *bytes,
+        (Bound::Excluded(key), Edge::Out(bytes)) => key.as_slice() == *bytes,
+        (Bound::Unbounded, Edge::Open) => true,
+        _ => false,
     }
 }
 
-fn ends_at(bound: &Bound<UserKey>, wanted: &[u8]) -> bool {
-    match bound {
-        Bound::Excluded(key) => key.as_slice() == wanted,
-        Bound::Included(_) | Bound::Unbounded => false,
-    }
-}
-
-/// Whether the bounds of a prefix are that prefix, included, and this end, excluded.
-fn ends_before(alloc: Global, prefix: &[u8], end: &[u8]) -> bool {
-    match prefix_to_range(alloc, prefix) {
-        Ok((lower, upper)) => begins_at(&lower, prefix) && ends_at(&upper, end),
+fn spans(alloc: Global, row: &(&[u8], Edge, Edge)) -> bool {
+    match prefix_to_range(alloc, row.0) {
+        Ok((low, high)) => is_edge(&low, &row.1) && is_edge(&high, &row.2),
         Err(_) => false,
     }
 }
 
 #[test]
 fn prefixes_end_before_the_next_byte(rt: HostRuntime) {
-    assert!(rt; ends_before(rt.alloc(), b"abc", b"abd"));
-    assert!(rt; ends_before(rt.alloc(), &[0, 250], &[0, 251]));
-    assert!(rt; ends_before(rt.alloc(), &[0, 250, 50], &[0, 250, 51]));
-    assert!(rt; ends_before(rt.alloc(), &[0, 255], &[1]));
-    assert!(rt; ends_before(rt.alloc(), &[0, 2, 255], &[0, 3]));
-}
-
-fn is_open(bound: &Bound<UserKey>) -> bool {
-    matches!(bound, Bound::Unbounded)
-}
-
-/// Whether the bounds of a prefix have neither end.
-fn is_boundless(alloc: Global, prefix: &[u8]) -> bool {
-    match prefix_to_range(alloc, prefix) {
-        Ok((lower, upper)) => is_open(&lower) && is_open(&upper),
-        Err(_) => false,
+    for (place, row) in PREFIXES.iter().enumerate() {
+        assert!(rt; spans(rt.alloc(), row), "row {place}");
     }
-}
-
-/// Whether nothing ends the bounds of a prefix.
-fn is_endless(alloc: Global, prefix: &[u8]) -> bool {
-    match prefix_to_range(alloc, prefix) {
-        Ok((_, upper)) => is_open(&upper),
-        Err(_) => false,
-    }
-}
-
-#[test]
-fn some_prefixes_have_no_end(rt: HostRuntime) {
-    assert!(rt; is_boundless(rt.alloc(), &[]));
-    assert!(rt; is_endless(rt.alloc(), &[255, 255, 255]));
 }

@@ -1,5 +1,5 @@
 -- One sweep over a run finds the longest free window.
-use Rattle.std.proofs.Common.{◌≡◌, ℕ, zero, suc, ◌+◌, ◌-◌, ◌<◌, ◌≤◌, Bool, true, false, not, List, [], ◌∷◌, length, take, drop, refl, sym, ◌∙◌, inl, inr, ⊎_elim, subst, arith}
+use Rattle.std.proofs.Common.{◌≡◌, ℕ, zero, suc, ◌+◌, ◌-◌, ◌<◌, ◌≤◌, Bool, true, false, not, List, [], ◌∷◌, take, drop, refl, sym, ◌∙◌, inl, inr, ⊎_elim, subst, arith}
 use Rattle.std.specs.List.{list_any, slice_range}
 use Rattle.std.proofs.lemmas.Bool.{false≢true, cases_lt}
 use Rattle.lsm_tables.specs.Tables.{SeenTable}
@@ -7,7 +7,7 @@ use Rattle.lsm_model.specs.Steps.{among}
 use Rattle.lsm_versions.specs.Levels.{range}
 use Rattle.lsm_pick.specs.declared.leveled.windows.Window.{Window}
 use Rattle.lsm_pick.specs.Tables.{meets, is_any_hidden}
-use Rattle.lsm_pick.specs.Leveled.{is_free, IsLongestFree, HasNoFree, IsFreeStart}
+use Rattle.lsm_pick.specs.Leveled.{is_free, IsFreeStart}
 use Rattle.lsm_pick.proofs.Members.{Has, any_has, has_any, and_left, and_right, and_both, not_true}
 use Rattle.lsm_pick.proofs.Pairs.{not_so}
 use Rattle.lsm_pick.proofs.Hulls.{begun_by, open_by, by_begun, by_open, begun_of, open_of, meets_by}

@@ -6,5 +6,4 @@ pub mod Fifo
 pub mod LeveledRule
 pub mod Leveled
 pub mod Config
-pub mod Lending
 pub mod Law

@@ -1,9 +1,8 @@
 // How strategies are written down: names and values, as bytes.
-ghost use Rattle.std.specs.Prelude.{◌≡◌, ◌<◌, ◌++◌, ◌∷◌, [], length, IfOk, OnOk, Option, codes};
+ghost use Rattle.std.specs.Prelude.{◌≡◌, ◌<◌, ◌++◌, ◌∷◌, [], length, IfOk, OnOk, Option};
 ghost use Rattle.std.specs.Int.{to_le_bytes};
 ghost use Rattle.std.specs.List.{flat_map};
 ghost use Rattle.lsm_pick.specs.Config.{ratio_bytes, ratios_bytes, leveled_config, fifo_config, flag_of};
-ghost use Rattle.lsm_pick.specs.LeveledRule.{LeveledRule};
 ghost use Rattle.std.specs.Option.{unwrap_or};
 
 use crate::Fifo;

@@ -1,16 +1,16 @@
 // Drops what lies within bounds.
 ghost use Rattle.std.specs.Prelude.{◌≡◌, IfOk, OnOk, filter, codes};
 ghost use Rattle.lsm_below.specs.Optimizes.{tables_of};
-ghost use Rattle.lsm_versions.specs.Levels.{range, all_of};
+ghost use Rattle.lsm_versions.specs.Levels.{range};
 ghost use Rattle.lsm_choices.specs.Choices.{AreIdsOf};
 ghost use Rattle.lsm_pick.specs.Tables.{AddsIds};
 ghost use Rattle.lsm_pick.specs.Simple.{MayDropRange, holds, bounded};
 
 use crate::tables::push_if;
-use crate::{Choice, ChooseError, CompactionState, CompactionStrategy, OwnedBounds};
+use crate::{Choice, ChooseError, CompactionStrategy, OwnedBounds};
 use lsm_below::{Ranged, Run, TableId};
 use lsm_tables::Table;
-use lsm_versions::{Config, HiddenSet, Level, Version};
+use lsm_versions::{CompactionState, Config, HiddenSet, Level, Version};
 use std::alloc::{AllocError, Global};
 use std::collections::HashSet;
 use std::marker::Model;

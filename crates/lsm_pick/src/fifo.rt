@@ -9,10 +9,10 @@ ghost use Rattle.lsm_pick.specs.Fifo.{MayFifo, MayRefuse, DropsJust, IsTurn, ove
 use crate::config::fifo_config;
 use crate::first_run::FirstRun;
 use crate::tables::{is_level_busy, push_if};
-use crate::{Choice, ChooseError, CompactionState, CompactionStrategy};
+use crate::{Choice, ChooseError, CompactionStrategy};
 use lsm_below::{KvPair, TableId};
 use lsm_tables::Table;
-use lsm_versions::{Config, HiddenSet, Version};
+use lsm_versions::{CompactionState, Config, HiddenSet, Version};
 use std::alloc::{AllocError, Global};
 use std::collections::HashSet;
 

@@ -12,9 +12,9 @@ mod scores;
 mod windows;
 
 use crate::config::leveled_config;
-use crate::{Choice, ChooseError, CompactionState, CompactionStrategy};
+use crate::{Choice, ChooseError, CompactionStrategy};
 use lsm_below::KvPair;
-use lsm_versions::{Config, Version};
+use lsm_versions::{CompactionState, Config, Version};
 use std::alloc::{AllocError, Global};
 use std::marker::Model;
 

@@ -3,7 +3,6 @@
 //! | Module | Holds |
 //! |-|-|
 //! | `choice` | what a strategy answers |
-//! | `compaction_state` | what it is told of the open jobs |
 //! | `strategy` | who chooses |
 //! | `major` | merges everything |
 //! | `bounds`, `drop_range` | bounds of keys; drops what lies within them |
@@ -16,7 +15,6 @@
 
 mod bounds;
 mod choice;
-mod compaction_state;
 mod config;
 mod drop_range;
 pub mod fifo;
@@ -30,7 +28,6 @@ mod tables;
 
 pub use bounds::OwnedBounds;
 pub use choice::{Choice, ChooseError};
-pub use compaction_state::CompactionState;
 pub use drop_range::DropRange;
 pub use fifo::{Fifo, NAME as FIFO_COMPACTION_NAME};
 pub use laws::leveled_is_lawful;

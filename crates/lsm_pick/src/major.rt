@@ -2,9 +2,9 @@
 ghost use Rattle.std.specs.Prelude.{◌≡◌, IfOk, codes};
 ghost use Rattle.lsm_pick.specs.Simple.{MayMajor};
 
-use crate::{Choice, ChooseError, CompactionState, CompactionStrategy};
+use crate::{Choice, ChooseError, CompactionStrategy};
 use lsm_choices::Input;
-use lsm_versions::{Config, HiddenSet, Version, ids_of_levels};
+use lsm_versions::{CompactionState, Config, HiddenSet, Version, ids_of_levels};
 use std::alloc::{AllocError, Global};
 
 /// Merges all tables into the last level. Nothing is done where one of them is hidden.

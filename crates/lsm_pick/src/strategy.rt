@@ -1,9 +1,9 @@
 // Who chooses what a compaction takes.
 ghost use Rattle.std.specs.Prelude.{IfOk, IfErr};
 
-use crate::{Choice, ChooseError, CompactionState};
+use crate::{Choice, ChooseError};
 use lsm_below::KvPair;
-use lsm_versions::{Config, Version};
+use lsm_versions::{CompactionState, Config, Version};
 use std::alloc::{AllocError, Global};
 
 /// Chooses which tables a compaction takes.

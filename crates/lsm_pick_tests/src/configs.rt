@@ -27,54 +27,39 @@ fn is_written(
     Ok(true)
 }
 
-#[test]
-fn leveled_is_written_down(rt: HostRuntime) -> Result<(), Fail> {
-    let alloc = rt.alloc();
-    let leveled = Leveled::new(alloc)?;
-    assert!(rt; LEVELED_COMPACTION_NAME == "LeveledCompaction");
-    assert!(rt;
-        is_written(
-            alloc,
-            &leveled,
-            "LeveledCompaction",
-            &[
-                ("leveled_l0_threshold", &[4]),
-                ("leveled_target_size", &[0, 0, 0, 4, 0, 0, 0, 0]),
-                ("leveled_level_ratio_policy", &[1, 10, 0, 0, 0, 1, 0, 0, 0]),
-            ]
-        )?
-    );
-    Ok(())
-}
+const LEVELED: [(&str, &[u8]); 3] = [
+    ("leveled_l0_threshold", &[4]),
+    ("leveled_target_size", &[0, 0, 0, 4, 0, 0, 0, 0]),
+    ("leveled_level_ratio_policy", &[1, 10, 0, 0, 0, 1, 0, 0, 0]),
+];
+
+/// With a limit of 258 bytes and no time to live.
+const FIFO: [(&str, &[u8]); 3] = [
+    ("fifo_limit", &[2, 1, 0, 0, 0, 0, 0, 0]),
+    ("fifo_ttl", &[0]),
+    ("fifo_ttl_seconds", &[0, 0, 0, 0, 0, 0, 0, 0]),
+];
+
+/// With no byte and no second.
+const FIFO_ZERO: [(&str, &[u8]); 3] = [
+    ("fifo_limit", &[0, 0, 0, 0, 0, 0, 0, 0]),
+    ("fifo_ttl", &[1]),
+    ("fifo_ttl_seconds", &[0, 0, 0, 0, 0, 0, 0, 0]),
+];
 
 #[test]
-fn fifo_is_written_down(rt: HostRuntime) -> Result<(), Fail> {
+fn strategies_are_written_down(rt: HostRuntime) -> Result<(), Fail> {
     let alloc = rt.alloc();
+    assert!(rt; LEVELED_COMPACTION_NAME == "LeveledCompaction");
     assert!(rt; FIFO_COMPACTION_NAME == "FifoCompaction");
-    assert!(rt;
-        is_written(
-            alloc,
-            &Fifo::new(258, None, 9),
-            "FifoCompaction",
-            &[
-                ("fifo_limit", &[2, 1, 0, 0, 0, 0, 0, 0]),
-                ("fifo_ttl", &[0]),
-                ("fifo_ttl_seconds", &[0, 0, 0, 0, 0, 0, 0, 0]),
-            ]
-        )?
-    );
-    assert!(rt;
-        is_written(
-            alloc,
-            &Fifo::new(0, Some(0), 9),
-            "FifoCompaction",
-            &[
-                ("fifo_limit", &[0, 0, 0, 0, 0, 0, 0, 0]),
-                ("fifo_ttl", &[1]),
-                ("fifo_ttl_seconds", &[0, 0, 0, 0, 0, 0, 0, 0]),
-            ]
-        )?
-    );
+    let leveled = Leveled::new(alloc)?;
+    let written = is_written(alloc, &leveled, "LeveledCompaction", &LEVELED);
+    drop(leveled);
+    assert!(rt; written?);
+    let fifo = Fifo::new(258, None, 9);
+    assert!(rt; is_written(alloc, &fifo, "FifoCompaction", &FIFO)?);
+    let fifo = Fifo::new(0, Some(0), 9);
+    assert!(rt; is_written(alloc, &fifo, "FifoCompaction", &FIFO_ZERO)?);
     Ok(())
 }
 

@@ -2,7 +2,7 @@
 use crate::samples::{Row, Wanted, chooses};
 use lsm_below::TableId;
 use lsm_pick::{Leveled, Levelled};
-use std::alloc::{AllocError, Global};
+use std::alloc::Global;
 use std::process::Abort;
 use std::test::Fail;
 
@@ -27,15 +27,6 @@ fn targets_grow_by_fractions(rt: HostRuntime) -> Result<(), Fail> {
     assert!(rt; targets_are(&capped.copy(alloc)?, [u64::MAX; 5]));
     assert!(rt; Leveled::new(alloc)?.target_after(1) == 2_684_354_560);
     Ok(())
-}
-
-/// With a target of one byte, so that each table is too much, and a threshold of two tables.
-fn small(alloc: Global) -> Result<Levelled, AllocError> {
-    Ok(
-        Leveled::new(alloc)?
-            .with_table_target_size(1)
-            .with_l0_threshold(2),
-    )
 }
 
 /// Tables, the hidden ones, and what is to be answered.
@@ -95,22 +86,6 @@ const CASES: [Case; 9] = [
     ),
 ];
 
-fn all_answer(rt: &impl Abort, alloc: Global, leveled: &Leveled) -> Result<bool, Fail> {
-    for (rows, hidden, wanted) in CASES {
-        if !chooses(rt, alloc, leveled, 1, rows, hidden, wanted)? {
-            return Ok(false);
-        }
-    }
-    Ok(true)
-}
-
-#[test]
-fn levels_go_down(rt: HostRuntime) -> Result<(), Fail> {
-    let leveled = small(rt.alloc())?;
-    assert!(rt; all_answer(&rt, rt.alloc(), &leveled)?);
-    Ok(())
-}
-
 /// Four tables of one key, each a run.
 const FOUR: [Row; 4] = [
     (0, 4, "a", 0),
@@ -119,21 +94,31 @@ const FOUR: [Row; 4] = [
     (0, 1, "a", 0),
 ];
 
+/// Whether each case is answered so, with this target.
+fn all_answer(
+    rt: &impl Abort,
+    alloc: Global,
+    leveled: &Levelled,
+    target: u64,
+    cases: &[Case],
+) -> Result<bool, Fail> {
+    for (rows, hidden, wanted) in cases {
+        if !chooses(rt, alloc, leveled, target, *rows, *hidden, *wanted)? {
+            return Ok(false);
+        }
+    }
+    Ok(true)
+}
+
+/// With a target of one byte, so that each table is too much, and a threshold of two tables; and four runs are merged by
+/// default.
 #[test]
-fn four_runs_are_merged_by_default(rt: HostRuntime) -> Result<(), Fail> {
-    let leveled = Leveled::new(rt.alloc())?;
-    let all = Wanted::Merge(&[1, 2, 3, 4], 6, 1);
-    assert!(rt; chooses(&rt, rt.alloc(), &leveled, 67_108_864, &FOUR, &[], all)?);
-    assert!(rt;
-        chooses(
-            &rt,
-            rt.alloc(),
-            &leveled,
-            0,
-            &FOUR[..3],
-            &[],
-            Wanted::Nothing
-        )?
-    );
+fn levels_go_down(rt: HostRuntime) -> Result<(), Fail> {
+    let usual = Leveled::new(rt.alloc())?;
+    let four: &[Case] = &[(&FOUR, &[], Wanted::Merge(&[1, 2, 3, 4], 6, 1))];
+    assert!(rt; all_answer(&rt, rt.alloc(), &usual, 67_108_864, four)?);
+    assert!(rt; chooses(&rt, rt.alloc(), &usual, 0, &FOUR[..3], &[], Wanted::Nothing)?);
+    let small = usual.with_table_target_size(1).with_l0_threshold(2);
+    assert!(rt; all_answer(&rt, rt.alloc(), &small, 1, &CASES)?);
     Ok(())
 }

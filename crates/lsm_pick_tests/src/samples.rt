@@ -4,9 +4,9 @@
 
 use bytes::Bytes;
 use lsm_below::{InternalValue, Run, TableId, UserKey, UserValue, ValueType, optimize_runs};
-use lsm_pick::{Choice, ChooseError, CompactionState, CompactionStrategy, Input};
+use lsm_pick::{Choice, ChooseError, CompactionStrategy, Input};
 use lsm_tables::{Table, is_writable, write_tables};
-use lsm_versions::{Config, Level, Version, ids_are_own, levels_fit};
+use lsm_versions::{CompactionState, Config, Level, Version, ids_are_own, levels_fit};
 use std::alloc::{AllocError, Global};
 use std::collections::HashSet;
 use std::process::Abort;

@@ -20,79 +20,51 @@ fn everything_is_merged(rt: HostRuntime) -> Result<(), Fail> {
     Ok(())
 }
 
-fn key(text: &'static str) -> UserKey {
-    UserKey::from_static(text.as_bytes())
+fn key_of(bound: Bound<&'static str>) -> Bound<UserKey> {
+    match bound {
+        Bound::Included(text) => Bound::Included(UserKey::from_static(text.as_bytes())),
+        Bound::Excluded(text) => Bound::Excluded(UserKey::from_static(text.as_bytes())),
+        Bound::Unbounded => Bound::Unbounded,
+    }
 }
 
-fn drops(
-    rt: &impl Abort,
-    alloc: Global,
-    start: Bound<UserKey>,
-    end: Bound<UserKey>,
-    wanted: Wanted,
-) -> Result<bool, Fail> {
-    let bounds = OwnedBounds { start, end };
+/// Bounds, and what is dropped where table 1 is hidden.
+type Within = (Bound<&'static str>, Bound<&'static str>, Wanted);
+
+const WITHIN: [Within; 6] = [
+    (
+        Bound::Included("a"),
+        Bound::Excluded("b"),
+        Wanted::Drop(&[0]),
+    ),
+    (Bound::Included("a"), Bound::Included("b"), Wanted::Nothing),
+    (Bound::Excluded("b"), Bound::Unbounded, Wanted::Drop(&[2])),
+    (
+        Bound::Excluded("b"),
+        Bound::Excluded("b"),
+        Wanted::Drop(&[]),
+    ),
+    (
+        Bound::Included("c"),
+        Bound::Included("a"),
+        Wanted::Drop(&[]),
+    ),
+    (Bound::Unbounded, Bound::Unbounded, Wanted::Nothing),
+];
+
+fn drops(rt: &impl Abort, alloc: Global, row: Within) -> Result<bool, Fail> {
+    let bounds = OwnedBounds {
+        start: key_of(row.0),
+        end: key_of(row.1),
+    };
     let strategy = DropRange::new(bounds.copy()?);
-    chooses(rt, alloc, &strategy, 0, &THREE, &[1], wanted)
+    chooses(rt, alloc, &strategy, 0, &THREE, &[1], row.2)
 }
 
 #[test]
 fn tables_within_bounds_are_dropped(rt: HostRuntime) -> Result<(), Fail> {
-    let alloc = rt.alloc();
-    let (a, b, c) = (key("a"), key("b"), key("c"));
-    assert!(rt;
-        drops(
-            &rt,
-            alloc,
-            Bound::Included(a.clone()?),
-            Bound::Excluded(b.clone()?),
-            Wanted::Drop(&[0])
-        )?
-    );
-    assert!(rt;
-        drops(
-            &rt,
-            alloc,
-            Bound::Included(a.clone()?),
-            Bound::Included(b.clone()?),
-            Wanted::Nothing
-        )?
-    );
-    assert!(rt;
-        drops(
-            &rt,
-            alloc,
-            Bound::Excluded(b.clone()?),
-            Bound::Unbounded,
-            Wanted::Drop(&[2])
-        )?
-    );
-    assert!(rt;
-        drops(
-            &rt,
-            alloc,
-            Bound::Excluded(b.clone()?),
-            Bound::Excluded(b),
-            Wanted::Drop(&[])
-        )?
-    );
-    assert!(rt;
-        drops(
-            &rt,
-            alloc,
-            Bound::Included(c),
-            Bound::Included(a),
-            Wanted::Drop(&[])
-        )?
-    );
-    assert!(rt;
-        drops(
-            &rt,
-            alloc,
-            Bound::Unbounded,
-            Bound::Unbounded,
-            Wanted::Nothing
-        )?
-    );
+    for row in WITHIN {
+        assert!(rt; drops(&rt, rt.alloc(), row)?, "{:?} to {:?}", row.0, row.1);
+    }
     Ok(())
 }

@@ -1,9 +1,13 @@
 -- A batch on its way into a journal.
-use Rattle.std.proofs.Common.{◌≡◌, ℕ, zero, suc, ◌+◌, ◌<◌, Bool, true, false, ◌&&◌, List, [], ◌∷◌, ◌++◌, map, length, get_or, take, nat_lt, nat_le, refl, sym, ap, ◌∙◌, arith, lt-ltb}
+use Rattle.std.proofs.Common.{◌≡◌, ℕ, zero, suc, ◌+◌, ◌<◌, Bool, true, false, ◌&&◌, List, [], ◌∷◌, ◌++◌, map, length, get_or, take, nat_lt, nat_le, refl, sym, ap, ◌∙◌, arith, lt-ltb, subst, IsSome, Result, Ok, Err, IsErrOf, ◌↔◌}
 use Rattle.std.specs.List.{list_all}
 use Rattle.std.proofs.lemmas.List.{take_more, map-append}
-use Rattle.lsm_below.specs.Keys.{Bytes}
+use Rattle.std.specs.BTreeMap as tree
+use Rattle.std.specs.BTreeMap.{BTreeMap}
+use Rattle.lsm_below.specs.Keys.{Bytes, bytes_cmp}
 use Rattle.lsm_below.specs.Entries.{Entry}
+use Rattle.lsm_below.specs.declared.error.Error.{Error}
+use Rattle.lsm_below.specs.declared.error.Error.TheVariants.{OutOfMemory, OutOfOrder}
 use Rattle.lsm_model.specs.Journal.{Event, floor}
 use Rattle.lsm_model.specs.Ops.{op_entry, op_entries}
 use Rattle.lsm_model.specs.declared.op.Op.{Op}
@@ -13,22 +17,25 @@ use Rattle.lsm_recorded.specs.declared.marks.Mark.{Mark}
 use Rattle.lsm_recorded.specs.declared.notes.Note.{Note}
 use Rattle.lsm_recorded.specs.Marks.{mark_in, mark_allows, marked_by, marked_all, mark_tells_order, op_type, op_allowed}
 use Rattle.lsm_recorded.specs.Order.{keeps_order, batch_keeps_order}
-use Rattle.lsm_recorded.specs.Notes.{journal_entry, pass_entry, HaveNumber}
-use Rattle.lsm_recorded.proofs.MarksLemmas.{order_told, marked_by_same, marked_all_same}
+use Rattle.lsm_recorded.specs.Notes.{journal_entry, pass_entry, HaveNumber, HaveMarks, HasRoom}
+use Rattle.lsm_recorded.proofs.MarksLemmas.{order_told, marked_by_same}
 
 -- ---- the test of order
 
-one_fails : {X : Type 0} (p : X → Bool) (xs : List X) (i : ℕ) (x : X) → i < length xs → x ≡ get_or xs i x → p x ≡ false → list_all p xs ≡ false
-one_fails p [] i x lt is fails = absurd (omega arith)
-one_fails p (y ∷ xs) zero x lt is fails = ap (λ b. b && list_all p xs) (ap p (sym is) ∙ fails)
-one_fails p (y ∷ xs) (suc i) x lt is fails = ap (λ b. p y && b) (one_fails p xs i x (omega arith) is fails) ∙ and_false (p y)
-  where
-    and_false : (b : Bool) → (b && false) ≡ false
-    and_false true = refl
-    and_false false = refl
+pub both_true : (a b : Bool) → a ≡ true → b ≡ true → (a && b) ≡ true
+both_true true b p q = q
+both_true false b p q = absurd (cc p)
 
-pub refused_at : (marks : Bytes → Mark) (low n : ℕ) (ops : List (Bytes × Op)) (i : ℕ) (x : Bytes × Op) → i < length ops → x ≡ get_or ops i x → op_allowed marks low n x ≡ false → list_all (op_allowed marks low n) ops ≡ false
-refused_at marks low n ops i x lt is fails = one_fails (op_allowed marks low n) ops i x lt is fails
+-- what isn't refused as out of order is in order
+in_order_unless : (b : Bool) → (b ≡ false → ⊥) → b ≡ true
+in_order_unless true h = refl
+in_order_unless false h = absurd (h refl)
+
+pub not_refused : {A : Type 0} {x : A} (r : Result A Error) (b : Bool) → r ≡ Ok x → (IsErrOf r OutOfOrder ↔ (b ≡ false)) → b ≡ true
+not_refused {A} {x} r b is told = in_order_unless b (λ q. let e : r ≡ Err OutOfOrder = told.1 q in cc (is, e))
+
+pub not_refused_short : {A : Type 0} (r : Result A Error) (b : Bool) → r ≡ Err OutOfMemory → (IsErrOf r OutOfOrder ↔ (b ≡ false)) → b ≡ true
+not_refused_short {A} r b is told = in_order_unless b (λ q. let e : r ≡ Err OutOfOrder = told.1 q in cc (is, e))
 
 module _ (opened : List Entry) (journal : List Event) (n : ℕ) where
   below : nat_lt n (n + 1) ≡ true
@@ -67,6 +74,11 @@ marked_more notes i x f old new lt is before after q =
 
 -- ---- entries
 
+pub key_is : (k : Bytes) (n : ℕ) (op : Op) → (op_entry k n op).key.user_key ≡ k
+key_is k n (Set value) = refl
+key_is k n Del = refl
+key_is k n Weak = refl
+
 pub seqno_is : (k : Bytes) (n : ℕ) (op : Op) → (op_entry k n op).key.seqno ≡ n
 seqno_is k n (Set value) = refl
 seqno_is k n Del = refl
@@ -83,6 +95,17 @@ numbered n (x ∷ notes) (p ∷ ops) is (suc i) d lt =
     let tail : entries_of notes ≡ op_entries n ops = cc is in
     numbered n notes ops tail i d (omega arith)
 
+-- the marks of a batch's keys are those of its entries
+pub room_noted : (marks : BTreeMap Bytes Mark) (n : ℕ) (notes : List Note) (ops : List (Bytes × Op)) → entries_of notes ≡ op_entries n ops → HaveMarks marks ops → HasRoom marks notes
+room_noted marks n [] ops is there i d lt = absurd (omega arith)
+room_noted marks n (x ∷ notes) [] is there i d lt = absurd (cc is)
+room_noted marks n (x ∷ notes) (p ∷ ops) is there zero d lt =
+    let head : x.entry ≡ op_entry p.0 n p.1 = cc is in
+    subst (λ k. IsSome (tree.get bytes_cmp marks k)) (sym (ap (λ (e : Entry). e.key.user_key) head ∙ key_is p.0 n p.1)) (there 0 p (omega arith))
+room_noted marks n (x ∷ notes) (p ∷ ops) is there (suc i) d lt =
+    let tail : entries_of notes ≡ op_entries n ops = cc is in
+    room_noted marks n notes ops tail (λ j e less. there (suc j) e (omega arith)) i d (omega arith)
+
 pub journal_entries : (notes : List Note) → map journal_entry notes ≡ map Write (entries_of notes)
 journal_entries [] = refl
 journal_entries (x ∷ notes) = ap (λ l. Write x.entry ∷ l) (journal_entries notes)
@@ -90,7 +113,3 @@ journal_entries (x ∷ notes) = ap (λ l. Write x.entry ∷ l) (journal_entries 
 pub pass_entries : (notes : List Note) → map pass_entry notes ≡ map Write (map (λ (n : Note). n.copy) notes)
 pass_entries [] = refl
 pass_entries (x ∷ notes) = ap (λ l. Write x.copy ∷ l) (pass_entries notes)
-
--- the marks after a batch, for which room was made first
-pub batch_marks : (f g h : Bytes → Mark) (es fs : List Entry) → es ≡ fs → ((q : Bytes) → g q ≡ f q) → ((q : Bytes) → h q ≡ marked_all es g q) → (q : Bytes) → h q ≡ marked_all fs f q
-batch_marks f g h es fs is same after q = after q ∙ ap (λ l. marked_all l g q) is ∙ marked_all_same g f fs same q

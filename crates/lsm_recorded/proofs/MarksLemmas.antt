@@ -1,5 +1,5 @@
 -- Marks agree with the journal.
-use Rattle.std.proofs.Common.{Option, None, is_some, ◌≡◌, ℕ, zero, suc, not, ◌==◌, ◌+◌, ◌<◌, ◌≤◌, max, min, Bool, true, false, cond, ◌&&◌, ◌||◌, nat_lt, nat_le, List, [], ◌∷◌, ◌++◌, Some, unwrap_or, refl, sym, ap, ◌∙◌, subst, arith, map, append-nil, append_assoc, ltb-true}
+use Rattle.std.proofs.Common.{Option, ◌≡◌, ℕ, zero, suc, not, ◌==◌, ◌+◌, ◌<◌, ◌≤◌, max, min, Bool, true, false, cond, ◌&&◌, ◌||◌, nat_lt, nat_le, List, [], ◌∷◌, ◌++◌, Some, unwrap_or, refl, sym, ap, ◌∙◌, subst, arith, map, append-nil, append_assoc, ltb-true}
 use Rattle.std.specs.List.{list_any, list_all}
 use Rattle.std.proofs.lemmas.Bool.Decides.{nat_tests}
 use Rattle.std.specs.BTreeMap as tree
@@ -18,7 +18,7 @@ use Rattle.lsm_model.specs.declared.question.Question.{Question}
 use Rattle.lsm_model.specs.declared.question.Answer.{Answer}
 use Rattle.lsm_model.specs.Ops.{repeats}
 use Rattle.lsm_recorded.specs.declared.marks.Mark.{Mark}
-use Rattle.lsm_recorded.specs.Marks.{mark_of, marked, marked_by, marked_all, no_mark, next_mark, mark_in, kind_allows, mark_allows, mark_tells_order}
+use Rattle.lsm_recorded.specs.Marks.{mark_of, marked, marked_by, marked_all, no_mark, next_mark, mark_in, kind_allows, mark_allows, entry_allowed, mark_tells_order}
 use Rattle.lsm_recorded.specs.Order.{weak_after, weak_of, kind_keeps, keeps_order}
 
 pub same_key : (a b : Bytes) → is_same a b ≡ true → a ≡ b
@@ -92,17 +92,22 @@ pub floor-writes : (es : List Entry) (journal : List Event) → floor (journal +
 floor-writes [] journal = ap floor (append-nil journal)
 floor-writes (e ∷ es) journal = ap floor (sym (append_assoc journal (Write e ∷ []) (map Write es))) ∙ floor-writes es (journal ++ Write e ∷ []) ∙ floor-write journal e
 
--- a key that isn't there has no mark
-pub no_mark_of : (marks : BTreeMap Bytes Mark) (k : Bytes) (b : Bool) → b ≡ is_some (tree.get bytes_cmp marks k) → b ≡ false → no_mark ≡ mark_of marks k
-no_mark_of marks k b is absent = go (tree.get bytes_cmp marks k) (sym is ∙ absent)
-  where
-    go : (o : Option Mark) → is_some o ≡ false → no_mark ≡ unwrap_or o no_mark
-    go None h = refl
-    go (Some m) h = absurd (cc h)
-
 -- the mark that is there is the key's
 pub mark_there : (marks : BTreeMap Bytes Mark) (k : Bytes) (m : Mark) → Some m ≡ tree.get bytes_cmp marks k → m ≡ mark_of marks k
 mark_there marks k m is = ap (λ o. unwrap_or o no_mark) is
+
+-- a mark that is entered as it was changes none
+pub mark_entered : (old new : BTreeMap Bytes Mark) (k : Bytes) (m : Mark) → m ≡ mark_of old k → ((q : Bytes) → tree.get bytes_cmp new q ≡ cond (is_same k q) (Some m) (tree.get bytes_cmp old q)) → (q : Bytes) → mark_of new q ≡ mark_of old q
+mark_entered old new k m is written q = marked_same old new k k m refl is q (mark_set old new k m q (written q))
+
+-- a mark that is entered as a write leaves it
+pub mark_written : (old new : BTreeMap Bytes Mark) (k key : Bytes) (m w : Mark) (n : ℕ) (kind : ValueType) → k ≡ key → m ≡ mark_of old k → w ≡ next_mark m n kind → ((q : Bytes) → tree.get bytes_cmp new q ≡ cond (is_same k q) (Some w) (tree.get bytes_cmp old q)) → (q : Bytes) → mark_of new q ≡ marked (mark_of old) key (next_mark (mark_of old key) n kind) q
+mark_written old new k key m w n kind at is after written q =
+    mark_set old new k w q (written q) ∙ ap (λ x. marked (mark_of old) k x q) (after ∙ ap (λ z. next_mark z n kind) is) ∙ ap (λ z. marked (mark_of old) z (next_mark (mark_of old z) n kind) q) at
+
+-- where nothing stands, what is entered is no mark
+pub mark_found : (marks : BTreeMap Bytes Mark) (k : Bytes) (m : Mark) (o : Option Mark) → m ≡ unwrap_or o no_mark → o ≡ tree.get bytes_cmp marks k → m ≡ mark_of marks k
+mark_found marks k m o is found = is ∙ ap (λ x. unwrap_or x no_mark) found
 
 -- ---- beside a journal, of a tree with these entries
 
@@ -135,6 +140,12 @@ module _ (opened : List Entry) where
       let k = e.key.user_key in
       ap (λ b. nat_lt n counter && nat_le (floor journal) n && nat_le (next_of k opened journal) n && b) (kind_told journal k e.key.value_type)
       ∙ and_grouped (nat_lt n counter) (nat_le (floor journal) n) (nat_le (next_of k opened journal) n) (kind_allows (mark_in opened journal k) e.key.value_type)
+
+  -- so do marks and a least sequence number that are the journal's
+  pub order_marked : (journal : List Event) (marks : Bytes → Mark) (low counter : ℕ) (e : Entry) → ((q : Bytes) → marks q ≡ mark_in opened journal q) → low ≡ floor journal → entry_allowed marks low counter e ≡ keeps_order opened journal counter e
+  order_marked journal marks low counter e same least =
+      let n = e.key.seqno in
+      ap (λ m. nat_lt n counter && nat_le low n && mark_allows m n e.key.value_type) (same e.key.user_key) ∙ ap (λ l. nat_lt n counter && nat_le l n && mark_allows (mark_in opened journal e.key.user_key) n e.key.value_type) least ∙ sym (order_told journal counter e)
 
   single_kind : (journal : List Event) (k : Bytes) (kind : ValueType) → kind_keeps opened journal k kind ≡ true → is_weak_kind kind ≡ true → sets_of k opened journal ≤ 1
   single_kind journal k Value h q = absurd (cc q)

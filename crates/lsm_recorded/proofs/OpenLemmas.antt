@@ -19,7 +19,8 @@ use Rattle.lsm_state.specs.Core.{Core, state_of, opened_core}
 use Rattle.lsm_state.specs.Opened.{StartsFrom}
 use Rattle.lsm_recorded.specs.declared.marks.Mark.{Mark}
 use Rattle.lsm_recorded.specs.Marks.{AreInOrder, IsMarked}
-use Rattle.lsm_recorded.specs.Recorded.{IsRecorded, raised}
+use Rattle.lsm_recorded.specs.Recorded.{IsRecorded}
+use Rattle.lsm_versions.specs.Configs.{raised}
 
 -- ---- what falling entries of a key show
 

@@ -1,8 +1,8 @@
 -- What each call keeps of a tree with its journal.
-use Rattle.std.proofs.Common.{cond, ◌≡◌, ℕ, ◌+◌, ◌<◌, ◌≤◌, Bool, true, false, List, [], ◌∷◌, ◌++◌, Option, Some, None, Result, Ok, Err, IfOk, OnErr, map, refl, sym, ap, ◌∙◌, subst, arith, ◌⊎◌, ⊎_elim, is_some, IfSome, append-nil, append_assoc}
+use Rattle.std.proofs.Common.{cond, ◌≡◌, ℕ, ◌+◌, ◌<◌, ◌≤◌, Bool, true, false, List, [], ◌∷◌, ◌++◌, Option, Some, None, Result, Ok, Err, IfOk, OnOk, OnErr, IsErrOf, ◌↔◌, map, refl, sym, ap, ◌∙◌, subst, arith, ◌⊎◌, ⊎_elim, is_some, IfSome, append-nil, append_assoc}
 use Rattle.std.specs.BTreeMap.{BTreeMap}
 use Rattle.std.specs.FinMap.{get}
-use Rattle.std.specs.List.{list_any, AllByRecursion}
+use Rattle.std.specs.List.{list_any, list_all, AllByRecursion}
 use Rattle.std.proofs.lemmas.Bool.Decides.{nat_tests}
 use Rattle.std.proofs.lemmas.Grind.{fold-append}
 use Rattle.lsm_below.specs.declared.value_type.ValueType.TheVariants.{Value, Tombstone, WeakTombstone}
@@ -16,25 +16,25 @@ use Rattle.lsm_model.specs.Steps.{Wrote, Asked, Rotated}
 use Rattle.lsm_model.specs.Sound.{Holds}
 use Rattle.lsm_model.specs.Ops.{op_entry, op_entries, repeats, keys_of, op_value}
 use Rattle.lsm_model.specs.declared.op.Op.{Op}
-use Rattle.lsm_model.specs.declared.op.Op.TheVariants.{Set, Del, Weak}
 use Rattle.lsm_model.specs.declared.journal.JournalEntry.TheVariants.{Write, Read}
 use Rattle.lsm_model.specs.declared.question.Question.{Question}
 use Rattle.lsm_model.specs.declared.question.Question.TheVariants.{Get}
 use Rattle.lsm_model.specs.declared.question.Answer.TheVariants.{Found, Pairs}
 use Rattle.lsm_below.specs.declared.error.Error.{Error}
-use Rattle.lsm_below.specs.declared.error.Error.TheVariants.{OutOfMemory, OutOfNumbers, KeyTooLong, ValueTooLong, DuplicateKey}
+use Rattle.lsm_below.specs.declared.error.Error.TheVariants.{OutOfMemory, OutOfOrder, OutOfNumbers, KeyTooLong, ValueTooLong, DuplicateKey}
 use Rattle.lsm_state.specs.Core.{Core, Seen, state_of, latest_of, older_of, written_core}
-use Rattle.lsm_state.specs.Calls.{IsWriteStep, IsGetStep, Gives, Rotates, WritesBatch}
+use Rattle.lsm_state.specs.Calls.{IsWriteStep, IsGetStep, Gives, Rotates, Appends, WritesBatch}
 use Rattle.lsm_state.specs.Ranges.{IsListStep}
 use Rattle.lsm_iter.specs.Guards.{Pair}
 use Rattle.lsm_state.specs.Refusals.{batch_refusal, is_great, is_long_key, is_long_value}
 use Rattle.lsm_recorded.specs.declared.marks.Mark.{Mark}
-use Rattle.lsm_recorded.specs.Marks.{mark_of, mark_in, marked_by, marked_all}
+use Rattle.lsm_recorded.specs.Marks.{mark_of, mark_in, marked_by, marked_all, entry_allowed, op_allowed}
 use Rattle.lsm_recorded.specs.Order.{keeps_order, batch_keeps_order}
-use Rattle.lsm_recorded.specs.Recorded.{AreMarked, IsRecorded, Stays, StaysTo}
+use Rattle.lsm_recorded.specs.Recorded.{AreMarked, IsRecorded, OwnOr, Stays, StaysTo}
+use Rattle.lsm_recorded.specs.Passes.{Notes}
 use Rattle.lsm_recorded.proofs.Watermarks.{same_marked, still_marked}
-use Rattle.lsm_recorded.proofs.BatchLemmas.{seqno_is}
-use Rattle.lsm_recorded.proofs.MarksLemmas.{in_order_push, mark_in-read, mark_in-write, mark_in-writes, marked_by_same, marked_all_same, IsCounted, write_counted, batch_counted, floor-write, floor-writes, entry_keys}
+use Rattle.lsm_recorded.proofs.BatchLemmas.{key_is, seqno_is, not_refused, allowed_order}
+use Rattle.lsm_recorded.proofs.MarksLemmas.{order_marked, in_order_push, mark_in-read, mark_in-write, mark_in-writes, marked_by_same, marked_all_same, IsCounted, write_counted, batch_counted, floor-write, floor-writes, entry_keys}
 
 -- marks by key
 abbrev pub Marks : Type 0
@@ -42,12 +42,7 @@ Marks = BTreeMap Bytes Mark
 
 entry_keys-ops : (n : ℕ) (ops : List (Bytes × Op)) → entry_keys (op_entries n ops) ≡ keys_of ops
 entry_keys-ops n [] = refl
-entry_keys-ops n (p ∷ ops) = ap (λ k. k ∷ entry_keys (op_entries n ops)) (key_is p.1) ∙ ap (λ ks. p.0 ∷ ks) (entry_keys-ops n ops)
-  where
-    key_is : (op : Op) → (op_entry p.0 n op).key.user_key ≡ p.0
-    key_is (Set value) = refl
-    key_is Del = refl
-    key_is Weak = refl
+entry_keys-ops n (p ∷ ops) = ap (λ k. k ∷ entry_keys (op_entries n ops)) (key_is p.0 n p.1) ∙ ap (λ ks. p.0 ∷ ks) (entry_keys-ops n ops)
 
 -- an accepted batch had no reason to be refused
 pub accepted : (ops : List (Bytes × Op)) (n : ℕ) (old new : Core) → WritesBatch ops (Ok n) old new → batch_refusal old.seqno ops ≡ None
@@ -88,6 +83,11 @@ not_none : {A : Type 0} (o : Option A) → is_some o ≡ true → o ≡ None →
 not_none None h e = cc h
 not_none (Some x) h e = cc e
 
+-- ---- what an accepted write tells
+
+own_ok : {A : Type 0} (x : A) (P : Type 0) → OwnOr {A = A} (Ok x) P → P
+own_ok {A} x P h = ⊎_elim (λ (q : ◌≡◌ {A = Result A Error} (Ok x) (Err OutOfOrder)). absurd (cc q)) (λ o. ⊎_elim (λ (q : ◌≡◌ {A = Result A Error} (Ok x) (Err OutOfMemory)). absurd (cc q)) (λ p. p) o) h
+
 module _ (opened : List Placed) (least : ℕ) where
   -- the facts for callers follow from those that the next step goes on from
   pub recorded : (theory : Soundness) → least ≡ above (held opened) → (marks : Marks) (low : ℕ) (c : Core) (journal : List Event) → Holds (held opened) (shown_by opened) (state_of journal c) → IsCounted (held opened) c.seqno journal → low ≡ floor journal → ((k : Bytes) → mark_of marks k ≡ mark_in (held opened) journal k) → AreMarked journal c → IsRecorded opened least marks low c journal
@@ -105,6 +105,19 @@ module _ (opened : List Placed) (least : ℕ) where
   counted_of : (marks : Marks) (low : ℕ) (c : Core) (journal : List Event) → IsRecorded opened least marks low c journal → IsCounted (held opened) c.seqno journal
   counted_of marks low c journal r = record { order = r.order; counted = r.counted }
 
+  -- marks of which each stays what it is
+  pub same_marks : (marks marks' : Marks) (low : ℕ) (c : Core) (journal : List Event) → ((q : Bytes) → mark_of marks' q ≡ mark_of marks q) → IsRecorded opened least marks low c journal → IsRecorded opened least marks' low c journal
+  same_marks marks marks' low c journal same r = record {
+    reads = r.reads;
+    holds = r.holds;
+    order = r.order;
+    counted = r.counted;
+    least_is = r.least_is;
+    floored = r.floored;
+    noted = λ k. same k ∙ r.noted k;
+    marked = r.marked;
+  }
+
   -- ---- a single write
 
   pub recorded_write : (theory : Soundness) (marks marks' : Marks) (low : ℕ) (old new : Core) (journal : List Event) (e : Entry) → IsRecorded opened least marks low old journal → keeps_order (held opened) journal old.seqno e ≡ true → IsWriteStep e old new → new ≡ written_core e old
@@ -118,6 +131,25 @@ module _ (opened : List Placed) (least : ℕ) where
   -- it leaves what snapshots up to its sequence number see
   pub write_spares : (theory : Soundness) (marks : Marks) (low : ℕ) (old new : Core) (journal : List Event) (e : Entry) → IsRecorded opened least marks low old journal → keeps_order (held opened) journal old.seqno e ≡ true → IsWriteStep e old new → StaysTo e.key.seqno old new
   write_spares theory marks low old new journal e r ok step = λ s up. theory.spares.step (held opened) (shown_by opened) s (state_of journal old) (Wrote e) (state_of (journal ++ Write e ∷ []) new) (step (held opened) journal) (write_counted (held opened) old.seqno journal e ok (counted_of marks low old journal r)).order up r.holds
+
+  -- an accepted entry was in order
+  append_in_order : (s : ℕ × ℕ) (marks : Marks) (low : ℕ) (c : Core) (journal : List Event) (e : Entry) → IsRecorded opened least marks low c journal → (◌≡◌ {A = Result (ℕ × ℕ) Error} (Ok s) (Err OutOfOrder) ↔ (entry_allowed (mark_of marks) low c.seqno e ≡ false)) → keeps_order (held opened) journal c.seqno e ≡ true
+  append_in_order s marks low c journal e h order = sym (order_marked (held opened) journal (mark_of marks) low c.seqno e h.noted h.floored) ∙ not_refused (Ok s) (entry_allowed (mark_of marks) low c.seqno e) refl order
+
+  -- whatever it answers
+  pub append_any : (theory : Soundness) → {S : Type 0} (r : Result (ℕ × ℕ) Error) (old new : Seen S) (marks marks' : Marks) (low : ℕ) (journal journal' : List Event) (pass pass' : List (ℕ × Event)) (e : Entry) → plain e ≡ e → IsRecorded opened least marks low old.core journal → (IsErrOf r OutOfOrder ↔ (entry_allowed (mark_of marks) low old.core.seqno e ≡ false)) → OwnOr r (Appends (plain e) r old.core new.core)
+      → OnOk r ((q : Bytes) → mark_of marks' q ≡ marked_by e (mark_of marks) q) → OnErr r ((q : Bytes) → mark_of marks' q ≡ mark_of marks q) → OnOk r (Notes (Write e ∷ []) journal journal' pass pass') → OnErr r ((new ≡ old) × (journal' ≡ journal) × (pass' ≡ pass)) → IsRecorded opened least marks' low new.core journal'
+  append_any theory (Ok s) old new marks marks' low journal journal' pass pass' e is h order core marked unmarked noted err =
+      let a = subst (λ x. Appends x (Ok s) old.core new.core) is (own_ok s (Appends (plain e) (Ok s) old.core new.core) core) in
+      subst (IsRecorded opened least marks' low new.core) (sym noted.behind) (recorded_write theory marks marks' low old.core new.core journal e h (append_in_order s marks low old.core journal e h order) a.step a.core marked)
+  append_any theory {S} (Err x) old new marks marks' low journal journal' pass pass' e is h order core marked unmarked noted err =
+      subst (IsRecorded opened least marks' low new.core) (sym err.1) (subst (λ (t : Seen S). IsRecorded opened least marks' low t.core journal) (sym err.0) (same_marks marks marks' low old.core journal unmarked h))
+
+  pub append_any_spares : (theory : Soundness) (r : Result (ℕ × ℕ) Error) (old new : Core) (marks : Marks) (low : ℕ) (journal : List Event) (e : Entry) → plain e ≡ e → IsRecorded opened least marks low old journal → (IsErrOf r OutOfOrder ↔ (entry_allowed (mark_of marks) low old.seqno e ≡ false)) → OwnOr r (Appends (plain e) r old new) → OnOk r (StaysTo e.key.seqno old new)
+  append_any_spares theory (Ok s) old new marks low journal e is h order core =
+      let a = subst (λ x. Appends x (Ok s) old new) is (own_ok s (Appends (plain e) (Ok s) old new) core) in
+      write_spares theory marks low old new journal e h (append_in_order s marks low old journal e h order) a.step
+  append_any_spares theory (Err x) old new marks low journal e is h order core = tt
 
   -- ---- a batch
 
@@ -143,6 +175,23 @@ module _ (opened : List Placed) (least : ℕ) where
   batch_spares theory marks low old new journal ops n r ok w = λ s up.
       let es = op_entries old.seqno ops in
       theory.spares.writes (held opened) (shown_by opened) s es (state_of journal old) (state_of (journal ++ map Write es) new) (w.run (held opened) journal) (batch_in_order marks low old new journal ops n r ok w).order (numbers_are old.seqno s ops up) r.holds
+
+  -- an accepted batch was in order
+  batch_was_in_order : (n : ℕ) (marks : Marks) (low : ℕ) (c : Core) (journal : List Event) (ops : List (Bytes × Op)) → IsRecorded opened least marks low c journal → (◌≡◌ {A = Result ℕ Error} (Ok n) (Err OutOfOrder) ↔ (list_all (op_allowed (mark_of marks) low c.seqno) ops ≡ false)) → batch_keeps_order (held opened) journal c.seqno ops ≡ true
+  batch_was_in_order n marks low c journal ops h order = sym (allowed_order (held opened) journal c.seqno (mark_of marks) low ops h.noted h.floored) ∙ not_refused (Ok n) (list_all (op_allowed (mark_of marks) low c.seqno) ops) refl order
+
+  -- whatever it answers
+  pub batch_any : (theory : Soundness) → {S : Type 0} (r : Result ℕ Error) (old new : Seen S) (marks marks' : Marks) (low : ℕ) (journal journal' : List Event) (pass pass' : List (ℕ × Event)) (ops : List (Bytes × Op)) → IsRecorded opened least marks low old.core journal → (IsErrOf r OutOfOrder ↔ (list_all (op_allowed (mark_of marks) low old.core.seqno) ops ≡ false)) → OwnOr r (WritesBatch ops r old.core new.core)
+      → OnOk r ((q : Bytes) → mark_of marks' q ≡ marked_all (op_entries old.core.seqno ops) (mark_of marks) q) → OnErr r ((q : Bytes) → mark_of marks' q ≡ mark_of marks q) → OnOk r (Notes (map Write (op_entries old.core.seqno ops)) journal journal' pass pass') → OnErr r ((new ≡ old) × (journal' ≡ journal) × (pass' ≡ pass)) → IsRecorded opened least marks' low new.core journal'
+  batch_any theory (Ok n) old new marks marks' low journal journal' pass pass' ops h order core marked unmarked noted err =
+      subst (IsRecorded opened least marks' low new.core) (sym noted.behind) (recorded_batch theory marks marks' low old.core new.core journal ops n h (batch_was_in_order n marks low old.core journal ops h order) (own_ok n (WritesBatch ops (Ok n) old.core new.core) core) marked)
+  batch_any theory {S} (Err x) old new marks marks' low journal journal' pass pass' ops h order core marked unmarked noted err =
+      subst (IsRecorded opened least marks' low new.core) (sym err.1) (subst (λ (t : Seen S). IsRecorded opened least marks' low t.core journal) (sym err.0) (same_marks marks marks' low old.core journal unmarked h))
+
+  pub batch_any_spares : (theory : Soundness) (r : Result ℕ Error) (old new : Core) (marks : Marks) (low : ℕ) (journal : List Event) (ops : List (Bytes × Op)) → IsRecorded opened least marks low old journal → (IsErrOf r OutOfOrder ↔ (list_all (op_allowed (mark_of marks) low old.seqno) ops ≡ false)) → OwnOr r (WritesBatch ops r old new) → OnOk r (StaysTo old.seqno old new)
+  batch_any_spares theory (Ok n) old new marks low journal ops h order core =
+      batch_spares theory marks low old new journal ops n h (batch_was_in_order n marks low old journal ops h order) (own_ok n (WritesBatch ops (Ok n) old new) core)
+  batch_any_spares theory (Err x) old new marks low journal ops h order core = tt
 
   -- ---- reads
 
@@ -209,7 +258,3 @@ plain-plain_value WeakTombstone v = refl
 -- an entry is made plain once
 pub plain-plain : (e : Entry) → plain (plain e) ≡ plain e
 plain-plain e = ap (λ v. record { key = e.key; value = v }) (plain-plain_value e.key.value_type e.value)
-
--- the marks after a write, for which room was made first
-pub write_marks : (first second third : Marks) (e f : Entry) → e ≡ f → ((q : Bytes) → mark_of second q ≡ mark_of first q) → ((q : Bytes) → mark_of third q ≡ marked_by e (mark_of second) q) → (q : Bytes) → mark_of third q ≡ marked_by f (mark_of first) q
-write_marks first second third e f is same noted q = noted q ∙ ap (λ x. marked_by x (mark_of second) q) is ∙ marked_by_same (mark_of second) (mark_of first) f same q

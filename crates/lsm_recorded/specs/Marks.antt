@@ -54,9 +54,13 @@ marked_all (e ∷ es) marks = marked_all es (marked_by e marks)
 abbrev pub mark_in : List Entry → List Event → Bytes → Mark
 mark_in opened journal k = record { next = next_of k opened journal; sets = min (sets_of k opened journal) 2; is_weak = weak_of k journal }
 
--- does the mark of its key tell that a write of the entry keeps the order of the journal?
+-- does a write of the entry keep the order that marks, a least sequence number and a counter tell?
+abbrev pub entry_allowed : (Bytes → Mark) → ℕ → ℕ → Entry → Bool
+entry_allowed marks low counter e = nat_lt e.key.seqno counter && nat_le low e.key.seqno && mark_allows (marks e.key.user_key) e.key.seqno e.key.value_type
+
+-- the order that the marks of a journal tell
 abbrev pub mark_tells_order : List Entry → List Event → ℕ → Entry → Bool
-mark_tells_order opened journal counter e = nat_lt e.key.seqno counter && nat_le (floor journal) e.key.seqno && mark_allows (mark_in opened journal e.key.user_key) e.key.seqno e.key.value_type
+mark_tells_order opened journal = entry_allowed (mark_in opened journal) (floor journal)
 
 -- the type of the entry that a write makes
 abbrev pub op_type : Op → ValueType

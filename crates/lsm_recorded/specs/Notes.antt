@@ -3,6 +3,7 @@ use Rattle.std.specs.Prelude.{◌≡◌, ℕ, ◌<◌, List, length, IsSome, sli
 use Rattle.std.specs.BTreeMap as tree
 use Rattle.std.specs.BTreeMap.{BTreeMap}
 use Rattle.lsm_below.specs.Keys.{Bytes, bytes_cmp}
+use Rattle.lsm_model.specs.declared.op.Op.{Op}
 use Rattle.lsm_model.specs.declared.journal.JournalEntry.{JournalEntry}
 use Rattle.lsm_model.specs.declared.journal.JournalEntry.TheVariants.{Write}
 use Rattle.lsm_recorded.specs.declared.marks.Mark.{Mark}
@@ -15,6 +16,10 @@ journal_entry n = Write n.entry
 -- what goes into the pass
 abbrev pub pass_entry : Note → JournalEntry
 pass_entry n = Write n.copy
+
+-- there is a mark for the key of each write of a batch
+abbrev pub HaveMarks : BTreeMap Bytes Mark → List (Bytes × Op) → Type 0
+HaveMarks marks ops = (i : ℕ) (d : Bytes × Op) → i < length ops → IsSome (tree.get bytes_cmp marks (slice_index_or ops i d).0)
 
 -- there is a mark for the key of each entry
 abbrev pub HasRoom : BTreeMap Bytes Mark → List Note → Type 0

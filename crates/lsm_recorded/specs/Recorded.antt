@@ -1,5 +1,5 @@
 -- A tree with the journal of its calls, and what always holds of it.
-use Rattle.std.specs.Prelude.{◌≡◌, ℕ, ◌<◌, ◌≤◌, ◌⊎◌, ◌↔◌, ◌++◌, max, List, [], Result, Err, IsErrOf}
+use Rattle.std.specs.Prelude.{◌≡◌, ℕ, ◌<◌, ◌≤◌, ◌⊎◌, ◌↔◌, ◌++◌, List, [], Result, Err, IsErrOf}
 use Rattle.std.specs.BTreeMap.{BTreeMap}
 use Rattle.std.specs.List.{AllByRecursion}
 use Rattle.lsm_model.specs.Views.{Placed, held}
@@ -12,7 +12,6 @@ use Rattle.lsm_model.specs.Steps.{ReadsEqualReplay, StaysAt}
 use Rattle.lsm_model.specs.Sound.{Holds}
 use Rattle.lsm_below.specs.declared.error.Error.{Error}
 use Rattle.lsm_below.specs.declared.error.Error.TheVariants.{OutOfMemory, OutOfOrder}
-use Rattle.lsm_versions.specs.declared.config.Config.{Config}
 use Rattle.lsm_state.specs.Core.{Core, Seen, state_of}
 use Rattle.lsm_state.specs.Calls.{RefusesRead}
 use Rattle.lsm_state.specs.CompactionDeeds.{IsMarkedIn}
@@ -67,7 +66,3 @@ StaysBehind journal journal' old new = (events : List Event) → journal' ≡ jo
 pub record RefusesRecorded {A : Type 0} (least : ℕ) (c : Core) (s : ℕ) (r : Result A Error) : Type 0 where
   pub out_of_order : IsErrOf r OutOfOrder ↔ s < least
   pub refuses : least ≤ s → RefusesRead c s r
-
--- the configuration, with both counters above what was opened
-abbrev pub raised : ℕ → Config → Config
-raised least config = record { id = config.id; seqno = max config.seqno least; visible_seqno = max config.visible_seqno least }

@@ -13,6 +13,7 @@
 //! | `marks` | what was written to each key, by which a write in order is told |
 //! | `opened` | what opened tables hold of each key, and whether they are in order |
 //! | `notes` | copies of the entries of a write, for the journal and a pass |
+//! | `writes` | writes to a tree that are noted |
 //! | `noting` | what a call came to, on its way into a journal and a pass |
 //! | `closing` | whether passes list a journal |
 #![tactic(auto)]
@@ -24,6 +25,7 @@ mod noting;
 mod opened;
 mod pass;
 mod recorded;
+mod writes;
 
 pub use pass::Pass;
 pub use recorded::Recorded;

@@ -1,10 +1,13 @@
 // What was written to each key so far, by which a write in order is told without the journal.
-ghost use Rattle.std.specs.Prelude.{◌≡◌, ◌+◌, ◌^◌, ◌<◌, OnOk, IsSome, ◌&&◌};
+ghost use Rattle.std.specs.Prelude.{◌≡◌, ◌+◌, ◌^◌, ◌<◌, ◌↔◌, ◌⊎◌, false, OnOk, OnErr, IfOk, IfErr, IsErrOf, IsSome, ◌&&◌, if◌then◌else◌};
 ghost use Rattle.std.specs.BTreeMap as tree;
 ghost use Rattle.lsm_below.specs.Keys.{Bytes, bytes_cmp};
-ghost use Rattle.lsm_recorded.specs.Marks.{mark_of, marked, marked_by, mark_allows, next_mark};
+ghost use Rattle.std.specs.List.{list_all};
+ghost use Rattle.lsm_recorded.specs.Marks.{mark_of, marked, marked_by, mark_allows, next_mark, op_type, op_allowed};
+ghost use Rattle.lsm_recorded.specs.Notes.{HaveMarks};
 
-use lsm_below::{InternalValue, SeqNo, UserKey, ValueType, share};
+use lsm_below::{Error, InternalValue, SeqNo, UserKey, ValueType, share};
+use lsm_model::Op;
 use std::alloc::AllocError;
 use std::collections::BTreeMap;
 
@@ -17,8 +20,8 @@ pub struct Mark {
     pub is_weak: bool,
 }
 
-/// The mark of a key to which nothing was written.
-const NOTHING: Mark = Mark {
+/// The mark of a key to which nothing was written. It allows every write.
+pub(crate) const NOTHING: Mark = Mark {
     next: 0,
     sets: 0,
     is_weak: false,
@@ -34,20 +37,18 @@ pub(crate) fn read_mark(marks: &BTreeMap<UserKey, Mark>, key: &UserKey) -> Mark
     }
 }
 
-/// Makes room for a key's mark, which stays what it is.
-pub(crate) fn reserve_mark(
-    marks: &mut BTreeMap<UserKey, Mark>,
+/// The key, which shares the bytes of the key that is marked, if one is: so a journal keeps no bytes of its own for each
+/// read of a key.
+pub(crate) fn share_marked(
+    marks: &BTreeMap<UserKey, Mark>,
     key: &UserKey,
-) -> Result<(), AllocError>
-    ensures same { (q : Bytes) → mark_of marks.new q ≡ mark_of marks.old q }
-    ensures there { OnOk result (IsSome (tree.get bytes_cmp marks.new key.now)) }
-    ensures kept { (q : Bytes) → IsSome (tree.get bytes_cmp marks.old q) → IsSome (tree.get bytes_cmp marks.new q) }
+) -> Result<UserKey, AllocError>
+    ensures { IfOk result (λ shared. shared ≡ key.now) }
 {
-    if marks.contains_key(key) {
-        return Ok(());
+    match marks.get_key_value(key) {
+        Some((marked, _)) => share(marked),
+        None => share(key),
     }
-    let _ = marks.insert(share(key)?, NOTHING)?;
-    Ok(())
 }
 
 /// Sets a key's mark. A new key shares its bytes.
@@ -97,6 +98,91 @@ pub(crate) fn mark_after(mark: Mark, number: SeqNo, kind: ValueType) -> Mark
             is_weak: true,
         },
     }
+}
+
+/// The key of a write, for its mark; the two share their bytes. Where there is no memory for it, the order still comes
+/// first: `OutOfOrder` exactly where a write of this sequence number and type breaks the order of the key.
+pub(crate) fn share_key(
+    marks: &BTreeMap<UserKey, Mark>,
+    key: &UserKey,
+    number: SeqNo,
+    kind: ValueType,
+) -> Result<UserKey, Error>
+    ensures ok { IfOk result (λ shared. shared ≡ key.now) }
+    ensures err { IfErr result (λ e. e ≡ (if mark_allows (mark_of marks.now key.now) number kind then Error.OutOfMemory else Error.OutOfOrder)) }
+{
+    if let Ok(shared) = share(key) {
+        return Ok(shared);
+    }
+    if is_allowed(read_mark(marks, key), number, kind) {
+        return Err(Error::OutOfMemory);
+    }
+    Err(Error::OutOfOrder)
+}
+
+/// The type of the entry that a write makes.
+pub(crate) fn type_of(op: &Op) -> ValueType
+    ensures { result ≡ op_type op.now }
+{
+    match op {
+        Op::Set(_) => ValueType::Value,
+        Op::Del => ValueType::Tombstone,
+        Op::Weak => ValueType::WeakTombstone,
+    }
+}
+
+/// Makes room for the mark of the key of a write, which stays what it is. `OutOfOrder`, before all else, exactly where the
+/// write breaks the order of its key, or of installs and clears.
+pub(crate) fn admit(
+    marks: &mut BTreeMap<UserKey, Mark>,
+    floor: SeqNo,
+    number: SeqNo,
+    key: &UserKey,
+    op: &Op,
+) -> Result<(), Error>
+    ensures out_of_order { IsErrOf result Error.OutOfOrder ↔ (op_allowed (mark_of marks.old) floor number (key.now, op.now) ≡ false) }
+    ensures only { IfErr result (λ e. (e ≡ Error.OutOfOrder) ⊎ (e ≡ Error.OutOfMemory)) }
+    ensures same { (q : Bytes) → mark_of marks.new q ≡ mark_of marks.old q }
+    ensures there { OnOk result (IsSome (tree.get bytes_cmp marks.new key.now)) }
+    ensures kept { (q : Bytes) → IsSome (tree.get bytes_cmp marks.old q) → IsSome (tree.get bytes_cmp marks.new q) }
+{
+    if number < floor {
+        return Err(Error::OutOfOrder);
+    }
+    let kind = type_of(op);
+    let shared = share_key(marks, key, number, kind)?;
+    let mark = marks.entry(shared)?.or_insert(NOTHING);
+    if !is_allowed(*mark, number, kind) {
+        return Err(Error::OutOfOrder);
+    }
+    Ok(())
+}
+
+/// Makes room for the marks of the keys of a batch, which stay what they are. `OutOfOrder`, before all else, exactly where one
+/// of its writes breaks the order.
+pub(crate) fn admit_all(
+    marks: &mut BTreeMap<UserKey, Mark>,
+    floor: SeqNo,
+    number: SeqNo,
+    ops: &[(UserKey, Op)],
+) -> Result<(), Error>
+    ensures out_of_order { IsErrOf result Error.OutOfOrder ↔ (list_all (op_allowed (mark_of marks.old) floor number) ops.now ≡ false) }
+    ensures only { IfErr result (λ e. (e ≡ Error.OutOfOrder) ⊎ (e ≡ Error.OutOfMemory)) }
+    ensures same { (q : Bytes) → mark_of marks.new q ≡ mark_of marks.old q }
+    ensures there { OnOk result (HaveMarks marks.new ops.now) }
+{
+    let mut is_short = false;
+    for (key, op) in ops {
+        match admit(marks, floor, number, key, op) {
+            Ok(()) => {}
+            Err(Error::OutOfMemory) => is_short = true,
+            Err(error) => return Err(error),
+        }
+    }
+    if is_short {
+        return Err(Error::OutOfMemory);
+    }
+    Ok(())
 }
 
 /// Notes a write in the mark of its key, for which there is room.

@@ -1,5 +1,5 @@
 // Copies of the entries of a write, for the journal and for a pass, which share their bytes.
-ghost use Rattle.std.specs.Prelude.{◌≡◌, ◌+◌, ◌^◌, ◌<◌, ◌≤◌, ◌++◌, IfOk, OnOk, map, length, vec_len, vec_capacity};
+ghost use Rattle.std.specs.Prelude.{◌≡◌, ◌+◌, ◌^◌, ◌<◌, ◌≤◌, ◌++◌, IfOk, map, length, vec_len, vec_capacity};
 ghost use Rattle.std.specs.BTreeMap as tree;
 ghost use Rattle.lsm_below.specs.Keys.{Bytes};
 ghost use Rattle.lsm_model.specs.Ops.{op_entry, op_entries};
@@ -8,7 +8,7 @@ ghost use Rattle.lsm_recorded.specs.Marks.{mark_of, marked_all};
 ghost use Rattle.lsm_recorded.specs.Passes.{listed};
 ghost use Rattle.lsm_recorded.specs.Notes.{HasRoom, journal_entry, pass_entry, HaveNumber};
 
-use crate::marks::{Mark, mark_write, reserve_mark};
+use crate::marks::{Mark, mark_write};
 use crate::pass::put_entry;
 use lsm_below::{InternalValue, SeqNo, UserKey, ValueType, share};
 use lsm_model::{JournalEntry, Op};
@@ -33,7 +33,7 @@ pub(crate) fn make_note(entry: &InternalValue) -> Result<Note, AllocError>
 }
 
 /// Copies of the entry of a write.
-fn note_of(key: &UserKey, number: SeqNo, op: &Op) -> Result<Note, AllocError>
+pub(crate) fn note_of(key: &UserKey, number: SeqNo, op: &Op) -> Result<Note, AllocError>
     ensures { IfOk result (λ n. (n.entry ≡ op_entry key.now number op.now) × (n.copy ≡ op_entry key.now number op.now)) }
 {
     let entry = op.entry(key, number)?;
@@ -55,20 +55,6 @@ pub(crate) fn make_notes(
         notes.push(note_of(key, number, op)?)?;
     }
     Ok(notes)
-}
-
-/// Makes room for the marks of the keys of these entries, which stay what they are.
-pub(crate) fn reserve_notes(
-    marks: &mut BTreeMap<UserKey, Mark>,
-    notes: &[Note],
-) -> Result<(), AllocError>
-    ensures same { (q : Bytes) → mark_of marks.new q ≡ mark_of marks.old q }
-    ensures there { OnOk result (HasRoom marks.new notes.now) }
-{
-    for note in notes {
-        reserve_mark(marks, &note.entry.key.user_key)?;
-    }
-    Ok(())
 }
 
 /// Notes these writes in the marks of their keys, for which there is room. All have this sequence number.

@@ -1,5 +1,5 @@
 // What a call came to, appended to a journal and to a pass.
-ghost use Rattle.std.specs.Prelude.{◌≡◌, ◌+◌, ◌≤◌, IfOk, OnOk, fold, length, take, vec_len, vec_capacity};
+ghost use Rattle.std.specs.Prelude.{◌≡◌, ◌+◌, ◌≤◌, IfOk, fold, length, take, vec_len, vec_capacity};
 ghost use Rattle.lsm_model.specs.Journal.{floor_after};
 ghost use Rattle.lsm_recorded.specs.Passes.{Notes};
 

@@ -17,19 +17,17 @@ ghost use Rattle.lsm_files.specs.Stored.{IsStored, Leaves};
 ghost use Rattle.lsm_state.specs.Held.{first_entries};
 ghost use Rattle.lsm_state.specs.Kept.{IsKeptTree};
 ghost use Rattle.lsm_state.specs.Core.{state_of};
-ghost use Rattle.lsm_state.specs.Calls.{Appends, WritesBatch, Gives, Rotates};
+ghost use Rattle.lsm_state.specs.Calls.{Appends, WritesBatch, Gives, IsGetStep, RefusesRead, Rotates};
 ghost use Rattle.lsm_state.specs.Commits.{Upholds};
-ghost use Rattle.std.specs.List.{list_all};
-ghost use Rattle.lsm_recorded.specs.Marks.{mark_of, op_type, op_allowed};
 ghost use Rattle.lsm_recorded.specs.Order.{keeps_order, batch_keeps_order};
 ghost use Rattle.lsm_recorded.specs.Passes.{Notes};
 ghost use Rattle.lsm_recorded.specs.Closing.{ListTogether};
 
 use crate::closing::list_together;
-use crate::marks::{Mark, is_allowed, mark_write, read_mark, reserve_mark};
-use crate::notes::{make_note, make_notes, mark_notes, put_notes, reserve_notes};
-use crate::pass::{Pass, make_room, note_entry, put_entry};
-use lsm_below::{InternalValue, MemtableId, SeqNo, UserKey, UserValue, ValueType, share};
+use crate::marks::{Mark, share_marked};
+use crate::pass::{Pass, note_entry};
+use crate::writes::{append_marked, write_marked};
+use lsm_below::{InternalValue, MemtableId, SeqNo, UserKey, UserValue, ValueType};
 use lsm_files::crashes_leave_versions;
 use lsm_journal::{copy_journal, read_entry};
 use lsm_model::{Answer, JournalEntry, Op, Question, reads_are_sound};
@@ -43,9 +41,10 @@ use std::marker::Model;
 /// A tree with the journal of its calls, a history in memory that its answers are proved against. It is no
 /// write-ahead log: nothing of it is stored.
 ///
-/// The journal grows with every write and every answered read and is never cut: by an entry for each, and for a range
-/// by a list of its pairs. Keys and values share their bytes with the tree. A write costs what the tree's own costs and
-/// a look-up in the marks of all keys written so far, which is logarithmic in their number; a read what the tree's costs.
+/// The journal grows with every write and every answered read and is never cut: by some 160 bytes for each, and for a
+/// range by a list of its pairs. Keys and values share their bytes with the tree, also the key of a `get`, if it was ever
+/// written. A write costs what the tree's own costs and a look-up in the marks of all keys written so far, which is logarithmic
+/// in their number; a batch of several takes two for each of its writes, a `get` one where it finds no value, a range none.
 ///
 /// # Examples
 ///
@@ -90,43 +89,22 @@ impl<S: Store> Model for Recorded<S> {
     ghost invariant = { λ r. IsRecorded (placed_of r.opened.levels) r.least r.marks r.floor r.core.core r.journal.items };
 }
 
-/// Whether writes under this sequence number keep the order of their keys, and of installs and clears.
-fn all_allowed(
+/// What a get finds, as `TreeState::get`, behind its key, which shares the bytes of the entry that is found, or else those of
+/// the key that is marked: so a journal keeps no bytes of its own for each read of a key.
+fn find<S: Store>(
+    core: &TreeState<S>,
     marks: &BTreeMap<UserKey, Mark>,
-    floor: SeqNo,
-    number: SeqNo,
-    ops: &[(UserKey, Op)],
-) -> bool
-    ensures { result ≡ list_all (op_allowed (mark_of marks.now) floor number) ops.now }
-{
-    for (key, op) in ops {
-        if !is_op_allowed(marks, floor, number, key, op) {
-            return false;
-        }
-    }
-    true
-}
-
-fn is_op_allowed(
-    marks: &BTreeMap<UserKey, Mark>,
-    floor: SeqNo,
-    number: SeqNo,
     key: &UserKey,
-    op: &Op,
-) -> bool
-    ensures { result ≡ op_allowed (mark_of marks.now) floor number (key.now, op.now) }
+    snapshot: SeqNo,
+) -> Result<(UserKey, Option<UserValue>), Error>
+    ensures key { IfOk result (λ found. found.0 ≡ key.now) }
+    ensures value { IfOk result (λ found. Gives core.now.core key.now snapshot found.1) }
+    ensures step { IfOk result (λ found. IsGetStep core.now.core key.now snapshot found.1) }
+    ensures refuses { RefusesRead core.now.core snapshot result }
 {
-    floor <= number && is_allowed(read_mark(marks, key), number, type_of(op))
-}
-
-/// The type of the entry that a write makes.
-fn type_of(op: &Op) -> ValueType
-    ensures { result ≡ op_type op.now }
-{
-    match op {
-        Op::Set(_) => ValueType::Value,
-        Op::Del => ValueType::Tombstone,
-        Op::Weak => ValueType::WeakTombstone,
+    match core.get_internal_entry(key.as_slice(), snapshot)? {
+        Some(entry) => Ok((entry.key.user_key, Some(entry.value))),
+        None => Ok((share_marked(marks, key)?, None)),
     }
 }
 
@@ -190,8 +168,8 @@ impl<S: Store> Recorded<S> {
         if snapshot < self.least {
             return Err(Error::OutOfOrder);
         }
-        let value = self.core.get(key.as_slice(), snapshot)?;
-        let entry = read_entry(snapshot, key, &value)?;
+        let (shared, value) = find(&self.core, &self.marks, key, snapshot)?;
+        let entry = read_entry(snapshot, shared, &value)?;
         note_entry(self.alloc, &mut self.journal, &mut pass.entries, entry)?;
         Ok(value)
     }
@@ -231,22 +209,14 @@ impl<S: Store> Recorded<S> {
         ensures opened { self.new.opened ≡ self.old.opened }
     {
         reads_are_sound();
-        if !self.keeps_order(&entry) {
-            return Err(Error::OutOfOrder);
-        }
-        let entry = entry.into_plain();
-        let note = make_note(&entry)?;
-        make_room(&mut self.journal, &mut pass.entries, 1)?;
-        reserve_mark(&mut self.marks, &note.entry.key.user_key)?;
-        let sizes = self.core.append_entry(entry)?;
-        mark_write(&mut self.marks, &note.entry);
-        put_entry(
+        append_marked(
+            &mut self.core,
+            &mut self.marks,
+            self.floor,
             &mut self.journal,
             &mut pass.entries,
-            JournalEntry::Write(note.entry),
-            JournalEntry::Write(note.copy),
-        );
-        Ok(sizes)
+            entry.into_plain(),
+        )
     }
 
     /// Sets a key under a sequence number, as `append_entry`.
@@ -314,17 +284,15 @@ impl<S: Store> Recorded<S> {
         ensures opened { self.new.opened ≡ self.old.opened }
     {
         reads_are_sound();
-        let number = self.core.seqno().get();
-        if !self.batch_keeps_order(number, &ops) {
-            return Err(Error::OutOfOrder);
-        }
-        let notes = make_notes(self.alloc, number, &ops)?;
-        make_room(&mut self.journal, &mut pass.entries, notes.len())?;
-        reserve_notes(&mut self.marks, &notes)?;
-        let number = self.core.write(ops)?;
-        mark_notes(&mut self.marks, number, &notes);
-        put_notes(&mut self.journal, &mut pass.entries, notes);
-        Ok(number)
+        write_marked(
+            &mut self.core,
+            &mut self.marks,
+            self.floor,
+            &mut self.journal,
+            &mut pass.entries,
+            self.alloc,
+            ops,
+        )
     }
 
     /// A copy of the journal, where the passes together list it: each of its places once, with the entry there,
@@ -352,25 +320,6 @@ impl<S: Store> Recorded<S> {
         }
         let journal = copy_journal(self.alloc, &self.journal)?;
         Ok(Some(journal))
-    }
-
-    /// Whether each write of a batch under this sequence number, the counter's, keeps the order of the journal.
-    fn batch_keeps_order(&self, number: SeqNo, ops: &[(UserKey, Op)]) -> bool
-        requires { number ≡ self.now.tree.core.seqno }
-        ensures { result ≡ batch_keeps_order (held self.now.opened) self.now.journal number ops.now }
-    {
-        all_allowed(&self.marks, self.floor, number, ops)
-    }
-
-    /// Whether a write of this entry keeps the order of the journal.
-    fn keeps_order(&self, entry: &InternalValue) -> bool
-        ensures is { result ≡ keeps_order (held self.now.opened) self.now.journal self.now.tree.core.seqno entry.now }
-        ensures fits { IsTrue result → entry.now.key.seqno + 1 < 2 ^ 64 }
-    {
-        let number = entry.key.seqno;
-        let is_in_time = self.floor <= number && number < self.core.seqno().get();
-        let mark = read_mark(&self.marks, &entry.key.user_key);
-        is_in_time && is_allowed(mark, number, entry.key.value_type)
     }
 
     /// Of files to which nothing is done, a crash leaves what they hold.

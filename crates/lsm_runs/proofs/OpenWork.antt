@@ -19,7 +19,7 @@ use Rattle.lsm_state.specs.WholeFlushes.{Flushes}
 use Rattle.lsm_runs.specs.declared.steps.Counter.{Counter}
 use Rattle.lsm_runs.specs.declared.steps.Counter.TheVariants.{Seqno, Visible}
 use Rattle.lsm_runs.specs.declared.steps.Step.{Step}
-use Rattle.lsm_runs.specs.declared.steps.Step.TheVariants.{Insert, Remove, RemoveWeak, AppendEntry, Write, Get, GetInternalEntry, ContainsKey, SizeOf, Range, Iter, Prefix, Len, IsEmpty, FirstKeyValue, LastKeyValue, RotateMemtable, Next, Set, FetchMax, AtSlot, Flush, FlushActiveMemtable, Compact, DoCompaction, MajorCompact, DropRange, Clear, ClearActiveMemtable, GetNextTableId, SetMoment, Count as CountOf, IsUncertain, IsCompacting}
+use Rattle.lsm_runs.specs.declared.steps.Step.TheVariants.{Insert, Remove, RemoveWeak, AppendEntry, Write, Get, GetInternalEntry, ContainsKey, SizeOf, Range, Iter, Prefix, Len, IsEmpty, FirstKeyValue, LastKeyValue, RotateMemtable, Next, Set, FetchMax, AtSlot, Flush, FlushActiveMemtable, Compact, DoCompaction, MajorCompact, DropRange, Clear, ClearActiveMemtable, GetNextTableId, SetMoment, Count as CountOf, IsUncertain, IsCompacting, TreeType}
 use Rattle.lsm_runs.specs.declared.steps.Reply.{Reply}
 use Rattle.lsm_runs.specs.declared.steps.Reply.TheVariants.{Value, Entry as EntryOf, Pairs, Sizes, Number, Sealed, Done, Flushed, FlushedActive, RefusedActive, NoStrategy, Refused}
 use Rattle.lsm_runs.specs.ReadSteps.{TakesGet, TakesGetEntry, TakesPairs}
@@ -157,4 +157,5 @@ alone_work strategies IsCompacting reply events old new below t = all_kept old n
 alone_work strategies (SetMoment n) reply events old new below t = all_kept old new (moment_work n reply events old new t)
 alone_work strategies (CountOf what) reply events old new below t = all_kept old new (kept_by old old new t.1 (refl, refl))
 alone_work strategies IsUncertain reply events old new below t = all_kept old new (kept_by old old new t.1 (refl, refl))
+alone_work strategies TreeType reply events old new below t = all_kept old new (kept_by old old new t.1 (refl, refl))
 alone_work strategies (AtSlot slot step) reply events old new below t = absurd t

@@ -21,7 +21,7 @@ use Rattle.lsm_noted.specs.NotedReads.{NotedCompactionsKeepReads}
 use Rattle.lsm_runs.specs.declared.steps.Counter.{Counter}
 use Rattle.lsm_runs.specs.declared.steps.Counter.TheVariants.{Seqno, Visible}
 use Rattle.lsm_runs.specs.declared.steps.Step.{Step as Call}
-use Rattle.lsm_runs.specs.declared.steps.Step.TheVariants.{Insert, Remove, RemoveWeak, AppendEntry, Write, Get, GetInternalEntry, ContainsKey, SizeOf, Range, Iter, Prefix, Len, IsEmpty, FirstKeyValue, LastKeyValue, RotateMemtable, Next, Set, FetchMax, AtSlot, Flush, FlushActiveMemtable, Compact, DoCompaction, MajorCompact, DropRange, Clear, ClearActiveMemtable, GetNextTableId, SetMoment, Count as CountOf, IsUncertain, IsCompacting}
+use Rattle.lsm_runs.specs.declared.steps.Step.TheVariants.{Insert, Remove, RemoveWeak, AppendEntry, Write, Get, GetInternalEntry, ContainsKey, SizeOf, Range, Iter, Prefix, Len, IsEmpty, FirstKeyValue, LastKeyValue, RotateMemtable, Next, Set, FetchMax, AtSlot, Flush, FlushActiveMemtable, Compact, DoCompaction, MajorCompact, DropRange, Clear, ClearActiveMemtable, GetNextTableId, SetMoment, Count as CountOf, IsUncertain, IsCompacting, TreeType}
 use Rattle.lsm_runs.specs.declared.steps.Reply.{Reply}
 use Rattle.lsm_runs.specs.declared.steps.Reply.TheVariants.{Sizes, Number, Sealed, Done, Refused}
 use Rattle.lsm_state.specs.Listing.{Lists, ListsPrefix}
@@ -118,6 +118,7 @@ alone_sound laws strategies opened start IsCompacting reply journal events old n
 alone_sound laws strategies opened start (SetMoment n) reply journal events old new t plain order h = kept_sound opened start journal events old new (flush_after journal events old new (moment_keeps laws.theory laws.flushes n reply events old new t)) order h
 alone_sound laws strategies opened start (CountOf what) reply journal events old new t plain order h = same opened start journal events old new t.0 t.1 h
 alone_sound laws strategies opened start IsUncertain reply journal events old new t plain order h = same opened start journal events old new t.0 t.1 h
+alone_sound laws strategies opened start TreeType reply journal events old new t plain order h = same opened start journal events old new t.0 t.1 h
 alone_sound laws strategies opened start (AtSlot slot step) reply journal events old new t plain order h = absurd t
 
 pub takes_sound : (laws : KeepLaws) (strategies : Strategies) (opened : List Entry) (start : Map) (x : Call) (reply : Reply) (journal events : List Event) (old new : Stage) → Takes strategies x reply events old new → (x ≡ ClearActiveMemtable → ⊥) → AreMarked journal old.jobs → InOrder opened (journal ++ events) → Sound opened start journal old.core → Sound opened start (journal ++ events) new.core

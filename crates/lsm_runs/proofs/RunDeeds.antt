@@ -11,7 +11,7 @@ use Rattle.lsm_runs.specs.declared.slots.Job.{Job}
 use Rattle.lsm_runs.specs.declared.steps.JobStep.{JobStep}
 use Rattle.lsm_runs.specs.declared.steps.JobStep.TheVariants.{BeginFlush, RunFlush, FlushToTables, RegisterTables, AbandonFlush, BeginCompaction, RunCompaction, FinishCompaction, AbandonCompaction}
 use Rattle.lsm_runs.specs.declared.steps.Step.{Step as Call}
-use Rattle.lsm_runs.specs.declared.steps.Step.TheVariants.{Insert, Remove, RemoveWeak, AppendEntry, Write, Get, GetInternalEntry, ContainsKey, SizeOf, Range, Iter, Prefix, Len, IsEmpty, FirstKeyValue, LastKeyValue, RotateMemtable, Next, Set, FetchMax, AtSlot, Flush, FlushActiveMemtable, Compact, DoCompaction, MajorCompact, DropRange, Clear, ClearActiveMemtable, GetNextTableId, SetMoment, Count as CountOf, IsUncertain, IsCompacting}
+use Rattle.lsm_runs.specs.declared.steps.Step.TheVariants.{Insert, Remove, RemoveWeak, AppendEntry, Write, Get, GetInternalEntry, ContainsKey, SizeOf, Range, Iter, Prefix, Len, IsEmpty, FirstKeyValue, LastKeyValue, RotateMemtable, Next, Set, FetchMax, AtSlot, Flush, FlushActiveMemtable, Compact, DoCompaction, MajorCompact, DropRange, Clear, ClearActiveMemtable, GetNextTableId, SetMoment, Count as CountOf, IsUncertain, IsCompacting, TreeType}
 use Rattle.lsm_runs.specs.declared.steps.Reply.{Reply}
 use Rattle.lsm_runs.specs.Compacting.{Strategies}
 use Rattle.lsm_runs.specs.JobSteps.{TakesJob}
@@ -96,6 +96,7 @@ module _ (laws : KeepLaws) (strategies : Strategies) (opened : List Entry) (star
     alone_deeds (SetMoment n) reply events plain order t = all events [] (moment_keeps laws.theory laws.flushes n reply events old new t).0 (moment_deeds laws.theory opened start before notes old new right n reply events t)
     alone_deeds (CountOf what) reply events plain order t = none laws.theory opened start before notes old new right events t.0 t.1
     alone_deeds IsUncertain reply events plain order t = none laws.theory opened start before notes old new right events t.0 t.1
+    alone_deeds TreeType reply events plain order t = none laws.theory opened start before notes old new right events t.0 t.1
     alone_deeds (AtSlot slot step) reply events plain order t = absurd t
 
   step_marked : (place : Option Job) → IsMarkedAt journal place → IsMarkedAt before place

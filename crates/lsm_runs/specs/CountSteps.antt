@@ -5,13 +5,14 @@ use Rattle.lsm_below.specs.Sums.{capped}
 use Rattle.lsm_tables.specs.Tables.{tombstones, weak_tombstones, reclaimable}
 use Rattle.lsm_memtable.specs.Memtables.{highest_of}
 use Rattle.lsm_versions.specs.Levels.{bytes_of}
+use Rattle.lsm_versions.specs.declared.version.TreeType.TheVariants.{Standard}
 use Rattle.lsm_parts.specs.History.{named_size}
 use Rattle.lsm_state.specs.Core.{Core}
 use Rattle.lsm_state.specs.Counts.{tables_now, persisted_of, unflushed_of, counted_now}
 use Rattle.lsm_runs.specs.declared.steps.Count.{Count}
 use Rattle.lsm_runs.specs.declared.steps.Count.TheVariants.{TableCount, L0RunCount, LevelTableCount, SealedMemtableCount, VersionFreeListLen, ApproximateLen, DiskSpace, TombstoneCount, WeakTombstoneCount, WeakTombstoneReclaimableCount, VersionMemtableSizeSum, HighestPersistedSeqno, HighestMemtableSeqno, HighestSeqno, Id, NextTableId, Moment}
 use Rattle.lsm_runs.specs.declared.steps.Reply.{Reply}
-use Rattle.lsm_runs.specs.declared.steps.Reply.TheVariants.{Counted, Truth}
+use Rattle.lsm_runs.specs.declared.steps.Reply.TheVariants.{Counted, Truth, Kind}
 
 -- each of these numbers
 abbrev pub count_of : Count → Core → Option ℕ
@@ -42,3 +43,8 @@ IsCounted what c reply = ⊥
 abbrev pub IsUncertainReply : Core → Reply → Type 0
 IsUncertainReply c (Truth b) = b ≡ is_some c.lost
 IsUncertainReply c reply = ⊥
+
+-- what kind of tree it is: always a standard one
+abbrev pub IsKindReply : Reply → Type 0
+IsKindReply (Kind kind) = kind ≡ Standard
+IsKindReply reply = ⊥

@@ -1,7 +1,7 @@
 -- A tree from its opening on, and what a crash leaves of it.
 use Rattle.std.specs.Prelude.{ℕ, List, []}
 use Rattle.lsm_below.specs.Entries.{Entry}
-use Rattle.lsm_store.specs.World.{Image, World, LeavesOnly}
+use Rattle.lsm_store.specs.World.{World, LeavesOnly}
 use Rattle.lsm_model.specs.Journal.{Event, Map, InOrder}
 use Rattle.lsm_model.specs.Views.{held}
 use Rattle.lsm_model.specs.Beginnings.{Note, IsBeginning, covered}

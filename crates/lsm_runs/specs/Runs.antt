@@ -22,11 +22,11 @@ use Rattle.lsm_state.specs.WholeCompactions.{options_at}
 use Rattle.lsm_runs.specs.declared.steps.Counter.{Counter}
 use Rattle.lsm_runs.specs.declared.steps.Counter.TheVariants.{Seqno, Visible}
 use Rattle.lsm_runs.specs.declared.steps.Step.{Step}
-use Rattle.lsm_runs.specs.declared.steps.Step.TheVariants.{Insert, Remove, RemoveWeak, AppendEntry, Write, Get, GetInternalEntry, ContainsKey, SizeOf, Range, Iter, Prefix, Len, IsEmpty, FirstKeyValue, LastKeyValue, RotateMemtable, Next, Set, FetchMax, AtSlot, Flush, FlushActiveMemtable, Compact, DoCompaction, MajorCompact, DropRange, Clear, ClearActiveMemtable, GetNextTableId, SetMoment, Count as CountOf, IsUncertain, IsCompacting}
+use Rattle.lsm_runs.specs.declared.steps.Step.TheVariants.{Insert, Remove, RemoveWeak, AppendEntry, Write, Get, GetInternalEntry, ContainsKey, SizeOf, Range, Iter, Prefix, Len, IsEmpty, FirstKeyValue, LastKeyValue, RotateMemtable, Next, Set, FetchMax, AtSlot, Flush, FlushActiveMemtable, Compact, DoCompaction, MajorCompact, DropRange, Clear, ClearActiveMemtable, GetNextTableId, SetMoment, Count as CountOf, IsUncertain, IsCompacting, TreeType}
 use Rattle.lsm_runs.specs.declared.steps.Reply.{Reply}
 use Rattle.lsm_runs.specs.declared.steps.Reply.TheVariants.{Sizes, Number, Sealed, Done, Refused}
 use Rattle.lsm_runs.specs.ReadSteps.{TakesGet, TakesGetEntry, TakesSilent, IsContainsReply, IsSizeReply, TakesRange, TakesPrefix, IsLenReply, IsEmptyReply, IsEndReply, GetAnswers, GetEntryAnswers, ContainsAnswers, SizeAnswers, PairsAnswer, LenAnswers, EmptyAnswers, EndAnswers}
-use Rattle.lsm_runs.specs.CountSteps.{IsCounted, IsUncertainReply}
+use Rattle.lsm_runs.specs.CountSteps.{IsCounted, IsUncertainReply, IsKindReply}
 use Rattle.lsm_runs.specs.Flushing.{TakesFlush, TakesFlushActive, TakesMoment}
 use Rattle.lsm_runs.specs.Compacting.{Strategies, TakesCompact, TakesMajor, TakesDropRange, TakesTableId, IsCompactingReply}
 use Rattle.lsm_runs.specs.Clearing.{TakesClear, TakesForget}
@@ -110,6 +110,7 @@ TakesAlone strategies (SetMoment n) reply events old new = TakesMoment n reply e
 TakesAlone strategies (CountOf what) reply events old new = TakesSilent (IsCounted what old) reply events old new
 TakesAlone strategies IsUncertain reply events old new = TakesSilent (IsUncertainReply old) reply events old new
 TakesAlone strategies IsCompacting reply events old new = TakesSilent (IsCompactingReply old) reply events old new
+TakesAlone strategies TreeType reply events old new = TakesSilent IsKindReply reply events old new
 TakesAlone strategies (AtSlot slot step) reply events old new = ⊥
 
 -- what a step may answer, add to the journal and do: one that needs no slot leaves all of them

@@ -221,7 +221,7 @@ fn get<S: Store>(
 {
     match state.get(key.as_slice(), snapshot) {
         Ok(value) => {
-            let read = read_entry(snapshot, key, &value)?;
+            let read = read_entry(snapshot, share(key)?, &value)?;
             let entries = one_entry(alloc, read)?;
             Ok(Outcome {
                 reply: Reply::Value(value),
@@ -338,6 +338,7 @@ fn take_step<S: Store>(
         Step::Count(what) => Ok(counts::count(alloc, state, *what)),
         Step::IsUncertain => Ok(counts::is_uncertain(alloc, state)),
         Step::IsCompacting => Ok(compactions::is_compacting(alloc, state)),
+        Step::TreeType => Ok(counts::tree_type(alloc, state)),
     }
 }
 

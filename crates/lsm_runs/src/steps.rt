@@ -8,6 +8,7 @@ use lsm_jobs::Registered;
 use lsm_model::{JournalEntry, KvPairs, Ops};
 use lsm_parts::Error;
 use lsm_state::{Finished, Options};
+use lsm_versions::TreeType;
 use std::marker::Model;
 use std::ops::Bound;
 
@@ -153,6 +154,8 @@ pub enum Step {
     IsUncertain,
     /// Asks whether an open merge works on a table.
     IsCompacting,
+    /// Asks what kind of tree it is.
+    TreeType,
 }
 
 /// What became of a compaction that was to be begun, or done in one call.
@@ -183,6 +186,8 @@ pub enum Reply {
     Entry(Option<InternalValue>),
     /// Of a question that is yes or no: whether it is so.
     Truth(bool),
+    /// Of the question what kind of tree it is: the kind.
+    Kind(TreeType),
     /// Of a read of a value's size: its bytes, or None where the key has no value.
     Size(Option<u32>),
     /// Of a read of many keys: the pairs by rising key.

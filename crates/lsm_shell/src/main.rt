@@ -1,7 +1,8 @@
 //! A shell over a versioned tree: it reads lines, asks the tree, and prints the answers (`lsm_shell_parts`).
 #![tactic(auto)]
 
-use lsm_shell_parts::run_shell;
+use lsm_shell_parts::{Console, run_shell};
+use std::io::IsTerminal;
 use std::process::ExitCode;
 use std::rt::Env;
 use std::{env, io};
@@ -13,7 +14,13 @@ fn main(rt: HostRuntime) -> ExitCode {
         Err(_) => return ExitCode::FAILURE,
     };
     let words = arguments.as_ref().map(|words| words.as_slice());
-    let status = run_shell(&rt, rt.alloc(), words, rt.stdin(), rt.stdout(), rt.stderr());
+    let console = Console {
+        is_terminal: rt.stdin().is_terminal(),
+        input: rt.stdin(),
+        output: rt.stdout(),
+        errors: rt.stderr(),
+    };
+    let status = run_shell(&rt, rt.alloc(), words, console);
     ExitCode::from(status)
 }
 

@@ -7,19 +7,24 @@
 //! | `bounds` | the bounds and prefixes that words give |
 //! | `command` | what a line asks |
 //! | `reply` | what is printed for a line |
+//! | `cause` | why a store failed, or which file is damaged |
 //! | `session` | a tree that answers commands |
 //! | `arguments` | what the program's arguments ask |
+//! | `console` | where lines come from, and where answers and hints go |
 //! | `threads` | callers in threads of their own, on one tree |
 //! | `shell` | the run from the first line to the last |
 #![tactic(auto)]
 
 mod arguments;
 mod bounds;
+mod cause;
 mod command;
+mod console;
 mod reply;
 mod session;
 mod shell;
 mod threads;
 mod word;
 
+pub use console::Console;
 pub use shell::run_shell;

@@ -1,33 +1,11 @@
 // A tree that answers commands.
+use crate::cause::{Refusal, SessionStore, cause_of, fault_of};
 use crate::command::{Command, Plan, parse};
 use crate::reply::{Reply, Stats};
 use lsm_below::{SeqNo, UserKey};
-use lsm_tree::{
-    Begun, Config, Error, Fifo, FolderStore, Leveled, MemStore, Op, OwnedBounds, Pass, Recorded,
-    Store,
-};
-use std::alloc::{AllocError, Global};
-use std::fs::Files;
+use lsm_tree::{Begun, Config, Error, Fifo, Leveled, Op, OwnedBounds, Pass, Recorded, Store};
+use std::alloc::Global;
 use std::ops::Bound;
-
-/// A store that a session may crash.
-pub trait CrashStore: Store {
-    /// What a crash at this moment leaves, where all that isn't synced and all that was removed is absent. None of a store
-    /// that can't be crashed.
-    fn crashed(&self) -> Result<Option<Self>, AllocError>;
-}
-
-impl CrashStore for MemStore {
-    fn crashed(&self) -> Result<Option<MemStore>, AllocError> {
-        self.crash(&[])
-    }
-}
-
-impl<P: Files + Alloc + Clone + Drop> CrashStore for FolderStore<P> {
-    fn crashed(&self) -> Result<Option<FolderStore<P>>, AllocError> {
-        Ok(None)
-    }
-}
 
 /// The tree that a store holds, or a new one. Its counters stand above each sequence number that the store holds. Refused,
 /// the store comes back beside the error.
@@ -48,26 +26,57 @@ pub struct Session<S: Store> {
     alloc: Global,
     /// None only while the tree is opened again.
     stage: Option<Stage<S>>,
+    /// Why the last opening was refused, until it is told.
+    cause: Option<String>,
 }
 
-impl<S: CrashStore> Session<S> {
+impl<S: SessionStore> Session<S> {
     /// A session over the tree that a store holds, or a new one.
-    pub fn open(alloc: Global, store: S) -> Result<Session<S>, Error> {
+    pub fn open(alloc: Global, store: S) -> Result<Session<S>, Refusal> {
         match open_tree(alloc, store) {
             Ok(tree) => Ok(Session {
                 alloc,
                 stage: Some(Stage::Open(tree)),
+                cause: None,
             }),
-            Err((error, _)) => Err(error),
+            Err((error, mut store)) => {
+                let cause = cause_of(alloc, &mut store, &error);
+                Err(Refusal { error, cause })
+            }
         }
     }
 
-    /// Does what the line asks, and says what came of it.
-    pub fn answer(&mut self, line: &[u8]) -> Reply {
-        match parse(self.alloc, line) {
+    /// Does what the line asks, and says what came of it. Where a call of the store failed meanwhile, or the tree couldn't
+    /// be opened again, the second says why.
+    pub fn answer(&mut self, line: &[u8]) -> (Reply, Option<String>) {
+        let failures = self.failures();
+        let reply = match parse(self.alloc, line) {
             Ok(Some(command)) => self.run(command).unwrap_or_else(Reply::Refused),
             Ok(None) => Reply::Usage,
             Err(_) => Reply::Refused(Error::OutOfMemory),
+        };
+        let cause = match self.cause.take() {
+            Some(cause) => Some(cause),
+            None if self.failures() > failures => {
+                self.store().and_then(|store| fault_of(self.alloc, store))
+            }
+            None => None,
+        };
+        (reply, cause)
+    }
+
+    fn store(&self) -> Option<&S> {
+        match &self.stage {
+            Some(Stage::Open(tree)) => Some(tree.store()),
+            Some(Stage::Closed(store)) => Some(store),
+            None => None,
+        }
+    }
+
+    fn failures(&self) -> u64 {
+        match self.store() {
+            Some(store) => store.failures(),
+            None => 0,
         }
     }
 
@@ -95,7 +104,8 @@ impl<S: CrashStore> Session<S> {
                 self.stage = Some(Stage::Open(tree));
                 Ok(Reply::Opened(tables))
             }
-            Err((error, store)) => {
+            Err((error, mut store)) => {
+                self.cause = cause_of(self.alloc, &mut store, &error);
                 self.stage = Some(Stage::Closed(store));
                 Err(error)
             }

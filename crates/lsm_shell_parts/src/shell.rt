@@ -4,12 +4,14 @@ ghost use Rattle.std.specs.Io.BufRead.{first_piece, DropsThrough};
 ghost use Rattle.std.specs.Io.KnownBytes.{IsAtEnd};
 
 use crate::arguments::{Mode, parse_arguments};
+use crate::cause::{Refusal, SessionStore};
+use crate::console::Console;
 use crate::reply::Reply;
-use crate::session::{CrashStore, Session};
+use crate::session::Session;
 use crate::threads::call_all;
 use lsm_tree::{Error, FolderStore, MemStore, StoreError};
 use std::alloc::Global;
-use std::fs::Files;
+use std::fs::{File, Files};
 use std::io::{self, BufRead, BufReader, BufWriter, ErrorKind, Read, Write};
 use std::sync::Wait;
 use std::thread::Threads;
@@ -27,59 +29,73 @@ const USAGE: u8 = 2;
 /// or where the tree can't be opened, which it prints. With `threads N` it starts N callers on one tree: 0 where each
 /// read what it wrote, else 1. With any other arguments, 2; `arguments` is None where one of them is no text.
 ///
+/// Beside the answers it writes to the errors why a call of the store failed, and which file keeps a folder from being
+/// opened.
+///
 /// Where a line finds no memory, its answer says so, and the run goes on with the next line. Where
 /// the buffers of the input or the output find none, the status is 1.
 pub fn run_shell<P, R, W, E>(
     rt: &P,
     alloc: Global,
     arguments: Option<&[String]>,
-    input: R,
-    output: W,
-    mut errors: E,
+    mut console: Console<R, W, E>,
 ) -> u8
 where
-    P: Threads + Wait + Sync + Files + Alloc + Clone + Drop,
+    P: Threads + Wait + Sync + Files<File = File> + Alloc + Clone + Drop,
     R: Read + Drop,
     W: Write + Drop,
     E: Write + Drop,
 {
     let Some(mode) = arguments.and_then(parse_arguments) else {
-        // Nothing is left to be told where even this line can't be written.
-        let _ = errors.write_all(b"usage: lsm_shell [FOLDER | threads N]\n");
+        console.tell("usage: lsm_shell [FOLDER | threads N]");
         return USAGE;
     };
     let told = match mode {
         Mode::Memory => {
             let opened = Session::open(alloc, MemStore::new(alloc));
-            answer_lines(alloc, opened, input, output)
+            answer_lines(alloc, opened, console)
         }
         Mode::Folder(folder) => {
             let opened = open_folder(rt, alloc, folder);
-            answer_lines(alloc, opened, input, output)
+            answer_lines(alloc, opened, console)
         }
-        Mode::Threads(callers) => report_callers(rt, alloc, callers, output),
+        Mode::Threads(callers) => report_callers(rt, alloc, callers, console),
     };
     told.unwrap_or(FAULT)
 }
 
 /// A session over the tree of a folder, which is made where it is absent.
-fn open_folder<P>(rt: &P, alloc: Global, folder: &str) -> Result<Session<FolderStore<P>>, Error>
+fn open_folder<P>(rt: &P, alloc: Global, folder: &str) -> Result<Session<FolderStore<P>>, Refusal>
 where
-    P: Files + Alloc + Clone + Drop,
+    P: Files<File = File> + Alloc + Clone + Drop,
 {
     match FolderStore::new(rt, alloc, folder) {
         Ok(store) => Session::open(alloc, store),
-        Err(StoreError::OutOfMemory) => Err(Error::OutOfMemory),
-        Err(StoreError::Fault) => Err(Error::Store),
+        Err(fault) => {
+            let cause = format!(in alloc; "{fault}").ok();
+            let error = match StoreError::from(fault) {
+                StoreError::OutOfMemory => Error::OutOfMemory,
+                StoreError::Fault => Error::Store,
+            };
+            Err(Refusal { error, cause })
+        }
     }
 }
 
 /// Starts the callers, prints what came of it, and gives the status.
-fn report_callers<P, W>(rt: &P, alloc: Global, callers: u8, mut output: W) -> io::Result<u8>
+fn report_callers<P, R, W, E>(
+    rt: &P,
+    alloc: Global,
+    callers: u8,
+    mut console: Console<R, W, E>,
+) -> io::Result<u8>
 where
     P: Threads + Wait + Sync,
+    R: Read + Drop,
     W: Write + Drop,
+    E: Write + Drop,
 {
+    let output = &mut console.output;
     let status = match call_all(rt, alloc, callers) {
         Ok(Some(entries)) => {
             writeln!(output, "threads {callers} entries {entries} all equal")?;
@@ -95,42 +111,45 @@ where
 }
 
 /// Answers lines from what was opened, or says why nothing was.
-fn answer_lines<S, R, W>(
+fn answer_lines<S, R, W, E>(
     alloc: Global,
-    opened: Result<Session<S>, Error>,
-    input: R,
-    output: W,
+    opened: Result<Session<S>, Refusal>,
+    mut console: Console<R, W, E>,
 ) -> io::Result<u8>
 where
-    S: CrashStore,
+    S: SessionStore,
     R: Read + Drop,
     W: Write + Drop,
+    E: Write + Drop,
 {
-    let mut output = BufWriter::new(alloc, output)?;
     match opened {
         Ok(mut session) => {
-            answer_each(alloc, &mut session, input, &mut output)?;
+            answer_each(alloc, &mut session, console)?;
             Ok(SUCCESS)
         }
-        Err(error) => {
-            Reply::Refused(error).write_to(&mut output)?;
+        Err(refusal) => {
+            console.tell_refusal(&refusal);
+            let mut output = console.output;
+            Reply::Refused(refusal.error).write_to(&mut output)?;
             output.flush()?;
             Ok(FAULT)
         }
     }
 }
 
-fn answer_each<S, R, W>(
+fn answer_each<S, R, W, E>(
     alloc: Global,
     session: &mut Session<S>,
-    input: R,
-    output: &mut BufWriter<W>,
+    console: Console<R, W, E>,
 ) -> io::Result<()>
 where
-    S: CrashStore,
+    S: SessionStore,
     R: Read + Drop,
     W: Write + Drop,
+    E: Write + Drop,
 {
+    let (input, output, mut errors) = console.into_parts();
+    let mut output = BufWriter::new(alloc, output)?;
     let mut input = BufReader::new(alloc, input)?;
     let mut line = Vec::new(alloc);
     for _ in 0..u64::MAX {
@@ -139,18 +158,19 @@ where
         if !input.buffer().contains(&b'\n') {
             output.flush()?;
         }
-        let reply = match read_line(&mut input, &mut line) {
+        let (reply, cause) = match read_line(&mut input, &mut line) {
             Ok(true) => session.answer(line.as_slice()),
             Ok(false) => break,
             Err(error) if error.kind() == ErrorKind::OutOfMemory => {
                 // A short line after a long one may find memory once the long one's is given back.
                 line = Vec::new(alloc);
                 input.skip_until(b'\n')?;
-                Reply::Refused(Error::OutOfMemory)
+                (Reply::Refused(Error::OutOfMemory), None)
             }
             Err(error) => return Err(error),
         };
-        reply.write_to(output)?;
+        errors.tell_of(&reply, cause);
+        reply.write_to(&mut output)?;
     }
     output.flush()
 }

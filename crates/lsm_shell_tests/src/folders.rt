@@ -5,7 +5,7 @@ use lsm_tree::{
     Error, FolderStore, Store, StoreError, Table, Version, ids_are_own, is_run, persist_version,
 };
 use std::alloc::{AllocError, Global};
-use std::fs::{self, Files};
+use std::fs::{self, File, Files};
 use std::sync::Wait;
 use std::test::Fail;
 use std::thread::Threads;
@@ -44,50 +44,119 @@ fn fill(alloc: Global, store: &mut impl Store) -> Result<(), Error> {
     persist_version(alloc, store, &version_of_table(alloc)?)
 }
 
-/// Whether a run over a folder prints this for the input, and ends so.
+/// Whether a run over a folder prints this for the input, writes that to the errors, and ends so.
 fn answers_over<R>(
     rt: &R,
     alloc: Global,
     folder: &str,
-    told: (&[u8], u8),
+    told: (&[u8], &[u8], u8),
 ) -> Result<bool, AllocError>
 where
-    R: Threads + Wait + Sync + Files + Alloc + Clone + Drop,
+    R: Threads + Wait + Sync + Files<File = File> + Alloc + Clone + Drop,
 {
     let arguments = vec![in alloc; String::from_str(alloc, folder)?]?;
     let input = b"get a\nput b y\nrange - -\n".as_slice();
-    Ok(ends(rt, alloc, Some(&arguments), input, (told.0, b"", told.1)))
+    Ok(ends(rt, alloc, Some(&arguments), input, told))
+}
+
+/// A folder with the files of a tree of one table.
+fn filled<R>(rt: &R, alloc: Global, folder: &str) -> Result<FolderStore<R>, Fail>
+where
+    R: Files<File = File> + Alloc + Clone + Drop,
+{
+    let _ = fs::remove_dir_all(rt, folder);
+    let mut store = FolderStore::new(rt, alloc, folder)?;
+    fill(alloc, &mut store)?;
+    Ok(store)
 }
 
 #[test]
 fn a_folder_is_read_again(rt: HostRuntime) -> Result<(), Fail> {
     let alloc = rt.alloc();
-    let _ = fs::remove_dir_all(&rt, FOLDER);
-    let mut store = FolderStore::new(&rt, alloc, FOLDER)?;
-    let filled = fill(alloc, &mut store);
-    assert!(rt; filled.is_ok());
+    drop(filled(&rt, alloc, FOLDER)?);
     // What a session writes is not kept, so each prints the same.
     let read = b"value x\nok 1\na x\nb y\nend 2\n";
-    assert!(rt; answers_over(&rt, alloc, FOLDER, (read, 0))?);
-    assert!(rt; answers_over(&rt, alloc, FOLDER, (read, 0))?);
-    // What isn't a folder, and a folder of an older format.
-    assert!(rt;
-        answers_over(
-            &rt,
-            alloc,
-            "lsm_shell_test/current",
-            (b"error 2 Store\n", 1)
-        )?
-    );
+    assert!(rt; answers_over(&rt, alloc, FOLDER, (read, b"", 0))?);
+    assert!(rt; answers_over(&rt, alloc, FOLDER, (read, b"", 0))?);
     // A folder isn't crashed; what is flushed into it stays there.
     let arguments = vec![in alloc; String::from_str(alloc, FOLDER)?]?;
     let input = b"crash\nput b z\nflush 0\nreopen\nget b\n".as_slice();
     let told = b"error 0 Usage\nok 1\nflushed 50 installed\nopened 2\nvalue z\n";
     assert!(rt; ends(&rt, alloc, Some(&arguments), input, (told, b"", 0)));
-    store.write("version", b"2")?;
-    drop(store);
-    assert!(rt; answers_over(&rt, alloc, FOLDER, (b"error 5 InvalidVersion\n", 1))?);
     fs::remove_dir_all(&rt, FOLDER)?;
+    Ok(())
+}
+
+/// What is told of a folder that isn't opened: what isn't one, one that another session has open, and one of an older format.
+#[test]
+fn refused_folders_are_told(rt: HostRuntime) -> Result<(), Fail> {
+    let alloc = rt.alloc();
+    let folder = "lsm_shell_refused";
+    let store = filled(&rt, alloc, folder)?;
+    let failed = b"error 2 Store\n";
+    let owned = b"lsm_shell_refused: lock: another session has the folder open\n";
+    assert!(rt; answers_over(&rt, alloc, folder, (failed, owned, 1))?);
+    drop(store);
+    let file = b"lsm_shell_refused/current: make: Not a directory (os error 20)\n";
+    assert!(rt; answers_over(&rt, alloc, "lsm_shell_refused/current", (failed, file, 1))?);
+    fs::write(&rt, "lsm_shell_refused/version", b"2")?;
+    let (told, older) = (
+        b"error 5 InvalidVersion\n",
+        b"version: open: format byte 1\n",
+    );
+    assert!(rt; answers_over(&rt, alloc, folder, (told, older, 1))?);
+    fs::remove_file(&rt, "lsm_shell_refused/version")?;
+    fs::write(&rt, "lsm_shell_refused/tables/3", b"x")?;
+    let (told, damaged) = (
+        b"error 20 ChecksumMismatch\n",
+        b"tables/3: open: a checksum differs\n",
+    );
+    assert!(rt; answers_over(&rt, alloc, folder, (told, damaged, 1))?);
+    fs::remove_dir_all(&rt, folder)?;
+    Ok(())
+}
+
+/// Why a call of the store failed is written to the errors, and the answer stays what it is.
+#[test]
+fn causes_are_told(rt: HostRuntime) -> Result<(), Fail> {
+    let alloc = rt.alloc();
+    let folder = "lsm_shell_full";
+    drop(filled(&rt, alloc, folder)?);
+    // A device that is always full, under the name of the next table.
+    rt.symlink("/dev/full", "lsm_shell_full/tables/4")?;
+    let arguments = vec![in alloc; String::from_str(alloc, folder)?]?;
+    let input = b"put b y\nflush 0\nget b\nflush 0\n".as_slice();
+    let told = b"ok 1\nerror 2 Store\nvalue y\nflushed 50 installed\n";
+    let cause = b"tables/4: write: No space left on device (os error 28)\n";
+    assert!(rt; ends(&rt, alloc, Some(&arguments), input, (told, cause, 0)));
+    fs::remove_dir_all(&rt, folder)?;
+    Ok(())
+}
+
+/// What a first start flushes, and what it doesn't.
+const FIRST_START: [Row; 3] = [
+    (b"put a x", b"ok 0"),
+    (b"flush 0", b"flushed 50 installed"),
+    (b"put b y", b"ok 2"),
+];
+
+/// What a second start reads of that. It goes on with the numbers above what it found.
+const SECOND_START: [Row; 4] = [
+    (b"get a", b"value x"),
+    (b"get b", b"none"),
+    (b"stats", b"tables 1 runs 1 sealed 0 len 1 bytes 37"),
+    (b"put b z", b"ok 1"),
+];
+
+#[test]
+fn a_second_start_reads_what_the_first_one_flushed(rt: HostRuntime) -> Result<(), Fail> {
+    let alloc = rt.alloc();
+    let folder = "lsm_shell_twice";
+    let _ = fs::remove_dir_all(&rt, folder);
+    let arguments = vec![in alloc; String::from_str(alloc, folder)?]?;
+    assert!(rt; answers_with(&rt, alloc, &arguments, &FIRST_START, b"")?);
+    assert!(rt; answers_with(&rt, alloc, &arguments, &SECOND_START, b"")?);
+    fs::remove_dir_all(&rt, folder)?;
     Ok(())
 }
 
@@ -117,17 +186,14 @@ const UNKNOWN: [Row; 8] = [
 fn a_folder_is_cleared(rt: HostRuntime) -> Result<(), Fail> {
     let alloc = rt.alloc();
     let folder = "lsm_shell_clear";
-    let _ = fs::remove_dir_all(&rt, folder);
-    let mut store = FolderStore::new(&rt, alloc, folder)?;
+    drop(filled(&rt, alloc, folder)?);
     let arguments = vec![in alloc; String::from_str(alloc, folder)?]?;
-    let filled = fill(alloc, &mut store);
-    assert!(rt; filled.is_ok());
     // No file can be made that would replace `current`.
     fs::create_dir_all(&rt, "lsm_shell_clear/replace.new")?;
-    assert!(rt; answers_with(&rt, alloc, &arguments, &UNKNOWN)?);
+    let cause = b"current: replace: Is a directory (os error 21)\n";
+    assert!(rt; answers_with(&rt, alloc, &arguments, &UNKNOWN, cause)?);
     fs::remove_dir_all(&rt, "lsm_shell_clear/replace.new")?;
-    assert!(rt; answers_with(&rt, alloc, &arguments, &CLEARED)?);
-    drop(store);
+    assert!(rt; answers_with(&rt, alloc, &arguments, &CLEARED, b"")?);
     fs::remove_dir_all(&rt, folder)?;
     Ok(())
 }

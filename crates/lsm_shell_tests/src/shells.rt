@@ -3,10 +3,10 @@ use crate::compaction_rows::{
     ALL_DROPPED, DROPPED, EVICTING_MAJOR, FIFO_BY_AGE, FIFO_BY_LIMIT, FIFO_OF_TWO_RUNS,
     FIRST_LEVELED, MAJOR,
 };
-use lsm_shell_parts::run_shell;
+use lsm_shell_parts::{Console, run_shell};
 use std::alloc::{AllocError, Global};
 use std::cell::Cell;
-use std::fs::Files;
+use std::fs::{File, Files};
 use std::io::{self, ErrorKind, Read, Write};
 use std::sync::Wait;
 use std::test::Fail;
@@ -171,6 +171,16 @@ const OTHERS: [&[u8]; 42] = [
     b"reopen x",
 ];
 
+/// A console at which nobody types.
+fn console<R, W, E>(input: R, output: W, errors: E) -> Console<R, W, E> {
+    Console {
+        input,
+        output,
+        errors,
+        is_terminal: false,
+    }
+}
+
 /// Whether a run prints this, writes that to the errors, and ends with the status.
 pub fn ends<R, I>(
     rt: &R,
@@ -180,19 +190,20 @@ pub fn ends<R, I>(
     told: (&[u8], &[u8], u8),
 ) -> bool
 where
-    R: Threads + Wait + Sync + Files + Alloc + Clone + Drop,
+    R: Threads + Wait + Sync + Files<File = File> + Alloc + Clone + Drop,
     I: Read + Drop,
 {
     let mut printed = Vec::new(alloc);
     let mut errors = Vec::new(alloc);
-    let status = run_shell(rt, alloc, arguments, input, &mut printed, &mut errors);
+    let console = console(input, &mut printed, &mut errors);
+    let status = run_shell(rt, alloc, arguments, console);
     printed.as_slice() == told.0 && errors.as_slice() == told.1 && status == told.2
 }
 
 /// Whether a run without arguments prints this for the input, and ends with 0.
 fn prints<R>(rt: &R, alloc: Global, input: &[u8], printed: &[u8]) -> bool
 where
-    R: Threads + Wait + Sync + Files + Alloc + Clone + Drop,
+    R: Threads + Wait + Sync + Files<File = File> + Alloc + Clone + Drop,
 {
     ends(rt, alloc, Some(&[]), input, (printed, b"", 0))
 }
@@ -203,15 +214,16 @@ fn push_line(text: &mut Vec<u8>, line: &[u8]) -> Result<(), AllocError> {
     text.extend_from_slice(b"\n")
 }
 
-/// Whether a run with these arguments prints for each line what its row says.
+/// Whether a run with these arguments prints for each line what its row says, and writes that to the errors.
 pub fn answers_with<R>(
     rt: &R,
     alloc: Global,
     arguments: &[String],
     rows: &[Row],
+    told: &[u8],
 ) -> Result<bool, AllocError>
 where
-    R: Threads + Wait + Sync + Files + Alloc + Clone + Drop,
+    R: Threads + Wait + Sync + Files<File = File> + Alloc + Clone + Drop,
 {
     let mut input = Vec::new(alloc);
     let mut printed = Vec::new(alloc);
@@ -224,16 +236,16 @@ where
         alloc,
         Some(arguments),
         input.as_slice(),
-        (&printed, b"", 0),
+        (&printed, told, 0),
     ))
 }
 
 /// Whether a run without arguments does.
 fn answers<R>(rt: &R, alloc: Global, rows: &[Row]) -> Result<bool, AllocError>
 where
-    R: Threads + Wait + Sync + Files + Alloc + Clone + Drop,
+    R: Threads + Wait + Sync + Files<File = File> + Alloc + Clone + Drop,
 {
-    answers_with(rt, alloc, &[], rows)
+    answers_with(rt, alloc, &[], rows, b"")
 }
 
 #[test]
@@ -373,7 +385,8 @@ fn ends_at_a_fault(rt: HostRuntime) {
 
     let mut errors = Vec::new(rt.alloc());
     let input = b"put a x\nget a\n".as_slice();
-    let status = run_shell(&rt, rt.alloc(), Some(&[]), input, BrokenOutput, &mut errors);
+    let console = console(input, BrokenOutput, &mut errors);
+    let status = run_shell(&rt, rt.alloc(), Some(&[]), console);
     assert_eq!(rt; (status, errors.len()), (1, 0));
 }
 
@@ -428,9 +441,27 @@ fn answers_before_it_asks_on(rt: HostRuntime) {
         answered: &answered,
     };
     let mut errors = Vec::new(rt.alloc());
-    let status = run_shell(&rt, rt.alloc(), Some(&[]), input, output, &mut errors);
+    let console = console(input, output, &mut errors);
+    let status = run_shell(&rt, rt.alloc(), Some(&[]), console);
     assert_eq!(rt;
         (status, answered.get()),
         (0, b"ok 0\nvalue x\nok 1\n".len())
     );
+}
+
+/// At a terminal an unknown line is answered with the lines that there are, on the errors.
+#[test]
+fn hints_at_a_terminal(rt: HostRuntime) {
+    let mut printed = Vec::new(rt.alloc());
+    let mut errors = Vec::new(rt.alloc());
+    let console = Console {
+        input: b"get a\nhelp\n".as_slice(),
+        output: &mut printed,
+        errors: &mut errors,
+        is_terminal: true,
+    };
+    let status = run_shell(&rt, rt.alloc(), Some(&[]), console);
+    assert_eq!(rt; status, 0);
+    assert!(rt; printed.as_slice() == b"none\nerror 0 Usage\n".as_slice());
+    assert!(rt; errors.as_slice().starts_with(b"lines: put K V, "));
 }

@@ -33,3 +33,4 @@ pub mod CompactionReads
 pub mod Wholes
 pub mod Clears
 pub mod ClearReads
+pub mod Raising

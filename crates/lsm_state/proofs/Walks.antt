@@ -1,13 +1,17 @@
 -- What walks and lookups of the code are in the theory's words.
-use Rattle.std.proofs.Common.{◌≡◌, ℕ, true, false, List, [], ◌∷◌, ◌++◌, Option, Some, None, refl, sym, ap, ◌∙◌, map, cond, nat_lt, eqb}
+use Rattle.std.proofs.Common.{◌≡◌, ℕ, Bool, true, false, ◌&&◌, List, [], ◌∷◌, ◌++◌, Option, Some, None, IfSome, refl, sym, ap, subst, ◌∙◌, map, cond, nat_lt, eqb}
 use Rattle.std.specs.Option.{option_or, option_map}
 use Rattle.std.specs.List.{find}
-use Rattle.lsm_below.specs.Keys.{Bytes}
-use Rattle.lsm_below.specs.Entries.{Entry, top}
-use Rattle.lsm_model.specs.Views.{Memtables, walk, front, found_at, lookup}
+use Rattle.std.proofs.lemmas.Map.Text.{is_eq-slice_cmp}
+use Rattle.std.proofs.lemmas.Slice.Eq.{bytes_eq-Decides}
+use Rattle.lsm_below.specs.Keys.{Bytes, is_same}
+use Rattle.lsm_below.specs.Entries.{Entry, is_tombstone_type, later, top}
+use Rattle.lsm_model.specs.Views.{Memtables, sources, walk, front, found_at, lookup}
 use Rattle.lsm_parts.specs.declared.version.super_version.SuperVersion.{SuperVersion}
 use Rattle.lsm_parts.specs.History.{SeenHistory, found_version, oldest, versions_of}
-use Rattle.lsm_state.specs.Core.{shown_as}
+use Rattle.lsm_state.specs.Core.{Core, shown_as}
+use Rattle.lsm_state.specs.Held.{entries_of}
+use Rattle.lsm_state.specs.Calls.{Finds, live}
 
 -- a walk goes on where it found nothing
 pub walk-append : (k : Bytes) (s : ℕ) (xs ys : List (List Entry)) → walk k s (xs ++ ys) ≡ option_or (walk k s xs) (walk k s ys)
@@ -60,3 +64,45 @@ module _ (k : Bytes) (s : ℕ) (mems : Memtables) where
 
   pub goes_on : (ids : List ℕ) (i : ℕ) (tables : List (List Entry)) (w : Option Entry) → None ≡ top k s (mems i) → None ≡ walk k s (map mems ids) → w ≡ walk k s tables → w ≡ walk k s (map mems (i ∷ ids) ++ tables)
   goes_on ids i tables w nothing none e = walked ids i tables w nothing (e ∙ ap (λ o. option_or o (walk k s tables)) none)
+
+-- ---- the entry at which a walk stops
+
+-- an entry, if there is one, has this key
+abbrev pub HasKey : Bytes → Option Entry → Type 0
+HasKey k o = IfSome o (λ e. e.key.user_key ≡ k)
+
+later_key : (k : Bytes) (e : Entry) (o : Option Entry) → e.key.user_key ≡ k → HasKey k o → HasKey k (later e o)
+later_key k e None here rest = here
+later_key k e (Some f) here rest = elim (nat_lt e.key.seqno f.key.seqno) as (λ b. HasKey k (cond b (Some f) (Some e))) [ true ↦ rest | false ↦ here ]
+
+-- keys and numbers that count are those of the key
+counted_key : (k q : Bytes) (b : Bool) → (is_same k q && b) ≡ true → q ≡ k
+counted_key k q b h = sym ((bytes_eq-Decides k q).0 (sym (is_eq-slice_cmp k q) ∙ first (is_same k q) h))
+  where
+    first : (a : Bool) → (a && b) ≡ true → a ≡ true
+    first true h = refl
+    first false h = h
+
+counted_or : (k : Bytes) (e : Entry) (o : Option Entry) (b : Bool) → HasKey k o → (b ≡ true → e.key.user_key ≡ k) → HasKey k (cond b (later e o) o)
+counted_or k e o true rest here = later_key k e o (here refl) rest
+counted_or k e o false rest here = rest
+
+top_key : (k : Bytes) (s : ℕ) (es : List Entry) → HasKey k (top k s es)
+top_key k s [] = tt
+top_key k s (e ∷ es) = counted_or k e (top k s es) (is_same k e.key.user_key && nat_lt e.key.seqno s) (top_key k s es) (counted_key k e.key.user_key (nat_lt e.key.seqno s))
+
+either_key : (k : Bytes) (o p : Option Entry) → HasKey k o → HasKey k p → HasKey k (option_or o p)
+either_key k None p here rest = rest
+either_key k (Some e) p here rest = here
+
+walk_key : (k : Bytes) (s : ℕ) (sources : List (List Entry)) → HasKey k (walk k s sources)
+walk_key k s [] = tt
+walk_key k s (es ∷ sources) = either_key k (top k s es) (walk k s sources) (top_key k s es) (walk_key k s sources)
+
+live_key : (k : Bytes) (o : Option Entry) → HasKey k o → HasKey k (live o)
+live_key k None h = h
+live_key k (Some e) h = elim (is_tombstone_type e.key.value_type) as (λ b. HasKey k (cond b None (Some e))) [ true ↦ tt | false ↦ h ]
+
+-- so has the one that decides a get
+pub found_key : (c : Core) (k : Bytes) (s : ℕ) (o : Option Entry) → Finds c k s o → HasKey k (live o)
+found_key c k s o f = live_key k o (subst (HasKey k) (sym f.2) (walk_key k s (sources (entries_of c.memtables) f.0)))

@@ -1,5 +1,5 @@
 -- The calls of a flush.
-use Rattle.std.specs.Prelude.{◌≡◌, ◌⊎◌, ℕ, ◌+◌, ◌-◌, ◌^◌, ◌<◌, ◌≤◌, Bool, true, false, List, [], ◌∷◌, ◌++◌, map, flat_map, take, drop, length, reverse, Option, Some, None, IsSome, IfSome, Result, Ok, Err, IfOk, IfErr, OnErr, IsErrOf, ◌↔◌, if◌then◌else◌, ◌==◌}
+use Rattle.std.specs.Prelude.{◌≡◌, ◌⊎◌, ℕ, ◌+◌, ◌-◌, ◌^◌, ◌<◌, ◌≤◌, Bool, true, false, List, [], ◌∷◌, ◌++◌, map, take, drop, length, reverse, Option, Some, None, IsSome, IfSome, Result, Ok, IfOk, IfErr, OnErr, IsErrOf, ◌↔◌, if◌then◌else◌, ◌==◌}
 use Rattle.lsm_below.specs.declared.error.Error.{Error}
 use Rattle.lsm_below.specs.declared.error.Error.TheVariants.{OutOfMemory, Store, CommitUnknown, Unrecoverable, OutOfNumbers, FlushOpen, TooManyRuns}
 use Rattle.lsm_model.specs.Views.{IsRearranged}

@@ -1,5 +1,5 @@
 -- What opening a tree answers.
-use Rattle.std.specs.Prelude.{◌≡◌, ◌^◌, List, [], ◌∷◌, Result, Ok, Err}
+use Rattle.std.specs.Prelude.{◌≡◌, ◌^◌, List, [], ◌∷◌, Result, Ok, Err, IfOk, IfErr}
 use Rattle.std.specs.FinMap.{get}
 use Rattle.lsm_below.specs.Keys.{Bytes}
 use Rattle.lsm_below.specs.Entries.{Entry, stack, above, IsOrdered, IsSingle}
@@ -8,11 +8,17 @@ use Rattle.lsm_model.specs.Journal.{Map}
 use Rattle.lsm_model.specs.Views.{held, sources, view, view_at}
 use Rattle.lsm_model.specs.Steps.{IsOpened}
 use Rattle.lsm_model.specs.Beginnings.{Stands, shown_by}
+use Rattle.lsm_store.specs.World.{World, LeavesOnly}
+use Rattle.lsm_versions.specs.Levels.{placed_of}
+use Rattle.lsm_manifest.specs.Told.{Told, TellsOpen}
+use Rattle.lsm_manifest.specs.Opening.{Opens, LeavesStanding}
+use Rattle.lsm_manifest.specs.Finding.{StandsForMap, RefusesFound, IsSettled}
+use Rattle.lsm_files.specs.Stored.{IsStored}
 use Rattle.lsm_manifest.specs.declared.opening.Opened.{Opened}
 use Rattle.lsm_manifest.specs.declared.found.Found.{Found as FoundFiles}
 use Rattle.lsm_state.specs.declared.found.Found.{Found}
 use Rattle.lsm_state.specs.Held.{entries_of}
-use Rattle.lsm_state.specs.Core.{Core, Seen, state_of, latest_of}
+use Rattle.lsm_state.specs.Core.{Core, Seen, state_of, latest_of, versions_left, written_of}
 
 -- what is told of the files
 abbrev pub files_told : {S : Type 0} → Result (Seen S) (Error × S) → Result Opened Error
@@ -45,3 +51,20 @@ pub record StartsWith (m : Map) (c : Core) : Type 0 where
   pub starts : IsOpened (held (latest_of c).tables) m (state_of [] c)
   pub stands : Stands (latest_of c).tables
   pub alone : shown_by (latest_of c).tables ≡ m
+
+-- the entries of the tables that were found
+abbrev pub found_entries : Core → List Entry
+found_entries c = held (placed_of c.history.latest.version.levels)
+
+-- the tree of a store is opened, or nothing is
+pub record OpensTree {S : Type 0} (world : S → World) (store : S) (r : Result (Seen S) (Error × S)) : Type 0 where
+  -- what stands for a map is opened as it, and refused only for memory, a fault of the store, or a number of 2^63 or more
+  pub shows : (m : Map) → StandsForMap (world store).gives m → IfOk r (λ t. StartsWith m t.core)
+  pub refuses : (m : Map) → StandsForMap (world store).gives m → IfErr r (λ e. RefusesFound (world store).gives e.0)
+  -- where what is read has one possible content each, every image meanwhile stands for the same map, and the tree's files
+  -- are stored then
+  pub stands_for : IsSettled (world store) → (m : Map) → StandsForMap (world store).gives m → LeavesOnly (world store) (world (store_left r)) (λ image. StandsForMap image m)
+  pub stored : IsSettled (world store) → IfOk r (λ t. IsStored (world t.store) (versions_left t.core) (written_of t.core))
+  -- of any store: what is opened, or the first thing that is wrong with the files; and what a crash in it may leave
+  pub opens : Told TellsOpen (Opens (world store) (world (store_left r))) (files_told r)
+  pub leaves : LeavesStanding (world store) (world (store_left r))

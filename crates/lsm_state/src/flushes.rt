@@ -106,9 +106,9 @@ impl<S: Store> TreeState<S> {
     ///
     /// `Unrecoverable` after a `CommitUnknown`, with no store call, and `FlushOpen` where a flush is open: each only where
     /// something is sealed. `OutOfNumbers` where 2^63 flushes were begun, the next table's id or the counter stands at 2^63
-    /// or above, or the version's id at 2^64 - 1; `TooManyRuns` where the first level has 255 runs; `OutOfMemory`; `Store`
-    /// where a file wasn't written. `CommitUnknown` where replacing `current` failed: a crash leaves the old version or the
-    /// new one.
+    /// or above, or the version's id at 2^64 - 1; `TooManyRuns` where the first level would have 256 runs, after those that
+    /// don't overlap are joined, or a run 2^32 tables; `OutOfMemory`; `Store` where a file wasn't written. `CommitUnknown`
+    /// where replacing `current` failed: a crash leaves the old version or the new one.
     ///
     /// Refused, the memtables stay sealed, reads stay as they are, and no flush is left open that wasn't. Numbers and ids of
     /// tables may be used, and files written that nothing names.

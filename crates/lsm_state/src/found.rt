@@ -1,5 +1,10 @@
 // What a store holds of a tree, before anything is changed.
-ghost use Rattle.std.specs.Prelude.{◌≡◌, IfOk};
+ghost use Rattle.std.specs.Prelude.{◌≡◌, IfOk, if◌then◌else◌};
+ghost use Rattle.lsm_below.specs.Entries.{above};
+ghost use Rattle.lsm_below.specs.Sums.{capped};
+ghost use Rattle.lsm_model.specs.Views.{held};
+ghost use Rattle.lsm_versions.specs.Configs.{raised};
+ghost use Rattle.lsm_versions.specs.Levels.{placed_of};
 ghost use Rattle.lsm_manifest.specs.Recovery.{CountsStore};
 ghost use Rattle.lsm_manifest.specs.Told.{Told, TellsOpen};
 ghost use Rattle.lsm_manifest.specs.Opening.{Opens, LeavesStanding};
@@ -22,7 +27,8 @@ use std::alloc::Global;
 ///
 /// ```text
 /// let found = TreeState::look(alloc, store)?;
-/// let tree = found.open(Config::new(0, 0, 0))?;
+/// let config = found.raised(Config::new(0, 0, 0));
+/// let tree = found.open(config)?;
 /// ```
 #[derive(Drop)]
 pub struct Found<S: Store> {
@@ -37,6 +43,21 @@ impl<S: Store> Found<S> {
         ensures { result.now ≡ self.now.files.opened.version }
     {
         &self.files.opened.version
+    }
+
+    /// The configuration with both counters above the sequence numbers of all that was found: what is written to the tree
+    /// that is opened with it is newer than what was there. `TreeState::open_raised` opens so.
+    pub fn raised(&self, config: Config) -> Config
+        ensures { result ≡ raised (capped (above (held (placed_of self.now.files.opened.version.levels)))) config }
+    {
+        config.raised(self.version().next_seqno())
+    }
+
+    /// The configuration, with its counters above all that was found, or as they are.
+    pub(crate) fn config_for(&self, config: Config, raises: bool) -> Config
+        ensures { result ≡ (if raises then raised (capped (above (held (placed_of self.now.files.opened.version.levels)))) config else config) }
+    {
+        if raises { self.raised(config) } else { config }
     }
 
     /// The store, in exchange.

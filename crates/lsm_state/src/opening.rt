@@ -1,18 +1,18 @@
 // A tree is opened over a store, and gives it back.
-ghost use Rattle.std.specs.Prelude.{◌≡◌, ℕ, Ok, Err, length, IfOk, IfErr};
+ghost use Rattle.std.specs.Prelude.{◌≡◌, ◌≤◌, ℕ, [], Ok, Err, length, IfOk, IfErr, if◌then◌else◌};
+ghost use Rattle.lsm_below.specs.Entries.{above};
 ghost use Rattle.lsm_below.specs.Sums.{capped};
-ghost use Rattle.lsm_store.specs.World.{LeavesOnly, Same};
-ghost use Rattle.lsm_model.specs.Journal.{Map};
+ghost use Rattle.lsm_store.specs.World.{Same};
+ghost use Rattle.lsm_model.specs.Journal.{next_number};
+ghost use Rattle.lsm_versions.specs.Configs.{raised};
 ghost use Rattle.lsm_versions.specs.Levels.{Levels as SeenLevels, all_of};
 ghost use Rattle.lsm_manifest.specs.Recovery.{Levels, CountsStore};
 ghost use Rattle.lsm_manifest.specs.Standing.{HasSmallNumbers, StandsFor};
 ghost use Rattle.lsm_manifest.specs.Told.{Told, TellsOpen};
 ghost use Rattle.lsm_manifest.specs.Opening.{Opens, OpensAs, LeavesStanding, IsAbove};
 ghost use Rattle.lsm_manifest.specs.Looking.{Looks};
-ghost use Rattle.lsm_manifest.specs.Finding.{StandsForMap, RefusesFound, IsSettled};
-ghost use Rattle.lsm_files.specs.Stored.{IsStored};
-ghost use Rattle.lsm_state.specs.Core.{versions_left, written_of, opened_core};
-ghost use Rattle.lsm_state.specs.Opened.{files_told, store_left, files_found, store_held, StartsFrom, StartsWith};
+ghost use Rattle.lsm_state.specs.Core.{opened_core};
+ghost use Rattle.lsm_state.specs.Opened.{files_told, store_left, files_found, store_held, found_entries, StartsFrom, OpensTree};
 
 use crate::{Found, TreeState};
 use lsm_below::{Error, TableId};
@@ -24,8 +24,9 @@ use std::alloc::Global;
 
 impl<S: Store> TreeState<S> {
     /// The tree that the files of a store hold, or a new one where there is no `current`. Its memtable is empty, its
-    /// counters start where the configuration says. Files that no version names are removed after all checks. Each
-    /// named file is read once; from then on reads make no store call.
+    /// counters start where the configuration says: start them above all that the store may hold, else what is written is
+    /// hidden by older entries with greater sequence numbers, and lost at the next merge. `open_raised` does so. Files that
+    /// no version names are removed after all checks. Each named file is read once; from then on reads make no store call.
     ///
     /// Refused, it gives the store back beside the error.
     ///
@@ -36,20 +37,51 @@ impl<S: Store> TreeState<S> {
     /// `OutOfNumbers` where an entry is numbered 2^63 or more; `OutOfMemory`, `Store`, and for a new tree
     /// `CommitUnknown`.
     pub fn open(alloc: Global, config: Config, store: S) -> Result<TreeState<S>, (Error, S)>
-        // What stands for a map is opened as it, and refused only for memory, a fault of the store, or a number of 2^63 or more.
-        ensures shows { S.tells → (m : Map) → StandsForMap (S.world store).gives m → IfOk result (λ t. StartsWith m t.core) }
-        ensures refuses { S.tells → (m : Map) → StandsForMap (S.world store).gives m → IfErr result (λ e. RefusesFound (S.world store).gives e.0) }
-        // Where what is read has one possible content each, every image meanwhile stands for the same map.
-        ensures stands_for { S.tells → IsSettled (S.world store) → (m : Map) → StandsForMap (S.world store).gives m → LeavesOnly (S.world store) (S.world (store_left result)) (λ image. StandsForMap image m) }
-        // The files of the tree are then stored.
-        ensures stored { S.tells → IsSettled (S.world store) → IfOk result (λ t. IsStored (S.world t.store) (versions_left t.core) (written_of t.core)) }
-        // What is opened, or the first thing that is wrong with the files; and what a crash in it may leave.
-        ensures opens { S.tells → Told TellsOpen (Opens (S.world store) (S.world (store_left result))) (files_told result) }
-        ensures leaves { S.tells → LeavesStanding (S.world store) (S.world (store_left result)) }
+        // What stands is opened, or the first thing that is wrong is told; and what a crash in it may leave.
+        ensures opens { S.tells → OpensTree S.world store result }
         // The tree has the version, and else nothing yet. Its reads are then those of the theory, from what its tables show.
         ensures core { IfOk result (λ t. t.core ≡ opened_core config t.core.history.latest.version t.core.next_table) }
         ensures starts { IfOk result (λ t. StartsFrom t.core) }
         // Whatever the store tells: the next id is above those of the tables, and each entry is numbered below 2^63.
+        ensures next { IfOk result (λ t. IsAbove t.core.next_table t.core.history.latest.version.levels) }
+        ensures small { IfOk result (λ t. HasSmallNumbers t.core.history.latest.version.levels) }
+        ensures counts { Told TellsOpen (CountsStore (S.world store) (S.world (store_left result))) (files_told result) }
+    {
+        TreeState::open_so(alloc, config, store, false)
+    }
+
+    /// The tree that the files of a store hold, as `open`, but its counters start above the sequence numbers of all that
+    /// was found, or where the configuration says, if that is higher. So what is written is newer than what is there, and a
+    /// snapshot at the visible counter sees all that is there: this is how a tree is opened again whose counters nobody has
+    /// kept.
+    ///
+    /// # Errors
+    ///
+    /// As `open`.
+    pub fn open_raised(alloc: Global, config: Config, store: S) -> Result<TreeState<S>, (Error, S)>
+        ensures opens { S.tells → OpensTree S.world store result }
+        // Both counters stand above what was found: the order of writes begins there.
+        ensures core { IfOk result (λ t. t.core ≡ opened_core (raised (capped (above (found_entries t.core))) config) t.core.history.latest.version t.core.next_table) }
+        ensures counted { IfOk result (λ t. next_number (found_entries t.core) [] ≤ t.core.seqno) }
+        ensures visible { IfOk result (λ t. next_number (found_entries t.core) [] ≤ t.core.visible_seqno) }
+        ensures starts { IfOk result (λ t. StartsFrom t.core) }
+        ensures next { IfOk result (λ t. IsAbove t.core.next_table t.core.history.latest.version.levels) }
+        ensures small { IfOk result (λ t. HasSmallNumbers t.core.history.latest.version.levels) }
+        ensures counts { Told TellsOpen (CountsStore (S.world store) (S.world (store_left result))) (files_told result) }
+    {
+        TreeState::open_so(alloc, config, store, true)
+    }
+
+    /// The tree of what is found, whose counters are raised above it or not.
+    fn open_so(
+        alloc: Global,
+        config: Config,
+        store: S,
+        raises: bool,
+    ) -> Result<TreeState<S>, (Error, S)>
+        ensures opens { S.tells → OpensTree S.world store result }
+        ensures core { IfOk result (λ t. t.core ≡ opened_core (if raises then raised (capped (above (found_entries t.core))) config else config) t.core.history.latest.version t.core.next_table) }
+        ensures starts { IfOk result (λ t. StartsFrom t.core) }
         ensures next { IfOk result (λ t. IsAbove t.core.next_table t.core.history.latest.version.levels) }
         ensures small { IfOk result (λ t. HasSmallNumbers t.core.history.latest.version.levels) }
         ensures counts { Told TellsOpen (CountsStore (S.world store) (S.world (store_left result))) (files_told result) }
@@ -60,6 +92,7 @@ impl<S: Store> TreeState<S> {
         images_stand_once();
         let found = TreeState::look(alloc, store)?;
         found.version().facts();
+        let config = found.config_for(config, raises);
         found.open(config)
     }
 

@@ -1,7 +1,8 @@
 // The tree's reads over many keys.
-ghost use Rattle.std.specs.Prelude.{◌≡◌, ℕ, List, ◌∷◌, ◌++◌, None, Some, reverse, length, option_to_list, IfOk, IfErr, OnOk};
+ghost use Rattle.std.specs.Prelude.{◌≡◌, ℕ, List, [], ◌∷◌, ◌++◌, Option, None, Some, is_none, reverse, length, option_to_list, MatchOption, IfOk, IfErr, OnOk};
 ghost use Rattle.std.specs.declared.ops.Bound.TheVariants.{Unbounded};
 ghost use Rattle.lsm_iter.specs.declared.tree_iter.End.TheVariants.{Front, Back};
+ghost use Rattle.lsm_below.specs.Entries.{Entry};
 ghost use Rattle.lsm_state.specs.Calls.{RefusesRead};
 ghost use Rattle.lsm_state.specs.Copies.{AreThose, Copies, CopiesPrefix, HoldsPrefix, copies_at};
 ghost use Rattle.lsm_state.specs.Core.{shown_as};
@@ -11,7 +12,7 @@ ghost use Rattle.lsm_iter.specs.Ends.{EndShown, NumberShown};
 
 use crate::{Memtables, TreeState, lists_are_steps};
 use lsm_below::{InternalValue, MemtableId, SeqNo, UserKey};
-use lsm_iter::{End, Guard, IterState, TreeIter, count_shown, end_shown};
+use lsm_iter::{End, Guard, IterState, Pairs, TreeIter, count_shown, end_shown};
 use lsm_parts::{Error, Memtable, SuperVersion};
 use lsm_store::Store;
 use std::alloc::{AllocError, Global};
@@ -83,6 +84,23 @@ fn range_of(
     TreeIter::create_range(alloc, &state, bounds, snapshot)
 }
 
+/// What is shown within bounds by a super version, under an index, lent.
+fn pairs_of<'a>(
+    alloc: Global,
+    memtables: &'a Memtables,
+    version: &'a SuperVersion,
+    bounds: &(Bound<UserKey>, Bound<UserKey>),
+    snapshot: SeqNo,
+    index: Option<(&'a Memtable, SeqNo)>,
+) -> Result<Pairs<'a>, Error>
+    ensures shows { IfOk result (λ pairs. Shows bounds.now.0 bounds.now.1 (counting memtables.now index.entry snapshot (shown_as version.now)) pairs) }
+    ensures memory { IfErr result (λ e. e ≡ Error.OutOfMemory) }
+{
+    let list = memtables_of(alloc, memtables, version)?;
+    let state = IterState::new(&version.version, list, index);
+    Pairs::create_range(alloc, &state, bounds, snapshot)
+}
+
 /// What is shown of the keys that begin so by a super version, under an index.
 fn prefix_of(
     alloc: Global,
@@ -99,6 +117,23 @@ fn prefix_of(
     let list = memtables_of(alloc, memtables, version)?;
     let state = IterState::new(&version.version, list, index);
     TreeIter::create_prefix(alloc, &state, prefix, snapshot)
+}
+
+/// What is shown of the keys that begin so by a super version, under an index, lent.
+fn prefix_pairs_of<'a>(
+    alloc: Global,
+    memtables: &'a Memtables,
+    version: &'a SuperVersion,
+    prefix: &[u8],
+    snapshot: SeqNo,
+    index: Option<(&'a Memtable, SeqNo)>,
+) -> Result<Pairs<'a>, Error>
+    ensures shows { IfOk result (λ pairs. ShowsPrefix prefix.now (counting memtables.now index.entry snapshot (shown_as version.now)) pairs) }
+    ensures memory { IfErr result (λ e. e ≡ Error.OutOfMemory) }
+{
+    let list = memtables_of(alloc, memtables, version)?;
+    let state = IterState::new(&version.version, list, index);
+    Pairs::create_prefix(alloc, &state, prefix, snapshot)
 }
 
 /// How many keys are shown by a super version, under an index.
@@ -134,6 +169,14 @@ fn end_of(
     end_shown(alloc, &state, end, &ALL, snapshot)
 }
 
+/// Whether no pair is left.
+fn is_over(pairs: Pairs<'_>) -> bool
+    ensures { (e : Option Entry) × (result ≡ is_none e) × MatchOption e (pairs.entry ≡ []) (λ e. (rest : List Entry) × (pairs.entry ≡ e ∷ rest)) }
+{
+    let mut pairs = pairs;
+    pairs.next().is_none()
+}
+
 impl<S: Store> TreeState<S> {
     /// What a snapshot shows within bounds, under an index, from both ends: of each key the entry with the
     /// greatest sequence number that counts, unless that is a tombstone. The index's entries count below its own sequence number,
@@ -158,6 +201,72 @@ impl<S: Store> TreeState<S> {
                 &self.memtables,
                 version,
                 bounds,
+                snapshot,
+                index,
+            ),
+            Err(error) => Err(error),
+        }
+    }
+
+    /// What a snapshot shows within bounds, as `range`, lent by the tree: no entry is copied and no owner counted, at the
+    /// making and at each step. The tree doesn't change while the pairs are there. Only the list of its sources needs memory.
+    ///
+    /// # Errors
+    ///
+    /// `SnapshotTooOld` exactly where no super version is found for the snapshot; else only memory may be missing.
+    ///
+    /// # Examples
+    ///
+    /// ```text
+    /// let mut total = 0;
+    /// for (key, value) in tree.pairs(&bounds, snapshot, None)? {
+    ///     total += value.len();
+    /// }
+    /// ```
+    pub fn pairs<'a>(
+        &'a self,
+        bounds: &(Bound<UserKey>, Bound<UserKey>),
+        snapshot: SeqNo,
+        index: Option<(&'a Memtable, SeqNo)>,
+    ) -> Result<Pairs<'a>, Error>
+        ensures ok { IfOk result (λ pairs. Ranges self.now.core index.entry bounds.now.0 bounds.now.1 snapshot pairs) }
+        ensures step { index.entry ≡ None → IfOk result (λ pairs. IsRangeStep self.now.core bounds.now.0 bounds.now.1 snapshot pairs) }
+        ensures refuses { RefusesRead self.now.core snapshot result }
+    {
+        lists_are_steps();
+        match self.version_at(snapshot) {
+            Ok(version) => pairs_of(
+                self.alloc,
+                &self.memtables,
+                version,
+                bounds,
+                snapshot,
+                index,
+            ),
+            Err(error) => Err(error),
+        }
+    }
+
+    /// What a snapshot shows of the keys that begin so, as `prefix`, lent by the tree as `pairs` are.
+    ///
+    /// `SnapshotTooOld` exactly where no super version is found for the snapshot; else only memory may be missing.
+    pub fn pairs_with_prefix<'a>(
+        &'a self,
+        prefix: &[u8],
+        snapshot: SeqNo,
+        index: Option<(&'a Memtable, SeqNo)>,
+    ) -> Result<Pairs<'a>, Error>
+        ensures ok { IfOk result (λ pairs. Prefixes self.now.core index.entry prefix.now snapshot pairs) }
+        ensures step { index.entry ≡ None → IfOk result (λ pairs. IsPrefixStep self.now.core prefix.now snapshot pairs) }
+        ensures refuses { RefusesRead self.now.core snapshot result }
+    {
+        lists_are_steps();
+        match self.version_at(snapshot) {
+            Ok(version) => prefix_pairs_of(
+                self.alloc,
+                &self.memtables,
+                version,
+                prefix,
                 snapshot,
                 index,
             ),
@@ -261,8 +370,7 @@ impl<S: Store> TreeState<S> {
         self.create_prefix(prefix, snapshot, index)
     }
 
-    /// How many keys a snapshot shows. It walks over all of them and copies none: a step compares the keys at one end
-    /// of all sources once, and passes what the snapshot doesn't show.
+    /// How many keys a snapshot shows. It walks over all of them as `pairs` does.
     pub fn len(&self, snapshot: SeqNo, index: Option<(&Memtable, SeqNo)>) -> Result<usize, Error>
         ensures ok { IfOk result (Numbers self.now.core index.entry snapshot) }
         ensures refuses { RefusesRead self.now.core snapshot result }
@@ -273,7 +381,7 @@ impl<S: Store> TreeState<S> {
         }
     }
 
-    /// Whether a snapshot shows nothing. It stops at the first pair that it finds, at the cost of `first_key_value`.
+    /// Whether a snapshot shows nothing. It stops at the first pair that it finds, which isn't copied.
     pub fn is_empty(
         &self,
         snapshot: SeqNo,
@@ -282,14 +390,14 @@ impl<S: Store> TreeState<S> {
         ensures ok { IfOk result (TellsEmpty Front self.now.core index.entry snapshot) }
         ensures refuses { RefusesRead self.now.core snapshot result }
     {
-        match self.end_entry(End::Front, snapshot, index) {
-            Ok(entry) => Ok(entry.is_none()),
+        match self.pairs(&ALL, snapshot, index) {
+            Ok(pairs) => Ok(is_over(pairs)),
             Err(error) => Err(error),
         }
     }
 
     /// The pair with the least key that a snapshot shows. It passes what doesn't count at the ends of each source, and
-    /// then takes one step of an iterator: it looks no further than to that pair, and copies that one alone.
+    /// then takes one step, as of `pairs`: it looks no further than to that pair, and copies that one alone.
     pub fn first_key_value(
         &self,
         snapshot: SeqNo,

@@ -1,5 +1,5 @@
 // The tree's reads.
-ghost use Rattle.std.specs.Prelude.{◌≡◌, Option, None, Some, is_some, option_map, map, reverse, option_copied, IfOk};
+ghost use Rattle.std.specs.Prelude.{◌≡◌, Option, None, Some, is_some, option_map, map, reverse, option_copied, IfOk, IfSome};
 ghost use Rattle.lsm_below.specs.Entries.{value_of as value_given};
 ghost use Rattle.lsm_model.specs.Views.{found_at, sources, walk as walk_sources, shown as value_shown};
 ghost use Rattle.lsm_below.specs.Keys.{Bytes};
@@ -91,6 +91,8 @@ impl<S: Store> TreeState<S> {
     /// The value of a key at a snapshot: that of its entry with the greatest sequence number below the snapshot
     /// in the first source that has one. None for a tombstone, or where there is no entry.
     /// `SnapshotTooOld` exactly where no super version is found for the snapshot; else only memory may be missing.
+    ///
+    /// The value shares its bytes with the tree: who keeps a small one keeps the chunk of up to 64 KiB that it stands in.
     pub fn get(&self, key: &[u8], snapshot: SeqNo) -> Result<Option<UserValue>, Error>
         ensures ok { IfOk result (λ v. Gives self.now.core key.now snapshot v) }
         ensures step { IfOk result (λ v. IsGetStep self.now.core key.now snapshot v) }
@@ -102,13 +104,17 @@ impl<S: Store> TreeState<S> {
         }
     }
 
-    /// The entry that decides `get`, None for a tombstone. Refused as `get`.
+    /// The entry that decides `get`, None for a tombstone. Its key is the one that was asked for and its value what `get`
+    /// gives, and both share the bytes of the tree. Refused as `get`.
     pub fn get_internal_entry(
         &self,
         key: &[u8],
         snapshot: SeqNo,
     ) -> Result<Option<InternalValue>, Error>
         ensures ok { IfOk result (λ e. GivesEntry self.now.core key.now snapshot e) }
+        ensures key { IfOk result (λ e. IfSome e (λ x. x.key.user_key ≡ key.now)) }
+        ensures value { IfOk result (λ e. Gives self.now.core key.now snapshot (option_map (λ x. x.value) e)) }
+        ensures step { IfOk result (λ e. IsGetStep self.now.core key.now snapshot (option_map (λ x. x.value) e)) }
         ensures refuses { RefusesRead self.now.core snapshot result }
     {
         match self.find(key, snapshot)? {

@@ -186,9 +186,10 @@ impl<S: Store> TreeState<S> {
     /// # Errors
     ///
     /// `Unrecoverable` after a `CommitUnknown`, with no store call. `OutOfNumbers` where the counter stands at 2^63 or
-    /// above, or the version's id at 2^64 - 1; `TooManyRuns` where the first level has 255 runs; `OutOfMemory`; `Store`
-    /// where the version's file wasn't written. `CommitUnknown` where replacing `current` failed: reads stay as they are,
-    /// and a crash leaves the old version or the new one.
+    /// above, or the version's id at 2^64 - 1; `TooManyRuns` where the first level would have 256 runs, after those that
+    /// don't overlap are joined, or a run 2^32 tables; `OutOfMemory`; `Store` where the version's file wasn't written.
+    /// `CommitUnknown` where replacing `current` failed: reads stay as they are, and a crash leaves the old version or the
+    /// new one.
     pub fn register_tables(&mut self, job: WrittenFlush) -> Result<Registered, Error>
         ensures registers { Registers job result self.old.core self.new.core }
         // What a crash leaves.

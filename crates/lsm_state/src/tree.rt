@@ -17,9 +17,8 @@ use lsm_merges::OpenMerges;
 use lsm_parts::{
     Config, Error, LIMIT, Memtable, SequenceNumberCounter, SuperVersion, SuperVersions, Version,
 };
-use lsm_pick::CompactionState;
 use lsm_store::{MemStore, Store};
-use lsm_versions::TreeType;
+use lsm_versions::{CompactionState, TreeType};
 use std::alloc::Global;
 use std::marker::Model;
 

@@ -1,17 +1,19 @@
 // A folder of the file system, as a store.
-ghost use Rattle.std.specs.Prelude.{◌≡◌, ◌+◌, ◌-◌, IfOk, IsErrOf, Result, Ok, Err};
+ghost use Rattle.std.specs.Prelude.{◌≡◌, ◌+◌, ◌-◌, ◌≤◌, ◌↔◌, IfOk, IsErrOf, IsSome, Result, Ok, Err};
 ghost use Rattle.lsm_store.specs.declared.store.StoreError.TheVariants.{OutOfMemory, Fault};
 ghost use Rattle.lsm_store.specs.NoWorld.{untold};
 ghost use Rattle.lsm_store.specs.World.{Counts};
 
 use crate::{Store, StoreError};
+use disk::{TABLES, join};
 use std::alloc::{AllocError, Global};
-use std::fs::{File, Files, OpenFile};
-use std::io::{ErrorKind, Read};
-use std::{fs, io};
+use std::fs::{File, Files};
+use std::io::{self, ErrorKind};
 
-/// The subfolder of tables, and how names of files in it begin.
-const TABLES: &str = "tables";
+mod disk;
+mod fault;
+
+pub use fault::{FolderCall, FolderFault};
 
 /// The file that `replace` fills before it renames it.
 const FRESH: &str = "replace.new";
@@ -22,6 +24,9 @@ const NAME_ROOM: usize = 64;
 /// A folder of the file system and its subfolder `tables`, as a store: `tables/7` is the file `7` of the subfolder,
 /// any other name is that of a file in the folder itself.
 ///
+/// A folder has one owner: the store locks the folder's file `lock` as long as it lives, and a second one is refused. The
+/// system gives the lock back where a process is killed. `lock` is no name of the store.
+///
 /// Names are those that the store was given: nobody else should change the folder while it is in use. What is
 /// promised by contract is the count of failures alone, since no contract can say what a disk does. What each
 /// call asks of the file system:
@@ -30,41 +35,32 @@ const NAME_ROOM: usize = 64;
 /// |-|-|
 /// | `list` | the names of regular files; one that isn't UTF-8 is a `Fault` |
 /// | `read` | the whole file |
-/// | `write` | makes the file, or cuts it to nothing, and writes all bytes |
+/// | `write` | makes the file, or cuts it to nothing, and writes all bytes; what it can't finish it removes |
 /// | `sync` | syncs the file, then its folder |
-/// | `replace` | writes `replace.new` in the folder, syncs it, renames it to the name, and syncs the name's folder |
+/// | `replace` | writes `replace.new` in the folder, syncs it, renames it to the name, and syncs the name's folder; where it can't rename, it removes `replace.new` |
 /// | `remove` | removes the file; an absent one is no error |
 ///
 /// # Examples
 ///
 /// ```text
 /// let mut store = FolderStore::new(&rt, alloc, "/var/lib/tree")?;
-/// store.write("current", bytes)?;
+/// if store.write("current", bytes).is_err() {
+///     // As in: current: write: No space left on device (os error 28)
+///     println!(rt; "{}", store.last_fault()..)?;
+/// }
 /// store.sync("current")?;
 /// ```
 #[derive(Drop)]
-pub struct FolderStore<R: Files + Alloc + Clone + Drop> {
+pub struct FolderStore<R: Files<File = File> + Alloc + Clone + Drop> {
     rt: R,
     root: String,
     /// The path that a call spells, kept for the next one.
     path: String,
     failures: u64,
-}
-
-/// What an error of the file system is to a call without effect.
-fn refusal(error: io::Error) -> StoreError {
-    match error.kind() {
-        ErrorKind::OutOfMemory => StoreError::OutOfMemory,
-        _ => StoreError::Fault,
-    }
-}
-
-/// A path below a folder.
-fn join(alloc: Global, root: &str, name: &str) -> Result<String, AllocError> {
-    let mut path = String::from_str(alloc, root)?;
-    path.push('/')?;
-    path.push_str(name)?;
-    Ok(path)
+    last_fault: Option<FolderFault>,
+    /// Held, and so locked, as long as the store lives.
+    lock: File,
+    ghost told: { IsSome last_fault ↔ (1 ≤ failures) },
 }
 
 /// Whether a name is that of a file in the subfolder.
@@ -75,119 +71,49 @@ fn is_in_tables(name: &str) -> bool {
     }
 }
 
-/// Appends the names of a folder's regular files, each after a prefix.
-fn list_into<R: Files + Alloc + Clone + Drop>(
-    rt: &R,
-    alloc: Global,
-    folder: &str,
-    prefix: &str,
-    names: &mut Vec<String>,
-) -> io::Result<()> {
-    for entry in fs::read_dir(rt, folder)? {
-        let entry = entry?;
-        if entry.file_type()?.is_file() {
-            let mut name = String::from_str(alloc, prefix)?;
-            name.push_str(entry.file_name())?;
-            names.push(name)?;
+impl<R: Files<File = File> + Alloc + Clone + Drop> FolderStore<R> {
+    /// The store of a folder. The folder and its subfolder `tables` are made where they are absent, and each folder on the
+    /// way there, and what is made outlives a crash.
+    ///
+    /// # Errors
+    ///
+    /// What the system answered, where the folder can't be made or locked, or where memory is refused. Another store that
+    /// has the folder open, in this process or in another one, is such a fault, of the kind `WouldBlock`.
+    pub fn new(rt: &R, alloc: Global, folder: &str) -> Result<FolderStore<R>, FolderFault>
+        ensures counts { IfOk result (λ store. store.failures ≡ 0) }
+    {
+        if let Err(error) = disk::make_folder(rt, alloc, folder) {
+            return Err(FolderFault::new(alloc, folder, FolderCall::Make, error));
+        }
+        match FolderStore::lock(rt, alloc, folder) {
+            Ok(store) => Ok(store),
+            Err(error) => Err(FolderFault::new(alloc, folder, FolderCall::Lock, error)),
         }
     }
-    Ok(())
-}
 
-/// The names of all files, those of the subfolder after those of the folder.
-fn list_folder<R: Files + Alloc + Clone + Drop>(
-    rt: &R,
-    alloc: Global,
-    root: &str,
-) -> Result<Vec<String>, StoreError> {
-    let tables = join(alloc, root, TABLES)?;
-    let mut names = Vec::new(alloc);
-    list_into(rt, alloc, root, "", &mut names).map_err(refusal)?;
-    list_into(rt, alloc, tables.as_str(), "tables/", &mut names).map_err(refusal)?;
-    Ok(names)
-}
-
-/// What an outcome is to a call that may have had an effect.
-fn fault_of(outcome: io::Result<()>) -> Result<(), StoreError>
-    ensures { IsErrOf result OutOfMemory → ⊥ }
-{
-    match outcome {
-        Ok(()) => Ok(()),
-        Err(_) => Err(StoreError::Fault),
-    }
-}
-
-/// All bytes of a file. None where it is absent.
-fn read_file<R: Files>(rt: &R, alloc: Global, path: &str) -> io::Result<Option<Vec<u8>>> {
-    match File::open(rt, path) {
-        Ok(mut file) => {
-            let mut bytes = Vec::new(alloc);
-            file.read_to_end(&mut bytes)?;
-            Ok(Some(bytes))
-        }
-        Err(error) => match error.kind() {
-            ErrorKind::NotFound => Ok(None),
-            _ => Err(error),
-        },
-    }
-}
-
-/// Syncs a file, or a folder.
-fn sync_path<R: Files>(rt: &R, path: &str) -> io::Result<()> {
-    File::open(rt, path)?.sync_all()
-}
-
-/// Syncs a file and its folder.
-fn sync_with<R: Files>(rt: &R, path: &str, folder: &str) -> io::Result<()> {
-    sync_path(rt, path)?;
-    sync_path(rt, folder)
-}
-
-/// Fills the file beside, syncs it, gives it the name, and syncs the name's folder.
-fn replace_file<R: Files>(
-    rt: &R,
-    fresh: &str,
-    path: &str,
-    folder: &str,
-    bytes: &[u8],
-) -> io::Result<()> {
-    fs::write(rt, fresh, bytes)?;
-    sync_path(rt, fresh)?;
-    fs::rename(rt, fresh, path)?;
-    sync_path(rt, folder)
-}
-
-/// Removes a file, which may be absent.
-fn remove_file<R: Files>(rt: &R, path: &str) -> io::Result<()> {
-    match fs::remove_file(rt, path) {
-        Ok(()) => Ok(()),
-        Err(error) => match error.kind() {
-            ErrorKind::NotFound => Ok(()),
-            _ => Err(error),
-        },
-    }
-}
-
-impl<R: Files + Alloc + Clone + Drop> FolderStore<R> {
-    /// The store of a folder. The folder and its subfolder `tables` are made where they are absent; a `Fault` where
-    /// they can't be.
-    pub fn new(rt: &R, alloc: Global, folder: &str) -> Result<FolderStore<R>, StoreError>
+    /// The store of a folder that is there.
+    fn lock(rt: &R, alloc: Global, folder: &str) -> io::Result<FolderStore<R>>
         ensures counts { IfOk result (λ store. store.failures ≡ 0) }
     {
         let root = String::from_str(alloc, folder)?;
-        let tables = join(alloc, folder, TABLES)?;
         let room = root.len().saturating_add(NAME_ROOM);
         let path = String::with_capacity(alloc, room)?;
-        let rt = rt.clone()?;
-        match fs::create_dir_all(&rt, tables.as_str()) {
-            Ok(()) => Ok(FolderStore {
-                rt,
-                root,
-                path,
-                failures: 0,
-            }),
-            Err(error) => Err(refusal(error)),
-        }
+        let lock = disk::lock_folder(rt, alloc, folder)?;
+        Ok(FolderStore {
+            rt: rt.clone()?,
+            root,
+            path,
+            failures: 0,
+            last_fault: None,
+            lock,
+        })
+    }
+
+    /// Why the last call failed that did. None where none did.
+    pub fn last_fault(&self) -> Option<&FolderFault>
+        ensures { IsSome result ↔ (1 ≤ self.now.failures) }
+    {
+        self.last_fault.as_ref()
     }
 
     /// Spells the path of a name.
@@ -210,19 +136,53 @@ impl<R: Files + Alloc + Clone + Drop> FolderStore<R> {
         }
     }
 
-    /// Counts a call that failed.
-    fn count<T: Drop>(&mut self, outcome: Result<T, StoreError>) -> Result<T, StoreError>
+    /// Counts a call that failed, and keeps why.
+    fn fail<T>(&mut self, call: FolderCall, name: &str, error: io::Error) -> Result<T, StoreError>
         ensures counts { Counts (untold self.old.failures) (untold self.new.failures) result }
-        ensures same { result ≡ outcome }
+        ensures fault { result ≡ Err Fault }
     {
-        if let Err(StoreError::Fault) = &outcome {
-            self.failures = self.failures.saturating_add(1);
+        let alloc = *self.root.allocator();
+        self.last_fault = Some(FolderFault::new(alloc, name, call, error));
+        self.failures = self.failures.saturating_add(1);
+        Err(StoreError::Fault)
+    }
+
+    /// What the outcome of a call without effect is: want of memory is no failure.
+    fn tell<T: Drop>(
+        &mut self,
+        call: FolderCall,
+        name: &str,
+        outcome: io::Result<T>,
+    ) -> Result<T, StoreError>
+        ensures counts { Counts (untold self.old.failures) (untold self.new.failures) result }
+    {
+        match outcome {
+            Ok(value) => Ok(value),
+            Err(error) => match error.kind() {
+                ErrorKind::OutOfMemory => Err(StoreError::OutOfMemory),
+                _ => self.fail(call, name, error),
+            },
         }
-        outcome
+    }
+
+    /// What the outcome of a call is that may have had an effect.
+    fn tell_changed(
+        &mut self,
+        call: FolderCall,
+        name: &str,
+        outcome: io::Result<()>,
+    ) -> Result<(), StoreError>
+        ensures counts { Counts (untold self.old.failures) (untold self.new.failures) result }
+        ensures fault { IsErrOf result OutOfMemory → ⊥ }
+    {
+        match outcome {
+            Ok(()) => Ok(()),
+            Err(error) => self.fail(call, name, error),
+        }
     }
 }
 
-impl<R: Files + Alloc + Clone + Drop> Store for FolderStore<R> {
+impl<R: Files<File = File> + Alloc + Clone + Drop> Store for FolderStore<R> {
     ghost tells = { ⊥ };
 
     ghost world = { λ s. untold s.failures };
@@ -234,49 +194,44 @@ impl<R: Files + Alloc + Clone + Drop> Store for FolderStore<R> {
     ghost only_now = { λ no store image left. absurd no };
 
     fn list(&mut self, alloc: Global) -> Result<Vec<String>, StoreError> {
-        let outcome = list_folder(&self.rt, alloc, self.root.as_str());
-        self.count(outcome)
+        let outcome = disk::list_folder(&self.rt, alloc, self.root.as_str());
+        self.tell(FolderCall::List, "", outcome)
     }
 
     fn read(&mut self, alloc: Global, name: &str) -> Result<Option<Vec<u8>>, StoreError> {
         self.spell(name)?;
-        let outcome = read_file(&self.rt, alloc, self.path.as_str()).map_err(refusal);
-        self.count(outcome)
+        let outcome = disk::read_file(&self.rt, alloc, self.path.as_str());
+        self.tell(FolderCall::Read, name, outcome)
     }
 
     fn write(&mut self, name: &str, bytes: &[u8]) -> Result<(), StoreError> {
         self.spell(name)?;
-        let outcome = fs::write(&self.rt, self.path.as_str(), bytes);
-        self.count(fault_of(outcome))
+        let outcome = disk::write_file(&self.rt, self.path.as_str(), bytes);
+        self.tell_changed(FolderCall::Write, name, outcome)
     }
 
     fn sync(&mut self, name: &str) -> Result<(), StoreError> {
         let folder = self.folder_of(name)?;
         self.spell(name)?;
-        let outcome = sync_with(&self.rt, self.path.as_str(), folder.as_str());
-        self.count(fault_of(outcome))
+        let outcome = disk::sync_with(&self.rt, self.path.as_str(), folder.as_str());
+        self.tell_changed(FolderCall::Sync, name, outcome)
     }
 
     fn replace(&mut self, name: &str, bytes: &[u8]) -> Result<(), StoreError> {
         let folder = self.folder_of(name)?;
         let fresh = join(*folder.allocator(), self.root.as_str(), FRESH)?;
         self.spell(name)?;
-        let outcome = replace_file(
-            &self.rt,
-            fresh.as_str(),
-            self.path.as_str(),
-            folder.as_str(),
-            bytes,
-        );
-        self.count(fault_of(outcome))
+        let path = self.path.as_str();
+        let outcome = disk::replace_file(&self.rt, fresh.as_str(), path, folder.as_str(), bytes);
+        self.tell_changed(FolderCall::Replace, name, outcome)
     }
 
     fn remove(&mut self, name: &str) -> Result<(), StoreError> {
         let outcome = match self.spell(name) {
-            Ok(()) => fault_of(remove_file(&self.rt, self.path.as_str())),
-            Err(_) => Err(StoreError::Fault),
+            Ok(()) => disk::remove_file(&self.rt, self.path.as_str()),
+            Err(error) => Err(error.into()),
         };
-        self.count(outcome)
+        self.tell_changed(FolderCall::Remove, name, outcome)
     }
 
     fn failures(&self) -> u64 {

@@ -13,7 +13,7 @@ mod mem_store;
 mod store;
 mod synced;
 
-pub use folder_store::FolderStore;
+pub use folder_store::{FolderCall, FolderFault, FolderStore};
 pub use mem_store::{Fault, MemStore, Pick};
 pub use store::{Store, StoreError, runs_of_calls};
 pub use synced::write_synced;

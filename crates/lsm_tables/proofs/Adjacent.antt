@@ -1,14 +1,16 @@
 -- Entries that rise one after the other rise all together, by tests and by facts.
 use Rattle.std.proofs.Math.Bool.{and-true, and_assoc}
-use Rattle.std.proofs.Common.{◌≡◌, ◌-◌, Bool, true, false, ◌&&◌, List, [], ◌∷◌, ◌++◌, length, Some, slice_get, refl, sym, ap, ◌∙◌, arith}
+use Rattle.std.proofs.Common.{◌≡◌, ℕ, ◌-◌, ◌<◌, Bool, true, false, ◌&&◌, List, [], ◌∷◌, ◌++◌, length, map, get_or, Some, slice_get, refl, sym, ap, ◌∙◌, arith}
 use Rattle.std.specs.List.{All}
 use Rattle.std.specs.declared.cmp.Ordering.{Ordering}
 use Rattle.std.specs.declared.cmp.Ordering.TheVariants.{Less, Equal, Greater}
 use Rattle.std.specs.Ordering.{is_lt}
 use Rattle.std.proofs.lemmas.Bool.{and_parts, and_from}
-use Rattle.std.proofs.lemmas.List.Elements.{All-cons, All-head, All-nil, All-weaker}
+use Rattle.std.proofs.lemmas.List.Elements.{All-cons, All-head, All-nil, All-push, All-weaker}
 use Rattle.lsm_below.specs.declared.value.InternalValue.{InternalValue}
-use Rattle.lsm_below.specs.Entries.{entry_cmp}
+use Rattle.std.proofs.lemmas.List.{map-append}
+use Rattle.lsm_below.specs.Entries.{HasBytes, entry_cmp}
+use Rattle.lsm_below.specs.Heads.{entry_head, AreHeads}
 use Rattle.lsm_below.specs.Slots.{is_before}
 use Rattle.lsm_below.specs.Laws.{EntriesAreOrdered}
 use Rattle.lsm_below.specs.Sorted.{Rises}
@@ -64,6 +66,24 @@ follows_last [] f l h = absurd cc
 follows_last (e ∷ es) f l h =
     let n : length (e ∷ es) - 1 ≡ length es = omega arith in
     last_after e es f l (ap (slice_get (e ∷ es)) (sym n) ∙ h)
+
+at_last : (e : InternalValue) (es : List InternalValue) (f d : InternalValue) → follows_after e es f ≡ is_before (get_or (e ∷ es) (length es) d) f
+at_last e [] f d = refl
+at_last e (g ∷ es) f d = at_last g es f d
+
+-- the same of the last one by its place
+pub follows_at : (es : List InternalValue) (f d : InternalValue) → 0 < length es → follows es f ≡ is_before (get_or es (length es - 1) d) f
+follows_at [] f d some = absurd (omega arith)
+follows_at (e ∷ es) f d some =
+    let n : length es ≡ length (e ∷ es) - 1 = omega arith in
+    at_last e es f d ∙ ap (λ i. is_before (get_or (e ∷ es) i d) f) n
+
+-- with one more
+pub heads_push : (heads : List ℕ) (es : List InternalValue) (head : ℕ) (e : InternalValue) → AreHeads heads es → head ≡ entry_head e → HasBytes e → AreHeads (heads ++ head ∷ []) (es ++ e ∷ [])
+heads_push heads es head e are is own = record {
+  same = ap (λ l. l ++ head ∷ []) are.same ∙ ap (λ h. map entry_head es ++ h ∷ []) is ∙ sym (map-append entry_head es (e ∷ []));
+  bytes = All-push HasBytes es e are.bytes own;
+}
 
 pub and_when : (x y : Bool) → x ≡ true → (x && y) ≡ y
 and_when true y h = refl

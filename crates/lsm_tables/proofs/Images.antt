@@ -246,11 +246,11 @@ pub images_first : (m n : ℕ) (es fs : List InternalValue) (a b x y : List ℕ)
 images_first m n es fs a b x y i j e =
     image_first m n es fs x y i.moment j.moment i.table j.table (ap (λ (s : List ℕ). s ++ x) (sym i.spelling) ∙ e ∙ ap (λ (s : List ℕ). s ++ y) j.spelling)
 
-pub is_read : EntriesAreOrdered → (bytes : List ℕ) (r : Result (ℕ × Vec InternalValue) TableError) → AreBytes bytes → Gives (λ x. contents x.0 x.1.items) r (image_at bytes) → IfOk r (λ x. IsImageOf x.0 x.1.items bytes)
+pub is_read : EntriesAreOrdered → (bytes : List ℕ) (r : Result (ℕ × Vec InternalValue × Vec ℕ) TableError) → AreBytes bytes → Gives (λ x. contents x.0 x.1.items) r (image_at bytes) → IfOk r (λ x. IsImageOf x.0 x.1.items bytes)
 is_read order bytes (Ok x) fits given = image_takes order bytes (x.0, x.1.items) fits given
 is_read order bytes (Err e) fits given = tt
 
-pub is_bad : (bytes : List ℕ) (r : Result (ℕ × Vec InternalValue) TableError) → Gives (λ x. contents x.0 x.1.items) r (image_at bytes) → IfErr r (λ e. e ≡ BadTable → IsNoImage bytes)
+pub is_bad : (bytes : List ℕ) (r : Result (ℕ × Vec InternalValue × Vec ℕ) TableError) → Gives (λ x. contents x.0 x.1.items) r (image_at bytes) → IfErr r (λ e. e ≡ BadTable → IsNoImage bytes)
 is_bad bytes (Ok x) given = tt
 is_bad bytes (Err OutOfMemory) given = λ h. absurd (cc h)
 is_bad bytes (Err BadTable) given = λ h made_at es i.

@@ -9,3 +9,5 @@ pub mod Cutting
 pub mod CutRuns
 pub mod Keeping
 pub mod Lists
+pub mod Search
+pub mod Bounds

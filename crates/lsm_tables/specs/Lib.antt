@@ -1,4 +1,5 @@
 pub mod Sum
+pub mod Weights
 pub mod Reading
 pub mod Image
 pub mod ImageReading

@@ -3,8 +3,9 @@ use Rattle.std.specs.Prelude.{◌≡◌, ℕ, ◌+◌, max, Bool, true, false, �
 use Rattle.std.specs.List.{AllByRecursion}
 use Rattle.lsm_below.specs.Keys.{Bytes}
 use Rattle.lsm_below.specs.Ranges.{Range, in_range}
-use Rattle.lsm_below.specs.Entries.{Entry, HasBytes, is_tombstone_type, is_value, is_weak}
+use Rattle.lsm_below.specs.Entries.{Entry, is_tombstone_type, is_value, is_weak}
 use Rattle.lsm_below.specs.Slots.{same_key}
+use Rattle.lsm_below.specs.Heads.{AreHeads}
 use Rattle.lsm_tables.specs.Image.{IsTable, image, entry_bytes}
 use Rattle.lsm_tables.specs.Sum.{sum_of}
 use Rattle.lsm_tables.specs.declared.table.counts.Counts.{Counts}
@@ -76,7 +77,7 @@ pub record IsCountOf (es : List Entry) (c : Counts) : Type 0 where
 -- what is kept beside a table's entries is what follows from them
 pub record IsKeptTable (inner : TableInner) : Type 0 where
   pub table : IsTable inner.entries.items
-  pub bytes : AllByRecursion HasBytes inner.entries.items
+  pub heads : AreHeads inner.heads.items inner.entries.items
   pub range : inner.key_range ≡ range_of inner.entries.items
   pub size : inner.file_size ≡ 20 + entry_bytes inner.entries.items
   pub sum : inner.checksum.0 ≡ sum_of (image inner.created_at inner.entries.items)

@@ -2,10 +2,19 @@
 ghost use Rattle.std.specs.Prelude.{◌≡◌, ℕ, List, ◌+◌, ◌*◌, ◌%◌, ◌^◌, ◌++◌, length};
 ghost use Rattle.std.specs.List.{fold};
 ghost use Rattle.lsm_tables.specs.Sum.{prime, step, sum_of};
+ghost use Rattle.lsm_tables.specs.Weights.{AreWeights};
 
 const PRIME: u128 = 1_099_511_628_211;
 
 const SQUARED_PRIME: u128 = 1_208_925_820_571_204_291_060_521;
+
+/// The prime to the powers 3 and 4, modulo 2^128.
+const CUBED_PRIME: u128 = 1329227997362564068125063396651957931;
+
+const FOURTH_PRIME: u128 = 271162512512676767733861726548342979729;
+
+/// From how many bytes of a part on the making of weights pays.
+const MANY: usize = 2048;
 
 /// The checksum of a file's bytes: `s`, from 0, with `s = (s * 1099511628211 + byte + 1) mod 2^128`
 /// for each byte in turn. It tells an honest mistake; no claim that damage is found rests on it.
@@ -16,6 +25,14 @@ const SQUARED_PRIME: u128 = 1_208_925_820_571_204_291_060_521;
 /// ```
 #[derive(Clone, Copy, Debug, PartialEq, Eq)]
 pub struct Checksum(u128);
+
+/// What each byte adds to a sum, with one, two and three bytes behind it.
+#[derive(Drop)]
+struct Weights {
+    one: [u64; 256],
+    two: [u128; 256],
+    three: [u128; 256],
+}
 
 /// The sums of two parts of one length.
 struct Sums {
@@ -35,6 +52,34 @@ fn with_pair(sum: u128, first: u8, second: u8) -> u128
 {
     let pair = (first as u64 + 1) * PRIME as u64 + second as u64 + 1;
     sum.wrapping_mul(SQUARED_PRIME).wrapping_add(pair as u128)
+}
+
+/// The weights of all bytes.
+fn make_weights() -> Weights
+    ensures { AreWeights result }
+{
+    let mut one = [0u64; 256];
+    let mut two = [0u128; 256];
+    let mut three = [0u128; 256];
+    for byte in 0..256 {
+        one[byte] = (byte as u64 + 1) * PRIME as u64;
+        two[byte] = (byte as u128 + 1).wrapping_mul(SQUARED_PRIME);
+        three[byte] = (byte as u128 + 1).wrapping_mul(CUBED_PRIME);
+    }
+    Weights { one, two, three }
+}
+
+/// The sum with four more bytes, by one multiplication.
+fn with_four(weights: &Weights, sum: u128, a: u8, b: u8, c: u8, d: u8) -> u128
+    requires { AreWeights weights.now }
+    ensures { result ≡ step (step (step (step sum a) b) c) d }
+{
+    // What they add doesn't wait for the sum.
+    let low = weights.one[c as usize] + d as u64 + 1;
+    let four = weights.three[a as usize]
+        .wrapping_add(weights.two[b as usize])
+        .wrapping_add(low as u128);
+    sum.wrapping_mul(FOURTH_PRIME).wrapping_add(four)
 }
 
 /// The sum goes on over more bytes.
@@ -91,13 +136,62 @@ fn two_sums(first: &[u8], second: &[u8]) -> Sums
     }
 }
 
+/// `two_sums`, four bytes at a time.
+fn two_long_sums(first: &[u8], second: &[u8]) -> Sums
+    requires second { length second.now ≡ length first.now }
+    requires fours { length first.now % 4 ≡ 0 }
+    ensures first { result.first ≡ sum_of first.now }
+    ensures second { result.second ≡ sum_of second.now }
+{
+    let weights = make_weights();
+    let mut a = 0;
+    let mut b = 0;
+    for four in 0..first.len() / 4 {
+        let i = 4 * four;
+        a = with_four(
+            &weights,
+            a,
+            first[i],
+            first[i + 1],
+            first[i + 2],
+            first[i + 3],
+        );
+        b = with_four(
+            &weights,
+            b,
+            second[i],
+            second[i + 1],
+            second[i + 2],
+            second[i + 3],
+        );
+    }
+    Sums {
+        first: a,
+        second: b,
+    }
+}
+
+/// Two parts of one length, a multiple of four.
+fn both_sums(first: &[u8], second: &[u8]) -> Sums
+    requires second { length second.now ≡ length first.now }
+    requires fours { length first.now % 4 ≡ 0 }
+    ensures first { result.first ≡ sum_of first.now }
+    ensures second { result.second ≡ sum_of second.now }
+{
+    if first.len() < MANY {
+        two_sums(first, second)
+    } else {
+        two_long_sums(first, second)
+    }
+}
+
 fn sum_of_bytes(bytes: &[u8]) -> u128
     ensures { result ≡ sum_of bytes.now }
 {
-    let half = bytes.len() / 4 * 2;
+    let half = bytes.len() / 8 * 4;
     let (first, rest) = bytes.split_at(half);
     let (second, last) = rest.split_at(half);
-    let Sums { first, second } = two_sums(first, second);
+    let Sums { first, second } = both_sums(first, second);
     let sum = joined(first, power(half), second);
     sum_on(sum, last)
 }

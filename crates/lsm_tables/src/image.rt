@@ -14,5 +14,6 @@ pub(crate) use layout::{FRONT_LEN, HEAD_LEN};
 pub(crate) use limits::may_stand_behind;
 pub use limits::{fits_image, is_writable};
 pub use open::OpenImage;
+pub(crate) use reading::decode_headed;
 pub use reading::{decode, no_image_begins_another};
 pub use writing::{encode, encode_parts};

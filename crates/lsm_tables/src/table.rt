@@ -1,23 +1,25 @@
 // A table in memory: the entries of one file.
-ghost use Rattle.std.specs.Prelude.{◌≡◌, ◌+◌, ◌<◌, length, IfOk, IfErr, IfSome, IfNone, option_copied};
+ghost use Rattle.std.specs.Prelude.{◌≡◌, ◌+◌, ◌-◌, ◌<◌, ◌≤◌, take, drop, length, IfOk, IfErr, IfSome, IfNone, option_copied};
 ghost use Rattle.std.specs.List.{AllByRecursion};
 ghost use Rattle.lsm_below.specs.Entries.{HasBytes, entry_cmp, top};
 ghost use Rattle.lsm_below.specs.Sorted.{Rises};
 ghost use Rattle.lsm_below.specs.Lookups.{IsTop, HasNone, within};
 ghost use Rattle.lsm_tables.specs.Image.{IsTable, IsImageOf, IsNoImage, image, entry_bytes};
 ghost use Rattle.lsm_tables.specs.Sum.{sum_of};
-ghost use Rattle.lsm_tables.specs.Tables.{IsCovered, range_of, greatest, tombstones, weak_tombstones, reclaimable};
+ghost use Rattle.lsm_tables.specs.Tables.{IsCovered, IsKeptTable, range_of, greatest, tombstones, weak_tombstones, reclaimable};
 ghost use Rattle.lsm_tables.specs.declared.table_error.TableError.TheVariants.{BadTable};
 
 mod counts;
+mod heads;
 
-use crate::image::decode;
+use crate::image::decode_headed;
 use crate::{Checksum, TableError};
 use bytes::Bytes;
 use counts::{Counts, count};
+use heads::{find, places};
 use lsm_below::{
-    InternalValue, KeyRange, Ranged, SeqNo, TableId, UserKey, entries_are_ordered, entries_within,
-    first_visible, keys_are_ordered, share,
+    InternalValue, KeyRange, Ranged, SeqNo, Stretch, TableId, UserKey, entries_are_ordered,
+    entries_are_parted, first_visible_is_top, keys_are_ordered, share,
 };
 use std::alloc::{AllocError, Global};
 use std::marker::Model;
@@ -30,6 +32,7 @@ struct TableInner {
     id: TableId,
     created_at: u64,
     entries: Vec<InternalValue>,
+    heads: Vec<u128>,
     key_range: KeyRange,
     file_size: u64,
     checksum: Checksum,
@@ -72,6 +75,28 @@ fn range_between(entries: &[InternalValue]) -> Result<KeyRange, AllocError>
     Ok(KeyRange::new((share(first)?, share(last)?)))
 }
 
+/// The entry of a key with the greatest sequence number below the snapshot.
+fn find_in<'a>(inner: &'a TableInner, key: &[u8], seqno: SeqNo) -> Option<&'a InternalValue>
+    requires { IsKeptTable inner.now }
+    ensures is { option_copied result ≡ top key.now seqno inner.now.entries.items }
+    ensures greatest { IfSome result (λ e. IsTop inner.now.entries.items key.now seqno e.now) }
+    ensures none { IfNone result (HasNone inner.now.entries.items key.now seqno) }
+{
+    entries_are_parted();
+    first_visible_is_top();
+    find(&inner.heads, &inner.entries, key, seqno)
+}
+
+/// Where the entries in the bounds stand.
+fn places_in(inner: &TableInner, lower: &Bound<UserKey>, upper: &Bound<UserKey>) -> (usize, usize)
+    requires { IsKeptTable inner.now }
+    ensures in_order { result.0 ≤ result.1 }
+    ensures inside { result.1 ≤ length inner.now.entries.items }
+    ensures within { take (result.1 - result.0) (drop result.0 inner.now.entries.items) ≡ within lower.now upper.now inner.now.entries.items }
+{
+    places(&inner.heads, &inner.entries, lower, upper)
+}
+
 impl Table {
     /// The table with this id whose file has these bytes. Keys and values share them. The cost is
     /// linear in the bytes.
@@ -87,13 +112,14 @@ impl Table {
     {
         let checksum = Checksum::of(bytes.as_slice());
         let file_size = bytes.len() as u64;
-        let (created_at, entries) = decode(alloc, bytes)?;
+        let (created_at, entries, heads) = decode_headed(alloc, bytes)?;
         let key_range = range_between(&entries)?;
         let counts = count(&entries);
         let inner = TableInner {
             id,
             created_at,
             entries,
+            heads,
             key_range,
             file_size,
             checksum,
@@ -125,6 +151,13 @@ impl Table {
         &self.inner.entries
     }
 
+    /// The entries, lent with the heads of their keys.
+    pub fn headed_entries(&self) -> Stretch<'_>
+        ensures { result ≡ self.now.entries }
+    {
+        Stretch::new(&self.inner.entries, &self.inner.heads)
+    }
+
     /// What every table meets: it has an entry at least, its entries rise and fit a file, their keys have the
     /// numbers of bytes, and its range has their keys.
     pub fn facts(&self)
@@ -144,7 +177,7 @@ impl Table {
         ensures greatest { IfSome result (λ e. IsTop self.now.entries key.now seqno e.now) }
         ensures none { IfNone result (HasNone self.now.entries key.now seqno) }
     {
-        first_visible(&self.inner.entries, key, seqno)
+        find_in(&self.inner, key, seqno)
     }
 
     /// The entries in the bounds: a part of the table, found in logarithmic time. There is none where the
@@ -152,7 +185,18 @@ impl Table {
     pub fn range(&self, lower: &Bound<UserKey>, upper: &Bound<UserKey>) -> &[InternalValue]
         ensures { result.now ≡ within lower.now upper.now self.now.entries }
     {
-        entries_within(&self.inner.entries, lower, upper)
+        let (start, end) = places_in(&self.inner, lower, upper);
+        &self.inner.entries[start..end]
+    }
+
+    /// Where the entries in the bounds stand: from the first place on, and up to the second without it. Found in
+    /// logarithmic time.
+    pub fn places(&self, lower: &Bound<UserKey>, upper: &Bound<UserKey>) -> (usize, usize)
+        ensures in_order { result.0 ≤ result.1 }
+        ensures inside { result.1 ≤ length self.now.entries }
+        ensures within { take (result.1 - result.0) (drop result.0 self.now.entries) ≡ within lower.now upper.now self.now.entries }
+    {
+        places_in(&self.inner, lower, upper)
     }
 
     /// The bytes of the table's file: 20, and for each entry 15, its key's and its value's.

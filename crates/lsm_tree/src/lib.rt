@@ -8,11 +8,11 @@
 //! | `shared_flushes` | its flushes |
 //! | `shared_compactions` | its compactions |
 //! | `gate` | who does the merge of a compaction while no lock is held |
-//! | `shared_counts` | what is counted of it |
+//! | `shared_counts` | what is counted and told of it |
 //! | `recorded_tree` | the calls of a tree with its journal, behind the lock |
 //! | `recorded_flushes` | its flushes |
 //! | `recorded_compactions` | its compactions |
-//! | `recorded_counts` | what is counted of it |
+//! | `recorded_counts` | what is counted and told of it |
 //! | `laws` | theorems as the contracts of functions that do nothing |
 #![tactic(auto)]
 
@@ -34,8 +34,10 @@ pub use gate::RunJob;
 pub use handle::Handle;
 pub use handle::RecordedTree;
 pub use handle::Tree;
+pub use lsm_below::AsEntry;
 pub use lsm_below::CompactionStream;
 pub use lsm_below::Error;
+pub use lsm_below::Headed;
 pub use lsm_below::InternalKey;
 pub use lsm_below::InternalValue;
 pub use lsm_below::KeyRange;
@@ -48,6 +50,7 @@ pub use lsm_below::Ranged;
 pub use lsm_below::Run;
 pub use lsm_below::SeqNo;
 pub use lsm_below::Source;
+pub use lsm_below::Stretch;
 pub use lsm_below::TableId;
 pub use lsm_below::TreeId;
 pub use lsm_below::UserKey;
@@ -72,6 +75,7 @@ pub use lsm_iter::End;
 pub use lsm_iter::Guard;
 pub use lsm_iter::IterGuard;
 pub use lsm_iter::IterState;
+pub use lsm_iter::Pairs;
 pub use lsm_iter::RangeItem;
 pub use lsm_iter::TreeIter;
 pub use lsm_iter::prefix_to_range;
@@ -86,6 +90,7 @@ pub use lsm_manifest::Manifest;
 pub use lsm_manifest::Opened;
 pub use lsm_manifest::RecoveredTable;
 pub use lsm_manifest::Recovery;
+pub use lsm_manifest::damaged_file;
 pub use lsm_manifest::get_current_version;
 pub use lsm_manifest::open_files;
 pub use lsm_manifest::persist_version;
@@ -123,7 +128,6 @@ pub use lsm_parts::VersionId;
 pub use lsm_parts::seqno_filter;
 pub use lsm_pick::Choice;
 pub use lsm_pick::ChooseError;
-pub use lsm_pick::CompactionState;
 pub use lsm_pick::CompactionStrategy;
 pub use lsm_pick::DropRange;
 pub use lsm_pick::FIFO_COMPACTION_NAME;
@@ -155,6 +159,8 @@ pub use lsm_state::Options;
 pub use lsm_state::TreeState;
 pub use lsm_state::do_compaction;
 pub use lsm_store::Fault;
+pub use lsm_store::FolderCall;
+pub use lsm_store::FolderFault;
 pub use lsm_store::FolderStore;
 pub use lsm_store::MemStore;
 pub use lsm_store::Pick;
@@ -169,6 +175,7 @@ pub use lsm_tables::encode;
 pub use lsm_tables::fits_image;
 pub use lsm_tables::is_writable;
 pub use lsm_tables::write_tables;
+pub use lsm_versions::CompactionState;
 pub use lsm_versions::GenericLevel;
 pub use lsm_versions::HiddenSet;
 pub use lsm_versions::Level;

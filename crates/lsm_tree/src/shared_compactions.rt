@@ -1,8 +1,7 @@
 // The calls of a compaction, of a tree behind the lock.
 ghost use Rattle.std.specs.Prelude.{◌≡◌, ◌↔◌, ℕ, true, IfOk, IfErr, IsTrue};
-ghost use Rattle.lsm_merges.specs.Merges.{SeenCompaction};
 ghost use Rattle.lsm_merges.specs.OpenMerges.{hides};
-ghost use Rattle.lsm_state.specs.Compactions.{BeginsCompaction, Finishes, Spends};
+ghost use Rattle.lsm_state.specs.Compactions.{BeginsChoice, BeginsCompaction, Finishes, Spends};
 ghost use Rattle.lsm_state.specs.WholeCompactions.{Compacts, DropsRange, options_at, only_memory, major_choice};
 ghost use Rattle.lsm_tree.specs.Shared.{OnSomeTree, AtSomeTree};
 ghost use Rattle.lsm_tree.specs.Gates.{IsNoJob, EndsGated, CompactsGated};
@@ -12,7 +11,7 @@ use crate::handle::Handle;
 use lsm_below::SeqNo;
 use lsm_merges::{CompactionJob, MergedCompaction};
 use lsm_parts::Error;
-use lsm_pick::{CompactionStrategy, OwnedBounds};
+use lsm_pick::{Choice, CompactionStrategy, OwnedBounds};
 use lsm_state::{Begun, Finished, Options, TreeState, do_compaction};
 use lsm_store::Store;
 use std::sync::Wait;
@@ -44,6 +43,23 @@ impl<S: Store> Handle<TreeState<S>> {
         let tree = &mut *tree;
         tree.facts();
         let told = tree.begin_compaction(strategy, options);
+        tree.facts();
+        told
+    }
+
+    /// Does a choice of the caller's own, as `TreeState::begin_choice`.
+    pub fn begin_choice(
+        &self,
+        rt: &impl Wait,
+        choice: Choice,
+        options: Options,
+    ) -> Result<Begun, Error>
+        ensures { OnSomeTree (λ old new. BeginsChoice choice options result old new) }
+    {
+        let mut tree = self.shared.lock(rt);
+        let tree = &mut *tree;
+        tree.facts();
+        let told = tree.begin_choice(choice, options);
         tree.facts();
         told
     }

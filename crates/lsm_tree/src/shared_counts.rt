@@ -1,23 +1,52 @@
-// What is counted of a tree behind the lock.
+// What is counted and told of a tree behind the lock.
 ghost use Rattle.std.specs.Prelude.{◌≡◌, ◌+◌, ◌++◌, [], length, slice_get, slice_index_or, option_map};
 ghost use Rattle.lsm_below.specs.Optimizes.{tables_of};
 ghost use Rattle.lsm_below.specs.Sums.{capped};
 ghost use Rattle.lsm_tables.specs.Tables.{tombstones, weak_tombstones, reclaimable};
 ghost use Rattle.lsm_memtable.specs.Memtables.{highest_of};
 ghost use Rattle.lsm_versions.specs.Levels.{all_of, bytes_of};
+ghost use Rattle.lsm_versions.specs.declared.version.TreeType.TheVariants.{Standard};
 ghost use Rattle.lsm_parts.specs.History.{named_size};
 ghost use Rattle.lsm_state.specs.Counts.{tables_now, persisted_of, unflushed_of, counted_now};
 ghost use Rattle.lsm_tree.specs.Shared.{AtSomeTree};
 
 use crate::handle::Handle;
-use lsm_below::SeqNo;
+use lsm_below::{SeqNo, TableId, TreeId};
 use lsm_state::TreeState;
 use lsm_store::Store;
+use lsm_versions::TreeType;
 use std::sync::Wait;
 
-/// What the calls of the same names of `TreeState` count, of the tree as the lock finds it. Two such calls may find two
+/// What the calls of the same names of `TreeState` count and tell, of the tree as the lock finds it. Two such calls may find two
 /// trees.
 impl<S: Store> Handle<TreeState<S>> {
+    /// The tree's id, as it was opened with.
+    pub fn id(&self, rt: &impl Wait) -> TreeId
+        ensures { AtSomeTree (λ c. result ≡ c.config.id) }
+    {
+        let tree = self.shared.lock(rt);
+        let tree = &*tree;
+        tree.facts();
+        tree.id()
+    }
+
+    /// What kind of tree it is: always a standard one.
+    pub fn tree_type(&self, rt: &impl Wait) -> TreeType
+        ensures { result ≡ Standard }
+    {
+        self.shared.lock(rt).tree_type()
+    }
+
+    /// The id that the next table gets.
+    pub fn next_table_id(&self, rt: &impl Wait) -> TableId
+        ensures { AtSomeTree (λ c. result ≡ c.next_table) }
+    {
+        let tree = self.shared.lock(rt);
+        let tree = &*tree;
+        tree.facts();
+        tree.next_table_id()
+    }
+
     /// How many tables the latest version has.
     pub fn table_count(&self, rt: &impl Wait) -> usize
         ensures { AtSomeTree (λ c. result ≡ capped (length (all_of c.history.latest.version.levels))) }

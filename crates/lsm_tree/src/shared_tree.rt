@@ -1,15 +1,16 @@
 // The calls of a tree behind the lock.
-ghost use Rattle.std.specs.Prelude.{◌≡◌, ◌<◌, ◌≤◌, Option, IfOk, IfErr, IsErrOf, is_some, option_map};
+ghost use Rattle.std.specs.Prelude.{◌≡◌, ◌<◌, ◌≤◌, ◌+◌, Option, IfOk, IfErr, IsErrOf, is_some, option_map};
 ghost use Rattle.lsm_below.specs.Keys.{Bytes};
 ghost use Rattle.lsm_below.specs.Entries.{plain};
 ghost use Rattle.lsm_model.specs.Ops.{op_entry};
 ghost use Rattle.lsm_model.specs.declared.op.Op.TheVariants.{Set, Del, Weak};
+ghost use Rattle.lsm_state.specs.Flushes.{with_next_table};
 ghost use Rattle.lsm_state.specs.Calls.{Appends, WritesBatch, Gives, GivesEntry, Rotates, value_size};
 ghost use Rattle.lsm_state.specs.Clearing.{Clears, ForgetsUnflushed};
 ghost use Rattle.lsm_tree.specs.Shared.{OnSomeTree, AtSomeTree, RefusesSharedRead, RefusesSharedLook, RefusesSharedRotation};
 
 use crate::handle::Handle;
-use lsm_below::{InternalValue, MemtableId, SeqNo, UserKey, UserValue};
+use lsm_below::{InternalValue, MemtableId, SeqNo, TableId, UserKey, UserValue};
 use lsm_model::Op;
 use lsm_parts::{Error, LIMIT};
 use lsm_state::TreeState;
@@ -195,6 +196,24 @@ impl<S: Store> Handle<TreeState<S>> {
         let tree = &mut *tree;
         tree.facts();
         tree.seqno_mut().next()
+    }
+
+    /// Draws an id for a table, as `TreeState::get_next_table_id`: no table of the tree gets it.
+    ///
+    /// # Errors
+    ///
+    /// `OutOfNumbers` where the next id is 2^63 or more; then nothing changes.
+    pub fn get_next_table_id(&self, rt: &impl Wait) -> Result<TableId, Error>
+        ensures draws { IfOk result (λ id. OnSomeTree (λ old new. (id ≡ old.next_table) × (new ≡ with_next_table (old.next_table + 1) old))) }
+        ensures only { IfErr result (λ e. e ≡ Error.OutOfNumbers) }
+        ensures out_of_numbers { IsErrOf result Error.OutOfNumbers → AtSomeTree (λ c. LIMIT ≤ c.next_table) }
+    {
+        let mut tree = self.shared.lock(rt);
+        let tree = &mut *tree;
+        tree.facts();
+        let told = tree.get_next_table_id();
+        tree.facts();
+        told
     }
 
     /// The snapshot that sees every write so far that was made visible.

@@ -1,10 +1,11 @@
 // Compactions of shared trees, with a journal and without, and of a recorded tree with one owner.
 use crate::samples::{open_recorded, open_state, text};
 use lsm_tree::{
-    Begun, CompactionJob, Config, Error, Finished, Handle, JournalEntry, Leveled, Major, Op,
-    Options, OwnedBounds, Pass, Recorded, RecordedTree, Tree,
+    Begun, Choice, CompactionJob, Config, Error, Finished, Handle, JournalEntry, Leveled, Major,
+    Op, Options, OwnedBounds, Pass, Recorded, RecordedTree, Tree, Why,
 };
 use std::alloc::Global;
+use std::collections::HashSet;
 use std::ops::Bound;
 use std::sync::Wait;
 use std::test::Fail;
@@ -133,6 +134,33 @@ fn compacts(rt: &impl Wait, alloc: Global, tree: &Tree) -> Result<bool, Error> {
 fn a_shared_tree_compacts_in_one_call(rt: HostRuntime) -> Result<(), Fail> {
     let tree = open_tree(rt.alloc())?;
     let done = compacts(&rt, rt.alloc(), &tree);
+    assert!(rt; matches!(done, Ok(true)));
+    drop(tree);
+    Ok(())
+}
+
+/// The tables 0 and 1 are to be dropped.
+fn drop_both(alloc: Global) -> Result<Choice, Error> {
+    let mut ids = HashSet::new(alloc);
+    ids.insert(0)?;
+    ids.insert(1)?;
+    Ok(Choice::Drop(ids))
+}
+
+/// A choice of the caller's own: declined while a table of it isn't there, and then done.
+fn does_choices(rt: &impl Wait, alloc: Global, tree: &Tree) -> Result<bool, Error> {
+    set_in_table(rt, alloc, tree, "a", "x")?;
+    let missing = tree.begin_choice(rt, drop_both(alloc)?, at(0))?;
+    let is_declined = matches!(missing, Begun::Declined(Why::Missing));
+    set_in_table(rt, alloc, tree, "b", "y")?;
+    let drops = is_installed(&tree.begin_choice(rt, drop_both(alloc)?, at(0)));
+    Ok(is_declined && drops && tree.table_count(rt) == 0)
+}
+
+#[test]
+fn a_shared_tree_does_a_choice(rt: HostRuntime) -> Result<(), Fail> {
+    let tree = open_tree(rt.alloc())?;
+    let done = does_choices(&rt, rt.alloc(), &tree);
     assert!(rt; matches!(done, Ok(true)));
     drop(tree);
     Ok(())

@@ -2,7 +2,7 @@
 use crate::samples::{open_recorded, open_state, text};
 use lsm_tree::{
     Config, Count, Error, FlushJob, Handle, JobStep, JournalEntry, Op, Ops, Outcome, Pass,
-    RecordedTree, Registered, Reply, Step, Tree, WrittenFlush, run,
+    RecordedTree, Registered, Reply, Step, Tree, TreeType, WrittenFlush, run,
 };
 use std::alloc::{AllocError, Global};
 use std::sync::Wait;
@@ -316,6 +316,7 @@ fn steps_of_flushes(alloc: Global) -> Result<Vec<Step>, AllocError> {
     steps.push(Step::Count(Count::TableCount))?;
     steps.push(Step::Count(Count::LevelTableCount(7)))?;
     steps.push(Step::IsUncertain)?;
+    steps.push(Step::TreeType)?;
     Ok(steps)
 }
 
@@ -331,7 +332,7 @@ fn is_flushed(reply: &Reply) -> bool {
 fn flushes_are_steps(rt: HostRuntime) {
     let outcomes = replies(rt.alloc(), steps_of_flushes(rt.alloc()));
     let told = outcomes.unwrap_or(Vec::new(rt.alloc()));
-    assert_eq!(rt; told.len(), 10);
+    assert_eq!(rt; told.len(), 11);
     assert!(rt; matches!(told[0].reply(), Reply::Done));
     assert!(rt; is_flushed(told[3].reply()));
     assert!(rt; notes_install(&told[3], 0, 1));
@@ -341,5 +342,6 @@ fn flushes_are_steps(rt: HostRuntime) {
     assert!(rt; matches!(told[7].reply(), Reply::Counted(Some(2))));
     assert!(rt; matches!(told[8].reply(), Reply::Counted(None)));
     assert!(rt; matches!(told[9].reply(), Reply::Truth(false)));
+    assert!(rt; matches!(told[10].reply(), Reply::Kind(TreeType::Standard)));
     drop(told);
 }

@@ -4,7 +4,8 @@
 // Helpers borrow the tree, and each test drops it by a call: see the tests of `recorded`.
 use crate::samples::{open_recorded, open_state, text};
 use lsm_tree::{
-    Config, Error, Guard, Handle, InternalValue, IterGuard, Op, Pass, RecordedTree, Tree, TreeIter,
+    Config, Error, Guard, Handle, InternalValue, IterGuard, MemStore, Op, Pass, RecordedTree, Tree,
+    TreeIter, TreeState, TreeType,
 };
 use std::alloc::Global;
 use std::ops::Bound;
@@ -384,6 +385,43 @@ fn a_shared_tree_tells_of_its_pairs(rt: HostRuntime) -> Result<(), Fail> {
     assert!(rt; finds(&rt, &tree));
     assert!(rt; matches!(tree.get_internal_entry(&rt, b"a", 1), Ok(Some(_))));
     assert!(rt; is_left(&rt, &tree));
+    drop(tree);
+    Ok(())
+}
+
+// ---- what is told of a tree
+
+/// A tree of this id.
+fn open_named(alloc: Global, id: u64) -> Result<Tree, Error> {
+    match TreeState::open(alloc, Config::new(id, 0, 0), MemStore::new(alloc)) {
+        Ok(core) => Ok(Handle::new(alloc, core)?),
+        Err((error, _)) => Err(error),
+    }
+}
+
+fn record_named(alloc: Global, id: u64) -> Result<RecordedTree, Error> {
+    let core = open_recorded(alloc, Config::new(id, 0, 0))?;
+    Ok(Handle::new(alloc, core)?)
+}
+
+#[test]
+fn a_shared_tree_tells_of_itself(rt: HostRuntime) -> Result<(), Fail> {
+    let tree = open_named(rt.alloc(), 5)?;
+    assert_eq!(rt; tree.id(&rt), 5);
+    assert_eq!(rt; tree.tree_type(&rt), TreeType::Standard);
+    assert_eq!(rt; tree.next_table_id(&rt), 0);
+    assert!(rt; matches!(tree.get_next_table_id(&rt), Ok(0)));
+    assert_eq!(rt; tree.next_table_id(&rt), 1);
+    drop(tree);
+    Ok(())
+}
+
+#[test]
+fn a_recorded_tree_tells_of_itself(rt: HostRuntime) -> Result<(), Fail> {
+    let tree = record_named(rt.alloc(), 6)?;
+    assert_eq!(rt; tree.id(&rt), 6);
+    assert_eq!(rt; tree.tree_type(&rt), TreeType::Standard);
+    assert_eq!(rt; tree.next_table_id(&rt), 0);
     drop(tree);
     Ok(())
 }

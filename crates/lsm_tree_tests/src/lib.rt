@@ -1,11 +1,9 @@
-//! Tests of the tree above its parts: runs of steps, trees with a journal, trees that are shared, and their flushes,
-//! compactions and clears.
+//! Tests of the tree above its parts: trees with a journal, trees that are shared, and their flushes, compactions and
+//! clears.
 #![tactic(auto)]
 
 #[cfg(test)]
 mod clears;
-#[cfg(test)]
-mod compaction_steps;
 #[cfg(test)]
 mod compactions;
 #[cfg(test)]
@@ -15,10 +13,6 @@ mod gates;
 #[cfg(test)]
 mod handles;
 #[cfg(test)]
-mod lives;
-#[cfg(test)]
 mod recorded;
-#[cfg(test)]
-mod runs;
 #[cfg(test)]
 mod samples;

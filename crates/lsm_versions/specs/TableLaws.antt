@@ -1,5 +1,5 @@
 -- Lists of tables, their ids and their entries: laws for proofs of this crate and of those above it.
-use Rattle.std.proofs.Common.{◌≡◌, ℕ, ◌+◌, Bool, true, false, cond, not, ◌&&◌, ◌||◌, eqb, List, [], ◌∷◌, ◌++◌, map, flat_map, filter, refl, sym, ◌∙◌, ap, ap₂, subst, arith, append_assoc}
+use Rattle.std.proofs.Common.{◌≡◌, ℕ, ◌+◌, Bool, true, false, cond, not, ◌&&◌, ◌||◌, eqb, List, [], ◌∷◌, ◌++◌, map, flat_map, filter, max, refl, sym, ◌∙◌, ap, ap₂, subst, arith, append_assoc}
 use Rattle.std.specs.List.{AllByRecursion, IsDistinct, list_any}
 use Rattle.std.specs.List.Sorted.{IsPermutation}
 use Rattle.std.proofs.lemmas.Bool.Decides.{nat_tests}
@@ -7,6 +7,7 @@ use Rattle.std.proofs.lemmas.Grind.{flat_map-append}
 use Rattle.std.proofs.lemmas.List.Elements.{filter-append}
 use Rattle.std.proofs.lemmas.List.Folds.{list_any-append}
 use Rattle.std.proofs.lemmas.List.Sorted.{IsPermutation-append_left, IsPermutation-append_comm}
+use Rattle.lsm_below.specs.Entries.{Entry, above}
 use Rattle.lsm_below.specs.Keys.{is_below}
 use Rattle.lsm_below.specs.Optimizes.{tables_of}
 use Rattle.lsm_below.specs.Runs.{IsRun}
@@ -120,6 +121,10 @@ entries_of_placed level (t ∷ ts) = ap (λ es. t.entries ++ es) (entries_of_pla
 pub held_both : (xs ys : List Placed) → held (xs ++ ys) ≡ held xs ++ held ys
 held_both [] ys = refl
 held_both (x ∷ xs) ys = ap (λ es. x.table.entries ++ es) (held_both xs ys) ∙ sym (append_assoc x.table.entries (held xs) (held ys))
+
+pub above-append : (xs ys : List Entry) → above (xs ++ ys) ≡ max (above xs) (above ys)
+above-append [] ys = omega arith
+above-append (x ∷ xs) ys = let h = above-append xs ys in omega (arith, h)
 
 pub held_chosen : (ids : List ℕ) (n : ℕ) (levels : Levels) → held (chosen_of (among ids) (placed_from n (shown_levels levels))) ≡ flat_map (λ t. t.entries) (chosen_in ids (tables_of (tables_of levels)))
 held_chosen ids n [] = refl

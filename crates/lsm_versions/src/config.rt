@@ -1,5 +1,6 @@
 // What a tree is opened with, and where its counters end.
 ghost use Rattle.std.specs.Prelude.{◌≡◌};
+ghost use Rattle.lsm_versions.specs.Configs.{raised};
 
 use crate::DEFAULT_LEVEL_COUNT;
 use lsm_below::{SeqNo, TreeId};
@@ -32,6 +33,18 @@ impl Config {
             id,
             seqno,
             visible_seqno,
+        }
+    }
+
+    /// The same, with both counters at this number at least: above all that was found, say (`Version::next_seqno`), so
+    /// that later writes are numbered above it.
+    pub fn raised(self, least: SeqNo) -> Config
+        ensures { result ≡ raised least self }
+    {
+        Config {
+            id: self.id,
+            seqno: self.seqno.max(least),
+            visible_seqno: self.visible_seqno.max(least),
         }
     }
 

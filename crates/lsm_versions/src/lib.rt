@@ -3,7 +3,7 @@
 //! | Module | Holds |
 //! |-|-|
 //! | `config` | what a tree is opened with, and where its counters end |
-//! | `hidden_set` | the tables that open jobs work on |
+//! | `hidden_set`, `compaction_state` | the tables that open jobs work on; what strategies are told of them |
 //! | `level` | a level: runs of tables, the newest first |
 //! | `version` | seven levels with an id, and the four ways to make a next version |
 //! | `tables` | the tables of a version, one after the other |
@@ -13,6 +13,7 @@
 //! | `laws` | what installs of versions are to the theory, each law as the contract of a function |
 #![tactic(auto)]
 
+mod compaction_state;
 mod config;
 mod hidden_set;
 mod laws;
@@ -23,6 +24,7 @@ mod totals;
 mod version;
 mod walk;
 
+pub use compaction_state::CompactionState;
 pub use config::{Config, LIMIT};
 pub use hidden_set::HiddenSet;
 pub use laws::{

@@ -9,7 +9,8 @@ ghost use Rattle.lsm_below.specs.Optimizes.{tables_of};
 ghost use Rattle.lsm_below.specs.Sums.{capped};
 ghost use Rattle.lsm_versions.specs.declared.version.TreeType.TheVariants.{Standard};
 ghost use Rattle.lsm_tables.specs.Tables.{SeenTable};
-ghost use Rattle.lsm_model.specs.Views.{IsLaidOut, IsRearranged, left_of};
+ghost use Rattle.lsm_below.specs.Entries.{above};
+ghost use Rattle.lsm_model.specs.Views.{IsLaidOut, IsRearranged, left_of, held};
 ghost use Rattle.lsm_model.specs.Steps.{among, AllCover};
 ghost use Rattle.lsm_versions.specs.Levels.{SeenVersion, empty_levels, range, placed_of, tables_shown, placed_in, AreApart, AreCovered, AreRising, AreRuns, HasOwnIds, AreNew, all_of, left_in, fits, IsVersion, IsNext, IsOneRun, chosen_from, PutBetween, Moves};
 ghost use Rattle.lsm_versions.specs.Totals.{totals_of};
@@ -264,6 +265,17 @@ impl Version {
         ensures { result ≡ totals_of (all_of self.now.levels) }
     {
         self.totals
+    }
+
+    /// The least sequence number above those of all entries, 0 where there is no table; up to 2^64 - 1. It takes constant
+    /// time.
+    pub fn next_seqno(&self) -> SeqNo
+        ensures { result ≡ capped (above (held (placed_of self.now.levels))) }
+    {
+        if self.totals.items == 0 {
+            return 0;
+        }
+        self.totals.highest.saturating_add(1)
     }
 
     /// A copy, which shares the tables. Refused only for want of memory.

@@ -2,7 +2,6 @@
 use crate::samples::{Row, hidden, ids, table, version};
 use lsm_below::TableId;
 use lsm_choices::{Kind, Why, first_reason, last_reason};
-use lsm_tables::Table;
 use lsm_versions::Version;
 use std::alloc::Global;
 use std::process::Abort;
@@ -32,19 +31,10 @@ fn are_declined(alloc: Global, version: &Version, choices: &[Choice]) -> Result<
     Ok(true)
 }
 
-fn check(rt: &impl Abort, alloc: Global, rows: &[Row], choices: &[Choice]) -> Result<(), Fail> {
-    let version = version(rt, alloc, rows)?;
-    let declined = are_declined(alloc, &version, choices);
-    drop(version);
-    assert!(rt; declined?);
-    Ok(())
-}
-
-#[test]
-fn newer_entries_stay_above(rt: HostRuntime) -> Result<(), Fail> {
-    check(
-        &rt,
-        rt.alloc(),
+/// Tables, and what is chosen of them.
+const ROWS: [(&[Row], &[Choice]); 3] = [
+    // Newer entries stay above.
+    (
         &STACKED,
         &[
             (Kind::Move, &[1], 6, Some(Why::Order)),
@@ -57,56 +47,59 @@ fn newer_entries_stay_above(rt: HostRuntime) -> Result<(), Fail> {
             (Kind::Drop, &[1], 0, None),
             (Kind::Drop, &[2], 0, Some(Why::Missing)),
         ],
-    )
-}
-
-#[test]
-fn a_move_keeps_tables_apart(rt: HostRuntime) -> Result<(), Fail> {
-    check(
-        &rt,
-        rt.alloc(),
+    ),
+    // A move keeps tables apart.
+    (
         &TWICE,
         &[
             (Kind::Move, &[0, 1], 6, Some(Why::Overlap)),
             (Kind::Merge, &[0, 1], 6, None),
             (Kind::Merge, &[0], 0, Some(Why::Order)),
         ],
-    )
-}
-
-#[test]
-fn tombstones_stay_over_older_tables(rt: HostRuntime) -> Result<(), Fail> {
-    check(
-        &rt,
-        rt.alloc(),
+    ),
+    // Tombstones stay over older tables.
+    (
         &OVER_THE_LAST,
         &[
             (Kind::Move, &[1], 6, Some(Why::Eviction)),
             (Kind::Merge, &[1], 6, Some(Why::Eviction)),
             (Kind::Merge, &[0, 1], 6, None),
         ],
-    )
+    ),
+];
+
+#[test]
+fn choices_are_declined_for_their_reasons(rt: HostRuntime) -> Result<(), Fail> {
+    for (rows, choices) in ROWS {
+        let version = version(&rt, rt.alloc(), 5, rows)?;
+        let declined = are_declined(rt.alloc(), &version, choices);
+        drop(version);
+        assert!(rt; declined?, "{rows:?}");
+    }
+    Ok(())
 }
 
 /// The reason at the end of a merge into level 0 of table 0, made of this entry.
-fn reason_at_end(alloc: Global, version: &Version, input: &[Table]) -> Result<Option<Why>, Fail> {
-    Ok(last_reason(alloc, input, &ids(alloc, &[0])?, 0, version)?)
-}
-
 fn ends(rt: &impl Abort, alloc: Global, rows: &[Row], seqno: u64) -> Result<Option<Why>, Fail> {
-    let version = version(rt, alloc, rows)?;
+    let ids = ids(alloc, &[0])?;
     let input = vec![in alloc; table(rt, alloc, 0, "a", seqno)?]?;
-    let why = reason_at_end(alloc, &version, &input);
+    let version = version(rt, alloc, 5, rows)?;
+    let why = last_reason(alloc, &input, &ids, 0, &version);
     drop(input);
     drop(version);
-    why
+    Ok(why?)
 }
 
 #[test]
 fn a_merge_is_checked_when_it_ends(rt: HostRuntime) -> Result<(), Fail> {
-    assert_eq!(rt; ends(&rt, rt.alloc(), &[(0, 0, "a")], 0)?, None);
-    assert_eq!(rt; ends(&rt, rt.alloc(), &TWICE, 0)?, Some(Why::Order));
-    assert_eq!(rt; ends(&rt, rt.alloc(), &[(0, 0, "a")], 7)?, Some(Why::Stale));
-    assert_eq!(rt; ends(&rt, rt.alloc(), &[], 0)?, Some(Why::Stale));
+    let rows: [(&[Row], u64, Option<Why>); 4] = [
+        (&[(0, 0, "a")], 0, None),
+        (&TWICE, 0, Some(Why::Order)),
+        (&[(0, 0, "a")], 7, Some(Why::Stale)),
+        (&[], 0, Some(Why::Stale)),
+    ];
+    for (tables, seqno, wanted) in rows {
+        assert_eq!(rt; ends(&rt, rt.alloc(), tables, seqno)?, wanted);
+    }
     Ok(())
 }

@@ -3,9 +3,9 @@
 //! | Module | Tests |
 //! |-|-|
 //! | `choices` | why a choice of tables is declined, when it begins and when it ends |
-//! | `changes` | merged and moved tables, and when there is no next version |
+//! | `changes` | next versions: new, merged, moved and dropped tables, and when there is none |
 //! | `merges` | merges outside a tree, and those that are open |
-//! | `versions` | next versions, and what a version tells of its tables |
+//! | `versions` | what a version tells of its tables |
 //! | `hidden_sets` | hidden tables |
 //! | `streams` | streams over chosen tables |
 //! | `samples` | holds no test: what the others make tables and versions by |

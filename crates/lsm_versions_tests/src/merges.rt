@@ -1,5 +1,5 @@
 // Merges outside a tree.
-use crate::samples::{Row, hidden, ids, version};
+use crate::samples::{THREE, hidden, ids, version};
 use lsm_below::{SeqNo, TableId};
 use lsm_choices::{Kind, first_reason};
 use lsm_merges::{CompactionJob, MergeSettings, MergedCompaction, OpenMerges, chosen_inputs};
@@ -8,8 +8,6 @@ use lsm_versions::Version;
 use std::alloc::Global;
 use std::process::Abort;
 use std::test::Fail;
-
-const THREE: [Row; 3] = [(0, 2, "b"), (0, 1, "a"), (6, 0, "a")];
 
 fn settings(watermark: SeqNo) -> MergeSettings {
     MergeSettings {
@@ -71,7 +69,7 @@ fn a_merge_keeps_what_a_snapshot_may_read(rt: HostRuntime) -> Result<(), Fail> {
         ([0, 1, 2].as_slice(), 3, [(8, 37), (9, 37)].as_slice()),
         ([].as_slice(), 3, [].as_slice()),
     ] {
-        let version = version(&rt, rt.alloc(), &THREE)?;
+        let version = version(&rt, rt.alloc(), 5, &THREE)?;
         let merged = merged(&rt, rt.alloc(), &version, list, watermark);
         drop(version);
         let merged = merged?;
@@ -98,7 +96,7 @@ fn are_open(
     asked: &[Asked],
 ) -> Result<bool, Fail> {
     for (number, list, watermark, open) in asked {
-        let version = version(rt, alloc, &THREE)?;
+        let version = version(rt, alloc, 5, &THREE)?;
         let job = job(rt, alloc, &version, *number, list, *watermark);
         drop(version);
         let job = job?;

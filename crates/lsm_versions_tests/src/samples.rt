@@ -14,6 +14,8 @@ use std::test::Fail;
 /// A table of one entry, by its level, its id, and its key.
 pub type Row = (usize, TableId, &'static str);
 
+pub const THREE: [Row; 3] = [(0, 2, "b"), (0, 1, "a"), (6, 0, "a")];
+
 fn entries(
     alloc: Global,
     key: &'static str,
@@ -62,13 +64,16 @@ fn levels(rt: &impl Abort, alloc: Global, rows: &[Row]) -> Result<Vec<Level>, Fa
 }
 
 /// The version of some rows, whose runs stand in their order.
-pub fn version(rt: &impl Abort, alloc: Global, rows: &[Row]) -> Result<Version, Fail> {
+pub fn version(rt: &impl Abort, alloc: Global, id: u64, rows: &[Row]) -> Result<Version, Fail> {
+    if rows.is_empty() {
+        return Ok(Version::new(alloc, id));
+    }
     let levels = levels(rt, alloc, rows)?;
     let own = ids_are_own(alloc, &[], &levels)?;
     assert!(rt; own);
     assert!(rt; levels.len() == 7);
     assert!(rt; levels_fit(&levels));
-    Ok(Version::from_levels(5, levels))
+    Ok(Version::from_levels(id, levels))
 }
 
 /// The set of some ids.

@@ -1,20 +1,20 @@
 // Streams over chosen tables.
 ghost use Rattle.std.specs.Iterator.{IsFinite};
 
-use crate::samples::{Row, ids, version};
-use lsm_below::{Error, InternalValue, SeqNo, TableId};
+use crate::samples::{THREE, ids, version};
+use lsm_below::{AsEntry, Error, SeqNo, TableId};
 use lsm_merges::create_compaction_stream;
 use lsm_versions::Version;
 use std::alloc::Global;
 use std::test::Fail;
 
 /// How many entries a stream gives.
-fn count_of<I: Iterator<Item = Result<InternalValue, Error>>>(stream: I) -> Result<usize, Error>
+fn count_of<E: AsEntry, I: Iterator<Item = Result<E, Error>>>(stream: I) -> Result<usize, Error>
     requires { I.can_next stream × IsFinite (I.remaining stream) }
 {
     let mut count: usize = 0;
     for entry in stream {
-        entry?;
+        drop(entry?);
         count = count.saturating_add(1);
     }
     Ok(count)
@@ -34,16 +34,29 @@ fn count(
     }
 }
 
-const THREE: [Row; 3] = [(0, 2, "b"), (0, 1, "a"), (6, 0, "a")];
+/// The tables of a stream, its watermark, and how many entries it gives, or None where there is none.
+const ROWS: [(&[TableId], SeqNo, Option<usize>); 5] = [
+    (&[0, 1], 0, Some(2)),
+    (&[0, 1], 2, Some(1)),
+    (&[2], 0, Some(1)),
+    (&[], 0, Some(0)),
+    (&[0, 666], 0, None),
+];
+
+fn are_counted(alloc: Global, version: &Version) -> Result<bool, Error> {
+    for (list, watermark, wanted) in ROWS {
+        if count(alloc, version, list, watermark)? != wanted {
+            return Ok(false);
+        }
+    }
+    Ok(true)
+}
 
 #[test]
 fn a_stream_reads_the_tables_that_are_named(rt: HostRuntime) -> Result<(), Fail> {
-    let version = version(&rt, rt.alloc(), &THREE)?;
-    assert!(rt; matches!(count(rt.alloc(), &version, &[0, 1], 0), Ok(Some(2))));
-    assert!(rt; matches!(count(rt.alloc(), &version, &[0, 1], 2), Ok(Some(1))));
-    assert!(rt; matches!(count(rt.alloc(), &version, &[2], 0), Ok(Some(1))));
-    assert!(rt; matches!(count(rt.alloc(), &version, &[], 0), Ok(Some(0))));
-    assert!(rt; matches!(count(rt.alloc(), &version, &[0, 666], 0), Ok(None)));
+    let version = version(&rt, rt.alloc(), 5, &THREE)?;
+    let counted = are_counted(rt.alloc(), &version);
     drop(version);
+    assert!(rt; counted?);
     Ok(())
 }

@@ -1,17 +1,11 @@
 // Looks at what single crashes leave, and at what calls answer.
 
-use super::{A, B, Call, SCRIPT, is_content, leaves, make, refuses};
+use super::{A, B, SCRIPT, is_content, leaves, refuses};
+use crate::samples::{Call, make, make_each};
 use lsm_store::{Fault, MemStore, Pick, Store, StoreError};
 use std::alloc::Global;
 use std::process::Abort;
 use std::test::Fail;
-
-fn make_all(store: &mut MemStore, calls: &[Call]) -> Result<(), StoreError> {
-    for call in calls {
-        let _ = make(store, *call)?;
-    }
-    Ok(())
-}
 
 /// A store after these calls, the last of which has this fault, if one is given.
 fn behind(alloc: Global, calls: &[Call], fault: Option<Fault>) -> Result<MemStore, StoreError> {
@@ -19,8 +13,8 @@ fn behind(alloc: Global, calls: &[Call], fault: Option<Fault>) -> Result<MemStor
     if let Some(fault) = fault {
         store.fail(calls.len() as u64, fault);
     }
-    match make_all(&mut store, calls) {
-        Ok(()) => Ok(store),
+    match make_each(&mut store, calls) {
+        Ok(_) => Ok(store),
         Err(error) => Err(error),
     }
 }
@@ -60,98 +54,137 @@ fn shows(
     found
 }
 
-/// Takes each look after these calls.
-fn check(
-    rt: &impl Abort,
-    alloc: Global,
-    calls: &[Call],
+/// Calls on the name a, the fault of the last one, if it has one, and what looks then find.
+struct Case {
+    name: &'static str,
+    calls: &'static [Call],
     fault: Option<Fault>,
-    looks: &[Look],
-) -> Result<(), StoreError> {
-    for (number, look) in looks.iter().enumerate() {
+    looks: &'static [Look],
+}
+
+const WRITE: Call = Call::Write(A, b"1");
+
+const SYNC: Call = Call::Sync(A);
+
+const AFTER_A_FAILED_SYNC: &[Look] = &[
+    Look::Leaves(Pick::Bytes(b"torn"), Some(b"torn")),
+    Look::Leaves(Pick::Before, Some(b"1")),
+    Look::Alone(None),
+    Look::Failures(1),
+];
+
+const AFTER_A_REMOVAL: &[Look] = &[
+    Look::Leaves(Pick::Before, Some(b"1")),
+    Look::Leaves(Pick::Absent, None),
+    Look::Refuses(Pick::Bytes(b"torn")),
+    Look::Alone(None),
+];
+
+const REMOVED: &[Call] = &[WRITE, SYNC, Call::Remove(A)];
+
+const REPLACED: &[Call] = &[WRITE, SYNC, Call::Replace(A, b"3")];
+
+const CASES: [Case; 10] = [
+    Case {
+        name: "written and not synced",
+        calls: &[WRITE, SYNC, Call::Write(A, b"6")],
+        fault: None,
+        looks: &[
+            Look::Leaves(Pick::Before, Some(b"1")),
+            Look::Leaves(Pick::Bytes(b"torn"), Some(b"torn")),
+            Look::Alone(None),
+        ],
+    },
+    Case {
+        name: "synced",
+        calls: &[WRITE, SYNC],
+        fault: None,
+        looks: &[
+            Look::Refuses(Pick::Before),
+            Look::Refuses(Pick::Absent),
+            Look::Alone(Some(b"1")),
+        ],
+    },
+    Case {
+        name: "a failed sync",
+        calls: &[WRITE, SYNC],
+        fault: Some(Fault::Once),
+        looks: AFTER_A_FAILED_SYNC,
+    },
+    Case {
+        name: "a sync that is done and fails",
+        calls: &[WRITE, SYNC],
+        fault: Some(Fault::OnceDone),
+        looks: AFTER_A_FAILED_SYNC,
+    },
+    Case {
+        name: "removed",
+        calls: REMOVED,
+        fault: None,
+        looks: AFTER_A_REMOVAL,
+    },
+    Case {
+        name: "a failed removal",
+        calls: REMOVED,
+        fault: Some(Fault::Once),
+        looks: AFTER_A_REMOVAL,
+    },
+    Case {
+        name: "a removal that is done and fails",
+        calls: REMOVED,
+        fault: Some(Fault::OnceDone),
+        looks: AFTER_A_REMOVAL,
+    },
+    Case {
+        name: "replaced",
+        calls: REPLACED,
+        fault: None,
+        looks: &[
+            Look::Refuses(Pick::Before),
+            Look::Refuses(Pick::Bytes(b"1")),
+            Look::Alone(Some(b"3")),
+        ],
+    },
+    Case {
+        name: "a failed replacement",
+        calls: REPLACED,
+        fault: Some(Fault::Once),
+        looks: &[
+            Look::Leaves(Pick::Before, Some(b"1")),
+            Look::Leaves(Pick::Bytes(b"3"), Some(b"3")),
+            Look::Refuses(Pick::Absent),
+            Look::Alone(Some(b"1")),
+        ],
+    },
+    Case {
+        name: "a replacement that is done and fails",
+        calls: REPLACED,
+        fault: Some(Fault::OnceDone),
+        looks: &[
+            Look::Leaves(Pick::Before, Some(b"1")),
+            Look::Leaves(Pick::Bytes(b"3"), Some(b"3")),
+            Look::Refuses(Pick::Absent),
+            Look::Alone(Some(b"3")),
+        ],
+    },
+];
+
+/// Takes each look of a case.
+fn check(rt: &impl Abort, alloc: Global, case: &Case) -> Result<(), StoreError> {
+    for (number, look) in case.looks.iter().enumerate() {
         assert!(rt;
-            shows(alloc, calls, fault, *look)?,
-            "{fault:?}, look {number}"
+            shows(alloc, case.calls, case.fault, *look)?,
+            "{}, look {number}",
+            case.name
         );
     }
     Ok(())
 }
 
 #[test]
-fn written_and_not_synced(rt: HostRuntime) -> Result<(), Fail> {
-    let calls = [SCRIPT[0], SCRIPT[1], Call::Write(A, b"6")];
-    let looks = [
-        Look::Leaves(Pick::Before, Some(b"1")),
-        Look::Leaves(Pick::Bytes(b"torn"), Some(b"torn")),
-        Look::Alone(None),
-    ];
-    check(&rt, rt.alloc(), &calls, None, &looks)?;
-    Ok(())
-}
-
-#[test]
-fn synced(rt: HostRuntime) -> Result<(), Fail> {
-    let looks = [
-        Look::Refuses(Pick::Before),
-        Look::Refuses(Pick::Absent),
-        Look::Alone(Some(b"1")),
-    ];
-    check(&rt, rt.alloc(), &SCRIPT[..2], None, &looks)?;
-    Ok(())
-}
-
-#[test]
-fn a_failed_sync_leaves_any_bytes(rt: HostRuntime) -> Result<(), Fail> {
-    let looks = [
-        Look::Leaves(Pick::Bytes(b"torn"), Some(b"torn")),
-        Look::Leaves(Pick::Before, Some(b"1")),
-        Look::Alone(None),
-        Look::Failures(1),
-    ];
-    for fault in [Fault::Once, Fault::OnceDone] {
-        check(&rt, rt.alloc(), &SCRIPT[..2], Some(fault), &looks)?;
-    }
-    Ok(())
-}
-
-#[test]
-fn removed(rt: HostRuntime) -> Result<(), Fail> {
-    let calls = [SCRIPT[0], SCRIPT[1], Call::Remove(A)];
-    let looks = [
-        Look::Leaves(Pick::Before, Some(b"1")),
-        Look::Leaves(Pick::Absent, None),
-        Look::Refuses(Pick::Bytes(b"torn")),
-        Look::Alone(None),
-    ];
-    for fault in [None, Some(Fault::Once), Some(Fault::OnceDone)] {
-        check(&rt, rt.alloc(), &calls, fault, &looks)?;
-    }
-    Ok(())
-}
-
-#[test]
-fn replaced(rt: HostRuntime) -> Result<(), Fail> {
-    let calls = [SCRIPT[0], SCRIPT[1], SCRIPT[3]];
-    let looks = [
-        Look::Refuses(Pick::Before),
-        Look::Refuses(Pick::Bytes(b"1")),
-        Look::Alone(Some(b"3")),
-    ];
-    check(&rt, rt.alloc(), &calls, None, &looks)?;
-    Ok(())
-}
-
-#[test]
-fn replaced_after_a_fault(rt: HostRuntime) -> Result<(), Fail> {
-    let calls = [SCRIPT[0], SCRIPT[1], SCRIPT[3]];
-    for (fault, read) in [(Fault::Once, b"1"), (Fault::OnceDone, b"3")] {
-        let looks = [
-            Look::Leaves(Pick::Before, Some(b"1")),
-            Look::Leaves(Pick::Bytes(b"3"), Some(b"3")),
-            Look::Refuses(Pick::Absent),
-            Look::Alone(Some(read)),
-        ];
-        check(&rt, rt.alloc(), &calls, Some(fault), &looks)?;
+fn what_a_crash_leaves(rt: HostRuntime) -> Result<(), Fail> {
+    for case in &CASES {
+        check(&rt, rt.alloc(), case)?;
     }
     Ok(())
 }

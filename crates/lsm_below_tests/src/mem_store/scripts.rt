@@ -1,6 +1,7 @@
 // Scripts of calls, each failing in turn, and every pick at each stop; against the table, kept by a slow model.
 
-use super::{A, B, Call, SCRIPT, is_same, leaves, make, refuses};
+use super::{A, B, SCRIPT, is_same, leaves, refuses};
+use crate::samples::{Call, make};
 use lsm_store::{Fault, MemStore, Pick, StoreError};
 use std::alloc::{AllocError, Global};
 use std::test::Fail;

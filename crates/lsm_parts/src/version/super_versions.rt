@@ -1,8 +1,6 @@
 // The history of super versions.
 ghost use Rattle.std.specs.Prelude.{◌≡◌, ℕ, List, ◌+◌, ◌-◌, ◌<◌, ◌∷◌, ◌↔◌, [], None, length, IfOk, IfErr, OnOk, OnErr, IsErrOf, option_copied, nat_lt, true};
 ghost use Rattle.std.specs.List.{find, list_any};
-ghost use Rattle.lsm_tables.specs.Tables.{SeenTable};
-ghost use Rattle.lsm_versions.specs.Levels.{SeenVersion};
 ghost use Rattle.lsm_parts.specs.History.{found_version, first_version, oldest, versions_of, names, named_size, rotated, AreLaid, NumbersFall};
 ghost use Rattle.lsm_parts.specs.Maintenance.{needed, needed_of, Forgets, AreGone, KeepsNewer, KeepsVersions};
 ghost use Rattle.lsm_manifest.specs.Names.{version_name};

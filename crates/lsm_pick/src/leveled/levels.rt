@@ -1,9 +1,6 @@
 // What the rule of levels asks of them.
-ghost use Rattle.std.specs.Prelude.{◌≡◌, ℕ, ◌<◌, ◌≤◌, ◌↔◌, [], length, nat_eq, filter, not, IfOk, IsTrue};
+ghost use Rattle.std.specs.Prelude.{◌≡◌, ℕ, ◌<◌, ◌≤◌, ◌↔◌, [], length, nat_eq, IfOk, IsTrue};
 ghost use Rattle.lsm_below.specs.Optimizes.{tables_of};
-ghost use Rattle.lsm_below.specs.Sums.{capped};
-ghost use Rattle.lsm_model.specs.Steps.{among};
-ghost use Rattle.lsm_versions.specs.Levels.{bytes_of};
 ghost use Rattle.lsm_pick.specs.Tables.{runs_at};
 ghost use Rattle.lsm_pick.specs.Leveled.{shown_size, unhidden_bytes, GoesLast, IsFirstFull};
 

@@ -1,5 +1,5 @@
 // The calls of a compaction, and what they add to a journal.
-ghost use Rattle.std.specs.Prelude.{◌≡◌, ◌⊎◌, ◌+◌, ◌≤◌, [], ◌∷◌, List, IsSome, IfOk, vec_len, vec_capacity};
+ghost use Rattle.std.specs.Prelude.{◌≡◌, ◌⊎◌, ◌+◌, ◌≤◌, [], ◌∷◌, IsSome, IfOk, vec_len, vec_capacity};
 ghost use Rattle.lsm_model.specs.declared.journal.JournalEntry.TheVariants.{Install};
 ghost use Rattle.lsm_state.specs.Commits.{Upholds};
 ghost use Rattle.lsm_state.specs.Compactions.{Spends};

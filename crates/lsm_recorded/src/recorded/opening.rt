@@ -18,7 +18,7 @@ ghost use Rattle.lsm_manifest.specs.Opening.{OpensNew, OpensAs, IsOlder, IsAbove
 ghost use Rattle.lsm_manifest.specs.Persist.{IsOldOrNew};
 ghost use Rattle.lsm_manifest.specs.Versions.{file_of, first_version};
 ghost use Rattle.lsm_state.specs.Core.{opened_core};
-ghost use Rattle.lsm_recorded.specs.Recorded.{raised};
+ghost use Rattle.lsm_versions.specs.Configs.{raised};
 
 use crate::opened::{OpenedMarks, opened_of};
 use crate::recorded::Recorded;
@@ -28,17 +28,6 @@ use lsm_parts::{Config, Version};
 use lsm_state::TreeState;
 use lsm_store::Store;
 use std::alloc::Global;
-
-/// The configuration, with both counters above what was opened.
-fn raised(config: Config, least: u64) -> Config
-    ensures { result ≡ raised least config }
-{
-    Config {
-        id: config.id,
-        seqno: config.seqno.max(least),
-        visible_seqno: config.visible_seqno.max(least),
-    }
-}
 
 impl<S: Store> Recorded<S> {
     ghost use Rattle.lsm_recorded.specs.MarkedTables.{TablesAreInOrder};
@@ -94,7 +83,7 @@ impl<S: Store> Recorded<S> {
             Ok(None) => return Err((Error::Unrecoverable, found.into_store())),
             Err(_) => return Err((Error::OutOfMemory, found.into_store())),
         };
-        let core = found.open(raised(config, least))?;
+        let core = found.open(config.raised(least))?;
         Ok(Recorded {
             alloc,
             core,

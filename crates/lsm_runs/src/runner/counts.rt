@@ -1,6 +1,6 @@
-// What is counted of a tree, as steps.
+// What is counted and told of a tree, as steps.
 ghost use Rattle.std.specs.Prelude.{◌≡◌};
-ghost use Rattle.lsm_runs.specs.CountSteps.{count_of, IsCounted, IsUncertainReply};
+ghost use Rattle.lsm_runs.specs.CountSteps.{count_of, IsCounted, IsUncertainReply, IsKindReply};
 ghost use Rattle.lsm_runs.specs.ReadSteps.{TakesSilent};
 
 use super::silent;
@@ -46,4 +46,10 @@ pub(super) fn is_uncertain<S: Store>(alloc: Global, state: &TreeState<S>) -> Out
     ensures { TakesSilent (IsUncertainReply state.now.core) result.reply result.entries state.now.core state.now.core }
 {
     silent(alloc, Reply::Truth(state.is_uncertain()))
+}
+
+pub(super) fn tree_type<S: Store>(alloc: Global, state: &TreeState<S>) -> Outcome
+    ensures { TakesSilent IsKindReply result.reply result.entries state.now.core state.now.core }
+{
+    silent(alloc, Reply::Kind(state.tree_type()))
 }

@@ -1,6 +1,7 @@
 // Reading the content of a table's file.
 ghost use Rattle.std.specs.Prelude.{◌≡◌, ℕ, List, ◌≤◌, ◌<◌, ◌++◌, length, IfOk, IfErr};
 ghost use Rattle.lsm_below.specs.Entries.{Entry};
+ghost use Rattle.lsm_below.specs.Heads.{AreHeads};
 ghost use Rattle.lsm_tables.specs.Reading.{many};
 ghost use Rattle.lsm_tables.specs.Image.{IsImageOf, IsNoImage};
 ghost use Rattle.lsm_tables.specs.ImageReading.{Gives, type_of, header_at, may_have, spelled_at, follows, rises, contents, image_at};
@@ -14,7 +15,8 @@ use crate::TableError;
 use byteorder::{ByteOrder, LittleEndian};
 use bytes::Bytes;
 use lsm_below::{
-    InternalKey, InternalValue, SeqNo, ValueType, entries_are_ordered, slices_hold_bytes,
+    Headed, InternalKey, InternalValue, SeqNo, ValueType, entries_are_ordered, head_of,
+    slices_hold_bytes,
 };
 use std::alloc::Global;
 
@@ -111,28 +113,49 @@ fn room_for(count: u64, bytes: &Bytes) -> usize {
     }
 }
 
-/// So many entries, cut from the front of the bytes, and whether they rise.
+/// `may_follow`, by heads.
+fn follows_headed(heads: &[u128], entries: &[InternalValue], next: &Headed<'_>) -> bool
+    requires { AreHeads heads.now entries.now }
+    ensures { result ≡ follows entries.now next.now }
+{
+    if entries.is_empty() {
+        return true;
+    }
+    Headed::at(heads, entries, entries.len() - 1).stands_before(next)
+}
+
+/// So many entries, cut from the front of the bytes, with the heads of their keys, and whether they rise. A head is made
+/// while its key is at hand.
 fn entries_of(
     alloc: Global,
     count: u64,
     bytes: &mut Bytes,
-) -> Result<(Vec<InternalValue>, bool), TableError>
+) -> Result<(Vec<InternalValue>, Vec<u128>, bool), TableError>
     ensures read { Gives (λ x. (x.0.items, bytes.new)) result (many spelled_at count bytes.old) }
-    ensures rising { IfOk result (λ x. x.1 ≡ rises x.0.items) }
+    ensures heads { IfOk result (λ x. AreHeads x.1.items x.0.items) }
+    ensures rising { IfOk result (λ x. x.2 ≡ rises x.0.items) }
 {
-    let mut entries = Vec::with_capacity(alloc, room_for(count, bytes))?;
+    let room = room_for(count, bytes);
+    let mut entries = Vec::with_capacity(alloc, room)?;
+    let mut heads = Vec::with_capacity(alloc, room)?;
     let mut rising = true;
     for _ in 0..count {
         let entry = entry_of(bytes)?;
-        rising = rising && may_follow(&entries, &entry);
+        let head = head_of(entry.key.user_key.as_slice());
+        rising = rising && follows_headed(&heads, &entries, &Headed::new(&entry, head));
+        heads.push(head)?;
         entries.push(entry)?;
     }
-    Ok((entries, rising))
+    Ok((entries, heads, rising))
 }
 
 #[tactic(auto, unfolding(crate::specs::ImageReading::image_at))]
-fn read_image(alloc: Global, bytes: Bytes) -> Result<(u64, Vec<InternalValue>), TableError>
-    ensures { Gives (λ x. contents x.0 x.1.items) result (image_at bytes) }
+fn read_image(
+    alloc: Global,
+    bytes: Bytes,
+) -> Result<(u64, Vec<InternalValue>, Vec<u128>), TableError>
+    ensures read { Gives (λ x. contents x.0 x.1.items) result (image_at bytes) }
+    ensures heads { IfOk result (λ x. AreHeads x.2.items x.1.items) }
 {
     let mut bytes = bytes;
     if bytes.len() < FRONT_LEN {
@@ -145,11 +168,11 @@ fn read_image(alloc: Global, bytes: Bytes) -> Result<(u64, Vec<InternalValue>), 
     let made_at = LittleEndian::read_u64(&front[MADE_AT_PLACE..]);
     let count = LittleEndian::read_u64(&front[COUNT_PLACE..]);
     bytes.advance(FRONT_LEN);
-    let (entries, rising) = entries_of(alloc, count, &mut bytes)?;
+    let (entries, heads, rising) = entries_of(alloc, count, &mut bytes)?;
     if !bytes.is_empty() || entries.is_empty() || !rising {
         return Err(TableError::BadTable);
     }
-    Ok((made_at, entries))
+    Ok((made_at, entries, heads))
 }
 
 /// Made-at (in nanoseconds) and the entries of a table's file, whose keys and values share its bytes.
@@ -161,6 +184,21 @@ fn read_image(alloc: Global, bytes: Bytes) -> Result<(u64, Vec<InternalValue>), 
 /// growth was refused.
 pub fn decode(alloc: Global, bytes: Bytes) -> Result<(u64, Vec<InternalValue>), TableError>
     ensures read { IfOk result (λ x. IsImageOf x.0 x.1.items bytes) }
+    ensures bad { IfErr result (λ e. e ≡ BadTable → IsNoImage bytes) }
+{
+    match decode_headed(alloc, bytes) {
+        Ok((made_at, entries, _)) => Ok((made_at, entries)),
+        Err(error) => Err(error),
+    }
+}
+
+/// `decode`, with the heads of the entries' keys.
+pub(crate) fn decode_headed(
+    alloc: Global,
+    bytes: Bytes,
+) -> Result<(u64, Vec<InternalValue>, Vec<u128>), TableError>
+    ensures read { IfOk result (λ x. IsImageOf x.0 x.1.items bytes) }
+    ensures heads { IfOk result (λ x. AreHeads x.2.items x.1.items) }
     ensures bad { IfErr result (λ e. e ≡ BadTable → IsNoImage bytes) }
 {
     slices_hold_bytes(bytes.as_slice());

@@ -1,4 +1,6 @@
 use Rattle.std.proofs.Common.{refl, sym, ap, subst, ◌∙◌, length}
+use Rattle.std.specs.List.{All}
+use Rattle.lsm_below.specs.Entries.{HasBytes}
 use Rattle.lsm_memtable.specs.Memtables.{highest_of}
 use Rattle.lsm_memtable.specs.Contents.{SeenContent, entries_of}
 use Rattle.lsm_memtable.specs.Undo.{AreUndone}
@@ -21,6 +23,8 @@ returns-clause-sound c =
     let same = c.take_all_back.ensures.same old (c.add_entries.ensures.noted old (subst (λ l. AreUndone l old old) (sym c.in_ok-log.ensures.items) refl)) in
     record {
       blocks = c.take_all_back.ensures.sound;
+      bytes = subst (All HasBytes) (sym same) c.requires.bytes;
       count = c.requires.count ∙ ap (λ l. length l) (sym same);
       highest = c.requires.highest ∙ ap highest_of (sym same);
+      arena = c.add_entries.ensures.sound.arena;
     }

@@ -1,4 +1,4 @@
-use Rattle.std.proofs.Common.{◌≡◌, false, List, [], ◌∷◌, ◌++◌, map, filter, sym, ap, ◌∙◌, append-nil}
+use Rattle.std.proofs.Common.{false, List, [], ◌∷◌, ◌++◌, map, filter, sym, ap, ◌∙◌, append-nil}
 use Rattle.lsm_below.specs.Slots.{rest_of}
 use Rattle.lsm_below.specs.Streams.{Rest}
 use Rattle.lsm_tables.specs.Tables.{SeenTable}

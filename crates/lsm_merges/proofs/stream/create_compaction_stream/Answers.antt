@@ -1,4 +1,4 @@
-use Rattle.std.proofs.Common.{◌≡◌, false, List, map, sym, ◌∙◌, subst}
+use Rattle.std.proofs.Common.{false, List, map, sym, ◌∙◌, subst}
 use Rattle.std.proofs.lemmas.List.Elements.{All-from_recursion}
 use Rattle.lsm_below.specs.Entries.{Entry}
 use Rattle.lsm_below.specs.KeptLaws.{in_order, kept_of}

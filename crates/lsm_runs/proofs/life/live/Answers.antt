@@ -8,4 +8,10 @@ returns-clause-lives g c tells settled m stands =
     let opened = c.in-Ok.ensures in
     let ran = c.run_told-outcomes in
     lived g.S.Store.world g.W.Watch.gives _ m _ _ c.args.store c.in-Ok.tree.store ran.new.state.store c.args.watch.now ran.new.watch c.in-Ok.tree.core ran.new.state.core
-    (opened.shows tells m stands) (ap (λ (t : Core). t.lost) opened.core) (opened.stored tells settled) (opened.stands_for tells settled m stands) ran.ensures.ran (ran.ensures.replays _ m) (ran.ensures.spares _ m) (ran.ensures.crashes tells _ m)
+    ((opened.opens tells).shows m stands) (ap (λ (t : Core). t.lost) opened.core) ((opened.opens tells).stored settled) ((opened.opens tells).stands_for settled m stands) ran.ensures.ran (ran.ensures.replays _ m) (ran.ensures.spares _ m) (ran.ensures.crashes tells _ m)
+
+pub returns-in-Err-clause-refused : goal.returns-in-Err-clause-refused
+returns-in-Err-clause-refused g c tells m stands = (c.in-Err.ensures.opens tells).refuses m stands
+
+pub returns-in-Err-clause-stands : goal.returns-in-Err-clause-stands
+returns-in-Err-clause-stands g c tells settled m stands = (c.in-Err.ensures.opens tells).stands_for settled m stands

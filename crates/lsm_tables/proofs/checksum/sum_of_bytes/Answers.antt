@@ -7,11 +7,11 @@ use Rattle.lsm_tables.proofs.checksum.sum_of_bytes.Goals as goal
 pub returns : goal.returns
 returns c =
     let s = c.args.bytes.now in
-    let half : ℕ = length c.args.bytes.now / 4 * 2 in
+    let half : ℕ = length c.args.bytes.now / 8 * 4 in
     let first = c.split_at.result.0.now in
     let second = c.split_at-2.result.0.now in
     let last = c.split_at-2.result.1.now in
-    let sums = c.two_sums-first in
+    let sums = c.both_sums-first in
     let sum : c.joined-sum.result ≡ sum_of (first ++ second) = c.joined-sum.ensures ∙ joined_parts first second _ _ _ half sums.ensures.first sums.ensures.second c.power.ensures c.split_at-2.ensures.front_len in
     let whole = three_parts s first second last c.split_at.result.1.now
     (cut half s first _ c.split_at.ensures.front c.split_at.ensures.back)

@@ -1,42 +1,50 @@
-use Rattle.std.proofs.Common.{◌++◌, ◌∷◌, [], Ok, inr, sym, subst, ap, ◌∙◌, length}
+use Rattle.std.proofs.Common.{◌≡◌, ◌∷◌, [], ap, ◌∙◌, sym, subst, false, ◌↔◌, IsErrOf, OnOk}
 use Rattle.lsm_below.specs.Entries.{plain}
+use Rattle.lsm_below.specs.declared.error.Error.TheVariants.{OutOfOrder}
+use Rattle.lsm_model.specs.Views.{held}
 use Rattle.lsm_model.specs.declared.journal.JournalEntry.TheVariants.{Write}
 use Rattle.lsm_state.specs.Calls.{Appends}
 use Rattle.lsm_versions.specs.Levels.{placed_of}
-use Rattle.lsm_recorded.specs.Recorded.{StaysTo}
-use Rattle.lsm_recorded.proofs.RecordedLemmas.{recorded_write, write_spares, write_marks, plain-plain}
+use Rattle.lsm_recorded.specs.Marks.{mark_of}
+use Rattle.lsm_recorded.specs.Order.{keeps_order}
+use Rattle.lsm_recorded.specs.Passes.{Notes}
+use Rattle.lsm_recorded.specs.Recorded.{OwnOr, StaysTo}
+use Rattle.lsm_recorded.proofs.MarksLemmas.{order_marked}
+use Rattle.lsm_recorded.proofs.RecordedLemmas.{append_any, append_any_spares, plain-plain}
 use Rattle.lsm_recorded.proofs.recorded.Recorded.append_entry.Goals as goal
 
-pub invariant_of-self-2 : goal.invariant_of-self-2
-invariant_of-self-2 g c =
+pub invariant_of-self : goal.invariant_of-self
+invariant_of-self g c =
     let i = c.self.inside in
-    let e = plain c.args.entry in
-    let new = c.append_entry.new.self.core in
-    let a = subst (λ x. Appends x (Ok c.in_ok-sizes.sizes) i.core.core new) (ap plain c.into_plain-entry.ensures ∙ plain-plain c.args.entry) c.in_ok-sizes.ensures.appends in
-    let noted = c.in_ok-note.ensures.0 ∙ c.into_plain-entry.ensures in
-    rw (c.put_entry.ensures.journal, c.in_ok-make_room.ensures.journal, noted)
-    (recorded_write (placed_of i.opened.levels) i.least c.reads_are_sound.ensures i.marks c.mark_write.new.marks i.floor i.core.core new i.journal.items e c.self.invariant (rw (← c.self.view_is) at (sym c.keeps_order.ensures.is ∙ c.if-not-keeps_order.false)) a.step a.core
-    (write_marks i.marks c.reserve_mark.new.marks c.mark_write.new.marks c.in_ok-note.note.entry e noted c.in_ok-reserve_mark.ensures.same c.mark_write.ensures.is))
+    let a = c.append_marked.ensures in
+    let is = ap plain c.into_plain.ensures ∙ plain-plain c.args.entry ∙ sym c.into_plain.ensures in
+    append_any (placed_of i.opened.levels) i.least c.reads_are_sound.ensures c.append_marked.result i.core c.append_marked.new.core i.marks c.append_marked.new.marks i.floor i.journal.items c.append_marked.new.journal.items c.pass.inside.entries.items c.append_marked.new.pass.items c.into_plain.result is c.self.invariant a.out_of_order a.core a.marks a.unmarked a.noted a.err
+
+pub returns-clause-out_of_order : goal.returns-clause-out_of_order
+returns-clause-out_of_order g c =
+    let i = c.self.inside in
+    let opened = placed_of i.opened.levels in
+    let told = order_marked (held opened) i.journal.items (mark_of i.marks) i.floor i.core.core.seqno c.into_plain.result c.self.invariant.noted c.self.invariant.floored ∙ ap (keeps_order (held opened) i.journal.items i.core.core.seqno) c.into_plain.ensures in
+    subst (λ t. IsErrOf c.append_marked.result OutOfOrder ↔ (keeps_order (held t.opened) t.journal t.tree.core.seqno (plain c.args.entry) ≡ false)) c.self.view_is
+    (subst (λ b. IsErrOf c.append_marked.result OutOfOrder ↔ (b ≡ false)) told c.append_marked.ensures.out_of_order)
+
+pub returns-clause-core : goal.returns-clause-core
+returns-clause-core g c =
+    let i = c.self.inside in
+    let is = ap plain c.into_plain.ensures ∙ plain-plain c.args.entry in
+    subst (λ t. OwnOr c.append_marked.result (Appends (plain c.args.entry) c.append_marked.result t.tree.core c.append_marked.new.core.core)) c.self.view_is
+    (subst (λ e. OwnOr c.append_marked.result (Appends e c.append_marked.result i.core.core c.append_marked.new.core.core)) is c.append_marked.ensures.core)
+
+pub returns-clause-noted : goal.returns-clause-noted
+returns-clause-noted g c =
+    rw (← c.self.view_is, ← c.pass.view_is)
+    (subst (λ e. OnOk c.append_marked.result (Notes (Write e ∷ []) c.self.inside.journal.items c.append_marked.new.journal.items c.pass.inside.entries.items c.append_marked.new.pass.items)) c.into_plain.ensures c.append_marked.ensures.noted)
 
 pub returns-clause-views : goal.returns-clause-views
 returns-clause-views g c =
     let i = c.self.inside in
-    let new = c.append_entry.new.self.core in
-    let a = subst (λ x. Appends x (Ok c.in_ok-sizes.sizes) i.core.core new) (ap plain c.into_plain-entry.ensures ∙ plain-plain c.args.entry) c.in_ok-sizes.ensures.appends in
-    let all = write_spares (placed_of i.opened.levels) i.least c.reads_are_sound.ensures i.marks i.floor i.core.core new i.journal.items (plain c.args.entry) c.self.invariant (rw (← c.self.view_is) at (sym c.keeps_order.ensures.is ∙ c.if-not-keeps_order.false)) a.step in
-    subst (λ t. StaysTo c.args.entry.key.seqno t.tree.core new) c.self.view_is all
-
-pub returns-clause-core : goal.returns-clause-core
-returns-clause-core g c =
-    let a = subst (λ x. Appends x (Ok c.in_ok-sizes.sizes) c.self.inside.core.core c.append_entry.new.self.core) (ap plain c.into_plain-entry.ensures ∙ plain-plain c.args.entry) c.in_ok-sizes.ensures.appends in
-    inr (inr (subst (λ t. Appends (plain c.args.entry) (Ok c.in_ok-sizes.sizes) t.tree.core c.append_entry.new.self.core) c.self.view_is a))
-
-pub returns-clause-noted : goal.returns-clause-noted
-returns-clause-noted g c =
-    let entry = c.in_ok-note.ensures.0 ∙ c.into_plain-entry.ensures in
-    let copy = c.in_ok-note.ensures.1 ∙ c.into_plain-entry.ensures in
-    rw (← c.self.view_is, ← c.pass.view_is) (record {
-      behind = c.put_entry.ensures.journal ∙ ap (λ l. l ++ Write c.in_ok-note.note.entry ∷ []) c.in_ok-make_room.ensures.journal ∙ ap (λ e. c.self.inside.journal.items ++ Write e ∷ []) entry;
-      passed = c.put_entry.ensures.pass ∙ ap (λ l. l ++ (length c.make_room.new.journal.items, Write c.in_ok-note.note.copy) ∷ []) c.in_ok-make_room.ensures.pass ∙ ap (λ l. c.pass.inside.entries.items ++ (length l, Write c.in_ok-note.note.copy) ∷ []) c.in_ok-make_room.ensures.journal
-          ∙ ap (λ e. c.pass.inside.entries.items ++ (length c.self.inside.journal.items, Write e) ∷ []) copy;
-    })
+    let a = c.append_marked.ensures in
+    let is = ap plain c.into_plain.ensures ∙ plain-plain c.args.entry ∙ sym c.into_plain.ensures in
+    let all = append_any_spares (placed_of i.opened.levels) i.least c.reads_are_sound.ensures c.append_marked.result i.core.core c.append_marked.new.core.core i.marks i.floor i.journal.items c.into_plain.result is c.self.invariant a.out_of_order a.core in
+    subst (λ t. OnOk c.append_marked.result (StaysTo c.args.entry.key.seqno t.tree.core c.append_marked.new.core.core)) c.self.view_is
+    (subst (λ e. OnOk c.append_marked.result (StaysTo e.key.seqno i.core.core c.append_marked.new.core.core)) c.into_plain.ensures all)

@@ -1,6 +1,4 @@
 use Rattle.std.proofs.Common.{length, sym, ap, subst, ◌∙◌}
-use Rattle.std.specs.List.{AllByRecursion}
-use Rattle.lsm_below.specs.Entries.{HasBytes}
 use Rattle.lsm_tables.specs.Sum.{sum_of}
 use Rattle.lsm_tables.specs.Tables.{IsKeptTable, IsCountOf, range_of}
 use Rattle.lsm_tables.proofs.Lengths.{length_image}
@@ -12,7 +10,7 @@ invariant_of-result c =
     let es = c.in_ok-created_at.entries.items in
     subst IsKeptTable (sym c.in_ok-new.ensures.ok) record {
       table = read.table;
-      bytes = subst (AllByRecursion HasBytes) c.deref-2.ensures.value c.count-counts.ensures.bytes;
+      heads = c.in_ok-created_at.ensures.heads;
       range = c.in_ok-key_range.ensures ∙ ap range_of c.deref.ensures.value;
       size = c.len-file_size.ensures.value ∙ ap length read.spelling ∙ length_image c.in_ok-created_at.created_at es;
       sum = c.of-checksum.ensures ∙ ap sum_of (c.as_slice.ensures ∙ read.spelling);

@@ -1,0 +1,146 @@
+//! A strategy of one's own: it merges all tables once the first level has enough runs.
+//!
+//! A strategy need not be right: a merge or a move that would change an answer is declined.
+#![tactic(auto)]
+
+use anyhow::Result;
+use lsm_tree::{
+    Begun, Choice, ChooseError, CompactionState, CompactionStrategy, Config, Input, MemStore, Op,
+    TableId, TreeState, UserKey, Version,
+};
+use std::alloc::{AllocError, Global};
+use std::collections::HashSet;
+
+/// The last level.
+const LAST: u8 = 6;
+
+/// From this many bytes of entries on a merge begins a new table.
+const TABLE_BYTES: u64 = 64 * 1024 * 1024;
+
+/// The choice to merge these tables into the last level.
+fn merge_into_last(table_ids: HashSet<TableId>) -> Choice {
+    Choice::Merge(Input {
+        table_ids,
+        dest_level: LAST,
+        canonical_level: LAST,
+        target_size: TABLE_BYTES,
+    })
+}
+
+/// The ids of all tables of a version.
+fn all_ids(alloc: Global, version: &Version) -> Result<HashSet<TableId>, AllocError> {
+    let mut ids = HashSet::new(alloc);
+    for table in version.iter_tables() {
+        ids.insert(table.id())?;
+    }
+    Ok(ids)
+}
+
+/// Merges all tables once the first level has so many runs.
+#[derive(Drop)]
+struct MergeAtRuns {
+    runs: usize,
+}
+
+impl CompactionStrategy for MergeAtRuns {
+    // It may choose anything: no proof rests on what it does.
+    ghost may_choose = { λ s config hidden version choice. Unit {0} };
+
+    ghost may_refuse = { λ s config hidden version e. Unit {0} };
+
+    fn get_name(&self) -> &'static str {
+        "MergeAtRuns"
+    }
+
+    fn choose(
+        &self,
+        alloc: Global,
+        version: &Version,
+        _config: &Config,
+        state: &CompactionState,
+    ) -> Result<Choice, ChooseError> {
+        let ids = all_ids(alloc, version)?;
+        // A table that an open merge works on would only be declined.
+        let waits = version.l0().run_count() < self.runs || state.hidden_set().is_blocked(&ids);
+        Ok(if waits {
+            Choice::DoNothing
+        } else {
+            merge_into_last(ids)
+        })
+    }
+}
+
+/// The id of a table that isn't there.
+fn absent_id(alloc: Global) -> Result<HashSet<TableId>, AllocError> {
+    let mut ids = HashSet::new(alloc);
+    ids.insert(1_000)?;
+    Ok(ids)
+}
+
+/// Merges a table that isn't there.
+#[derive(Drop)]
+struct Wrong;
+
+impl CompactionStrategy for Wrong {
+    ghost may_choose = { λ s config hidden version choice. Unit {0} };
+
+    ghost may_refuse = { λ s config hidden version e. Unit {0} };
+
+    fn get_name(&self) -> &'static str {
+        "Wrong"
+    }
+
+    fn choose(
+        &self,
+        alloc: Global,
+        _version: &Version,
+        _config: &Config,
+        _state: &CompactionState,
+    ) -> Result<Choice, ChooseError> {
+        Ok(merge_into_last(absent_id(alloc)?))
+    }
+}
+
+fn print_begun(rt: &impl Print, begun: Begun) -> Result<()> {
+    match begun {
+        Begun::DidNothing => println!(rt; "nothing to do")?,
+        Begun::Declined(why) => println!(rt; "declined: {why:?}")?,
+        Begun::Installed => println!(rt; "installed")?,
+        Begun::Job(_) => println!(rt; "a merge is open")?,
+    }
+    Ok(())
+}
+
+/// Writes a key into a table of its own.
+fn add_table(alloc: Global, tree: &mut TreeState, key: &'static str) -> Result<()> {
+    let key = UserKey::from_static(key.as_bytes());
+    tree.write(vec![in alloc; (key, Op::Set(UserKey::from_static(b"x")))]?)?;
+    tree.flush_active_memtable(0).map_err(|refused| refused.0)?;
+    Ok(())
+}
+
+/// Writes a key three times, each time into a table and so a run of its own, and compacts after each.
+fn show(rt: &impl Print, alloc: Global, tree: &mut TreeState) -> Result<()> {
+    let strategy = MergeAtRuns { runs: 3 };
+    for _ in 0..3 {
+        add_table(alloc, tree, "a")?;
+        let watermark = tree.visible_seqno().get();
+        print_begun(rt, tree.compact(&strategy, watermark)?)?;
+    }
+    print_begun(rt, tree.compact(&Wrong, 0)?)?;
+    println!(rt;
+        "tables {}, entries {}",
+        tree.table_count(),
+        tree.approximate_len()
+    )?;
+    Ok(())
+}
+
+fn main(rt: HostRuntime) -> Result<()> {
+    let alloc = rt.alloc();
+    let opened = TreeState::open(alloc, Config::new(0, 0, 0), MemStore::new(alloc));
+    let mut tree = opened.map_err(|refused| refused.0)?;
+    let told = show(&rt, alloc, &mut tree);
+    drop(tree);
+    told
+}

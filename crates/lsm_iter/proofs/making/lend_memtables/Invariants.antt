@@ -1,7 +1,0 @@
-use Rattle.std.proofs.Common.{map, take}
-use Rattle.lsm_iter.specs.Reads.{at}
-use Rattle.lsm_iter.specs.Puts.{AddsCursors}
-use Rattle.lsm_iter.proofs.making.lend_memtables.Given as goal
-
-abbrev pub invariant-loop-memtable : goal.invariant-loop-memtable
-invariant-loop-memtable l = AddsCursors l.bounds.0 l.bounds.1 (map (λ m. at l.below m.now.entries) (take l.memtable-index l.memtables)) 0 l.fn.cursors.items l.cursors.items

@@ -1,0 +1,27 @@
+use Rattle.std.proofs.Common.{◌+◌, ◌++◌, map, take, sym, ◌∙◌, ap, subst, arith}
+use Rattle.std.specs.List.{All}
+use Rattle.std.proofs.lemmas.List.{take_all}
+use Rattle.lsm_below.specs.Optimizes.{tables_of}
+use Rattle.lsm_versions.specs.Levels.{all_of}
+use Rattle.lsm_iter.specs.Reads.{at}
+use Rattle.lsm_iter.specs.Puts.{PutsCursors}
+use Rattle.lsm_iter.specs.Shared.{IsSound}
+use Rattle.lsm_iter.proofs.Puts.{puts_more, levels_more, level_sound}
+use Rattle.lsm_iter.proofs.sources.lend_levels.Goals as goal
+
+pub lend_runs-requires : goal.lend_runs-requires
+lend_runs-requires c =
+    subst (λ l. All IsSound (tables_of l)) (sym c.as_slice.ensures) (level_sound c.args.levels.now c.loop-level.level-index c.level-item.result c.loop-level-test.true c.level-item.is c.requires)
+
+pub loop-level-preserved : goal.loop-level-preserved
+loop-level-preserved c =
+    let levels = c.args.levels.now in
+    let i = c.loop-level.level-index in
+    let runs = c.as_slice.result.now in
+    puts_more c.args.bounds.now.0 c.args.bounds.now.1 c.args.below (all_of (take i levels)) (tables_of runs) (all_of (take (i + 1) levels)) c.args.lenders.now.items c.loop-level.lenders.items c.lend_runs.new.lenders.items
+    (levels_more levels i c.level-item.result c.loop-level-test.true c.level-item.is ∙ ap (λ l. all_of (take i levels) ++ tables_of l) (sym c.as_slice.ensures)) c.loop-level.invariant c.in_ok-lend_runs.ensures
+
+pub returns : goal.returns
+returns c =
+    subst (λ levels. PutsCursors c.args.bounds.now.0 c.args.bounds.now.1 (map (λ t. at c.args.below t.entries) (all_of levels)) 0 c.args.lenders.now.items c.loop-level.lenders.items)
+    (take_all c.loop-level.level-index c.args.levels.now (omega (arith, c.loop-level-test.false))) c.loop-level.invariant

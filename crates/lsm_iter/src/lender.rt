@@ -1,0 +1,170 @@
+// What is left of a source that is lent, from both ends.
+ghost use Rattle.std.specs.Prelude.{◌≡◌, ◌≤◌, flat_map, filter, option_copied, option_to_list, IfOk};
+ghost use Rattle.std.specs.List.{All};
+ghost use Rattle.lsm_below.specs.Entries.{HasBytes, is_value};
+ghost use Rattle.lsm_below.specs.Sorted.{Rises};
+ghost use Rattle.lsm_iter.specs.Shown.{by_key};
+ghost use Rattle.lsm_iter.specs.Reads.{at};
+ghost use Rattle.lsm_iter.specs.Left.{tops, copied, end_item, Takes, TakesValue};
+ghost use Rattle.lsm_iter.specs.Lenders.{left_in};
+ghost use Rattle.lsm_iter.specs.Shared.{IsSound};
+ghost use Rattle.lsm_iter.specs.declared.tree_iter.End.TheVariants.{Front};
+
+use crate::End;
+use crate::flat::Flat;
+use crate::walk::Walk;
+use lsm_below::{InternalValue, Run, SeqNo, UserKey};
+use lsm_memtable::Span;
+use lsm_tables::Table;
+use std::alloc::{AllocError, Global};
+use std::marker::Model;
+use std::ops::Bound;
+
+/// Where a lender's entries stand: in a memtable, or in tables of a run.
+#[derive(Drop)]
+pub(crate) enum Source<'a> {
+    Memtable(Walk<'a>),
+    Tables(Flat<'a>),
+}
+
+/// What is left of a source: of each key the newest entry that counts, by rising key, from both ends. It owns none.
+#[derive(Drop)]
+pub(crate) struct Lender<'a> {
+    source: Source<'a>,
+}
+
+impl<'a> Model for Lender<'a> {
+    ghost use Rattle.lsm_below.specs.Sorted.{Rises};
+    ghost use Rattle.lsm_iter.specs.Shown.{by_key};
+    ghost use Rattle.lsm_iter.specs.Left.{SeenCursor};
+    ghost use Rattle.lsm_iter.specs.Lenders.{left_in};
+
+    ghost Value = { SeenCursor };
+
+    ghost view = { λ l. record { left = left_in l.source; held = 0 } };
+
+    ghost invariant = { λ l. Rises by_key (left_in l.source) };
+}
+
+/// The entry at an end of a source.
+#[inline(always)]
+fn peek_in<'a>(end: End, source: &Source<'a>) -> Option<&'a InternalValue>
+    ensures { option_copied result ≡ end_item end (left_in source.now) }
+{
+    match source {
+        Source::Memtable(entries) => entries.peek(end),
+        Source::Tables(tables) => tables.peek(end),
+    }
+}
+
+/// Leaves out the entry at an end of a source.
+#[inline(always)]
+fn skip_in(end: End, source: &mut Source<'_>)
+    ensures { Takes end (left_in source.old) (end_item end (left_in source.old)) (left_in source.new) }
+{
+    match source {
+        Source::Memtable(entries) => entries.skip(end),
+        Source::Tables(tables) => tables.skip(end),
+    }
+}
+
+/// The first entry of a source, which is taken off.
+#[inline(always)]
+fn take_front_in<'a>(source: &mut Source<'a>) -> Option<&'a InternalValue>
+    ensures is { option_copied result ≡ end_item Front (left_in source.old) }
+    ensures takes { Takes Front (left_in source.old) (end_item Front (left_in source.old)) (left_in source.new) }
+{
+    match source {
+        Source::Memtable(entries) => entries.take_front(),
+        Source::Tables(tables) => tables.take_front(),
+    }
+}
+
+/// The entry, if it is a value.
+#[inline(always)]
+fn value_of(entry: Option<&InternalValue>) -> Option<&InternalValue>
+    ensures { option_to_list (option_copied result) ≡ filter is_value (option_to_list (option_copied entry.entry)) }
+{
+    let entry = entry?;
+    if entry.is_tombstone() {
+        None
+    } else {
+        Some(entry)
+    }
+}
+
+impl<'a> Lender<'a> {
+    /// What is left of a part of a memtable.
+    pub(crate) fn memtable(span: &Span<'a>, below: SeqNo) -> Lender<'a>
+        ensures is { result ≡ record { left = tops (at below span.now); held = 0 } }
+        ensures bytes { All HasBytes result.left }
+    {
+        span.facts();
+        span.keys_hold_bytes();
+        let entries = Walk::new(span.iter(), below);
+        entries.facts();
+        Lender {
+            source: Source::Memtable(entries),
+        }
+    }
+
+    /// What lies of a run's tables within bounds. Refused only for want of memory.
+    pub(crate) fn tables(
+        alloc: Global,
+        run: &'a Run<Table>,
+        bounds: &(Bound<UserKey>, Bound<UserKey>),
+        below: SeqNo,
+    ) -> Result<Lender<'a>, AllocError>
+        requires { All IsSound run.now }
+        ensures left { IfOk result (λ l. l.left ≡ flat_map (λ t. copied bounds.now.0 bounds.now.1 (at below t.entries)) run.now) }
+        ensures held { IfOk result (λ l. l.held ≡ 0) }
+        ensures bytes { IfOk result (λ l. All HasBytes l.left) }
+    {
+        let tables = Flat::new(alloc, run, bounds, below)?;
+        tables.facts();
+        Ok(Lender {
+            source: Source::Tables(tables),
+        })
+    }
+
+    /// The entry at this end.
+    #[inline(always)]
+    pub(crate) fn peek(&self, end: End) -> Option<&'a InternalValue>
+        ensures is { option_copied result ≡ end_item end self.now.left }
+        ensures rises { Rises by_key self.now.left }
+    {
+        peek_in(end, &self.source)
+    }
+
+    /// Leaves out the entry at this end.
+    #[inline(always)]
+    pub(crate) fn skip(&mut self, end: End)
+        ensures takes { Takes end self.old.left (end_item end self.old.left) self.new.left }
+        ensures held { self.new.held ≤ self.old.held }
+    {
+        skip_in(end, &mut self.source);
+    }
+
+    /// Takes the entry at this end, if it is a value, and leaves it out if it isn't.
+    #[inline(always)]
+    pub(crate) fn take(&mut self, end: End) -> Option<&'a InternalValue>
+        ensures rises { Rises by_key self.old.left }
+        ensures takes { TakesValue end self.old.left (option_copied result) self.new.left }
+        ensures held { self.new.held ≤ self.old.held }
+    {
+        let value = value_of(self.peek(end));
+        self.skip(end);
+        value
+    }
+
+    /// The first entry, which is taken off.
+    #[inline(always)]
+    pub(crate) fn take_front(&mut self) -> Option<&'a InternalValue>
+        ensures rises { Rises by_key self.old.left }
+        ensures is { option_copied result ≡ end_item Front self.old.left }
+        ensures takes { Takes Front self.old.left (end_item Front self.old.left) self.new.left }
+        ensures held { self.new.held ≤ self.old.held }
+    {
+        take_front_in(&mut self.source)
+    }
+}

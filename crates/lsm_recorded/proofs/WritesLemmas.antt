@@ -1,0 +1,63 @@
+-- Writes on their way into a tree, the marks and a journal.
+use Rattle.std.proofs.Common.{cond, ◌≡◌, ℕ, ◌<◌, ◌≤◌, Bool, true, false, ◌&&◌, nat_le, List, [], ◌∷◌, length, get_or, Result, Err, IsErrOf, OnErr, Ok, ◌↔◌, inl, inr, refl, sym, ap, ◌∙◌, arith}
+use Rattle.std.specs.List.{list_all}
+use Rattle.std.proofs.lemmas.Bool.Decides.{nat_tests}
+use Rattle.lsm_below.specs.Keys.{Bytes}
+use Rattle.lsm_below.specs.declared.error.Error.{Error}
+use Rattle.lsm_below.specs.declared.error.Error.TheVariants.{OutOfMemory, OutOfOrder}
+use Rattle.lsm_model.specs.Ops.{op_entry, op_entries}
+use Rattle.lsm_model.specs.declared.op.Op.{Op}
+use Rattle.lsm_model.specs.declared.op.Op.TheVariants.{Set, Del, Weak}
+use Rattle.lsm_recorded.specs.declared.marks.Mark.{Mark}
+use Rattle.lsm_recorded.specs.Marks.{marked, marked_by, marked_all, next_mark, mark_allows, op_type, op_allowed}
+use Rattle.lsm_recorded.specs.Recorded.{OwnOr}
+
+-- ---- refusals
+
+pub on_err : {A E : Type 0} {P : Type 0} (r : Result A E) → P → OnErr r P
+on_err (Ok x) p = tt
+on_err (Err e) p = p
+
+-- a key for which there was no memory
+pub own_by : {A : Type 0} (r : Result A Error) (e : Error) (b : Bool) (P : Type 0) → r ≡ Err e → e ≡ cond b OutOfMemory OutOfOrder → OwnOr r P
+own_by r e true P is told = inr (inl (is ∙ ap Err told))
+own_by r e false P is told = inl (is ∙ ap Err told)
+
+pub refused_told : {A : Type 0} (r : Result A Error) (e : Error) (b a : Bool) → r ≡ Err e → e ≡ cond b OutOfMemory OutOfOrder → a ≡ b → (IsErrOf r OutOfOrder ↔ (a ≡ false))
+refused_told r e true a is told same = (λ q. absurd (cc (is, told, q)), λ q. absurd (cc (same, q)))
+refused_told r e false a is told same = (λ q. same, λ q. is ∙ ap Err told)
+
+-- ---- a batch of one
+
+pub one_op : (ops : List (Bytes × Op)) (p : Bytes × Op) → length ops ≡ 1 → p ≡ get_or ops 0 p → ops ≡ p ∷ []
+one_op [] p one is = absurd (omega arith)
+one_op (x ∷ []) p one is = ap (λ y. y ∷ []) (sym is)
+one_op (x ∷ (y ∷ ops)) p one is = absurd (omega arith)
+
+and_true : (b : Bool) → (b && true) ≡ b
+and_true true = refl
+and_true false = refl
+
+floor_false : (low n : ℕ) → n < low → nat_le low n ≡ false
+floor_false low n below = grind (arith, nat_tests)
+
+floor_true : (low n : ℕ) → low ≤ n → nat_le low n ≡ true
+floor_true low n up = grind (arith, nat_tests)
+
+pub floor_refuses : (marks : Bytes → Mark) (low n : ℕ) (ops : List (Bytes × Op)) → length ops ≡ 1 → n < low → list_all (op_allowed marks low n) ops ≡ false
+floor_refuses marks low n [] one below = absurd (omega arith)
+floor_refuses marks low n (p ∷ ops) one below = ap (λ b. (b && mark_allows (marks p.0) n (op_type p.1)) && list_all (op_allowed marks low n) ops) (floor_false low n below)
+
+-- its order is that of its mark
+pub one_allowed : (marks : Bytes → Mark) (low n : ℕ) (ops : List (Bytes × Op)) (p : Bytes × Op) → length ops ≡ 1 → p ≡ get_or ops 0 p → low ≤ n → list_all (op_allowed marks low n) ops ≡ mark_allows (marks p.0) n (op_type p.1)
+one_allowed marks low n ops p one is up =
+    ap (list_all (op_allowed marks low n)) (one_op ops p one is) ∙ and_true (op_allowed marks low n p) ∙ ap (λ b. b && mark_allows (marks p.0) n (op_type p.1)) (floor_true low n up)
+
+-- its mark is that of its entry
+pub one_marked : (marks : Bytes → Mark) (n : ℕ) (ops : List (Bytes × Op)) (p : Bytes × Op) → length ops ≡ 1 → p ≡ get_or ops 0 p → (q : Bytes) → marked marks p.0 (next_mark (marks p.0) n (op_type p.1)) q ≡ marked_all (op_entries n ops) marks q
+one_marked marks n ops p one is q = by_type p.1 ∙ ap (λ l. marked_all (op_entries n l) marks q) (sym (one_op ops p one is))
+  where
+    by_type : (op : Op) → marked marks p.0 (next_mark (marks p.0) n (op_type op)) q ≡ marked_by (op_entry p.0 n op) marks q
+    by_type (Set value) = refl
+    by_type Del = refl
+    by_type Weak = refl

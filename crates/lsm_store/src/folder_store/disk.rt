@@ -1,0 +1,184 @@
+// What the calls of a folder ask of the file system.
+use std::alloc::{AllocError, Global};
+use std::fs::{File, Files, OpenFile, OpenOptions, TryLockError};
+use std::io::{ErrorKind, Read, Write};
+use std::{fs, io};
+
+/// The subfolder of tables, and how names of files in it begin.
+pub(crate) const TABLES: &str = "tables";
+
+/// The file that is locked while a store of the folder lives.
+const LOCK: &str = "lock";
+
+/// A path below a folder.
+pub(crate) fn join(alloc: Global, root: &str, name: &str) -> Result<String, AllocError> {
+    let mut path = String::from_str(alloc, root)?;
+    path.push('/')?;
+    path.push_str(name)?;
+    Ok(path)
+}
+
+/// Makes a folder and its subfolder where they are absent, and each folder on the way there. Each one that is made is
+/// synced into the one that it stands in, so that a crash keeps it.
+pub(crate) fn make_folder<R: Files>(rt: &R, alloc: Global, path: &str) -> io::Result<()> {
+    if path.is_empty() {
+        return Err(io::Error::new(ErrorKind::InvalidInput, "a folder without a name"));
+    }
+    let mut at = String::new(alloc);
+    let mut parent = String::from_str(alloc, if path.starts_with('/') { "/" } else { "." })?;
+    for part in path.split('/') {
+        at.push_str(part)?;
+        if !part.is_empty() {
+            make_one(rt, at.as_str(), parent.as_str())?;
+            parent.clear();
+            parent.push_str(at.as_str())?;
+        }
+        at.push('/')?;
+    }
+    at.push_str(TABLES)?;
+    make_one(rt, at.as_str(), parent.as_str())
+}
+
+/// Makes one folder, if it is absent, and syncs it into its parent.
+fn make_one<R: Files>(rt: &R, path: &str, parent: &str) -> io::Result<()> {
+    match fs::create_dir(rt, path) {
+        Ok(()) => sync_path(rt, parent),
+        Err(error) => match error.kind() {
+            ErrorKind::AlreadyExists => Ok(()),
+            _ => Err(error),
+        },
+    }
+}
+
+/// The lock of a folder, held as long as the file is. Whoever has it is the folder's one owner; the system takes it back
+/// where a process is killed.
+pub(crate) fn lock_folder<R: Files<File = File>>(
+    rt: &R,
+    alloc: Global,
+    folder: &str,
+) -> io::Result<File> {
+    let path = join(alloc, folder, LOCK)?;
+    let file = OpenOptions::new()
+        .read(true)
+        .write(true)
+        .create(true)
+        .open(rt, path.as_str())?;
+    match file.try_lock() {
+        Ok(()) => Ok(file),
+        Err(TryLockError::WouldBlock) => {
+            let words = "another session has the folder open";
+            Err(io::Error::new(ErrorKind::WouldBlock, words))
+        }
+        Err(TryLockError::Error(error)) => Err(error),
+    }
+}
+
+/// The names of all files, those of the subfolder after those of the folder, without the lock.
+pub(crate) fn list_folder<R: Files + Alloc + Clone + Drop>(
+    rt: &R,
+    alloc: Global,
+    root: &str,
+) -> io::Result<Vec<String>> {
+    let tables = join(alloc, root, TABLES)?;
+    let mut names = Vec::new(alloc);
+    list_into(rt, alloc, root, "", &mut names)?;
+    list_into(rt, alloc, tables.as_str(), "tables/", &mut names)?;
+    Ok(names)
+}
+
+/// Appends the names of a folder's regular files, each after a prefix.
+fn list_into<R: Files + Alloc + Clone + Drop>(
+    rt: &R,
+    alloc: Global,
+    folder: &str,
+    prefix: &str,
+    names: &mut Vec<String>,
+) -> io::Result<()> {
+    for entry in fs::read_dir(rt, folder)? {
+        let entry = entry?;
+        let is_lock = prefix.is_empty() && entry.file_name() == LOCK;
+        if !is_lock && entry.file_type()?.is_file() {
+            let mut name = String::from_str(alloc, prefix)?;
+            name.push_str(entry.file_name())?;
+            names.push(name)?;
+        }
+    }
+    Ok(())
+}
+
+/// All bytes of a file. None where it is absent.
+pub(crate) fn read_file<R: Files>(
+    rt: &R,
+    alloc: Global,
+    path: &str,
+) -> io::Result<Option<Vec<u8>>> {
+    match File::open(rt, path) {
+        Ok(mut file) => {
+            let mut bytes = Vec::new(alloc);
+            file.read_to_end(&mut bytes)?;
+            Ok(Some(bytes))
+        }
+        Err(error) => match error.kind() {
+            ErrorKind::NotFound => Ok(None),
+            _ => Err(error),
+        },
+    }
+}
+
+/// Makes a file, or cuts it to nothing, and writes all bytes. What it began and couldn't finish it removes.
+pub(crate) fn write_file<R: Files>(rt: &R, path: &str, bytes: &[u8]) -> io::Result<()> {
+    let mut file = File::create(rt, path)?;
+    match file.write_all(bytes) {
+        Ok(()) => Ok(()),
+        Err(error) => {
+            let _ = remove_file(rt, path);
+            Err(error)
+        }
+    }
+}
+
+/// Syncs a file, or a folder.
+fn sync_path<R: Files>(rt: &R, path: &str) -> io::Result<()> {
+    File::open(rt, path)?.sync_all()
+}
+
+/// Syncs a file and its folder.
+pub(crate) fn sync_with<R: Files>(rt: &R, path: &str, folder: &str) -> io::Result<()> {
+    sync_path(rt, path)?;
+    sync_path(rt, folder)
+}
+
+/// Fills the file beside, syncs it, gives it the name, and syncs the name's folder. Where it can't give the name, it
+/// removes the file beside.
+pub(crate) fn replace_file<R: Files>(
+    rt: &R,
+    fresh: &str,
+    path: &str,
+    folder: &str,
+    bytes: &[u8],
+) -> io::Result<()> {
+    write_file(rt, fresh, bytes)?;
+    match put_in_place(rt, fresh, path) {
+        Ok(()) => sync_path(rt, folder),
+        Err(error) => {
+            let _ = remove_file(rt, fresh);
+            Err(error)
+        }
+    }
+}
+
+fn put_in_place<R: Files>(rt: &R, fresh: &str, path: &str) -> io::Result<()> {
+    sync_path(rt, fresh)?;
+    fs::rename(rt, fresh, path)
+}
+
+/// Removes a file, which may be absent.
+pub(crate) fn remove_file<R: Files>(rt: &R, path: &str) -> io::Result<()> {
+    match fs::remove_file(rt, path) {
+        Ok(()) => Ok(()),
+        Err(error) => match error.kind() {
+            ErrorKind::NotFound => Ok(()),
+            _ => Err(error),
+        },
+    }
+}
