@@ -103,7 +103,7 @@ fn damage_from_current<S: Store>(
         Err(why) => return Err(why),
     };
     let levels = match named_layout(alloc, store, id, sum) {
-        Ok(levels) => levels,
+        Ok((_, levels)) => levels,
         Err(OpenError::Fault(_)) => return Ok(String::from_str(alloc, version_name(id).as_str())?),
         Err(why) => return Err(why),
     };
