@@ -65,33 +65,63 @@ fn two_operations_are_read(rt: HostRuntime) -> Result<(), Fail> {
     Ok(())
 }
 
-/// A record with a byte changed, or cut short, or with one behind it.
-#[test]
-fn others_are_refused(rt: HostRuntime) -> Result<(), Fail> {
-    let mut count = 0usize;
-    for (place, byte) in [
-        (0usize, 0u8),
-        (3, 0x54),
-        (12, 0),
-        (12, 2),
-        (16, 2),
-        (18, 1),
-        (18, 3),
-        (19, 0),
-    ] {
-        let mut bytes = FIRST;
-        bytes[place] = byte;
-        if !is_read(rt.alloc(), &bytes)? {
-            count += 1;
+/// Whether a record with another byte at this place is one still: the number, keys and values may be others, and the
+/// removal of a is a value of no bytes.
+fn may_be(place: usize, byte: u8) -> bool {
+    match place {
+        4..=11 | 23 | 24 | 32 => true,
+        27 => byte == 0,
+        _ => false,
+    }
+}
+
+/// How many places of a record are told, each with a cut there and with two other bytes, up to the first that isn't.
+fn count_told(alloc: Global, record: &[u8]) -> Result<usize, RecordError> {
+    let mut bytes = record.to_vec(alloc)?;
+    for place in 0..bytes.len() {
+        let mut is_well = !is_read(alloc, &bytes[..place])?;
+        for mask in [1, 255] {
+            let byte = bytes[place] ^ mask;
+            bytes[place] = byte;
+            is_well = is_read(alloc, &bytes)? == may_be(place, byte) && is_well;
+            bytes[place] = byte ^ mask;
+        }
+        if !is_well {
+            return Ok(place);
         }
     }
-    assert!(rt; count == 8);
-    let cut = is_read(rt.alloc(), &FIRST[..24])?;
-    assert!(rt; !cut);
+    Ok(bytes.len())
+}
+
+#[test]
+fn cuts_and_changed_bytes_are_refused(rt: HostRuntime) -> Result<(), Fail> {
+    assert!(rt; count_told(rt.alloc(), &FIRST)? == 25);
+    assert!(rt; count_told(rt.alloc(), &SECOND)? == 33);
+    Ok(())
+}
+
+/// The letters of a table, a weak removal with a value, and a byte behind the last operation.
+#[test]
+fn others_are_refused(rt: HostRuntime) -> Result<(), Fail> {
+    for (place, byte) in [(3, 0x54), (18, 2)] {
+        let mut bytes = FIRST;
+        bytes[place] = byte;
+        let read = is_read(rt.alloc(), &bytes)?;
+        assert!(rt; !read);
+    }
+    let mut longer = FIRST.to_vec(rt.alloc())?;
+    longer.push(0)?;
+    let read = is_read(rt.alloc(), &longer)?;
+    assert!(rt; !read);
+    Ok(())
+}
+
+#[test]
+fn a_key_that_comes_twice_is_refused(rt: HostRuntime) -> Result<(), Fail> {
     let mut doubled = SECOND;
-    doubled[32] = 0x62;
-    let twice = is_read(rt.alloc(), &doubled)?;
-    assert!(rt; !twice);
+    doubled[32] = b'b';
+    let read = is_read(rt.alloc(), &doubled)?;
+    assert!(rt; !read);
     Ok(())
 }
 
