@@ -4,7 +4,6 @@ use lsm_below::Error;
 use lsm_log::{Log, put_record, read_log, record_name, remove_below};
 use lsm_store::{Fault, MemStore, Pick, Store};
 use std::alloc::{AllocError, Global};
-use std::process::Abort;
 use std::test::Fail;
 
 /// An empty batch, numbered so.

@@ -5,7 +5,6 @@ use lsm_below::UserKey;
 use lsm_log::{RecordError, decode, encode};
 use lsm_model::Op;
 use std::alloc::{AllocError, Global};
-use std::process::Abort;
 use std::test::Fail;
 
 /// The record of a = x, numbered 0.
