@@ -182,10 +182,10 @@ fn count_doubled(
         if to > good.len() {
             return Ok(count);
         }
-        let mut bytes = good[..to].to_vec(alloc)?;
+        let mut bytes = good.get(..to).unwrap_or_default().to_vec(alloc)?;
         bytes.extend_from_slice(good.get(from..).unwrap_or_default())?;
         if tells(alloc, store, at, &bytes, Some((told, "")))? {
-            count += 1;
+            count = count.saturating_add(1);
         }
     }
     Ok(count)
