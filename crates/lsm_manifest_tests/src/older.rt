@@ -127,7 +127,7 @@ const ROWS: [Row; 3] = [
     ),
 ];
 
-fn commit(alloc: Global, tree: &mut TreeState, call: Commit) -> Result<bool, Error> {
+fn make_commit(alloc: Global, tree: &mut TreeState, call: Commit) -> Result<bool, Error> {
     match call {
         Commit::Flush => {
             let op = Op::Set(UserKey::from_static(b"u"));
@@ -150,7 +150,7 @@ fn is_at(tree: &TreeState, id: u64, from: SeqNo) -> bool {
 fn goes_on(alloc: Global, tree: &mut TreeState, row: Row) -> Result<bool, Error> {
     let (call, from, _) = row;
     let is_opened = is_at(tree, 3, 8) && answers(tree)?;
-    Ok(is_opened && commit(alloc, tree, call)? && is_at(tree, 4, from))
+    Ok(is_opened && make_commit(alloc, tree, call)? && is_at(tree, 4, from))
 }
 
 /// Whether the tree that is opened over the next version answers as before it. A clear leaves no table.
