@@ -89,7 +89,7 @@ module _ (old new : World) where
   found_stored : NamedFilesStay → IsSettled old → (v : SeenVersion) (next : ℕ) (ids : List ℕ) (found : IsFound old.gives v.id v.levels next ids) → Clears (is_orphan v.id (ids_of found.layout)) old new → IsStored new (v ∷ []) []
   found_stored stay settled v next ids found clears =
       let named = found.named in
-      let laid = named.reads.is.laid_out in
+      let laid = named.reads.file.is.laid_out in
       let orphan = is_orphan v.id (ids_of found.layout) in
       let spared = stay v.id found.layout laid in
       let pin = settled.named v.id found.layout named in

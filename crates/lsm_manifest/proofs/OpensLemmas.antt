@@ -189,3 +189,12 @@ stands_in once image f false id ls ts stands small found = stands_opens once ima
 
 pub stands_found : ImagesAreFirst → (image : Image) (f : Found) (id : ℕ) (ls : Levels) (ts : SeenLevels) → StandsFor image id ls ts → HasSmallNumbers ts → IsFoundIn image f → OpensAs id ls ts (Ok f.opened)
 stands_found once image f id ls ts stands small looks = stands_in once image f f.is_new id ls ts stands small looks.finds
+
+-- ---- with a `current` it is no new tree
+
+pub not_new : (image : Image) (f : Found) → IsSome (image current_name) → LooksInto image (Ok f) → f.is_new ≡ false
+not_new image f there looks = by_kind f.is_new looks.finds
+  where
+    by_kind : (b : Bool) → FindsIn b image f → b ≡ false
+    by_kind true finds = absurd (some_not_none _ there finds.0)
+    by_kind false finds = refl

@@ -98,7 +98,7 @@ pinned_stands read old id ls ts image stands pin left =
     let ids = ids_of ls in
     let Stay = λ (t : RecoveredTable). is_orphan id ids (table_name t.id) ≡ false in
     let Fix = λ (t : RecoveredTable). IsFixed old (table_name t.id) in
-    let stay = layout_stays read id ids ls (λ i is. is) stands.named.reads.is.laid_out.each in
+    let stay = layout_stays read id ids ls (λ i is. is) stands.named.reads.file.is.laid_out.each in
     let one = over Stay Fix (IsTableAt old.gives) (IsTableAt image) (table_at old id ids image left) in
     let two = over (λ r. AllByRecursion Stay r) (λ r. AllByRecursion Fix r) (Pairwise (IsTableAt old.gives)) (Pairwise (IsTableAt image)) one in
     record {

@@ -14,7 +14,7 @@ use Rattle.lsm_model.specs.Views.{found_at, Placed, held}
 use Rattle.lsm_model.specs.Beginnings.{shown_by}
 use Rattle.lsm_model.specs.Steps.{Wrote, Asked, Rotated}
 use Rattle.lsm_model.specs.Sound.{Holds}
-use Rattle.lsm_model.specs.Ops.{op_entries}
+use Rattle.lsm_model.specs.Ops.{op_entry, op_entries, repeats, keys_of, op_value}
 use Rattle.lsm_model.specs.declared.op.Op.{Op}
 use Rattle.lsm_model.specs.declared.journal.JournalEntry.TheVariants.{Write, Read}
 use Rattle.lsm_model.specs.declared.question.Question.{Question}
@@ -26,7 +26,7 @@ use Rattle.lsm_state.specs.Core.{Core, Seen, state_of, latest_of, older_of, writ
 use Rattle.lsm_state.specs.Calls.{IsWriteStep, IsGetStep, Gives, Rotates, Appends, WritesBatch}
 use Rattle.lsm_state.specs.Ranges.{IsListStep}
 use Rattle.lsm_iter.specs.Guards.{Pair}
-use Rattle.lsm_state.specs.Refusals.{batch_refusal, repeats, keys_of, is_great, is_long_key, is_long_value, op_value}
+use Rattle.lsm_state.specs.Refusals.{batch_refusal, is_great, is_long_key, is_long_value}
 use Rattle.lsm_recorded.specs.declared.marks.Mark.{Mark}
 use Rattle.lsm_recorded.specs.Marks.{mark_of, mark_in, marked_by, marked_all, entry_allowed, op_allowed}
 use Rattle.lsm_recorded.specs.Order.{keeps_order, batch_keeps_order}
