@@ -215,6 +215,12 @@ module _ (opened : List Placed) (least : ℕ) where
   listed_agrees theory marks low c journal question s pairs r up step =
       agrees_last (shown_by opened) [] journal (Read s question (Pairs pairs)) (recorded_list theory marks low c journal question s pairs r up step).reads.agrees
 
+  -- where a read is answered, what it lists agrees
+  pub lists_agree : {A : Type 0} (pairs : A → List Pair) (theory : Soundness) (marks : Marks) (low : ℕ) (c : Core) (journal : List Event) (question : Question) (s : ℕ) (r : Result A Error) → IsRecorded opened least marks low c journal → above (held opened) ≤ s
+      → IfOk r (λ a. IsListStep c question s (pairs a)) → IfOk r (λ a. ReadAgrees (shown_by opened) journal (Read s question (Pairs (pairs a))))
+  lists_agree pairs theory marks low c journal question s (Ok a) r up step = listed_agrees theory marks low c journal question s (pairs a) r up step
+  lists_agree pairs theory marks low c journal question s (Err x) r up step = tt
+
   -- a get answers the replay
   pub answers_replay : (theory : Soundness) (marks : Marks) (low : ℕ) (k : Bytes) (s : ℕ) (v : Option Bytes) (journal : List Event) (c : Core) → Gives c k s v → IsRecorded opened least marks low c journal → above (held opened) ≤ s → is_outside k s journal ≡ true → v ≡ get (replay (shown_by opened) journal s) k
   answers_replay theory marks low k s v journal c g r up out =
