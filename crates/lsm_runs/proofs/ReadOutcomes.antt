@@ -7,6 +7,7 @@ use Rattle.lsm_below.specs.Entries.{Entry}
 use Rattle.lsm_model.specs.Views.{found_at}
 use Rattle.lsm_model.specs.declared.question.Question.{Question}
 use Rattle.lsm_model.specs.declared.question.Question.TheVariants.{Between, Prefix}
+use Rattle.lsm_iter.specs.Left.{SeenIter}
 use Rattle.lsm_iter.specs.Guards.{Pair, Item, pair_of}
 use Rattle.lsm_iter.specs.declared.tree_iter.End.{End}
 use Rattle.lsm_below.specs.declared.error.Error.{Error}
@@ -34,33 +35,33 @@ module _ (s : ℕ) (c : Core) where
   memory : {A : Type 0} (a : A) → TellsTooOld (Ok a) → IsReadRefusal s c OutOfMemory
   memory a old = (inr refl, ((λ q. absurd (cc q)), (λ none. absurd (cc (old.1 none)))))
 
-  pub pairs_taken : (question : Question) (r : Result (List Entry) Error) (Right : List Pair → Type 0) (told : Told)
-      → IfOk r (λ out. Right (map pair_of out) × IsListStep c question s (map pair_of out)) → TellsTooOld r → RefusesOnly r
+  pub pairs_taken : (question : Question) (r : Result SeenIter Error) (Right : List Pair → Type 0) (told : Told)
+      → IfOk r (λ iter. Right (map pair_of iter.left) × IsListStep c question s (map pair_of iter.left)) → TellsTooOld r → RefusesOnly r
       → ToldFound question s r told → TakesPairs question Right s told.reply told.entries c c
-  pairs_taken question (Ok out) Right told right old only is = ⊎_elim
-      (λ (answered : told ≡ told_pairs question s (map pair_of out)). subst (λ (t : Told). TakesPairs question Right s t.reply t.entries c c) (sym answered) (refl, refl, right.0, right.1))
-      (λ (refused : told ≡ record { reply = Refused OutOfMemory; entries = [] }). subst (λ (t : Told). TakesPairs question Right s t.reply t.entries c c) (sym refused) (refl, refl, memory out old))
+  pairs_taken question (Ok iter) Right told right old only is = ⊎_elim
+      (λ (answered : told ≡ told_pairs question s (map pair_of iter.left)). subst (λ (t : Told). TakesPairs question Right s t.reply t.entries c c) (sym answered) (refl, refl, right.0, right.1))
+      (λ (refused : told ≡ record { reply = Refused OutOfMemory; entries = [] }). subst (λ (t : Told). TakesPairs question Right s t.reply t.entries c c) (sym refused) (refl, refl, memory iter old))
       is
   pairs_taken question (Err x) Right told right old only is = subst (λ (t : Told). TakesPairs question Right s t.reply t.entries c c) (sym is) (refl, refl, refusal x old only)
 
   -- the pairs within bounds
-  pub range_taken : ListsAreSteps → {X : Type 0} (low high : Bound Bytes) (r : Result (List Entry) Error) (outcome : Result Told X) → IfOk r (λ out. Ranges c None low high s out) → TellsTooOld r → RefusesOnly r
+  pub range_taken : ListsAreSteps → {X : Type 0} (low high : Bound Bytes) (r : Result SeenIter Error) (outcome : Result Told X) → IfOk r (λ iter. Ranges c None low high s iter.left) → TellsTooOld r → RefusesOnly r
       → IfOk outcome (ToldFound (Between low high) s r) → IfOk outcome (λ told. TakesRange low high s told.reply told.entries c c)
   range_taken law low high r outcome right old only h =
       IfOk-weaker outcome (ToldFound (Between low high) s r) (λ told. TakesRange low high s told.reply told.entries c c) (λ told is. pairs_taken (Between low high) r (Lists c low high s) told (listed r right) old only is) h
     where
-      listed : (r : Result (List Entry) Error) → IfOk r (λ out. Ranges c None low high s out) → IfOk r (λ out. Lists c low high s (map pair_of out) × IsListStep c (Between low high) s (map pair_of out))
-      listed (Ok out) h = ((out, h, refl), law.range c low high s out h)
+      listed : (r : Result SeenIter Error) → IfOk r (λ iter. Ranges c None low high s iter.left) → IfOk r (λ iter. Lists c low high s (map pair_of iter.left) × IsListStep c (Between low high) s (map pair_of iter.left))
+      listed (Ok iter) h = ((iter.left, h, refl), law.range c low high s iter.left h)
       listed (Err x) h = tt
 
   -- the pairs of the keys that begin so
-  pub prefix_taken : ListsAreSteps → {X : Type 0} (prefix : Bytes) (r : Result (List Entry) Error) (outcome : Result Told X) → IfOk r (λ out. Prefixes c None prefix s out) → TellsTooOld r → RefusesOnly r
+  pub prefix_taken : ListsAreSteps → {X : Type 0} (prefix : Bytes) (r : Result SeenIter Error) (outcome : Result Told X) → IfOk r (λ iter. Prefixes c None prefix s iter.left) → TellsTooOld r → RefusesOnly r
       → IfOk outcome (ToldFound (Prefix prefix) s r) → IfOk outcome (λ told. TakesPrefix prefix s told.reply told.entries c c)
   prefix_taken law prefix r outcome right old only h =
       IfOk-weaker outcome (ToldFound (Prefix prefix) s r) (λ told. TakesPrefix prefix s told.reply told.entries c c) (λ told is. pairs_taken (Prefix prefix) r (ListsPrefix c prefix s) told (listed r right) old only is) h
     where
-      listed : (r : Result (List Entry) Error) → IfOk r (λ out. Prefixes c None prefix s out) → IfOk r (λ out. ListsPrefix c prefix s (map pair_of out) × IsListStep c (Prefix prefix) s (map pair_of out))
-      listed (Ok out) h = ((out, h, refl), law.prefix c prefix s out h)
+      listed : (r : Result SeenIter Error) → IfOk r (λ iter. Prefixes c None prefix s iter.left) → IfOk r (λ iter. ListsPrefix c prefix s (map pair_of iter.left) × IsListStep c (Prefix prefix) s (map pair_of iter.left))
+      listed (Ok iter) h = ((iter.left, h, refl), law.prefix c prefix s iter.left h)
       listed (Err x) h = tt
 
   -- the pair at an end

@@ -11,6 +11,7 @@ use Rattle.lsm_model.specs.declared.question.Question.{Question}
 use Rattle.lsm_model.specs.declared.question.Question.TheVariants.{Get as AskGet, Between, Prefix}
 use Rattle.lsm_model.specs.declared.question.Answer.TheVariants.{Found, Pairs as FoundPairs}
 use Rattle.lsm_iter.specs.Guards.{Pair, Item, pair_of}
+use Rattle.lsm_iter.specs.Left.{SeenIter}
 use Rattle.lsm_iter.specs.declared.tree_iter.End.{End}
 use Rattle.lsm_iter.specs.declared.tree_iter.End.TheVariants.{Front, Back}
 use Rattle.lsm_below.specs.declared.error.Error.{Error}
@@ -100,8 +101,8 @@ abbrev pub told_pairs : Question → ℕ → List Pair → Told
 told_pairs question s pairs = record { reply = Pairs pairs; entries = Read s question (FoundPairs pairs) ∷ [] }
 
 -- the outcome of a read of pairs by what it found; it may be refused for memory to list them
-abbrev pub ToldFound : Question → ℕ → Result (List Entry) Error → Told → Type 0
-ToldFound question s (Ok out) told = (told ≡ told_pairs question s (map pair_of out)) ⊎ (told ≡ record { reply = Refused OutOfMemory; entries = [] })
+abbrev pub ToldFound : Question → ℕ → Result SeenIter Error → Told → Type 0
+ToldFound question s (Ok iter) told = (told ≡ told_pairs question s (map pair_of iter.left)) ⊎ (told ≡ record { reply = Refused OutOfMemory; entries = [] })
 ToldFound question s (Err x) told = told ≡ record { reply = Refused x; entries = [] }
 
 -- the reply to a question for the pair at an end

@@ -7,8 +7,8 @@ ghost use Rattle.lsm_runs.specs.ReadSteps.{TakesRange, TakesPrefix, TakesSilent,
 use super::{one_entry, refused, silent};
 use crate::{Outcome, Reply};
 use lsm_below::{SeqNo, UserKey, share};
-use lsm_iter::{Guard, IterGuard, Pairs};
-use lsm_journal::{copy_bound, pairs_entry, share_pairs};
+use lsm_iter::{Guard, IterGuard, TreeIter};
+use lsm_journal::{copy_bound, pairs_entry, take_pairs};
 use lsm_model::{KvPairs, Question};
 use lsm_parts::Error;
 use lsm_state::{TreeState, lists_are_steps};
@@ -38,14 +38,14 @@ fn of_found(
     alloc: Global,
     snapshot: SeqNo,
     question: Question,
-    found: Result<Pairs<'_>, Error>,
+    found: Result<TreeIter, Error>,
 ) -> Result<Outcome, AllocError>
-    ensures { IfOk result (λ told. ToldFound question snapshot found.entry told) }
+    ensures { IfOk result (λ told. ToldFound question snapshot found told) }
 {
     match found {
-        Ok(pairs) => match share_pairs(alloc, pairs) {
-            Ok(list) => of_pairs(alloc, snapshot, question, list),
-            Err(_) => Ok(refused(alloc, Error::OutOfMemory)),
+        Ok(iter) => match take_pairs(alloc, iter) {
+            Ok(pairs) => of_pairs(alloc, snapshot, question, pairs),
+            Err(error) => Ok(refused(alloc, error)),
         },
         Err(error) => Ok(refused(alloc, error)),
     }
@@ -62,7 +62,7 @@ pub(super) fn range<S: Store>(
 {
     lists_are_steps();
     let bounds = (copy_bound(low)?, copy_bound(high)?);
-    let found = state.pairs(&bounds, snapshot, None);
+    let found = state.range(&bounds, snapshot, None);
     of_found(
         alloc,
         snapshot,
@@ -78,7 +78,9 @@ pub(super) fn iter<S: Store>(
 ) -> Result<Outcome, AllocError>
     ensures { IfOk result (λ told. TakesRange Unbounded Unbounded snapshot told.reply told.entries state.now.core state.now.core) }
 {
-    range(alloc, state, &Bound::Unbounded, &Bound::Unbounded, snapshot)
+    lists_are_steps();
+    let all = Question::Between(Bound::Unbounded, Bound::Unbounded);
+    of_found(alloc, snapshot, all, state.iter(snapshot, None))
 }
 
 pub(super) fn prefix<S: Store>(
@@ -91,7 +93,7 @@ pub(super) fn prefix<S: Store>(
 {
     lists_are_steps();
     let question = Question::Prefix(share(prefix)?);
-    let found = state.pairs_with_prefix(prefix.as_slice(), snapshot, None);
+    let found = state.prefix(prefix.as_slice(), snapshot, None);
     of_found(alloc, snapshot, question, found)
 }
 

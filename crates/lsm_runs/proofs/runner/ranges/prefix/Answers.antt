@@ -9,8 +9,8 @@ pub returns : goal.returns
 returns g c =
     let core = c.args.state.now.core in
     let s = c.args.snapshot in
-    let r = c.pairs_with_prefix-found.result in
-    let found = c.pairs_with_prefix-found.ensures in
+    let r = c.prefix-found.result in
+    let found = c.prefix-found.ensures in
     prefix_taken s core c.lists_are_steps.ensures c.args.prefix.now r c.of_found.result
-    (subst (λ p. IfOk r (λ out. Prefixes core None p s out)) c.as_slice.ensures found.ok) found.refuses.too_old found.refuses.only
+    (subst (λ p. IfOk r (λ iter. Prefixes core None p s iter.left)) c.as_slice.ensures found.ok) found.refuses.too_old found.refuses.only
     (subst (λ p. IfOk c.of_found.result (ToldFound (Prefix p) s r)) c.in_ok-share.ensures c.of_found.ensures)
