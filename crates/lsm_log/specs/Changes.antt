@@ -4,9 +4,6 @@ use Rattle.lsm_below.specs.Keys.{Bytes}
 use Rattle.lsm_below.specs.declared.error.Error.{Error}
 use Rattle.lsm_below.specs.declared.error.Error.TheVariants.{OutOfMemory, CommitUnknown}
 use Rattle.lsm_store.specs.World.{Image, World, Only, OldOr, Same}
-use Rattle.lsm_tables.specs.Tables.{SeenTable}
-use Rattle.lsm_versions.specs.Levels.{SeenVersion}
-use Rattle.lsm_files.specs.Stored.{IsStored, Leaves as LeavesTree}
 use Rattle.lsm_store.specs.Synced.{Leaves, KeepsOthers, IsBeside}
 use Rattle.lsm_log.specs.LogNames.{record_name}
 
@@ -48,9 +45,3 @@ pub record ClearsRecords (P : ℕ → Type 0) (old new : World) : Type 0 where
 -- each name has what it could have before, or it is that of one of these records, and absent
 abbrev pub AreCleared : (ℕ → Type 0) → World → Image → Type 0
 AreCleared P old image = (n : List ℕ) → old.may n (image n) ⊎ ((image n ≡ None) × IsOneOf P n)
-
--- ---- beside a tree
-
--- whatever versions and written tables of a tree are stored, they stay so, and a crash meanwhile leaves one of the versions
-abbrev pub Spares : World → World → Type 0
-Spares old new = (versions : List SeenVersion) (written : List SeenTable) → IsStored old versions written → IsStored new versions written × LeavesTree old new versions

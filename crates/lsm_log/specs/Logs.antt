@@ -1,10 +1,8 @@
 -- What an image has of a log.
-use Rattle.std.specs.Prelude.{◌≡◌, ◌↔◌, ◌⊎◌, ℕ, ◌+◌, ◌-◌, ◌<◌, ◌≤◌, ◌^◌, min, List, map, Some, None, Result, IsSome, IsErrOf, Contains}
+use Rattle.std.specs.Prelude.{◌≡◌, ◌↔◌, ◌⊎◌, ℕ, ◌<◌, ◌≤◌, ◌^◌, List, map, Some, None, IsSome, Contains}
 use Rattle.std.specs.List.{AllByRecursion}
 use Rattle.std.specs.List.Sorted.{IsStrictlyIncreasing}
-use Rattle.lsm_below.specs.declared.error.Error.{Error}
-use Rattle.lsm_below.specs.declared.error.Error.TheVariants.{Store, CommitUnknown}
-use Rattle.lsm_store.specs.World.{Image, World}
+use Rattle.lsm_store.specs.World.{Image}
 use Rattle.lsm_log.specs.declared.kinds.LogName.TheVariants.{Refused}
 use Rattle.lsm_log.specs.declared.record.Record.{Record}
 use Rattle.lsm_log.specs.LogNames.{record_name, kind_of}
@@ -61,11 +59,3 @@ IsBadLog image from = HasBadName image ⊎ ((k : ℕ) × IsThere image k × (fro
 -- one of these records isn't there, or is none
 abbrev pub LacksOne : Image → List ℕ → Type 0
 LacksOne image numbers = (k : ℕ) × Contains numbers k × IsNoRecordAt image k
-
--- ---- failures
-
--- one call of the store failed where the answer says so, and none where it doesn't
-pub record CountsFaults {T : Type 0} (old new : World) (r : Result T Error) : Type 0 where
-  pub store : IsErrOf r Store → new.failures ≡ min (old.failures + 1) (2 ^ 64 - 1)
-  pub unknown : IsErrOf r CommitUnknown → new.failures ≡ min (old.failures + 1) (2 ^ 64 - 1)
-  pub none : (IsErrOf r Store → ⊥) → (IsErrOf r CommitUnknown → ⊥) → new.failures ≡ old.failures

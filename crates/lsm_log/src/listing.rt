@@ -6,7 +6,8 @@ ghost use Rattle.std.specs.Option.{option_to_list};
 ghost use Rattle.std.specs.String.{string_bytes};
 ghost use Rattle.lsm_store.specs.World.{Same, Lists};
 ghost use Rattle.lsm_log.specs.LogNames.{is_refused, number_in};
-ghost use Rattle.lsm_log.specs.Logs.{AreNumbers, HasBadName, CountsFaults};
+ghost use Rattle.lsm_files.specs.Stored.{CountsFaults};
+ghost use Rattle.lsm_log.specs.Logs.{AreNumbers, HasBadName};
 
 use crate::kinds::{is_refused, number_in};
 use lsm_below::{Error, SeqNo, plain_numbers_are_read};

@@ -5,7 +5,8 @@ ghost use Rattle.std.specs.List.Sorted.{IsStrictlyIncreasing};
 ghost use Rattle.lsm_store.specs.World.{Same};
 ghost use Rattle.lsm_log.specs.LogNames.{record_name};
 ghost use Rattle.lsm_log.specs.Records.{Batch, IsRecordOf};
-ghost use Rattle.lsm_log.specs.Logs.{IsRecordAt, IsNoRecordAt, LacksOne, IsLogFrom, IsBadLog, CountsFaults};
+ghost use Rattle.lsm_files.specs.Stored.{CountsFaults};
+ghost use Rattle.lsm_log.specs.Logs.{IsRecordAt, IsNoRecordAt, LacksOne, IsLogFrom, IsBadLog};
 
 use crate::listing::record_numbers;
 use crate::{Log, Record, RecordError, decode, no_record_begins_another, record_name};

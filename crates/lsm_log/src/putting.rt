@@ -1,12 +1,13 @@
 // A record is put in one step.
 ghost use Rattle.std.specs.Prelude.{◌≡◌, ◌⊎◌, IfErr};
 ghost use Rattle.lsm_store.specs.World.{LeavesOnly};
-ghost use Rattle.lsm_log.specs.Logs.{CountsFaults};
-ghost use Rattle.lsm_log.specs.Changes.{PutsRecord, IsPut, Spares};
+ghost use Rattle.lsm_files.specs.Stored.{CountsFaults};
+ghost use Rattle.lsm_files.specs.Foreign.{Spares};
+ghost use Rattle.lsm_log.specs.Changes.{PutsRecord, IsPut};
 
 use crate::record_name;
 use lsm_below::{Error, SeqNo};
-use lsm_manifest::names_are_apart;
+use lsm_files::foreign_names_spare;
 use lsm_store::{Store, StoreError};
 
 /// `put_record`, told of the record alone.
@@ -43,6 +44,6 @@ pub fn put_record<S: Store>(store: &mut S, number: SeqNo, content: &[u8]) -> Res
     ensures only { IfErr result (λ e. (e ≡ Error.OutOfMemory) ⊎ (e ≡ Error.CommitUnknown)) }
     ensures counts { CountsFaults (S.world store.old) (S.world store.new) result }
 {
-    names_are_apart();
+    foreign_names_spare(store);
     put_alone(store, number, content)
 }

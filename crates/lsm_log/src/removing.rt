@@ -4,13 +4,14 @@ ghost use Rattle.std.specs.List.Sorted.{IsStrictlyIncreasing};
 ghost use Rattle.lsm_store.specs.World.{LeavesOnly, OldOr};
 ghost use Rattle.lsm_store.specs.Synced.{Leaves};
 ghost use Rattle.lsm_log.specs.LogNames.{record_name};
-ghost use Rattle.lsm_log.specs.Logs.{CountsFaults};
-ghost use Rattle.lsm_log.specs.Changes.{IsBelow, ClearsRecords, AreCleared, Spares};
+ghost use Rattle.lsm_files.specs.Stored.{CountsFaults};
+ghost use Rattle.lsm_files.specs.Foreign.{Spares};
+ghost use Rattle.lsm_log.specs.Changes.{IsBelow, ClearsRecords, AreCleared};
 
 use crate::loading::first_from;
 use crate::record_name;
 use lsm_below::{Error, SeqNo};
-use lsm_manifest::names_are_apart;
+use lsm_files::foreign_names_spare;
 use lsm_store::{Store, StoreError};
 
 fn remove_record<S: Store>(store: &mut S, number: SeqNo) -> Result<(), Error>
@@ -66,7 +67,7 @@ pub fn remove_below<S: Store>(store: &mut S, from: SeqNo, numbers: &[SeqNo]) -> 
     ensures only { IfErr result (λ e. e ≡ Error.Store) }
     ensures counts { CountsFaults (S.world store.old) (S.world store.new) result }
 {
-    names_are_apart();
+    foreign_names_spare(store);
     let at = first_from(numbers, from);
     remove_each(store, before(numbers, at))
 }

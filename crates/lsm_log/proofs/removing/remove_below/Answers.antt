@@ -4,7 +4,7 @@ use Rattle.std.proofs.lemmas.Result.{on_ok_weaker}
 use Rattle.lsm_store.specs.World.{LeavesOnly}
 use Rattle.lsm_log.specs.Changes.{IsBelow, ClearsRecords, AreCleared}
 use Rattle.lsm_log.proofs.Changed.{is_below, clears_below, cleared_below}
-use Rattle.lsm_log.proofs.BesideTree.{TreeKinds, clears_spare}
+use Rattle.lsm_log.proofs.BesideTree.{clears_change}
 use Rattle.lsm_log.proofs.removing.remove_below.Goals as goal
 
 pub returns-clause-gone : goal.returns-clause-gone
@@ -32,6 +32,4 @@ returns-clause-any_moment g c tells =
 pub returns-clause-stored : goal.returns-clause-stored
 returns-clause-stored g c tells =
     let w = g.S.Store.world in
-    let n = c.names_are_apart.ensures in
-    let kinds : TreeKinds = record { version_kind = n.version_kind; table_kind = n.table_kind } in
-    clears_spare kinds (IsBelow c.args.from) (w c.args.store.now) (w c.remove_each.new.store) (returns-clause-clears g c tells) (returns-clause-any_moment g c tells)
+    c.foreign_names_spare.ensures c.args.store.now c.remove_each.new.store (clears_change (IsBelow c.args.from) (w c.args.store.now) (w c.remove_each.new.store) (returns-clause-clears g c tells) (returns-clause-any_moment g c tells))

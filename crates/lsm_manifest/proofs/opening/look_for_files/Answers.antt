@@ -21,3 +21,6 @@ returns-in-Ok-clause-stands g c tells id ls ts stands small = stands_found c.no_
 
 pub returns-in-Ok-clause-from : goal.returns-in-Ok-clause-from
 returns-in-Ok-clause-from g c tells there = c.in-Ok.ensures.from tells (not_new (g.S.Store.world c.args.store.now).gives c.in-Ok.found there (c.in-Ok.ensures.looks tells))
+
+pub returns-in-Ok-clause-found : goal.returns-in-Ok-clause-found
+returns-in-Ok-clause-found g c tells = record { found = c.in-Ok.ensures.looks tells; from = returns-in-Ok-clause-from g c tells; same = c.in-Ok.ensures.same tells }
