@@ -177,3 +177,7 @@ returns-clause-any_moment g c tells id ls named =
 pub returns-clause-stands : goal.returns-clause-stands
 returns-clause-stands g c tells id ls ts stands pin =
     (c.in_ok-core.ensures.leaves tells c.args.store (c.in_ok-found.ensures.found tells)).stands id ls ts stands pin
+
+pub returns-clause-from : goal.returns-clause-from
+returns-clause-from g c tells there =
+    (c.in_ok-core.ensures.opens tells c.args.store (c.in_ok-found.ensures.found tells)).from there

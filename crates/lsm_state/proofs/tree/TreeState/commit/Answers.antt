@@ -1,6 +1,8 @@
-use Rattle.std.proofs.Common.{◌≡◌, ◌<◌, ◌∷◌, [], List, ⊎_elim, None, Some, ap, sym, subst, ◌∙◌, refl, Ok, Err}
+use Rattle.std.proofs.Common.{◌≡◌, ◌<◌, ◌∷◌, [], List, ℕ, ⊎_elim, None, Some, ap, sym, subst, ◌∙◌, refl, Ok, Err}
 use Rattle.lsm_below.specs.declared.error.Error.TheVariants.{OutOfMemory, Store, CommitUnknown}
 use Rattle.lsm_versions.specs.Levels.{SeenVersion, all_of}
+use Rattle.lsm_manifest.specs.Spelling.{IsFileFrom}
+use Rattle.lsm_manifest.specs.Versions.{named_levels, file_of}
 use Rattle.lsm_files.specs.Stored.{AreOnDisk}
 use Rattle.lsm_files.specs.Commits.{CommitsStored}
 use Rattle.lsm_parts.specs.declared.version.super_version.SuperVersion.{SuperVersion}
@@ -21,6 +23,13 @@ returns-then-number-ge-LIMIT-clause-upholds g c tells disk =
     let old : Core = record { config = i.config; memtables = i.memtables; history = i.history; next_memtable = i.next_memtable; next_table = i.next_table; next_job = i.next_job; moment = i.moment; seqno = i.seqno; visible_seqno = i.visible_seqno; flush = i.flush; lost = i.lost; merges = i.merges } in
     subst (λ t. Upholds (w t.store) (w t.store) t.core t.core) c.self.view_is (upheld_still (w i.store) old old refl refl (c.crashes_leave_versions.ensures tells))
 
+pub returns-in_err-file-clause-upholds : goal.returns-in_err-file-clause-upholds
+returns-in_err-file-clause-upholds g c tells disk =
+    let w = g.S.Store.world in
+    let i = c.self.inside in
+    let old : Core = record { config = i.config; memtables = i.memtables; history = i.history; next_memtable = i.next_memtable; next_table = i.next_table; next_job = i.next_job; moment = i.moment; seqno = i.seqno; visible_seqno = i.visible_seqno; flush = i.flush; lost = i.lost; merges = i.merges } in
+    subst (λ t. Upholds (w t.store) (w t.store) t.core t.core) c.self.view_is (upheld_still (w i.store) old old refl refl (c.crashes_leave_versions.ensures tells))
+
 pub returns-in_err-append_version-clause-upholds : goal.returns-in_err-append_version-clause-upholds
 returns-in_err-append_version-clause-upholds g c tells disk =
     let w = g.S.Store.world in
@@ -29,6 +38,17 @@ returns-in_err-append_version-clause-upholds g c tells disk =
     let new : Core = record old { history = c.append_version.new.self } in
     subst (λ t. Upholds (w t.store) (w i.store) t.core new) c.self.view_is
     (upheld_still (w i.store) old new (ap (λ h. versions_left (record old { history = h })) c.in_err-append_version.ensures.err) refl (c.crashes_leave_versions.ensures tells))
+
+pub commit_version-requires-clause-spelling : goal.commit_version-requires-clause-spelling
+commit_version-requires-clause-spelling g c =
+    let seen = ap (λ sv. sv.version) c.latest_version.ensures ∙ ap (λ h. h.latest.version) c.in_ok-append_version.ensures.ok in
+    c.deref.ensures.value ∙ c.in_ok-file.ensures.spelling ∙ ap file_of (sym seen)
+
+pub commit_version-requires-clause-reads : goal.commit_version-requires-clause-reads
+commit_version-requires-clause-reads g c =
+    let v = c.args.next.version in
+    let seen = ap (λ sv. sv.version) c.latest_version.ensures ∙ ap (λ h. h.latest.version) c.in_ok-append_version.ensures.ok in
+    subst (λ (u : SeenVersion). IsFileFrom (Some u.log_from) (named_levels u.levels) c.deref.result.now) (sym seen) (subst (λ (b : List ℕ). IsFileFrom (Some v.log_from) (named_levels v.levels) b) (sym c.deref.ensures.value) c.in_ok-file.ensures.tells)
 
 pub returns-in-Ok-clause-upholds : goal.returns-in-Ok-clause-upholds
 returns-in-Ok-clause-upholds g c tells disk =
