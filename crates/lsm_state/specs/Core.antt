@@ -1,5 +1,5 @@
 -- What callers see of a tree, and how the theory sees it.
-use Rattle.std.specs.Prelude.{ℕ, ◌+◌, max, List, [], ◌∷◌, ◌++◌, map, reverse, Option, Some, None, option_to_list}
+use Rattle.std.specs.Prelude.{ℕ, ◌+◌, max, List, [], ◌∷◌, map, reverse, Option, Some, None, option_to_list}
 use Rattle.lsm_below.specs.Entries.{Entry}
 use Rattle.lsm_model.specs.Journal.{Event}
 use Rattle.lsm_model.specs.Views.{SuperVersion as Shown}
