@@ -53,7 +53,7 @@ impl<R: Drop, W: Drop, E: Write + Drop> Console<R, W, E> {
 
 impl<E: Write + Drop> Errors<E> {
     /// Writes why a call of the store failed, and at a terminal which lines there are where one isn't known.
-    pub(crate) fn tell_of(&mut self, reply: &Reply<'_>, cause: Option<String>) {
+    pub(crate) fn tell_of(&mut self, reply: &Reply, cause: Option<String>) {
         if let Some(cause) = cause {
             let _ = writeln!(self.errors, "{cause}");
         }

@@ -1,6 +1,6 @@
 // What is printed for a line.
 use lsm_below::{MemtableId, SeqNo, UserValue};
-use lsm_tree::{Error, Pairs, Why};
+use lsm_tree::{Error, IterGuard, TreeIter, Why};
 use std::io::{self, Write};
 
 /// What a tree counts: the tables and the runs of its first level, its sealed memtables, the entries of memtables and
@@ -16,15 +16,15 @@ pub struct Stats {
 
 /// What a line is answered.
 #[derive(Drop)]
-pub enum Reply<'a> {
+pub enum Reply {
     /// The write has this number.
     Written(SeqNo),
     /// The key has this value.
     Value(UserValue),
     /// The key has no value.
     NoValue,
-    /// The pairs that there are, lent by the tree.
-    Pairs(Pairs<'a>),
+    /// What the iterator has left are the pairs that there are.
+    Pairs(TreeIter),
     /// The memtable of this number was sealed.
     Rotated(MemtableId),
     /// There was nothing to do.
@@ -51,8 +51,9 @@ pub enum Reply<'a> {
     Usage,
 }
 
-impl<'a> Reply<'a> {
-    /// Writes the lines that are printed for this reply. Pairs are written while they are walked.
+impl Reply {
+    /// Writes the lines that are printed for this reply. Pairs are written while they are walked, and a walk that finds no
+    /// memory ends with that error.
     pub fn write_to<W: Write>(self, output: &mut W) -> io::Result<()> {
         match self {
             Reply::Written(number) => writeln!(output, "ok {number}"),
@@ -111,10 +112,13 @@ fn write_pair<W: Write>(output: &mut W, key: &[u8], value: &[u8]) -> io::Result<
 }
 
 /// Writes a line for each pair, and one with their count.
-fn write_pairs<W: Write>(output: &mut W, pairs: Pairs<'_>) -> io::Result<()> {
+fn write_pairs<W: Write>(output: &mut W, pairs: TreeIter) -> io::Result<()> {
     let mut count: u64 = 0;
-    for (key, value) in pairs {
-        write_pair(output, key.as_slice(), value.as_slice())?;
+    for pair in pairs {
+        match pair.into_inner() {
+            Ok((key, value)) => write_pair(output, key.as_slice(), value.as_slice())?,
+            Err(error) => return write_refused(output, error),
+        }
         count = count.saturating_add(1);
     }
     writeln!(output, "end {count}")

@@ -48,48 +48,13 @@ impl<S: SessionStore> Session<S> {
 
     /// Does what the line asks, and says what came of it. Where a call of the store failed meanwhile, or the tree couldn't
     /// be opened again, the second says why.
-    pub fn answer(&mut self, line: &[u8]) -> (Reply<'_>, Option<String>) {
-        match parse(self.alloc, line) {
-            Ok(Some(Command::Range(low, high, snapshot))) => {
-                (self.range(&(low, high), snapshot), None)
-            }
-            Ok(Some(Command::Prefix(prefix, snapshot))) => (self.prefix(&prefix, snapshot), None),
-            Ok(Some(command)) => self.run_telling(command),
-            Ok(None) => (Reply::Usage, None),
-            Err(_) => (Reply::Refused(Error::OutOfMemory), None),
-        }
-    }
-
-    /// The pairs in the bounds, which the tree lends: no call of the store is made for them.
-    fn range(
-        &self,
-        bounds: &(Bound<UserKey>, Bound<UserKey>),
-        snapshot: Option<SeqNo>,
-    ) -> Reply<'_> {
-        let Some(Stage::Open(tree)) = &self.stage else {
-            return Reply::Usage;
-        };
-        match tree.pairs(bounds, snapshot_or_now(tree, snapshot)) {
-            Ok(pairs) => Reply::Pairs(pairs),
-            Err(error) => Reply::Refused(error),
-        }
-    }
-
-    /// The pairs of the keys that begin so, lent as those of a range.
-    fn prefix(&self, prefix: &UserKey, snapshot: Option<SeqNo>) -> Reply<'_> {
-        let Some(Stage::Open(tree)) = &self.stage else {
-            return Reply::Usage;
-        };
-        match tree.pairs_with_prefix(prefix, snapshot_or_now(tree, snapshot)) {
-            Ok(pairs) => Reply::Pairs(pairs),
-            Err(error) => Reply::Refused(error),
-        }
-    }
-
-    /// Does what a command asks that may call the store, and says why if a call failed.
-    fn run_telling(&mut self, command: Command) -> (Reply<'static>, Option<String>) {
+    pub fn answer(&mut self, line: &[u8]) -> (Reply, Option<String>) {
         let failures = self.failures();
-        let reply = self.run(command).unwrap_or_else(Reply::Refused);
+        let reply = match parse(self.alloc, line) {
+            Ok(Some(command)) => self.run(command).unwrap_or_else(Reply::Refused),
+            Ok(None) => Reply::Usage,
+            Err(_) => Reply::Refused(Error::OutOfMemory),
+        };
         let cause = match self.cause.take() {
             Some(cause) => Some(cause),
             None if self.failures() > failures => {
@@ -115,7 +80,7 @@ impl<S: SessionStore> Session<S> {
         }
     }
 
-    fn run(&mut self, command: Command) -> Result<Reply<'static>, Error> {
+    fn run(&mut self, command: Command) -> Result<Reply, Error> {
         match command {
             Command::Reopen => self.reopen(),
             Command::Crash => self.crash(),
@@ -127,7 +92,7 @@ impl<S: SessionStore> Session<S> {
     }
 
     /// Opens the tree again from its store. Refused, the store is kept, and only this is allowed.
-    fn reopen(&mut self) -> Result<Reply<'static>, Error> {
+    fn reopen(&mut self) -> Result<Reply, Error> {
         let store = match self.stage.take() {
             Some(Stage::Open(tree)) => tree.into_store(),
             Some(Stage::Closed(store)) => store,
@@ -148,7 +113,7 @@ impl<S: SessionStore> Session<S> {
     }
 
     /// Crashes the store, where it can be crashed and the tree is open. Then it is to be opened again.
-    fn crash(&mut self) -> Result<Reply<'static>, Error> {
+    fn crash(&mut self) -> Result<Reply, Error> {
         let Some(Stage::Open(tree)) = &self.stage else {
             return Ok(Reply::Usage);
         };
@@ -167,13 +132,15 @@ fn run_on<S: Store>(
     alloc: Global,
     tree: &mut Recorded<S>,
     command: Command,
-) -> Result<Reply<'static>, Error> {
+) -> Result<Reply, Error> {
     let mut pass = Pass::new(alloc);
     match command {
         Command::Put(key, value) => write(alloc, tree, &mut pass, key, Op::Set(value)),
         Command::Del(key) => write(alloc, tree, &mut pass, key, Op::Del),
         Command::Weak(key) => write(alloc, tree, &mut pass, key, Op::Weak),
         Command::Get(key, snapshot) => get(tree, &mut pass, &key, snapshot),
+        Command::Range(low, high, snapshot) => range(tree, &(low, high), snapshot),
+        Command::Prefix(key, snapshot) => prefix(tree, &key, snapshot),
         Command::Rotate => rotate(tree, &mut pass),
         Command::Flush(watermark) => flush(tree, &mut pass, watermark),
         Command::Compact(plan, watermark) => compact(alloc, tree, &mut pass, plan, watermark),
@@ -187,9 +154,7 @@ fn run_on<S: Store>(
             Ok(Reply::Done)
         }
         Command::Stats => Ok(Reply::Counted(stats(tree))),
-        Command::Range(..) | Command::Prefix(..) | Command::Crash | Command::Reopen => {
-            Ok(Reply::Usage)
-        }
+        Command::Crash | Command::Reopen => Ok(Reply::Usage),
     }
 }
 
@@ -199,7 +164,7 @@ fn write<S: Store>(
     pass: &mut Pass,
     key: UserKey,
     op: Op,
-) -> Result<Reply<'static>, Error> {
+) -> Result<Reply, Error> {
     let Ok(ops) = vec![in alloc; (key, op)] else {
         return Err(Error::OutOfMemory);
     };
@@ -211,7 +176,7 @@ fn get<S: Store>(
     pass: &mut Pass,
     key: &UserKey,
     snapshot: Option<SeqNo>,
-) -> Result<Reply<'static>, Error> {
+) -> Result<Reply, Error> {
     let snapshot = snapshot_or_now(tree, snapshot);
     Ok(match tree.get(pass, key, snapshot)? {
         Some(value) => Reply::Value(value),
@@ -219,7 +184,25 @@ fn get<S: Store>(
     })
 }
 
-fn rotate<S: Store>(tree: &mut Recorded<S>, pass: &mut Pass) -> Result<Reply<'static>, Error> {
+fn range<S: Store>(
+    tree: &Recorded<S>,
+    bounds: &(Bound<UserKey>, Bound<UserKey>),
+    snapshot: Option<SeqNo>,
+) -> Result<Reply, Error> {
+    let snapshot = snapshot_or_now(tree, snapshot);
+    Ok(Reply::Pairs(tree.create_range(bounds, snapshot)?))
+}
+
+fn prefix<S: Store>(
+    tree: &Recorded<S>,
+    prefix: &UserKey,
+    snapshot: Option<SeqNo>,
+) -> Result<Reply, Error> {
+    let snapshot = snapshot_or_now(tree, snapshot);
+    Ok(Reply::Pairs(tree.create_prefix(prefix, snapshot)?))
+}
+
+fn rotate<S: Store>(tree: &mut Recorded<S>, pass: &mut Pass) -> Result<Reply, Error> {
     Ok(match tree.rotate_memtable(pass)? {
         Some(id) => Reply::Rotated(id),
         None => Reply::Nothing,
@@ -230,7 +213,7 @@ fn flush<S: Store>(
     tree: &mut Recorded<S>,
     pass: &mut Pass,
     watermark: SeqNo,
-) -> Result<Reply<'static>, Error> {
+) -> Result<Reply, Error> {
     match tree.flush_active_memtable(pass, watermark) {
         Ok((_, Some((size, registered)))) => Ok(Reply::Flushed(size, registered.installed)),
         Ok((_, None)) => Ok(Reply::Nothing),
@@ -244,7 +227,7 @@ fn compact<S: Store>(
     pass: &mut Pass,
     plan: Plan,
     watermark: SeqNo,
-) -> Result<Reply<'static>, Error> {
+) -> Result<Reply, Error> {
     let begun = match plan {
         Plan::Leveled => tree.compact(pass, &Leveled::new(alloc)?, watermark)?,
         Plan::Major => tree.major_compact(pass, u64::MAX, watermark)?,
@@ -257,7 +240,7 @@ fn compact<S: Store>(
 }
 
 /// What came of a compaction in one call, which hands out no job.
-fn told(begun: Begun) -> Reply<'static> {
+fn told(begun: Begun) -> Reply {
     match begun {
         Begun::Installed => Reply::Compacted,
         Begun::Declined(why) => Reply::Declined(why),
