@@ -2,13 +2,13 @@
 
 use crate::manifests::{CURRENT, CURRENT_3};
 use crate::opening::{ONE, fill_with};
-use crate::samples::{Changes, FORMAT_3, FROM_1, Format, TABLE, bytes_of, has_just};
+use crate::samples::{Changes, FORMAT_3, FROM_1, Format, TABLE, bytes_of, has};
 use lsm_below::{Error, UserKey};
 use lsm_iter::IterGuard;
 use lsm_model::Op;
 use lsm_parts::Config;
 use lsm_state::TreeState;
-use lsm_store::{MemStore, StoreError};
+use lsm_store::{MemStore, Store, StoreError};
 use std::alloc::Global;
 use std::ops::Bound;
 use std::test::Fail;
@@ -94,12 +94,9 @@ type Row = (Format, &'static [u8]);
 fn is_cleared(alloc: Global, store: &mut MemStore, row: Row) -> Result<bool, StoreError> {
     let (format, current) = row;
     let bytes = bytes_of(alloc, format, ONE)?;
-    let files: Changes<'_> = &[
-        ("current", Some(current)),
-        ("tables/3", Some(&TABLE)),
-        ("v5", Some(&bytes)),
-    ];
-    has_just(alloc, store, files)
+    let made: Changes<'_> = &[("v5", Some(&bytes))];
+    let given: Changes<'_> = &[("current", Some(current)), ("tables/3", Some(&TABLE))];
+    Ok(store.list(alloc)?.len() == 3 && has(alloc, store, made)? && has(alloc, store, given)?)
 }
 
 const ROWS: [Row; 2] = [(FORMAT_3, &CURRENT_3), ((4, &FROM_1), &CURRENT)];
