@@ -21,7 +21,7 @@ pub enum Error {
     /// 4: files are damaged or foreign; or a commit was asked for after one of unknown outcome.
     #[error("the files can't be used")]
     Unrecoverable,
-    /// 5: the format byte isn't 3; 1 where a file `version` is there.
+    /// 5: the format byte of a version's file is neither 3 nor 4; 1 where a file `version` is there.
     #[error("format byte {0}")]
     InvalidVersion(u8),
     /// 6: a type byte isn't 0.

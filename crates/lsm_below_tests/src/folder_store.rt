@@ -52,25 +52,36 @@ fn lists(store: &mut impl Store, alloc: Global, wanted: &[&str]) -> Result<bool,
     Ok(names.len() == wanted.len())
 }
 
-/// Calls on one file of the folder and one of its subfolder, and the removal of an absent name.
-const CALLS: [Call; 8] = [
+/// Calls on files of the folder and on one of each subfolder, and the removal of an absent name.
+const CALLS: [Call; 11] = [
     Call::Write("v0", b"partial"),
     Call::Write("v0", b"old"),
     Call::Sync("v0"),
     Call::Write("tables/7", b"entries"),
     Call::Sync("tables/7"),
+    Call::Replace("log/0", b"record"),
+    Call::Write("log/1", b"record 1"),
+    Call::Sync("log/1"),
     Call::Replace("current", b"0"),
     Call::Replace("current", b"1"),
     Call::Remove("v9"),
 ];
 
 /// What is there then.
-const FILES: [(&str, &[u8]); 3] = [("v0", b"old"), ("current", b"1"), ("tables/7", b"entries")];
+const FILES: [(&str, &[u8]); 5] = [
+    ("v0", b"old"),
+    ("current", b"1"),
+    ("tables/7", b"entries"),
+    ("log/0", b"record"),
+    ("log/1", b"record 1"),
+];
+
+const NAMES: [&str; 5] = ["v0", "current", "tables/7", "log/0", "log/1"];
 
 fn fills(store: &mut impl Store, alloc: Global) -> Result<bool, StoreError> {
     let is_empty = lists(store, alloc, &[])?;
     let is_filled = make_each(store, &CALLS)?;
-    Ok(is_empty && is_filled && lists(store, alloc, &["v0", "current", "tables/7"])?)
+    Ok(is_empty && is_filled && lists(store, alloc, &NAMES)?)
 }
 
 /// Refused calls, each of which counts: an absent name isn't synced, a file isn't made where its folder is absent,
@@ -82,13 +93,15 @@ fn refuses(store: &mut impl Store, alloc: Global) -> Result<bool, StoreError> {
     Ok(!is_synced && !is_written && matches!(read, Err(StoreError::Fault)) && store.failures() == 3)
 }
 
-/// Whether the files are there, and one is no more once it is removed.
-fn removes_one(store: &mut impl Store, alloc: Global) -> Result<bool, StoreError> {
-    let is_there = has_each(store, alloc, &FILES)?;
-    store.remove("tables/7")?;
-    let is_gone = has(store, alloc, "tables/7", None)?;
-    let is_listed = lists(store, alloc, &["v0", "current"])?;
-    Ok(is_there && is_gone && is_listed && store.failures() == 0)
+/// Whether the files are there, and one of each subfolder is no more once it is removed.
+fn removes(store: &mut impl Store, alloc: Global) -> Result<bool, StoreError> {
+    let mut is_well = has_each(store, alloc, &FILES)?;
+    for name in ["tables/7", "log/0"] {
+        store.remove(name)?;
+        is_well = has(store, alloc, name, None)? && is_well;
+    }
+    let is_listed = lists(store, alloc, &["v0", "current", "log/1"])?;
+    Ok(is_well && is_listed && store.failures() == 0)
 }
 
 #[test]
@@ -100,10 +113,30 @@ fn a_folder_keeps_files(rt: HostRuntime) -> Result<(), Fail> {
     drop(store);
     assert!(rt; filled? && refused?);
     let mut again = FolderStore::new(&rt, rt.alloc(), FOLDER)?;
-    let removed = removes_one(&mut again, rt.alloc());
+    let removed = removes(&mut again, rt.alloc());
     drop(again);
     assert!(rt; removed?);
     fs::remove_dir_all(&rt, FOLDER)?;
+    Ok(())
+}
+
+/// Whether a record is put and listed.
+fn puts_record(store: &mut impl Store, alloc: Global) -> Result<bool, StoreError> {
+    store.replace("log/0", b"record")?;
+    lists(store, alloc, &["log/0"])
+}
+
+/// A folder that was made before it had this subfolder gets it.
+#[test]
+fn an_absent_subfolder_is_made(rt: HostRuntime) -> Result<(), Fail> {
+    let folder = "lsm_folder_store_older";
+    let _ = fs::remove_dir_all(&rt, folder);
+    fs::create_dir_all(&rt, "lsm_folder_store_older/tables")?;
+    let mut store = FolderStore::new(&rt, rt.alloc(), folder)?;
+    let put = puts_record(&mut store, rt.alloc());
+    drop(store);
+    assert!(rt; put?);
+    fs::remove_dir_all(&rt, folder)?;
     Ok(())
 }
 

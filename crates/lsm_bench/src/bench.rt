@@ -2,7 +2,7 @@
 ghost use Rattle.std.specs.Prelude.{IfOk, IsSome};
 
 use crate::lists::list;
-use crate::merges::{ingest, merge_all};
+use crate::merges::{clear_all, ingest, merge_all};
 use crate::points::{self, Locked, Noted, Points};
 use crate::progress::Progress;
 use crate::report::{Figures, Tally, print_figures};
@@ -142,6 +142,7 @@ impl<P: Place> Bench<'_, P> {
             Job::Reopen(wanted) => self.reopen(rt, &mut trees.owned, wanted),
             Job::Major => self.merge(rt, &mut trees.owned),
             Job::Ingest(way) => self.ingest(rt, trees, way),
+            Job::Clear => self.clear(rt, trees),
         }
     }
 
@@ -446,6 +447,20 @@ impl<P: Place> Bench<'_, P> {
         let start = Instant::now(rt)?;
         let tally = ingest(self.alloc, tree, way, &self.orders.puts)?;
         timed(rt, start, tally)
+    }
+
+    /// Clears an empty tree as many times as there are keys.
+    fn clear<R>(&self, rt: &R, trees: &mut Trees<P::Store>) -> Result<Figures>
+    where
+        R: AllocGlobal + Clone + Clock + Files,
+    {
+        trees.clear();
+        let mut tree = open_owned(self.alloc, self.place.store(self.alloc)?)?;
+        let start = Instant::now(rt)?;
+        let cleared = clear_all(&mut tree, self.plan.keys);
+        let figures = timed(rt, start, cleared?);
+        drop(tree);
+        figures
     }
 }
 

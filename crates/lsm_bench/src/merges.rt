@@ -31,6 +31,17 @@ pub fn merge_all<S: Store>(tree: &mut TreeState<S>, keys: usize) -> Result<Tally
     })
 }
 
+/// Clears a tree so many times, each of which commits a version without tables. The check is the id of the last version.
+pub fn clear_all<S: Store>(tree: &mut TreeState<S>, times: usize) -> Result<Tally, Error> {
+    for _ in 0..times {
+        tree.clear()?;
+    }
+    Ok(Tally {
+        ops: times,
+        check: tree.current_version().id(),
+    })
+}
+
 /// Puts keys into a tree in parts, each of which is flushed, and merges tables as it is said.
 pub fn ingest<S: Store>(
     alloc: Global,

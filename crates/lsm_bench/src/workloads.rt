@@ -20,6 +20,8 @@ pub enum Job {
     Major,
     /// Puts all keys in random order into an empty tree with one owner, with flushes and compactions in between.
     Ingest(Ingest),
+    /// Clears an empty tree with one owner as many times as there are keys.
+    Clear,
 }
 
 /// When tables are merged while keys are put.
@@ -93,7 +95,7 @@ pub enum Listing {
 ///
 /// Those that read one tree stand behind the one that makes it, so that it is done once. The first is the fill that
 /// is weighed, before other trees have left memory behind.
-pub const WORKLOADS: [(&str, Job); 37] = [
+pub const WORKLOADS: [(&str, Job); 38] = [
     ("put_rand", Job::Fill(Kind::Owned, Filling::Random)),
     ("bytes_mem", Job::Weigh),
     (
@@ -164,6 +166,7 @@ pub const WORKLOADS: [(&str, Job); 37] = [
     ("major4", Job::Major),
     ("ingest4", Job::Ingest(Ingest::Once)),
     ("mixed", Job::Ingest(Ingest::Leveled)),
+    ("clear_mem", Job::Clear),
     ("put_seq", Job::Fill(Kind::Owned, Filling::Rising)),
     ("put_same", Job::Fill(Kind::Owned, Filling::Same)),
     ("locked_put_rand", Job::Fill(Kind::Locked, Filling::Random)),

@@ -54,8 +54,10 @@ impl<'a, R: AllocGlobal + Clone + Drop + Files<File = File> + Send> Folder<'a, R
         for name in store.list(alloc)?.iter() {
             store.remove(name.as_str())?;
         }
-        let tables = format!(in alloc; "{}/tables", self.path)?;
-        fs::remove_dir(self.rt, tables.as_str())?;
+        for name in ["tables", "log"] {
+            let below = format!(in alloc; "{}/{name}", self.path)?;
+            fs::remove_dir(self.rt, below.as_str())?;
+        }
         let lock = format!(in alloc; "{}/lock", self.path)?;
         fs::remove_file(self.rt, lock.as_str())?;
         if self.is_made {

@@ -14,13 +14,13 @@ use Rattle.lsm_manifest.specs.declared.persist.PersistError.{PersistError}
 use Rattle.lsm_manifest.specs.declared.persist.PersistError.TheVariants as persisting
 use Rattle.lsm_manifest.specs.Names.{current_name, version_name, table_name}
 use Rattle.lsm_manifest.specs.Kinds.{kind_of}
-use Rattle.lsm_manifest.specs.Spelling.{IsVersionFile}
+use Rattle.lsm_manifest.specs.Spelling.{IsFileFrom}
 use Rattle.lsm_manifest.specs.Versions.{named_levels, file_of}
-use Rattle.lsm_manifest.specs.Persist.{naming, IsOldOrNew, IsPersisted, IsUncertain, KeepsRest, Persists, MayHaveLeft, NamesFile}
+use Rattle.lsm_manifest.specs.Persist.{naming, IsOldOrNew, IsPersisted, IsUncertain, KeepsRest, Persists, MayHaveLeft}
 use Rattle.lsm_manifest.specs.Told.{Told, TellsPersist}
 use Rattle.lsm_files.specs.Stored.{AreOnDisk, IsFileOf, IsWhole, IsNaming, IsStored, HoldsOneOf, Leaves}
 use Rattle.lsm_files.specs.Commits.{Stores}
-use Rattle.lsm_files.proofs.Images.{Untouched, stands, tables_in, held_beside, on_beside, naming_beside, whole_beside}
+use Rattle.lsm_files.proofs.Images.{Untouched, holds, tables_in, held_beside, on_beside, naming_beside, whole_beside}
 use Rattle.lsm_files.proofs.Removals.{AreApart, is_file, file_not_older, file_not_refused, file_untouched, version_spared}
 
 -- the name is that of the version's file, or `current`
@@ -45,7 +45,7 @@ module _ (apart : AreApart) (plain : kind_of current_name ≡ Other) (id : ℕ) 
   either_not_older = ⊎_elim (λ e. file_not_older apart id small e) (λ e. other_letters (ap (λ (l : List ℕ). get_or l 0 0) e))
 
 module _ (apart : AreApart) (no_table : (i : ℕ) → table_name i ≢ current_name) (plain : kind_of current_name ≡ Other) (old : World) (latest next : SeenVersion) (tables : List SeenTable) (small : next.id < 2 ^ 64) (runs : AreRuns next.levels)
-    (stored : IsStored old (latest ∷ []) tables) (other : next.id ≢ latest.id) (on_disk : AreOnDisk old (all_of next.levels)) where
+    (reads : IsFileFrom (Some next.log_from) (named_levels next.levels) (file_of next)) (stored : IsStored old (latest ∷ []) tables) (other : next.id ≢ latest.id) (on_disk : AreOnDisk old (all_of next.levels)) where
   free_file : Untouched (is_file next.id) (latest ∷ []) tables
   free_file = file_untouched apart old next.id small (latest ∷ []) tables stored (λ e. other (sym e), tt)
 
@@ -74,20 +74,18 @@ module _ (apart : AreApart) (no_table : (i : ℕ) → table_name i ≢ current_n
   -- ---- images in it
 
   wider : (image : Image) → HoldsOneOf (latest ∷ []) image → HoldsOneOf (latest ∷ (next ∷ [])) image
-  wider image has = (has.0, ⊎_elim (λ e. inl e) (λ none. absurd none) has.1, has.2)
+  wider image has = (has.0, ⊎_elim (λ e. inl e) (λ none. absurd none) has.1, has.2, has.3)
 
   held_old : (image : Image) → ((n : List ℕ) → (is_file next.id n → ⊥) → old.may n (image n)) → HoldsOneOf (latest ∷ []) image
   held_old image has = held_beside (is_file next.id) old image has (latest ∷ []) tables stored free_file
 
-  held_either : IsVersionFile (named_levels next.levels) (file_of next) → (image : Image) → IsOldOrNew next.id (file_of next) old image → HoldsOneOf (latest ∷ (next ∷ [])) image
-  held_either reads image is = ⊎_elim
+  held_either : (image : Image) → IsOldOrNew next.id (file_of next) old image → HoldsOneOf (latest ∷ (next ∷ [])) image
+  held_either image is = ⊎_elim
       (λ as_before. wider image (held_old image (λ n out. ⊎_elim (λ (e : n ≡ current_name). subst (λ m. old.may m (image m)) (sym e) as_before) (λ differs. is.elsewhere n out differs) (same_or_not n current_name))))
-      (λ named. (
-        next,
-        inr (inl refl),
-        stands image next (file_of next) small reads runs named.0 named.1 (tables_in (is_either next.id) old image has (all_of next.levels) on_disk (tables_out (all_of next.levels)))
-            (record { no_version = stored.no_version _ (has (codes "version") older_out); in_tables = λ n bad. stored.in_tables n _ bad (has n (refused_out n bad)) }),
-      )) is.named
+      (λ named.
+      let held = holds image next (file_of next) (Some next.log_from) small refl reads runs named.0 named.1 (tables_in (is_either next.id) old image has (all_of next.levels) on_disk (tables_out (all_of next.levels)))
+      (record { no_version = stored.no_version _ (has (codes "version") older_out); in_tables = λ n bad. stored.in_tables n _ bad (has n (refused_out n bad)) }) in
+      (next, inr (inl refl), held.0, held.1)) is.named
     where
       has : (n : List ℕ) → (is_either next.id n → ⊥) → old.may n (image n)
       has n out = is.elsewhere n (out_file n out) (out_current n out)
@@ -95,18 +93,18 @@ module _ (apart : AreApart) (no_table : (i : ℕ) → table_name i ≢ current_n
   widened : (new : World) → Leaves old new (latest ∷ []) → Leaves old new (latest ∷ (next ∷ []))
   widened new leaves = weakened old new (HoldsOneOf (latest ∷ [])) (HoldsOneOf (latest ∷ (next ∷ []))) leaves wider
 
-  left_either : (new : World) → IsVersionFile (named_levels next.levels) (file_of next) → LeavesOnly old new (IsOldOrNew next.id (file_of next) old) → Leaves old new (latest ∷ (next ∷ []))
-  left_either new reads leaves = weakened old new (IsOldOrNew next.id (file_of next) old) (HoldsOneOf (latest ∷ (next ∷ []))) leaves (held_either reads)
+  left_either : (new : World) → LeavesOnly old new (IsOldOrNew next.id (file_of next) old) → Leaves old new (latest ∷ (next ∷ []))
+  left_either new leaves = weakened old new (IsOldOrNew next.id (file_of next) old) (HoldsOneOf (latest ∷ (next ∷ []))) leaves held_either
 
   -- ---- what is stored behind it
 
   module _ (new : World) where
-    module _ (rest : KeepsRest next.id old new) (reads : IsVersionFile (named_levels next.levels) (file_of next)) (file : (c : Option (List ℕ)) → new.may (version_name next.id) c → c ≡ Some (file_of next)) where
+    module _ (rest : KeepsRest next.id old new) (file : (c : Option (List ℕ)) → new.may (version_name next.id) c → c ≡ Some (file_of next)) where
       still : (n : List ℕ) (c : Option (List ℕ)) → (is_either next.id n → ⊥) → new.may n c → old.may n c
       still n c out may = (rest.may n c (out_file n out) (out_current n out)).0 may
 
       next_file : IsFileOf new next (file_of next)
-      next_file = record { reads = reads; on_disk = file }
+      next_file = record { from = Some next.log_from; log_from = refl; reads = reads; on_disk = file }
 
       next_named : (c : Option (List ℕ)) → c ≡ Some (naming next.id (file_of next)) → IsNaming new next c
       next_named c is = record { bytes = file_of next; file = next_file; named = is }
@@ -147,24 +145,24 @@ module _ (apart : AreApart) (no_table : (i : ℕ) → table_name i ≢ current_n
 
     -- ---- by what it answers
 
-    of_ok : (u : Unit {0}) → IsPersisted next.id (file_of next) old new → LeavesOnly old new (IsOldOrNew next.id (file_of next) old) → IsVersionFile (named_levels next.levels) (file_of next) → Stores latest next tables old new (Ok u)
-    of_ok u is leaves reads = record {
-      ok = next_stored is.rest reads (λ c may. (is.version c).0 may) (λ c may. (is.current c).0 may);
-      committed = record { file = next_file is.rest reads (λ c may. (is.version c).0 may); current = λ c may. (is.current c).0 may };
+    of_ok : (u : Unit {0}) → IsPersisted next.id (file_of next) old new → LeavesOnly old new (IsOldOrNew next.id (file_of next) old) → Stores latest next tables old new (Ok u)
+    of_ok u is leaves = record {
+      ok = next_stored is.rest (λ c may. (is.version c).0 may) (λ c may. (is.current c).0 may);
+      committed = record { file = next_file is.rest (λ c may. (is.version c).0 may); current = λ c may. (is.current c).0 may };
       unknown = λ e. absurd (cc e);
       doubted = λ e. absurd (cc e);
       refused = tt;
-      leaves = left_either new reads leaves;
+      leaves = left_either new leaves;
     }
 
-    of_unknown : (e : Error) → e ≡ error.CommitUnknown → IsUncertain next.id (file_of next) old new → LeavesOnly old new (IsOldOrNew next.id (file_of next) old) → IsVersionFile (named_levels next.levels) (file_of next) → Stores latest next tables old new (Err e)
-    of_unknown e is_unknown is leaves reads = record {
+    of_unknown : (e : Error) → e ≡ error.CommitUnknown → IsUncertain next.id (file_of next) old new → LeavesOnly old new (IsOldOrNew next.id (file_of next) old) → Stores latest next tables old new (Err e)
+    of_unknown e is_unknown is leaves = record {
       ok = tt;
       committed = tt;
-      unknown = λ _. both_stored is.rest reads (λ c may. (is.version c).0 may) (λ c may. (is.current c).0 may);
-      doubted = λ _. next_file is.rest reads (λ c may. (is.version c).0 may);
+      unknown = λ _. both_stored is.rest (λ c may. (is.version c).0 may) (λ c may. (is.current c).0 may);
+      doubted = λ _. next_file is.rest (λ c may. (is.version c).0 may);
       refused = inl (ap Err is_unknown);
-      leaves = left_either new reads leaves;
+      leaves = left_either new leaves;
     }
 
     of_refused : (e : Error) → (e ≡ error.CommitUnknown → ⊥) → KeepsOthers (version_name next.id) old new → LeavesOnly old new (IsBeside (version_name next.id) old) → Stores latest next tables old new (Err e)
@@ -182,20 +180,18 @@ module _ (apart : AreApart) (no_table : (i : ℕ) → table_name i ≢ current_n
         err_is : (x : Error) → ◌≡◌ {A = Result Unit Error} (Err x) (Err error.CommitUnknown) → x ≡ error.CommitUnknown
         err_is x is = cc is
 
-    -- the three facts of a refusal are of one cause
-    of_err : (e : Error) (p q r : PersistError) → TellsPersist p e → TellsPersist q e → TellsPersist r e → Persists {T = Unit {0}} next.id (file_of next) old new (Err p) → MayHaveLeft {T = Unit {0}} next.id (file_of next) old new (Err q) → NamesFile {T = Unit {0}} next (Err r) → Stores latest next tables old new (Err e)
-    of_err e persisting.CommitUnknown persisting.CommitUnknown persisting.CommitUnknown a b c is left names = of_unknown e a is left names
-    of_err e persisting.CommitUnknown persisting.CommitUnknown persisting.OutOfMemory a b c is left names = absurd (clash_memory (sym c ∙ a))
-    of_err e persisting.CommitUnknown persisting.CommitUnknown persisting.Store a b c is left names = absurd (clash_store (sym c ∙ a))
-    of_err e persisting.CommitUnknown persisting.OutOfMemory r a b c is left names = absurd (clash_memory (sym b ∙ a))
-    of_err e persisting.CommitUnknown persisting.Store r a b c is left names = absurd (clash_store (sym b ∙ a))
-    of_err e persisting.OutOfMemory persisting.CommitUnknown r a b c is left names = absurd (clash_memory (sym a ∙ b))
-    of_err e persisting.OutOfMemory persisting.OutOfMemory r a b c is left names = of_refused e (λ u. clash_memory (sym a ∙ u)) is left
-    of_err e persisting.OutOfMemory persisting.Store r a b c is left names = of_refused e (λ u. clash_memory (sym a ∙ u)) is left
-    of_err e persisting.Store persisting.CommitUnknown r a b c is left names = absurd (clash_store (sym a ∙ b))
-    of_err e persisting.Store persisting.OutOfMemory r a b c is left names = of_refused e (λ u. clash_store (sym a ∙ u)) is left
-    of_err e persisting.Store persisting.Store r a b c is left names = of_refused e (λ u. clash_store (sym a ∙ u)) is left
+    -- the two facts of a refusal are of one cause
+    of_err : (e : Error) (p q : PersistError) → TellsPersist p e → TellsPersist q e → Persists {T = Unit {0}} next.id (file_of next) old new (Err p) → MayHaveLeft {T = Unit {0}} next.id (file_of next) old new (Err q) → Stores latest next tables old new (Err e)
+    of_err e persisting.CommitUnknown persisting.CommitUnknown a b is left = of_unknown e a is left
+    of_err e persisting.CommitUnknown persisting.OutOfMemory a b is left = absurd (clash_memory (sym b ∙ a))
+    of_err e persisting.CommitUnknown persisting.Store a b is left = absurd (clash_store (sym b ∙ a))
+    of_err e persisting.OutOfMemory persisting.CommitUnknown a b is left = absurd (clash_memory (sym a ∙ b))
+    of_err e persisting.OutOfMemory persisting.OutOfMemory a b is left = of_refused e (λ u. clash_memory (sym a ∙ u)) is left
+    of_err e persisting.OutOfMemory persisting.Store a b is left = of_refused e (λ u. clash_memory (sym a ∙ u)) is left
+    of_err e persisting.Store persisting.CommitUnknown a b is left = absurd (clash_store (sym a ∙ b))
+    of_err e persisting.Store persisting.OutOfMemory a b is left = of_refused e (λ u. clash_store (sym a ∙ u)) is left
+    of_err e persisting.Store persisting.Store a b is left = of_refused e (λ u. clash_store (sym a ∙ u)) is left
 
-    pub committed : (r : Result Unit Error) → Told TellsPersist (Persists {T = Unit {0}} next.id (file_of next) old new) r → Told TellsPersist (MayHaveLeft {T = Unit {0}} next.id (file_of next) old new) r → Told TellsPersist (NamesFile {T = Unit {0}} next) r → Stores latest next tables old new r
-    committed (Ok u) is left names = of_ok u is left names
-    committed (Err e) is left names = of_err e is.0 left.0 names.0 is.1 left.1 names.1 is.2 left.2 names.2
+    pub committed : (r : Result Unit Error) → Told TellsPersist (Persists {T = Unit {0}} next.id (file_of next) old new) r → Told TellsPersist (MayHaveLeft {T = Unit {0}} next.id (file_of next) old new) r → Stores latest next tables old new r
+    committed (Ok u) is left = of_ok u is left
+    committed (Err e) is left = of_err e is.0 left.0 is.1 left.1 is.2 left.2

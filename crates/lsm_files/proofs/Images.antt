@@ -13,10 +13,11 @@ use Rattle.lsm_versions.specs.Levels.{Levels, SeenVersion, all_of, AreRuns}
 use Rattle.lsm_manifest.specs.declared.kinds.NameKind.TheVariants.{Refused}
 use Rattle.lsm_manifest.specs.Names.{current_name, version_name, table_name}
 use Rattle.lsm_manifest.specs.Kinds.{kind_of}
-use Rattle.lsm_manifest.specs.Spelling.{IsVersionFile}
-use Rattle.lsm_manifest.specs.Versions.{named_table, named_runs, named_levels}
+use Rattle.lsm_manifest.specs.Spelling.{IsFileFrom}
+use Rattle.lsm_manifest.specs.Versions.{named_table, named_runs, named_levels, log_from_in}
 use Rattle.lsm_manifest.specs.Persist.{naming}
 use Rattle.lsm_manifest.specs.Standing.{Pairwise, IsTableAt, AreTablesAt, HasGoodNames, StandsFor}
+use Rattle.lsm_manifest.specs.Opening.{ReadsFrom}
 use Rattle.lsm_files.specs.Stored.{table_file, IsTableOnDisk, AreOnDisk, IsFileOf, IsWhole, IsNaming, IsStored, HoldsOneOf, Leaves}
 
 -- ---- tables, run by run and level by level
@@ -54,15 +55,22 @@ tables_at image levels h =
     (each_weaker (AllByRecursion (IsTableIn image)) (λ r. Pairwise (IsTableAt image) (map named_table r) r)
     (λ r of_run. paired (IsTableAt image) named_table r (each_weaker (IsTableIn image) (λ t. IsTableAt image (named_table t) t) (table_at image) r of_run)) l of_level)) levels runs)
 
--- the image stands for a version that it names by the bytes of its file, whose tables are whole
-pub stands : (image : Image) (v : SeenVersion) (bytes : List ℕ) → v.id < 2 ^ 64 → IsVersionFile (named_levels v.levels) bytes → AreRuns v.levels → image current_name ≡ Some (naming v.id bytes) → image (version_name v.id) ≡ Some bytes → AllByRecursion (IsTableIn image) (all_of v.levels) → HasGoodNames image
-    → StandsFor image v.id (named_levels v.levels) v.levels
-stands image v bytes small reads runs current file tables names = record {
-  named = record { id_fits = small; bytes = bytes; current = current; version = file; reads = reads };
-  tables = tables_at image v.levels tables;
-  runs = runs;
-  names = names;
-}
+-- the image stands for the version, and tells from which number it reads a log
+abbrev pub Holds : Image → SeenVersion → Type 0
+Holds image v = StandsFor image v.id (named_levels v.levels) v.levels × ReadsFrom image v
+
+-- so it does for a version that it names by the bytes of its file, whose tables are whole
+pub holds : (image : Image) (v : SeenVersion) (bytes : List ℕ) (from : Option ℕ) → v.id < 2 ^ 64 → v.log_from ≡ log_from_in from v.levels → IsFileFrom from (named_levels v.levels) bytes → AreRuns v.levels → image current_name ≡ Some (naming v.id bytes) → image (version_name v.id) ≡ Some bytes
+    → AllByRecursion (IsTableIn image) (all_of v.levels) → HasGoodNames image → Holds image v
+holds image v bytes from small told reads runs current file tables names = (
+  record {
+    named = record { id_fits = small; bytes = bytes; current = current; version = file; reads = record { from = from; file = reads } };
+    tables = tables_at image v.levels tables;
+    runs = runs;
+    names = names;
+  },
+  record { from = from; layout = named_levels v.levels; named = record { id_fits = small; bytes = bytes; current = current; version = file; reads = reads }; is = told },
+)
 
 -- ---- names that nobody touches
 
@@ -87,26 +95,24 @@ module _ (changed : List ℕ → Type 0) (old : World) where
     }
 
     -- a version that is whole and that `current` names is held
-    held_whole : (v : SeenVersion) → IsWhole old v → (changed (version_name v.id) → ⊥) → AllByRecursion (λ t. changed (table_name t.id) → ⊥) (all_of v.levels) → IsNaming old v (image current_name) → HasGoodNames image → StandsFor image v.id (named_levels v.levels) v.levels
+    held_whole : (v : SeenVersion) → IsWhole old v → (changed (version_name v.id) → ⊥) → AllByRecursion (λ t. changed (table_name t.id) → ⊥) (all_of v.levels) → IsNaming old v (image current_name) → HasGoodNames image → Holds image v
     held_whole v whole file tables current names =
-        stands image v current.bytes whole.id current.file.reads whole.runs current.named (current.file.on_disk _ (has (version_name v.id) file)) (tables_in (all_of v.levels) whole.tables tables) names
+        holds image v current.bytes current.file.from whole.id current.file.log_from current.file.reads whole.runs current.named (current.file.on_disk _ (has (version_name v.id) file)) (tables_in (all_of v.levels) whole.tables tables) names
 
     pub held_beside : (versions : List SeenVersion) (tables : List SeenTable) → IsStored old versions tables → Untouched changed versions tables → HoldsOneOf versions image
     held_beside versions tables stored free =
         let named = stored.current _ (has current_name free.current) in
-        let v : SeenVersion = named.0 in (
-          v,
-          named.1,
-          held_whole v (each_in (IsWhole old) versions v stored.whole named.1) (each_in (λ u. changed (version_name u.id) → ⊥) versions v free.files named.1)
-              (each_in (λ u. AllByRecursion (λ t. changed (table_name t.id) → ⊥) (all_of u.levels)) versions v free.named named.1) named.2 (names_in versions tables stored free),
-        )
+        let v : SeenVersion = named.0 in
+        let held = held_whole v (each_in (IsWhole old) versions v stored.whole named.1) (each_in (λ u. changed (version_name u.id) → ⊥) versions v free.files named.1)
+        (each_in (λ u. AllByRecursion (λ t. changed (table_name t.id) → ⊥) (all_of u.levels)) versions v free.named named.1) named.2 (names_in versions tables stored free) in
+        (v, named.1, held.0, held.1)
 
   module _ (new : World) (keeps : (n : List ℕ) (c : Option (List ℕ)) → (changed n → ⊥) → new.may n c → old.may n c) where
     pub on_beside : (tables : List SeenTable) → AreOnDisk old tables → AllByRecursion (λ t. changed (table_name t.id) → ⊥) tables → AreOnDisk new tables
     on_beside tables on free = each_both (IsTableOnDisk old) (λ t. changed (table_name t.id) → ⊥) (IsTableOnDisk new) (λ t is out. record { id = is.id; reads = is.reads; file = λ c may. is.file c (keeps (table_name t.id) c out may) }) tables on free
 
     file_beside : (v : SeenVersion) (bytes : List ℕ) → IsFileOf old v bytes → (changed (version_name v.id) → ⊥) → IsFileOf new v bytes
-    file_beside v bytes is free = record { reads = is.reads; on_disk = λ c may. is.on_disk c (keeps (version_name v.id) c free may) }
+    file_beside v bytes is free = record { from = is.from; log_from = is.log_from; reads = is.reads; on_disk = λ c may. is.on_disk c (keeps (version_name v.id) c free may) }
 
     pub naming_beside : (v : SeenVersion) (c : Option (List ℕ)) → IsNaming old v c → (changed (version_name v.id) → ⊥) → IsNaming new v c
     naming_beside v c is free = record { bytes = is.bytes; file = file_beside v is.bytes is.file free; named = is.named }

@@ -7,3 +7,4 @@ pub mod Tabled
 pub mod WrittenFiles
 pub mod Beside
 pub mod Opened
+pub mod Foreign

@@ -1,5 +1,5 @@
 -- What opening leaves is stored.
-use Rattle.std.proofs.Common.{◌≡◌, ◌⊎◌, inl, inr, ⊎_elim, ℕ, ◌<◌, ◌^◌, Bool, false, List, [], ◌∷◌, map, Option, Some, None, Ok, refl, sym, ap, ◌∙◌, subst, codes, lit<}
+use Rattle.std.proofs.Common.{◌≡◌, ◌⊎◌, inl, inr, ⊎_elim, ℕ, ◌<◌, ◌^◌, Bool, false, List, [], ◌∷◌, ◌++◌, map, Option, Some, None, Ok, refl, sym, ap, ◌∙◌, subst, codes, lit<}
 use Rattle.std.specs.Prelude.{IsSome}
 use Rattle.std.specs.List.{AllByRecursion}
 use Rattle.std.proofs.lemmas.Bool.{both_ways}
@@ -14,13 +14,13 @@ use Rattle.lsm_manifest.specs.declared.opening.Opened.{Opened}
 use Rattle.lsm_manifest.specs.declared.recovered_table.RecoveredTable.{RecoveredTable}
 use Rattle.lsm_manifest.specs.Names.{current_name, version_name, table_name}
 use Rattle.lsm_manifest.specs.Kinds.{kind_of, is_orphan}
-use Rattle.lsm_manifest.specs.Spelling.{ids_of, IsNamedTable, IsRun, IsLevel, IsLayout, IsVersionFile}
-use Rattle.lsm_manifest.specs.Recovery.{Levels}
+use Rattle.lsm_manifest.specs.Spelling.{ids_of, IsNamedTable, IsRun, IsLevel, IsLayout, IsFileFrom, IsVersionFile}
+use Rattle.lsm_manifest.specs.Recovery.{Levels, IsNamed}
 use Rattle.lsm_manifest.specs.Versions.{named_table, named_runs, named_levels, file_of, first_version}
 use Rattle.lsm_manifest.specs.Standing.{Pairwise, IsTableAt, AreTablesAt}
 use Rattle.lsm_manifest.specs.Pinned.{IsFixed}
 use Rattle.lsm_manifest.specs.Clearing.{Clears}
-use Rattle.lsm_manifest.specs.Opening.{IsFound, IsNewTree, Opens}
+use Rattle.lsm_manifest.specs.Opening.{IsFound, ReadsFrom, IsNewTree, Opens}
 use Rattle.lsm_manifest.specs.Finding.{IsSettled, NamedFilesStay}
 use Rattle.lsm_files.specs.Stored.{table_file, IsTableOnDisk, AreOnDisk, IsFileOf, IsStored}
 use Rattle.lsm_files.proofs.Images.{each_joined}
@@ -47,6 +47,21 @@ levels_named image ls ts laid at =
     let of_run = all_named IsNamedTable (IsTableAt image) named_table (table_named image) in
     let of_level = all_named IsRun (Pairwise (IsTableAt image)) (λ r. map named_table r) (λ r us fits. of_run r us fits.each) in
     all_named IsLevel (Pairwise (Pairwise (IsTableAt image))) named_runs (λ l rs fits. of_level l rs fits.each) ls ts laid.each at
+
+-- no version's file begins another one
+abbrev pub FilesAreFirst : Type 0
+FilesAreFirst = (ls ms : Levels) (a b x y : List ℕ) → IsVersionFile ls a → IsVersionFile ms b → a ++ x ≡ b ++ y → (ls ≡ ms) × (a ≡ b) × (x ≡ y)
+
+-- so what the file of a version tells beside its levels stands beside those that were found
+told_beside : FilesAreFirst → (image : Image) (v : SeenVersion) (ls : Levels) (named : IsNamed image v.id ls) (reads : ReadsFrom image v) → IsFileFrom reads.from ls named.bytes
+told_beside once image v ls named reads =
+    let file = reads.named.reads in
+    let bytes : reads.named.bytes ≡ named.bytes = some_is (sym reads.named.version ∙ named.version) in
+    let same = once reads.layout ls reads.named.bytes named.bytes [] [] (record { from = reads.from; file = file }) named.reads (ap (λ (b : List ℕ). b ++ []) bytes) in
+    subst (λ (b : List ℕ). IsFileFrom reads.from ls b) bytes (subst (λ (ms : Levels). IsFileFrom reads.from ms reads.named.bytes) same.0 file)
+  where
+    some_is : {a b : List ℕ} → Some a ≡ Some b → a ≡ b
+    some_is e = cc e
 
 -- ---- what `current` names
 
@@ -86,17 +101,19 @@ module _ (old new : World) where
     never n none c may = ⊎_elim (none c) (λ gone. gone.0) (clears.may n c may)
 
   -- the version that was found
-  found_stored : NamedFilesStay → IsSettled old → (v : SeenVersion) (next : ℕ) (ids : List ℕ) (found : IsFound old.gives v.id v.levels next ids) → Clears (is_orphan v.id (ids_of found.layout)) old new → IsStored new (v ∷ []) []
-  found_stored stay settled v next ids found clears =
+  found_stored : FilesAreFirst → NamedFilesStay → IsSettled old → (v : SeenVersion) (next : ℕ) (ids : List ℕ) (found : IsFound old.gives v.id v.levels next ids) → ReadsFrom old.gives v → Clears (is_orphan v.id (ids_of found.layout)) old new → IsStored new (v ∷ []) []
+  found_stored once stay settled v next ids found reads clears =
       let named = found.named in
-      let laid = named.reads.is.laid_out in
+      let laid = named.reads.file.is.laid_out in
       let orphan = is_orphan v.id (ids_of found.layout) in
       let spared = stay v.id found.layout laid in
       let pin = settled.named v.id found.layout named in
       let tables : AllByRecursion (λ l. AllByRecursion (λ r. AllByRecursion (λ (t : RecoveredTable). LeavesGiven (table_name t.id)) r) l) found.layout =
       each_both _ _ _ (λ l. each_both _ _ _ (λ r. each_both _ _ _ (λ t. given orphan clears (table_name t.id)) r) l) found.layout spared.tables pin.tables in
       let file : IsFileOf new v named.bytes = record {
-        reads = subst (λ ls. IsVersionFile ls named.bytes) (levels_named old.gives found.layout v.levels laid found.tables) named.reads;
+        from = reads.from;
+        log_from = reads.is;
+        reads = subst (λ ls. IsFileFrom reads.from ls named.bytes) (levels_named old.gives found.layout v.levels laid found.tables) (told_beside once old.gives v found.layout named reads);
         on_disk = λ c may. given orphan clears (version_name v.id) spared.version pin.version c may ∙ named.version;
       } in
       record {
@@ -113,7 +130,7 @@ module _ (old new : World) where
       let p = tree.persisted in
       let bytes = file_of first_version in
       let still = λ (n : List ℕ) (c : Option (List ℕ)) (out : is_either 0 n → ⊥). (p.rest.may n c (λ e. out (inl e)) (λ e. out (inr e))).0 in
-      let file : IsFileOf new first_version bytes = record { reads = tree.names; on_disk = λ c may. (p.version c).0 may } in
+      let file : IsFileOf new first_version bytes = record { from = Some 0; log_from = refl; reads = tree.names; on_disk = λ c may. (p.version c).0 may } in
       subst (λ (v : SeenVersion). IsStored new (v ∷ []) []) (sym tree.version)
       (record {
         current = λ c may. (first_version, inl refl, record { bytes = bytes; file = file; named = (p.current c).0 may });
@@ -129,8 +146,8 @@ some_or_none : (o : Option (List ℕ)) → IsSome o ⊎ (o ≡ None)
 some_or_none (Some b) = inl refl
 some_or_none None = inr refl
 
-pub opening_stored : AreApart → kind_of current_name ≡ Other → NamedFilesStay → (old new : World) (o : Opened) → IsSettled old → Opens old new (Ok o) → IsStored new (o.version ∷ []) []
-opening_stored apart plain stay old new o settled opens = ⊎_elim (λ older. absurd (opens.version older)) (λ none. ⊎_elim (there none) (λ absent. first_stored old new apart plain settled o (opens.fresh none absent)) (some_or_none (old.gives current_name))) (some_or_none (old.gives (codes "version")))
+pub opening_stored : AreApart → kind_of current_name ≡ Other → FilesAreFirst → NamedFilesStay → (old new : World) (o : Opened) → IsSettled old → Opens old new (Ok o) → IsStored new (o.version ∷ []) []
+opening_stored apart plain once stay old new o settled opens = ⊎_elim (λ older. absurd (opens.version older)) (λ none. ⊎_elim (there none) (λ absent. first_stored old new apart plain settled o (opens.fresh none absent)) (some_or_none (old.gives current_name))) (some_or_none (old.gives (codes "version")))
   where
     there : old.gives (codes "version") ≡ None → IsSome (old.gives current_name) → IsStored new (o.version ∷ []) []
-    there none some = let f = opens.opens none some in found_stored old new stay settled o.version o.next_table_id f.0 f.1 (opens.removes o.version.id f.1.layout f.1.named).clears
+    there none some = let f = opens.opens none some in found_stored old new once stay settled o.version o.next_table_id f.0 f.1 (opens.from some) (opens.removes o.version.id f.1.layout f.1.named).clears

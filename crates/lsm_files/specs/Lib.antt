@@ -3,3 +3,4 @@ pub mod Writing
 pub mod Contents
 pub mod Commits
 pub mod Opening
+pub mod Foreign

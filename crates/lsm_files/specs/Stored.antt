@@ -11,10 +11,11 @@ use Rattle.lsm_versions.specs.Levels.{SeenVersion, all_of, AreRuns}
 use Rattle.lsm_manifest.specs.declared.kinds.NameKind.TheVariants.{Refused}
 use Rattle.lsm_manifest.specs.Names.{current_name, version_name, table_name}
 use Rattle.lsm_manifest.specs.Kinds.{kind_of}
-use Rattle.lsm_manifest.specs.Spelling.{IsVersionFile}
-use Rattle.lsm_manifest.specs.Versions.{named_levels}
+use Rattle.lsm_manifest.specs.Spelling.{IsFileFrom}
+use Rattle.lsm_manifest.specs.Versions.{named_levels, log_from_in}
 use Rattle.lsm_manifest.specs.Persist.{naming}
 use Rattle.lsm_manifest.specs.Standing.{StandsFor}
+use Rattle.lsm_manifest.specs.Opening.{ReadsFrom}
 
 -- ---- what is on the disk
 
@@ -35,9 +36,12 @@ pub record IsTableOnDisk (w : World) (t : SeenTable) : Type 0 where
 abbrev pub AreOnDisk : World → List SeenTable → Type 0
 AreOnDisk w tables = AllByRecursion (IsTableOnDisk w) tables
 
--- the file of a version is on the disk with these bytes, and reads as the version
+-- the file of a version is on the disk with these bytes, and reads as the version: it tells from which number the version
+-- reads a log, or the version's tables do
 pub record IsFileOf (w : World) (v : SeenVersion) (bytes : List ℕ) : Type 0 where
-  pub reads : IsVersionFile (named_levels v.levels) bytes
+  pub from : Option ℕ
+  pub log_from : v.log_from ≡ log_from_in from v.levels
+  pub reads : IsFileFrom from (named_levels v.levels) bytes
   pub on_disk : IsOnDisk w (version_name v.id) bytes
 
 -- the file of a version and those of its tables are on the disk, and read as the version
@@ -70,9 +74,9 @@ pub record Keeps (P : List ℕ → Type 0) (old new : World) : Type 0 where
   pub may : (n : List ℕ) (c : Option (List ℕ)) → P n → new.may n c ↔ old.may n c
   pub gives : (n : List ℕ) → P n → new.gives n ≡ old.gives n
 
--- the image stands for one of these versions
+-- the image stands for one of these versions, and tells from which number that one reads a log
 abbrev pub HoldsOneOf : List SeenVersion → Image → Type 0
-HoldsOneOf versions left = (v : SeenVersion) × IsIn v versions × StandsFor left v.id (named_levels v.levels) v.levels
+HoldsOneOf versions left = (v : SeenVersion) × IsIn v versions × StandsFor left v.id (named_levels v.levels) v.levels × ReadsFrom left v
 
 -- at each moment since then a crash leaves one of these versions
 abbrev pub Leaves : World → World → List SeenVersion → Type 0

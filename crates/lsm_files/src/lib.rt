@@ -19,5 +19,8 @@ mod tables;
 pub use commit::commit_version;
 pub use contents::write_contents;
 pub use removal::{remove_tables, remove_version};
-pub use stored::{crashes_leave_either, crashes_leave_versions, files_are_tables, opening_stores};
+pub use stored::{
+    crashes_leave_either, crashes_leave_versions, files_are_tables, foreign_names_spare,
+    opening_stores,
+};
 pub use tables::write_tables;

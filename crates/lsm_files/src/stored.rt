@@ -5,8 +5,9 @@ ghost use Rattle.lsm_versions.specs.Levels.{SeenVersion};
 ghost use Rattle.lsm_files.specs.Stored.{IsStored, AreAmong, Leaves};
 ghost use Rattle.lsm_files.specs.Contents.{FilesAreTables};
 ghost use Rattle.lsm_files.specs.Opening.{OpeningStores};
+ghost use Rattle.lsm_files.specs.Foreign.{ForeignNamesSpare};
 
-use lsm_manifest::{named_files_stay, names_are_apart};
+use lsm_manifest::{named_files_stay, names_are_apart, no_version_begins_another};
 use lsm_store::Store;
 
 /// While nothing is done a crash leaves one of the versions that are stored.
@@ -30,4 +31,12 @@ pub fn opening_stores<S: Store>(_: &S)
 {
     names_are_apart();
     named_files_stay();
+    no_version_begins_another();
+}
+
+/// Calls that change names alone that are none of a tree's spare what is stored of it.
+pub fn foreign_names_spare<S: Store>(_: &S)
+    ensures { ForeignNamesSpare S S.world }
+{
+    names_are_apart();
 }

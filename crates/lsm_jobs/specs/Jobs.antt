@@ -1,9 +1,9 @@
 -- What is kept of memtables, and the jobs of a flush.
-use Rattle.std.specs.Prelude.{ℕ, false, List, [], ◌∷◌, map, flat_map}
+use Rattle.std.specs.Prelude.{ℕ, ◌+◌, ◌-◌, ◌^◌, max, min, false, List, [], ◌∷◌, Option, Some, None, map, flat_map}
 use Rattle.std.specs.List.{AllByRecursion}
 use Rattle.lsm_below.specs.Entries.{Entry}
 use Rattle.lsm_below.specs.Kept.{IsKeptOf}
-use Rattle.lsm_memtable.specs.Memtables.{SeenMemtable}
+use Rattle.lsm_memtable.specs.Memtables.{SeenMemtable, highest_of}
 use Rattle.lsm_below.specs.Runs.{IsRun}
 use Rattle.lsm_tables.specs.Cutting.{IsWritable}
 use Rattle.lsm_tables.specs.Tables.{SeenTable}
@@ -38,6 +38,16 @@ AreWritable memtables = AllByRecursion (λ m. IsWritable m.entries) memtables
 -- the ids of memtables
 abbrev pub ids_in : List SeenMemtable → List ℕ
 ids_in memtables = map (λ m. m.id) memtables
+
+-- the number after one, 0 for none
+abbrev pub after : Option ℕ → ℕ
+after None = 0
+after (Some n) = min (n + 1) (2 ^ 64 - 1)
+
+-- the number after all that sources have, 0 where they have nothing
+abbrev pub passed_by : List (List Entry) → ℕ
+passed_by [] = 0
+passed_by (es ∷ sources) = max (after (highest_of es)) (passed_by sources)
 
 -- the job of a flush: its number, and its memtables from the newest with their entries
 pub record SeenJob : Type 0 where

@@ -2,7 +2,8 @@
 ghost use Rattle.std.specs.Prelude.{◌≡◌, flat_map, IfOk, IfErr};
 ghost use Rattle.lsm_below.specs.Runs.{IsRun};
 ghost use Rattle.lsm_versions.specs.Levels.{range};
-ghost use Rattle.lsm_jobs.specs.Jobs.{AreWritable, job_of, IsMergedFrom, IsWrittenFrom};
+ghost use Rattle.lsm_memtable.specs.Memtables.{highest_of};
+ghost use Rattle.lsm_jobs.specs.Jobs.{after, passed_by, entries_in, AreWritable, job_of, IsMergedFrom, IsWrittenFrom};
 
 use crate::SealedMemtable;
 use crate::merging::{Kept, merge_unless_whole, parts_kept};
@@ -33,6 +34,34 @@ impl Model for FlushJob {
     ghost invariant = { λ j. AreWritable j.memtables.items };
 }
 
+/// The number after one, 0 for none.
+fn number_after(highest: Option<SeqNo>) -> SeqNo
+    ensures { result ≡ after highest }
+{
+    match highest {
+        Some(number) => number.saturating_add(1),
+        None => 0,
+    }
+}
+
+/// The number after all that a memtable has.
+fn passed_by_one(memtable: &SealedMemtable) -> SeqNo
+    ensures { result ≡ after (highest_of memtable.now.entries) }
+{
+    number_after(memtable.as_memtable().get_highest_seqno())
+}
+
+/// The number after all that memtables have.
+fn passed_of(memtables: &[SealedMemtable]) -> SeqNo
+    ensures { result ≡ passed_by (entries_in memtables.now) }
+{
+    let mut passed = 0u64;
+    for memtable in memtables {
+        passed = passed.max(passed_by_one(memtable));
+    }
+    passed
+}
+
 impl FlushJob {
     /// The job of this number, of memtables from the newest, whose entries fit files.
     pub fn new(alloc: Global, number: u64, memtables: Vec<SealedMemtable>) -> FlushJob
@@ -58,6 +87,13 @@ impl FlushJob {
         ensures { job_of self.now.number result.now ≡ self.now }
     {
         &self.memtables
+    }
+
+    /// The number after all that the memtables have: a log is read from it on once they are flushed.
+    pub fn passed(&self) -> SeqNo
+        ensures { result ≡ passed_by self.now.sources }
+    {
+        passed_of(&self.memtables)
     }
 
     /// Merges the memtables into what a snapshot from the watermark on, or between two kept ones, may read of them. Keys

@@ -16,5 +16,5 @@ mod same;
 
 pub use copies::{copy_bound, copy_entry, copy_journal};
 pub use entries::read_entry;
-pub use pairs::{pairs_entry, take_pairs};
+pub use pairs::{pairs_entry, share_pairs, take_pairs};
 pub use same::same_entry;

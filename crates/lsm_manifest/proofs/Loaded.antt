@@ -1,5 +1,5 @@
 -- Tables that are read as a layout names them make a version.
-use Rattle.std.proofs.Common.{◌≡◌, ⊎_elim, ℕ, suc, ◌^◌, ◌<◌, ◌≤◌, true, max, List, [], ◌∷◌, ◌++◌, length, map, refl, sym, ap, subst, ◌∙◌, nat_lt, Result, Ok, Err, arith}
+use Rattle.std.proofs.Common.{◌≡◌, ⊎_elim, ℕ, suc, ◌^◌, ◌<◌, ◌≤◌, true, max, List, [], ◌∷◌, ◌++◌, length, map, Option, refl, sym, ap, subst, ◌∙◌, nat_lt, Result, Ok, Err, arith}
 use Rattle.std.specs.List.{AllByRecursion, flat_map, fold, list_all}
 use Rattle.std.proofs.lemmas.Bool.{and_from}
 use Rattle.std.proofs.lemmas.Bool.Decides.{nat_tests}
@@ -102,9 +102,9 @@ above ls ts next named is small =
 
 -- ---- what is read of them
 
-pub checked : (image : Image) (id : ℕ) (ls : Levels) (ts : SeenLevels) (r : Result SeenVersion OpenError) → AreTablesAt image ls ts → MakesVersion id ts r → ChecksLevels {X = SeenVersion} image (λ v. v.levels) ls r
-checked image id ls ts (Ok v) at made = (subst (AreTablesAt image ls) (sym (ap (λ (x : SeenVersion). x.levels) made.0)) at, subst AreRuns (sym (ap (λ (x : SeenVersion). x.levels) made.0)) made.1, subst HasSmallNumbers (sym (ap (λ (x : SeenVersion). x.levels) made.0)) made.2)
-checked image id ls ts (Err opening.OutOfMemory) at made = tt
-checked image id ls ts (Err opening.Store) at made = absurd made
-checked image id ls ts (Err opening.CommitUnknown) at made = made
-checked image id ls ts (Err (opening.Fault f)) at made = ⊎_elim (λ bad. NoRun ts at bad.1 bad.0) (λ bad. TooGreat ts at bad.1 bad.2 bad.0) made
+pub checked : (image : Image) (id : ℕ) (from : Option ℕ) (ls : Levels) (ts : SeenLevels) (r : Result SeenVersion OpenError) → AreTablesAt image ls ts → MakesVersion id from ts r → ChecksLevels {X = SeenVersion} image (λ v. v.levels) ls r
+checked image id from ls ts (Ok v) at made = (subst (AreTablesAt image ls) (sym (ap (λ (x : SeenVersion). x.levels) made.0)) at, subst AreRuns (sym (ap (λ (x : SeenVersion). x.levels) made.0)) made.1, subst HasSmallNumbers (sym (ap (λ (x : SeenVersion). x.levels) made.0)) made.2)
+checked image id from ls ts (Err opening.OutOfMemory) at made = tt
+checked image id from ls ts (Err opening.Store) at made = absurd made
+checked image id from ls ts (Err opening.CommitUnknown) at made = made
+checked image id from ls ts (Err (opening.Fault f)) at made = ⊎_elim (λ bad. NoRun ts at bad.1 bad.0) (λ bad. TooGreat ts at bad.1 bad.2 bad.0) made

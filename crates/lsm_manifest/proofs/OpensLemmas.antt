@@ -4,7 +4,7 @@ use Rattle.std.specs.Prelude.{IsSome, OnOk, IfOk}
 use Rattle.std.specs.String.{string_bytes}
 use Rattle.std.specs.declared.string.String.{String}
 use Rattle.std.specs.declared.alloc.Global.{Global}
-use Rattle.std.proofs.lemmas.Result.{on_ok_weaker}
+use Rattle.std.proofs.lemmas.Result.{on_ok_weaker, IfOk-weaker}
 use Rattle.lsm_below.specs.Numbers.{PlainNumbersAreRead}
 use Rattle.lsm_store.specs.World.{Image, World, Lists, Same, LeavesOnly}
 use Rattle.lsm_store.specs.Moments.{started, rests, weakened, image_same}
@@ -22,12 +22,13 @@ use Rattle.lsm_manifest.specs.Standing.{StandsFor, HasSmallNumbers}
 use Rattle.lsm_manifest.specs.Persist.{IsOldOrNew}
 use Rattle.lsm_manifest.specs.Versions.{file_of, first_version}
 use Rattle.lsm_manifest.specs.Clearing.{IsCleared, Clears, Removes}
-use Rattle.lsm_manifest.specs.Opening.{IsFound, ChecksFiles, OpensFiles, OpensNew, OpensAs, OnlyFault, KeepsFiles, IsUnnamed, Opens, LeavesStanding}
+use Rattle.lsm_manifest.specs.Opening.{IsFound, ChecksFiles, OpensFiles, OpensNew, OpensAs, OnlyFault, KeepsFiles, IsUnnamed, ReadsFrom, Opens, LeavesStanding}
 use Rattle.lsm_manifest.specs.Looking.{FindsIn, IsFoundIn, Older, BadFiles, BadNew, LooksInto, Looks, NoFault, orphan_of, ClearsFor, FinishesIn}
 use Rattle.lsm_manifest.proofs.OpeningLemmas.{Only, some_not_none, named_there, not_opened, keeps_any, orphans_are, persisted_on, new_moment_on, listed_on}
 use Rattle.lsm_manifest.proofs.ClearingLemmas.{cleared_same, cleared_behind, removes_behind}
 use Rattle.lsm_manifest.proofs.Takes.{ImagesAreFirst, stands_opens}
-use Rattle.lsm_manifest.proofs.Pins.{pinned_stands}
+use Rattle.lsm_manifest.proofs.Recovering.{named_so}
+use Rattle.lsm_manifest.proofs.Pins.{pinned_stands, pinned_reads}
 
 -- ---- refused before anything is changed
 
@@ -59,6 +60,7 @@ pub refused : ImagesAreFirst → (first mid : World) (e : OpenError) → Same fi
 refused once first mid e same h = record {
   version = refused_version first.gives e h;
   opens = refused_opens first.gives e h;
+  from = λ there. tt;
   takes = λ id ls ts stands small. stands_opens once first.gives id ls ts (Err e) stands small (refused_opens first.gives e h stands.names.no_version (named_there first.gives id ls stands.named));
   fresh = refused_new first mid e h;
   removes = λ id ls named. tt;
@@ -73,6 +75,7 @@ leaves : PlainNumbersAreRead → (first new : World) → ((id : ℕ) (ls : Level
 leaves read first new any fresh = record {
   any_moment = any;
   stands = λ id ls ts stands pin. weakened first new (IsCleared (is_orphan id (ids_of ls)) first) (λ image. StandsFor image id ls ts) (any id ls stands.named) (λ image left. pinned_stands read first id ls ts image stands pin left);
+  reads = λ v reads pin. weakened first new (IsCleared (is_orphan v.id (ids_of reads.layout)) first) (λ image. ReadsFrom image v) (any v.id reads.layout (named_so first.gives v.id reads.from reads.layout reads.named)) (λ image left. pinned_reads first v image reads pin left);
   new_moment = fresh;
 }
 
@@ -141,6 +144,7 @@ module _ (first mid new : World) (f : Found) (only : Only first) (looks : Looks 
       record {
         version = λ there. absurd (some_not_none _ there looks.found.no_version);
         opens = λ none there. opens_in r f.is_new finds done is there;
+        from = λ there. IfOk-weaker r (λ o. o ≡ f.opened) (λ o. ReadsFrom first.gives o.version) (λ o same. subst (λ (x : Opened). ReadsFrom first.gives x.version) (sym same) (looks.from there)) is;
         takes = λ id ls ts stands small. stands_opens once first.gives id ls ts r stands small (opens_in r f.is_new finds done is (named_there first.gives id ls stands.named));
         fresh = λ none absent. new_in r f.is_new finds done is clean absent;
         removes = removes_in r f.is_new finds done;
@@ -189,3 +193,12 @@ stands_in once image f false id ls ts stands small found = stands_opens once ima
 
 pub stands_found : ImagesAreFirst → (image : Image) (f : Found) (id : ℕ) (ls : Levels) (ts : SeenLevels) → StandsFor image id ls ts → HasSmallNumbers ts → IsFoundIn image f → OpensAs id ls ts (Ok f.opened)
 stands_found once image f id ls ts stands small looks = stands_in once image f f.is_new id ls ts stands small looks.finds
+
+-- ---- with a `current` it is no new tree
+
+pub not_new : (image : Image) (f : Found) → IsSome (image current_name) → LooksInto image (Ok f) → f.is_new ≡ false
+not_new image f there looks = by_kind f.is_new looks.finds
+  where
+    by_kind : (b : Bool) → FindsIn b image f → b ≡ false
+    by_kind true finds = absurd (some_not_none _ there finds.0)
+    by_kind false finds = refl

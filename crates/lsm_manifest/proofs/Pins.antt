@@ -8,7 +8,7 @@ use Rattle.std.proofs.lemmas.List.Concat.{flat_map-cons}
 use Rattle.std.proofs.lemmas.List.Folds.{list_any-append}
 use Rattle.lsm_store.specs.World.{Image, World}
 use Rattle.lsm_tables.specs.Tables.{SeenTable}
-use Rattle.lsm_versions.specs.Levels.{Levels as SeenLevels}
+use Rattle.lsm_versions.specs.Levels.{Levels as SeenLevels, SeenVersion}
 use Rattle.lsm_manifest.specs.declared.recovered_table.RecoveredTable.{RecoveredTable}
 use Rattle.lsm_manifest.specs.declared.kinds.NameKind.TheVariants.{VersionFile, TableFile, Skipped, Other}
 use Rattle.lsm_manifest.specs.Names.{current_name, version_name, table_name}
@@ -18,6 +18,7 @@ use Rattle.lsm_manifest.specs.Recovery.{Levels}
 use Rattle.lsm_manifest.specs.Standing.{Pairwise, IsTableAt, StandsFor}
 use Rattle.lsm_manifest.specs.Clearing.{IsCleared}
 use Rattle.lsm_manifest.specs.Pinned.{IsFixed, IsPinned}
+use Rattle.lsm_manifest.specs.Opening.{ReadsFrom}
 use Rattle.lsm_below.specs.Numbers.{PlainNumbersAreRead}
 
 -- ---- what stands is no orphan
@@ -98,7 +99,7 @@ pinned_stands read old id ls ts image stands pin left =
     let ids = ids_of ls in
     let Stay = λ (t : RecoveredTable). is_orphan id ids (table_name t.id) ≡ false in
     let Fix = λ (t : RecoveredTable). IsFixed old (table_name t.id) in
-    let stay = layout_stays read id ids ls (λ i is. is) stands.named.reads.is.laid_out.each in
+    let stay = layout_stays read id ids ls (λ i is. is) stands.named.reads.file.is.laid_out.each in
     let one = over Stay Fix (IsTableAt old.gives) (IsTableAt image) (table_at old id ids image left) in
     let two = over (λ r. AllByRecursion Stay r) (λ r. AllByRecursion Fix r) (Pairwise (IsTableAt old.gives)) (Pairwise (IsTableAt image)) one in
     record {
@@ -115,4 +116,21 @@ pinned_stands read old id ls ts image stands pin left =
         no_version = none_at old id ids image left (codes "version") pin.no_version;
         in_tables = λ n bad. none_at old id ids image left n (λ c. pin.in_tables n c bad);
       };
+    }
+
+pub pinned_reads : (old : World) (v : SeenVersion) (image : Image) (reads : ReadsFrom old.gives v) → IsPinned old v.id reads.layout → IsCleared (is_orphan v.id (ids_of reads.layout)) old image → ReadsFrom image v
+pinned_reads old v image reads pin left =
+    let ids = ids_of reads.layout in
+    let named = reads.named in
+    record {
+      from = reads.from;
+      layout = reads.layout;
+      named = record {
+        id_fits = named.id_fits;
+        bytes = named.bytes;
+        current = same_at old v.id ids image left current_name (current_stays v.id ids) pin.current ∙ named.current;
+        version = same_at old v.id ids image left (version_name v.id) (version_stays v.id ids) pin.version ∙ named.version;
+        reads = named.reads;
+      };
+      is = reads.is;
     }

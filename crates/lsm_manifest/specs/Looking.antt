@@ -1,5 +1,5 @@
 -- What a store holds of a tree, before anything is changed.
-use Rattle.std.specs.Prelude.{◌≡◌, ℕ, Bool, true, false, List, None, Result, Ok, Err, IsSome, OnOk, map, codes}
+use Rattle.std.specs.Prelude.{◌≡◌, ℕ, Bool, true, false, List, Some, None, Result, Ok, Err, IsSome, OnOk, map, codes}
 use Rattle.std.specs.String.{string_bytes}
 use Rattle.lsm_store.specs.World.{Image, World, Same, Lists, LeavesOnly}
 use Rattle.lsm_manifest.specs.declared.fault.Fault.{Fault}
@@ -11,13 +11,13 @@ use Rattle.lsm_manifest.specs.declared.opening.Opened.{Opened}
 use Rattle.lsm_manifest.specs.declared.found.Found.{Found}
 use Rattle.lsm_manifest.specs.Kinds.{kind_of, is_orphan}
 use Rattle.lsm_manifest.specs.Names.{current_name}
-use Rattle.lsm_manifest.specs.Spelling.{IsVersionFile}
+use Rattle.lsm_manifest.specs.Spelling.{IsFileFrom}
 use Rattle.lsm_manifest.specs.Recovery.{StoreOnly}
 use Rattle.lsm_manifest.specs.Versions.{named_levels, file_of, first_version}
 use Rattle.lsm_versions.specs.Levels.{empty_levels}
 use Rattle.lsm_manifest.specs.Persist.{IsOldOrNew, IsPersisted}
 use Rattle.lsm_manifest.specs.Clearing.{IsCleared, Clears}
-use Rattle.lsm_manifest.specs.Opening.{FilesFault, IsFound}
+use Rattle.lsm_manifest.specs.Opening.{FilesFault, IsFound, ReadsFrom}
 
 -- what is told of a tree: a new one without `current`, else what it leads to
 abbrev pub FindsIn : Bool → Image → Found → Type 0
@@ -58,6 +58,7 @@ IsDamaged image = (f : Fault) × LookFault image f
 -- found in a store, which was left as it was
 pub record Looks (old new : World) (f : Found) : Type 0 where
   pub found : IsFoundIn old.gives f
+  pub from : IsSome (old.gives current_name) → ReadsFrom old.gives f.opened.version
   pub same : Same old new
 
 -- ---- and then
@@ -85,7 +86,7 @@ pub record ClearsFor {T : Type 0} (f : Found) (old new : World) (r : Result T Op
 pub record PersistsFirst {T : Type 0} (old new : World) (r : Result T OpenError) : Type 0 where
   pub any_moment : LeavesOnly old new (IsOldOrNew 0 (file_of first_version) old)
   pub persisted : OnOk r (IsPersisted 0 (file_of first_version) old new)
-  pub names : OnOk r (IsVersionFile (named_levels empty_levels) (file_of first_version))
+  pub names : OnOk r (IsFileFrom (Some 0) (named_levels empty_levels) (file_of first_version))
 
 -- what comes of it
 abbrev pub FinishesIn : Bool → Found → World → World → Result Opened OpenError → Type 0

@@ -1,9 +1,10 @@
 -- Versions as their files name them.
-use Rattle.std.specs.Prelude.{ℕ, List, map, codes}
+use Rattle.std.specs.Prelude.{ℕ, ◌+◌, ◌-◌, ◌^◌, min, List, [], ◌∷◌, map, codes, Option, Some, None}
 use Rattle.lsm_tables.specs.Image.{image}
 use Rattle.lsm_tables.specs.Sum.{sum_of}
 use Rattle.lsm_tables.specs.Tables.{SeenTable}
-use Rattle.lsm_versions.specs.Levels.{SeenVersion, Levels as SeenLevels, empty_levels}
+use Rattle.lsm_versions.specs.Levels.{SeenVersion, Levels as SeenLevels, empty_levels, all_of}
+use Rattle.lsm_versions.specs.Totals.{greatest_of}
 use Rattle.lsm_manifest.specs.declared.recovered_table.RecoveredTable.{RecoveredTable}
 use Rattle.lsm_manifest.specs.Spelling.{manifest}
 
@@ -19,8 +20,18 @@ named_levels levels = map named_runs levels
 
 -- the content of a version's file
 abbrev pub file_of : SeenVersion → List ℕ
-file_of v = manifest (codes "3.1.10") (named_levels v.levels)
+file_of v = manifest (Some v.log_from) (codes "3.1.10") (named_levels v.levels)
 
--- the first version of a tree: it has no table
+-- the number after all that tables hold, 0 where there is no table
+abbrev pub after_all : List SeenTable → ℕ
+after_all [] = 0
+after_all (t ∷ ts) = min (greatest_of (t ∷ ts) + 1) (2 ^ 64 - 1)
+
+-- the number from which a log is read, by what the file tells, and where it tells none by its tables
+abbrev pub log_from_in : Option ℕ → SeenLevels → ℕ
+log_from_in (Some n) levels = n
+log_from_in None levels = after_all (all_of levels)
+
+-- the first version of a tree: it has no table, and a log is read from 0 on
 abbrev pub first_version : SeenVersion
-first_version = record { id = 0; levels = empty_levels }
+first_version = record { id = 0; log_from = 0; levels = empty_levels }

@@ -102,8 +102,8 @@ fn damage_from_current<S: Store>(
         Err(OpenError::Fault(_)) => return Ok(String::from_str(alloc, CURRENT)?),
         Err(why) => return Err(why),
     };
-    let levels = match named_layout(alloc, store, id, sum) {
-        Ok(levels) => levels,
+    let (_, levels) = match named_layout(alloc, store, id, sum) {
+        Ok(told) => told,
         Err(OpenError::Fault(_)) => return Ok(String::from_str(alloc, version_name(id).as_str())?),
         Err(why) => return Err(why),
     };

@@ -3,7 +3,8 @@ ghost use Rattle.std.specs.Prelude.{◌≡◌, ◌<◌, ◌^◌, ◌↔◌, leng
 ghost use Rattle.std.specs.List.{AllByRecursion};
 ghost use Rattle.lsm_below.specs.Runs.{IsRun};
 ghost use Rattle.lsm_store.specs.World.{Same};
-ghost use Rattle.lsm_versions.specs.Levels.{range};
+ghost use Rattle.lsm_versions.specs.Levels.{range, all_of};
+ghost use Rattle.lsm_manifest.specs.Versions.{after_all, log_from_in};
 ghost use Rattle.lsm_manifest.specs.Spelling.{levels_in, ids_of, IsLayout, AreDistinct};
 ghost use Rattle.lsm_manifest.specs.Recovery.{CountsStore};
 ghost use Rattle.lsm_manifest.specs.Standing.{seen_runs, seen_levels, HasSmallNumbers, AreNamed};
@@ -12,7 +13,7 @@ ghost use Rattle.lsm_manifest.specs.Opening.{IsFilled, MakesRuns, MakesVersion, 
 use crate::RecoveredTable;
 use crate::fault::{Fault, OpenError};
 use crate::loading::load_levels;
-use lsm_below::{Run, is_run};
+use lsm_below::{Run, SeqNo, is_run};
 use lsm_store::Store;
 use lsm_tables::Table;
 use lsm_versions::{Level, Version, VersionId};
@@ -94,20 +95,43 @@ fn are_small(levels: &[Level]) -> bool
     true
 }
 
+/// The number after all that the tables hold, 0 where there is no table.
+fn after_all(version: &Version) -> SeqNo
+    ensures { result ≡ after_all (all_of version.now.levels) }
+{
+    if version.table_count() == 0 {
+        return 0;
+    }
+    version.totals().highest.saturating_add(1)
+}
+
+/// The number from which a log is read: what the version's file tells, or the one after all that its tables hold.
+fn log_from_in(from: Option<SeqNo>, version: &Version) -> SeqNo
+    ensures { result ≡ log_from_in from version.now.levels }
+{
+    match from {
+        Some(number) => number,
+        None => after_all(version),
+    }
+}
+
 /// The version of these tables.
 fn version_of(
     alloc: Global,
     id: VersionId,
+    from: Option<SeqNo>,
     tables: Vec<Vec<Vec<Table>>>,
 ) -> Result<Version, OpenError>
     requires { IsComplete (seen_levels tables.items) }
-    ensures { MakesVersion id (seen_levels tables.items) result }
+    ensures { MakesVersion id from (seen_levels tables.items) result }
 {
     let levels = levels_of(alloc, tables)?;
     if !are_small(&levels) {
         return Err(OpenError::Fault(Fault::OutOfNumbers));
     }
-    Ok(Version::from_levels(id, levels))
+    let version = Version::from_levels(id, levels);
+    let log_from = log_from_in(from, &version);
+    Ok(version.with_log_from(log_from))
 }
 
 /// The version of this id with the tables that its file names: each whole, in runs, and with numbers that may be
@@ -116,17 +140,19 @@ pub(crate) fn load_version<S: Store>(
     alloc: Global,
     store: &mut S,
     id: VersionId,
+    from: Option<SeqNo>,
     named: &[Vec<Vec<RecoveredTable>>],
 ) -> Result<Version, OpenError>
     requires laid_out { IsLayout (levels_in named.now) }
     requires distinct { AreDistinct (ids_of (levels_in named.now)) }
     ensures checks { S.tells → ChecksLevels (S.world store.old).gives (λ v. v.levels) (levels_in named.now) result }
     ensures id { IfOk result (λ v. v.id ≡ id) }
+    ensures from { IfOk result (λ v. v.log_from ≡ log_from_in from v.levels) }
     ensures named { IfOk result (λ v. AreNamed (levels_in named.now) v.levels) }
     ensures small { IfOk result (λ v. HasSmallNumbers v.levels) }
     ensures same { S.tells → Same (S.world store.old) (S.world store.new) }
     ensures counts { CountsStore (S.world store.old) (S.world store.new) result }
 {
     let tables = load_levels(alloc, store, named)?;
-    version_of(alloc, id, tables)
+    version_of(alloc, id, from, tables)
 }

@@ -1,11 +1,11 @@
 // What a store holds of a tree is read and checked, and nothing is changed.
-ghost use Rattle.std.specs.Prelude.{map, IfOk};
+ghost use Rattle.std.specs.Prelude.{◌≡◌, false, map, IfOk};
 ghost use Rattle.std.specs.List.Sorted.{IsNonDecreasing};
 ghost use Rattle.std.specs.String.{string_bytes};
 ghost use Rattle.lsm_store.specs.World.{Same, Lists};
 ghost use Rattle.lsm_manifest.specs.Recovery.{CountsStore, StoreOnly};
 ghost use Rattle.lsm_manifest.specs.Standing.{HasSmallNumbers};
-ghost use Rattle.lsm_manifest.specs.Opening.{ChecksFiles, IsAbove};
+ghost use Rattle.lsm_manifest.specs.Opening.{ChecksFiles, ReadsFrom, IsAbove};
 ghost use Rattle.lsm_manifest.specs.Looking.{LooksInto};
 
 use crate::checks::{Look, finds_any};
@@ -39,6 +39,7 @@ fn checked_files<S: Store>(
     names: &[String],
 ) -> Result<(Opened, Vec<u64>), OpenError>
     ensures checks { S.tells → Lists (S.world store.old).gives (map string_bytes names.now) → ChecksFiles (S.world store.old).gives result }
+    ensures from { S.tells → IfOk result (λ x. ReadsFrom (S.world store.old).gives x.0.version) }
     ensures sorted { IfOk result (λ x. IsNonDecreasing x.1.items) }
     ensures next { IfOk result (λ x. IsAbove x.0.next_table_id x.0.version.levels) }
     ensures small { IfOk result (λ x. HasSmallNumbers x.0.version.levels) }
@@ -49,7 +50,13 @@ fn checked_files<S: Store>(
     if finds_any(&Look::ARefusedName, names) {
         return Err(OpenError::Fault(Fault::Unrecoverable));
     }
-    let version = load_version(alloc, store, recovery.curr_version_id, &recovery.table_ids)?;
+    let version = load_version(
+        alloc,
+        store,
+        recovery.curr_version_id,
+        recovery.log_from,
+        &recovery.table_ids,
+    )?;
     let mut ids = ids_of(alloc, &recovery.table_ids)?;
     let next_table_id = next_id(&ids);
     ids.sort_unstable();
@@ -67,6 +74,7 @@ fn look_listed<S: Store>(
     names: Vec<String>,
 ) -> Result<Found, OpenError>
     ensures looks { S.tells → Lists (S.world store.old).gives (map string_bytes names.items) → LooksInto (S.world store.old).gives result }
+    ensures from { S.tells → IfOk result (λ f. f.is_new ≡ false → ReadsFrom (S.world store.old).gives f.opened.version) }
     ensures same { S.tells → Same (S.world store.old) (S.world store.new) }
     ensures next { IfOk result (λ f. IsAbove f.opened.next_table_id f.opened.version.levels) }
     ensures small { IfOk result (λ f. HasSmallNumbers f.opened.version.levels) }
@@ -101,6 +109,7 @@ fn look_listed<S: Store>(
 /// What a store holds of a tree, or the first thing that is wrong with its files. The store stays as it is.
 pub(crate) fn look<S: Store>(alloc: Global, store: &mut S) -> Result<Found, OpenError>
     ensures looks { S.tells → LooksInto (S.world store.old).gives result }
+    ensures from { S.tells → IfOk result (λ f. f.is_new ≡ false → ReadsFrom (S.world store.old).gives f.opened.version) }
     ensures same { S.tells → Same (S.world store.old) (S.world store.new) }
     ensures next { IfOk result (λ f. IsAbove f.opened.next_table_id f.opened.version.levels) }
     ensures small { IfOk result (λ f. HasSmallNumbers f.opened.version.levels) }

@@ -3,7 +3,8 @@
 
 use crate::opening::{Wanted, answers};
 use crate::samples::{
-    MISMATCH, OTHER, Runs, TABLE, Told, UNRECOVERABLE, change, fill, put_version,
+    FORMAT_3, FORMAT_4, Format, MISMATCH, OTHER, Runs, TABLE, Told, UNRECOVERABLE, change, fill,
+    put_version,
 };
 use lsm_store::{MemStore, Store, StoreError};
 use std::alloc::Global;
@@ -12,14 +13,15 @@ use std::test::Fail;
 /// The files of version 5, whose only run has tables 3 and 4.
 const FILES: [&str; 4] = ["current", "v5", "tables/3", "tables/4"];
 
-/// Where the sections of the version's file begin and end.
-const SECTIONS: [(usize, usize); 6] = [
+/// Where the sections of the version's file begin and end, the last one in format 4 alone.
+const SECTIONS: [(usize, usize); 7] = [
     (0, 24),
     (24, 52),
     (52, 71),
     (71, 92),
     (92, 118),
     (118, 211),
+    (211, 236),
 ];
 
 const ONE_RUN: Runs = [&[2], &[]];
@@ -27,18 +29,19 @@ const ONE_RUN: Runs = [&[2], &[]];
 /// Two names that are orphans.
 const ORPHANS: [(&str, Option<&[u8]>); 2] = [("v4", Some(b"1")), ("tables/7", Some(b"1"))];
 
-/// A file that is damaged, and whether sums are made again up to `current`, so that the grammar alone decides.
-type Place = (&'static str, bool);
+/// A file that is damaged, whether sums are made again up to `current`, so that the grammar alone decides, and the
+/// format of the version's file.
+type Place = (&'static str, bool, Format);
 
 /// Makes these bytes a file of the store.
 fn put(alloc: Global, store: &mut MemStore, at: Place, bytes: &[u8]) -> Result<(), StoreError> {
-    let (name, is_remade) = at;
-    let tables: [&[u8]; 2] = match at {
+    let (name, is_remade, format) = at;
+    let tables: [&[u8]; 2] = match (name, is_remade) {
         ("tables/3", true) => [bytes, &OTHER],
         ("tables/4", true) => [&TABLE, bytes],
         _ => [&TABLE, &OTHER],
     };
-    fill(alloc, store, ONE_RUN, &tables)?;
+    fill(alloc, store, format, ONE_RUN, &tables)?;
     change(store, &ORPHANS)?;
     if is_remade && name == "v5" {
         return put_version(store, 5, bytes);
@@ -47,9 +50,9 @@ fn put(alloc: Global, store: &mut MemStore, at: Place, bytes: &[u8]) -> Result<(
 }
 
 /// The file as it is without damage.
-fn whole(alloc: Global, store: &mut MemStore, name: &'static str) -> Result<Vec<u8>, Fail> {
-    put(alloc, store, ("tables/3", false), &TABLE)?;
-    Ok(store.read(alloc, name)?.ok_or("it is there")?)
+fn whole(alloc: Global, store: &mut MemStore, at: Place) -> Result<Vec<u8>, Fail> {
+    put(alloc, store, ("tables/3", false, at.2), &TABLE)?;
+    Ok(store.read(alloc, at.0)?.ok_or("it is there")?)
 }
 
 /// Whether a store with this file is refused so, or opened where nothing is wanted.
@@ -67,14 +70,15 @@ fn tells(
 /// How a cut is refused.
 fn told_of_cut(at: Place) -> Told {
     match at {
-        ("current", _) => (7, "current", 0),
-        (_, false) => MISMATCH,
-        (_, true) => UNRECOVERABLE,
+        ("current", ..) => (7, "current", 0),
+        (_, false, _) => MISMATCH,
+        (_, true, _) => UNRECOVERABLE,
     }
 }
 
 /// How another byte at a place of a version's file is refused. Where the level count says no run, the runs are read
-/// from there on one byte too early, and the type of the first checksum is its own first byte.
+/// from there on one byte too early, and the type of the first checksum is its own first byte. A log may be read from any
+/// number on.
 fn told_of_version(place: usize, byte: u8) -> Option<Told> {
     match place {
         23 => Some((5, "", byte)),
@@ -83,6 +87,7 @@ fn told_of_version(place: usize, byte: u8) -> Option<Told> {
         134 if byte == 0 => Some((6, "ChecksumType", 0xb7)),
         147 | 180 => Some((6, "ChecksumType", byte)),
         148..=163 | 181..=196 => Some(MISMATCH),
+        228..=235 => None,
         _ => Some(UNRECOVERABLE),
     }
 }
@@ -112,10 +117,10 @@ fn told_of_current(place: usize, byte: u8) -> Told {
 /// How another byte at a place is refused.
 fn told_of_byte(at: Place, place: usize, byte: u8) -> Option<Told> {
     match at {
-        ("current", _) => Some(told_of_current(place, byte)),
-        (_, false) => Some(MISMATCH),
-        ("v5", _) => told_of_version(place, byte),
-        ("tables/3", _) => told_of_table(place, byte, byte < b'c'),
+        ("current", ..) => Some(told_of_current(place, byte)),
+        (_, false, _) => Some(MISMATCH),
+        ("v5", ..) => told_of_version(place, byte),
+        ("tables/3", ..) => told_of_table(place, byte, byte < b'c'),
         _ => told_of_table(place, byte, byte > b'a'),
     }
 }
@@ -123,7 +128,7 @@ fn told_of_byte(at: Place, place: usize, byte: u8) -> Option<Told> {
 /// How many places of the file are told, each with a cut there and with two other bytes, up to the first that isn't. A
 /// cut is said to be in the file.
 fn count_told(alloc: Global, store: &mut MemStore, at: Place) -> Result<usize, Fail> {
-    let mut bytes = whole(alloc, store, at.0)?;
+    let mut bytes = whole(alloc, store, at)?;
     for place in 0..bytes.len() {
         let cut = Some((told_of_cut(at), at.0));
         let mut is_well = tells(alloc, store, at, &bytes[..place], cut)?;
@@ -144,42 +149,58 @@ fn count_told(alloc: Global, store: &mut MemStore, at: Place) -> Result<usize, F
     Ok(bytes.len())
 }
 
-/// The lengths of the files.
-const LENS: [usize; 4] = [25, 211, 37, 37];
+/// The formats, and the lengths of the files.
+const FORMATS: [(Format, [usize; 4]); 2] = [
+    (FORMAT_3, [25, 211, 37, 37]),
+    (FORMAT_4, [25, 236, 37, 37]),
+];
 
 #[test]
 fn cuts_and_changed_bytes_are_refused(rt: HostRuntime) -> Result<(), Fail> {
-    for at in 0..8 {
-        let place = (FILES[at % 4], at >= 4);
-        let mut store = MemStore::new(rt.alloc());
-        let told = count_told(rt.alloc(), &mut store, place);
-        drop(store);
-        assert_eq!(rt; told?, LENS[at % 4], "{place:?}");
+    for (format, lens) in FORMATS {
+        for at in 0..8 {
+            let place = (FILES[at % 4], at >= 4, format);
+            let mut store = MemStore::new(rt.alloc());
+            let told = count_told(rt.alloc(), &mut store, place);
+            drop(store);
+            assert_eq!(rt; told?, lens[at % 4], "{place:?}");
+        }
     }
     Ok(())
 }
 
-/// Whether the version's file with each section twice is refused so.
-fn tell_doubled(alloc: Global, store: &mut MemStore, at: Place, told: Told) -> Result<bool, Fail> {
-    let good = whole(alloc, store, at.0)?;
+/// How many sections there are, where the version's file with each of them twice is refused so.
+fn count_doubled(
+    alloc: Global,
+    store: &mut MemStore,
+    at: Place,
+    told: Told,
+) -> Result<usize, Fail> {
+    let good = whole(alloc, store, at)?;
+    let mut count: usize = 0;
     for (from, to) in SECTIONS {
+        if to > good.len() {
+            return Ok(count);
+        }
         let mut bytes = good.get(..to).unwrap_or_default().to_vec(alloc)?;
         bytes.extend_from_slice(good.get(from..).unwrap_or_default())?;
-        let well = tells(alloc, store, at, &bytes, Some((told, "")))?;
-        if !well || bytes.len() != 211 + to - from {
-            return Ok(false);
+        if tells(alloc, store, at, &bytes, Some((told, "")))? {
+            count = count.saturating_add(1);
         }
     }
-    Ok(true)
+    Ok(count)
 }
 
 #[test]
 fn doubled_sections_are_refused(rt: HostRuntime) -> Result<(), Fail> {
-    for (is_remade, told) in [(false, MISMATCH), (true, UNRECOVERABLE)] {
-        let mut store = MemStore::new(rt.alloc());
-        let well = tell_doubled(rt.alloc(), &mut store, ("v5", is_remade), told);
-        drop(store);
-        assert!(rt; well?, "{is_remade}");
+    for (format, count) in [(FORMAT_3, 6), (FORMAT_4, 7)] {
+        for (is_remade, told) in [(false, MISMATCH), (true, UNRECOVERABLE)] {
+            let mut store = MemStore::new(rt.alloc());
+            let place = ("v5", is_remade, format);
+            let doubled = count_doubled(rt.alloc(), &mut store, place, told);
+            drop(store);
+            assert_eq!(rt; doubled?, count, "{place:?}");
+        }
     }
     Ok(())
 }

@@ -2,7 +2,7 @@
 //
 // The value of an entry is the least byte of its sequence number, so that a value tells which entry is given.
 
-use crate::samples::{Runs, fill};
+use crate::samples::{FORMAT_4, Runs, fill};
 use lsm_below::{Error, InternalValue, SeqNo, UserKey, UserValue, ValueType};
 use lsm_parts::{Config, Memtable};
 use lsm_state::TreeState;
@@ -138,7 +138,7 @@ fn fill_layers(alloc: Global, store: &mut MemStore) -> Result<(), StoreError> {
     let left = table_of(alloc, &LEFT)?;
     let right = table_of(alloc, &RIGHT)?;
     let tables: [&[u8]; 4] = [&newest, &older, &left, &right];
-    fill(alloc, store, THREE_RUNS, &tables)
+    fill(alloc, store, FORMAT_4, THREE_RUNS, &tables)
 }
 
 /// Writes the entries of the sealed memtable, and those of the active one.

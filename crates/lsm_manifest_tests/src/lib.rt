@@ -7,6 +7,7 @@
 //! | `files` | files of tables that are written, and removed |
 //! | `trees` | a tree that is opened over a store, its reads and writes |
 //! | `damage` | stores with a damaged file: each cut, each changed byte, each doubled section |
+//! | `older` | a store that was written when files had format 3: its answers, and what its next version is written as |
 //! | `recorded` | a recorded tree that is opened over a store, and the order of its tables |
 //! | `iterators` | what iterators give over tables, memtables and an index, from both ends |
 //! | `holding` | what an iterator owns, and a step that is refused |
@@ -31,6 +32,8 @@ mod layers;
 mod manifests;
 #[cfg(test)]
 mod newest;
+#[cfg(test)]
+mod older;
 #[cfg(test)]
 mod opening;
 #[cfg(test)]

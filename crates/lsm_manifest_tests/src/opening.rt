@@ -1,8 +1,8 @@
 // What is opened, what is removed, and each refusal.
 
 use crate::samples::{
-    Changes, File, MISMATCH, NO_TABLE, ONE_TABLE, TABLE, Told, UNRECOVERABLE, bytes_of, change,
-    has, has_just, is_told, put_version,
+    Changes, FORMAT_3, FORMAT_4, FROM_0, FROM_1, File, Format, MISMATCH, NO_FORMATS, NO_TABLE,
+    ONE_TABLE, TABLE, Told, UNRECOVERABLE, bytes_of, change, has, has_just, is_told, put_version,
 };
 use lsm_below::Error;
 use lsm_manifest::{
@@ -15,10 +15,10 @@ use lsm_store::{Fault, MemStore, Store, StoreError};
 use std::alloc::Global;
 use std::test::Fail;
 
-/// Id 0, and the sum of the file without tables.
+/// Id 0, and the sum of the file without tables, in the newest format.
 const FIRST: [u8; 25] = [
-    0, 0, 0, 0, 0, 0, 0, 0, 0x4a, 0xbb, 0x83, 0x9b, 0x26, 0x16, 0x00, 0x78, 0x47, 0xe4, 0x4e, 0x4c,
-    0x82, 0x30, 0xc0, 0x1d, 0,
+    0, 0, 0, 0, 0, 0, 0, 0, 0xb5, 0x7a, 0xba, 0xfb, 0xef, 0xc8, 0x38, 0x10, 0x29, 0x09, 0xb8, 0x22,
+    0x50, 0x05, 0xae, 0x02, 0,
 ];
 
 /// The version's file with one table, and the one with none.
@@ -26,15 +26,15 @@ pub const ONE: File<'static> = (&ONE_TABLE, &[], &[]);
 
 const NONE: File<'static> = (&NO_TABLE, &[], &[]);
 
-/// A version with its file, and what is changed then.
+/// A version with its file in a format, and what is changed then.
 pub fn fill_with(
     alloc: Global,
     store: &mut MemStore,
-    id: u64,
-    file: File<'_>,
+    version: (u64, Format, File<'_>),
     changes: Changes<'_>,
 ) -> Result<(), StoreError> {
-    put_version(store, id, &bytes_of(alloc, file)?)?;
+    let (id, format, file) = version;
+    put_version(store, id, &bytes_of(alloc, format, file)?)?;
     change(store, changes)
 }
 
@@ -128,7 +128,7 @@ pub fn answers(alloc: Global, before: &mut MemStore, wanted: Wanted) -> Result<b
 
 /// Whether the store has just the files of a new tree.
 fn is_new(alloc: Global, store: &mut MemStore) -> Result<bool, Fail> {
-    let bytes = bytes_of(alloc, NONE)?;
+    let bytes = bytes_of(alloc, FORMAT_4, NONE)?;
     let files: Changes<'_> = &[("v0", Some(&bytes)), ("current", Some(&FIRST))];
     Ok(
         has_just(alloc, store, files)?
@@ -190,8 +190,8 @@ const LEFT: [(&str, Option<&[u8]>); 8] = [
 ];
 
 /// Whether orphans go, and are gone.
-fn orphans_go(alloc: Global, store: &mut MemStore) -> Result<bool, Fail> {
-    fill_with(alloc, store, 5, ONE, &BESIDE)?;
+fn orphans_go(alloc: Global, store: &mut MemStore, format: Format) -> Result<bool, Fail> {
+    fill_with(alloc, store, (5, format, ONE), &BESIDE)?;
     Ok(
         is_opened(alloc, store, 5, 4, 1)?
             && has(alloc, store, &LEFT)?
@@ -199,24 +199,46 @@ fn orphans_go(alloc: Global, store: &mut MemStore) -> Result<bool, Fail> {
     )
 }
 
-/// Whether the version that is opened becomes the current one once more.
-fn persists(alloc: Global, store: &mut MemStore) -> Result<bool, Fail> {
-    let went = orphans_go(alloc, store)?;
+/// A number from which a log is read, and the section that says so.
+type Section = (u64, &'static [u8]);
+
+/// Whether the version that is opened becomes the current one once more, with this section in its file.
+fn persists(
+    alloc: Global,
+    store: &mut MemStore,
+    format: Format,
+    from: Section,
+) -> Result<bool, Fail> {
+    let went = orphans_go(alloc, store, format)?;
     let opened = open_files(alloc, store)?;
     let persisted = persist_version(alloc, store, &opened.version);
     drop(opened);
     persisted?;
-    let bytes = bytes_of(alloc, ONE)?;
+    let bytes = bytes_of(alloc, (4, from.1), ONE)?;
     let recovery = recover(alloc, store)?;
-    Ok(went && has(alloc, store, &[("v5", Some(&bytes))])? && recovery.curr_version_id == 5)
+    Ok(
+        went && has(alloc, store, &[("v5", Some(&bytes))])?
+            && bytes.len() == 203
+            && recovery.curr_version_id == 5
+            && recovery.log_from == Some(from.0),
+    )
 }
+
+/// What is read in format 3 has a log from 1 on, after the one entry; format 4 says it.
+const PERSISTED: [(Format, Section); 3] = [
+    (FORMAT_3, (1, &FROM_1)),
+    ((4, &FROM_1), (1, &FROM_1)),
+    (FORMAT_4, (0, &FROM_0)),
+];
 
 #[test]
 fn orphans_are_removed_and_a_version_persisted(rt: HostRuntime) -> Result<(), Fail> {
-    let mut store = MemStore::new(rt.alloc());
-    let well = persists(rt.alloc(), &mut store);
-    drop(store);
-    assert!(rt; well?);
+    for (format, from) in PERSISTED {
+        let mut store = MemStore::new(rt.alloc());
+        let well = persists(rt.alloc(), &mut store, format, from);
+        drop(store);
+        assert!(rt; well?, "{format:?}");
+    }
     assert!(rt; version_name(5).as_str() == "v5" && table_name(9).as_str() == "tables/9");
     Ok(())
 }
@@ -233,12 +255,12 @@ const TWICE: [u8; 82] = [
 fn refuses(
     alloc: Global,
     store: &mut MemStore,
-    row: (u64, File<'_>, Told),
+    version: (u64, Format, File<'_>),
+    told: Told,
     changes: Changes<'_>,
 ) -> Result<bool, Fail> {
-    let (id, file, told) = row;
     let beside: Changes<'_> = &[("tables/3", Some(&TABLE)), ("v4", Some(b"1"))];
-    fill_with(alloc, store, id, file, beside)?;
+    fill_with(alloc, store, version, beside)?;
     change(store, changes)?;
     answers(alloc, store, Some((told, "")))
 }
@@ -250,8 +272,8 @@ const CUT_LAYOUT: [u8; 44] = [
 ];
 
 const CUT_FIRST: [u8; 24] = [
-    0, 0, 0, 0, 0, 0, 0, 0, 0x4a, 0xbb, 0x83, 0x9b, 0x26, 0x16, 0x00, 0x78, 0x47, 0xe4, 0x4e, 0x4c,
-    0x82, 0x30, 0xc0, 0x1d,
+    0, 0, 0, 0, 0, 0, 0, 0, 0xb5, 0x7a, 0xba, 0xfb, 0xef, 0xc8, 0x38, 0x10, 0x29, 0x09, 0xb8, 0x22,
+    0x50, 0x05, 0xae, 0x02,
 ];
 
 const CUT_TABLE: [u8; 36] = [
@@ -299,21 +321,35 @@ const REFUSALS: [Refusal; 20] = [
 
 #[test]
 fn damaged_stores_are_refused(rt: HostRuntime) -> Result<(), Fail> {
-    for (id, file, changes, told) in REFUSALS {
+    for format in [FORMAT_3, FORMAT_4] {
+        for (id, file, changes, told) in REFUSALS {
+            let mut store = MemStore::new(rt.alloc());
+            let well = refuses(rt.alloc(), &mut store, (id, format, file), told, changes);
+            drop(store);
+            assert!(rt; well?, "{format:?}, {told:?}, {changes:?}");
+        }
+    }
+    Ok(())
+}
+
+#[test]
+fn other_formats_are_refused(rt: HostRuntime) -> Result<(), Fail> {
+    for (format, told) in NO_FORMATS {
         let mut store = MemStore::new(rt.alloc());
-        let well = refuses(rt.alloc(), &mut store, (id, file, told), changes);
+        let well = refuses(rt.alloc(), &mut store, (5, format, ONE), told, &[]);
         drop(store);
-        assert!(rt; well?, "{told:?}, {changes:?}");
+        assert!(rt; well?, "{format:?}");
     }
     Ok(())
 }
 
 /// How many bytes of a new tree's version are refused, each changed alone, up to the first that isn't.
-fn count_refused(alloc: Global, store: &mut MemStore) -> Result<usize, Fail> {
-    let mut other = bytes_of(alloc, NONE)?;
+fn count_refused(alloc: Global, store: &mut MemStore, format: Format) -> Result<usize, Fail> {
+    let mut other = bytes_of(alloc, format, NONE)?;
     for place in 0..other.len() {
         other[place] ^= 1;
-        if !refuses(alloc, store, (0, NONE, MISMATCH), &[("v0", Some(&other))])? {
+        let changes: Changes<'_> = &[("v0", Some(&other))];
+        if !refuses(alloc, store, (0, format, NONE), MISMATCH, changes)? {
             return Ok(place);
         }
         other[place] ^= 1;
@@ -323,10 +359,12 @@ fn count_refused(alloc: Global, store: &mut MemStore) -> Result<usize, Fail> {
 
 #[test]
 fn a_changed_byte_is_refused(rt: HostRuntime) -> Result<(), Fail> {
-    let mut store = MemStore::new(rt.alloc());
-    let refused = count_refused(rt.alloc(), &mut store);
-    drop(store);
-    assert_eq!(rt; refused?, 141);
+    for (format, len) in [(FORMAT_3, 141), (FORMAT_4, 166)] {
+        let mut store = MemStore::new(rt.alloc());
+        let refused = count_refused(rt.alloc(), &mut store, format);
+        drop(store);
+        assert_eq!(rt; refused?, len);
+    }
     Ok(())
 }
 

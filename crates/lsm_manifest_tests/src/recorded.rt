@@ -1,7 +1,7 @@
 // A recorded tree is opened where its tables are in order, and its writes and snapshots come after them.
 
 use crate::opening::{ONE, fill_with, open};
-use crate::samples::{LATER, Runs, TABLE, fill};
+use crate::samples::{Changes, FORMAT_3, FORMAT_4, LATER, Runs, TABLE, fill};
 use lsm_below::{Error, UserKey};
 use lsm_iter::{IterGuard, TreeIter};
 use lsm_model::Op;
@@ -93,18 +93,15 @@ fn take_turn(alloc: Global, store: MemStore) -> (MemStore, Result<bool, Error>) 
 
 #[test]
 fn an_opened_journal_starts_from_its_tables(rt: HostRuntime) -> Result<(), Fail> {
-    let mut store = MemStore::new(rt.alloc());
-    let filled = fill_with(
-        rt.alloc(),
-        &mut store,
-        5,
-        ONE,
-        &[("tables/3", Some(&TABLE))],
-    );
-    let (store, well) = take_turn(rt.alloc(), store);
-    drop(store);
-    filled?;
-    assert!(rt; well?);
+    for format in [FORMAT_3, FORMAT_4] {
+        let mut store = MemStore::new(rt.alloc());
+        let table: Changes<'_> = &[("tables/3", Some(&TABLE))];
+        let filled = fill_with(rt.alloc(), &mut store, (5, format, ONE), table);
+        let (store, well) = take_turn(rt.alloc(), store);
+        drop(store);
+        filled?;
+        assert!(rt; well?, "{format:?}");
+    }
     Ok(())
 }
 
@@ -122,7 +119,7 @@ const TWO_RUNS: Runs = [&[1, 1], &[]];
 /// unrecoverable with all files left, and is opened without a journal; or, where they are in order, is opened.
 fn is_told(alloc: Global, tables: &[&[u8]], wanted: u8) -> Result<bool, Fail> {
     let mut store = MemStore::new(alloc);
-    let filled = fill(alloc, &mut store, TWO_RUNS, tables);
+    let filled = fill(alloc, &mut store, FORMAT_4, TWO_RUNS, tables);
     let added = store.replace("tables/7", b"1");
     let (mut store, told) = open_recorded(alloc, store);
     let left = store.list(alloc);

@@ -33,6 +33,9 @@ pub const ONE_TABLE: [u8; 45] = [
     0x51, 0xbb, 0x09, 0x02, 0x2a, 0xf9, 0x67, 0x5b, 0, 0, 0, 0, 0, 0, 0, 0, 0, 0, 0, 0, 0, 0,
 ];
 
+/// The place of the format's byte.
+const FORMAT_PLACE: usize = 23;
+
 /// The sections of a version's file, up to the layout's length: each section's name after its length, and its content
 /// after the length of that. The format is at 23, the tree type at 70, the level count at 91, the hash type at 117.
 const HEAD: [&[u8]; 6] = [
@@ -44,6 +47,20 @@ const HEAD: [&[u8]; 6] = [
     b"\x06tables",
 ];
 
+/// A format: its byte, and what stands behind the layout.
+pub type Format = (u8, &'static [u8]);
+
+/// Where a log is read from a number on: the section that says so, for 0 and for 1.
+pub const FROM_0: [u8; 25] = *b"\x08log_from\x08\0\0\0\0\0\0\0\0\0\0\0\0\0\0\0";
+
+pub const FROM_1: [u8; 25] = *b"\x08log_from\x08\0\0\0\0\0\0\0\x01\0\0\0\0\0\0\0";
+
+/// The format that is read.
+pub const FORMAT_3: Format = (3, &[]);
+
+/// The format that is written and read.
+pub const FORMAT_4: Format = (4, &FROM_0);
+
 /// A version's file: its layout, places with other bytes, and what follows.
 pub type File<'a> = (&'a [u8], &'a [(usize, u8)], &'a [u8]);
 
@@ -53,19 +70,26 @@ pub type Runs = [&'static [u8]; 2];
 /// Names with new contents, or removed.
 pub type Changes<'a> = &'a [(&'a str, Option<&'a [u8]>)];
 
-/// The bytes of a version's file.
-pub fn bytes_of(alloc: Global, file: File<'_>) -> Result<Vec<u8>, AllocError> {
+/// Makes this the byte at a place, if there is such a place.
+fn set(bytes: &mut [u8], place: usize, byte: u8) {
+    if let Some(found) = bytes.get_mut(place) {
+        *found = byte;
+    }
+}
+
+/// The bytes of a version's file in a format.
+pub fn bytes_of(alloc: Global, format: Format, file: File<'_>) -> Result<Vec<u8>, AllocError> {
     let mut out = Vec::new(alloc);
     for part in HEAD {
         out.extend_from_slice(part)?;
     }
     out.extend_from_slice(&(file.0.len() as u64).to_le_bytes())?;
     out.extend_from_slice(file.0)?;
+    out.extend_from_slice(format.1)?;
     out.extend_from_slice(file.2)?;
+    set(&mut out, FORMAT_PLACE, format.0);
     for (place, byte) in file.1 {
-        if let Some(found) = out.get_mut(*place) {
-            *found = *byte;
-        }
+        set(&mut out, *place, *byte);
     }
     Ok(out)
 }
@@ -114,11 +138,12 @@ pub fn put_version(store: &mut MemStore, id: u64, file: &[u8]) -> Result<(), Sto
 pub fn fill(
     alloc: Global,
     store: &mut MemStore,
+    format: Format,
     levels: Runs,
     tables: &[&[u8]],
 ) -> Result<(), StoreError> {
     let layout = layout_of(alloc, levels, tables)?;
-    put_version(store, 5, &bytes_of(alloc, (&layout, &[], &[]))?)?;
+    put_version(store, 5, &bytes_of(alloc, format, (&layout, &[], &[]))?)?;
     for place in 0..tables.len() {
         store.replace(table_name(id_at(place)).as_str(), tables[place])?;
     }
@@ -161,6 +186,32 @@ pub type Told = (u8, &'static str, u8);
 pub const UNRECOVERABLE: Told = (4, "", 0);
 
 pub const MISMATCH: Told = (20, "", 0);
+
+/// Formats that no version's file has, and how each is refused: the sections' names and lengths go first.
+pub const NO_FORMATS: [(Format, Told); 10] = [
+    ((3, &FROM_0), UNRECOVERABLE),
+    ((4, &[]), UNRECOVERABLE),
+    ((2, &[]), (5, "", 2)),
+    ((2, &FROM_0), (5, "", 2)),
+    ((5, &[]), (5, "", 5)),
+    ((5, &FROM_0), (5, "", 5)),
+    (
+        (4, b"\x08log_form\x08\0\0\0\0\0\0\0\0\0\0\0\0\0\0\0"),
+        UNRECOVERABLE,
+    ),
+    (
+        (4, b"\x08log_from\x07\0\0\0\0\0\0\0\0\0\0\0\0\0\0"),
+        UNRECOVERABLE,
+    ),
+    (
+        (4, b"\x08log_from\x09\0\0\0\0\0\0\0\0\0\0\0\0\0\0\0\0"),
+        UNRECOVERABLE,
+    ),
+    (
+        (5, b"\x08log_form\x08\0\0\0\0\0\0\0\0\0\0\0\0\0\0\0"),
+        UNRECOVERABLE,
+    ),
+];
 
 /// Whether the error is this one.
 pub fn is_told(error: &Error, wanted: Told) -> bool {

@@ -1,14 +1,14 @@
 // A tree that is opened reads what its tables hold.
 
-use crate::manifests::CURRENT;
+use crate::manifests::{CURRENT, CURRENT_3};
 use crate::opening::{ONE, fill_with};
-use crate::samples::{Changes, TABLE, bytes_of, has_just};
+use crate::samples::{Changes, FORMAT_3, FROM_1, Format, TABLE, bytes_of, has};
 use lsm_below::{Error, UserKey};
 use lsm_iter::IterGuard;
 use lsm_model::Op;
 use lsm_parts::Config;
 use lsm_state::TreeState;
-use lsm_store::{MemStore, StoreError};
+use lsm_store::{MemStore, Store, StoreError};
 use std::alloc::Global;
 use std::ops::Bound;
 use std::test::Fail;
@@ -71,6 +71,7 @@ fn writes(alloc: Global, tree: &mut TreeState) -> Result<bool, Error> {
 fn is_well(alloc: Global, tree: &mut TreeState) -> Result<bool, Error> {
     let is_told = tree.table_count() == 1
         && tree.current_version().id() == 5
+        && tree.current_version().log_from() == 1
         && tree.next_table_id() == 4;
     Ok(is_told && reads(tree, &BEFORE)? && writes(alloc, tree)?)
 }
@@ -86,26 +87,31 @@ fn take_turn(alloc: Global, store: MemStore) -> (MemStore, Result<bool, Error>) 
     }
 }
 
+/// A format, and `current` for the version in it.
+type Row = (Format, &'static [u8]);
+
 /// Whether the store has just the files of the version.
-fn is_cleared(alloc: Global, store: &mut MemStore) -> Result<bool, StoreError> {
-    let bytes = bytes_of(alloc, ONE)?;
-    let files: Changes<'_> = &[
-        ("current", Some(&CURRENT)),
-        ("tables/3", Some(&TABLE)),
-        ("v5", Some(&bytes)),
-    ];
-    has_just(alloc, store, files)
+fn is_cleared(alloc: Global, store: &mut MemStore, row: Row) -> Result<bool, StoreError> {
+    let (format, current) = row;
+    let bytes = bytes_of(alloc, format, ONE)?;
+    let made: Changes<'_> = &[("v5", Some(&bytes))];
+    let given: Changes<'_> = &[("current", Some(current)), ("tables/3", Some(&TABLE))];
+    Ok(store.list(alloc)?.len() == 3 && has(alloc, store, made)? && has(alloc, store, given)?)
 }
+
+const ROWS: [Row; 2] = [(FORMAT_3, &CURRENT_3), ((4, &FROM_1), &CURRENT)];
 
 #[test]
 fn an_opened_tree_reads_its_tables(rt: HostRuntime) -> Result<(), Fail> {
-    let mut store = MemStore::new(rt.alloc());
-    let filled = fill_with(rt.alloc(), &mut store, 5, ONE, &MORE);
-    let (store, first) = take_turn(rt.alloc(), store);
-    let (mut store, second) = take_turn(rt.alloc(), store);
-    let cleared = is_cleared(rt.alloc(), &mut store);
-    drop(store);
-    filled?;
-    assert!(rt; first? && second? && cleared?);
+    for row in ROWS {
+        let mut store = MemStore::new(rt.alloc());
+        let filled = fill_with(rt.alloc(), &mut store, (5, row.0, ONE), &MORE);
+        let (store, first) = take_turn(rt.alloc(), store);
+        let (mut store, second) = take_turn(rt.alloc(), store);
+        let cleared = is_cleared(rt.alloc(), &mut store, row);
+        drop(store);
+        filled?;
+        assert!(rt; first? && second? && cleared?);
+    }
     Ok(())
 }

@@ -27,7 +27,7 @@ pub(crate) const MOST: usize = 64;
 const HALF: usize = 32;
 
 /// For how many more entries a block has room when it was made or has grown.
-const STEP: usize = 8;
+pub(crate) const STEP: usize = 8;
 
 /// Entries in order, and the head of each one's key, which most comparisons need alone. The last head stands
 /// beside them, since a search among blocks needs nothing else of most.
@@ -61,12 +61,13 @@ fn last_of(heads: &[u128]) -> u128
 }
 
 impl Block {
-    /// A block of one entry. Refused only for want of memory.
-    pub(crate) fn of(alloc: Global, entry: InternalValue) -> Result<Block, AllocError>
+    /// A block of one entry, with room for so many. Refused only for want of memory.
+    pub(crate) fn of(alloc: Global, room: usize, entry: InternalValue) -> Result<Block, AllocError>
+        requires { 0 < room }
         ensures { IfOk result (λ b. b ≡ entry ∷ []) }
     {
-        let mut heads = Vec::with_capacity(alloc, STEP)?;
-        let mut entries = Vec::with_capacity(alloc, STEP)?;
+        let mut heads = Vec::with_capacity(alloc, room)?;
+        let mut entries = Vec::with_capacity(alloc, room)?;
         let last = head_of(entry.key.user_key.as_slice());
         heads.push(last).unwrap();
         entries.push(entry).unwrap();

@@ -11,7 +11,7 @@ ghost use Rattle.lsm_memtable.specs.Blocks.{joined, spot, AreBlocks, IsFilled, I
 ghost use Rattle.lsm_memtable.specs.Undo.{Undoes, AreUndone, undo_of};
 
 use crate::Steps;
-use crate::block::{Block, MOST};
+use crate::block::{Block, MOST, STEP};
 use crate::part::Part;
 use lsm_below::{
     InternalKey, InternalValue, SeqNo, entries_are_ordered, entries_are_parted, head_of,
@@ -169,6 +169,18 @@ fn split_in(
     Ok(())
 }
 
+/// For how many entries a block has room that begins at this place among the blocks. One that begins behind all others is
+/// where keys rise, and fills: it never grows, so that none of its entries moves.
+fn room_for(blocks: &VecDeque<Block>, block: usize) -> usize
+    ensures { 0 < result }
+{
+    if 0 < block && block == blocks.len() {
+        MOST
+    } else {
+        STEP
+    }
+}
+
 /// Puts an entry in a block of its own, before the blocks from a place on. Refused only for want of memory, and then
 /// nothing changes.
 fn begin_block(
@@ -184,7 +196,7 @@ fn begin_block(
     ensures filled { All IsFilled blocks.new.items }
 {
     blocks.reserve(1)?;
-    let new = Block::of(alloc, entry)?;
+    let new = Block::of(alloc, room_for(blocks, block), entry)?;
     blocks.insert(block, new).unwrap();
     Ok(())
 }

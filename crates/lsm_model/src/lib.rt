@@ -6,6 +6,7 @@
 //! | `op` | what a write does to its key |
 //! | `question` | what a read asks, and what it answers |
 //! | `journal` | what a journal lists |
+//! | `repeats` | whether a batch names a key twice |
 //! | `laws` | the theorems, each as the contract of a function |
 #![tactic(auto)]
 
@@ -13,6 +14,7 @@ mod journal;
 mod laws;
 mod op;
 mod question;
+mod repeats;
 
 pub use journal::{JournalEntry, KeyRanges};
 pub use laws::{
@@ -23,3 +25,4 @@ pub use laws::{
 };
 pub use op::{Op, Ops};
 pub use question::{Answer, KvPairs, Question};
+pub use repeats::has_repeats;

@@ -34,7 +34,7 @@ pub record IsMade (ids : List ℕ) (levels : Levels) (made : List SeenTable) : T
 abbrev pub MergesFlat : Input → SeenVersion → Type 0
 MergesFlat input old =
     (made : List SeenTable) (new : SeenVersion) → IsMade input.table_ids.keys old.levels made →
-    IsNext input.table_ids.keys made input.dest_level old new → AreFlat new.levels
+    IsNext input.table_ids.keys made input.dest_level 0 old new → AreFlat new.levels
 
 -- whatever run they are moved as, it is
 abbrev pub MovesFlat : Input → SeenVersion → Type 0

@@ -26,7 +26,7 @@ in_front v (x ∷ xs) ys i = ⊎_elim (λ (e : x ≡ v). inl e) (λ (j : IsIn v 
 still_upholds : (w : World) (old : Core) → StaysStored w → Upholds w w old old
 still_upholds w old leaves stored =
     let vs = versions_left old in
-    (stored, weakened w w (HoldsOneOf vs) (HoldsOneOf (vs ++ vs)) (leaves vs (written_of old) stored) (λ image one. (one.0, in_front one.0 vs vs one.1, one.2)))
+    (stored, weakened w w (HoldsOneOf vs) (HoldsOneOf (vs ++ vs)) (leaves vs (written_of old) stored) (λ image one. (one.0, in_front one.0 vs vs one.1, one.2, one.3)))
 
 pub same_upholds : (w v : World) (old new : Core) → StaysStored w → v ≡ w → new ≡ old → Upholds w v old new
 same_upholds w v old new leaves same is = subst (λ u. Upholds w u old new) (sym same) (subst (Upholds w w old) (sym is) (still_upholds w old leaves))

@@ -14,7 +14,7 @@ use Rattle.lsm_model.specs.Views.{found_at, Placed, held}
 use Rattle.lsm_model.specs.Beginnings.{shown_by}
 use Rattle.lsm_model.specs.Steps.{Wrote, Asked, Rotated}
 use Rattle.lsm_model.specs.Sound.{Holds}
-use Rattle.lsm_model.specs.Ops.{op_entries}
+use Rattle.lsm_model.specs.Ops.{op_entry, op_entries, repeats, keys_of, op_value}
 use Rattle.lsm_model.specs.declared.op.Op.{Op}
 use Rattle.lsm_model.specs.declared.journal.JournalEntry.TheVariants.{Write, Read}
 use Rattle.lsm_model.specs.declared.question.Question.{Question}
@@ -26,7 +26,7 @@ use Rattle.lsm_state.specs.Core.{Core, Seen, state_of, latest_of, older_of, writ
 use Rattle.lsm_state.specs.Calls.{IsWriteStep, IsGetStep, Gives, Rotates, Appends, WritesBatch}
 use Rattle.lsm_state.specs.Ranges.{IsListStep}
 use Rattle.lsm_iter.specs.Guards.{Pair}
-use Rattle.lsm_state.specs.Refusals.{batch_refusal, repeats, keys_of, is_great, is_long_key, is_long_value, op_value}
+use Rattle.lsm_state.specs.Refusals.{batch_refusal, is_great, is_long_key, is_long_value}
 use Rattle.lsm_recorded.specs.declared.marks.Mark.{Mark}
 use Rattle.lsm_recorded.specs.Marks.{mark_of, mark_in, marked_by, marked_all, entry_allowed, op_allowed}
 use Rattle.lsm_recorded.specs.Order.{keeps_order, batch_keeps_order}
@@ -214,6 +214,12 @@ module _ (opened : List Placed) (least : ℕ) where
   pub listed_agrees : (theory : Soundness) (marks : Marks) (low : ℕ) (c : Core) (journal : List Event) (question : Question) (s : ℕ) (pairs : List Pair) → IsRecorded opened least marks low c journal → above (held opened) ≤ s → IsListStep c question s pairs → ReadAgrees (shown_by opened) journal (Read s question (Pairs pairs))
   listed_agrees theory marks low c journal question s pairs r up step =
       agrees_last (shown_by opened) [] journal (Read s question (Pairs pairs)) (recorded_list theory marks low c journal question s pairs r up step).reads.agrees
+
+  -- where a read is answered, what it lists agrees
+  pub lists_agree : {A : Type 0} (pairs : A → List Pair) (theory : Soundness) (marks : Marks) (low : ℕ) (c : Core) (journal : List Event) (question : Question) (s : ℕ) (r : Result A Error) → IsRecorded opened least marks low c journal → above (held opened) ≤ s
+      → IfOk r (λ a. IsListStep c question s (pairs a)) → IfOk r (λ a. ReadAgrees (shown_by opened) journal (Read s question (Pairs (pairs a))))
+  lists_agree pairs theory marks low c journal question s (Ok a) r up step = listed_agrees theory marks low c journal question s (pairs a) r up step
+  lists_agree pairs theory marks low c journal question s (Err x) r up step = tt
 
   -- a get answers the replay
   pub answers_replay : (theory : Soundness) (marks : Marks) (low : ℕ) (k : Bytes) (s : ℕ) (v : Option Bytes) (journal : List Event) (c : Core) → Gives c k s v → IsRecorded opened least marks low c journal → above (held opened) ≤ s → is_outside k s journal ≡ true → v ≡ get (replay (shown_by opened) journal s) k

@@ -50,7 +50,7 @@ module _ {F : Type 0} (world : F → World) (was is : F) where
   kept old new up r e = rw e (λ h. (rests_stored (world was) old new r h, more (up h).1))
     where
       among : (image : Image) → HoldsOneOf (versions_left old ++ versions_left old) image → HoldsOneOf (versions_left old ++ versions_left new) image
-      among image h = (h.0, in_both h.0 (versions_left old) (versions_left new) h.1, h.2)
+      among image h = (h.0, in_both h.0 (versions_left old) (versions_left new) h.1, h.2, h.3)
 
       more : Leaves (world was) (world was) (versions_left old ++ versions_left old) → Leaves (world was) (world was) (versions_left old ++ versions_left new)
       more l = record {

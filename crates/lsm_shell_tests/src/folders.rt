@@ -33,7 +33,7 @@ fn version_of_table(alloc: Global) -> Result<Version, Error> {
     if !is_run(&tables) || !ids_are_own(alloc, &tables, first.levels())? {
         return Err(Error::Unrecoverable);
     }
-    first.with_new_l0_run(alloc, &tables)
+    first.with_new_l0_run(alloc, &tables, 1)
 }
 
 /// Puts the files of a tree with one table into a store.

@@ -54,7 +54,7 @@ ids_forgotten ts h n k =
     let least : least_named h.latest ≤ h.latest.active_memtable = k.older.0 in
     alone ts n h.older h.latest.version h.latest.seqno k.fall k.held.1 (older_within (least_named h.latest) n h.older (omega (arith, below, least)) k.older.2)
 
-pub tables_cleared : (flush : Option SeenOpen) (h : SeenHistory) (n a seqno : ℕ) → KeepsTables flush h n → KeepsTables flush (record { latest = record { active_memtable = a; sealed_memtables = []; version = record { id = h.latest.version.id + 1; levels = empty_levels }; seqno = seqno }; older = versions_of h }) n
+pub tables_cleared : (flush : Option SeenOpen) (h : SeenHistory) (n a seqno : ℕ) → KeepsTables flush h n → KeepsTables flush (record { latest = record { active_memtable = a; sealed_memtables = []; version = record { id = h.latest.version.id + 1; log_from = seqno; levels = empty_levels }; seqno = seqno }; older = versions_of h }) n
 tables_cleared flush h n a seqno k =
     let written = written_by flush in
     let now = all_of h.latest.version.levels in

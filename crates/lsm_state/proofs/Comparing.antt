@@ -22,7 +22,7 @@ left_none [] = refl
 left_none (t ∷ tables) = ap (λ l. t ∷ l) (left_none tables)
 
 -- a version with a run in front has the run's tables and those it had
-pub tables_kept : (run : List SeenTable) (old new : SeenVersion) → ChangesKeepTables → IsVersion old.levels → IsNext [] run 0 old new → IsPermutation (run ++ all_of old.levels) (all_of new.levels)
-tables_kept run old new law is next =
+pub tables_kept : (run : List SeenTable) (from : ℕ) (old new : SeenVersion) → ChangesKeepTables → IsVersion old.levels → IsNext [] run 0 from old new → IsPermutation (run ++ all_of old.levels) (all_of new.levels)
+tables_kept run from old new law is next =
     let some : 0 < length old.levels = omega (arith, is.seven) in
     subst (λ l. IsPermutation (run ++ l) (all_of new.levels)) (left_none (all_of old.levels)) (law [] run 0 old.levels new.levels next.levels some)

@@ -13,10 +13,10 @@ use Rattle.lsm_below.specs.declared.error.Error.TheVariants.{OutOfNumbers, KeyTo
 use Rattle.lsm_tables.specs.Image.{Fits}
 use Rattle.lsm_tables.specs.Cutting.{IsWritable}
 use Rattle.lsm_memtable.specs.Memtables.{SeenMemtable, with_entry, with_entries}
-use Rattle.lsm_model.specs.Ops.{op_entry, op_entries}
+use Rattle.lsm_model.specs.Ops.{op_entry, op_entries, op_value, repeats, keys_of}
 use Rattle.lsm_model.specs.declared.op.Op.{Op}
 use Rattle.lsm_model.specs.declared.op.Op.TheVariants.{Set, Del, Weak}
-use Rattle.lsm_state.specs.Refusals.{is_great, is_long_key, is_long_value, op_value, repeats, keys_of, entry_refusal, batch_refusal}
+use Rattle.lsm_state.specs.Refusals.{is_great, is_long_key, is_long_value, entry_refusal, batch_refusal}
 
 -- ---- an entry
 

@@ -15,7 +15,6 @@ pub mod FlushSteps
 pub mod FlushDeeds
 pub mod FlushReads
 pub mod Finding
-pub mod Repeats
 pub mod Answered
 pub mod Overlaid
 pub mod Counts

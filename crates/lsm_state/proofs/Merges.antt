@@ -123,7 +123,7 @@ there_all levels inputs (j ∷ ids) stand h = (
 
 -- what is made of a version, with a run of tables in place of those of some ids
 pub record Makes (tables : List SeenTable) (v : SeenVersion) (ids : List ℕ) (to : ℕ) (latest : SeenVersion) : Type 0 where
-  pub next : IsNext ids tables to latest v
+  pub next : IsNext ids tables to 0 latest v
   pub covers : AllCover (placed_in to tables)
   pub placed : PutBetween ids tables to latest.levels v.levels
 

@@ -5,7 +5,8 @@ use Rattle.std.proofs.lemmas.Bool.Decides.{nat_tests}
 use Rattle.lsm_below.specs.Keys.{Bytes}
 use Rattle.lsm_model.specs.declared.op.Op.{Op}
 use Rattle.lsm_below.specs.declared.error.Error.TheVariants.{OutOfNumbers, KeyTooLong, ValueTooLong, DuplicateKey}
-use Rattle.lsm_state.specs.Refusals.{is_great, is_long_key, is_long_value, op_value, repeats, keys_of, batch_refusal}
+use Rattle.lsm_model.specs.Ops.{op_value, repeats, keys_of}
+use Rattle.lsm_state.specs.Refusals.{is_great, is_long_key, is_long_value, batch_refusal}
 
 module _ (n : ℕ) (ops : List (Bytes × Op)) where
   below : n < 9223372036854775808 → is_great n ≡ false

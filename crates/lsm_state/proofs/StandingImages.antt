@@ -30,14 +30,18 @@ first_levels = named_levels empty_levels
 first_reads : IsVersionFile first_levels first_file
 unfolding IsDistinct
 first_reads = record {
-  version = codes "3.1.10";
-  is = record {
-    version_fits = lit< tt;
-    layout_fits = lit< tt;
-    laid_out = record { count = refl; each = (record { count = lit< tt; each = tt }, (record { count = lit< tt; each = tt }, (record { count = lit< tt; each = tt }, (record { count = lit< tt; each = tt }, (record { count = lit< tt; each = tt }, (record { count = lit< tt; each = tt }, (record { count = lit< tt; each = tt }, tt))))))) };
-    distinct = tt;
+  from = Some 0;
+  file = record {
+    version = codes "3.1.10";
+    from_fits = lit< tt;
+    is = record {
+      version_fits = lit< tt;
+      layout_fits = lit< tt;
+      laid_out = record { count = refl; each = (record { count = lit< tt; each = tt }, (record { count = lit< tt; each = tt }, (record { count = lit< tt; each = tt }, (record { count = lit< tt; each = tt }, (record { count = lit< tt; each = tt }, (record { count = lit< tt; each = tt }, (record { count = lit< tt; each = tt }, tt))))))) };
+      distinct = tt;
+    };
+    spelling = refl;
   };
-  spelling = refl;
 }
 
 first_stands : (image : Image) → image current_name ≡ Some (naming 0 first_file) → image (version_name 0) ≡ Some first_file → HasGoodNames image → StandsFor image 0 first_levels empty_levels

@@ -31,7 +31,7 @@ among_right [] ys = among_self ys
 among_right (x ∷ xs) ys = others ys x (xs ++ ys) (among_right xs ys)
 
 pub leaves_more : (w w' : World) (some all : List SeenVersion) → AreAmong some all → Leaves w w' some → Leaves w w' all
-leaves_more w w' some all among leaves = weakened w w' (HoldsOneOf some) (HoldsOneOf all) leaves (λ image one. (one.0, each_in (λ v. IsIn v all) some one.0 among one.1, one.2))
+leaves_more w w' some all among leaves = weakened w w' (HoldsOneOf some) (HoldsOneOf all) leaves (λ image one. (one.0, each_in (λ v. IsIn v all) some one.0 among one.1, one.2, one.3))
 
 -- ---- calls
 

@@ -20,9 +20,10 @@ use Rattle.lsm_state.specs.CompactionReads.{SparesReads, IsAny, AreSparedBy}
 
 -- ---- the call
 
--- a super version without entries: a new active memtable, no sealed ones, and the next version, without tables
+-- a super version without entries: a new active memtable, no sealed ones, and the next version, without tables, from whose
+-- number on a log is read
 abbrev pub cleared_in : Core → SuperVersion
-cleared_in c = record { active_memtable = c.next_memtable; sealed_memtables = []; version = record { id = c.history.latest.version.id + 1; levels = empty_levels }; seqno = c.seqno }
+cleared_in c = record { active_memtable = c.next_memtable; sealed_memtables = []; version = record { id = c.history.latest.version.id + 1; log_from = c.seqno; levels = empty_levels }; seqno = c.seqno }
 
 -- the tree after a clear: older super versions, an open flush and open merges stay
 abbrev pub cleared : Core → Core

@@ -90,7 +90,7 @@ pub record IsMovedTo (input : Input) (latest made : SeenVersion) : Type 0 where
 
 -- the version that a drop makes: the tables are gone
 pub record IsDroppedFrom (ids : List ℕ) (latest made : SeenVersion) : Type 0 where
-  pub next : IsNext ids [] 0 latest made
+  pub next : IsNext ids [] 0 0 latest made
   pub placed : IsRearranged (left_of (among ids) (placed_of latest.levels)) (placed_of made.levels)
   pub laid : IsLaidOut (placed_of made.levels)
   pub own_ids : HasOwnIds (all_of made.levels)
@@ -174,7 +174,7 @@ pub record HoldsMerged (job : SeenCompaction) (run : List SeenTable) : Type 0 wh
 pub record IsMergedInto (job : SeenCompaction) (latest made : SeenVersion) : Type 0 where
   pub run : List SeenTable
   pub holds : HoldsMerged job run
-  pub next : IsNext job.ids run job.settings.dest_level latest made
+  pub next : IsNext job.ids run job.settings.dest_level 0 latest made
   pub allowed : IsAllowed job.settings.dest_level (among job.ids) (evicts job.settings) (placed_of latest.levels)
   pub same : HoldSame (tables_of job.inputs) job.ids latest.levels
   pub covers : AllCover (placed_in job.settings.dest_level run)

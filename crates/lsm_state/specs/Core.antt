@@ -1,5 +1,5 @@
 -- What callers see of a tree, and how the theory sees it.
-use Rattle.std.specs.Prelude.{ℕ, ◌+◌, max, List, [], ◌∷◌, ◌++◌, map, reverse, Option, Some, None, option_to_list}
+use Rattle.std.specs.Prelude.{ℕ, ◌+◌, max, List, [], ◌∷◌, map, reverse, Option, Some, None, option_to_list}
 use Rattle.lsm_below.specs.Entries.{Entry}
 use Rattle.lsm_model.specs.Journal.{Event}
 use Rattle.lsm_model.specs.Views.{SuperVersion as Shown}
@@ -74,7 +74,7 @@ opened_core config version next_table = record { config = config; memtables = ne
 
 -- a new tree: one empty memtable, and a version without tables
 abbrev pub fresh_core : Config → Core
-fresh_core config = opened_core config (record { id = 0; levels = empty_levels }) 0
+fresh_core config = opened_core config (record { id = 0; log_from = 0; levels = empty_levels }) 0
 
 -- ---- a tree that is written to
 

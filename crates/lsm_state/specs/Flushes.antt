@@ -12,7 +12,7 @@ use Rattle.lsm_below.specs.Runs.{IsRun}
 use Rattle.lsm_versions.specs.Levels.{range, placed_in, placed_of, IsNext, HasOwnIds, all_of}
 use Rattle.lsm_versions.specs.Refusals.{IsRefusedFor}
 use Rattle.lsm_files.specs.Writing.{HoldEntries}
-use Rattle.lsm_jobs.specs.Jobs.{SeenJob, SeenMerged, SeenWritten, SeenOpen}
+use Rattle.lsm_jobs.specs.Jobs.{SeenJob, SeenMerged, SeenWritten, SeenOpen, passed_by}
 use Rattle.lsm_jobs.specs.declared.jobs.Registered.{Registered}
 use Rattle.lsm_parts.specs.declared.version.super_version.SuperVersion.{SuperVersion}
 use Rattle.lsm_parts.specs.Versions.{IsLaid}
@@ -101,7 +101,7 @@ pub record IsFlushedOf (job : SeenWritten) (number : ℕ) (latest next : SuperVe
   pub seqno : next.seqno ≡ number
   pub active : next.active_memtable ≡ latest.active_memtable
   pub sealed : next.sealed_memtables ≡ drop (length job.job.ids) latest.sealed_memtables
-  pub version : IsNext [] job.tables 0 latest.version next.version
+  pub version : IsNext [] job.tables 0 (passed_by job.job.sources) latest.version next.version
   pub covers : AllCover (placed_in 0 job.tables)
   pub placed : IsRearranged (placed_in 0 job.tables ++ placed_of latest.version.levels) (placed_of next.version.levels)
   pub laid : IsLaid next.version

@@ -1,10 +1,10 @@
 -- Why a write is refused, whatever the memory: the first of these reasons that holds.
-use Rattle.std.specs.Prelude.{ℕ, Bool, false, ◌||◌, List, [], ◌∷◌, length, map, Option, Some, None, if◌then◌else◌, nat_lt, nat_le}
+use Rattle.std.specs.Prelude.{ℕ, Bool, List, length, Option, Some, None, if◌then◌else◌, nat_lt, nat_le}
 use Rattle.std.specs.List.{list_any}
-use Rattle.lsm_below.specs.Keys.{Bytes, is_same}
+use Rattle.lsm_below.specs.Keys.{Bytes}
 use Rattle.lsm_below.specs.Entries.{Entry}
 use Rattle.lsm_model.specs.declared.op.Op.{Op}
-use Rattle.lsm_model.specs.declared.op.Op.TheVariants.{Set, Del, Weak}
+use Rattle.lsm_model.specs.Ops.{op_value, repeats, keys_of}
 use Rattle.lsm_below.specs.declared.error.Error.{Error}
 use Rattle.lsm_below.specs.declared.error.Error.TheVariants.{OutOfNumbers, KeyTooLong, ValueTooLong, NumberTooGreat, DuplicateKey}
 
@@ -26,21 +26,6 @@ entry_refusal e =
     if is_long_key e.key.user_key then Some KeyTooLong
     else (if is_long_value e.value then Some ValueTooLong
     else (if is_great e.key.seqno then Some NumberTooGreat else None))
-
--- the value that a write sets: none where it removes
-abbrev pub op_value : Op → Bytes
-op_value (Set value) = value
-op_value Del = []
-op_value Weak = []
-
--- does a key come twice?
-abbrev pub repeats : List Bytes → Bool
-repeats [] = false
-repeats (k ∷ ks) = list_any (is_same k) ks || repeats ks
-
--- the keys of a batch
-abbrev pub keys_of : List (Bytes × Op) → List Bytes
-keys_of ops = map (λ p. p.0) ops
 
 -- why a batch is refused, under the sequence number that it would draw
 abbrev pub batch_refusal : ℕ → List (Bytes × Op) → Option Error

@@ -11,7 +11,8 @@ use lsm_parts::{Error, LIMIT, SealedMemtables, SuperVersion, Version};
 use lsm_store::Store;
 
 impl<S: Store> TreeState<S> {
-    /// A super version without entries: a new active memtable, no sealed ones, and the next version, without tables.
+    /// A super version without entries: a new active memtable, no sealed ones, and the next version, without tables, from
+    /// whose number on a log is read.
     fn cleared_version(&self) -> Result<SuperVersion, Error>
         ensures ok { IfOk result (λ next. next ≡ cleared_in self.now.core) }
         ensures number { IfOk result (λ _. self.now.core.next_memtable < LIMIT) }
@@ -23,11 +24,13 @@ impl<S: Store> TreeState<S> {
         if active_memtable >= LIMIT || id == u64::MAX {
             return Err(Error::OutOfNumbers);
         }
+        // The number that the commit will draw: nothing draws one in between.
+        let number = self.seqno.get();
         Ok(SuperVersion {
             active_memtable,
             sealed_memtables: SealedMemtables::new(self.alloc),
-            version: Version::new(self.alloc, id + 1),
-            seqno: self.seqno.get(),
+            version: Version::new(self.alloc, id + 1).with_log_from(number),
+            seqno: number,
         })
     }
 

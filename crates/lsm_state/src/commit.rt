@@ -1,18 +1,21 @@
 // How a super version becomes the latest one, and what is cleaned up behind it.
-ghost use Rattle.std.specs.Prelude.{◌≡◌, ◌≤◌, ◌<◌, length, None, Some, IfSome, is_some, true};
+ghost use Rattle.std.specs.Prelude.{◌≡◌, ◌≤◌, ◌<◌, ◌⊎◌, length, None, Some, IfSome, is_some, true, IsErrOf};
 ghost use Rattle.lsm_versions.specs.Levels.{all_of};
+ghost use Rattle.lsm_manifest.specs.Spelling.{IsFileFrom};
+ghost use Rattle.lsm_manifest.specs.Versions.{file_of, named_levels};
 ghost use Rattle.lsm_files.specs.Stored.{AreOnDisk, CountsFaults};
 ghost use Rattle.lsm_parts.specs.History.{versions_of};
 ghost use Rattle.lsm_parts.specs.Maintenance.{AreGone};
 ghost use Rattle.lsm_state.specs.Kept.{least_named, KeepsIds, KeepsTables};
 ghost use Rattle.lsm_state.specs.Held.{HasFirst};
-ghost use Rattle.lsm_state.specs.Commits.{fronted, next_id, fresh_in, Commits, Upholds};
+ghost use Rattle.lsm_state.specs.Commits.{counted, fronted, next_id, fresh_in, Commits, Upholds};
 ghost use Rattle.lsm_state.specs.Cleaning.{Cleans};
 
 use crate::sealed::Room;
 use crate::{Memtables, TreeState};
 use lsm_below::{MemtableId, SeqNo};
 use lsm_files::{commit_version, crashes_leave_versions};
+use lsm_manifest::encode_version;
 use lsm_parts::{Error, LIMIT, SequenceNumberCounter, SuperVersion, SuperVersions, Version};
 use lsm_store::Store;
 use std::alloc::Global;
@@ -66,9 +69,9 @@ impl<S: Store> TreeState<S> {
     ///
     /// # Errors
     ///
-    /// `OutOfNumbers` where the counter stands at 2^63 or above. `OutOfMemory` where a growth was refused, `Store` where
-    /// the version's file wasn't written, `CommitUnknown` where replacing `current` failed: nothing is installed, but the
-    /// number may be used.
+    /// `OutOfNumbers` where the counter stands at 2^63 or above, `OutOfMemory` where a growth was refused: nothing changes.
+    /// `OutOfMemory` where the store was refused one, `Store` where the version's file wasn't written, `CommitUnknown` where
+    /// replacing `current` failed: nothing is installed, but the number is used.
     pub(crate) fn commit(&mut self, next: SuperVersion, room: Option<Room>) -> Result<(), Error>
         requires number { next.seqno ≡ self.old.core.seqno }
         requires later { self.old.core.history.latest.version.id < next.version.id }
@@ -78,18 +81,48 @@ impl<S: Store> TreeState<S> {
         requires ids { KeepsIds (fresh_in (is_some room) self.old.core).memtables (record { latest = next; older = versions_of self.old.core.history }) (fresh_in (is_some room) self.old.core).next_memtable }
         requires tables { KeepsTables self.old.core.flush (record { latest = next; older = versions_of self.old.core.history }) self.old.core.next_table }
         ensures commits { Commits (is_some room) next result self.old.core self.new.core }
+        // Refused for memory before a store call, it changes nothing.
+        ensures memory { IsErrOf result Error.OutOfMemory → (self.new ≡ self.old) ⊎ (self.new.core ≡ counted self.old.core) }
+        ensures upholds { S.tells → AreOnDisk (S.world self.old.store) (all_of next.version.levels) → Upholds (S.world self.old.store) (S.world self.new.store) self.old.core self.new.core }
+        ensures counts { CountsFaults (S.world self.old.store) (S.world self.new.store) result }
+    {
+        crashes_leave_versions(&self.store);
+        if self.seqno.get() >= LIMIT {
+            return Err(Error::OutOfNumbers);
+        }
+        // All growths come before the number is drawn, that of the version's file too.
+        let file = encode_version(self.alloc, &next.version)?;
+        self.commit_encoded(next, &file, room)
+    }
+
+    /// `commit`, of a version whose file has these bytes.
+    fn commit_encoded(
+        &mut self,
+        next: SuperVersion,
+        file: &[u8],
+        room: Option<Room>,
+    ) -> Result<(), Error>
+        requires number { next.seqno ≡ self.old.core.seqno }
+        requires small { self.old.core.seqno < LIMIT }
+        requires later { self.old.core.history.latest.version.id < next.version.id }
+        requires certain { self.old.core.lost ≡ None }
+        requires room { IfSome room (λ r. length self.old.core.memtables ≤ r) }
+        requires fresh { IfSome room (λ _. self.old.core.next_memtable < LIMIT) }
+        requires ids { KeepsIds (fresh_in (is_some room) self.old.core).memtables (record { latest = next; older = versions_of self.old.core.history }) (fresh_in (is_some room) self.old.core).next_memtable }
+        requires tables { KeepsTables self.old.core.flush (record { latest = next; older = versions_of self.old.core.history }) self.old.core.next_table }
+        requires spelling { file.now ≡ file_of next.version }
+        requires reads { IsFileFrom (Some next.version.log_from) (named_levels next.version.levels) file.now }
+        ensures commits { Commits (is_some room) next result self.old.core self.new.core }
+        ensures memory { IsErrOf result Error.OutOfMemory → (self.new ≡ self.old) ⊎ (self.new.core ≡ counted self.old.core) }
         ensures upholds { S.tells → AreOnDisk (S.world self.old.store) (all_of next.version.levels) → Upholds (S.world self.old.store) (S.world self.new.store) self.old.core self.new.core }
         ensures counts { CountsFaults (S.world self.old.store) (S.world self.new.store) result }
     {
         crashes_leave_versions(&self.store);
         let number = self.seqno.get();
-        if number >= LIMIT {
-            return Err(Error::OutOfNumbers);
-        }
         self.history.append_version(next)?;
         self.seqno.set(number + 1);
         let version = &self.history.latest_version().version;
-        match commit_version(self.alloc, &mut self.store, version) {
+        match commit_version(&mut self.store, version, file) {
             Ok(()) => {
                 self.visible_seqno.fetch_max(number + 1);
                 let next = &mut self.next_memtable;

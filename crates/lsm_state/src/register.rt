@@ -94,7 +94,9 @@ fn flushed_version(
     changes_keep_tables();
     latest.version.facts();
     let tables = job.tables();
-    let version = latest.version.with_new_l0_run(alloc, tables)?;
+    let version = latest
+        .version
+        .with_new_l0_run(alloc, tables, job.job().passed())?;
     version.facts();
     Ok(SuperVersion {
         active_memtable: latest.active_memtable,

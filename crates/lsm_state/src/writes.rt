@@ -3,19 +3,18 @@ ghost use Rattle.std.specs.Prelude.{◌≡◌, ◌<◌, ◌⊎◌, Some, None, I
 ghost use Rattle.std.specs.List.{AllByRecursion, list_any};
 ghost use Rattle.lsm_below.specs.Entries.{plain};
 ghost use Rattle.lsm_tables.specs.Image.{Fits};
-ghost use Rattle.lsm_model.specs.Ops.{op_entry, op_entries};
-ghost use Rattle.lsm_state.specs.Refusals.{entry_refusal, batch_refusal, is_long_key, is_long_value, op_value, repeats, keys_of};
+ghost use Rattle.lsm_model.specs.Ops.{op_entry, op_entries, op_value, repeats, keys_of};
+ghost use Rattle.lsm_state.specs.Refusals.{entry_refusal, batch_refusal, is_long_key, is_long_value};
 ghost use Rattle.lsm_model.specs.declared.op.Op.TheVariants.{Set, Del, Weak};
 ghost use Rattle.lsm_state.specs.Held.{put_all_first};
 ghost use Rattle.lsm_state.specs.Calls.{Appends, WritesBatch};
 
 use crate::{Memtables, TreeState};
 use lsm_below::{InternalValue, MAX_KEY_LEN, MAX_VALUE_LEN, SeqNo, UserKey, UserValue};
-use lsm_model::Op;
+use lsm_model::{Op, has_repeats};
 use lsm_parts::{Error, LIMIT};
 use lsm_store::Store;
 use std::alloc::{AllocError, Global};
-use std::collections::BTreeSet;
 
 fn is_key_too_long(key: &UserKey) -> bool
     ensures { result ≡ is_long_key key.now }
@@ -59,23 +58,6 @@ fn has_long_value(ops: &[(UserKey, Op)]) -> bool
     ensures { result ≡ list_any (λ p. is_long_value (op_value p.1)) ops.now }
 {
     ops.iter().any(|op| is_value_too_long(&op.1))
-}
-
-/// Whether a key comes twice.
-fn has_repeats(alloc: Global, ops: &[(UserKey, Op)]) -> Result<bool, AllocError>
-    ensures { IfOk result (λ b. b ≡ repeats (keys_of ops.now)) }
-{
-    if ops.len() < 2 {
-        return Ok(false);
-    }
-    let mut seen = BTreeSet::new(alloc);
-    for (key, _) in ops {
-        let is_new = seen.insert(key.as_slice())?;
-        if !is_new {
-            return Ok(true);
-        }
-    }
-    Ok(false)
 }
 
 /// Why a batch is refused under a sequence number.

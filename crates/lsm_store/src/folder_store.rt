@@ -5,7 +5,7 @@ ghost use Rattle.lsm_store.specs.NoWorld.{untold};
 ghost use Rattle.lsm_store.specs.World.{Counts};
 
 use crate::{Store, StoreError};
-use disk::{TABLES, join};
+use disk::{SUBFOLDERS, join};
 use std::alloc::{AllocError, Global};
 use std::fs::{File, Files};
 use std::io::{self, ErrorKind};
@@ -21,8 +21,8 @@ const FRESH: &str = "replace.new";
 /// The bytes for which a path has room beside its folder, so that a removal takes no memory.
 const NAME_ROOM: usize = 64;
 
-/// A folder of the file system and its subfolder `tables`, as a store: `tables/7` is the file `7` of the subfolder,
-/// any other name is that of a file in the folder itself.
+/// A folder of the file system and its subfolders `tables` and `log`, as a store: `tables/7` is the file `7` of the one,
+/// `log/7` that of the other, any other name is that of a file in the folder itself.
 ///
 /// A folder has one owner: the store locks the folder's file `lock` as long as it lives, and a second one is refused. The
 /// system gives the lock back where a process is killed. `lock` is no name of the store.
@@ -63,17 +63,19 @@ pub struct FolderStore<R: Files<File = File> + Alloc + Clone + Drop> {
     ghost told: { IsSome last_fault ↔ (1 ≤ failures) },
 }
 
-/// Whether a name is that of a file in the subfolder.
-fn is_in_tables(name: &str) -> bool {
-    match name.split_once('/') {
-        Some((folder, _)) => folder == TABLES,
-        None => false,
+/// The subfolder that a name's file is in. None where it is in the folder itself.
+fn subfolder_of(name: &str) -> Option<&str> {
+    let (folder, _) = name.split_once('/')?;
+    if SUBFOLDERS.contains(&folder) {
+        Some(folder)
+    } else {
+        None
     }
 }
 
 impl<R: Files<File = File> + Alloc + Clone + Drop> FolderStore<R> {
-    /// The store of a folder. The folder and its subfolder `tables` are made where they are absent, and each folder on the
-    /// way there, and what is made outlives a crash.
+    /// The store of a folder. The folder and its subfolders are made where they are absent, and each folder on the way
+    /// there, and what is made outlives a crash.
     ///
     /// # Errors
     ///
@@ -129,10 +131,9 @@ impl<R: Files<File = File> + Alloc + Clone + Drop> FolderStore<R> {
     /// The folder in which a name's file is.
     fn folder_of(&self, name: &str) -> Result<String, AllocError> {
         let alloc = *self.root.allocator();
-        if is_in_tables(name) {
-            join(alloc, self.root.as_str(), TABLES)
-        } else {
-            String::from_str(alloc, self.root.as_str())
+        match subfolder_of(name) {
+            Some(folder) => join(alloc, self.root.as_str(), folder),
+            None => String::from_str(alloc, self.root.as_str()),
         }
     }
 

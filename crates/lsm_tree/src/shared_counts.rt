@@ -1,5 +1,5 @@
 // What is counted and told of a tree behind the lock.
-ghost use Rattle.std.specs.Prelude.{◌≡◌, ◌+◌, ◌++◌, [], length, slice_get, slice_index_or, option_map};
+ghost use Rattle.std.specs.Prelude.{◌≡◌, ◌+◌, ◌++◌, [], IfErr, IfOk, length, slice_get, slice_index_or, option_map};
 ghost use Rattle.lsm_below.specs.Optimizes.{tables_of};
 ghost use Rattle.lsm_below.specs.Sums.{capped};
 ghost use Rattle.lsm_tables.specs.Tables.{tombstones, weak_tombstones, reclaimable};
@@ -11,10 +11,11 @@ ghost use Rattle.lsm_state.specs.Counts.{tables_now, persisted_of, unflushed_of,
 ghost use Rattle.lsm_tree.specs.Shared.{AtSomeTree};
 
 use crate::handle::Handle;
-use lsm_below::{SeqNo, TableId, TreeId};
+use lsm_below::{Error, SeqNo, TableId, TreeId};
 use lsm_state::TreeState;
 use lsm_store::Store;
-use lsm_versions::TreeType;
+use lsm_versions::{TreeType, Version};
+use std::alloc::Global;
 use std::sync::Wait;
 
 /// What the calls of the same names of `TreeState` count and tell, of the tree as the lock finds it. Two such calls may find two
@@ -35,6 +36,22 @@ impl<S: Store> Handle<TreeState<S>> {
         ensures { result ≡ Standard }
     {
         self.shared.lock(rt).tree_type()
+    }
+
+    /// The latest version: a copy, which shares its tables. Its `log_from` is the number from which a log above the tree is
+    /// read. The cost is linear in the tables.
+    ///
+    /// # Errors
+    ///
+    /// `OutOfMemory` where a growth was refused.
+    pub fn current_version(&self, rt: &impl Wait, alloc: Global) -> Result<Version, Error>
+        ensures copy { IfOk result (λ v. AtSomeTree (λ c. v ≡ c.history.latest.version)) }
+        ensures memory { IfErr result (λ e. e ≡ Error.OutOfMemory) }
+    {
+        let tree = self.shared.lock(rt);
+        let tree = &*tree;
+        tree.facts();
+        Ok(tree.current_version().copy(alloc)?)
     }
 
     /// The id that the next table gets.

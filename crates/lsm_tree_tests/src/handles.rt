@@ -5,7 +5,7 @@
 use crate::samples::{open_recorded, open_state, text};
 use lsm_tree::{
     Config, Error, Guard, Handle, InternalValue, IterGuard, MemStore, Op, Pass, RecordedTree, Tree,
-    TreeIter, TreeState, TreeType,
+    TreeIter, TreeState, TreeType, Version,
 };
 use std::alloc::Global;
 use std::ops::Bound;
@@ -400,8 +400,13 @@ fn open_named(alloc: Global, id: u64) -> Result<Tree, Error> {
 }
 
 fn record_named(alloc: Global, id: u64) -> Result<RecordedTree, Error> {
-    let core = open_recorded(alloc, Config::new(id, 0, 0))?;
+    let core = open_recorded(alloc, Config::new(id, 3, 3))?;
     Ok(Handle::new(alloc, core)?)
+}
+
+/// A version's id, and the number from which a log is read.
+fn told(version: &Version) -> (u64, u64) {
+    (version.id(), version.log_from())
 }
 
 #[test]
@@ -412,7 +417,9 @@ fn a_shared_tree_tells_of_itself(rt: HostRuntime) -> Result<(), Fail> {
     assert_eq!(rt; tree.next_table_id(&rt), 0);
     assert!(rt; matches!(tree.get_next_table_id(&rt), Ok(0)));
     assert_eq!(rt; tree.next_table_id(&rt), 1);
+    let version = tree.current_version(&rt, rt.alloc());
     drop(tree);
+    assert_eq!(rt; told(&version?), (0, 0));
     Ok(())
 }
 
@@ -422,6 +429,11 @@ fn a_recorded_tree_tells_of_itself(rt: HostRuntime) -> Result<(), Fail> {
     assert_eq!(rt; tree.id(&rt), 6);
     assert_eq!(rt; tree.tree_type(&rt), TreeType::Standard);
     assert_eq!(rt; tree.next_table_id(&rt), 0);
+    let mut pass = Pass::new(rt.alloc());
+    let cleared = tree.clear(&rt, &mut pass);
+    let version = tree.current_version(&rt, rt.alloc());
     drop(tree);
+    cleared?;
+    assert_eq!(rt; told(&version?), (1, 3));
     Ok(())
 }

@@ -4,7 +4,8 @@
 // of a block to all its pieces, and does so once more for each `?` before it.
 use crate::samples::{open_recorded, text};
 use lsm_tree::{
-    Config, Error, Guard, InternalValue, IterGuard, Op, Pass, Recorded, SeqNo, TreeIter,
+    Config, Error, Guard, InternalValue, IterGuard, Op, Pairs, Pass, Recorded, SeqNo, TreeIter,
+    UserKey, UserValue,
 };
 use std::alloc::Global;
 use std::ops::Bound;
@@ -194,9 +195,32 @@ fn gives_two(iter: Result<TreeIter, Error>) -> bool {
     }
 }
 
+/// Whether a pair of this key is lent.
+fn is_of_key(pair: Option<(&UserKey, &UserValue)>, name: &[u8]) -> bool {
+    match pair {
+        Some((key, _)) => key.as_slice() == name,
+        None => false,
+    }
+}
+
+/// Whether the keys `a` and `ab` alone are lent, the greater first.
+fn lends_two(pairs: Result<Pairs<'_>, Error>) -> bool {
+    match pairs {
+        Ok(mut pairs) => {
+            is_of_key(pairs.next_back(), b"ab")
+                && is_of_key(pairs.next_back(), b"a")
+                && pairs.next_back().is_none()
+        }
+        Err(_) => false,
+    }
+}
+
 fn lends(tree: &Recorded) -> bool {
     let bounds = (Bound::Included(text("a")), Bound::Excluded(text("b")));
-    gives_two(tree.create_range(&bounds, 3)) && gives_two(tree.create_prefix(&text("a"), 3))
+    gives_two(tree.create_range(&bounds, 3))
+        && gives_two(tree.create_prefix(&text("a"), 3))
+        && lends_two(tree.pairs(&bounds, 3))
+        && lends_two(tree.pairs_with_prefix(&text("a"), 3))
 }
 
 #[test]

@@ -45,16 +45,17 @@ pub const DEFAULT_LEVEL_COUNT: u8 = 7;
 /// The same, as a length.
 const LEVELS: usize = DEFAULT_LEVEL_COUNT as usize;
 
-/// Seven levels of runs of tables, with an id.
+/// Seven levels of runs of tables, with an id, and the sequence number from which a log above the tree is read.
 ///
 /// Tables are shared between versions: a next version copies none of their entries.
 ///
 /// ```text
-/// let next = version.with_new_l0_run(alloc, &tables)?;
+/// let next = version.with_new_l0_run(alloc, &tables, from)?;
 /// ```
 #[derive(Drop)]
 pub struct Version {
     id: VersionId,
+    log_from: SeqNo,
     levels: [Level; LEVELS],
     totals: Totals,
 }
@@ -65,7 +66,7 @@ impl Model for Version {
 
     ghost Value = { SeenVersion };
 
-    ghost view = { λ v. record { id = v.id; levels = v.levels } };
+    ghost view = { λ v. record { id = v.id; log_from = v.log_from; levels = v.levels } };
 
     ghost invariant = { λ v. IsKeptVersion v.levels v.totals };
 }
@@ -127,12 +128,13 @@ fn seven(levels: Vec<Level>) -> [Level; LEVELS]
 }
 
 impl Version {
-    /// A version of no tables. It takes no memory.
+    /// A version of no tables, whose log is read from 0 on. It takes no memory.
     pub fn new(alloc: Global, id: VersionId) -> Version
-        ensures { result ≡ record { id = id; levels = empty_levels } }
+        ensures { result ≡ record { id = id; log_from = 0; levels = empty_levels } }
     {
         Version {
             id,
+            log_from: 0,
             levels: [
                 Level::empty(alloc),
                 Level::empty(alloc),
@@ -153,17 +155,39 @@ impl Version {
         self.id
     }
 
-    /// A version of seven levels of at most 255 runs, each of fewer than 2^32 tables, no two of one id.
+    /// The sequence number from which a log above the tree is read: the tables have what is written below it, or it is
+    /// cleared.
+    pub fn log_from(&self) -> SeqNo
+        ensures { result ≡ self.now.log_from }
+    {
+        self.log_from
+    }
+
+    /// The same version, whose log is read from another number on.
+    pub fn with_log_from(self, log_from: SeqNo) -> Version
+        ensures { result ≡ record self { log_from = log_from } }
+    {
+        Version {
+            id: self.id,
+            log_from,
+            levels: self.levels,
+            totals: self.totals,
+        }
+    }
+
+    /// A version of seven levels of at most 255 runs, each of fewer than 2^32 tables, no two of one id, whose log is read
+    /// from 0 on.
     pub fn from_levels(id: VersionId, levels: Vec<Level>) -> Version
         requires seven { length levels.items ≡ 7 }
         requires fits { fits levels.items ≡ true }
         requires own_ids { HasOwnIds (all_of levels.items) }
-        ensures { result ≡ record { id = id; levels = levels.items } }
+        ensures { result ≡ record { id = id; log_from = 0; levels = levels.items } }
     {
         see_levels(&levels);
         let totals = totals_in(&levels);
         Version {
             id,
+            log_from: 0,
             levels: seven(levels),
             totals,
         }
@@ -264,23 +288,26 @@ impl Version {
         }
         Ok(Version {
             id: self.id,
+            log_from: self.log_from,
             levels: seven(levels),
             totals: self.totals,
         })
     }
 
-    /// The next version: the tables of these ids go, and a run comes to the front of a level.
+    /// The next version: the tables of these ids go, a run comes to the front of a level, and the log is read from this
+    /// number on at least.
     fn changed(
         &self,
         alloc: Global,
         ids: &HashSet<TableId>,
         front: &[Table],
         to: usize,
+        from: SeqNo,
     ) -> Result<Version, Error>
         requires run { IsRun range front.now }
         requires level { to < 7 }
         requires own_ids { HasOwnIds (front.now ++ left_in ids.now.keys (all_of self.now.levels)) }
-        ensures ok { IfOk result (IsNext ids.now.keys front.now to self.now) }
+        ensures ok { IfOk result (IsNext ids.now.keys front.now to from self.now) }
         ensures numbers { IfOk result (λ _. self.now.id < 2 ^ 64 - 1) }
         ensures err { IfErr result (IsRefusedFor ids.now.keys front.now to self.now) }
     {
@@ -298,14 +325,21 @@ impl Version {
         if !levels_fit(&levels) {
             return Err(Error::TooManyRuns);
         }
-        Ok(Version::from_levels(id + 1, levels))
+        let log_from = self.log_from().max(from);
+        Ok(Version::from_levels(id + 1, levels).with_log_from(log_from))
     }
 
-    /// The next version with a new run before those of the first level.
-    pub fn with_new_l0_run(&self, alloc: Global, tables: &[Table]) -> Result<Version, Error>
+    /// The next version with a new run before those of the first level, whose log is read from this number on, or from
+    /// the old one's number where that is greater.
+    pub fn with_new_l0_run(
+        &self,
+        alloc: Global,
+        tables: &[Table],
+        from: SeqNo,
+    ) -> Result<Version, Error>
         requires run { IsRun range tables.now }
         requires new { AreNew tables.now self.now.levels }
-        ensures ok { IfOk result (IsNext [] tables.now 0 self.now) }
+        ensures ok { IfOk result (IsNext [] tables.now 0 from self.now) }
         ensures covers { IfOk result (λ _. AllCover (placed_in 0 tables.now)) }
         ensures placed { IfOk result (λ v. IsRearranged (placed_in 0 tables.now ++ placed_of self.now.levels) (placed_of v.levels)) }
         ensures laid { IfOk result (λ v. IsLaidOut (placed_of v.levels)) }
@@ -314,7 +348,7 @@ impl Version {
     {
         self.facts();
         let none = HashSet::new(alloc);
-        let next = self.changed(alloc, &none, tables, 0)?;
+        let next = self.changed(alloc, &none, tables, 0, from)?;
         see_run(tables);
         next.facts();
         Ok(next)
@@ -322,14 +356,14 @@ impl Version {
 
     /// The next version without these tables.
     pub fn with_dropped(&self, alloc: Global, ids: &HashSet<TableId>) -> Result<Version, Error>
-        ensures ok { IfOk result (IsNext ids.now.keys [] 0 self.now) }
+        ensures ok { IfOk result (IsNext ids.now.keys [] 0 0 self.now) }
         ensures placed { IfOk result (λ v. IsRearranged (left_of (among ids.now.keys) (placed_of self.now.levels)) (placed_of v.levels)) }
         ensures laid { IfOk result (λ v. IsLaidOut (placed_of v.levels)) }
         ensures numbers { IfOk result (λ _. self.now.id < 2 ^ 64 - 1) }
         ensures err { IfErr result (IsRefusedFor ids.now.keys [] 0 self.now) }
     {
         self.facts();
-        let next = self.changed(alloc, ids, &[], 0)?;
+        let next = self.changed(alloc, ids, &[], 0, 0)?;
         next.facts();
         Ok(next)
     }
@@ -345,7 +379,7 @@ impl Version {
         requires run { IsRun range tables.now }
         requires new { AreNew tables.now self.now.levels }
         requires level { to < 7 }
-        ensures ok { IfOk result (IsNext ids.now.keys tables.now to self.now) }
+        ensures ok { IfOk result (IsNext ids.now.keys tables.now to 0 self.now) }
         ensures covers { IfOk result (λ _. AllCover (placed_in to tables.now)) }
         ensures placed { IfOk result (λ v. PutBetween ids.now.keys tables.now to self.now.levels v.levels) }
         ensures laid { IfOk result (λ v. IsLaidOut (placed_of v.levels)) }
@@ -353,7 +387,7 @@ impl Version {
         ensures err { IfErr result (IsRefusedFor ids.now.keys tables.now to self.now) }
     {
         self.facts();
-        let next = self.changed(alloc, ids, tables, to)?;
+        let next = self.changed(alloc, ids, tables, to, 0)?;
         see_run(tables);
         next.facts();
         Ok(next)
@@ -377,7 +411,7 @@ impl Version {
         tables_are_placed();
         let chosen = chosen_runs(alloc, ids, self.levels())?;
         let run = one_run(alloc, chosen)?;
-        let next = self.changed(alloc, ids, &run, to)?;
+        let next = self.changed(alloc, ids, &run, to, 0)?;
         next.facts();
         see_run(&run);
         Ok(next)

@@ -63,7 +63,7 @@ fn with_table(
     assert!(rt; own);
     let next = match place {
         Some(_) => version.with_merge(alloc, &ids, &tables, to),
-        None => version.with_new_l0_run(alloc, &tables),
+        None => version.with_new_l0_run(alloc, &tables, 0),
     };
     drop(tables);
     Ok(next)

@@ -14,7 +14,7 @@ ghost use Rattle.lsm_manifest.specs.Pinned.{IsPinned};
 ghost use Rattle.lsm_manifest.specs.Names.{current_name};
 ghost use Rattle.lsm_manifest.specs.Told.{Told, TellsOpen};
 ghost use Rattle.lsm_manifest.specs.OpeningWith.{OpensWith, IsUnrecoverable};
-ghost use Rattle.lsm_manifest.specs.Opening.{OpensNew, OpensAs, IsOlder, IsAbove, KeepsFiles};
+ghost use Rattle.lsm_manifest.specs.Opening.{OpensNew, OpensAs, IsOlder, IsAbove, KeepsFiles, ReadsFrom};
 ghost use Rattle.lsm_manifest.specs.Persist.{IsOldOrNew};
 ghost use Rattle.lsm_manifest.specs.Versions.{file_of, first_version};
 ghost use Rattle.lsm_state.specs.Core.{opened_core};
@@ -50,6 +50,8 @@ impl<S: Store> Recorded<S> {
         ensures version { S.tells → IsSome ((S.world store).gives (codes "version")) → Told TellsOpen IsOlder (files_told result) }
         // What `current` leads to, with tables in order, or the first thing that is wrong with it.
         ensures opens { S.tells → (S.world store).gives (codes "version") ≡ None → IsSome ((S.world store).gives current_name) → Told TellsOpen (OpensWith TablesAreInOrder (S.world store).gives) (files_told result) }
+        // From which number its log is read.
+        ensures from { S.tells → IsSome ((S.world store).gives current_name) → IfOk result (λ t. ReadsFrom (S.world store).gives t.tree.core.history.latest.version) }
         // What stands in order is taken: it is refused only for memory, or where a store call failed.
         ensures takes { S.tells → (id : ℕ) (ls : Levels) (ts : SeenLevels) → StandsFor (S.world store).gives id ls ts → HasSmallNumbers ts → TablesAreInOrder ts → Told TellsOpen (OpensAs id ls ts) (files_told result) }
         // What stands, but not in order, is refused.

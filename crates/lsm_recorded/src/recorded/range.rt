@@ -1,5 +1,5 @@
 // Reads of many keys that a journal keeps.
-ghost use Rattle.std.specs.Prelude.{◌≡◌, ◌≤◌, [], ◌∷◌, None, map, IfOk, IfErr, OnErr};
+ghost use Rattle.std.specs.Prelude.{◌≡◌, ◌≤◌, [], ◌∷◌, None, map, IfOk, IfErr, OnOk, OnErr};
 ghost use Rattle.lsm_below.specs.Entries.{above};
 ghost use Rattle.lsm_model.specs.Views.{held};
 ghost use Rattle.lsm_model.specs.Beginnings.{shown_by};
@@ -15,11 +15,12 @@ ghost use Rattle.lsm_state.specs.Listing.{Lists, ListsPrefix};
 use crate::pass::{Pass, note_entry};
 use crate::recorded::Recorded;
 use lsm_below::{SeqNo, UserKey, share};
-use lsm_iter::TreeIter;
-use lsm_journal::{copy_bound, pairs_entry, take_pairs};
+use lsm_iter::{Pairs, TreeIter};
+use lsm_journal::{copy_bound, pairs_entry, share_pairs};
 use lsm_model::{KvPairs, Question, reads_are_sound};
 use lsm_parts::Error;
 use lsm_store::Store;
+use std::alloc::AllocError;
 use std::ops::Bound;
 
 impl<S: Store> Recorded<S> {
@@ -62,6 +63,47 @@ impl<S: Store> Recorded<S> {
         self.core.prefix(prefix.as_slice(), snapshot, None)
     }
 
+    /// What a snapshot shows in bounds, lent by the tree as `TreeState::pairs`: it makes no list, and no entry of the journal.
+    pub fn pairs<'a>(
+        &'a self,
+        bounds: &(Bound<UserKey>, Bound<UserKey>),
+        snapshot: SeqNo,
+    ) -> Result<Pairs<'a>, Error>
+        ensures core { IfOk result (λ pairs. Ranges self.now.tree.core None bounds.now.0 bounds.now.1 snapshot pairs) }
+        ensures step { IfOk result (λ pairs. IsRangeStep self.now.tree.core bounds.now.0 bounds.now.1 snapshot pairs) }
+        ensures replay { IfOk result (λ pairs. ReadAgrees (shown_by self.now.opened) self.now.journal (ReadEntry snapshot (Between bounds.now.0 bounds.now.1) (PairsAnswer (map pair_of pairs)))) }
+        ensures above { IfOk result (λ _. above (held self.now.opened) ≤ snapshot) }
+        ensures refuses { RefusesRecorded (above (held self.now.opened)) self.now.tree.core snapshot result }
+        ensures kept { above (held self.now.opened) ≤ snapshot → IsKept snapshot self.now.journal → IfErr result (λ e. e ≡ Error.OutOfMemory) }
+    {
+        reads_are_sound();
+        if snapshot < self.least {
+            return Err(Error::OutOfOrder);
+        }
+        self.core.pairs(bounds, snapshot, None)
+    }
+
+    /// What a snapshot shows of the keys that begin so, lent by the tree as `pairs` are.
+    pub fn pairs_with_prefix<'a>(
+        &'a self,
+        prefix: &UserKey,
+        snapshot: SeqNo,
+    ) -> Result<Pairs<'a>, Error>
+        ensures core { IfOk result (λ pairs. Prefixes self.now.tree.core None prefix.now snapshot pairs) }
+        ensures step { IfOk result (λ pairs. IsPrefixStep self.now.tree.core prefix.now snapshot pairs) }
+        ensures replay { IfOk result (λ pairs. ReadAgrees (shown_by self.now.opened) self.now.journal (ReadEntry snapshot (Prefix prefix.now) (PairsAnswer (map pair_of pairs)))) }
+        ensures above { IfOk result (λ _. above (held self.now.opened) ≤ snapshot) }
+        ensures refuses { RefusesRecorded (above (held self.now.opened)) self.now.tree.core snapshot result }
+        ensures kept { above (held self.now.opened) ≤ snapshot → IsKept snapshot self.now.journal → IfErr result (λ e. e ≡ Error.OutOfMemory) }
+    {
+        reads_are_sound();
+        if snapshot < self.least {
+            return Err(Error::OutOfOrder);
+        }
+        self.core
+            .pairs_with_prefix(prefix.as_slice(), snapshot, None)
+    }
+
     /// The pairs that a snapshot shows in bounds, as `TreeState::range`; and the read is appended to the
     /// journal and the pass, which share the one list of the pairs that is returned. Outside dropped ranges they are what
     /// the replay of the journal has there.
@@ -80,9 +122,11 @@ impl<S: Store> Recorded<S> {
         ensures refuses { RefusesRecorded (above (held self.old.opened)) self.old.tree.core snapshot result }
         ensures kept { above (held self.old.opened) ≤ snapshot → IsKept snapshot self.old.journal → IfErr result (λ e. e ≡ Error.OutOfMemory) }
     {
-        let iter = self.create_range(bounds, snapshot)?;
+        let pairs = self.pairs(bounds, snapshot)?;
+        let list = share_pairs(self.alloc, pairs)?;
         let question = Question::Between(copy_bound(&bounds.0)?, copy_bound(&bounds.1)?);
-        self.note_listed(pass, snapshot, question, iter)
+        self.note_listed(pass, snapshot, question, &list)?;
+        Ok(list)
     }
 
     /// The pairs of the keys that begin so, as `TreeState::prefix`; noted as those of a range.
@@ -101,34 +145,33 @@ impl<S: Store> Recorded<S> {
         ensures refuses { RefusesRecorded (above (held self.old.opened)) self.old.tree.core snapshot result }
         ensures kept { above (held self.old.opened) ≤ snapshot → IsKept snapshot self.old.journal → IfErr result (λ e. e ≡ Error.OutOfMemory) }
     {
-        let iter = self.create_prefix(prefix, snapshot)?;
+        let pairs = self.pairs_with_prefix(prefix, snapshot)?;
+        let list = share_pairs(self.alloc, pairs)?;
         let question = Question::Prefix(share(prefix)?);
-        self.note_listed(pass, snapshot, question, iter)
+        self.note_listed(pass, snapshot, question, &list)?;
+        Ok(list)
     }
 
-    /// The pairs of what a question was answered; and the read is appended to the journal and the pass.
-    /// Refused only for want of memory.
+    /// The read that was answered by these pairs is appended to the journal and the pass, which share their list. Refused
+    /// only for want of memory.
     fn note_listed(
         &mut self,
         pass: &mut Pass,
         snapshot: SeqNo,
         question: Question,
-        iter: TreeIter,
-    ) -> Result<KvPairs, Error>
-        requires step { IsListStep self.old.tree.core question snapshot (map pair_of iter.left) }
+        pairs: &KvPairs,
+    ) -> Result<(), AllocError>
+        requires step { IsListStep self.old.tree.core question snapshot pairs.now }
         requires above { above (held self.old.opened) ≤ snapshot }
-        ensures pairs { IfOk result (λ pairs. pairs ≡ map pair_of iter.left) }
-        ensures replay { IfOk result (λ pairs. ReadAgrees (shown_by self.old.opened) self.old.journal (ReadEntry snapshot question (PairsAnswer pairs))) }
-        ensures noted { IfOk result (λ pairs. Notes (ReadEntry snapshot question (PairsAnswer pairs) ∷ []) self.old.journal self.new.journal pass.old pass.new) }
+        ensures replay { OnOk result (ReadAgrees (shown_by self.old.opened) self.old.journal (ReadEntry snapshot question (PairsAnswer pairs.now))) }
+        ensures noted { OnOk result (Notes (ReadEntry snapshot question (PairsAnswer pairs.now) ∷ []) self.old.journal self.new.journal pass.old pass.new) }
         ensures tree { self.new.tree ≡ self.old.tree }
         ensures opened { self.new.opened ≡ self.old.opened }
         ensures err { OnErr result ((self.new ≡ self.old) × (pass.new ≡ pass.old)) }
-        ensures memory { IfErr result (λ e. e ≡ Error.OutOfMemory) }
     {
         reads_are_sound();
-        let pairs = take_pairs(self.alloc, iter)?;
-        let entry = pairs_entry(snapshot, question, &pairs)?;
+        let entry = pairs_entry(snapshot, question, pairs)?;
         note_entry(self.alloc, &mut self.journal, &mut pass.entries, entry)?;
-        Ok(pairs)
+        Ok(())
     }
 }

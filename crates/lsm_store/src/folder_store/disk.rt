@@ -4,8 +4,8 @@ use std::fs::{File, Files, OpenFile, OpenOptions, TryLockError};
 use std::io::{ErrorKind, Read, Write};
 use std::{fs, io};
 
-/// The subfolder of tables, and how names of files in it begin.
-pub(crate) const TABLES: &str = "tables";
+/// The subfolders, those of tables and of a log. Names of files in them begin so.
+pub(crate) const SUBFOLDERS: [&str; 2] = ["tables", "log"];
 
 /// The file that is locked while a store of the folder lives.
 const LOCK: &str = "lock";
@@ -18,7 +18,7 @@ pub(crate) fn join(alloc: Global, root: &str, name: &str) -> Result<String, Allo
     Ok(path)
 }
 
-/// Makes a folder and its subfolder where they are absent, and each folder on the way there. Each one that is made is
+/// Makes a folder and its subfolders where they are absent, and each folder on the way there. Each one that is made is
 /// synced into the one that it stands in, so that a crash keeps it.
 pub(crate) fn make_folder<R: Files>(rt: &R, alloc: Global, path: &str) -> io::Result<()> {
     if path.is_empty() {
@@ -35,8 +35,11 @@ pub(crate) fn make_folder<R: Files>(rt: &R, alloc: Global, path: &str) -> io::Re
         }
         at.push('/')?;
     }
-    at.push_str(TABLES)?;
-    make_one(rt, at.as_str(), parent.as_str())
+    for folder in SUBFOLDERS {
+        let below = join(alloc, path, folder)?;
+        make_one(rt, below.as_str(), parent.as_str())?;
+    }
+    Ok(())
 }
 
 /// Makes one folder, if it is absent, and syncs it into its parent.
@@ -73,16 +76,19 @@ pub(crate) fn lock_folder<R: Files<File = File>>(
     }
 }
 
-/// The names of all files, those of the subfolder after those of the folder, without the lock.
+/// The names of all files, those of the subfolders after those of the folder, without the lock.
 pub(crate) fn list_folder<R: Files + Alloc + Clone + Drop>(
     rt: &R,
     alloc: Global,
     root: &str,
 ) -> io::Result<Vec<String>> {
-    let tables = join(alloc, root, TABLES)?;
     let mut names = Vec::new(alloc);
     list_into(rt, alloc, root, "", &mut names)?;
-    list_into(rt, alloc, tables.as_str(), "tables/", &mut names)?;
+    for folder in SUBFOLDERS {
+        let path = join(alloc, root, folder)?;
+        let prefix = join(alloc, folder, "")?;
+        list_into(rt, alloc, path.as_str(), prefix.as_str(), &mut names)?;
+    }
     Ok(names)
 }
 

@@ -1,4 +1,8 @@
-use Rattle.std.proofs.Common.{subst, ◌<◌, ◌^◌}
+use Rattle.std.proofs.Common.{List, ℕ, ◌<◌, ◌^◌, Some, subst}
+use Rattle.lsm_manifest.specs.Spelling.{IsFileFrom}
+use Rattle.lsm_manifest.specs.Persist.{Persists, MayHaveLeft}
+use Rattle.lsm_manifest.specs.Told.{Told, TellsPersist}
+use Rattle.lsm_manifest.specs.Versions.{named_levels}
 use Rattle.lsm_files.proofs.Removals.{AreApart}
 use Rattle.lsm_files.proofs.Committed.{committed}
 use Rattle.lsm_files.proofs.commit.commit_version.Goals as goal
@@ -6,7 +10,15 @@ use Rattle.lsm_files.proofs.commit.commit_version.Goals as goal
 pub returns-clause-stored : goal.returns-clause-stored
 returns-clause-stored g c tells latest written stored other on_disk =
     let w = g.S.Store.world in
+    let old = w c.args.store.now in
+    let new = w c.persist_encoded.new.store in
+    let v = c.args.version.now in
+    let r = c.persist_encoded.result in
     let n = c.names_are_apart.ensures in
     let apart : AreApart = record { versions = n.versions; table_no_version = n.table_no_version; version_not_current = n.version_not_current; no_older = n.no_older; version_kind = n.version_kind } in
-    let p = c.persist_version.ensures in
-    committed apart n.table_not_current n.current_kind (w c.args.store.now) latest c.args.version.now written (subst (λ i. i < 2 ^ 64) c.id-id.ensures c.id-id.type_inv) c.facts.ensures.is.runs stored other on_disk (w c.persist_version.new.store) c.persist_version.result (p.persists tells) (p.left tells) p.names
+    let p = c.persist_encoded.ensures in
+    let reads = subst (λ (b : List ℕ). IsFileFrom (Some v.log_from) (named_levels v.levels) b) c.requires.spelling c.requires.reads in
+    let persists = subst (λ (i : ℕ). Told TellsPersist (Persists i c.args.file.now old new) r) c.id.ensures (p.persists tells) in
+    let left = subst (λ (i : ℕ). Told TellsPersist (MayHaveLeft i c.args.file.now old new) r) c.id.ensures (p.left tells) in
+    committed apart n.table_not_current n.current_kind old latest v written (subst (λ i. i < 2 ^ 64) c.id.ensures c.id.type_inv) c.facts.ensures.is.runs reads stored other on_disk new r
+    (subst (λ (b : List ℕ). Told TellsPersist (Persists v.id b old new) r) c.requires.spelling persists) (subst (λ (b : List ℕ). Told TellsPersist (MayHaveLeft v.id b old new) r) c.requires.spelling left)

@@ -7,4 +7,4 @@ returns g c = λ old new o settled opens.
     let w = g.S.Store.world in
     let n = c.names_are_apart.ensures in
     let apart : AreApart = record { versions = n.versions; table_no_version = n.table_no_version; version_not_current = n.version_not_current; no_older = n.no_older; version_kind = n.version_kind } in
-    opening_stored apart n.current_kind c.named_files_stay.ensures (w old) (w new) o settled opens
+    opening_stored apart n.current_kind c.no_version_begins_another.ensures c.named_files_stay.ensures (w old) (w new) o settled opens

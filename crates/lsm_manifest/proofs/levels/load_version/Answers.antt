@@ -9,4 +9,4 @@ version_of-requires g c =
 
 pub returns-clause-checks : goal.returns-clause-checks
 returns-clause-checks g c tells =
-    checked (g.S.Store.world c.args.store.now).gives c.args.id (levels_in c.args.named.now) (seen_levels c.in_ok-tables.tables.items) c.version_of.result (c.in_ok-tables.ensures.loads tells) c.version_of.ensures
+    checked (g.S.Store.world c.args.store.now).gives c.args.id c.args.from (levels_in c.args.named.now) (seen_levels c.in_ok-tables.tables.items) c.version_of.result (c.in_ok-tables.ensures.loads tells) c.version_of.ensures

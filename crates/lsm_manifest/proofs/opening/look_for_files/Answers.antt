@@ -1,4 +1,4 @@
-use Rattle.lsm_manifest.proofs.OpensLemmas.{refused, leaves_same, stands_found}
+use Rattle.lsm_manifest.proofs.OpensLemmas.{refused, leaves_same, stands_found, not_new}
 use Rattle.lsm_manifest.proofs.opening.look_for_files.Goals as goal
 
 pub returns-in-Ok-clause-leaves : goal.returns-in-Ok-clause-leaves
@@ -18,3 +18,9 @@ returns-in-Err-clause-refused g c tells =
 
 pub returns-in-Ok-clause-stands : goal.returns-in-Ok-clause-stands
 returns-in-Ok-clause-stands g c tells id ls ts stands small = stands_found c.no_image_begins_another.ensures (g.S.Store.world c.args.store.now).gives c.in-Ok.found id ls ts stands small (c.in-Ok.ensures.looks tells)
+
+pub returns-in-Ok-clause-from : goal.returns-in-Ok-clause-from
+returns-in-Ok-clause-from g c tells there = c.in-Ok.ensures.from tells (not_new (g.S.Store.world c.args.store.now).gives c.in-Ok.found there (c.in-Ok.ensures.looks tells))
+
+pub returns-in-Ok-clause-found : goal.returns-in-Ok-clause-found
+returns-in-Ok-clause-found g c tells = record { found = c.in-Ok.ensures.looks tells; from = returns-in-Ok-clause-from g c tells; same = c.in-Ok.ensures.same tells }

@@ -9,4 +9,4 @@ returns-clause-tables c =
     let latest = c.args.latest.now.version in
     let next = c.in_ok-version.version in
     subst (λ ts. IsPermutation (ts ++ all_of latest.levels) (all_of next.levels)) c.tables-tables.ensures
-    (tables_kept c.tables-tables.result.now latest next c.changes_keep_tables.ensures c.facts.ensures.is c.in_ok-version.ensures.ok)
+    (tables_kept c.tables-tables.result.now c.passed.result latest next c.changes_keep_tables.ensures c.facts.ensures.is c.in_ok-version.ensures.ok)

@@ -1,5 +1,4 @@
 use Rattle.std.proofs.Common.{◌≤◌, arith, map, refl, subst, IfOk}
-use Rattle.std.proofs.lemmas.Result.{IfOk-weaker}
 use Rattle.lsm_below.specs.Entries.{above}
 use Rattle.lsm_model.specs.Views.{held}
 use Rattle.lsm_model.specs.Beginnings.{shown_by}
@@ -10,7 +9,7 @@ use Rattle.lsm_model.specs.declared.question.Answer.TheVariants.{Pairs}
 use Rattle.lsm_versions.specs.Levels.{placed_of}
 use Rattle.lsm_iter.specs.Guards.{pair_of}
 use Rattle.lsm_state.specs.Ranges.{IsRangeStep}
-use Rattle.lsm_recorded.proofs.RecordedLemmas.{listed_agrees}
+use Rattle.lsm_recorded.proofs.RecordedLemmas.{lists_agree}
 use Rattle.lsm_recorded.proofs.recorded.Recorded.create_range.Goals as goal
 
 pub returns-clause-step : goal.returns-clause-step
@@ -27,7 +26,4 @@ returns-clause-replay g c =
     let is = c.self.invariant.least_is in
     let up : above (held opened) ≤ s = omega arith in
     subst (λ t. IfOk c.range.result (λ iter. ReadAgrees (shown_by t.opened) t.journal (Read s question (Pairs (map pair_of iter.left))))) c.self.view_is
-    (IfOk-weaker c.range.result (λ iter. IsRangeStep i.core.core c.args.bounds.now.0 c.args.bounds.now.1 s iter.left)
-    (λ iter. ReadAgrees (shown_by opened) i.journal.items (Read s question (Pairs (map pair_of iter.left))))
-    (λ iter step. listed_agrees opened i.least c.reads_are_sound.ensures i.marks i.floor i.core.core i.journal.items question s (map pair_of iter.left) c.self.invariant up step)
-    (c.range.ensures.step refl))
+    (lists_agree opened i.least (λ iter. map pair_of iter.left) c.reads_are_sound.ensures i.marks i.floor i.core.core i.journal.items question s c.range.result c.self.invariant up (c.range.ensures.step refl))

@@ -11,7 +11,7 @@ use Rattle.lsm_model.specs.Journal.{Event}
 use Rattle.lsm_model.specs.Views.{held}
 use Rattle.lsm_versions.specs.Levels.{SeenVersion, placed_of}
 use Rattle.lsm_versions.specs.declared.config.Config.{Config}
-use Rattle.lsm_state.specs.Core.{opened_core}
+use Rattle.lsm_state.specs.Core.{Core, opened_core}
 use Rattle.lsm_recorded.specs.Marks.{IsMarked}
 use Rattle.lsm_recorded.specs.MarkedTables.{TablesAreInOrder, IsOpenedWith}
 use Rattle.lsm_recorded.specs.Recorded.{IsRecorded}
@@ -161,6 +161,13 @@ invariant_of-result g c =
     subst (λ (v : SeenVersion). IsRecorded (placed_of v.levels) m.least m.marks 0 core c.new.result.items) (sym same)
     (subst (λ (js : List Event). IsRecorded (placed_of version.levels) m.least m.marks 0 core js) (sym c.new.ensures.items) (opened_recorded c.reads_are_sound.ensures c.maps_are_read.ensures version next m.least c.args.config m.marks core is c.in_ok-core.ensures.starts marked))
 
+pub returns-clause-opens : goal.returns-clause-opens
+returns-clause-opens g c tells none there =
+    let m = c.in-Ok-Some.marks.0 in
+    let marked = subst (λ (v : SeenVersion). IsMarked m.marks m.least (held (placed_of v.levels))) c.version.ensures (subst (λ told. MatchOption told (TablesAreInOrder c.version.result.now.levels → ⊥) (IsOpenedWith c.version.result.now)) c.in-Ok-Some.field-0-is c.in-Ok-Some.ensures).0 in
+    let same = ap (λ (k : Core). k.history.latest.version) c.in_ok-core.ensures.core in
+    ((c.in_ok-core.ensures.opens tells c.args.store (c.in_ok-found.ensures.found tells)).opens none there, subst (λ (v : SeenVersion). TablesAreInOrder v.levels) (sym same) marked.in_order)
+
 pub returns-clause-takes : goal.returns-clause-takes
 returns-clause-takes g c tells id ls ts stands small ordered = (c.in_ok-core.ensures.opens tells c.args.store (c.in_ok-found.ensures.found tells)).takes id ls ts stands small
 
@@ -177,3 +184,7 @@ returns-clause-any_moment g c tells id ls named =
 pub returns-clause-stands : goal.returns-clause-stands
 returns-clause-stands g c tells id ls ts stands pin =
     (c.in_ok-core.ensures.leaves tells c.args.store (c.in_ok-found.ensures.found tells)).stands id ls ts stands pin
+
+pub returns-clause-from : goal.returns-clause-from
+returns-clause-from g c tells there =
+    (c.in_ok-core.ensures.opens tells c.args.store (c.in_ok-found.ensures.found tells)).from there

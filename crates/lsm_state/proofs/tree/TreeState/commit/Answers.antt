@@ -1,67 +1,19 @@
-use Rattle.std.proofs.Common.{◌≡◌, ◌<◌, ◌∷◌, [], List, ⊎_elim, None, Some, ap, sym, subst, ◌∙◌, refl, Ok, Err}
-use Rattle.lsm_below.specs.declared.error.Error.TheVariants.{OutOfMemory, Store, CommitUnknown}
-use Rattle.lsm_versions.specs.Levels.{SeenVersion, all_of}
-use Rattle.lsm_files.specs.Stored.{AreOnDisk}
-use Rattle.lsm_files.specs.Commits.{CommitsStored}
-use Rattle.lsm_parts.specs.declared.version.super_version.SuperVersion.{SuperVersion}
-use Rattle.lsm_state.specs.Core.{Core, versions_left}
+use Rattle.std.proofs.Common.{refl, subst}
+use Rattle.lsm_state.specs.Core.{Core}
 use Rattle.lsm_state.specs.Commits.{Upholds}
-use Rattle.lsm_state.proofs.Upholding.{upheld_still, committed_upholds, doubted_upholds, refused_upholds}
+use Rattle.lsm_state.proofs.Upholding.{upheld_still}
 use Rattle.lsm_state.proofs.tree.TreeState.commit.Goals as goal
 
--- the version of the first of some super versions
-abbrev first_version_of : SeenVersion → List SuperVersion → SeenVersion
-first_version_of v [] = v
-first_version_of v (sv ∷ older) = sv.version
-
-pub returns-then-number-ge-LIMIT-clause-upholds : goal.returns-then-number-ge-LIMIT-clause-upholds
-returns-then-number-ge-LIMIT-clause-upholds g c tells disk =
+pub returns-then-get-ge-LIMIT-clause-upholds : goal.returns-then-get-ge-LIMIT-clause-upholds
+returns-then-get-ge-LIMIT-clause-upholds g c tells disk =
     let w = g.S.Store.world in
     let i = c.self.inside in
     let old : Core = record { config = i.config; memtables = i.memtables; history = i.history; next_memtable = i.next_memtable; next_table = i.next_table; next_job = i.next_job; moment = i.moment; seqno = i.seqno; visible_seqno = i.visible_seqno; flush = i.flush; lost = i.lost; merges = i.merges } in
     subst (λ t. Upholds (w t.store) (w t.store) t.core t.core) c.self.view_is (upheld_still (w i.store) old old refl refl (c.crashes_leave_versions.ensures tells))
 
-pub returns-in_err-append_version-clause-upholds : goal.returns-in_err-append_version-clause-upholds
-returns-in_err-append_version-clause-upholds g c tells disk =
+pub returns-in_err-file-clause-upholds : goal.returns-in_err-file-clause-upholds
+returns-in_err-file-clause-upholds g c tells disk =
     let w = g.S.Store.world in
     let i = c.self.inside in
     let old : Core = record { config = i.config; memtables = i.memtables; history = i.history; next_memtable = i.next_memtable; next_table = i.next_table; next_job = i.next_job; moment = i.moment; seqno = i.seqno; visible_seqno = i.visible_seqno; flush = i.flush; lost = i.lost; merges = i.merges } in
-    let new : Core = record old { history = c.append_version.new.self } in
-    subst (λ t. Upholds (w t.store) (w i.store) t.core new) c.self.view_is
-    (upheld_still (w i.store) old new (ap (λ h. versions_left (record old { history = h })) c.in_err-append_version.ensures.err) refl (c.crashes_leave_versions.ensures tells))
-
-pub returns-in-Ok-clause-upholds : goal.returns-in-Ok-clause-upholds
-returns-in-Ok-clause-upholds g c tells disk =
-    let w = g.S.Store.world in
-    let i = c.self.inside in
-    let v = c.args.next.version in
-    let old : Core = record { config = i.config; memtables = i.memtables; history = i.history; next_memtable = i.next_memtable; next_table = i.next_table; next_job = i.next_job; moment = i.moment; seqno = i.seqno; visible_seqno = i.visible_seqno; flush = i.flush; lost = i.lost; merges = i.merges } in
-    let new : Core = record old { history = c.append_version.new.self; seqno = c.set.new.self; visible_seqno = c.fetch_max.new.self } in
-    let made = c.in_ok-append_version.ensures.ok in
-    let seen = ap (λ sv. sv.version) c.latest_version.ensures ∙ ap (λ h. h.latest.version) made in
-    let commits = subst (λ u. CommitsStored u (w i.store) (w c.commit_version.new.store) (Ok c.in-Ok.field-0)) seen (c.in-Ok.ensures.stored tells) in
-    let certain = subst (λ t. t.core.lost ≡ None) (sym c.self.view_is) c.requires.certain in
-    let later = subst (λ t. t.core.history.latest.version.id < v.id) (sym c.self.view_is) c.requires.later in
-    let there = subst (λ t. AreOnDisk (w t.store) (all_of v.levels)) (sym c.self.view_is) disk in
-    subst (λ t. Upholds (w t.store) (w c.commit_version.new.store) t.core new) c.self.view_is
-    (committed_upholds (w i.store) (w c.commit_version.new.store) old new v certain later there refl c.in-Ok.field-0 commits (ap (λ h. h.latest.version) made) certain)
-
-pub returns-in-Err-clause-upholds : goal.returns-in-Err-clause-upholds
-returns-in-Err-clause-upholds g c tells disk =
-    let w = g.S.Store.world in
-    let i = c.self.inside in
-    let v = c.args.next.version in
-    let e = c.in-Err.error in
-    let old : Core = record { config = i.config; memtables = i.memtables; history = i.history; next_memtable = i.next_memtable; next_table = i.next_table; next_job = i.next_job; moment = i.moment; seqno = i.seqno; visible_seqno = i.visible_seqno; flush = i.flush; lost = i.lost; merges = i.merges } in
-    let new : Core = record old { history = c.undo_commit.new.history; seqno = c.set.new.self; lost = c.undo_commit.new.lost } in
-    let made = c.in_ok-append_version.ensures.ok in
-    let seen = ap (λ sv. sv.version) c.latest_version.ensures ∙ ap (λ h. h.latest.version) made in
-    let commits = subst (λ u. CommitsStored u (w i.store) (w c.commit_version.new.store) (Err e)) seen (c.in-Err.ensures.stored tells) in
-    let certain = subst (λ t. t.core.lost ≡ None) (sym c.self.view_is) c.requires.certain in
-    let later = subst (λ t. t.core.history.latest.version.id < v.id) (sym c.self.view_is) c.requires.later in
-    let there = subst (λ t. AreOnDisk (w t.store) (all_of v.levels)) (sym c.self.view_is) disk in
-    let still = ap (first_version_of v) (c.undo_commit.ensures.left ∙ ap (λ h. h.older) made) in
-    let refused = refused_upholds (w i.store) (w c.commit_version.new.store) old new v certain later there refl e commits in
-    subst (λ t. Upholds (w t.store) (w c.commit_version.new.store) t.core new) c.self.view_is
-    (⊎_elim (⊎_elim (λ (m : e ≡ OutOfMemory). let no : e ≡ CommitUnknown → ⊥ = λ u. cc in refused no still (c.undo_commit.ensures.refused no)) (λ (m : e ≡ Store). let no : e ≡ CommitUnknown → ⊥ = λ u. cc in refused no still (c.undo_commit.ensures.refused no)))
-    (λ (u : e ≡ CommitUnknown). doubted_upholds (w i.store) (w c.commit_version.new.store) old new v certain later there refl e commits u still (c.undo_commit.ensures.unknown u ∙ ap (λ h. Some (h.latest.version)) made)) c.in-Err.ensures.only)
+    subst (λ t. Upholds (w t.store) (w t.store) t.core t.core) c.self.view_is (upheld_still (w i.store) old old refl refl (c.crashes_leave_versions.ensures tells))

@@ -11,7 +11,7 @@ pub commit-requires-clause-ids : goal.commit-requires-clause-ids
 commit-requires-clause-ids g c =
     let i = c.self.inside in
     let now = c.args.self.now.core in
-    let v : SeenVersion = record { id = i.history.latest.version.id + 1; levels = empty_levels } in
+    let v : SeenVersion = record { id = i.history.latest.version.id + 1; log_from = i.seqno; levels = empty_levels } in
     subst (λ sv. KeepsIds (new_memtable now.next_memtable ∷ now.memtables) (record { latest = sv; older = versions_of now.history }) (now.next_memtable + 1)) (sym c.in-Ok.ensures.ok)
     (subst (λ t. KeepsIds (new_memtable t.core.next_memtable ∷ t.core.memtables) (record { latest = cleared_in t.core; older = versions_of t.core.history }) (t.core.next_memtable + 1)) c.self.view_is
     (ids_cleared i.memtables i.history i.next_memtable v i.seqno c.self.invariant.0))

@@ -14,7 +14,7 @@ returns-clause-ok c =
     let old = c.args.self.now.levels in
     let chosen : tables_of c.in_ok-chosen.chosen.items ≡ chosen_from ids old = c.in_ok-chosen.ensures ∙ ap (chosen_from ids) c.levels.ensures in
     let one : IsOneRun (chosen_from ids old) run = subst (λ ts. IsOneRun ts run) chosen c.in_ok-run.ensures in
-    let next : IsNext ids run to c.args.self.now c.in_ok-next.next = subst (λ f. IsNext ids f to c.args.self.now c.in_ok-next.next) c.deref.ensures.value c.in_ok-next.ensures.ok in
+    let next : IsNext ids run to 0 c.args.self.now c.in_ok-next.next = subst (λ f. IsNext ids f to 0 c.args.self.now c.in_ok-next.next) c.deref.ensures.value c.in_ok-next.ensures.ok in
     let cover : AreCovered run = subst AreCovered c.deref-2.ensures.value c.see_run.ensures.covered in
     let lt : to < length old = (let seven = c.facts.ensures.is.seven in let level = c.requires.level in omega arith) in
     record {

@@ -1,0 +1,104 @@
+-- What becomes of a store where one record is put or removed, and where several are removed.
+use Rattle.std.proofs.Common.{◌≡◌, ◌⊎◌, inl, inr, ⊎_elim, ℕ, ◌+◌, ◌<◌, ◌≤◌, List, length, take, drop, get_or, Option, Some, None, Result, refl, sym, ap, subst, ◌∙◌, arith}
+use Rattle.std.specs.Prelude.{Contains}
+use Rattle.std.specs.List.{All}
+use Rattle.std.proofs.lemmas.List.{take_more, take-append-drop}
+use Rattle.std.proofs.lemmas.List.Elements.{All-contains, Contains-push_cases, Contains-append_cases}
+use Rattle.lsm_store.specs.World.{Image, World, Row, Only, OldOr, IsImage, At, Becomes, Changes, LeavesOnly}
+use Rattle.lsm_store.specs.Synced.{Leaves}
+use Rattle.lsm_store.specs.Moments.{started, called, joined, weakened, same_or_not, keeps_becomes}
+use Rattle.lsm_store.specs.declared.store.StoreError.{StoreError}
+use Rattle.lsm_log.specs.LogNames.{record_name}
+use Rattle.lsm_log.specs.Changes.{IsPut, IsOneOf, IsBelow, ClearsRecords, AreCleared}
+
+-- ---- one name
+
+pub becomes_leaves : (name : List ℕ) (during after : Row) (old new : World) → Becomes name during after old new → Leaves name after old new
+becomes_leaves name during after old new call =
+    let keeps = keeps_becomes name during after old new call in
+    record {
+      here = λ c. (λ may. ((call.may name c).0 may).here refl, λ is. (call.may name c).1 (record { here = λ _. is; elsewhere = λ no. absurd (no refl) }));
+      elsewhere = keeps.may;
+      gives = keeps.gives;
+    }
+
+pub put_leaves : {T : Type 0} (number : ℕ) (bytes : List ℕ) (old new : World) (r : Result T StoreError) → ((image : Image) → old.since old.moment image → IsImage old.may image)
+    → Changes (record_name number) (OldOr (old.may (record_name number)) (Some bytes)) (Only (Some bytes)) (Some bytes) old new r → LeavesOnly old new (IsPut number bytes old)
+put_leaves {T} number bytes old new r only call =
+    let name = record_name number in
+    called {T = T} old old new (IsPut number bytes old) name (OldOr (old.may name) (Some bytes)) (Only (Some bytes)) (Some bytes) r
+    (started old (IsPut number bytes old) (λ image left. record { here = inl (only image left name); elsewhere = λ n out. only image left n })) call
+    (λ image at. record { here = (at name).here refl; elsewhere = λ n out. (at n).elsewhere out })
+
+-- a record's row after a removal
+removed_row : (number : ℕ) (old : World) (n : List ℕ) (c : Option (List ℕ)) → At (record_name number) (OldOr (old.may (record_name number)) None) old.may n c → old.may n c ⊎ ((c ≡ None) × IsOneOf (λ (k : ℕ). k ≡ number) n)
+removed_row number old n c at =
+    ⊎_elim (λ same. ⊎_elim (λ was. inl (subst (λ (m : List ℕ). old.may m c) (sym same) was)) (λ none. inr (none, (number, refl, same))) (at.here same)) (λ other. inl (at.elsewhere other)) (same_or_not n (record_name number))
+
+pub remove_leaves : {T : Type 0} (number : ℕ) (old new : World) (r : Result T StoreError) → ((image : Image) → old.since old.moment image → IsImage old.may image)
+    → Changes (record_name number) (OldOr (old.may (record_name number)) None) (OldOr (old.may (record_name number)) None) None old new r → LeavesOnly old new (AreCleared (λ (k : ℕ). k ≡ number) old)
+remove_leaves {T} number old new r only call =
+    let name = record_name number in
+    let row : Row = OldOr (old.may name) None in
+    called {T = T} old old new (AreCleared (λ (k : ℕ). k ≡ number) old) name row row None r
+    (started old (AreCleared (λ (k : ℕ). k ≡ number) old) (λ image left n. inl (only image left n))) call (λ image at n. removed_row number old n (image n) (at n))
+
+-- ---- records one after the other
+
+module _ (P : ℕ → Type 0) where
+  pub clears_none : (w : World) → ClearsRecords P w w
+  clears_none w = record { may = λ n c may. inl may; kept = λ n c out may. may; gives = λ n out. refl }
+
+  pub cleared_none : (w : World) → ((image : Image) → w.since w.moment image → IsImage w.may image) → LeavesOnly w w (AreCleared P w)
+  cleared_none w only = started w (AreCleared P w) (λ image left n. inl (only image left n))
+
+  module _ (old mid new : World) (number : ℕ) (has : P number) where
+    pub clears_more : ClearsRecords P old mid → Leaves (record_name number) (OldOr (mid.may (record_name number)) None) mid new → ClearsRecords P old new
+    clears_more so_far step = record {
+      may = λ n c may. ⊎_elim (λ same. at_name n c same (subst (λ (m : List ℕ). new.may m c) same may)) (λ other. so_far.may n c ((step.elsewhere n c other).0 may)) (same_or_not n (record_name number));
+      kept = λ n c out may. (step.elsewhere n c (out number has)).1 (so_far.kept n c out may);
+      gives = λ n out. step.gives n (out number has) ∙ so_far.gives n out;
+    }
+      where
+        at_name : (n : List ℕ) (c : Option (List ℕ)) → n ≡ record_name number → new.may (record_name number) c → old.may n c ⊎ ((c ≡ None) × IsOneOf P n)
+        at_name n c same may = ⊎_elim (λ was. so_far.may n c (subst (λ (m : List ℕ). mid.may m c) (sym same) was)) (λ none. inr (none, (number, has, same))) ((step.here c).0 may)
+
+    pub cleared_more : ClearsRecords P old mid → LeavesOnly old mid (AreCleared P old) → LeavesOnly mid new (AreCleared (λ (k : ℕ). k ≡ number) mid) → LeavesOnly old new (AreCleared P old)
+    cleared_more clears so_far step =
+        joined old mid new (AreCleared P old) (AreCleared (λ (k : ℕ). k ≡ number) mid) (AreCleared P old) so_far step (λ image is. is)
+        (λ image is n. ⊎_elim (λ was. clears.may n (image n) was) (λ none. inr (none.0, (none.1.0, subst P (sym none.1.1) has, none.1.2))) (is n))
+
+-- a record that is absent stays so where another one is removed
+pub absent_after : (number : ℕ) (mid new : World) (row : Row) → Leaves (record_name number) row mid new → new.gives (record_name number) ≡ None → (n : List ℕ) → mid.gives n ≡ None → new.gives n ≡ None
+absent_after number mid new row step gone n was = ⊎_elim (λ (e : n ≡ record_name number). ap new.gives e ∙ gone) (λ differs. step.gives n differs ∙ was) (same_or_not n (record_name number))
+
+pub gone_more : (ns : List ℕ) (i number : ℕ) (mid new : World) (row : Row) → i < length ns → number ≡ get_or ns i 0 → Leaves (record_name number) row mid new → new.gives (record_name number) ≡ None
+    → ((k : ℕ) → Contains (take i ns) k → mid.gives (record_name k) ≡ None) → (k : ℕ) → Contains (take (i + 1) ns) k → new.gives (record_name k) ≡ None
+gone_more ns i number mid new row lt is step gone so_far k at =
+    ⊎_elim (λ early. absent_after number mid new row step gone (record_name k) (so_far k early)) (λ here. ap (λ (j : ℕ). new.gives (record_name j)) (sym here ∙ sym is) ∙ gone)
+    (Contains-push_cases (take i ns) (get_or ns i 0) k (subst (λ (l : List ℕ). Contains l k) (take_more ns i 0 lt) at))
+
+-- ---- those below a number
+
+module _ (from at : ℕ) (ns : List ℕ) (before : All (λ (k : ℕ). k < from) (take at ns)) (old new : World) where
+  below : (k : ℕ) → Contains (take at ns) k → IsBelow from k
+  below k h = All-contains (λ (x : ℕ). x < from) (take at ns) k before h
+
+  one_below : (n : List ℕ) → IsOneOf (Contains (take at ns)) n → IsOneOf (IsBelow from) n
+  one_below n one = (one.0, below one.0 one.1, one.2)
+
+  pub clears_below : ClearsRecords (Contains (take at ns)) old new → ClearsRecords (IsBelow from) old new
+  clears_below clears = record {
+    may = λ n c may. ⊎_elim (λ was. inl was) (λ none. inr (none.0, one_below n none.1)) (clears.may n c may);
+    kept = λ n c out may. clears.kept n c (λ k h. out k (below k h)) may;
+    gives = λ n out. clears.gives n (λ k h. out k (below k h));
+  }
+
+  pub cleared_below : LeavesOnly old new (AreCleared (Contains (take at ns)) old) → LeavesOnly old new (AreCleared (IsBelow from) old)
+  cleared_below leaves = weakened old new (AreCleared (Contains (take at ns)) old) (AreCleared (IsBelow from) old) leaves (λ image is n. ⊎_elim (λ was. inl was) (λ none. inr (none.0, one_below n none.1)) (is n))
+
+-- which of the numbers are below
+pub is_below : (from at : ℕ) (ns : List ℕ) → All (λ (k : ℕ). from ≤ k) (drop at ns) → (k : ℕ) → Contains ns k → k < from → Contains (take at ns) k
+is_below from at ns behind k h lt =
+    ⊎_elim (λ front. front) (λ back. let le : from ≤ k = All-contains (λ (x : ℕ). from ≤ x) (drop at ns) k behind back in absurd (omega (arith, le, lt)))
+    (Contains-append_cases (take at ns) (drop at ns) k (subst (λ (l : List ℕ). Contains l k) (sym (take-append-drop at ns)) h))

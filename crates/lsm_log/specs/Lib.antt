@@ -1,0 +1,5 @@
+pub mod Records
+pub mod RecordReading
+pub mod LogNames
+pub mod Logs
+pub mod Changes

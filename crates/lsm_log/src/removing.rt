@@ -1,0 +1,73 @@
+// Records that nothing needs any more.
+ghost use Rattle.std.specs.Prelude.{◌≡◌, ◌<◌, ◌≤◌, ℕ, None, length, take, Contains, OnOk, IfErr};
+ghost use Rattle.std.specs.List.Sorted.{IsStrictlyIncreasing};
+ghost use Rattle.lsm_store.specs.World.{LeavesOnly, OldOr};
+ghost use Rattle.lsm_store.specs.Synced.{Leaves};
+ghost use Rattle.lsm_log.specs.LogNames.{record_name};
+ghost use Rattle.lsm_files.specs.Stored.{CountsFaults};
+ghost use Rattle.lsm_files.specs.Foreign.{Spares};
+ghost use Rattle.lsm_log.specs.Changes.{IsBelow, ClearsRecords, AreCleared};
+
+use crate::loading::first_from;
+use crate::record_name;
+use lsm_below::{Error, SeqNo};
+use lsm_files::foreign_names_spare;
+use lsm_store::{Store, StoreError};
+
+fn remove_record<S: Store>(store: &mut S, number: SeqNo) -> Result<(), Error>
+    ensures gone { S.tells → OnOk result ((S.world store.new).gives (record_name number) ≡ None) }
+    ensures leaves { S.tells → Leaves (record_name number) (OldOr ((S.world store.old).may (record_name number)) None) (S.world store.old) (S.world store.new) }
+    ensures any_moment { S.tells → LeavesOnly (S.world store.old) (S.world store.new) (AreCleared (λ k. k ≡ number) (S.world store.old)) }
+    ensures only { IfErr result (λ e. e ≡ Error.Store) }
+    ensures counts { CountsFaults (S.world store.old) (S.world store.new) result }
+{
+    match store.remove(record_name(number).as_str()) {
+        Ok(()) => Ok(()),
+        Err(StoreError::Fault) => Err(Error::Store),
+        Err(StoreError::OutOfMemory) => unreachable!(),
+    }
+}
+
+/// Removes each of these records in turn.
+fn remove_each<S: Store>(store: &mut S, numbers: &[SeqNo]) -> Result<(), Error>
+    ensures gone { S.tells → OnOk result ((k : ℕ) → Contains numbers.now k → (S.world store.new).gives (record_name k) ≡ None) }
+    ensures clears { S.tells → ClearsRecords (Contains numbers.now) (S.world store.old) (S.world store.new) }
+    ensures any_moment { S.tells → LeavesOnly (S.world store.old) (S.world store.new) (AreCleared (Contains numbers.now) (S.world store.old)) }
+    ensures only { IfErr result (λ e. e ≡ Error.Store) }
+    ensures counts { CountsFaults (S.world store.old) (S.world store.new) result }
+{
+    for number in numbers {
+        remove_record(store, *number)?;
+    }
+    Ok(())
+}
+
+/// The numbers before a place.
+fn before(numbers: &[SeqNo], at: usize) -> &[SeqNo]
+    requires { at ≤ length numbers.now }
+    ensures { result.now ≡ take at numbers.now }
+{
+    numbers.split_at(at).0
+}
+
+/// Removes those of these records that are numbered below `from`, rising, and stops at the first that can't be removed.
+/// After Ok each is absent; a crash may bring it back. Each other name is as it was. It takes no memory. The cost is
+/// linear in the records that it removes.
+///
+/// # Errors
+///
+/// `Store` where the store failed: some of them may have been removed.
+pub fn remove_below<S: Store>(store: &mut S, from: SeqNo, numbers: &[SeqNo]) -> Result<(), Error>
+    requires { IsStrictlyIncreasing numbers.now }
+    ensures gone { S.tells → OnOk result ((k : ℕ) → Contains numbers.now k → k < from → (S.world store.new).gives (record_name k) ≡ None) }
+    ensures clears { S.tells → ClearsRecords (IsBelow from) (S.world store.old) (S.world store.new) }
+    ensures any_moment { S.tells → LeavesOnly (S.world store.old) (S.world store.new) (AreCleared (IsBelow from) (S.world store.old)) }
+    // What is stored of a tree beside them stays so.
+    ensures stored { S.tells → Spares (S.world store.old) (S.world store.new) }
+    ensures only { IfErr result (λ e. e ≡ Error.Store) }
+    ensures counts { CountsFaults (S.world store.old) (S.world store.new) result }
+{
+    foreign_names_spare(store);
+    let at = first_from(numbers, from);
+    remove_each(store, before(numbers, at))
+}

@@ -1,0 +1,133 @@
+// Records that are put, read and removed, and what a crash leaves of them.
+
+use lsm_below::Error;
+use lsm_log::{Log, put_record, read_log, record_name, remove_below};
+use lsm_store::{Fault, MemStore, Pick, Store};
+use std::alloc::{AllocError, Global};
+use std::test::Fail;
+
+/// An empty batch, numbered so.
+fn record(number: u8) -> [u8; 16] {
+    [
+        0x4c, 0x53, 0x4d, 0x4c, number, 0, 0, 0, 0, 0, 0, 0, 0, 0, 0, 0,
+    ]
+}
+
+/// A store with records 0, 2 and 10, and a name that is passed over.
+fn store_of(alloc: Global) -> Result<MemStore, Error> {
+    let mut store = MemStore::new(alloc);
+    for number in [10u8, 0, 2] {
+        put_record(&mut store, number as u64, &record(number))?;
+    }
+    match store.replace("log/._2", b"no record") {
+        Ok(()) => Ok(store),
+        Err(_) => Err(Error::Store),
+    }
+}
+
+/// Whether a log was read as these numbers below, and the numbers of these records.
+fn is_log(log: &Log, passed: &[u64], numbers: &[u64]) -> bool {
+    if log.passed.as_slice() != passed || log.records.len() != numbers.len() {
+        return false;
+    }
+    for i in 0..log.records.len() {
+        if i < numbers.len() && log.records[i].number != numbers[i] {
+            return false;
+        }
+    }
+    true
+}
+
+#[test]
+fn names_are_spelled(rt: HostRuntime) -> Result<(), Fail> {
+    assert!(rt; record_name(0).as_str() == "log/0");
+    assert!(rt; record_name(9_223_372_036_854_775_807).as_str() == "log/9223372036854775807");
+    Ok(())
+}
+
+#[test]
+fn records_are_read_from_a_number_on(rt: HostRuntime) -> Result<(), Fail> {
+    let mut store = store_of(rt.alloc())?;
+    let log = read_log(rt.alloc(), &mut store, 2)?;
+    let well = is_log(&log, &[0], &[2, 10]);
+    drop(log);
+    drop(store);
+    assert!(rt; well);
+    Ok(())
+}
+
+/// What is below is ignored unread; from it on a record that is none, or of another number, is refused.
+#[test]
+fn bad_records_are_refused(rt: HostRuntime) -> Result<(), Fail> {
+    let mut store = store_of(rt.alloc())?;
+    put_record(&mut store, 0, b"no record")?;
+    let unread = read_log(rt.alloc(), &mut store, 1).is_ok();
+    let bad = read_log(rt.alloc(), &mut store, 0).is_err();
+    put_record(&mut store, 0, &record(1))?;
+    let other = read_log(rt.alloc(), &mut store, 0).is_err();
+    drop(store);
+    assert!(rt; unread && bad && other);
+    Ok(())
+}
+
+#[test]
+fn other_names_are_refused(rt: HostRuntime) -> Result<(), Fail> {
+    for name in ["log/05", "log/", "log/9223372036854775808", "log/a"] {
+        let mut store = MemStore::new(rt.alloc());
+        let put = store.replace(name, b"").is_ok();
+        let refused = match read_log(rt.alloc(), &mut store, 0) {
+            Err(Error::Unrecoverable) => true,
+            _ => false,
+        };
+        drop(store);
+        assert!(rt; put && refused);
+    }
+    Ok(())
+}
+
+#[test]
+fn records_below_are_removed(rt: HostRuntime) -> Result<(), Fail> {
+    let mut store = store_of(rt.alloc())?;
+    remove_below(&mut store, 10, &[0, 2, 10])?;
+    let log = read_log(rt.alloc(), &mut store, 0)?;
+    let well = is_log(&log, &[], &[10]);
+    drop(log);
+    drop(store);
+    assert!(rt; well);
+    Ok(())
+}
+
+/// It stops at the first that can't be removed.
+#[test]
+fn a_fault_stops_removals(rt: HostRuntime) -> Result<(), Fail> {
+    let mut store = store_of(rt.alloc())?;
+    store.fail(2, Fault::Once);
+    let refused = remove_below(&mut store, 11, &[0, 2, 10]).is_err();
+    let log = read_log(rt.alloc(), &mut store, 0)?;
+    let well = is_log(&log, &[], &[2, 10]);
+    drop(log);
+    drop(store);
+    assert!(rt; refused && well);
+    Ok(())
+}
+
+/// How many records a crash with this pick leaves of a replacement that took effect and answered a fault.
+fn left_of(alloc: Global, picks: &[(&str, Pick<'_>)]) -> Result<usize, Error> {
+    let mut store = MemStore::new(alloc);
+    store.fail(1, Fault::OnceDone);
+    match put_record(&mut store, 0, &record(0)) {
+        Err(Error::CommitUnknown) => {}
+        _ => return Err(Error::Store),
+    }
+    match store.crash(picks)? {
+        Some(mut left) => Ok(read_log(alloc, &mut left, 0)?.records.len()),
+        None => Err(Error::Store),
+    }
+}
+
+#[test]
+fn a_crash_leaves_the_old_or_the_new(rt: HostRuntime) -> Result<(), Fail> {
+    assert!(rt; left_of(rt.alloc(), &[])? == 1);
+    assert!(rt; left_of(rt.alloc(), &[("log/0", Pick::Before)])? == 0);
+    Ok(())
+}
