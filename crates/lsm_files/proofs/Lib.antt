@@ -8,3 +8,4 @@ pub mod WrittenFiles
 pub mod Beside
 pub mod Opened
 pub mod Foreign
+pub mod Passing

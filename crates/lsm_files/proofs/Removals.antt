@@ -19,6 +19,7 @@ use Rattle.lsm_manifest.specs.Names.{current_name, version_name, table_name}
 use Rattle.lsm_manifest.specs.Kinds.{kind_of}
 use Rattle.lsm_files.specs.Stored.{Keeps, IsWhole, IsStored, HoldsOneOf}
 use Rattle.lsm_files.specs.Commits.{SparesStored, IsNoneOf, SparesTables}
+use Rattle.lsm_files.specs.Foreign.{Passes, passes_still}
 use Rattle.lsm_files.proofs.Images.{Untouched, spared, left_now}
 use Rattle.lsm_files.proofs.Keeping.{keeps_none, keeps_more}
 
@@ -75,12 +76,14 @@ left_beside name old new r only call = called old old new (IsBeside name old) na
 pub record KeepsRest (tells : Type 0) (ids : List ℕ) (old new : World) : Type 0 where
   pub keeps : tells → Keeps (IsNoneOf ids) old new
   pub stored : tells → SparesTables ids old new
+  pub passes : tells → Passes old new
   pub failures : new.failures ≡ old.failures
 
 pub rest_none : (tells : Type 0) (ids : List ℕ) (w : World) → (tells → (image : Image) → w.since w.moment image → IsImage w.may image) → KeepsRest tells ids w w
 rest_none tells ids w only = record {
   keeps = λ s. keeps_none (IsNoneOf ids) w;
   stored = λ s versions tables stored named unnamed. (stored, left_now w versions tables (only s) stored);
+  passes = λ s. passes_still w (only s);
   failures = refl;
 }
 

@@ -1,17 +1,20 @@
--- Names that are none of a tree's, and what calls on them leave of it.
-use Rattle.std.specs.Prelude.{◌≡◌, ◌≢◌, List, ℕ, Option}
-use Rattle.lsm_store.specs.World.{Image, World, LeavesOnly}
+-- Names that are none of a tree's: what calls on them leave of it, and what its own calls leave of them.
+use Rattle.std.proofs.Common.{◌≡◌, ◌≢◌, ℕ, List, Option, refl, ◌∙◌, arith, inl}
+use Rattle.lsm_store.specs.World.{Image, World, IsImage, LeavesOnly}
+use Rattle.lsm_store.specs.Moments.{started, joined}
 use Rattle.lsm_tables.specs.Tables.{SeenTable}
 use Rattle.lsm_versions.specs.Levels.{SeenVersion}
 use Rattle.lsm_manifest.specs.declared.kinds.NameKind.TheVariants.{Other}
 use Rattle.lsm_manifest.specs.Names.{current_name}
 use Rattle.lsm_manifest.specs.Kinds.{kind_of}
-use Rattle.lsm_files.specs.Stored.{IsStored, Leaves}
+use Rattle.lsm_files.specs.Stored.{Keeps, IsStored, Leaves}
 
 -- the name is neither `current` nor of a kind that opening reads, removes or refuses
 pub record IsForeign (n : List ℕ) : Type 0 where
   pub other : kind_of n ≡ Other
   pub not_current : n ≢ current_name
+
+-- ---- calls on them
 
 -- an image in which each name that isn't foreign has what it could have before
 abbrev pub KeepsOwn : World → Image → Type 0
@@ -29,3 +32,35 @@ Spares old new = (versions : List SeenVersion) (written : List SeenTable) → Is
 -- what changes foreign names alone spares what is stored
 abbrev pub ForeignNamesSpare : (S : Type 0) → (S → World) → Type 0
 ForeignNamesSpare S world = (old new : S) → ChangesForeign (world old) (world new) → Spares (world old) (world new)
+
+-- ---- calls on a tree's own names
+
+-- an image in which each foreign name has what it could have before
+abbrev pub KeepsForeign : World → Image → Type 0
+KeepsForeign old left = (n : List ℕ) → IsForeign n → old.may n (left n)
+
+-- of foreign names nothing has changed, and at each moment since then a crash leaves of each what it could before
+pub record Passes (old new : World) : Type 0 where
+  pub keeps : Keeps IsForeign old new
+  pub leaves : LeavesOnly old new (KeepsForeign old)
+
+-- while nothing is done, a crash leaves one of the versions that are stored, and foreign names are as they are
+pub record Stays (w : World) : Type 0 where
+  pub leaves : (versions : List SeenVersion) (written : List SeenTable) → IsStored w versions written → Leaves w w versions
+  pub passes : Passes w w
+
+pub passes_still : (w : World) → ((image : Image) → w.since w.moment image → IsImage w.may image) → Passes w w
+passes_still w only = record {
+  keeps = record { may = λ n c foreign. (λ m. m, λ m. m); gives = λ n foreign. refl };
+  leaves = started w (KeepsForeign w) (λ image since n foreign. only image since n);
+}
+
+-- a call behind another
+pub passes_then : (old mid new : World) → Passes old mid → Passes mid new → Passes old new
+passes_then old mid new a b = record {
+  keeps = record {
+    may = λ n c foreign. (λ m. (a.keeps.may n c foreign).0 ((b.keeps.may n c foreign).0 m), λ m. (b.keeps.may n c foreign).1 ((a.keeps.may n c foreign).1 m));
+    gives = λ n foreign. b.keeps.gives n foreign ∙ a.keeps.gives n foreign;
+  };
+  leaves = joined old mid new (KeepsForeign old) (KeepsForeign mid) (KeepsForeign old) a.leaves b.leaves (λ image kept. kept) (λ image kept n foreign. (a.keeps.may n (image n) foreign).0 (kept n foreign));
+}

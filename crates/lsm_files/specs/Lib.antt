@@ -4,3 +4,4 @@ pub mod Contents
 pub mod Commits
 pub mod Opening
 pub mod Foreign
+pub mod Causes

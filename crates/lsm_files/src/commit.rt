@@ -4,6 +4,7 @@ ghost use Rattle.lsm_manifest.specs.Spelling.{IsFileFrom};
 ghost use Rattle.lsm_manifest.specs.Versions.{named_levels, file_of};
 ghost use Rattle.lsm_files.specs.Stored.{CountsFaults};
 ghost use Rattle.lsm_files.specs.Commits.{CommitsStored};
+ghost use Rattle.lsm_files.specs.Foreign.{Passes};
 
 use lsm_below::Error;
 use lsm_manifest::{names_are_apart, persist_encoded};
@@ -22,6 +23,8 @@ pub fn commit_version<S: Store>(store: &mut S, version: &Version, file: &[u8]) -
     requires spelling { file.now ≡ file_of version.now }
     requires reads { IsFileFrom (Some version.now.log_from) (named_levels version.now.levels) file.now }
     ensures stored { S.tells → CommitsStored version.now (S.world store.old) (S.world store.new) result }
+    // Names that are none of the tree's are as they were.
+    ensures passes { S.tells → Passes (S.world store.old) (S.world store.new) }
     ensures only { IfErr result (λ e. ((e ≡ Error.OutOfMemory) ⊎ (e ≡ Error.Store)) ⊎ (e ≡ Error.CommitUnknown)) }
     ensures counts { CountsFaults (S.world store.old) (S.world store.new) result }
 {

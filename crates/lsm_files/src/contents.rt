@@ -5,6 +5,7 @@ ghost use Rattle.lsm_store.specs.World.{LeavesOnly};
 ghost use Rattle.lsm_store.specs.Synced.{IsBeside, KeepsOthers};
 ghost use Rattle.lsm_manifest.specs.Names.{table_name};
 ghost use Rattle.lsm_files.specs.Stored.{CountsFaults};
+ghost use Rattle.lsm_files.specs.Foreign.{Passes};
 ghost use Rattle.lsm_files.specs.Writing.{KeepsElsewhere, IsKeptElsewhere, KeepsStored};
 ghost use Rattle.lsm_files.specs.Contents.{IsWritten, AreWritten};
 
@@ -84,6 +85,8 @@ pub fn write_contents<S: Store>(
     ensures keeps { S.tells → KeepsElsewhere next.old (S.world store.old) (S.world store.new) }
     ensures any_moment { S.tells → LeavesOnly (S.world store.old) (S.world store.new) (IsKeptElsewhere next.old (S.world store.old)) }
     ensures stored { S.tells → KeepsStored next.old (S.world store.old) (S.world store.new) }
+    // Names that are none of the tree's are as they were.
+    ensures passes { S.tells → Passes (S.world store.old) (S.world store.new) }
     // Refusals.
     ensures out_of_numbers { IsErrOf result Error.OutOfNumbers → LIMIT ≤ next.new }
     ensures only { IfErr result (λ e. ((e ≡ Error.OutOfMemory) ⊎ (e ≡ Error.Store)) ⊎ (e ≡ Error.OutOfNumbers)) }

@@ -6,6 +6,7 @@ ghost use Rattle.lsm_model.specs.Steps.{among};
 ghost use Rattle.lsm_manifest.specs.Names.{version_name, table_name};
 ghost use Rattle.lsm_files.specs.Stored.{Keeps, CountsFaults};
 ghost use Rattle.lsm_files.specs.Commits.{SparesStored, IsNoneOf, SparesTables};
+ghost use Rattle.lsm_files.specs.Foreign.{Passes};
 
 use lsm_below::{Error, TableId};
 use lsm_manifest::{names_are_apart, table_name, version_name};
@@ -37,6 +38,8 @@ pub fn remove_version<S: Store>(store: &mut S, id: VersionId) -> Result<(), Erro
     ensures gone { S.tells → OnOk result ((S.world store.new).gives (version_name id) ≡ None) }
     ensures keeps { S.tells → KeepsOthers (version_name id) (S.world store.old) (S.world store.new) }
     ensures stored { S.tells → SparesStored id (S.world store.old) (S.world store.new) }
+    // Names that are none of the tree's are as they were.
+    ensures passes { S.tells → Passes (S.world store.old) (S.world store.new) }
     ensures only { IfErr result (λ e. e ≡ Error.Store) }
     ensures counts { CountsFaults (S.world store.old) (S.world store.new) result }
 {
@@ -48,6 +51,7 @@ fn remove_table<S: Store>(store: &mut S, id: TableId) -> Result<(), Error>
     ensures gone { S.tells → OnOk result ((S.world store.new).gives (table_name id) ≡ None) }
     ensures keeps { S.tells → KeepsOthers (table_name id) (S.world store.old) (S.world store.new) }
     ensures stored { S.tells → (ids : List ℕ) → among ids id ≡ true → SparesTables ids (S.world store.old) (S.world store.new) }
+    ensures passes { S.tells → Passes (S.world store.old) (S.world store.new) }
     ensures only { IfErr result (λ e. e ≡ Error.Store) }
     ensures counts { CountsFaults (S.world store.old) (S.world store.new) result }
 {
@@ -66,6 +70,8 @@ pub fn remove_tables<S: Store>(store: &mut S, ids: &HashSet<TableId>) -> Result<
     ensures gone { S.tells → OnOk result ((i : ℕ) → among ids.now.keys i ≡ true → (S.world store.new).gives (table_name i) ≡ None) }
     ensures keeps { S.tells → Keeps (IsNoneOf ids.now.keys) (S.world store.old) (S.world store.new) }
     ensures stored { S.tells → SparesTables ids.now.keys (S.world store.old) (S.world store.new) }
+    // Names that are none of the tree's are as they were.
+    ensures passes { S.tells → Passes (S.world store.old) (S.world store.new) }
     ensures only { IfErr result (λ e. e ≡ Error.Store) }
     ensures counts { CountsFaults (S.world store.old) (S.world store.new) result }
 {

@@ -6,6 +6,7 @@ ghost use Rattle.lsm_tables.specs.Image.{IsTable, image};
 ghost use Rattle.lsm_tables.specs.Cutting.{IsWritable};
 ghost use Rattle.lsm_manifest.specs.Names.{table_name};
 ghost use Rattle.lsm_files.specs.Stored.{IsTableOnDisk, AreOnDisk, CountsFaults};
+ghost use Rattle.lsm_files.specs.Foreign.{Passes};
 ghost use Rattle.lsm_files.specs.Writing.{HoldEntries, KeepsElsewhere, IsKeptElsewhere, KeepsStored};
 
 use crate::contents::write_file;
@@ -127,6 +128,8 @@ pub fn write_tables<S: Store>(
     ensures keeps { S.tells → KeepsElsewhere next.old (S.world store.old) (S.world store.new) }
     ensures any_moment { S.tells → LeavesOnly (S.world store.old) (S.world store.new) (IsKeptElsewhere next.old (S.world store.old)) }
     ensures stored { S.tells → KeepsStored next.old (S.world store.old) (S.world store.new) }
+    // Names that are none of the tree's are as they were.
+    ensures passes { S.tells → Passes (S.world store.old) (S.world store.new) }
     // Refusals.
     ensures out_of_numbers { IsErrOf result Error.OutOfNumbers → LIMIT ≤ next.new }
     ensures only { IfErr result (λ e. ((e ≡ Error.OutOfMemory) ⊎ (e ≡ Error.Store)) ⊎ (e ≡ Error.OutOfNumbers)) }

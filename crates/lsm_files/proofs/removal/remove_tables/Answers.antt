@@ -1,4 +1,5 @@
 use Rattle.std.proofs.Common.{ℕ, Bor, rules, ◌∙◌}
+use Rattle.lsm_files.specs.Foreign.{passes_then}
 use Rattle.lsm_files.proofs.Removals.{rest_none, rest_kept, rest_spared, gone_more, among_taken}
 use Rattle.lsm_files.proofs.removal.remove_tables.Goals as goal
 
@@ -21,6 +22,7 @@ returns-in_err-remove_table g c =
       gone = search rules;
       keeps = λ tells. rest_kept ids id.now is (w c.args.store.now) (w at.store) (w c.remove_table.new.store) (so_far.keeps tells) (did.keeps tells);
       stored = λ tells. rest_spared ids id.now is (w c.args.store.now) (w at.store) (w c.remove_table.new.store) (so_far.stored tells) (did.stored tells ids is);
+      passes = λ tells. passes_then (w c.args.store.now) (w at.store) (w c.remove_table.new.store) (so_far.passes tells) (did.passes tells);
       only = search rules;
       counts = search rules;
     }
@@ -42,6 +44,7 @@ loop-id-preserved g c =
       rest = record {
         keeps = λ tells. rest_kept ids id.now is old mid new (so_far.keeps tells) (did.keeps tells);
         stored = λ tells. rest_spared ids id.now is old mid new (so_far.stored tells) (did.stored tells ids is);
+        passes = λ tells. passes_then old mid new (so_far.passes tells) (did.passes tells);
         failures = did.counts.none (λ e. absurd (cc e)) (λ e. absurd (cc e)) ∙ so_far.failures;
       };
     }
