@@ -45,7 +45,7 @@ pub record Passes (old new : World) : Type 0 where
   pub leaves : LeavesOnly old new (KeepsForeign old)
 
 -- while nothing is done, a crash leaves one of the versions that are stored, and foreign names are as they are
-pub record Stays (w : World) : Type 0 where
+pub record AtRest (w : World) : Type 0 where
   pub leaves : (versions : List SeenVersion) (written : List SeenTable) → IsStored w versions written → Leaves w w versions
   pub passes : Passes w w
 

@@ -4,14 +4,14 @@ ghost use Rattle.lsm_versions.specs.Levels.{SeenVersion};
 ghost use Rattle.lsm_files.specs.Stored.{AreAmong, Leaves};
 ghost use Rattle.lsm_files.specs.Contents.{FilesAreTables};
 ghost use Rattle.lsm_files.specs.Opening.{OpeningStores};
-ghost use Rattle.lsm_files.specs.Foreign.{ForeignNamesSpare, Stays};
+ghost use Rattle.lsm_files.specs.Foreign.{ForeignNamesSpare, AtRest};
 
 use lsm_manifest::{named_files_stay, names_are_apart, no_version_begins_another};
 use lsm_store::Store;
 
 /// While nothing is done a crash leaves one of the versions that are stored, and foreign names are as they are.
 pub fn crashes_leave_versions<S: Store>(store: &S)
-    ensures { S.tells → Stays (S.world store.now) }
+    ensures { S.tells → AtRest (S.world store.now) }
 {}
 
 /// What a crash leaves in one call or in the next one, it leaves in both together.

@@ -6,10 +6,9 @@ use Rattle.lsm_below.specs.Each.{each_weaker}
 use Rattle.lsm_store.specs.World.{World}
 use Rattle.lsm_store.specs.Synced.{KeepsOthers}
 use Rattle.lsm_store.specs.Moments.{joined, same_or_not}
-use Rattle.lsm_tables.specs.Tables.{SeenTable}
-use Rattle.lsm_versions.specs.Levels.{SeenVersion}
 use Rattle.lsm_manifest.specs.Names.{version_name}
-use Rattle.lsm_files.specs.Stored.{IsStored, HoldsOneOf, Leaves}
+use Rattle.lsm_files.specs.Stored.{HoldsOneOf}
+use Rattle.lsm_files.specs.Foreign.{AtRest, Passes}
 use Rattle.lsm_parts.specs.declared.version.super_version.SuperVersion.{SuperVersion}
 use Rattle.lsm_parts.specs.History.{SeenHistory, NumbersFall}
 use Rattle.lsm_parts.specs.Maintenance.{KeepsNewer, KeepsVersions}
@@ -19,6 +18,7 @@ pub record KeepsFiles (tells : Type 0) (h : SeenHistory) (n : ℕ) (old new : Wo
   pub gone : tells → AllByRecursion (λ sv. sv.version.id < h.latest.version.id → new.gives (version_name sv.version.id) ≡ None) (drop n h.older)
   pub keeps : tells → KeepsNewer h.latest.version.id old new
   pub stored : tells → KeepsVersions h.latest.version.id old new
+  pub passes : tells → Passes old new
   pub failures : new.failures ≡ old.failures
 
 -- an absent name stays so where another one is made absent
@@ -29,11 +29,12 @@ drop_whole : {A : Type 0} (xs : List A) → drop (length xs) xs ≡ []
 drop_whole [] = refl
 drop_whole (x ∷ xs) = drop_whole xs
 
-pub files_none : (tells : Type 0) (h : SeenHistory) (w : World) → (tells → (versions : List SeenVersion) (unnamed : List SeenTable) → IsStored w versions unnamed → Leaves w w versions) → KeepsFiles tells h (length h.older) w w
+pub files_none : (tells : Type 0) (h : SeenHistory) (w : World) → (tells → AtRest w) → KeepsFiles tells h (length h.older) w w
 files_none tells h w rests = record {
   gone = λ s. subst (AllByRecursion (λ sv. sv.version.id < h.latest.version.id → w.gives (version_name sv.version.id) ≡ None)) (sym (drop_whole h.older)) tt;
   keeps = λ s. record { may = λ n c out. (λ may. may, λ may. may); gives = λ n out. refl };
-  stored = λ s versions unnamed stored newer. (stored, rests s versions unnamed stored);
+  stored = λ s versions unnamed stored newer. (stored, (rests s).leaves versions unnamed stored);
+  passes = λ s. (rests s).passes;
   failures = refl;
 }
 

@@ -3,9 +3,9 @@ use Rattle.std.proofs.Common.{cond, ◌≡◌, ℕ, Bool, true, false, List, [],
 use Rattle.lsm_below.specs.Members.{IsIn}
 use Rattle.lsm_store.specs.World.{World}
 use Rattle.lsm_store.specs.Moments.{weakened}
-use Rattle.lsm_tables.specs.Tables.{SeenTable}
 use Rattle.lsm_versions.specs.Levels.{SeenVersion}
-use Rattle.lsm_files.specs.Stored.{IsStored, HoldsOneOf, Leaves}
+use Rattle.lsm_files.specs.Stored.{IsStored, HoldsOneOf}
+use Rattle.lsm_files.specs.Foreign.{AtRest}
 use Rattle.lsm_model.specs.Views.{SuperVersion, front, lookup, found_at}
 use Rattle.lsm_jobs.specs.Jobs.{SeenOpen}
 use Rattle.lsm_state.specs.Calls.{Rotates}
@@ -14,21 +14,18 @@ use Rattle.lsm_state.specs.Commits.{Upholds}
 use Rattle.lsm_state.specs.Flushes.{spent, spent_in}
 use Rattle.lsm_recorded.specs.Recorded.{Stays}
 
--- while nothing is done to files, a crash leaves what they hold
-abbrev pub StaysStored : World → Type 0
-StaysStored w = (versions : List SeenVersion) (written : List SeenTable) → IsStored w versions written → Leaves w w versions
-
 in_front : (v : SeenVersion) (xs ys : List SeenVersion) → IsIn v xs → IsIn v (xs ++ ys)
 in_front v [] ys i = absurd i
 in_front v (x ∷ xs) ys i = ⊎_elim (λ (e : x ≡ v). inl e) (λ (j : IsIn v xs). inr (in_front v xs ys j)) i
 
 -- nothing is done
-still_upholds : (w : World) (old : Core) → StaysStored w → Upholds w w old old
-still_upholds w old leaves stored =
-    let vs = versions_left old in
-    (stored, weakened w w (HoldsOneOf vs) (HoldsOneOf (vs ++ vs)) (leaves vs (written_of old) stored) (λ image one. (one.0, in_front one.0 vs vs one.1, one.2, one.3)))
+still_upholds : (w : World) (old : Core) → AtRest w → Upholds w w old old
+still_upholds w old stays = record {
+  files = λ stored. let vs = versions_left old in (stored, weakened w w (HoldsOneOf vs) (HoldsOneOf (vs ++ vs)) (stays.leaves vs (written_of old) stored) (λ image one. (one.0, in_front one.0 vs vs one.1, one.2, one.3)));
+  passes = stays.passes;
+}
 
-pub same_upholds : (w v : World) (old new : Core) → StaysStored w → v ≡ w → new ≡ old → Upholds w v old new
+pub same_upholds : (w v : World) (old new : Core) → AtRest w → v ≡ w → new ≡ old → Upholds w v old new
 same_upholds w v old new leaves same is = subst (λ u. Upholds w u old new) (sym same) (subst (Upholds w w old) (sym is) (still_upholds w old leaves))
 
 -- a job is spent
@@ -40,9 +37,10 @@ stored_spent w vs n (Some f) s = by_case (eqb f.number n)
     by_case true = record { current = s.current; whole = s.whole; written = tt; no_version = s.no_version; in_tables = s.in_tables }
     by_case false = s
 
-pub spent_upholds : (w v : World) (n : ℕ) (old new : Core) → StaysStored w → v ≡ w → new ≡ spent n old → Upholds w v old new
+pub spent_upholds : (w v : World) (n : ℕ) (old new : Core) → AtRest w → v ≡ w → new ≡ spent n old → Upholds w v old new
 spent_upholds w v n old new leaves same is =
-    subst (λ u. Upholds w u old new) (sym same) (subst (Upholds w w old) (sym is) (λ stored. (stored_spent w (versions_left old) n old.flush stored, (still_upholds w old leaves stored).1)))
+    subst (λ u. Upholds w u old new) (sym same)
+    (subst (Upholds w w old) (sym is) (record { files = λ stored. (stored_spent w (versions_left old) n old.flush stored, ((still_upholds w old leaves).files stored).1); passes = leaves.passes }))
 
 -- ---- behind a rotation
 

@@ -1,5 +1,5 @@
 // A tree with the journal of its calls.
-ghost use Rattle.std.specs.Prelude.{◌≡◌, ◌+◌, ◌<◌, ◌≤◌, ◌^◌, ◌∷◌, [], true, false, None, Ok, IfOk, IfErr, IfSome, OnOk, OnErr, IsErrOf, IsTrue, ◌↔◌, ◌⊎◌, List, map};
+ghost use Rattle.std.specs.Prelude.{◌≡◌, ◌+◌, ◌<◌, ◌≤◌, ◌^◌, ◌∷◌, [], true, false, None, Ok, IfOk, IfErr, IfSome, OnOk, OnErr, IsErrOf, IsTrue, ◌↔◌, ◌⊎◌, map};
 ghost use Rattle.std.specs.FinMap.{get as value_in};
 ghost use Rattle.lsm_below.specs.Entries.{plain, above};
 ghost use Rattle.lsm_model.specs.Views.{held};
@@ -11,9 +11,7 @@ ghost use Rattle.lsm_model.specs.declared.journal.JournalEntry.TheVariants.{Writ
 ghost use Rattle.lsm_model.specs.declared.question.Question.TheVariants.{Get as GetQuestion};
 ghost use Rattle.lsm_model.specs.declared.question.Answer.TheVariants.{Found};
 ghost use Rattle.lsm_model.specs.declared.op.Op.TheVariants.{Set, Del, Weak};
-ghost use Rattle.lsm_tables.specs.Tables.{SeenTable};
-ghost use Rattle.lsm_versions.specs.Levels.{SeenVersion};
-ghost use Rattle.lsm_files.specs.Stored.{IsStored, Leaves};
+ghost use Rattle.lsm_files.specs.Foreign.{AtRest};
 ghost use Rattle.lsm_state.specs.Held.{first_entries};
 ghost use Rattle.lsm_state.specs.Kept.{IsKeptTree};
 ghost use Rattle.lsm_state.specs.Core.{state_of};
@@ -322,9 +320,9 @@ impl<S: Store> Recorded<S> {
         Ok(Some(journal))
     }
 
-    /// Of files to which nothing is done, a crash leaves what they hold.
+    /// Of files to which nothing is done, a crash leaves what they hold, and foreign names are as they are.
     fn stays_stored(&self)
-        ensures { S.tells → (versions : List SeenVersion) (written : List SeenTable) → IsStored (S.world self.now.tree.store) versions written → Leaves (S.world self.now.tree.store) (S.world self.now.tree.store) versions }
+        ensures { S.tells → AtRest (S.world self.now.tree.store) }
     {
         crashes_leave_versions(self.core.store());
     }

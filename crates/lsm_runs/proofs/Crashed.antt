@@ -140,7 +140,7 @@ module _ (crashes : EveryCrashRecovers) (shows : FoundTablesShow) (join : DeedsJ
 
     at_rest : (before : List Event) (notes : List Note) → before ≡ end → IsStored (world new.store) (versions_left new.stage.core) (written_of new.stage.core) → RunsOn [] [] before notes new
     at_rest before notes e stored =
-        (notes, subst (λ b. Acts opened (world new.store) (world new.store) (saved_of b notes new.stage.core) (saved_of end notes new.stage.core)) (sym e) (rests join opened (world new.store) end notes new.stage.core (upheld stored).1), (refl, refl, refl), stored)
+        (notes, subst (λ b. Acts opened (world new.store) (world new.store) (saved_of b notes new.stage.core) (saved_of end notes new.stage.core)) (sym e) (rests join opened (world new.store) end notes new.stage.core (upheld.files stored).1), (refl, refl, refl), stored)
 
     runs_on : (xs : List Call) (ts : List Told) (journal before : List Event) (notes : List Note) (old : Watched F W) (earlier : List Deed) → unread journal ≡ before → before ++ unread (journal_of ts) ≡ end
         → IsPlainUse xs → RanWatched world gives strategies xs ts old new → Deeds opened first earlier (saved_of before notes old.stage.core) → IsRight opened start before old.stage.core → AreMarked journal old.stage.jobs
@@ -157,7 +157,7 @@ module _ (crashes : EveryCrashRecovers) (shows : FoundTablesShow) (join : DeedsJ
         let e' : unread (journal ++ t.entries) ≡ before ++ events = without-append opened journal t.entries ∙ ap (λ b. b ++ events) e in
         let front : InOrder opened (before ++ events) = laws.theory.kept.front opened (before ++ events) (unread (journal_of ts)) (subst (InOrder opened) (sym to') order) in
         let d = step_at x t journal before notes old.stage mid.stage e (λ is. plain (inl is)) marked ran.1 right front in
-        let up = ran.2 stored in
+        let up = ran.2.files stored in
         let a = saved_of before notes old.stage.core in
         let b = saved_of (before ++ events) (noted ++ notes) mid.stage.core in
         let done' = (join opened first a b earlier d.0 done d.1).0 in
@@ -185,7 +185,7 @@ run_recovers crashes shows join deeds laws strategies opened start world gives x
       new.stage,
       leaves crashes shows join laws strategies opened start world gives first is_start first last [] refl order' (world old.store) (world new.store) on.1,
       subst (λ s. EachHolds (LeavesBeginnings (world new.store) start end on.0) gives strategies opened xs ts s new.stage old.watch new.watch [] [] on.0) free on.2,
-      (leaves crashes shows join laws strategies opened start world gives first is_start last last on.1.0 on.1.1 order' (world new.store) (world new.store) (rests join opened (world new.store) end on.0 new.stage.core (upheld on.3).1)).each,
+      (leaves crashes shows join laws strategies opened start world gives first is_start last last on.1.0 on.1.1 order' (world new.store) (world new.store) (rests join opened (world new.store) end on.0 new.stage.core (upheld.files on.3).1)).each,
     )
 
 -- over the store as it is then

@@ -47,7 +47,7 @@ in_both v xs ys i = ⊎_elim (λ h. in_first v xs ys h) (λ h. in_first v xs ys 
 module _ {F : Type 0} (world : F → World) (was is : F) where
   -- where the store stays
   kept : (old new : Core) → Upholds (world was) (world was) old old → Rests old new → is ≡ was → Upholds (world was) (world is) old new
-  kept old new up r e = rw e (λ h. (rests_stored (world was) old new r h, more (up h).1))
+  kept old new up r e = rw e (record { files = λ h. (rests_stored (world was) old new r h, more (up.files h).1); passes = up.passes })
     where
       among : (image : Image) → HoldsOneOf (versions_left old ++ versions_left old) image → HoldsOneOf (versions_left old ++ versions_left new) image
       among image h = (h.0, in_both h.0 (versions_left old) (versions_left new) h.1, h.2, h.3)

@@ -138,6 +138,7 @@ unfound IsMade IsUnmade w c = record {
   settles = record { ok = tt; after = λ h. cc h; unknown = λ h. cc h; before = λ h. refl; store = λ h. inl refl; memory = λ h. inl refl };
   store = λ h. cc h;
   too_many_runs = λ h. cc h;
+  numbered = λ h. cc h;
   out_of_numbers = λ h. cc h;
   only = inl (inl refl);
 }

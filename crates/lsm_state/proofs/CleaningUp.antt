@@ -13,7 +13,7 @@ use Rattle.lsm_parts.specs.Maintenance.{Forgets, KeepsVersions}
 use Rattle.lsm_state.specs.Held.{HasFirst, ids_of, FallFrom, is_among}
 use Rattle.lsm_state.specs.Kept.{named_by, least_named, NamesHeld, NameHeld, NameOlder, KeepsIds, KeepsTables}
 use Rattle.lsm_state.specs.Core.{Core, versions_left, written_of}
-use Rattle.lsm_state.specs.Commits.{Upholds}
+use Rattle.lsm_state.specs.Commits.{UpholdsFiles}
 use Rattle.lsm_state.specs.Cleaning.{from_id, oldest_named}
 use Rattle.lsm_state.proofs.Forgetting.{least_down, all_over, older_take}
 use Rattle.lsm_state.proofs.Upholding.{upheld, among_left}
@@ -126,7 +126,7 @@ module _ (w : ℕ) (r : Result (Unit {0}) Error) (h new : SeenHistory) (f : Forg
 
 -- ---- the files
 
-pub cleaned_upholds : (w w' : World) (old new : Core) → new.history.latest ≡ old.history.latest → new.lost ≡ old.lost → new.flush ≡ old.flush → KeepsVersions old.history.latest.version.id w w' → old.lost ≡ None → Upholds w w' old new
+pub cleaned_upholds : (w w' : World) (old new : Core) → new.history.latest ≡ old.history.latest → new.lost ≡ old.lost → new.flush ≡ old.flush → KeepsVersions old.history.latest.version.id w w' → old.lost ≡ None → UpholdsFiles w w' old new
 cleaned_upholds w w' old new latest lost flush keeps certain stored =
     let id = old.history.latest.version.id in
     let one : versions_left old ≡ old.history.latest.version ∷ [] = ap (λ o. old.history.latest.version ∷ option_to_list o) certain in

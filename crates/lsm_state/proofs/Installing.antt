@@ -18,7 +18,8 @@ use Rattle.lsm_parts.specs.History.{SeenHistory, versions_of}
 use Rattle.lsm_state.specs.Held.{HasFirst, ids_of, is_among}
 use Rattle.lsm_state.specs.Kept.{NameOlder, KeepsIds, KeepsTables}
 use Rattle.lsm_state.specs.Core.{Core, versions_left, written_of}
-use Rattle.lsm_state.specs.Commits.{Upholds}
+use Rattle.lsm_files.specs.Foreign.{passes_then}
+use Rattle.lsm_state.specs.Commits.{UpholdsFiles, Upholds}
 use Rattle.lsm_state.specs.Flushes.{IsFlushedOf}
 use Rattle.lsm_state.proofs.FlushSteps.{names_older}
 use Rattle.lsm_state.proofs.Upholding.{among_right, leaves_more}
@@ -64,8 +65,8 @@ flushed_on_disk w c tables next same disk stored =
     each_permuted (IsTableOnDisk w) (tables ++ all_of c.history.latest.version.levels) next same (each_append (IsTableOnDisk w) tables (all_of c.history.latest.version.levels) disk stored.whole.0.tables)
 
 -- two calls in turn, of which the second one changes no version
-pub upholds_join : (w v u : World) (old mid new : Core) → versions_left new ≡ versions_left mid → Upholds w v old mid → Upholds v u mid new → Upholds w u old new
-upholds_join w v u old mid new same first second stored =
+pub files_join : (w v u : World) (old mid new : Core) → versions_left new ≡ versions_left mid → UpholdsFiles w v old mid → UpholdsFiles v u mid new → UpholdsFiles w u old new
+files_join w v u old mid new same first second stored =
     let one = first stored in
     let two = second one.0 in
     let all = versions_left old ++ versions_left new in
@@ -75,3 +76,6 @@ upholds_join w v u old mid new same first second stored =
   where
     both : (xs all : List SeenVersion) → AreAmong xs all → AreAmong (xs ++ xs) all
     both xs all h = each_append (λ v. IsIn v all) xs xs h h
+
+pub upholds_join : (w v u : World) (old mid new : Core) → versions_left new ≡ versions_left mid → Upholds w v old mid → Upholds v u mid new → Upholds w u old new
+upholds_join w v u old mid new same first second = record { files = files_join w v u old mid new same first.files second.files; passes = passes_then w v u first.passes second.passes }

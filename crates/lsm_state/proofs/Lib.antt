@@ -34,3 +34,4 @@ pub mod Wholes
 pub mod Clears
 pub mod ClearReads
 pub mod Raising
+pub mod Causing

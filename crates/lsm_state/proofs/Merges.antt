@@ -174,6 +174,18 @@ pub spent_upholds : (w : World) (old new : Core) (n : ℕ) (found : Bool) → (f
 spent_upholds w old new n true closes other up = subst (Upholds w w old) (sym (closes refl)) up
 spent_upholds w old new n false closes other up = subst (Upholds w w old) (sym (other refl)) up
 
+-- the counter has no number
+pub unnumbered : {T : Type 0} (job : SeenCompaction) (old : Core) → 2 ^ 63 ≤ old.seqno → InstallsMerge {T = T} job (Err OutOfNumbers) old old
+unnumbered job old great = record {
+  table = old.next_table;
+  rises = omega arith;
+  settles = record { ok = tt; after = λ h. cc h; unknown = λ h. cc h; before = λ h. refl; store = λ h. cc h; memory = λ h. cc h };
+  out_of_numbers = λ h. inl great;
+  too_many_runs = λ h. cc h;
+  numbered = λ h. cc h;
+  only = inr (inl refl);
+}
+
 module _ {T : Type 0} (job : SeenCompaction) (e : Error) (old new : Core) where
   -- files weren't written
   pub unwritten : old.next_table ≤ new.next_table → new ≡ with_next_table new.next_table old → ((e ≡ OutOfMemory) ⊎ (e ≡ Store)) ⊎ (e ≡ OutOfNumbers) → (e ≡ OutOfNumbers → 2 ^ 63 ≤ new.next_table) → InstallsMerge {T = T} job (Err e) old new
@@ -190,6 +202,7 @@ module _ {T : Type 0} (job : SeenCompaction) (e : Error) (old new : Core) where
     };
     out_of_numbers = λ h. inr (inl (numbers (is_error OutOfNumbers h)));
     too_many_runs = λ h. ⊎_elim (⊎_elim (λ (m : e ≡ OutOfMemory). cc (h, m)) (λ (m : e ≡ Store). cc (h, m))) (λ (m : e ≡ OutOfNumbers). cc (h, m)) only;
+    numbered = λ h. ⊎_elim (⊎_elim (λ (m : e ≡ OutOfMemory). cc (h, m)) (λ (m : e ≡ Store). cc (h, m))) (λ (m : e ≡ OutOfNumbers). cc (h, m)) only;
     only = ⊎_elim (⊎_elim (λ (m : e ≡ OutOfMemory). inl (inl m)) (λ (m : e ≡ Store). inl (inr (inl m)))) (λ (m : e ≡ OutOfNumbers). inr (inl m)) only;
   }
     where
@@ -197,8 +210,8 @@ module _ {T : Type 0} (job : SeenCompaction) (e : Error) (old new : Core) where
       is_error f h = cc h
 
   -- no version was made
-  pub unmade : (tables : List SeenTable) → old.next_table ≤ new.next_table → new ≡ with_next_table new.next_table old → HoldsMerged job tables → IsRefusedFor job.ids tables job.settings.dest_level old.history.latest.version e → InstallsMerge {T = T} job (Err e) old new
-  unmade tables rises is holds refused = record {
+  pub unmade : (tables : List SeenTable) → old.seqno < 2 ^ 63 → old.next_table ≤ new.next_table → new ≡ with_next_table new.next_table old → HoldsMerged job tables → IsRefusedFor job.ids tables job.settings.dest_level old.history.latest.version e → InstallsMerge {T = T} job (Err e) old new
+  unmade tables small rises is holds refused = record {
     table = new.next_table;
     rises = rises;
     settles = record {
@@ -210,6 +223,7 @@ module _ {T : Type 0} (job : SeenCompaction) (e : Error) (old new : Core) where
       memory = λ h. inl is;
     };
     out_of_numbers = λ h. inr (inr (subst (IsRefusedFor job.ids tables job.settings.dest_level old.history.latest.version) (is_error OutOfNumbers h) refused));
+    numbered = λ h. small;
     too_many_runs = λ h. (tables, holds, subst (IsRefusedFor job.ids tables job.settings.dest_level old.history.latest.version) (is_error TooManyRuns h) refused);
     only = kind e refused;
   }
@@ -241,6 +255,7 @@ module _ {T : Type 0} (job : SeenCompaction) (e : Error) (old new : Core) where
     };
     out_of_numbers = λ h. inl (subst (λ k. 2 ^ 63 ≤ k.seqno) is (s.numbers (ap Err (is_error OutOfNumbers h))).1);
     too_many_runs = λ h. none (is_error TooManyRuns h) s.only;
+    numbered = λ h. none (is_error TooManyRuns h) s.only;
     only = ⊎_elim (λ m. inl m) (⊎_elim (λ (m : e ≡ OutOfNumbers). inr (inl m)) (λ (m : e ≡ AfterCommit). inr (inr (inr m)))) s.only;
   }
     where

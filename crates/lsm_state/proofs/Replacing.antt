@@ -15,7 +15,7 @@ use Rattle.lsm_jobs.specs.Jobs.{SeenOpen}
 use Rattle.lsm_parts.specs.History.{SeenHistory, versions_of}
 use Rattle.lsm_state.specs.Kept.{KeepsTables}
 use Rattle.lsm_state.specs.Core.{Core, versions_left, written_by, written_of}
-use Rattle.lsm_state.specs.Commits.{Upholds}
+use Rattle.lsm_state.specs.Commits.{UpholdsFiles}
 use Rattle.lsm_state.specs.Settling.{with_version, IsInstalled, Settles}
 use Rattle.lsm_state.proofs.Installing.{each_permuted}
 use Rattle.lsm_state.proofs.Upholding.{upheld, among_left}
@@ -126,7 +126,7 @@ spared ids flush h n k there = each_weaker (IsApart (all_of h.latest.version.lev
 -- ---- files
 
 -- files of tables went that none of a tree's tables has
-pub removed_upholds : (w w' : World) (c : Core) (gone : List ℕ) → SparesTables gone w w' → c.lost ≡ None → AreOthers gone (all_of c.history.latest.version.levels) → AreOthers gone (written_of c) → Upholds w w' c c
+pub removed_upholds : (w w' : World) (c : Core) (gone : List ℕ) → SparesTables gone w w' → c.lost ≡ None → AreOthers gone (all_of c.history.latest.version.levels) → AreOthers gone (written_of c) → UpholdsFiles w w' c c
 removed_upholds w w' c gone spares certain of_version of_flush stored =
     let one : versions_left c ≡ c.history.latest.version ∷ [] = ap (λ o. c.history.latest.version ∷ option_to_list o) certain in
     let kept = spares (versions_left c) (written_of c) stored (subst (AllByRecursion (λ v. AreOthers gone (all_of v.levels))) (sym one) (of_version, tt)) of_flush in

@@ -10,7 +10,8 @@ use Rattle.lsm_versions.specs.Levels.{SeenVersion, all_of}
 use Rattle.lsm_files.specs.Stored.{IsStored, AreOnDisk, HoldsOneOf, Leaves, AreAmong}
 use Rattle.lsm_files.specs.Commits.{Stores, CommitsStored}
 use Rattle.lsm_state.specs.Core.{Core, versions_left, written_of}
-use Rattle.lsm_state.specs.Commits.{Upholds}
+use Rattle.lsm_files.specs.Foreign.{AtRest}
+use Rattle.lsm_state.specs.Commits.{UpholdsFiles, Upholds}
 
 -- ---- lists of versions
 
@@ -44,8 +45,11 @@ upheld w w' old new vs ts some is_vs is_ts stored leaves among = (
 )
 
 -- nothing is done
-pub upheld_still : (w : World) (old new : Core) → versions_left new ≡ versions_left old → written_of new ≡ written_of old → ((versions : List SeenVersion) (written : List SeenTable) → IsStored w versions written → Leaves w w versions) → Upholds w w old new
-upheld_still w old new vs ts leaves stored = upheld w w old new (versions_left old) (written_of old) (versions_left old) vs ts stored (leaves (versions_left old) (written_of old) stored) (among_left (versions_left old) (versions_left old))
+pub upheld_still : (w : World) (old new : Core) → versions_left new ≡ versions_left old → written_of new ≡ written_of old → AtRest w → Upholds w w old new
+upheld_still w old new vs ts stays = record {
+  files = λ stored. upheld w w old new (versions_left old) (written_of old) (versions_left old) vs ts stored (stays.leaves (versions_left old) (written_of old) stored) (among_left (versions_left old) (versions_left old));
+  passes = stays.passes;
+}
 
 -- a commit
 module _ (w w' : World) (old new : Core) (v : SeenVersion) (certain : old.lost ≡ None) (later : old.history.latest.version.id < v.id) (disk : AreOnDisk w (all_of v.levels)) (same : new.flush ≡ old.flush) where
@@ -61,19 +65,19 @@ module _ (w w' : World) (old new : Core) (v : SeenVersion) (certain : old.lost �
   stores : (r : Result (Unit {0}) Error) → CommitsStored v w w' r → IsStored w (versions_left old) (written_of old) → Stores latest v (written_of old) w w' r
   stores r commits stored = commits latest (written_of old) (subst (λ l. IsStored w l (written_of old)) left_is stored) (λ e. let eq : v.id ≡ latest.id = e in let lt : latest.id < v.id = later in absurd (omega (arith, eq, lt))) disk
 
-  pub committed_upholds : (x : Unit {0}) → CommitsStored v w w' (Ok x) → new.history.latest.version ≡ v → new.lost ≡ None → Upholds w w' old new
+  pub committed_upholds : (x : Unit {0}) → CommitsStored v w w' (Ok x) → new.history.latest.version ≡ v → new.lost ≡ None → UpholdsFiles w w' old new
   committed_upholds x commits is lost stored =
       let s = stores (Ok x) commits stored in
       upheld w w' old new (v ∷ []) (written_of old) (latest ∷ (v ∷ [])) (ap (λ o. new.history.latest.version ∷ option_to_list o) lost ∙ ap (λ u. u ∷ []) is) written_is s.ok s.leaves
       (subst (λ l. AreAmong (latest ∷ (v ∷ [])) (l ++ v ∷ [])) (sym left_is) (inl refl, (inr (inl refl), tt)))
 
-  pub doubted_upholds : (e : Error) → CommitsStored v w w' (Err e) → e ≡ CommitUnknown → new.history.latest.version ≡ latest → new.lost ≡ Some v → Upholds w w' old new
+  pub doubted_upholds : (e : Error) → CommitsStored v w w' (Err e) → e ≡ CommitUnknown → new.history.latest.version ≡ latest → new.lost ≡ Some v → UpholdsFiles w w' old new
   doubted_upholds e commits is still lost stored =
       let s = stores (Err e) commits stored in
       upheld w w' old new (latest ∷ (v ∷ [])) (written_of old) (latest ∷ (v ∷ [])) (ap (λ o. new.history.latest.version ∷ option_to_list o) lost ∙ ap (λ u. u ∷ (v ∷ [])) still) written_is (s.unknown (ap Err is)) s.leaves
       (among_right (versions_left old) (latest ∷ (v ∷ [])))
 
-  pub refused_upholds : (e : Error) → CommitsStored v w w' (Err e) → (e ≡ CommitUnknown → ⊥) → new.history.latest.version ≡ latest → new.lost ≡ old.lost → Upholds w w' old new
+  pub refused_upholds : (e : Error) → CommitsStored v w w' (Err e) → (e ≡ CommitUnknown → ⊥) → new.history.latest.version ≡ latest → new.lost ≡ old.lost → UpholdsFiles w w' old new
   refused_upholds e commits isnt still lost stored =
       let s = stores (Err e) commits stored in
       let one = ⊎_elim (λ (u : IsErrOf {T = Unit {0}} (Err e) CommitUnknown). absurd (isnt (err_same e CommitUnknown u))) (λ (p : IsStored w' (latest ∷ []) (written_of old) × Leaves w w' (latest ∷ [])). p) s.refused in

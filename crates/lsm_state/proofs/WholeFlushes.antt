@@ -1,5 +1,5 @@
 -- A flush in one call: what its parts do, taken together.
-use Rattle.std.proofs.Common.{◌≡◌, ℕ, ◌+◌, ◌-◌, ◌≤◌, ◌^◌, Bool, true, false, cond, List, [], ◌++◌, take, length, reverse, map, flat_map, Option, Some, None, IsSome, Ok, Err, IsErrOf, inl, inr, ◌⊎◌, ⊎_elim, refl, sym, ap, ◌∙◌, subst, arith, eqb, eq-eqb}
+use Rattle.std.proofs.Common.{◌≡◌, ℕ, ◌+◌, ◌-◌, ◌≤◌, ◌<◌, ◌^◌, Bool, true, false, cond, List, [], ◌++◌, take, length, reverse, map, flat_map, Option, Some, None, IsSome, Ok, Err, IsErrOf, inl, inr, ◌⊎◌, ⊎_elim, refl, sym, ap, ◌∙◌, subst, arith, eqb, eq-eqb}
 use Rattle.std.proofs.lemmas.List.{length-reverse, reverse-reverse, take_all}
 use Rattle.lsm_below.specs.Each.{each_append}
 use Rattle.lsm_below.specs.Members.{IsIn}
@@ -17,7 +17,8 @@ use Rattle.lsm_jobs.specs.declared.jobs.Registered.{Registered}
 use Rattle.lsm_state.specs.Held.{entries_of}
 use Rattle.lsm_state.specs.Calls.{Rotates}
 use Rattle.lsm_state.specs.Core.{Core, versions_left, written_by, written_of}
-use Rattle.lsm_state.specs.Commits.{Upholds, counted}
+use Rattle.lsm_files.specs.Foreign.{AtRest, passes_then}
+use Rattle.lsm_state.specs.Commits.{UpholdsFiles, Upholds, counted}
 use Rattle.lsm_state.specs.Flushes.{sealed_ids, job_in, begun, Begins, wrote, spent, spent_in, IsCurrent, Registers, Installs, Doubts, IsFlushDeed, IsLostFlush}
 use Rattle.lsm_state.specs.WholeFlushes.{sealed_bytes, drawn_until, IsWhole, LeavesRest, Flushes, WritesJob}
 use Rattle.lsm_state.proofs.Upholding.{among_left, leaves_more, upheld_still}
@@ -27,13 +28,14 @@ use Rattle.lsm_state.proofs.Writing.{stored_spent}
 
 -- a job is given up behind a call
 pub upholds_spent : (w v : World) (old mid : Core) (n : ℕ) → Upholds w v old mid → Upholds w v old (spent n mid)
-upholds_spent w v old mid n upholds stored =
-    let one = upholds stored in
-    (stored_spent v (versions_left mid) n mid.flush one.0, one.1)
+upholds_spent w v old mid n upholds = record {
+  files = λ stored. let one = upholds.files stored in (stored_spent v (versions_left mid) n mid.flush one.0, one.1);
+  passes = upholds.passes;
+}
 
 -- two calls in turn, of which the first one changes no version
-pub upholds_behind : (w v u : World) (old mid new : Core) → versions_left mid ≡ versions_left old → Upholds w v old mid → Upholds v u mid new → Upholds w u old new
-upholds_behind w v u old mid new same first second stored =
+pub files_behind : (w v u : World) (old mid new : Core) → versions_left mid ≡ versions_left old → UpholdsFiles w v old mid → UpholdsFiles v u mid new → UpholdsFiles w u old new
+files_behind w v u old mid new same first second stored =
     let one = first stored in
     let two = second one.0 in
     let all = versions_left old ++ versions_left new in
@@ -44,9 +46,12 @@ upholds_behind w v u old mid new same first second stored =
     both : (xs all : List SeenVersion) → AreAmong xs all → AreAmong (xs ++ xs) all
     both xs all h = each_append (λ v. IsIn v all) xs xs h h
 
+pub upholds_behind : (w v u : World) (old mid new : Core) → versions_left mid ≡ versions_left old → Upholds w v old mid → Upholds v u mid new → Upholds w u old new
+upholds_behind w v u old mid new same first second = record { files = files_behind w v u old mid new same first.files second.files; passes = passes_then w v u first.passes second.passes }
+
 -- nothing is done to the files, and the tree has the same of them
-pub upholds_same : (w v : World) (old new : Core) → v ≡ w → versions_left new ≡ versions_left old → written_of new ≡ written_of old → ((versions : List SeenVersion) (written : List SeenTable) → IsStored w versions written → Leaves w w versions) → Upholds w v old new
-upholds_same w v old new same versions written leaves = subst (λ u. Upholds w u old new) (sym same) (upheld_still w old new versions written leaves)
+pub upholds_same : (w v : World) (old new : Core) → v ≡ w → versions_left new ≡ versions_left old → written_of new ≡ written_of old → AtRest w → Upholds w v old new
+upholds_same w v old new same versions written stays = subst (λ u. Upholds w u old new) (sym same) (upheld_still w old new versions written stays)
 
 pub rotated_lost : (old : Core) (id : Option ℕ) (mid : Core) → Rotates old id mid → mid.lost ≡ old.lost
 rotated_lost old None mid rotates = ap (λ (c : Core). c.lost) rotates.1
@@ -194,6 +199,7 @@ module _ (w : ℕ) (old mid made : Core) (job : SeenJob) (x : SeenWritten) (begi
       before = λ e. absurd (⊎_elim (λ u. cc u) (λ f. cc f) e);
       out_of_numbers = λ e. absurd (cc e);
       too_many_runs = λ e. absurd (cc e);
+      numbered = λ e. absurd (cc e);
       only = tt;
     }
 
@@ -278,5 +284,6 @@ module _ (w : ℕ) (old mid made : Core) (job : SeenJob) (x : SeenWritten) (begi
         whole = is_whole new (ap (λ (c : Core). c.next_table) (before (inr (inr (told TooManyRuns h)))));
         full = subst (λ (c : Core). IsRefusedFor [] x.tables 0 c.history.latest.version TooManyRuns) made_is (registers.too_many_runs (told TooManyRuns h));
       };
+      numbered = λ h. subst (λ (c : Core). c.seqno < 2 ^ 63) made_is (registers.numbered (told TooManyRuns h));
       only = ⊎_elim inl (λ r. inr (⊎_elim (λ u. inl (inl u)) inr r)) registers.only;
     }

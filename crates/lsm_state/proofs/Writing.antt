@@ -14,7 +14,7 @@ use Rattle.lsm_jobs.specs.Jobs.{SeenOpen}
 use Rattle.lsm_parts.specs.History.{SeenHistory}
 use Rattle.lsm_state.specs.Kept.{KeepsTables}
 use Rattle.lsm_state.specs.Core.{Core, versions_left, written_by, written_of}
-use Rattle.lsm_state.specs.Commits.{Upholds}
+use Rattle.lsm_state.specs.Commits.{UpholdsFiles, Upholds}
 use Rattle.lsm_state.specs.Flushes.{noted_in, spent_in}
 use Rattle.lsm_state.proofs.Distinct.{own_behind}
 use Rattle.lsm_state.proofs.Upholding.{upheld, among_left}
@@ -120,12 +120,13 @@ stored_spent w vs number (Some f) s = by_case (eqb f.number number)
     by_case false = s
 
 pub noted_upholds : (w w' : World) (old mid : Core) (number : ℕ) (tables : List SeenTable) → Upholds w w' old mid → AreOnDisk w' tables → Upholds w w' old (record mid { flush = noted_in number tables mid.flush })
-noted_upholds w w' old mid number tables upholds disk stored =
-    let one = upholds stored in
-    (stored_noted w' (versions_left mid) number tables mid.flush one.0 disk, one.1)
+noted_upholds w w' old mid number tables upholds disk = record {
+  files = λ stored. let one = upholds.files stored in (stored_noted w' (versions_left mid) number tables mid.flush one.0 disk, one.1);
+  passes = upholds.passes;
+}
 
 -- tables are written under the next ids
-pub written_upholds : (w w' : World) (old new : Core) → old.lost ≡ None → new.history ≡ old.history → new.lost ≡ old.lost → new.flush ≡ old.flush → KeepsTables old.flush old.history old.next_table → old.next_table < 2 ^ 64 - 1 → KeepsStored old.next_table w w' → Upholds w w' old new
+pub written_upholds : (w w' : World) (old new : Core) → old.lost ≡ None → new.history ≡ old.history → new.lost ≡ old.lost → new.flush ≡ old.flush → KeepsTables old.flush old.history old.next_table → old.next_table < 2 ^ 64 - 1 → KeepsStored old.next_table w w' → UpholdsFiles w w' old new
 written_upholds w w' old new certain history lost flush k lt keeps stored =
     let v = old.history.latest.version in
     let one : versions_left old ≡ v ∷ [] = ap (λ o. v ∷ option_to_list o) certain in

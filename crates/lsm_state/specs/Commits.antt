@@ -5,6 +5,7 @@ use Rattle.lsm_below.specs.declared.error.Error.TheVariants.{OutOfMemory, Store,
 use Rattle.lsm_store.specs.World.{World}
 use Rattle.lsm_memtable.specs.Memtables.{SeenMemtable, new_memtable}
 use Rattle.lsm_files.specs.Stored.{IsStored, Leaves}
+use Rattle.lsm_files.specs.Foreign.{Passes}
 use Rattle.lsm_parts.specs.declared.version.super_version.SuperVersion.{SuperVersion}
 use Rattle.lsm_parts.specs.History.{versions_of}
 use Rattle.lsm_state.specs.Core.{Core, versions_left, written_of}
@@ -12,8 +13,13 @@ use Rattle.lsm_state.specs.Core.{Core, versions_left, written_of}
 -- ---- files
 
 -- where the files of a tree are stored, those of the other one are, and a crash meanwhile leaves a version of either
-abbrev pub Upholds : World → World → Core → Core → Type 0
-Upholds w w' old new = IsStored w (versions_left old) (written_of old) → IsStored w' (versions_left new) (written_of new) × Leaves w w' (versions_left old ++ versions_left new)
+abbrev pub UpholdsFiles : World → World → Core → Core → Type 0
+UpholdsFiles w w' old new = IsStored w (versions_left old) (written_of old) → IsStored w' (versions_left new) (written_of new) × Leaves w w' (versions_left old ++ versions_left new)
+
+-- so it is of a tree's own files, and names that are none of its own are as they were
+pub record Upholds (w w' : World) (old new : Core) : Type 0 where
+  pub files : UpholdsFiles w w' old new
+  pub passes : Passes w w'
 
 -- ---- the tree
 

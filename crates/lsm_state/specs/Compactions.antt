@@ -108,6 +108,8 @@ pub record InstallsChoice (IsMade : SeenVersion → Type 0) (IsUnmade : Error �
   pub settles : SettlesSome IsMade w r old new
   pub store : IsErrOf r Store → new ≡ counted old
   pub too_many_runs : IsErrOf r TooManyRuns → IsUnmade TooManyRuns
+  -- a counter without a number is told before
+  pub numbered : IsErrOf r TooManyRuns → old.seqno < 2 ^ 63
   pub out_of_numbers : IsErrOf r OutOfNumbers → (2 ^ 63 ≤ old.seqno) ⊎ (old.history.latest.version.id ≡ 2 ^ 64 - 1)
   pub only : IfErr r (λ e. ((e ≡ OutOfMemory) ⊎ ((e ≡ Store) ⊎ (e ≡ CommitUnknown))) ⊎ ((e ≡ OutOfNumbers) ⊎ ((e ≡ TooManyRuns) ⊎ (e ≡ AfterCommit))))
 
@@ -209,6 +211,8 @@ pub record InstallsMerge {T : Type 0} (job : SeenCompaction) (r : Result T Error
   pub settles : SettlesSome (IsMergedInto job old.history.latest.version) job.settings.watermark r (with_next_table table old) new
   pub out_of_numbers : IsErrOf r OutOfNumbers → (2 ^ 63 ≤ old.seqno) ⊎ ((2 ^ 63 ≤ table) ⊎ (old.history.latest.version.id ≡ 2 ^ 64 - 1))
   pub too_many_runs : IsErrOf r TooManyRuns → IsTooFull job old.history.latest.version
+  -- a counter without a number is told before
+  pub numbered : IsErrOf r TooManyRuns → old.seqno < 2 ^ 63
   pub only : IfErr r (λ e. ((e ≡ OutOfMemory) ⊎ ((e ≡ Store) ⊎ (e ≡ CommitUnknown))) ⊎ ((e ≡ OutOfNumbers) ⊎ ((e ≡ TooManyRuns) ⊎ (e ≡ AfterCommit))))
 
 -- a reason is told; without one the merge is installed

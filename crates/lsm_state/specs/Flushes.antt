@@ -135,6 +135,8 @@ pub record Registers (job : SeenWritten) (r : Result Registered Error) (old new 
   pub memory : IsErrOf r OutOfMemory → (new ≡ spent job.job.number old) ⊎ (new ≡ counted (spent job.job.number old))
   pub out_of_numbers : IsErrOf r OutOfNumbers → (2 ^ 63 ≤ old.seqno) ⊎ (old.history.latest.version.id ≡ 2 ^ 64 - 1)
   pub too_many_runs : IsErrOf r TooManyRuns → IsRefusedFor [] job.tables 0 old.history.latest.version TooManyRuns
+  -- a counter without a number is told before
+  pub numbered : IsErrOf r TooManyRuns → old.seqno < 2 ^ 63
   pub only : IfErr r (λ e. ((e ≡ OutOfMemory) ⊎ ((e ≡ Store) ⊎ (e ≡ CommitUnknown))) ⊎ ((e ≡ Unrecoverable) ⊎ ((e ≡ OutOfNumbers) ⊎ (e ≡ TooManyRuns))))
 
 -- ---- installing, where a job is known to be current
@@ -156,6 +158,8 @@ pub record InstallsSpent (job : SeenWritten) (r : Result Registered Error) (old 
   pub memory : IsErrOf r OutOfMemory → (new ≡ old) ⊎ (new ≡ counted old)
   pub out_of_numbers : IsErrOf r OutOfNumbers → (2 ^ 63 ≤ old.seqno) ⊎ (old.history.latest.version.id ≡ 2 ^ 64 - 1)
   pub too_many_runs : IsErrOf r TooManyRuns → IsRefusedFor [] job.tables 0 old.history.latest.version TooManyRuns
+  -- a counter without a number is told before
+  pub numbered : IsErrOf r TooManyRuns → old.seqno < 2 ^ 63
   pub only : IfErr r (λ e. ((e ≡ OutOfMemory) ⊎ ((e ≡ Store) ⊎ (e ≡ CommitUnknown))) ⊎ ((e ≡ OutOfNumbers) ⊎ (e ≡ TooManyRuns)))
 
 -- ---- as the theories see it

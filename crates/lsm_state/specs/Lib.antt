@@ -12,6 +12,7 @@ pub mod ListSteps
 pub mod Opened
 pub mod Commits
 pub mod Cleaning
+pub mod Causes
 pub mod Deeds
 pub mod Flushes
 pub mod FlushLaws

@@ -80,6 +80,8 @@ pub record Flushes (w : ℕ) (r : Result (Option (ℕ × Registered)) Error) (ol
   -- where there is no number of a job, of a table, of a commit or of a version, or no room for a run
   pub out_of_numbers : IsErrOf r OutOfNumbers → ((2 ^ 63 ≤ old.next_job) ⊎ (2 ^ 63 ≤ new.next_table)) ⊎ ((2 ^ 63 ≤ old.seqno) ⊎ (old.history.latest.version.id ≡ 2 ^ 64 - 1))
   pub too_many_runs : IsErrOf r TooManyRuns → IsFullFor w old new
+  -- a counter without a number is told before
+  pub numbered : IsErrOf r TooManyRuns → old.seqno < 2 ^ 63
   pub only : IfErr r (λ e. ((e ≡ OutOfMemory) ⊎ ((e ≡ Store) ⊎ (e ≡ CommitUnknown))) ⊎ (((e ≡ Unrecoverable) ⊎ (e ≡ FlushOpen)) ⊎ ((e ≡ OutOfNumbers) ⊎ (e ≡ TooManyRuns))))
 
 -- did a flush come to register a job? Where it did its watermark counts, also where it is refused

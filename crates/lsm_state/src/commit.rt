@@ -1,14 +1,16 @@
 // How a super version becomes the latest one, and what is cleaned up behind it.
-ghost use Rattle.std.specs.Prelude.{◌≡◌, ◌≤◌, ◌<◌, ◌⊎◌, length, None, Some, IfSome, is_some, true, IsErrOf};
+ghost use Rattle.std.specs.Prelude.{◌≡◌, ◌≤◌, ◌<◌, ◌⊎◌, length, None, Some, IfSome, is_some, true, false, IsErrOf};
 ghost use Rattle.lsm_versions.specs.Levels.{all_of};
 ghost use Rattle.lsm_manifest.specs.Spelling.{IsFileFrom};
 ghost use Rattle.lsm_manifest.specs.Versions.{file_of, named_levels};
 ghost use Rattle.lsm_files.specs.Stored.{AreOnDisk, CountsFaults};
+ghost use Rattle.lsm_files.specs.Foreign.{Passes};
 ghost use Rattle.lsm_parts.specs.History.{versions_of};
 ghost use Rattle.lsm_parts.specs.Maintenance.{AreGone};
+ghost use Rattle.lsm_files.specs.Causes.{HasCause};
 ghost use Rattle.lsm_state.specs.Kept.{least_named, KeepsIds, KeepsTables};
 ghost use Rattle.lsm_state.specs.Held.{HasFirst};
-ghost use Rattle.lsm_state.specs.Commits.{counted, fronted, next_id, fresh_in, Commits, Upholds};
+ghost use Rattle.lsm_state.specs.Commits.{counted, fronted, next_id, fresh_in, Commits, UpholdsFiles, Upholds};
 ghost use Rattle.lsm_state.specs.Cleaning.{Cleans};
 
 use crate::sealed::Room;
@@ -83,7 +85,8 @@ impl<S: Store> TreeState<S> {
         ensures commits { Commits (is_some room) next result self.old.core self.new.core }
         // Refused for memory before a store call, it changes nothing.
         ensures memory { IsErrOf result Error.OutOfMemory → (self.new ≡ self.old) ⊎ (self.new.core ≡ counted self.old.core) }
-        ensures upholds { S.tells → AreOnDisk (S.world self.old.store) (all_of next.version.levels) → Upholds (S.world self.old.store) (S.world self.new.store) self.old.core self.new.core }
+        ensures upholds { S.tells → AreOnDisk (S.world self.old.store) (all_of next.version.levels) → UpholdsFiles (S.world self.old.store) (S.world self.new.store) self.old.core self.new.core }
+        ensures passes { S.tells → Passes (S.world self.old.store) (S.world self.new.store) }
         ensures counts { CountsFaults (S.world self.old.store) (S.world self.new.store) result }
     {
         crashes_leave_versions(&self.store);
@@ -114,7 +117,8 @@ impl<S: Store> TreeState<S> {
         requires reads { IsFileFrom (Some next.version.log_from) (named_levels next.version.levels) file.now }
         ensures commits { Commits (is_some room) next result self.old.core self.new.core }
         ensures memory { IsErrOf result Error.OutOfMemory → (self.new ≡ self.old) ⊎ (self.new.core ≡ counted self.old.core) }
-        ensures upholds { S.tells → AreOnDisk (S.world self.old.store) (all_of next.version.levels) → Upholds (S.world self.old.store) (S.world self.new.store) self.old.core self.new.core }
+        ensures upholds { S.tells → AreOnDisk (S.world self.old.store) (all_of next.version.levels) → UpholdsFiles (S.world self.old.store) (S.world self.new.store) self.old.core self.new.core }
+        ensures passes { S.tells → Passes (S.world self.old.store) (S.world self.new.store) }
         ensures counts { CountsFaults (S.world self.old.store) (S.world self.new.store) result }
     {
         crashes_leave_versions(&self.store);
@@ -143,6 +147,7 @@ impl<S: Store> TreeState<S> {
         ensures cleans { Cleans watermark result self.old.core self.new.core }
         ensures gone { S.tells → result ≡ true → AreGone (S.world self.new.store) self.old.core.history self.new.core.history }
         ensures upholds { S.tells → self.old.core.lost ≡ None → Upholds (S.world self.old.store) (S.world self.new.store) self.old.core self.new.core }
+        ensures causes { HasCause (result ≡ false) (S.world self.old.store) (S.world self.new.store) }
     {
         let maintained = self.history.maintenance(&mut self.store, watermark);
         let oldest = oldest_memtable(self.history.oldest_version());

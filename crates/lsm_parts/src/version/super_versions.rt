@@ -5,6 +5,7 @@ ghost use Rattle.lsm_parts.specs.History.{found_version, first_version, oldest, 
 ghost use Rattle.lsm_parts.specs.Maintenance.{needed, needed_of, Forgets, AreGone, KeepsNewer, KeepsVersions};
 ghost use Rattle.lsm_manifest.specs.Names.{version_name};
 ghost use Rattle.lsm_files.specs.Stored.{CountsFaults};
+ghost use Rattle.lsm_files.specs.Foreign.{Passes};
 
 use crate::{Error, Memtable, SealedMemtables, SuperVersion, Version, VersionId, seqno_filter};
 use lsm_below::{MemtableId, SeqNo};
@@ -91,6 +92,7 @@ fn remove_older<S: Store>(store: &mut S, id: VersionId, latest: VersionId) -> Re
     ensures absent { S.tells → OnOk result ((n : List ℕ) → (S.world store.old).gives n ≡ None → (S.world store.new).gives n ≡ None) }
     ensures keeps { S.tells → KeepsNewer latest (S.world store.old) (S.world store.new) }
     ensures stored { S.tells → KeepsVersions latest (S.world store.old) (S.world store.new) }
+    ensures passes { S.tells → Passes (S.world store.old) (S.world store.new) }
     ensures only { IfErr result (λ e. e ≡ Error.Store) }
     ensures counts { CountsFaults (S.world store.old) (S.world store.new) result }
 {
@@ -236,6 +238,8 @@ impl SuperVersions {
         ensures gone { S.tells → OnOk result (AreGone (S.world store.new) self.old self.new) }
         ensures keeps { S.tells → KeepsNewer self.old.latest.version.id (S.world store.old) (S.world store.new) }
         ensures stored { S.tells → KeepsVersions self.old.latest.version.id (S.world store.old) (S.world store.new) }
+        // Names that are none of the tree's are as they were.
+        ensures passes { S.tells → Passes (S.world store.old) (S.world store.new) }
         // Refusals.
         ensures only { IfErr result (λ e. e ≡ Error.Store) }
         ensures counts { CountsFaults (S.world store.old) (S.world store.new) result }

@@ -12,7 +12,10 @@ returns-then-id-latest-clause-stored g c tells versions unnamed stored newer =
     c.remove_version.ensures.stored tells versions unnamed stored (each_weaker (λ (v : SeenVersion). c.args.latest ≤ v.id) (λ v. v.id ≢ c.args.id) (λ v (le : c.args.latest ≤ v.id) same. omega arith) versions newer)
 
 pub returns-clause-stored : goal.returns-clause-stored
-returns-clause-stored g c tells versions unnamed stored newer = (stored, c.crashes_leave_versions.ensures tells versions unnamed stored)
+returns-clause-stored g c tells versions unnamed stored newer = (stored, (c.crashes_leave_versions.ensures tells).leaves versions unnamed stored)
+
+pub returns-clause-passes : goal.returns-clause-passes
+returns-clause-passes g c tells = (c.crashes_leave_versions.ensures tells).passes
 
 pub returns-then-id-latest-clause-absent : goal.returns-then-id-latest-clause-absent
 returns-then-id-latest-clause-absent g c tells =

@@ -2,7 +2,8 @@ use Rattle.std.proofs.Common.{◌≡◌, IsSome, refl, ap, sym, subst, ◌∙◌
 use Rattle.lsm_versions.specs.Levels.{placed_of}
 use Rattle.lsm_state.specs.Commits.{Upholds}
 use Rattle.lsm_recorded.specs.Recorded.{IsRecorded, Stays}
-use Rattle.lsm_recorded.proofs.FlushedFiles.{StaysStored, same_upholds, rotated_upholds, rotated_lost, stays_behind}
+use Rattle.lsm_files.specs.Foreign.{AtRest}
+use Rattle.lsm_recorded.proofs.FlushedFiles.{same_upholds, rotated_upholds, rotated_lost, stays_behind}
 use Rattle.lsm_recorded.proofs.RecordedLemmas.{recorded_rotate, rotate_spares}
 use Rattle.lsm_recorded.proofs.recorded.Recorded.flush_active_memtable.Goals as goal
 
@@ -10,7 +11,7 @@ pub returns-then-is_err-clause-upholds : goal.returns-then-is_err-clause-upholds
 returns-then-is_err-clause-upholds g c tells =
     let w = g.S.Store.world in
     let i = c.self.inside in
-    let leaves = subst (λ t. StaysStored (w t.tree.store)) (sym c.self.view_is) (c.stays_stored.ensures tells) in
+    let leaves = subst (λ t. AtRest (w t.tree.store)) (sym c.self.view_is) (c.stays_stored.ensures tells) in
     subst (λ t. Upholds (w t.tree.store) (w i.core.store) t.tree.core i.core.core) c.self.view_is (same_upholds (w i.core.store) (w i.core.store) i.core.core i.core.core leaves refl refl)
 
 pub returns-in-Err-clause-upholds : goal.returns-in-Err-clause-upholds
@@ -18,7 +19,7 @@ returns-in-Err-clause-upholds g c tells =
     let w = g.S.Store.world in
     let i = c.self.inside in
     let new = c.rotate_memtable.new.self in
-    let leaves = subst (λ t. StaysStored (w t.tree.store)) (sym c.self.view_is) (c.stays_stored.ensures tells) in
+    let leaves = subst (λ t. AtRest (w t.tree.store)) (sym c.self.view_is) (c.stays_stored.ensures tells) in
     subst (λ t. Upholds (w t.tree.store) (w new.store) t.tree.core new.core) c.self.view_is
     (same_upholds (w i.core.store) (w new.store) i.core.core new.core leaves (ap w c.rotate_memtable.ensures.store) (ap (λ t. t.core) c.in-Err.ensures.err))
 

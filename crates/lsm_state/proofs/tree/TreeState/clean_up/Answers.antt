@@ -30,4 +30,4 @@ returns-clause-upholds g c tells certain =
     let old : Core = record { config = i.config; memtables = i.memtables; history = i.history; next_memtable = i.next_memtable; next_table = i.next_table; next_job = i.next_job; moment = i.moment; seqno = i.seqno; visible_seqno = i.visible_seqno; flush = i.flush; lost = i.lost; merges = i.merges } in
     let new : Core = record old { memtables = c.forget_before.new.self; history = m.new.self } in
     subst (λ t. Upholds (w t.store) (w m.new.store) t.core new) c.self.view_is
-    (cleaned_upholds (w i.store) (w m.new.store) old new m.ensures.forgets.latest refl refl (m.ensures.stored tells) (subst (λ t. t.core.lost ≡ None) (sym c.self.view_is) certain))
+    (record { files = cleaned_upholds (w i.store) (w m.new.store) old new m.ensures.forgets.latest refl refl (m.ensures.stored tells) (subst (λ t. t.core.lost ≡ None) (sym c.self.view_is) certain); passes = m.ensures.passes tells })

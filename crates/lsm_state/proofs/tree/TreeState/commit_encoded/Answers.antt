@@ -1,3 +1,4 @@
+use Rattle.lsm_files.specs.Foreign.{Passes}
 use Rattle.std.proofs.Common.{◌≡◌, ◌<◌, ◌∷◌, [], List, ⊎_elim, None, Some, ap, sym, subst, ◌∙◌, refl, Ok, Err}
 use Rattle.lsm_below.specs.declared.error.Error.TheVariants.{OutOfMemory, Store, CommitUnknown}
 use Rattle.lsm_versions.specs.Levels.{SeenVersion, all_of}
@@ -7,7 +8,7 @@ use Rattle.lsm_files.specs.Stored.{AreOnDisk}
 use Rattle.lsm_files.specs.Commits.{CommitsStored}
 use Rattle.lsm_parts.specs.declared.version.super_version.SuperVersion.{SuperVersion}
 use Rattle.lsm_state.specs.Core.{Core, versions_left}
-use Rattle.lsm_state.specs.Commits.{Upholds}
+use Rattle.lsm_state.specs.Commits.{UpholdsFiles}
 use Rattle.lsm_state.proofs.Upholding.{upheld_still, committed_upholds, doubted_upholds, refused_upholds}
 use Rattle.lsm_state.proofs.tree.TreeState.commit_encoded.Goals as goal
 
@@ -22,8 +23,8 @@ returns-in_err-append_version-clause-upholds g c tells disk =
     let i = c.self.inside in
     let old : Core = record { config = i.config; memtables = i.memtables; history = i.history; next_memtable = i.next_memtable; next_table = i.next_table; next_job = i.next_job; moment = i.moment; seqno = i.seqno; visible_seqno = i.visible_seqno; flush = i.flush; lost = i.lost; merges = i.merges } in
     let new : Core = record old { history = c.append_version.new.self } in
-    subst (λ t. Upholds (w t.store) (w i.store) t.core new) c.self.view_is
-    (upheld_still (w i.store) old new (ap (λ h. versions_left (record old { history = h })) c.in_err-append_version.ensures.err) refl (c.crashes_leave_versions.ensures tells))
+    subst (λ t. UpholdsFiles (w t.store) (w i.store) t.core new) c.self.view_is
+    (upheld_still (w i.store) old new (ap (λ h. versions_left (record old { history = h })) c.in_err-append_version.ensures.err) refl (c.crashes_leave_versions.ensures tells)).files
 
 pub commit_version-requires-clause-spelling : goal.commit_version-requires-clause-spelling
 commit_version-requires-clause-spelling g c =
@@ -49,7 +50,7 @@ returns-in-Ok-clause-upholds g c tells disk =
     let certain = subst (λ t. t.core.lost ≡ None) (sym c.self.view_is) c.requires.certain in
     let later = subst (λ t. t.core.history.latest.version.id < v.id) (sym c.self.view_is) c.requires.later in
     let there = subst (λ t. AreOnDisk (w t.store) (all_of v.levels)) (sym c.self.view_is) disk in
-    subst (λ t. Upholds (w t.store) (w c.commit_version.new.store) t.core new) c.self.view_is
+    subst (λ t. UpholdsFiles (w t.store) (w c.commit_version.new.store) t.core new) c.self.view_is
     (committed_upholds (w i.store) (w c.commit_version.new.store) old new v certain later there refl c.in-Ok.field-0 commits (ap (λ h. h.latest.version) made) certain)
 
 pub returns-in-Err-clause-upholds : goal.returns-in-Err-clause-upholds
@@ -68,6 +69,21 @@ returns-in-Err-clause-upholds g c tells disk =
     let there = subst (λ t. AreOnDisk (w t.store) (all_of v.levels)) (sym c.self.view_is) disk in
     let still = ap (first_version_of v) (c.undo_commit.ensures.left ∙ ap (λ h. h.older) made) in
     let refused = refused_upholds (w i.store) (w c.commit_version.new.store) old new v certain later there refl e commits in
-    subst (λ t. Upholds (w t.store) (w c.commit_version.new.store) t.core new) c.self.view_is
+    subst (λ t. UpholdsFiles (w t.store) (w c.commit_version.new.store) t.core new) c.self.view_is
     (⊎_elim (⊎_elim (λ (m : e ≡ OutOfMemory). let no : e ≡ CommitUnknown → ⊥ = λ u. cc in refused no still (c.undo_commit.ensures.refused no)) (λ (m : e ≡ Store). let no : e ≡ CommitUnknown → ⊥ = λ u. cc in refused no still (c.undo_commit.ensures.refused no)))
     (λ (u : e ≡ CommitUnknown). doubted_upholds (w i.store) (w c.commit_version.new.store) old new v certain later there refl e commits u still (c.undo_commit.ensures.unknown u ∙ ap (λ h. Some (h.latest.version)) made)) c.in-Err.ensures.only)
+
+pub returns-in_err-append_version-clause-passes : goal.returns-in_err-append_version-clause-passes
+returns-in_err-append_version-clause-passes g c tells =
+    let w = g.S.Store.world in
+    subst (λ t. Passes (w t.store) (w t.store)) c.self.view_is (c.crashes_leave_versions.ensures tells).passes
+
+pub returns-in-Ok-clause-passes : goal.returns-in-Ok-clause-passes
+returns-in-Ok-clause-passes g c tells =
+    let w = g.S.Store.world in
+    subst (λ t. Passes (w t.store) (w c.commit_version.new.store)) c.self.view_is (c.in-Ok.ensures.passes tells)
+
+pub returns-in-Err-clause-passes : goal.returns-in-Err-clause-passes
+returns-in-Err-clause-passes g c tells =
+    let w = g.S.Store.world in
+    subst (λ t. Passes (w t.store) (w c.commit_version.new.store)) c.self.view_is (c.in-Err.ensures.passes tells)

@@ -1,13 +1,14 @@
+use Rattle.lsm_files.specs.Foreign.{Passes, passes_then}
 use Rattle.std.proofs.Common.{◌≡◌, ◌∷◌, ◌++◌, ap, sym, subst, ◌∙◌, refl, option_to_list}
 use Rattle.std.specs.List.Sorted.{IsPermutation}
 use Rattle.lsm_versions.specs.Levels.{all_of}
 use Rattle.lsm_parts.specs.History.{versions_of}
 use Rattle.lsm_state.specs.Kept.{KeepsIds, KeepsTables}
 use Rattle.lsm_state.specs.Core.{Core, versions_left}
-use Rattle.lsm_state.specs.Commits.{Upholds}
+use Rattle.lsm_state.specs.Commits.{UpholdsFiles}
 use Rattle.lsm_state.specs.Flushes.{IsFlushedOf, MayInstall}
 use Rattle.lsm_state.proofs.Upholding.{upheld_still}
-use Rattle.lsm_state.proofs.Installing.{ids_flushed, tables_flushed, flushed_on_disk, upholds_join}
+use Rattle.lsm_state.proofs.Installing.{ids_flushed, tables_flushed, flushed_on_disk, files_join}
 use Rattle.lsm_state.proofs.tree.TreeState.install.Goals as goal
 
 pub returns-then-number-ge-LIMIT-clause-upholds : goal.returns-then-number-ge-LIMIT-clause-upholds
@@ -15,14 +16,14 @@ returns-then-number-ge-LIMIT-clause-upholds g c tells disk =
     let w = g.S.Store.world in
     let i = c.self.inside in
     let old : Core = record { config = i.config; memtables = i.memtables; history = i.history; next_memtable = i.next_memtable; next_table = i.next_table; next_job = i.next_job; moment = i.moment; seqno = i.seqno; visible_seqno = i.visible_seqno; flush = i.flush; lost = i.lost; merges = i.merges } in
-    subst (λ t. Upholds (w t.store) (w t.store) t.core t.core) c.self.view_is (upheld_still (w i.store) old old refl refl (c.crashes_leave_versions.ensures tells))
+    subst (λ t. UpholdsFiles (w t.store) (w t.store) t.core t.core) c.self.view_is (upheld_still (w i.store) old old refl refl (c.crashes_leave_versions.ensures tells)).files
 
 pub returns-in_err-next-clause-upholds : goal.returns-in_err-next-clause-upholds
 returns-in_err-next-clause-upholds g c tells disk =
     let w = g.S.Store.world in
     let i = c.self.inside in
     let old : Core = record { config = i.config; memtables = i.memtables; history = i.history; next_memtable = i.next_memtable; next_table = i.next_table; next_job = i.next_job; moment = i.moment; seqno = i.seqno; visible_seqno = i.visible_seqno; flush = i.flush; lost = i.lost; merges = i.merges } in
-    subst (λ t. Upholds (w t.store) (w t.store) t.core t.core) c.self.view_is (upheld_still (w i.store) old old refl refl (c.crashes_leave_versions.ensures tells))
+    subst (λ t. UpholdsFiles (w t.store) (w t.store) t.core t.core) c.self.view_is (upheld_still (w i.store) old old refl refl (c.crashes_leave_versions.ensures tells)).files
 
 pub commit-requires-clause-ids : goal.commit-requires-clause-ids
 commit-requires-clause-ids g c =
@@ -65,4 +66,20 @@ returns-clause-upholds g c tells disk stored =
     let lost : new.core.lost ≡ mid.core.lost = ap (λ k. k.lost) cleans.rest in
     let left : versions_left new.core ≡ versions_left mid.core = ap (λ sv. sv.version ∷ option_to_list new.core.lost) cleans.history.latest ∙ ap (λ o. mid.core.history.latest.version ∷ option_to_list o) lost in
     let certain = ap (λ k. k.lost) c.in_ok-commit.ensures.commits.ok ∙ c.requires.certain in
-    upholds_join (w now.store) (w mid.store) (w new.store) now.core mid.core new.core left (λ s. c.commit.ensures.upholds tells (flushed_on_disk (w now.store) now.core job.tables (all_of next.version.levels) same disk s) s) (c.clean_up-cleaned.ensures.upholds tells certain) stored
+    files_join (w now.store) (w mid.store) (w new.store) now.core mid.core new.core left (λ s. c.commit.ensures.upholds tells (flushed_on_disk (w now.store) now.core job.tables (all_of next.version.levels) same disk s) s) (c.clean_up-cleaned.ensures.upholds tells certain).files stored
+
+pub returns-then-number-ge-LIMIT-clause-passes : goal.returns-then-number-ge-LIMIT-clause-passes
+returns-then-number-ge-LIMIT-clause-passes g c tells =
+    let w = g.S.Store.world in
+    subst (λ t. Passes (w t.store) (w t.store)) c.self.view_is (c.crashes_leave_versions.ensures tells).passes
+
+pub returns-in_err-next-clause-passes : goal.returns-in_err-next-clause-passes
+returns-in_err-next-clause-passes g c tells =
+    let w = g.S.Store.world in
+    subst (λ t. Passes (w t.store) (w t.store)) c.self.view_is (c.crashes_leave_versions.ensures tells).passes
+
+pub returns-clause-passes : goal.returns-clause-passes
+returns-clause-passes g c tells =
+    let w = g.S.Store.world in
+    let certain = ap (λ k. k.lost) c.in_ok-commit.ensures.commits.ok ∙ c.requires.certain in
+    passes_then (w c.args.self.now.store) (w c.commit.new.self.store) (w c.clean_up-cleaned.new.self.store) (c.commit.ensures.passes tells) (c.clean_up-cleaned.ensures.upholds tells certain).passes

@@ -1,4 +1,4 @@
-use Rattle.std.proofs.Common.{Err, sym, ap, ◌∙◌, subst}
+use Rattle.std.proofs.Common.{Err, sym, ap, ◌∙◌, subst, ◌<◌, ◌^◌, rules, arith}
 use Rattle.lsm_versions.specs.Refusals.{IsRefusedFor}
 use Rattle.lsm_files.specs.Stored.{AreOnDisk}
 use Rattle.lsm_state.specs.Core.{versions_left}
@@ -22,7 +22,8 @@ returns-in-Err-version_merged-clause-installs g c =
     let of_tables = subst (λ ts. IsRefusedFor c.job-job.result.now.ids ts c.job-job.result.now.settings.dest_level latest c.in-Err-version_merged.error) c.deref.ensures.value c.in-Err-version_merged.ensures.err in
     let of_job = subst (λ j. IsRefusedFor j.ids tables j.settings.dest_level latest c.in-Err-version_merged.error) c.job-job.ensures of_tables in
     let refused = subst (λ k. IsRefusedFor job.ids tables job.settings.dest_level k.history.latest.version c.in-Err-version_merged.error) m.ensures.core of_job in
-    unmade job c.in-Err-version_merged.error c.args.self.now.core m.new.self.core tables m.ensures.rises m.ensures.core c.in-Ok.ensures.merged.holds refused
+    let small : c.args.self.now.core.seqno < 2 ^ 63 = search (rules, arith) in
+    unmade job c.in-Err-version_merged.error c.args.self.now.core m.new.self.core tables small m.ensures.rises m.ensures.core c.in-Ok.ensures.merged.holds refused
 
 pub returns-in-Ok-settle-clause-upholds : goal.returns-in-Ok-settle-clause-upholds
 returns-in-Ok-settle-clause-upholds g c tells =
@@ -32,7 +33,7 @@ returns-in-Ok-settle-clause-upholds g c tells =
     let new = c.settle.new.self in
     let disk = subst (AreOnDisk (w mid.store)) (sym c.deref.ensures.value) (c.in-Ok.ensures.on_disk tells) in
     upholds_behind (w old.store) (w mid.store) (w new.store) old.core mid.core new.core (ap versions_left c.write_merged.ensures.core) (c.write_merged.ensures.upholds tells)
-    (λ stored. c.settle.ensures.upholds tells (c.in-Ok-version_merged.ensures.on_disk tells disk stored) stored)
+    (record { files = λ stored. c.settle.ensures.upholds tells (c.in-Ok-version_merged.ensures.on_disk tells disk stored) stored; passes = c.settle.ensures.passes tells })
 
 pub returns-clause-installs : goal.returns-clause-installs
 returns-clause-installs g c =
@@ -53,4 +54,4 @@ returns-clause-upholds g c tells =
     let new = c.settle.new.self in
     let disk = subst (AreOnDisk (w mid.store)) (sym c.deref.ensures.value) (c.in-Ok.ensures.on_disk tells) in
     upholds_behind (w old.store) (w mid.store) (w new.store) old.core mid.core new.core (ap versions_left c.write_merged.ensures.core) (c.write_merged.ensures.upholds tells)
-    (λ stored. c.settle.ensures.upholds tells (c.in-Ok-version_merged.ensures.on_disk tells disk stored) stored)
+    (record { files = λ stored. c.settle.ensures.upholds tells (c.in-Ok-version_merged.ensures.on_disk tells disk stored) stored; passes = c.settle.ensures.passes tells })

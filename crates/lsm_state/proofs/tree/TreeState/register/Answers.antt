@@ -3,7 +3,8 @@ use Rattle.std.specs.Option.{is_some}
 use Rattle.std.proofs.lemmas.Result.{IfOk-weaker}
 use Rattle.lsm_files.specs.Stored.{AreOnDisk}
 use Rattle.lsm_state.specs.Core.{Core}
-use Rattle.lsm_state.specs.Commits.{Upholds}
+use Rattle.lsm_files.specs.Foreign.{Passes}
+use Rattle.lsm_state.specs.Commits.{UpholdsFiles, Upholds}
 use Rattle.lsm_state.specs.Flushes.{IsCurrent, Installs, Doubts, IsFlushDeed, spent, spent_in}
 use Rattle.lsm_state.proofs.Writing.{tables_spent}
 use Rattle.lsm_state.proofs.Registering.{none_of, spent_upholds, may_install, install_upholds}
@@ -62,8 +63,11 @@ returns-then-current-clause-upholds g c tells =
     let mid_is : mid ≡ spent n now.core = ap (λ f. record old { flush = f }) spends ∙ ap (spent n) same in
     let certain = none_of now.core.lost (sym (c.is_some.ensures ∙ ap (λ k. is_some k.lost) same) ∙ c.if-is_some.false) in
     let current : IsCurrent job now.core = c.requires.0 c.if-current.true in
-    let before = subst (λ t. AreOnDisk (w t.store) job.tables → Upholds (w t.store) (w c.install.new.self.store) mid c.install.new.self.core) c.self.view_is (c.install.ensures.upholds tells) in
-    install_upholds job now.core current (w now.store) (w c.install.new.self.store) c.install.new.self.core (subst (λ k. AreOnDisk (w now.store) job.tables → Upholds (w now.store) (w c.install.new.self.store) k c.install.new.self.core) mid_is before)
+    let before = subst (λ t. AreOnDisk (w t.store) job.tables → UpholdsFiles (w t.store) (w c.install.new.self.store) mid c.install.new.self.core) c.self.view_is (c.install.ensures.upholds tells) in
+    record {
+      files = install_upholds job now.core current (w now.store) (w c.install.new.self.store) c.install.new.self.core (subst (λ k. AreOnDisk (w now.store) job.tables → UpholdsFiles (w now.store) (w c.install.new.self.store) k c.install.new.self.core) mid_is before);
+      passes = subst (λ t. Passes (w t.store) (w c.install.new.self.store)) c.self.view_is (c.install.ensures.passes tells);
+    }
 
 pub returns-then-current-clause-marks : goal.returns-then-current-clause-marks
 returns-then-current-clause-marks g c = c.flushes_are_deeds.ensures.spends c.args.job.watermark c.args.job.job.number c.args.self.now.core c.facts.ensures

@@ -16,4 +16,5 @@ returns-clause-upholds g c tells =
     let certain = subst (λ k. k.lost ≡ None) (sym same) c.requires.certain in
     let spares = subst (λ k. AreOthers gone (written_of k)) (sym same) c.requires.spares in
     let others = subst (λ k. AreOthers gone (all_of k.history.latest.version.levels)) (sym same) c.requires.others in
-    subst (λ t. Upholds (w t.store) (w c.remove_tables.new.store) t.core old) c.self.view_is (removed_upholds (w i.store) (w c.remove_tables.new.store) old gone (c.remove_tables.ensures.stored tells) certain others spares)
+    subst (λ t. Upholds (w t.store) (w c.remove_tables.new.store) t.core old) c.self.view_is
+    (record { files = removed_upholds (w i.store) (w c.remove_tables.new.store) old gone (c.remove_tables.ensures.stored tells) certain others spares; passes = c.remove_tables.ensures.passes tells })

@@ -1,12 +1,13 @@
+use Rattle.lsm_files.specs.Foreign.{Passes, passes_then}
 use Rattle.std.proofs.Common.{◌≡◌, ◌∷◌, true, ap, sym, subst, ◌∙◌, refl, option_to_list}
 use Rattle.lsm_versions.specs.Levels.{all_of}
 use Rattle.lsm_files.specs.Commits.{AreOthers}
 use Rattle.lsm_state.specs.Core.{Core, versions_left, written_of}
-use Rattle.lsm_state.specs.Commits.{Upholds, committed}
+use Rattle.lsm_state.specs.Commits.{UpholdsFiles, committed}
 use Rattle.lsm_state.specs.Cleaning.{Cleans}
 use Rattle.lsm_state.specs.Settling.{with_version}
 use Rattle.lsm_state.proofs.Upholding.{upheld_still}
-use Rattle.lsm_state.proofs.Installing.{upholds_join}
+use Rattle.lsm_state.proofs.Installing.{files_join}
 use Rattle.lsm_state.proofs.Replacing.{settled}
 use Rattle.lsm_state.proofs.tree.TreeState.settle.Goals as goal
 
@@ -15,7 +16,7 @@ returns-in_err-copy-clause-upholds g c tells disk =
     let w = g.S.Store.world in
     let i = c.self.inside in
     let old : Core = record { config = i.config; memtables = i.memtables; history = i.history; next_memtable = i.next_memtable; next_table = i.next_table; next_job = i.next_job; moment = i.moment; seqno = i.seqno; visible_seqno = i.visible_seqno; flush = i.flush; lost = i.lost; merges = i.merges } in
-    subst (λ t. Upholds (w t.store) (w t.store) t.core t.core) c.self.view_is (upheld_still (w i.store) old old refl refl (c.crashes_leave_versions.ensures tells))
+    subst (λ t. UpholdsFiles (w t.store) (w t.store) t.core t.core) c.self.view_is (upheld_still (w i.store) old old refl refl (c.crashes_leave_versions.ensures tells)).files
 
 pub returns-then-not-clean_up-clause-upholds : goal.returns-then-not-clean_up-clause-upholds
 returns-then-not-clean_up-clause-upholds g c tells disk =
@@ -26,7 +27,7 @@ returns-then-not-clean_up-clause-upholds g c tells disk =
     let cleans = c.clean_up.ensures.cleans in
     let left : versions_left new.core ≡ versions_left mid.core = ap (λ sv. sv.version ∷ option_to_list new.core.lost) cleans.history.latest ∙ ap (λ k. mid.core.history.latest.version ∷ option_to_list k.lost) cleans.rest in
     let certain = ap (λ k. k.lost) c.in_ok-commit.ensures.commits.ok ∙ c.requires.certain in
-    upholds_join (w now.store) (w mid.store) (w new.store) now.core mid.core new.core left (c.commit.ensures.upholds tells disk) (c.clean_up.ensures.upholds tells certain)
+    files_join (w now.store) (w mid.store) (w new.store) now.core mid.core new.core left (c.commit.ensures.upholds tells disk) (c.clean_up.ensures.upholds tells certain).files
 
 pub remove_gone-requires-clause-certain : goal.remove_gone-requires-clause-certain
 remove_gone-requires-clause-certain g c = ap (λ k. k.lost) c.clean_up.ensures.cleans.rest ∙ ap (λ k. k.lost) c.in_ok-commit.ensures.commits.ok ∙ c.requires.certain
@@ -60,5 +61,23 @@ returns-clause-upholds g c tells disk =
     let cleans = c.clean_up.ensures.cleans in
     let left : versions_left new.core ≡ versions_left mid.core = ap (λ sv. sv.version ∷ option_to_list new.core.lost) cleans.history.latest ∙ ap (λ k. mid.core.history.latest.version ∷ option_to_list k.lost) cleans.rest in
     let certain = ap (λ k. k.lost) c.in_ok-commit.ensures.commits.ok ∙ c.requires.certain in
-    let cleaned = upholds_join (w now.store) (w mid.store) (w new.store) now.core mid.core new.core left (c.commit.ensures.upholds tells disk) (c.clean_up.ensures.upholds tells certain) in
-    upholds_join (w now.store) (w new.store) (w end.store) now.core new.core end.core (ap versions_left c.remove_gone.ensures.core) cleaned (c.remove_gone.ensures.upholds tells)
+    let cleaned = files_join (w now.store) (w mid.store) (w new.store) now.core mid.core new.core left (c.commit.ensures.upholds tells disk) (c.clean_up.ensures.upholds tells certain).files in
+    files_join (w now.store) (w new.store) (w end.store) now.core new.core end.core (ap versions_left c.remove_gone.ensures.core) cleaned (c.remove_gone.ensures.upholds tells).files
+
+pub returns-in_err-copy-clause-passes : goal.returns-in_err-copy-clause-passes
+returns-in_err-copy-clause-passes g c tells =
+    let w = g.S.Store.world in
+    subst (λ t. Passes (w t.store) (w t.store)) c.self.view_is (c.crashes_leave_versions.ensures tells).passes
+
+pub returns-then-not-clean_up-clause-passes : goal.returns-then-not-clean_up-clause-passes
+returns-then-not-clean_up-clause-passes g c tells =
+    let w = g.S.Store.world in
+    let certain = ap (λ k. k.lost) c.in_ok-commit.ensures.commits.ok ∙ c.requires.certain in
+    passes_then (w c.args.self.now.store) (w c.commit.new.self.store) (w c.clean_up.new.self.store) (c.commit.ensures.passes tells) (c.clean_up.ensures.upholds tells certain).passes
+
+pub returns-clause-passes : goal.returns-clause-passes
+returns-clause-passes g c tells =
+    let w = g.S.Store.world in
+    let certain = ap (λ k. k.lost) c.in_ok-commit.ensures.commits.ok ∙ c.requires.certain in
+    let cleaned = passes_then (w c.args.self.now.store) (w c.commit.new.self.store) (w c.clean_up.new.self.store) (c.commit.ensures.passes tells) (c.clean_up.ensures.upholds tells certain).passes in
+    passes_then (w c.args.self.now.store) (w c.clean_up.new.self.store) (w c.remove_gone.new.self.store) cleaned (c.remove_gone.ensures.upholds tells).passes

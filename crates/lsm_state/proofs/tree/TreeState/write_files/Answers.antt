@@ -15,4 +15,7 @@ returns-clause-upholds g c tells =
     let certain = subst (λ t. t.core.lost ≡ None) (sym c.self.view_is) c.requires.certain in
     let lt : i.next_table < 2 ^ 64 - 1 = search (rules, arith) in
     subst (λ t. Upholds (w t.store) (w made.new.store) t.core new) c.self.view_is
-    (written_upholds (w i.store) (w made.new.store) old new certain refl refl refl c.self.invariant.1 lt (subst (λ n. KeepsStored n (w i.store) (w made.new.store)) c.get-next.ensures (made.ensures.stored tells)))
+    (record {
+      files = written_upholds (w i.store) (w made.new.store) old new certain refl refl refl c.self.invariant.1 lt (subst (λ n. KeepsStored n (w i.store) (w made.new.store)) c.get-next.ensures (made.ensures.stored tells));
+      passes = made.ensures.passes tells;
+    })

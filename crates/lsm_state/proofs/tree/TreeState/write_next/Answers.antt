@@ -56,4 +56,7 @@ returns-clause-upholds g c tells =
     let certain = subst (λ t. t.core.lost ≡ None) (sym c.self.view_is) c.requires.certain in
     let lt : i.next_table < 2 ^ 64 - 1 = search (rules, arith) in
     subst (λ t. Upholds (w t.store) w' t.core new) c.self.view_is
-    (written_upholds (w i.store) w' old new certain refl refl refl c.self.invariant.1 lt (subst (λ n. KeepsStored n (w i.store) w') c.get-next.ensures (c.write_tables-written.ensures.stored tells)))
+    (record {
+      files = written_upholds (w i.store) w' old new certain refl refl refl c.self.invariant.1 lt (subst (λ n. KeepsStored n (w i.store) w') c.get-next.ensures (c.write_tables-written.ensures.stored tells));
+      passes = c.write_tables-written.ensures.passes tells;
+    })

@@ -6,6 +6,7 @@ use Rattle.lsm_parts.specs.History.{SeenHistory, NumbersFall}
 use Rattle.lsm_parts.specs.Versions.{IsLaid}
 use Rattle.std.specs.List.{AllByRecursion}
 use Rattle.lsm_parts.specs.Maintenance.{needed, KeepsNewer, KeepsVersions}
+use Rattle.lsm_files.specs.Foreign.{passes_then}
 use Rattle.lsm_parts.proofs.Maintained.{needed_within}
 use Rattle.lsm_parts.proofs.Removed.{KeepsFiles, files_none, newer_then, stored_then, gone_more, shorter, each_take, fall_take}
 use Rattle.lsm_parts.proofs.version.super_versions.SuperVersions.maintenance.Goals as goal
@@ -34,6 +35,11 @@ returns-in_err-remove_older-clause-stored g c tells =
     let same = c.id-in-oldest.ensures ∙ ap (λ (sv : SuperVersion). sv.version.id) c.oldest.invariant.latest in
     stored_then k (w c.args.store.now) (w c.oldest.store) (w c.remove_older.new.store) (c.oldest.invariant.files.stored tells) (subst (λ i. KeepsVersions i (w c.oldest.store) (w c.remove_older.new.store)) same (c.remove_older.ensures.stored tells))
 
+pub returns-in_err-remove_older-clause-passes : goal.returns-in_err-remove_older-clause-passes
+returns-in_err-remove_older-clause-passes g c tells =
+    let w = g.S.Store.world in
+    passes_then (w c.args.store.now) (w c.oldest.store) (w c.remove_older.new.store) (c.oldest.invariant.files.passes tells) (c.remove_older.ensures.passes tells)
+
 pub oldest-preserved-in_ok-remove_older : goal.oldest-preserved-in_ok-remove_older
 oldest-preserved-in_ok-remove_older g c =
     let w = g.S.Store.world in
@@ -57,6 +63,7 @@ oldest-preserved-in_ok-remove_older g c =
           (λ tells. subst (λ m. AllByRecursion (λ (sv : SuperVersion). sv.version.id < now.latest.version.id → (w c.oldest.store).gives (version_name sv.version.id) ≡ None) (drop m all)) last (old.files.gone tells));
       keeps = λ tells. newer_then now.latest.version.id (w c.args.store.now) (w c.oldest.store) (w c.remove_older.new.store) (old.files.keeps tells) (subst (λ i. KeepsNewer i (w c.oldest.store) (w c.remove_older.new.store)) same (made.keeps tells));
       stored = λ tells. stored_then now.latest.version.id (w c.args.store.now) (w c.oldest.store) (w c.remove_older.new.store) (old.files.stored tells) (subst (λ i. KeepsVersions i (w c.oldest.store) (w c.remove_older.new.store)) same (made.stored tells));
+      passes = λ tells. passes_then (w c.args.store.now) (w c.oldest.store) (w c.remove_older.new.store) (old.files.passes tells) (made.passes tells);
       failures = made.counts.none (λ e. absurd (cc e)) (λ e. absurd (cc e)) ∙ old.files.failures;
     } in
     record {
