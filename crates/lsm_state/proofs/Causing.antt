@@ -1,11 +1,16 @@
 -- Which calls of the store failed where a call of a tree tells a fault.
-use Rattle.std.proofs.Common.{◌≡◌, ◌⊎◌, inl, inr, ⊎_elim, Bool, true, false, Result, Ok, Err, IfErr, ap, sym, ◌∙◌}
+use Rattle.std.proofs.Common.{◌≡◌, ◌⊎◌, inl, inr, ⊎_elim, Bool, true, false, Result, Ok, Err, IfErr, ap, sym, ◌∙◌, subst, refl}
 use Rattle.std.specs.Prelude.{is_ok}
 use Rattle.lsm_below.specs.declared.error.Error.{Error}
-use Rattle.lsm_below.specs.declared.error.Error.TheVariants.{OutOfMemory, Store, CommitUnknown, OutOfNumbers, AfterCommit}
+use Rattle.lsm_below.specs.declared.error.Error.TheVariants.{OutOfMemory, Store, CommitUnknown, OutOfNumbers, AfterCommit, Unrecoverable}
 use Rattle.lsm_store.specs.World.{World}
+use Rattle.lsm_state.specs.declared.compaction.Begun.{Begun}
+use Rattle.lsm_state.specs.declared.compaction.Begun.TheVariants.{DidNothing, Declined, Installed, Job}
+use Rattle.lsm_state.specs.Core.{Core}
+use Rattle.lsm_state.specs.Causes.{BlamesEnd}
+use Rattle.lsm_state.specs.WholeCompactions.{Follows}
 use Rattle.lsm_files.specs.Stored.{CountsFaults}
-use Rattle.lsm_files.specs.Causes.{HasCause, TellsFault, no_fault, one_fault, causes_counted}
+use Rattle.lsm_files.specs.Causes.{HasCause, BlamesStore, Blames, no_fault, one_fault, causes_then, causes_counted}
 
 -- a clean-up that isn't whole
 pub unclean : {T : Type 0} (old new : World) (r : Result T Error) (whole : Bool) → whole ≡ is_ok r → IfErr r (λ e. e ≡ Store) → CountsFaults old new r → HasCause (whole ≡ false) old new
@@ -17,7 +22,7 @@ not_after : {T : Type 0} (r : Result T Error) → IfErr r (λ e. ((e ≡ OutOfMe
 not_after (Ok x) only h = cc h
 not_after (Err e) only h = ⊎_elim (λ a. ⊎_elim (λ x. cc (h, x)) (λ x. cc (h, x)) a) (λ a. ⊎_elim (λ x. cc (h, x)) (λ x. cc (h, x)) a) only
 
-pub commit_causes : {T : Type 0} (old new : World) (r : Result T Error) → IfErr r (λ e. ((e ≡ OutOfMemory) ⊎ (e ≡ Store)) ⊎ ((e ≡ CommitUnknown) ⊎ (e ≡ OutOfNumbers))) → CountsFaults old new r → HasCause (TellsFault r) old new
+pub commit_causes : {T : Type 0} (old new : World) (r : Result T Error) → IfErr r (λ e. ((e ≡ OutOfMemory) ⊎ (e ≡ Store)) ⊎ ((e ≡ CommitUnknown) ⊎ (e ≡ OutOfNumbers))) → CountsFaults old new r → HasCause (Blames r) old new
 commit_causes old new r only counts = causes_counted old new r (not_after r only) counts
 
 -- files that are written, or not
@@ -25,5 +30,35 @@ not_behind : {T : Type 0} (r : Result T Error) → IfErr r (λ e. ((e ≡ OutOfM
 not_behind (Ok x) only h = cc h
 not_behind (Err e) only h = ⊎_elim (λ a. ⊎_elim (λ x. cc (h, x)) (λ x. cc (h, x)) a) (λ x. cc (h, x)) only
 
-pub write_causes : {T : Type 0} (old new : World) (r : Result T Error) → IfErr r (λ e. ((e ≡ OutOfMemory) ⊎ (e ≡ Store)) ⊎ (e ≡ OutOfNumbers)) → CountsFaults old new r → HasCause (TellsFault r) old new
+pub write_causes : {T : Type 0} (old new : World) (r : Result T Error) → IfErr r (λ e. ((e ≡ OutOfMemory) ⊎ (e ≡ Store)) ⊎ (e ≡ OutOfNumbers)) → CountsFaults old new r → HasCause (Blames r) old new
 write_causes old new r only counts = causes_counted old new r (not_behind r only) counts
+
+-- what is told of a compaction is told of its beginning or of its end
+follows_tells : (begun r : Result Begun Error) (mid new : Core) → Follows begun r mid new → Blames r → Blames begun ⊎ BlamesEnd begun r
+follows_tells (Ok DidNothing) r mid new follows told = absurd (subst Blames follows.0 told)
+follows_tells (Ok (Declined why)) r mid new follows told = absurd (subst Blames follows.0 told)
+follows_tells (Ok Installed) r mid new follows told = absurd (subst Blames follows.0 told)
+follows_tells (Ok (Job job)) r mid new follows told = inr told
+follows_tells (Err e) r mid new follows told = inl (subst Blames follows.0 told)
+
+pub follows_cause : (w v u : World) (begun r : Result Begun Error) (mid new : Core) → Follows begun r mid new → HasCause (Blames begun) w v → HasCause (BlamesEnd begun r) v u → HasCause (Blames r) w u
+follows_cause w v u begun r mid new follows first second = causes_then (Blames begun) (BlamesEnd begun r) (Blames r) w v u first second (follows_tells begun r mid new follows)
+
+-- nothing follows but of a job
+pub nothing_follows : (w v : World) (begun r : Result Begun Error) → v.failures ≡ w.failures → (BlamesEnd begun r → ⊥) → HasCause (BlamesEnd begun r) w v
+nothing_follows w v begun r same isnt = no_fault (BlamesEnd begun r) w v same isnt
+
+-- ---- refusals that tell no fault
+
+pub no_memory : BlamesStore OutOfMemory → ⊥
+no_memory told = ⊎_elim (λ h. cc h) (λ later. ⊎_elim (λ h. cc h) (λ h. cc h) later) told
+
+pub no_numbers : BlamesStore OutOfNumbers → ⊥
+no_numbers told = ⊎_elim (λ h. cc h) (λ later. ⊎_elim (λ h. cc h) (λ h. cc h) later) told
+
+pub no_way : BlamesStore Unrecoverable → ⊥
+no_way told = ⊎_elim (λ h. cc h) (λ later. ⊎_elim (λ h. cc h) (λ h. cc h) later) told
+
+-- no call was made
+pub refused_still : (w : World) (e : Error) → (BlamesStore e → ⊥) → HasCause (BlamesStore e) w w
+refused_still w e isnt = no_fault (BlamesStore e) w w refl isnt

@@ -1,5 +1,5 @@
 -- The version that a choice makes may be installed, and its tables are on the disk.
-use Rattle.std.proofs.Common.{◌≡◌, Result, Ok, Err, IfOk, inl, inr, ℕ, ◌+◌, ◌-◌, ◌<◌, ◌^◌, ◌||◌, Bool, true, false, List, [], ◌∷◌, ◌++◌, flat_map, Option, Some, None, eqb, refl, sym, ap, ap₂, ◌∙◌, arith}
+use Rattle.std.proofs.Common.{◌≡◌, Result, Ok, Err, IfOk, IfErr, IsSome, subst, inl, inr, ℕ, ◌+◌, ◌-◌, ◌<◌, ◌^◌, ◌||◌, Bool, true, false, List, [], ◌∷◌, ◌++◌, flat_map, Option, Some, None, eqb, refl, sym, ap, ap₂, ◌∙◌, arith}
 use Rattle.std.proofs.lemmas.Bool.{eqb-true}
 use Rattle.std.proofs.lemmas.List.Folds.{list_any-append}
 use Rattle.std.specs.Option.{is_some}
@@ -15,7 +15,7 @@ use Rattle.lsm_versions.specs.TableLaws.{or_parts}
 use Rattle.lsm_files.specs.Stored.{IsStored, IsTableOnDisk, AreOnDisk}
 use Rattle.lsm_files.specs.Commits.{AreOthers}
 use Rattle.lsm_below.specs.declared.error.Error.{Error}
-use Rattle.lsm_below.specs.declared.error.Error.TheVariants.{OutOfMemory}
+use Rattle.lsm_below.specs.declared.error.Error.TheVariants.{OutOfMemory, Unrecoverable}
 use Rattle.lsm_choices.specs.declared.choice.Kind.{Kind}
 use Rattle.lsm_choices.specs.declared.choice.Kind.TheVariants.{Merge as AsMerge}
 use Rattle.lsm_choices.specs.declared.choice.Why.{Why}
@@ -25,11 +25,14 @@ use Rattle.lsm_choices.specs.Choices.{first_of, reasons_of, first_reason_of, Are
 use Rattle.lsm_merges.specs.OpenMerges.{SeenOpenMerge, hides}
 use Rattle.lsm_pick.specs.declared.choice.Choice.{Choice}
 use Rattle.lsm_pick.specs.declared.choice.Choice.TheVariants.{DoNothing, Move, Merge, Drop}
+use Rattle.lsm_pick.specs.declared.choice.ChooseError.{ChooseError}
+use Rattle.lsm_pick.specs.declared.choice.ChooseError.TheVariants.{OutOfMemory as NoMemory, NotDisjoint, Busy, Refused}
 use Rattle.lsm_state.specs.declared.compaction.Options.{Options}
+use Rattle.lsm_state.specs.declared.compaction.Begun.{Begun}
 use Rattle.lsm_state.specs.Core.{Core, versions_left, written_of}
 use Rattle.lsm_state.specs.Kept.{IsKeptTree}
 use Rattle.lsm_state.specs.Settling.{MaySettle, HasItsTables}
-use Rattle.lsm_state.specs.Compactions.{levels_of, hidden_in, reason_of, IsPossible, IsMovedTo, IsDroppedFrom, IsNotMoved, IsNotDropped, InstallsChoice, Does, BeginsChoice}
+use Rattle.lsm_state.specs.Compactions.{levels_of, hidden_in, reason_of, IsPossible, IsMovedTo, IsDroppedFrom, IsNotMoved, IsNotDropped, InstallsChoice, Does, BeginsChoice, BeginsCompaction, Relation, MayAnswer, error_of}
 use Rattle.lsm_state.proofs.Installing.{each_permuted}
 use Rattle.lsm_state.proofs.Replacing.{IsApart, parts_apart, each_with, tables_with, none_of_none, others_left, spared}
 use Rattle.lsm_state.proofs.Writing.{below_now}
@@ -166,3 +169,23 @@ refused_begins choice o c certain something = record {
 pub no_option : {A : Type 0} (o : Option A) → is_some o ≡ false → o ≡ None
 no_option None h = refl
 no_option (Some x) h = absurd (cc h)
+
+-- what a strategy chose is done, or its refusal told
+module _ (may_choose : Relation Choice) (may_refuse : Relation ChooseError) (o : Options) where
+  no_strategy : (e : ChooseError) → ◌≡◌ {A = Result Begun Error} (Err (error_of e)) (Err Unrecoverable) → ⊥
+  no_strategy NoMemory h = cc h
+  no_strategy NotDisjoint h = cc h
+  no_strategy Busy h = cc h
+  no_strategy Refused h = cc h
+
+  none_lost : (c : Core) → c.lost ≡ None → IsSome c.lost → ⊥
+  none_lost c certain some = let z = subst IsSome certain some in absurd (cc z)
+
+  pub begins_chosen : (chosen : Result Choice ChooseError) (r : Result Begun Error) (old new : Core) → old.lost ≡ None → IfOk chosen (MayAnswer may_choose old) → IfErr chosen (MayAnswer may_refuse old)
+      → IfOk chosen (λ choice. BeginsChoice choice o r old new) → IfErr chosen (λ e. r ≡ Err (error_of e)) → IfErr chosen (λ e. new ≡ old) → BeginsCompaction may_choose may_refuse o r old new
+  begins_chosen (Ok choice) r old new certain ok err begins refused same = record { unrecoverable = begins.unrecoverable; uncertain = begins.uncertain; chosen = λ _. inl (choice, ok, begins) }
+  begins_chosen (Err e) r old new certain ok err begins refused same = record {
+    unrecoverable = (λ u. absurd (no_strategy e (sym refused ∙ u)), λ some. absurd (none_lost old certain some));
+    uncertain = λ some. same;
+    chosen = λ _. inr (e, err, refused, same);
+  }

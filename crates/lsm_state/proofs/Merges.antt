@@ -171,7 +171,7 @@ module _ (c : Core) (kept : IsKeptTree c) (law : ChangesKeepTables) (job : SeenC
 
 -- a job is closed, or was not open
 pub spent_upholds : (w : World) (old new : Core) (n : ℕ) (found : Bool) → (found ≡ true → new ≡ closed n old) → (found ≡ false → new ≡ old) → Upholds w w old old → Upholds w w old new
-spent_upholds w old new n true closes other up = subst (Upholds w w old) (sym (closes refl)) up
+spent_upholds w old new n true closes other up = subst (Upholds w w old) (sym (closes refl)) (record { files = up.files; passes = up.passes })
 spent_upholds w old new n false closes other up = subst (Upholds w w old) (sym (other refl)) up
 
 -- the counter has no number

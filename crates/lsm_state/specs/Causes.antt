@@ -1,28 +1,35 @@
--- Which answers of a tree's calls tell a fault of the store.
+-- Which answers of a tree's calls blame the store.
 use Rattle.std.specs.Prelude.{◌≡◌, ℕ, false, Option, Some, None, Result, Ok, Err}
 use Rattle.lsm_below.specs.declared.error.Error.{Error}
 use Rattle.lsm_jobs.specs.declared.jobs.Registered.{Registered}
-use Rattle.lsm_files.specs.Causes.{IsFault}
+use Rattle.lsm_files.specs.Causes.{BlamesStore, Blames}
+use Rattle.lsm_state.specs.declared.compaction.Begun.{Begun}
+use Rattle.lsm_state.specs.declared.compaction.Begun.TheVariants.{Job}
 
 -- a refusal that comes with something beside it
-abbrev pub TellsFaultBeside : {T X : Type 0} → Result T (Error × X) → Type 0
-TellsFaultBeside (Ok x) = ⊥
-TellsFaultBeside (Err e) = IsFault e.0
+abbrev pub BlamesBeside : {T X : Type 0} → Result T (Error × X) → Type 0
+BlamesBeside (Ok x) = ⊥
+BlamesBeside (Err e) = BlamesStore e.0
 
 -- a flush that is registered: the clean-up behind it wasn't whole
-abbrev pub TellsUnclean : Result Registered Error → Type 0
-TellsUnclean (Ok a) = a.cleaned ≡ false
-TellsUnclean (Err e) = IsFault e
+abbrev pub BlamesOrUnclean : Result Registered Error → Type 0
+BlamesOrUnclean (Ok a) = a.cleaned ≡ false
+BlamesOrUnclean (Err e) = BlamesStore e
 
 -- so of what a flush answers
 abbrev pub IsUnclean : Option (ℕ × Registered) → Type 0
 IsUnclean None = ⊥
 IsUnclean (Some p) = p.1.cleaned ≡ false
 
-abbrev pub TellsUncleanFlush : Result (Option (ℕ × Registered)) Error → Type 0
-TellsUncleanFlush (Ok a) = IsUnclean a
-TellsUncleanFlush (Err e) = IsFault e
+abbrev pub BlamesOrUncleanFlush : Result (Option (ℕ × Registered)) Error → Type 0
+BlamesOrUncleanFlush (Ok a) = IsUnclean a
+BlamesOrUncleanFlush (Err e) = BlamesStore e
 
-abbrev pub TellsUncleanBehind : Result (Option ℕ × Option (ℕ × Registered)) (Error × Option ℕ) → Type 0
-TellsUncleanBehind (Ok a) = IsUnclean a.1
-TellsUncleanBehind (Err e) = IsFault e.0
+abbrev pub BlamesOrUncleanBehind : Result (Option ℕ × Option (ℕ × Registered)) (Error × Option ℕ) → Type 0
+BlamesOrUncleanBehind (Ok a) = IsUnclean a.1
+BlamesOrUncleanBehind (Err e) = BlamesStore e.0
+
+-- the end of a merge, where a compaction began with its job
+abbrev pub BlamesEnd : Result Begun Error → Result Begun Error → Type 0
+BlamesEnd (Ok (Job job)) r = Blames r
+BlamesEnd _ r = ⊥

@@ -1,5 +1,5 @@
 -- A flush in one call: begun, merged, written and registered.
-use Rattle.std.specs.Prelude.{◌≡◌, ◌⊎◌, ℕ, ◌+◌, ◌-◌, ◌^◌, ◌≤◌, Bool, true, false, [], flat_map, sum_by, Option, None, IsSome, IfSome, Result, Ok, Err, IfOk, IfErr, OnErr, IsErrOf, ◌↔◌}
+use Rattle.std.specs.Prelude.{◌≡◌, ◌⊎◌, ℕ, ◌+◌, ◌-◌, ◌^◌, ◌<◌, ◌≤◌, Bool, true, false, [], flat_map, sum_by, Option, None, IsSome, IfSome, Result, Ok, Err, IfOk, IfErr, OnErr, IsErrOf, ◌↔◌}
 use Rattle.lsm_below.specs.Sums.{capped}
 use Rattle.lsm_below.specs.declared.error.Error.{Error}
 use Rattle.lsm_below.specs.declared.error.Error.TheVariants.{OutOfMemory, Store, CommitUnknown, Unrecoverable, OutOfNumbers, FlushOpen, TooManyRuns}

@@ -2,7 +2,7 @@
 ghost use Rattle.std.specs.Prelude.{◌≡◌, ◌<◌, [], None, IsSome, IfOk, IfErr};
 ghost use Rattle.lsm_choices.specs.Choices.{first_reason_of, AreThere, IsMovable};
 ghost use Rattle.lsm_pick.specs.declared.choice.Choice.TheVariants.{DoNothing, Move, Merge};
-ghost use Rattle.lsm_files.specs.Causes.{HasCause, TellsFault};
+ghost use Rattle.lsm_files.specs.Causes.{HasCause, Blames};
 ghost use Rattle.lsm_state.specs.Commits.{Upholds};
 ghost use Rattle.lsm_state.specs.Settling.{MaySettle, HasItsTables};
 ghost use Rattle.lsm_state.specs.Compactions.{hidden_in, levels_of, reason_of, IsPossible, IsMovedTo, IsDroppedFrom, IsNotMoved, IsNotDropped, InstallsChoice, OpensMerge, Does, BeginsChoice, BeginsCompaction, MayAnswer, error_of};
@@ -106,7 +106,7 @@ impl<S: Store> TreeState<S> {
         requires possible { IsPossible (Move input.now) self.old.core }
         ensures installs { InstallsChoice (IsMovedTo input.now self.old.core.history.latest.version) (IsNotMoved input.now self.old.core.history.latest.version) options.mvcc_gc_watermark result self.old.core self.new.core }
         ensures upholds { S.tells → Upholds (S.world self.old.store) (S.world self.new.store) self.old.core self.new.core }
-        ensures causes { HasCause (TellsFault result) (S.world self.old.store) (S.world self.new.store) }
+        ensures causes { HasCause (Blames result) (S.world self.old.store) (S.world self.new.store) }
     {
         self.is_upheld();
         if self.seqno.get() >= LIMIT {
@@ -129,7 +129,7 @@ impl<S: Store> TreeState<S> {
         requires there { AreThere (levels_of self.old.core) ids.now.keys }
         ensures installs { InstallsChoice (IsDroppedFrom ids.now.keys self.old.core.history.latest.version) (IsNotDropped ids.now.keys self.old.core.history.latest.version) options.mvcc_gc_watermark result self.old.core self.new.core }
         ensures upholds { S.tells → Upholds (S.world self.old.store) (S.world self.new.store) self.old.core self.new.core }
-        ensures causes { HasCause (TellsFault result) (S.world self.old.store) (S.world self.new.store) }
+        ensures causes { HasCause (Blames result) (S.world self.old.store) (S.world self.new.store) }
     {
         self.is_upheld();
         if self.seqno.get() >= LIMIT {
@@ -181,7 +181,7 @@ impl<S: Store> TreeState<S> {
         requires possible { IsPossible choice self.old.core }
         ensures does { Does choice options result self.old.core self.new.core }
         ensures upholds { S.tells → Upholds (S.world self.old.store) (S.world self.new.store) self.old.core self.new.core }
-        ensures causes { HasCause (TellsFault result) (S.world self.old.store) (S.world self.new.store) }
+        ensures causes { HasCause (Blames result) (S.world self.old.store) (S.world self.new.store) }
     {
         self.is_upheld();
         match choice {
@@ -196,7 +196,7 @@ impl<S: Store> TreeState<S> {
     fn begin_checked(&mut self, choice: Choice, options: Options) -> Result<Begun, Error>
         ensures begins { BeginsChoice choice options result self.old.core self.new.core }
         ensures upholds { S.tells → Upholds (S.world self.old.store) (S.world self.new.store) self.old.core self.new.core }
-        ensures causes { HasCause (TellsFault result) (S.world self.old.store) (S.world self.new.store) }
+        ensures causes { HasCause (Blames result) (S.world self.old.store) (S.world self.new.store) }
         ensures no_call { IsSome self.old.core.lost → self.new.store ≡ self.old.store }
     {
         self.is_upheld();
@@ -224,7 +224,7 @@ impl<S: Store> TreeState<S> {
         ensures begins { BeginsChoice choice options result self.old.core self.new.core }
         // What a crash leaves.
         ensures upholds { S.tells → Upholds (S.world self.old.store) (S.world self.new.store) self.old.core self.new.core }
-        ensures causes { HasCause (TellsFault result) (S.world self.old.store) (S.world self.new.store) }
+        ensures causes { HasCause (Blames result) (S.world self.old.store) (S.world self.new.store) }
         ensures no_call { IsSome self.old.core.lost → self.new.store ≡ self.old.store }
         // As the theories see it: the mark, and behind it the move or the drop with its maintenance, or one of unknown outcome.
         ensures deeds { ChoiceDeeds choice options.mvcc_gc_watermark result self.old.core self.new.core }
@@ -262,7 +262,7 @@ impl<S: Store> TreeState<S> {
         ensures refused { IfErr chosen (λ e. result ≡ Err (error_of e)) }
         ensures same { IfErr chosen (λ e. self.new.core ≡ self.old.core) }
         ensures upholds { S.tells → Upholds (S.world self.old.store) (S.world self.new.store) self.old.core self.new.core }
-        ensures causes { HasCause (TellsFault result) (S.world self.old.store) (S.world self.new.store) }
+        ensures causes { HasCause (Blames result) (S.world self.old.store) (S.world self.new.store) }
     {
         self.is_upheld();
         match chosen {
@@ -285,7 +285,7 @@ impl<S: Store> TreeState<S> {
         ensures begins { BeginsCompaction (may_choose strategy.now) (may_refuse strategy.now) options result self.old.core self.new.core }
         // What a crash leaves.
         ensures upholds { S.tells → Upholds (S.world self.old.store) (S.world self.new.store) self.old.core self.new.core }
-        ensures causes { HasCause (TellsFault result) (S.world self.old.store) (S.world self.new.store) }
+        ensures causes { HasCause (Blames result) (S.world self.old.store) (S.world self.new.store) }
         ensures no_call { IsSome self.old.core.lost → self.new.store ≡ self.old.store }
     {
         self.is_upheld();
@@ -305,7 +305,7 @@ impl<S: Store> TreeState<S> {
         ensures begins { BeginsCompaction (C.may_choose strategy.now) (C.may_refuse strategy.now) options result self.old.core self.new.core }
         // What a crash leaves.
         ensures upholds { S.tells → Upholds (S.world self.old.store) (S.world self.new.store) self.old.core self.new.core }
-        ensures causes { HasCause (TellsFault result) (S.world self.old.store) (S.world self.new.store) }
+        ensures causes { HasCause (Blames result) (S.world self.old.store) (S.world self.new.store) }
         ensures no_call { IsSome self.old.core.lost → self.new.store ≡ self.old.store }
     {
         self.is_upheld();

@@ -1,7 +1,7 @@
 // A compaction in one call.
 ghost use Rattle.std.specs.Prelude.{◌≡◌, IsSome};
-ghost use Rattle.lsm_store.specs.World.{World};
-ghost use Rattle.lsm_files.specs.Causes.{HasCause, TellsFault};
+ghost use Rattle.lsm_files.specs.Causes.{HasCause, Blames};
+ghost use Rattle.lsm_state.specs.Causes.{BlamesEnd};
 ghost use Rattle.lsm_state.specs.Commits.{Upholds};
 ghost use Rattle.lsm_state.specs.WholeCompactions.{Completes, Follows, CompactsChoice, Compacts, DropsRange, options_at, only_memory, major_choice};
 
@@ -17,7 +17,7 @@ impl<S: Store> TreeState<S> {
     fn complete(&mut self, job: CompactionJob) -> Result<Begun, Error>
         ensures completes { Completes job result self.old.core self.new.core }
         ensures upholds { S.tells → Upholds (S.world self.old.store) (S.world self.new.store) self.old.core self.new.core }
-        ensures causes { HasCause (TellsFault result) (S.world self.old.store) (S.world self.new.store) }
+        ensures causes { HasCause (Blames result) (S.world self.old.store) (S.world self.new.store) }
         ensures no_call { IsSome self.old.core.lost → self.new.store ≡ self.old.store }
     {
         let merged = match job.run() {
@@ -38,7 +38,7 @@ impl<S: Store> TreeState<S> {
     fn follow(&mut self, begun: Result<Begun, Error>) -> Result<Begun, Error>
         ensures follows { Follows begun result self.old.core self.new.core }
         ensures upholds { S.tells → Upholds (S.world self.old.store) (S.world self.new.store) self.old.core self.new.core }
-        ensures causes { (before : World) → HasCause (TellsFault begun) before (S.world self.old.store) → HasCause (TellsFault result) before (S.world self.new.store) }
+        ensures causes { HasCause (BlamesEnd begun result) (S.world self.old.store) (S.world self.new.store) }
         ensures no_call { IsSome self.old.core.lost → self.new.store ≡ self.old.store }
     {
         self.is_upheld();
@@ -62,7 +62,7 @@ impl<S: Store> TreeState<S> {
         ensures compacts { CompactsChoice choice options result self.old.core self.new.core }
         // What a crash leaves.
         ensures upholds { S.tells → Upholds (S.world self.old.store) (S.world self.new.store) self.old.core self.new.core }
-        ensures causes { HasCause (TellsFault result) (S.world self.old.store) (S.world self.new.store) }
+        ensures causes { HasCause (Blames result) (S.world self.old.store) (S.world self.new.store) }
         ensures no_call { IsSome self.old.core.lost → self.new.store ≡ self.old.store }
     {
         let begun = self.begin_choice(choice, options);
@@ -78,7 +78,7 @@ impl<S: Store> TreeState<S> {
         ensures compacts { Compacts (C.may_choose strategy.now) (C.may_refuse strategy.now) options result self.old.core self.new.core }
         // What a crash leaves.
         ensures upholds { S.tells → Upholds (S.world self.old.store) (S.world self.new.store) self.old.core self.new.core }
-        ensures causes { HasCause (TellsFault result) (S.world self.old.store) (S.world self.new.store) }
+        ensures causes { HasCause (Blames result) (S.world self.old.store) (S.world self.new.store) }
         ensures no_call { IsSome self.old.core.lost → self.new.store ≡ self.old.store }
     {
         let begun = self.begin_with(strategy, options);
@@ -108,7 +108,7 @@ impl<S: Store> TreeState<S> {
         ensures compacts { Compacts (may_choose strategy.now) (may_refuse strategy.now) (options_at watermark self.old.core) result self.old.core self.new.core }
         // What a crash leaves.
         ensures upholds { S.tells → Upholds (S.world self.old.store) (S.world self.new.store) self.old.core self.new.core }
-        ensures causes { HasCause (TellsFault result) (S.world self.old.store) (S.world self.new.store) }
+        ensures causes { HasCause (Blames result) (S.world self.old.store) (S.world self.new.store) }
         ensures no_call { IsSome self.old.core.lost → self.new.store ≡ self.old.store }
     {
         let options = self.options_at(watermark);
@@ -125,7 +125,7 @@ impl<S: Store> TreeState<S> {
         ensures compacts { Compacts (major_choice target) only_memory (options_at watermark self.old.core) result self.old.core self.new.core }
         // What a crash leaves.
         ensures upholds { S.tells → Upholds (S.world self.old.store) (S.world self.new.store) self.old.core self.new.core }
-        ensures causes { HasCause (TellsFault result) (S.world self.old.store) (S.world self.new.store) }
+        ensures causes { HasCause (Blames result) (S.world self.old.store) (S.world self.new.store) }
         ensures no_call { IsSome self.old.core.lost → self.new.store ≡ self.old.store }
     {
         let options = self.options_at(watermark);
@@ -143,7 +143,7 @@ impl<S: Store> TreeState<S> {
         ensures drops { DropsRange bounds result self.old.core self.new.core }
         // What a crash leaves.
         ensures upholds { S.tells → Upholds (S.world self.old.store) (S.world self.new.store) self.old.core self.new.core }
-        ensures causes { HasCause (TellsFault result) (S.world self.old.store) (S.world self.new.store) }
+        ensures causes { HasCause (Blames result) (S.world self.old.store) (S.world self.new.store) }
         ensures no_call { IsSome self.old.core.lost → self.new.store ≡ self.old.store }
     {
         self.is_upheld();
@@ -174,7 +174,7 @@ pub fn do_compaction<S: Store>(
     ensures compacts { Compacts (may_choose strategy.now) (may_refuse strategy.now) options result tree.old.core tree.new.core }
     // What a crash leaves.
     ensures upholds { S.tells → Upholds (S.world tree.old.store) (S.world tree.new.store) tree.old.core tree.new.core }
-    ensures causes { HasCause (TellsFault result) (S.world tree.old.store) (S.world tree.new.store) }
+    ensures causes { HasCause (Blames result) (S.world tree.old.store) (S.world tree.new.store) }
     ensures no_call { IsSome tree.old.core.lost → tree.new.store ≡ tree.old.store }
 {
     let begun = tree.begin_compaction(strategy, options);

@@ -7,7 +7,7 @@ ghost use Rattle.lsm_files.specs.Stored.{AreOnDisk};
 ghost use Rattle.lsm_files.specs.Contents.{AreWritten, FilesAreTables};
 ghost use Rattle.lsm_merges.specs.OpenMerges.{IsOpenIn};
 ghost use Rattle.lsm_versions.specs.Refusals.{IsRefusedFor};
-ghost use Rattle.lsm_files.specs.Causes.{HasCause, TellsFault};
+ghost use Rattle.lsm_files.specs.Causes.{HasCause, Blames};
 ghost use Rattle.lsm_state.specs.Commits.{Upholds};
 ghost use Rattle.lsm_state.specs.Flushes.{with_next_table};
 ghost use Rattle.lsm_state.specs.Deeds.{IsNoDeed};
@@ -70,7 +70,7 @@ impl<S: Store> TreeState<S> {
         ensures core { self.new.core ≡ with_next_table self.new.core.next_table self.old.core }
         ensures on_disk { S.tells → IfOk result (λ ids. AreWritten (S.world self.new.store) ids.items contents.now) }
         ensures upholds { S.tells → Upholds (S.world self.old.store) (S.world self.new.store) self.old.core self.new.core }
-        ensures causes { HasCause (TellsFault result) (S.world self.old.store) (S.world self.new.store) }
+        ensures causes { HasCause (Blames result) (S.world self.old.store) (S.world self.new.store) }
         ensures out_of_numbers { IsErrOf result Error.OutOfNumbers → LIMIT ≤ self.new.core.next_table }
         ensures only { IfErr result (λ e. ((e ≡ Error.OutOfMemory) ⊎ (e ≡ Error.Store)) ⊎ (e ≡ Error.OutOfNumbers)) }
     {
@@ -95,7 +95,7 @@ impl<S: Store> TreeState<S> {
         ensures core { self.new.core ≡ with_next_table self.new.core.next_table self.old.core }
         ensures on_disk { S.tells → IfOk result (λ tables. AreOnDisk (S.world self.new.store) tables.items) }
         ensures upholds { S.tells → Upholds (S.world self.old.store) (S.world self.new.store) self.old.core self.new.core }
-        ensures causes { HasCause (TellsFault result) (S.world self.old.store) (S.world self.new.store) }
+        ensures causes { HasCause (Blames result) (S.world self.old.store) (S.world self.new.store) }
         ensures out_of_numbers { IsErrOf result Error.OutOfNumbers → LIMIT ≤ self.new.core.next_table }
         ensures only { IfErr result (λ e. ((e ≡ Error.OutOfMemory) ⊎ (e ≡ Error.Store)) ⊎ (e ≡ Error.OutOfNumbers)) }
     {
@@ -134,7 +134,7 @@ impl<S: Store> TreeState<S> {
         ensures installs { InstallsMerge merged.now.job result self.old.core self.new.core }
         ensures done { IfOk result (λ f. f ≡ Finished.Installed) }
         ensures upholds { S.tells → Upholds (S.world self.old.store) (S.world self.new.store) self.old.core self.new.core }
-        ensures causes { HasCause (TellsFault result) (S.world self.old.store) (S.world self.new.store) }
+        ensures causes { HasCause (Blames result) (S.world self.old.store) (S.world self.new.store) }
     {
         self.is_upheld();
         if self.seqno.get() >= LIMIT {
@@ -171,7 +171,7 @@ impl<S: Store> TreeState<S> {
         requires certain { self.old.core.lost ≡ None }
         ensures ends { Ends merged.now.job result self.old.core self.new.core }
         ensures upholds { S.tells → Upholds (S.world self.old.store) (S.world self.new.store) self.old.core self.new.core }
-        ensures causes { HasCause (TellsFault result) (S.world self.old.store) (S.world self.new.store) }
+        ensures causes { HasCause (Blames result) (S.world self.old.store) (S.world self.new.store) }
     {
         self.is_upheld();
         let job = merged.job();
@@ -187,7 +187,7 @@ impl<S: Store> TreeState<S> {
     fn finish_spent(&mut self, merged: MergedCompaction) -> Result<Finished, Error>
         ensures finishes { Finishes merged.job result self.old.core self.new.core }
         ensures upholds { S.tells → Upholds (S.world self.old.store) (S.world self.new.store) self.old.core self.new.core }
-        ensures causes { HasCause (TellsFault result) (S.world self.old.store) (S.world self.new.store) }
+        ensures causes { HasCause (Blames result) (S.world self.old.store) (S.world self.new.store) }
         ensures no_call { IsSome self.old.core.lost → self.new.store ≡ self.old.store }
     {
         self.is_upheld();
@@ -218,7 +218,7 @@ impl<S: Store> TreeState<S> {
         ensures finishes { Finishes merged.job result self.old.core self.new.core }
         // What a crash leaves.
         ensures upholds { S.tells → Upholds (S.world self.old.store) (S.world self.new.store) self.old.core self.new.core }
-        ensures causes { HasCause (TellsFault result) (S.world self.old.store) (S.world self.new.store) }
+        ensures causes { HasCause (Blames result) (S.world self.old.store) (S.world self.new.store) }
         ensures no_call { IsSome self.old.core.lost → self.new.store ≡ self.old.store }
         // As the theories see it: the merge and its maintenance, or one of unknown outcome, else nothing.
         ensures deeds { MergeDeeds merged.job result self.old.core self.new.core }

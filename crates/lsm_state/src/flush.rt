@@ -5,7 +5,7 @@ ghost use Rattle.lsm_versions.specs.Levels.{all_of, HasOwnIds};
 ghost use Rattle.lsm_files.specs.Stored.{AreOnDisk, CountsFaults};
 ghost use Rattle.lsm_files.specs.Writing.{HoldEntries};
 ghost use Rattle.lsm_files.specs.Causes.{HasCause};
-ghost use Rattle.lsm_state.specs.Causes.{TellsFaultBeside};
+ghost use Rattle.lsm_state.specs.Causes.{BlamesBeside};
 ghost use Rattle.lsm_state.specs.Commits.{Upholds};
 ghost use Rattle.lsm_state.specs.Deeds.{IsNoDeed};
 ghost use Rattle.lsm_state.specs.Flushes.{Begins, WritesTables, with_next_table, noted_in, spent, spent_in};
@@ -154,7 +154,7 @@ impl<S: Store> TreeState<S> {
         ensures writes { WritesTables job result self.old.core self.new.core }
         // What a crash leaves.
         ensures upholds { S.tells → Upholds (S.world self.old.store) (S.world self.new.store) self.old.core self.new.core }
-        ensures causes { HasCause (TellsFaultBeside result) (S.world self.old.store) (S.world self.new.store) }
+        ensures causes { HasCause (BlamesBeside result) (S.world self.old.store) (S.world self.new.store) }
         ensures no_call { IsSome self.old.core.lost → self.new.store ≡ self.old.store }
         // To the theories nothing is done.
         ensures deeds { IsNoDeed self.old.core self.new.core }

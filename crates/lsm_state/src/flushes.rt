@@ -1,8 +1,8 @@
 // A flush in one call.
 ghost use Rattle.std.specs.Prelude.{◌≡◌, IsSome};
 ghost use Rattle.lsm_files.specs.Foreign.{AtRest};
-ghost use Rattle.lsm_files.specs.Causes.{HasCause, TellsFault};
-ghost use Rattle.lsm_state.specs.Causes.{TellsUncleanFlush, TellsUncleanBehind};
+ghost use Rattle.lsm_files.specs.Causes.{HasCause, Blames};
+ghost use Rattle.lsm_state.specs.Causes.{BlamesOrUncleanFlush, BlamesOrUncleanBehind};
 ghost use Rattle.lsm_state.specs.Commits.{Upholds};
 ghost use Rattle.lsm_state.specs.WholeFlushes.{sealed_bytes, WritesJob, Flushes, MarksFlush, FlushesActive};
 
@@ -33,7 +33,7 @@ impl<S: Store> TreeState<S> {
     fn write_job(&mut self, job: FlushJob, watermark: SeqNo) -> Result<WrittenFlush, Error>
         ensures writes { WritesJob watermark job result self.old.core self.new.core }
         ensures upholds { S.tells → Upholds (S.world self.old.store) (S.world self.new.store) self.old.core self.new.core }
-        ensures causes { HasCause (TellsFault result) (S.world self.old.store) (S.world self.new.store) }
+        ensures causes { HasCause (Blames result) (S.world self.old.store) (S.world self.new.store) }
         ensures no_call { IsSome self.old.core.lost → self.new.store ≡ self.old.store }
     {
         self.stays_stored();
@@ -65,7 +65,7 @@ impl<S: Store> TreeState<S> {
         ensures flushes { Flushes watermark result self.old.core self.new.core }
         ensures marks { MarksFlush marked.new result }
         ensures upholds { S.tells → Upholds (S.world self.old.store) (S.world self.new.store) self.old.core self.new.core }
-        ensures causes { HasCause (TellsUncleanFlush result) (S.world self.old.store) (S.world self.new.store) }
+        ensures causes { HasCause (BlamesOrUncleanFlush result) (S.world self.old.store) (S.world self.new.store) }
         ensures no_call { IsSome self.old.core.lost → self.new.store ≡ self.old.store }
     {
         self.stays_stored();
@@ -90,7 +90,7 @@ impl<S: Store> TreeState<S> {
         ensures marks { MarksFlush result.1 result.0 }
         // What a crash leaves.
         ensures upholds { S.tells → Upholds (S.world self.old.store) (S.world self.new.store) self.old.core self.new.core }
-        ensures causes { HasCause (TellsUncleanFlush (result.0)) (S.world self.old.store) (S.world self.new.store) }
+        ensures causes { HasCause (BlamesOrUncleanFlush (result.0)) (S.world self.old.store) (S.world self.new.store) }
         ensures no_call { IsSome self.old.core.lost → self.new.store ≡ self.old.store }
     {
         let mut marked = false;
@@ -119,7 +119,7 @@ impl<S: Store> TreeState<S> {
         ensures flushes { Flushes watermark result self.old.core self.new.core }
         // What a crash leaves.
         ensures upholds { S.tells → Upholds (S.world self.old.store) (S.world self.new.store) self.old.core self.new.core }
-        ensures causes { HasCause (TellsUncleanFlush result) (S.world self.old.store) (S.world self.new.store) }
+        ensures causes { HasCause (BlamesOrUncleanFlush result) (S.world self.old.store) (S.world self.new.store) }
         ensures no_call { IsSome self.old.core.lost → self.new.store ≡ self.old.store }
     {
         self.flush_with_mark(watermark).0
@@ -140,7 +140,7 @@ impl<S: Store> TreeState<S> {
         ensures flushes { FlushesActive watermark result self.old.core self.new.core }
         // What a crash leaves.
         ensures upholds { S.tells → Upholds (S.world self.old.store) (S.world self.new.store) self.old.core self.new.core }
-        ensures causes { HasCause (TellsUncleanBehind result) (S.world self.old.store) (S.world self.new.store) }
+        ensures causes { HasCause (BlamesOrUncleanBehind result) (S.world self.old.store) (S.world self.new.store) }
         ensures no_call { IsSome self.old.core.lost → self.new.store ≡ self.old.store }
     {
         self.stays_stored();

@@ -7,7 +7,7 @@ ghost use Rattle.lsm_below.specs.Runs.{IsRun};
 ghost use Rattle.lsm_files.specs.Stored.{AreOnDisk};
 ghost use Rattle.lsm_jobs.specs.Jobs.{ids_in, entries_in};
 ghost use Rattle.lsm_files.specs.Causes.{HasCause};
-ghost use Rattle.lsm_state.specs.Causes.{TellsUnclean};
+ghost use Rattle.lsm_state.specs.Causes.{BlamesOrUnclean};
 ghost use Rattle.lsm_state.specs.Held.{entries_of};
 ghost use Rattle.lsm_files.specs.Foreign.{Passes};
 ghost use Rattle.lsm_state.specs.Commits.{UpholdsFiles, Upholds};
@@ -135,7 +135,7 @@ impl<S: Store> TreeState<S> {
         ensures installs { InstallsSpent job.now result self.old.core self.new.core }
         ensures upholds { S.tells → AreOnDisk (S.world self.old.store) job.now.tables → UpholdsFiles (S.world self.old.store) (S.world self.new.store) self.old.core self.new.core }
         ensures passes { S.tells → Passes (S.world self.old.store) (S.world self.new.store) }
-        ensures causes { HasCause (TellsUnclean result) (S.world self.old.store) (S.world self.new.store) }
+        ensures causes { HasCause (BlamesOrUnclean result) (S.world self.old.store) (S.world self.new.store) }
     {
         crashes_leave_versions(&self.store);
         let number = self.seqno.get();
@@ -157,7 +157,7 @@ impl<S: Store> TreeState<S> {
         requires { IsTrue current ↔ IsCurrent job self.old.core }
         ensures registers { Registers job result self.old.core self.new.core }
         ensures upholds { S.tells → Upholds (S.world self.old.store) (S.world self.new.store) self.old.core self.new.core }
-        ensures causes { HasCause (TellsUnclean result) (S.world self.old.store) (S.world self.new.store) }
+        ensures causes { HasCause (BlamesOrUnclean result) (S.world self.old.store) (S.world self.new.store) }
         ensures no_call { IsSome self.old.core.lost → self.new.store ≡ self.old.store }
         ensures marks { IsMarkDeed job.watermark self.old.core (spent job.job.number self.old.core) }
         ensures deeds { IfOk result (λ a. a.installed ≡ true → IsFlushDeed job self.old.core self.new.core) }
@@ -200,7 +200,7 @@ impl<S: Store> TreeState<S> {
         ensures registers { Registers job result self.old.core self.new.core }
         // What a crash leaves.
         ensures upholds { S.tells → Upholds (S.world self.old.store) (S.world self.new.store) self.old.core self.new.core }
-        ensures causes { HasCause (TellsUnclean result) (S.world self.old.store) (S.world self.new.store) }
+        ensures causes { HasCause (BlamesOrUnclean result) (S.world self.old.store) (S.world self.new.store) }
         ensures no_call { IsSome self.old.core.lost → self.new.store ≡ self.old.store }
         // As the theories see it: the mark, and behind it the flush and the maintenance, or one of unknown outcome.
         ensures marks { IsMarkDeed job.watermark self.old.core (spent job.job.number self.old.core) }

@@ -3,7 +3,7 @@ ghost use Rattle.std.specs.Prelude.{◌≡◌, None, IfErr};
 ghost use Rattle.lsm_versions.specs.Levels.{all_of};
 ghost use Rattle.lsm_files.specs.Stored.{AreOnDisk};
 ghost use Rattle.lsm_files.specs.Commits.{AreOthers};
-ghost use Rattle.lsm_files.specs.Causes.{HasCause, TellsFault};
+ghost use Rattle.lsm_files.specs.Causes.{HasCause, Blames};
 ghost use Rattle.lsm_state.specs.Core.{written_of};
 ghost use Rattle.lsm_files.specs.Foreign.{Passes};
 ghost use Rattle.lsm_state.specs.Commits.{UpholdsFiles, Upholds};
@@ -31,7 +31,7 @@ impl<S: Store> TreeState<S> {
         requires others { AreOthers gone.now.keys (all_of self.old.core.history.latest.version.levels) }
         ensures core { self.new.core ≡ self.old.core }
         ensures upholds { S.tells → Upholds (S.world self.old.store) (S.world self.new.store) self.old.core self.new.core }
-        ensures causes { HasCause (TellsFault result) (S.world self.old.store) (S.world self.new.store) }
+        ensures causes { HasCause (Blames result) (S.world self.old.store) (S.world self.new.store) }
         ensures only { IfErr result (λ e. e ≡ Error.AfterCommit) }
     {
         match remove_tables(&mut self.store, gone) {
@@ -56,7 +56,7 @@ impl<S: Store> TreeState<S> {
         ensures settles { Settles version watermark result self.old.core self.new.core }
         ensures upholds { S.tells → AreOnDisk (S.world self.old.store) (all_of version.levels) → UpholdsFiles (S.world self.old.store) (S.world self.new.store) self.old.core self.new.core }
         ensures passes { S.tells → Passes (S.world self.old.store) (S.world self.new.store) }
-        ensures causes { HasCause (TellsFault result) (S.world self.old.store) (S.world self.new.store) }
+        ensures causes { HasCause (Blames result) (S.world self.old.store) (S.world self.new.store) }
     {
         crashes_leave_versions(&self.store);
         let latest = self.history.latest_version();

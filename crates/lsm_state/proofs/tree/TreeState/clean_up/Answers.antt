@@ -1,4 +1,6 @@
-use Rattle.std.proofs.Common.{◌≡◌, ◌≤◌, None, ap, sym, subst, ◌∙◌, refl}
+use Rattle.lsm_files.specs.Causes.{HasCause}
+use Rattle.lsm_state.proofs.Causing.{unclean}
+use Rattle.std.proofs.Common.{◌≡◌, ◌≤◌, None, ap, sym, subst, ◌∙◌, refl, false}
 use Rattle.lsm_state.specs.Held.{HasFirst}
 use Rattle.lsm_state.specs.Kept.{KeepsIds, least_named}
 use Rattle.lsm_state.specs.Core.{Core}
@@ -31,3 +33,9 @@ returns-clause-upholds g c tells certain =
     let new : Core = record old { memtables = c.forget_before.new.self; history = m.new.self } in
     subst (λ t. Upholds (w t.store) (w m.new.store) t.core new) c.self.view_is
     (record { files = cleaned_upholds (w i.store) (w m.new.store) old new m.ensures.forgets.latest refl refl (m.ensures.stored tells) (subst (λ t. t.core.lost ≡ None) (sym c.self.view_is) certain); passes = m.ensures.passes tells })
+
+pub returns-clause-causes : goal.returns-clause-causes
+returns-clause-causes g c =
+    let w = g.S.Store.world in
+    let m = c.maintenance-maintained in
+    subst (λ t. HasCause (c.is_ok.result ≡ false) (w t.store) (w m.new.store)) c.self.view_is (unclean (w c.self.inside.store) (w m.new.store) m.result c.is_ok.result c.is_ok.ensures.value m.ensures.only m.ensures.counts)

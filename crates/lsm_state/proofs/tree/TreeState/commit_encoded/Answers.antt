@@ -76,7 +76,7 @@ returns-in-Err-clause-upholds g c tells disk =
 pub returns-in_err-append_version-clause-passes : goal.returns-in_err-append_version-clause-passes
 returns-in_err-append_version-clause-passes g c tells =
     let w = g.S.Store.world in
-    subst (λ t. Passes (w t.store) (w t.store)) c.self.view_is (c.crashes_leave_versions.ensures tells).passes
+    subst (λ t. Passes (w t.store) (w c.self.inside.store)) c.self.view_is (c.crashes_leave_versions.ensures tells).passes
 
 pub returns-in-Ok-clause-passes : goal.returns-in-Ok-clause-passes
 returns-in-Ok-clause-passes g c tells =

@@ -1,3 +1,4 @@
+use Rattle.lsm_state.proofs.Causing.{follows_cause}
 use Rattle.lsm_state.proofs.Wholes.{choice_upholds}
 use Rattle.lsm_state.proofs.tree.TreeState.compact_choice.Goals as goal
 
@@ -8,3 +9,10 @@ returns-clause-upholds g c tells =
     let mid = c.begin_choice-begun.new.self in
     let new = c.follow.new.self in
     choice_upholds (w old.store) (w mid.store) (w new.store) c.args.choice c.args.options c.begin_choice-begun.result c.follow.result old.core mid.core new.core c.begin_choice-begun.ensures.begins c.follow.ensures.follows (c.begin_choice-begun.ensures.upholds tells) (c.follow.ensures.upholds tells)
+
+pub returns-clause-causes : goal.returns-clause-causes
+returns-clause-causes g c =
+    let w = g.S.Store.world in
+    let mid = c.begin_choice-begun.new.self in
+    let new = c.follow.new.self in
+    follows_cause (w c.args.self.now.store) (w mid.store) (w new.store) c.begin_choice-begun.result c.follow.result mid.core new.core c.follow.ensures.follows c.begin_choice-begun.ensures.causes c.follow.ensures.causes
