@@ -1,10 +1,12 @@
 -- Cleaning up keeps what a tree keeps.
-use Rattle.std.proofs.Common.{◌≡◌, ℕ, ◌≤◌, ◌<◌, Bool, true, false, cond, ◌||◌, List, [], ◌∷◌, ◌++◌, zero, suc, Result, Option, None, option_to_list, take, length, refl, sym, ap, ◌∙◌, subst, arith, eqb, leb}
+use Rattle.std.proofs.Common.{◌≡◌, ℕ, ◌≤◌, ◌<◌, Bool, true, false, cond, ◌||◌, List, [], ◌∷◌, ◌++◌, zero, suc, Result, Option, None, Some, option_to_list, take, drop, length, refl, sym, ap, ◌∙◌, subst, arith, eqb, leb}
 use Rattle.std.proofs.Math.Seq.{take-length}
 use Rattle.std.proofs.lemmas.Bool.Decides.{nat_tests}
 use Rattle.std.specs.List.{AllByRecursion}
+use Rattle.lsm_below.specs.Each.{each_both}
 use Rattle.lsm_below.specs.declared.error.Error.{Error}
 use Rattle.lsm_store.specs.World.{World}
+use Rattle.lsm_manifest.specs.Names.{version_name}
 use Rattle.lsm_memtable.specs.Memtables.{SeenMemtable}
 use Rattle.lsm_jobs.specs.Jobs.{SeenOpen}
 use Rattle.lsm_parts.specs.declared.version.super_version.SuperVersion.{SuperVersion}
@@ -12,9 +14,11 @@ use Rattle.lsm_parts.specs.History.{SeenHistory, versions_of}
 use Rattle.lsm_parts.specs.Maintenance.{Forgets, KeepsVersions}
 use Rattle.lsm_state.specs.Held.{HasFirst, ids_of, FallFrom, is_among}
 use Rattle.lsm_state.specs.Kept.{named_by, least_named, NamesHeld, NameHeld, NameOlder, KeepsIds, KeepsTables}
-use Rattle.lsm_state.specs.Core.{Core, versions_left, written_of}
+use Rattle.lsm_versions.specs.Levels.{SeenVersion}
+use Rattle.lsm_state.specs.Calls.{Rotates}
+use Rattle.lsm_state.specs.Core.{Core, versions_left, written_of, rotated_core}
 use Rattle.lsm_state.specs.Commits.{UpholdsFiles}
-use Rattle.lsm_state.specs.Cleaning.{from_id, oldest_named}
+use Rattle.lsm_state.specs.Cleaning.{from_id, oldest_named, LeavesNoFiles}
 use Rattle.lsm_state.proofs.Forgetting.{least_down, all_over, older_take}
 use Rattle.lsm_state.proofs.Upholding.{upheld, among_left}
 
@@ -133,3 +137,25 @@ cleaned_upholds w w' old new latest lost flush keeps certain stored =
     let le : id ≤ id = omega arith in
     let kept = keeps (versions_left old) (written_of old) stored (subst (AllByRecursion (λ v. id ≤ v.id)) (sym one) (le, tt)) in
     upheld w w' old new (versions_left old) (written_of old) (versions_left old) (ap (λ sv. sv.version ∷ option_to_list new.lost) latest ∙ ap (λ o. old.history.latest.version ∷ option_to_list o) lost) (ap (λ f. written_of (record old { flush = f })) flush) kept.0 kept.1 (among_left (versions_left old) (versions_left old))
+
+each_dropped : {A : Type 0} (P : A → Type 0) (n : ℕ) (xs : List A) → AllByRecursion P xs → AllByRecursion P (drop n xs)
+each_dropped P zero xs all = all
+each_dropped P (suc n) [] all = tt
+each_dropped P (suc n) (x ∷ xs) all = each_dropped P n xs all.1
+
+-- the files of the versions of super versions that went, where all of them are below the latest one
+pub gone_versions : (w v : World) (latest : ℕ) (svs : List SuperVersion) (n : ℕ) → AllByRecursion (λ sv. sv.version.id < latest) svs → AllByRecursion (λ sv. sv.version.id < latest → w.gives (version_name sv.version.id) ≡ None) (drop n svs)
+    → ((i : ℕ) → v.gives (version_name i) ≡ w.gives (version_name i)) → AllByRecursion (λ sv. v.gives (version_name sv.version.id) ≡ None) (drop n svs)
+gone_versions w v latest svs n low gone same = each_both (λ sv. sv.version.id < latest) (λ sv. sv.version.id < latest → w.gives (version_name sv.version.id) ≡ None) (λ sv. v.gives (version_name sv.version.id) ≡ None) (λ sv lt was. same sv.version.id ∙ was lt) (drop n svs)
+    (each_dropped (λ sv. sv.version.id < latest) n svs low) gone
+
+-- a rotation before changes no version
+same_versions : (w : World) (a b : SuperVersion) (svs : List SuperVersion) (n : ℕ) → a.version ≡ b.version → AllByRecursion (λ sv. w.gives (version_name sv.version.id) ≡ None) (drop n (a ∷ svs)) → AllByRecursion (λ sv. w.gives (version_name sv.version.id) ≡ None) (drop n (b ∷ svs))
+same_versions w a b svs zero is all = (subst (λ (v : SeenVersion). w.gives (version_name v.id) ≡ None) is all.0, all.1)
+same_versions w a b svs (suc n) is all = all
+
+pub rotated_leaves : (w : World) (ids : List ℕ) (old mid : Core) (id : Option ℕ) (new : SeenHistory) → Rotates old id mid → LeavesNoFiles w ids mid.history new → LeavesNoFiles w ids old.history new
+rotated_leaves w ids old mid None new r left = subst (λ (c : Core). LeavesNoFiles w ids c.history new) r.1 left
+rotated_leaves w ids old mid (Some id) new r left =
+    let mine = subst (λ (c : Core). LeavesNoFiles w ids c.history new) r.2 left in
+    record { tables = mine.tables; versions = same_versions w (rotated_core old).history.latest old.history.latest old.history.older (length new.older) refl mine.versions }

@@ -1,5 +1,5 @@
 -- A compaction in one call: what a crash in its parts leaves.
-use Rattle.std.proofs.Common.{◌≡◌, Option, None, Some, IsSome, Result, Ok, Err, ⊎_elim, refl, sym, ap, subst}
+use Rattle.std.proofs.Common.{◌≡◌, Option, None, Some, IsSome, Result, Ok, Err, ⊎_elim, refl, sym, ap, subst, ◌∙◌}
 use Rattle.lsm_below.specs.declared.error.Error.{Error}
 use Rattle.lsm_store.specs.World.{World}
 use Rattle.lsm_versions.specs.Levels.{SeenVersion}
@@ -13,7 +13,8 @@ use Rattle.lsm_state.specs.declared.compaction.Begun.{Begun}
 use Rattle.lsm_state.specs.declared.compaction.Begun.TheVariants.{DidNothing, Declined, Installed, Job}
 use Rattle.lsm_state.specs.Core.{Core, versions_left}
 use Rattle.lsm_state.specs.Commits.{Upholds}
-use Rattle.lsm_state.specs.Compactions.{reason_of, Does, BeginsChoice, Relation, BeginsCompaction}
+use Rattle.lsm_state.specs.Cleaning.{LeavesNoFiles}
+use Rattle.lsm_state.specs.Compactions.{reason_of, job_for, Does, BeginsChoice, Relation, BeginsCompaction, given_up, LeavesNoneChosen}
 use Rattle.lsm_state.specs.WholeCompactions.{Follows}
 use Rattle.lsm_state.proofs.Installing.{upholds_join}
 use Rattle.lsm_state.proofs.WholeFlushes.{upholds_behind}
@@ -67,3 +68,53 @@ choice_upholds w v u choice o begun r old mid new begins follows first second =
 pub whole_upholds : (w v u : World) (may_choose : Relation Choice) (may_refuse : Relation ChooseError) (o : Options) (begun r : Result Begun Error) (old mid new : Core) → BeginsCompaction may_choose may_refuse o begun old mid → Follows begun r mid new → Upholds w v old mid → Upholds v u mid new → Upholds w u old new
 whole_upholds w v u may_choose may_refuse o begun r old mid new begins follows first second =
     follows_uphold w v u begun r old mid new (λ job is. begun_stays may_choose may_refuse o job old mid (subst (λ b. BeginsCompaction may_choose may_refuse o b old mid) is begins)) follows first second
+
+-- ---- which files are left
+
+same_job : (a b : SeenCompaction) → ◌≡◌ {A = Begun} (Job a) (Job b) → a ≡ b
+same_job a b h = cc h
+
+opened_job : (choice : Choice) (o : Options) (job : SeenCompaction) (old mid : Core) → Does choice o (Ok (Job job)) old mid → (job.ids ≡ given_up choice) × (mid.history ≡ old.history)
+opened_job DoNothing o job old mid does = absurd (cc does.0)
+opened_job (Move input) o job old mid does = absurd (cc does.ok)
+opened_job (Merge input) o job old mid does = (ap (λ j. j.ids) (same_job job (job_for input o old) does.job), ap (λ c. c.history) does.ok)
+opened_job (Drop ids) o job old mid does = absurd (cc does.ok)
+
+chosen_job : (choice : Choice) (o : Options) (job : SeenCompaction) (old mid : Core) → old.lost ≡ None → BeginsChoice choice o (Ok (Job job)) old mid → (job.ids ≡ given_up choice) × (mid.history ≡ old.history)
+chosen_job choice o job old mid certain begins = by_reason (reason_of choice old) refl
+  where
+    declined : (why : Why) → ◌≡◌ {A = Result Begun Error} (Ok (Job job)) (Ok (Declined why)) → ⊥
+    declined why h = cc h
+
+    refused : (e : Error) → ◌≡◌ {A = Result Begun Error} (Ok (Job job)) (Err e) → ⊥
+    refused e h = cc h
+
+    by_reason : (why : Option Why) → reason_of choice old ≡ why → (job.ids ≡ given_up choice) × (mid.history ≡ old.history)
+    by_reason None is = opened_job choice o job old mid (begins.does certain is)
+    by_reason (Some why) is = ⊎_elim (λ h. absurd (declined why h)) (λ h. absurd (refused _ h)) (begins.declines why certain is).0
+
+module _ (may_choose : Relation Choice) (may_refuse : Relation ChooseError) (o : Options) where
+  job_leaves : (u : World) (job : SeenCompaction) (old mid new : Core) → BeginsCompaction may_choose may_refuse o (Ok (Job job)) old mid → LeavesNoFiles u job.ids mid.history new.history → LeavesNoneChosen u may_choose old new
+  job_leaves u job old mid new begins left = by_lost old.lost refl
+    where
+      refused : (e : Error) → ◌≡◌ {A = Result Begun Error} (Ok (Job job)) (Err e) → ⊥
+      refused e h = cc h
+
+      by_lost : (l : Option SeenVersion) → old.lost ≡ l → LeavesNoneChosen u may_choose old new
+      by_lost None certain = ⊎_elim
+          (λ h. let is = chosen_job h.0 o job old mid certain h.2 in (h.0, h.1, subst (λ k. LeavesNoFiles u (given_up h.0) k new.history) is.1 (subst (λ ids. LeavesNoFiles u ids mid.history new.history) is.0 left)))
+          (λ h. absurd (refused _ h.2)) (begins.chosen certain)
+      by_lost (Some v) is = absurd (refused _ (begins.unrecoverable.1 (subst IsSome (sym is) refl)))
+
+  not_done : (r q : Result Begun Error) → r ≡ q → r ≡ Ok Installed → q ≡ Ok Installed
+  not_done r q is done = sym is ∙ done
+
+  -- what is left behind a compaction that is installed
+  pub follows_leave : (v u : World) (begun r : Result Begun Error) (old mid new : Core) → BeginsCompaction may_choose may_refuse o begun old mid → Follows begun r mid new → (begun ≡ Ok Installed → LeavesNoneChosen v may_choose old mid)
+      → ((job : SeenCompaction) → begun ≡ Ok (Job job) → r ≡ Ok Installed → LeavesNoFiles u job.ids mid.history new.history) → (begun ≡ Ok Installed → u ≡ v) → r ≡ Ok Installed → LeavesNoneChosen u may_choose old new
+  follows_leave v u (Ok DidNothing) r old mid new begins follows first second rests done = let q = not_done r (Ok DidNothing) follows.0 done in absurd (cc q)
+  follows_leave v u (Ok (Declined why)) r old mid new begins follows first second rests done = let q = not_done r (Ok (Declined why)) follows.0 done in absurd (cc q)
+  follows_leave v u (Ok Installed) r old mid new begins follows first second rests done =
+      subst (λ z. LeavesNoneChosen z may_choose old new) (sym (rests refl)) (subst (LeavesNoneChosen v may_choose old) (sym follows.1) (first refl))
+  follows_leave v u (Ok (Job job)) r old mid new begins follows first second rests done = job_leaves u job old mid new begins (second job refl done)
+  follows_leave v u (Err e) r old mid new begins follows first second rests done = let q = not_done r (Err e) follows.0 done in absurd (cc q)

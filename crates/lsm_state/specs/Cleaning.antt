@@ -1,9 +1,13 @@
 -- What is cleaned up behind a commit: super versions that no kept snapshot reads, and memtables that none of the others names.
-use Rattle.std.specs.Prelude.{◌≡◌, ℕ, Bool, true, false, List, filter, nat_le, Result, Ok, Err}
+use Rattle.std.specs.Prelude.{◌≡◌, ℕ, Bool, true, false, List, None, filter, drop, length, nat_le, Result, Ok, Err}
+use Rattle.std.specs.List.{AllByRecursion}
 use Rattle.lsm_below.specs.declared.error.Error.{Error}
 use Rattle.lsm_below.specs.declared.error.Error.TheVariants.{Store}
+use Rattle.lsm_store.specs.World.{World}
+use Rattle.lsm_model.specs.Steps.{among}
+use Rattle.lsm_manifest.specs.Names.{table_name, version_name}
 use Rattle.lsm_memtable.specs.Memtables.{SeenMemtable}
-use Rattle.lsm_parts.specs.History.{SeenHistory, oldest}
+use Rattle.lsm_parts.specs.History.{SeenHistory, oldest, versions_of}
 use Rattle.lsm_parts.specs.Maintenance.{Forgets}
 use Rattle.lsm_state.specs.Kept.{least_named}
 use Rattle.lsm_state.specs.Core.{Core}
@@ -26,3 +30,14 @@ pub record Cleans (w : ℕ) (whole : Bool) (old new : Core) : Type 0 where
   pub history : Forgets w (answer_of whole) old.history new.history
   pub memtables : new.memtables ≡ from_id (oldest_named new.history) old.memtables
   pub rest : new ≡ record old { memtables = new.memtables; history = new.history }
+
+-- ---- files
+
+-- the files of the tables of these ids are absent
+abbrev pub AreAbsent : World → List ℕ → Type 0
+AreAbsent w ids = (i : ℕ) → among ids i ≡ true → w.gives (table_name i) ≡ None
+
+-- behind a commit no file is left of these tables, nor of the version of a super version that went
+pub record LeavesNoFiles (w : World) (ids : List ℕ) (old new : SeenHistory) : Type 0 where
+  pub tables : AreAbsent w ids
+  pub versions : AllByRecursion (λ sv. w.gives (version_name sv.version.id) ≡ None) (drop (length new.older) (versions_of old))

@@ -1,11 +1,12 @@
 // How a compaction begins.
-ghost use Rattle.std.specs.Prelude.{◌≡◌, ◌<◌, [], None, IsSome, IfOk, IfErr};
+ghost use Rattle.std.specs.Prelude.{◌≡◌, ◌<◌, [], None, IsSome, IfOk, IfErr, OnOk};
 ghost use Rattle.lsm_choices.specs.Choices.{first_reason_of, AreThere, IsMovable};
 ghost use Rattle.lsm_pick.specs.declared.choice.Choice.TheVariants.{DoNothing, Move, Merge};
 ghost use Rattle.lsm_files.specs.Causes.{HasCause, Blames};
+ghost use Rattle.lsm_state.specs.Cleaning.{LeavesNoFiles};
 ghost use Rattle.lsm_state.specs.Commits.{Upholds};
 ghost use Rattle.lsm_state.specs.Settling.{MaySettle, HasItsTables};
-ghost use Rattle.lsm_state.specs.Compactions.{hidden_in, levels_of, reason_of, IsPossible, IsMovedTo, IsDroppedFrom, IsNotMoved, IsNotDropped, InstallsChoice, OpensMerge, Does, BeginsChoice, BeginsCompaction, MayAnswer, error_of};
+ghost use Rattle.lsm_state.specs.Compactions.{hidden_in, levels_of, reason_of, IsPossible, IsMovedTo, IsDroppedFrom, IsNotMoved, IsNotDropped, InstallsChoice, OpensMerge, Does, BeginsChoice, BeginsCompaction, MayAnswer, error_of, given_up, LeavesNoneChosen};
 ghost use Rattle.lsm_state.specs.CompactionDeeds.{ChoiceDeeds};
 
 use crate::{Begun, Options, TreeState, compactions_are_deeds};
@@ -107,6 +108,7 @@ impl<S: Store> TreeState<S> {
         ensures installs { InstallsChoice (IsMovedTo input.now self.old.core.history.latest.version) (IsNotMoved input.now self.old.core.history.latest.version) options.mvcc_gc_watermark result self.old.core self.new.core }
         ensures upholds { S.tells → Upholds (S.world self.old.store) (S.world self.new.store) self.old.core self.new.core }
         ensures causes { HasCause (Blames result) (S.world self.old.store) (S.world self.new.store) }
+        ensures gone { S.tells → OnOk result (LeavesNoFiles (S.world self.new.store) [] self.old.core.history self.new.core.history) }
     {
         self.is_upheld();
         if self.seqno.get() >= LIMIT {
@@ -130,6 +132,7 @@ impl<S: Store> TreeState<S> {
         ensures installs { InstallsChoice (IsDroppedFrom ids.now.keys self.old.core.history.latest.version) (IsNotDropped ids.now.keys self.old.core.history.latest.version) options.mvcc_gc_watermark result self.old.core self.new.core }
         ensures upholds { S.tells → Upholds (S.world self.old.store) (S.world self.new.store) self.old.core self.new.core }
         ensures causes { HasCause (Blames result) (S.world self.old.store) (S.world self.new.store) }
+        ensures gone { S.tells → OnOk result (LeavesNoFiles (S.world self.new.store) ids.now.keys self.old.core.history self.new.core.history) }
     {
         self.is_upheld();
         if self.seqno.get() >= LIMIT {
@@ -182,6 +185,7 @@ impl<S: Store> TreeState<S> {
         ensures does { Does choice options result self.old.core self.new.core }
         ensures upholds { S.tells → Upholds (S.world self.old.store) (S.world self.new.store) self.old.core self.new.core }
         ensures causes { HasCause (Blames result) (S.world self.old.store) (S.world self.new.store) }
+        ensures gone { S.tells → result ≡ Ok Begun.Installed → LeavesNoFiles (S.world self.new.store) (given_up choice) self.old.core.history self.new.core.history }
     {
         self.is_upheld();
         match choice {
@@ -197,6 +201,7 @@ impl<S: Store> TreeState<S> {
         ensures begins { BeginsChoice choice options result self.old.core self.new.core }
         ensures upholds { S.tells → Upholds (S.world self.old.store) (S.world self.new.store) self.old.core self.new.core }
         ensures causes { HasCause (Blames result) (S.world self.old.store) (S.world self.new.store) }
+        ensures gone { S.tells → result ≡ Ok Begun.Installed → LeavesNoFiles (S.world self.new.store) (given_up choice) self.old.core.history self.new.core.history }
         ensures no_call { IsSome self.old.core.lost → self.new.store ≡ self.old.store }
     {
         self.is_upheld();
@@ -225,6 +230,7 @@ impl<S: Store> TreeState<S> {
         // What a crash leaves.
         ensures upholds { S.tells → Upholds (S.world self.old.store) (S.world self.new.store) self.old.core self.new.core }
         ensures causes { HasCause (Blames result) (S.world self.old.store) (S.world self.new.store) }
+        ensures gone { S.tells → result ≡ Ok Begun.Installed → LeavesNoFiles (S.world self.new.store) (given_up choice) self.old.core.history self.new.core.history }
         ensures no_call { IsSome self.old.core.lost → self.new.store ≡ self.old.store }
         // As the theories see it: the mark, and behind it the move or the drop with its maintenance, or one of unknown outcome.
         ensures deeds { ChoiceDeeds choice options.mvcc_gc_watermark result self.old.core self.new.core }
@@ -263,6 +269,7 @@ impl<S: Store> TreeState<S> {
         ensures same { IfErr chosen (λ e. self.new.core ≡ self.old.core) }
         ensures upholds { S.tells → Upholds (S.world self.old.store) (S.world self.new.store) self.old.core self.new.core }
         ensures causes { HasCause (Blames result) (S.world self.old.store) (S.world self.new.store) }
+        ensures gone { S.tells → IfOk chosen (λ choice. result ≡ Ok Begun.Installed → LeavesNoFiles (S.world self.new.store) (given_up choice) self.old.core.history self.new.core.history) }
     {
         self.is_upheld();
         match chosen {
@@ -286,6 +293,7 @@ impl<S: Store> TreeState<S> {
         // What a crash leaves.
         ensures upholds { S.tells → Upholds (S.world self.old.store) (S.world self.new.store) self.old.core self.new.core }
         ensures causes { HasCause (Blames result) (S.world self.old.store) (S.world self.new.store) }
+        ensures gone { S.tells → result ≡ Ok Begun.Installed → LeavesNoneChosen (S.world self.new.store) (may_choose strategy.now) self.old.core self.new.core }
         ensures no_call { IsSome self.old.core.lost → self.new.store ≡ self.old.store }
     {
         self.is_upheld();
@@ -306,6 +314,7 @@ impl<S: Store> TreeState<S> {
         // What a crash leaves.
         ensures upholds { S.tells → Upholds (S.world self.old.store) (S.world self.new.store) self.old.core self.new.core }
         ensures causes { HasCause (Blames result) (S.world self.old.store) (S.world self.new.store) }
+        ensures gone { S.tells → result ≡ Ok Begun.Installed → LeavesNoneChosen (S.world self.new.store) (C.may_choose strategy.now) self.old.core self.new.core }
         ensures no_call { IsSome self.old.core.lost → self.new.store ≡ self.old.store }
     {
         self.is_upheld();

@@ -1,9 +1,13 @@
 // A compaction in one call.
-ghost use Rattle.std.specs.Prelude.{◌≡◌, IsSome};
+ghost use Rattle.std.specs.Prelude.{◌≡◌, Ok, IsSome};
 ghost use Rattle.lsm_files.specs.Causes.{HasCause, Blames};
 ghost use Rattle.lsm_state.specs.Causes.{BlamesEnd};
+ghost use Rattle.lsm_merges.specs.Merges.{SeenCompaction};
+ghost use Rattle.lsm_state.specs.declared.compaction.Begun.TheVariants.{Job};
+ghost use Rattle.lsm_state.specs.Cleaning.{LeavesNoFiles};
 ghost use Rattle.lsm_state.specs.Commits.{Upholds};
-ghost use Rattle.lsm_state.specs.WholeCompactions.{Completes, Follows, CompactsChoice, Compacts, DropsRange, options_at, only_memory, major_choice};
+ghost use Rattle.lsm_state.specs.Compactions.{given_up, LeavesNoneChosen};
+ghost use Rattle.lsm_state.specs.WholeCompactions.{Completes, Follows, CompactsChoice, Compacts, DropsRange, options_at, only_memory, major_choice, drop_choice};
 
 use crate::{Begun, Finished, Options, TreeState};
 use lsm_below::SeqNo;
@@ -18,6 +22,7 @@ impl<S: Store> TreeState<S> {
         ensures completes { Completes job result self.old.core self.new.core }
         ensures upholds { S.tells → Upholds (S.world self.old.store) (S.world self.new.store) self.old.core self.new.core }
         ensures causes { HasCause (Blames result) (S.world self.old.store) (S.world self.new.store) }
+        ensures gone { S.tells → result ≡ Ok Begun.Installed → LeavesNoFiles (S.world self.new.store) job.ids self.old.core.history self.new.core.history }
         ensures no_call { IsSome self.old.core.lost → self.new.store ≡ self.old.store }
     {
         let merged = match job.run() {
@@ -39,6 +44,8 @@ impl<S: Store> TreeState<S> {
         ensures follows { Follows begun result self.old.core self.new.core }
         ensures upholds { S.tells → Upholds (S.world self.old.store) (S.world self.new.store) self.old.core self.new.core }
         ensures causes { HasCause (BlamesEnd begun result) (S.world self.old.store) (S.world self.new.store) }
+        ensures gone { S.tells → (job : SeenCompaction) → begun ≡ Ok (Job job) → result ≡ Ok Begun.Installed → LeavesNoFiles (S.world self.new.store) job.ids self.old.core.history self.new.core.history }
+        ensures rests { begun ≡ Ok Begun.Installed → self.new.store ≡ self.old.store }
         ensures no_call { IsSome self.old.core.lost → self.new.store ≡ self.old.store }
     {
         self.is_upheld();
@@ -63,6 +70,7 @@ impl<S: Store> TreeState<S> {
         // What a crash leaves.
         ensures upholds { S.tells → Upholds (S.world self.old.store) (S.world self.new.store) self.old.core self.new.core }
         ensures causes { HasCause (Blames result) (S.world self.old.store) (S.world self.new.store) }
+        ensures gone { S.tells → result ≡ Ok Begun.Installed → LeavesNoFiles (S.world self.new.store) (given_up choice) self.old.core.history self.new.core.history }
         ensures no_call { IsSome self.old.core.lost → self.new.store ≡ self.old.store }
     {
         let begun = self.begin_choice(choice, options);
@@ -79,6 +87,7 @@ impl<S: Store> TreeState<S> {
         // What a crash leaves.
         ensures upholds { S.tells → Upholds (S.world self.old.store) (S.world self.new.store) self.old.core self.new.core }
         ensures causes { HasCause (Blames result) (S.world self.old.store) (S.world self.new.store) }
+        ensures gone { S.tells → result ≡ Ok Begun.Installed → LeavesNoneChosen (S.world self.new.store) (C.may_choose strategy.now) self.old.core self.new.core }
         ensures no_call { IsSome self.old.core.lost → self.new.store ≡ self.old.store }
     {
         let begun = self.begin_with(strategy, options);
@@ -109,6 +118,7 @@ impl<S: Store> TreeState<S> {
         // What a crash leaves.
         ensures upholds { S.tells → Upholds (S.world self.old.store) (S.world self.new.store) self.old.core self.new.core }
         ensures causes { HasCause (Blames result) (S.world self.old.store) (S.world self.new.store) }
+        ensures gone { S.tells → result ≡ Ok Begun.Installed → LeavesNoneChosen (S.world self.new.store) (may_choose strategy.now) self.old.core self.new.core }
         ensures no_call { IsSome self.old.core.lost → self.new.store ≡ self.old.store }
     {
         let options = self.options_at(watermark);
@@ -126,6 +136,7 @@ impl<S: Store> TreeState<S> {
         // What a crash leaves.
         ensures upholds { S.tells → Upholds (S.world self.old.store) (S.world self.new.store) self.old.core self.new.core }
         ensures causes { HasCause (Blames result) (S.world self.old.store) (S.world self.new.store) }
+        ensures gone { S.tells → result ≡ Ok Begun.Installed → LeavesNoneChosen (S.world self.new.store) (major_choice target) self.old.core self.new.core }
         ensures no_call { IsSome self.old.core.lost → self.new.store ≡ self.old.store }
     {
         let options = self.options_at(watermark);
@@ -144,6 +155,7 @@ impl<S: Store> TreeState<S> {
         // What a crash leaves.
         ensures upholds { S.tells → Upholds (S.world self.old.store) (S.world self.new.store) self.old.core self.new.core }
         ensures causes { HasCause (Blames result) (S.world self.old.store) (S.world self.new.store) }
+        ensures gone { S.tells → result ≡ Ok Begun.Installed → LeavesNoneChosen (S.world self.new.store) (drop_choice bounds) self.old.core self.new.core }
         ensures no_call { IsSome self.old.core.lost → self.new.store ≡ self.old.store }
     {
         self.is_upheld();
@@ -175,6 +187,7 @@ pub fn do_compaction<S: Store>(
     // What a crash leaves.
     ensures upholds { S.tells → Upholds (S.world tree.old.store) (S.world tree.new.store) tree.old.core tree.new.core }
     ensures causes { HasCause (Blames result) (S.world tree.old.store) (S.world tree.new.store) }
+    ensures gone { S.tells → result ≡ Ok Begun.Installed → LeavesNoneChosen (S.world tree.new.store) (may_choose strategy.now) tree.old.core tree.new.core }
     ensures no_call { IsSome tree.old.core.lost → tree.new.store ≡ tree.old.store }
 {
     let begun = tree.begin_compaction(strategy, options);

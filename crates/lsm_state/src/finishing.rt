@@ -1,5 +1,5 @@
 // How a merge ends.
-ghost use Rattle.std.specs.Prelude.{◌≡◌, ◌≤◌, ◌<◌, ◌⊎◌, ◌↔◌, ◌+◌, true, false, None, length, IsSome, IsTrue, IfOk, IfErr, IsErrOf};
+ghost use Rattle.std.specs.Prelude.{◌≡◌, ◌≤◌, ◌<◌, ◌⊎◌, ◌↔◌, ◌+◌, true, false, None, length, IsSome, IsTrue, Ok, IfOk, IfErr, OnOk, IsErrOf};
 ghost use Rattle.std.specs.List.{range_with_len, AllByRecursion};
 ghost use Rattle.lsm_below.specs.Optimizes.{tables_of};
 ghost use Rattle.lsm_choices.specs.Choices.{EndsAs};
@@ -8,6 +8,7 @@ ghost use Rattle.lsm_files.specs.Contents.{AreWritten, FilesAreTables};
 ghost use Rattle.lsm_merges.specs.OpenMerges.{IsOpenIn};
 ghost use Rattle.lsm_versions.specs.Refusals.{IsRefusedFor};
 ghost use Rattle.lsm_files.specs.Causes.{HasCause, Blames};
+ghost use Rattle.lsm_state.specs.Cleaning.{LeavesNoFiles};
 ghost use Rattle.lsm_state.specs.Commits.{Upholds};
 ghost use Rattle.lsm_state.specs.Flushes.{with_next_table};
 ghost use Rattle.lsm_state.specs.Deeds.{IsNoDeed};
@@ -135,6 +136,7 @@ impl<S: Store> TreeState<S> {
         ensures done { IfOk result (λ f. f ≡ Finished.Installed) }
         ensures upholds { S.tells → Upholds (S.world self.old.store) (S.world self.new.store) self.old.core self.new.core }
         ensures causes { HasCause (Blames result) (S.world self.old.store) (S.world self.new.store) }
+        ensures gone { S.tells → OnOk result (LeavesNoFiles (S.world self.new.store) merged.now.job.ids self.old.core.history self.new.core.history) }
     {
         self.is_upheld();
         if self.seqno.get() >= LIMIT {
@@ -172,6 +174,7 @@ impl<S: Store> TreeState<S> {
         ensures ends { Ends merged.now.job result self.old.core self.new.core }
         ensures upholds { S.tells → Upholds (S.world self.old.store) (S.world self.new.store) self.old.core self.new.core }
         ensures causes { HasCause (Blames result) (S.world self.old.store) (S.world self.new.store) }
+        ensures gone { S.tells → result ≡ Ok Finished.Installed → LeavesNoFiles (S.world self.new.store) merged.now.job.ids self.old.core.history self.new.core.history }
     {
         self.is_upheld();
         let job = merged.job();
@@ -188,6 +191,7 @@ impl<S: Store> TreeState<S> {
         ensures finishes { Finishes merged.job result self.old.core self.new.core }
         ensures upholds { S.tells → Upholds (S.world self.old.store) (S.world self.new.store) self.old.core self.new.core }
         ensures causes { HasCause (Blames result) (S.world self.old.store) (S.world self.new.store) }
+        ensures gone { S.tells → result ≡ Ok Finished.Installed → LeavesNoFiles (S.world self.new.store) merged.job.ids self.old.core.history self.new.core.history }
         ensures no_call { IsSome self.old.core.lost → self.new.store ≡ self.old.store }
     {
         self.is_upheld();
@@ -219,6 +223,7 @@ impl<S: Store> TreeState<S> {
         // What a crash leaves.
         ensures upholds { S.tells → Upholds (S.world self.old.store) (S.world self.new.store) self.old.core self.new.core }
         ensures causes { HasCause (Blames result) (S.world self.old.store) (S.world self.new.store) }
+        ensures gone { S.tells → result ≡ Ok Finished.Installed → LeavesNoFiles (S.world self.new.store) merged.job.ids self.old.core.history self.new.core.history }
         ensures no_call { IsSome self.old.core.lost → self.new.store ≡ self.old.store }
         // As the theories see it: the merge and its maintenance, or one of unknown outcome, else nothing.
         ensures deeds { MergeDeeds merged.job result self.old.core self.new.core }

@@ -1,7 +1,8 @@
 // A flush in one call.
-ghost use Rattle.std.specs.Prelude.{◌≡◌, IsSome};
+ghost use Rattle.std.specs.Prelude.{◌≡◌, [], true, IfOk, IfSome, IsSome};
 ghost use Rattle.lsm_files.specs.Foreign.{AtRest};
 ghost use Rattle.lsm_files.specs.Causes.{HasCause, Blames};
+ghost use Rattle.lsm_state.specs.Cleaning.{LeavesNoFiles};
 ghost use Rattle.lsm_state.specs.Causes.{BlamesOrUncleanFlush, BlamesOrUncleanBehind};
 ghost use Rattle.lsm_state.specs.Commits.{Upholds};
 ghost use Rattle.lsm_state.specs.WholeFlushes.{sealed_bytes, WritesJob, Flushes, MarksFlush, FlushesActive};
@@ -66,6 +67,7 @@ impl<S: Store> TreeState<S> {
         ensures marks { MarksFlush marked.new result }
         ensures upholds { S.tells → Upholds (S.world self.old.store) (S.world self.new.store) self.old.core self.new.core }
         ensures causes { HasCause (BlamesOrUncleanFlush result) (S.world self.old.store) (S.world self.new.store) }
+        ensures gone { S.tells → IfOk result (λ a. IfSome a (λ p. p.1.cleaned ≡ true → LeavesNoFiles (S.world self.new.store) [] self.old.core.history self.new.core.history)) }
         ensures no_call { IsSome self.old.core.lost → self.new.store ≡ self.old.store }
     {
         self.stays_stored();
@@ -91,6 +93,7 @@ impl<S: Store> TreeState<S> {
         // What a crash leaves.
         ensures upholds { S.tells → Upholds (S.world self.old.store) (S.world self.new.store) self.old.core self.new.core }
         ensures causes { HasCause (BlamesOrUncleanFlush (result.0)) (S.world self.old.store) (S.world self.new.store) }
+        ensures gone { S.tells → IfOk (result.0) (λ a. IfSome a (λ p. p.1.cleaned ≡ true → LeavesNoFiles (S.world self.new.store) [] self.old.core.history self.new.core.history)) }
         ensures no_call { IsSome self.old.core.lost → self.new.store ≡ self.old.store }
     {
         let mut marked = false;
@@ -120,6 +123,7 @@ impl<S: Store> TreeState<S> {
         // What a crash leaves.
         ensures upholds { S.tells → Upholds (S.world self.old.store) (S.world self.new.store) self.old.core self.new.core }
         ensures causes { HasCause (BlamesOrUncleanFlush result) (S.world self.old.store) (S.world self.new.store) }
+        ensures gone { S.tells → IfOk result (λ a. IfSome a (λ p. p.1.cleaned ≡ true → LeavesNoFiles (S.world self.new.store) [] self.old.core.history self.new.core.history)) }
         ensures no_call { IsSome self.old.core.lost → self.new.store ≡ self.old.store }
     {
         self.flush_with_mark(watermark).0
@@ -141,6 +145,7 @@ impl<S: Store> TreeState<S> {
         // What a crash leaves.
         ensures upholds { S.tells → Upholds (S.world self.old.store) (S.world self.new.store) self.old.core self.new.core }
         ensures causes { HasCause (BlamesOrUncleanBehind result) (S.world self.old.store) (S.world self.new.store) }
+        ensures gone { S.tells → IfOk result (λ a. IfSome a.1 (λ p. p.1.cleaned ≡ true → LeavesNoFiles (S.world self.new.store) [] self.old.core.history self.new.core.history)) }
         ensures no_call { IsSome self.old.core.lost → self.new.store ≡ self.old.store }
     {
         self.stays_stored();

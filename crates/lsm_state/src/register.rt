@@ -7,6 +7,7 @@ ghost use Rattle.lsm_below.specs.Runs.{IsRun};
 ghost use Rattle.lsm_files.specs.Stored.{AreOnDisk};
 ghost use Rattle.lsm_jobs.specs.Jobs.{ids_in, entries_in};
 ghost use Rattle.lsm_files.specs.Causes.{HasCause};
+ghost use Rattle.lsm_state.specs.Cleaning.{LeavesNoFiles};
 ghost use Rattle.lsm_state.specs.Causes.{BlamesOrUnclean};
 ghost use Rattle.lsm_state.specs.Held.{entries_of};
 ghost use Rattle.lsm_files.specs.Foreign.{Passes};
@@ -136,6 +137,7 @@ impl<S: Store> TreeState<S> {
         ensures upholds { S.tells → AreOnDisk (S.world self.old.store) job.now.tables → UpholdsFiles (S.world self.old.store) (S.world self.new.store) self.old.core self.new.core }
         ensures passes { S.tells → Passes (S.world self.old.store) (S.world self.new.store) }
         ensures causes { HasCause (BlamesOrUnclean result) (S.world self.old.store) (S.world self.new.store) }
+        ensures gone { S.tells → IfOk result (λ a. a.cleaned ≡ true → LeavesNoFiles (S.world self.new.store) [] self.old.core.history self.new.core.history) }
     {
         crashes_leave_versions(&self.store);
         let number = self.seqno.get();
@@ -158,6 +160,7 @@ impl<S: Store> TreeState<S> {
         ensures registers { Registers job result self.old.core self.new.core }
         ensures upholds { S.tells → Upholds (S.world self.old.store) (S.world self.new.store) self.old.core self.new.core }
         ensures causes { HasCause (BlamesOrUnclean result) (S.world self.old.store) (S.world self.new.store) }
+        ensures gone { S.tells → IfOk result (λ a. a.installed ≡ true → a.cleaned ≡ true → LeavesNoFiles (S.world self.new.store) [] self.old.core.history self.new.core.history) }
         ensures no_call { IsSome self.old.core.lost → self.new.store ≡ self.old.store }
         ensures marks { IsMarkDeed job.watermark self.old.core (spent job.job.number self.old.core) }
         ensures deeds { IfOk result (λ a. a.installed ≡ true → IsFlushDeed job self.old.core self.new.core) }
@@ -201,6 +204,7 @@ impl<S: Store> TreeState<S> {
         // What a crash leaves.
         ensures upholds { S.tells → Upholds (S.world self.old.store) (S.world self.new.store) self.old.core self.new.core }
         ensures causes { HasCause (BlamesOrUnclean result) (S.world self.old.store) (S.world self.new.store) }
+        ensures gone { S.tells → IfOk result (λ a. a.installed ≡ true → a.cleaned ≡ true → LeavesNoFiles (S.world self.new.store) [] self.old.core.history self.new.core.history) }
         ensures no_call { IsSome self.old.core.lost → self.new.store ≡ self.old.store }
         // As the theories see it: the mark, and behind it the flush and the maintenance, or one of unknown outcome.
         ensures marks { IsMarkDeed job.watermark self.old.core (spent job.job.number self.old.core) }

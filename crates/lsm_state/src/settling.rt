@@ -1,10 +1,12 @@
 // How a version takes the place of the latest one, outside a flush.
-ghost use Rattle.std.specs.Prelude.{◌≡◌, None, IfErr};
+ghost use Rattle.std.specs.Prelude.{◌≡◌, ℕ, None, OnOk, IfErr};
 ghost use Rattle.lsm_versions.specs.Levels.{all_of};
 ghost use Rattle.lsm_files.specs.Stored.{AreOnDisk};
 ghost use Rattle.lsm_files.specs.Commits.{AreOthers};
 ghost use Rattle.lsm_files.specs.Causes.{HasCause, Blames};
+ghost use Rattle.lsm_manifest.specs.Names.{version_name};
 ghost use Rattle.lsm_state.specs.Core.{written_of};
+ghost use Rattle.lsm_state.specs.Cleaning.{AreAbsent, LeavesNoFiles};
 ghost use Rattle.lsm_files.specs.Foreign.{Passes};
 ghost use Rattle.lsm_state.specs.Commits.{UpholdsFiles, Upholds};
 ghost use Rattle.lsm_state.specs.Settling.{MaySettle, Settles};
@@ -12,6 +14,7 @@ ghost use Rattle.lsm_state.specs.Settling.{MaySettle, Settles};
 use crate::TreeState;
 use lsm_below::{SeqNo, TableId};
 use lsm_files::{crashes_leave_versions, remove_tables};
+use lsm_manifest::names_are_apart;
 use lsm_parts::{Error, SuperVersion, Version};
 use lsm_store::Store;
 use std::collections::HashSet;
@@ -32,8 +35,11 @@ impl<S: Store> TreeState<S> {
         ensures core { self.new.core ≡ self.old.core }
         ensures upholds { S.tells → Upholds (S.world self.old.store) (S.world self.new.store) self.old.core self.new.core }
         ensures causes { HasCause (Blames result) (S.world self.old.store) (S.world self.new.store) }
+        ensures gone { S.tells → OnOk result (AreAbsent (S.world self.new.store) gone.now.keys) }
+        ensures others { S.tells → (i : ℕ) → (S.world self.new.store).gives (version_name i) ≡ (S.world self.old.store).gives (version_name i) }
         ensures only { IfErr result (λ e. e ≡ Error.AfterCommit) }
     {
+        names_are_apart();
         match remove_tables(&mut self.store, gone) {
             Ok(()) => Ok(()),
             Err(_) => Err(Error::AfterCommit),
@@ -57,6 +63,7 @@ impl<S: Store> TreeState<S> {
         ensures upholds { S.tells → AreOnDisk (S.world self.old.store) (all_of version.levels) → UpholdsFiles (S.world self.old.store) (S.world self.new.store) self.old.core self.new.core }
         ensures passes { S.tells → Passes (S.world self.old.store) (S.world self.new.store) }
         ensures causes { HasCause (Blames result) (S.world self.old.store) (S.world self.new.store) }
+        ensures gone { S.tells → OnOk result (LeavesNoFiles (S.world self.new.store) gone.now.keys self.old.core.history self.new.core.history) }
     {
         crashes_leave_versions(&self.store);
         let latest = self.history.latest_version();

@@ -1,3 +1,7 @@
+use Rattle.std.proofs.Common.{◌≡◌, ℕ, true, [], Option, Some, None, IfSome}
+use Rattle.lsm_jobs.specs.declared.jobs.Registered.{Registered}
+use Rattle.lsm_state.specs.Cleaning.{LeavesNoFiles}
+use Rattle.lsm_state.proofs.CleaningUp.{rotated_leaves}
 use Rattle.std.proofs.Common.{◌∙◌, sym, ap, subst, IsSome}
 use Rattle.lsm_state.specs.Core.{versions_left, written_of}
 use Rattle.lsm_state.proofs.WholeFlushes.{upholds_same, rotated_lost}
@@ -16,3 +20,16 @@ returns-in-Err-flush-clause-no_call g c lost =
     let old = c.args.self.now in
     let mid = c.rotate_memtable.new.self in
     c.flush.ensures.no_call (subst IsSome (sym (rotated_lost old.core c.in-Ok.sealed mid.core c.in-Ok.ensures.ok)) lost) ∙ c.rotate_memtable.ensures.store
+
+each_some : {A : Type 0} (P Q : A → Type 0) (o : Option A) → ((x : A) → P x → Q x) → IfSome o P → IfSome o Q
+each_some P Q None f h = h
+each_some P Q (Some x) f h = f x h
+
+pub returns-in-Ok-flush-clause-gone : goal.returns-in-Ok-flush-clause-gone
+returns-in-Ok-flush-clause-gone g c tells =
+    let w = g.S.Store.world in
+    let old = c.args.self.now.core in
+    let mid = c.rotate_memtable.new.self.core in
+    let new = c.flush.new.self in
+    each_some (λ (p : ℕ × Registered). p.1.cleaned ≡ true → LeavesNoFiles (w new.store) [] mid.history new.core.history) (λ (p : ℕ × Registered). p.1.cleaned ≡ true → LeavesNoFiles (w new.store) [] old.history new.core.history) c.in-Ok-flush.flushed
+    (λ p left whole. rotated_leaves (w new.store) [] old mid c.in-Ok.sealed new.core.history c.in-Ok.ensures.ok (left whole)) (c.in-Ok-flush.ensures.gone tells)

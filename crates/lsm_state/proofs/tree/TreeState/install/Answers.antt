@@ -1,3 +1,8 @@
+use Rattle.std.proofs.Common.{◌<◌, None, drop, length}
+use Rattle.std.specs.List.{AllByRecursion}
+use Rattle.lsm_manifest.specs.Names.{version_name}
+use Rattle.lsm_parts.specs.History.{SeenHistory}
+use Rattle.lsm_state.proofs.CleaningUp.{gone_versions}
 use Rattle.lsm_files.specs.Foreign.{Passes, passes_then}
 use Rattle.std.proofs.Common.{◌≡◌, ◌∷◌, ◌++◌, ap, sym, subst, ◌∙◌, refl, option_to_list}
 use Rattle.std.specs.List.Sorted.{IsPermutation}
@@ -83,3 +88,20 @@ returns-clause-passes g c tells =
     let w = g.S.Store.world in
     let certain = ap (λ k. k.lost) c.in_ok-commit.ensures.commits.ok ∙ c.requires.certain in
     passes_then (w c.args.self.now.store) (w c.commit.new.self.store) (w c.clean_up-cleaned.new.self.store) (c.commit.ensures.passes tells) (c.clean_up-cleaned.ensures.upholds tells certain).passes
+
+pub returns-clause-gone : goal.returns-clause-gone
+returns-clause-gone g c tells whole =
+    let w = g.S.Store.world in
+    let i = c.self.inside in
+    let job = c.args.job.now in
+    let next = c.in_ok-next.next in
+    let now = c.args.self.now in
+    let new = c.clean_up-cleaned.new.self in
+    let n = length new.core.history.older in
+    let flushed = subst (λ sv. IsFlushedOf job c.get-number.result sv next) c.latest_version-latest.ensures c.in_ok-next.ensures.ok in
+    let same = subst (λ sv. IsPermutation (job.tables ++ all_of sv.version.levels) (all_of next.version.levels)) c.latest_version-latest.ensures c.in_ok-next.ensures.tables in
+    let may = subst (λ t. MayInstall job t.core) (sym c.self.view_is) c.requires in
+    let kept = tables_flushed job c.get-number.result i.history next flushed i.flush i.next_table may.closed same may.below c.self.invariant.1 in
+    let low = subst (λ t. AllByRecursion (λ sv. sv.version.id < next.version.id) (versions_of t.core.history)) c.self.view_is kept.aged in
+    let were = subst (λ (h : SeenHistory). AllByRecursion (λ sv. sv.version.id < h.latest.version.id → (w new.store).gives (version_name sv.version.id) ≡ None) (drop n h.older)) (ap (λ k. k.history) c.in_ok-commit.ensures.commits.ok) (c.clean_up-cleaned.ensures.gone tells whole) in
+    record { tables = λ i is. absurd (cc is); versions = gone_versions (w new.store) (w new.store) next.version.id (versions_of now.core.history) n low were (λ i. refl) }

@@ -1,3 +1,4 @@
+use Rattle.lsm_manifest.specs.Names.{version_name}
 use Rattle.std.proofs.Common.{◌≡◌, None, ap, sym, subst}
 use Rattle.lsm_versions.specs.Levels.{all_of}
 use Rattle.lsm_files.specs.Commits.{AreOthers}
@@ -18,3 +19,9 @@ returns-clause-upholds g c tells =
     let others = subst (λ k. AreOthers gone (all_of k.history.latest.version.levels)) (sym same) c.requires.others in
     subst (λ t. Upholds (w t.store) (w c.remove_tables.new.store) t.core old) c.self.view_is
     (record { files = removed_upholds (w i.store) (w c.remove_tables.new.store) old gone (c.remove_tables.ensures.stored tells) certain others spares; passes = c.remove_tables.ensures.passes tells })
+
+pub returns-clause-others : goal.returns-clause-others
+returns-clause-others g c tells i =
+    let w = g.S.Store.world in
+    let v = w c.remove_tables.new.store in
+    subst (λ t. v.gives (version_name i) ≡ (w t.store).gives (version_name i)) c.self.view_is ((c.remove_tables.ensures.keeps tells).gives (version_name i) (λ j is e. c.names_are_apart.ensures.table_no_version j i (sym e)))

@@ -1,3 +1,10 @@
+use Rattle.std.proofs.Common.{◌<◌, None, drop, length}
+use Rattle.std.proofs.lemmas.Result.{IfOk-weaker}
+use Rattle.std.specs.List.{AllByRecursion}
+use Rattle.lsm_manifest.specs.Names.{version_name}
+use Rattle.lsm_parts.specs.History.{SeenHistory, versions_of}
+use Rattle.lsm_state.specs.Cleaning.{AreAbsent, LeavesNoFiles}
+use Rattle.lsm_state.proofs.CleaningUp.{gone_versions}
 use Rattle.lsm_files.specs.Foreign.{Passes, passes_then}
 use Rattle.std.proofs.Common.{◌≡◌, ◌∷◌, true, ap, sym, subst, ◌∙◌, refl, option_to_list}
 use Rattle.lsm_versions.specs.Levels.{all_of}
@@ -81,3 +88,16 @@ returns-clause-passes g c tells =
     let certain = ap (λ k. k.lost) c.in_ok-commit.ensures.commits.ok ∙ c.requires.certain in
     let cleaned = passes_then (w c.args.self.now.store) (w c.commit.new.self.store) (w c.clean_up.new.self.store) (c.commit.ensures.passes tells) (c.clean_up.ensures.upholds tells certain).passes in
     passes_then (w c.args.self.now.store) (w c.clean_up.new.self.store) (w c.remove_gone.new.self.store) cleaned (c.remove_gone.ensures.upholds tells).passes
+
+pub returns-clause-gone : goal.returns-clause-gone
+returns-clause-gone g c tells =
+    let w = g.S.Store.world in
+    let now = c.args.self.now in
+    let new = c.clean_up.new.self in
+    let end = c.remove_gone.new.self in
+    let n = length new.core.history.older in
+    let gone = c.args.gone.now.keys in
+    let were = subst (λ (h : SeenHistory). AllByRecursion (λ sv. sv.version.id < h.latest.version.id → (w new.store).gives (version_name sv.version.id) ≡ None) (drop n h.older)) (ap (λ k. k.history) c.in_ok-commit.ensures.commits.ok) (c.if-not-clean_up.ensures.gone tells refl) in
+    let left = gone_versions (w new.store) (w end.store) c.args.version.id (versions_of now.core.history) n c.requires.tables.aged were (c.remove_gone.ensures.others tells) in
+    IfOk-weaker c.remove_gone.result (λ _. AreAbsent (w end.store) gone) (λ _. LeavesNoFiles (w end.store) gone now.core.history end.core.history)
+    (λ _ absent. record { tables = absent; versions = subst (λ k. AllByRecursion (λ sv. (w end.store).gives (version_name sv.version.id) ≡ None) (drop (length k.history.older) (versions_of now.core.history))) (sym c.remove_gone.ensures.core) left }) (c.remove_gone.ensures.gone tells)
