@@ -23,7 +23,7 @@ fn remove_record<S: Store>(store: &mut S, number: SeqNo) -> Result<(), Error>
 {
     match store.remove(record_name(number).as_str()) {
         Ok(()) => Ok(()),
-        Err(StoreError::Fault) => Err(Error::Store),
+        Err(StoreError::Fault | StoreError::NothingDone) => Err(Error::Store),
         Err(StoreError::OutOfMemory) => unreachable!(),
     }
 }

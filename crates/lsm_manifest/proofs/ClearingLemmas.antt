@@ -44,6 +44,7 @@ module _ (orphan : List ℕ → Bool) (old mid new : World) (name : List ℕ) wh
   pub clears_more : {T : Type 0} (r : Result T StoreError) → Clears orphan old mid → orphan name ≡ true → Changes name row row None mid new r → Clears orphan old new
   clears_more (Ok x) so_far is call = clears_becomes so_far is call.0
   clears_more (Err store.Fault) so_far is call = clears_becomes so_far is call
+  clears_more (Err store.NothingDone) so_far is call = clears_same so_far call
   clears_more (Err store.OutOfMemory) so_far is call = clears_same so_far call
 
   pub cleared_more : {T : Type 0} (r : Result T StoreError) → LeavesOnly old mid (IsCleared orphan old) → Clears orphan old mid → orphan name ≡ true → Changes name row row None mid new r → LeavesOnly old new (IsCleared orphan old)

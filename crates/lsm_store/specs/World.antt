@@ -82,13 +82,13 @@ pub record Narrows (old new : World) : Type 0 where
   pub later : old.moment ≤ new.moment
   pub since : (t : ℕ) (image : Image) → t ≤ old.moment → new.since t image ↔ old.since t image
 
--- a name of which a crash can't leave any bytes at all is on the disk: it leaves just what reads give
-abbrev pub IsOnDisk : World → World → Type 0
-IsOnDisk old new = (n : List ℕ) (impossible c : Option (List ℕ)) → ¬ old.may n impossible → new.may n c → c ≡ old.gives n
+-- of a name of which not any bytes could be left a crash leaves just what reads gave
+abbrev pub IsOnDisk : World → World → List ℕ → Type 0
+IsOnDisk old new n = (impossible c : Option (List ℕ)) → ¬ old.may n impossible → new.may n c → c ≡ old.gives n
 
 -- a call that settles names, by what it answers
 abbrev pub SettlesNames : {T : Type 0} → World → World → Result T StoreError → Type 0
-SettlesNames old new (Ok _) = Narrows old new × IsOnDisk old new
+SettlesNames old new (Ok _) = Narrows old new × ((n : List ℕ) → IsOnDisk old new n)
 SettlesNames old new (Err Fault) = Narrows old new
 SettlesNames old new (Err NothingDone) = Same old new
 SettlesNames old new (Err OutOfMemory) = Same old new
