@@ -2,7 +2,7 @@
 //
 // What owns a store borrows it to a helper, and has no `?` after: a deep value that is dropped is long to prove.
 
-use crate::samples::{Call, make, make_each};
+use crate::samples::{Call, answer, make, make_each};
 use lsm_store::{FolderCall, FolderFault, FolderStore, Store, StoreError};
 use std::alloc::Global;
 use std::fs::{self, File, Files};
@@ -53,7 +53,7 @@ fn lists(store: &mut impl Store, alloc: Global, wanted: &[&str]) -> Result<bool,
 }
 
 /// Calls on files of the folder and on one of each subfolder, and the removal of an absent name.
-const CALLS: [Call; 11] = [
+const CALLS: [Call; 13] = [
     Call::Write("v0", b"partial"),
     Call::Write("v0", b"old"),
     Call::Sync("v0"),
@@ -64,7 +64,9 @@ const CALLS: [Call; 11] = [
     Call::Sync("log/1"),
     Call::Replace("current", b"0"),
     Call::Replace("current", b"1"),
+    Call::Settle,
     Call::Remove("v9"),
+    Call::Settle,
 ];
 
 /// What is there then.
@@ -203,33 +205,42 @@ fn is_absent(files: &impl Files, path: &str) -> bool {
     fs::symlink_metadata(files, path).is_err_and(|error| error.kind() == ErrorKind::NotFound)
 }
 
-/// Whether a call fails, and tells this fault.
-fn fails<R>(store: &mut FolderStore<R>, call: Call, kind: ErrorKind) -> bool
+/// Whether a call fails, says whether it has done nothing, and tells this fault.
+fn fails<R>(store: &mut FolderStore<R>, call: Call, kind: ErrorKind, nothing: bool) -> bool
 where
     R: Files<File = File> + Alloc + Clone + Drop,
 {
-    let is_made = make(store, call);
-    matches!(is_made, Ok(false))
+    let is_told = match answer(store, call) {
+        Err(StoreError::Fault) => !nothing,
+        Err(StoreError::NothingDone) => nothing,
+        Ok(()) | Err(StoreError::OutOfMemory) => false,
+    };
+    is_told
         && match call {
             Call::Write(name, _) => is_fault(store.last_fault(), name, FolderCall::Write, kind),
             Call::Replace(name, _) => {
                 is_fault(store.last_fault(), name, FolderCall::Replace, kind)
             }
-            Call::Sync(_) | Call::Remove(_) => false,
+            Call::Sync(_) | Call::Remove(_) | Call::Settle => false,
         }
 }
 
-/// Names that stand for a device that is always full.
+/// A name that stands for a device that is always full.
 fn link_full(files: &impl Files) -> io::Result<()> {
-    files.symlink("/dev/full", "lsm_folder_store_full/tables/7")?;
-    files.symlink("/dev/full", "lsm_folder_store_full/replace.new")
+    files.symlink("/dev/full", "lsm_folder_store_full/tables/7")
 }
 
-/// Calls that fail, the last of which is about a file in a folder that is absent, and why.
-const FAILING: [(Call, ErrorKind); 3] = [
-    (Call::Write("tables/7", b"entries"), ErrorKind::StorageFull),
-    (Call::Replace("current", b"1"), ErrorKind::StorageFull),
-    (Call::Write("other/1", b"x"), ErrorKind::NotFound),
+/// Calls that fail, why, and whether they are known to have done nothing: a file that is begun and not finished; one that
+/// can't take the place of a folder; files in a folder that is absent.
+const FAILING: [(Call, ErrorKind, bool); 4] = [
+    (
+        Call::Write("tables/7", b"entries"),
+        ErrorKind::StorageFull,
+        false,
+    ),
+    (Call::Replace("tables", b"1"), ErrorKind::IsADirectory, true),
+    (Call::Replace("other/1", b"x"), ErrorKind::NotFound, true),
+    (Call::Write("other/1", b"x"), ErrorKind::NotFound, true),
 ];
 
 /// Whether each of these calls fails as it must, and nothing is listed after.
@@ -238,8 +249,8 @@ where
     R: Files<File = File> + Alloc + Clone + Drop,
 {
     let mut all = store.last_fault().is_none();
-    for (call, kind) in &FAILING {
-        all = fails(store, *call, *kind) && all;
+    for (call, kind, nothing) in &FAILING {
+        all = fails(store, *call, *kind, *nothing) && all;
     }
     Ok(all && lists(store, alloc, &[])?)
 }
@@ -256,6 +267,36 @@ fn what_fails_leaves_nothing(rt: HostRuntime) -> Result<(), Fail> {
     assert!(rt; failed?);
     assert!(rt; is_absent(&rt, "lsm_folder_store_full/tables/7"));
     assert!(rt; is_absent(&rt, "lsm_folder_store_full/replace.new"));
+    fs::remove_dir_all(&rt, folder)?;
+    Ok(())
+}
+
+/// Whether a replacement leaves the other file as it was, whose second name is the one that a replacement fills.
+fn spares_second_name(
+    store: &mut impl Store,
+    files: &impl Files,
+    alloc: Global,
+) -> Result<bool, StoreError> {
+    store.replace("current", b"1")?;
+    let linked = files.hard_link(
+        "lsm_folder_store_left/current",
+        "lsm_folder_store_left/replace.new",
+    );
+    store.replace("log/0", b"record")?;
+    let is_linked = linked.is_ok();
+    let is_kept = has_each(store, alloc, &[("current", b"1"), ("log/0", b"record")])?;
+    Ok(is_linked && is_kept && lists(store, alloc, &["current", "log/0"])?)
+}
+
+/// A power cut may leave a file that was renamed under both names.
+#[test]
+fn a_left_file_isnt_written_into(rt: HostRuntime) -> Result<(), Fail> {
+    let folder = "lsm_folder_store_left";
+    let _ = fs::remove_dir_all(&rt, folder);
+    let mut store = FolderStore::new(&rt, rt.alloc(), folder)?;
+    let spared = spares_second_name(&mut store, &rt, rt.alloc());
+    drop(store);
+    assert!(rt; spared?);
     fs::remove_dir_all(&rt, folder)?;
     Ok(())
 }

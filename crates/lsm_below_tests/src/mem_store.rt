@@ -4,6 +4,7 @@
 
 mod looks;
 mod scripts;
+mod settles;
 
 use crate::samples::Call;
 use lsm_store::{MemStore, Pick, Store, StoreError};
@@ -13,15 +14,18 @@ const A: &str = "a";
 
 const B: &str = "b";
 
-const SCRIPT: [Call; 9] = [
+const SCRIPT: [Call; 12] = [
     Call::Write(A, b"1"),
     Call::Sync(A),
     Call::Write(B, b"2"),
     Call::Replace(A, b"3"),
     Call::Remove(B),
+    Call::Settle,
     Call::Replace(B, b"4"),
     Call::Remove(A),
+    Call::Settle,
     Call::Replace(A, b"5"),
+    Call::Settle,
     Call::Sync(B),
 ];
 

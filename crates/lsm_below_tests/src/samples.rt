@@ -33,26 +33,32 @@ pub fn run_of<T: Ranged + Drop>(rt: &impl Abort, tables: Vec<T>) -> Run<T> {
     }
 }
 
-/// A call of a store on a name.
+/// A call of a store: on a name, or one that settles all.
 #[derive(Clone, Copy)]
 pub enum Call {
     Write(&'static str, &'static [u8]),
     Sync(&'static str),
     Replace(&'static str, &'static [u8]),
     Remove(&'static str),
+    Settle,
 }
 
-/// Whether the call was answered; a refusal for memory is handed on.
-pub fn make(store: &mut impl Store, call: Call) -> Result<bool, StoreError> {
-    let answer = match call {
+/// Makes a call.
+pub fn answer(store: &mut impl Store, call: Call) -> Result<(), StoreError> {
+    match call {
         Call::Write(name, bytes) => store.write(name, bytes),
         Call::Sync(name) => store.sync(name),
         Call::Replace(name, bytes) => store.replace(name, bytes),
         Call::Remove(name) => store.remove(name),
-    };
-    match answer {
+        Call::Settle => store.settle(),
+    }
+}
+
+/// Whether the call was answered; a refusal for memory is handed on.
+pub fn make(store: &mut impl Store, call: Call) -> Result<bool, StoreError> {
+    match answer(store, call) {
         Ok(()) => Ok(true),
-        Err(StoreError::Fault) => Ok(false),
+        Err(StoreError::Fault | StoreError::NothingDone) => Ok(false),
         Err(StoreError::OutOfMemory) => Err(StoreError::OutOfMemory),
     }
 }

@@ -27,7 +27,7 @@ pub(crate) fn write_file<S: Store>(store: &mut S, id: TableId, content: &[u8]) -
     match write_synced(store, table_name(id).as_str(), content) {
         Ok(()) => Ok(()),
         Err(StoreError::OutOfMemory) => Err(Error::OutOfMemory),
-        Err(StoreError::Fault) => Err(Error::Store),
+        Err(StoreError::Fault | StoreError::NothingDone) => Err(Error::Store),
     }
 }
 

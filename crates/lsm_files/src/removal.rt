@@ -23,7 +23,7 @@ fn remove_name<S: Store>(store: &mut S, name: &str) -> Result<(), Error>
 {
     match store.remove(name) {
         Ok(()) => Ok(()),
-        Err(StoreError::Fault) => Err(Error::Store),
+        Err(StoreError::Fault | StoreError::NothingDone) => Err(Error::Store),
         Err(StoreError::OutOfMemory) => unreachable!(),
     }
 }

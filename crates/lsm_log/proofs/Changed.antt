@@ -1,15 +1,16 @@
 -- What becomes of a store where one record is put or removed, and where several are removed.
-use Rattle.std.proofs.Common.{◌≡◌, ◌⊎◌, inl, inr, ⊎_elim, ℕ, ◌+◌, ◌<◌, ◌≤◌, List, length, take, drop, get_or, Option, Some, None, Result, refl, sym, ap, subst, ◌∙◌, arith}
+use Rattle.std.proofs.Common.{◌≡◌, ◌⊎◌, inl, inr, ⊎_elim, ℕ, ◌+◌, ◌<◌, ◌≤◌, List, length, take, drop, get_or, Option, Some, None, Result, Ok, Err, refl, sym, ap, subst, ◌∙◌, arith}
 use Rattle.std.specs.Prelude.{Contains}
 use Rattle.std.specs.List.{All}
 use Rattle.std.proofs.lemmas.List.{take_more, take-append-drop}
 use Rattle.std.proofs.lemmas.List.Elements.{All-contains, Contains-push_cases, Contains-append_cases}
-use Rattle.lsm_store.specs.World.{Image, World, Row, Only, OldOr, IsImage, At, Becomes, Changes, LeavesOnly}
+use Rattle.lsm_store.specs.World.{Image, World, Row, Only, OldOr, IsImage, At, Same, Becomes, Changes, LeavesOnly}
 use Rattle.lsm_store.specs.Synced.{Leaves}
 use Rattle.lsm_store.specs.Moments.{started, called, joined, weakened, same_or_not, keeps_becomes}
 use Rattle.lsm_store.specs.declared.store.StoreError.{StoreError}
+use Rattle.lsm_store.specs.declared.store.StoreError.TheVariants as store
 use Rattle.lsm_log.specs.LogNames.{record_name}
-use Rattle.lsm_log.specs.Changes.{IsPut, IsOneOf, IsBelow, ClearsRecords, AreCleared}
+use Rattle.lsm_log.specs.Changes.{IsPut, IsOneOf, IsNoneOf, IsBelow, ClearsRecords, AreCleared}
 
 -- ---- one name
 
@@ -43,6 +44,22 @@ remove_leaves {T} number old new r only call =
     called {T = T} old old new (AreCleared (λ (k : ℕ). k ≡ number) old) name row row None r
     (started old (AreCleared (λ (k : ℕ). k ≡ number) old) (λ image left n. inl (only image left n))) call (λ image at n. removed_row number old n (image n) (at n))
 
+record_becomes : (number : ℕ) (old new : World) → Becomes (record_name number) (OldOr (old.may (record_name number)) None) (OldOr (old.may (record_name number)) None) old new → ClearsRecords (λ (k : ℕ). k ≡ number) old new
+record_becomes number old new call = record {
+  may = λ n c may. removed_row number old n c ((call.may n c).0 may);
+  kept = λ n c out may. (call.may n c).1 (record { here = λ same. absurd (out number refl same); elsewhere = λ _. may });
+  gives = λ n out. call.elsewhere n (out number refl);
+}
+
+record_same : (number : ℕ) (old new : World) → Same old new → ClearsRecords (λ (k : ℕ). k ≡ number) old new
+record_same number old new same = record { may = λ n c may. inl ((same.may n c).0 may); kept = λ n c out may. (same.may n c).1 may; gives = λ n out. same.gives n }
+
+pub record_clears : {T : Type 0} (number : ℕ) (old new : World) (r : Result T StoreError) → Changes (record_name number) (OldOr (old.may (record_name number)) None) (OldOr (old.may (record_name number)) None) None old new r → ClearsRecords (λ (k : ℕ). k ≡ number) old new
+record_clears number old new (Ok x) call = record_becomes number old new call.0
+record_clears number old new (Err store.Fault) call = record_becomes number old new call
+record_clears number old new (Err store.NothingDone) call = record_same number old new call
+record_clears number old new (Err store.OutOfMemory) call = record_same number old new call
+
 -- ---- records one after the other
 
 module _ (P : ℕ → Type 0) where
@@ -53,15 +70,16 @@ module _ (P : ℕ → Type 0) where
   cleared_none w only = started w (AreCleared P w) (λ image left n. inl (only image left n))
 
   module _ (old mid new : World) (number : ℕ) (has : P number) where
-    pub clears_more : ClearsRecords P old mid → Leaves (record_name number) (OldOr (mid.may (record_name number)) None) mid new → ClearsRecords P old new
+    -- a name of none of them isn't this one's
+    other : (n : List ℕ) → IsNoneOf P n → IsNoneOf (λ (k : ℕ). k ≡ number) n
+    other n out k is e = out number has (e ∙ ap record_name is)
+
+    pub clears_more : ClearsRecords P old mid → ClearsRecords (λ (k : ℕ). k ≡ number) mid new → ClearsRecords P old new
     clears_more so_far step = record {
-      may = λ n c may. ⊎_elim (λ same. at_name n c same (subst (λ (m : List ℕ). new.may m c) same may)) (λ other. so_far.may n c ((step.elsewhere n c other).0 may)) (same_or_not n (record_name number));
-      kept = λ n c out may. (step.elsewhere n c (out number has)).1 (so_far.kept n c out may);
-      gives = λ n out. step.gives n (out number has) ∙ so_far.gives n out;
+      may = λ n c may. ⊎_elim (λ was. so_far.may n c was) (λ none. inr (none.0, (none.1.0, subst P (sym none.1.1) has, none.1.2))) (step.may n c may);
+      kept = λ n c out may. step.kept n c (other n out) (so_far.kept n c out may);
+      gives = λ n out. step.gives n (other n out) ∙ so_far.gives n out;
     }
-      where
-        at_name : (n : List ℕ) (c : Option (List ℕ)) → n ≡ record_name number → new.may (record_name number) c → old.may n c ⊎ ((c ≡ None) × IsOneOf P n)
-        at_name n c same may = ⊎_elim (λ was. so_far.may n c (subst (λ (m : List ℕ). mid.may m c) (sym same) was)) (λ none. inr (none, (number, has, same))) ((step.here c).0 may)
 
     pub cleared_more : ClearsRecords P old mid → LeavesOnly old mid (AreCleared P old) → LeavesOnly mid new (AreCleared (λ (k : ℕ). k ≡ number) mid) → LeavesOnly old new (AreCleared P old)
     cleared_more clears so_far step =
@@ -69,13 +87,13 @@ module _ (P : ℕ → Type 0) where
         (λ image is n. ⊎_elim (λ was. clears.may n (image n) was) (λ none. inr (none.0, (none.1.0, subst P (sym none.1.1) has, none.1.2))) (is n))
 
 -- a record that is absent stays so where another one is removed
-pub absent_after : (number : ℕ) (mid new : World) (row : Row) → Leaves (record_name number) row mid new → new.gives (record_name number) ≡ None → (n : List ℕ) → mid.gives n ≡ None → new.gives n ≡ None
-absent_after number mid new row step gone n was = ⊎_elim (λ (e : n ≡ record_name number). ap new.gives e ∙ gone) (λ differs. step.gives n differs ∙ was) (same_or_not n (record_name number))
+pub absent_after : (number : ℕ) (mid new : World) → ClearsRecords (λ (k : ℕ). k ≡ number) mid new → new.gives (record_name number) ≡ None → (n : List ℕ) → mid.gives n ≡ None → new.gives n ≡ None
+absent_after number mid new step gone n was = ⊎_elim (λ (e : n ≡ record_name number). ap new.gives e ∙ gone) (λ differs. step.gives n (λ k is e. differs (e ∙ ap record_name is)) ∙ was) (same_or_not n (record_name number))
 
-pub gone_more : (ns : List ℕ) (i number : ℕ) (mid new : World) (row : Row) → i < length ns → number ≡ get_or ns i 0 → Leaves (record_name number) row mid new → new.gives (record_name number) ≡ None
+pub gone_more : (ns : List ℕ) (i number : ℕ) (mid new : World) → i < length ns → number ≡ get_or ns i 0 → ClearsRecords (λ (k : ℕ). k ≡ number) mid new → new.gives (record_name number) ≡ None
     → ((k : ℕ) → Contains (take i ns) k → mid.gives (record_name k) ≡ None) → (k : ℕ) → Contains (take (i + 1) ns) k → new.gives (record_name k) ≡ None
-gone_more ns i number mid new row lt is step gone so_far k at =
-    ⊎_elim (λ early. absent_after number mid new row step gone (record_name k) (so_far k early)) (λ here. ap (λ (j : ℕ). new.gives (record_name j)) (sym here ∙ sym is) ∙ gone)
+gone_more ns i number mid new lt is step gone so_far k at =
+    ⊎_elim (λ early. absent_after number mid new step gone (record_name k) (so_far k early)) (λ here. ap (λ (j : ℕ). new.gives (record_name j)) (sym here ∙ sym is) ∙ gone)
     (Contains-push_cases (take i ns) (get_or ns i 0) k (subst (λ (l : List ℕ). Contains l k) (take_more ns i 0 lt) at))
 
 -- ---- those below a number

@@ -2,7 +2,7 @@
 use Rattle.std.specs.Prelude.{◌≡◌, ◌≢◌, ◌⊎◌, ℕ, ◌<◌, List, Option, Some, None, Result, OnOk, IsErrOf}
 use Rattle.lsm_below.specs.Keys.{Bytes}
 use Rattle.lsm_below.specs.declared.error.Error.{Error}
-use Rattle.lsm_below.specs.declared.error.Error.TheVariants.{OutOfMemory, CommitUnknown}
+use Rattle.lsm_below.specs.declared.error.Error.TheVariants.{OutOfMemory, Store, CommitUnknown}
 use Rattle.lsm_store.specs.World.{Image, World, Only, OldOr, Same}
 use Rattle.lsm_store.specs.Synced.{Leaves, KeepsOthers, IsBeside}
 use Rattle.lsm_log.specs.LogNames.{record_name}
@@ -10,11 +10,12 @@ use Rattle.lsm_log.specs.LogNames.{record_name}
 -- ---- a record that is put
 
 -- by what the call answers: after Ok the record's file has these bytes, whatever comes; where the outcome is unknown a crash
--- leaves what it could have left before, or these bytes; each other name is as it was
+-- leaves what it could have left before, or these bytes; after another refusal nothing has changed; each other name is as it was
 pub record PutsRecord {T : Type 0} (number : ℕ) (bytes : Bytes) (old new : World) (r : Result T Error) : Type 0 where
   pub ok : OnOk r (Leaves (record_name number) (Only (Some bytes)) old new × (new.gives (record_name number) ≡ Some bytes))
   pub unknown : IsErrOf r CommitUnknown → Leaves (record_name number) (OldOr (old.may (record_name number)) (Some bytes)) old new
   pub memory : IsErrOf r OutOfMemory → Same old new
+  pub nothing : IsErrOf r Store → Same old new
   pub keeps : KeepsOthers (record_name number) old new
 
 -- the record's file has what it could have before, or these bytes; each other name has what it could

@@ -23,7 +23,7 @@ fn names_of<S: Store>(alloc: Global, store: &mut S) -> Result<Vec<String>, Error
     match store.list(alloc) {
         Ok(names) => Ok(names),
         Err(StoreError::OutOfMemory) => Err(Error::OutOfMemory),
-        Err(StoreError::Fault) => Err(Error::Store),
+        Err(StoreError::Fault | StoreError::NothingDone) => Err(Error::Store),
     }
 }
 

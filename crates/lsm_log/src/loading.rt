@@ -27,7 +27,7 @@ fn content_of<S: Store>(alloc: Global, store: &mut S, number: SeqNo) -> Result<V
         Ok(Some(bytes)) => Ok(bytes),
         Ok(None) => Err(Error::Unrecoverable),
         Err(StoreError::OutOfMemory) => Err(Error::OutOfMemory),
-        Err(StoreError::Fault) => Err(Error::Store),
+        Err(StoreError::Fault | StoreError::NothingDone) => Err(Error::Store),
     }
 }
 

@@ -14,12 +14,13 @@ use lsm_store::{Store, StoreError};
 fn put_alone<S: Store>(store: &mut S, number: SeqNo, content: &[u8]) -> Result<(), Error>
     ensures puts { S.tells → PutsRecord number content.now (S.world store.old) (S.world store.new) result }
     ensures any_moment { S.tells → LeavesOnly (S.world store.old) (S.world store.new) (IsPut number content.now (S.world store.old)) }
-    ensures only { IfErr result (λ e. (e ≡ Error.OutOfMemory) ⊎ (e ≡ Error.CommitUnknown)) }
+    ensures only { IfErr result (λ e. (e ≡ Error.OutOfMemory) ⊎ (e ≡ Error.Store) ⊎ (e ≡ Error.CommitUnknown)) }
     ensures counts { CountsFaults (S.world store.old) (S.world store.new) result }
 {
     match store.replace(record_name(number).as_str(), content) {
         Ok(()) => Ok(()),
         Err(StoreError::OutOfMemory) => Err(Error::OutOfMemory),
+        Err(StoreError::NothingDone) => Err(Error::Store),
         Err(StoreError::Fault) => Err(Error::CommitUnknown),
     }
 }
@@ -34,14 +35,15 @@ fn put_alone<S: Store>(store: &mut S, number: SeqNo, content: &[u8]) -> Result<(
 ///
 /// # Errors
 ///
-/// `OutOfMemory` where a growth was refused, and then nothing is done; `CommitUnknown` where the store failed: whether
-/// the record stands is unknown until the log is read again.
+/// `OutOfMemory` where a growth was refused, `Store` where the store failed and is known to have done nothing: then
+/// nothing is done, and the number isn't used. `CommitUnknown` where the store failed otherwise: whether the record
+/// stands is unknown until the log is read again.
 pub fn put_record<S: Store>(store: &mut S, number: SeqNo, content: &[u8]) -> Result<(), Error>
     ensures puts { S.tells → PutsRecord number content.now (S.world store.old) (S.world store.new) result }
     ensures any_moment { S.tells → LeavesOnly (S.world store.old) (S.world store.new) (IsPut number content.now (S.world store.old)) }
     // What is stored of a tree beside it stays so.
     ensures stored { S.tells → Spares (S.world store.old) (S.world store.new) }
-    ensures only { IfErr result (λ e. (e ≡ Error.OutOfMemory) ⊎ (e ≡ Error.CommitUnknown)) }
+    ensures only { IfErr result (λ e. (e ≡ Error.OutOfMemory) ⊎ (e ≡ Error.Store) ⊎ (e ≡ Error.CommitUnknown)) }
     ensures counts { CountsFaults (S.world store.old) (S.world store.new) result }
 {
     foreign_names_spare(store);

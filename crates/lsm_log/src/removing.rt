@@ -1,8 +1,7 @@
 // Records that nothing needs any more.
 ghost use Rattle.std.specs.Prelude.{◌≡◌, ◌<◌, ◌≤◌, ℕ, None, length, take, Contains, OnOk, IfErr};
 ghost use Rattle.std.specs.List.Sorted.{IsStrictlyIncreasing};
-ghost use Rattle.lsm_store.specs.World.{LeavesOnly, OldOr};
-ghost use Rattle.lsm_store.specs.Synced.{Leaves};
+ghost use Rattle.lsm_store.specs.World.{LeavesOnly};
 ghost use Rattle.lsm_log.specs.LogNames.{record_name};
 ghost use Rattle.lsm_files.specs.Stored.{CountsFaults};
 ghost use Rattle.lsm_files.specs.Foreign.{Spares};
@@ -16,14 +15,14 @@ use lsm_store::{Store, StoreError};
 
 fn remove_record<S: Store>(store: &mut S, number: SeqNo) -> Result<(), Error>
     ensures gone { S.tells → OnOk result ((S.world store.new).gives (record_name number) ≡ None) }
-    ensures leaves { S.tells → Leaves (record_name number) (OldOr ((S.world store.old).may (record_name number)) None) (S.world store.old) (S.world store.new) }
+    ensures clears { S.tells → ClearsRecords (λ k. k ≡ number) (S.world store.old) (S.world store.new) }
     ensures any_moment { S.tells → LeavesOnly (S.world store.old) (S.world store.new) (AreCleared (λ k. k ≡ number) (S.world store.old)) }
     ensures only { IfErr result (λ e. e ≡ Error.Store) }
     ensures counts { CountsFaults (S.world store.old) (S.world store.new) result }
 {
     match store.remove(record_name(number).as_str()) {
         Ok(()) => Ok(()),
-        Err(StoreError::Fault) => Err(Error::Store),
+        Err(StoreError::Fault | StoreError::NothingDone) => Err(Error::Store),
         Err(StoreError::OutOfMemory) => unreachable!(),
     }
 }

@@ -6,13 +6,13 @@ use Rattle.std.specs.String.{string_bytes}
 use Rattle.std.specs.declared.string.String.{String}
 use Rattle.std.specs.declared.alloc.Global.{Global}
 use Rattle.std.proofs.lemmas.List.{length-map, get_or-map}
-use Rattle.lsm_store.specs.World.{Image, World, Row, OldOr, IsImage, At, Same, Becomes, Changes, Lists, LeavesOnly}
+use Rattle.lsm_store.specs.World.{Image, World, Row, OldOr, IsImage, At, Same, Becomes, Changes, Narrows, IsOnDisk, Lists, LeavesOnly}
 use Rattle.lsm_store.specs.declared.store.StoreError.{StoreError}
 use Rattle.lsm_store.specs.declared.store.StoreError.TheVariants as store
 use Rattle.std.proofs.lemmas.Bool.{both_ways}
-use Rattle.lsm_store.specs.Moments.{started, rests, joined}
+use Rattle.lsm_store.specs.Moments.{started, narrows_on, joined}
 use Rattle.lsm_store.specs.Moments.{called, same_or_not}
-use Rattle.lsm_manifest.specs.Clearing.{IsCleared, Clears, Removes}
+use Rattle.lsm_manifest.specs.Clearing.{IsCleared, IsSettledFirst, Clears, Removes}
 
 module _ (orphan : List ℕ → Bool) (old mid new : World) (name : List ℕ) where
   abbrev row : Row
@@ -44,6 +44,7 @@ module _ (orphan : List ℕ → Bool) (old mid new : World) (name : List ℕ) wh
   pub clears_more : {T : Type 0} (r : Result T StoreError) → Clears orphan old mid → orphan name ≡ true → Changes name row row None mid new r → Clears orphan old new
   clears_more (Ok x) so_far is call = clears_becomes so_far is call.0
   clears_more (Err store.Fault) so_far is call = clears_becomes so_far is call
+  clears_more (Err store.NothingDone) so_far is call = clears_same so_far call
   clears_more (Err store.OutOfMemory) so_far is call = clears_same so_far call
 
   pub cleared_more : {T : Type 0} (r : Result T StoreError) → LeavesOnly old mid (IsCleared orphan old) → Clears orphan old mid → orphan name ≡ true → Changes name row row None mid new r → LeavesOnly old new (IsCleared orphan old)
@@ -77,14 +78,25 @@ gone_on orphan w at k not so_far j lt found =
 pub absent_on : (mid new : World) (during done : Row) (name : List ℕ) → Becomes name during done mid new × (new.gives name ≡ None) → (n : List ℕ) → mid.gives n ≡ None → new.gives n ≡ None
 absent_on mid new during done name call n none = ⊎_elim (λ same. ap new.gives same ∙ call.1) (λ other. call.0.elsewhere n other ∙ none) (same_or_not n name)
 
--- a run of calls without effect before it
-pub cleared_behind : (orphan : List ℕ → Bool) (old mid new : World) → ((image : Image) → old.since old.moment image → IsImage old.may image) → Same old mid → LeavesOnly mid new (IsCleared orphan mid) → LeavesOnly old new (IsCleared orphan old)
-cleared_behind orphan old mid new only same b =
-    joined old mid new (IsCleared orphan old) (IsCleared orphan mid) (IsCleared orphan old)
-    (rests old old mid (IsCleared orphan old) (cleared_none orphan old only) same) b (λ image is. is) (λ image is n. ⊎_elim (λ was. inl ((same.may n (image n)).0 was)) (λ gone. inr gone) (is n))
+-- a run of calls that add no image
+pub cleared_narrowed : (orphan : List ℕ → Bool) (old mid : World) → ((image : Image) → old.since old.moment image → IsImage old.may image) → Narrows old mid → LeavesOnly old mid (IsCleared orphan old)
+cleared_narrowed orphan old mid only narrows = narrows_on old old mid (IsCleared orphan old) (cleared_none orphan old only) narrows
 
-pub cleared_same : (orphan : List ℕ → Bool) (old mid : World) → ((image : Image) → old.since old.moment image → IsImage old.may image) → Same old mid → LeavesOnly old mid (IsCleared orphan old)
-cleared_same orphan old mid only same = rests old old mid (IsCleared orphan old) (cleared_none orphan old only) same
+-- and before it
+pub cleared_behind : (orphan : List ℕ → Bool) (old mid new : World) → ((image : Image) → old.since old.moment image → IsImage old.may image) → Narrows old mid → LeavesOnly mid new (IsCleared orphan mid) → LeavesOnly old new (IsCleared orphan old)
+cleared_behind orphan old mid new only narrows b =
+    joined old mid new (IsCleared orphan old) (IsCleared orphan mid) (IsCleared orphan old)
+    (cleared_narrowed orphan old mid only narrows) b (λ image is. is) (λ image is n. ⊎_elim (λ was. inl (narrows.may n (image n) was)) (λ gone. inr gone) (is n))
+
+-- ---- what was read is settled before
+
+pub settled_narrowed : (orphan : List ℕ → Bool) (old mid : World) → ((image : Image) → old.since old.moment image → IsImage old.may image) → Narrows old mid → LeavesOnly old mid (IsSettledFirst orphan old)
+settled_narrowed orphan old mid only narrows = narrows_on old old mid (IsSettledFirst orphan old) (started old (IsSettledFirst orphan old) (λ image left. inl (only image left))) narrows
+
+pub settled_behind : (orphan : List ℕ → Bool) (old mid new : World) → ((image : Image) → old.since old.moment image → IsImage old.may image) → Narrows old mid → ((n : List ℕ) → IsOnDisk old mid n) → LeavesOnly mid new (IsCleared orphan mid) → LeavesOnly old new (IsSettledFirst orphan old)
+settled_behind orphan old mid new only narrows settled b =
+    joined old mid new (IsSettledFirst orphan old) (IsCleared orphan mid) (IsSettledFirst orphan old) (settled_narrowed orphan old mid only narrows) b (λ image is. is)
+    (λ image is. inr (λ n impossible not never. settled n impossible (image n) never (⊎_elim (λ was. was) (λ gone. absurd (both_ways (orphan n) not gone.1)) (is n))))
 
 -- ---- what is left of orphans
 
@@ -118,14 +130,18 @@ orphans_gone p q old mid new names all first second on_first on_second n is =
 
 -- ---- what an answered removal has done
 
-pub removes_behind : (p q : List ℕ → Bool) (old mid new : World) → p ≡ q → Same old mid → Clears p mid new → ((n : List ℕ) → p n ≡ true → new.gives n ≡ None) → Removes q old new
-removes_behind p q old mid new are same clears gone =
+-- a name that stays is on the disk still
+pub on_disk_behind : (p : List ℕ → Bool) (old mid new : World) (n : List ℕ) → IsOnDisk old mid n → Clears p mid new → p n ≡ false → IsOnDisk old new n
+on_disk_behind p old mid new n settled clears not impossible c never may =
+    settled impossible c never (⊎_elim (λ was. was) (λ gone. absurd (both_ways (p n) not gone.1)) (clears.may n c may))
+
+pub removes_behind : (p q : List ℕ → Bool) (old mid new : World) → p ≡ q → Narrows old mid → ((n : List ℕ) → IsOnDisk old mid n) → ((n : List ℕ) → mid.may n (mid.gives n)) → Clears p mid new → ((n : List ℕ) → p n ≡ true → new.gives n ≡ None) → Removes q old new
+removes_behind p q old mid new are narrows settled one clears gone =
     let cleared = subst (λ (o : List ℕ → Bool). Clears o mid new) are clears in
     record {
-      clears = record {
-        may = λ n c may. ⊎_elim (λ was. inl ((same.may n c).0 was)) (λ none. inr none) (cleared.may n c may);
-        kept = λ n c not may. cleared.kept n c not ((same.may n c).1 may);
-        gives = λ n not. cleared.gives n not ∙ same.gives n;
-      };
       gone = λ n is. gone n (ap (λ (o : List ℕ → Bool). o n) are ∙ is);
+      gives = λ n not. cleared.gives n not ∙ narrows.gives n;
+      may = λ n c may. ⊎_elim (λ was. inl (narrows.may n c was)) (λ none. inr none) (cleared.may n c may);
+      kept = λ n not. subst (λ c. new.may n c) (narrows.gives n) (cleared.kept n (mid.gives n) not (one n));
+      on_disk = λ n not. on_disk_behind q old mid new n (settled n) cleared not;
     }

@@ -1,5 +1,5 @@
 -- What is found where a tree is opened.
-use Rattle.std.proofs.Common.{◌≡◌, inl, inr, ⊎_elim, ℕ, Bool, true, false, not, ◌||◌, eqb, List, Option, Some, None, Err, refl, sym, ap, subst, ◌∙◌}
+use Rattle.std.proofs.Common.{◌≡◌, inl, inr, ⊎_elim, ℕ, Bool, true, false, not, ◌||◌, eqb, List, Option, Some, None, Err, ◌≤◌, refl, sym, ap, subst, ◌∙◌, arith}
 use Rattle.std.specs.Prelude.{IsSome}
 use Rattle.std.specs.Str.{bytes_eq}
 use Rattle.std.specs.List.Sorted.{IsPermutation}
@@ -7,7 +7,7 @@ use Rattle.std.proofs.lemmas.List.Sorted.{IsPermutation-sym, list_any-IsPermutat
 use Rattle.std.proofs.lemmas.Slice.Eq.{bytes_eq-Decides}
 use Rattle.std.proofs.lemmas.Bool.{both_ways}
 use Rattle.lsm_tables.specs.Spellings.{ok_is}
-use Rattle.lsm_store.specs.World.{Image, World, Lists, IsImage, Same, LeavesOnly}
+use Rattle.lsm_store.specs.World.{Image, World, Lists, IsImage, Same, Narrows, IsOnDisk, LeavesOnly}
 use Rattle.lsm_versions.specs.Levels.{Levels as SeenLevels}
 use Rattle.lsm_manifest.specs.declared.fault.Fault.{Fault}
 use Rattle.lsm_manifest.specs.declared.fault.Fault.TheVariants.{Unrecoverable}
@@ -20,9 +20,10 @@ use Rattle.lsm_manifest.specs.Spelling.{ids_of}
 use Rattle.lsm_manifest.specs.Recovery.{Levels, IsNamed, version_of, StoreOnly}
 use Rattle.lsm_manifest.specs.Names.{current_name}
 use Rattle.lsm_manifest.specs.Persist.{IsPersisted, IsOldOrNew}
-use Rattle.lsm_store.specs.Moments.{started, rests, joined}
+use Rattle.lsm_manifest.specs.Versions.{file_of, first_version}
+use Rattle.lsm_store.specs.Moments.{started, narrows_on, joined}
 use Rattle.lsm_manifest.specs.Standing.{AreTablesAt}
-use Rattle.lsm_manifest.specs.Opening.{is_refused, FindsAny, LevelsFault, FilesFault, BadName, BadLevels, IsFound, ChecksLevels, ChecksFiles, OpensFiles, KeepsFiles}
+use Rattle.lsm_manifest.specs.Opening.{is_refused, FindsAny, LevelsFault, FilesFault, BadName, BadLevels, IsFound, IsFirstNamed, ChecksLevels, ChecksFiles, OpensFiles, KeepsFiles}
 use Rattle.lsm_manifest.specs.declared.opening.Opened.{Opened}
 use Rattle.lsm_manifest.proofs.Recovering.{recovery_back}
 use Rattle.lsm_store.specs.Moments.{image_same}
@@ -127,21 +128,39 @@ named_there image id ls named = subst (λ (o : Option (List ℕ)). IsSome o) (sy
 pub listed_on : (old mid : Image) (names : List (List ℕ)) → ((n : List ℕ) → mid n ≡ old n) → Lists old names → Lists mid names
 listed_on old mid names same all = subst (λ (image : Image). Lists image names) (sym (image_same old mid same)) all
 
-pub persisted_on : (id : ℕ) (bytes : List ℕ) (old mid new : World) → Same old mid → IsPersisted id bytes mid new → IsPersisted id bytes old new
-persisted_on id bytes old mid new same p = record {
-  rest = record {
-    may = λ n c v d. (λ may. (same.may n c).0 ((p.rest.may n c v d).0 may), λ may. (p.rest.may n c v d).1 ((same.may n c).1 may));
-    gives = λ n v d. p.rest.gives n v d ∙ same.gives n;
-  };
+pub narrows_behind : (old mid new : World) → Same old mid → Narrows mid new → Narrows old new
+narrows_behind old mid new same narrows =
+    let e : mid.moment ≡ old.moment = same.moment in
+    let le : mid.moment ≤ new.moment = narrows.later in
+    record {
+      gives = λ n. narrows.gives n ∙ same.gives n;
+      may = λ n c may. (same.may n c).0 (narrows.may n c may);
+      later = omega (arith, e, le);
+      since = λ t image early. let early2 : t ≤ mid.moment = omega (arith, early, e) in (λ left. (same.since t image early).0 ((narrows.since t image early2).0 left), λ left. (narrows.since t image early2).1 ((same.since t image early).1 left));
+    }
+
+pub on_disk_from : (old mid new : World) → Same old mid → (n : List ℕ) → IsOnDisk mid new n → IsOnDisk old new n
+on_disk_from old mid new same n settled impossible c never may = settled impossible c (λ was. never ((same.may n impossible).0 was)) may ∙ same.gives n
+
+-- ---- after calls that add no image
+
+pub first_named_on : (old mid new : World) → Narrows old mid → IsPersisted 0 (file_of first_version) mid new → IsFirstNamed old new
+first_named_on old mid new narrows p = record {
+  gives = λ n v d. p.rest.gives n v d ∙ narrows.gives n;
+  may = λ n c v d may. narrows.may n c ((p.rest.may n c v d).0 may);
   current = p.current;
   version = p.version;
 }
 
-pub new_moment_on : (id : ℕ) (bytes : List ℕ) (old mid new : World) → Only old → Same old mid → LeavesOnly mid new (IsOldOrNew id bytes mid) → LeavesOnly old new (IsOldOrNew id bytes old)
-new_moment_on id bytes old mid new only same after =
-    joined old mid new (IsOldOrNew id bytes old) (IsOldOrNew id bytes mid) (IsOldOrNew id bytes old)
-    (rests old old mid (IsOldOrNew id bytes old) (started old (IsOldOrNew id bytes old) (λ image left. record { elsewhere = λ n v d. only image left n; named = inl (only image left current_name) })) same)
-    after (λ image is. is) (λ image is. record { elsewhere = λ n v d. (same.may n (image n)).0 (is.elsewhere n v d); named = ⊎_elim (λ was. inl ((same.may current_name (image current_name)).0 was)) (λ new. inr new) is.named })
+pub old_or_new : (w : World) → Only w → LeavesOnly w w (IsOldOrNew 0 (file_of first_version) w)
+old_or_new w only = started w (IsOldOrNew 0 (file_of first_version) w) (λ image left. record { elsewhere = λ n v d. only image left n; named = inl (only image left current_name) })
+
+pub new_moment_on : (old mid new : World) → Only old → Narrows old mid → LeavesOnly mid new (IsOldOrNew 0 (file_of first_version) mid) → LeavesOnly old new (IsOldOrNew 0 (file_of first_version) old)
+new_moment_on old mid new only narrows after =
+    let bytes = file_of first_version in
+    joined old mid new (IsOldOrNew 0 bytes old) (IsOldOrNew 0 bytes mid) (IsOldOrNew 0 bytes old)
+    (narrows_on old old mid (IsOldOrNew 0 bytes old) (old_or_new old only) narrows)
+    after (λ image is. is) (λ image is. record { elsewhere = λ n v d. narrows.may n (image n) (is.elsewhere n v d); named = ⊎_elim (λ was. inl (narrows.may current_name (image current_name) was)) (λ new. inr new) is.named })
 
 -- ---- what a refusal leaves
 

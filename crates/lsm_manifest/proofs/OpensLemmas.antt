@@ -6,8 +6,8 @@ use Rattle.std.specs.declared.string.String.{String}
 use Rattle.std.specs.declared.alloc.Global.{Global}
 use Rattle.std.proofs.lemmas.Result.{on_ok_weaker, IfOk-weaker}
 use Rattle.lsm_below.specs.Numbers.{PlainNumbersAreRead}
-use Rattle.lsm_store.specs.World.{Image, World, Lists, Same, LeavesOnly}
-use Rattle.lsm_store.specs.Moments.{started, rests, weakened, image_same}
+use Rattle.lsm_store.specs.World.{Image, World, Lists, Same, Narrows, IsOnDisk, LeavesOnly}
+use Rattle.lsm_store.specs.Moments.{narrows_on, narrows_same, weakened, image_same}
 use Rattle.lsm_versions.specs.Levels.{Levels as SeenLevels, SeenVersion}
 use Rattle.lsm_manifest.specs.declared.fault.Fault.TheVariants.{InvalidVersion}
 use Rattle.lsm_manifest.specs.declared.fault.OpenError.{OpenError}
@@ -21,14 +21,14 @@ use Rattle.lsm_manifest.specs.Recovery.{Levels, IsNamed, StoreOnly}
 use Rattle.lsm_manifest.specs.Standing.{StandsFor, HasSmallNumbers}
 use Rattle.lsm_manifest.specs.Persist.{IsOldOrNew}
 use Rattle.lsm_manifest.specs.Versions.{file_of, first_version}
-use Rattle.lsm_manifest.specs.Clearing.{IsCleared, Clears, Removes}
+use Rattle.lsm_manifest.specs.Clearing.{IsCleared, IsSettledFirst, Clears, Removes}
 use Rattle.lsm_manifest.specs.Opening.{IsFound, ChecksFiles, OpensFiles, OpensNew, OpensAs, OnlyFault, KeepsFiles, IsUnnamed, ReadsFrom, Opens, LeavesStanding}
-use Rattle.lsm_manifest.specs.Looking.{FindsIn, IsFoundIn, Older, BadFiles, BadNew, LooksInto, Looks, NoFault, orphan_of, ClearsFor, FinishesIn}
-use Rattle.lsm_manifest.proofs.OpeningLemmas.{Only, some_not_none, named_there, not_opened, keeps_any, orphans_are, persisted_on, new_moment_on, listed_on}
-use Rattle.lsm_manifest.proofs.ClearingLemmas.{cleared_same, cleared_behind, removes_behind}
+use Rattle.lsm_manifest.specs.Looking.{FindsIn, IsFoundIn, Older, BadFiles, BadNew, LooksInto, NoFault, orphan_of, ClearsFor, FinishesIn}
+use Rattle.lsm_manifest.proofs.OpeningLemmas.{Only, some_not_none, named_there, not_opened, keeps_any, orphans_are, old_or_new, first_named_on, new_moment_on, listed_on}
+use Rattle.lsm_manifest.proofs.ClearingLemmas.{cleared_none, cleared_narrowed, cleared_behind, settled_narrowed, settled_behind, on_disk_behind, removes_behind}
 use Rattle.lsm_manifest.proofs.Takes.{ImagesAreFirst, stands_opens}
 use Rattle.lsm_manifest.proofs.Recovering.{named_so}
-use Rattle.lsm_manifest.proofs.Pins.{pinned_stands, pinned_reads}
+use Rattle.lsm_manifest.proofs.Pins.{current_stays, pinned_stands, pinned_reads}
 
 -- ---- refused before anything is changed
 
@@ -64,6 +64,7 @@ refused once first mid e same h = record {
   takes = λ id ls ts stands small. stands_opens once first.gives id ls ts (Err e) stands small (refused_opens first.gives e h stands.names.no_version (named_there first.gives id ls stands.named));
   fresh = refused_new first mid e h;
   removes = λ id ls named. tt;
+  settles = λ there. tt;
   keeps = keeps_any first mid e same;
   unnamed = λ none. same;
   older = λ there. same;
@@ -71,38 +72,42 @@ refused once first mid e same h = record {
 
 -- ---- what a crash may leave
 
-leaves : PlainNumbersAreRead → (first new : World) → ((id : ℕ) (ls : Levels) → IsNamed first.gives id ls → LeavesOnly first new (IsCleared (is_orphan id (ids_of ls)) first)) → (first.gives current_name ≡ None → LeavesOnly first new (IsOldOrNew 0 (file_of first_version) first)) → LeavesStanding first new
-leaves read first new any fresh = record {
+leaves : PlainNumbersAreRead → (first new : World) → ((id : ℕ) (ls : Levels) → IsNamed first.gives id ls → LeavesOnly first new (IsCleared (is_orphan id (ids_of ls)) first)) → ((id : ℕ) (ls : Levels) → IsNamed first.gives id ls → LeavesOnly first new (IsSettledFirst (is_orphan id (ids_of ls)) first)) → (first.gives current_name ≡ None → LeavesOnly first new (IsOldOrNew 0 (file_of first_version) first)) → LeavesStanding first new
+leaves read first new any settled fresh = record {
   any_moment = any;
+  settled_first = settled;
   stands = λ id ls ts stands pin. weakened first new (IsCleared (is_orphan id (ids_of ls)) first) (λ image. StandsFor image id ls ts) (any id ls stands.named) (λ image left. pinned_stands read first id ls ts image stands pin left);
   reads = λ v reads pin. weakened first new (IsCleared (is_orphan v.id (ids_of reads.layout)) first) (λ image. ReadsFrom image v) (any v.id reads.layout (named_so first.gives v.id reads.from reads.layout reads.named)) (λ image left. pinned_reads first v image reads pin left);
   new_moment = fresh;
 }
 
-old_or_new : (first : World) → Only first → LeavesOnly first first (IsOldOrNew 0 (file_of first_version) first)
-old_or_new first only = started first (IsOldOrNew 0 (file_of first_version) first) (λ image left. record { elsewhere = λ n v d. only image left n; named = inl (only image left current_name) })
+-- no image is added
+pub leaves_narrowed : PlainNumbersAreRead → (first mid : World) → Only first → Narrows first mid → LeavesStanding first mid
+leaves_narrowed read first mid only narrows = leaves read first mid (λ id ls named. cleared_narrowed (is_orphan id (ids_of ls)) first mid only narrows) (λ id ls named. settled_narrowed (is_orphan id (ids_of ls)) first mid only narrows) (λ absent. narrows_on first first mid (IsOldOrNew 0 (file_of first_version) first) (old_or_new first only) narrows)
 
 -- nothing has changed
 pub leaves_same : PlainNumbersAreRead → (first mid : World) → Only first → Same first mid → LeavesStanding first mid
-leaves_same read first mid only same = leaves read first mid (λ id ls named. cleared_same (is_orphan id (ids_of ls)) first mid only same) (λ absent. rests first first mid (IsOldOrNew 0 (file_of first_version) first) (old_or_new first only) same)
+leaves_same read first mid only same = leaves_narrowed read first mid only (narrows_same first mid same)
 
 -- ---- what was found is opened
 
-module _ (first mid new : World) (f : Found) (only : Only first) (looks : Looks first mid f) where
+-- found in `first`, and settled in `mid`
+module _ (first mid new : World) (f : Found) (only : Only first) (looks : IsFoundIn first.gives f) (narrows : Narrows first mid) where
   fresh_moment : LeavesOnly mid new (IsOldOrNew 0 (file_of first_version) mid) → LeavesOnly first new (IsOldOrNew 0 (file_of first_version) first)
-  fresh_moment after = new_moment_on 0 (file_of first_version) first mid new only looks.same after
+  fresh_moment after = new_moment_on first mid new only narrows after
 
   -- the orphans beside what was found
   orphans : IsFound first.gives f.opened.version.id f.opened.version.levels f.opened.next_table_id f.ids.items → (id : ℕ) (ls : Levels) → IsNamed first.gives id ls → orphan_of f ≡ is_orphan id (ids_of ls)
   orphans found id ls named = orphans_are first.gives f.opened.version.id f.opened.version.levels f.opened.next_table_id f.ids.items id ls f.opened.version.id f.ids.items refl refl found named
 
-  leaves_in : PlainNumbersAreRead → (r : Result Opened OpenError) (b : Bool) → FindsIn b first.gives f → FinishesIn b f mid new r → LeavesStanding first new
-  leaves_in read r true finds done =
+  leaves_in : PlainNumbersAreRead → ((n : List ℕ) → IsOnDisk first mid n) → (r : Result Opened OpenError) (b : Bool) → FindsIn b first.gives f → FinishesIn b f mid new r → LeavesStanding first new
+  leaves_in read settled r true finds done =
       let fin = done (ap (λ (o : Opened). o.version) finds.1) in
-      leaves read first new (λ id ls named. absurd (some_not_none _ (named_there first.gives id ls named) finds.0)) (λ absent. fresh_moment fin.any_moment)
-  leaves_in read r false found done =
+      leaves read first new (λ id ls named. absurd (some_not_none _ (named_there first.gives id ls named) finds.0)) (λ id ls named. absurd (some_not_none _ (named_there first.gives id ls named) finds.0)) (λ absent. fresh_moment fin.any_moment)
+  leaves_in read settled r false found done =
       leaves read first new
-      (λ id ls named. cleared_behind (is_orphan id (ids_of ls)) first mid new only looks.same (subst (λ (o : List ℕ → Bool). LeavesOnly mid new (IsCleared o mid)) (orphans found id ls named) done.any_moment))
+      (λ id ls named. cleared_behind (is_orphan id (ids_of ls)) first mid new only narrows (subst (λ (o : List ℕ → Bool). LeavesOnly mid new (IsCleared o mid)) (orphans found id ls named) done.any_moment))
+      (λ id ls named. settled_behind (is_orphan id (ids_of ls)) first mid new only narrows settled (subst (λ (o : List ℕ → Bool). LeavesOnly mid new (IsCleared o mid)) (orphans found id ls named) done.any_moment))
       (λ absent. absurd (some_not_none _ (named_there first.gives f.opened.version.id found.layout found.named) absent))
 
   opens_in : (r : Result Opened OpenError) (b : Bool) → FindsIn b first.gives f → FinishesIn b f mid new r → IfOk r (λ o. o ≡ f.opened) → IsSome (first.gives current_name) → OpensFiles first.gives r
@@ -115,17 +120,22 @@ module _ (first mid new : World) (f : Found) (only : Only first) (looks : Looks 
   new_in (Ok o) true finds done is clean absent =
       let fin = done (ap (λ (p : Opened). p.version) finds.1) in
       let same = is ∙ finds.1 in
-      record { version = ap (λ (p : Opened). p.version) same; next = ap (λ (p : Opened). p.next_table_id) same; persisted = persisted_on 0 (file_of first_version) first mid new looks.same fin.persisted; names = fin.names }
+      record { version = ap (λ (p : Opened). p.version) same; next = ap (λ (p : Opened). p.next_table_id) same; persisted = first_named_on first mid new narrows fin.persisted; names = fin.names }
   new_in (Err opening.OutOfMemory) true finds done is clean absent = tt
   new_in (Err opening.Store) true finds done is clean absent = tt
   new_in (Err opening.CommitUnknown) true finds done is clean absent = tt
   new_in (Err (opening.Fault g)) true finds done is clean absent = absurd clean
 
-  removes_in : (r : Result Opened OpenError) (b : Bool) → FindsIn b first.gives f → FinishesIn b f mid new r → (id : ℕ) (ls : Levels) → IsNamed first.gives id ls → OnOk r (Removes (is_orphan id (ids_of ls)) first new)
-  removes_in (Err e) b finds done id ls named = tt
-  removes_in (Ok o) true finds done id ls named = absurd (some_not_none _ (named_there first.gives id ls named) finds.0)
-  removes_in (Ok o) false found done id ls named =
-      removes_behind (orphan_of f) (is_orphan id (ids_of ls)) first mid new (orphans found id ls named) looks.same done.clears (done.removed (listed_on first.gives mid.gives (map string_bytes f.names.items) looks.same.gives looks.found.names))
+  removes_in : ((n : List ℕ) → mid.may n (mid.gives n)) → (r : Result Opened OpenError) (b : Bool) → FindsIn b first.gives f → FinishesIn b f mid new r → OnOk r ((n : List ℕ) → IsOnDisk first mid n) → (id : ℕ) (ls : Levels) → IsNamed first.gives id ls → OnOk r (Removes (is_orphan id (ids_of ls)) first new)
+  removes_in one (Err e) b finds done settled id ls named = tt
+  removes_in one (Ok o) true finds done settled id ls named = absurd (some_not_none _ (named_there first.gives id ls named) finds.0)
+  removes_in one (Ok o) false found done settled id ls named =
+      removes_behind (orphan_of f) (is_orphan id (ids_of ls)) first mid new (orphans found id ls named) narrows settled one done.clears (done.removed (listed_on first.gives mid.gives (map string_bytes f.names.items) narrows.gives looks.names))
+
+  settles_in : (r : Result Opened OpenError) (b : Bool) → FindsIn b first.gives f → FinishesIn b f mid new r → OnOk r ((n : List ℕ) → IsOnDisk first mid n) → IsSome (first.gives current_name) → OnOk r (IsOnDisk first new current_name)
+  settles_in (Err e) b finds done settled there = tt
+  settles_in (Ok o) true finds done settled there = absurd (some_not_none _ there finds.0)
+  settles_in (Ok o) false found done settled there = on_disk_behind (orphan_of f) first mid new current_name (settled current_name) done.clears (current_stays f.opened.version.id f.ids.items)
 
   keeps_in : (r : Result Opened OpenError) → NoFault r → KeepsFiles first new r
   keeps_in (Ok o) clean = tt
@@ -138,23 +148,45 @@ module _ (first mid new : World) (f : Found) (only : Only first) (looks : Looks 
   unnamed_in true finds none = some_not_none _ none.there finds.0
   unnamed_in false found none = none.names_none f.opened.version.id found.layout found.named
 
-  pub opened : ImagesAreFirst → (r : Result Opened OpenError) → FinishesIn f.is_new f mid new r → IfOk r (λ o. o ≡ f.opened) → NoFault r → Opens first new r
-  opened once r done is clean =
-      let finds = looks.found.finds in
+  pub opened : ImagesAreFirst → ((n : List ℕ) → mid.may n (mid.gives n)) → (IsSome (first.gives current_name) → ReadsFrom first.gives f.opened.version) → (r : Result Opened OpenError) → FinishesIn f.is_new f mid new r → OnOk r ((n : List ℕ) → IsOnDisk first mid n) → IfOk r (λ o. o ≡ f.opened) → NoFault r → Opens first new r
+  opened once one from r done settled is clean =
+      let finds = looks.finds in
       record {
-        version = λ there. absurd (some_not_none _ there looks.found.no_version);
+        version = λ there. absurd (some_not_none _ there looks.no_version);
         opens = λ none there. opens_in r f.is_new finds done is there;
-        from = λ there. IfOk-weaker r (λ o. o ≡ f.opened) (λ o. ReadsFrom first.gives o.version) (λ o same. subst (λ (x : Opened). ReadsFrom first.gives x.version) (sym same) (looks.from there)) is;
+        from = λ there. IfOk-weaker r (λ o. o ≡ f.opened) (λ o. ReadsFrom first.gives o.version) (λ o same. subst (λ (x : Opened). ReadsFrom first.gives x.version) (sym same) (from there)) is;
         takes = λ id ls ts stands small. stands_opens once first.gives id ls ts r stands small (opens_in r f.is_new finds done is (named_there first.gives id ls stands.named));
         fresh = λ none absent. new_in r f.is_new finds done is clean absent;
-        removes = removes_in r f.is_new finds done;
+        removes = removes_in one r f.is_new finds done settled;
+        settles = λ there. settles_in r f.is_new finds done settled there;
         keeps = keeps_in r clean;
         unnamed = λ none. absurd (unnamed_in f.is_new finds none);
-        older = λ there. absurd (some_not_none _ there looks.found.no_version);
+        older = λ there. absurd (some_not_none _ there looks.no_version);
       }
 
-  pub leaves_behind : PlainNumbersAreRead → (r : Result Opened OpenError) → FinishesIn f.is_new f mid new r → LeavesStanding first new
-  leaves_behind read r done = leaves_in read r f.is_new looks.found.finds done
+  pub leaves_behind : PlainNumbersAreRead → ((n : List ℕ) → IsOnDisk first mid n) → (r : Result Opened OpenError) → FinishesIn f.is_new f mid new r → LeavesStanding first new
+  leaves_behind read settled r done = leaves_in read settled r f.is_new looks.finds done
+
+-- ---- not settled, and so not finished
+
+nothing_in : (mid : World) (f : Found) (b : Bool) (e : OpenError) → Only mid → StoreOnly {T = Opened} (Err e) → FinishesIn b f mid mid (Err e)
+nothing_in mid f true e only refused = λ _. record { any_moment = old_or_new mid only; persisted = tt; names = tt }
+nothing_in mid f false e only refused = record {
+  only = refused;
+  any_moment = cleared_none (orphan_of f) mid only;
+  clears = record { may = λ n c may. inl may; kept = λ n c not may. may; gives = λ n not. refl };
+  removed = tt;
+}
+
+clean_of : (e : OpenError) → StoreOnly {T = Opened} (Err e) → NoFault {T = Opened} (Err e)
+clean_of opening.OutOfMemory h = tt
+clean_of opening.Store h = tt
+clean_of opening.CommitUnknown h = absurd h
+clean_of (opening.Fault f) h = absurd h
+
+pub unsettled : ImagesAreFirst → (first mid : World) (f : Found) → Only first → Only mid → IsFoundIn first.gives f → Narrows first mid → ((n : List ℕ) → mid.may n (mid.gives n)) → (IsSome (first.gives current_name) → ReadsFrom first.gives f.opened.version)
+    → (e : OpenError) → StoreOnly {T = Opened} (Err e) → Opens first mid (Err e)
+unsettled once first mid f only mid_only looks narrows one from e refused = opened first mid mid f only looks narrows once one from (Err e) (nothing_in mid f f.is_new e mid_only refused) tt tt (clean_of e refused)
 
 -- ---- looking
 

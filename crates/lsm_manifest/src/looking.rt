@@ -28,7 +28,7 @@ pub(crate) fn names_of<S: Store>(alloc: Global, store: &mut S) -> Result<Vec<Str
     match store.list(alloc) {
         Ok(names) => Ok(names),
         Err(StoreError::OutOfMemory) => Err(OpenError::OutOfMemory),
-        Err(StoreError::Fault) => Err(OpenError::Store),
+        Err(StoreError::Fault | StoreError::NothingDone) => Err(OpenError::Store),
     }
 }
 

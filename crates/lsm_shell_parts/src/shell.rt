@@ -75,7 +75,7 @@ where
             let cause = format!(in alloc; "{fault}").ok();
             let error = match StoreError::from(fault) {
                 StoreError::OutOfMemory => Error::OutOfMemory,
-                StoreError::Fault => Error::Store,
+                StoreError::Fault | StoreError::NothingDone => Error::Store,
             };
             Err(Refusal { error, cause })
         }

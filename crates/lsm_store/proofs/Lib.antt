@@ -6,3 +6,4 @@ pub mod HeldPicks
 pub mod HeldLeft
 pub mod Memories
 pub mod MemoryCalls
+pub mod MemorySettles

@@ -26,22 +26,22 @@ at_row name f row old new alters is n c = (to, back n)
 pub gives_elsewhere : (name : List ℕ) (f : Held → Held) (old new : Files) → Alters name f old new → (n : List ℕ) → n ≢ name → gives_of new n ≡ gives_of old n
 gives_elsewhere name f old new alters n ne = ap (λ h. h.gives) (alters.elsewhere n ne)
 
-still : (past : Past) (s : Snapshot Files) (image : Image) → HadBeen past image → HadBeen (past ++ s ∷ []) image
+pub still : (past : Past) (s : Snapshot Files) (image : Image) → HadBeen past image → HadBeen (past ++ s ∷ []) image
 still [] s image had = absurd had
 still (p ∷ past) s image (inl here) = inl here
 still (p ∷ past) s image (inr there) = inr (still past s image there)
 
-newest : (past : Past) (s : Snapshot Files) (image : Image) → IsImage (may_of s.value) image → HadBeen (past ++ s ∷ []) image
+pub newest : (past : Past) (s : Snapshot Files) (image : Image) → IsImage (may_of s.value) image → HadBeen (past ++ s ∷ []) image
 newest [] s image is = inl is
 newest (p ∷ past) s image is = inr (newest past s image is)
 
-either : (past : Past) (s : Snapshot Files) (image : Image) → HadBeen (past ++ s ∷ []) image → HadBeen past image ⊎ IsImage (may_of s.value) image
+pub either : (past : Past) (s : Snapshot Files) (image : Image) → HadBeen (past ++ s ∷ []) image → HadBeen past image ⊎ IsImage (may_of s.value) image
 either [] s image (inl here) = inr here
 either [] s image (inr none) = absurd none
 either (p ∷ past) s image (inl here) = inl (inl here)
 either (p ∷ past) s image (inr there) = ⊎_elim (λ had. inl (inr had)) (λ new. inr new) (either past s image there)
 
-drop_push : (t : ℕ) (past : Past) (s : Snapshot Files) → t ≤ length past → drop t (past ++ s ∷ []) ≡ drop t past ++ s ∷ []
+pub drop_push : (t : ℕ) (past : Past) (s : Snapshot Files) → t ≤ length past → drop t (past ++ s ∷ []) ≡ drop t past ++ s ∷ []
 drop_push zero past s le = refl
 drop_push (suc t) [] s le = absurd (omega arith)
 drop_push (suc t) (p ∷ past) s le = drop_push t past s (omega arith)

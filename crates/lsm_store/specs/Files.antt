@@ -22,6 +22,10 @@ pub record Alters (name : List ℕ) (f : Held → Held) (old new : Files) : Type
   pub here : held_at new name ≡ f (held_at old name)
   pub elsewhere : (n : List ℕ) → n ≢ name → held_at new n ≡ held_at old n
 
+-- each name's is changed so
+abbrev pub AltersEach : (Held → Held) → Files → Files → Type 0
+AltersEach f old new = (n : List ℕ) → held_at new n ≡ f (held_at old n)
+
 -- the names of which reads give something, in the order of the records
 abbrev pub present : List (String Global × Held) → List (List ℕ)
 present [] = []

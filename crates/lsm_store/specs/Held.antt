@@ -57,6 +57,10 @@ softened Usual = Possible
 abbrev pub offered : Bool → List ℕ → Held → Held
 offered shown b h = record { gives = if shown then Some b else h.gives; before = h.gives; contents = h.contents ++ b ∷ []; absence = softened h.absence; torn = h.torn }
 
+-- settled: as reads give it, where it isn't torn
+abbrev pub settled : Held → Held
+settled h = if h.torn then h else fresh h.gives
+
 -- what reads give is among the contents, or absence may be left
 abbrev pub IsWhole : Held → Type 0
 IsWhole h = MatchOption h.gives (MayLack h.absence) (λ b. IsOneOf h.contents (Some b))

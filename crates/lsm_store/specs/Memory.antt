@@ -4,12 +4,12 @@ use mathlib.Core.Logic.{inl, inr}
 use Rattle.std.specs.declared.snapshot.Snapshot.{Snapshot}
 use Rattle.lsm_store.specs.World.{Image, Outcomes, World, IsImage}
 use Rattle.lsm_store.specs.declared.store.StoreError.{StoreError}
-use Rattle.lsm_store.specs.declared.store.StoreError.TheVariants.{OutOfMemory, Fault}
+use Rattle.lsm_store.specs.declared.store.StoreError.TheVariants.{OutOfMemory, Fault, NothingDone as Refused}
 use Rattle.lsm_store.specs.declared.mem_store.MemStore.{MemStore}
 use Rattle.lsm_store.specs.declared.mem_store.plan.Outcome.{Outcome}
-use Rattle.lsm_store.specs.declared.mem_store.plan.Outcome.TheVariants.{Done, Fails, FailsDone}
-use Rattle.lsm_store.specs.Held.{Held, MayHold, fresh, written, doubted, offered}
-use Rattle.lsm_store.specs.Files.{Files, held_at, HoldSame, Alters}
+use Rattle.lsm_store.specs.declared.mem_store.plan.Outcome.TheVariants.{Done, Fails, FailsDone, NothingDone}
+use Rattle.lsm_store.specs.Held.{Held, MayHold, fresh, written, doubted, offered, settled}
+use Rattle.lsm_store.specs.Files.{Files, held_at, HoldSame, Alters, AltersEach}
 
 -- what was held at moments that have gone by
 abbrev pub Past : Type 0
@@ -49,22 +49,39 @@ abbrev pub written_by : Outcome → List ℕ → Held → Held
 written_by Done b h = written b h
 written_by Fails b h = doubted h
 written_by FailsDone b h = written b h
+written_by NothingDone b h = h
 
 abbrev pub synced_by : Outcome → Held → Held
 synced_by Done h = fresh h.gives
 synced_by Fails h = doubted h
 synced_by FailsDone h = doubted h
+synced_by NothingDone h = h
 
 abbrev pub replaced_by : Outcome → List ℕ → Held → Held
 replaced_by Done b h = fresh (Some b)
 replaced_by Fails b h = offered false b h
 replaced_by FailsDone b h = offered true b h
+replaced_by NothingDone b h = h
 
--- a call that changes one name so; a refusal for memory has no effect
+abbrev pub settled_by : Outcome → Held → Held
+settled_by Done h = settled h
+settled_by Fails h = h
+settled_by FailsDone h = settled h
+settled_by NothingDone h = h
+
+-- a call that changes one name so; a refusal for memory has no effect, nor has a call that does nothing
 abbrev pub HeldAs : {T : Type 0} → List ℕ → (Held → Held) → Files → Files → Result T StoreError → Type 0
 HeldAs name f old new (Ok _) = Alters name f old new
 HeldAs name f old new (Err Fault) = Alters name f old new
+HeldAs name f old new (Err Refused) = HoldSame old new
 HeldAs name f old new (Err OutOfMemory) = HoldSame old new
+
+-- the same of a call that changes each name so
+abbrev pub EachHeldAs : {T : Type 0} → (Held → Held) → Files → Files → Result T StoreError → Type 0
+EachHeldAs f old new (Ok _) = AltersEach f old new
+EachHeldAs f old new (Err Fault) = AltersEach f old new
+EachHeldAs f old new (Err Refused) = HoldSame old new
+EachHeldAs f old new (Err OutOfMemory) = HoldSame old new
 
 -- a sync of an absent name fails
 abbrev pub sync_outcome : Outcome → Option (List ℕ) → Outcome
@@ -72,12 +89,14 @@ sync_outcome Done None = Fails
 sync_outcome Done (Some b) = Done
 sync_outcome Fails c = Fails
 sync_outcome FailsDone c = FailsDone
+sync_outcome NothingDone c = NothingDone
 
 -- what ends a sync or a replacement that is done: what reads give is on the disk
 abbrev pub ended_by : Outcome → Held → Held
 ended_by Done h = fresh h.gives
 ended_by Fails h = h
 ended_by FailsDone h = h
+ended_by NothingDone h = h
 
 -- what reads give is one of the images
 pub gives_one : (h : Held) → MayHold h h.gives

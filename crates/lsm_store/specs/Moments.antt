@@ -4,7 +4,7 @@ use Rattle.std.proofs.Common.{inl, inr, ⊎_elim, ◌≤◌, ◌≡◌, ◌≢�
 use Rattle.std.specs.Str.{bytes_eq}
 use Rattle.std.proofs.lemmas.Bool.{both_ways}
 use Rattle.std.proofs.lemmas.Slice.Eq.{bytes_eq-Decides}
-use Rattle.lsm_store.specs.World.{Image, Row, World, Anything, Only, IsImage, At, Same, Becomes, Changes, LeavesOnly}
+use Rattle.lsm_store.specs.World.{Image, Row, World, Anything, Only, IsImage, At, Same, Becomes, Changes, Narrows, SettlesNames, LeavesOnly}
 use Rattle.lsm_store.specs.declared.store.StoreError.{StoreError}
 use Rattle.lsm_store.specs.declared.store.StoreError.TheVariants as store
 use Rattle.lsm_store.specs.Synced.{KeepsOthers, Puts}
@@ -22,6 +22,30 @@ rests old mid new P so_far same =
       later = omega arith;
       each = λ image left. so_far.each image ((same.since old.moment image le).0 left);
       before = λ t image early left. let early2 : t ≤ mid.moment = omega arith in so_far.before t image early ((same.since t image early2).0 left);
+    }
+
+-- a call without effect adds no image
+pub narrows_same : (old new : World) → Same old new → Narrows old new
+narrows_same old new same =
+    let e : new.moment ≡ old.moment = same.moment in
+    record { gives = same.gives; may = λ n c. (same.may n c).0; later = omega (arith, e); since = same.since }
+
+-- nor does a call that settles names, whatever it answers
+pub narrows_any : {T : Type 0} (old new : World) (r : Result T StoreError) → SettlesNames old new r → Narrows old new
+narrows_any old new (Ok x) call = call.0
+narrows_any old new (Err store.Fault) call = call
+narrows_any old new (Err store.NothingDone) call = narrows_same old new call
+narrows_any old new (Err store.OutOfMemory) call = narrows_same old new call
+
+-- a call after it that adds no image
+pub narrows_on : (old mid new : World) (P : Image → Type 0) → LeavesOnly old mid P → Narrows mid new → LeavesOnly old new P
+narrows_on old mid new P so_far call =
+    let le : old.moment ≤ mid.moment = so_far.later in
+    let le2 : mid.moment ≤ new.moment = call.later in
+    record {
+      later = omega arith;
+      each = λ image left. so_far.each image ((call.since old.moment image le).0 left);
+      before = λ t image early left. let early2 : t ≤ mid.moment = omega arith in so_far.before t image early ((call.since t image early2).0 left);
     }
 
 -- a call after it that changes one name, of which each image has P
@@ -56,7 +80,12 @@ pub called : {T : Type 0} (old mid new : World) (P : Image → Type 0) (name : L
     → LeavesOnly old mid P → Changes name during done content mid new r → ((image : Image) → IsImage (At name during mid.may) image → P image) → LeavesOnly old new P
 called old mid new P name during done content (Ok x) so_far call here = goes_on old mid new P name during done so_far call.0 here
 called old mid new P name during done content (Err store.Fault) so_far call here = goes_on old mid new P name during during so_far call here
+called old mid new P name during done content (Err store.NothingDone) so_far call here = rests old mid new P so_far call
 called old mid new P name during done content (Err store.OutOfMemory) so_far call here = rests old mid new P so_far call
+
+-- a call that settles names, whatever it answers
+pub settled : {T : Type 0} (old mid new : World) (P : Image → Type 0) (r : Result T StoreError) → LeavesOnly old mid P → SettlesNames mid new r → LeavesOnly old new P
+settled old mid new P r so_far call = narrows_on old mid new P so_far (narrows_any mid new r call)
 
 -- a weaker fact
 pub weakened : (old new : World) (P Q : Image → Type 0) → LeavesOnly old new P → ((image : Image) → P image → Q image) → LeavesOnly old new Q
@@ -114,6 +143,7 @@ keeps_then name old mid new a b = record {
 pub keeps_changes : {T : Type 0} (name : List ℕ) (during done : Row) (content : Option (List ℕ)) (old new : World) (r : Result T StoreError) → Changes name during done content old new r → KeepsOthers name old new
 keeps_changes name during done content old new (Ok x) call = keeps_becomes name during done old new call.0
 keeps_changes name during done content old new (Err store.Fault) call = keeps_becomes name during during old new call
+keeps_changes name during done content old new (Err store.NothingDone) call = keeps_same name old new call
 keeps_changes name during done content old new (Err store.OutOfMemory) call = keeps_same name old new call
 
 -- ---- a file that is written and synced

@@ -3,7 +3,7 @@ use Rattle.std.specs.Prelude.{◌≡◌, ◌≢◌, ◌⊎◌, ◌↔◌, ℕ, �
 use Rattle.std.specs.List.{IsDistinct}
 use Rattle.std.specs.Str.{bytes_eq}
 use Rattle.lsm_store.specs.declared.store.StoreError.{StoreError}
-use Rattle.lsm_store.specs.declared.store.StoreError.TheVariants.{OutOfMemory, Fault}
+use Rattle.lsm_store.specs.declared.store.StoreError.TheVariants.{OutOfMemory, Fault, NothingDone}
 
 -- a content for each name, or none
 abbrev pub Image : Type 0
@@ -68,16 +68,36 @@ pub record Becomes (name : List ℕ) (during after : Row) (old new : World) : Ty
   pub since : (t : ℕ) (image : Image) → t ≤ old.moment → new.since t image ↔ (old.since t image ⊎ IsImage (At name during old.may) image)
 
 -- a call that changes one name, by what it answers: after Ok the row is `done` and reads give the content;
--- a fault leaves the row of the call; a refusal for memory has no effect
+-- a fault leaves the row of the call; a refusal for memory has no effect, nor has a call that is known to have done nothing
 abbrev pub Changes : {T : Type 0} → List ℕ → Row → Row → Option (List ℕ) → World → World → Result T StoreError → Type 0
 Changes name during done content old new (Ok _) = Becomes name during done old new × (new.gives name ≡ content)
 Changes name during done content old new (Err Fault) = Becomes name during during old new
+Changes name during done content old new (Err NothingDone) = Same old new
 Changes name during done content old new (Err OutOfMemory) = Same old new
+
+-- reads give the same, a crash may leave what it could before or less of it, and no image is added
+pub record Narrows (old new : World) : Type 0 where
+  pub gives : (n : List ℕ) → new.gives n ≡ old.gives n
+  pub may : (n : List ℕ) (c : Option (List ℕ)) → new.may n c → old.may n c
+  pub later : old.moment ≤ new.moment
+  pub since : (t : ℕ) (image : Image) → t ≤ old.moment → new.since t image ↔ old.since t image
+
+-- of a name of which not any bytes could be left a crash leaves just what reads gave
+abbrev pub IsOnDisk : World → World → List ℕ → Type 0
+IsOnDisk old new n = (impossible c : Option (List ℕ)) → ¬ old.may n impossible → new.may n c → c ≡ old.gives n
+
+-- a call that settles names, by what it answers
+abbrev pub SettlesNames : {T : Type 0} → World → World → Result T StoreError → Type 0
+SettlesNames old new (Ok _) = Narrows old new × ((n : List ℕ) → IsOnDisk old new n)
+SettlesNames old new (Err Fault) = Narrows old new
+SettlesNames old new (Err NothingDone) = Same old new
+SettlesNames old new (Err OutOfMemory) = Same old new
 
 -- each failed call counts, up to the greatest number; a refusal for memory is no failure
 abbrev pub Counts : {T : Type 0} → World → World → Result T StoreError → Type 0
 Counts old new (Ok _) = new.failures ≡ old.failures
 Counts old new (Err Fault) = new.failures ≡ min (old.failures + 1) (2 ^ 64 - 1)
+Counts old new (Err NothingDone) = new.failures ≡ min (old.failures + 1) (2 ^ 64 - 1)
 Counts old new (Err OutOfMemory) = new.failures ≡ old.failures
 
 -- the names that have a content, each once

@@ -1,11 +1,11 @@
 // A folder of the file system, as a store.
-ghost use Rattle.std.specs.Prelude.{◌≡◌, ◌+◌, ◌-◌, ◌≤◌, ◌↔◌, IfOk, IsErrOf, IsSome, Result, Ok, Err};
-ghost use Rattle.lsm_store.specs.declared.store.StoreError.TheVariants.{OutOfMemory, Fault};
+ghost use Rattle.std.specs.Prelude.{◌≡◌, ◌+◌, ◌-◌, ◌^◌, ◌≤◌, ◌↔◌, min, IfOk, IsErrOf, IsSome, Result, Ok, Err};
+ghost use Rattle.lsm_store.specs.declared.store.StoreError.TheVariants.{OutOfMemory, Fault, NothingDone};
 ghost use Rattle.lsm_store.specs.NoWorld.{untold};
 ghost use Rattle.lsm_store.specs.World.{Counts};
 
 use crate::{Store, StoreError};
-use disk::{SUBFOLDERS, join};
+use disk::{Failure, SUBFOLDERS, join};
 use std::alloc::{AllocError, Global};
 use std::fs::{File, Files};
 use std::io::{self, ErrorKind};
@@ -35,10 +35,11 @@ const NAME_ROOM: usize = 64;
 /// |-|-|
 /// | `list` | the names of regular files; one that isn't UTF-8 is a `Fault` |
 /// | `read` | the whole file |
-/// | `write` | makes the file, or cuts it to nothing, and writes all bytes; what it can't finish it removes |
+/// | `write` | makes the file, or cuts it to nothing, and writes all bytes; what it can't finish it removes. `NothingDone` where the file couldn't be made and isn't there |
 /// | `sync` | syncs the file, then its folder |
-/// | `replace` | writes `replace.new` in the folder, syncs it, renames it to the name, and syncs the name's folder; where it can't rename, it removes `replace.new` |
-/// | `remove` | removes the file; an absent one is no error |
+/// | `replace` | removes a `replace.new` that was left, makes it anew in the folder, writes it, syncs it, renames it to the name, and syncs the name's folder; where it can't rename, it removes `replace.new`. `NothingDone` before the rename, and where that fails with another error than an input/output error |
+/// | `remove` | removes the file; an absent one is no error. `NothingDone` where memory is refused |
+/// | `settle` | syncs the folder and its subfolders, but for one in which nothing can be written |
 ///
 /// # Examples
 ///
@@ -138,14 +139,12 @@ impl<R: Files<File = File> + Alloc + Clone + Drop> FolderStore<R> {
     }
 
     /// Counts a call that failed, and keeps why.
-    fn fail<T>(&mut self, call: FolderCall, name: &str, error: io::Error) -> Result<T, StoreError>
-        ensures counts { Counts (untold self.old.failures) (untold self.new.failures) result }
-        ensures fault { result ≡ Err Fault }
+    fn count(&mut self, call: FolderCall, name: &str, error: io::Error)
+        ensures { self.new.failures ≡ min (self.old.failures + 1) (2 ^ 64 - 1) }
     {
         let alloc = *self.root.allocator();
         self.last_fault = Some(FolderFault::new(alloc, name, call, error));
         self.failures = self.failures.saturating_add(1);
-        Err(StoreError::Fault)
     }
 
     /// What the outcome of a call without effect is: want of memory is no failure.
@@ -161,7 +160,10 @@ impl<R: Files<File = File> + Alloc + Clone + Drop> FolderStore<R> {
             Ok(value) => Ok(value),
             Err(error) => match error.kind() {
                 ErrorKind::OutOfMemory => Err(StoreError::OutOfMemory),
-                _ => self.fail(call, name, error),
+                _ => {
+                    self.count(call, name, error);
+                    Err(StoreError::Fault)
+                }
             },
         }
     }
@@ -171,14 +173,21 @@ impl<R: Files<File = File> + Alloc + Clone + Drop> FolderStore<R> {
         &mut self,
         call: FolderCall,
         name: &str,
-        outcome: io::Result<()>,
+        outcome: Result<(), Failure>,
     ) -> Result<(), StoreError>
         ensures counts { Counts (untold self.old.failures) (untold self.new.failures) result }
         ensures fault { IsErrOf result OutOfMemory → ⊥ }
     {
         match outcome {
             Ok(()) => Ok(()),
-            Err(error) => self.fail(call, name, error),
+            Err(Failure::Unknown(error)) => {
+                self.count(call, name, error);
+                Err(StoreError::Fault)
+            }
+            Err(Failure::NothingDone(error)) => {
+                self.count(call, name, error);
+                Err(StoreError::NothingDone)
+            }
         }
     }
 }
@@ -215,7 +224,7 @@ impl<R: Files<File = File> + Alloc + Clone + Drop> Store for FolderStore<R> {
         let folder = self.folder_of(name)?;
         self.spell(name)?;
         let outcome = disk::sync_with(&self.rt, self.path.as_str(), folder.as_str());
-        self.tell_changed(FolderCall::Sync, name, outcome)
+        self.tell_changed(FolderCall::Sync, name, outcome.map_err(Failure::Unknown))
     }
 
     fn replace(&mut self, name: &str, bytes: &[u8]) -> Result<(), StoreError> {
@@ -229,10 +238,20 @@ impl<R: Files<File = File> + Alloc + Clone + Drop> Store for FolderStore<R> {
 
     fn remove(&mut self, name: &str) -> Result<(), StoreError> {
         let outcome = match self.spell(name) {
-            Ok(()) => disk::remove_file(&self.rt, self.path.as_str()),
-            Err(error) => Err(error.into()),
+            Ok(()) => disk::remove_file(&self.rt, self.path.as_str()).map_err(Failure::Unknown),
+            Err(error) => Err(Failure::NothingDone(error.into())),
         };
         self.tell_changed(FolderCall::Remove, name, outcome)
+    }
+
+    fn settle(&mut self) -> Result<(), StoreError> {
+        let alloc = *self.root.allocator();
+        let [tables, log] = SUBFOLDERS;
+        let tables = join(alloc, self.root.as_str(), tables)?;
+        let log = join(alloc, self.root.as_str(), log)?;
+        let folders = [self.root.as_str(), tables.as_str(), log.as_str()];
+        let outcome = disk::settle_folders(&self.rt, &folders);
+        self.tell_changed(FolderCall::Settle, "", outcome.map_err(Failure::Unknown))
     }
 
     fn failures(&self) -> u64 {

@@ -1,12 +1,12 @@
 // A store in memory, with faults that are planned and crashes that are picked.
-ghost use Rattle.std.specs.Prelude.{◌≡◌, ◌<◌, ◌+◌, ◌-◌, ◌^◌, min, Some, None, IfOk, OnOk, IsErrOf, IsSome, option_map, map, if◌then◌else◌, vec_len, vec_capacity};
+ghost use Rattle.std.specs.Prelude.{◌≡◌, ◌≢◌, ◌<◌, ◌+◌, ◌-◌, ◌^◌, min, Some, None, IfOk, OnOk, OnErr, IsErrOf, IsSome, option_map, map, if◌then◌else◌, vec_len, vec_capacity};
 ghost use Rattle.std.proofs.Common.{inl};
 ghost use Rattle.std.specs.String.{string_bytes};
-ghost use Rattle.lsm_store.specs.World.{Anything, Only, OldOr, Same, Changes, Counts, Lists};
+ghost use Rattle.lsm_store.specs.World.{Anything, Only, OldOr, Same, Changes, SettlesNames, Counts, Lists};
 ghost use Rattle.lsm_store.specs.Plans.{outcome_at, has_effect, fails, answer_of, MovesOn, AsPlanned};
 ghost use Rattle.lsm_store.specs.Held.{removed};
 ghost use Rattle.lsm_store.specs.Files.{held_at};
-ghost use Rattle.lsm_store.specs.Memory.{HeldAs, written_by, synced_by, replaced_by, sync_outcome, gives_of, may_of, world_of, KeepsMoment, gives_one, only_now};
+ghost use Rattle.lsm_store.specs.Memory.{HeldAs, EachHeldAs, written_by, synced_by, replaced_by, settled_by, sync_outcome, gives_of, may_of, world_of, KeepsMoment, gives_one, only_now};
 ghost use Rattle.lsm_store.specs.Picks.{picked, Crashes, Restarts};
 
 mod file;
@@ -15,7 +15,9 @@ mod picks;
 mod plan;
 
 use crate::{Store, StoreError};
-use files::{Files, content_of, doubt_file, end_by, names_of, offer_file, remove_file, write_by};
+use files::{
+    Files, content_of, doubt_file, end_by, names_of, offer_file, remove_file, settle_by, write_by,
+};
 pub use picks::Pick;
 use picks::{are_possible, files_left};
 pub use plan::Fault;
@@ -107,7 +109,26 @@ impl MemStore {
             return Ok(());
         }
         self.failures = self.failures.saturating_add(1);
+        if outcome == Outcome::NothingDone {
+            return Err(StoreError::NothingDone);
+        }
         Err(StoreError::Fault)
+    }
+
+    /// What comes of the next call. One that is known to do nothing ends here.
+    fn begin(&mut self) -> Result<Outcome, StoreError>
+        ensures ok { IfOk result (λ outcome. (outcome ≡ outcome_at self.old.plan 1) × (outcome ≢ Outcome.NothingDone) × (self.new ≡ self.old)) }
+        ensures told { OnErr result (IsErrOf result StoreError.NothingDone) }
+        ensures files { OnErr result (self.new.files ≡ self.old.files) }
+        ensures past { OnErr result (self.new.past ≡ self.old.past) }
+        ensures failures { OnErr result (self.new.failures ≡ min (self.old.failures + 1) (2 ^ 64 - 1)) }
+        ensures plan { OnErr result ((outcome_at self.old.plan 1 ≡ Outcome.NothingDone) × MovesOn self.old.plan self.new.plan) }
+    {
+        let outcome = self.plan.outcome();
+        if outcome == Outcome::NothingDone {
+            self.answer(outcome)?;
+        }
+        Ok(outcome)
     }
 }
 
@@ -154,7 +175,7 @@ impl Store for MemStore {
         ensures held { HeldAs name.now (written_by (outcome_at self.old.plan 1) bytes.now) self.old.files self.new.files result }
         ensures planned { AsPlanned (outcome_at self.old.plan 1) self.old.plan self.new.plan result }
     {
-        let outcome = self.plan.outcome();
+        let outcome = self.begin()?;
         write_by(self.alloc, &mut self.files, name, bytes, outcome)?;
         self.answer(outcome)
     }
@@ -166,7 +187,7 @@ impl Store for MemStore {
         ensures held { HeldAs name.now (synced_by (sync_outcome (outcome_at self.old.plan 1) (gives_of self.old.files name.now))) self.old.files self.new.files result }
         ensures planned { AsPlanned (sync_outcome (outcome_at self.old.plan 1) (gives_of self.old.files name.now)) self.old.plan self.new.plan result }
     {
-        let outcome = self.plan.outcome();
+        let outcome = self.begin()?;
         self.past.try_reserve(1)?;
         doubt_file(self.alloc, &mut self.files, name)?;
         self.keep_moment();
@@ -180,7 +201,7 @@ impl Store for MemStore {
         ensures held { HeldAs name.now (replaced_by (outcome_at self.old.plan 1) bytes.now) self.old.files self.new.files result }
         ensures planned { AsPlanned (outcome_at self.old.plan 1) self.old.plan self.new.plan result }
     {
-        let outcome = self.plan.outcome();
+        let outcome = self.begin()?;
         self.past.try_reserve(1)?;
         offer_file(
             self.alloc,
@@ -201,8 +222,21 @@ impl Store for MemStore {
         ensures held { HeldAs name.now (removed (has_effect (outcome_at self.old.plan 1))) self.old.files self.new.files result }
         ensures planned { AsPlanned (outcome_at self.old.plan 1) self.old.plan self.new.plan result }
     {
-        let outcome = self.plan.outcome();
+        let outcome = self.begin()?;
         remove_file(&mut self.files, name, outcome.has_effect());
+        self.answer(outcome)
+    }
+
+    fn settle(&mut self) -> Result<(), StoreError>
+        ensures settles { SettlesNames (world_of self.old) (world_of self.new) result }
+        ensures counts { Counts (world_of self.old) (world_of self.new) result }
+        ensures held { EachHeldAs (settled_by (outcome_at self.old.plan 1)) self.old.files self.new.files result }
+        ensures planned { AsPlanned (outcome_at self.old.plan 1) self.old.plan self.new.plan result }
+    {
+        let outcome = self.begin()?;
+        self.past.try_reserve(1)?;
+        self.keep_moment();
+        settle_by(&mut self.files, outcome);
         self.answer(outcome)
     }
 

@@ -2,7 +2,7 @@
 ghost use Rattle.std.specs.Prelude.{◌≡◌, ◌≤◌, List, ℕ, Some, None, IfOk, OnOk, IsErrOf, IsSome, IsTrue, Bool, Option, option_map, map};
 ghost use Rattle.std.specs.String.{string_bytes};
 ghost use Rattle.lsm_store.specs.declared.store.StoreError.TheVariants.{OutOfMemory, Fault};
-ghost use Rattle.lsm_store.specs.World.{Image, World, Anything, Only, OldOr, IsImage, At, Same, Becomes, Changes, Counts, Lists, LeavesOnly};
+ghost use Rattle.lsm_store.specs.World.{Image, World, Anything, Only, OldOr, IsImage, At, Same, Becomes, Changes, Narrows, SettlesNames, Counts, Lists, LeavesOnly};
 
 use std::alloc::{AllocError, AllocFailed, Global};
 use thiserror::Error;
@@ -16,6 +16,9 @@ pub enum StoreError {
     /// The store failed. Whether the call had its effect isn't known.
     #[error("the store failed")]
     Fault,
+    /// The store failed, and is known to have done nothing.
+    #[error("the store failed, and has done nothing")]
+    NothingDone,
 }
 
 impl From<AllocError> for StoreError {
@@ -34,7 +37,8 @@ impl<T: Drop> From<AllocFailed<T>> for StoreError {
     }
 }
 
-/// Named contents of bytes. Each call may be refused with a `Fault`, and each but `remove` for want of memory.
+/// Named contents of bytes. Each call may be refused with a `Fault`, or with `NothingDone`, and each but `remove` for
+/// want of memory.
 ///
 /// What a crash may leave of a name, whatever becomes of the others:
 ///
@@ -45,6 +49,9 @@ impl<T: Drop> From<AllocFailed<T>> for StoreError {
 /// | removed, or a removal that failed | absent, or as before |
 /// | replaced, during the call or after a fault | the old or the new content |
 /// | replaced, after Ok | the new content |
+/// | settled, after Ok, where not any bytes could be left | what reads give |
+/// | settled, during the call or after a fault | as before, or less |
+/// | after a call that answered `NothingDone` | as before |
 ///
 /// What reads and lists give is always one of the images that a crash may leave.
 pub trait Store: Drop {
@@ -87,6 +94,12 @@ pub trait Store: Drop {
         ensures counts { Counts (world self.old) (world self.new) result }
         ensures memory { IsErrOf result OutOfMemory → ⊥ };
 
+    /// Puts on the disk what was last replaced or removed: after Ok, of each name of which a crash can't leave any bytes at
+    /// all it leaves just what reads give. While it runs and after a fault it leaves what it could before, and no more.
+    fn settle(&mut self) -> Result<(), StoreError>
+        ensures settles { tells → SettlesNames (world self.old) (world self.new) result }
+        ensures counts { Counts (world self.old) (world self.new) result };
+
     /// How many calls have failed, up to 2^64 - 1, where it stays.
     fn failures(&self) -> u64
         ensures { result ≡ (world self.now).failures };
@@ -102,10 +115,12 @@ pub trait Store: Drop {
 }
 
 /// Runs of calls, for any test of images: a run begins with what a crash at this moment may leave, a call without effect
-/// adds nothing, a call that changes one name adds what a crash in it might have left, and two runs join.
+/// adds nothing, nor does one that settles names, a call that changes one name adds what a crash in it might have left, and
+/// two runs join.
 pub fn runs_of_calls<S: Store>(old: &S, mid: &S, new: &S)
     ensures begins { S.tells → (p : Image → Bool) → ((image : Image) → IsImage (S.world old.now).may image → IsTrue (p image)) → LeavesOnly (S.world old.now) (S.world old.now) (λ image. IsTrue (p image)) }
     ensures rests { (p : Image → Bool) → LeavesOnly (S.world old.now) (S.world mid.now) (λ image. IsTrue (p image)) → Same (S.world mid.now) (S.world new.now) → LeavesOnly (S.world old.now) (S.world new.now) (λ image. IsTrue (p image)) }
+    ensures settles { (p : Image → Bool) → LeavesOnly (S.world old.now) (S.world mid.now) (λ image. IsTrue (p image)) → Narrows (S.world mid.now) (S.world new.now) → LeavesOnly (S.world old.now) (S.world new.now) (λ image. IsTrue (p image)) }
     ensures goes_on { (p : Image → Bool) (name : List ℕ) (during after : Option (List ℕ) → Bool) → LeavesOnly (S.world old.now) (S.world mid.now) (λ image. IsTrue (p image))
         → Becomes name (λ c. IsTrue (during c)) (λ c. IsTrue (after c)) (S.world mid.now) (S.world new.now)
         → ((image : Image) → IsImage (At name (λ c. IsTrue (during c)) (S.world mid.now).may) image → IsTrue (p image)) → LeavesOnly (S.world old.now) (S.world new.now) (λ image. IsTrue (p image)) }

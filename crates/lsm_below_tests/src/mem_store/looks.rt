@@ -8,7 +8,7 @@ use std::process::Abort;
 use std::test::Fail;
 
 /// A store after these calls, the last of which has this fault, if one is given.
-fn behind(alloc: Global, calls: &[Call], fault: Option<Fault>) -> Result<MemStore, StoreError> {
+pub fn behind(alloc: Global, calls: &[Call], fault: Option<Fault>) -> Result<MemStore, StoreError> {
     let mut store = MemStore::new(alloc);
     if let Some(fault) = fault {
         store.fail(calls.len() as u64, fault);
@@ -21,7 +21,7 @@ fn behind(alloc: Global, calls: &[Call], fault: Option<Fault>) -> Result<MemStor
 
 /// What a look at a store has to find.
 #[derive(Clone, Copy)]
-enum Look {
+pub enum Look {
     /// A crash with this pick of the name a leaves this of it.
     Leaves(Pick<'static>, Option<&'static [u8]>),
     /// The pick isn't possible.
@@ -32,7 +32,7 @@ enum Look {
     Failures(u64),
 }
 
-fn finds(alloc: Global, store: &MemStore, look: Look) -> Result<bool, StoreError> {
+pub fn finds(alloc: Global, store: &MemStore, look: Look) -> Result<bool, StoreError> {
     match look {
         Look::Leaves(pick, wanted) => leaves(alloc, store, A, &[(A, pick)], wanted),
         Look::Refuses(pick) => refuses(alloc, store, A, pick),

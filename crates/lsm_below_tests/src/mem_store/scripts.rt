@@ -63,25 +63,29 @@ impl Row {
                 self.read = if effect { None } else { self.read };
                 self.contents.push(None)?;
             }
+            Call::Settle if effect && !self.torn => self.only(self.read)?,
+            Call::Settle => {}
         }
         Ok(!fails)
     }
 }
 
-fn name_of(call: Call) -> &'static str {
+/// Whether the call may change what is held of the name.
+fn concerns(call: Call, name: &str) -> bool {
     match call {
-        Call::Write(name, _) | Call::Sync(name) | Call::Replace(name, _) | Call::Remove(name) => {
-            name
-        }
+        Call::Write(of, _) | Call::Sync(of) | Call::Replace(of, _) | Call::Remove(of) => of == name,
+        Call::Settle => true,
     }
 }
 
-/// Whether the call of this number fails, and has its effect, where the `at`-th has this fault.
-fn planned(number: u64, at: u64, fault: Fault) -> (bool, bool) {
+/// Whether the call of this number fails, and has its effect, where the `at`-th has this fault. None where it does nothing.
+fn planned(number: u64, at: u64, fault: Fault) -> Option<(bool, bool)> {
     match fault {
-        Fault::Once => (number == at, number != at),
-        Fault::OnceDone => (number == at, true),
-        Fault::FromHere => (number >= at, number < at),
+        Fault::Once => Some((number == at, number != at)),
+        Fault::OnceDone => Some((number == at, true)),
+        Fault::OnceNothing if number == at => None,
+        Fault::OnceNothing => Some((false, true)),
+        Fault::FromHere => Some((number >= at, number < at)),
     }
 }
 
@@ -122,19 +126,34 @@ fn all_agree(alloc: Global, store: &MemStore, name: &str, row: &Row) -> Result<b
     Ok(true)
 }
 
+/// Makes a call on the rows. Whether it is answered.
+fn step_rows(
+    rows: &mut (Row, Row),
+    call: Call,
+    outcome: Option<(bool, bool)>,
+) -> Result<bool, AllocError> {
+    let Some((fails, effect)) = outcome else {
+        return Ok(false);
+    };
+    let mut is_answered = !fails;
+    if concerns(call, A) {
+        is_answered = rows.0.step(call, fails, effect)?;
+    }
+    if concerns(call, B) {
+        is_answered = rows.1.step(call, fails, effect)?;
+    }
+    Ok(is_answered)
+}
+
 /// Makes a call on the store and on the rows, and looks at every pick. Whether all agree.
 fn step(
     alloc: Global,
     store: &mut MemStore,
     rows: &mut (Row, Row),
     call: Call,
-    outcome: (bool, bool),
+    outcome: Option<(bool, bool)>,
 ) -> Result<bool, StoreError> {
-    let wanted = if name_of(call) == A {
-        rows.0.step(call, outcome.0, outcome.1)?
-    } else {
-        rows.1.step(call, outcome.0, outcome.1)?
-    };
+    let wanted = step_rows(rows, call, outcome)?;
     if make(store, call)? != wanted {
         return Ok(false);
     }
@@ -172,8 +191,14 @@ fn script_agrees(alloc: Global, at: u64, fault: Fault) -> Result<bool, StoreErro
 
 #[test]
 fn every_call_fails_in_turn(rt: HostRuntime) -> Result<(), Fail> {
-    for at in 1..11u64 {
-        for fault in [Fault::Once, Fault::OnceDone, Fault::FromHere] {
+    let faults = [
+        Fault::Once,
+        Fault::OnceDone,
+        Fault::OnceNothing,
+        Fault::FromHere,
+    ];
+    for at in 1..14u64 {
+        for fault in faults {
             assert!(rt; script_agrees(rt.alloc(), at, fault)?, "{fault:?} of {at}");
         }
     }

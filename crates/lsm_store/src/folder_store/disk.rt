@@ -4,6 +4,15 @@ use std::fs::{File, Files, OpenFile, OpenOptions, TryLockError};
 use std::io::{ErrorKind, Read, Write};
 use std::{fs, io};
 
+/// Why a call of the file system failed.
+#[derive(Drop)]
+pub(crate) enum Failure {
+    /// Whether it had its effect isn't known.
+    Unknown(io::Error),
+    /// Nothing has changed of the name that it was about.
+    NothingDone(io::Error),
+}
+
 /// The subfolders, those of tables and of a log. Names of files in them begin so.
 pub(crate) const SUBFOLDERS: [&str; 2] = ["tables", "log"];
 
@@ -132,14 +141,33 @@ pub(crate) fn read_file<R: Files>(
 }
 
 /// Makes a file, or cuts it to nothing, and writes all bytes. What it began and couldn't finish it removes.
-pub(crate) fn write_file<R: Files>(rt: &R, path: &str, bytes: &[u8]) -> io::Result<()> {
-    let mut file = File::create(rt, path)?;
+pub(crate) fn write_file<R: Files>(rt: &R, path: &str, bytes: &[u8]) -> Result<(), Failure> {
+    match File::create(rt, path) {
+        Ok(mut file) => match fill(rt, path, &mut file, bytes) {
+            Ok(()) => Ok(()),
+            Err(error) => Err(Failure::Unknown(error)),
+        },
+        Err(error) if is_absent(rt, path) => Err(Failure::NothingDone(error)),
+        Err(error) => Err(Failure::Unknown(error)),
+    }
+}
+
+/// Writes all bytes to a new file. Where it can't, it removes the file.
+fn fill<R: Files, W: Write>(rt: &R, path: &str, file: &mut W, bytes: &[u8]) -> io::Result<()> {
     match file.write_all(bytes) {
         Ok(()) => Ok(()),
         Err(error) => {
             let _ = remove_file(rt, path);
             Err(error)
         }
+    }
+}
+
+/// Whether nothing is there under a path: what couldn't be made and isn't there was not there before.
+fn is_absent<R: Files>(rt: &R, path: &str) -> bool {
+    match fs::symlink_metadata(rt, path) {
+        Ok(_) => false,
+        Err(error) => error.kind() == ErrorKind::NotFound,
     }
 }
 
@@ -154,18 +182,50 @@ pub(crate) fn sync_with<R: Files>(rt: &R, path: &str, folder: &str) -> io::Resul
     sync_path(rt, folder)
 }
 
+/// Syncs folders, so that which names their files have is on the disk. In one that can't be synced because nothing can be
+/// written in it nothing is pending.
+pub(crate) fn settle_folders<R: Files>(rt: &R, folders: &[&str]) -> io::Result<()> {
+    for folder in folders {
+        if let Err(error) = sync_path(rt, folder) {
+            match error.kind() {
+                ErrorKind::ReadOnlyFilesystem | ErrorKind::InvalidInput => {}
+                _ => return Err(error),
+            }
+        }
+    }
+    Ok(())
+}
+
 /// Fills the file beside, syncs it, gives it the name, and syncs the name's folder. Where it can't give the name, it
-/// removes the file beside.
+/// removes the file beside. Until the name is given nothing has changed of it.
 pub(crate) fn replace_file<R: Files>(
     rt: &R,
     fresh: &str,
     path: &str,
     folder: &str,
     bytes: &[u8],
-) -> io::Result<()> {
-    write_file(rt, fresh, bytes)?;
-    match put_in_place(rt, fresh, path) {
-        Ok(()) => sync_path(rt, folder),
+) -> Result<(), Failure> {
+    if let Err(error) = fill_beside(rt, fresh, bytes) {
+        return Err(Failure::NothingDone(error));
+    }
+    if let Err(error) = fs::rename(rt, fresh, path) {
+        let _ = remove_file(rt, fresh);
+        return Err(rename_failed(error));
+    }
+    match sync_path(rt, folder) {
+        Ok(()) => Ok(()),
+        Err(error) => Err(Failure::Unknown(error)),
+    }
+}
+
+/// Makes the file beside, writes all bytes and syncs it; where it can't, it removes the file. One that was left goes first,
+/// and isn't written into: after a power cut it may be a second name of a file that was renamed.
+fn fill_beside<R: Files>(rt: &R, fresh: &str, bytes: &[u8]) -> io::Result<()> {
+    remove_file(rt, fresh)?;
+    let mut file = File::create_new(rt, fresh)?;
+    fill(rt, fresh, &mut file, bytes)?;
+    match sync_path(rt, fresh) {
+        Ok(()) => Ok(()),
         Err(error) => {
             let _ = remove_file(rt, fresh);
             Err(error)
@@ -173,9 +233,16 @@ pub(crate) fn replace_file<R: Files>(
     }
 }
 
-fn put_in_place<R: Files>(rt: &R, fresh: &str, path: &str) -> io::Result<()> {
-    sync_path(rt, fresh)?;
-    fs::rename(rt, fresh, path)
+/// Whether a rename that failed so has done nothing: so it is but for an input/output error, which is among those that have
+/// no kind of their own, and for what a file system over a network may answer behind its effect.
+fn rename_failed(error: io::Error) -> Failure {
+    match error.kind() {
+        ErrorKind::Uncategorized
+        | ErrorKind::Interrupted
+        | ErrorKind::TimedOut
+        | ErrorKind::StaleNetworkFileHandle => Failure::Unknown(error),
+        _ => Failure::NothingDone(error),
+    }
 }
 
 /// Removes a file, which may be absent.

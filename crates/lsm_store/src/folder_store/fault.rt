@@ -30,6 +30,9 @@ pub enum FolderCall {
     Replace,
     #[error("remove")]
     Remove,
+    /// To put on the disk which names its files have.
+    #[error("settle")]
+    Settle,
 }
 
 /// Why a call of a folder failed: which name it was about, what was asked, and what the system answered.

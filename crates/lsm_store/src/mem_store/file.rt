@@ -2,7 +2,7 @@
 ghost use Rattle.std.specs.Prelude.{◌≡◌, Some, OnOk, OnErr, IfOk, option_copied, true, false, IsTrue, ◌↔◌, IsSome};
 ghost use Rattle.std.specs.List.{list_any};
 ghost use Rattle.std.specs.Str.{bytes_eq};
-ghost use Rattle.lsm_store.specs.Held.{MayHold, MayLack, fresh, nothing, written, doubted, removed, offered, softened, IsWhole};
+ghost use Rattle.lsm_store.specs.Held.{MayHold, MayLack, fresh, nothing, written, doubted, removed, offered, settled, softened, IsWhole};
 
 use std::alloc::{AllocError, Global};
 use std::marker::Model;
@@ -196,6 +196,17 @@ impl File {
         self.absence = Absence::Never;
         self.torn = false;
         true
+    }
+
+    /// What was last replaced or removed is on the disk, as reads give it. What isn't synced stays so.
+    pub fn settle_name(&mut self)
+        ensures { self.new ≡ settled self.old }
+    {
+        if !self.torn && !self.settle() {
+            self.contents.clear();
+            self.before = None;
+            self.absence = Absence::Usual;
+        }
     }
 
     /// After a removal: gone, or where it failed perhaps not. It takes no memory.

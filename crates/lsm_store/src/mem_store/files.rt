@@ -1,10 +1,10 @@
 // What a store in memory holds of each name, and what a call makes of it.
 ghost use Rattle.std.specs.Prelude.{◌≡◌, OnOk, OnErr, IsSome, IsTrue, IfOk, ◌↔◌, true, false, map, option_map};
 ghost use Rattle.std.specs.BTreeMap.{get_by_text};
-ghost use Rattle.lsm_store.specs.Held.{fresh, written, doubted, removed, offered, IsWhole};
+ghost use Rattle.lsm_store.specs.Held.{fresh, written, doubted, removed, offered, settled, IsWhole};
 ghost use Rattle.lsm_store.specs.World.{Lists};
-ghost use Rattle.lsm_store.specs.Files.{held_at, HoldSame, Alters};
-ghost use Rattle.lsm_store.specs.Memory.{gives_of, written_by, ended_by, sync_outcome};
+ghost use Rattle.lsm_store.specs.Files.{held_at, HoldSame, Alters, AltersEach};
+ghost use Rattle.lsm_store.specs.Memory.{gives_of, written_by, ended_by, settled_by, sync_outcome};
 ghost use Rattle.std.specs.String.{string_bytes};
 
 use super::file::File;
@@ -79,6 +79,7 @@ pub fn write_by(
     match outcome {
         Outcome::Done | Outcome::FailsDone => write_file(alloc, files, name, bytes),
         Outcome::Fails => doubt_file(alloc, files, name),
+        Outcome::NothingDone => Ok(()),
     }
 }
 
@@ -121,6 +122,26 @@ pub fn end_by(files: &mut Files, name: &str, outcome: Outcome) -> Outcome
     match outcome {
         Outcome::Done if !settle_file(files, name) => Outcome::Fails,
         other => other,
+    }
+}
+
+/// What was last replaced or removed is on the disk, as reads give it.
+fn settle_names(files: &mut Files)
+    ensures { AltersEach settled files.old files.new }
+{
+    files.retain(|_, file| {
+        file.settle_name();
+        true
+    });
+}
+
+/// What a call with this outcome that settles names makes of them.
+pub fn settle_by(files: &mut Files, outcome: Outcome)
+    ensures { AltersEach (settled_by outcome) files.old files.new }
+{
+    match outcome {
+        Outcome::Done | Outcome::FailsDone => settle_names(files),
+        Outcome::Fails | Outcome::NothingDone => {}
     }
 }
 

@@ -9,6 +9,8 @@ pub enum Fault {
     Once,
     /// This call, with its effect.
     OnceDone,
+    /// This call, which is known to have done nothing.
+    OnceNothing,
     /// This call and all later ones, without their effects.
     FromHere,
 }
@@ -19,6 +21,7 @@ pub enum Outcome {
     Done,
     Fails,
     FailsDone,
+    NothingDone,
 }
 
 impl Outcome {
@@ -27,7 +30,7 @@ impl Outcome {
     {
         match self {
             Outcome::Done | Outcome::FailsDone => true,
-            Outcome::Fails => false,
+            Outcome::Fails | Outcome::NothingDone => false,
         }
     }
 }
@@ -53,6 +56,7 @@ impl Plan {
         match (self.call, self.fault) {
             (0, Fault::FromHere) => Outcome::Fails,
             (1, Fault::OnceDone) => Outcome::FailsDone,
+            (1, Fault::OnceNothing) => Outcome::NothingDone,
             (1, _) => Outcome::Fails,
             _ => Outcome::Done,
         }

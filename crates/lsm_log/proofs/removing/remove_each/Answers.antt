@@ -13,7 +13,7 @@ returns-in_err-remove_record-clause-clears g c tells =
     let ns = c.args.numbers.now in
     let i = c.loop-number.number-index in
     let did = c.remove_record.ensures in
-    clears_more (Contains ns) (w c.args.store.now) (w c.loop-number.store) (w c.remove_record.new.store) (get_or ns i 0) (Contains-get_or ns i 0 c.loop-number-test.true) (c.loop-number.invariant.clears tells) (did.leaves tells)
+    clears_more (Contains ns) (w c.args.store.now) (w c.loop-number.store) (w c.remove_record.new.store) (get_or ns i 0) (Contains-get_or ns i 0 c.loop-number-test.true) (c.loop-number.invariant.clears tells) (did.clears tells)
 
 pub returns-in_err-remove_record-clause-any_moment : goal.returns-in_err-remove_record-clause-any_moment
 returns-in_err-remove_record-clause-any_moment g c tells =
@@ -36,8 +36,8 @@ loop-number-preserved g c =
     let number = get_or ns i 0 in
     let is = Contains-get_or ns i 0 c.loop-number-test.true in
     record {
-      gone = λ tells. gone_more ns i number mid new (OldOr (mid.may (record_name number)) None) c.loop-number-test.true refl (did.leaves tells) (did.gone tells) (so_far.gone tells);
-      clears = λ tells. clears_more (Contains ns) old mid new number is (so_far.clears tells) (did.leaves tells);
+      gone = λ tells. gone_more ns i number mid new c.loop-number-test.true refl (did.clears tells) (did.gone tells) (so_far.gone tells);
+      clears = λ tells. clears_more (Contains ns) old mid new number is (so_far.clears tells) (did.clears tells);
       any_moment = λ tells. cleared_more (Contains ns) old mid new number is (so_far.clears tells) (so_far.any_moment tells) (did.any_moment tells);
       failures = search rules;
     }
