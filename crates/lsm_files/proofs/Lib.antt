@@ -9,3 +9,4 @@ pub mod Beside
 pub mod Opened
 pub mod Foreign
 pub mod Passing
+pub mod PassingOpened

@@ -19,7 +19,8 @@ use Rattle.lsm_files.specs.Foreign.{IsForeign, KeepsForeign, Passes}
 -- a call that changes one name, which is a tree's
 pub passes_beside : (name : List ℕ) (old new : World) → ((n : List ℕ) → IsForeign n → n ≢ name) → KeepsOthers name old new → LeavesOnly old new (IsBeside name old) → Passes old new
 passes_beside name old new other keeps leaves = record {
-  keeps = record { may = λ n c foreign. keeps.may n c (other n foreign); gives = λ n foreign. keeps.gives n (other n foreign) };
+  gives = λ n foreign. keeps.gives n (other n foreign);
+  may = λ n c foreign. (keeps.may n c (other n foreign)).0;
   leaves = weakened old new (IsBeside name old) (KeepsForeign old) leaves (λ image beside n foreign. beside n (other n foreign));
 }
 
@@ -29,8 +30,10 @@ module _ (version_kind : (i : ℕ) → i < 2 ^ 64 → kind_of (version_name i) �
 
   -- a version becomes the current one, or may
   pub passes_persisted : {T : Type 0} (id : ℕ) (bytes : List ℕ) (old new : World) (r : Result T Error) → id < 2 ^ 64 → Told TellsPersist (Persists id bytes old new) r → LeavesOnly old new (IsOldOrNew id bytes old) → Passes old new
-  passes_persisted {T} id bytes old new r small persists leaves = record {
-    keeps = told_any {T = T} TellsPersist (Persists id bytes old new) (Keeps IsForeign old new) r by_answer persists;
+  passes_persisted {T} id bytes old new r small persists leaves =
+      let keeps = told_any {T = T} TellsPersist (Persists id bytes old new) (Keeps IsForeign old new) r by_answer persists in record {
+    gives = λ n foreign. keeps.gives n foreign;
+    may = λ n c foreign. (keeps.may n c foreign).0;
     leaves = weakened old new (IsOldOrNew id bytes old) (KeepsForeign old) leaves (λ image one n foreign. one.elsewhere n (not_version id small n foreign) foreign.not_current);
   }
     where
@@ -53,7 +56,8 @@ module _ (table_kind : (i : ℕ) → i < 2 ^ 64 → kind_of (table_name i) ≡ T
   -- tables are written
   pub passes_tables : (first : ℕ) (old new : World) → KeepsElsewhere first old new → LeavesOnly old new (IsKeptElsewhere first old) → Passes old new
   passes_tables first old new keeps leaves = record {
-    keeps = record { may = λ n c foreign. keeps.may n c (elsewhere n foreign); gives = λ n foreign. keeps.gives n (elsewhere n foreign) };
+    gives = λ n foreign. keeps.gives n (elsewhere n foreign);
+    may = λ n c foreign. (keeps.may n c (elsewhere n foreign)).0;
     leaves = weakened old new (IsKeptElsewhere first old) (KeepsForeign old) leaves (λ image kept n foreign. kept n (elsewhere n foreign));
   }
     where

@@ -7,7 +7,7 @@ use Rattle.lsm_versions.specs.Levels.{SeenVersion}
 use Rattle.lsm_manifest.specs.declared.kinds.NameKind.TheVariants.{Other}
 use Rattle.lsm_manifest.specs.Names.{current_name}
 use Rattle.lsm_manifest.specs.Kinds.{kind_of}
-use Rattle.lsm_files.specs.Stored.{Keeps, IsStored, Leaves}
+use Rattle.lsm_files.specs.Stored.{IsStored, Leaves}
 
 -- the name is neither `current` nor of a kind that opening reads, removes or refuses
 pub record IsForeign (n : List ℕ) : Type 0 where
@@ -39,9 +39,10 @@ ForeignNamesSpare S world = (old new : S) → ChangesForeign (world old) (world 
 abbrev pub KeepsForeign : World → Image → Type 0
 KeepsForeign old left = (n : List ℕ) → IsForeign n → old.may n (left n)
 
--- of foreign names nothing has changed, and at each moment since then a crash leaves of each what it could before
+-- of foreign names reads give the same, and now, as at each moment since, a crash leaves of each what it could before
 pub record Passes (old new : World) : Type 0 where
-  pub keeps : Keeps IsForeign old new
+  pub gives : (n : List ℕ) → IsForeign n → new.gives n ≡ old.gives n
+  pub may : (n : List ℕ) (c : Option (List ℕ)) → IsForeign n → new.may n c → old.may n c
   pub leaves : LeavesOnly old new (KeepsForeign old)
 
 -- while nothing is done, a crash leaves one of the versions that are stored, and foreign names are as they are
@@ -51,16 +52,15 @@ pub record AtRest (w : World) : Type 0 where
 
 pub passes_still : (w : World) → ((image : Image) → w.since w.moment image → IsImage w.may image) → Passes w w
 passes_still w only = record {
-  keeps = record { may = λ n c foreign. (λ m. m, λ m. m); gives = λ n foreign. refl };
+  gives = λ n foreign. refl;
+  may = λ n c foreign m. m;
   leaves = started w (KeepsForeign w) (λ image since n foreign. only image since n);
 }
 
 -- a call behind another
 pub passes_then : (old mid new : World) → Passes old mid → Passes mid new → Passes old new
 passes_then old mid new a b = record {
-  keeps = record {
-    may = λ n c foreign. (λ m. (a.keeps.may n c foreign).0 ((b.keeps.may n c foreign).0 m), λ m. (b.keeps.may n c foreign).1 ((a.keeps.may n c foreign).1 m));
-    gives = λ n foreign. b.keeps.gives n foreign ∙ a.keeps.gives n foreign;
-  };
-  leaves = joined old mid new (KeepsForeign old) (KeepsForeign mid) (KeepsForeign old) a.leaves b.leaves (λ image kept. kept) (λ image kept n foreign. (a.keeps.may n (image n) foreign).0 (kept n foreign));
+  gives = λ n foreign. b.gives n foreign ∙ a.gives n foreign;
+  may = λ n c foreign m. a.may n c foreign (b.may n c foreign m);
+  leaves = joined old mid new (KeepsForeign old) (KeepsForeign mid) (KeepsForeign old) a.leaves b.leaves (λ image kept. kept) (λ image kept n foreign. a.may n (image n) foreign (kept n foreign));
 }

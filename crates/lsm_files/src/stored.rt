@@ -3,7 +3,7 @@ ghost use Rattle.std.specs.Prelude.{List};
 ghost use Rattle.lsm_versions.specs.Levels.{SeenVersion};
 ghost use Rattle.lsm_files.specs.Stored.{AreAmong, Leaves};
 ghost use Rattle.lsm_files.specs.Contents.{FilesAreTables};
-ghost use Rattle.lsm_files.specs.Opening.{OpeningStores};
+ghost use Rattle.lsm_files.specs.Opening.{OpeningStores, OpeningsPass};
 ghost use Rattle.lsm_files.specs.Foreign.{ForeignNamesSpare, AtRest};
 
 use lsm_manifest::{named_files_stay, names_are_apart, no_version_begins_another};
@@ -31,6 +31,13 @@ pub fn opening_stores<S: Store>(_: &S)
     names_are_apart();
     named_files_stay();
     no_version_begins_another();
+}
+
+/// An opening that is answered leaves names that are none of a tree's as they are.
+pub fn openings_pass<S: Store>(_: &S)
+    ensures { OpeningsPass S S.world }
+{
+    names_are_apart();
 }
 
 /// Calls that change names alone that are none of a tree's spare what is stored of it.

@@ -12,12 +12,14 @@ use Rattle.lsm_model.specs.Beginnings.{Stands, shown_by, OpeningStarts}
 use Rattle.lsm_versions.specs.Levels.{Levels as SeenLevels, SeenVersion, placed_of, tables_shown, IsVersion}
 use Rattle.lsm_versions.specs.declared.config.Config.{Config}
 use Rattle.lsm_manifest.specs.declared.opening.Opened.{Opened}
-use Rattle.lsm_manifest.specs.Opening.{Opens, OpensFiles, OpensNew}
+use Rattle.lsm_manifest.specs.Opening.{Opens, OpensFiles, OpensNew, LeavesStanding}
 use Rattle.lsm_manifest.specs.Told.{Told, TellsOpen, told_weaker}
 use Rattle.lsm_manifest.specs.Finding.{Finds, StandsForMap, MapIsOne, OpeningFinds, OpensFound, RefusesFound, FoundTablesShow}
 use Rattle.lsm_state.specs.Core.{Core, Seen, opened_core, state_of}
 use Rattle.lsm_state.specs.Deeds.{saved_of, OpenedIsFresh}
-use Rattle.lsm_state.specs.Opened.{files_told, StartsWith}
+use Rattle.lsm_files.specs.Foreign.{Passes}
+use Rattle.lsm_files.specs.Opening.{OpeningsPass}
+use Rattle.lsm_state.specs.Opened.{files_told, store_left, StartsWith}
 use Rattle.lsm_state.proofs.Distinct.{distinct_placed}
 
 -- ---- the tree
@@ -66,3 +68,9 @@ starts_of opening show once config v next image m stands (Err e) core found is l
 pub refused_of : {S : Type 0} (image : Image) (ts : SeenLevels) (r : Result (Seen S) (Error × S)) → OpensFound image ts (files_told r) → IfErr r (λ e. RefusesFound image e.0)
 refused_of image ts (Ok t) found = tt
 refused_of image ts (Err e) found = found
+
+-- names that are none of the tree's
+pub passes_opened : {S : Type 0} (world : S → World) (store : S) (r : Result (Seen S) (Error × S)) → OpeningsPass S world → Told TellsOpen (Opens (world store) (world (store_left r))) (files_told r)
+    → LeavesStanding (world store) (world (store_left r)) → IfOk r (λ t. Passes (world store) (world t.store))
+passes_opened world store (Ok t) law opens leaves = law store t.store _ opens leaves
+passes_opened world store (Err e) law opens leaves = tt

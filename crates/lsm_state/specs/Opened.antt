@@ -14,6 +14,7 @@ use Rattle.lsm_manifest.specs.Told.{Told, TellsOpen}
 use Rattle.lsm_manifest.specs.Opening.{Opens, LeavesStanding}
 use Rattle.lsm_manifest.specs.Finding.{StandsForMap, RefusesFound, IsSettled}
 use Rattle.lsm_files.specs.Stored.{IsStored}
+use Rattle.lsm_files.specs.Foreign.{Passes}
 use Rattle.lsm_manifest.specs.declared.opening.Opened.{Opened}
 use Rattle.lsm_manifest.specs.declared.found.Found.{Found as FoundFiles}
 use Rattle.lsm_state.specs.declared.found.Found.{Found}
@@ -68,3 +69,5 @@ pub record OpensTree {S : Type 0} (world : S → World) (store : S) (r : Result 
   -- of any store: what is opened, or the first thing that is wrong with the files; and what a crash in it may leave
   pub opens : Told TellsOpen (Opens (world store) (world (store_left r))) (files_told r)
   pub leaves : LeavesStanding (world store) (world (store_left r))
+  -- names that are none of the tree's are as they were
+  pub passes : IfOk r (λ t. Passes (world store) (world t.store))

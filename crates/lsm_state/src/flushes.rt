@@ -1,5 +1,5 @@
 // A flush in one call.
-ghost use Rattle.std.specs.Prelude.{◌≡◌, [], true, IfOk, IfSome, IsSome};
+ghost use Rattle.std.specs.Prelude.{◌≡◌, [], true, false, IfOk, IfSome, IsSome};
 ghost use Rattle.lsm_files.specs.Foreign.{AtRest};
 ghost use Rattle.lsm_files.specs.Causes.{HasCause, Blames};
 ghost use Rattle.lsm_state.specs.Cleaning.{LeavesNoFiles};
@@ -65,6 +65,7 @@ impl<S: Store> TreeState<S> {
     ) -> Result<Option<(u64, Registered)>, Error>
         ensures flushes { Flushes watermark result self.old.core self.new.core }
         ensures marks { MarksFlush marked.new result }
+        ensures unmarked { marked.new ≡ false → self.new.core.seqno ≡ self.old.core.seqno }
         ensures upholds { S.tells → Upholds (S.world self.old.store) (S.world self.new.store) self.old.core self.new.core }
         ensures causes { HasCause (BlamesOrUncleanFlush result) (S.world self.old.store) (S.world self.new.store) }
         ensures gone { S.tells → IfOk result (λ a. IfSome a (λ p. p.1.cleaned ≡ true → LeavesNoFiles (S.world self.new.store) [] self.old.core.history self.new.core.history)) }
@@ -90,6 +91,8 @@ impl<S: Store> TreeState<S> {
     ) -> (Result<Option<(u64, Registered)>, Error>, bool)
         ensures flushes { Flushes watermark result.0 self.old.core self.new.core }
         ensures marks { MarksFlush result.1 result.0 }
+        // Without a mark no sequence number is used.
+        ensures unmarked { result.1 ≡ false → self.new.core.seqno ≡ self.old.core.seqno }
         // What a crash leaves.
         ensures upholds { S.tells → Upholds (S.world self.old.store) (S.world self.new.store) self.old.core self.new.core }
         ensures causes { HasCause (BlamesOrUncleanFlush (result.0)) (S.world self.old.store) (S.world self.new.store) }

@@ -3,7 +3,7 @@ use Rattle.std.proofs.lemmas.Result.{err_from_is_err_and}
 use Rattle.lsm_model.specs.Views.{IsLaidOut}
 use Rattle.lsm_versions.specs.Levels.{SeenVersion, IsVersion, placed_of}
 use Rattle.lsm_state.specs.Opened.{store_left, files_told}
-use Rattle.lsm_state.proofs.Standing.{found_of, starts_of, refused_of}
+use Rattle.lsm_state.proofs.Standing.{found_of, starts_of, refused_of, passes_opened}
 use Rattle.lsm_state.proofs.StandingImages.{stands_then}
 use Rattle.lsm_state.proofs.tree.TreeState.open_so.Goals as goal
 
@@ -24,6 +24,7 @@ returns-clause-opens g c tells =
       stored = λ settled. c.open.ensures.stored tells c.args.store first settled;
       opens = all;
       leaves = left;
+      passes = passes_opened w c.args.store r c.openings_pass.ensures all left;
     }
 
 pub returns-in_err-found-clause-opens : goal.returns-in_err-found-clause-opens
@@ -39,4 +40,5 @@ returns-in_err-found-clause-opens g c tells =
       stored = λ settled. tt;
       opens = told;
       leaves = left;
+      passes = tt;
     })
