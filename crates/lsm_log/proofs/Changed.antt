@@ -4,23 +4,14 @@ use Rattle.std.specs.Prelude.{Contains}
 use Rattle.std.specs.List.{All}
 use Rattle.std.proofs.lemmas.List.{take_more, take-append-drop}
 use Rattle.std.proofs.lemmas.List.Elements.{All-contains, Contains-push_cases, Contains-append_cases}
-use Rattle.lsm_store.specs.World.{Image, World, Row, Only, OldOr, IsImage, At, Becomes, Changes, LeavesOnly}
+use Rattle.lsm_store.specs.World.{Image, World, Row, Only, OldOr, IsImage, At, Changes, LeavesOnly}
 use Rattle.lsm_store.specs.Synced.{Leaves}
-use Rattle.lsm_store.specs.Moments.{started, called, joined, weakened, same_or_not, keeps_becomes}
+use Rattle.lsm_store.specs.Moments.{started, called, joined, weakened, same_or_not}
 use Rattle.lsm_store.specs.declared.store.StoreError.{StoreError}
 use Rattle.lsm_log.specs.LogNames.{record_name}
 use Rattle.lsm_log.specs.Changes.{IsPut, IsOneOf, IsBelow, ClearsRecords, AreCleared}
 
--- ---- one name
-
-pub becomes_leaves : (name : List ℕ) (during after : Row) (old new : World) → Becomes name during after old new → Leaves name after old new
-becomes_leaves name during after old new call =
-    let keeps = keeps_becomes name during after old new call in
-    record {
-      here = λ c. (λ may. ((call.may name c).0 may).here refl, λ is. (call.may name c).1 (record { here = λ _. is; elsewhere = λ no. absurd (no refl) }));
-      elsewhere = keeps.may;
-      gives = keeps.gives;
-    }
+-- ---- one record
 
 pub put_leaves : {T : Type 0} (number : ℕ) (bytes : List ℕ) (old new : World) (r : Result T StoreError) → ((image : Image) → old.since old.moment image → IsImage old.may image)
     → Changes (record_name number) (OldOr (old.may (record_name number)) (Some bytes)) (Only (Some bytes)) (Some bytes) old new r → LeavesOnly old new (IsPut number bytes old)
@@ -45,28 +36,21 @@ remove_leaves {T} number old new r only call =
 
 -- ---- records one after the other
 
-module _ (P : ℕ → Type 0) where
-  pub clears_none : (w : World) → ClearsRecords P w w
-  clears_none w = record { may = λ n c may. inl may; kept = λ n c out may. may; gives = λ n out. refl }
+module _ (P : ℕ → Type 0) (old mid new : World) (number : ℕ) (has : P number) where
+  pub clears_more : ClearsRecords P old mid → Leaves (record_name number) (OldOr (mid.may (record_name number)) None) mid new → ClearsRecords P old new
+  clears_more so_far step = record {
+    may = λ n c may. ⊎_elim (λ same. at_name n c same (subst (λ (m : List ℕ). new.may m c) same may)) (λ other. so_far.may n c ((step.elsewhere n c other).0 may)) (same_or_not n (record_name number));
+    kept = λ n c out may. (step.elsewhere n c (out number has)).1 (so_far.kept n c out may);
+    gives = λ n out. step.gives n (out number has) ∙ so_far.gives n out;
+  }
+    where
+      at_name : (n : List ℕ) (c : Option (List ℕ)) → n ≡ record_name number → new.may (record_name number) c → old.may n c ⊎ ((c ≡ None) × IsOneOf P n)
+      at_name n c same may = ⊎_elim (λ was. so_far.may n c (subst (λ (m : List ℕ). mid.may m c) (sym same) was)) (λ none. inr (none, (number, has, same))) ((step.here c).0 may)
 
-  pub cleared_none : (w : World) → ((image : Image) → w.since w.moment image → IsImage w.may image) → LeavesOnly w w (AreCleared P w)
-  cleared_none w only = started w (AreCleared P w) (λ image left n. inl (only image left n))
-
-  module _ (old mid new : World) (number : ℕ) (has : P number) where
-    pub clears_more : ClearsRecords P old mid → Leaves (record_name number) (OldOr (mid.may (record_name number)) None) mid new → ClearsRecords P old new
-    clears_more so_far step = record {
-      may = λ n c may. ⊎_elim (λ same. at_name n c same (subst (λ (m : List ℕ). new.may m c) same may)) (λ other. so_far.may n c ((step.elsewhere n c other).0 may)) (same_or_not n (record_name number));
-      kept = λ n c out may. (step.elsewhere n c (out number has)).1 (so_far.kept n c out may);
-      gives = λ n out. step.gives n (out number has) ∙ so_far.gives n out;
-    }
-      where
-        at_name : (n : List ℕ) (c : Option (List ℕ)) → n ≡ record_name number → new.may (record_name number) c → old.may n c ⊎ ((c ≡ None) × IsOneOf P n)
-        at_name n c same may = ⊎_elim (λ was. so_far.may n c (subst (λ (m : List ℕ). mid.may m c) (sym same) was)) (λ none. inr (none, (number, has, same))) ((step.here c).0 may)
-
-    pub cleared_more : ClearsRecords P old mid → LeavesOnly old mid (AreCleared P old) → LeavesOnly mid new (AreCleared (λ (k : ℕ). k ≡ number) mid) → LeavesOnly old new (AreCleared P old)
-    cleared_more clears so_far step =
-        joined old mid new (AreCleared P old) (AreCleared (λ (k : ℕ). k ≡ number) mid) (AreCleared P old) so_far step (λ image is. is)
-        (λ image is n. ⊎_elim (λ was. clears.may n (image n) was) (λ none. inr (none.0, (none.1.0, subst P (sym none.1.1) has, none.1.2))) (is n))
+  pub cleared_more : ClearsRecords P old mid → LeavesOnly old mid (AreCleared P old) → LeavesOnly mid new (AreCleared (λ (k : ℕ). k ≡ number) mid) → LeavesOnly old new (AreCleared P old)
+  cleared_more clears so_far step =
+      joined old mid new (AreCleared P old) (AreCleared (λ (k : ℕ). k ≡ number) mid) (AreCleared P old) so_far step (λ image is. is)
+      (λ image is n. ⊎_elim (λ was. clears.may n (image n) was) (λ none. inr (none.0, (none.1.0, subst P (sym none.1.1) has, none.1.2))) (is n))
 
 -- a record that is absent stays so where another one is removed
 pub absent_after : (number : ℕ) (mid new : World) (row : Row) → Leaves (record_name number) row mid new → new.gives (record_name number) ≡ None → (n : List ℕ) → mid.gives n ≡ None → new.gives n ≡ None
