@@ -449,7 +449,7 @@ impl<P: Place> Bench<'_, P> {
         timed(rt, start, tally)
     }
 
-    /// Clears an empty tree as many times as there are keys.
+    /// Clears an empty tree.
     fn clear<R>(&self, rt: &R, trees: &mut Trees<P::Store>) -> Result<Figures>
     where
         R: AllocGlobal + Clone + Clock + Files,

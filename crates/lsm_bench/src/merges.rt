@@ -16,6 +16,9 @@ const QUARTERS: usize = 4;
 
 const PARTS: usize = 16;
 
+/// How often a tree is cleared at most. A clear takes as long as memtables are held, to which each clear adds one.
+const MOST_CLEARS: usize = 100;
+
 /// Every write so far is seen from here on.
 fn watermark<S: Store>(tree: &TreeState<S>) -> SeqNo {
     tree.visible_seqno().get()
@@ -31,8 +34,10 @@ pub fn merge_all<S: Store>(tree: &mut TreeState<S>, keys: usize) -> Result<Tally
     })
 }
 
-/// Clears a tree so many times, each of which commits a version without tables. The check is the id of the last version.
-pub fn clear_all<S: Store>(tree: &mut TreeState<S>, times: usize) -> Result<Tally, Error> {
+/// Clears a tree as many times as there are keys, 100 times at most, each of which commits a version without tables. The
+/// check is the id of the last version.
+pub fn clear_all<S: Store>(tree: &mut TreeState<S>, keys: usize) -> Result<Tally, Error> {
+    let times = keys.min(MOST_CLEARS);
     for _ in 0..times {
         tree.clear()?;
     }

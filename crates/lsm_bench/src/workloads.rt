@@ -20,7 +20,7 @@ pub enum Job {
     Major,
     /// Puts all keys in random order into an empty tree with one owner, with flushes and compactions in between.
     Ingest(Ingest),
-    /// Clears an empty tree with one owner as many times as there are keys.
+    /// Clears an empty tree with one owner, 100 times at most.
     Clear,
 }
 

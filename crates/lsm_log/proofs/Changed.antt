@@ -6,22 +6,13 @@ use Rattle.std.proofs.lemmas.List.{take_more, take-append-drop}
 use Rattle.std.proofs.lemmas.List.Elements.{All-contains, Contains-push_cases, Contains-append_cases}
 use Rattle.lsm_store.specs.World.{Image, World, Row, Only, OldOr, IsImage, At, Same, Becomes, Changes, LeavesOnly}
 use Rattle.lsm_store.specs.Synced.{Leaves}
-use Rattle.lsm_store.specs.Moments.{started, called, joined, weakened, same_or_not, keeps_becomes}
+use Rattle.lsm_store.specs.Moments.{started, called, joined, weakened, same_or_not}
 use Rattle.lsm_store.specs.declared.store.StoreError.{StoreError}
 use Rattle.lsm_store.specs.declared.store.StoreError.TheVariants as store
 use Rattle.lsm_log.specs.LogNames.{record_name}
 use Rattle.lsm_log.specs.Changes.{IsPut, IsOneOf, IsNoneOf, IsBelow, ClearsRecords, AreCleared}
 
--- ---- one name
-
-pub becomes_leaves : (name : List ℕ) (during after : Row) (old new : World) → Becomes name during after old new → Leaves name after old new
-becomes_leaves name during after old new call =
-    let keeps = keeps_becomes name during after old new call in
-    record {
-      here = λ c. (λ may. ((call.may name c).0 may).here refl, λ is. (call.may name c).1 (record { here = λ _. is; elsewhere = λ no. absurd (no refl) }));
-      elsewhere = keeps.may;
-      gives = keeps.gives;
-    }
+-- ---- one record
 
 pub put_leaves : {T : Type 0} (number : ℕ) (bytes : List ℕ) (old new : World) (r : Result T StoreError) → ((image : Image) → old.since old.moment image → IsImage old.may image)
     → Changes (record_name number) (OldOr (old.may (record_name number)) (Some bytes)) (Only (Some bytes)) (Some bytes) old new r → LeavesOnly old new (IsPut number bytes old)
@@ -63,9 +54,6 @@ record_clears number old new (Err store.OutOfMemory) call = record_same number o
 -- ---- records one after the other
 
 module _ (P : ℕ → Type 0) where
-  pub clears_none : (w : World) → ClearsRecords P w w
-  clears_none w = record { may = λ n c may. inl may; kept = λ n c out may. may; gives = λ n out. refl }
-
   pub cleared_none : (w : World) → ((image : Image) → w.since w.moment image → IsImage w.may image) → LeavesOnly w w (AreCleared P w)
   cleared_none w only = started w (AreCleared P w) (λ image left n. inl (only image left n))
 

@@ -7,14 +7,11 @@ use Rattle.std.proofs.lemmas.Bool.{ltb-true, lt-ltb}
 use Rattle.std.proofs.lemmas.List.{take-append-drop}
 use Rattle.std.proofs.lemmas.Str.Parse.{digit_from_value}
 use Rattle.std.proofs.lemmas.Slice.Eq.{bytes_eq-Decides}
-use Rattle.std.proofs.lemmas.Fmt.{decimal_is_IsNumeral, decimal_injective}
+use Rattle.std.proofs.lemmas.Fmt.{decimal_is_IsNumeral}
 use Rattle.lsm_below.specs.Numbers.{PlainNumbersAreRead, plain_number, plain_number-is}
 use Rattle.lsm_log.specs.declared.kinds.LogName.{LogName}
 use Rattle.lsm_log.specs.declared.kinds.LogName.TheVariants.{RecordFile, Skipped, Refused, Other}
 use Rattle.lsm_log.specs.LogNames.{record_name, numbered, kind_in_log, kind_of, kind_is_refused, kind_number}
-
-pub names_apart : (i j : ℕ) → i < 2 ^ 64 → j < 2 ^ 64 → record_name i ≡ record_name j → i ≡ j
-names_apart i j a b e = decimal_injective i j a b (ap (drop 4) e)
 
 -- ---- the name of a record is that of its file
 

@@ -17,7 +17,7 @@ use Rattle.lsm_model.specs.declared.op.Op.TheVariants.{Set, Del, Weak}
 use Rattle.lsm_log.specs.declared.record.Record.{Record}
 use Rattle.lsm_log.specs.declared.record_error.RecordError.{RecordError}
 use Rattle.lsm_log.specs.declared.record_error.RecordError.TheVariants.{OutOfMemory, BadRecord}
-use Rattle.lsm_log.specs.Records.{Batch, code_of, head, spelled, front, spelling, OpFits, IsBatch, IsRecordOf, IsNoRecord}
+use Rattle.lsm_log.specs.Records.{Ops, code_of, head, spelled, front, spelling, OpFits, IsBatch, IsRecordOf, IsNoRecord}
 use Rattle.lsm_log.specs.RecordReading.{Gives, Fails, op_of, body_at, spelled_at, ends_well, contents, record_at}
 
 -- ---- operations and their entries
@@ -27,7 +27,7 @@ entry_fits n lt k (Set v) a b = record { key = a; seqno = lt; value = b; empty =
 entry_fits n lt k Del a b = record { key = a; seqno = lt; value = b; empty = refl }
 entry_fits n lt k Weak a b = record { key = a; seqno = lt; value = b; empty = refl }
 
-pub entries_fit : (n : ℕ) → n < 2 ^ 64 → (ops : Batch) → AllByRecursion OpFits ops → AllByRecursion Fits (op_entries n ops)
+pub entries_fit : (n : ℕ) → n < 2 ^ 64 → (ops : Ops) → AllByRecursion OpFits ops → AllByRecursion Fits (op_entries n ops)
 entries_fit n lt [] each = tt
 entries_fit n lt (p ∷ ops) each = (entry_fits n lt p.0 p.1 each.0.key each.0.value, entries_fit n lt ops each.1)
 
@@ -36,12 +36,12 @@ fit_back n k (Set v) f = record { key = f.key; value = f.value }
 fit_back n k Del f = record { key = f.key; value = f.value }
 fit_back n k Weak f = record { key = f.key; value = f.value }
 
-pub ops_fit : (n : ℕ) (ops : Batch) → AllByRecursion Fits (op_entries n ops) → AllByRecursion OpFits ops
+pub ops_fit : (n : ℕ) (ops : Ops) → AllByRecursion Fits (op_entries n ops) → AllByRecursion OpFits ops
 ops_fit n [] each = tt
 ops_fit n (p ∷ ops) each = (fit_back n p.0 p.1 each.0, ops_fit n ops each.1)
 
 -- an operation of a batch
-pub fits_at : (n : ℕ) (ops : Batch) (i : ℕ) (x : Bytes × Op) → AllByRecursion Fits (op_entries n ops) → i < length ops → x ≡ slice_index_or ops i x → OpFits x
+pub fits_at : (n : ℕ) (ops : Ops) (i : ℕ) (x : Bytes × Op) → AllByRecursion Fits (op_entries n ops) → i < length ops → x ≡ slice_index_or ops i x → OpFits x
 fits_at n ops i x each lt is = subst OpFits (sym is) (each_at OpFits ops i x (ops_fit n ops each) lt)
 
 -- ---- the type of an operation
@@ -169,7 +169,7 @@ op_spells = record { takes = spelled_takes; again = spelled_again }
 
 -- ---- the record
 
-abbrev behind_front : ℕ → Result (Batch × List ℕ) RecordError → Result (ℕ × Batch) RecordError
+abbrev behind_front : ℕ → Result (Ops × List ℕ) RecordError → Result (ℕ × Ops) RecordError
 behind_front number r = r >>= λ ops. cond (ends_well ops.0 ops.1) (Ok (number, ops.0)) (Err BadRecord)
 
 record FrontAgain (n c : ℕ) (rest : List ℕ) : Type 0 where
@@ -203,7 +203,7 @@ none_repeats : (b : Bool) → not b ≡ true → b ≡ false
 none_repeats true h = absurd (cc h)
 none_repeats false h = refl
 
-pub record_takes : (bytes : List ℕ) (x : ℕ × Batch) → AreBytes bytes → record_at bytes ≡ Ok x → IsRecordOf x.0 x.1 bytes
+pub record_takes : (bytes : List ℕ) (x : ℕ × Ops) → AreBytes bytes → record_at bytes ≡ Ok x → IsRecordOf x.0 x.1 bytes
 unfolding record_at
 record_takes bytes x fits e =
     let n : ℕ = little_number 8 (drop 4 bytes) in
@@ -221,21 +221,21 @@ record_takes bytes x fits e =
     let whole : bytes ≡ spelling n a.0.0 = first ∙ ap (λ (r : List ℕ). front n c ++ r) rest ∙ ap (λ (k : ℕ). front n k ++ flat_map spelled a.0.0) (sym second.1) in
     let below : c < 2 ^ 32 = little_from-lt 0 4 (drop 12 bytes) (AreBytes-drop 12 bytes fits) in
     let small : n < 2 ^ 64 = little_from-lt 0 8 (drop 4 bytes) (AreBytes-drop 4 bytes fits) in
-    subst (λ (y : ℕ × Batch). IsRecordOf y.0 y.1 bytes) (ok_is (n, a.0.0) x w.1)
+    subst (λ (y : ℕ × Ops). IsRecordOf y.0 y.1 bytes) (ok_is (n, a.0.0) x w.1)
     (record { written = whole; batch = record { number_fits = small; count = omega (arith, second.1); each = entries_fit n small a.0.0 second.2; once = none_repeats (repeats (keys_of a.0.0)) both.1 } })
 
-pub record_again : (n : ℕ) (ops : Batch) → IsBatch n ops → record_at (spelling n ops) ≡ Ok (n, ops)
+pub record_again : (n : ℕ) (ops : Ops) → IsBatch n ops → record_at (spelling n ops) ≡ Ok (n, ops)
 unfolding record_at
 record_again n ops b =
     let f = front_again n (length ops) (flat_map spelled ops) b.number_fits b.count in
     let read : many spelled_at (length ops) (flat_map spelled ops) ≡ Ok (ops, []) = ap (many spelled_at (length ops)) (sym (append-nil (flat_map spelled ops))) ∙ many_again spelled_at spelled OpFits op_spells ops [] (ops_fit n ops b.each) in
     rw (f.long, f.magic, f.number, f.count, f.cut, read, b.once) refl
 
-abbrev found_in : Result (Batch × List ℕ) RecordError → Batch × List ℕ
+abbrev found_in : Result (Ops × List ℕ) RecordError → Ops × List ℕ
 found_in (Ok x) = x
 found_in (Err e) = ([], [])
 
-record_first : (m n : ℕ) (ops others : Batch) (x y : List ℕ) → IsBatch m ops → IsBatch n others → spelling m ops ++ x ≡ spelling n others ++ y → (m ≡ n) × (ops ≡ others) × (x ≡ y)
+record_first : (m n : ℕ) (ops others : Ops) (x y : List ℕ) → IsBatch m ops → IsBatch n others → spelling m ops ++ x ≡ spelling n others ++ y → (m ≡ n) × (ops ≡ others) × (x ≡ y)
 record_first m n ops others x y t u e =
     let a : spelling m ops ++ x ≡ front m (length ops) ++ (flat_map spelled ops ++ x) = append_assoc (front m (length ops)) (flat_map spelled ops) x in
     let b : spelling n others ++ y ≡ front n (length others) ++ (flat_map spelled others ++ y) = append_assoc (front n (length others)) (flat_map spelled others) y in
@@ -248,9 +248,9 @@ record_first m n ops others x y t u e =
     let left = many_again spelled_at spelled OpFits op_spells ops x (ops_fit m ops t.each) in
     let right = many_again spelled_at spelled OpFits op_spells others y (ops_fit n others u.each) in
     let all = ap found_in (sym left ∙ ap (λ (k : ℕ). many spelled_at k (flat_map spelled ops ++ x)) counts ∙ ap (many spelled_at (length others)) rests ∙ right) in
-    (numbers, ap (λ (p : Batch × List ℕ). p.0) all, ap (λ (p : Batch × List ℕ). p.1) all)
+    (numbers, ap (λ (p : Ops × List ℕ). p.0) all, ap (λ (p : Ops × List ℕ). p.1) all)
 
-pub records_first : (m n : ℕ) (ops others : Batch) (a b x y : List ℕ) → IsRecordOf m ops a → IsRecordOf n others b → a ++ x ≡ b ++ y → (m ≡ n) × (ops ≡ others) × (x ≡ y)
+pub records_first : (m n : ℕ) (ops others : Ops) (a b x y : List ℕ) → IsRecordOf m ops a → IsRecordOf n others b → a ++ x ≡ b ++ y → (m ≡ n) × (ops ≡ others) × (x ≡ y)
 records_first m n ops others a b x y i j e =
     record_first m n ops others x y i.batch j.batch (ap (λ (s : List ℕ). s ++ x) (sym i.written) ∙ e ∙ ap (λ (s : List ℕ). s ++ y) j.written)
 
@@ -269,7 +269,7 @@ is_bad bytes (Err BadRecord) given = λ h number ops i.
     cc no
 
 -- a loop over operations ends with the fault of the one that it met
-pub op_fails : (e : RecordError) (ops : Batch) (count i : ℕ) (bytes : List ℕ) (total : Result (Batch × List ℕ) RecordError) → i < count → Fails e (spelled_at bytes)
+pub op_fails : (e : RecordError) (ops : Ops) (count i : ℕ) (bytes : List ℕ) (total : Result (Ops × List ℕ) RecordError) → i < count → Fails e (spelled_at bytes)
     → with_front ops (many spelled_at (count - i) bytes) ≡ total → Fails e total
 op_fails OutOfMemory ops count i bytes total lt h so_far = tt
 op_fails BadRecord ops count i bytes total lt h so_far = ends spelled_at BadRecord ops count i bytes total lt h so_far

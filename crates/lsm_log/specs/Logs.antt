@@ -6,7 +6,7 @@ use Rattle.lsm_store.specs.World.{Image}
 use Rattle.lsm_log.specs.declared.kinds.LogName.TheVariants.{Refused}
 use Rattle.lsm_log.specs.declared.record.Record.{Record}
 use Rattle.lsm_log.specs.LogNames.{record_name, kind_of}
-use Rattle.lsm_log.specs.Records.{Batch, IsRecordOf}
+use Rattle.lsm_log.specs.Records.{Ops, IsRecordOf}
 
 -- no name is there that a log refuses
 abbrev pub HasGoodNames : Image → Type 0
@@ -38,7 +38,7 @@ pub record IsRecordAt (image : Image) (number : ℕ) (r : Record) : Type 0 where
 
 -- the record's file is not there, or no record of its own number
 abbrev pub IsNoRecordAt : Image → ℕ → Type 0
-IsNoRecordAt image number = (bytes : List ℕ) (ops : Batch) → image (record_name number) ≡ Some bytes → IsRecordOf number ops bytes → ⊥
+IsNoRecordAt image number = (bytes : List ℕ) (ops : Ops) → image (record_name number) ≡ Some bytes → IsRecordOf number ops bytes → ⊥
 
 -- ---- a log from a number on
 

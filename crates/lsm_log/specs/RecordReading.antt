@@ -6,7 +6,7 @@ use Rattle.lsm_tables.specs.Reading.{◌>>=◌, many}
 use Rattle.lsm_model.specs.Ops.{keys_of, repeats}
 use Rattle.lsm_model.specs.declared.op.Op.{Op}
 use Rattle.lsm_model.specs.declared.op.Op.TheVariants.{Set, Del, Weak}
-use Rattle.lsm_log.specs.Records.{Batch}
+use Rattle.lsm_log.specs.Records.{Ops}
 use Rattle.lsm_log.specs.declared.record_error.RecordError.{RecordError}
 use Rattle.lsm_log.specs.declared.record_error.RecordError.TheVariants.{OutOfMemory, BadRecord}
 
@@ -34,14 +34,14 @@ body_at key_len code value_len bytes =
 unfoldable pub spelled_at : Bytes → Result ((Bytes × Op) × Bytes) RecordError
 spelled_at bytes = if nat_lt (length bytes) 7 then Err BadRecord else body_at (little_number 2 bytes) (slice_index bytes 2) (little_number 4 (drop 3 bytes)) (drop 7 bytes)
 
-abbrev pub ends_well : Batch → Bytes → Bool
+abbrev pub ends_well : Ops → Bytes → Bool
 ends_well ops rest = length rest == 0 && not (repeats (keys_of ops))
 
 -- sequence number and operations
-abbrev pub contents : ℕ → Batch → ℕ × Batch
+abbrev pub contents : ℕ → Ops → ℕ × Ops
 contents number ops = (number, ops)
 
-unfoldable pub record_at : Bytes → Result (ℕ × Batch) RecordError
+unfoldable pub record_at : Bytes → Result (ℕ × Ops) RecordError
 record_at bytes =
     if nat_lt (length bytes) 16 then Err BadRecord else
     if little_number 4 bytes == 1280136012 then

@@ -9,8 +9,8 @@ use Rattle.lsm_model.specs.declared.op.Op.{Op}
 use Rattle.lsm_model.specs.declared.op.Op.TheVariants.{Set, Del, Weak}
 
 -- the writes of a batch, each of them a key and what it does to the key
-abbrev pub Batch : Type 0
-Batch = List (Bytes × Op)
+abbrev pub Ops : Type 0
+Ops = List (Bytes × Op)
 
 -- the byte of an operation's type, as in a table's file
 abbrev pub code_of : Op → ℕ
@@ -31,7 +31,7 @@ unfoldable pub front : ℕ → ℕ → Bytes
 front number count = 76 ∷ 83 ∷ 77 ∷ 76 ∷ [] ++ little_bytes 8 number ++ little_bytes 4 count
 
 -- the content: nothing comes after the last operation
-abbrev pub spelling : ℕ → Batch → Bytes
+abbrev pub spelling : ℕ → Ops → Bytes
 spelling number ops = front number (length ops) ++ flat_map spelled ops
 
 -- an operation within the widths
@@ -40,17 +40,17 @@ pub record OpFits (p : Bytes × Op) : Type 0 where
   pub value : length (op_value p.1) < 2 ^ 32
 
 -- what a record can spell: its entries fit files, and no key comes twice
-pub record IsBatch (number : ℕ) (ops : Batch) : Type 0 where
+pub record IsBatch (number : ℕ) (ops : Ops) : Type 0 where
   pub number_fits : number < 2 ^ 64
   pub count : length ops < 2 ^ 32
   pub each : AllByRecursion Fits (op_entries number ops)
   pub once : repeats (keys_of ops) ≡ false
 
 -- the bytes are the record of this batch under this sequence number
-pub record IsRecordOf (number : ℕ) (ops : Batch) (bytes : Bytes) : Type 0 where
+pub record IsRecordOf (number : ℕ) (ops : Ops) (bytes : Bytes) : Type 0 where
   pub batch : IsBatch number ops
   pub written : bytes ≡ spelling number ops
 
 -- the bytes are no record
 abbrev pub IsNoRecord : Bytes → Type 0
-IsNoRecord bytes = (number : ℕ) (ops : Batch) → IsRecordOf number ops bytes → ⊥
+IsNoRecord bytes = (number : ℕ) (ops : Ops) → IsRecordOf number ops bytes → ⊥

@@ -4,7 +4,7 @@ ghost use Rattle.std.specs.List.{All, AllByRecursion};
 ghost use Rattle.std.specs.List.Sorted.{IsStrictlyIncreasing};
 ghost use Rattle.lsm_store.specs.World.{Same};
 ghost use Rattle.lsm_log.specs.LogNames.{record_name};
-ghost use Rattle.lsm_log.specs.Records.{Batch, IsRecordOf};
+ghost use Rattle.lsm_log.specs.Records.{Ops, IsRecordOf};
 ghost use Rattle.lsm_files.specs.Stored.{CountsFaults};
 ghost use Rattle.lsm_log.specs.Logs.{IsRecordAt, IsNoRecordAt, LacksOne, IsLogFrom, IsBadLog};
 
@@ -34,7 +34,7 @@ fn content_of<S: Store>(alloc: Global, store: &mut S, number: SeqNo) -> Result<V
 /// The record of these bytes, which must have this number.
 fn record_of(alloc: Global, number: SeqNo, content: Vec<u8>) -> Result<Record, Error>
     ensures read { IfOk result (λ r. IsRecordOf number r.ops content.items × (r.number ≡ number)) }
-    ensures bad { IsErrOf result Error.Unrecoverable → (ops : Batch) → IsRecordOf number ops content.items → ⊥ }
+    ensures bad { IsErrOf result Error.Unrecoverable → (ops : Ops) → IsRecordOf number ops content.items → ⊥ }
     ensures only { IfErr result (λ e. (e ≡ Error.OutOfMemory) ⊎ (e ≡ Error.Unrecoverable)) }
 {
     no_record_begins_another();

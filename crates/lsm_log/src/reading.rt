@@ -1,7 +1,7 @@
 // Reading a record.
 ghost use Rattle.std.specs.Prelude.{◌≡◌, ℕ, List, ◌++◌, IfOk, IfErr};
 ghost use Rattle.lsm_tables.specs.Reading.{many};
-ghost use Rattle.lsm_log.specs.Records.{Batch, IsRecordOf, IsNoRecord};
+ghost use Rattle.lsm_log.specs.Records.{Ops, IsRecordOf, IsNoRecord};
 ghost use Rattle.lsm_log.specs.RecordReading.{Gives, op_of, spelled_at, contents, record_at};
 ghost use Rattle.lsm_log.specs.declared.record_error.RecordError.TheVariants.{BadRecord};
 
@@ -114,6 +114,6 @@ pub fn decode(alloc: Global, bytes: Bytes) -> Result<Record, RecordError>
 
 /// No record begins another one, so a batch has one record alone.
 pub fn no_record_begins_another()
-    ensures { (m n : ℕ) (ops others : Batch) (a b x y : List ℕ) → IsRecordOf m ops a → IsRecordOf n others b
+    ensures { (m n : ℕ) (ops others : Ops) (a b x y : List ℕ) → IsRecordOf m ops a → IsRecordOf n others b
         → a ++ x ≡ b ++ y → (m ≡ n) × (ops ≡ others) × (x ≡ y) }
 {}

@@ -335,18 +335,9 @@ module _ (theory : Soundness) (maps : MapsAreRead) (whole : PartsAreWhole) (plac
       )
   would_front old other would notes lost q m = absurd (cc q)
 
-  from_rises : (old : State) (from n : ℕ) (action : Action) (new : State) → is_write action ≡ false → (is_commit action ≡ true → from ≤ new.latest.number) → Step opened old action new → from ≤ next_from old from action
-  from_rises old from n (Flushed w job made) new s h m = omega arith
-  from_rises old from n (Cleared c a) new s h m = let l = h refl in let is : new.latest.number ≡ c = ap (λ (t : State). t.latest.number) m.1 in omega arith
-  from_rises old from n other new s h m = omega arith
-
   commit_is_silent : (action : Action) → is_commit action ≡ true → is_write action ≡ false
   commit_is_silent (Wrote e) q = absurd (cc q)
   commit_is_silent other q = refl
-
-  lost_covered : (old : State) (action : Action) (notes : List Note) → covered (noted_lost old action ++ notes) ≡ covered notes
-  lost_covered old (Cleared n a) notes = refl
-  lost_covered old other notes = refl
 
   lost_commit_kept : (old : Logged) (action : Action) (would : State) (new : Logged) → IsCommitLost opened old action would new → InOrder opened new.tree.state.journal → IsKept opened start old → IsKept opened start new
   lost_commit_kept old action would new d o k =

@@ -185,13 +185,13 @@ const UNKNOWN: [Row; 4] = [
     Shows("a", 3, "x"),
 ];
 
-/// An opening lists, reads `current`, `v1` and a table, and removes `v0`; a clear writes `v2`, syncs it, and replaces `current`.
+/// A clear writes `v2`, syncs it, and replaces `current`.
 const FAILING: [Script; 6] = [
     (
         "the version isn't written",
         &[
             Plays(&KEPT),
-            Reopen(Failing(6, Fault::Once), 2),
+            Reopen(Failing(1, Fault::Once), 2),
             Plays(&REFUSED),
             Reopen(Crashed, 10),
             Plays(&[Shows("a", 10, "x")]),
@@ -201,7 +201,7 @@ const FAILING: [Script; 6] = [
         "the version is written, and the call fails",
         &[
             Plays(&KEPT),
-            Reopen(Failing(6, Fault::OnceDone), 2),
+            Reopen(Failing(1, Fault::OnceDone), 2),
             Plays(&REFUSED),
             Reopen(Crashed, 10),
             Plays(&[Shows("a", 10, "x")]),
@@ -211,7 +211,7 @@ const FAILING: [Script; 6] = [
         "the version isn't synced",
         &[
             Plays(&KEPT),
-            Reopen(Failing(7, Fault::Once), 2),
+            Reopen(Failing(2, Fault::Once), 2),
             Plays(&REFUSED),
             Reopen(Crashed, 10),
             Plays(&[Shows("a", 10, "x")]),
@@ -221,7 +221,7 @@ const FAILING: [Script; 6] = [
         "current isn't replaced",
         &[
             Plays(&KEPT),
-            Reopen(Failing(8, Fault::Once), 2),
+            Reopen(Failing(3, Fault::Once), 2),
             Plays(&UNKNOWN),
             Reopen(Crashed, 10),
             Plays(&[Shows("a", 10, "x")]),
@@ -231,7 +231,7 @@ const FAILING: [Script; 6] = [
         "current is replaced, and the call fails",
         &[
             Plays(&KEPT),
-            Reopen(Failing(8, Fault::OnceDone), 2),
+            Reopen(Failing(3, Fault::OnceDone), 2),
             Plays(&UNKNOWN),
             Reopen(Crashed, 10),
             Plays(&[Shows("a", 10, "")]),
@@ -242,7 +242,7 @@ const FAILING: [Script; 6] = [
         "behind an unknown clear nothing is committed",
         &[
             Plays(&KEPT),
-            Reopen(Failing(8, Fault::OnceDone), 2),
+            Reopen(Failing(3, Fault::OnceDone), 2),
             Plays(&[
                 Does(Clear, Refused(3)),
                 Does(Set("b", "y"), Number(3)),

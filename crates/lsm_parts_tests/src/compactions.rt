@@ -1,13 +1,16 @@
-// Compactions of a tree: which are declined and why, and what is left of old snapshots.
+// Compactions of a tree: which are declined and why, what is left of old snapshots, and a store that fails.
+use crate::flushes::KEPT;
 use crate::rows::Row::{Does, Has, Shows};
 use crate::rows::{Count, Row, TOO_OLD};
 use crate::samples::Edge::In;
-use crate::scripts::Part::{Merge, Plays};
+use crate::scripts::Opening::Failing;
+use crate::scripts::Part::{Merge, Plays, Reopen};
 use crate::scripts::{End, Script, play_all};
 use crate::steps::Step::{Compact, Del, Flush, Set};
-use crate::steps::Told::{Declined, Done, Installed, Job, Nothing, Number};
+use crate::steps::Told::{Declined, Done, Installed, Job, Nothing, Number, Refused};
 use crate::works::{Kind, Work};
 use lsm_choices::Why;
+use lsm_store::Fault;
 
 /// a = x (0), a flush (1), a major compaction (2), a is removed (3), a flush (4).
 const REMOVED: [Row; 5] = [
@@ -286,6 +289,23 @@ const OPEN: [Script; 4] = [
     ),
 ];
 
+// ---- faults
+
+/// A merge writes and syncs its table and `v2`, replaces `current`, and removes the file of its input: `AfterCommit`.
+const FAILING: [Script; 1] = [(
+    "the table that was merged isn't removed",
+    &[
+        Plays(&KEPT),
+        Reopen(Failing(6, Fault::Once), 2),
+        Plays(&[
+            Does(Compact(Work::Major(0)), Refused(17)),
+            Has(Count::Tables, 1),
+            Shows("a", 3, "x"),
+            Has(Count::Compacting, 0),
+        ]),
+    ],
+)];
+
 #[test]
 fn entries_are_kept_as_long_as_needed(rt: HostRuntime) {
     play_all(&rt, rt.alloc(), &EVICTIONS);
@@ -295,4 +315,9 @@ fn entries_are_kept_as_long_as_needed(rt: HostRuntime) {
 #[test]
 fn the_first_reason_is_told(rt: HostRuntime) {
     play_all(&rt, rt.alloc(), &REASONS);
+}
+
+#[test]
+fn a_merge_whose_store_fails_behind_its_commit_stands(rt: HostRuntime) {
+    play_all(&rt, rt.alloc(), &FAILING);
 }

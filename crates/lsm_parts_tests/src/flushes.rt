@@ -1,11 +1,13 @@
-// Flushes of a tree, old snapshots over them, and what a crash leaves.
+// Flushes of a tree, old snapshots over them, what a crash leaves, and what a store that fails.
 use crate::rows::Row::{Does, Has, Reads, Shows};
 use crate::rows::{Count, Row, TOO_OLD};
 use crate::scripts::Opening::{Crashed, Failing};
 use crate::scripts::Part::{Fill, FlushGivenUp, FlushOver, Plays, Reopen};
 use crate::scripts::{Script, play_all};
 use crate::steps::Step::{BeginFlush, Del, Flush, FlushParts, Rotate, Set, Weak};
-use crate::steps::Told::{Installed, Job, Nothing, Number, Refused, RefusedSealed, Sealed};
+use crate::steps::Told::{
+    Installed, Job, Nothing, Number, Refused, RefusedSealed, Sealed, Unclean,
+};
 use lsm_store::Fault;
 
 const SNAPSHOTS: [Script; 3] = [
@@ -123,13 +125,12 @@ const CRASHES: [Script; 3] = [
             Plays(&[Shows("a", 10, "x"), Shows("b", 10, "")]),
         ],
     ),
-    // An opening lists, reads `current`, `v1` and a table, and removes `v0`; a flush writes and syncs a table and `v2`.
     // `CommitUnknown`, and then `Unrecoverable`.
     (
         "nothing is committed behind an unknown outcome",
         &[
             Plays(&KEPT),
-            Reopen(Failing(10, Fault::Once), 2),
+            Reopen(Failing(5, Fault::Once), 2),
             Plays(&[
                 Does(Set("b", "y"), Number(2)),
                 Does(FlushParts(0), Refused(3)),
@@ -145,7 +146,7 @@ const CRASHES: [Script; 3] = [
         "a flush whose version is not written changes nothing",
         &[
             Plays(&KEPT),
-            Reopen(Failing(8, Fault::Once), 2),
+            Reopen(Failing(3, Fault::Once), 2),
             Plays(&[
                 Does(Set("b", "y"), Number(2)),
                 Does(FlushParts(0), Refused(2)),
@@ -159,6 +160,90 @@ const CRASHES: [Script; 3] = [
     ),
 ];
 
+// ---- faults
+
+/// `Store` of a flush of a = x whose table isn't on the disk: the flush's number isn't used.
+const REFUSED: [Row; 3] = [
+    Does(Set("a", "x"), Number(0)),
+    Does(Flush(0), RefusedSealed(2)),
+    Has(Count::Next, 1),
+];
+
+/// `Store` of one whose version isn't: the number is used.
+const UNCOMMITTED: [Row; 3] = [
+    Does(Set("a", "x"), Number(0)),
+    Does(Flush(0), RefusedSealed(2)),
+    Has(Count::Next, 2),
+];
+
+/// What either leaves, and the next flush.
+const LEFT: [Row; 3] = [
+    Shows("a", 1, "x"),
+    Has(Count::Sealed, 1),
+    Does(FlushParts(0), Installed),
+];
+
+/// A flush writes and syncs its table and `v1`, replaces `current`, and removes `v0` where no snapshot needs it.
+const FAILING: [Script; 6] = [
+    (
+        "the table isn't written",
+        &[
+            Reopen(Failing(1, Fault::Once), 0),
+            Plays(&REFUSED),
+            Plays(&LEFT),
+        ],
+    ),
+    (
+        "the table isn't synced",
+        &[
+            Reopen(Failing(2, Fault::Once), 0),
+            Plays(&REFUSED),
+            Plays(&LEFT),
+        ],
+    ),
+    (
+        "the version isn't written",
+        &[
+            Reopen(Failing(3, Fault::Once), 0),
+            Plays(&UNCOMMITTED),
+            Plays(&LEFT),
+        ],
+    ),
+    (
+        "the version isn't synced",
+        &[
+            Reopen(Failing(4, Fault::Once), 0),
+            Plays(&UNCOMMITTED),
+            Plays(&LEFT),
+        ],
+    ),
+    // `CommitUnknown`.
+    (
+        "current isn't replaced",
+        &[
+            Reopen(Failing(5, Fault::Once), 0),
+            Plays(&[
+                Does(Set("a", "x"), Number(0)),
+                Does(Flush(0), RefusedSealed(3)),
+                Has(Count::Next, 2),
+            ]),
+        ],
+    ),
+    (
+        "the old version isn't removed",
+        &[
+            Reopen(Failing(6, Fault::Once), 0),
+            Plays(&[
+                Does(Set("a", "x"), Number(0)),
+                Does(FlushParts(2), Unclean),
+                Has(Count::Next, 2),
+                Has(Count::Free, 1),
+                Shows("a", 1, "x"),
+            ]),
+        ],
+    ),
+];
+
 #[test]
 fn flushes_take_what_was_sealed_before(rt: HostRuntime) {
     play_all(&rt, rt.alloc(), &SNAPSHOTS);
@@ -168,4 +253,9 @@ fn flushes_take_what_was_sealed_before(rt: HostRuntime) {
 #[test]
 fn a_crash_leaves_what_was_committed(rt: HostRuntime) {
     play_all(&rt, rt.alloc(), &CRASHES);
+}
+
+#[test]
+fn a_flush_whose_store_fails_says_how_far_it_came(rt: HostRuntime) {
+    play_all(&rt, rt.alloc(), &FAILING);
 }

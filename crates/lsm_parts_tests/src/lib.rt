@@ -12,8 +12,8 @@
 //! | `iterators` | what iterators give over memtables, from both ends |
 //! | `trees` | writes, reads of one key and rotation of a tree |
 //! | `tree_ranges` | a tree's reads of many keys |
-//! | `flushes` | flushes, old snapshots over them, and what a crash leaves |
-//! | `compactions` | compactions: which are declined and why, open merges |
+//! | `flushes` | flushes, old snapshots over them, what a crash leaves, and what a store that fails |
+//! | `compactions` | compactions: which are declined and why, open merges, a store that fails behind a commit |
 //! | `strategies` | what strategies do to a tree, and dropped ranges |
 //! | `clears` | clears, what comes too late behind one, and what is left of one that fails |
 //! | `crashes` | crashes at each store call, and what is opened behind each |

@@ -10,11 +10,10 @@ use lsm_store::{Fault, MemStore};
 use std::alloc::Global;
 use std::process::Abort;
 
-/// How a store comes to be opened again.
+/// How a store comes to be opened again, as a crash leaves it.
 pub enum Opening {
-    /// As a crash leaves it.
     Crashed,
-    /// As it is, with a call of it that fails.
+    /// A call of it fails, 1 for the first behind the opening.
     Failing(u64, Fault),
 }
 
@@ -48,6 +47,9 @@ pub type Script = (&'static str, &'static [Part]);
 
 // ---- opening
 
+/// More calls than an opening makes.
+const MOST_CALLS: u64 = 48;
+
 pub fn open(alloc: Global, next: SeqNo, store: MemStore) -> Result<TreeState, Error> {
     match TreeState::open(alloc, Config::new(0, next, next), store) {
         Ok(tree) => Ok(tree),
@@ -55,17 +57,44 @@ pub fn open(alloc: Global, next: SeqNo, store: MemStore) -> Result<TreeState, Er
     }
 }
 
-fn opened_as(mut store: MemStore, opening: &Opening) -> Result<MemStore, Error> {
-    match opening {
-        Opening::Crashed => match store.crash(&[])? {
-            Some(left) => Ok(left),
-            None => Err(Error::Unrecoverable),
-        },
-        Opening::Failing(call, fault) => {
-            store.fail(*call, *fault);
-            Ok(store)
+/// What a crash leaves of a store.
+fn crashed(store: &MemStore) -> Result<MemStore, Error> {
+    match store.crash(&[])? {
+        Some(left) => Ok(left),
+        None => Err(Error::Unrecoverable),
+    }
+}
+
+/// Whether a store isn't opened where this call fails.
+fn refuses(alloc: Global, store: &MemStore, call: u64) -> Result<bool, Error> {
+    let mut left = crashed(store)?;
+    left.fail(call, Fault::Once);
+    match open(alloc, 0, left) {
+        Ok(tree) => {
+            drop(tree);
+            Ok(false)
+        }
+        Err(_) => Ok(true),
+    }
+}
+
+/// How many calls an opening of a store makes, each of which refuses it where it fails.
+fn opening_calls(alloc: Global, store: &MemStore) -> Result<u64, Error> {
+    for call in 1..MOST_CALLS {
+        if !refuses(alloc, store, call)? {
+            return Ok(call.saturating_sub(1));
         }
     }
+    Err(Error::Unrecoverable)
+}
+
+fn opened_as(alloc: Global, store: &MemStore, opening: &Opening) -> Result<MemStore, Error> {
+    let mut left = crashed(store)?;
+    if let Opening::Failing(call, fault) = opening {
+        let calls = opening_calls(alloc, store)?;
+        left.fail(calls.saturating_add(*call), *fault);
+    }
+    Ok(left)
 }
 
 // ---- jobs
@@ -184,7 +213,9 @@ fn is_right(alloc: Global, tree: &mut TreeState, part: &Part) -> bool {
 /// The tree behind a part, and whether that is as it says.
 fn behind(alloc: Global, mut tree: TreeState, part: &Part) -> Result<(TreeState, bool), Error> {
     if let Part::Reopen(opening, next) = part {
-        let store = opened_as(tree.into_store(), opening)?;
+        let closed = tree.into_store();
+        let store = opened_as(alloc, &closed, opening)?;
+        drop(closed);
         return Ok((open(alloc, *next, store)?, true));
     }
     let right = is_right(alloc, &mut tree, part);
