@@ -5,7 +5,6 @@ use Rattle.std.specs.List.{All}
 use Rattle.std.proofs.lemmas.List.{take_more, take-append-drop}
 use Rattle.std.proofs.lemmas.List.Elements.{All-contains, Contains-push_cases, Contains-append_cases}
 use Rattle.lsm_store.specs.World.{Image, World, Row, Only, OldOr, IsImage, At, Same, Becomes, Changes, LeavesOnly}
-use Rattle.lsm_store.specs.Synced.{Leaves}
 use Rattle.lsm_store.specs.Moments.{started, called, joined, weakened, same_or_not}
 use Rattle.lsm_store.specs.declared.store.StoreError.{StoreError}
 use Rattle.lsm_store.specs.declared.store.StoreError.TheVariants as store
