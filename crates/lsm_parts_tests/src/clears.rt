@@ -185,30 +185,11 @@ const UNKNOWN: [Row; 4] = [
     Shows("a", 3, "x"),
 ];
 
-/// An opening lists, reads `current`, `v1` and a table, and removes `v0`; a clear writes `v2`, syncs it, and replaces `current`.
-const FAILING: [Script; 6] = [
+/// An opening lists, reads `current`, `v1` and a table, settles, and removes `v0`; a clear writes `v2`, syncs it, and replaces
+/// `current`.
+const FAILING: [Script; 7] = [
     (
         "the version isn't written",
-        &[
-            Plays(&KEPT),
-            Reopen(Failing(6, Fault::Once), 2),
-            Plays(&REFUSED),
-            Reopen(Crashed, 10),
-            Plays(&[Shows("a", 10, "x")]),
-        ],
-    ),
-    (
-        "the version is written, and the call fails",
-        &[
-            Plays(&KEPT),
-            Reopen(Failing(6, Fault::OnceDone), 2),
-            Plays(&REFUSED),
-            Reopen(Crashed, 10),
-            Plays(&[Shows("a", 10, "x")]),
-        ],
-    ),
-    (
-        "the version isn't synced",
         &[
             Plays(&KEPT),
             Reopen(Failing(7, Fault::Once), 2),
@@ -218,20 +199,51 @@ const FAILING: [Script; 6] = [
         ],
     ),
     (
-        "current isn't replaced",
+        "the version is written, and the call fails",
+        &[
+            Plays(&KEPT),
+            Reopen(Failing(7, Fault::OnceDone), 2),
+            Plays(&REFUSED),
+            Reopen(Crashed, 10),
+            Plays(&[Shows("a", 10, "x")]),
+        ],
+    ),
+    (
+        "the version isn't synced",
         &[
             Plays(&KEPT),
             Reopen(Failing(8, Fault::Once), 2),
+            Plays(&REFUSED),
+            Reopen(Crashed, 10),
+            Plays(&[Shows("a", 10, "x")]),
+        ],
+    ),
+    (
+        "current isn't replaced",
+        &[
+            Plays(&KEPT),
+            Reopen(Failing(9, Fault::Once), 2),
             Plays(&UNKNOWN),
             Reopen(Crashed, 10),
             Plays(&[Shows("a", 10, "x")]),
         ],
     ),
     (
+        "current is known not to be replaced",
+        &[
+            Plays(&KEPT),
+            Reopen(Failing(9, Fault::OnceNothing), 2),
+            Plays(&REFUSED),
+            Plays(&[Does(Clear, Number(3))]),
+            Reopen(Crashed, 10),
+            Plays(&[Shows("a", 10, "")]),
+        ],
+    ),
+    (
         "current is replaced, and the call fails",
         &[
             Plays(&KEPT),
-            Reopen(Failing(8, Fault::OnceDone), 2),
+            Reopen(Failing(9, Fault::OnceDone), 2),
             Plays(&UNKNOWN),
             Reopen(Crashed, 10),
             Plays(&[Shows("a", 10, "")]),
@@ -242,7 +254,7 @@ const FAILING: [Script; 6] = [
         "behind an unknown clear nothing is committed",
         &[
             Plays(&KEPT),
-            Reopen(Failing(8, Fault::OnceDone), 2),
+            Reopen(Failing(9, Fault::OnceDone), 2),
             Plays(&[
                 Does(Clear, Refused(3)),
                 Does(Set("b", "y"), Number(3)),

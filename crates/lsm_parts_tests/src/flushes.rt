@@ -113,7 +113,7 @@ pub const KEPT: [Row; 2] = [
     Does(FlushParts(0), Installed),
 ];
 
-const CRASHES: [Script; 3] = [
+const CRASHES: [Script; 4] = [
     (
         "a crash leaves what was flushed",
         &[
@@ -123,13 +123,14 @@ const CRASHES: [Script; 3] = [
             Plays(&[Shows("a", 10, "x"), Shows("b", 10, "")]),
         ],
     ),
-    // An opening lists, reads `current`, `v1` and a table, and removes `v0`; a flush writes and syncs a table and `v2`.
+    // An opening lists, reads `current`, `v1` and a table, settles, and removes `v0`; a flush writes and syncs a table and `v2`,
+    // and replaces `current`.
     // `CommitUnknown`, and then `Unrecoverable`.
     (
         "nothing is committed behind an unknown outcome",
         &[
             Plays(&KEPT),
-            Reopen(Failing(10, Fault::Once), 2),
+            Reopen(Failing(11, Fault::Once), 2),
             Plays(&[
                 Does(Set("b", "y"), Number(2)),
                 Does(FlushParts(0), Refused(3)),
@@ -140,12 +141,29 @@ const CRASHES: [Script; 3] = [
             Plays(&[Shows("a", 10, "x"), Shows("b", 10, "")]),
         ],
     ),
+    // `Store`; the tree goes on, and nothing is lost.
+    (
+        "a flush whose replacement is known to have done nothing is flushed again",
+        &[
+            Plays(&KEPT),
+            Reopen(Failing(11, Fault::OnceNothing), 2),
+            Plays(&[
+                Does(Set("b", "y"), Number(2)),
+                Does(FlushParts(0), Refused(2)),
+                Has(Count::Tables, 1),
+                Does(FlushParts(0), Installed),
+                Has(Count::Tables, 2),
+            ]),
+            Reopen(Crashed, 10),
+            Plays(&[Shows("a", 10, "x"), Shows("b", 10, "y")]),
+        ],
+    ),
     // The write of `v2` fails: `Store`.
     (
         "a flush whose version is not written changes nothing",
         &[
             Plays(&KEPT),
-            Reopen(Failing(8, Fault::Once), 2),
+            Reopen(Failing(9, Fault::Once), 2),
             Plays(&[
                 Does(Set("b", "y"), Number(2)),
                 Does(FlushParts(0), Refused(2)),
