@@ -111,6 +111,21 @@ fn a_fault_stops_removals(rt: HostRuntime) -> Result<(), Fail> {
     Ok(())
 }
 
+/// A record that is known not to be put uses no number.
+#[test]
+fn a_record_may_be_put_again(rt: HostRuntime) -> Result<(), Fail> {
+    let mut store = MemStore::new(rt.alloc());
+    store.fail(1, Fault::OnceNothing);
+    let first = put_record(&mut store, 0, &record(0));
+    let again = put_record(&mut store, 0, &record(0));
+    let log = read_log(rt.alloc(), &mut store, 0)?;
+    let well = matches!(first, Err(Error::Store)) && again.is_ok() && is_log(&log, &[], &[0]);
+    drop(log);
+    drop(store);
+    assert!(rt; well);
+    Ok(())
+}
+
 /// How many records a crash with this pick leaves of a replacement that took effect and answered a fault.
 fn left_of(alloc: Global, picks: &[(&str, Pick<'_>)]) -> Result<usize, Error> {
     let mut store = MemStore::new(alloc);

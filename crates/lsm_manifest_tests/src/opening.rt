@@ -370,12 +370,21 @@ fn a_changed_byte_is_refused(rt: HostRuntime) -> Result<(), Fail> {
 
 #[test]
 fn faults_of_a_commit_are_told(rt: HostRuntime) -> Result<(), Fail> {
-    for (call, number) in [(1, 2), (2, 2), (3, 2), (4, 3)] {
+    // The names are listed and settled; `v0` is written and synced, and `current` replaced.
+    let rows = [
+        (1, Fault::Once, 2),
+        (2, Fault::Once, 2),
+        (3, Fault::Once, 2),
+        (4, Fault::Once, 2),
+        (5, Fault::Once, 3),
+        (5, Fault::OnceNothing, 2),
+    ];
+    for (call, fault, number) in rows {
         let mut store = MemStore::new(rt.alloc());
-        store.fail(call, Fault::Once);
+        store.fail(call, fault);
         let well = is_refused(rt.alloc(), &mut store, (number, "", 0));
         drop(store);
-        assert!(rt; well, "at {call}");
+        assert!(rt; well, "{fault:?} at {call}");
     }
     Ok(())
 }

@@ -186,7 +186,7 @@ const UNKNOWN: [Row; 4] = [
 ];
 
 /// A clear writes `v2`, syncs it, and replaces `current`.
-const FAILING: [Script; 6] = [
+const FAILING: [Script; 7] = [
     (
         "the version isn't written",
         &[
@@ -225,6 +225,17 @@ const FAILING: [Script; 6] = [
             Plays(&UNKNOWN),
             Reopen(Crashed, 10),
             Plays(&[Shows("a", 10, "x")]),
+        ],
+    ),
+    (
+        "current is known not to be replaced",
+        &[
+            Plays(&KEPT),
+            Reopen(Failing(3, Fault::OnceNothing), 2),
+            Plays(&REFUSED),
+            Plays(&[Does(Clear, Number(3))]),
+            Reopen(Crashed, 10),
+            Plays(&[Shows("a", 10, "")]),
         ],
     ),
     (

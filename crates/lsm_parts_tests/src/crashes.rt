@@ -53,15 +53,15 @@ fn take_all(alloc: Global, tree: &mut TreeState, steps: &[Step]) -> usize {
     covered
 }
 
-/// The store that an opening and these steps leave where it fails from this call on, and how many writes are covered.
-fn stopped(
+/// The store that an opening and these steps leave where this call of it has this fault, and how many writes are covered.
+fn faulted(
     alloc: Global,
     mut store: MemStore,
     next: u64,
-    call: u64,
+    (call, fault): (u64, Fault),
     steps: &[Step],
 ) -> (MemStore, usize) {
-    store.fail(call, Fault::FromHere);
+    store.fail(call, fault);
     match TreeState::open(alloc, Config::new(0, next, next), store) {
         Ok(mut tree) => {
             let covered = take_all(alloc, &mut tree, steps);
@@ -69,6 +69,17 @@ fn stopped(
         }
         Err((_, store)) => (store, 0),
     }
+}
+
+/// The same where it fails from this call on.
+fn stopped(
+    alloc: Global,
+    store: MemStore,
+    next: u64,
+    call: u64,
+    steps: &[Step],
+) -> (MemStore, usize) {
+    faulted(alloc, store, next, (call, Fault::FromHere), steps)
 }
 
 // ---- crashes
@@ -191,6 +202,55 @@ fn stays_safe(rt: &impl Abort, alloc: Global, script: &Script) {
             matches!(withstands(alloc, script, call), Ok(true)),
             "from call {call} on"
         );
+    }
+}
+
+// ---- openings without a crash before them
+
+/// Whether the tree shows a beginning, with all that is covered, where one call of a script fails so, the store is opened again as
+/// it is, and it fails from this call on; and whether the opening makes fewer calls.
+fn reopens_at(
+    alloc: Global,
+    script: &Script,
+    failing: (u64, Fault),
+    call: u64,
+) -> Result<(bool, bool), Error> {
+    let (store, covered) = faulted(alloc, MemStore::new(alloc), 0, failing, script.0);
+    let failures = store.failures();
+    let (store, _) = stopped(alloc, store, 10, call, &[]);
+    let is_whole = store.failures() == failures;
+    let right = match script.1.get(covered..) {
+        Some(beginnings) => reopens(alloc, &store, beginnings),
+        None => Ok(false),
+    };
+    drop(store);
+    Ok((right?, is_whole))
+}
+
+/// Whether it is so at each stop of that opening, and behind the whole of it.
+fn reopens_each(alloc: Global, script: &Script, failing: (u64, Fault)) -> Result<bool, Error> {
+    for call in 1..CALLS {
+        let (right, is_whole) = reopens_at(alloc, script, failing, call)?;
+        if !right || is_whole {
+            return Ok(right);
+        }
+    }
+    Ok(false)
+}
+
+/// A commit whose outcome isn't known reads as the old version or as the new one; an opening of the same store removes what the
+/// other one names, and a crash behind it doesn't bring that one back.
+#[test]
+fn an_opening_settles_what_it_read(rt: HostRuntime) {
+    for call in 1..32 {
+        for fault in [Fault::Once, Fault::OnceDone, Fault::OnceNothing] {
+            for script in [&AROUND_A_FLUSH, &EVICTING] {
+                assert!(rt;
+                    matches!(reopens_each(rt.alloc(), script, (call, fault)), Ok(true)),
+                    "{fault:?} of call {call}"
+                );
+            }
+        }
     }
 }
 

@@ -115,7 +115,7 @@ pub const KEPT: [Row; 2] = [
     Does(FlushParts(0), Installed),
 ];
 
-const CRASHES: [Script; 3] = [
+const CRASHES: [Script; 4] = [
     (
         "a crash leaves what was flushed",
         &[
@@ -139,6 +139,23 @@ const CRASHES: [Script; 3] = [
             ]),
             Reopen(Crashed, 10),
             Plays(&[Shows("a", 10, "x"), Shows("b", 10, "")]),
+        ],
+    ),
+    // `Store`; the tree goes on, and nothing is lost.
+    (
+        "a flush whose replacement is known to have done nothing is flushed again",
+        &[
+            Plays(&KEPT),
+            Reopen(Failing(5, Fault::OnceNothing), 2),
+            Plays(&[
+                Does(Set("b", "y"), Number(2)),
+                Does(FlushParts(0), Refused(2)),
+                Has(Count::Tables, 1),
+                Does(FlushParts(0), Installed),
+                Has(Count::Tables, 2),
+            ]),
+            Reopen(Crashed, 10),
+            Plays(&[Shows("a", 10, "x"), Shows("b", 10, "y")]),
         ],
     ),
     // The write of `v2` fails: `Store`.
