@@ -69,7 +69,9 @@ impl<S: Store> TreeState<S> {
         ensures compacts { CompactsChoice choice options result self.old.core self.new.core }
         // What a crash leaves.
         ensures upholds { S.tells → Upholds (S.world self.old.store) (S.world self.new.store) self.old.core self.new.core }
+        // The store is blamed only where a call of it failed.
         ensures causes { HasCause (Blames result) (S.world self.old.store) (S.world self.new.store) }
+        // Behind a whole clean-up no file is left of what went.
         ensures gone { S.tells → result ≡ Ok Begun.Installed → LeavesNoFiles (S.world self.new.store) (given_up choice) self.old.core.history self.new.core.history }
         ensures no_call { IsSome self.old.core.lost → self.new.store ≡ self.old.store }
     {
@@ -86,7 +88,9 @@ impl<S: Store> TreeState<S> {
         ensures compacts { Compacts (C.may_choose strategy.now) (C.may_refuse strategy.now) options result self.old.core self.new.core }
         // What a crash leaves.
         ensures upholds { S.tells → Upholds (S.world self.old.store) (S.world self.new.store) self.old.core self.new.core }
+        // The store is blamed only where a call of it failed.
         ensures causes { HasCause (Blames result) (S.world self.old.store) (S.world self.new.store) }
+        // Behind a whole clean-up no file is left of what went.
         ensures gone { S.tells → result ≡ Ok Begun.Installed → LeavesNoneChosen (S.world self.new.store) (C.may_choose strategy.now) self.old.core self.new.core }
         ensures no_call { IsSome self.old.core.lost → self.new.store ≡ self.old.store }
     {
@@ -117,7 +121,9 @@ impl<S: Store> TreeState<S> {
         ensures compacts { Compacts (may_choose strategy.now) (may_refuse strategy.now) (options_at watermark self.old.core) result self.old.core self.new.core }
         // What a crash leaves.
         ensures upholds { S.tells → Upholds (S.world self.old.store) (S.world self.new.store) self.old.core self.new.core }
+        // The store is blamed only where a call of it failed.
         ensures causes { HasCause (Blames result) (S.world self.old.store) (S.world self.new.store) }
+        // Behind a whole clean-up no file is left of what went.
         ensures gone { S.tells → result ≡ Ok Begun.Installed → LeavesNoneChosen (S.world self.new.store) (may_choose strategy.now) self.old.core self.new.core }
         ensures no_call { IsSome self.old.core.lost → self.new.store ≡ self.old.store }
     {
@@ -135,7 +141,9 @@ impl<S: Store> TreeState<S> {
         ensures compacts { Compacts (major_choice target) only_memory (options_at watermark self.old.core) result self.old.core self.new.core }
         // What a crash leaves.
         ensures upholds { S.tells → Upholds (S.world self.old.store) (S.world self.new.store) self.old.core self.new.core }
+        // The store is blamed only where a call of it failed.
         ensures causes { HasCause (Blames result) (S.world self.old.store) (S.world self.new.store) }
+        // Behind a whole clean-up no file is left of what went.
         ensures gone { S.tells → result ≡ Ok Begun.Installed → LeavesNoneChosen (S.world self.new.store) (major_choice target) self.old.core self.new.core }
         ensures no_call { IsSome self.old.core.lost → self.new.store ≡ self.old.store }
     {
@@ -154,7 +162,9 @@ impl<S: Store> TreeState<S> {
         ensures drops { DropsRange bounds result self.old.core self.new.core }
         // What a crash leaves.
         ensures upholds { S.tells → Upholds (S.world self.old.store) (S.world self.new.store) self.old.core self.new.core }
+        // The store is blamed only where a call of it failed.
         ensures causes { HasCause (Blames result) (S.world self.old.store) (S.world self.new.store) }
+        // Behind a whole clean-up no file is left of what went.
         ensures gone { S.tells → result ≡ Ok Begun.Installed → LeavesNoneChosen (S.world self.new.store) (drop_choice bounds) self.old.core self.new.core }
         ensures no_call { IsSome self.old.core.lost → self.new.store ≡ self.old.store }
     {
@@ -186,7 +196,9 @@ pub fn do_compaction<S: Store>(
     ensures compacts { Compacts (may_choose strategy.now) (may_refuse strategy.now) options result tree.old.core tree.new.core }
     // What a crash leaves.
     ensures upholds { S.tells → Upholds (S.world tree.old.store) (S.world tree.new.store) tree.old.core tree.new.core }
+    // The store is blamed only where a call of it failed.
     ensures causes { HasCause (Blames result) (S.world tree.old.store) (S.world tree.new.store) }
+    // Behind a whole clean-up no file is left of what went.
     ensures gone { S.tells → result ≡ Ok Begun.Installed → LeavesNoneChosen (S.world tree.new.store) (may_choose strategy.now) tree.old.core tree.new.core }
     ensures no_call { IsSome tree.old.core.lost → tree.new.store ≡ tree.old.store }
 {

@@ -222,7 +222,9 @@ impl<S: Store> TreeState<S> {
         ensures finishes { Finishes merged.job result self.old.core self.new.core }
         // What a crash leaves.
         ensures upholds { S.tells → Upholds (S.world self.old.store) (S.world self.new.store) self.old.core self.new.core }
+        // The store is blamed only where a call of it failed.
         ensures causes { HasCause (Blames result) (S.world self.old.store) (S.world self.new.store) }
+        // Behind a whole clean-up no file is left of what went.
         ensures gone { S.tells → result ≡ Ok Finished.Installed → LeavesNoFiles (S.world self.new.store) merged.job.ids self.old.core.history self.new.core.history }
         ensures no_call { IsSome self.old.core.lost → self.new.store ≡ self.old.store }
         // As the theories see it: the merge and its maintenance, or one of unknown outcome, else nothing.

@@ -154,6 +154,7 @@ impl<S: Store> TreeState<S> {
         ensures writes { WritesTables job result self.old.core self.new.core }
         // What a crash leaves.
         ensures upholds { S.tells → Upholds (S.world self.old.store) (S.world self.new.store) self.old.core self.new.core }
+        // The store is blamed only where a call of it failed.
         ensures causes { HasCause (BlamesBeside result) (S.world self.old.store) (S.world self.new.store) }
         ensures no_call { IsSome self.old.core.lost → self.new.store ≡ self.old.store }
         // To the theories nothing is done.

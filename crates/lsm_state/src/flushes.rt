@@ -95,7 +95,9 @@ impl<S: Store> TreeState<S> {
         ensures unmarked { result.1 ≡ false → self.new.core.seqno ≡ self.old.core.seqno }
         // What a crash leaves.
         ensures upholds { S.tells → Upholds (S.world self.old.store) (S.world self.new.store) self.old.core self.new.core }
+        // The store is blamed only where a call of it failed.
         ensures causes { HasCause (BlamesOrUncleanFlush (result.0)) (S.world self.old.store) (S.world self.new.store) }
+        // Behind a whole clean-up no file is left of what went.
         ensures gone { S.tells → IfOk (result.0) (λ a. IfSome a (λ p. p.1.cleaned ≡ true → LeavesNoFiles (S.world self.new.store) [] self.old.core.history self.new.core.history)) }
         ensures no_call { IsSome self.old.core.lost → self.new.store ≡ self.old.store }
     {
@@ -125,7 +127,9 @@ impl<S: Store> TreeState<S> {
         ensures flushes { Flushes watermark result self.old.core self.new.core }
         // What a crash leaves.
         ensures upholds { S.tells → Upholds (S.world self.old.store) (S.world self.new.store) self.old.core self.new.core }
+        // The store is blamed only where a call of it failed.
         ensures causes { HasCause (BlamesOrUncleanFlush result) (S.world self.old.store) (S.world self.new.store) }
+        // Behind a whole clean-up no file is left of what went.
         ensures gone { S.tells → IfOk result (λ a. IfSome a (λ p. p.1.cleaned ≡ true → LeavesNoFiles (S.world self.new.store) [] self.old.core.history self.new.core.history)) }
         ensures no_call { IsSome self.old.core.lost → self.new.store ≡ self.old.store }
     {
@@ -147,7 +151,9 @@ impl<S: Store> TreeState<S> {
         ensures flushes { FlushesActive watermark result self.old.core self.new.core }
         // What a crash leaves.
         ensures upholds { S.tells → Upholds (S.world self.old.store) (S.world self.new.store) self.old.core self.new.core }
+        // The store is blamed only where a call of it failed.
         ensures causes { HasCause (BlamesOrUncleanBehind result) (S.world self.old.store) (S.world self.new.store) }
+        // Behind a whole clean-up no file is left of what went.
         ensures gone { S.tells → IfOk result (λ a. IfSome a.1 (λ p. p.1.cleaned ≡ true → LeavesNoFiles (S.world self.new.store) [] self.old.core.history self.new.core.history)) }
         ensures no_call { IsSome self.old.core.lost → self.new.store ≡ self.old.store }
     {

@@ -203,7 +203,9 @@ impl<S: Store> TreeState<S> {
         ensures registers { Registers job result self.old.core self.new.core }
         // What a crash leaves.
         ensures upholds { S.tells → Upholds (S.world self.old.store) (S.world self.new.store) self.old.core self.new.core }
+        // The store is blamed only where a call of it failed.
         ensures causes { HasCause (BlamesOrUnclean result) (S.world self.old.store) (S.world self.new.store) }
+        // Behind a whole clean-up no file is left of what went.
         ensures gone { S.tells → IfOk result (λ a. a.installed ≡ true → a.cleaned ≡ true → LeavesNoFiles (S.world self.new.store) [] self.old.core.history self.new.core.history) }
         ensures no_call { IsSome self.old.core.lost → self.new.store ≡ self.old.store }
         // As the theories see it: the mark, and behind it the flush and the maintenance, or one of unknown outcome.
