@@ -32,10 +32,10 @@ module _ (version_kind : (i : ℕ) → i < 2 ^ 64 → kind_of (version_name i) �
   pub passes_persisted : {T : Type 0} (id : ℕ) (bytes : List ℕ) (old new : World) (r : Result T Error) → id < 2 ^ 64 → Told TellsPersist (Persists id bytes old new) r → LeavesOnly old new (IsOldOrNew id bytes old) → Passes old new
   passes_persisted {T} id bytes old new r small persists leaves =
       let keeps = told_any {T = T} TellsPersist (Persists id bytes old new) (Keeps IsForeign old new) r by_answer persists in record {
-    gives = λ n foreign. keeps.gives n foreign;
-    may = λ n c foreign. (keeps.may n c foreign).0;
-    leaves = weakened old new (IsOldOrNew id bytes old) (KeepsForeign old) leaves (λ image one n foreign. one.elsewhere n (not_version id small n foreign) foreign.not_current);
-  }
+        gives = λ n foreign. keeps.gives n foreign;
+        may = λ n c foreign. (keeps.may n c foreign).0;
+        leaves = weakened old new (IsOldOrNew id bytes old) (KeepsForeign old) leaves (λ image one n foreign. one.elsewhere n (not_version id small n foreign) foreign.not_current);
+      }
     where
       rest : KeepsRest id old new → Keeps IsForeign old new
       rest k = record { may = λ n c foreign. k.may n c (not_version id small n foreign) foreign.not_current; gives = λ n foreign. k.gives n (not_version id small n foreign) foreign.not_current }
