@@ -1,11 +1,10 @@
 -- Foreign names are none that count.
-use Rattle.std.proofs.Common.{◌≡◌, ℕ, ◌<◌, ◌^◌, List, [], ◌∷◌, sym, ◌∙◌, codes, refl}
+use Rattle.std.proofs.Common.{◌≡◌, ℕ, ◌<◌, ◌^◌, List, sym, ◌∙◌, codes, refl}
 use Rattle.std.specs.List.{AllByRecursion}
 use Rattle.lsm_below.specs.Each.{each_weaker}
 use Rattle.lsm_store.specs.World.{World}
 use Rattle.lsm_tables.specs.Tables.{SeenTable}
 use Rattle.lsm_versions.specs.Levels.{SeenVersion, all_of}
-use Rattle.lsm_manifest.specs.declared.kinds.NameKind.{NameKind}
 use Rattle.lsm_manifest.specs.declared.kinds.NameKind.TheVariants.{VersionFile, TableFile, Refused, Other}
 use Rattle.lsm_manifest.specs.Names.{version_name, table_name}
 use Rattle.lsm_manifest.specs.Kinds.{kind_of}

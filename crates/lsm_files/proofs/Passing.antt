@@ -4,7 +4,6 @@ use Rattle.lsm_below.specs.declared.error.Error.{Error}
 use Rattle.lsm_store.specs.World.{World, LeavesOnly}
 use Rattle.lsm_store.specs.Synced.{KeepsOthers, IsBeside}
 use Rattle.lsm_store.specs.Moments.{weakened}
-use Rattle.lsm_manifest.specs.declared.kinds.NameKind.{NameKind}
 use Rattle.lsm_manifest.specs.declared.kinds.NameKind.TheVariants.{VersionFile, TableFile, Other}
 use Rattle.lsm_manifest.specs.declared.persist.PersistError.{PersistError}
 use Rattle.lsm_manifest.specs.declared.persist.PersistError.TheVariants.{OutOfMemory, Store, CommitUnknown}

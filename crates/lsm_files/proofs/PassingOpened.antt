@@ -1,8 +1,7 @@
 -- An opening leaves foreign names.
-use Rattle.std.proofs.Common.{◌≡◌, ◌≢◌, ◌⊎◌, ⊎_elim, ℕ, Bool, true, false, ◌||◌, List, Option, Some, None, Ok, IsSome, refl, sym, ap, ◌∙◌, subst, codes}
-use Rattle.lsm_store.specs.World.{Image, World, LeavesOnly}
+use Rattle.std.proofs.Common.{◌≡◌, ◌≢◌, ⊎_elim, ℕ, Bool, true, false, ◌||◌, List, Option, Some, None, Ok, IsSome, refl, sym, ap, ◌∙◌, subst, codes}
+use Rattle.lsm_store.specs.World.{World, LeavesOnly}
 use Rattle.lsm_store.specs.Moments.{weakened}
-use Rattle.lsm_manifest.specs.declared.kinds.NameKind.{NameKind}
 use Rattle.lsm_manifest.specs.declared.kinds.NameKind.TheVariants.{VersionFile, Other}
 use Rattle.lsm_manifest.specs.declared.opening.Opened.{Opened}
 use Rattle.lsm_manifest.specs.Names.{current_name, version_name}

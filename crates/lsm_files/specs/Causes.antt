@@ -1,5 +1,5 @@
 -- Why an answer blames the store: a call of it failed meanwhile.
-use Rattle.std.proofs.Common.{◌≡◌, ◌⊎◌, ⊎_elim, ℕ, ◌+◌, ◌-◌, ◌≤◌, ◌^◌, min, Result, Ok, Err, arith, refl}
+use Rattle.std.proofs.Common.{◌≡◌, ◌⊎◌, ⊎_elim, ◌+◌, ◌-◌, ◌≤◌, ◌^◌, min, Result, Ok, Err, arith, refl}
 use Rattle.lsm_below.specs.declared.error.Error.{Error}
 use Rattle.lsm_below.specs.declared.error.Error.TheVariants.{Store, CommitUnknown, AfterCommit}
 use Rattle.lsm_store.specs.World.{World}

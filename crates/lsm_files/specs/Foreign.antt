@@ -1,5 +1,5 @@
 -- Names that are none of a tree's: what calls on them leave of it, and what its own calls leave of them.
-use Rattle.std.proofs.Common.{◌≡◌, ◌≢◌, ℕ, List, Option, refl, ◌∙◌, arith, inl}
+use Rattle.std.proofs.Common.{◌≡◌, ◌≢◌, ℕ, List, Option, refl, ◌∙◌}
 use Rattle.lsm_store.specs.World.{Image, World, IsImage, LeavesOnly}
 use Rattle.lsm_store.specs.Moments.{started, joined}
 use Rattle.lsm_tables.specs.Tables.{SeenTable}

@@ -1,6 +1,6 @@
 -- Names of a log are none of a tree's.
-use Rattle.std.proofs.Common.{◌≡◌, ◌≢◌, ⊎_elim, ℕ, List, Option, get_or, refl, sym, ap, subst, arith}
-use Rattle.lsm_store.specs.World.{Image, World, LeavesOnly}
+use Rattle.std.proofs.Common.{◌≡◌, ◌≢◌, ⊎_elim, ℕ, List, get_or, refl, sym, ap, subst, arith}
+use Rattle.lsm_store.specs.World.{World, LeavesOnly}
 use Rattle.lsm_store.specs.Synced.{KeepsOthers}
 use Rattle.lsm_store.specs.Moments.{weakened}
 use Rattle.lsm_manifest.specs.declared.kinds.NameKind.TheVariants.{Other}

@@ -1,5 +1,5 @@
 -- Which calls of the store failed where a call of a tree tells a fault.
-use Rattle.std.proofs.Common.{◌≡◌, ◌⊎◌, inl, inr, ⊎_elim, Bool, true, false, Result, Ok, Err, IfErr, ap, sym, ◌∙◌, subst, refl}
+use Rattle.std.proofs.Common.{◌≡◌, ◌⊎◌, inl, inr, ⊎_elim, Bool, false, Result, Ok, Err, IfErr, ap, subst, refl}
 use Rattle.std.specs.Prelude.{is_ok}
 use Rattle.lsm_below.specs.declared.error.Error.{Error}
 use Rattle.lsm_below.specs.declared.error.Error.TheVariants.{OutOfMemory, Store, CommitUnknown, OutOfNumbers, AfterCommit, Unrecoverable}

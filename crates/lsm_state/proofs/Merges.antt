@@ -1,5 +1,5 @@
 -- The tables that a merge made, and the version that has them in place of its inputs.
-use Rattle.std.proofs.Common.{◌≡◌, ℕ, ◌+◌, ◌-◌, ◌<◌, ◌≤◌, ◌^◌, Bool, true, false, List, [], ◌∷◌, ◌++◌, map, length, zero, suc, eqb, eq-eqb, ⊎_elim, ◌⊎◌, inl, inr, ◌||◌, Err, IsErrOf, refl, sym, ap, ◌∙◌, subst, arith}
+use Rattle.std.proofs.Common.{◌≡◌, ℕ, ◌+◌, ◌<◌, ◌≤◌, ◌^◌, Bool, true, false, List, [], ◌∷◌, ◌++◌, map, length, zero, suc, eqb, eq-eqb, ⊎_elim, ◌⊎◌, inl, inr, ◌||◌, Err, IsErrOf, refl, sym, ap, ◌∙◌, subst, arith}
 use Rattle.std.specs.Prelude.{nat_eq}
 use Rattle.std.specs.List.{AllByRecursion, IsDistinct, list_any, range_with_len}
 use Rattle.std.specs.List.Sorted.{IsPermutation}

@@ -1,11 +1,10 @@
 -- A job that is registered is spent first, and then installed.
-use Rattle.std.proofs.Common.{◌≡◌, ℕ, ◌-◌, ◌<◌, false, cond, List, ◌++◌, Option, Some, None, refl, ap, ◌∙◌, subst, eq-eqb}
+use Rattle.std.proofs.Common.{◌≡◌, ℕ, ◌<◌, false, cond, ◌++◌, Option, Some, None, refl, ap, ◌∙◌, subst, eq-eqb}
 use Rattle.std.specs.Option.{is_some}
 use Rattle.std.specs.List.{AllByRecursion}
 use Rattle.lsm_below.specs.Each.{each_left}
 use Rattle.lsm_below.specs.Runs.{IsRun}
 use Rattle.lsm_store.specs.World.{World}
-use Rattle.lsm_tables.specs.Tables.{SeenTable}
 use Rattle.lsm_versions.specs.Levels.{range, all_of, HasOwnIds}
 use Rattle.lsm_files.specs.Stored.{AreOnDisk}
 use Rattle.lsm_files.specs.Foreign.{AtRest}

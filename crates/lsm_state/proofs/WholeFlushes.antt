@@ -7,10 +7,9 @@ use Rattle.lsm_below.specs.declared.error.Error.{Error}
 use Rattle.lsm_below.specs.declared.error.Error.TheVariants.{OutOfMemory, Store, CommitUnknown, Unrecoverable, OutOfNumbers, FlushOpen, TooManyRuns}
 use Rattle.lsm_store.specs.World.{World}
 use Rattle.lsm_store.specs.Moments.{joined}
-use Rattle.lsm_tables.specs.Tables.{SeenTable}
 use Rattle.lsm_versions.specs.Levels.{SeenVersion}
 use Rattle.lsm_versions.specs.Refusals.{IsRefusedFor}
-use Rattle.lsm_files.specs.Stored.{IsStored, HoldsOneOf, Leaves, AreAmong}
+use Rattle.lsm_files.specs.Stored.{HoldsOneOf, Leaves, AreAmong}
 use Rattle.lsm_files.specs.Writing.{HoldEntries}
 use Rattle.lsm_jobs.specs.Jobs.{SeenJob, SeenWritten, SeenOpen, IsWrittenFrom}
 use Rattle.lsm_jobs.specs.declared.jobs.Registered.{Registered}

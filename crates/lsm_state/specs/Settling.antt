@@ -1,5 +1,5 @@
 -- How a version takes the place of the latest one, outside a flush.
-use Rattle.std.specs.Prelude.{◌≡◌, ℕ, ◌+◌, ◌^◌, ◌≤◌, None, Bool, true, List, ◌++◌, Result, ◌⊎◌, OnOk, IfErr, IsErrOf}
+use Rattle.std.specs.Prelude.{◌≡◌, ℕ, ◌+◌, ◌^◌, ◌≤◌, None, Bool, true, List, Result, ◌⊎◌, OnOk, IfErr, IsErrOf}
 use Rattle.lsm_below.specs.declared.error.Error.{Error}
 use Rattle.lsm_below.specs.declared.error.Error.TheVariants.{OutOfMemory, Store, CommitUnknown, OutOfNumbers, TooManyRuns, AfterCommit}
 use Rattle.lsm_versions.specs.Levels.{SeenVersion, all_of}

@@ -1,9 +1,7 @@
-use Rattle.std.proofs.Common.{◌≡◌, List, ℕ, None, take, get_or, refl, sym, subst, rules}
+use Rattle.std.proofs.Common.{◌≡◌, List, ℕ, take, get_or, refl, sym, subst, rules}
 use Rattle.std.specs.Prelude.{Contains}
 use Rattle.std.proofs.lemmas.List.{take_all}
 use Rattle.std.proofs.lemmas.List.Elements.{Contains-get_or}
-use Rattle.lsm_store.specs.World.{OldOr}
-use Rattle.lsm_log.specs.LogNames.{record_name}
 use Rattle.lsm_log.proofs.Changed.{clears_more, cleared_more, gone_more}
 use Rattle.lsm_log.proofs.removing.remove_each.Goals as goal
 

@@ -1,4 +1,4 @@
-use Rattle.std.proofs.Common.{◌<◌, ◌≤◌, false, not, length, nat_lt, sym, subst, ◌∙◌, arith, rules, tests}
+use Rattle.std.proofs.Common.{◌<◌, ◌≤◌, not, length, nat_lt, sym, subst, ◌∙◌, arith, rules, tests}
 use Rattle.std.proofs.lemmas.List.Sorted.{IsPartitionPoint-from_clause}
 use Rattle.lsm_parts.specs.declared.version.super_version.SuperVersion.{SuperVersion}
 use Rattle.lsm_parts.proofs.Histories.{above_first}
