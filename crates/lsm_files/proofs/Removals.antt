@@ -1,11 +1,12 @@
 -- What removals leave, where no version counts on the names.
-use Rattle.std.proofs.Common.{◌≡◌, ◌≢◌, ◌⊎◌, inl, inr, ⊎_elim, ℕ, ◌<◌, ◌^◌, Bool, true, false, ◌||◌, eqb, List, [], ◌∷◌, ◌++◌, map, Option, Some, None, Result, refl, sym, ap, ◌∙◌, codes}
+use Rattle.std.proofs.Common.{◌≡◌, ◌≢◌, ◌⊎◌, inl, inr, ⊎_elim, ℕ, ◌+◌, ◌≤◌, ◌<◌, ◌^◌, Bool, true, false, ◌||◌, eqb, List, [], ◌∷◌, ◌++◌, map, Option, Some, None, Result, refl, sym, ap, ◌∙◌, codes, arith}
 use Rattle.std.specs.Iterator.{Yields}
 use Rattle.std.specs.List.{AllByRecursion}
 use Rattle.std.specs.Map.Iter.{TakesFirst}
 use Rattle.std.proofs.lemmas.Bool.{eqb-true, eq-eqb}
+use Rattle.std.proofs.lemmas.Bool.Decides.{nat_tests}
 use Rattle.std.proofs.lemmas.Map.Iter.{rest_more, rest_so_far}
-use Rattle.lsm_below.specs.Each.{each_both}
+use Rattle.lsm_below.specs.Each.{each_both, each_weaker}
 use Rattle.lsm_store.specs.World.{Image, World, OldOr, IsImage, Changes, LeavesOnly}
 use Rattle.lsm_store.specs.Synced.{IsBeside, KeepsOthers}
 use Rattle.lsm_store.specs.Moments.{started, called, joined, same_or_not}
@@ -18,7 +19,8 @@ use Rattle.lsm_manifest.specs.declared.kinds.NameKind.TheVariants.{VersionFile, 
 use Rattle.lsm_manifest.specs.Names.{current_name, version_name, table_name}
 use Rattle.lsm_manifest.specs.Kinds.{kind_of}
 use Rattle.lsm_files.specs.Stored.{Keeps, IsWhole, IsStored, HoldsOneOf}
-use Rattle.lsm_files.specs.Commits.{SparesStored, IsNoneOf, SparesTables}
+use Rattle.lsm_files.specs.Commits.{SparesStored, IsNoneOf, AreOthers, SparesTables}
+use Rattle.lsm_files.specs.Writing.{KeepsStored}
 use Rattle.lsm_files.specs.Foreign.{Passes, passes_still}
 use Rattle.lsm_files.proofs.Images.{Untouched, spared, left_now}
 use Rattle.lsm_files.proofs.Keeping.{keeps_none, keeps_more}
@@ -114,6 +116,40 @@ gone_more f xs x mid new keeps gone so_far i is = ⊎_elim (λ early. absent_aft
 among_behind : (front behind : List ℕ) (i : ℕ) → among (front ++ i ∷ behind) i ≡ true
 among_behind [] behind i = ap (λ b. b || among behind i) (eq-eqb i i refl)
 among_behind (x ∷ front) behind i = elim (eqb i x) as (λ b. (b || among (front ++ i ∷ behind) i) ≡ true) [ true ↦ refl | false ↦ among_behind front behind i ]
+
+-- ---- tables of consecutive ids
+
+not_one : (id first i : ℕ) → first ≤ id → i < first → (eqb i id || false) ≡ false
+not_one id first i le lt = or_none (eqb i id) ∙ grind (arith, nat_tests)
+
+below_others : (id first : ℕ) → first ≤ id → (tables : List SeenTable) → AllByRecursion (λ t. t.id < first) tables → AreOthers (id ∷ []) tables
+below_others id first le tables = each_weaker (λ t. t.id < first) (λ t. among (id ∷ []) t.id ≡ false) (λ t lt. not_one id first t.id le lt) tables
+
+pub removed_keeps : (id first : ℕ) (old new : World) → first ≤ id → SparesTables (id ∷ []) old new → KeepsStored first old new
+removed_keeps id first old new le spares versions written stored below fresh =
+    spares versions written stored (each_weaker (λ v. AllByRecursion (λ t. t.id < first) (all_of v.levels)) (λ v. AreOthers (id ∷ []) (all_of v.levels)) (λ v b. below_others id first le (all_of v.levels) b) versions below) (below_others id first le written fresh)
+
+pub stored_more : (first : ℕ) (old mid new : World) → KeepsStored first old mid → KeepsStored first mid new → KeepsStored first old new
+stored_more first old mid new so_far more versions written stored below fresh =
+    let one = so_far versions written stored below fresh in
+    let two = more versions written one.0 below fresh in
+    (two.0, joined old mid new (HoldsOneOf versions) (HoldsOneOf versions) (HoldsOneOf versions) one.1 two.1 (λ image has. has) (λ image has. has))
+
+pub one_among : (id : ℕ) → among (id ∷ []) id ≡ true
+one_among id = among_behind [] [] id
+
+pub none_stored : (first : ℕ) (w : World) → ((image : Image) → w.since w.moment image → IsImage w.may image) → KeepsStored first w w
+none_stored first w only versions written stored below fresh = (stored, left_now w versions written only stored)
+
+pub written_gone : (first id : ℕ) (mid new : World) → KeepsOthers (table_name id) mid new → new.gives (table_name id) ≡ None → ((i : ℕ) → first ≤ i → i < id → mid.gives (table_name i) ≡ None) → (i : ℕ) → first ≤ i → i < id + 1 → new.gives (table_name i) ≡ None
+written_gone first id mid new keeps gone so_far i le lt = by_test (eqb i id) refl
+  where
+    by_test : (b : Bool) → eqb i id ≡ b → new.gives (table_name i) ≡ None
+    by_test true e = ap (λ j. new.gives (table_name j)) (eqb-true i id e) ∙ gone
+    by_test false e = absent_after (table_name id) mid new keeps gone (table_name i) (so_far i le (less e))
+      where
+        less : eqb i id ≡ false → i < id
+        less h = grind (arith, nat_tests)
 
 -- what a loop over ids takes is one of them
 pub among_taken : {A : Type 0} (f : A → ℕ) (ids s t u : List ℕ) (xs : List A) (r : Option A) (x : A) → s ≡ ids → Yields (TakesFirst f) s xs t → r ≡ Some x → TakesFirst f t r u → among ids (f x) ≡ true

@@ -18,7 +18,7 @@ mod tables;
 
 pub use commit::commit_version;
 pub use contents::write_contents;
-pub use removal::{remove_tables, remove_version};
+pub use removal::{remove_tables, remove_version, remove_written};
 pub use stored::{
     crashes_leave_either, crashes_leave_versions, files_are_tables, foreign_names_spare,
     opening_stores, openings_pass,

@@ -1,5 +1,5 @@
 // Names that nothing needs any more.
-ghost use Rattle.std.specs.Prelude.{◌≡◌, ℕ, List, true, None, OnOk, IfErr};
+ghost use Rattle.std.specs.Prelude.{◌≡◌, ◌≤◌, ◌<◌, ℕ, List, true, None, OnOk, IfErr};
 ghost use Rattle.lsm_store.specs.World.{LeavesOnly};
 ghost use Rattle.lsm_store.specs.Synced.{IsBeside, KeepsOthers};
 ghost use Rattle.lsm_model.specs.Steps.{among};
@@ -7,6 +7,7 @@ ghost use Rattle.lsm_manifest.specs.Names.{version_name, table_name};
 ghost use Rattle.lsm_files.specs.Stored.{Keeps, CountsFaults};
 ghost use Rattle.lsm_files.specs.Commits.{SparesStored, IsNoneOf, SparesTables};
 ghost use Rattle.lsm_files.specs.Foreign.{Passes};
+ghost use Rattle.lsm_files.specs.Writing.{KeepsStored};
 
 use lsm_below::{Error, TableId};
 use lsm_manifest::{names_are_apart, table_name, version_name};
@@ -77,6 +78,33 @@ pub fn remove_tables<S: Store>(store: &mut S, ids: &HashSet<TableId>) -> Result<
 {
     for id in ids {
         remove_table(store, *id)?;
+    }
+    Ok(())
+}
+
+/// Removes the files of the tables whose ids are from `first` on and below `next`, in their order, and stops at the first that
+/// can't be removed. After Ok each is absent; a crash may bring it back. Each other name is as it was. It takes no memory. The
+/// cost is linear in the ids.
+///
+/// # Errors
+///
+/// `Store` where the store failed: some of the files may have been removed.
+pub fn remove_written<S: Store>(
+    store: &mut S,
+    first: TableId,
+    next: TableId,
+) -> Result<(), Error>
+    ensures gone { S.tells → OnOk result ((i : ℕ) → first ≤ i → i < next → (S.world store.new).gives (table_name i) ≡ None) }
+    ensures stored { S.tells → KeepsStored first (S.world store.old) (S.world store.new) }
+    // Names that are none of the tree's are as they were.
+    ensures passes { S.tells → Passes (S.world store.old) (S.world store.new) }
+    ensures only { IfErr result (λ e. e ≡ Error.Store) }
+    ensures counts { CountsFaults (S.world store.old) (S.world store.new) result }
+{
+    let mut id = first;
+    'each: while id < next {
+        remove_table(store, id)?;
+        id += 1;
     }
     Ok(())
 }
