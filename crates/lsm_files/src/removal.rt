@@ -89,11 +89,7 @@ pub fn remove_tables<S: Store>(store: &mut S, ids: &HashSet<TableId>) -> Result<
 /// # Errors
 ///
 /// `Store` where the store failed: some of the files may have been removed.
-pub fn remove_written<S: Store>(
-    store: &mut S,
-    first: TableId,
-    next: TableId,
-) -> Result<(), Error>
+pub fn remove_written<S: Store>(store: &mut S, first: TableId, next: TableId) -> Result<(), Error>
     ensures gone { S.tells → OnOk result ((i : ℕ) → first ≤ i → i < next → (S.world store.new).gives (table_name i) ≡ None) }
     ensures stored { S.tells → KeepsStored first (S.world store.old) (S.world store.new) }
     // Names that are none of the tree's are as they were.

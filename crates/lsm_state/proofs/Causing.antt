@@ -1,5 +1,5 @@
 -- Which calls of the store failed where a call of a tree tells a fault.
-use Rattle.std.proofs.Common.{◌≡◌, ◌⊎◌, inl, inr, ⊎_elim, Bool, false, Result, Ok, Err, IfErr, ap, subst, refl}
+use Rattle.std.proofs.Common.{ℕ, ◌-◌, ◌≤◌, ◌^◌, min, arith, ◌≡◌, ◌⊎◌, inl, inr, ⊎_elim, Bool, false, Result, Ok, Err, IfErr, ap, subst, refl}
 use Rattle.std.specs.Prelude.{is_ok}
 use Rattle.lsm_below.specs.declared.error.Error.{Error}
 use Rattle.lsm_below.specs.declared.error.Error.TheVariants.{OutOfMemory, Store, CommitUnknown, OutOfNumbers, AfterCommit, Unrecoverable}
@@ -10,7 +10,8 @@ use Rattle.lsm_state.specs.Core.{Core}
 use Rattle.lsm_state.specs.Causes.{BlamesEnd}
 use Rattle.lsm_state.specs.WholeCompactions.{Follows}
 use Rattle.lsm_files.specs.Stored.{CountsFaults}
-use Rattle.lsm_files.specs.Causes.{HasCause, BlamesStore, Blames, no_fault, one_fault, causes_then, causes_counted}
+use Rattle.lsm_files.specs.Causes.{HasFailed, HasCause, BlamesStore, Blames, no_fault, one_fault, causes_then, causes_counted}
+use Rattle.lsm_state.specs.Cleaning.{RemovesDrawn}
 
 -- a clean-up that isn't whole
 pub unclean : {T : Type 0} (old new : World) (r : Result T Error) (whole : Bool) → whole ≡ is_ok r → IfErr r (λ e. e ≡ Store) → CountsFaults old new r → HasCause (whole ≡ false) old new
@@ -62,3 +63,8 @@ no_way told = ⊎_elim (λ h. cc h) (λ later. ⊎_elim (λ h. cc h) (λ h. cc h
 -- no call was made
 pub refused_still : (w : World) (e : Error) → (BlamesStore e → ⊥) → HasCause (BlamesStore e) w w
 refused_still w e isnt = no_fault (BlamesStore e) w w refl isnt
+
+-- ---- files that are removed behind a refusal
+
+pub removes_then : (first next : ℕ) (old mid new : World) → min old.failures (2 ^ 64 - 1) ≤ mid.failures → RemovesDrawn first next mid new → RemovesDrawn first next old new
+removes_then first next old mid new rises removes = ⊎_elim (λ gone. inl gone) (λ (failed : HasFailed mid new). let more : HasFailed old new = omega (arith, rises, failed) in inr more) removes

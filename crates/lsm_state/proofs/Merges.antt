@@ -174,6 +174,10 @@ pub spent_upholds : (w : World) (old new : Core) (n : ℕ) (found : Bool) → (f
 spent_upholds w old new n true closes other up = subst (Upholds w w old) (sym (closes refl)) (record { files = up.files; passes = up.passes })
 spent_upholds w old new n false closes other up = subst (Upholds w w old) (sym (other refl)) up
 
+pub spent_table : (old new : Core) (n : ℕ) (found : Bool) → (found ≡ true → new ≡ closed n old) → (found ≡ false → new ≡ old) → new.next_table ≡ old.next_table
+spent_table old new n true closes other = ap (λ c. c.next_table) (closes refl)
+spent_table old new n false closes other = ap (λ c. c.next_table) (other refl)
+
 -- the counter has no number
 pub unnumbered : {T : Type 0} (job : SeenCompaction) (old : Core) → 2 ^ 63 ≤ old.seqno → InstallsMerge {T = T} job (Err OutOfNumbers) old old
 unnumbered job old great = record {

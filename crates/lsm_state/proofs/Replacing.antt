@@ -11,11 +11,13 @@ use Rattle.lsm_tables.specs.Tables.{SeenTable}
 use Rattle.lsm_model.specs.Steps.{among}
 use Rattle.lsm_versions.specs.Levels.{SeenVersion, all_of, HasOwnIds, left_in}
 use Rattle.lsm_files.specs.Commits.{AreOthers, SparesTables}
+use Rattle.lsm_files.specs.Writing.{KeepsStored}
 use Rattle.lsm_jobs.specs.Jobs.{SeenOpen}
 use Rattle.lsm_parts.specs.History.{SeenHistory, versions_of}
 use Rattle.lsm_state.specs.Kept.{KeepsTables}
 use Rattle.lsm_state.specs.Core.{Core, versions_left, written_by, written_of}
 use Rattle.lsm_state.specs.Commits.{UpholdsFiles}
+use Rattle.lsm_state.specs.Cleaning.{AreDrawnBelow}
 use Rattle.lsm_state.specs.Settling.{with_version, IsInstalled, Settles}
 use Rattle.lsm_state.proofs.Installing.{each_permuted}
 use Rattle.lsm_state.proofs.Upholding.{upheld, among_left}
@@ -146,3 +148,12 @@ settled v w (Err e) old new only installed = record {
   memory = λ h. cc (h, only);
   only = inr (inr only);
 }
+
+-- files of tables went that were drawn behind all tables of a tree
+pub drawn_upholds : (w w' : World) (c : Core) (first : ℕ) → KeepsStored first w w' → c.lost ≡ None → AreDrawnBelow first c → UpholdsFiles w w' c c
+drawn_upholds w w' c first keeps certain fresh stored =
+    let one : versions_left c ≡ c.history.latest.version ∷ [] = ap (λ o. c.history.latest.version ∷ option_to_list o) certain in
+    let of_version = each_right (λ t. t.id < first) (written_of c) (all_of c.history.latest.version.levels) fresh in
+    let of_flush = each_left (λ t. t.id < first) (written_of c) (all_of c.history.latest.version.levels) fresh in
+    let kept = keeps (versions_left c) (written_of c) stored (subst (AllByRecursion (λ v. AllByRecursion (λ t. t.id < first) (all_of v.levels))) (sym one) (of_version, tt)) of_flush in
+    upheld w w' c c (versions_left c) (written_of c) (versions_left c) refl refl kept.0 kept.1 (among_left (versions_left c) (versions_left c))

@@ -15,6 +15,8 @@ use Rattle.lsm_jobs.specs.Jobs.{SeenJob, SeenWritten, SeenOpen, IsWrittenFrom}
 use Rattle.lsm_jobs.specs.declared.jobs.Registered.{Registered}
 use Rattle.lsm_state.specs.Held.{entries_of}
 use Rattle.lsm_state.specs.Calls.{Rotates}
+use Rattle.lsm_state.specs.Kept.{KeepsTables}
+use Rattle.lsm_state.specs.Cleaning.{AreDrawnBelow}
 use Rattle.lsm_state.specs.Core.{Core, versions_left, written_by, written_of}
 use Rattle.lsm_files.specs.Foreign.{AtRest, passes_then}
 use Rattle.lsm_state.specs.Commits.{UpholdsFiles, Upholds, counted}
@@ -79,11 +81,21 @@ module _ (old mid : Core) (job : SeenJob) (begins : Begins (Ok (Some job)) old m
       by_case None is = is
       by_case (Some f) is = absurd (cc (begins.flush_open.1 (something, (certain, subst IsSome (sym is) refl))))
 
+  pub begun_core : mid ≡ begun old
+  begun_core = begun_is.1
+
   pub begun_versions : versions_left mid ≡ versions_left old
   begun_versions = ap versions_left begun_is.1
 
   pub begun_written : written_of mid ≡ written_of old
   begun_written = ap written_of begun_is.1 ∙ ap written_by (sym closed)
+
+-- what a refused flush leaves has no tables but those of before
+pub left_below : (first : ℕ) (old new : Core) → LeavesRest old new → AreDrawnBelow first old → AreDrawnBelow first new
+left_below first old new left below = subst (AreDrawnBelow first) (sym left.rest) below
+
+pub drawn_below : (first : ℕ) (c : Core) → KeepsTables c.flush c.history c.next_table → first ≡ c.next_table → first < 2 ^ 63 → AreDrawnBelow first c
+drawn_below first c k is small = subst (λ n. AreDrawnBelow n c) (sym is) (k.below (omega (arith, is, small)))
 
 no_some : {A : Type 0} (o : Option A) → o ≡ None → IsSome o → ⊥
 no_some None none some = cc some
@@ -138,6 +150,9 @@ module _ (w : ℕ) (old mid made : Core) (job : SeenJob) (x : SeenWritten) (begi
       ∙ ap (λ (j : SeenJob). record drawn { flush = spent_in j.number (Some noted) }) is_job
       ∙ ap (λ b. record drawn { flush = cond b None (Some noted) }) own_number
       ∙ ap (λ f. record drawn { flush = f }) (sym (closed old mid job begins))
+
+  pub made_history : made.history ≡ old.history
+  made_history = ap (λ c. c.history) made_is
 
   pub made_versions : versions_left made ≡ versions_left old
   made_versions = ap versions_left made_is

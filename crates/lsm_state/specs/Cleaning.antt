@@ -1,16 +1,18 @@
 -- What is cleaned up behind a commit: super versions that no kept snapshot reads, and memtables that none of the others names.
-use Rattle.std.specs.Prelude.{◌≡◌, ℕ, Bool, true, false, List, None, filter, drop, length, nat_le, Result, Ok, Err}
+use Rattle.std.specs.Prelude.{◌≡◌, ◌⊎◌, ◌≤◌, ◌<◌, ℕ, Bool, true, false, List, ◌++◌, None, filter, drop, length, nat_le, Result, Ok, Err}
 use Rattle.std.specs.List.{AllByRecursion}
 use Rattle.lsm_below.specs.declared.error.Error.{Error}
 use Rattle.lsm_below.specs.declared.error.Error.TheVariants.{Store}
 use Rattle.lsm_store.specs.World.{World}
 use Rattle.lsm_model.specs.Steps.{among}
+use Rattle.lsm_versions.specs.Levels.{all_of}
 use Rattle.lsm_manifest.specs.Names.{table_name, version_name}
+use Rattle.lsm_files.specs.Causes.{HasFailed}
 use Rattle.lsm_memtable.specs.Memtables.{SeenMemtable}
 use Rattle.lsm_parts.specs.History.{SeenHistory, oldest, versions_of}
 use Rattle.lsm_parts.specs.Maintenance.{Forgets}
 use Rattle.lsm_state.specs.Kept.{least_named}
-use Rattle.lsm_state.specs.Core.{Core}
+use Rattle.lsm_state.specs.Core.{Core, written_of}
 
 -- the memtables from this id on
 abbrev pub from_id : ℕ → List SeenMemtable → List SeenMemtable
@@ -41,3 +43,11 @@ AreAbsent w ids = (i : ℕ) → among ids i ≡ true → w.gives (table_name i) 
 pub record LeavesNoFiles (w : World) (ids : List ℕ) (old new : SeenHistory) : Type 0 where
   pub tables : AreAbsent w ids
   pub versions : AllByRecursion (λ sv. w.gives (version_name sv.version.id) ≡ None) (drop (length new.older) (versions_of old))
+
+-- the ids of all tables of a tree are below this one
+abbrev pub AreDrawnBelow : ℕ → Core → Type 0
+AreDrawnBelow first c = AllByRecursion (λ t. t.id < first) (written_of c ++ all_of c.history.latest.version.levels)
+
+-- no file is left of the tables with ids from the first on and below the next one, or a call of the store failed meanwhile
+abbrev pub RemovesDrawn : ℕ → ℕ → World → World → Type 0
+RemovesDrawn first next old new = ((i : ℕ) → first ≤ i → i < next → new.gives (table_name i) ≡ None) ⊎ HasFailed old new

@@ -8,7 +8,7 @@ ghost use Rattle.lsm_files.specs.Contents.{AreWritten, FilesAreTables};
 ghost use Rattle.lsm_merges.specs.OpenMerges.{IsOpenIn};
 ghost use Rattle.lsm_versions.specs.Refusals.{IsRefusedFor};
 ghost use Rattle.lsm_files.specs.Causes.{HasCause, Blames};
-ghost use Rattle.lsm_state.specs.Cleaning.{LeavesNoFiles};
+ghost use Rattle.lsm_state.specs.Cleaning.{LeavesNoFiles, RemovesDrawn};
 ghost use Rattle.lsm_state.specs.Commits.{Upholds};
 ghost use Rattle.lsm_state.specs.Flushes.{with_next_table};
 ghost use Rattle.lsm_state.specs.Deeds.{IsNoDeed};
@@ -130,7 +130,7 @@ impl<S: Store> TreeState<S> {
     }
 
     /// Installs a merge that no reason declines: its files are written, and a version with its tables in place of its inputs.
-    fn install_merge(&mut self, merged: &MergedCompaction) -> Result<Finished, Error>
+    fn install_written(&mut self, merged: &MergedCompaction) -> Result<Finished, Error>
         requires { MayMerge merged.now.job self.old.core }
         ensures installs { InstallsMerge merged.now.job result self.old.core self.new.core }
         ensures done { IfOk result (λ f. f ≡ Finished.Installed) }
@@ -157,6 +157,29 @@ impl<S: Store> TreeState<S> {
         }
     }
 
+    /// As `install_written`; refused, the files that were written are removed, as far as the store lets it, unless the version
+    /// that names them may be the current one.
+    fn install_merge(&mut self, merged: &MergedCompaction) -> Result<Finished, Error>
+        requires { MayMerge merged.now.job self.old.core }
+        ensures installs { InstallsMerge merged.now.job result self.old.core self.new.core }
+        ensures done { IfOk result (λ f. f ≡ Finished.Installed) }
+        ensures upholds { S.tells → Upholds (S.world self.old.store) (S.world self.new.store) self.old.core self.new.core }
+        ensures causes { HasCause (Blames result) (S.world self.old.store) (S.world self.new.store) }
+        ensures gone { S.tells → OnOk result (LeavesNoFiles (S.world self.new.store) merged.now.job.ids self.old.core.history self.new.core.history) }
+        ensures refused { S.tells → self.old.core.next_table < LIMIT → IfErr result (λ e. (e ≡ Error.CommitUnknown → ⊥) → (e ≡ Error.AfterCommit → ⊥) → RemovesDrawn self.old.core.next_table self.new.core.next_table (S.world self.old.store) (S.world self.new.store)) }
+    {
+        let first = self.next_table.get();
+        match self.install_written(merged) {
+            Ok(finished) => Ok(finished),
+            Err(Error::CommitUnknown) => Err(Error::CommitUnknown),
+            Err(Error::AfterCommit) => Err(Error::AfterCommit),
+            Err(error) => {
+                self.remove_drawn(first);
+                Err(error)
+            }
+        }
+    }
+
     /// The first reason to decline a merge at its end.
     fn reason_at_end(&self, job: &CompactionJob) -> Result<Option<Why>, Error>
         ensures ends { IfOk result (EndsAs (tables_of job.now.inputs) job.now.ids job.now.settings.dest_level (levels_of self.now.core)) }
@@ -175,6 +198,7 @@ impl<S: Store> TreeState<S> {
         ensures upholds { S.tells → Upholds (S.world self.old.store) (S.world self.new.store) self.old.core self.new.core }
         ensures causes { HasCause (Blames result) (S.world self.old.store) (S.world self.new.store) }
         ensures gone { S.tells → result ≡ Ok Finished.Installed → LeavesNoFiles (S.world self.new.store) merged.now.job.ids self.old.core.history self.new.core.history }
+        ensures refused { S.tells → self.old.core.next_table < LIMIT → IfErr result (λ e. (e ≡ Error.CommitUnknown → ⊥) → (e ≡ Error.AfterCommit → ⊥) → RemovesDrawn self.old.core.next_table self.new.core.next_table (S.world self.old.store) (S.world self.new.store)) }
     {
         self.is_upheld();
         let job = merged.job();
@@ -192,6 +216,7 @@ impl<S: Store> TreeState<S> {
         ensures upholds { S.tells → Upholds (S.world self.old.store) (S.world self.new.store) self.old.core self.new.core }
         ensures causes { HasCause (Blames result) (S.world self.old.store) (S.world self.new.store) }
         ensures gone { S.tells → result ≡ Ok Finished.Installed → LeavesNoFiles (S.world self.new.store) merged.job.ids self.old.core.history self.new.core.history }
+        ensures refused { S.tells → self.old.core.next_table < LIMIT → IfErr result (λ e. (e ≡ Error.CommitUnknown → ⊥) → (e ≡ Error.AfterCommit → ⊥) → RemovesDrawn self.old.core.next_table self.new.core.next_table (S.world self.old.store) (S.world self.new.store)) }
         ensures no_call { IsSome self.old.core.lost → self.new.store ≡ self.old.store }
     {
         self.is_upheld();
@@ -226,6 +251,8 @@ impl<S: Store> TreeState<S> {
         ensures causes { HasCause (Blames result) (S.world self.old.store) (S.world self.new.store) }
         // Behind a whole clean-up no file is left of what went.
         ensures gone { S.tells → result ≡ Ok Finished.Installed → LeavesNoFiles (S.world self.new.store) merged.job.ids self.old.core.history self.new.core.history }
+        // Refused, no file is left of what it wrote, unless a call of the store failed, or a version may name it.
+        ensures refused { S.tells → self.old.core.next_table < LIMIT → IfErr result (λ e. (e ≡ Error.CommitUnknown → ⊥) → (e ≡ Error.AfterCommit → ⊥) → RemovesDrawn self.old.core.next_table self.new.core.next_table (S.world self.old.store) (S.world self.new.store)) }
         ensures no_call { IsSome self.old.core.lost → self.new.store ≡ self.old.store }
         // As the theories see it: the merge and its maintenance, or one of unknown outcome, else nothing.
         ensures deeds { MergeDeeds merged.job result self.old.core self.new.core }

@@ -1,11 +1,12 @@
 // The calls of a flush, up to its tables.
-ghost use Rattle.std.specs.Prelude.{◌≡◌, ◌⊎◌, ◌≤◌, ◌++◌, None, reverse, IsSome, IfOk, IfErr, IsErrOf};
+ghost use Rattle.std.specs.Prelude.{◌≡◌, ◌⊎◌, ◌≤◌, ◌<◌, ◌++◌, None, reverse, IsSome, IfOk, IfErr, IsErrOf};
 ghost use Rattle.lsm_tables.specs.Cutting.{IsWritable};
 ghost use Rattle.lsm_versions.specs.Levels.{all_of, HasOwnIds};
 ghost use Rattle.lsm_files.specs.Stored.{AreOnDisk, CountsFaults};
 ghost use Rattle.lsm_files.specs.Writing.{HoldEntries};
 ghost use Rattle.lsm_files.specs.Causes.{HasCause};
 ghost use Rattle.lsm_state.specs.Causes.{BlamesBeside};
+ghost use Rattle.lsm_state.specs.Cleaning.{RemovesDrawn};
 ghost use Rattle.lsm_state.specs.Commits.{Upholds};
 ghost use Rattle.lsm_state.specs.Deeds.{IsNoDeed};
 ghost use Rattle.lsm_state.specs.Flushes.{Begins, WritesTables, with_next_table, noted_in, spent, spent_in};
@@ -145,8 +146,8 @@ impl<S: Store> TreeState<S> {
     /// # Errors
     ///
     /// `Unrecoverable` after a `CommitUnknown`, with no store call; `OutOfMemory`; `Store` where a store call failed;
-    /// `OutOfNumbers` where the next table's id is 2^63 or more. The job comes back beside the error; some tables may
-    /// have been written, which nothing names.
+    /// `OutOfNumbers` where the next table's id is 2^63 or more. The job comes back beside the error, and the files that were
+    /// written are removed, as far as the store lets it.
     pub fn flush_to_tables(
         &mut self,
         job: MergedFlush,
@@ -154,6 +155,8 @@ impl<S: Store> TreeState<S> {
         ensures writes { WritesTables job result self.old.core self.new.core }
         // What a crash leaves.
         ensures upholds { S.tells → Upholds (S.world self.old.store) (S.world self.new.store) self.old.core self.new.core }
+        // Refused, no file is left, unless a call of the store failed.
+        ensures refused { S.tells → self.old.core.next_table < LIMIT → IfErr result (λ _. RemovesDrawn self.old.core.next_table self.new.core.next_table (S.world self.old.store) (S.world self.new.store)) }
         // The store is blamed only where a call of it failed.
         ensures causes { HasCause (BlamesBeside result) (S.world self.old.store) (S.world self.new.store) }
         ensures no_call { IsSome self.old.core.lost → self.new.store ≡ self.old.store }
@@ -165,11 +168,16 @@ impl<S: Store> TreeState<S> {
         if self.lost.is_some() {
             return Err((Error::Unrecoverable, job));
         }
+        let first = self.next_table.get();
         let tables = match self.write_kept(&job) {
             Ok(tables) => tables,
-            Err(error) => return Err((error, job)),
+            Err(error) => {
+                self.remove_drawn(first);
+                return Err((error, job));
+            }
         };
         let Ok(copies) = copies(self.alloc, &tables) else {
+            self.remove_drawn(first);
             return Err((Error::OutOfMemory, job));
         };
         let open = self.flush.take();

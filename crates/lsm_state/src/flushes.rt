@@ -1,8 +1,8 @@
 // A flush in one call.
-ghost use Rattle.std.specs.Prelude.{◌≡◌, [], true, false, IfOk, IfSome, IsSome};
+ghost use Rattle.std.specs.Prelude.{◌≡◌, ◌<◌, [], true, false, IfOk, IfErr, IfSome, IsSome};
 ghost use Rattle.lsm_files.specs.Foreign.{AtRest};
 ghost use Rattle.lsm_files.specs.Causes.{HasCause, Blames};
-ghost use Rattle.lsm_state.specs.Cleaning.{LeavesNoFiles};
+ghost use Rattle.lsm_state.specs.Cleaning.{LeavesNoFiles, RemovesDrawn};
 ghost use Rattle.lsm_state.specs.Causes.{BlamesOrUncleanFlush, BlamesOrUncleanBehind};
 ghost use Rattle.lsm_state.specs.Commits.{Upholds};
 ghost use Rattle.lsm_state.specs.WholeFlushes.{sealed_bytes, WritesJob, Flushes, MarksFlush, FlushesActive};
@@ -11,7 +11,7 @@ use crate::TreeState;
 use lsm_below::{MemtableId, SeqNo};
 use lsm_files::crashes_leave_versions;
 use lsm_jobs::{FlushJob, Registered, WrittenFlush};
-use lsm_parts::Error;
+use lsm_parts::{Error, LIMIT};
 use lsm_store::Store;
 
 impl<S: Store> TreeState<S> {
@@ -35,6 +35,7 @@ impl<S: Store> TreeState<S> {
         ensures writes { WritesJob watermark job result self.old.core self.new.core }
         ensures upholds { S.tells → Upholds (S.world self.old.store) (S.world self.new.store) self.old.core self.new.core }
         ensures causes { HasCause (Blames result) (S.world self.old.store) (S.world self.new.store) }
+        ensures refused { S.tells → self.old.core.next_table < LIMIT → IfErr result (λ _. RemovesDrawn self.old.core.next_table self.new.core.next_table (S.world self.old.store) (S.world self.new.store)) }
         ensures no_call { IsSome self.old.core.lost → self.new.store ≡ self.old.store }
     {
         self.stays_stored();
@@ -69,18 +70,26 @@ impl<S: Store> TreeState<S> {
         ensures upholds { S.tells → Upholds (S.world self.old.store) (S.world self.new.store) self.old.core self.new.core }
         ensures causes { HasCause (BlamesOrUncleanFlush result) (S.world self.old.store) (S.world self.new.store) }
         ensures gone { S.tells → IfOk result (λ a. IfSome a (λ p. p.1.cleaned ≡ true → LeavesNoFiles (S.world self.new.store) [] self.old.core.history self.new.core.history)) }
+        ensures refused { S.tells → self.old.core.next_table < LIMIT → IfErr result (λ e. (e ≡ Error.CommitUnknown → ⊥) → RemovesDrawn self.old.core.next_table self.new.core.next_table (S.world self.old.store) (S.world self.new.store)) }
         ensures no_call { IsSome self.old.core.lost → self.new.store ≡ self.old.store }
     {
         self.stays_stored();
         *marked = false;
+        let first = self.next_table.get();
         let size = self.sealed_size();
         let Some(job) = self.begin_flush()? else {
             return Ok(None);
         };
         let written = self.write_job(job, watermark)?;
         *marked = true;
-        let registered = self.register(written, true)?;
-        Ok(Some((size, registered)))
+        match self.register(written, true) {
+            Ok(registered) => Ok(Some((size, registered))),
+            Err(Error::CommitUnknown) => Err(Error::CommitUnknown),
+            Err(error) => {
+                self.remove_drawn(first);
+                Err(error)
+            }
+        }
     }
 
     /// As `flush`, and tells beside its answer whether it came to register a job: a journal of the calls then notes the
@@ -99,6 +108,8 @@ impl<S: Store> TreeState<S> {
         ensures causes { HasCause (BlamesOrUncleanFlush (result.0)) (S.world self.old.store) (S.world self.new.store) }
         // Behind a whole clean-up no file is left of what went.
         ensures gone { S.tells → IfOk (result.0) (λ a. IfSome a (λ p. p.1.cleaned ≡ true → LeavesNoFiles (S.world self.new.store) [] self.old.core.history self.new.core.history)) }
+        // Refused, no file is left of what it wrote, unless a call of the store failed, or the outcome of a commit is unknown.
+        ensures refused { S.tells → self.old.core.next_table < LIMIT → IfErr (result.0) (λ e. (e ≡ Error.CommitUnknown → ⊥) → RemovesDrawn self.old.core.next_table self.new.core.next_table (S.world self.old.store) (S.world self.new.store)) }
         ensures no_call { IsSome self.old.core.lost → self.new.store ≡ self.old.store }
     {
         let mut marked = false;
@@ -122,7 +133,7 @@ impl<S: Store> TreeState<S> {
     /// where replacing `current` failed: a crash leaves the old version or the new one.
     ///
     /// Refused, the memtables stay sealed, reads stay as they are, and no flush is left open that wasn't. Numbers and ids of
-    /// tables may be used, and files written that nothing names.
+    /// tables may be used; files that were written are removed, as far as the store lets it, but not after `CommitUnknown`.
     pub fn flush(&mut self, watermark: SeqNo) -> Result<Option<(u64, Registered)>, Error>
         ensures flushes { Flushes watermark result self.old.core self.new.core }
         // What a crash leaves.
@@ -131,6 +142,8 @@ impl<S: Store> TreeState<S> {
         ensures causes { HasCause (BlamesOrUncleanFlush result) (S.world self.old.store) (S.world self.new.store) }
         // Behind a whole clean-up no file is left of what went.
         ensures gone { S.tells → IfOk result (λ a. IfSome a (λ p. p.1.cleaned ≡ true → LeavesNoFiles (S.world self.new.store) [] self.old.core.history self.new.core.history)) }
+        // Refused, no file is left of what it wrote, unless a call of the store failed, or the outcome of a commit is unknown.
+        ensures refused { S.tells → self.old.core.next_table < LIMIT → IfErr result (λ e. (e ≡ Error.CommitUnknown → ⊥) → RemovesDrawn self.old.core.next_table self.new.core.next_table (S.world self.old.store) (S.world self.new.store)) }
         ensures no_call { IsSome self.old.core.lost → self.new.store ≡ self.old.store }
     {
         self.flush_with_mark(watermark).0

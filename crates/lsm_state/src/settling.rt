@@ -1,21 +1,21 @@
 // How a version takes the place of the latest one, outside a flush.
-ghost use Rattle.std.specs.Prelude.{◌≡◌, ℕ, None, OnOk, IfErr};
+ghost use Rattle.std.specs.Prelude.{◌≡◌, ◌<◌, ℕ, None, OnOk, IfErr};
 ghost use Rattle.lsm_versions.specs.Levels.{all_of};
 ghost use Rattle.lsm_files.specs.Stored.{AreOnDisk};
 ghost use Rattle.lsm_files.specs.Commits.{AreOthers};
 ghost use Rattle.lsm_files.specs.Causes.{HasCause, Blames};
 ghost use Rattle.lsm_manifest.specs.Names.{version_name};
 ghost use Rattle.lsm_state.specs.Core.{written_of};
-ghost use Rattle.lsm_state.specs.Cleaning.{AreAbsent, LeavesNoFiles};
+ghost use Rattle.lsm_state.specs.Cleaning.{AreAbsent, AreDrawnBelow, LeavesNoFiles, RemovesDrawn};
 ghost use Rattle.lsm_files.specs.Foreign.{Passes};
 ghost use Rattle.lsm_state.specs.Commits.{UpholdsFiles, Upholds};
 ghost use Rattle.lsm_state.specs.Settling.{MaySettle, Settles};
 
 use crate::TreeState;
 use lsm_below::{SeqNo, TableId};
-use lsm_files::{crashes_leave_versions, remove_tables};
+use lsm_files::{crashes_leave_versions, remove_tables, remove_written};
 use lsm_manifest::names_are_apart;
-use lsm_parts::{Error, SuperVersion, Version};
+use lsm_parts::{Error, LIMIT, SuperVersion, Version};
 use lsm_store::Store;
 use std::collections::HashSet;
 
@@ -43,6 +43,22 @@ impl<S: Store> TreeState<S> {
         match remove_tables(&mut self.store, gone) {
             Ok(()) => Ok(()),
             Err(_) => Err(Error::AfterCommit),
+        }
+    }
+
+    /// Removes the files of the tables whose ids were drawn from this one on, which no version has, as far as the store lets it.
+    pub(crate) fn remove_drawn(&mut self, first: TableId)
+        requires certain { self.old.core.lost ≡ None }
+        requires fresh { first < LIMIT → AreDrawnBelow first self.old.core }
+        ensures core { self.new.core ≡ self.old.core }
+        ensures upholds { S.tells → Upholds (S.world self.old.store) (S.world self.new.store) self.old.core self.new.core }
+        ensures causes { HasCause ⊥ (S.world self.old.store) (S.world self.new.store) }
+        ensures gone { S.tells → first < LIMIT → RemovesDrawn first self.old.core.next_table (S.world self.old.store) (S.world self.new.store) }
+    {
+        self.is_upheld();
+        if first < LIMIT {
+            let next = self.next_table.get();
+            let _ = remove_written(&mut self.store, first, next);
         }
     }
 

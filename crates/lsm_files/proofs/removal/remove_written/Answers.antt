@@ -1,5 +1,4 @@
-use Rattle.std.proofs.Common.{◌≤◌, ◌<◌, ◌∷◌, [], refl, ◌∙◌, arith, rules}
-use Rattle.std.proofs.lemmas.Bool.{eq-eqb}
+use Rattle.std.proofs.Common.{◌∷◌, [], refl, ◌∙◌, arith, rules}
 use Rattle.lsm_files.specs.Foreign.{passes_still, passes_then}
 use Rattle.lsm_files.proofs.Removals.{removed_keeps, stored_more, none_stored, written_gone, one_among}
 use Rattle.lsm_files.proofs.removal.remove_written.Goals as goal

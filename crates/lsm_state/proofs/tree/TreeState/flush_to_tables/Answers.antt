@@ -1,3 +1,8 @@
+use Rattle.std.proofs.Common.{◌≡◌, ◌<◌, ◌^◌}
+use Rattle.lsm_state.specs.Core.{versions_left}
+use Rattle.lsm_state.specs.Cleaning.{RemovesDrawn}
+use Rattle.lsm_state.proofs.Installing.{upholds_join}
+use Rattle.lsm_state.proofs.Causing.{write_causes, removes_then}
 use Rattle.std.proofs.Common.{◌++◌, ap, sym, subst, ◌∙◌, refl}
 use Rattle.lsm_versions.specs.Levels.{all_of, HasOwnIds}
 use Rattle.lsm_files.specs.Stored.{AreOnDisk}
@@ -35,3 +40,43 @@ returns-clause-upholds g c tells =
     let disk = subst (AreOnDisk (w i.store)) (sym copied) (subst (λ t. AreOnDisk (w t.store) c.in-Ok.tables.items) (sym c.self-2.view_is) (c.in-Ok.ensures.on_disk tells)) in
     let before = subst (λ t. Upholds (w now.store) (w t.store) now.core t.core) (sym c.self-2.view_is) (c.in-Ok.ensures.upholds tells) in
     rw (c.with_tables.ensures, c.take-open.ensures.value) (noted_upholds (w now.store) (w i.store) now.core mid c.number.result c.in-Ok-copies.copies.items before disk)
+
+pub returns-in-Err-clause-upholds : goal.returns-in-Err-clause-upholds
+returns-in-Err-clause-upholds g c tells =
+    let w = g.S.Store.world in
+    let old = c.args.self.now in
+    let mid = c.write_kept.new.self in
+    let new = c.remove_drawn.new.self in
+    upholds_join (w old.store) (w mid.store) (w new.store) old.core mid.core new.core (ap versions_left c.remove_drawn.ensures.core) (c.write_kept.ensures.upholds tells) (c.remove_drawn.ensures.upholds tells)
+
+pub returns-in-Err-clause-refused : goal.returns-in-Err-clause-refused
+returns-in-Err-clause-refused g c tells small =
+    let w = g.S.Store.world in
+    let old = c.args.self.now in
+    let mid = c.write_kept.new.self in
+    let new = c.remove_drawn.new.self in
+    let first : c.get-first.result ≡ old.core.next_table = c.get-first.ensures ∙ ap (λ t. t.core.next_table) c.self.view_is in
+    let gone = subst (λ n. n < 2 ^ 63 → RemovesDrawn n mid.core.next_table (w mid.store) (w new.store)) first (c.remove_drawn.ensures.gone tells) small in
+    let next : mid.core.next_table ≡ new.core.next_table = sym (ap (λ k. k.next_table) c.remove_drawn.ensures.core) in
+    let did = write_causes (w old.store) (w mid.store) c.write_kept.result c.write_kept.ensures.only c.write_kept.ensures.counts in
+    removes_then old.core.next_table new.core.next_table (w old.store) (w mid.store) (w new.store) did.rises (subst (λ n. RemovesDrawn old.core.next_table n (w mid.store) (w new.store)) next gone)
+
+pub returns-in_default-clause-upholds : goal.returns-in_default-clause-upholds
+returns-in_default-clause-upholds g c tells =
+    let w = g.S.Store.world in
+    let old = c.args.self.now in
+    let mid = c.write_kept.new.self in
+    let new = c.remove_drawn-in_default.new.self in
+    upholds_join (w old.store) (w mid.store) (w new.store) old.core mid.core new.core (ap versions_left c.remove_drawn-in_default.ensures.core) (c.write_kept.ensures.upholds tells) (c.remove_drawn-in_default.ensures.upholds tells)
+
+pub returns-in_default-clause-refused : goal.returns-in_default-clause-refused
+returns-in_default-clause-refused g c tells small =
+    let w = g.S.Store.world in
+    let old = c.args.self.now in
+    let mid = c.write_kept.new.self in
+    let new = c.remove_drawn-in_default.new.self in
+    let first : c.get-first.result ≡ old.core.next_table = c.get-first.ensures ∙ ap (λ t. t.core.next_table) c.self.view_is in
+    let gone = subst (λ n. n < 2 ^ 63 → RemovesDrawn n mid.core.next_table (w mid.store) (w new.store)) first (c.remove_drawn-in_default.ensures.gone tells) small in
+    let next : mid.core.next_table ≡ new.core.next_table = sym (ap (λ k. k.next_table) c.remove_drawn-in_default.ensures.core) in
+    let did = write_causes (w old.store) (w mid.store) c.write_kept.result c.write_kept.ensures.only c.write_kept.ensures.counts in
+    removes_then old.core.next_table new.core.next_table (w old.store) (w mid.store) (w new.store) did.rises (subst (λ n. RemovesDrawn old.core.next_table n (w mid.store) (w new.store)) next gone)
