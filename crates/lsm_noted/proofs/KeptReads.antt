@@ -1,5 +1,5 @@
 -- What compactions leave of reads, beside what they tell.
-use Rattle.std.proofs.Common.{◌≡◌, ◌⊎◌, ⊎_elim, Option, None, Some, IsSome, ℕ, ◌≤◌, true, false, cond, ltb, List, [], ◌∷◌, ◌++◌, refl, sym, ap, ◌∙◌, subst, append_assoc, append-nil, fold, Result, Ok, Err, IsErrOf, arith}
+use Rattle.std.proofs.Common.{◌≡◌, ⊎_elim, Option, None, Some, IsSome, ℕ, ◌≤◌, true, false, cond, ltb, List, [], ◌∷◌, ◌++◌, refl, sym, ap, ◌∙◌, subst, append_assoc, append-nil, fold, Result, Ok, Err, IsErrOf, arith}
 use Rattle.std.proofs.lemmas.Grind.{fold-append}
 use Rattle.lsm_below.specs.declared.error.Error.{Error}
 use Rattle.lsm_below.specs.declared.error.Error.TheVariants.{OutOfMemory, Unrecoverable, CommitUnknown, AfterCommit}

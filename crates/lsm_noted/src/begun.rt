@@ -1,6 +1,7 @@
 // How a choice begins, and what is noted of that.
 ghost use Rattle.std.specs.Prelude.{◌≡◌, ℕ, IsSome, Ok, length, take};
 ghost use Rattle.lsm_pick.specs.declared.choice.Choice.{Choice as ChoiceOf};
+ghost use Rattle.lsm_files.specs.Causes.{HasCause, Blames};
 ghost use Rattle.lsm_state.specs.Commits.{Upholds};
 ghost use Rattle.lsm_state.specs.Core.{Core};
 ghost use Rattle.lsm_state.specs.CompactionReads.{TellsChoice};
@@ -54,6 +55,8 @@ pub fn begin_chosen<S: Store>(
     ensures front { result.1.items ≡ take (length result.1.items) chosen.entries.items }
     // What a crash leaves.
     ensures upholds { S.tells → Upholds (S.world tree.old.store) (S.world tree.new.store) tree.old.core tree.new.core }
+    // The store is blamed only where a call of it failed, or where the choice does so already.
+    ensures causes { (Blames chosen.answer → ⊥) → HasCause (Blames result.0) (S.world tree.old.store) (S.world tree.new.store) }
     ensures no_call { IsSome tree.old.core.lost → tree.new.store ≡ tree.old.store }
 {
     tree.is_upheld();

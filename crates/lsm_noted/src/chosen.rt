@@ -1,6 +1,7 @@
 // A strategy's choice, beside what a journal notes of it if it is done.
 ghost use Rattle.std.specs.Prelude.{◌≡◌, ◌∷◌, [], IfOk};
 ghost use Rattle.lsm_model.specs.declared.journal.JournalEntry.TheVariants.{Mark};
+ghost use Rattle.lsm_files.specs.Causes.{Blames};
 ghost use Rattle.lsm_state.specs.CompactionDeeds.{dropped_by};
 ghost use Rattle.lsm_noted.specs.Noted.{IsAnswerOf, noted_of};
 
@@ -94,6 +95,7 @@ pub fn ask<S: Store>(
     watermark: SeqNo,
 ) -> Result<Chosen, AllocError>
     ensures answer { IfOk result (λ c. IsAnswerOf (may_choose strategy.now) (may_refuse strategy.now) tree.now.core c.answer) }
+    ensures blameless { IfOk result (λ c. Blames c.answer → ⊥) }
     ensures noted { IfOk result (λ c. c.entries.items ≡ noted_of c.answer watermark tree.now.core) }
 {
     if tree.is_uncertain() {
@@ -114,6 +116,7 @@ pub fn ask_with<S: Store, C: CompactionStrategy>(
     watermark: SeqNo,
 ) -> Result<Chosen, AllocError>
     ensures answer { IfOk result (λ c. IsAnswerOf (C.may_choose strategy.now) (C.may_refuse strategy.now) tree.now.core c.answer) }
+    ensures blameless { IfOk result (λ c. Blames c.answer → ⊥) }
     ensures noted { IfOk result (λ c. c.entries.items ≡ noted_of c.answer watermark tree.now.core) }
 {
     if tree.is_uncertain() {

@@ -1,5 +1,6 @@
 // A compaction in one call, and what is noted of it.
 ghost use Rattle.std.specs.Prelude.{◌≡◌, IsSome, length, take};
+ghost use Rattle.lsm_files.specs.Causes.{HasCause, Blames};
 ghost use Rattle.lsm_state.specs.Commits.{Upholds};
 ghost use Rattle.lsm_noted.specs.Noted.{noted_of, CompactsAnswer};
 
@@ -28,6 +29,8 @@ pub fn compact_chosen<S: Store>(
     ensures front { result.1.items ≡ take (length result.1.items) chosen.entries.items }
     // What a crash leaves.
     ensures upholds { S.tells → Upholds (S.world tree.old.store) (S.world tree.new.store) tree.old.core tree.new.core }
+    // The store is blamed only where a call of it failed, or where the choice does so already.
+    ensures causes { (Blames chosen.answer → ⊥) → HasCause (Blames result.0) (S.world tree.old.store) (S.world tree.new.store) }
     ensures no_call { IsSome tree.old.core.lost → tree.new.store ≡ tree.old.store }
 {
     tree.is_upheld();

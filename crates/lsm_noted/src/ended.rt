@@ -1,6 +1,7 @@
 // How a merge ends, and what is noted of that.
 ghost use Rattle.std.specs.Prelude.{◌≡◌, ℕ, ◌∷◌, [], IfOk, IsSome, length, take};
 ghost use Rattle.lsm_model.specs.declared.journal.JournalEntry.TheVariants.{Install};
+ghost use Rattle.lsm_files.specs.Causes.{HasCause, Blames};
 ghost use Rattle.lsm_state.specs.Commits.{Upholds};
 ghost use Rattle.lsm_state.specs.Core.{Core};
 ghost use Rattle.lsm_state.specs.CompactionReads.{TellsMerge};
@@ -49,6 +50,8 @@ pub fn finish_noting<S: Store>(
     ensures front { result.1.items ≡ take (length result.1.items) entries.items }
     // What a crash leaves.
     ensures upholds { S.tells → Upholds (S.world tree.old.store) (S.world tree.new.store) tree.old.core tree.new.core }
+    // The store is blamed only where a call of it failed.
+    ensures causes { HasCause (Blames result.0) (S.world tree.old.store) (S.world tree.new.store) }
     ensures no_call { IsSome tree.old.core.lost → tree.new.store ≡ tree.old.store }
 {
     let finished = tree.finish_compaction(merged);

@@ -46,7 +46,7 @@ spent_upholds w v n old new leaves same is =
 
 pub rotated_upholds : (w v : World) (old mid new : Core) (id : Option ℕ) → Rotates old id mid → Upholds w v mid new → Upholds w v old new
 rotated_upholds w v old mid new None t u = subst (λ c. Upholds w v c new) t.1 u
-rotated_upholds w v old mid new (Some id) t u = subst (λ c. Upholds w v c new) t.2 u
+rotated_upholds w v old mid new (Some id) t u = let behind = subst (λ c. Upholds w v c new) t.2 u in record { files = behind.files; passes = behind.passes }
 
 pub rotated_lost : (old mid : Core) (id : Option ℕ) → Rotates old id mid → mid.lost ≡ old.lost
 rotated_lost old mid None t = ap (λ (c : Core). c.lost) t.1

@@ -14,7 +14,7 @@ use Rattle.lsm_model.specs.Views.{found_at, Placed, held}
 use Rattle.lsm_model.specs.Beginnings.{shown_by}
 use Rattle.lsm_model.specs.Steps.{Wrote, Asked, Rotated}
 use Rattle.lsm_model.specs.Sound.{Holds}
-use Rattle.lsm_model.specs.Ops.{op_entry, op_entries, repeats, keys_of, op_value}
+use Rattle.lsm_model.specs.Ops.{op_entries, repeats, keys_of, op_value}
 use Rattle.lsm_model.specs.declared.op.Op.{Op}
 use Rattle.lsm_model.specs.declared.journal.JournalEntry.TheVariants.{Write, Read}
 use Rattle.lsm_model.specs.declared.question.Question.{Question}

@@ -1,5 +1,6 @@
 // A clear, and what it adds to a journal.
 ghost use Rattle.std.specs.Prelude.{◌≡◌, ◌⊎◌, IsSome};
+ghost use Rattle.lsm_files.specs.Causes.{HasCause, Blames};
 ghost use Rattle.lsm_state.specs.Commits.{Upholds};
 ghost use Rattle.lsm_recorded.specs.Flushing.{RefusesUnnoted};
 ghost use Rattle.lsm_recorded.specs.Clearing.{ClearsNoted};
@@ -26,6 +27,8 @@ impl<S: Store> Recorded<S> {
         ensures clears { RefusesUnnoted result self.old self.new pass.old pass.new ⊎ ClearsNoted result self.old self.new pass.old pass.new }
         // What a crash leaves.
         ensures upholds { S.tells → Upholds (S.world self.old.tree.store) (S.world self.new.tree.store) self.old.tree.core self.new.tree.core }
+        // The store is blamed only where a call of it failed.
+        ensures causes { HasCause (Blames result) (S.world self.old.tree.store) (S.world self.new.tree.store) }
         ensures no_call { IsSome self.old.tree.core.lost → self.new.tree.store ≡ self.old.tree.store }
         ensures views { StaysBehind self.old.journal self.new.journal self.old.tree.core self.new.tree.core }
         ensures opened { self.new.opened ≡ self.old.opened }

@@ -1,6 +1,7 @@
 // The calls of a compaction, and what they add to a journal.
 ghost use Rattle.std.specs.Prelude.{◌≡◌, ◌⊎◌, ◌+◌, ◌≤◌, [], ◌∷◌, IsSome, IfOk, vec_len, vec_capacity};
 ghost use Rattle.lsm_model.specs.declared.journal.JournalEntry.TheVariants.{Install};
+ghost use Rattle.lsm_files.specs.Causes.{HasCause, Blames};
 ghost use Rattle.lsm_state.specs.Commits.{Upholds};
 ghost use Rattle.lsm_state.specs.Compactions.{Spends};
 ghost use Rattle.lsm_state.specs.WholeCompactions.{options_at, only_memory, major_choice};
@@ -59,6 +60,7 @@ impl<S: Store> Recorded<S> {
         requires { chosen.entries.items ≡ noted_of chosen.answer options.mvcc_gc_watermark self.old.tree.core }
         ensures begins { RefusesUnnoted result self.old self.new pass.old pass.new ⊎ NotesWhatIsDone (λ events. BeginsAnswer chosen.answer options result events self.old.tree.core self.new.tree.core) self.old self.new pass.old pass.new }
         ensures upholds { S.tells → Upholds (S.world self.old.tree.store) (S.world self.new.tree.store) self.old.tree.core self.new.tree.core }
+        ensures causes { (Blames chosen.answer → ⊥) → HasCause (Blames result) (S.world self.old.tree.store) (S.world self.new.tree.store) }
         ensures no_call { IsSome self.old.tree.core.lost → self.new.tree.store ≡ self.old.tree.store }
         ensures views { StaysBehind self.old.journal self.new.journal self.old.tree.core self.new.tree.core }
         ensures opened { self.new.opened ≡ self.old.opened }
@@ -99,6 +101,8 @@ impl<S: Store> Recorded<S> {
         ensures begins { BeginsRecorded (may_choose strategy.now) (may_refuse strategy.now) options result self.old self.new pass.old pass.new }
         // What a crash leaves.
         ensures upholds { S.tells → Upholds (S.world self.old.tree.store) (S.world self.new.tree.store) self.old.tree.core self.new.tree.core }
+        // The store is blamed only where a call of it failed.
+        ensures causes { HasCause (Blames result) (S.world self.old.tree.store) (S.world self.new.tree.store) }
         ensures no_call { IsSome self.old.tree.core.lost → self.new.tree.store ≡ self.old.tree.store }
         ensures views { StaysBehind self.old.journal self.new.journal self.old.tree.core self.new.tree.core }
         ensures opened { self.new.opened ≡ self.old.opened }
@@ -126,6 +130,8 @@ impl<S: Store> Recorded<S> {
         ensures finishes { SpendsUnnoted (Spends merged.job) result self.old self.new pass.old pass.new ⊎ FinishesRecorded merged.job result self.old self.new pass.old pass.new }
         // What a crash leaves.
         ensures upholds { S.tells → Upholds (S.world self.old.tree.store) (S.world self.new.tree.store) self.old.tree.core self.new.tree.core }
+        // The store is blamed only where a call of it failed.
+        ensures causes { HasCause (Blames result) (S.world self.old.tree.store) (S.world self.new.tree.store) }
         ensures no_call { IsSome self.old.tree.core.lost → self.new.tree.store ≡ self.old.tree.store }
         ensures views { Stays self.old.tree.core self.new.tree.core }
         ensures opened { self.new.opened ≡ self.old.opened }
@@ -175,6 +181,7 @@ impl<S: Store> Recorded<S> {
         requires { chosen.entries.items ≡ noted_of chosen.answer options.mvcc_gc_watermark self.old.tree.core }
         ensures compacts { RefusesUnnoted result self.old self.new pass.old pass.new ⊎ NotesWhatIsDone (λ events. CompactsAnswer chosen.answer options result events self.old.tree.core self.new.tree.core) self.old self.new pass.old pass.new }
         ensures upholds { S.tells → Upholds (S.world self.old.tree.store) (S.world self.new.tree.store) self.old.tree.core self.new.tree.core }
+        ensures causes { (Blames chosen.answer → ⊥) → HasCause (Blames result) (S.world self.old.tree.store) (S.world self.new.tree.store) }
         ensures no_call { IsSome self.old.tree.core.lost → self.new.tree.store ≡ self.old.tree.store }
         ensures views { StaysBehind self.old.journal self.new.journal self.old.tree.core self.new.tree.core }
         ensures opened { self.new.opened ≡ self.old.opened }
@@ -214,6 +221,8 @@ impl<S: Store> Recorded<S> {
         ensures compacts { CompactsRecorded (may_choose strategy.now) (may_refuse strategy.now) options result self.old self.new pass.old pass.new }
         // What a crash leaves.
         ensures upholds { S.tells → Upholds (S.world self.old.tree.store) (S.world self.new.tree.store) self.old.tree.core self.new.tree.core }
+        // The store is blamed only where a call of it failed.
+        ensures causes { HasCause (Blames result) (S.world self.old.tree.store) (S.world self.new.tree.store) }
         ensures no_call { IsSome self.old.tree.core.lost → self.new.tree.store ≡ self.old.tree.store }
         ensures views { StaysBehind self.old.journal self.new.journal self.old.tree.core self.new.tree.core }
         ensures opened { self.new.opened ≡ self.old.opened }
@@ -236,6 +245,8 @@ impl<S: Store> Recorded<S> {
         ensures compacts { CompactsRecorded (C.may_choose strategy.now) (C.may_refuse strategy.now) options result self.old self.new pass.old pass.new }
         // What a crash leaves.
         ensures upholds { S.tells → Upholds (S.world self.old.tree.store) (S.world self.new.tree.store) self.old.tree.core self.new.tree.core }
+        // The store is blamed only where a call of it failed.
+        ensures causes { HasCause (Blames result) (S.world self.old.tree.store) (S.world self.new.tree.store) }
         ensures no_call { IsSome self.old.tree.core.lost → self.new.tree.store ≡ self.old.tree.store }
         ensures views { StaysBehind self.old.journal self.new.journal self.old.tree.core self.new.tree.core }
         ensures opened { self.new.opened ≡ self.old.opened }
@@ -273,6 +284,8 @@ impl<S: Store> Recorded<S> {
         ensures compacts { CompactsRecorded (may_choose strategy.now) (may_refuse strategy.now) (options_at watermark self.old.tree.core) result self.old self.new pass.old pass.new }
         // What a crash leaves.
         ensures upholds { S.tells → Upholds (S.world self.old.tree.store) (S.world self.new.tree.store) self.old.tree.core self.new.tree.core }
+        // The store is blamed only where a call of it failed.
+        ensures causes { HasCause (Blames result) (S.world self.old.tree.store) (S.world self.new.tree.store) }
         ensures no_call { IsSome self.old.tree.core.lost → self.new.tree.store ≡ self.old.tree.store }
         ensures views { StaysBehind self.old.journal self.new.journal self.old.tree.core self.new.tree.core }
         ensures opened { self.new.opened ≡ self.old.opened }
@@ -295,6 +308,8 @@ impl<S: Store> Recorded<S> {
         ensures compacts { CompactsRecorded (major_choice target) only_memory (options_at watermark self.old.tree.core) result self.old self.new pass.old pass.new }
         // What a crash leaves.
         ensures upholds { S.tells → Upholds (S.world self.old.tree.store) (S.world self.new.tree.store) self.old.tree.core self.new.tree.core }
+        // The store is blamed only where a call of it failed.
+        ensures causes { HasCause (Blames result) (S.world self.old.tree.store) (S.world self.new.tree.store) }
         ensures no_call { IsSome self.old.tree.core.lost → self.new.tree.store ≡ self.old.tree.store }
         ensures views { StaysBehind self.old.journal self.new.journal self.old.tree.core self.new.tree.core }
         ensures opened { self.new.opened ≡ self.old.opened }
@@ -313,6 +328,8 @@ impl<S: Store> Recorded<S> {
         ensures drops { DropsRecorded bounds result self.old self.new pass.old pass.new }
         // What a crash leaves.
         ensures upholds { S.tells → Upholds (S.world self.old.tree.store) (S.world self.new.tree.store) self.old.tree.core self.new.tree.core }
+        // The store is blamed only where a call of it failed.
+        ensures causes { HasCause (Blames result) (S.world self.old.tree.store) (S.world self.new.tree.store) }
         ensures no_call { IsSome self.old.tree.core.lost → self.new.tree.store ≡ self.old.tree.store }
         ensures views { StaysBehind self.old.journal self.new.journal self.old.tree.core self.new.tree.core }
         ensures opened { self.new.opened ≡ self.old.opened }

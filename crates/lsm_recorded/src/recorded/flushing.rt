@@ -1,5 +1,7 @@
 // The calls of a flush, and what they add to a journal.
 ghost use Rattle.std.specs.Prelude.{◌≡◌, ◌⊎◌, ◌+◌, ◌≤◌, IsSome, vec_len, vec_capacity};
+ghost use Rattle.lsm_files.specs.Causes.{HasCause};
+ghost use Rattle.lsm_state.specs.Causes.{BlamesBeside, BlamesOrUnclean, BlamesOrUncleanFlush, BlamesOrUncleanBehind};
 ghost use Rattle.lsm_state.specs.Commits.{Upholds};
 ghost use Rattle.lsm_state.specs.Flushes.{Begins, WritesTables, Registers, spent};
 ghost use Rattle.lsm_state.specs.FlushReads.{register_events};
@@ -61,6 +63,7 @@ fn register_noted<S: Store>(
     ensures noted { Notes (register_events job.watermark core.old.core.seqno result) journal.old.items journal.new.items pass.old.items pass.new.items }
     ensures keeps { KeepsRecorded floor.old floor.new core.old.core core.new.core journal.old.items journal.new.items }
     ensures upholds { S.tells → Upholds (S.world core.old.store) (S.world core.new.store) core.old.core core.new.core }
+    ensures causes { HasCause (BlamesOrUnclean result) (S.world core.old.store) (S.world core.new.store) }
     ensures no_call { IsSome core.old.core.lost → core.new.store ≡ core.old.store }
 {
     reads_are_sound();
@@ -89,6 +92,7 @@ fn flush_noted<S: Store>(
     ensures flushes { FlushesNoted watermark result core.old.core core.new.core journal.old.items journal.new.items pass.old.items pass.new.items }
     ensures keeps { KeepsRecorded floor.old floor.new core.old.core core.new.core journal.old.items journal.new.items }
     ensures upholds { S.tells → Upholds (S.world core.old.store) (S.world core.new.store) core.old.core core.new.core }
+    ensures causes { HasCause (BlamesOrUncleanFlush result) (S.world core.old.store) (S.world core.new.store) }
     ensures no_call { IsSome core.old.core.lost → core.new.store ≡ core.old.store }
 {
     reads_are_sound();
@@ -136,6 +140,8 @@ impl<S: Store> Recorded<S> {
         ensures core { WritesTables job result self.old.tree.core self.new.tree.core }
         // What a crash leaves.
         ensures upholds { S.tells → Upholds (S.world self.old.tree.store) (S.world self.new.tree.store) self.old.tree.core self.new.tree.core }
+        // The store is blamed only where a call of it failed.
+        ensures causes { HasCause (BlamesBeside result) (S.world self.old.tree.store) (S.world self.new.tree.store) }
         ensures no_call { IsSome self.old.tree.core.lost → self.new.tree.store ≡ self.old.tree.store }
         ensures journal { self.new.journal ≡ self.old.journal }
         ensures pass { pass.new ≡ pass.old }
@@ -178,6 +184,8 @@ impl<S: Store> Recorded<S> {
         ensures registers { SpendsUnnoted (IsSpentFlush job) result self.old self.new pass.old pass.new ⊎ RegistersNoted job result self.old self.new pass.old pass.new }
         // What a crash leaves.
         ensures upholds { S.tells → Upholds (S.world self.old.tree.store) (S.world self.new.tree.store) self.old.tree.core self.new.tree.core }
+        // The store is blamed only where a call of it failed.
+        ensures causes { HasCause (BlamesOrUnclean result) (S.world self.old.tree.store) (S.world self.new.tree.store) }
         ensures no_call { IsSome self.old.tree.core.lost → self.new.tree.store ≡ self.old.tree.store }
         ensures views { Stays self.old.tree.core self.new.tree.core }
         ensures opened { self.new.opened ≡ self.old.opened }
@@ -213,6 +221,8 @@ impl<S: Store> Recorded<S> {
         ensures flushes { RefusesUnnoted result self.old self.new pass.old pass.new ⊎ FlushesNoted watermark result self.old.tree.core self.new.tree.core self.old.journal self.new.journal pass.old pass.new }
         // What a crash leaves.
         ensures upholds { S.tells → Upholds (S.world self.old.tree.store) (S.world self.new.tree.store) self.old.tree.core self.new.tree.core }
+        // The store is blamed only where a call of it failed.
+        ensures causes { HasCause (BlamesOrUncleanFlush result) (S.world self.old.tree.store) (S.world self.new.tree.store) }
         ensures no_call { IsSome self.old.tree.core.lost → self.new.tree.store ≡ self.old.tree.store }
         ensures views { Stays self.old.tree.core self.new.tree.core }
         ensures opened { self.new.opened ≡ self.old.opened }
@@ -247,6 +257,8 @@ impl<S: Store> Recorded<S> {
         ensures noted { NotesActive watermark result self.old.tree.core self.new.tree.core self.old.journal self.new.journal pass.old pass.new }
         // What a crash leaves.
         ensures upholds { S.tells → Upholds (S.world self.old.tree.store) (S.world self.new.tree.store) self.old.tree.core self.new.tree.core }
+        // The store is blamed only where a call of it failed.
+        ensures causes { HasCause (BlamesOrUncleanBehind result) (S.world self.old.tree.store) (S.world self.new.tree.store) }
         ensures no_call { IsSome self.old.tree.core.lost → self.new.tree.store ≡ self.old.tree.store }
         ensures views { Stays self.old.tree.core self.new.tree.core }
         ensures opened { self.new.opened ≡ self.old.opened }

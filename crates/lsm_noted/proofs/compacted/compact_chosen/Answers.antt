@@ -1,5 +1,6 @@
-use Rattle.std.proofs.Common.{◌≡◌, Ok, List, length, take, sym, ap, ◌∙◌, subst}
+use Rattle.std.proofs.Common.{◌≡◌, Ok, List, length, take, refl, sym, ap, ◌∙◌, subst}
 use Rattle.lsm_model.specs.Journal.{Event}
+use Rattle.lsm_files.specs.Causes.{Blames, no_fault}
 use Rattle.lsm_noted.specs.Noted.{noted_of, kept_of, CompactsAnswer, CompactsNoted}
 use Rattle.lsm_noted.proofs.Compacting.{compacts_noted}
 use Rattle.lsm_noted.proofs.compacted.compact_chosen.Goals as goal
@@ -16,3 +17,6 @@ returns-in-Ok-clause-compacts g c =
     let noted : entries ≡ noted_of (Ok choice) w old = c.requires ∙ ap (λ a. noted_of a w old) c.in-Ok.is in
     let events = c.told-entries.ensures.kept ∙ ap (λ (es : List Event). take (kept_of r (length es)) es) noted in
     subst (λ a. CompactsAnswer a o r c.told-entries.result.items old new) (sym c.in-Ok.is) (subst (λ es. CompactsNoted choice o r es old new) (sym events) (compacts_noted choice o r old new c.compact_choice-done.ensures.compacts))
+
+pub returns-in-Err-clause-causes : goal.returns-in-Err-clause-causes
+returns-in-Err-clause-causes g c blameless = no_fault _ _ _ refl (λ blamed. blameless (subst Blames (sym c.in-Err.is) blamed))
