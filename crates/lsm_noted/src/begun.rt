@@ -1,8 +1,10 @@
 // How a choice begins, and what is noted of that.
-ghost use Rattle.std.specs.Prelude.{◌≡◌, ℕ, IsSome, Ok, length, take};
+ghost use Rattle.std.specs.Prelude.{◌≡◌, ℕ, IsSome, IfOk, Ok, length, take};
 ghost use Rattle.lsm_pick.specs.declared.choice.Choice.{Choice as ChoiceOf};
 ghost use Rattle.lsm_files.specs.Causes.{HasCause, Blames};
+ghost use Rattle.lsm_state.specs.Cleaning.{LeavesNoFiles};
 ghost use Rattle.lsm_state.specs.Commits.{Upholds};
+ghost use Rattle.lsm_state.specs.Compactions.{given_up};
 ghost use Rattle.lsm_state.specs.Core.{Core};
 ghost use Rattle.lsm_state.specs.CompactionReads.{TellsChoice};
 ghost use Rattle.lsm_noted.specs.Noted.{noted_of, kept_of, BeginsAnswer};
@@ -57,6 +59,8 @@ pub fn begin_chosen<S: Store>(
     ensures upholds { S.tells → Upholds (S.world tree.old.store) (S.world tree.new.store) tree.old.core tree.new.core }
     // The store is blamed only where a call of it failed, or where the choice does so already.
     ensures causes { (Blames chosen.answer → ⊥) → HasCause (Blames result.0) (S.world tree.old.store) (S.world tree.new.store) }
+    // Behind a whole clean-up no file is left of what went.
+    ensures gone { S.tells → IfOk chosen.answer (λ choice. result.0 ≡ Ok Begun.Installed → LeavesNoFiles (S.world tree.new.store) (given_up choice) tree.old.core.history tree.new.core.history) }
     ensures no_call { IsSome tree.old.core.lost → tree.new.store ≡ tree.old.store }
 {
     tree.is_upheld();

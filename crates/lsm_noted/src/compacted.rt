@@ -1,7 +1,9 @@
 // A compaction in one call, and what is noted of it.
-ghost use Rattle.std.specs.Prelude.{◌≡◌, IsSome, length, take};
+ghost use Rattle.std.specs.Prelude.{◌≡◌, IsSome, IfOk, Ok, length, take};
 ghost use Rattle.lsm_files.specs.Causes.{HasCause, Blames};
+ghost use Rattle.lsm_state.specs.Cleaning.{LeavesNoFiles};
 ghost use Rattle.lsm_state.specs.Commits.{Upholds};
+ghost use Rattle.lsm_state.specs.Compactions.{given_up};
 ghost use Rattle.lsm_noted.specs.Noted.{noted_of, CompactsAnswer};
 
 use crate::Chosen;
@@ -31,6 +33,8 @@ pub fn compact_chosen<S: Store>(
     ensures upholds { S.tells → Upholds (S.world tree.old.store) (S.world tree.new.store) tree.old.core tree.new.core }
     // The store is blamed only where a call of it failed, or where the choice does so already.
     ensures causes { (Blames chosen.answer → ⊥) → HasCause (Blames result.0) (S.world tree.old.store) (S.world tree.new.store) }
+    // Behind a whole clean-up no file is left of what went.
+    ensures gone { S.tells → IfOk chosen.answer (λ choice. result.0 ≡ Ok Begun.Installed → LeavesNoFiles (S.world tree.new.store) (given_up choice) tree.old.core.history tree.new.core.history) }
     ensures no_call { IsSome tree.old.core.lost → tree.new.store ≡ tree.old.store }
 {
     tree.is_upheld();

@@ -1,7 +1,8 @@
 // The calls of a compaction, and what they add to a journal.
-ghost use Rattle.std.specs.Prelude.{◌≡◌, ◌⊎◌, ◌+◌, ◌≤◌, [], ◌∷◌, IsSome, IfOk, vec_len, vec_capacity};
+ghost use Rattle.std.specs.Prelude.{◌≡◌, ◌⊎◌, ◌+◌, ◌≤◌, ◌<◌, [], ◌∷◌, IsSome, Ok, IfOk, IfErr, vec_len, vec_capacity};
 ghost use Rattle.lsm_model.specs.declared.journal.JournalEntry.TheVariants.{Install};
 ghost use Rattle.lsm_files.specs.Causes.{HasCause, Blames};
+ghost use Rattle.lsm_state.specs.Cleaning.{LeavesNoFiles, RemovesDrawn};
 ghost use Rattle.lsm_state.specs.Commits.{Upholds};
 ghost use Rattle.lsm_state.specs.Compactions.{Spends};
 ghost use Rattle.lsm_state.specs.WholeCompactions.{options_at, only_memory, major_choice};
@@ -19,7 +20,7 @@ use lsm_noted::{
     Chosen, ask, ask_with, begin_chosen, compact_chosen, finish_entries, finish_noting,
     noted_compactions_keep_reads,
 };
-use lsm_parts::Error;
+use lsm_parts::{Error, LIMIT};
 use lsm_pick::{CompactionStrategy, DropRange, Major, OwnedBounds};
 use lsm_state::{Begun, Finished, Options};
 use lsm_store::Store;
@@ -132,6 +133,10 @@ impl<S: Store> Recorded<S> {
         ensures upholds { S.tells → Upholds (S.world self.old.tree.store) (S.world self.new.tree.store) self.old.tree.core self.new.tree.core }
         // The store is blamed only where a call of it failed.
         ensures causes { HasCause (Blames result) (S.world self.old.tree.store) (S.world self.new.tree.store) }
+        // Behind a whole clean-up no file is left of what went.
+        ensures gone { S.tells → result ≡ Ok Finished.Installed → LeavesNoFiles (S.world self.new.tree.store) merged.job.ids self.old.tree.core.history self.new.tree.core.history }
+        // Refused, no file is left of what it wrote, unless a call of the store failed, or a version may name it.
+        ensures refused { S.tells → self.old.tree.core.next_table < LIMIT → IfErr result (λ e. (e ≡ Error.CommitUnknown → ⊥) → (e ≡ Error.AfterCommit → ⊥) → RemovesDrawn self.old.tree.core.next_table self.new.tree.core.next_table (S.world self.old.tree.store) (S.world self.new.tree.store)) }
         ensures no_call { IsSome self.old.tree.core.lost → self.new.tree.store ≡ self.old.tree.store }
         ensures views { Stays self.old.tree.core self.new.tree.core }
         ensures opened { self.new.opened ≡ self.old.opened }

@@ -1,7 +1,8 @@
 // The calls of a flush, and what they add to a journal.
-ghost use Rattle.std.specs.Prelude.{◌≡◌, ◌⊎◌, ◌+◌, ◌≤◌, IsSome, vec_len, vec_capacity};
+ghost use Rattle.std.specs.Prelude.{◌≡◌, ◌⊎◌, ◌+◌, ◌≤◌, ◌<◌, [], true, IsSome, IfOk, IfErr, IfSome, vec_len, vec_capacity};
 ghost use Rattle.lsm_files.specs.Causes.{HasCause};
 ghost use Rattle.lsm_state.specs.Causes.{BlamesBeside, BlamesOrUnclean, BlamesOrUncleanFlush, BlamesOrUncleanBehind};
+ghost use Rattle.lsm_state.specs.Cleaning.{LeavesNoFiles, RemovesDrawn};
 ghost use Rattle.lsm_state.specs.Commits.{Upholds};
 ghost use Rattle.lsm_state.specs.Flushes.{Begins, WritesTables, Registers, spent};
 ghost use Rattle.lsm_state.specs.FlushReads.{register_events};
@@ -14,7 +15,7 @@ use crate::recorded::Recorded;
 use lsm_below::{MemtableId, SeqNo};
 use lsm_jobs::{FlushJob, MergedFlush, Registered, WrittenFlush};
 use lsm_model::{JournalEntry, reads_are_sound};
-use lsm_parts::Error;
+use lsm_parts::{Error, LIMIT};
 use lsm_state::{TreeState, flushes_keep_reads};
 use lsm_store::Store;
 
@@ -64,6 +65,7 @@ fn register_noted<S: Store>(
     ensures keeps { KeepsRecorded floor.old floor.new core.old.core core.new.core journal.old.items journal.new.items }
     ensures upholds { S.tells → Upholds (S.world core.old.store) (S.world core.new.store) core.old.core core.new.core }
     ensures causes { HasCause (BlamesOrUnclean result) (S.world core.old.store) (S.world core.new.store) }
+    ensures gone { S.tells → IfOk result (λ a. a.installed ≡ true → a.cleaned ≡ true → LeavesNoFiles (S.world core.new.store) [] core.old.core.history core.new.core.history) }
     ensures no_call { IsSome core.old.core.lost → core.new.store ≡ core.old.store }
 {
     reads_are_sound();
@@ -93,6 +95,8 @@ fn flush_noted<S: Store>(
     ensures keeps { KeepsRecorded floor.old floor.new core.old.core core.new.core journal.old.items journal.new.items }
     ensures upholds { S.tells → Upholds (S.world core.old.store) (S.world core.new.store) core.old.core core.new.core }
     ensures causes { HasCause (BlamesOrUncleanFlush result) (S.world core.old.store) (S.world core.new.store) }
+    ensures gone { S.tells → IfOk result (λ a. IfSome a (λ p. p.1.cleaned ≡ true → LeavesNoFiles (S.world core.new.store) [] core.old.core.history core.new.core.history)) }
+    ensures refused { S.tells → core.old.core.next_table < LIMIT → IfErr result (λ e. (e ≡ Error.CommitUnknown → ⊥) → RemovesDrawn core.old.core.next_table core.new.core.next_table (S.world core.old.store) (S.world core.new.store)) }
     ensures no_call { IsSome core.old.core.lost → core.new.store ≡ core.old.store }
 {
     reads_are_sound();
@@ -142,6 +146,8 @@ impl<S: Store> Recorded<S> {
         ensures upholds { S.tells → Upholds (S.world self.old.tree.store) (S.world self.new.tree.store) self.old.tree.core self.new.tree.core }
         // The store is blamed only where a call of it failed.
         ensures causes { HasCause (BlamesBeside result) (S.world self.old.tree.store) (S.world self.new.tree.store) }
+        // Refused, no file is left, unless a call of the store failed.
+        ensures refused { S.tells → self.old.tree.core.next_table < LIMIT → IfErr result (λ _. RemovesDrawn self.old.tree.core.next_table self.new.tree.core.next_table (S.world self.old.tree.store) (S.world self.new.tree.store)) }
         ensures no_call { IsSome self.old.tree.core.lost → self.new.tree.store ≡ self.old.tree.store }
         ensures journal { self.new.journal ≡ self.old.journal }
         ensures pass { pass.new ≡ pass.old }
@@ -186,6 +192,8 @@ impl<S: Store> Recorded<S> {
         ensures upholds { S.tells → Upholds (S.world self.old.tree.store) (S.world self.new.tree.store) self.old.tree.core self.new.tree.core }
         // The store is blamed only where a call of it failed.
         ensures causes { HasCause (BlamesOrUnclean result) (S.world self.old.tree.store) (S.world self.new.tree.store) }
+        // Behind a whole clean-up no file is left of what went.
+        ensures gone { S.tells → IfOk result (λ a. a.installed ≡ true → a.cleaned ≡ true → LeavesNoFiles (S.world self.new.tree.store) [] self.old.tree.core.history self.new.tree.core.history) }
         ensures no_call { IsSome self.old.tree.core.lost → self.new.tree.store ≡ self.old.tree.store }
         ensures views { Stays self.old.tree.core self.new.tree.core }
         ensures opened { self.new.opened ≡ self.old.opened }
@@ -223,6 +231,10 @@ impl<S: Store> Recorded<S> {
         ensures upholds { S.tells → Upholds (S.world self.old.tree.store) (S.world self.new.tree.store) self.old.tree.core self.new.tree.core }
         // The store is blamed only where a call of it failed.
         ensures causes { HasCause (BlamesOrUncleanFlush result) (S.world self.old.tree.store) (S.world self.new.tree.store) }
+        // Behind a whole clean-up no file is left of what went.
+        ensures gone { S.tells → IfOk result (λ a. IfSome a (λ p. p.1.cleaned ≡ true → LeavesNoFiles (S.world self.new.tree.store) [] self.old.tree.core.history self.new.tree.core.history)) }
+        // Refused, no file is left of what it wrote, unless a call of the store failed, or the outcome of a commit is unknown.
+        ensures refused { S.tells → self.old.tree.core.next_table < LIMIT → IfErr result (λ e. (e ≡ Error.CommitUnknown → ⊥) → RemovesDrawn self.old.tree.core.next_table self.new.tree.core.next_table (S.world self.old.tree.store) (S.world self.new.tree.store)) }
         ensures no_call { IsSome self.old.tree.core.lost → self.new.tree.store ≡ self.old.tree.store }
         ensures views { Stays self.old.tree.core self.new.tree.core }
         ensures opened { self.new.opened ≡ self.old.opened }
