@@ -1,5 +1,5 @@
 -- From the steps of a run to what a crash leaves at each moment of it.
-use Rattle.std.proofs.Common.{◌≡◌, ◌⊎◌, ⊎_elim, inl, inr, ℕ, arith, List, [], ◌∷◌, ◌++◌, map, option_to_list, refl, sym, ap, ◌∙◌, subst, append-nil, append_assoc}
+use Rattle.std.proofs.Common.{◌≡◌, ⊎_elim, inl, inr, ℕ, arith, List, [], ◌∷◌, ◌++◌, map, option_to_list, refl, sym, ap, ◌∙◌, subst, append-nil, append_assoc}
 use Rattle.lsm_below.specs.Entries.{Entry}
 use Rattle.lsm_below.specs.Members.{IsIn}
 use Rattle.lsm_store.specs.World.{Image, World, LeavesOnly}

@@ -4,6 +4,7 @@ pub mod FlushOutcomes
 pub mod CompactionOutcomes
 pub mod Clearing
 pub mod Resting
+pub mod Causing
 pub mod Files
 pub mod ReadOutcomes
 pub mod ReadReplays

@@ -2,33 +2,50 @@
 use Rattle.std.specs.Prelude.{◌≡◌}
 use Rattle.lsm_store.specs.World.{World}
 use Rattle.lsm_files.specs.Stored.{IsStored}
+use Rattle.lsm_files.specs.Causes.{HasCause}
 use Rattle.lsm_state.specs.Core.{Core, versions_left, written_of}
 use Rattle.lsm_state.specs.Commits.{Upholds}
 use Rattle.lsm_runs.specs.declared.steps.JobStep.{JobStep}
 use Rattle.lsm_runs.specs.declared.steps.JobStep.TheVariants.{FlushToTables, RegisterTables, BeginCompaction, FinishCompaction}
+use Rattle.lsm_runs.specs.declared.steps.Reply.{Reply}
 use Rattle.lsm_runs.specs.declared.steps.Step.{Step}
 use Rattle.lsm_runs.specs.declared.steps.Step.TheVariants.{AtSlot, Flush, FlushActiveMemtable, Compact, DoCompaction, MajorCompact, DropRange, Clear}
+use Rattle.lsm_runs.specs.Causes.{ReplyBlames}
 
 -- where the files of a tree are stored before, they are so after
 abbrev pub StaysStored : World → World → Core → Core → Type 0
 StaysStored w w' old new = IsStored w (versions_left old) (written_of old) → IsStored w' (versions_left new) (written_of new)
 
--- what a call on a job leaves of them: no other does anything to the store
-abbrev pub JobLeavesFiles : {F : Type 0} → (F → World) → JobStep → F → F → Core → Core → Type 0
-JobLeavesFiles world FlushToTables was is old new = Upholds (world was) (world is) old new
-JobLeavesFiles world RegisterTables was is old new = Upholds (world was) (world is) old new
-JobLeavesFiles world (BeginCompaction at o) was is old new = Upholds (world was) (world is) old new
-JobLeavesFiles world FinishCompaction was is old new = Upholds (world was) (world is) old new
-JobLeavesFiles world step was is old new = is ≡ was
+-- this of a call on a job that touches the store: no other does anything to it
+abbrev pub JobTouches : {F : Type 0} → JobStep → Type 0 → F → F → Type 0
+JobTouches FlushToTables Does was is = Does
+JobTouches RegisterTables Does was is = Does
+JobTouches (BeginCompaction at o) Does was is = Does
+JobTouches FinishCompaction Does was is = Does
+JobTouches step Does was is = is ≡ was
 
--- what a step leaves of them
+-- this of a step that touches it
+abbrev pub Touches : {F : Type 0} → Step → Type 0 → F → F → Type 0
+Touches (AtSlot slot step) Does was is = JobTouches step Does was is
+Touches (Flush n) Does was is = Does
+Touches (FlushActiveMemtable n) Does was is = Does
+Touches (Compact at n) Does was is = Does
+Touches (DoCompaction at o) Does was is = Does
+Touches (MajorCompact target n) Does was is = Does
+Touches (DropRange low high) Does was is = Does
+Touches Clear Does was is = Does
+Touches step Does was is = is ≡ was
+
+-- what a call on a job, and what a step leaves of a tree's files
+abbrev pub JobLeavesFiles : {F : Type 0} → (F → World) → JobStep → F → F → Core → Core → Type 0
+JobLeavesFiles world step was is old new = JobTouches step (Upholds (world was) (world is) old new) was is
+
 abbrev pub LeavesFiles : {F : Type 0} → (F → World) → Step → F → F → Core → Core → Type 0
-LeavesFiles world (AtSlot slot step) was is old new = JobLeavesFiles world step was is old new
-LeavesFiles world (Flush n) was is old new = Upholds (world was) (world is) old new
-LeavesFiles world (FlushActiveMemtable n) was is old new = Upholds (world was) (world is) old new
-LeavesFiles world (Compact at n) was is old new = Upholds (world was) (world is) old new
-LeavesFiles world (DoCompaction at o) was is old new = Upholds (world was) (world is) old new
-LeavesFiles world (MajorCompact target n) was is old new = Upholds (world was) (world is) old new
-LeavesFiles world (DropRange low high) was is old new = Upholds (world was) (world is) old new
-LeavesFiles world Clear was is old new = Upholds (world was) (world is) old new
-LeavesFiles world step was is old new = is ≡ was
+LeavesFiles world step was is old new = Touches step (Upholds (world was) (world is) old new) was is
+
+-- in one that touches the store the reply blames it only where a call of it failed
+abbrev pub JobHasCause : {F : Type 0} → (F → World) → JobStep → Reply → F → F → Type 0
+JobHasCause world step reply was is = JobTouches step (HasCause (ReplyBlames reply) (world was) (world is)) was is
+
+abbrev pub StepHasCause : {F : Type 0} → (F → World) → Step → Reply → F → F → Type 0
+StepHasCause world step reply was is = Touches step (HasCause (ReplyBlames reply) (world was) (world is)) was is

@@ -6,6 +6,7 @@ pub mod Flushing
 pub mod Compacting
 pub mod Clearing
 pub mod JobSteps
+pub mod Causes
 pub mod Files
 pub mod Runs
 pub mod Counting

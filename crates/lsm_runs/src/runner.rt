@@ -9,7 +9,9 @@ ghost use Rattle.lsm_runs.specs.Told.{Told};
 ghost use Rattle.lsm_runs.specs.Counting.{RunIsInOrder};
 ghost use Rattle.lsm_runs.specs.ReadSteps.{TakesGet, TakesGetEntry, TakesSilent, IsContainsReply, IsSizeReply};
 ghost use Rattle.lsm_state.specs.Commits.{Upholds};
-ghost use Rattle.lsm_runs.specs.Files.{StaysStored, LeavesFiles};
+ghost use Rattle.lsm_files.specs.Causes.{HasCause};
+ghost use Rattle.lsm_runs.specs.Causes.{ReplyBlames, EachHasCause};
+ghost use Rattle.lsm_runs.specs.Files.{StaysStored, LeavesFiles, StepHasCause};
 ghost use Rattle.lsm_runs.specs.Crashes.{watched, RanWatched, RunLeaves, RunRecovers};
 ghost use Rattle.lsm_runs.specs.Compacting.{strategies_of};
 ghost use Rattle.lsm_runs.specs.Unknown.{RanUnknown, RunStops};
@@ -295,6 +297,7 @@ fn take_step<S: Store>(
     ensures err { OnErr result (state.new ≡ state.old) }
     ensures slots_err { OnErr result (SameJobs slots.old slots.new) }
     ensures files { S.tells → OnOk result (LeavesFiles S.world step.now state.old.store state.new.store state.old.core state.new.core) }
+    ensures causes { IfOk result (λ told. StepHasCause S.world step.now told.reply state.old.store state.new.store) }
     ensures no_call { IsSome state.old.core.lost → state.new.store ≡ state.old.store }
 {
     match step {
@@ -351,7 +354,7 @@ fn add_step<S: Store>(
     step: &Step,
     outcomes: &mut Vec<Outcome>,
 ) -> Result<(), AllocError>
-    ensures ok { OnOk result ((told : Told) × (outcomes.new.items ≡ outcomes.old.items ++ told ∷ []) × Takes (strategies_of (λ b. may_choose b) (λ b. may_refuse b) strategies.now) step.now told.reply told.entries (beside state.old.core slots.old) (beside state.new.core slots.new)) }
+    ensures ok { OnOk result ((told : Told) × (outcomes.new.items ≡ outcomes.old.items ++ told ∷ []) × Takes (strategies_of (λ b. may_choose b) (λ b. may_refuse b) strategies.now) step.now told.reply told.entries (beside state.old.core slots.old) (beside state.new.core slots.new) × HasCause (ReplyBlames told.reply) (S.world state.old.store) (S.world state.new.store)) }
     ensures err { OnErr result (state.new ≡ state.old) }
     ensures slots_err { OnErr result (SameJobs slots.old slots.new) }
     ensures outcomes_err { OnErr result (outcomes.new.items ≡ outcomes.old.items) }
@@ -378,6 +381,7 @@ fn take_steps<S: Store, W: Watch>(
     ensures stored { S.tells → StaysStored (S.world state.old.store) (S.world state.new.store) state.old.core state.new.core }
     ensures watched { S.tells → RanWatched S.world W.gives (strategies_of (λ b. may_choose b) (λ b. may_refuse b) strategies.now) (take (length result.items) steps.now) result.items (watched state.old slots.old watch.old) (watched state.new slots.new watch.new) }
     ensures unknown { RanUnknown (strategies_of (λ b. may_choose b) (λ b. may_refuse b) strategies.now) (take (length result.items) steps.now) result.items (beside state.old.core slots.old) (beside state.new.core slots.new) state.old.store state.new.store }
+    ensures causes { EachHasCause S.world result.items state.old.store state.new.store }
 {
     let mut outcomes = Vec::new(alloc);
     for step in steps {
@@ -418,6 +422,8 @@ pub fn run_told<S: Store, W: Watch>(
     ensures crashes { S.tells → (opened : List Entry) (start : Map) → RunRecovers S.world W.gives (strategies_of (λ b. may_choose b) (λ b. may_refuse b) strategies.now) opened start (take (length result.items) steps.now) result.items state.old.store state.new.store watch.old watch.new state.old.core }
     // Behind a commit of unknown outcome no step calls the store.
     ensures unknown { RunStops (strategies_of (λ b. may_choose b) (λ b. may_refuse b) strategies.now) (take (length result.items) steps.now) result.items state.old.store state.new.store state.old.core state.new.core }
+    // The store is blamed only where a call of it failed.
+    ensures causes { EachHasCause S.world result.items state.old.store state.new.store }
 {
     every_crash_recovers();
     found_tables_show();
@@ -476,6 +482,8 @@ pub fn run<S: Store>(
     ensures stored { S.tells → StaysStored (S.world state.old.store) (S.world state.new.store) state.old.core state.new.core }
     // Behind a commit of unknown outcome no step calls the store.
     ensures unknown { RunStops (strategies_of (λ b. may_choose b) (λ b. may_refuse b) strategies.now) (take (length result.items) steps.now) result.items state.old.store state.new.store state.old.core state.new.core }
+    // The store is blamed only where a call of it failed.
+    ensures causes { EachHasCause S.world result.items state.old.store state.new.store }
 {
     run_told(alloc, state, strategies, steps, &mut Unwatched)
 }

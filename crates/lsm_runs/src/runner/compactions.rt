@@ -4,7 +4,9 @@ ghost use Rattle.lsm_state.specs.WholeCompactions.{options_at};
 ghost use Rattle.lsm_noted.specs.Noted.{IsAnswerOf, noted_of};
 ghost use Rattle.lsm_runs.specs.Compacting.{strategies_of, reply_of, job_of, end_reply_of, TakesBeginCompaction, TakesRunCompaction, TakesFinish, TakesAbandonCompaction, DoesAnswer, CompactsFrom, TakesCompact, TakesMajor, TakesDropRange, TakesTableId, IsCompactingReply};
 ghost use Rattle.lsm_runs.specs.ReadSteps.{TakesSilent};
+ghost use Rattle.lsm_files.specs.Causes.{HasCause, Blames};
 ghost use Rattle.lsm_state.specs.Commits.{Upholds};
+ghost use Rattle.lsm_runs.specs.Causes.{ReplyBlames};
 
 use super::{refused, silent};
 use crate::slots::Job;
@@ -63,6 +65,7 @@ fn ask_boxed<S: Store>(
     watermark: SeqNo,
 ) -> Result<Chosen, AllocError>
     ensures answer { IfOk result (λ c. IsAnswerOf (may_choose strategy.now) (may_refuse strategy.now) state.now.core c.answer) }
+    ensures blameless { IfOk result (λ c. Blames c.answer → ⊥) }
     ensures noted { IfOk result (λ c. c.entries.items ≡ noted_of c.answer watermark state.now.core) }
 {
     ask(alloc, state, &**strategy, watermark)
@@ -81,6 +84,7 @@ pub(super) fn begin_compaction<S: Store>(
     ensures ok { IfOk result (λ told. TakesBeginCompaction (strategies_of (λ b. may_choose b) (λ b. may_refuse b) strategies.now) at options told.reply told.entries place.old place.new state.old.core state.new.core) }
     ensures err { OnErr result ((state.new ≡ state.old) × (place.new ≡ place.old)) }
     ensures upholds { S.tells → Upholds (S.world state.old.store) (S.world state.new.store) state.old.core state.new.core }
+    ensures causes { IfOk result (λ told. HasCause (ReplyBlames told.reply) (S.world state.old.store) (S.world state.new.store)) }
     ensures no_call { IsSome state.old.core.lost → state.new.store ≡ state.old.store }
 {
     state.is_upheld();
@@ -131,6 +135,7 @@ pub(super) fn finish_compaction<S: Store>(
     ensures ok { IfOk result (λ told. TakesFinish told.reply told.entries place.old place.new state.old.core state.new.core) }
     ensures err { OnErr result ((state.new ≡ state.old) × (place.new ≡ place.old)) }
     ensures upholds { S.tells → Upholds (S.world state.old.store) (S.world state.new.store) state.old.core state.new.core }
+    ensures causes { IfOk result (λ told. HasCause (ReplyBlames told.reply) (S.world state.old.store) (S.world state.new.store)) }
     ensures no_call { IsSome state.old.core.lost → state.new.store ≡ state.old.store }
 {
     state.is_upheld();
@@ -174,6 +179,7 @@ fn compact_noting<S: Store>(state: &mut TreeState<S>, chosen: Chosen, options: O
     requires { chosen.entries.items ≡ noted_of chosen.answer options.mvcc_gc_watermark state.old.core }
     ensures does { DoesAnswer chosen.answer options result.reply result.entries state.old.core state.new.core }
     ensures upholds { S.tells → Upholds (S.world state.old.store) (S.world state.new.store) state.old.core state.new.core }
+    ensures causes { (Blames chosen.answer → ⊥) → HasCause (ReplyBlames result.reply) (S.world state.old.store) (S.world state.new.store) }
     ensures no_call { IsSome state.old.core.lost → state.new.store ≡ state.old.store }
 {
     let (done, entries) = compact_chosen(state, chosen, options);
@@ -191,6 +197,7 @@ pub(super) fn do_compaction<S: Store>(
     ensures ok { IfOk result (λ told. TakesCompact (strategies_of (λ b. may_choose b) (λ b. may_refuse b) strategies.now) at options told.reply told.entries state.old.core state.new.core) }
     ensures err { OnErr result (state.new ≡ state.old) }
     ensures upholds { S.tells → Upholds (S.world state.old.store) (S.world state.new.store) state.old.core state.new.core }
+    ensures causes { IfOk result (λ told. HasCause (ReplyBlames told.reply) (S.world state.old.store) (S.world state.new.store)) }
     ensures no_call { IsSome state.old.core.lost → state.new.store ≡ state.old.store }
 {
     state.is_upheld();
@@ -221,6 +228,7 @@ pub(super) fn compact<S: Store>(
     ensures ok { IfOk result (λ told. TakesCompact (strategies_of (λ b. may_choose b) (λ b. may_refuse b) strategies.now) at (options_at watermark state.old.core) told.reply told.entries state.old.core state.new.core) }
     ensures err { OnErr result (state.new ≡ state.old) }
     ensures upholds { S.tells → Upholds (S.world state.old.store) (S.world state.new.store) state.old.core state.new.core }
+    ensures causes { IfOk result (λ told. HasCause (ReplyBlames told.reply) (S.world state.old.store) (S.world state.new.store)) }
     ensures no_call { IsSome state.old.core.lost → state.new.store ≡ state.old.store }
 {
     let options = options_of(state, watermark);
@@ -237,6 +245,7 @@ fn compact_with<S: Store, C: CompactionStrategy>(
     ensures ok { IfOk result (λ told. CompactsFrom (C.may_choose strategy.now) (C.may_refuse strategy.now) (options_at watermark state.old.core) told.reply told.entries state.old.core state.new.core) }
     ensures err { OnErr result (state.new ≡ state.old) }
     ensures upholds { S.tells → Upholds (S.world state.old.store) (S.world state.new.store) state.old.core state.new.core }
+    ensures causes { IfOk result (λ told. HasCause (ReplyBlames told.reply) (S.world state.old.store) (S.world state.new.store)) }
     ensures no_call { IsSome state.old.core.lost → state.new.store ≡ state.old.store }
 {
     state.is_upheld();
@@ -254,6 +263,7 @@ pub(super) fn major_compact<S: Store>(
     ensures ok { IfOk result (λ told. TakesMajor target watermark told.reply told.entries state.old.core state.new.core) }
     ensures err { OnErr result (state.new ≡ state.old) }
     ensures upholds { S.tells → Upholds (S.world state.old.store) (S.world state.new.store) state.old.core state.new.core }
+    ensures causes { IfOk result (λ told. HasCause (ReplyBlames told.reply) (S.world state.old.store) (S.world state.new.store)) }
     ensures no_call { IsSome state.old.core.lost → state.new.store ≡ state.old.store }
 {
     compact_with(alloc, state, &Major::new(target), watermark)
@@ -268,6 +278,7 @@ pub(super) fn drop_range<S: Store>(
     ensures ok { IfOk result (λ told. TakesDropRange (record { start = low.now; end = high.now }) told.reply told.entries state.old.core state.new.core) }
     ensures err { OnErr result (state.new ≡ state.old) }
     ensures upholds { S.tells → Upholds (S.world state.old.store) (S.world state.new.store) state.old.core state.new.core }
+    ensures causes { IfOk result (λ told. HasCause (ReplyBlames told.reply) (S.world state.old.store) (S.world state.new.store)) }
     ensures no_call { IsSome state.old.core.lost → state.new.store ≡ state.old.store }
 {
     state.is_upheld();

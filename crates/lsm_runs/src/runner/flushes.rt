@@ -3,7 +3,10 @@ ghost use Rattle.std.specs.Prelude.{◌≡◌, ◌∷◌, [], ℕ, IfOk, OnErr, 
 ghost use Rattle.lsm_model.specs.declared.journal.JournalEntry.TheVariants.{Mark, Install};
 ghost use Rattle.lsm_state.specs.FlushReads.{flush_events};
 ghost use Rattle.lsm_runs.specs.Flushing.{TakesBegin, TakesRun, TakesTables, TakesRegister, TakesAbandon, TakesFlush, TakesFlushActive, TakesMoment, FlushesNoted, told_registered, told_flush, told_active};
+ghost use Rattle.lsm_files.specs.Causes.{HasCause};
+ghost use Rattle.lsm_state.specs.Causes.{BlamesOrUncleanFlush};
 ghost use Rattle.lsm_state.specs.Commits.{Upholds};
+ghost use Rattle.lsm_runs.specs.Causes.{ReplyBlames};
 
 use super::{one_entry, refused, silent};
 use crate::slots::Job;
@@ -73,6 +76,7 @@ pub(super) fn flush_to_tables<S: Store>(
 ) -> Outcome
     ensures takes { TakesTables result.reply result.entries place.old place.new state.old.core state.new.core }
     ensures upholds { S.tells → Upholds (S.world state.old.store) (S.world state.new.store) state.old.core state.new.core }
+    ensures causes { HasCause (ReplyBlames result.reply) (S.world state.old.store) (S.world state.new.store) }
     ensures no_call { IsSome state.old.core.lost → state.new.store ≡ state.old.store }
 {
     state.is_upheld();
@@ -141,6 +145,7 @@ pub(super) fn register_tables<S: Store>(
     ensures ok { IfOk result (λ told. TakesRegister told.reply told.entries place.old place.new state.old.core state.new.core) }
     ensures err { OnErr result ((state.new ≡ state.old) × (place.new ≡ place.old)) }
     ensures upholds { S.tells → Upholds (S.world state.old.store) (S.world state.new.store) state.old.core state.new.core }
+    ensures causes { IfOk result (λ told. HasCause (ReplyBlames told.reply) (S.world state.old.store) (S.world state.new.store)) }
     ensures no_call { IsSome state.old.core.lost → state.new.store ≡ state.old.store }
 {
     state.is_upheld();
@@ -209,6 +214,7 @@ fn flush_noting<S: Store>(
     requires { entries.items ≡ Mark watermark ∷ (Install state.old.core.seqno ∷ []) }
     ensures flushes { FlushesNoted watermark result.0 result.1.items state.old.core state.new.core }
     ensures upholds { S.tells → Upholds (S.world state.old.store) (S.world state.new.store) state.old.core state.new.core }
+    ensures causes { HasCause (BlamesOrUncleanFlush result.0) (S.world state.old.store) (S.world state.new.store) }
     ensures no_call { IsSome state.old.core.lost → state.new.store ≡ state.old.store }
 {
     let (flushed, marked) = state.flush_with_mark(watermark);
@@ -238,6 +244,7 @@ pub(super) fn flush<S: Store>(
     ensures ok { IfOk result (λ told. TakesFlush watermark told.reply told.entries state.old.core state.new.core) }
     ensures err { OnErr result (state.new ≡ state.old) }
     ensures upholds { S.tells → Upholds (S.world state.old.store) (S.world state.new.store) state.old.core state.new.core }
+    ensures causes { IfOk result (λ told. HasCause (ReplyBlames told.reply) (S.world state.old.store) (S.world state.new.store)) }
     ensures no_call { IsSome state.old.core.lost → state.new.store ≡ state.old.store }
 {
     state.is_upheld();
@@ -269,6 +276,7 @@ pub(super) fn flush_active<S: Store>(
     ensures ok { IfOk result (λ told. TakesFlushActive watermark told.reply told.entries state.old.core state.new.core) }
     ensures err { OnErr result (state.new ≡ state.old) }
     ensures upholds { S.tells → Upholds (S.world state.old.store) (S.world state.new.store) state.old.core state.new.core }
+    ensures causes { IfOk result (λ told. HasCause (ReplyBlames told.reply) (S.world state.old.store) (S.world state.new.store)) }
     ensures no_call { IsSome state.old.core.lost → state.new.store ≡ state.old.store }
 {
     state.is_upheld();

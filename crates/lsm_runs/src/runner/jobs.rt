@@ -4,7 +4,7 @@ ghost use Rattle.lsm_jobs.specs.Jobs.{SeenOpen};
 ghost use Rattle.lsm_merges.specs.OpenMerges.{SeenMerges};
 ghost use Rattle.lsm_runs.specs.Compacting.{strategies_of};
 ghost use Rattle.lsm_runs.specs.JobSteps.{TakesJob, TakesInSlot};
-ghost use Rattle.lsm_runs.specs.Files.{JobLeavesFiles};
+ghost use Rattle.lsm_runs.specs.Files.{JobLeavesFiles, JobHasCause};
 ghost use Rattle.lsm_runs.specs.Slots.{beside, SameJobs, KeepsOpen, KeepsMerges, GivesUp, GivesUpAll};
 
 use super::{compactions, flushes};
@@ -26,6 +26,7 @@ fn take_job<S: Store>(
     ensures ok { IfOk result (λ told. TakesJob (strategies_of (λ b. may_choose b) (λ b. may_refuse b) strategies.now) step told.reply told.entries place.old place.new state.old.core state.new.core) }
     ensures err { OnErr result ((state.new ≡ state.old) × (place.new ≡ place.old)) }
     ensures files { S.tells → OnOk result (JobLeavesFiles S.world step state.old.store state.new.store state.old.core state.new.core) }
+    ensures causes { IfOk result (λ told. JobHasCause S.world step told.reply state.old.store state.new.store) }
     ensures no_call { IsSome state.old.core.lost → state.new.store ≡ state.old.store }
 {
     match step {
@@ -56,6 +57,7 @@ pub(super) fn at_slot<S: Store>(
     ensures err { OnErr result (state.new ≡ state.old) }
     ensures slots_err { OnErr result (SameJobs slots.old slots.new) }
     ensures files { S.tells → OnOk result (JobLeavesFiles S.world step state.old.store state.new.store state.old.core state.new.core) }
+    ensures causes { IfOk result (λ told. JobHasCause S.world step told.reply state.old.store state.new.store) }
     ensures no_call { IsSome state.old.core.lost → state.new.store ≡ state.old.store }
 {
     make_room(slots, slot)?;

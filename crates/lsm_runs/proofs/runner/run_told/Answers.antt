@@ -1,5 +1,6 @@
-use Rattle.std.proofs.Common.{subst, sym, take, length}
+use Rattle.std.proofs.Common.{refl, ap, subst, sym, take, length}
 use Rattle.lsm_runs.specs.Slots.{beside}
+use Rattle.lsm_runs.proofs.Causing.{causes_between}
 use Rattle.lsm_runs.proofs.Counting.{run_in_order}
 use Rattle.lsm_runs.specs.Crashes.{watched}
 use Rattle.lsm_runs.proofs.Unknown.{run_unknown}
@@ -23,6 +24,12 @@ returns-clause-unknown g c =
     let mid = c.take_steps-outcomes.new.state in
     run_unknown _ _ _ c.new-slots.result c.args.state.now.core (beside mid.core c.take_steps-outcomes.new.slots) _ _ _ _ c.new-slots.ensures.empty c.take_steps-outcomes.ensures.unknown
     (all_closes c.take_steps-outcomes.new.slots.entries mid.core _ c.give_up_all.ensures.core) c.give_up_all.ensures.store
+
+pub returns-clause-causes : goal.returns-clause-causes
+returns-clause-causes g c =
+    let w = g.S.Store.world in
+    let mid = c.take_steps-outcomes.new.state in
+    causes_between w _ _ _ mid.store _ refl (ap (λ s. (w s).failures) c.give_up_all.ensures.store) c.take_steps-outcomes.ensures.causes
 
 pub returns-clause-replays : goal.returns-clause-replays
 returns-clause-replays g c opened start =

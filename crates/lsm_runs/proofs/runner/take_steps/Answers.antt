@@ -1,5 +1,6 @@
 use Rattle.std.proofs.Common.{◌∙◌, ◌+◌, ◌++◌, ap, [], ◌∷◌, sym, length, length-append, take}
 use Rattle.std.proofs.lemmas.List.{take_more}
+use Rattle.lsm_runs.proofs.Causing.{causes_more}
 use Rattle.lsm_runs.proofs.Crashed.{watched_more}
 use Rattle.lsm_runs.proofs.Replays.{ran_more}
 use Rattle.lsm_runs.proofs.Unknown.{unknown_more, step_unknown}
@@ -13,7 +14,8 @@ loop-step-preserved g c =
     record {
       ran = rw (h.1, more) (ran_more _ _ _ x h.0 _ _ _ c.loop-step.invariant.ran h.2);
       unknown = rw (h.1, more) (unknown_more _ _ _ x h.0 _ _ _ _ _ _ c.loop-step.invariant.unknown h.2 (step_unknown _ x h.0 _ _ _ _ h.2 c.in-Ok.ensures.no_call));
+      causes = rw h.1 (causes_more g.S.Store.world _ h.0 _ _ _ c.loop-step.invariant.causes h.3);
       many = ap (λ l. length l) h.1 ∙ length-append _ _ ∙ ap (λ n. n + 1) c.loop-step.invariant.many;
-      stored = λ tells h. (c.in-Ok.ensures.upholds tells (c.loop-step.invariant.stored tells h)).0;
+      stored = λ tells h. ((c.in-Ok.ensures.upholds tells).files (c.loop-step.invariant.stored tells h)).0;
       watched = λ tells. rw (h.1, more) (watched_more g.S.Store.world g.W.Watch.gives _ _ _ x h.0 _ _ _ (c.loop-step.invariant.watched tells) h.2 (c.in-Ok.ensures.upholds tells) (c.told.ensures tells));
     }

@@ -1,4 +1,5 @@
 use Rattle.std.proofs.Common.{◌≡◌, length, take}
+use Rattle.lsm_runs.specs.Causes.{EachHasCause}
 use Rattle.lsm_runs.specs.Crashes.{watched, RanWatched}
 use Rattle.lsm_runs.specs.Compacting.{strategies_of}
 use Rattle.lsm_runs.specs.Files.{StaysStored}
@@ -14,6 +15,7 @@ invariant-loop-step g l = record {
       (take l.step-index l.steps) l.outcomes.items (beside l.fn.state.core l.fn.slots) (beside l.state.core l.slots);
   unknown : RanUnknown (strategies_of (λ b. (goal.CompactionStrategy-dyn g (b.vtable, b.value)).may_choose b.value) (λ b. (goal.CompactionStrategy-dyn g (b.vtable, b.value)).may_refuse b.value) l.strategies)
       (take l.step-index l.steps) l.outcomes.items (beside l.fn.state.core l.fn.slots) (beside l.state.core l.slots) l.fn.state.store l.state.store;
+  causes : EachHasCause g.S.Store.world l.outcomes.items l.fn.state.store l.state.store;
   many : length l.outcomes.items ≡ l.step-index;
   stored : g.S.Store.tells → StaysStored (g.S.Store.world l.fn.state.store) (g.S.Store.world l.state.store) l.fn.state.core l.state.core;
   watched : g.S.Store.tells → RanWatched g.S.Store.world g.W.Watch.gives (strategies_of (λ b. (goal.CompactionStrategy-dyn g (b.vtable, b.value)).may_choose b.value) (λ b. (goal.CompactionStrategy-dyn g (b.vtable, b.value)).may_refuse b.value) l.strategies)
