@@ -90,190 +90,190 @@ read_refusal s c x r = ⊎_elim (λ h. named SnapshotTooOld x refl h) (λ h. nam
 -- ---- calls on jobs
 
 -- a reply that doesn't blame it
-abbrev Spares : Reply → Type 0
-Spares reply = ReplyBlames reply → ⊥
+abbrev BlamesNot : Reply → Type 0
+BlamesNot reply = ReplyBlames reply → ⊥
 
-begin_spares : (reply : Reply) (events : List Event) (was is : Option Job) (old new : Core) → TakesBegin reply events was is old new → Spares reply
-begin_spares (BegunReply b) events was is old new t blamed = blamed
-begin_spares (Refused x) events was is old new t blamed =
+begin_blames_not : (reply : Reply) (events : List Event) (was is : Option Job) (old new : Core) → TakesBegin reply events was is old new → BlamesNot reply
+begin_blames_not (BegunReply b) events was is old new t blamed = blamed
+begin_blames_not (Refused x) events was is old new t blamed =
     ⊎_elim (λ a. ⊎_elim (λ h. named OutOfMemory x refl h blamed) (λ h. named Unrecoverable x refl h blamed) a) (λ a. ⊎_elim (λ h. named FlushOpen x refl h blamed) (λ h. named OutOfNumbers x refl h blamed) a) t.2.only
-begin_spares SlotInUse events was is old new t blamed = blamed
-begin_spares reply events was is old new t blamed = absurd t
+begin_blames_not SlotInUse events was is old new t blamed = blamed
+begin_blames_not reply events was is old new t blamed = absurd t
 
-run_spares : (n : ℕ) (reply : Reply) (events : List Event) (was is : Option Job) (old new : Core) → TakesRun n reply events was is old new → Spares reply
-run_spares n Done events was is old new t blamed = blamed
-run_spares n (Refused x) events was is old new t blamed = named OutOfMemory x refl t.1 blamed
-run_spares n NoJob events was is old new t blamed = blamed
-run_spares n reply events was is old new t blamed = absurd t
+run_blames_not : (n : ℕ) (reply : Reply) (events : List Event) (was is : Option Job) (old new : Core) → TakesRun n reply events was is old new → BlamesNot reply
+run_blames_not n Done events was is old new t blamed = blamed
+run_blames_not n (Refused x) events was is old new t blamed = named OutOfMemory x refl t.1 blamed
+run_blames_not n NoJob events was is old new t blamed = blamed
+run_blames_not n reply events was is old new t blamed = absurd t
 
-abandon_spares : (reply : Reply) (events : List Event) (was is : Option Job) (old new : Core) → TakesAbandon reply events was is old new → Spares reply
-abandon_spares Done events was is old new t blamed = blamed
-abandon_spares NoJob events was is old new t blamed = blamed
-abandon_spares reply events was is old new t blamed = absurd t
+abandon_blames_not : (reply : Reply) (events : List Event) (was is : Option Job) (old new : Core) → TakesAbandon reply events was is old new → BlamesNot reply
+abandon_blames_not Done events was is old new t blamed = blamed
+abandon_blames_not NoJob events was is old new t blamed = blamed
+abandon_blames_not reply events was is old new t blamed = absurd t
 
-run_compaction_spares : (reply : Reply) (events : List Event) (was is : Option Job) (old new : Core) → TakesRunCompaction reply events was is old new → Spares reply
-run_compaction_spares Done events was is old new t blamed = blamed
-run_compaction_spares (Refused x) events was is old new t blamed = named OutOfMemory x refl t.1 blamed
-run_compaction_spares NoJob events was is old new t blamed = blamed
-run_compaction_spares reply events was is old new t blamed = absurd t
+run_compaction_blames_not : (reply : Reply) (events : List Event) (was is : Option Job) (old new : Core) → TakesRunCompaction reply events was is old new → BlamesNot reply
+run_compaction_blames_not Done events was is old new t blamed = blamed
+run_compaction_blames_not (Refused x) events was is old new t blamed = named OutOfMemory x refl t.1 blamed
+run_compaction_blames_not NoJob events was is old new t blamed = blamed
+run_compaction_blames_not reply events was is old new t blamed = absurd t
 
-given_spares : (reply : Reply) (events : List Event) (was is : Option Job) (old new : Core) → TakesAbandonCompaction reply events was is old new → Spares reply
-given_spares Done events was is old new t blamed = blamed
-given_spares NoJob events was is old new t blamed = blamed
-given_spares reply events was is old new t blamed = absurd t
+given_blames_not : (reply : Reply) (events : List Event) (was is : Option Job) (old new : Core) → TakesAbandonCompaction reply events was is old new → BlamesNot reply
+given_blames_not Done events was is old new t blamed = blamed
+given_blames_not NoJob events was is old new t blamed = blamed
+given_blames_not reply events was is old new t blamed = absurd t
 
-job_spares : (strategies : Strategies) (step : JobStep) (reply : Reply) (events : List Event) (was is : Option Job) (old new : Core) → TakesJob strategies step reply events was is old new → JobQuiet step (Spares reply)
-job_spares strategies BeginFlush reply events was is old new t = begin_spares reply events was is old new t
-job_spares strategies (RunFlush n) reply events was is old new t = run_spares n reply events was is old new t
-job_spares strategies FlushToTables reply events was is old new t = tt
-job_spares strategies RegisterTables reply events was is old new t = tt
-job_spares strategies AbandonFlush reply events was is old new t = abandon_spares reply events was is old new t
-job_spares strategies (BeginCompaction at o) reply events was is old new t = tt
-job_spares strategies RunCompaction reply events was is old new t = run_compaction_spares reply events was is old new t
-job_spares strategies FinishCompaction reply events was is old new t = tt
-job_spares strategies AbandonCompaction reply events was is old new t = given_spares reply events was is old new t
+job_blames_not : (strategies : Strategies) (step : JobStep) (reply : Reply) (events : List Event) (was is : Option Job) (old new : Core) → TakesJob strategies step reply events was is old new → JobQuiet step (BlamesNot reply)
+job_blames_not strategies BeginFlush reply events was is old new t = begin_blames_not reply events was is old new t
+job_blames_not strategies (RunFlush n) reply events was is old new t = run_blames_not n reply events was is old new t
+job_blames_not strategies FlushToTables reply events was is old new t = tt
+job_blames_not strategies RegisterTables reply events was is old new t = tt
+job_blames_not strategies AbandonFlush reply events was is old new t = abandon_blames_not reply events was is old new t
+job_blames_not strategies (BeginCompaction at o) reply events was is old new t = tt
+job_blames_not strategies RunCompaction reply events was is old new t = run_compaction_blames_not reply events was is old new t
+job_blames_not strategies FinishCompaction reply events was is old new t = tt
+job_blames_not strategies AbandonCompaction reply events was is old new t = given_blames_not reply events was is old new t
 
 -- ---- steps that need no slot
 
-entry_spares : (e : Entry) (reply : Reply) (events : List Event) (old new : Core) → TakesEntry e reply events old new → Spares reply
-entry_spares e (Sizes size total) events old new t blamed = blamed
-entry_spares e (Refused x) events old new t blamed = reason (ℕ × ℕ) (entry_refusal e) x (entry_reason e) (either (entry_refusal e) t.1.told) t.1.memory blamed
+entry_blames_not : (e : Entry) (reply : Reply) (events : List Event) (old new : Core) → TakesEntry e reply events old new → BlamesNot reply
+entry_blames_not e (Sizes size total) events old new t blamed = blamed
+entry_blames_not e (Refused x) events old new t blamed = reason (ℕ × ℕ) (entry_refusal e) x (entry_reason e) (either (entry_refusal e) t.1.told) t.1.memory blamed
   where
     either : (o : Option Error) → IfSome o (λ y. ◌≡◌ {A = Result (ℕ × ℕ) Error} (Err x) (Err y)) → IfSome o (λ y. (◌≡◌ {A = Result (ℕ × ℕ) Error} (Err x) (Err y)) ⊎ (◌≡◌ {A = Result (ℕ × ℕ) Error} (Err x) (Err OutOfMemory)))
     either None h = tt
     either (Some y) h = inl h
-entry_spares e reply events old new t blamed = absurd t
+entry_blames_not e reply events old new t blamed = absurd t
 
-batch_spares : (ops : List (Bytes × Op)) (reply : Reply) (events : List Event) (old new : Core) → TakesBatch ops reply events old new → Spares reply
-batch_spares ops (Number n) events old new t blamed = blamed
-batch_spares ops (Refused x) events old new t blamed = reason ℕ (batch_refusal old.seqno ops) x (batch_reason old.seqno ops) t.1.told t.1.memory blamed
-batch_spares ops reply events old new t blamed = absurd t
+batch_blames_not : (ops : List (Bytes × Op)) (reply : Reply) (events : List Event) (old new : Core) → TakesBatch ops reply events old new → BlamesNot reply
+batch_blames_not ops (Number n) events old new t blamed = blamed
+batch_blames_not ops (Refused x) events old new t blamed = reason ℕ (batch_refusal old.seqno ops) x (batch_reason old.seqno ops) t.1.told t.1.memory blamed
+batch_blames_not ops reply events old new t blamed = absurd t
 
-rotate_spares : (reply : Reply) (events : List Event) (old new : Core) → TakesRotate reply events old new → Spares reply
-rotate_spares (Sealed id) events old new t blamed = blamed
-rotate_spares (Refused x) events old new t blamed = ⊎_elim (λ h. named OutOfNumbers x refl h blamed) (λ h. named OutOfMemory x refl h blamed) t.2
-rotate_spares reply events old new t blamed = absurd t
+rotate_blames_not : (reply : Reply) (events : List Event) (old new : Core) → TakesRotate reply events old new → BlamesNot reply
+rotate_blames_not (Sealed id) events old new t blamed = blamed
+rotate_blames_not (Refused x) events old new t blamed = ⊎_elim (λ h. named OutOfNumbers x refl h blamed) (λ h. named OutOfMemory x refl h blamed) t.2
+rotate_blames_not reply events old new t blamed = absurd t
 
-get_spares : (k : Bytes) (s : ℕ) (reply : Reply) (events : List Event) (old new : Core) → TakesGet k s reply events old new → Spares reply
-get_spares k s (Value v) events old new t blamed = blamed
-get_spares k s (Refused x) events old new t blamed = read_refusal s old x t.2 blamed
-get_spares k s reply events old new t blamed = absurd t
+get_blames_not : (k : Bytes) (s : ℕ) (reply : Reply) (events : List Event) (old new : Core) → TakesGet k s reply events old new → BlamesNot reply
+get_blames_not k s (Value v) events old new t blamed = blamed
+get_blames_not k s (Refused x) events old new t blamed = read_refusal s old x t.2 blamed
+get_blames_not k s reply events old new t blamed = absurd t
 
-get_entry_spares : (k : Bytes) (s : ℕ) (reply : Reply) (events : List Event) (old new : Core) → TakesGetEntry k s reply events old new → Spares reply
-get_entry_spares k s (EntryOf e) events old new t blamed = blamed
-get_entry_spares k s (Refused x) events old new t blamed = read_refusal s old x t.2 blamed
-get_entry_spares k s reply events old new t blamed = absurd t
+get_entry_blames_not : (k : Bytes) (s : ℕ) (reply : Reply) (events : List Event) (old new : Core) → TakesGetEntry k s reply events old new → BlamesNot reply
+get_entry_blames_not k s (EntryOf e) events old new t blamed = blamed
+get_entry_blames_not k s (Refused x) events old new t blamed = read_refusal s old x t.2 blamed
+get_entry_blames_not k s reply events old new t blamed = absurd t
 
-pairs_spares : (question : Question) (Right : List Pair → Type 0) (s : ℕ) (reply : Reply) (events : List Event) (old new : Core) → TakesPairs question Right s reply events old new → Spares reply
-pairs_spares question Right s (Pairs pairs) events old new t blamed = blamed
-pairs_spares question Right s (Refused x) events old new t blamed = read_refusal s old x t.2 blamed
-pairs_spares question Right s reply events old new t blamed = absurd t
+pairs_blames_not : (question : Question) (Right : List Pair → Type 0) (s : ℕ) (reply : Reply) (events : List Event) (old new : Core) → TakesPairs question Right s reply events old new → BlamesNot reply
+pairs_blames_not question Right s (Pairs pairs) events old new t blamed = blamed
+pairs_blames_not question Right s (Refused x) events old new t blamed = read_refusal s old x t.2 blamed
+pairs_blames_not question Right s reply events old new t blamed = absurd t
 
-contains_spares : (k : Bytes) (s : ℕ) (c : Core) (reply : Reply) → IsContainsReply k s c reply → Spares reply
-contains_spares k s c (Truth b) t blamed = blamed
-contains_spares k s c (Refused x) t blamed = named SnapshotTooOld x refl t.0 blamed
-contains_spares k s c reply t blamed = absurd t
+contains_blames_not : (k : Bytes) (s : ℕ) (c : Core) (reply : Reply) → IsContainsReply k s c reply → BlamesNot reply
+contains_blames_not k s c (Truth b) t blamed = blamed
+contains_blames_not k s c (Refused x) t blamed = named SnapshotTooOld x refl t.0 blamed
+contains_blames_not k s c reply t blamed = absurd t
 
-size_spares : (k : Bytes) (s : ℕ) (c : Core) (reply : Reply) → IsSizeReply k s c reply → Spares reply
-size_spares k s c (Size n) t blamed = blamed
-size_spares k s c (Refused x) t blamed = named SnapshotTooOld x refl t.0 blamed
-size_spares k s c reply t blamed = absurd t
+size_blames_not : (k : Bytes) (s : ℕ) (c : Core) (reply : Reply) → IsSizeReply k s c reply → BlamesNot reply
+size_blames_not k s c (Size n) t blamed = blamed
+size_blames_not k s c (Refused x) t blamed = named SnapshotTooOld x refl t.0 blamed
+size_blames_not k s c reply t blamed = absurd t
 
-len_spares : (s : ℕ) (c : Core) (reply : Reply) → IsLenReply s c reply → Spares reply
-len_spares s c (CountReply n) t blamed = blamed
-len_spares s c (Refused x) t blamed = read_refusal s c x t blamed
-len_spares s c reply t blamed = absurd t
+len_blames_not : (s : ℕ) (c : Core) (reply : Reply) → IsLenReply s c reply → BlamesNot reply
+len_blames_not s c (CountReply n) t blamed = blamed
+len_blames_not s c (Refused x) t blamed = read_refusal s c x t blamed
+len_blames_not s c reply t blamed = absurd t
 
-empty_spares : (s : ℕ) (c : Core) (reply : Reply) → IsEmptyReply s c reply → Spares reply
-empty_spares s c (Truth b) t blamed = blamed
-empty_spares s c (Refused x) t blamed = read_refusal s c x t blamed
-empty_spares s c reply t blamed = absurd t
+empty_blames_not : (s : ℕ) (c : Core) (reply : Reply) → IsEmptyReply s c reply → BlamesNot reply
+empty_blames_not s c (Truth b) t blamed = blamed
+empty_blames_not s c (Refused x) t blamed = read_refusal s c x t blamed
+empty_blames_not s c reply t blamed = absurd t
 
-end_spares : (end : End) (s : ℕ) (c : Core) (reply : Reply) → IsEndReply end s c reply → Spares reply
-end_spares end s c (EndPair p) t blamed = blamed
-end_spares end s c (Refused x) t blamed = read_refusal s c x t blamed
-end_spares end s c reply t blamed = absurd t
+end_blames_not : (end : End) (s : ℕ) (c : Core) (reply : Reply) → IsEndReply end s c reply → BlamesNot reply
+end_blames_not end s c (EndPair p) t blamed = blamed
+end_blames_not end s c (Refused x) t blamed = read_refusal s c x t blamed
+end_blames_not end s c reply t blamed = absurd t
 
-next_spares : (counter : Counter) (reply : Reply) (events : List Event) (old new : Core) → TakesNext counter reply events old new → Spares reply
-next_spares counter (Number n) events old new t blamed = blamed
-next_spares counter (Refused x) events old new t blamed = named OutOfNumbers x refl t.1 blamed
-next_spares counter reply events old new t blamed = absurd t
+next_blames_not : (counter : Counter) (reply : Reply) (events : List Event) (old new : Core) → TakesNext counter reply events old new → BlamesNot reply
+next_blames_not counter (Number n) events old new t blamed = blamed
+next_blames_not counter (Refused x) events old new t blamed = named OutOfNumbers x refl t.1 blamed
+next_blames_not counter reply events old new t blamed = absurd t
 
-put_spares : (counter : Counter) (n : ℕ) (reply : Reply) (events : List Event) (old new : Core) → TakesCounter counter n reply events old new → Spares reply
-put_spares counter n Done events old new t blamed = blamed
-put_spares counter n reply events old new t blamed = absurd t
+put_blames_not : (counter : Counter) (n : ℕ) (reply : Reply) (events : List Event) (old new : Core) → TakesCounter counter n reply events old new → BlamesNot reply
+put_blames_not counter n Done events old new t blamed = blamed
+put_blames_not counter n reply events old new t blamed = absurd t
 
-moment_spares : (n : ℕ) (reply : Reply) (events : List Event) (old new : Core) → TakesMoment n reply events old new → Spares reply
-moment_spares n Done events old new t blamed = blamed
-moment_spares n reply events old new t blamed = absurd t
+moment_blames_not : (n : ℕ) (reply : Reply) (events : List Event) (old new : Core) → TakesMoment n reply events old new → BlamesNot reply
+moment_blames_not n Done events old new t blamed = blamed
+moment_blames_not n reply events old new t blamed = absurd t
 
-forget_spares : (reply : Reply) (events : List Event) (old new : Core) → TakesForget reply events old new → Spares reply
-forget_spares Done events old new t blamed = blamed
-forget_spares (Refused x) events old new t blamed = ⊎_elim (λ h. named OutOfMemory x refl h blamed) (λ h. named OutOfNumbers x refl h blamed) t.1.only
-forget_spares reply events old new t blamed = absurd t
+forget_blames_not : (reply : Reply) (events : List Event) (old new : Core) → TakesForget reply events old new → BlamesNot reply
+forget_blames_not Done events old new t blamed = blamed
+forget_blames_not (Refused x) events old new t blamed = ⊎_elim (λ h. named OutOfMemory x refl h blamed) (λ h. named OutOfNumbers x refl h blamed) t.1.only
+forget_blames_not reply events old new t blamed = absurd t
 
-table_id_spares : (reply : Reply) (events : List Event) (old new : Core) → TakesTableId reply events old new → Spares reply
-table_id_spares (Number n) events old new t blamed = blamed
-table_id_spares (Refused x) events old new t blamed = named OutOfNumbers x refl t.2 blamed
-table_id_spares reply events old new t blamed = absurd t
+table_id_blames_not : (reply : Reply) (events : List Event) (old new : Core) → TakesTableId reply events old new → BlamesNot reply
+table_id_blames_not (Number n) events old new t blamed = blamed
+table_id_blames_not (Refused x) events old new t blamed = named OutOfNumbers x refl t.2 blamed
+table_id_blames_not reply events old new t blamed = absurd t
 
-count_spares : (what : Count) (c : Core) (reply : Reply) → IsCounted what c reply → Spares reply
-count_spares what c (Counted n) t blamed = blamed
-count_spares what c reply t blamed = absurd t
+count_blames_not : (what : Count) (c : Core) (reply : Reply) → IsCounted what c reply → BlamesNot reply
+count_blames_not what c (Counted n) t blamed = blamed
+count_blames_not what c reply t blamed = absurd t
 
-uncertain_spares : (c : Core) (reply : Reply) → IsUncertainReply c reply → Spares reply
-uncertain_spares c (Truth b) t blamed = blamed
-uncertain_spares c reply t blamed = absurd t
+uncertain_blames_not : (c : Core) (reply : Reply) → IsUncertainReply c reply → BlamesNot reply
+uncertain_blames_not c (Truth b) t blamed = blamed
+uncertain_blames_not c reply t blamed = absurd t
 
-compacting_spares : (c : Core) (reply : Reply) → IsCompactingReply c reply → Spares reply
-compacting_spares c (Truth b) t blamed = blamed
-compacting_spares c reply t blamed = absurd t
+compacting_blames_not : (c : Core) (reply : Reply) → IsCompactingReply c reply → BlamesNot reply
+compacting_blames_not c (Truth b) t blamed = blamed
+compacting_blames_not c reply t blamed = absurd t
 
-kind_spares : (reply : Reply) → IsKindReply reply → Spares reply
-kind_spares (Kind kind) t blamed = blamed
-kind_spares reply t blamed = absurd t
+kind_blames_not : (reply : Reply) → IsKindReply reply → BlamesNot reply
+kind_blames_not (Kind kind) t blamed = blamed
+kind_blames_not reply t blamed = absurd t
 
-alone_spares : (strategies : Strategies) (x : Step) (reply : Reply) (events : List Event) (old new : Core) → TakesAlone strategies x reply events old new → Quiet x (Spares reply)
-alone_spares strategies (Insert k v n) reply events old new t = entry_spares _ reply events old new t
-alone_spares strategies (Remove k n) reply events old new t = entry_spares _ reply events old new t
-alone_spares strategies (RemoveWeak k n) reply events old new t = entry_spares _ reply events old new t
-alone_spares strategies (AppendEntry e) reply events old new t = entry_spares _ reply events old new t
-alone_spares strategies (Write ops) reply events old new t = batch_spares ops reply events old new t
-alone_spares strategies (Get k s) reply events old new t = get_spares k s reply events old new t
-alone_spares strategies (GetInternalEntry k s) reply events old new t = get_entry_spares k s reply events old new t
-alone_spares strategies (ContainsKey k s) reply events old new t = contains_spares k s old reply t.2
-alone_spares strategies (SizeOf k s) reply events old new t = size_spares k s old reply t.2
-alone_spares strategies (Range low high s) reply events old new t = pairs_spares _ _ s reply events old new t
-alone_spares strategies (Iter s) reply events old new t = pairs_spares _ _ s reply events old new t
-alone_spares strategies (Prefix p s) reply events old new t = pairs_spares _ _ s reply events old new t
-alone_spares strategies (Len s) reply events old new t = len_spares s old reply t.2
-alone_spares strategies (IsEmpty s) reply events old new t = empty_spares s old reply t.2
-alone_spares strategies (FirstKeyValue s) reply events old new t = end_spares Front s old reply t.2
-alone_spares strategies (LastKeyValue s) reply events old new t = end_spares Back s old reply t.2
-alone_spares strategies RotateMemtable reply events old new t = rotate_spares reply events old new t
-alone_spares strategies (Next counter) reply events old new t = next_spares counter reply events old new t
-alone_spares strategies (Set counter n) reply events old new t = put_spares counter _ reply events old new t
-alone_spares strategies (FetchMax counter n) reply events old new t = put_spares counter _ reply events old new t
-alone_spares strategies (Flush n) reply events old new t = tt
-alone_spares strategies (FlushActiveMemtable n) reply events old new t = tt
-alone_spares strategies (Compact at n) reply events old new t = tt
-alone_spares strategies (DoCompaction at o) reply events old new t = tt
-alone_spares strategies (MajorCompact target n) reply events old new t = tt
-alone_spares strategies (DropRange low high) reply events old new t = tt
-alone_spares strategies Clear reply events old new t = tt
-alone_spares strategies ClearActiveMemtable reply events old new t = forget_spares reply events old new t
-alone_spares strategies GetNextTableId reply events old new t = table_id_spares reply events old new t
-alone_spares strategies (SetMoment n) reply events old new t = moment_spares n reply events old new t
-alone_spares strategies (CountOf what) reply events old new t = count_spares what old reply t.2
-alone_spares strategies IsUncertain reply events old new t = uncertain_spares old reply t.2
-alone_spares strategies IsCompacting reply events old new t = compacting_spares old reply t.2
-alone_spares strategies TreeType reply events old new t = kind_spares reply t.2
-alone_spares strategies (AtSlot slot step) reply events old new t = absurd t
+alone_blames_not : (strategies : Strategies) (x : Step) (reply : Reply) (events : List Event) (old new : Core) → TakesAlone strategies x reply events old new → Quiet x (BlamesNot reply)
+alone_blames_not strategies (Insert k v n) reply events old new t = entry_blames_not _ reply events old new t
+alone_blames_not strategies (Remove k n) reply events old new t = entry_blames_not _ reply events old new t
+alone_blames_not strategies (RemoveWeak k n) reply events old new t = entry_blames_not _ reply events old new t
+alone_blames_not strategies (AppendEntry e) reply events old new t = entry_blames_not _ reply events old new t
+alone_blames_not strategies (Write ops) reply events old new t = batch_blames_not ops reply events old new t
+alone_blames_not strategies (Get k s) reply events old new t = get_blames_not k s reply events old new t
+alone_blames_not strategies (GetInternalEntry k s) reply events old new t = get_entry_blames_not k s reply events old new t
+alone_blames_not strategies (ContainsKey k s) reply events old new t = contains_blames_not k s old reply t.2
+alone_blames_not strategies (SizeOf k s) reply events old new t = size_blames_not k s old reply t.2
+alone_blames_not strategies (Range low high s) reply events old new t = pairs_blames_not _ _ s reply events old new t
+alone_blames_not strategies (Iter s) reply events old new t = pairs_blames_not _ _ s reply events old new t
+alone_blames_not strategies (Prefix p s) reply events old new t = pairs_blames_not _ _ s reply events old new t
+alone_blames_not strategies (Len s) reply events old new t = len_blames_not s old reply t.2
+alone_blames_not strategies (IsEmpty s) reply events old new t = empty_blames_not s old reply t.2
+alone_blames_not strategies (FirstKeyValue s) reply events old new t = end_blames_not Front s old reply t.2
+alone_blames_not strategies (LastKeyValue s) reply events old new t = end_blames_not Back s old reply t.2
+alone_blames_not strategies RotateMemtable reply events old new t = rotate_blames_not reply events old new t
+alone_blames_not strategies (Next counter) reply events old new t = next_blames_not counter reply events old new t
+alone_blames_not strategies (Set counter n) reply events old new t = put_blames_not counter _ reply events old new t
+alone_blames_not strategies (FetchMax counter n) reply events old new t = put_blames_not counter _ reply events old new t
+alone_blames_not strategies (Flush n) reply events old new t = tt
+alone_blames_not strategies (FlushActiveMemtable n) reply events old new t = tt
+alone_blames_not strategies (Compact at n) reply events old new t = tt
+alone_blames_not strategies (DoCompaction at o) reply events old new t = tt
+alone_blames_not strategies (MajorCompact target n) reply events old new t = tt
+alone_blames_not strategies (DropRange low high) reply events old new t = tt
+alone_blames_not strategies Clear reply events old new t = tt
+alone_blames_not strategies ClearActiveMemtable reply events old new t = forget_blames_not reply events old new t
+alone_blames_not strategies GetNextTableId reply events old new t = table_id_blames_not reply events old new t
+alone_blames_not strategies (SetMoment n) reply events old new t = moment_blames_not n reply events old new t
+alone_blames_not strategies (CountOf what) reply events old new t = count_blames_not what old reply t.2
+alone_blames_not strategies IsUncertain reply events old new t = uncertain_blames_not old reply t.2
+alone_blames_not strategies IsCompacting reply events old new t = compacting_blames_not old reply t.2
+alone_blames_not strategies TreeType reply events old new t = kind_blames_not reply t.2
+alone_blames_not strategies (AtSlot slot step) reply events old new t = absurd t
 
 -- ---- all steps
 
 module _ {F : Type 0} (world : F → World) (was is : F) where
-  quiet : (reply : Reply) → Spares reply → is ≡ was → HasCause (ReplyBlames reply) (world was) (world is)
+  quiet : (reply : Reply) → BlamesNot reply → is ≡ was → HasCause (ReplyBlames reply) (world was) (world is)
   quiet reply spares same = no_fault (ReplyBlames reply) (world was) (world is) (ap (λ (s : F). (world s).failures) same) spares
 
   job_cause : (strategies : Strategies) (step : JobStep) (reply : Reply) (events : List Event) (before after : Option Job) (old new : Core) → TakesJob strategies step reply events before after old new → JobHasCause world step reply was is → HasCause (ReplyBlames reply) (world was) (world is)
@@ -281,7 +281,7 @@ module _ {F : Type 0} (world : F → World) (was is : F) where
   job_cause strategies RegisterTables reply events before after old new t c = c
   job_cause strategies (BeginCompaction at o) reply events before after old new t c = c
   job_cause strategies FinishCompaction reply events before after old new t c = c
-  job_cause strategies step reply events before after old new t c = quiet reply (job_spares strategies step reply events before after old new t) c
+  job_cause strategies step reply events before after old new t c = quiet reply (job_blames_not strategies step reply events before after old new t) c
 
   alone_cause : (strategies : Strategies) (x : Step) (reply : Reply) (events : List Event) (old new : Core) → TakesAlone strategies x reply events old new → StepHasCause world x reply was is → HasCause (ReplyBlames reply) (world was) (world is)
   alone_cause strategies (Flush n) reply events old new t c = c
@@ -292,7 +292,7 @@ module _ {F : Type 0} (world : F → World) (was is : F) where
   alone_cause strategies (DropRange low high) reply events old new t c = c
   alone_cause strategies Clear reply events old new t c = c
   alone_cause strategies (AtSlot slot step) reply events old new t c = absurd t
-  alone_cause strategies x reply events old new t c = quiet reply (alone_spares strategies x reply events old new t) c
+  alone_cause strategies x reply events old new t c = quiet reply (alone_blames_not strategies x reply events old new t) c
 
   pub step_cause : (strategies : Strategies) (x : Step) (reply : Reply) (events : List Event) (old new : Stage) → Takes strategies x reply events old new → StepHasCause world x reply was is → HasCause (ReplyBlames reply) (world was) (world is)
   step_cause strategies (AtSlot slot step) reply events old new t c = job_cause strategies step reply events (old.jobs slot) (new.jobs slot) old.core new.core t.0 c

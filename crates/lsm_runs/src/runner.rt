@@ -10,6 +10,7 @@ ghost use Rattle.lsm_runs.specs.Counting.{RunIsInOrder};
 ghost use Rattle.lsm_runs.specs.ReadSteps.{TakesGet, TakesGetEntry, TakesSilent, IsContainsReply, IsSizeReply};
 ghost use Rattle.lsm_state.specs.Commits.{Upholds};
 ghost use Rattle.lsm_files.specs.Causes.{HasCause};
+ghost use Rattle.lsm_files.specs.Foreign.{Passes};
 ghost use Rattle.lsm_runs.specs.Causes.{ReplyBlames, EachHasCause};
 ghost use Rattle.lsm_runs.specs.Files.{StaysStored, LeavesFiles, StepHasCause};
 ghost use Rattle.lsm_runs.specs.Crashes.{watched, RanWatched, RunLeaves, RunRecovers};
@@ -379,10 +380,12 @@ fn take_steps<S: Store, W: Watch>(
     ensures bound { length result.items ≤ length steps.now }
     ensures ran { Ran (strategies_of (λ b. may_choose b) (λ b. may_refuse b) strategies.now) (take (length result.items) steps.now) result.items (beside state.old.core slots.old) (beside state.new.core slots.new) }
     ensures stored { S.tells → StaysStored (S.world state.old.store) (S.world state.new.store) state.old.core state.new.core }
+    ensures passes { S.tells → Passes (S.world state.old.store) (S.world state.new.store) }
     ensures watched { S.tells → RanWatched S.world W.gives (strategies_of (λ b. may_choose b) (λ b. may_refuse b) strategies.now) (take (length result.items) steps.now) result.items (watched state.old slots.old watch.old) (watched state.new slots.new watch.new) }
     ensures unknown { RanUnknown (strategies_of (λ b. may_choose b) (λ b. may_refuse b) strategies.now) (take (length result.items) steps.now) result.items (beside state.old.core slots.old) (beside state.new.core slots.new) state.old.store state.new.store }
     ensures causes { EachHasCause S.world result.items state.old.store state.new.store }
 {
+    state.is_upheld();
     let mut outcomes = Vec::new(alloc);
     for step in steps {
         match add_step(alloc, state, slots, strategies, step, &mut outcomes) {
@@ -418,6 +421,8 @@ pub fn run_told<S: Store, W: Watch>(
     ensures flush { state.new.core.flush ≡ state.old.core.flush }
     ensures merges { state.new.core.merges.underway ≡ state.old.core.merges.underway }
     ensures stored { S.tells → StaysStored (S.world state.old.store) (S.world state.new.store) state.old.core state.new.core }
+    // Names that are none of the tree's are as they were, also in what a crash meanwhile leaves.
+    ensures passes { S.tells → Passes (S.world state.old.store) (S.world state.new.store) }
     // What a crash leaves at each moment.
     ensures crashes { S.tells → (opened : List Entry) (start : Map) → RunRecovers S.world W.gives (strategies_of (λ b. may_choose b) (λ b. may_refuse b) strategies.now) opened start (take (length result.items) steps.now) result.items state.old.store state.new.store watch.old watch.new state.old.core }
     // Behind a commit of unknown outcome no step calls the store.
@@ -480,6 +485,8 @@ pub fn run<S: Store>(
     // What a crash leaves at each moment.
     ensures crashes { S.tells → (opened : List Entry) (start : Map) → RunLeaves S.world (strategies_of (λ b. may_choose b) (λ b. may_refuse b) strategies.now) opened start (take (length result.items) steps.now) result.items state.old.store state.new.store state.old.core }
     ensures stored { S.tells → StaysStored (S.world state.old.store) (S.world state.new.store) state.old.core state.new.core }
+    // Names that are none of the tree's are as they were, also in what a crash meanwhile leaves.
+    ensures passes { S.tells → Passes (S.world state.old.store) (S.world state.new.store) }
     // Behind a commit of unknown outcome no step calls the store.
     ensures unknown { RunStops (strategies_of (λ b. may_choose b) (λ b. may_refuse b) strategies.now) (take (length result.items) steps.now) result.items state.old.store state.new.store state.old.core state.new.core }
     // The store is blamed only where a call of it failed.

@@ -1,5 +1,6 @@
-use Rattle.std.proofs.Common.{ap}
+use Rattle.std.proofs.Common.{refl, ap}
 use Rattle.lsm_state.specs.Core.{Core}
+use Rattle.lsm_runs.proofs.Causing.{causes_between}
 use Rattle.lsm_runs.proofs.Living.{lived}
 use Rattle.lsm_runs.proofs.life.live.Goals as goal
 
@@ -9,6 +10,11 @@ returns-clause-lives g c tells settled m stands =
     let ran = c.run_told-outcomes in
     lived g.S.Store.world g.W.Watch.gives _ m _ _ c.args.store c.in-Ok.tree.store ran.new.state.store c.args.watch.now ran.new.watch c.in-Ok.tree.core ran.new.state.core
     ((opened.opens tells).shows m stands) (ap (λ (t : Core). t.lost) opened.core) ((opened.opens tells).stored settled) ((opened.opens tells).stands_for settled m stands) ran.ensures.ran (ran.ensures.replays _ m) (ran.ensures.spares _ m) (ran.ensures.crashes tells _ m)
+
+pub returns-clause-causes : goal.returns-clause-causes
+returns-clause-causes g c =
+    let ran = c.run_told-outcomes in
+    causes_between g.S.Store.world ran.result.items c.args.store c.in-Ok.tree.store ran.new.state.store ran.new.state.store c.in-Ok.ensures.counts refl ran.ensures.causes
 
 pub returns-in-Err-clause-refused : goal.returns-in-Err-clause-refused
 returns-in-Err-clause-refused g c tells m stands = (c.in-Err.ensures.opens tells).refuses m stands

@@ -1,5 +1,6 @@
 use Rattle.std.proofs.Common.{◌∙◌, ◌+◌, ◌++◌, ap, [], ◌∷◌, sym, length, length-append, take}
 use Rattle.std.proofs.lemmas.List.{take_more}
+use Rattle.lsm_files.specs.Foreign.{passes_then}
 use Rattle.lsm_runs.proofs.Causing.{causes_more}
 use Rattle.lsm_runs.proofs.Crashed.{watched_more}
 use Rattle.lsm_runs.proofs.Replays.{ran_more}
@@ -17,5 +18,6 @@ loop-step-preserved g c =
       causes = rw h.1 (causes_more g.S.Store.world _ h.0 _ _ _ c.loop-step.invariant.causes h.3);
       many = ap (λ l. length l) h.1 ∙ length-append _ _ ∙ ap (λ n. n + 1) c.loop-step.invariant.many;
       stored = λ tells h. ((c.in-Ok.ensures.upholds tells).files (c.loop-step.invariant.stored tells h)).0;
+      passes = λ tells. passes_then _ _ _ (c.loop-step.invariant.passes tells) (c.in-Ok.ensures.upholds tells).passes;
       watched = λ tells. rw (h.1, more) (watched_more g.S.Store.world g.W.Watch.gives _ _ _ x h.0 _ _ _ (c.loop-step.invariant.watched tells) h.2 (c.in-Ok.ensures.upholds tells) (c.told.ensures tells));
     }
