@@ -243,13 +243,14 @@ fn reopens_each(alloc: Global, script: &Script, failing: (u64, Fault)) -> Result
 #[test]
 fn an_opening_settles_what_it_read(rt: HostRuntime) {
     for call in 1..32 {
-        for fault in [Fault::Once, Fault::OnceDone, Fault::OnceNothing] {
-            for script in [&AROUND_A_FLUSH, &EVICTING] {
-                assert!(rt;
-                    matches!(reopens_each(rt.alloc(), script, (call, fault)), Ok(true)),
-                    "{fault:?} of call {call}"
-                );
-            }
+        for fault in [Fault::Once, Fault::OnceDone] {
+            assert!(rt;
+                matches!(
+                    reopens_each(rt.alloc(), &AROUND_A_FLUSH, (call, fault)),
+                    Ok(true)
+                ),
+                "{fault:?} of call {call}"
+            );
         }
     }
 }
