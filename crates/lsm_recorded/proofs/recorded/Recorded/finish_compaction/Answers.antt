@@ -1,3 +1,6 @@
+use Rattle.std.proofs.Common.{◌≡◌, ◌<◌, ◌^◌, IfErr}
+use Rattle.lsm_below.specs.declared.error.Error.TheVariants.{CommitUnknown, AfterCommit}
+use Rattle.lsm_state.specs.Cleaning.{RemovesDrawn}
 use Rattle.std.proofs.Common.{◌∙◌, ◌++◌, ap, sym, subst}
 use Rattle.lsm_versions.specs.Levels.{placed_of}
 use Rattle.lsm_recorded.specs.Recorded.{IsRecorded, Stays}
@@ -35,3 +38,9 @@ returns-clause-views g c =
     let told = c.put_entries.ensures.noted.behind ∙ ap (λ j. j ++ es) c.make_finish-made.ensures.journal in
     let all = (finish_recorded (placed_of i.opened.levels) i.least i.marks c.reads_are_sound.ensures i.floor c.put_entries.new.floor i.core.core ended.new.tree.core i.journal.items c.put_entries.new.journal.items c.noted_compactions_keep_reads.ensures c.args.merged.job ended.result.0 es ended.ensures.ends told c.put_entries.ensures.floor c.self.invariant).1 in
     subst (λ t. Stays t.tree.core ended.new.tree.core) c.self.view_is all
+
+pub returns-clause-refused : goal.returns-clause-refused
+returns-clause-refused g c tells =
+    let w = g.S.Store.world in
+    let ended = c.finish_noting-entries in
+    subst (λ t. t.tree.core.next_table < 2 ^ 63 → IfErr ended.result.0 (λ e. (e ≡ CommitUnknown → ⊥) → (e ≡ AfterCommit → ⊥) → RemovesDrawn t.tree.core.next_table ended.new.tree.core.next_table (w t.tree.store) (w ended.new.tree.store))) c.self.view_is (ended.ensures.refused tells)
