@@ -8,12 +8,10 @@ use Rattle.lsm_store.specs.Moments.{same_or_not}
 use Rattle.lsm_tables.specs.Spellings.{ok_is}
 use Rattle.lsm_tables.specs.Sum.{sum_of}
 use Rattle.lsm_versions.specs.Levels.{Levels as SeenLevels, empty_levels}
-use Rattle.lsm_manifest.specs.declared.kinds.NameKind.TheVariants.{Refused}
 use Rattle.lsm_manifest.specs.declared.recovered_table.RecoveredTable.{RecoveredTable}
 use Rattle.lsm_manifest.specs.declared.fault.Fault.{Fault}
 use Rattle.lsm_manifest.specs.declared.fault.Fault.TheVariants.{CurrentHeader}
 use Rattle.lsm_manifest.specs.Names.{current_name, version_name, table_name}
-use Rattle.lsm_manifest.specs.Kinds.{kind_of}
 use Rattle.lsm_manifest.specs.Spelling.{current}
 use Rattle.lsm_manifest.specs.Recovery.{Levels, IsNamed, current_at}
 use Rattle.lsm_manifest.specs.Standing.{Pairwise, IsTableAt, AreTablesAt, StandsFor}
@@ -28,7 +26,7 @@ use Rattle.lsm_manifest.proofs.Unread.{unread}
 
 -- ---- what `current` names
 
-content : Option (List ℕ) → List ℕ
+abbrev content : Option (List ℕ) → List ℕ
 content (Some bytes) = bytes
 content None = []
 

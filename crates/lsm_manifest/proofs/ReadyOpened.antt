@@ -1,26 +1,23 @@
 -- What an opening leaves of a ready store.
-use Rattle.std.proofs.Common.{◌≡◌, ◌⊎◌, inl, inr, ⊎_elim, ℕ, ◌≤◌, Bool, true, false, List, [], Option, Some, None, Ok, refl, sym, ap, ◌∙◌, subst, codes}
-use Rattle.std.specs.Prelude.{IsSome}
+use Rattle.std.proofs.Common.{◌≡◌, ◌⊎◌, inl, inr, ⊎_elim, ℕ, ◌≤◌, false, List, [], Option, Some, None, Ok, refl, sym, ◌∙◌, subst, codes}
 use Rattle.std.specs.List.{AllByRecursion}
-use Rattle.std.proofs.lemmas.Bool.{both_ways}
 use Rattle.lsm_below.specs.Each.{each_both}
 use Rattle.lsm_below.specs.Numbers.{PlainNumbersAreRead}
 use Rattle.lsm_store.specs.World.{Image, World, IsImage, LeavesOnly}
 use Rattle.lsm_store.specs.Moments.{weakened}
 use Rattle.lsm_versions.specs.Levels.{Levels as SeenLevels, empty_levels}
 use Rattle.lsm_manifest.specs.declared.opening.Opened.{Opened}
-use Rattle.lsm_manifest.specs.declared.kinds.NameKind.TheVariants.{Refused}
 use Rattle.lsm_manifest.specs.Names.{current_name, version_name, table_name}
-use Rattle.lsm_manifest.specs.Kinds.{kind_of, is_orphan}
+use Rattle.lsm_manifest.specs.Kinds.{is_orphan}
 use Rattle.lsm_manifest.specs.Spelling.{ids_of}
-use Rattle.lsm_manifest.specs.Recovery.{Levels, IsNamed}
+use Rattle.lsm_manifest.specs.Recovery.{Levels}
 use Rattle.lsm_manifest.specs.Standing.{HasGoodNames, StandsFor}
-use Rattle.lsm_manifest.specs.Clearing.{IsCleared, IsSettledFirst, Removes}
+use Rattle.lsm_manifest.specs.Clearing.{IsCleared, IsSettledFirst}
 use Rattle.lsm_manifest.specs.Opening.{IsBegun, IsOldOrBegun, Opens, LeavesStanding}
 use Rattle.lsm_manifest.specs.Finding.{Finds, Named, Nothing, AgreesInRead}
-use Rattle.lsm_manifest.specs.Ready.{IsReady, KeepsNamed, IsOldOrRead, OpeningLeaves}
-use Rattle.lsm_manifest.proofs.OpeningLemmas.{named_once, named_there, some_not_none}
-use Rattle.lsm_manifest.proofs.FindingLemmas.{found_once, good_names}
+use Rattle.lsm_manifest.specs.Ready.{IsReady, IsOldOrRead, OpeningLeaves}
+use Rattle.lsm_manifest.proofs.OpeningLemmas.{named_once}
+use Rattle.lsm_manifest.proofs.FindingLemmas.{found_once}
 use Rattle.lsm_manifest.proofs.FirstVersion.{first_levels, first_stands, older_not_first, older_not_current, refused_not_first, refused_not_current}
 use Rattle.lsm_manifest.proofs.Pins.{current_stays, version_stays, layout_stays}
 use Rattle.lsm_manifest.proofs.Readiness.{ready_names, never_current, ready_keeps}
