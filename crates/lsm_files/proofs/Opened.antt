@@ -2,7 +2,6 @@
 use Rattle.std.proofs.Common.{◌≡◌, ◌⊎◌, inl, inr, ⊎_elim, ℕ, ◌<◌, ◌^◌, Bool, false, List, [], ◌∷◌, ◌++◌, map, Option, Some, None, Ok, refl, sym, ap, ◌∙◌, subst, codes, lit<}
 use Rattle.std.specs.Prelude.{IsSome}
 use Rattle.std.specs.List.{AllByRecursion}
-use Rattle.std.proofs.lemmas.Bool.{both_ways}
 use Rattle.lsm_below.specs.Each.{each_both}
 use Rattle.lsm_below.specs.Optimizes.{tables_of}
 use Rattle.lsm_store.specs.World.{Image, World}
@@ -18,7 +17,6 @@ use Rattle.lsm_manifest.specs.Spelling.{ids_of, IsNamedTable, IsRun, IsLevel, Is
 use Rattle.lsm_manifest.specs.Recovery.{Levels, IsNamed}
 use Rattle.lsm_manifest.specs.Versions.{named_table, named_runs, named_levels, file_of, first_version}
 use Rattle.lsm_manifest.specs.Standing.{Pairwise, IsTableAt, AreTablesAt}
-use Rattle.lsm_manifest.specs.Pinned.{IsFixed}
 use Rattle.lsm_manifest.specs.Clearing.{Removes}
 use Rattle.lsm_manifest.specs.Opening.{IsFound, ReadsFrom, IsNewTree, Opens}
 use Rattle.lsm_manifest.specs.Finding.{NamedFilesStay}
