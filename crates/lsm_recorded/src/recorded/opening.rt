@@ -17,12 +17,16 @@ ghost use Rattle.lsm_manifest.specs.OpeningWith.{OpensWith, IsUnrecoverable};
 ghost use Rattle.lsm_manifest.specs.Opening.{OpensNew, OpensAs, IsOlder, IsAbove, KeepsFiles, ReadsFrom};
 ghost use Rattle.lsm_manifest.specs.Persist.{IsOldOrNew};
 ghost use Rattle.lsm_manifest.specs.Versions.{file_of, first_version};
-ghost use Rattle.lsm_state.specs.Core.{opened_core};
+ghost use Rattle.lsm_manifest.specs.Finding.{Finds};
+ghost use Rattle.lsm_manifest.specs.Ready.{IsReady, OpeningLeaves};
+ghost use Rattle.lsm_files.specs.Stored.{IsStored};
+ghost use Rattle.lsm_state.specs.Core.{opened_core, versions_left, written_of};
 ghost use Rattle.lsm_versions.specs.Configs.{raised};
 
 use crate::opened::{OpenedMarks, opened_of};
 use crate::recorded::Recorded;
 use lsm_below::{Error, TableId};
+use lsm_manifest::openings_leave_what_was_read;
 use lsm_model::{maps_are_read, reads_are_sound};
 use lsm_parts::{Config, Version};
 use lsm_state::TreeState;
@@ -64,6 +68,10 @@ impl<S: Store> Recorded<S> {
         ensures stands { S.tells → (id : ℕ) (ls : Levels) (ts : SeenLevels) → StandsFor (S.world store).gives id ls ts → IsPinned (S.world store) id ls → LeavesOnly (S.world store) (S.world (store_left result)) (λ image. StandsFor image id ls ts) }
         // Or it leaves what was there, or the new tree.
         ensures new_moment { S.tells → (S.world store).gives current_name ≡ None → LeavesOnly (S.world store) (S.world (store_left result)) (IsOldOrNew 0 (file_of first_version) (S.world store)) }
+        // Over a store that is ready to be opened a crash meanwhile leaves what it could before, or the tables that were
+        // read; the store is then ready again, whatever is answered, and behind an Ok the tree's files are stored.
+        ensures meanwhile { S.tells → (ts : SeenLevels) → IsReady (S.world store) → Finds (S.world store).gives ts → OpeningLeaves (S.world store) (S.world (store_left result)) ts }
+        ensures stored { S.tells → IsReady (S.world store) → IfOk result (λ t. IsStored (S.world t.tree.store) (versions_left t.tree.core) (written_of t.tree.core)) }
         // Refused for a fault of its files, their order included, the store is as it was.
         ensures keeps { S.tells → Told TellsOpen (KeepsFiles (S.world store) (S.world (store_left result))) (files_told result) }
         // The tree has the version, and else nothing yet; both counters stand above what its tables hold.
@@ -79,6 +87,7 @@ impl<S: Store> Recorded<S> {
     {
         reads_are_sound();
         maps_are_read();
+        openings_leave_what_was_read(&store);
         let found = TreeState::look(alloc, store)?;
         let (OpenedMarks { marks, least }, opened) = match opened_of(alloc, found.version()) {
             Ok(Some(marks)) => marks,

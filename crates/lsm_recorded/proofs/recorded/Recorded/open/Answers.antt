@@ -188,3 +188,28 @@ returns-clause-stands g c tells id ls ts stands pin =
 pub returns-clause-from : goal.returns-clause-from
 returns-clause-from g c tells there =
     (c.in_ok-core.ensures.opens tells c.args.store (c.in_ok-found.ensures.found tells)).from there
+
+pub returns-in_err-found-clause-meanwhile : goal.returns-in_err-found-clause-meanwhile
+returns-in_err-found-clause-meanwhile g c tells ts ready finds =
+    let p = err_from_is_err_and c.from_residual.result c.from_residual.ensures.1 in
+    rw (p.1, p.2) (c.openings_leave_what_was_read.ensures.meanwhile tells c.args.store c.in_err-found.field-0.0.1 ts ready finds (c.in_err-found.ensures.leaves tells))
+
+pub returns-in-Ok-None-clause-meanwhile : goal.returns-in-Ok-None-clause-meanwhile
+returns-in-Ok-None-clause-meanwhile g c tells ts ready finds =
+    rw c.into_store.ensures (c.openings_leave_what_was_read.ensures.meanwhile tells c.args.store c.in_ok-found.found.store ts ready finds (c.in_ok-found.ensures.leaves tells))
+
+pub returns-in-Err-clause-meanwhile : goal.returns-in-Err-clause-meanwhile
+returns-in-Err-clause-meanwhile g c tells ts ready finds =
+    rw c.into_store-in-Err.ensures (c.openings_leave_what_was_read.ensures.meanwhile tells c.args.store c.in_ok-found.found.store ts ready finds (c.in_ok-found.ensures.leaves tells))
+
+pub returns-in_err-core-clause-meanwhile : goal.returns-in_err-core-clause-meanwhile
+returns-in_err-core-clause-meanwhile g c tells ts ready finds =
+    let p = err_from_is_err_and c.from_residual-in_err-core.result c.from_residual-in_err-core.ensures.1 in
+    rw (p.1, p.2) (c.openings_leave_what_was_read.ensures.meanwhile tells c.args.store c.in_err-core.field-0.0.1 ts ready finds (c.in_err-core.ensures.leaves tells c.args.store (c.in_ok-found.ensures.found tells)))
+
+pub returns-clause-meanwhile : goal.returns-clause-meanwhile
+returns-clause-meanwhile g c tells ts ready finds =
+    c.openings_leave_what_was_read.ensures.meanwhile tells c.args.store c.in_ok-core.core.store ts ready finds (c.in_ok-core.ensures.leaves tells c.args.store (c.in_ok-found.ensures.found tells))
+
+pub returns-clause-stored : goal.returns-clause-stored
+returns-clause-stored g c tells ready = c.in_ok-core.ensures.stored tells c.args.store (c.in_ok-found.ensures.found tells) ready
