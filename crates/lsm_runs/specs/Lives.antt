@@ -1,8 +1,8 @@
 -- A tree from its opening on, and what a crash leaves of it.
-use Rattle.std.specs.Prelude.{ℕ, List, []}
+use Rattle.std.specs.Prelude.{ℕ, ◌≤◌, List, []}
 use Rattle.lsm_below.specs.Entries.{Entry}
 use Rattle.lsm_store.specs.World.{World, LeavesOnly}
-use Rattle.lsm_model.specs.Journal.{Event, Map, InOrder}
+use Rattle.lsm_model.specs.Journal.{Event, Map, InOrder, next_number}
 use Rattle.lsm_model.specs.Views.{held}
 use Rattle.lsm_model.specs.Beginnings.{Note, IsBeginning, covered}
 use Rattle.lsm_manifest.specs.Finding.{StandsForMap, IsSettled}
@@ -10,6 +10,7 @@ use Rattle.lsm_state.specs.Core.{Core, latest_of}
 use Rattle.lsm_state.specs.Opened.{StartsWith}
 use Rattle.lsm_runs.specs.declared.steps.Step.{Step}
 use Rattle.lsm_runs.specs.Compacting.{Strategies}
+use Rattle.lsm_runs.specs.Counting.{RunIsInOrder}
 use Rattle.lsm_runs.specs.Crashes.{HoldsBeginning, LeavesBeginnings, EachHolds}
 use Rattle.lsm_runs.specs.Runs.{RanToEnd, IsPlainUse, journal_of, without_low_reads, RunEqualsReplay, RunSparesAnswers}
 use Rattle.lsm_runs.specs.Slots.{Stage, at_first}
@@ -33,11 +34,16 @@ pub record Lives {F W : Type 0} (world : F → World) (gives : W → ℕ → W �
   -- as it opened, it showed the map
   pub old : Core
   pub starts : StartsWith m old
+  -- both counters stood above what was found: the order of writes begins there
+  pub counted : next_number (opened_in old) [] ≤ old.seqno
+  pub visible : next_number (opened_in old) [] ≤ old.visible_seqno
   -- it took the steps
   pub ran : RanToEnd strategies steps told old new
   -- each answer is the replay's, and no step changes what it is to leave
   pub replays : RunEqualsReplay (opened_in old) m steps told old new
   pub spares : RunSparesAnswers strategies (opened_in old) m steps told old new
+  -- where callers keep the order by the counter and their keys, the journal is in order
+  pub in_order : RunIsInOrder strategies steps told old new
   -- what a crash leaves at each moment since opening began
   pub crashes : IsPlainUse steps → InOrder (opened_in old) (journal_of told) → Survives world gives strategies m steps told was is watch seen old
 

@@ -19,18 +19,19 @@ use lsm_state::TreeState;
 use lsm_store::Store;
 use std::alloc::Global;
 
-/// Opens the tree of a store, and takes steps on it, as `run_told`. It answers the tree and each step's outcome, or the refusal of
-/// the opening beside the store.
+/// Opens the tree of a store, as `TreeState::open_raised`, and takes steps on it, as `run_told`. Its counters start above all that
+/// was found, or where the configuration says, if that is higher. It answers the tree and each step's outcome, or the refusal of the
+/// opening beside the store.
 ///
 /// Where the store stands for a map, and what opening reads of it has one possible content each, this holds (`lives`) of steps
-/// in plain use whose journal is in order: each answered read is that of the replay, which starts from the map; and at each
+/// in plain use whose journal is in order, as it is where callers keep the order by the counter: each answered read is that of the replay, which starts from the map; and at each
 /// moment since the call began a crash leaves, outside dropped ranges, a beginning of the calls, since each moment that the
 /// watcher was told one that holds all that was covered by then. What a crash leaves begins the next
 /// life (`crashes_begin_lives`), so this holds over any number of crashes, while a tree is opened too.
 ///
 /// # Errors
 ///
-/// Those of `TreeState::open`. Where the store stands for a map, these are want of memory, a fault of the store, or a sequence
+/// Those of `TreeState::open_raised`. Where the store stands for a map, these are want of memory, a fault of the store, or a sequence
 /// number of 2^63 or more; a crash meanwhile leaves what stands for the map.
 ///
 /// # Examples
@@ -54,7 +55,7 @@ pub fn live<S: Store, W: Watch>(
     ensures stands { S.tells → IsSettled (S.world store) → (m : Map) → StandsForMap (S.world store).gives m → IfErr result (λ e. LeavesOnly (S.world store) (S.world e.1) (λ image. StandsForMap image m)) }
 {
     settled_stores_are_ready(&store);
-    let mut tree = match TreeState::open(alloc, config, store) {
+    let mut tree = match TreeState::open_raised(alloc, config, store) {
         Ok(tree) => tree,
         Err(refused) => return Err(refused),
     };

@@ -11,7 +11,7 @@ returns-clause-lives g c tells settled m stands =
     let ran = c.run_told-outcomes in
     let ready = c.settled_stores_are_ready.ensures c.args.store stands.levels settled stands.found in
     lived g.S.Store.world g.W.Watch.gives _ m _ _ c.args.store c.in-Ok.tree.store ran.new.state.store c.args.watch.now ran.new.watch c.in-Ok.tree.core ran.new.state.core
-    ((opened.opens tells).shows m stands) (ap (λ (t : Core). t.lost) opened.core) ((opened.opens tells).stored ready.ready) (settled_for (g.S.Store.world c.args.store) (g.S.Store.world c.in-Ok.tree.store) m stands ready ((opened.opens tells).stands_for ready.ready m stands)) ran.ensures.ran (ran.ensures.replays _ m) (ran.ensures.spares _ m) (ran.ensures.crashes tells _ m)
+    ((opened.opens tells).shows m stands) opened.counted opened.visible (ap (λ (t : Core). t.lost) opened.core) ((opened.opens tells).stored ready.ready) (settled_for (g.S.Store.world c.args.store) (g.S.Store.world c.in-Ok.tree.store) m stands ready ((opened.opens tells).stands_for ready.ready m stands)) ran.ensures.ran (ran.ensures.replays _ m) (ran.ensures.spares _ m) ran.ensures.in_order (ran.ensures.crashes tells _ m)
 
 pub returns-clause-causes : goal.returns-clause-causes
 returns-clause-causes g c =
