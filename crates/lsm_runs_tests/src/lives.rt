@@ -82,6 +82,9 @@ const READS: [Row; 2] = [
     ),
 ];
 
+/// Its number stands above that of what was found.
+const RAISED: [Row; 1] = [(Call::Set(&[("c", "z")]), "Number(1)", &[Note::Write(1)])];
+
 #[test]
 fn a_crash_begins_the_next_life(rt: HostRuntime) -> Result<(), Fail> {
     let alloc = rt.alloc();
@@ -89,7 +92,9 @@ fn a_crash_begins_the_next_life(rt: HostRuntime) -> Result<(), Fail> {
     let (right, store) = after_life(alloc, 0, MemStore::new(alloc), &WRITES, &mut watch)?;
     assert_eq!(rt; (right, watch.steps), (3, 3));
     let (right, store) = after_life(alloc, 10, store, &READS, &mut watch)?;
-    drop(store);
     assert_eq!(rt; (right, watch.steps), (2, 5));
+    let (right, store) = after_life(alloc, 0, store, &RAISED, &mut watch)?;
+    drop(store);
+    assert_eq!(rt; (right, watch.steps), (1, 6));
     Ok(())
 }
