@@ -3,7 +3,7 @@ use Rattle.std.proofs.Common.{◌≡◌, ℕ, ◌<◌, ◌^◌, List, [], ◌∷
 use Rattle.std.specs.List.{AllByRecursion}
 use Rattle.std.proofs.lemmas.List.Concat.{flat_map-cons}
 use Rattle.lsm_below.specs.Each.{each_append, each_left, each_right, each_weaker, each_both}
-use Rattle.lsm_below.specs.Members.{each_in}
+use Rattle.lsm_below.specs.Members.{IsIn, each_in}
 use Rattle.lsm_below.specs.Optimizes.{tables_of}
 use Rattle.lsm_store.specs.World.{Image, World, IsImage, LeavesOnly}
 use Rattle.lsm_store.specs.Moments.{started, weakened}
@@ -99,13 +99,17 @@ module _ (changed : List ℕ → Type 0) (old : World) where
     held_whole v whole file tables current names =
         holds image v current.bytes current.file.from whole.id current.file.log_from current.file.reads whole.runs current.named (current.file.on_disk _ (has (version_name v.id) file)) (tables_in (all_of v.levels) whole.tables tables) names
 
+    -- so it is of one that is stored
+    pub held_as : (versions : List SeenVersion) (tables : List SeenTable) → IsStored old versions tables → Untouched changed versions tables → (v : SeenVersion) → IsIn v versions → IsNaming old v (image current_name) → Holds image v
+    held_as versions tables stored free v among naming =
+        held_whole v (each_in (IsWhole old) versions v stored.whole among) (each_in (λ u. changed (version_name u.id) → ⊥) versions v free.files among)
+        (each_in (λ u. AllByRecursion (λ t. changed (table_name t.id) → ⊥) (all_of u.levels)) versions v free.named among) naming (names_in versions tables stored free)
+
     pub held_beside : (versions : List SeenVersion) (tables : List SeenTable) → IsStored old versions tables → Untouched changed versions tables → HoldsOneOf versions image
     held_beside versions tables stored free =
         let named = stored.current _ (has current_name free.current) in
-        let v : SeenVersion = named.0 in
-        let held = held_whole v (each_in (IsWhole old) versions v stored.whole named.1) (each_in (λ u. changed (version_name u.id) → ⊥) versions v free.files named.1)
-        (each_in (λ u. AllByRecursion (λ t. changed (table_name t.id) → ⊥) (all_of u.levels)) versions v free.named named.1) named.2 (names_in versions tables stored free) in
-        (v, named.1, held.0, held.1)
+        let held = held_as versions tables stored free named.0 named.1 named.2 in
+        (named.0, named.1, held.0, held.1)
 
   module _ (new : World) (keeps : (n : List ℕ) (c : Option (List ℕ)) → (changed n → ⊥) → new.may n c → old.may n c) where
     pub on_beside : (tables : List SeenTable) → AreOnDisk old tables → AllByRecursion (λ t. changed (table_name t.id) → ⊥) tables → AreOnDisk new tables
@@ -161,6 +165,10 @@ untouched versions tables = record { current = λ h. h; files = all_free (λ v. 
 -- an image of this moment holds one of the versions
 pub holds_now : (w : World) (versions : List SeenVersion) (tables : List SeenTable) (image : Image) → IsStored w versions tables → ((n : List ℕ) → w.may n (image n)) → HoldsOneOf versions image
 holds_now w versions tables image stored has = held_beside nothing w image (λ n out. has n) versions tables stored (untouched versions tables)
+
+-- and the one that its `current` names
+pub held_now : (w : World) (versions : List SeenVersion) (tables : List SeenTable) (image : Image) → IsStored w versions tables → ((n : List ℕ) → w.may n (image n)) → (v : SeenVersion) → IsIn v versions → IsNaming w v (image current_name) → Holds image v
+held_now w versions tables image stored has = held_as nothing w image (λ n out. has n) versions tables stored (untouched versions tables)
 
 -- while nothing is done a crash leaves one of them
 pub left_now : (w : World) (versions : List SeenVersion) (tables : List SeenTable) → ((image : Image) → w.since w.moment image → IsImage w.may image) → IsStored w versions tables → Leaves w w versions

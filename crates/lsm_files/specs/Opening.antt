@@ -1,6 +1,5 @@
 -- What opening asks and leaves of a tree's files.
-use Rattle.std.specs.Prelude.{◌≡◌, List, [], ◌∷◌, Ok}
-use Rattle.lsm_below.specs.Members.{IsIn}
+use Rattle.std.specs.Prelude.{List, [], ◌∷◌, Ok}
 use Rattle.lsm_store.specs.World.{World}
 use Rattle.lsm_tables.specs.Tables.{SeenTable}
 use Rattle.lsm_versions.specs.Levels.{SeenVersion}
@@ -10,13 +9,9 @@ use Rattle.lsm_manifest.specs.Ready.{IsReady}
 use Rattle.lsm_files.specs.Stored.{IsStored}
 use Rattle.lsm_files.specs.Foreign.{Passes}
 
--- versions that have one id are one
-abbrev pub HaveOwnIds : List SeenVersion → Type 0
-HaveOwnIds versions = (v u : SeenVersion) → IsIn v versions → IsIn u versions → v.id ≡ u.id → v ≡ u
-
 -- where a tree's files are stored, the store is ready to be opened
 abbrev pub StoredIsReady : (S : Type 0) → (S → World) → Type 0
-StoredIsReady S world = (store : S) (versions : List SeenVersion) (written : List SeenTable) → HaveOwnIds versions → IsStored (world store) versions written → IsReady (world store)
+StoredIsReady S world = (store : S) (versions : List SeenVersion) (written : List SeenTable) → IsStored (world store) versions written → IsReady (world store)
 
 -- behind the opening of a ready store the version that is opened is stored
 abbrev pub OpeningStores : (S : Type 0) → (S → World) → Type 0

@@ -7,7 +7,7 @@ ghost use Rattle.lsm_files.specs.Opening.{StoredIsReady, OpeningStores, Openings
 ghost use Rattle.lsm_files.specs.Foreign.{ForeignNamesSpare, AtRest};
 
 use lsm_manifest::{
-    current_names_one_version, images_stand_once, named_files_stay, names_are_apart,
+    images_stand_once, named_files_stay, names_are_apart,
     no_version_begins_another, ready_stores_keep_what_is_named,
 };
 use lsm_store::Store;
@@ -27,13 +27,12 @@ pub fn files_are_tables<S: Store>(store: &S)
     ensures { FilesAreTables (S.world store.now) }
 {}
 
-/// Where a tree's files are stored, under ids of their own, the store is ready to be opened: so a process may end at any
-/// moment between calls, with a crash or without one.
+/// Where a tree's files are stored, the store is ready to be opened: so a process may end at any moment between calls, with a
+/// crash or without one.
 pub fn stored_files_are_ready<S: Store>(_: &S)
     ensures { StoredIsReady S S.world }
 {
     images_stand_once();
-    current_names_one_version();
 }
 
 /// Behind the opening of a ready store the version that is opened is stored.
