@@ -7,8 +7,8 @@ ghost use Rattle.lsm_files.specs.Opening.{StoredIsReady, OpeningStores, Openings
 ghost use Rattle.lsm_files.specs.Foreign.{ForeignNamesSpare, AtRest};
 
 use lsm_manifest::{
-    images_stand_once, named_files_stay, names_are_apart,
-    no_version_begins_another, ready_stores_keep_what_is_named,
+    images_stand_once, named_files_stay, names_are_apart, no_version_begins_another,
+    ready_stores_keep_what_is_named,
 };
 use lsm_store::Store;
 

@@ -16,7 +16,7 @@ use Rattle.lsm_manifest.specs.Spelling.{current}
 use Rattle.lsm_manifest.specs.Recovery.{Levels, IsNamed, current_at}
 use Rattle.lsm_manifest.specs.Standing.{Pairwise, IsTableAt, AreTablesAt, StandsFor}
 use Rattle.lsm_manifest.specs.Finding.{Finds, Named, Nothing, IsSettled, AgreesInRead}
-use Rattle.lsm_manifest.specs.Ready.{IsReady, NeverHas, KeepsNamed, BringsGoodNames, SettledStands, CurrentNamesOne}
+use Rattle.lsm_manifest.specs.Ready.{IsReady, NeverHas, KeepsNamed, BringsGoodNames, SettledStands}
 use Rattle.lsm_manifest.proofs.Apart.{version_not_current, table_not_current, table_no_version}
 use Rattle.lsm_manifest.proofs.Recovering.{sum_of-lt, current_back}
 use Rattle.lsm_manifest.proofs.OpeningLemmas.{named_once, named_there, some_not_none}
@@ -30,7 +30,7 @@ abbrev content : Option (List ℕ) → List ℕ
 content (Some bytes) = bytes
 content None = []
 
-pub names_one : CurrentNamesOne
+names_one : (a b : Image) (i j : ℕ) (ls ms : Levels) → b current_name ≡ a current_name → IsNamed a i ls → IsNamed b j ms → i ≡ j
 names_one a b i j ls ms same x y =
     let e : Some (current i (sum_of x.bytes)) ≡ Some (current j (sum_of y.bytes)) = sym x.current ∙ sym same ∙ y.current in
     let c : current i (sum_of x.bytes) ≡ current j (sum_of y.bytes) = ap content e in

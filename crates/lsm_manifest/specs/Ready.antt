@@ -50,10 +50,6 @@ ReadyKeepsNamed S world = (store : S) (id : ℕ) (ls : Levels) → IsReady (worl
 abbrev pub ReadyHasGoodNames : (S : Type 0) → (S → World) → Type 0
 ReadyHasGoodNames S world = (store : S) → IsReady (world store) → BringsGoodNames (world store)
 
--- `current` names one version
-abbrev pub CurrentNamesOne : Type 0
-CurrentNamesOne = (a b : Image) (i j : ℕ) (ls ms : Levels) → b current_name ≡ a current_name → IsNamed a i ls → IsNamed b j ms → i ≡ j
-
 -- what could be left before, or an image with these tables
 abbrev pub IsOldOrRead : World → SeenLevels → Image → Type 0
 IsOldOrRead old ts image = IsImage old.may image ⊎ Finds image ts

@@ -1,14 +1,9 @@
 // What opening asks of a store, and what it leaves of it: laws, each as the contract of a function.
-ghost use Rattle.lsm_manifest.specs.Ready.{CurrentNamesOne, ReadyKeepsNamed, ReadyHasGoodNames, SettledIsReady, OpeningLeavesRead, OpenedLeavesRead};
+ghost use Rattle.lsm_manifest.specs.Ready.{ReadyKeepsNamed, ReadyHasGoodNames, SettledIsReady, OpeningLeavesRead, OpenedLeavesRead};
 
 use lsm_below::plain_numbers_are_read;
 use lsm_store::Store;
 use lsm_tables::no_image_begins_another;
-
-/// `current` names one version: with the same `current` two images name the same.
-pub fn current_names_one_version()
-    ensures { CurrentNamesOne }
-{}
 
 /// A store is ready to be opened where the names that are read have one possible content each, as behind a crash; whatever a
 /// crash leaves of it has then the tables that reads find.
