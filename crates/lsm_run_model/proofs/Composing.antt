@@ -1,5 +1,5 @@
 -- Call by call, from what each does to what holds of the whole run.
-use Rattle.std.proofs.Common.{◌≡◌, ⊎_elim, inl, inr, ℕ, ◌≤◌, List, [], ◌∷◌, ◌++◌, map, refl, sym, ap, ◌∙◌, subst, append-nil, append_assoc}
+use Rattle.std.proofs.Common.{◌≡◌, ⊎_elim, inl, inr, ℕ, ◌≤◌, List, [], ◌∷◌, ◌++◌, map, take, length, refl, sym, ap, ◌∙◌, subst, append-nil, append_assoc}
 use Rattle.std.specs.List.{AllByRecursion}
 use Rattle.lsm_below.specs.Entries.{Entry, above}
 use Rattle.lsm_below.specs.Members.{IsIn}
@@ -11,7 +11,7 @@ use Rattle.lsm_model.specs.Soundness.{Soundness}
 use Rattle.lsm_model.specs.Beginnings.{Saved, Deed, Done, Lost, Deeds, IsFound, IsBeginning, Recovers, EveryCrashRecovers, DeedsJoin, versions, covered, shown_by}
 use Rattle.lsm_run_model.specs.Outcomes.{Told, Past, after, after_all, without_low_reads}
 use Rattle.lsm_run_model.specs.Moments.{HoldsBeginning, EachMoment, last_of}
-use Rattle.lsm_run_model.specs.Composing.{past_of, IsRight, CameAbout, Point, FindsAmong, IsOfEither, DoesCall, EachDoes, TablesShow, AreNumbered, Composed, RunsCompose, EachHasDeeds, ReadsStayRight}
+use Rattle.lsm_run_model.specs.Composing.{past_of, IsRight, CameAbout, Point, StandsAt, FindsAmong, IsOfEither, DoesCall, EachDoes, TablesShow, AreNumbered, Composed, RunsCompose, EachHasDeeds, ReadsStayRight}
 use Rattle.lsm_run_model.proofs.Numbers.{deeds_grow, IsSmall, deeds_small, start_small, front_numbered}
 
 -- ---- journals
@@ -92,44 +92,62 @@ module _ (theory : Soundness) (crashes : EveryCrashRecovers) (join : DeedsJoin) 
         let low : above (held tables) ≤ n = ⊎_elim (λ (i : IsIn tables (versions old.tree)). in_all (λ ts. above (held ts) ≤ n) tables (versions old.tree) old_small i) (λ (i : IsIn tables (versions new.tree)). in_all (λ ts. above (held ts) ≤ n) tables (versions new.tree) (came_small theory opened start n new.tree came_on small) i) h.2 in
         holds (covered old.tree.notes) image tables h.1 (crashes opened start c.first old.tree new.tree c.deeds d.deeds c.starts c.done d.done order tables found) low
 
-    now : (image : Image) → FindsAmong Finds (λ tables. IsIn tables (versions new.tree)) image → HoldsBeginning Shows start next (covered next.notes) image
-    now image h =
-        let tables = h.0 in
-        let e : covered new.tree.notes ≡ covered next.notes = ap (λ (p : Past). covered p.notes) d.past in
-        subst (λ least. HoldsBeginning Shows start next least image) e
-        (holds (covered new.tree.notes) image tables h.1 (crashes opened start came_on.first new.tree new.tree came_on.deeds [] came_on.starts came_on.done refl order tables h.2) (in_all (λ ts. above (held ts) ≤ n) tables (versions new.tree) (came_small theory opened start n new.tree came_on small) h.2))
+  -- what a crash leaves of a tree that stands so
+  standing : (p : Point F) → StandsAt Finds world opened start p → AreNumbered n opened p.tree.state.journal
+      → (image : Image) → FindsAmong Finds (λ tables. IsIn tables (versions p.tree)) image → HoldsBeginning Shows start (past_of p.tree) (covered p.tree.notes) image
+  standing p s small image h =
+      let c = s.came in
+      let tables = h.0 in
+      let r = crashes opened start c.first p.tree p.tree c.deeds [] c.starts c.done refl c.order tables h.2 in
+      record {
+        map = shown_by tables;
+        shows = show image tables h.1 r.stands (in_all (λ ts. above (held ts) ≤ n) tables (versions p.tree) (came_small theory opened start n p.tree c small) h.2);
+        begins = r.begins;
+      }
 
   -- ---- all of them
 
-  compose : {R : Type 0} (told : List (Told R)) (old : Point F) (points : List (Point F)) → CameAbout opened start old.tree → EachDoes Finds world opened start told old points
-      → InOrder opened (after_all opened (past_of old.tree) told).journal → AreNumbered n opened (after_all opened (past_of old.tree) told).journal → Composed Shows world opened start told old points
-  compose [] old [] c each order small = record { moments = tt; right = (came_right theory opened start old.tree c, tt); came = c; past = refl }
-  compose [] old (new ∷ points) c each order small = absurd each
-  compose (t ∷ told) old [] c each order small = absurd each
-  compose (t ∷ told) old (new ∷ points) c each order small =
+  compose : {R : Type 0} (told : List (Told R)) (old : Point F) (points : List (Point F)) → StandsAt Finds world opened start old → EachDoes Finds world opened start told old points
+      → InOrder opened (after_all opened (past_of old.tree) told).journal → AreNumbered n opened (after_all opened (past_of old.tree) told).journal → Composed Finds Shows world opened start told old points
+  compose [] old [] s each order small = record { moments = λ image since. standing old s small image (s.now image since); right = (came_right theory opened start old.tree s.came, tt); stands = s; past = refl }
+  compose [] old (new ∷ points) s each order small = absurd each
+  compose (t ∷ told) old [] s each order small = absurd each
+  compose (t ∷ told) old (new ∷ points) s each order small =
+      let c = s.came in
       let next : Past = after opened (past_of old.tree) t in
       let g = journal_grows opened next told in
+      let h = journal_grows opened (past_of old.tree) (t ∷ told) in
       let here : InOrder opened next.journal = theory.kept.front opened next.journal g.0 (subst (InOrder opened) g.1 order) in
       let low : AreNumbered n opened next.journal = front_numbered theory opened start n next.journal g.0 (after_all opened next told).journal g.1 small in
+      let before : AreNumbered n opened old.tree.state.journal = front_numbered theory opened start n old.tree.state.journal h.0 (after_all opened (past_of old.tree) (t ∷ told)).journal h.1 small in
       let d = each.0 (came_right theory opened start old.tree c) here in
       let order' : InOrder opened new.tree.state.journal = subst (λ (p : Past). InOrder opened p.journal) (sym d.past) here in
       let small' : AreNumbered n opened new.tree.state.journal = subst (λ (p : Past). AreNumbered n opened p.journal) (sym d.past) low in
-      let rest = compose told new points (came_on t old new c d order' small') each.1
+      let rest = compose told new points (record { came = came_on t old new c d order' small'; now = d.now }) each.1
       (subst (λ (p : Past). InOrder opened (after_all opened p told).journal) (sym d.past) order)
       (subst (λ (p : Past). AreNumbered n opened (after_all opened p told).journal) (sym d.past) small) in
       record {
         moments = (
+          (λ image since. standing old s before image (s.now image since)),
           weaker (world old.store) (world new.store) _ _ (inside t old new c d order' small') d.inside,
-          (λ image since. now t old new c d order' small' image (d.now image since)),
           subst (λ (p : Past). EachMoment Shows world opened start p told new.store (map (λ q. q.store) points)) d.past rest.moments,
         );
         right = (came_right theory opened start old.tree c, rest.right);
-        came = rest.came;
+        stands = rest.stands;
         past = rest.past ∙ ap (λ (p : Past). after_all opened p told) d.past;
       }
 
+  -- what each call does, the first ones do
+  does_front : {R : Type 0} (front back : List (Told R)) (old : Point F) (points : List (Point F)) → EachDoes Finds world opened start (front ++ back) old points → EachDoes Finds world opened start front old (take (length front) points)
+  does_front [] back old points each = tt
+  does_front (t ∷ front) back old [] each = absurd each
+  does_front (t ∷ front) back old (new ∷ points) each = (each.0, does_front front back new points each.1)
+
 pub runs_compose : Soundness → EveryCrashRecovers → DeedsJoin → {F : Type 0} (R : Type 0) (Finds : Image → List Placed → Type 0) (Shows : ℕ → Image → Map → Type 0) (world : F → World) → RunsCompose R Finds Shows world
-runs_compose theory crashes join R Finds Shows world opened start n told first points show small came each order = compose theory crashes join Finds (Shows n) world opened start n show told first points came each order small
+runs_compose theory crashes join R Finds Shows world opened start n told first points show stands each front back are small order =
+    compose theory crashes join Finds (Shows n) world opened start n show front first (take (length front) points) stands
+    (does_front theory crashes join Finds (Shows n) world opened start n show front back first points (subst (λ (ts : List (Told R)). EachDoes Finds world opened start ts first points) are each))
+    order small
 
 -- ---- reads alone
 
@@ -150,5 +168,12 @@ module _ (theory : Soundness) (opened : List Entry) (start : Map) where
       let rest = stay_right told new trees (right_behind first new d.0 d.1 (subst (λ (p : Past). InOrder opened p.journal) (sym d.2) here) r) each.1 (subst (λ (p : Past). InOrder opened (after_all opened p told).journal) (sym d.2) o) in
       ((r, rest.0), rest.1 ∙ ap (λ (p : Past). after_all opened p told) d.2)
 
+  deeds_front : {R : Type 0} (front back : List (Told R)) (first : Saved) (trees : List Saved) → EachHasDeeds opened start (front ++ back) first trees → EachHasDeeds opened start front first (take (length front) trees)
+  deeds_front [] back first trees each = tt
+  deeds_front (t ∷ front) back first [] each = absurd each
+  deeds_front (t ∷ front) back first (new ∷ trees) each = (each.0, deeds_front front back new trees each.1)
+
 pub reads_stay_right : Soundness → (R : Type 0) → ReadsStayRight R
-reads_stay_right theory R opened start told first trees r each o = stay_right theory opened start told first trees r each o
+reads_stay_right theory R opened start told first trees r each front back are o =
+    stay_right theory opened start front first (take (length front) trees) r
+    (deeds_front theory opened start front back first trees (subst (λ (ts : List (Told R)). EachHasDeeds opened start ts first trees) are each)) o

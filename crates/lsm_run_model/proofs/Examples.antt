@@ -17,7 +17,7 @@ use Rattle.lsm_run_model.specs.Outcomes.{Told, nothing}
 use Rattle.lsm_run_model.specs.declared.noted.Noted.TheVariants.{Sealed, Flushed, ClearUnknown}
 use Rattle.lsm_run_model.specs.Moments.{EachMoment, HoldsBeginning}
 use Rattle.lsm_run_model.specs.Composing.{Point, past_of, FindsAmong, IsOfEither, EachDoes, Composed, TablesShow}
-use Rattle.lsm_run_model.specs.Lives.{Crashed, LeavesReady, LifeAfterLife, Running, Reads, AllGoWell}
+use Rattle.lsm_run_model.specs.Lives.{Crashed, LifeAfterLife, Running, Reads, AllGoWell}
 use Rattle.lsm_run_model.specs.Rising.{Own, Raises, Draws, Silent, RisesFrom}
 use Rattle.lsm_run_model.proofs.Composing.{runs_compose}
 use Rattle.lsm_run_model.proofs.Lives.{any_number}
@@ -174,11 +174,12 @@ does = (
 starts : IsStart [] empty a0
 starts = record { opens = record { journal = refl; number = refl; active = refl; sealed = refl; tables = refl; laid = record { covers = tt; by_level = tt }; older = refl; ordered = λ k. tt; single = λ k. tt; starts = λ k. get-empty bytes_cmp k }; distinct = tt; notes = refl; others = refl }
 
-first_life : Soundness → EveryCrashRecovers → DeedsJoin → Composed Shows world [] empty told (point New a0) points
+first_life : Soundness → EveryCrashRecovers → DeedsJoin → Composed Finds Shows world [] empty told (point New a0) points
 first_life theory crashes join = runs_compose theory crashes join ℕ Finds (λ n. Shows) world [] empty 9 told (point New a0) points tables_show
-    (record { before = omega arith; written = (omega arith, (tt, tt)) })
-    (record { first = a0; starts = starts; deeds = []; done = refl; order = tt })
+    (record { came = record { first = a0; starts = starts; deeds = []; done = refl; order = tt }; now = λ image since. ([], inl (since, refl), inl refl) })
     does
+    told [] refl
+    (record { before = omega arith; written = (omega arith, (tt, tt)) })
     (record { after_installs = omega arith; after_own = omega arith; single = λ w. omega arith }, (omega arith, tt))
 
 -- the numbers of its calls rise: the counter was put above the write's number, then the flush drew the next one
@@ -222,11 +223,15 @@ does_again = (
   tt,
 )
 
-second_life : Soundness → EveryCrashRecovers → DeedsJoin → OpeningStarts → Composed Shows world (held one) (shown_by one) told_again (point Again b0) (point Doubted b1 ∷ [])
+second_life : Soundness → EveryCrashRecovers → DeedsJoin → OpeningStarts → Composed Finds Shows world (held one) (shown_by one) told_again (point Again b0) (point Doubted b1 ∷ [])
 second_life theory crashes join opens = runs_compose theory crashes join ℕ Finds (λ n. Shows) world (held one) (shown_by one) 9 told_again (point Again b0) (point Doubted b1 ∷ []) tables_show
-    (record { before = omega arith; written = tt })
-    (record { first = b0; starts = opens one b0 one_stands (record { journal = refl; number = refl; active = refl; sealed = refl; tables = refl; older = refl; notes = refl; others = refl }); deeds = []; done = refl; order = tt })
+    (record {
+      came = record { first = b0; starts = opens one b0 one_stands (record { journal = refl; number = refl; active = refl; sealed = refl; tables = refl; older = refl; notes = refl; others = refl }); deeds = []; done = refl; order = tt };
+      now = λ image since. (one, inr (since, refl), inl refl);
+    })
     does_again
+    told_again [] refl
+    (record { before = omega arith; written = tt })
     tt
 
 -- ---- both
@@ -261,9 +266,6 @@ reads = record {
   once = λ image m n (ts, f, st, is) (us, g, su, iu). is ∙ ap shown_by (found_once image ts us f g) ∙ sym iu;
 }
 
-always : (was is : Store) → LeavesReady Always world was is
-always was is cut ends = tt
-
 module _ (theory : Soundness) (crashes : EveryCrashRecovers) (join : DeedsJoin) (opens : OpeningStarts) where
   -- the first crash comes in the flush, and leaves its table; the second one in the clear, and leaves nothing
   pub lives : LifeAfterLife ℕ Always Shows world (Crashed (filled none)) (Crashed (filled mark) ∷ (Crashed (filled none) ∷ []))
@@ -276,12 +278,10 @@ module _ (theory : Soundness) (crashes : EveryCrashRecovers) (join : DeedsJoin) 
         told = told;
         first = New;
         stores = New ∷ (New ∷ (Behind ∷ []));
-        settled = λ image since. moved (filled none) image m since shows;
         moments = subst (λ x. EachMoment Shows world [] x nothing told New (New ∷ (New ∷ (Behind ∷ [])))) (sym (shows_none m shows)) (first_life theory crashes join).moments;
-        ready = (always New New, (always New New, always New New, (always New New, always New New, (always New Behind, always Behind Behind, tt))));
-        at = past_of a3;
-        least = 0;
-        ended = inr (inr (inr (inl (inl (record { each = λ image is. inr (ap (λ (i : Image). i []) is); gives = tt }, refl, refl)))));
+        answered = 2;
+        ended = record { each = λ image is. inr (ap (λ (i : Image). i []) is); gives = tt };
+        ready = λ kill. absurd kill;
       });
     },
     (
@@ -293,12 +293,10 @@ module _ (theory : Soundness) (crashes : EveryCrashRecovers) (join : DeedsJoin) 
           told = told_again;
           first = Again;
           stores = Doubted ∷ [];
-          settled = λ image since. moved (filled mark) image m since shows;
           moments = subst (λ x. EachMoment Shows world (held one) x nothing told_again Again (Doubted ∷ [])) (sym (shows_mark m shows)) (second_life theory crashes join opens).moments;
-          ready = (always Again Again, (always Again Doubted, always Doubted Doubted, tt));
-          at = past_of b1;
-          least = 0;
-          ended = inr (inl (inl (record { each = λ image is. inr (ap (λ (i : Image). i []) is); gives = tt }, refl, refl)));
+          answered = 0;
+          ended = record { each = λ image is. inr (ap (λ (i : Image). i []) is); gives = tt };
+          ready = λ kill. absurd kill;
         });
       },
       tt,

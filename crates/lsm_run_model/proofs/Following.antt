@@ -11,7 +11,7 @@ use Rattle.lsm_model.specs.Beginnings.{Note, SealedAt, FlushedIds, ClearedTo, Cl
 use Rattle.lsm_model.specs.declared.journal.JournalEntry.TheVariants.{Write, Clear, Install, Dropped, Mark, Read}
 use Rattle.lsm_run_model.specs.Outcomes.{Told, Past, after, after_all, without_low_reads, note_at}
 use Rattle.lsm_run_model.specs.Moments.{HoldsBeginning, LeavesNow, EachMoment, last_of}
-use Rattle.lsm_run_model.specs.Following.{BeginningsGrow, MomentsMakeRuns, MomentsJoin, IsReached, EveryImageIsACalls}
+use Rattle.lsm_run_model.specs.Following.{BeginningsGrow, MomentsMakeRuns, MomentsSince, MomentsJoin, IsReached, EveryImageIsACalls}
 
 -- ---- lists
 
@@ -118,35 +118,51 @@ leaves_then w0 w1 w2 P Q S p q first second = record {
       (second.before t image (let a = first.later in omega arith) since);
 }
 
-module _ {F : Type 0} (R : Type 0) (Shows : Image → Map → Type 0) (world : F → World) (opened : List Entry) (start : Map) where
-  whole : (past : Past) (told : List (Told R)) (was : F) (stores : List F) (low : ℕ) → low ≤ covered past.notes
-      → LeavesOnly (world was) (world was) (HoldsBeginning Shows start past (covered past.notes)) → LeavesNow (world was) (HoldsBeginning Shows start past (covered past.notes))
-      → EachMoment Shows world opened start past told was stores
+module _ {F R : Type 0} (Shows : Image → Map → Type 0) (world : F → World) (opened : List Entry) (start : Map) where
+  -- what a crash leaves at the first store
+  pub at_first : (past : Past) (told : List (Told R)) (was : F) (stores : List F) → EachMoment Shows world opened start past told was stores → LeavesNow (world was) (HoldsBeginning Shows start past (covered past.notes))
+  at_first past [] was [] each = each
+  at_first past [] was (is ∷ stores) each = absurd each
+  at_first past (t ∷ told) was [] each = absurd each
+  at_first past (t ∷ told) was (is ∷ stores) each = each.0
+
+  whole : (past : Past) (told : List (Told R)) (was : F) (stores : List F) (low : ℕ) → low ≤ covered past.notes → EachMoment Shows world opened start past told was stores
       → LeavesOnly (world was) (world (last_of was stores)) (HoldsBeginning Shows start (after_all opened past told) low) × LeavesNow (world (last_of was stores)) (HoldsBeginning Shows start (after_all opened past told) (covered (after_all opened past told).notes))
-  whole past [] was [] low l rests now each = (
+  whole past [] was [] low l each = (
     record {
-      later = rests.later;
-      each = λ image since. grows_held Shows start past past (covered past.notes) low image l (grown {R = R} opened past []) (rests.each image since);
-      before = λ t image below since. ⊎_elim (λ s. inl s) (λ h. inr (grows_held Shows start past past (covered past.notes) low image l (grown {R = R} opened past []) h)) (rests.before t image below since);
+      later = omega arith;
+      each = λ image since. grows_held Shows start past past (covered past.notes) low image l (grown {R = R} opened past []) (each image since);
+      before = λ t image below since. inl since;
     },
-    now,
+    each,
   )
-  whole past [] was (is ∷ stores) low l rests now each = absurd each
-  whole past (t ∷ told) was [] low l rests now each = absurd each
-  whole past (t ∷ told) was (is ∷ stores) low l rests now each =
+  whole past [] was (is ∷ stores) low l each = absurd each
+  whole past (t ∷ told) was [] low l each = absurd each
+  whole past (t ∷ told) was (is ∷ stores) low l each =
       let next = after opened past t in
       let all = after_all opened next told in
       let up = covered_grows Shows start past next (grown opened past (t ∷ [])) in
-      let still : LeavesOnly (world is) (world is) (HoldsBeginning Shows start next (covered next.notes)) = record { later = omega arith; each = each.1; before = λ time image below since. inl since } in
-      let rest = whole next told is stores low (omega arith) still each.1 each.2 in (
+      let rest = whole next told is stores low (omega arith) each.2 in (
         leaves_then (world was) (world is) (world (last_of is stores)) _ _ _
-            (λ image h. grows_held Shows start next all (covered past.notes) low image l (grown opened next told) h) (λ image h. h) each.0 rest.0,
+            (λ image h. grows_held Shows start next all (covered past.notes) low image l (grown opened next told) h) (λ image h. h) each.1 rest.0,
         rest.1,
       )
 
+  since : (past : Past) (told : List (Told R)) (was : F) (stores : List F) (answered : ℕ) → EachMoment Shows world opened start past told was stores
+      → (left : Image) → (world (last_of was stores)).since (world (last_of was (take answered stores))).moment left
+      → HoldsBeginning Shows start (after_all opened past told) (covered (after_all opened past (take answered told)).notes) left
+  since past told was stores zero each left s = (whole past told was stores (covered past.notes) (omega arith) each).0.each left s
+  since past [] was [] (suc n) each left s = each left s
+  since past [] was (is ∷ stores) (suc n) each left s = absurd each
+  since past (t ∷ told) was [] (suc n) each left s = absurd each
+  since past (t ∷ told) was (is ∷ stores) (suc n) each left s = since (after opened past t) told is stores n each.2 left s
+
 pub moments_make_runs : {F : Type 0} (R : Type 0) (Shows : Image → Map → Type 0) (world : F → World) → MomentsMakeRuns R Shows world
-moments_make_runs R Shows world opened start past told was stores rests each =
-    let w = whole R Shows world opened start past told was stores (covered past.notes) (omega arith) rests rests.each each in record { meanwhile = w.0; then = w.1 }
+moments_make_runs R Shows world opened start past told was stores each =
+    let w = whole Shows world opened start past told was stores (covered past.notes) (omega arith) each in record { meanwhile = w.0; then = w.1 }
+
+pub moments_since : {F : Type 0} (R : Type 0) (Shows : Image → Map → Type 0) (world : F → World) → MomentsSince R Shows world
+moments_since R Shows world opened start past told was stores answered each left s = since Shows world opened start past told was stores answered each left s
 
 -- ---- runs after runs
 
@@ -168,7 +184,7 @@ pub record Parts {F R : Type 0} (Shows : Image → Map → Type 0) (world : F �
 
 cut : {F R : Type 0} (Shows : Image → Map → Type 0) (world : F → World) (opened : List Entry) (start : Map) (past : Past) (told more : List (Told R)) (was : F) (chain : List F)
     → EachMoment Shows world opened start past (told ++ more) was chain → Parts Shows world opened start past told more was chain
-cut Shows world opened start past [] more was chain e = record { stores = []; others = chain; are = refl; front = tt; back = e }
+cut Shows world opened start past [] more was chain e = record { stores = []; others = chain; are = refl; front = at_first Shows world opened start past more was chain e; back = e }
 cut Shows world opened start past (t ∷ told) more was [] e = absurd e
 cut Shows world opened start past (t ∷ told) more was (is ∷ chain) e =
     let rest = cut Shows world opened start (after opened past t) told more is chain e.2 in
@@ -192,9 +208,9 @@ image_of Shows world opened start past (told ∷ more) was (is ∷ stores) t low
     (λ (here : (world is).since t left). ⊎_elim
     (λ (s : (world was).since t left). inl s)
     (λ h. inr (after opened past told, covered past.notes, inl (refl, refl), h))
-    (each.0.before t left low here))
+    (each.1.before t left low here))
     (λ (h : (at : Past) × (least : ℕ) × IsReached opened (after opened past told) more at least × HoldsBeginning Shows start at least left). inr (h.0, h.1, inr h.2, h.3))
-    (image_of Shows world opened start (after opened past told) more is stores t (let l = each.0.later in omega arith) each.2 left since)
+    (image_of Shows world opened start (after opened past told) more is stores t (let l = each.1.later in omega arith) each.2 left since)
 
 pub every_image : {F : Type 0} (R : Type 0) (Shows : Image → Map → Type 0) (world : F → World) → EveryImageIsACalls R Shows world
 every_image R Shows world opened start past told was stores moment low each left since = image_of Shows world opened start past told was stores moment low each left since

@@ -319,21 +319,22 @@ done_doubt t image left = ⊎_elim (λ (s : (t ≤ 0) × IsImage doubt_may image
 
 first_moments : EachMoment Shows world [] empty nothing told Before chain
 first_moments = (
-  still _,
   λ image is. holds_old _ image (inl (is current, is old_file, refl)),
+  still _,
   (
-    still _,
     λ image is. holds_old _ image (inl (is current, is old_file, refl)),
+    still _,
     (
+      λ image is. holds_old _ image (inl (is current, is old_file, refl)),
       record { later = omega arith; each = λ image left. in_flush image (done_doubt 0 image left); before = λ t image low left. inr (in_flush image (done_doubt t image left)) },
       λ image left. let s = tells.only_now Done image left in holds_new 1 (omega arith) image (inr (s current, s new_file, refl)),
-      tt,
     ),
   ),
 )
 
-ready_before : LeavesReady Ready world Before Before
-ready_before cut ends image is = doubt_shows image (before_doubt image (ends.each image is))
+-- before any call the map itself is left
+holds_none : (m : Map) (image : Image) → Shows image m → HoldsBeginning Shows m nothing 0 image
+holds_none m image shows = record { map = m; shows = shows; begins = record { place = 0; enough = omega arith; within = omega arith; front = []; is_front = inl refl; shows = λ k spared. refl } }
 
 is_old : (m : Map) → Shows (filled names_old there) m → m ≡ old_map
 is_old m shows = shows_once (filled names_old there) m old_map shows (inl (refl, refl, refl))
@@ -361,12 +362,10 @@ lives = (
       told = told;
       first = Before;
       stores = chain;
-      settled = λ image is. inl (is current, is old_file, refl);
       moments = first_moments;
-      ready = (ready_before, (ready_before, ready_before, (ready_before, ready_before, ((λ cut ends image is. doubt_shows image (done_doubt 0 image (ends.each image is))), (λ cut ends image is. doubt_shows image (done_doubt 1 image (ends.each image is))), tt))));
-      at = flushed;
-      least = 0;
-      ended = inr (inr (inr (inl (inl (record { each = λ image may. inl (omega arith, may); gives = tells.gives_one Doubt }, refl, refl)))));
+      answered = 2;
+      ended = record { each = λ image may. inl (omega arith, may); gives = tells.gives_one Doubt };
+      ready = λ kill cut ends image is. doubt_shows image (done_doubt 0 image (ends.each image is));
     }));
   },
   (
@@ -376,8 +375,8 @@ lives = (
       life = λ m ready shows each. Opening
           Doubt
           ((settling Shows world).fails Doubt Doubt current orphan new_map looks (record { later = omega arith; each = λ image is. is; before = λ t image low left. inl left }))
-          (λ cut ends image is. doubt_shows image (ends.each image is))
-          (record { each = λ image may. may; gives = tells.gives_one Doubt });
+          (record { each = λ image may. may; gives = tells.gives_one Doubt })
+          (λ kill cut ends image is. doubt_shows image (ends.each image is));
     },
     (
       record {
@@ -388,12 +387,10 @@ lives = (
           told = [];
           first = Clean;
           stores = [];
-          settled = opening_settles.now;
-          moments = tt;
-          ready = ((λ cut ends image is. (new_map, opening_settles.now image (ends.each image is))), tt);
-          at = nothing;
-          least = 0;
-          ended = inl (record { each = λ image is. subst (λ i. (world Clean).since 2 i) (sym is) (inr (filled_is names_new there (Only names_new) (Either there none) refl (inl refl))); gives = tt }, refl, refl);
+          moments = λ image since. holds_none new_map image (opening_settles.now image since);
+          answered = 0;
+          ended = record { each = λ image is. subst (λ i. (world Clean).since 2 i) (sym is) (inr (filled_is names_new there (Only names_new) (Either there none) refl (inl refl))); gives = tt };
+          ready = λ kill. absurd kill;
         }));
       },
       tt,

@@ -1,65 +1,31 @@
 -- Life after life.
-use Rattle.std.proofs.Common.{◌≡◌, ⊎_elim, inl, ℕ, arith, List, [], ◌∷◌, refl, sym, subst}
-use Rattle.lsm_below.specs.Entries.{Entry}
+use Rattle.std.proofs.Common.{◌≡◌, List, [], ◌∷◌, take, refl, subst}
 use Rattle.lsm_below.specs.Members.{IsIn}
 use Rattle.lsm_store.specs.World.{Image, World, IsImage}
 use Rattle.lsm_model.specs.Journal.{Map}
 use Rattle.lsm_model.specs.Beginnings.{covered}
-use Rattle.lsm_run_model.specs.Outcomes.{Told, Past, nothing, after}
-use Rattle.lsm_run_model.specs.Moments.{HoldsBeginning, EachMoment}
-use Rattle.lsm_run_model.specs.Lives.{End, Crashed, Killed, MayBe, TakesUp, EndGives, EndsIn, EndsInCalls, LeavesReady, EachReady, AllShow, EachShows, Lived, OneLife, Opening, Running, LifeAfterLife, LeavesOpen, AllGoWell, EndReady, Reads, ManyLives}
+use Rattle.lsm_run_model.specs.Outcomes.{nothing, after_all}
+use Rattle.lsm_run_model.specs.Moments.{HoldsBeginning, last_of}
+use Rattle.lsm_run_model.specs.Lives.{End, Crashed, Killed, MayBe, TakesUp, EndGives, EndsIn, IsKill, LeavesReady, AllShow, EachShows, Lived, OneLife, Opening, Running, LifeAfterLife, LeavesOpen, AllGoWell, EndReady, Reads, ManyLives}
+use Rattle.lsm_run_model.proofs.Following.{moments_since}
 
 module _ {F : Type 0} (R : Type 0) (Ready : World → Type 0) (Shows : Image → Map → Type 0) (world : F → World) where
-  -- after the opening, and before any call, the map itself is left
-  no_call : (m : Map) (image : Image) → Shows image m → HoldsBeginning Shows m nothing 0 image
-  no_call m image shows = record { map = m; shows = shows; begins = record { place = 0; enough = omega arith; within = omega arith; front = []; is_front = inl refl; shows = λ k spared. refl } }
-
-  at_end : (start : Map) (image : Image) (next at : Past) (low least : ℕ) → at ≡ next → least ≡ low → HoldsBeginning Shows start next low image → HoldsBeginning Shows start at least image
-  at_end start image next at low least p l h = subst (λ q. HoldsBeginning Shows start q least image) (sym p) (subst (λ n. HoldsBeginning Shows start next n image) (sym l) h)
-
-  in_calls : (opened : List Entry) (start : Map) (past : Past) (told : List (Told R)) (was : F) (stores : List F) (end : End F) (at : Past) (least : ℕ)
-      → EachMoment Shows world opened start past told was stores → EndsInCalls world opened past told was stores end at least
-      → (image : Image) → MayBe world end image → HoldsBeginning Shows start at least image
-  in_calls opened start past [] was stores end at least each c image may = absurd c
-  in_calls opened start past (t ∷ told) was [] end at least each c image may = absurd c
-  in_calls opened start past (t ∷ told) was (is ∷ stores) end at least each c image may = ⊎_elim
-      (λ here. ⊎_elim
-      (λ h. at_end start image (after opened past t) at (covered past.notes) least h.1 h.2 (each.0.each image (h.0.each image may)))
-      (λ h. at_end start image (after opened past t) at (covered (after opened past t).notes) least h.1 h.2 (each.1 image (h.0.each image may)))
-      here)
-      (λ later. in_calls opened start (after opened past t) told is stores end at least each.2 later image may)
-      c
-
-  left_holds : (m : Map) (end : End F) (life : Lived R Ready Shows world m end) (image : Image) → MayBe world end image → HoldsBeginning Shows m life.at life.least image
-  left_holds m end life image may = ⊎_elim
-      (λ h. at_end m image nothing life.at 0 life.least h.1 h.2 (no_call m image (life.settled image (h.0.each image may))))
-      (λ c. in_calls life.opened m nothing life.told life.first life.stores end life.at life.least life.moments c image may)
-      life.ended
+  left_holds : (m : Map) (end : End F) (life : Lived R Ready Shows world m end) (image : Image) → MayBe world end image
+      → HoldsBeginning Shows m (after_all life.opened nothing life.told) (covered (after_all life.opened nothing (take life.answered life.told)).notes) image
+  left_holds m end life image may = moments_since R Shows world life.opened m nothing life.told life.first life.stores life.answered life.moments image (life.ended.each image may)
 
   -- a kill in a call left a store that opening takes, of whose images reads give one
   pub record Goes (end : End F) : Type 0 where
     pub ready : EndReady Ready world end
     pub gives : EndGives world end
 
-  goes : (was is : F) (end : End F) → LeavesReady Ready world was is → EndsIn world (world was) (world is) end → Goes end
-  goes was is (Crashed left) ready ends = record { ready = tt; gives = tt }
-  goes was is (Killed cut) ready ends = record { ready = ready cut ends; gives = ends.gives }
-
-  goes_in_calls : (opened : List Entry) (past : Past) (told : List (Told R)) (was : F) (stores : List F) (end : End F) (at : Past) (least : ℕ)
-      → EachReady Ready world was stores → EndsInCalls world opened past told was stores end at least → Goes end
-  goes_in_calls opened past [] was stores end at least each c = absurd c
-  goes_in_calls opened past (t ∷ told) was [] end at least each c = absurd c
-  goes_in_calls opened past (t ∷ told) was (is ∷ stores) end at least each c = ⊎_elim
-      (λ here. ⊎_elim (λ h. goes was is end each.0 h.0) (λ h. goes is is end each.1 h.0) here)
-      (λ later. goes_in_calls opened (after opened past t) told is stores end at least each.2 later)
-      c
+  goes : (was is : F) (end : End F) → EndsIn world (world was) (world is) end → (IsKill end → LeavesReady Ready world was is) → Goes end
+  goes was is (Crashed left) ends ready = record { ready = tt; gives = tt }
+  goes was is (Killed cut) ends ready = record { ready = ready tt cut ends; gives = ends.gives }
 
   life_goes : (m : Map) (begun : F) (end : End F) → OneLife R Ready Shows world m begun end → Goes end
-  life_goes m begun end (Opening ended leaves ready came) = goes begun ended end ready came
-  life_goes m begun end (Running life) = ⊎_elim
-      (λ h. goes life.first life.first end life.ready.0 h.0)
-      (λ c. goes_in_calls life.opened nothing life.told life.first life.stores end life.at life.least life.ready.1 c)
-      life.ended
+  life_goes m begun end (Opening ended leaves came ready) = goes begun ended end came ready
+  life_goes m begun end (Running life) = goes (last_of life.first (take life.answered life.stores)) (last_of life.first life.stores) end life.ended life.ready
 
   module _ (reads : Reads Ready Shows world) where
     -- what a store takes up shows what was left open, whatever a crash leaves of it, and reads give one of these
@@ -93,7 +59,7 @@ module _ {F : Type 0} (R : Type 0) (Ready : World → Type 0) (Shows : Image →
 
     one_well : (P : Map → Type 0) (m : Map) (begun : F) (end : End F) (life : OneLife R Ready Shows world m begun end) → AllShow Shows P (IsImage (world begun).may)
         → AllShow Shows (LeavesOpen R Ready Shows world m begun end P life) (MayBe world end)
-    one_well P m begun end (Opening ended leaves ready came) all image may =
+    one_well P m begun end (Opening ended leaves came ready) all image may =
         let s = leaves.each image (came.each image may) in
         let o = all s.old s.possible in
         (s.map, s.shows, subst P (reads.once s.old o.0 s.map o.1 s.same) o.2)

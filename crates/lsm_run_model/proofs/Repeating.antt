@@ -13,7 +13,7 @@ use Rattle.lsm_model.specs.Beginnings.{Saved, Deed, Done, Lost, Does, Deeds, tol
 use Rattle.lsm_model.specs.declared.journal.JournalEntry.TheVariants.{Write, Clear, Install, Dropped, Mark, Read}
 use Rattle.lsm_model.specs.declared.question.Question.{Question}
 use Rattle.lsm_model.specs.declared.question.Answer.{Answer}
-use Rattle.lsm_run_model.specs.Repeating.{ReadsRepeat, CameAboutRepeats}
+use Rattle.lsm_run_model.specs.Repeating.{ReadsShareAMap, CameAboutReads}
 use Rattle.lsm_run_model.proofs.Numbers.{deeds_grow}
 use Rattle.lsm_run_model.proofs.Rising.{floor_low}
 
@@ -185,13 +185,13 @@ module _ (old new : State) (d : Adds old new) where
       (λ (r : OnRight old.journal d.events front (Read s question a) rest). absurd (each_mid IsNoRead r.before (Read s question a) rest (subst (AllByRecursion IsNoRead) r.all d.unread)))
       (split old.journal d.events front (Read s question a) rest (sym d.journal ∙ e))
 
-  repeats_behind : ReadsRepeat old.journal → ReadsRepeat new.journal
-  repeats_behind h s question a b front between back e spared =
-      let to : new.journal ≡ (front ++ Read s question a ∷ between) ++ Read s question b ∷ back = e ∙ sym (append_assoc front (Read s question a ∷ between) (Read s question b ∷ back)) in
+  shared_behind : ReadsShareAMap old.journal → ReadsShareAMap new.journal
+  shared_behind h s question other a b front between back e spared =
+      let to : new.journal ≡ (front ++ Read s question a ∷ between) ++ Read s other b ∷ back = e ∙ sym (append_assoc front (Read s question a ∷ between) (Read s other b ∷ back)) in
       ⊎_elim
-      (λ (l : OnLeft old.journal d.events (front ++ Read s question a ∷ between) (Read s question b) back). h s question a b front between l.after (l.are ∙ append_assoc front (Read s question a ∷ between) (Read s question b ∷ l.after)) spared)
-      (λ (r : OnRight old.journal d.events (front ++ Read s question a ∷ between) (Read s question b) back). absurd (each_mid IsNoRead r.before (Read s question b) back (subst (AllByRecursion IsNoRead) r.all d.unread)))
-      (split old.journal d.events (front ++ Read s question a ∷ between) (Read s question b) back (sym d.journal ∙ to))
+      (λ (l : OnLeft old.journal d.events (front ++ Read s question a ∷ between) (Read s other b) back). h s question other a b front between l.after (l.are ∙ append_assoc front (Read s question a ∷ between) (Read s other b ∷ l.after)) spared)
+      (λ (r : OnRight old.journal d.events (front ++ Read s question a ∷ between) (Read s other b) back). absurd (each_mid IsNoRead r.before (Read s other b) back (subst (AllByRecursion IsNoRead) r.all d.unread)))
+      (split old.journal d.events (front ++ Read s question a ∷ between) (Read s other b) back (sym d.journal ∙ to))
 
 -- a list of one
 one_left : {A : Type 0} (x y : A) (xs ys : List A) → x ∷ [] ≡ xs ++ y ∷ ys → (xs ≡ []) × (x ≡ y) × (ys ≡ [])
@@ -201,7 +201,7 @@ one_left x y (z ∷ (w ∷ xs)) ys e = absurd (cc e)
 
 module _ (theory : Soundness) (opened : List Entry) (start : Map) where
   -- a read
-  module _ (old : State) (at : ℕ) (q : Question) (new : State) (d : Step opened old (Asked at q) new) (h : Holds opened start old) (shown : StillShown old) (repeats : ReadsRepeat old.journal) where
+  module _ (old : State) (at : ℕ) (q : Question) (new : State) (d : Step opened old (Asked at q) new) (h : Holds opened start old) (shown : StillShown old) (shared : ReadsShareAMap old.journal) where
     abbrev sv0 : SuperVersion
     sv0 = d.0
 
@@ -237,34 +237,34 @@ module _ (theory : Soundness) (opened : List Entry) (start : Map) where
             let sv_is : sv0 ≡ sv = cc (sym d.2 ∙ found') in
             sym a_is ∙ right ∙ ap (λ v. answer (view at (sources old.mems v)) q) sv_is ∙ ap (λ n. answer (view n (sources old.mems sv)) q) s_is ∙ ap (answer (view s (sources old.mems sv))) q_is ∙ shows s sv question
 
-    again : ReadsRepeat new.journal
-    again s question a b front between back e spared =
-        let to : new.journal ≡ (front ++ Read s question a ∷ between) ++ Read s question b ∷ back = e ∙ sym (append_assoc front (Read s question a ∷ between) (Read s question b ∷ back)) in
+    again : ReadsShareAMap new.journal
+    again s question other a b front between back e spared =
+        let to : new.journal ≡ (front ++ Read s question a ∷ between) ++ Read s other b ∷ back = e ∙ sym (append_assoc front (Read s question a ∷ between) (Read s other b ∷ back)) in
         ⊎_elim
-        (λ (l : OnLeft old.journal (Read at q told ∷ []) (front ++ Read s question a ∷ between) (Read s question b) back). repeats s question a b front between l.after (l.are ∙ append_assoc front (Read s question a ∷ between) (Read s question b ∷ l.after)) spared)
-        (λ (r : OnRight old.journal (Read at q told ∷ []) (front ++ Read s question a ∷ between) (Read s question b) back).
-        let one = one_left (Read at q told) (Read s question b) r.before back r.all in
+        (λ (l : OnLeft old.journal (Read at q told ∷ []) (front ++ Read s question a ∷ between) (Read s other b) back). shared s question other a b front between l.after (l.are ∙ append_assoc front (Read s question a ∷ between) (Read s other b ∷ l.after)) spared)
+        (λ (r : OnRight old.journal (Read at q told ∷ []) (front ++ Read s question a ∷ between) (Read s other b) back).
+        let one = one_left (Read at q told) (Read s other b) r.before back r.all in
         last (sym (append-nil old.journal) ∙ ap (λ xs. old.journal ++ xs) (sym one.0) ∙ sym r.are) one.1)
-        (split old.journal (Read at q told ∷ []) (front ++ Read s question a ∷ between) (Read s question b) back (sym journal ∙ to))
+        (split old.journal (Read at q told ∷ []) (front ++ Read s question a ∷ between) (Read s other b) back (sym journal ∙ to))
       where
-        last : old.journal ≡ front ++ Read s question a ∷ between → Read at q told ≡ Read s question b → a ≡ b
+        last : old.journal ≡ front ++ Read s question a ∷ between → Read at q told ≡ Read s other b → (m : Map) × (a ≡ answer m question) × (b ≡ answer m other)
         last is e =
             let s_is : at ≡ s = cc e in
-            let q_is : q ≡ question = cc e in
+            let q_is : q ≡ other = cc e in
             let b_is : told ≡ b = cc e in
-            let found' : found_at s old.latest old.older ≡ Some sv0 = ap (λ n. found_at n old.latest old.older) (sym s_is) ∙ d.2 in
-            shown s question a front between is spared sv0 found'
-            ∙ sym (ap (answer (view s (sources old.mems sv0))) q_is)
-            ∙ sym (ap (λ n. answer (view n (sources old.mems sv0)) q) s_is)
-            ∙ sym right ∙ b_is
+            let found' : found_at s old.latest old.older ≡ Some sv0 = ap (λ n. found_at n old.latest old.older) (sym s_is) ∙ d.2 in (
+              view s (sources old.mems sv0),
+              shown s question a front between is spared sv0 found',
+              sym b_is ∙ right ∙ ap (λ n. answer (view n (sources old.mems sv0)) q) s_is ∙ ap (answer (view s (sources old.mems sv0))) q_is,
+            )
 
   -- ---- deeds
 
   abbrev Both : State → Type 0
-  Both t = StillShown t × ReadsRepeat t.journal
+  Both t = StillShown t × ReadsShareAMap t.journal
 
   by_adds : (old new : State) → Adds old new → Both old → Both new
-  by_adds old new d b = (shown_behind old new d b.0, repeats_behind old new d b.1)
+  by_adds old new d b = (shown_behind old new d b.0, shared_behind old new d b.1)
 
   by_step : (old : State) (action : Action) (new : State) → Step opened old action new → InOrder opened new.journal → Holds opened start old → Both old → Both new
   by_step old (Asked at q) new d o h b = (still old at q new d h b.0 b.1, again old at q new d h b.0 b.1)
@@ -304,9 +304,9 @@ no_event : (front rest : List Event) (x : Event) → [] ≡ front ++ x ∷ rest 
 no_event [] rest x e = absurd (cc e)
 no_event (y ∷ front) rest x e = absurd (cc e)
 
-pub came_about_repeats : Soundness → CameAboutRepeats
-came_about_repeats theory opened start t c =
+pub came_about_reads : Soundness → CameAboutReads
+came_about_reads theory opened start t c =
     (by_deeds theory opened start c.first c.deeds t c.done c.order (theory.kept.opened opened start c.first.state c.starts.opens) (
       (λ s question a front rest e. absurd (no_event front rest (Read s question a) (sym c.starts.opens.journal ∙ e))),
-      (λ s question a b front between back e. absurd (no_event front (between ++ Read s question b ∷ back) (Read s question a) (sym c.starts.opens.journal ∙ e))),
+      (λ s question other a b front between back e. absurd (no_event front (between ++ Read s other b ∷ back) (Read s question a) (sym c.starts.opens.journal ∙ e))),
     )).1

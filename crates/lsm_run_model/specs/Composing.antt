@@ -1,5 +1,5 @@
 -- From what each call of a run does, as deeds and images, to what holds of the whole run at each moment.
-use Rattle.std.specs.Prelude.{◌≡◌, ◌⊎◌, ℕ, ◌<◌, ◌≤◌, List, [], ◌∷◌, map}
+use Rattle.std.specs.Prelude.{◌≡◌, ◌⊎◌, ℕ, ◌<◌, ◌≤◌, List, [], ◌∷◌, ◌++◌, map, take, length}
 use Rattle.std.specs.List.{AllByRecursion}
 use Rattle.lsm_below.specs.Entries.{Entry, above}
 use Rattle.lsm_below.specs.Members.{IsIn}
@@ -46,6 +46,11 @@ FindsAmong Finds Among image = (tables : List Placed) × Finds image tables × A
 abbrev pub IsOfEither : Saved → Saved → List Placed → Type 0
 IsOfEither old new tables = IsIn tables (versions old) ⊎ IsIn tables (versions new)
 
+-- a tree that came about, beside a store of which a crash now leaves tables that opening may find of it
+pub record StandsAt {F : Type 0} (Finds : Image → List Placed → Type 0) (world : F → World) (opened : List Entry) (start : Map) (p : Point F) : Type 0 where
+  pub came : CameAbout opened start p.tree
+  pub now : LeavesNow (world p.store) (FindsAmong Finds (λ tables. IsIn tables (versions p.tree)))
+
 -- the call of an outcome: its deeds add to the journal and to the notes what it tells; inside it a crash leaves the tables of the
 -- tree before or after it, and after it those of the latter
 pub record DoesCall {F R : Type 0} (Finds : Image → List Placed → Type 0) (world : F → World) (opened : List Entry) (told : Told R) (old new : Point F) : Type 0 where
@@ -75,20 +80,20 @@ pub record AreNumbered (n : ℕ) (opened : List Entry) (journal : List Event) : 
   pub before : above opened ≤ n
   pub written : AllByRecursion (OfWrite (λ e. e.key.seqno < n)) journal
 
--- what holds after each call, and of the last tree
-pub record Composed {F R : Type 0} (Shows : Image → Map → Type 0) (world : F → World) (opened : List Entry) (start : Map) (told : List (Told R)) (first : Point F) (points : List (Point F)) : Type 0 where
+-- what holds at each moment of these calls, after each of them, and in the end
+pub record Composed {F R : Type 0} (Finds : Image → List Placed → Type 0) (Shows : Image → Map → Type 0) (world : F → World) (opened : List Entry) (start : Map) (told : List (Told R)) (first : Point F) (points : List (Point F)) : Type 0 where
   pub moments : EachMoment Shows world opened start (past_of first.tree) told first.store (map (λ p. p.store) points)
   pub right : AllByRecursion (λ p. IsRight opened start p.tree) (first ∷ points)
-  pub came : CameAbout opened start (last_of first points).tree
+  pub stands : StandsAt Finds world opened start (last_of first points)
   pub past : past_of (last_of first points).tree ≡ after_all opened (past_of first.tree) told
 
--- Calls after a tree that came about: at each moment of the whole run a crash leaves a beginning of its calls, reads are right
--- after each call, and the last tree came about, so that calls may go on.
+-- Calls on a tree that came about, of which the first ones are in order, whatever comes later: so it is of these first ones, and the tree
+-- after them came about too, so that calls may go on.
 abbrev pub RunsCompose : {F : Type 0} → Type 0 → (Image → List Placed → Type 0) → (ℕ → Image → Map → Type 0) → (F → World) → Type 0
 RunsCompose {F} R Finds Shows world = (opened : List Entry) (start : Map) (n : ℕ) (told : List (Told R)) (first : Point F) (points : List (Point F))
-    → TablesShow Finds (Shows n) n → AreNumbered n opened (after_all opened (past_of first.tree) told).journal → CameAbout opened start first.tree
-    → EachDoes Finds world opened start told first points → InOrder opened (after_all opened (past_of first.tree) told).journal
-    → Composed (Shows n) world opened start told first points
+    → TablesShow Finds (Shows n) n → StandsAt Finds world opened start first → EachDoes Finds world opened start told first points
+    → (front back : List (Told R)) → told ≡ front ++ back → AreNumbered n opened (after_all opened (past_of first.tree) front).journal → InOrder opened (after_all opened (past_of first.tree) front).journal
+    → Composed Finds (Shows n) world opened start front first (take (length front) points)
 
 -- ---- reads alone, over any store
 
@@ -103,11 +108,12 @@ EachHasDeeds opened start (told ∷ more) old (new ∷ trees) =
     (IsRight opened start old → InOrder opened (after opened (past_of old) told).journal → HasDeeds opened told old new) × EachHasDeeds opened start more new trees
 EachHasDeeds opened start told old trees = ⊥
 
--- after each call reads are right where they were before the first
+-- after each of the first calls reads are right where they were before them, as long as the journal is in order
 abbrev pub ReadsStayRight : Type 0 → Type 0
 ReadsStayRight R = (opened : List Entry) (start : Map) (told : List (Told R)) (first : Saved) (trees : List Saved)
-    → IsRight opened start first → EachHasDeeds opened start told first trees → InOrder opened (after_all opened (past_of first) told).journal
-    → AllByRecursion (IsRight opened start) (first ∷ trees) × (past_of (last_of first trees) ≡ after_all opened (past_of first) told)
+    → IsRight opened start first → EachHasDeeds opened start told first trees
+    → (front back : List (Told R)) → told ≡ front ++ back → InOrder opened (after_all opened (past_of first) front).journal
+    → AllByRecursion (IsRight opened start) (first ∷ take (length front) trees) × (past_of (last_of first (take (length front) trees)) ≡ after_all opened (past_of first) front)
 
 -- a tree that came about has no low reads in its journal
 abbrev pub NoLowReads : Type 0

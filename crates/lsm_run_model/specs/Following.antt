@@ -1,5 +1,5 @@
 -- What follows of the moments of a run.
-use Rattle.std.specs.Prelude.{◌≡◌, ◌⊎◌, ℕ, ◌≤◌, List, [], ◌∷◌, ◌++◌}
+use Rattle.std.specs.Prelude.{◌≡◌, ◌⊎◌, ℕ, ◌≤◌, List, [], ◌∷◌, ◌++◌, take}
 use Rattle.lsm_below.specs.Entries.{Entry}
 use Rattle.lsm_store.specs.World.{Image, World, LeavesOnly}
 use Rattle.lsm_model.specs.Journal.{Map, Event}
@@ -19,8 +19,15 @@ pub record LeavesWhole {F R : Type 0} (Shows : Image → Map → Type 0) (world 
 
 abbrev pub MomentsMakeRuns : {F : Type 0} → Type 0 → (Image → Map → Type 0) → (F → World) → Type 0
 MomentsMakeRuns {F} R Shows world = (opened : List Entry) (start : Map) (past : Past) (told : List (Told R)) (was : F) (stores : List F)
-    → LeavesOnly (world was) (world was) (HoldsBeginning Shows start past (covered past.notes))
     → EachMoment Shows world opened start past told was stores → LeavesWhole Shows world opened start past told was (last_of was stores)
+
+-- What a crash left since a moment after the first of these calls, as the store tells it after the last: a beginning of all of them that
+-- holds all that those first ones covered. With all of them answered it is what a crash leaves now.
+abbrev pub MomentsSince : {F : Type 0} → Type 0 → (Image → Map → Type 0) → (F → World) → Type 0
+MomentsSince {F} R Shows world = (opened : List Entry) (start : Map) (past : Past) (told : List (Told R)) (was : F) (stores : List F) (answered : ℕ)
+    → EachMoment Shows world opened start past told was stores
+    → (left : Image) → (world (last_of was stores)).since (world (last_of was (take answered stores))).moment left
+    → HoldsBeginning Shows start (after_all opened past told) (covered (after_all opened past (take answered told)).notes) left
 
 -- what stands after one of these calls, and what was covered before it
 abbrev pub IsReached : {R : Type 0} → List Entry → Past → List (Told R) → Past → ℕ → Type 0

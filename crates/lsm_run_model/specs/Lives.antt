@@ -1,13 +1,13 @@
 -- Life after life: a tree is opened on what the life before left, calls are made on it, and a crash comes at any moment, or the process
 -- is killed, also in its opening.
-use Rattle.std.specs.Prelude.{◌≡◌, ◌⊎◌, ◌↔◌, ℕ, List, [], ◌∷◌, Option}
+use Rattle.std.specs.Prelude.{◌≡◌, ◌↔◌, ℕ, List, [], ◌∷◌, Option, take}
 use Rattle.lsm_below.specs.Entries.{Entry}
 use Rattle.lsm_below.specs.Members.{IsIn}
 use Rattle.lsm_store.specs.World.{Image, World, IsImage, Begins, LeavesOnly}
 use Rattle.lsm_model.specs.Journal.{Map}
 use Rattle.lsm_model.specs.Beginnings.{IsBeginning, covered}
-use Rattle.lsm_run_model.specs.Outcomes.{Told, Past, nothing, after}
-use Rattle.lsm_run_model.specs.Moments.{LeavesNow, EachMoment}
+use Rattle.lsm_run_model.specs.Outcomes.{Told, nothing, after_all}
+use Rattle.lsm_run_model.specs.Moments.{EachMoment, last_of}
 
 -- ---- the end of a life
 
@@ -45,29 +45,16 @@ pub record EndsIn {F : Type 0} (world : F → World) (was is : World) (end : End
   pub each : (image : Image) → MayBe world end image → is.since was.moment image
   pub gives : EndGives world end
 
--- in one of these calls, or after it: what stood after that call, and what was covered by then
-abbrev pub EndsInCalls : {F R : Type 0} → (F → World) → List Entry → Past → List (Told R) → F → List F → End F → Past → ℕ → Type 0
-EndsInCalls world opened past [] was stores end at least = ⊥
-EndsInCalls world opened past (told ∷ more) was [] end at least = ⊥
-EndsInCalls world opened past (told ∷ more) was (is ∷ stores) end at least =
-    let next = after opened past told in
-    ((EndsIn world (world was) (world is) end × (at ≡ next) × (least ≡ covered past.notes)) ⊎ (EndsIn world (world is) (world is) end × (at ≡ next) × (least ≡ covered next.notes)))
-    ⊎ EndsInCalls world opened next more is stores end at least
-
--- or after the opening, before the first of them
-abbrev pub EndsAfter : {F R : Type 0} → (F → World) → List Entry → List (Told R) → F → List F → End F → Past → ℕ → Type 0
-EndsAfter world opened told first stores end at least = (EndsIn world (world first) (world first) end × (at ≡ nothing) × (least ≡ 0)) ⊎ EndsInCalls world opened nothing told first stores end at least
-
 -- ---- what opening asks and promises
 
 -- a process that is killed meanwhile leaves a store that opening takes
 abbrev pub LeavesReady : {F : Type 0} → (World → Type 0) → (F → World) → F → F → Type 0
 LeavesReady Ready world was is = (cut : _) → EndsIn world (world was) (world is) (Killed cut) → Ready (world cut)
 
--- in each call along a chain of stores, and after it
-abbrev pub EachReady : {F : Type 0} → (World → Type 0) → (F → World) → F → List F → Type 0
-EachReady Ready world was [] = Unit {0}
-EachReady Ready world was (is ∷ stores) = LeavesReady Ready world was is × LeavesReady Ready world is is × EachReady Ready world is stores
+-- the process was killed, or came to its end
+abbrev pub IsKill : {F : Type 0} → End F → Type 0
+IsKill (Crashed left) = ⊥
+IsKill (Killed cut) = Unit {0}
 
 -- the image shows a map that a crash before might have left
 pub record ShowsOld (Shows : Image → Map → Type 0) (w : World) (image : Image) : Type 0 where
@@ -87,23 +74,21 @@ EachShows Shows w = (image : Image) → IsImage w.may image → (m : Map) × Sho
 
 -- ---- one life
 
--- a tree was opened, and shows the map that reads gave, whatever a crash leaves from then on; calls were made on it; and the life ended in
--- one of them, or after it
+-- A tree was opened on what shows the map, and calls were made on it, of which the first ones had been answered when the life ended, in the
+-- rest or after them: one call where it ended in it, none where it ended between calls.
 pub record Lived {F : Type 0} (R : Type 0) (Ready : World → Type 0) (Shows : Image → Map → Type 0) (world : F → World) (m : Map) (end : End F) : Type 0 where
   pub opened : List Entry
   pub told : List (Told R)
   pub first : F
   pub stores : List F
-  pub settled : LeavesNow (world first) (λ image. Shows image m)
   pub moments : EachMoment Shows world opened m nothing told first stores
-  pub ready : LeavesReady Ready world first first × EachReady Ready world first stores
-  pub at : Past
-  pub least : ℕ
-  pub ended : EndsAfter world opened told first stores end at least
+  pub answered : ℕ
+  pub ended : EndsIn world (world (last_of first (take answered stores))) (world (last_of first stores)) end
+  pub ready : IsKill end → LeavesReady Ready world (last_of first (take answered stores)) (last_of first stores)
 
 -- a life ends in the opening of its tree, whatever that then answers, or after it
 pub data OneLife {F : Type 0} (R : Type 0) (Ready : World → Type 0) (Shows : Image → Map → Type 0) (world : F → World) (m : Map) (begun : F) (end : End F) : Type 0 where
-  Opening : (ended : F) → LeavesOnly (world begun) (world ended) (ShowsOld Shows (world begun)) → LeavesReady Ready world begun ended → EndsIn world (world begun) (world ended) end → OneLife R Ready Shows world m begun end
+  Opening : (ended : F) → LeavesOnly (world begun) (world ended) (ShowsOld Shows (world begun)) → EndsIn world (world begun) (world ended) end → (IsKill end → LeavesReady Ready world begun ended) → OneLife R Ready Shows world m begun end
   Running : Lived R Ready Shows world m end → OneLife R Ready Shows world m begun end
 
 -- ---- one after the other
@@ -120,11 +105,13 @@ abbrev pub LifeAfterLife : {F : Type 0} → Type 0 → (World → Type 0) → (I
 LifeAfterLife R Ready Shows world before [] = Unit {0}
 LifeAfterLife R Ready Shows world before (end ∷ more) = Begun R Ready Shows world before end × LifeAfterLife R Ready Shows world end more
 
--- the maps that a life leaves open: those that were open before, where its opening was cut off; else beginnings of its calls up to and with
--- the one in which it ended, which hold all that was covered by then
+-- the maps that a life leaves open: those that were open before, where its opening was cut off; else beginnings of its calls which hold
+-- all that those covered that had been answered
 abbrev pub LeavesOpen : {F : Type 0} (R : Type 0) (Ready : World → Type 0) (Shows : Image → Map → Type 0) (world : F → World) (m : Map) (begun : F) (end : End F) → (Map → Type 0) → OneLife R Ready Shows world m begun end → Map → Type 0
-LeavesOpen R Ready Shows world m begun end P (Opening ended leaves ready came) next = P next
-LeavesOpen R Ready Shows world m begun end P (Running life) next = IsBeginning m life.at.journal life.at.notes life.least next
+LeavesOpen R Ready Shows world m begun end P (Opening ended leaves came ready) next = P next
+LeavesOpen R Ready Shows world m begun end P (Running life) next =
+    let all = after_all life.opened nothing life.told in
+    IsBeginning m all.journal all.notes (covered (after_all life.opened nothing (take life.answered life.told)).notes) next
 
 -- each life finds a store that opening takes, which shows one of the maps that were open: from it the tree starts; and whatever a crash then
 -- finds of what the life left shows one of the maps that it left open

@@ -16,15 +16,14 @@ pub record HoldsBeginning (Shows : Image → Map → Type 0) (start : Map) (past
 abbrev pub LeavesNow : World → (Image → Type 0) → Type 0
 LeavesNow w P = (image : Image) → w.since w.moment image → P image
 
--- call by call, between neighbours of a chain of stores: inside a call a crash leaves a beginning of the calls up to and with it,
--- which holds all that was covered before it; after the call one that holds all that is covered by then
+-- Along a chain of stores, one after each call: at each of them a crash leaves a beginning of the calls so far, which holds all that
+-- is covered by then; and inside a call one of the calls up to and with it, which holds all that was covered before it.
 abbrev pub EachMoment : {F R : Type 0} → (Image → Map → Type 0) → (F → World) → List Entry → Map → Past → List (Told R) → F → List F → Type 0
-EachMoment Shows world opened start past [] was [] = Unit {0}
+EachMoment Shows world opened start past [] was [] = LeavesNow (world was) (HoldsBeginning Shows start past (covered past.notes))
 EachMoment Shows world opened start past (told ∷ more) was (is ∷ stores) =
-    let next = after opened past told in
-    LeavesOnly (world was) (world is) (HoldsBeginning Shows start next (covered past.notes))
-    × LeavesNow (world is) (HoldsBeginning Shows start next (covered next.notes))
-    × EachMoment Shows world opened start next more is stores
+    LeavesNow (world was) (HoldsBeginning Shows start past (covered past.notes))
+    × LeavesOnly (world was) (world is) (HoldsBeginning Shows start (after opened past told) (covered past.notes))
+    × EachMoment Shows world opened start (after opened past told) more is stores
 EachMoment Shows world opened start past [] was (is ∷ stores) = ⊥
 EachMoment Shows world opened start past (told ∷ more) was [] = ⊥
 

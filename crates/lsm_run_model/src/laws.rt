@@ -2,9 +2,9 @@
 ghost use Rattle.std.specs.Prelude.{ℕ};
 ghost use Rattle.lsm_run_model.specs.Composing.{RunsCompose, ReadsStayRight, NoLowReads, NumbersAreBounded};
 ghost use Rattle.lsm_run_model.specs.Counting.{CountedRunsAreInOrder};
-ghost use Rattle.lsm_run_model.specs.Following.{BeginningsGrow, MomentsMakeRuns, MomentsJoin, EveryImageIsACalls};
+ghost use Rattle.lsm_run_model.specs.Following.{BeginningsGrow, MomentsMakeRuns, MomentsSince, MomentsJoin, EveryImageIsACalls};
 ghost use Rattle.lsm_run_model.specs.Lives.{LivesGoOn};
-ghost use Rattle.lsm_run_model.specs.Repeating.{CameAboutRepeats};
+ghost use Rattle.lsm_run_model.specs.Repeating.{CameAboutReads};
 ghost use Rattle.lsm_run_model.specs.Settling.{Settling};
 ghost use Rattle.lsm_run_model.specs.Rising.{RisingIsInOrder, RisingFront, RisingLower, OrderWithoutReads};
 
@@ -32,6 +32,11 @@ pub fn beginnings_grow()
 /// Measured by its whole journal, a run leaves a beginning at each moment, and after it one that holds all that is covered.
 pub fn moments_make_runs<S: Store, V: Finding, R>(_: &S, _: &V, _: &R)
     ensures { (n : ℕ) → MomentsMakeRuns R (V.shows n) S.world }
+{}
+
+/// What a crash left since a moment after the first calls is a beginning of all of them that holds all that those first ones covered.
+pub fn moments_since<S: Store, V: Finding, R>(_: &S, _: &V, _: &R)
+    ensures { (n : ℕ) → MomentsSince R (V.shows n) S.world }
 {}
 
 /// Runs after runs are one run.
@@ -101,9 +106,9 @@ pub fn numbers_are_bounded()
     ensures { NumbersAreBounded }
 {}
 
-/// Two reads of one question at one snapshot answer the same, where all between them is to leave what the snapshot sees.
-pub fn reads_repeat()
-    ensures { CameAboutRepeats }
+/// Two reads at one snapshot answer from one map, where all between them is to leave what the snapshot sees.
+pub fn reads_share_a_map()
+    ensures { CameAboutReads }
 {
     reads_are_sound();
 }
