@@ -18,7 +18,7 @@ use Rattle.lsm_run_model.specs.declared.noted.Noted.TheVariants.{Sealed, Flushed
 use Rattle.lsm_run_model.specs.Moments.{EachMoment, HoldsBeginning}
 use Rattle.lsm_run_model.specs.Composing.{Point, past_of, FindsAmong, IsOfEither, EachDoes, Composed, TablesShow}
 use Rattle.lsm_run_model.specs.Lives.{Crashed, LifeAfterLife, Running, Reads, AllGoWell}
-use Rattle.lsm_run_model.specs.Rising.{Own, Raises, Draws, Silent, RisesFrom}
+use Rattle.lsm_run_model.specs.Rising.{Drawing, Silent, Own, Raises, Reserves, Draws, At, UpTo, RisesFrom, Asks, WeakOnce}
 use Rattle.lsm_run_model.proofs.Composing.{runs_compose}
 use Rattle.lsm_run_model.proofs.Lives.{any_number}
 
@@ -182,13 +182,33 @@ first_life theory crashes join = runs_compose theory crashes join ℕ Finds (λ 
     (record { before = omega arith; written = (omega arith, (tt, tt)) })
     (record { after_installs = omega arith; after_own = omega arith; single = λ w. omega arith }, (omega arith, tt))
 
--- the numbers of its calls rise: the counter was put above the write's number, then the flush drew the next one
-numbers_rise : RisesFrom 0 0 (Raises 1 ∷ (Own 0 ∷ (Silent ∷ (Draws ∷ []))))
-numbers_rise = (omega arith, (omega arith, omega arith, tt))
+-- the numbers of its calls rise: one was drawn and used for the write, then the flush drew the next one
+numbers_rise : RisesFrom 0 (At 0) (Reserves ∷ (Own 0 ∷ (Silent ∷ (Draws ∷ []))))
+numbers_rise = (omega arith, ((omega arith, omega arith), (tt, (tt, tt))))
 
--- a number that an install may have used doesn't rise
-used_numbers_dont : RisesFrom 0 0 (Raises 1 ∷ (Draws ∷ (Own 1 ∷ []))) → ⊥
-used_numbers_dont r = omega (r.1.0, arith)
+-- and wherever the counter stands up to 0, if it is put above the write's number first
+numbers_rise_up_to : RisesFrom 0 (UpTo 0) (Raises 1 ∷ (Own 0 ∷ (Silent ∷ (Draws ∷ []))))
+numbers_rise_up_to = (omega arith, ((omega arith, omega arith), (tt, (tt, tt))))
+
+-- a number that an install may have used doesn't rise, nor one that the counter hasn't passed
+used_numbers_dont : RisesFrom 0 (At 1) (Draws ∷ (Raises 3 ∷ (Own 1 ∷ []))) → ⊥
+used_numbers_dont r = omega (r.1.1.0.0, arith)
+
+undrawn_numbers_dont : RisesFrom 0 (At 0) (Own 0 ∷ []) → ⊥
+undrawn_numbers_dont r = omega (r.0.1, arith)
+
+-- a key may be removed weakly after it was set once, and not after it was set twice, or over a value that was opened
+abbrev asks : Drawing → List Bytes → List Bytes → Asks
+asks d sets weak = record { drawing = d; sets = sets; weak = weak }
+
+set_once : WeakOnce [] [] (asks Draws (key ∷ []) [] ∷ (asks Draws [] (key ∷ []) ∷ []))
+set_once = (tt, ((omega arith, tt), tt))
+
+set_twice : WeakOnce [] [] (asks Draws (key ∷ []) [] ∷ (asks Draws (key ∷ []) [] ∷ (asks Draws [] (key ∷ []) ∷ []))) → ⊥
+set_twice w = omega (w.1.1.0.0, arith)
+
+set_and_opened : WeakOnce (set0 ∷ []) [] (asks Draws (key ∷ []) [] ∷ (asks Draws [] (key ∷ []) ∷ [])) → ⊥
+set_and_opened w = omega (w.1.0.0, arith)
 
 -- ---- the second life: opened on what the flush left, a clear of unknown outcome
 
