@@ -1,6 +1,7 @@
 -- Two lives with a crash in a flush and one in a clear of unknown outcome: the premises can be met. And why the moments are as they are.
-use Rattle.std.proofs.Common.{◌≡◌, ◌⊎◌, ⊎_elim, ℕ, zero, suc, ◌≤◌, Bool, true, false, cond, List, [], ◌∷◌, ◌++◌, Option, Some, None, refl, sym, ap, ◌∙◌, subst, arith, inl, inr, take, drop}
-use Rattle.std.specs.FinMap.{get, empty, get-empty}
+use Rattle.std.proofs.Common.{◌≡◌, ◌⊎◌, ⊎_elim, ℕ, zero, suc, ◌≤◌, Bool, true, false, cond, List, [], ◌∷◌, ◌++◌, Option, Some, None, refl, sym, ap, ◌∙◌, subst, arith, inl, inr, take, drop, filter}
+use Rattle.std.specs.FinMap.{get, empty, entries, find, get-empty, get-entries}
+use Rattle.std.specs.declared.ops.Bound.TheVariants.{Unbounded}
 use Rattle.lsm_below.specs.Keys.{Bytes, is_same, bytes_cmp}
 use Rattle.lsm_below.specs.Entries.{Entry, stack, keep, entry_at, value_of, IsFalling, IsSingle}
 use Rattle.lsm_below.specs.declared.value_type.ValueType.TheVariants.{Value}
@@ -12,13 +13,16 @@ use Rattle.lsm_model.specs.Steps.{State, Wrote, Rotated, Flushed as Flushing, Cl
 use Rattle.lsm_model.specs.Soundness.{Soundness}
 use Rattle.lsm_model.specs.Laws.{MapsAreRead}
 use Rattle.lsm_model.specs.Beginnings.{Note, SealedAt, FlushedIds, ClearLost, covered, Saved, Done, Lost, IsStart, IsBeginning, EveryCrashRecovers, DeedsJoin, OpeningStarts, Stands, is_spared, beginning, shown_by, versions}
-use Rattle.lsm_model.specs.declared.journal.JournalEntry.TheVariants.{Write, Clear, Install, Dropped}
+use Rattle.lsm_model.specs.declared.journal.JournalEntry.TheVariants.{Write, Clear, Install, Dropped, Read}
+use Rattle.lsm_model.specs.declared.question.Question.TheVariants.{Get, Between}
+use Rattle.lsm_model.specs.declared.question.Answer.TheVariants.{Found, Pairs}
 use Rattle.lsm_run_model.specs.Outcomes.{Told, nothing}
 use Rattle.lsm_run_model.specs.declared.noted.Noted.TheVariants.{Sealed, Flushed, ClearUnknown}
 use Rattle.lsm_run_model.specs.Moments.{EachMoment, HoldsBeginning}
 use Rattle.lsm_run_model.specs.Composing.{Point, past_of, FindsAmong, IsOfEither, EachDoes, Composed, TablesShow}
 use Rattle.lsm_run_model.specs.Lives.{Crashed, LifeAfterLife, Running, Reads, AllGoWell}
 use Rattle.lsm_run_model.specs.Rising.{Drawing, Silent, Own, Raises, Reserves, Draws, At, UpTo, RisesFrom, Asks, WeakOnce}
+use Rattle.lsm_run_model.specs.Repeating.{ReadsShareAMap}
 use Rattle.lsm_run_model.proofs.Composing.{runs_compose}
 use Rattle.lsm_run_model.proofs.Lives.{any_number}
 
@@ -385,3 +389,49 @@ inside_the_flush = (refl, refl)
 
 inside_not_more : MapsAreRead → HoldsBeginning Shows empty (past_of a3) (covered (past_of a3).notes) (filled none) → ⊥
 inside_not_more maps h = not_before maps (subst (λ m. IsBeginning empty before_drop notes 1 m) (shows_none h.map h.shows) h.begins)
+
+-- so a flush that is answered, and of which nothing is there, is refused: by what a crash leaves now
+lost_flush_is_refused : MapsAreRead → EachMoment Shows world [] empty nothing told New (New ∷ (New ∷ (New ∷ []))) → ⊥
+lost_flush_is_refused maps m = inside_not_more maps (m.2.2.2 (filled none) refl)
+
+-- ---- the first calls alone
+
+-- a call after them whose write breaks the order takes nothing from what holds of them
+abbrev one_more : List (Told ℕ)
+one_more = record { reply = 0; entries = Write set0 ∷ []; notes = [] } ∷ []
+
+abbrev more_points : List (Point Store)
+more_points = point New a1 ∷ (point New a2 ∷ (point Behind a3 ∷ (point Behind a3 ∷ [])))
+
+does_more : EachDoes Finds world [] empty (told ++ one_more) (point New a0) more_points
+does_more = (does.0, (does.1.0, (does.1.1.0, ((λ right order. let low = order.1.1.0.after_installs in absurd (omega arith)), tt))))
+
+holds_of_the_first : Soundness → EveryCrashRecovers → DeedsJoin → Composed Finds Shows world [] empty told (point New a0) points
+holds_of_the_first theory crashes join = runs_compose theory crashes join ℕ Finds (λ n. Shows) world [] empty 9 (told ++ one_more) (point New a0) more_points tables_show
+    (record { came = record { first = a0; starts = starts; deeds = []; done = refl; order = tt }; now = λ image since. ([], inl (since, refl), inl refl) })
+    does_more
+    told one_more refl
+    (record { before = omega arith; written = (omega arith, (tt, tt)) })
+    (record { after_installs = omega arith; after_own = omega arith; single = λ w. omega arith }, (omega arith, tt))
+
+-- ---- reads at one snapshot
+
+all_of : {A : Type 0} (es : List A) → filter (λ e. true) es ≡ es
+all_of [] = refl
+all_of (e ∷ es) = ap (λ xs. e ∷ xs) (all_of es)
+
+-- a key that is found alone stands in a range of all keys
+found_and_not_listed : ReadsShareAMap (Read 2 (Get key) (Found (Some (7 ∷ []))) ∷ (Read 2 (Between Unbounded Unbounded) (Pairs []) ∷ [])) → ⊥
+found_and_not_listed share =
+    let m = share 2 (Get key) (Between Unbounded Unbounded) (Found (Some (7 ∷ []))) (Pairs []) [] [] [] refl tt in
+    let listed : [] ≡ filter (λ e. true) (entries m.0) = cc m.2 in
+    let found : Some (7 ∷ []) ≡ get m.0 key = cc m.1 in
+    cc (found ∙ get-entries m.0 key ∙ ap (find bytes_cmp key) (sym (listed ∙ all_of (entries m.0))))
+
+-- nor is a question answered twice in two ways
+answered_in_two_ways : ReadsShareAMap (Read 2 (Get key) (Found (Some (7 ∷ []))) ∷ (Read 2 (Get key) (Found None) ∷ [])) → ⊥
+answered_in_two_ways share =
+    let m = share 2 (Get key) (Get key) (Found (Some (7 ∷ []))) (Found None) [] [] [] refl tt in
+    let a : Some (7 ∷ []) ≡ get m.0 key = cc m.1 in
+    let b : None ≡ get m.0 key = cc m.2 in
+    cc (a ∙ sym b)

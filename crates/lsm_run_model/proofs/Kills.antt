@@ -8,7 +8,7 @@ use Rattle.lsm_model.specs.Journal.{Map, changed}
 use Rattle.lsm_model.specs.declared.journal.JournalEntry.TheVariants.{Write, Install}
 use Rattle.lsm_run_model.specs.Outcomes.{Past, nothing, after_all}
 use Rattle.lsm_run_model.specs.Moments.{HoldsBeginning, EachMoment}
-use Rattle.lsm_run_model.specs.Lives.{End, Crashed, Killed, GivesOne, LeavesReady, ShowsOld, OneLife, LifeAfterLife, Opening, Running, Reads, AllGoWell}
+use Rattle.lsm_run_model.specs.Lives.{End, Crashed, Killed, GivesOne, ShowsOld, OneLife, LifeAfterLife, Opening, Running, Reads, AllGoWell}
 use Rattle.lsm_run_model.specs.Settling.{TellsMoments, LooksAt, IsPut, IsCleared, Settled}
 use Rattle.lsm_run_model.proofs.Lives.{any_number}
 use Rattle.lsm_run_model.proofs.Settling.{settling, breaks}

@@ -1,5 +1,5 @@
 -- Life after life.
-use Rattle.std.proofs.Common.{◌≡◌, List, [], ◌∷◌, take, refl, subst}
+use Rattle.std.proofs.Common.{List, [], ◌∷◌, take, refl, subst}
 use Rattle.lsm_below.specs.Members.{IsIn}
 use Rattle.lsm_store.specs.World.{Image, World, IsImage}
 use Rattle.lsm_model.specs.Journal.{Map}

@@ -1,5 +1,5 @@
 -- Calls whose numbers rise keep a journal in order.
-use Rattle.std.proofs.Common.{◌≡◌, ◌⊎◌, ⊎_elim, ℕ, ◌+◌, ◌<◌, ◌≤◌, ◌^◌, max, Bool, true, false, ◌&&◌, cond, List, [], ◌∷◌, ◌++◌, fold, map, filter, length, refl, sym, ap, ◌∙◌, subst, arith, append-nil, append_assoc}
+use Rattle.std.proofs.Common.{◌≡◌, ◌⊎◌, ⊎_elim, ℕ, ◌+◌, ◌<◌, ◌≤◌, max, Bool, true, false, ◌&&◌, cond, List, [], ◌∷◌, ◌++◌, fold, map, filter, length, refl, sym, ap, ◌∙◌, subst, arith, append-nil, append_assoc}
 use Rattle.std.specs.List.{AllByRecursion}
 use Rattle.std.proofs.lemmas.Grind.{fold-append}
 use Rattle.lsm_below.specs.Keys.{Bytes, is_same}
@@ -10,7 +10,7 @@ use Rattle.lsm_model.specs.Views.{EachPair}
 use Rattle.lsm_model.specs.Laws.{MapsAreRead}
 use Rattle.lsm_model.specs.declared.journal.JournalEntry.TheVariants.{Write, Clear, Install, Dropped, Mark, Read}
 use Rattle.lsm_run_model.specs.Outcomes.{Told, journal_of}
-use Rattle.lsm_run_model.specs.Rising.{Drawing, Silent, Own, Raises, Reserves, Draws, Standing, At, UpTo, IsWhere, most, moved, unused, MayDraw, RisesFrom, highest, Asks, times, WeakOnce, IsUnnumbered, IsBatch, IsCommitted, UsesNumbers, UsesKeys, EachUses, StandsBelow, StaysInOrder, RisingIsInOrder, RisingFront, RisingLower}
+use Rattle.lsm_run_model.specs.Rising.{Drawing, Silent, Own, Raises, Reserves, Draws, Standing, At, UpTo, IsWhere, most, moved, unused, MayDraw, RisesFrom, Asks, times, WeakOnce, IsUnnumbered, IsBatch, IsCommitted, UsesNumbers, UsesKeys, EachUses, StandsBelow, StaysInOrder, RisingIsInOrder, RisingFront, RisingLower}
 use Rattle.lsm_run_model.proofs.Numbers.{order_more}
 
 -- ---- keys
@@ -302,7 +302,7 @@ module _ (maps : MapsAreRead) (opened : List Entry) where
         (λ (w : IsBatch old events).
         let own = subst (UsesKeys call) w.are keys in
         let b = subst (λ es. IsBelow (journal ++ es) (old + 1)) (sym w.are)
-            (batch journal old w.entries w.numbered (pairs_back maps w.entries w.distinct) (all_spent w.entries own) (let f = floor_number journal in omega arith) (each_low journal old w.entries h) (omega arith) stands.order) in
+        (batch journal old w.entries w.numbered (pairs_back maps w.entries w.distinct) (all_spent w.entries own) (let f = floor_number journal in omega arith) (each_low journal old w.entries h) (omega arith) stands.order) in
         let l = b.1 in
         record {
           below = record {
