@@ -1,5 +1,5 @@
 -- Call by call, from what each does to what holds of the whole run.
-use Rattle.std.proofs.Common.{◌≡◌, ⊎_elim, inl, inr, ℕ, ◌≤◌, List, [], ◌∷◌, ◌++◌, map, take, length, refl, sym, ap, ◌∙◌, subst, append-nil, append_assoc}
+use Rattle.std.proofs.Common.{◌≡◌, ⊎_elim, inl, inr, ℕ, zero, suc, ◌≤◌, List, [], ◌∷◌, ◌++◌, map, take, refl, sym, ap, ◌∙◌, subst, append-nil, append_assoc}
 use Rattle.std.specs.List.{AllByRecursion}
 use Rattle.lsm_below.specs.Entries.{Entry, above}
 use Rattle.lsm_below.specs.Members.{IsIn}
@@ -138,16 +138,17 @@ module _ (theory : Soundness) (crashes : EveryCrashRecovers) (join : DeedsJoin) 
       }
 
   -- what each call does, the first ones do
-  does_front : {R : Type 0} (front back : List (Told R)) (old : Point F) (points : List (Point F)) → EachDoes Finds world opened start (front ++ back) old points → EachDoes Finds world opened start front old (take (length front) points)
-  does_front [] back old points each = tt
-  does_front (t ∷ front) back old [] each = absurd each
-  does_front (t ∷ front) back old (new ∷ points) each = (each.0, does_front front back new points each.1)
+  does_front : {R : Type 0} (many : ℕ) (told : List (Told R)) (old : Point F) (points : List (Point F)) → EachDoes Finds world opened start told old points → EachDoes Finds world opened start (take many told) old (take many points)
+  does_front zero told old points each = tt
+  does_front (suc many) [] old [] each = tt
+  does_front (suc many) [] old (new ∷ points) each = absurd each
+  does_front (suc many) (t ∷ told) old [] each = absurd each
+  does_front (suc many) (t ∷ told) old (new ∷ points) each = (each.0, does_front many told new points each.1)
 
 pub runs_compose : Soundness → EveryCrashRecovers → DeedsJoin → {F : Type 0} (R : Type 0) (Finds : Image → List Placed → Type 0) (Shows : ℕ → Image → Map → Type 0) (world : F → World) → RunsCompose R Finds Shows world
-runs_compose theory crashes join R Finds Shows world opened start n told first points show stands each front back are small order =
-    compose theory crashes join Finds (Shows n) world opened start n show front first (take (length front) points) stands
-    (does_front theory crashes join Finds (Shows n) world opened start n show front back first points (subst (λ (ts : List (Told R)). EachDoes Finds world opened start ts first points) are each))
-    order small
+runs_compose theory crashes join R Finds Shows world opened start n told first points show stands each many small order =
+    compose theory crashes join Finds (Shows n) world opened start n show (take many told) first (take many points) stands
+    (does_front theory crashes join Finds (Shows n) world opened start n show many told first points each) order small
 
 -- ---- reads alone
 
@@ -168,12 +169,12 @@ module _ (theory : Soundness) (opened : List Entry) (start : Map) where
       let rest = stay_right told new trees (right_behind first new d.0 d.1 (subst (λ (p : Past). InOrder opened p.journal) (sym d.2) here) r) each.1 (subst (λ (p : Past). InOrder opened (after_all opened p told).journal) (sym d.2) o) in
       ((r, rest.0), rest.1 ∙ ap (λ (p : Past). after_all opened p told) d.2)
 
-  deeds_front : {R : Type 0} (front back : List (Told R)) (first : Saved) (trees : List Saved) → EachHasDeeds opened start (front ++ back) first trees → EachHasDeeds opened start front first (take (length front) trees)
-  deeds_front [] back first trees each = tt
-  deeds_front (t ∷ front) back first [] each = absurd each
-  deeds_front (t ∷ front) back first (new ∷ trees) each = (each.0, deeds_front front back new trees each.1)
+  deeds_front : {R : Type 0} (many : ℕ) (told : List (Told R)) (first : Saved) (trees : List Saved) → EachHasDeeds opened start told first trees → EachHasDeeds opened start (take many told) first (take many trees)
+  deeds_front zero told first trees each = tt
+  deeds_front (suc many) [] first [] each = tt
+  deeds_front (suc many) [] first (new ∷ trees) each = absurd each
+  deeds_front (suc many) (t ∷ told) first [] each = absurd each
+  deeds_front (suc many) (t ∷ told) first (new ∷ trees) each = (each.0, deeds_front many told new trees each.1)
 
 pub reads_stay_right : Soundness → (R : Type 0) → ReadsStayRight R
-reads_stay_right theory R opened start told first trees r each front back are o =
-    stay_right theory opened start front first (take (length front) trees) r
-    (deeds_front theory opened start front back first trees (subst (λ (ts : List (Told R)). EachHasDeeds opened start ts first trees) are each)) o
+reads_stay_right theory R opened start told first trees r each many o = stay_right theory opened start (take many told) first (take many trees) r (deeds_front theory opened start many told first trees each) o

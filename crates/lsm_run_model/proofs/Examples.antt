@@ -182,7 +182,7 @@ first_life : Soundness → EveryCrashRecovers → DeedsJoin → Composed Finds S
 first_life theory crashes join = runs_compose theory crashes join ℕ Finds (λ n. Shows) world [] empty 9 told (point New a0) points tables_show
     (record { came = record { first = a0; starts = starts; deeds = []; done = refl; order = tt }; now = λ image since. ([], inl (since, refl), inl refl) })
     does
-    told [] refl
+    3
     (record { before = omega arith; written = (omega arith, (tt, tt)) })
     (record { after_installs = omega arith; after_own = omega arith; single = λ w. omega arith }, (omega arith, tt))
 
@@ -254,7 +254,7 @@ second_life theory crashes join opens = runs_compose theory crashes join ℕ Fin
       now = λ image since. (one, inr (since, refl), inl refl);
     })
     does_again
-    told_again [] refl
+    1
     (record { before = omega arith; written = tt })
     tt
 
@@ -410,7 +410,7 @@ holds_of_the_first : Soundness → EveryCrashRecovers → DeedsJoin → Composed
 holds_of_the_first theory crashes join = runs_compose theory crashes join ℕ Finds (λ n. Shows) world [] empty 9 (told ++ one_more) (point New a0) more_points tables_show
     (record { came = record { first = a0; starts = starts; deeds = []; done = refl; order = tt }; now = λ image since. ([], inl (since, refl), inl refl) })
     does_more
-    told one_more refl
+    3
     (record { before = omega arith; written = (omega arith, (tt, tt)) })
     (record { after_installs = omega arith; after_own = omega arith; single = λ w. omega arith }, (omega arith, tt))
 

@@ -1,5 +1,5 @@
 -- From what each call of a run does, as deeds and images, to what holds of the whole run at each moment.
-use Rattle.std.specs.Prelude.{◌≡◌, ◌⊎◌, ℕ, ◌<◌, ◌≤◌, List, [], ◌∷◌, ◌++◌, map, take, length}
+use Rattle.std.specs.Prelude.{◌≡◌, ◌⊎◌, ℕ, ◌<◌, ◌≤◌, List, [], ◌∷◌, map, take}
 use Rattle.std.specs.List.{AllByRecursion}
 use Rattle.lsm_below.specs.Entries.{Entry, above}
 use Rattle.lsm_below.specs.Members.{IsIn}
@@ -87,13 +87,13 @@ pub record Composed {F R : Type 0} (Finds : Image → List Placed → Type 0) (S
   pub stands : StandsAt Finds world opened start (last_of first points)
   pub past : past_of (last_of first points).tree ≡ after_all opened (past_of first.tree) told
 
--- Calls on a tree that came about, of which the first ones are in order, whatever comes later: so it is of these first ones, and the tree
--- after them came about too, so that calls may go on.
+-- Calls on a tree that came about, of which the first so many are in order, whatever comes later: so it is of these first ones, and the
+-- tree after them came about too, so that calls may go on.
 abbrev pub RunsCompose : {F : Type 0} → Type 0 → (Image → List Placed → Type 0) → (ℕ → Image → Map → Type 0) → (F → World) → Type 0
 RunsCompose {F} R Finds Shows world = (opened : List Entry) (start : Map) (n : ℕ) (told : List (Told R)) (first : Point F) (points : List (Point F))
     → TablesShow Finds (Shows n) n → StandsAt Finds world opened start first → EachDoes Finds world opened start told first points
-    → (front back : List (Told R)) → told ≡ front ++ back → AreNumbered n opened (after_all opened (past_of first.tree) front).journal → InOrder opened (after_all opened (past_of first.tree) front).journal
-    → Composed Finds (Shows n) world opened start front first (take (length front) points)
+    → (many : ℕ) → AreNumbered n opened (after_all opened (past_of first.tree) (take many told)).journal → InOrder opened (after_all opened (past_of first.tree) (take many told)).journal
+    → Composed Finds (Shows n) world opened start (take many told) first (take many points)
 
 -- ---- reads alone, over any store
 
@@ -112,8 +112,8 @@ EachHasDeeds opened start told old trees = ⊥
 abbrev pub ReadsStayRight : Type 0 → Type 0
 ReadsStayRight R = (opened : List Entry) (start : Map) (told : List (Told R)) (first : Saved) (trees : List Saved)
     → IsRight opened start first → EachHasDeeds opened start told first trees
-    → (front back : List (Told R)) → told ≡ front ++ back → InOrder opened (after_all opened (past_of first) front).journal
-    → AllByRecursion (IsRight opened start) (first ∷ take (length front) trees) × (past_of (last_of first (take (length front) trees)) ≡ after_all opened (past_of first) front)
+    → (many : ℕ) → InOrder opened (after_all opened (past_of first) (take many told)).journal
+    → AllByRecursion (IsRight opened start) (first ∷ take many trees) × (past_of (last_of first (take many trees)) ≡ after_all opened (past_of first) (take many told))
 
 -- a tree that came about has no low reads in its journal
 abbrev pub NoLowReads : Type 0
