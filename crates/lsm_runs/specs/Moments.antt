@@ -1,0 +1,120 @@
+-- The outcomes of a run as the theory of runs has them, with their notes as values, and what a crash leaves at each moment of it.
+use Rattle.std.specs.Prelude.{◌≡◌, ℕ, ◌≤◌, List, [], ◌∷◌, ◌++◌, Option, Some, None, map, take, if◌then◌else◌}
+use Rattle.lsm_below.specs.Entries.{Entry, above}
+use Rattle.lsm_below.specs.declared.error.Error.{Error}
+use Rattle.lsm_below.specs.declared.error.Error.TheVariants.{CommitUnknown}
+use Rattle.lsm_store.specs.World.{Image, World}
+use Rattle.lsm_model.specs.Journal.{Map, InOrder}
+use Rattle.lsm_model.specs.Views.{Placed, held}
+use Rattle.lsm_model.specs.Steps.{IsOpened}
+use Rattle.lsm_jobs.specs.declared.jobs.Registered.{Registered as Outcome}
+use Rattle.lsm_versions.specs.Levels.{Levels, placed_of}
+use Rattle.lsm_manifest.specs.Finding.{Finds, StandsForMap}
+use Rattle.lsm_files.specs.Stored.{IsStored}
+use Rattle.lsm_state.specs.Core.{Core, state_of, versions_left, written_of}
+use Rattle.lsm_state.specs.Flushes.{sealed_ids}
+use Rattle.lsm_run_model.specs.declared.noted.Noted.{Noted}
+use Rattle.lsm_run_model.specs.declared.noted.Noted.TheVariants as note
+use Rattle.lsm_run_model.specs.Outcomes.{nothing, after_all}
+use Rattle.lsm_run_model.specs.Outcomes as out
+use Rattle.lsm_run_model.specs.Moments.{EachMoment, last_of}
+use Rattle.lsm_run_model.specs.Composing.{AreNumbered}
+use Rattle.lsm_runs.specs.declared.slots.Job.{Job}
+use Rattle.lsm_runs.specs.declared.steps.JobStep.{JobStep}
+use Rattle.lsm_runs.specs.declared.steps.JobStep.TheVariants.{RegisterTables}
+use Rattle.lsm_runs.specs.declared.steps.Step.{Step}
+use Rattle.lsm_runs.specs.declared.steps.Step.TheVariants.{RotateMemtable, AtSlot, Flush, FlushActiveMemtable, Clear}
+use Rattle.lsm_runs.specs.declared.steps.Reply.{Reply}
+use Rattle.lsm_runs.specs.declared.steps.Reply.TheVariants.{Sealed, Registered, Flushed, FlushedActive, RefusedActive, Cleared, Refused}
+use Rattle.lsm_runs.specs.Compacting.{Strategies}
+use Rattle.lsm_runs.specs.Files.{LeavesFiles}
+use Rattle.lsm_runs.specs.Noting.{sealed_behind, ids_in}
+use Rattle.lsm_runs.specs.Runs.{Takes, IsPlainUse, journal_of}
+use Rattle.lsm_runs.specs.Slots.{Stage}
+use Rattle.lsm_runs.specs.Told.{Told}
+
+-- ---- notes without places
+
+abbrev pub sealed_noted : Option ℕ → List Noted
+sealed_noted None = []
+sealed_noted (Some id) = note.Sealed id ∷ []
+
+abbrev pub flushed_noted : List ℕ → Option (ℕ × Outcome) → List Noted
+flushed_noted ids None = []
+flushed_noted ids (Some a) = note.Flushed ids ∷ []
+
+abbrev pub job_noted : JobStep → Reply → Option Job → List Noted
+job_noted RegisterTables (Registered a) was = if a.installed then note.Flushed (ids_in was) ∷ [] else []
+job_noted step reply was = []
+
+abbrev pub lost_noted : Error → Core → List Noted
+lost_noted CommitUnknown c = note.ClearUnknown c.seqno ∷ []
+lost_noted other c = []
+
+abbrev pub alone_noted : Step → Reply → Core → List Noted
+alone_noted RotateMemtable (Sealed id) c = sealed_noted id
+alone_noted (Flush w) (Flushed a) c = flushed_noted (sealed_ids c) a
+alone_noted (FlushActiveMemtable w) (FlushedActive id a) c = flushed_noted (sealed_behind id c) a ++ sealed_noted id
+alone_noted (FlushActiveMemtable w) (RefusedActive id x) c = sealed_noted id
+alone_noted Clear (Cleared n) c = note.Cleared ∷ []
+alone_noted Clear (Refused x) c = lost_noted x c
+alone_noted step reply c = []
+
+-- what a step notes, newest first
+abbrev pub noted_of : Step → Reply → Stage → List Noted
+noted_of (AtSlot slot step) reply s = job_noted step reply (s.jobs slot)
+noted_of step reply s = alone_noted step reply s.core
+
+-- ---- a run along a chain
+
+-- a tree beside its slots, and its store
+pub record Point (F : Type 0) : Type 0 where
+  pub store : F
+  pub stage : Stage
+
+-- the steps, one after the other, lead along this chain with these outcomes: one tree and store for each, after the first. What a step
+-- leaves of the files is theirs, and one that touches no store leaves it as it is.
+abbrev pub RanAlong : {F : Type 0} → (F → World) → Strategies → List Step → List Told → Point F → List (Point F) → Type 0
+RanAlong world strategies [] [] old [] = Unit {0}
+RanAlong world strategies (x ∷ xs) (t ∷ ts) old (mid ∷ points) =
+    Takes strategies x t.reply t.entries old.stage mid.stage × LeavesFiles world x old.store mid.store old.stage.core mid.stage.core × RanAlong world strategies xs ts mid points
+RanAlong world strategies xs ts old points = ⊥
+
+-- the outcome of a step
+abbrev pub outcome_of : Step → Told → Stage → out.Told Reply
+outcome_of x t s = record { reply = t.reply; entries = t.entries; notes = noted_of x t.reply s }
+
+-- those of steps that were taken along a chain
+abbrev pub outcomes_of : {F : Type 0} → List Step → List Told → Point F → List (Point F) → List (out.Told Reply)
+outcomes_of (x ∷ xs) (t ∷ ts) old (mid ∷ points) = outcome_of x t old.stage ∷ outcomes_of xs ts mid points
+outcomes_of xs ts old points = []
+
+-- ---- what opening finds
+
+-- opening takes the image, the tree shows this map, and what is found is numbered below this
+pub record Reopens (n : ℕ) (image : Image) (m : Map) : Type 0 where
+  pub stands : StandsForMap image m
+  pub below : (levels : Levels) → Finds image levels → above (held (placed_of levels)) ≤ n
+
+-- opening finds these tables in the image
+abbrev pub FindsPlaced : Image → List Placed → Type 0
+FindsPlaced image tables = (levels : Levels) × Finds image levels × (placed_of levels ≡ tables)
+
+-- ---- each moment
+
+-- From a tree as opening left it, over a store that holds its files, of the first so many steps, where these are in plain use and their
+-- journal is in order, whatever comes later: at each store of the chain a crash leaves a beginning of the calls so far, which holds all
+-- that is covered by then, and inside each step one of the calls up to and with it, which holds what was covered before it.
+abbrev pub HasMoments : {F : Type 0} → (F → World) → (opened : List Entry) (start : Map) → List Step → List Told → Point F → List (Point F) → Type 0
+HasMoments world opened start steps told old points = (many : ℕ) → let outcomes = take many (outcomes_of steps told old points) in
+    IsPlainUse (take many steps) → IsOpened opened start (state_of [] old.stage.core) → old.stage.core.lost ≡ None
+    → IsStored (world old.store) (versions_left old.stage.core) (written_of old.stage.core) → InOrder opened (journal_of (take many told))
+    → (n : ℕ) → AreNumbered n opened (after_all opened nothing outcomes).journal
+    → EachMoment (Reopens n) world opened start nothing outcomes old.store (map (λ p. p.store) (take many points))
+
+-- a run from one store to another has a chain between them
+pub record RunHasMoments {F : Type 0} (world : F → World) (strategies : Strategies) (steps : List Step) (told : List Told) (old : Point F) (is : F) : Type 0 where
+  pub points : List (Point F)
+  pub ran : RanAlong world strategies steps told old points
+  pub ends : (last_of old points).store ≡ is
+  pub moments : (opened : List Entry) (start : Map) → HasMoments world opened start steps told old points
