@@ -10,3 +10,4 @@ pub mod Opened
 pub mod Foreign
 pub mod Passing
 pub mod PassingOpened
+pub mod Readied

@@ -2,7 +2,6 @@
 use Rattle.std.proofs.Common.{◌≡◌, ◌⊎◌, inl, inr, ⊎_elim, ℕ, ◌<◌, ◌^◌, Bool, false, List, [], ◌∷◌, ◌++◌, map, Option, Some, None, Ok, refl, sym, ap, ◌∙◌, subst, codes, lit<}
 use Rattle.std.specs.Prelude.{IsSome}
 use Rattle.std.specs.List.{AllByRecursion}
-use Rattle.std.proofs.lemmas.Bool.{both_ways}
 use Rattle.lsm_below.specs.Each.{each_both}
 use Rattle.lsm_below.specs.Optimizes.{tables_of}
 use Rattle.lsm_store.specs.World.{Image, World}
@@ -18,10 +17,10 @@ use Rattle.lsm_manifest.specs.Spelling.{ids_of, IsNamedTable, IsRun, IsLevel, Is
 use Rattle.lsm_manifest.specs.Recovery.{Levels, IsNamed}
 use Rattle.lsm_manifest.specs.Versions.{named_table, named_runs, named_levels, file_of, first_version}
 use Rattle.lsm_manifest.specs.Standing.{Pairwise, IsTableAt, AreTablesAt}
-use Rattle.lsm_manifest.specs.Pinned.{IsFixed}
 use Rattle.lsm_manifest.specs.Clearing.{Removes}
 use Rattle.lsm_manifest.specs.Opening.{IsFound, ReadsFrom, IsNewTree, Opens}
-use Rattle.lsm_manifest.specs.Finding.{IsSettled, NamedFilesStay}
+use Rattle.lsm_manifest.specs.Finding.{NamedFilesStay}
+use Rattle.lsm_manifest.specs.Ready.{NeverHas, KeepsNamed, BringsGoodNames}
 use Rattle.lsm_files.specs.Stored.{table_file, IsTableOnDisk, AreOnDisk, IsFileOf, IsStored}
 use Rattle.lsm_files.proofs.Images.{each_joined}
 use Rattle.lsm_files.proofs.Removals.{AreApart}
@@ -94,39 +93,38 @@ module _ (old new : World) where
       (all_second IsLevel (AllByRecursion (AllByRecursion Given)) (Pairwise (Pairwise (IsTableAt old.gives))) (AllByRecursion (AllByRecursion (IsTableOnDisk new))) (λ l rs fits. of_level l rs fits.each) ls ts laid.each given at))
 
   module _ (orphan : List ℕ → Bool) (removes : Removes orphan old new) where
-    given : (n : List ℕ) → orphan n ≡ false → IsFixed old n → LeavesGiven n
-    given n stays fixed c may = ⊎_elim (fixed c) (λ gone. absurd (both_ways (orphan n) stays gone.1)) (removes.may n c may)
+    given : (n : List ℕ) (impossible : Option (List ℕ)) → orphan n ≡ false → NeverHas old n impossible → LeavesGiven n
+    given n impossible stays not c may = removes.on_disk n stays impossible c not may
 
     never : (n : List ℕ) → ((c : Option (List ℕ)) → old.may n c → c ≡ None) → (c : Option (List ℕ)) → new.may n c → c ≡ None
     never n none c may = ⊎_elim (none c) (λ gone. gone.0) (removes.may n c may)
 
   -- the version that was found
-  found_stored : FilesAreFirst → NamedFilesStay → IsSettled old → (v : SeenVersion) (next : ℕ) (ids : List ℕ) (found : IsFound old.gives v.id v.levels next ids) → ReadsFrom old.gives v → Removes (is_orphan v.id (ids_of found.layout)) old new → IsStored new (v ∷ []) []
-  found_stored once stay settled v next ids found reads removes =
+  found_stored : FilesAreFirst → NamedFilesStay → BringsGoodNames old → (v : SeenVersion) (next : ℕ) (ids : List ℕ) (found : IsFound old.gives v.id v.levels next ids) → KeepsNamed old v.id found.layout → ReadsFrom old.gives v → Removes (is_orphan v.id (ids_of found.layout)) old new → IsStored new (v ∷ []) []
+  found_stored once stay names v next ids found keeps reads removes =
       let named = found.named in
       let laid = named.reads.file.is.laid_out in
       let orphan = is_orphan v.id (ids_of found.layout) in
       let spared = stay v.id found.layout laid in
-      let pin = settled.named v.id found.layout named in
       let tables : AllByRecursion (λ l. AllByRecursion (λ r. AllByRecursion (λ (t : RecoveredTable). LeavesGiven (table_name t.id)) r) l) found.layout =
-      each_both _ _ _ (λ l. each_both _ _ _ (λ r. each_both _ _ _ (λ t. given orphan removes (table_name t.id)) r) l) found.layout spared.tables pin.tables in
+      each_both _ _ _ (λ l. each_both _ _ _ (λ r. each_both _ _ _ (λ t. given orphan removes (table_name t.id) None) r) l) found.layout spared.tables keeps.tables in
       let file : IsFileOf new v named.bytes = record {
         from = reads.from;
         log_from = reads.is;
         reads = subst (λ ls. IsFileFrom reads.from ls named.bytes) (levels_named old.gives found.layout v.levels laid found.tables) (told_beside once old.gives v found.layout named reads);
-        on_disk = λ c may. given orphan removes (version_name v.id) spared.version pin.version c may ∙ named.version;
+        on_disk = λ c may. given orphan removes (version_name v.id) None spared.version keeps.version c may ∙ named.version;
       } in
       record {
-        current = λ c may. (v, inl refl, record { bytes = named.bytes; file = file; named = given orphan removes current_name spared.current pin.current c may ∙ named.current });
+        current = λ c may. (v, inl refl, record { bytes = named.bytes; file = file; named = given orphan removes current_name (Some []) spared.current keeps.current c may ∙ named.current });
         whole = (record { id = named.id_fits; bytes = named.bytes; file = file; runs = found.runs; tables = tables_on found.layout v.levels laid tables found.tables }, tt);
         written = tt;
-        no_version = never orphan removes (codes "version") settled.no_version;
-        in_tables = λ n c bad. never orphan removes n (λ d. settled.in_tables n d bad) c;
+        no_version = never orphan removes (codes "version") names.no_version;
+        in_tables = λ n c bad. never orphan removes n (λ d. names.in_tables n d bad) c;
       }
 
   -- a new tree
-  first_stored : AreApart → kind_of current_name ≡ Other → IsSettled old → (o : Opened) → IsNewTree o old new → IsStored new (o.version ∷ []) []
-  first_stored apart plain settled o tree =
+  first_stored : AreApart → kind_of current_name ≡ Other → BringsGoodNames old → (o : Opened) → IsNewTree o old new → IsStored new (o.version ∷ []) []
+  first_stored apart plain names o tree =
       let p = tree.persisted in
       let bytes = file_of first_version in
       let still = λ (n : List ℕ) (c : Option (List ℕ)) (out : is_either 0 n → ⊥). p.may n c (λ e. out (inl e)) (λ e. out (inr e)) in
@@ -136,8 +134,8 @@ module _ (old new : World) where
         current = λ c may. (first_version, inl refl, record { bytes = bytes; file = file; named = (p.current c).0 may });
         whole = (record { id = lit< tt; bytes = bytes; file = file; runs = (tt, (tt, (tt, (tt, (tt, (tt, (tt, tt))))))); tables = tt }, tt);
         written = tt;
-        no_version = λ c may. settled.no_version c (still (codes "version") c (either_not_older apart plain 0 (lit< tt)) may);
-        in_tables = λ n c bad may. settled.in_tables n c bad (still n c (either_not_refused apart plain 0 (lit< tt) n bad) may);
+        no_version = λ c may. names.no_version c (still (codes "version") c (either_not_older apart plain 0 (lit< tt)) may);
+        in_tables = λ n c bad may. names.in_tables n c bad (still n c (either_not_refused apart plain 0 (lit< tt) n bad) may);
       })
 
 -- ---- what is opened
@@ -146,8 +144,8 @@ some_or_none : (o : Option (List ℕ)) → IsSome o ⊎ (o ≡ None)
 some_or_none (Some b) = inl refl
 some_or_none None = inr refl
 
-pub opening_stored : AreApart → kind_of current_name ≡ Other → FilesAreFirst → NamedFilesStay → (old new : World) (o : Opened) → IsSettled old → Opens old new (Ok o) → IsStored new (o.version ∷ []) []
-opening_stored apart plain once stay old new o settled opens = ⊎_elim (λ older. absurd (opens.version older)) (λ none. ⊎_elim (there none) (λ absent. first_stored old new apart plain settled o (opens.fresh none absent)) (some_or_none (old.gives current_name))) (some_or_none (old.gives (codes "version")))
+pub opening_stored : AreApart → kind_of current_name ≡ Other → FilesAreFirst → NamedFilesStay → (old new : World) (o : Opened) → BringsGoodNames old → ((id : ℕ) (ls : Levels) → IsNamed old.gives id ls → KeepsNamed old id ls) → Opens old new (Ok o) → IsStored new (o.version ∷ []) []
+opening_stored apart plain once stay old new o names keeps opens = ⊎_elim (λ older. absurd (opens.version older)) (λ none. ⊎_elim (there none) (λ absent. first_stored old new apart plain names o (opens.fresh none absent)) (some_or_none (old.gives current_name))) (some_or_none (old.gives (codes "version")))
   where
     there : old.gives (codes "version") ≡ None → IsSome (old.gives current_name) → IsStored new (o.version ∷ []) []
-    there none some = let f = opens.opens none some in found_stored old new once stay settled o.version o.next_table_id f.0 f.1 (opens.from some) (opens.removes o.version.id f.1.layout f.1.named)
+    there none some = let f = opens.opens none some in found_stored old new once stay names o.version o.next_table_id f.0 f.1 (keeps o.version.id f.1.layout f.1.named) (opens.from some) (opens.removes o.version.id f.1.layout f.1.named)

@@ -1,15 +1,26 @@
--- What opening leaves of a tree's files.
-use Rattle.std.specs.Prelude.{[], ◌∷◌, Ok}
+-- What opening asks and leaves of a tree's files.
+use Rattle.std.specs.Prelude.{◌≡◌, List, [], ◌∷◌, Ok}
+use Rattle.lsm_below.specs.Members.{IsIn}
 use Rattle.lsm_store.specs.World.{World}
+use Rattle.lsm_tables.specs.Tables.{SeenTable}
+use Rattle.lsm_versions.specs.Levels.{SeenVersion}
 use Rattle.lsm_manifest.specs.declared.opening.Opened.{Opened}
 use Rattle.lsm_manifest.specs.Opening.{Opens, LeavesStanding}
-use Rattle.lsm_manifest.specs.Finding.{IsSettled}
+use Rattle.lsm_manifest.specs.Ready.{IsReady}
 use Rattle.lsm_files.specs.Stored.{IsStored}
 use Rattle.lsm_files.specs.Foreign.{Passes}
 
--- where what is read has one possible content each, the version that is opened is stored behind it
+-- versions that have one id are one
+abbrev pub HaveOwnIds : List SeenVersion → Type 0
+HaveOwnIds versions = (v u : SeenVersion) → IsIn v versions → IsIn u versions → v.id ≡ u.id → v ≡ u
+
+-- where a tree's files are stored, the store is ready to be opened
+abbrev pub StoredIsReady : (S : Type 0) → (S → World) → Type 0
+StoredIsReady S world = (store : S) (versions : List SeenVersion) (written : List SeenTable) → HaveOwnIds versions → IsStored (world store) versions written → IsReady (world store)
+
+-- behind the opening of a ready store the version that is opened is stored
 abbrev pub OpeningStores : (S : Type 0) → (S → World) → Type 0
-OpeningStores S world = (old new : S) (o : Opened) → IsSettled (world old) → Opens (world old) (world new) (Ok o) → IsStored (world new) (o.version ∷ []) []
+OpeningStores S world = (old new : S) (o : Opened) → IsReady (world old) → Opens (world old) (world new) (Ok o) → IsStored (world new) (o.version ∷ []) []
 
 -- an opening that is answered passes foreign names
 abbrev pub OpeningsPass : (S : Type 0) → (S → World) → Type 0

@@ -3,10 +3,13 @@ ghost use Rattle.std.specs.Prelude.{List};
 ghost use Rattle.lsm_versions.specs.Levels.{SeenVersion};
 ghost use Rattle.lsm_files.specs.Stored.{AreAmong, Leaves};
 ghost use Rattle.lsm_files.specs.Contents.{FilesAreTables};
-ghost use Rattle.lsm_files.specs.Opening.{OpeningStores, OpeningsPass};
+ghost use Rattle.lsm_files.specs.Opening.{StoredIsReady, OpeningStores, OpeningsPass};
 ghost use Rattle.lsm_files.specs.Foreign.{ForeignNamesSpare, AtRest};
 
-use lsm_manifest::{named_files_stay, names_are_apart, no_version_begins_another};
+use lsm_manifest::{
+    current_names_one_version, images_stand_once, named_files_stay, names_are_apart,
+    no_version_begins_another, ready_stores_keep_what_is_named,
+};
 use lsm_store::Store;
 
 /// While nothing is done a crash leaves one of the versions that are stored, and foreign names are as they are.
@@ -24,10 +27,20 @@ pub fn files_are_tables<S: Store>(store: &S)
     ensures { FilesAreTables (S.world store.now) }
 {}
 
-/// Where what is read has one possible content each, as after a crash, the version that is opened is stored behind it.
-pub fn opening_stores<S: Store>(_: &S)
-    ensures { OpeningStores S S.world }
+/// Where a tree's files are stored, under ids of their own, the store is ready to be opened: so a process may end at any
+/// moment between calls, with a crash or without one.
+pub fn stored_files_are_ready<S: Store>(_: &S)
+    ensures { StoredIsReady S S.world }
 {
+    images_stand_once();
+    current_names_one_version();
+}
+
+/// Behind the opening of a ready store the version that is opened is stored.
+pub fn opening_stores<S: Store>(store: &S)
+    ensures { S.tells → OpeningStores S S.world }
+{
+    ready_stores_keep_what_is_named(store);
     names_are_apart();
     named_files_stay();
     no_version_begins_another();

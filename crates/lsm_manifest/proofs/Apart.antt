@@ -24,7 +24,7 @@ pub tables_apart : (i j : ℕ) → i < 2 ^ 64 → j < 2 ^ 64 → table_name i �
 tables_apart i j a b e = decimal_injective i j a b (ap (drop 7) e)
 
 -- names that begin with other letters are others
-begins_other : (m n : List ℕ) → get_or m 0 0 ≢ get_or n 0 0 → m ≢ n
+pub begins_other : (m n : List ℕ) → get_or m 0 0 ≢ get_or n 0 0 → m ≢ n
 begins_other m n other e = other (ap (λ (l : List ℕ). get_or l 0 0) e)
 
 pub table_no_version : (i j : ℕ) → table_name i ≢ version_name j

@@ -114,7 +114,7 @@ found_show shown image ts found stands = record { levels = ts; found = found; or
 
 -- ---- what a crash left
 
-good_names : (image : Image) (ts : SeenLevels) → Finds image ts → HasGoodNames image
+pub good_names : (image : Image) (ts : SeenLevels) → Finds image ts → HasGoodNames image
 good_names image ts (Named id ls s) = s.names
 good_names image ts (Nothing none good is) = good
 

@@ -23,7 +23,7 @@ use Rattle.lsm_manifest.specs.Persist.{IsPersisted, IsOldOrNew}
 use Rattle.lsm_manifest.specs.Versions.{file_of, first_version}
 use Rattle.lsm_store.specs.Moments.{started, narrows_on, joined}
 use Rattle.lsm_manifest.specs.Standing.{AreTablesAt}
-use Rattle.lsm_manifest.specs.Opening.{is_refused, FindsAny, LevelsFault, FilesFault, BadName, BadLevels, IsFound, IsFirstNamed, ChecksLevels, ChecksFiles, OpensFiles, KeepsFiles}
+use Rattle.lsm_manifest.specs.Opening.{is_refused, FindsAny, LevelsFault, FilesFault, BadName, BadLevels, IsFound, IsFirstNamed, ChecksLevels, ChecksFiles, OpensFiles, KeepsFiles, IsOldOrBegun}
 use Rattle.lsm_manifest.specs.declared.opening.Opened.{Opened}
 use Rattle.lsm_manifest.proofs.Recovering.{recovery_back}
 use Rattle.lsm_store.specs.Moments.{image_same}
@@ -161,6 +161,20 @@ new_moment_on old mid new only narrows after =
     joined old mid new (IsOldOrNew 0 bytes old) (IsOldOrNew 0 bytes mid) (IsOldOrNew 0 bytes old)
     (narrows_on old old mid (IsOldOrNew 0 bytes old) (old_or_new old only) narrows)
     after (λ image is. is) (λ image is. record { elsewhere = λ n v d. narrows.may n (image n) (is.elsewhere n v d); named = ⊎_elim (λ was. inl (narrows.may current_name (image current_name) was)) (λ new. inr new) is.named })
+
+-- ---- what was read is settled before a first version is made
+
+pub old_or_begun : (w : World) → Only w → LeavesOnly w w (IsOldOrBegun w)
+old_or_begun w only = started w (IsOldOrBegun w) (λ image left. inl (only image left))
+
+pub begun_behind : (old mid new : World) → Only old → Narrows old mid → ((n : List ℕ) → IsOnDisk old mid n) → LeavesOnly mid new (IsOldOrNew 0 (file_of first_version) mid) → LeavesOnly old new (IsOldOrBegun old)
+begun_behind old mid new only narrows settled after =
+    joined old mid new (IsOldOrBegun old) (IsOldOrNew 0 (file_of first_version) mid) (IsOldOrBegun old)
+    (narrows_on old old mid (IsOldOrBegun old) (old_or_begun old only) narrows)
+    after (λ image is. is) (λ image is. inr (record {
+      elsewhere = λ n v d. narrows.may n (image n) (is.elsewhere n v d);
+      named = ⊎_elim (λ was. inl (λ impossible never. settled current_name impossible (image current_name) never was)) (λ new. inr new) is.named;
+    }))
 
 -- ---- what a refusal leaves
 

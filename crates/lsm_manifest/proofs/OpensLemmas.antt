@@ -22,9 +22,9 @@ use Rattle.lsm_manifest.specs.Standing.{StandsFor, HasSmallNumbers}
 use Rattle.lsm_manifest.specs.Persist.{IsOldOrNew}
 use Rattle.lsm_manifest.specs.Versions.{file_of, first_version}
 use Rattle.lsm_manifest.specs.Clearing.{IsCleared, IsSettledFirst, Clears, Removes}
-use Rattle.lsm_manifest.specs.Opening.{IsFound, ChecksFiles, OpensFiles, OpensNew, OpensAs, OnlyFault, KeepsFiles, IsUnnamed, ReadsFrom, Opens, LeavesStanding}
+use Rattle.lsm_manifest.specs.Opening.{IsFound, ChecksFiles, OpensFiles, OpensNew, OpensAs, OnlyFault, KeepsFiles, IsUnnamed, ReadsFrom, IsOldOrBegun, Opens, LeavesStanding}
 use Rattle.lsm_manifest.specs.Looking.{FindsIn, IsFoundIn, Older, BadFiles, BadNew, LooksInto, NoFault, orphan_of, ClearsFor, FinishesIn}
-use Rattle.lsm_manifest.proofs.OpeningLemmas.{Only, some_not_none, named_there, not_opened, keeps_any, orphans_are, old_or_new, first_named_on, new_moment_on, listed_on}
+use Rattle.lsm_manifest.proofs.OpeningLemmas.{Only, some_not_none, named_there, not_opened, keeps_any, orphans_are, old_or_new, first_named_on, new_moment_on, old_or_begun, begun_behind, listed_on}
 use Rattle.lsm_manifest.proofs.ClearingLemmas.{cleared_none, cleared_narrowed, cleared_behind, settled_narrowed, settled_behind, on_disk_behind, removes_behind}
 use Rattle.lsm_manifest.proofs.Takes.{ImagesAreFirst, stands_opens}
 use Rattle.lsm_manifest.proofs.Recovering.{named_so}
@@ -72,18 +72,19 @@ refused once first mid e same h = record {
 
 -- ---- what a crash may leave
 
-leaves : PlainNumbersAreRead → (first new : World) → ((id : ℕ) (ls : Levels) → IsNamed first.gives id ls → LeavesOnly first new (IsCleared (is_orphan id (ids_of ls)) first)) → ((id : ℕ) (ls : Levels) → IsNamed first.gives id ls → LeavesOnly first new (IsSettledFirst (is_orphan id (ids_of ls)) first)) → (first.gives current_name ≡ None → LeavesOnly first new (IsOldOrNew 0 (file_of first_version) first)) → LeavesStanding first new
-leaves read first new any settled fresh = record {
+leaves : PlainNumbersAreRead → (first new : World) → ((id : ℕ) (ls : Levels) → IsNamed first.gives id ls → LeavesOnly first new (IsCleared (is_orphan id (ids_of ls)) first)) → ((id : ℕ) (ls : Levels) → IsNamed first.gives id ls → LeavesOnly first new (IsSettledFirst (is_orphan id (ids_of ls)) first)) → (first.gives current_name ≡ None → LeavesOnly first new (IsOldOrNew 0 (file_of first_version) first)) → (first.gives current_name ≡ None → LeavesOnly first new (IsOldOrBegun first)) → LeavesStanding first new
+leaves read first new any settled fresh begun = record {
   any_moment = any;
   settled_first = settled;
   stands = λ id ls ts stands pin. weakened first new (IsCleared (is_orphan id (ids_of ls)) first) (λ image. StandsFor image id ls ts) (any id ls stands.named) (λ image left. pinned_stands read first id ls ts image stands pin left);
   reads = λ v reads pin. weakened first new (IsCleared (is_orphan v.id (ids_of reads.layout)) first) (λ image. ReadsFrom image v) (any v.id reads.layout (named_so first.gives v.id reads.from reads.layout reads.named)) (λ image left. pinned_reads first v image reads pin left);
   new_moment = fresh;
+  new_settled = begun;
 }
 
 -- no image is added
 pub leaves_narrowed : PlainNumbersAreRead → (first mid : World) → Only first → Narrows first mid → LeavesStanding first mid
-leaves_narrowed read first mid only narrows = leaves read first mid (λ id ls named. cleared_narrowed (is_orphan id (ids_of ls)) first mid only narrows) (λ id ls named. settled_narrowed (is_orphan id (ids_of ls)) first mid only narrows) (λ absent. narrows_on first first mid (IsOldOrNew 0 (file_of first_version) first) (old_or_new first only) narrows)
+leaves_narrowed read first mid only narrows = leaves read first mid (λ id ls named. cleared_narrowed (is_orphan id (ids_of ls)) first mid only narrows) (λ id ls named. settled_narrowed (is_orphan id (ids_of ls)) first mid only narrows) (λ absent. narrows_on first first mid (IsOldOrNew 0 (file_of first_version) first) (old_or_new first only) narrows) (λ absent. narrows_on first first mid (IsOldOrBegun first) (old_or_begun first only) narrows)
 
 -- nothing has changed
 pub leaves_same : PlainNumbersAreRead → (first mid : World) → Only first → Same first mid → LeavesStanding first mid
@@ -103,11 +104,12 @@ module _ (first mid new : World) (f : Found) (only : Only first) (looks : IsFoun
   leaves_in : PlainNumbersAreRead → ((n : List ℕ) → IsOnDisk first mid n) → (r : Result Opened OpenError) (b : Bool) → FindsIn b first.gives f → FinishesIn b f mid new r → LeavesStanding first new
   leaves_in read settled r true finds done =
       let fin = done (ap (λ (o : Opened). o.version) finds.1) in
-      leaves read first new (λ id ls named. absurd (some_not_none _ (named_there first.gives id ls named) finds.0)) (λ id ls named. absurd (some_not_none _ (named_there first.gives id ls named) finds.0)) (λ absent. fresh_moment fin.any_moment)
+      leaves read first new (λ id ls named. absurd (some_not_none _ (named_there first.gives id ls named) finds.0)) (λ id ls named. absurd (some_not_none _ (named_there first.gives id ls named) finds.0)) (λ absent. fresh_moment fin.any_moment) (λ absent. begun_behind first mid new only narrows settled fin.any_moment)
   leaves_in read settled r false found done =
       leaves read first new
       (λ id ls named. cleared_behind (is_orphan id (ids_of ls)) first mid new only narrows (subst (λ (o : List ℕ → Bool). LeavesOnly mid new (IsCleared o mid)) (orphans found id ls named) done.any_moment))
       (λ id ls named. settled_behind (is_orphan id (ids_of ls)) first mid new only narrows settled (subst (λ (o : List ℕ → Bool). LeavesOnly mid new (IsCleared o mid)) (orphans found id ls named) done.any_moment))
+      (λ absent. absurd (some_not_none _ (named_there first.gives f.opened.version.id found.layout found.named) absent))
       (λ absent. absurd (some_not_none _ (named_there first.gives f.opened.version.id found.layout found.named) absent))
 
   opens_in : (r : Result Opened OpenError) (b : Bool) → FindsIn b first.gives f → FinishesIn b f mid new r → IfOk r (λ o. o ≡ f.opened) → IsSome (first.gives current_name) → OpensFiles first.gives r

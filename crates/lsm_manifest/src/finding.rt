@@ -2,6 +2,7 @@
 ghost use Rattle.lsm_store.specs.World.{Image, Begins};
 ghost use Rattle.lsm_model.specs.Journal.{Map};
 ghost use Rattle.lsm_manifest.specs.Finding.{StandsForMap, IsSettled, FoundOnce, MapIsOne, OpeningFinds, FoundNumbersFit, FoundTablesShow, NamedFilesStay, UnreadNamesDontMatter};
+ghost use Rattle.lsm_manifest.specs.Ready.{IsReady};
 
 use lsm_below::plain_numbers_are_read;
 use lsm_model::tables_show_above;
@@ -39,11 +40,14 @@ pub fn unread_names_dont_matter()
 {}
 
 /// What a crash left is settled: a store that begins with an image which stands for a map has one possible content for each
-/// name that is read, and stands for that map.
+/// name that is read, is ready to be opened, and stands for that map.
 pub fn crashes_settle<S: Store>(_: &S)
     ensures settled { (store : S) (image : Image) (m : Map) → StandsForMap image m → Begins image (S.world store) → IsSettled (S.world store) }
+    ensures ready { (store : S) (image : Image) (m : Map) → StandsForMap image m → Begins image (S.world store) → IsReady (S.world store) }
     ensures stands { (store : S) (image : Image) (m : Map) → StandsForMap image m → Begins image (S.world store) → StandsForMap (S.world store).gives m }
-{}
+{
+    no_image_begins_another();
+}
 
 /// What a version names is no orphan beside it, so an opening leaves it.
 pub fn named_files_stay()

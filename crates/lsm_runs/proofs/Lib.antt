@@ -30,3 +30,4 @@ pub mod RunDeeds
 pub mod Crashed
 pub mod Living
 pub mod LifeAfterLife
+pub mod Settled

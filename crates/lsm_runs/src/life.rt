@@ -12,7 +12,7 @@ ghost use Rattle.lsm_runs.specs.Lives.{Lives, LivesAgain};
 
 use crate::{Outcome, Step, Watch, run_told};
 use lsm_below::Error;
-use lsm_manifest::crashes_settle;
+use lsm_manifest::{crashes_settle, settled_stores_are_ready};
 use lsm_parts::Config;
 use lsm_pick::CompactionStrategy;
 use lsm_state::TreeState;
@@ -53,6 +53,7 @@ pub fn live<S: Store, W: Watch>(
     ensures refused { S.tells → (m : Map) → StandsForMap (S.world store).gives m → IfErr result (λ e. RefusesFound (S.world store).gives e.0) }
     ensures stands { S.tells → IsSettled (S.world store) → (m : Map) → StandsForMap (S.world store).gives m → IfErr result (λ e. LeavesOnly (S.world store) (S.world e.1) (λ image. StandsForMap image m)) }
 {
+    settled_stores_are_ready(&store);
     let mut tree = match TreeState::open(alloc, config, store) {
         Ok(tree) => tree,
         Err(refused) => return Err(refused),

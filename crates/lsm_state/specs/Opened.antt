@@ -1,5 +1,5 @@
 -- What opening a tree answers.
-use Rattle.std.specs.Prelude.{◌≡◌, ◌^◌, List, [], ◌∷◌, Result, Ok, Err, IfOk, IfErr}
+use Rattle.std.specs.Prelude.{◌≡◌, ◌⊎◌, ◌^◌, List, [], ◌∷◌, Result, Ok, Err, IfOk, IfErr}
 use Rattle.std.specs.FinMap.{get}
 use Rattle.lsm_below.specs.Keys.{Bytes}
 use Rattle.lsm_below.specs.Entries.{Entry, stack, above, IsOrdered, IsSingle}
@@ -8,11 +8,12 @@ use Rattle.lsm_model.specs.Journal.{Map}
 use Rattle.lsm_model.specs.Views.{held, sources, view, view_at}
 use Rattle.lsm_model.specs.Steps.{IsOpened}
 use Rattle.lsm_model.specs.Beginnings.{Stands, shown_by}
-use Rattle.lsm_store.specs.World.{World, LeavesOnly}
+use Rattle.lsm_store.specs.World.{Image, World, IsImage, LeavesOnly}
 use Rattle.lsm_versions.specs.Levels.{placed_of}
 use Rattle.lsm_manifest.specs.Told.{Told, TellsOpen}
 use Rattle.lsm_manifest.specs.Opening.{Opens, LeavesStanding}
-use Rattle.lsm_manifest.specs.Finding.{StandsForMap, RefusesFound, IsSettled}
+use Rattle.lsm_manifest.specs.Finding.{StandsForMap, RefusesFound}
+use Rattle.lsm_manifest.specs.Ready.{IsReady}
 use Rattle.lsm_files.specs.Stored.{IsStored}
 use Rattle.lsm_files.specs.Foreign.{Passes}
 use Rattle.lsm_manifest.specs.declared.opening.Opened.{Opened}
@@ -57,15 +58,21 @@ pub record StartsWith (m : Map) (c : Core) : Type 0 where
 abbrev pub found_entries : Core → List Entry
 found_entries c = held (placed_of c.history.latest.version.levels)
 
+-- what could be left before, or an image that stands for the map
+abbrev pub IsOldOrFor : World → Map → Image → Type 0
+IsOldOrFor old m image = IsImage old.may image ⊎ StandsForMap image m
+
 -- the tree of a store is opened, or nothing is
 pub record OpensTree {S : Type 0} (world : S → World) (store : S) (r : Result (Seen S) (Error × S)) : Type 0 where
   -- what stands for a map is opened as it, and refused only for memory, a fault of the store, or a number of 2^63 or more
   pub shows : (m : Map) → StandsForMap (world store).gives m → IfOk r (λ t. StartsWith m t.core)
   pub refuses : (m : Map) → StandsForMap (world store).gives m → IfErr r (λ e. RefusesFound (world store).gives e.0)
-  -- where what is read has one possible content each, every image meanwhile stands for the same map, and the tree's files
-  -- are stored then
-  pub stands_for : IsSettled (world store) → (m : Map) → StandsForMap (world store).gives m → LeavesOnly (world store) (world (store_left r)) (λ image. StandsForMap image m)
-  pub stored : IsSettled (world store) → IfOk r (λ t. IsStored (world t.store) (versions_left t.core) (written_of t.core))
+  -- while a ready store is opened a crash leaves what it could before, or an image that stands for the map that was read; behind
+  -- an Ok such an image alone, and the tree's files are stored; whatever is answered, the store is ready to be opened again
+  pub stands_for : IsReady (world store) → (m : Map) → StandsForMap (world store).gives m → LeavesOnly (world store) (world (store_left r)) (IsOldOrFor (world store) m)
+  pub settles : IsReady (world store) → (m : Map) → StandsForMap (world store).gives m → IfOk r (λ t. (image : Image) → IsImage (world t.store).may image → StandsForMap image m)
+  pub stored : IsReady (world store) → IfOk r (λ t. IsStored (world t.store) (versions_left t.core) (written_of t.core))
+  pub again : IsReady (world store) → IsReady (world (store_left r))
   -- of any store: what is opened, or the first thing that is wrong with the files; and what a crash in it may leave
   pub opens : Told TellsOpen (Opens (world store) (world (store_left r))) (files_told r)
   pub leaves : LeavesStanding (world store) (world (store_left r))

@@ -9,7 +9,7 @@ ghost use Rattle.lsm_manifest.specs.Recovery.{CountsStore};
 ghost use Rattle.lsm_manifest.specs.Told.{Told, TellsOpen};
 ghost use Rattle.lsm_manifest.specs.Opening.{Opens, LeavesStanding};
 ghost use Rattle.lsm_manifest.specs.Looking.{Looks};
-ghost use Rattle.lsm_manifest.specs.Finding.{IsSettled};
+ghost use Rattle.lsm_manifest.specs.Ready.{IsReady};
 ghost use Rattle.lsm_files.specs.Stored.{IsStored};
 ghost use Rattle.lsm_state.specs.Core.{versions_left, written_of, opened_core};
 ghost use Rattle.lsm_state.specs.Opened.{files_told, store_left, StartsFrom};
@@ -77,8 +77,8 @@ impl<S: Store> Found<S> {
         // With the looking before it, from `first` on, it is an opening.
         ensures opens { S.tells → (first : S) → Looks (S.world first) (S.world self.store) self.files → Told TellsOpen (Opens (S.world first) (S.world (store_left result))) (files_told result) }
         ensures leaves { S.tells → (first : S) → Looks (S.world first) (S.world self.store) self.files → LeavesStanding (S.world first) (S.world (store_left result)) }
-        // Where what was read has one possible content each, its files are stored.
-        ensures stored { S.tells → (first : S) → Looks (S.world first) (S.world self.store) self.files → IsSettled (S.world first) → IfOk result (λ t. IsStored (S.world t.store) (versions_left t.core) (written_of t.core)) }
+        // Where the store was ready to be opened, the tree's files are stored.
+        ensures stored { S.tells → (first : S) → Looks (S.world first) (S.world self.store) self.files → IsReady (S.world first) → IfOk result (λ t. IsStored (S.world t.store) (versions_left t.core) (written_of t.core)) }
         ensures core { IfOk result (λ t. t.core ≡ opened_core config self.files.opened.version self.files.opened.next_table_id) }
         // Its reads are then those of the theory, from what its tables show.
         ensures starts { IfOk result (λ t. StartsFrom t.core) }

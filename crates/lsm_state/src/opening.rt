@@ -17,7 +17,10 @@ ghost use Rattle.lsm_state.specs.Opened.{files_told, store_left, files_found, st
 use crate::{Found, TreeState};
 use lsm_below::{Error, TableId};
 use lsm_files::openings_pass;
-use lsm_manifest::{found_tables_show, images_stand_once, look_for_files, opening_finds};
+use lsm_manifest::{
+    found_tables_show, images_stand_once, look_for_files, opening_finds,
+    openings_leave_what_was_read,
+};
 use lsm_model::opening_starts;
 use lsm_parts::{Config, Version};
 use lsm_store::Store;
@@ -92,6 +95,7 @@ impl<S: Store> TreeState<S> {
         found_tables_show();
         images_stand_once();
         openings_pass(&store);
+        openings_leave_what_was_read(&store);
         let found = TreeState::look(alloc, store)?;
         found.version().facts();
         let config = found.config_for(config, raises);

@@ -2,14 +2,16 @@ use Rattle.std.proofs.Common.{refl, ap}
 use Rattle.lsm_state.specs.Core.{Core}
 use Rattle.lsm_runs.proofs.Causing.{causes_between}
 use Rattle.lsm_runs.proofs.Living.{lived}
+use Rattle.lsm_runs.proofs.Settled.{settled_for}
 use Rattle.lsm_runs.proofs.life.live.Goals as goal
 
 pub returns-clause-lives : goal.returns-clause-lives
 returns-clause-lives g c tells settled m stands =
     let opened = c.in-Ok.ensures in
     let ran = c.run_told-outcomes in
+    let ready = c.settled_stores_are_ready.ensures c.args.store stands.levels settled stands.found in
     lived g.S.Store.world g.W.Watch.gives _ m _ _ c.args.store c.in-Ok.tree.store ran.new.state.store c.args.watch.now ran.new.watch c.in-Ok.tree.core ran.new.state.core
-    ((opened.opens tells).shows m stands) (ap (λ (t : Core). t.lost) opened.core) ((opened.opens tells).stored settled) ((opened.opens tells).stands_for settled m stands) ran.ensures.ran (ran.ensures.replays _ m) (ran.ensures.spares _ m) (ran.ensures.crashes tells _ m)
+    ((opened.opens tells).shows m stands) (ap (λ (t : Core). t.lost) opened.core) ((opened.opens tells).stored ready.ready) (settled_for (g.S.Store.world c.args.store) (g.S.Store.world c.in-Ok.tree.store) m stands ready ((opened.opens tells).stands_for ready.ready m stands)) ran.ensures.ran (ran.ensures.replays _ m) (ran.ensures.spares _ m) (ran.ensures.crashes tells _ m)
 
 pub returns-clause-causes : goal.returns-clause-causes
 returns-clause-causes g c =
@@ -20,4 +22,6 @@ pub returns-in-Err-clause-refused : goal.returns-in-Err-clause-refused
 returns-in-Err-clause-refused g c tells m stands = (c.in-Err.ensures.opens tells).refuses m stands
 
 pub returns-in-Err-clause-stands : goal.returns-in-Err-clause-stands
-returns-in-Err-clause-stands g c tells settled m stands = (c.in-Err.ensures.opens tells).stands_for settled m stands
+returns-in-Err-clause-stands g c tells settled m stands =
+    let ready = c.settled_stores_are_ready.ensures c.args.store stands.levels settled stands.found in
+    settled_for (g.S.Store.world c.args.store) (g.S.Store.world c.in-Err.refused.1) m stands ready ((c.in-Err.ensures.opens tells).stands_for ready.ready m stands)
