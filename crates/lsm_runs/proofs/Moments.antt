@@ -1,19 +1,21 @@
 -- What the steps of a run are to the theory of runs: each does what its outcome tells, so the theory's theorem is that of runs.
+use Rattle.std.specs.FinMap.{empty}
 use Rattle.std.proofs.Common.{◌≡◌, ◌⊎◌, ⊎_elim, inl, inr, ℕ, zero, suc, ◌≤◌, arith, Bool, true, false, cond, List, [], ◌∷◌, ◌++◌, Option, Some, None, map, take, length, option_to_list, refl, sym, ap, ◌∙◌, subst, append-nil, append_assoc}
 use Rattle.lsm_below.specs.Entries.{Entry, above}
 use Rattle.lsm_below.specs.Members.{IsIn}
 use Rattle.lsm_below.specs.declared.error.Error.{Error}
 use Rattle.lsm_below.specs.declared.error.Error.TheVariants.{CommitUnknown}
 use Rattle.lsm_store.specs.World.{Image, World, LeavesOnly}
-use Rattle.lsm_model.specs.Journal.{Event, Map, InOrder}
+use Rattle.lsm_model.specs.Journal.{Event, Map, InOrder, next_number}
 use Rattle.lsm_model.specs.Views.{HasDistinctIds, held}
-use Rattle.lsm_model.specs.Beginnings.{Note, FlushedIds, Saved, Deeds, IsStart, Stands, shown_by, versions}
+use Rattle.lsm_model.specs.Steps.{IsOpened}
+use Rattle.lsm_model.specs.Beginnings.{Note, FlushedIds, Saved, Deeds, Stands, shown_by, versions}
 use Rattle.lsm_versions.specs.Levels.{SeenVersion, Levels, placed_of}
 use Rattle.lsm_manifest.specs.Finding.{Named, FoundOnce, StandsForMap, FoundTablesShow}
 use Rattle.lsm_manifest.specs.Versions.{named_levels}
 use Rattle.lsm_manifest.specs.Standing.{StandsFor}
 use Rattle.lsm_files.specs.Stored.{IsStored, HoldsOneOf}
-use Rattle.lsm_state.specs.Core.{Core, latest_of, versions_left, written_of}
+use Rattle.lsm_state.specs.Core.{Core, latest_of, state_of, versions_left, written_of}
 use Rattle.lsm_state.specs.Commits.{Upholds}
 use Rattle.lsm_state.specs.Deeds.{saved_of}
 use Rattle.lsm_state.specs.FlushLaws.{FlushesAreDeeds}
@@ -23,7 +25,7 @@ use Rattle.lsm_run_model.specs.declared.noted.Noted.TheVariants as note
 use Rattle.lsm_run_model.specs.Outcomes.{Past, nothing, after, after_all, note_at}
 use Rattle.lsm_run_model.specs.Outcomes as out
 use Rattle.lsm_run_model.specs.Moments.{LeavesNow, EachMoment, last_of}
-use Rattle.lsm_run_model.specs.Composing.{Point as Place, IsRight as IsRightThere, FindsAmong, IsOfEither, StandsAt, DoesCall, EachDoes, TablesShow, AreNumbered, Composed, RunsCompose}
+use Rattle.lsm_run_model.specs.Composing.{Point as Place, IsRight as IsRightThere, FindsAmong, IsOfEither, StandsAt, DoesCall, EachDoes, TablesShow, AreNumbered, CameAbout, Composed, RunsCompose, NoLowReads, NumbersAreBounded}
 use Rattle.lsm_runs.specs.declared.slots.Job.{Job}
 use Rattle.lsm_runs.specs.declared.steps.JobStep.{JobStep}
 use Rattle.lsm_runs.specs.declared.steps.JobStep.TheVariants as job
@@ -34,15 +36,16 @@ use Rattle.lsm_runs.specs.declared.steps.Reply.{Reply}
 use Rattle.lsm_runs.specs.declared.steps.Reply.TheVariants as reply
 use Rattle.lsm_runs.specs.Compacting.{Strategies}
 use Rattle.lsm_runs.specs.Crashes.{Watched, RanWatched}
-use Rattle.lsm_runs.specs.Moments.{sealed_noted, flushed_noted, job_noted, lost_noted, alone_noted, noted_of, Point, RanAlong, outcome_of, outcomes_of, Reopens, FindsPlaced, HasMoments, RunHasMoments}
+use Rattle.lsm_runs.specs.Moments.{sealed_noted, flushed_noted, job_noted, lost_noted, alone_noted, noted_of, Point, RanAlong, outcome_of, outcomes_of, Reopens, FindsPlaced, StandsAfter, HasMoments, GoesOn, RunHasMoments}
 use Rattle.lsm_runs.specs.Noting.{sealed_note, sealed_behind, flushed_note, job_notes, lost_note, alone_notes, notes_of, ids_in}
-use Rattle.lsm_runs.specs.Runs.{Takes, IsPlainUse, journal_of, without_low_reads}
-use Rattle.lsm_runs.specs.Slots.{Stage, at_first}
+use Rattle.lsm_runs.specs.Runs.{Takes, IsPlainUse, without_low_reads}
+use Rattle.lsm_runs.specs.Slots.{Stage, at_first, Closes}
 use Rattle.lsm_runs.specs.Told.{Told}
 use Rattle.lsm_runs.proofs.RunDeeds.{step_deeds}
-use Rattle.lsm_runs.proofs.JobReplays.{AreMarked, first_marked}
+use Rattle.lsm_runs.proofs.JobReplays.{AreMarked, first_marked_behind}
+use Rattle.lsm_runs.proofs.Files.{closed_stored}
 use Rattle.lsm_runs.proofs.Keeping.{KeepLaws}
-use Rattle.lsm_runs.proofs.LowReads.{without-append, order_without}
+use Rattle.lsm_runs.proofs.LowReads.{without-append}
 use Rattle.lsm_runs.proofs.Members.{in_either}
 use Rattle.lsm_runs.proofs.Replays.{takes_marked}
 use Rattle.lsm_runs.proofs.StepDeeds.{HasDeeds, IsRight}
@@ -118,10 +121,9 @@ take_twice zero xs = refl
 take_twice (suc n) [] = refl
 take_twice (suc n) (x ∷ xs) = ap (λ ys. x ∷ ys) (take_twice n xs)
 
-take_map : {A B : Type 0} (f : A → B) (n : ℕ) (xs : List A) → take n (map f xs) ≡ map f (take n xs)
-take_map f zero xs = refl
-take_map f (suc n) [] = refl
-take_map f (suc n) (x ∷ xs) = ap (λ ys. f x ∷ ys) (take_map f n xs)
+take_all : {A : Type 0} (xs : List A) → take (length xs) xs ≡ xs
+take_all [] = refl
+take_all (x ∷ xs) = ap (λ ys. x ∷ ys) (take_all xs)
 
 module _ (laws : KeepLaws) (strategies : Strategies) (opened : List Entry) (start : Map) {F W : Type 0} (world : F → World) (gives : W → ℕ → W → Type 0) where
   -- ---- the chain of a run that was watched
@@ -140,8 +142,8 @@ module _ (laws : KeepLaws) (strategies : Strategies) (opened : List Entry) (star
   ran_along (x ∷ xs) [] old new r = absurd r
   ran_along (x ∷ xs) (t ∷ ts) old new r = (r.1, r.2.leaves, ran_along xs ts r.0 new r.4)
 
-  ends : (xs : List Call) (ts : List Told) (old new : Watched F W) (r : RanWatched world gives strategies xs ts old new) → (last_of (point_of old) (points_of xs ts old new r)).store ≡ new.store
-  ends [] [] old new r = ap (λ (w : Watched F W). w.store) (sym r)
+  ends : (xs : List Call) (ts : List Told) (old new : Watched F W) (r : RanWatched world gives strategies xs ts old new) → last_of (point_of old) (points_of xs ts old new r) ≡ point_of new
+  ends [] [] old new r = ap (λ (w : Watched F W). point_of w) (sym r)
   ends [] (t ∷ ts) old new r = absurd r
   ends (x ∷ xs) [] old new r = absurd r
   ends (x ∷ xs) (t ∷ ts) old new r = ends xs ts r.0 new r.4
@@ -215,19 +217,7 @@ module _ (laws : KeepLaws) (strategies : Strategies) (opened : List Entry) (star
         each_does many xs ts (journal ++ t.entries) next mid new r.4 e' (λ i. plain (inr i)) (takes_marked laws.compactions strategies x t.reply journal t.entries old.stage mid.stage r.1 marked) (r.2.upholds.files stored).0,
       )
 
-  -- the journal of the outcomes is that of the run
-  journal_same : (many : ℕ) (xs : List Call) (ts : List Told) (past : Past) (old new : Watched F W) (r : RanWatched world gives strategies xs ts old new)
-      → (after_all opened past (take many (outcomes_of xs ts (point_of old) (points_of xs ts old new r)))).journal ≡ past.journal ++ without_low_reads opened (journal_of (take many ts))
-  journal_same zero xs ts past old new r = sym (append-nil past.journal)
-  journal_same (suc many) [] [] past old new r = sym (append-nil past.journal)
-  journal_same (suc many) [] (t ∷ ts) past old new r = absurd r
-  journal_same (suc many) (x ∷ xs) [] past old new r = absurd r
-  journal_same (suc many) (x ∷ xs) (t ∷ ts) past old new r =
-      journal_same many xs ts (after opened past (outcome_of x t old.stage)) r.0 new r.4
-      ∙ append_assoc past.journal (without_low_reads opened t.entries) (without_low_reads opened (journal_of (take many ts)))
-      ∙ ap (λ es. past.journal ++ es) (sym (without-append opened t.entries (journal_of (take many ts))))
-
-  -- the stores of the places are those of the chain
+  -- the stores of the places are those of the chain, and so is the last place
   stores_same : (many : ℕ) (xs : List Call) (ts : List Told) (past : Past) (old new : Watched F W) (r : RanWatched world gives strategies xs ts old new)
       → map (λ p. p.store) (take many (places xs ts past (point_of old) (points_of xs ts old new r))) ≡ map (λ p. p.store) (take many (points_of xs ts old new r))
   stores_same zero xs ts past old new r = refl
@@ -236,35 +226,115 @@ module _ (laws : KeepLaws) (strategies : Strategies) (opened : List Entry) (star
   stores_same (suc many) (x ∷ xs) [] past old new r = absurd r
   stores_same (suc many) (x ∷ xs) (t ∷ ts) past old new r = ap (λ ss. r.0.store ∷ ss) (stores_same many xs ts (after opened past (outcome_of x t old.stage)) r.0 new r.4)
 
-  -- a run from a tree as opening left it
-  has_moments : RunsCompose Reply FindsPlaced Reopens world → FlushesAreDeeds → FoundTablesShow → FoundOnce → (xs : List Call) (ts : List Told) (old new : Watched F W) (r : RanWatched world gives strategies xs ts old new)
-      → IsKeptTree old.stage.core → old.stage ≡ at_first old.stage.core → Upholds (world old.store) (world old.store) old.stage.core old.stage.core
-      → HasMoments world opened start xs ts (point_of old) (points_of xs ts old new r)
-  has_moments compose deeds shows once xs ts old new r kept free still many plain opens certain stored order n small =
-      let first = saved_of [] [] old.stage.core in
-      let d = deeds.spends 0 0 old.stage.core kept opened [] [] in
-      let distinct : HasDistinctIds (latest_of old.stage.core).tables = subst (λ t. HasDistinctIds t.state.latest.tables) (sym d.2) d.1.distinct in
-      let is_start : IsStart opened start first = record { opens = opens; distinct = distinct; notes = refl; others = ap (λ l. map (λ v. placed_of v.levels) (option_to_list l)) certain } in
-      let marked : AreMarked [] old.stage.jobs = subst (λ (s : Stage). AreMarked [] s.jobs) (sym free) (first_marked old.stage.core) in
-      let points = points_of xs ts old new r in
-      let outcomes = outcomes_of xs ts (point_of old) points in
-      let all = places xs ts nothing (point_of old) points in
-      let twice = take_twice many outcomes in
-      let order' : InOrder opened (after_all opened nothing (take many outcomes)).journal = subst (InOrder opened) (sym (journal_same many xs ts nothing old new r)) (order_without opened (journal_of (take many ts)) order) in
-      let whole = compose opened start n (take many outcomes) (place_at nothing (point_of old)) (take many all) (tables_show shows once n)
-      (record { came = record { first = first; starts = is_start; deeds = []; done = refl; order = tt }; now = now_found nothing (point_of old) stored still })
-      (each_does many xs ts [] nothing old new r refl plain marked stored) many
-      (subst (λ (os : List (out.Told Reply)). AreNumbered n opened (after_all opened nothing os).journal) (sym twice) small)
-      (subst (λ (os : List (out.Told Reply)). InOrder opened (after_all opened nothing os).journal) (sym twice) order') in
-      subst (λ ss. EachMoment (Reopens n) world opened start nothing (take many outcomes) old.store ss) (ap (λ ps. map (λ p. p.store) ps) (take_twice many all) ∙ stores_same many xs ts nothing old new r)
-      (subst (λ (os : List (out.Told Reply)). EachMoment (Reopens n) world opened start nothing os old.store (map (λ p. p.store) (take many (take many all)))) twice whole.moments)
+  last_same : (many : ℕ) (xs : List Call) (ts : List Told) (past : Past) (old new : Watched F W) (r : RanWatched world gives strategies xs ts old new)
+      → last_of (place_at past (point_of old)) (take many (places xs ts past (point_of old) (points_of xs ts old new r))) ≡ place_at (after_all opened past (take many (outcomes_of xs ts (point_of old) (points_of xs ts old new r)))) (last_of (point_of old) (take many (points_of xs ts old new r)))
+  last_same zero xs ts past old new r = refl
+  last_same (suc many) [] [] past old new r = refl
+  last_same (suc many) [] (t ∷ ts) past old new r = absurd r
+  last_same (suc many) (x ∷ xs) [] past old new r = absurd r
+  last_same (suc many) (x ∷ xs) (t ∷ ts) past old new r = last_same many xs ts (after opened past (outcome_of x t old.stage)) r.0 new r.4
 
-pub run_has_moments : KeepLaws → (strategies : Strategies) {F W : Type 0} (world : F → World) (gives : W → ℕ → W → Type 0) → RunsCompose Reply FindsPlaced Reopens world → FlushesAreDeeds → FoundTablesShow → FoundOnce
+  -- the files stay stored
+  stays_stored : (many : ℕ) (xs : List Call) (ts : List Told) (old new : Watched F W) (r : RanWatched world gives strategies xs ts old new) → IsStored (world old.store) (versions_left old.stage.core) (written_of old.stage.core)
+      → let last = last_of (point_of old) (take many (points_of xs ts old new r)) in IsStored (world last.store) (versions_left last.stage.core) (written_of last.stage.core)
+  stays_stored zero xs ts old new r stored = stored
+  stays_stored (suc many) [] [] old new r stored = stored
+  stays_stored (suc many) [] (t ∷ ts) old new r stored = absurd r
+  stays_stored (suc many) (x ∷ xs) [] old new r stored = absurd r
+  stays_stored (suc many) (x ∷ xs) (t ∷ ts) old new r stored = stays_stored many xs ts r.0 new r.4 (r.2.upholds.files stored).0
+
+  all_points : (xs : List Call) (ts : List Told) (old new : Watched F W) (r : RanWatched world gives strategies xs ts old new) → length (outcomes_of xs ts (point_of old) (points_of xs ts old new r)) ≡ length (points_of xs ts old new r)
+  all_points [] [] old new r = refl
+  all_points [] (t ∷ ts) old new r = absurd r
+  all_points (x ∷ xs) [] old new r = absurd r
+  all_points (x ∷ xs) (t ∷ ts) old new r = ap (λ n. suc n) (all_points xs ts r.0 new r.4)
+
+  all_steps : (xs : List Call) (ts : List Told) (old new : Watched F W) (r : RanWatched world gives strategies xs ts old new) → length xs ≡ length (points_of xs ts old new r)
+  all_steps [] [] old new r = refl
+  all_steps [] (t ∷ ts) old new r = absurd r
+  all_steps (x ∷ xs) [] old new r = absurd r
+  all_steps (x ∷ xs) (t ∷ ts) old new r = ap (λ n. suc n) (all_steps xs ts r.0 new r.4)
+
+  -- a tree as opening left it
+  begins : FlushesAreDeeds → (c : Core) → IsKeptTree c → IsOpened opened start (state_of [] c) → c.lost ≡ None → CameAbout opened start (tree_at nothing c)
+  begins deeds c kept opens certain =
+      let d = deeds.spends 0 0 c kept opened [] [] in
+      let distinct : HasDistinctIds (latest_of c).tables = subst (λ t. HasDistinctIds t.state.latest.tables) (sym d.2) d.1.distinct in
+      record {
+        first = saved_of [] [] c;
+        starts = record { opens = opens; distinct = distinct; notes = refl; others = ap (λ l. map (λ v. placed_of v.levels) (option_to_list l)) certain };
+        deeds = [];
+        done = refl;
+        order = tt;
+      }
+
+  module _ (compose : RunsCompose Reply FindsPlaced Reopens world) (shows : FoundTablesShow) (once : FoundOnce) (high : NoLowReads) (bounded : NumbersAreBounded) (xs : List Call) (ts : List Told) (old new : Watched F W) (r : RanWatched world gives strategies xs ts old new)
+      (free : old.stage ≡ at_first old.stage.core) (still : Upholds (world old.store) (world old.store) old.stage.core old.stage.core) (past : Past) where
+    abbrev points : List (Point F)
+    points = points_of xs ts old new r
+
+    abbrev outcomes : List (out.Told Reply)
+    outcomes = outcomes_of xs ts (point_of old) points
+
+    abbrev all : List (Place F)
+    all = places xs ts past (point_of old) points
+
+    marked : AreMarked past.journal old.stage.jobs
+    marked = subst (λ (s : Stage). AreMarked past.journal s.jobs) (sym free) (first_marked_behind past.journal old.stage.core)
+
+    whole : (many : ℕ) → IsPlainUse (take many xs) → StandsAfter world opened start past old.store old.stage.core → InOrder opened (after_all opened past (take many outcomes)).journal
+        → (n : ℕ) → AreNumbered n opened (after_all opened past (take many outcomes)).journal → Composed FindsPlaced (Reopens n) world opened start (take many outcomes) (place_at past (point_of old)) (take many all)
+    whole many plain stands order n small =
+        let os = take_twice many outcomes in
+        let ps = take_twice many all in
+        subst (λ (ps : List (Place F)). Composed FindsPlaced (Reopens n) world opened start (take many outcomes) (place_at past (point_of old)) ps) ps
+        (subst (λ (os : List (out.Told Reply)). Composed FindsPlaced (Reopens n) world opened start os (place_at past (point_of old)) (take many (take many all))) os
+        (compose opened start n (take many outcomes) (place_at past (point_of old)) (take many all) (tables_show shows once n)
+        (record { came = stands.came; now = now_found past (point_of old) stands.stored still })
+        (each_does many xs ts past.journal past old new r (high opened start (tree_at past old.stage.core) stands.came) plain marked stands.stored) many
+        (subst (λ (os : List (out.Told Reply)). AreNumbered n opened (after_all opened past os).journal) (sym os) small)
+        (subst (λ (os : List (out.Told Reply)). InOrder opened (after_all opened past os).journal) (sym os) order)))
+
+    has_moments : HasMoments world opened start past xs ts (point_of old) points
+    has_moments many plain stands order = (
+      λ n small. subst (λ ss. EachMoment (Reopens n) world opened start past (take many outcomes) old.store ss) (stores_same many xs ts past old new r) (whole many plain stands order n small).moments,
+      record { came = came; stored = stays_stored many xs ts old new r stands.stored },
+    )
+      where
+        came : CameAbout opened start (tree_at (after_all opened past (take many outcomes)) (last_of (point_of old) (take many points)).stage.core)
+        came = subst (λ (p : Place F). CameAbout opened start p.tree) (last_same many xs ts past old new r)
+            (whole many plain stands order (next_number opened (after_all opened past (take many outcomes)).journal) (bounded opened (after_all opened past (take many outcomes)).journal)).stands.came
+
+    goes_on : (is : F) (core : Core) → (last_of (point_of old) points).store ≡ is → Closes (last_of (point_of old) points).stage.core core → GoesOn world opened start past xs ts (point_of old) points is core
+    goes_on is core store closes plain stands order =
+        let many = length points in
+        let steps_all : take many xs ≡ xs = ap (λ n. take n xs) (sym (all_steps xs ts old new r)) ∙ take_all xs in
+        let outcomes_all : take many outcomes ≡ outcomes = ap (λ n. take n outcomes) (sym (all_points xs ts old new r)) ∙ take_all outcomes in
+        let last = (has_moments many (subst IsPlainUse (sym steps_all) plain) stands (subst (λ (os : List (out.Told Reply)). InOrder opened (after_all opened past os).journal) (sym outcomes_all) order)).1 in
+        let there = subst (λ (ps : List (Point F)). StandsAfter world opened start (after_all opened past (take many outcomes)) (last_of (point_of old) ps).store (last_of (point_of old) ps).stage.core) (take_all points) last in
+        let here = subst (λ (os : List (out.Told Reply)). StandsAfter world opened start (after_all opened past os) (last_of (point_of old) points).store (last_of (point_of old) points).stage.core) outcomes_all there in
+        record {
+          came = subst (λ (c : Core). CameAbout opened start (tree_at (after_all opened past outcomes) c)) (sym closes.rest) here.came;
+          stored = closed_stored world (last_of (point_of old) points).store is (last_of (point_of old) points).stage.core core closes (sym store) here.stored;
+        }
+
+-- any map
+any_map : Map
+any_map = empty
+
+pub run_has_moments : KeepLaws → (strategies : Strategies) {F W : Type 0} (world : F → World) (gives : W → ℕ → W → Type 0) → RunsCompose Reply FindsPlaced Reopens world → FlushesAreDeeds → FoundTablesShow → FoundOnce → NoLowReads → NumbersAreBounded
     → (xs : List Call) (ts : List Told) (old new : Watched F W) → RanWatched world gives strategies xs ts old new → IsKeptTree old.stage.core → old.stage ≡ at_first old.stage.core → Upholds (world old.store) (world old.store) old.stage.core old.stage.core
-    → (is : F) → is ≡ new.store → RunHasMoments world strategies xs ts (record { store = old.store; stage = old.stage }) is
-run_has_moments laws strategies world gives compose deeds shows once xs ts old new r kept free still is store = record {
-  points = points_of laws strategies [] map_of world gives xs ts old new r;
-  ran = ran_along laws strategies [] map_of world gives xs ts old new r;
-  ends = ends laws strategies [] map_of world gives xs ts old new r ∙ sym store;
-  moments = λ opened start. has_moments laws strategies opened start world gives compose deeds shows once xs ts old new r kept free still;
-}
+    → (is : F) (core : Core) → is ≡ new.store → Closes new.stage.core core → RunHasMoments world strategies xs ts (record { store = old.store; stage = old.stage }) is core
+run_has_moments laws strategies world gives compose deeds shows once high bounded xs ts old new r kept free still is core store closes =
+    let here = ends laws strategies [] any_map world gives xs ts old new r in
+    let at_end : (last_of (record { store = old.store; stage = old.stage }) (points_of laws strategies [] any_map world gives xs ts old new r)).store ≡ is = ap (λ (p : Point _). p.store) here ∙ sym store in
+    let closed = subst (λ (c : Core). Closes c core) (sym (ap (λ (p : Point _). p.stage.core) here)) closes in
+    record {
+      points = points_of laws strategies [] any_map world gives xs ts old new r;
+      ran = ran_along laws strategies [] any_map world gives xs ts old new r;
+      ends = at_end;
+      closes = closed;
+      begins = λ opened start opens certain stored. record { came = begins laws strategies opened start world gives deeds old.stage.core kept opens certain; stored = stored };
+      moments = λ opened start past. has_moments laws strategies opened start world gives compose shows once high bounded xs ts old new r free still past;
+      goes_on = λ opened start past. goes_on laws strategies opened start world gives compose shows once high bounded xs ts old new r free still past is core at_end closed;
+    }

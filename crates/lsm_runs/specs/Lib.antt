@@ -15,3 +15,5 @@ pub mod Noting
 pub mod Crashes
 pub mod Lives
 pub mod LifeAfterLife
+pub mod Moments
+pub mod ManyLives

@@ -12,13 +12,14 @@ use Rattle.lsm_versions.specs.Levels.{Levels, placed_of}
 use Rattle.lsm_manifest.specs.Finding.{Finds, StandsForMap}
 use Rattle.lsm_files.specs.Stored.{IsStored}
 use Rattle.lsm_state.specs.Core.{Core, state_of, versions_left, written_of}
+use Rattle.lsm_state.specs.Deeds.{saved_of}
 use Rattle.lsm_state.specs.Flushes.{sealed_ids}
 use Rattle.lsm_run_model.specs.declared.noted.Noted.{Noted}
 use Rattle.lsm_run_model.specs.declared.noted.Noted.TheVariants as note
-use Rattle.lsm_run_model.specs.Outcomes.{nothing, after_all}
+use Rattle.lsm_run_model.specs.Outcomes.{Past, nothing, after_all}
 use Rattle.lsm_run_model.specs.Outcomes as out
 use Rattle.lsm_run_model.specs.Moments.{EachMoment, last_of}
-use Rattle.lsm_run_model.specs.Composing.{AreNumbered}
+use Rattle.lsm_run_model.specs.Composing.{CameAbout, AreNumbered}
 use Rattle.lsm_runs.specs.declared.slots.Job.{Job}
 use Rattle.lsm_runs.specs.declared.steps.JobStep.{JobStep}
 use Rattle.lsm_runs.specs.declared.steps.JobStep.TheVariants.{RegisterTables}
@@ -29,8 +30,8 @@ use Rattle.lsm_runs.specs.declared.steps.Reply.TheVariants.{Sealed, Registered, 
 use Rattle.lsm_runs.specs.Compacting.{Strategies}
 use Rattle.lsm_runs.specs.Files.{LeavesFiles}
 use Rattle.lsm_runs.specs.Noting.{sealed_behind, ids_in}
-use Rattle.lsm_runs.specs.Runs.{Takes, IsPlainUse, journal_of}
-use Rattle.lsm_runs.specs.Slots.{Stage}
+use Rattle.lsm_runs.specs.Runs.{Takes, IsPlainUse}
+use Rattle.lsm_runs.specs.Slots.{Stage, Closes}
 use Rattle.lsm_runs.specs.Told.{Told}
 
 -- ---- notes without places
@@ -100,21 +101,44 @@ pub record Reopens (n : ℕ) (image : Image) (m : Map) : Type 0 where
 abbrev pub FindsPlaced : Image → List Placed → Type 0
 FindsPlaced image tables = (levels : Levels) × Finds image levels × (placed_of levels ≡ tables)
 
+-- ---- what stands
+
+-- what stands after the calls so far: the tree came about by them from entries that show the map, and its store holds its files
+pub record StandsAfter {F : Type 0} (world : F → World) (opened : List Entry) (start : Map) (past : Past) (store : F) (c : Core) : Type 0 where
+  pub came : CameAbout opened start (saved_of past.journal past.notes c)
+  pub stored : IsStored (world store) (versions_left c) (written_of c)
+
+-- a tree as opening left it stands so, over a store that holds its files
+abbrev pub BeginsWith : {F : Type 0} → (F → World) → F → Core → Type 0
+BeginsWith world store c = (opened : List Entry) (start : Map) → IsOpened opened start (state_of [] c) → c.lost ≡ None → IsStored (world store) (versions_left c) (written_of c) → StandsAfter world opened start nothing store c
+
 -- ---- each moment
 
--- From a tree as opening left it, over a store that holds its files, of the first so many steps, where these are in plain use and their
--- journal is in order, whatever comes later: at each store of the chain a crash leaves a beginning of the calls so far, which holds all
--- that is covered by then, and inside each step one of the calls up to and with it, which holds what was covered before it.
-abbrev pub HasMoments : {F : Type 0} → (F → World) → (opened : List Entry) (start : Map) → List Step → List Told → Point F → List (Point F) → Type 0
-HasMoments world opened start steps told old points = (many : ℕ) → let outcomes = take many (outcomes_of steps told old points) in
-    IsPlainUse (take many steps) → IsOpened opened start (state_of [] old.stage.core) → old.stage.core.lost ≡ None
-    → IsStored (world old.store) (versions_left old.stage.core) (written_of old.stage.core) → InOrder opened (journal_of (take many told))
-    → (n : ℕ) → AreNumbered n opened (after_all opened nothing outcomes).journal
-    → EachMoment (Reopens n) world opened start nothing outcomes old.store (map (λ p. p.store) (take many points))
+-- After what was called so far, of the first so many steps, where these are in plain use and the journal stays in order, whatever comes
+-- later: at each store of the chain a crash leaves a beginning of the calls so far, which holds all that is covered by then, and inside each
+-- step one of the calls up to and with it, which holds what was covered before it; and the same stands after these steps.
+abbrev pub HasMoments : {F : Type 0} → (F → World) → (opened : List Entry) (start : Map) → Past → List Step → List Told → Point F → List (Point F) → Type 0
+HasMoments world opened start past steps told old points = (many : ℕ) →
+    let outcomes = take many (outcomes_of steps told old points) in
+    let all = after_all opened past outcomes in
+    let last = last_of old (take many points) in
+    IsPlainUse (take many steps) → StandsAfter world opened start past old.store old.stage.core → InOrder opened all.journal
+    → ((n : ℕ) → AreNumbered n opened all.journal → EachMoment (Reopens n) world opened start past outcomes old.store (map (λ p. p.store) (take many points)))
+      × StandsAfter world opened start all last.store last.stage.core
 
--- a run from one store to another has a chain between them
-pub record RunHasMoments {F : Type 0} (world : F → World) (strategies : Strategies) (steps : List Step) (told : List Told) (old : Point F) (is : F) : Type 0 where
+-- so it does after all of them
+abbrev pub GoesOn : {F : Type 0} → (F → World) → (opened : List Entry) (start : Map) → Past → List Step → List Told → Point F → List (Point F) → F → Core → Type 0
+GoesOn world opened start past steps told old points is new =
+    let all = after_all opened past (outcomes_of steps told old points) in
+    IsPlainUse steps → StandsAfter world opened start past old.store old.stage.core → InOrder opened all.journal → StandsAfter world opened start all is new
+
+-- a run from one store and tree to another has a chain between them
+pub record RunHasMoments {F : Type 0} (world : F → World) (strategies : Strategies) (steps : List Step) (told : List Told) (old : Point F) (is : F) (new : Core) : Type 0 where
   pub points : List (Point F)
   pub ran : RanAlong world strategies steps told old points
+  -- jobs that wait in the end are given up, and that calls no store
   pub ends : (last_of old points).store ≡ is
-  pub moments : (opened : List Entry) (start : Map) → HasMoments world opened start steps told old points
+  pub closes : Closes (last_of old points).stage.core new
+  pub begins : BeginsWith world old.store old.stage.core
+  pub moments : (opened : List Entry) (start : Map) (past : Past) → HasMoments world opened start past steps told old points
+  pub goes_on : (opened : List Entry) (start : Map) (past : Past) → GoesOn world opened start past steps told old points is new

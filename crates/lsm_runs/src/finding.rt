@@ -1,5 +1,5 @@
 // What opening makes of a tree's files, and what follows for life after life.
-ghost use Rattle.lsm_manifest.specs.Finding.{IsSettled};
+ghost use Rattle.lsm_manifest.specs.Ready.{IsReady};
 ghost use Rattle.lsm_runs.specs.Moments.{FindsPlaced, Reopens};
 ghost use Rattle.lsm_runs.specs.ManyLives.{LivesWithoutNumber};
 
@@ -20,7 +20,7 @@ impl Finding for TreeFiles {
 
     ghost shows = { Reopens };
 
-    ghost ready = { IsSettled };
+    ghost ready = { IsReady };
 }
 
 /// Over any number of lives, each ended by a crash or because its process is killed or ends, also in an opening: what is left shows a

@@ -18,7 +18,7 @@ ghost use Rattle.lsm_runs.specs.Compacting.{strategies_of};
 ghost use Rattle.lsm_runs.specs.Unknown.{RanUnknown, RunStops};
 ghost use Rattle.lsm_runs.specs.Slots.{at_first, beside, SameJobs};
 ghost use Rattle.lsm_runs.specs.Moments.{RunHasMoments};
-ghost use Rattle.lsm_runs.specs.Runs.{Takes, TakesEntry, TakesBatch, TakesRotate, told_entry, told_batch, Ran, RanToEnd, RunEqualsReplay, RunSparesAnswers};
+ghost use Rattle.lsm_runs.specs.Runs.{Takes, TakesEntry, TakesBatch, TakesRotate, told_entry, told_batch, Ran, RanToEnd, RunEqualsReplay, RunSparesAnswers, FirstStepsToo};
 
 use crate::finding::TreeFiles;
 use crate::slots::Slots;
@@ -34,6 +34,7 @@ use lsm_model::{
 use lsm_noted::noted_compactions_keep_reads;
 use lsm_parts::Error;
 use lsm_pick::CompactionStrategy;
+use lsm_run_model::{no_low_reads, numbers_are_bounded, runs_compose};
 use lsm_state::{
     TreeState, clears_keep_reads, flushes_are_deeds, flushes_keep_reads, lists_are_steps,
 };
@@ -422,6 +423,8 @@ pub fn run_told<S: Store, W: Watch>(
     ensures ran { RanToEnd (strategies_of (λ b. may_choose b) (λ b. may_refuse b) strategies.now) (take (length result.items) steps.now) result.items state.old.core state.new.core }
     ensures replays { (opened : List Entry) (start : Map) → RunEqualsReplay opened start (take (length result.items) steps.now) result.items state.old.core state.new.core }
     ensures spares { (opened : List Entry) (start : Map) → RunSparesAnswers (strategies_of (λ b. may_choose b) (λ b. may_refuse b) strategies.now) opened start (take (length result.items) steps.now) result.items state.old.core state.new.core }
+    // Both of the first so many steps, whatever comes later.
+    ensures fronts { FirstStepsToo (strategies_of (λ b. may_choose b) (λ b. may_refuse b) strategies.now) (take (length result.items) steps.now) result.items state.old.core }
     ensures in_order { RunIsInOrder (strategies_of (λ b. may_choose b) (λ b. may_refuse b) strategies.now) (take (length result.items) steps.now) result.items state.old.core state.new.core }
     // Each flush and each merge that a step begins ends or is given up, at the latest when the run ends.
     ensures flush { state.new.core.flush ≡ state.old.core.flush }
@@ -431,8 +434,9 @@ pub fn run_told<S: Store, W: Watch>(
     ensures passes { S.tells → Passes (S.world state.old.store) (S.world state.new.store) }
     // What a crash leaves at each moment.
     ensures crashes { S.tells → (opened : List Entry) (start : Map) → RunRecovers S.world W.gives (strategies_of (λ b. may_choose b) (λ b. may_refuse b) strategies.now) opened start (take (length result.items) steps.now) result.items state.old.store state.new.store watch.old watch.new state.old.core }
-    // The same of each moment, along a chain of stores: inside a step it is a beginning of the calls up to and with it.
-    ensures moments { S.tells → RunHasMoments S.world (strategies_of (λ b. may_choose b) (λ b. may_refuse b) strategies.now) (take (length result.items) steps.now) result.items (record { store = state.old.store; stage = at_first state.old.core }) state.new.store }
+    // The same of each moment, along a chain of stores, after whatever was called before: inside a step it is a beginning of the calls up to
+    // and with it. Calls may go on from there.
+    ensures moments { S.tells → RunHasMoments S.world (strategies_of (λ b. may_choose b) (λ b. may_refuse b) strategies.now) (take (length result.items) steps.now) result.items (record { store = state.old.store; stage = at_first state.old.core }) state.new.store state.new.core }
     // Behind a commit of unknown outcome no step calls the store.
     ensures unknown { RunStops (strategies_of (λ b. may_choose b) (λ b. may_refuse b) strategies.now) (take (length result.items) steps.now) result.items state.old.store state.new.store state.old.core state.new.core }
     // The store is blamed only where a call of it failed.
@@ -440,6 +444,8 @@ pub fn run_told<S: Store, W: Watch>(
 {
     images_stand_once();
     runs_compose(state.store(), &TreeFiles, &Reply::Done);
+    no_low_reads();
+    numbers_are_bounded();
     state.is_upheld();
     every_crash_recovers();
     found_tables_show();
@@ -489,6 +495,8 @@ pub fn run<S: Store>(
     ensures ran { RanToEnd (strategies_of (λ b. may_choose b) (λ b. may_refuse b) strategies.now) (take (length result.items) steps.now) result.items state.old.core state.new.core }
     ensures replays { (opened : List Entry) (start : Map) → RunEqualsReplay opened start (take (length result.items) steps.now) result.items state.old.core state.new.core }
     ensures spares { (opened : List Entry) (start : Map) → RunSparesAnswers (strategies_of (λ b. may_choose b) (λ b. may_refuse b) strategies.now) opened start (take (length result.items) steps.now) result.items state.old.core state.new.core }
+    // Both of the first so many steps, whatever comes later.
+    ensures fronts { FirstStepsToo (strategies_of (λ b. may_choose b) (λ b. may_refuse b) strategies.now) (take (length result.items) steps.now) result.items state.old.core }
     ensures in_order { RunIsInOrder (strategies_of (λ b. may_choose b) (λ b. may_refuse b) strategies.now) (take (length result.items) steps.now) result.items state.old.core state.new.core }
     // Each flush and each merge that a step begins ends or is given up, at the latest when the run ends.
     ensures flush { state.new.core.flush ≡ state.old.core.flush }
