@@ -16,7 +16,7 @@ pub mod JobReplays
 pub mod Replays
 pub mod Unknown
 pub mod Spared
-pub mod Fronts
+pub mod After
 mod Counting
 pub mod OpenWork
 pub mod OpenFlush

@@ -140,7 +140,7 @@ takes_spares laws strategies opened start (AtSlot slot step) reply journal event
     kept_spares opened start journal events old.core new.core (job_after laws strategies step reply journal events (old.jobs slot) (new.jobs slot) old.core new.core (m slot) t.0) order h
 takes_spares laws strategies opened start x reply journal events old new t plain m order h = alone_spares laws strategies opened start x reply journal events old.core new.core t.0 plain order h
 
-ran_sparing : (laws : KeepLaws) (strategies : Strategies) (opened : List Entry) (start : Map) (xs : List Call) (ts : List Told) (journal : List Event) (old new : Stage) → Ran strategies xs ts old new → IsPlainUse xs → AreMarked journal old.jobs → InOrder opened (journal ++ journal_of ts) → Sound opened start journal old.core → RanSparing strategies xs ts old new
+pub ran_sparing : (laws : KeepLaws) (strategies : Strategies) (opened : List Entry) (start : Map) (xs : List Call) (ts : List Told) (journal : List Event) (old new : Stage) → Ran strategies xs ts old new → IsPlainUse xs → AreMarked journal old.jobs → InOrder opened (journal ++ journal_of ts) → Sound opened start journal old.core → RanSparing strategies xs ts old new
 ran_sparing laws strategies opened start [] [] journal old new r plain m order h = r
 ran_sparing laws strategies opened start [] (t ∷ ts) journal old new r plain m order h = absurd r
 ran_sparing laws strategies opened start (x ∷ xs) [] journal old new r plain m order h = absurd r

@@ -15,5 +15,6 @@ pub mod Noting
 pub mod Crashes
 pub mod Lives
 pub mod LifeAfterLife
+pub mod After
 pub mod Moments
 pub mod ManyLives

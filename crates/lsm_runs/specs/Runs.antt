@@ -1,5 +1,5 @@
 -- What a run of steps does, and what its reads answer.
-use Rattle.std.specs.Prelude.{◌≡◌, ℕ, ◌+◌, ◌<◌, ◌≤◌, ◌^◌, ◌⊎◌, max, Bool, true, List, [], ◌∷◌, ◌++◌, Result, Ok, Err, map, filter, take, nat_le}
+use Rattle.std.specs.Prelude.{◌≡◌, ℕ, ◌+◌, ◌<◌, ◌≤◌, ◌^◌, ◌⊎◌, max, Bool, true, List, [], ◌∷◌, ◌++◌, Result, Ok, Err, map, filter, nat_le}
 use Rattle.std.specs.List.{AllByRecursion}
 use Rattle.std.specs.declared.ops.Bound.TheVariants.{Unbounded}
 use Rattle.lsm_below.specs.Keys.{Bytes}
@@ -209,8 +209,3 @@ RanSparing strategies (x ∷ xs) [] old new = ⊥
 -- that is answered before and after, but a write, a clear or a drop at the snapshots above its sequence number.
 abbrev pub RunSparesAnswers : Strategies → (opened : List Entry) (start : Map) → List Step → List Told → Core → Core → Type 0
 RunSparesAnswers strategies opened start steps told old new = IsPlainUse steps → IsOpened opened start (state_of [] old) → InOrder opened (journal_of told) → (last : Stage) × RanSparing strategies steps told (at_first old) last × Closes last.core new
-
--- Both hold of the first so many steps too, whatever comes later: up to the tree behind these.
-abbrev pub FirstStepsToo : Strategies → List Step → List Told → Core → Type 0
-FirstStepsToo strategies steps told old = (many : ℕ) → (mid : Core) × ((opened : List Entry) (start : Map)
-    → RunEqualsReplay opened start (take many steps) (take many told) old mid × RunSparesAnswers strategies opened start (take many steps) (take many told) old mid)

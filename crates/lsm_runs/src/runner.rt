@@ -18,7 +18,8 @@ ghost use Rattle.lsm_runs.specs.Compacting.{strategies_of};
 ghost use Rattle.lsm_runs.specs.Unknown.{RanUnknown, RunStops};
 ghost use Rattle.lsm_runs.specs.Slots.{at_first, beside, SameJobs};
 ghost use Rattle.lsm_runs.specs.Moments.{RunHasMoments};
-ghost use Rattle.lsm_runs.specs.Runs.{Takes, TakesEntry, TakesBatch, TakesRotate, told_entry, told_batch, Ran, RanToEnd, RunEqualsReplay, RunSparesAnswers, FirstStepsToo};
+ghost use Rattle.lsm_runs.specs.Runs.{Takes, TakesEntry, TakesBatch, TakesRotate, told_entry, told_batch, Ran, RanToEnd, RunEqualsReplay, RunSparesAnswers};
+ghost use Rattle.lsm_runs.specs.After.{RunIsRight};
 
 use crate::finding::TreeFiles;
 use crate::slots::Slots;
@@ -423,8 +424,8 @@ pub fn run_told<S: Store, W: Watch>(
     ensures ran { RanToEnd (strategies_of (λ b. may_choose b) (λ b. may_refuse b) strategies.now) (take (length result.items) steps.now) result.items state.old.core state.new.core }
     ensures replays { (opened : List Entry) (start : Map) → RunEqualsReplay opened start (take (length result.items) steps.now) result.items state.old.core state.new.core }
     ensures spares { (opened : List Entry) (start : Map) → RunSparesAnswers (strategies_of (λ b. may_choose b) (λ b. may_refuse b) strategies.now) opened start (take (length result.items) steps.now) result.items state.old.core state.new.core }
-    // Both of the first so many steps, whatever comes later.
-    ensures fronts { FirstStepsToo (strategies_of (λ b. may_choose b) (λ b. may_refuse b) strategies.now) (take (length result.items) steps.now) result.items state.old.core }
+    // Both after whatever was called before, and of the first so many steps, whatever comes later.
+    ensures right { RunIsRight (strategies_of (λ b. may_choose b) (λ b. may_refuse b) strategies.now) (take (length result.items) steps.now) result.items state.old.core state.new.core }
     ensures in_order { RunIsInOrder (strategies_of (λ b. may_choose b) (λ b. may_refuse b) strategies.now) (take (length result.items) steps.now) result.items state.old.core state.new.core }
     // Each flush and each merge that a step begins ends or is given up, at the latest when the run ends.
     ensures flush { state.new.core.flush ≡ state.old.core.flush }
@@ -495,8 +496,8 @@ pub fn run<S: Store>(
     ensures ran { RanToEnd (strategies_of (λ b. may_choose b) (λ b. may_refuse b) strategies.now) (take (length result.items) steps.now) result.items state.old.core state.new.core }
     ensures replays { (opened : List Entry) (start : Map) → RunEqualsReplay opened start (take (length result.items) steps.now) result.items state.old.core state.new.core }
     ensures spares { (opened : List Entry) (start : Map) → RunSparesAnswers (strategies_of (λ b. may_choose b) (λ b. may_refuse b) strategies.now) opened start (take (length result.items) steps.now) result.items state.old.core state.new.core }
-    // Both of the first so many steps, whatever comes later.
-    ensures fronts { FirstStepsToo (strategies_of (λ b. may_choose b) (λ b. may_refuse b) strategies.now) (take (length result.items) steps.now) result.items state.old.core }
+    // Both after whatever was called before, and of the first so many steps, whatever comes later.
+    ensures right { RunIsRight (strategies_of (λ b. may_choose b) (λ b. may_refuse b) strategies.now) (take (length result.items) steps.now) result.items state.old.core state.new.core }
     ensures in_order { RunIsInOrder (strategies_of (λ b. may_choose b) (λ b. may_refuse b) strategies.now) (take (length result.items) steps.now) result.items state.old.core state.new.core }
     // Each flush and each merge that a step begins ends or is given up, at the latest when the run ends.
     ensures flush { state.new.core.flush ≡ state.old.core.flush }

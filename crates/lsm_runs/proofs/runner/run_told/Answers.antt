@@ -7,7 +7,7 @@ use Rattle.lsm_runs.specs.Moments.{RunHasMoments}
 use Rattle.lsm_runs.proofs.Unknown.{run_unknown}
 use Rattle.lsm_runs.proofs.Crashed.{run_recovers, then_store}
 use Rattle.lsm_runs.proofs.Keeping.{KeepLaws}
-use Rattle.lsm_runs.proofs.Fronts.{first_steps}
+use Rattle.lsm_runs.proofs.After.{run_is_right}
 use Rattle.lsm_runs.proofs.Moments.{run_has_moments}
 use Rattle.lsm_runs.proofs.Files.{closed_stored}
 use Rattle.lsm_runs.proofs.GivingUp.{all_closes}
@@ -44,10 +44,10 @@ returns-clause-spares g c opened start =
     let laws : KeepLaws = record { theory = c.reads_are_sound.ensures; flushes = c.flushes_keep_reads.ensures; compactions = c.noted_compactions_keep_reads.ensures; clears = c.clears_keep_reads.ensures } in
     run_spares laws _ opened start _ _ _ _ (returns-clause-ran g c)
 
-pub returns-clause-fronts : goal.returns-clause-fronts
-returns-clause-fronts g c =
+pub returns-clause-right : goal.returns-clause-right
+returns-clause-right g c =
     let laws : KeepLaws = record { theory = c.reads_are_sound.ensures; flushes = c.flushes_keep_reads.ensures; compactions = c.noted_compactions_keep_reads.ensures; clears = c.clears_keep_reads.ensures } in
-    first_steps c.lists_are_steps.ensures laws _ _ _ _ _ (returns-clause-ran g c)
+    run_is_right c.lists_are_steps.ensures laws _ _ _ _ _ (returns-clause-ran g c)
 
 pub returns-clause-in_order : goal.returns-clause-in_order
 returns-clause-in_order g c = run_in_order c.counted_is_in_order.ensures _ _ _ _ _ (returns-clause-ran g c)
