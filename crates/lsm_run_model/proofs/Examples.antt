@@ -21,7 +21,7 @@ use Rattle.lsm_run_model.specs.declared.noted.Noted.TheVariants.{Sealed, Flushed
 use Rattle.lsm_run_model.specs.Moments.{EachMoment, HoldsBeginning}
 use Rattle.lsm_run_model.specs.Composing.{Point, past_of, FindsAmong, IsOfEither, EachDoes, Composed, TablesShow}
 use Rattle.lsm_run_model.specs.Lives.{Crashed, LifeAfterLife, Running, Reads, AllGoWell}
-use Rattle.lsm_run_model.specs.Rising.{Drawing, Silent, Own, Raises, Reserves, Draws, At, UpTo, RisesFrom, Asks, WeakOnce}
+use Rattle.lsm_run_model.specs.Rising.{Drawing, Silent, Own, Raises, Reserves, Draws, At, UpTo, RisesFrom, highest, Asks, WeakOnce}
 use Rattle.lsm_run_model.specs.Repeating.{ReadsShareAMap}
 use Rattle.lsm_run_model.proofs.Composing.{runs_compose}
 use Rattle.lsm_run_model.proofs.Lives.{any_number}
@@ -189,6 +189,10 @@ first_life theory crashes join = runs_compose theory crashes join ℕ Finds (λ 
 -- the numbers of its calls rise: one was drawn and used for the write, then the flush drew the next one
 numbers_rise : RisesFrom 0 (At 0) (Reserves ∷ (Own 0 ∷ (Silent ∷ (Draws ∷ []))))
 numbers_rise = (omega arith, ((omega arith, omega arith), (tt, (tt, tt))))
+
+-- and by the calls alone all that they write is numbered below 2
+bounded_by_the_calls : highest (At 0) (Reserves ∷ (Own 0 ∷ (Silent ∷ (Draws ∷ [])))) ≡ 2
+bounded_by_the_calls = refl
 
 -- and wherever the counter stands up to 0, if it is put above the write's number first
 numbers_rise_up_to : RisesFrom 0 (UpTo 0) (Raises 1 ∷ (Own 0 ∷ (Silent ∷ (Draws ∷ []))))

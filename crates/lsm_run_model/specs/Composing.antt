@@ -119,6 +119,6 @@ ReadsStayRight R = (opened : List Entry) (start : Map) (told : List (Told R)) (f
 abbrev pub NoLowReads : Type 0
 NoLowReads = (opened : List Entry) (start : Map) (t : Saved) → CameAbout opened start t → without_low_reads opened t.state.journal ≡ t.state.journal
 
--- what was opened and written is numbered below the next number
+-- what was opened and written is numbered below the next number, and below any that is as great
 abbrev pub NumbersAreBounded : Type 0
-NumbersAreBounded = (opened : List Entry) (journal : List Event) → AreNumbered (next_number opened journal) opened journal
+NumbersAreBounded = (opened : List Entry) (journal : List Event) (n : ℕ) → next_number opened journal ≤ n → AreNumbered n opened journal

@@ -161,9 +161,10 @@ RisingIsInOrder R = (opened : List Entry) (journal : List Event) (calls : List A
     → StandsBelow opened journal counter low set → IsWhere c counter → RisesFrom low c (map (λ call. call.drawing) calls) → WeakOnce opened set calls
     → EachUses calls told counter counters → StaysInOrder opened (journal ++ journal_of told) c calls
 
--- a journal is in order just where it is so without its low reads
-abbrev pub OrderWithoutReads : Type 0
-OrderWithoutReads = (opened : List Entry) (journal : List Event) → InOrder opened journal ↔ InOrder opened (without_low_reads opened journal)
+-- a journal is in order just where it is so without its low reads, and its next number is the same
+pub record OrderWithoutReads : Type 0 where
+  pub order : (opened : List Entry) (journal : List Event) → InOrder opened journal ↔ InOrder opened (without_low_reads opened journal)
+  pub number : (opened : List Entry) (journal : List Event) → next_number opened (without_low_reads opened journal) ≡ next_number opened journal
 
 -- numbers that rise do so in the first calls alone, and what was set once at most is so for them
 pub record RisingFront : Type 0 where

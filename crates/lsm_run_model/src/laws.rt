@@ -62,7 +62,7 @@ pub fn rising_is_in_order<R>(_: &R)
     maps_are_read();
 }
 
-/// A journal is in order just where it is so without its reads below what was opened.
+/// A journal is in order just where it is so without its reads below what was opened, and has the same next number.
 pub fn order_without_reads()
     ensures { OrderWithoutReads }
 {}
@@ -101,7 +101,7 @@ pub fn no_low_reads()
     ensures { NoLowReads }
 {}
 
-/// What was opened and written is numbered below the next number.
+/// What was opened and written is numbered below the next number, and below any that is as great.
 pub fn numbers_are_bounded()
     ensures { NumbersAreBounded }
 {}

@@ -303,7 +303,7 @@ module _ (laws : KeepLaws) (strategies : Strategies) (opened : List Entry) (star
       where
         came : CameAbout opened start (tree_at (after_all opened past (take many outcomes)) (last_of (point_of old) (take many points)).stage.core)
         came = subst (λ (p : Place F). CameAbout opened start p.tree) (last_same many xs ts past old new r)
-            (whole many plain stands order (next_number opened (after_all opened past (take many outcomes)).journal) (bounded opened (after_all opened past (take many outcomes)).journal)).stands.came
+            (whole many plain stands order (next_number opened (after_all opened past (take many outcomes)).journal) (bounded opened (after_all opened past (take many outcomes)).journal (next_number opened (after_all opened past (take many outcomes)).journal) (omega arith))).stands.came
 
     goes_on : (is : F) (core : Core) → (last_of (point_of old) points).store ≡ is → Closes (last_of (point_of old) points).stage.core core → GoesOn world opened start past xs ts (point_of old) points is core
     goes_on is core store closes plain stands order =
