@@ -36,7 +36,7 @@ use Rattle.lsm_runs.specs.declared.steps.Reply.{Reply}
 use Rattle.lsm_runs.specs.declared.steps.Reply.TheVariants as reply
 use Rattle.lsm_runs.specs.Compacting.{Strategies}
 use Rattle.lsm_runs.specs.Crashes.{Watched, RanWatched}
-use Rattle.lsm_runs.specs.Moments.{sealed_noted, flushed_noted, job_noted, lost_noted, alone_noted, noted_of, Point, RanAlong, outcome_of, outcomes_of, Reopens, FindsPlaced, StandsAfter, HasMoments, GoesOn, RunHasMoments}
+use Rattle.lsm_runs.specs.Moments.{sealed_noted, flushed_noted, job_noted, lost_noted, alone_noted, noted_of, RanAlong, outcome_of, outcomes_of, Reopens, FindsPlaced, StandsAfter, HasMoments, GoesOn, RunHasMoments}
 use Rattle.lsm_runs.specs.Noting.{sealed_note, sealed_behind, flushed_note, job_notes, lost_note, alone_notes, notes_of, ids_in}
 use Rattle.lsm_runs.specs.Runs.{Takes, IsPlainUse, without_low_reads}
 use Rattle.lsm_runs.specs.Slots.{Stage, at_first, Closes}
@@ -128,22 +128,19 @@ take_all (x ∷ xs) = ap (λ ys. x ∷ ys) (take_all xs)
 module _ (laws : KeepLaws) (strategies : Strategies) (opened : List Entry) (start : Map) {F W : Type 0} (world : F → World) (gives : W → ℕ → W → Type 0) where
   -- ---- the chain of a run that was watched
 
-  abbrev pub point_of : Watched F W → Point F
-  point_of w = record { store = w.store; stage = w.stage }
-
-  abbrev pub points_of : (xs : List Call) (ts : List Told) (old new : Watched F W) → RanWatched world gives strategies xs ts old new → List (Point F)
+  abbrev pub points_of : (xs : List Call) (ts : List Told) (old new : Watched F W) → RanWatched world gives strategies xs ts old new → List (Watched F W)
   points_of [] ts old new r = []
   points_of (x ∷ xs) [] old new r = []
-  points_of (x ∷ xs) (t ∷ ts) old new r = point_of r.0 ∷ points_of xs ts r.0 new r.4
+  points_of (x ∷ xs) (t ∷ ts) old new r = r.0 ∷ points_of xs ts r.0 new r.4
 
-  ran_along : (xs : List Call) (ts : List Told) (old new : Watched F W) (r : RanWatched world gives strategies xs ts old new) → RanAlong world strategies xs ts (point_of old) (points_of xs ts old new r)
+  ran_along : (xs : List Call) (ts : List Told) (old new : Watched F W) (r : RanWatched world gives strategies xs ts old new) → RanAlong world gives strategies xs ts old (points_of xs ts old new r)
   ran_along [] [] old new r = tt
   ran_along [] (t ∷ ts) old new r = absurd r
   ran_along (x ∷ xs) [] old new r = absurd r
-  ran_along (x ∷ xs) (t ∷ ts) old new r = (r.1, r.2.leaves, ran_along xs ts r.0 new r.4)
+  ran_along (x ∷ xs) (t ∷ ts) old new r = (r.1, r.2.leaves, r.3, ran_along xs ts r.0 new r.4)
 
-  ends : (xs : List Call) (ts : List Told) (old new : Watched F W) (r : RanWatched world gives strategies xs ts old new) → last_of (point_of old) (points_of xs ts old new r) ≡ point_of new
-  ends [] [] old new r = ap (λ (w : Watched F W). point_of w) (sym r)
+  ends : (xs : List Call) (ts : List Told) (old new : Watched F W) (r : RanWatched world gives strategies xs ts old new) → last_of old (points_of xs ts old new r) ≡ new
+  ends [] [] old new r = sym r
   ends [] (t ∷ ts) old new r = absurd r
   ends (x ∷ xs) [] old new r = absurd r
   ends (x ∷ xs) (t ∷ ts) old new r = ends xs ts r.0 new r.4
@@ -153,10 +150,10 @@ module _ (laws : KeepLaws) (strategies : Strategies) (opened : List Entry) (star
   abbrev tree_at : Past → Core → Saved
   tree_at past c = saved_of past.journal past.notes c
 
-  abbrev place_at : Past → Point F → Place F
+  abbrev place_at : Past → Watched F W → Place F
   place_at past p = record { store = p.store; tree = tree_at past p.stage.core }
 
-  abbrev places : List Call → List Told → Past → Point F → List (Point F) → List (Place F)
+  abbrev places : List Call → List Told → Past → Watched F W → List (Watched F W) → List (Place F)
   places (x ∷ xs) (t ∷ ts) past old (mid ∷ points) = let next = after opened past (outcome_of x t old.stage) in place_at next mid ∷ places xs ts next mid points
   places xs ts past old points = []
 
@@ -168,13 +165,13 @@ module _ (laws : KeepLaws) (strategies : Strategies) (opened : List Entry) (star
       (λ right order. step_deeds laws strategies opened start journal notes x t.reply t.entries old new plain right marked order takes)
 
   -- while nothing is done a crash leaves one of the tree's versions
-  now_found : (past : Past) (p : Point F) → IsStored (world p.store) (versions_left p.stage.core) (written_of p.stage.core) → Upholds (world p.store) (world p.store) p.stage.core p.stage.core
+  now_found : (past : Past) (p : Watched F W) → IsStored (world p.store) (versions_left p.stage.core) (written_of p.stage.core) → Upholds (world p.store) (world p.store) p.stage.core p.stage.core
       → LeavesNow (world p.store) (FindsAmong FindsPlaced (λ tables. IsIn tables (versions (tree_at past p.stage.core))))
   now_found past p stored still image since =
       let h = (still.files stored).1.each image since in
       (placed_of h.0.levels, found_of h.0 image h.2, placed_in_map h.0 (versions_left p.stage.core) (⊎_elim (λ i. i) (λ i. i) (in_either h.0 (versions_left p.stage.core) (versions_left p.stage.core) h.1)))
 
-  does : (x : Call) (t : Told) (journal : List Event) (past : Past) (old mid : Point F) → without_low_reads opened journal ≡ past.journal → (x ≡ ClearActiveMemtable → ⊥) → AreMarked journal old.stage.jobs → Takes strategies x t.reply t.entries old.stage mid.stage
+  does : (x : Call) (t : Told) (journal : List Event) (past : Past) (old mid : Watched F W) → without_low_reads opened journal ≡ past.journal → (x ≡ ClearActiveMemtable → ⊥) → AreMarked journal old.stage.jobs → Takes strategies x t.reply t.entries old.stage mid.stage
       → IsStored (world old.store) (versions_left old.stage.core) (written_of old.stage.core) → Upholds (world old.store) (world mid.store) old.stage.core mid.stage.core → Upholds (world mid.store) (world mid.store) mid.stage.core mid.stage.core
       → IsRightThere opened start (tree_at past old.stage.core) → InOrder opened (after opened past (outcome_of x t old.stage)).journal → DoesCall FindsPlaced world opened (outcome_of x t old.stage) (place_at past old) (place_at (after opened past (outcome_of x t old.stage)) mid)
   does x t journal past old mid e plain marked takes stored upholds still right order =
@@ -195,16 +192,20 @@ module _ (laws : KeepLaws) (strategies : Strategies) (opened : List Entry) (star
       }
     where
       found_in : (image : Image) → HoldsOneOf (versions_left old.stage.core ++ versions_left mid.stage.core) image → FindsAmong FindsPlaced (IsOfEither (tree_at past old.stage.core) (tree_at (after opened past (outcome_of x t old.stage)) mid.stage.core)) image
-      found_in image h = (placed_of h.0.levels, found_of h.0 image h.2, ⊎_elim
-          (λ i. inl (placed_in_map h.0 (versions_left old.stage.core) i))
-          (λ i. inr (placed_in_map h.0 (versions_left mid.stage.core) i))
-          (in_either h.0 (versions_left old.stage.core) (versions_left mid.stage.core) h.1))
+      found_in image h = (
+        placed_of h.0.levels,
+        found_of h.0 image h.2,
+        ⊎_elim
+            (λ i. inl (placed_in_map h.0 (versions_left old.stage.core) i))
+            (λ i. inr (placed_in_map h.0 (versions_left mid.stage.core) i))
+            (in_either h.0 (versions_left old.stage.core) (versions_left mid.stage.core) h.1),
+      )
 
   -- ---- the first so many steps
 
   each_does : (many : ℕ) (xs : List Call) (ts : List Told) (journal : List Event) (past : Past) (old new : Watched F W) (r : RanWatched world gives strategies xs ts old new) → without_low_reads opened journal ≡ past.journal → IsPlainUse (take many xs) → AreMarked journal old.stage.jobs
       → IsStored (world old.store) (versions_left old.stage.core) (written_of old.stage.core)
-      → EachDoes FindsPlaced world opened start (take many (outcomes_of xs ts (point_of old) (points_of xs ts old new r))) (place_at past (point_of old)) (take many (places xs ts past (point_of old) (points_of xs ts old new r)))
+      → EachDoes FindsPlaced world opened start (take many (outcomes_of xs ts old (points_of xs ts old new r))) (place_at past old) (take many (places xs ts past old (points_of xs ts old new r)))
   each_does zero xs ts journal past old new r e plain marked stored = tt
   each_does (suc many) [] [] journal past old new r e plain marked stored = tt
   each_does (suc many) [] (t ∷ ts) journal past old new r e plain marked stored = absurd r
@@ -213,13 +214,13 @@ module _ (laws : KeepLaws) (strategies : Strategies) (opened : List Entry) (star
       let mid = r.0 in
       let next = after opened past (outcome_of x t old.stage) in
       let e' : without_low_reads opened (journal ++ t.entries) ≡ next.journal = without-append opened journal t.entries ∙ ap (λ b. b ++ without_low_reads opened t.entries) e in (
-        does x t journal past (point_of old) (point_of mid) e (λ is. plain (inl is)) marked r.1 stored r.2.upholds r.2.stays,
+        does x t journal past old mid e (λ is. plain (inl is)) marked r.1 stored r.2.upholds r.2.stays,
         each_does many xs ts (journal ++ t.entries) next mid new r.4 e' (λ i. plain (inr i)) (takes_marked laws.compactions strategies x t.reply journal t.entries old.stage mid.stage r.1 marked) (r.2.upholds.files stored).0,
       )
 
   -- the stores of the places are those of the chain, and so is the last place
   stores_same : (many : ℕ) (xs : List Call) (ts : List Told) (past : Past) (old new : Watched F W) (r : RanWatched world gives strategies xs ts old new)
-      → map (λ p. p.store) (take many (places xs ts past (point_of old) (points_of xs ts old new r))) ≡ map (λ p. p.store) (take many (points_of xs ts old new r))
+      → map (λ p. p.store) (take many (places xs ts past old (points_of xs ts old new r))) ≡ map (λ p. p.store) (take many (points_of xs ts old new r))
   stores_same zero xs ts past old new r = refl
   stores_same (suc many) [] [] past old new r = refl
   stores_same (suc many) [] (t ∷ ts) past old new r = absurd r
@@ -227,7 +228,7 @@ module _ (laws : KeepLaws) (strategies : Strategies) (opened : List Entry) (star
   stores_same (suc many) (x ∷ xs) (t ∷ ts) past old new r = ap (λ ss. r.0.store ∷ ss) (stores_same many xs ts (after opened past (outcome_of x t old.stage)) r.0 new r.4)
 
   last_same : (many : ℕ) (xs : List Call) (ts : List Told) (past : Past) (old new : Watched F W) (r : RanWatched world gives strategies xs ts old new)
-      → last_of (place_at past (point_of old)) (take many (places xs ts past (point_of old) (points_of xs ts old new r))) ≡ place_at (after_all opened past (take many (outcomes_of xs ts (point_of old) (points_of xs ts old new r)))) (last_of (point_of old) (take many (points_of xs ts old new r)))
+      → last_of (place_at past old) (take many (places xs ts past old (points_of xs ts old new r))) ≡ place_at (after_all opened past (take many (outcomes_of xs ts old (points_of xs ts old new r)))) (last_of old (take many (points_of xs ts old new r)))
   last_same zero xs ts past old new r = refl
   last_same (suc many) [] [] past old new r = refl
   last_same (suc many) [] (t ∷ ts) past old new r = absurd r
@@ -236,14 +237,14 @@ module _ (laws : KeepLaws) (strategies : Strategies) (opened : List Entry) (star
 
   -- the files stay stored
   stays_stored : (many : ℕ) (xs : List Call) (ts : List Told) (old new : Watched F W) (r : RanWatched world gives strategies xs ts old new) → IsStored (world old.store) (versions_left old.stage.core) (written_of old.stage.core)
-      → let last = last_of (point_of old) (take many (points_of xs ts old new r)) in IsStored (world last.store) (versions_left last.stage.core) (written_of last.stage.core)
+      → let last = last_of old (take many (points_of xs ts old new r)) in IsStored (world last.store) (versions_left last.stage.core) (written_of last.stage.core)
   stays_stored zero xs ts old new r stored = stored
   stays_stored (suc many) [] [] old new r stored = stored
   stays_stored (suc many) [] (t ∷ ts) old new r stored = absurd r
   stays_stored (suc many) (x ∷ xs) [] old new r stored = absurd r
   stays_stored (suc many) (x ∷ xs) (t ∷ ts) old new r stored = stays_stored many xs ts r.0 new r.4 (r.2.upholds.files stored).0
 
-  all_points : (xs : List Call) (ts : List Told) (old new : Watched F W) (r : RanWatched world gives strategies xs ts old new) → length (outcomes_of xs ts (point_of old) (points_of xs ts old new r)) ≡ length (points_of xs ts old new r)
+  all_points : (xs : List Call) (ts : List Told) (old new : Watched F W) (r : RanWatched world gives strategies xs ts old new) → length (outcomes_of xs ts old (points_of xs ts old new r)) ≡ length (points_of xs ts old new r)
   all_points [] [] old new r = refl
   all_points [] (t ∷ ts) old new r = absurd r
   all_points (x ∷ xs) [] old new r = absurd r
@@ -270,52 +271,52 @@ module _ (laws : KeepLaws) (strategies : Strategies) (opened : List Entry) (star
 
   module _ (compose : RunsCompose Reply FindsPlaced Reopens world) (shows : FoundTablesShow) (once : FoundOnce) (high : NoLowReads) (bounded : NumbersAreBounded) (xs : List Call) (ts : List Told) (old new : Watched F W) (r : RanWatched world gives strategies xs ts old new)
       (free : old.stage ≡ at_first old.stage.core) (still : Upholds (world old.store) (world old.store) old.stage.core old.stage.core) (past : Past) where
-    abbrev points : List (Point F)
+    abbrev points : List (Watched F W)
     points = points_of xs ts old new r
 
     abbrev outcomes : List (out.Told Reply)
-    outcomes = outcomes_of xs ts (point_of old) points
+    outcomes = outcomes_of xs ts old points
 
     abbrev all : List (Place F)
-    all = places xs ts past (point_of old) points
+    all = places xs ts past old points
 
     marked : AreMarked past.journal old.stage.jobs
     marked = subst (λ (s : Stage). AreMarked past.journal s.jobs) (sym free) (first_marked_behind past.journal old.stage.core)
 
     whole : (many : ℕ) → IsPlainUse (take many xs) → StandsAfter world opened start past old.store old.stage.core → InOrder opened (after_all opened past (take many outcomes)).journal
-        → (n : ℕ) → AreNumbered n opened (after_all opened past (take many outcomes)).journal → Composed FindsPlaced (Reopens n) world opened start (take many outcomes) (place_at past (point_of old)) (take many all)
+        → (n : ℕ) → AreNumbered n opened (after_all opened past (take many outcomes)).journal → Composed FindsPlaced (Reopens n) world opened start (take many outcomes) (place_at past old) (take many all)
     whole many plain stands order n small =
         let os = take_twice many outcomes in
         let ps = take_twice many all in
-        subst (λ (ps : List (Place F)). Composed FindsPlaced (Reopens n) world opened start (take many outcomes) (place_at past (point_of old)) ps) ps
-        (subst (λ (os : List (out.Told Reply)). Composed FindsPlaced (Reopens n) world opened start os (place_at past (point_of old)) (take many (take many all))) os
-        (compose opened start n (take many outcomes) (place_at past (point_of old)) (take many all) (tables_show shows once n)
-        (record { came = stands.came; now = now_found past (point_of old) stands.stored still })
+        subst (λ (ps : List (Place F)). Composed FindsPlaced (Reopens n) world opened start (take many outcomes) (place_at past old) ps) ps
+        (subst (λ (os : List (out.Told Reply)). Composed FindsPlaced (Reopens n) world opened start os (place_at past old) (take many (take many all))) os
+        (compose opened start n (take many outcomes) (place_at past old) (take many all) (tables_show shows once n)
+        (record { came = stands.came; now = now_found past old stands.stored still })
         (each_does many xs ts past.journal past old new r (high opened start (tree_at past old.stage.core) stands.came) plain marked stands.stored) many
         (subst (λ (os : List (out.Told Reply)). AreNumbered n opened (after_all opened past os).journal) (sym os) small)
         (subst (λ (os : List (out.Told Reply)). InOrder opened (after_all opened past os).journal) (sym os) order)))
 
-    has_moments : HasMoments world opened start past xs ts (point_of old) points
+    has_moments : HasMoments world opened start past xs ts old points
     has_moments many plain stands order = (
       λ n small. subst (λ ss. EachMoment (Reopens n) world opened start past (take many outcomes) old.store ss) (stores_same many xs ts past old new r) (whole many plain stands order n small).moments,
       record { came = came; stored = stays_stored many xs ts old new r stands.stored },
     )
       where
-        came : CameAbout opened start (tree_at (after_all opened past (take many outcomes)) (last_of (point_of old) (take many points)).stage.core)
+        came : CameAbout opened start (tree_at (after_all opened past (take many outcomes)) (last_of old (take many points)).stage.core)
         came = subst (λ (p : Place F). CameAbout opened start p.tree) (last_same many xs ts past old new r)
             (whole many plain stands order (next_number opened (after_all opened past (take many outcomes)).journal) (bounded opened (after_all opened past (take many outcomes)).journal (next_number opened (after_all opened past (take many outcomes)).journal) (omega arith))).stands.came
 
-    goes_on : (is : F) (core : Core) → (last_of (point_of old) points).store ≡ is → Closes (last_of (point_of old) points).stage.core core → GoesOn world opened start past xs ts (point_of old) points is core
+    goes_on : (is : F) (core : Core) → (last_of old points).store ≡ is → Closes (last_of old points).stage.core core → GoesOn world opened start past xs ts old points is core
     goes_on is core store closes plain stands order =
         let many = length points in
         let steps_all : take many xs ≡ xs = ap (λ n. take n xs) (sym (all_steps xs ts old new r)) ∙ take_all xs in
         let outcomes_all : take many outcomes ≡ outcomes = ap (λ n. take n outcomes) (sym (all_points xs ts old new r)) ∙ take_all outcomes in
         let last = (has_moments many (subst IsPlainUse (sym steps_all) plain) stands (subst (λ (os : List (out.Told Reply)). InOrder opened (after_all opened past os).journal) (sym outcomes_all) order)).1 in
-        let there = subst (λ (ps : List (Point F)). StandsAfter world opened start (after_all opened past (take many outcomes)) (last_of (point_of old) ps).store (last_of (point_of old) ps).stage.core) (take_all points) last in
-        let here = subst (λ (os : List (out.Told Reply)). StandsAfter world opened start (after_all opened past os) (last_of (point_of old) points).store (last_of (point_of old) points).stage.core) outcomes_all there in
+        let there = subst (λ (ps : List (Watched F W)). StandsAfter world opened start (after_all opened past (take many outcomes)) (last_of old ps).store (last_of old ps).stage.core) (take_all points) last in
+        let here = subst (λ (os : List (out.Told Reply)). StandsAfter world opened start (after_all opened past os) (last_of old points).store (last_of old points).stage.core) outcomes_all there in
         record {
           came = subst (λ (c : Core). CameAbout opened start (tree_at (after_all opened past outcomes) c)) (sym closes.rest) here.came;
-          stored = closed_stored world (last_of (point_of old) points).store is (last_of (point_of old) points).stage.core core closes (sym store) here.stored;
+          stored = closed_stored world (last_of old points).store is (last_of old points).stage.core core closes (sym store) here.stored;
         }
 
 -- any map
@@ -324,16 +325,17 @@ any_map = empty
 
 pub run_has_moments : KeepLaws → (strategies : Strategies) {F W : Type 0} (world : F → World) (gives : W → ℕ → W → Type 0) → RunsCompose Reply FindsPlaced Reopens world → FlushesAreDeeds → FoundTablesShow → FoundOnce → NoLowReads → NumbersAreBounded
     → (xs : List Call) (ts : List Told) (old new : Watched F W) → RanWatched world gives strategies xs ts old new → IsKeptTree old.stage.core → old.stage ≡ at_first old.stage.core → Upholds (world old.store) (world old.store) old.stage.core old.stage.core
-    → (is : F) (core : Core) → is ≡ new.store → Closes new.stage.core core → RunHasMoments world strategies xs ts (record { store = old.store; stage = old.stage }) is core
+    → (is : F) (core : Core) → is ≡ new.store → Closes new.stage.core core → RunHasMoments world gives strategies xs ts old is core new.watch
 run_has_moments laws strategies world gives compose deeds shows once high bounded xs ts old new r kept free still is core store closes =
     let here = ends laws strategies [] any_map world gives xs ts old new r in
-    let at_end : (last_of (record { store = old.store; stage = old.stage }) (points_of laws strategies [] any_map world gives xs ts old new r)).store ≡ is = ap (λ (p : Point _). p.store) here ∙ sym store in
-    let closed = subst (λ (c : Core). Closes c core) (sym (ap (λ (p : Point _). p.stage.core) here)) closes in
+    let at_end : (last_of old (points_of laws strategies [] any_map world gives xs ts old new r)).store ≡ is = ap (λ (p : Watched _ _). p.store) here ∙ sym store in
+    let closed = subst (λ (c : Core). Closes c core) (sym (ap (λ (p : Watched _ _). p.stage.core) here)) closes in
     record {
       points = points_of laws strategies [] any_map world gives xs ts old new r;
       ran = ran_along laws strategies [] any_map world gives xs ts old new r;
       ends = at_end;
       closes = closed;
+      watched = ap (λ (p : Watched _ _). p.watch) here;
       begins = λ opened start opens certain stored. record { came = begins laws strategies opened start world gives deeds old.stage.core kept opens certain; stored = stored };
       moments = λ opened start past. has_moments laws strategies opened start world gives compose shows once high bounded xs ts old new r free still past;
       goes_on = λ opened start past. goes_on laws strategies opened start world gives compose shows once high bounded xs ts old new r free still past is core at_end closed;

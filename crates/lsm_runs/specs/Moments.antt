@@ -28,6 +28,7 @@ use Rattle.lsm_runs.specs.declared.steps.Step.TheVariants.{RotateMemtable, AtSlo
 use Rattle.lsm_runs.specs.declared.steps.Reply.{Reply}
 use Rattle.lsm_runs.specs.declared.steps.Reply.TheVariants.{Sealed, Registered, Flushed, FlushedActive, RefusedActive, Cleared, Refused}
 use Rattle.lsm_runs.specs.Compacting.{Strategies}
+use Rattle.lsm_runs.specs.Crashes.{Watched}
 use Rattle.lsm_runs.specs.Files.{LeavesFiles}
 use Rattle.lsm_runs.specs.Noting.{sealed_behind, ids_in}
 use Rattle.lsm_runs.specs.Runs.{Takes, IsPlainUse}
@@ -68,25 +69,21 @@ noted_of step reply s = alone_noted step reply s.core
 
 -- ---- a run along a chain
 
--- a tree beside its slots, and its store
-pub record Point (F : Type 0) : Type 0 where
-  pub store : F
-  pub stage : Stage
-
--- the steps, one after the other, lead along this chain with these outcomes: one tree and store for each, after the first. What a step
--- leaves of the files is theirs, and one that touches no store leaves it as it is.
-abbrev pub RanAlong : {F : Type 0} → (F → World) → Strategies → List Step → List Told → Point F → List (Point F) → Type 0
-RanAlong world strategies [] [] old [] = Unit {0}
-RanAlong world strategies (x ∷ xs) (t ∷ ts) old (mid ∷ points) =
-    Takes strategies x t.reply t.entries old.stage mid.stage × LeavesFiles world x old.store mid.store old.stage.core mid.stage.core × RanAlong world strategies xs ts mid points
-RanAlong world strategies xs ts old points = ⊥
+-- The steps, one after the other, lead along this chain with these outcomes: a tree and store for each, after the first. What a step leaves of
+-- the files is theirs, and one that touches no store leaves it as it is; and after each the watcher is told the moment of that store.
+abbrev pub RanAlong : {F W : Type 0} → (F → World) → (W → ℕ → W → Type 0) → Strategies → List Step → List Told → Watched F W → List (Watched F W) → Type 0
+RanAlong world gives strategies [] [] old [] = Unit {0}
+RanAlong world gives strategies (x ∷ xs) (t ∷ ts) old (mid ∷ points) =
+    Takes strategies x t.reply t.entries old.stage mid.stage × LeavesFiles world x old.store mid.store old.stage.core mid.stage.core × gives old.watch (world mid.store).moment mid.watch
+    × RanAlong world gives strategies xs ts mid points
+RanAlong world gives strategies xs ts old points = ⊥
 
 -- the outcome of a step
 abbrev pub outcome_of : Step → Told → Stage → out.Told Reply
 outcome_of x t s = record { reply = t.reply; entries = t.entries; notes = noted_of x t.reply s }
 
 -- those of steps that were taken along a chain
-abbrev pub outcomes_of : {F : Type 0} → List Step → List Told → Point F → List (Point F) → List (out.Told Reply)
+abbrev pub outcomes_of : {F W : Type 0} → List Step → List Told → Watched F W → List (Watched F W) → List (out.Told Reply)
 outcomes_of (x ∷ xs) (t ∷ ts) old (mid ∷ points) = outcome_of x t old.stage ∷ outcomes_of xs ts mid points
 outcomes_of xs ts old points = []
 
@@ -117,28 +114,29 @@ BeginsWith world store c = (opened : List Entry) (start : Map) → IsOpened open
 -- After what was called so far, of the first so many steps, where these are in plain use and the journal stays in order, whatever comes
 -- later: at each store of the chain a crash leaves a beginning of the calls so far, which holds all that is covered by then, and inside each
 -- step one of the calls up to and with it, which holds what was covered before it; and the same stands after these steps.
-abbrev pub HasMoments : {F : Type 0} → (F → World) → (opened : List Entry) (start : Map) → Past → List Step → List Told → Point F → List (Point F) → Type 0
+abbrev pub HasMoments : {F W : Type 0} → (F → World) → (opened : List Entry) (start : Map) → Past → List Step → List Told → Watched F W → List (Watched F W) → Type 0
 HasMoments world opened start past steps told old points = (many : ℕ) →
     let outcomes = take many (outcomes_of steps told old points) in
     let all = after_all opened past outcomes in
     let last = last_of old (take many points) in
     IsPlainUse (take many steps) → StandsAfter world opened start past old.store old.stage.core → InOrder opened all.journal
     → ((n : ℕ) → AreNumbered n opened all.journal → EachMoment (Reopens n) world opened start past outcomes old.store (map (λ p. p.store) (take many points)))
-      × StandsAfter world opened start all last.store last.stage.core
+    × StandsAfter world opened start all last.store last.stage.core
 
 -- so it does after all of them
-abbrev pub GoesOn : {F : Type 0} → (F → World) → (opened : List Entry) (start : Map) → Past → List Step → List Told → Point F → List (Point F) → F → Core → Type 0
+abbrev pub GoesOn : {F W : Type 0} → (F → World) → (opened : List Entry) (start : Map) → Past → List Step → List Told → Watched F W → List (Watched F W) → F → Core → Type 0
 GoesOn world opened start past steps told old points is new =
     let all = after_all opened past (outcomes_of steps told old points) in
     IsPlainUse steps → StandsAfter world opened start past old.store old.stage.core → InOrder opened all.journal → StandsAfter world opened start all is new
 
--- a run from one store and tree to another has a chain between them
-pub record RunHasMoments {F : Type 0} (world : F → World) (strategies : Strategies) (steps : List Step) (told : List Told) (old : Point F) (is : F) (new : Core) : Type 0 where
-  pub points : List (Point F)
-  pub ran : RanAlong world strategies steps told old points
+-- a run from one tree and store to another has a chain between them
+pub record RunHasMoments {F W : Type 0} (world : F → World) (gives : W → ℕ → W → Type 0) (strategies : Strategies) (steps : List Step) (told : List Told) (old : Watched F W) (is : F) (new : Core) (seen : W) : Type 0 where
+  pub points : List (Watched F W)
+  pub ran : RanAlong world gives strategies steps told old points
   -- jobs that wait in the end are given up, and that calls no store
   pub ends : (last_of old points).store ≡ is
   pub closes : Closes (last_of old points).stage.core new
+  pub watched : (last_of old points).watch ≡ seen
   pub begins : BeginsWith world old.store old.stage.core
   pub moments : (opened : List Entry) (start : Map) (past : Past) → HasMoments world opened start past steps told old points
   pub goes_on : (opened : List Entry) (start : Map) (past : Past) → GoesOn world opened start past steps told old points is new

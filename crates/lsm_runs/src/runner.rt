@@ -437,7 +437,7 @@ pub fn run_told<S: Store, W: Watch>(
     ensures crashes { S.tells → (opened : List Entry) (start : Map) → RunRecovers S.world W.gives (strategies_of (λ b. may_choose b) (λ b. may_refuse b) strategies.now) opened start (take (length result.items) steps.now) result.items state.old.store state.new.store watch.old watch.new state.old.core }
     // The same of each moment, along a chain of stores, after whatever was called before: inside a step it is a beginning of the calls up to
     // and with it. Calls may go on from there.
-    ensures moments { S.tells → RunHasMoments S.world (strategies_of (λ b. may_choose b) (λ b. may_refuse b) strategies.now) (take (length result.items) steps.now) result.items (record { store = state.old.store; stage = at_first state.old.core }) state.new.store state.new.core }
+    ensures moments { S.tells → RunHasMoments S.world W.gives (strategies_of (λ b. may_choose b) (λ b. may_refuse b) strategies.now) (take (length result.items) steps.now) result.items (record { store = state.old.store; stage = at_first state.old.core; watch = watch.old }) state.new.store state.new.core watch.new }
     // Behind a commit of unknown outcome no step calls the store.
     ensures unknown { RunStops (strategies_of (λ b. may_choose b) (λ b. may_refuse b) strategies.now) (take (length result.items) steps.now) result.items state.old.store state.new.store state.old.core state.new.core }
     // The store is blamed only where a call of it failed.

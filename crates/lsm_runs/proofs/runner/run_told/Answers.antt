@@ -94,7 +94,7 @@ returns-clause-moments g c tells =
     let taken = take (length told) c.args.steps.now in
     let world = g.S.Store.world in
     let free = free_slots c.new-slots.result old.core c.new-slots.ensures.empty in
-    subst (λ s. RunHasMoments world _ taken told (record { store = old.store; stage = s }) c.give_up_all.new.state.store c.give_up_all.new.state.core) free
+    subst (λ s. RunHasMoments world g.W.Watch.gives _ taken told (record { store = old.store; stage = s; watch = c.args.watch.now }) c.give_up_all.new.state.store c.give_up_all.new.state.core mid.watch) free
     (run_has_moments laws _ world g.W.Watch.gives c.runs_compose.ensures c.flushes_are_deeds.ensures c.found_tables_show.ensures.shows c.images_stand_once.ensures.found c.no_low_reads.ensures c.numbers_are_bounded.ensures taken told first last
     (c.take_steps-outcomes.ensures.watched tells) c.facts.ensures free (c.is_upheld.ensures tells) c.give_up_all.new.state.store c.give_up_all.new.state.core c.give_up_all.ensures.store
     (all_closes c.take_steps-outcomes.new.slots.entries mid.state.core _ c.give_up_all.ensures.core))
