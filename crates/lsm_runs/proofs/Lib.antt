@@ -17,6 +17,7 @@ pub mod Replays
 pub mod Unknown
 pub mod Spared
 pub mod After
+pub mod Adds
 mod Counting
 pub mod OpenWork
 pub mod OpenFlush

@@ -19,6 +19,7 @@ ghost use Rattle.lsm_runs.specs.Unknown.{RanUnknown, RunStops};
 ghost use Rattle.lsm_runs.specs.Slots.{at_first, beside, SameJobs};
 ghost use Rattle.lsm_runs.specs.Moments.{RunHasMoments};
 ghost use Rattle.lsm_runs.specs.Runs.{Takes, TakesEntry, TakesBatch, TakesRotate, told_entry, told_batch, Ran, RanToEnd, RunEqualsReplay, RunSparesAnswers};
+ghost use Rattle.lsm_runs.specs.Adds.{EachAdds};
 ghost use Rattle.lsm_runs.specs.After.{RunIsRight};
 
 use crate::finding::TreeFiles;
@@ -424,6 +425,8 @@ pub fn run_told<S: Store, W: Watch>(
     ensures ran { RanToEnd (strategies_of (λ b. may_choose b) (λ b. may_refuse b) strategies.now) (take (length result.items) steps.now) result.items state.old.core state.new.core }
     ensures replays { (opened : List Entry) (start : Map) → RunEqualsReplay opened start (take (length result.items) steps.now) result.items state.old.core state.new.core }
     ensures spares { (opened : List Entry) (start : Map) → RunSparesAnswers (strategies_of (λ b. may_choose b) (λ b. may_refuse b) strategies.now) opened start (take (length result.items) steps.now) result.items state.old.core state.new.core }
+    // What each step adds to the journal, by its kind and its reply.
+    ensures adds { EachAdds (take (length result.items) steps.now) result.items }
     // Both after whatever was called before, and of the first so many steps, whatever comes later.
     ensures right { RunIsRight (strategies_of (λ b. may_choose b) (λ b. may_refuse b) strategies.now) (take (length result.items) steps.now) result.items state.old.core state.new.core }
     ensures in_order { RunIsInOrder (strategies_of (λ b. may_choose b) (λ b. may_refuse b) strategies.now) (take (length result.items) steps.now) result.items state.old.core state.new.core }
@@ -496,6 +499,8 @@ pub fn run<S: Store>(
     ensures ran { RanToEnd (strategies_of (λ b. may_choose b) (λ b. may_refuse b) strategies.now) (take (length result.items) steps.now) result.items state.old.core state.new.core }
     ensures replays { (opened : List Entry) (start : Map) → RunEqualsReplay opened start (take (length result.items) steps.now) result.items state.old.core state.new.core }
     ensures spares { (opened : List Entry) (start : Map) → RunSparesAnswers (strategies_of (λ b. may_choose b) (λ b. may_refuse b) strategies.now) opened start (take (length result.items) steps.now) result.items state.old.core state.new.core }
+    // What each step adds to the journal, by its kind and its reply.
+    ensures adds { EachAdds (take (length result.items) steps.now) result.items }
     // Both after whatever was called before, and of the first so many steps, whatever comes later.
     ensures right { RunIsRight (strategies_of (λ b. may_choose b) (λ b. may_refuse b) strategies.now) (take (length result.items) steps.now) result.items state.old.core state.new.core }
     ensures in_order { RunIsInOrder (strategies_of (λ b. may_choose b) (λ b. may_refuse b) strategies.now) (take (length result.items) steps.now) result.items state.old.core state.new.core }

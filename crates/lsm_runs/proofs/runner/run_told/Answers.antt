@@ -7,6 +7,7 @@ use Rattle.lsm_runs.specs.Moments.{RunHasMoments}
 use Rattle.lsm_runs.proofs.Unknown.{run_unknown}
 use Rattle.lsm_runs.proofs.Crashed.{run_recovers, then_store}
 use Rattle.lsm_runs.proofs.Keeping.{KeepLaws}
+use Rattle.lsm_runs.proofs.Adds.{run_adds_so}
 use Rattle.lsm_runs.proofs.After.{run_is_right}
 use Rattle.lsm_runs.proofs.Moments.{run_has_moments}
 use Rattle.lsm_runs.proofs.Files.{closed_stored}
@@ -43,6 +44,9 @@ pub returns-clause-spares : goal.returns-clause-spares
 returns-clause-spares g c opened start =
     let laws : KeepLaws = record { theory = c.reads_are_sound.ensures; flushes = c.flushes_keep_reads.ensures; compactions = c.noted_compactions_keep_reads.ensures; clears = c.clears_keep_reads.ensures } in
     run_spares laws _ opened start _ _ _ _ (returns-clause-ran g c)
+
+pub returns-clause-adds : goal.returns-clause-adds
+returns-clause-adds g c = run_adds_so _ _ _ _ _ (returns-clause-ran g c)
 
 pub returns-clause-right : goal.returns-clause-right
 returns-clause-right g c =
