@@ -1,5 +1,5 @@
 -- What a crash leaves of a ready store while a tree is opened over it.
-use Rattle.std.proofs.Common.{◌≡◌, inl, inr, ⊎_elim, Result, Ok, Err}
+use Rattle.std.proofs.Common.{inl, inr, ⊎_elim, Result, Ok, Err}
 use Rattle.std.specs.Prelude.{IfOk}
 use Rattle.lsm_below.specs.declared.error.Error.{Error}
 use Rattle.lsm_store.specs.World.{Image, World, IsImage, LeavesOnly}
@@ -28,5 +28,5 @@ module _ {S : Type 0} (world : S → World) (store : S) (r : Result (Seen S) (Er
 
 pub settles : {S : Type 0} (world : S → World) (store : S) (r : Result (Seen S) (Error × S)) → OpenedLeavesRead S world → IsReady (world store) → (m : Map) → StandsForMap (world store).gives m → Told TellsOpen (Opens (world store) (world (store_left r))) (files_told r)
     → IfOk r (λ t. (image : Image) → IsImage (world t.store).may image → StandsForMap image m)
-settles world store (Ok t) law ready m s opens image at = same_map (world store).gives image m s (law store t.store s.levels _ ready s.found opens image at)
+settles world store (Ok t) law ready m s opens = λ image at. same_map (world store).gives image m s (law store t.store s.levels _ ready s.found opens image at)
 settles world store (Err e) law ready m s opens = tt
