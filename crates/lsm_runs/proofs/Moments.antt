@@ -325,12 +325,12 @@ any_map = empty
 
 pub run_has_moments : KeepLaws → (strategies : Strategies) {F W : Type 0} (world : F → World) (gives : W → ℕ → W → Type 0) → RunsCompose Reply FindsPlaced Reopens world → FlushesAreDeeds → FoundTablesShow → FoundOnce → NoLowReads → NumbersAreBounded
     → (xs : List Call) (ts : List Told) (old new : Watched F W) → RanWatched world gives strategies xs ts old new → IsKeptTree old.stage.core → old.stage ≡ at_first old.stage.core → Upholds (world old.store) (world old.store) old.stage.core old.stage.core
-    → (is : F) (core : Core) → is ≡ new.store → Closes new.stage.core core → RunHasMoments world gives strategies xs ts old is core new.watch
+    → (is : F) (core : Core) → is ≡ new.store → Closes new.stage.core core → RunHasMoments world gives strategies xs ts (record { store = old.store; stage = at_first old.stage.core; watch = old.watch }) is core new.watch
 run_has_moments laws strategies world gives compose deeds shows once high bounded xs ts old new r kept free still is core store closes =
     let here = ends laws strategies [] any_map world gives xs ts old new r in
     let at_end : (last_of old (points_of laws strategies [] any_map world gives xs ts old new r)).store ≡ is = ap (λ (p : Watched _ _). p.store) here ∙ sym store in
     let closed = subst (λ (c : Core). Closes c core) (sym (ap (λ (p : Watched _ _). p.stage.core) here)) closes in
-    record {
+    subst (λ s. RunHasMoments world gives strategies xs ts (record { store = old.store; stage = s; watch = old.watch }) is core new.watch) free (record {
       points = points_of laws strategies [] any_map world gives xs ts old new r;
       ran = ran_along laws strategies [] any_map world gives xs ts old new r;
       ends = at_end;
@@ -339,4 +339,4 @@ run_has_moments laws strategies world gives compose deeds shows once high bounde
       begins = λ opened start opens certain stored. record { came = begins laws strategies opened start world gives deeds old.stage.core kept opens certain; stored = stored };
       moments = λ opened start past. has_moments laws strategies opened start world gives compose shows once high bounded xs ts old new r free still past;
       goes_on = λ opened start past. goes_on laws strategies opened start world gives compose shows once high bounded xs ts old new r free still past is core at_end closed;
-    }
+    })

@@ -3,7 +3,6 @@ use Rattle.lsm_runs.specs.Slots.{beside}
 use Rattle.lsm_runs.proofs.Causing.{causes_between}
 use Rattle.lsm_runs.proofs.Counting.{run_in_order}
 use Rattle.lsm_runs.specs.Crashes.{watched}
-use Rattle.lsm_runs.specs.Moments.{RunHasMoments}
 use Rattle.lsm_runs.proofs.Unknown.{run_unknown}
 use Rattle.lsm_runs.proofs.Crashed.{run_recovers, then_store}
 use Rattle.lsm_runs.proofs.Keeping.{KeepLaws}
@@ -97,8 +96,6 @@ returns-clause-moments g c tells =
     let told = c.take_steps-outcomes.result.items in
     let taken = take (length told) c.args.steps.now in
     let world = g.S.Store.world in
-    let free = free_slots c.new-slots.result old.core c.new-slots.ensures.empty in
-    subst (λ s. RunHasMoments world g.W.Watch.gives _ taken told (record { store = old.store; stage = s; watch = c.args.watch.now }) c.give_up_all.new.state.store c.give_up_all.new.state.core mid.watch) free
-    (run_has_moments laws _ world g.W.Watch.gives c.runs_compose.ensures c.flushes_are_deeds.ensures c.found_tables_show.ensures.shows c.images_stand_once.ensures.found c.no_low_reads.ensures c.numbers_are_bounded.ensures taken told first last
-    (c.take_steps-outcomes.ensures.watched tells) c.facts.ensures free (c.is_upheld.ensures tells) c.give_up_all.new.state.store c.give_up_all.new.state.core c.give_up_all.ensures.store
-    (all_closes c.take_steps-outcomes.new.slots.entries mid.state.core _ c.give_up_all.ensures.core))
+    run_has_moments laws _ world g.W.Watch.gives c.runs_compose.ensures c.flushes_are_deeds.ensures c.found_tables_show.ensures.shows c.images_stand_once.ensures.found c.no_low_reads.ensures c.numbers_are_bounded.ensures taken told first last
+    (c.take_steps-outcomes.ensures.watched tells) c.facts.ensures (free_slots c.new-slots.result old.core c.new-slots.ensures.empty) (c.is_upheld.ensures tells) c.give_up_all.new.state.store c.give_up_all.new.state.core c.give_up_all.ensures.store
+    (all_closes c.take_steps-outcomes.new.slots.entries mid.state.core _ c.give_up_all.ensures.core)
