@@ -19,7 +19,7 @@ use Rattle.lsm_state.specs.Kept.{IsKeptTree}
 use Rattle.lsm_runs.specs.declared.steps.Step.{Step as Call}
 use Rattle.lsm_runs.specs.declared.steps.Step.TheVariants.{ClearActiveMemtable}
 use Rattle.lsm_runs.specs.Compacting.{Strategies}
-use Rattle.lsm_runs.specs.Crashes.{Watched, RanWatched, HoldsBeginning, LeavesBeginnings, EachHolds, RunRecovers, Noted, RunLeaves}
+use Rattle.lsm_runs.specs.Crashes.{KeepsFiles, Watched, RanWatched, HoldsBeginning, LeavesBeginnings, EachHolds, RunRecovers, Noted, RunLeaves}
 use Rattle.lsm_runs.specs.Noting.{notes_of}
 use Rattle.lsm_runs.specs.Runs.{Takes, IsPlainUse, journal_of, without_low_reads}
 use Rattle.lsm_runs.specs.Slots.{Stage, at_first}
@@ -157,7 +157,7 @@ module _ (crashes : EveryCrashRecovers) (shows : FoundTablesShow) (join : DeedsJ
         let e' : unread (journal ++ t.entries) ≡ before ++ events = without-append opened journal t.entries ∙ ap (λ b. b ++ events) e in
         let front : InOrder opened (before ++ events) = laws.theory.kept.front opened (before ++ events) (unread (journal_of ts)) (subst (InOrder opened) (sym to') order) in
         let d = step_at x t journal before notes old.stage mid.stage e (λ is. plain (inl is)) marked ran.1 right front in
-        let up = ran.2.files stored in
+        let up = ran.2.upholds.files stored in
         let a = saved_of before notes old.stage.core in
         let b = saved_of (before ++ events) (noted ++ notes) mid.stage.core in
         let done' = (join opened first a b earlier d.0 done d.1).0 in
@@ -210,7 +210,7 @@ run_leaves world gives strategies opened start xs ts was is watch seen old r pla
 
 -- one more step
 pub watched_more : {F W : Type 0} (world : F → World) (gives : W → ℕ → W → Type 0) (strategies : Strategies) (xs : List Call) (ts : List Told) (x : Call) (t : Told) (old mid new : Watched F W) → RanWatched world gives strategies xs ts old mid
-    → Takes strategies x t.reply t.entries mid.stage new.stage → Upholds (world mid.store) (world new.store) mid.stage.core new.stage.core → gives mid.watch (world new.store).moment new.watch → RanWatched world gives strategies (xs ++ x ∷ []) (ts ++ t ∷ []) old new
+    → Takes strategies x t.reply t.entries mid.stage new.stage → KeepsFiles world x mid.store new.store mid.stage.core new.stage.core → gives mid.watch (world new.store).moment new.watch → RanWatched world gives strategies (xs ++ x ∷ []) (ts ++ t ∷ []) old new
 watched_more world gives strategies [] [] x t old mid new r q u g =
     subst (λ (m : Watched _ _). RanWatched world gives strategies (x ∷ []) (t ∷ []) m new) r (new, q, u, g, refl)
 watched_more world gives strategies [] (y ∷ ts) x t old mid new r q u g = absurd r

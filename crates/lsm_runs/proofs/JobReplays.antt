@@ -47,8 +47,11 @@ module _ (laws : KeepLaws) where
 abbrev pub AreMarked : List Event → (ℕ → Option Job) → Type 0
 AreMarked journal jobs = (n : ℕ) → IsMarkedAt journal (jobs n)
 
+pub first_marked_behind : (journal : List Event) (c : Core) → AreMarked journal ((at_first c).jobs)
+first_marked_behind journal c n = free_marked journal None refl
+
 pub first_marked : (c : Core) → AreMarked [] ((at_first c).jobs)
-first_marked c n = free_marked [] None refl
+first_marked c = first_marked_behind [] c
 
 module _ (laws : NotedCompactionsKeepReads) (journal events : List Event) (was is : Option Job) where
   idle_marked : (old new : Core) → IsIdle events was is old new → IsMarkedAt journal was → IsMarkedAt (journal ++ events) is

@@ -16,6 +16,8 @@ pub mod JobReplays
 pub mod Replays
 pub mod Unknown
 pub mod Spared
+pub mod After
+pub mod Adds
 mod Counting
 pub mod OpenWork
 pub mod OpenFlush
@@ -30,4 +32,6 @@ pub mod RunDeeds
 pub mod Crashed
 pub mod Living
 pub mod LifeAfterLife
+pub mod Moments
+pub mod ManyLives
 pub mod Settled

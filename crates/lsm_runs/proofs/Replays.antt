@@ -151,7 +151,7 @@ step_answers lists theory strategies opened start x reply journal events old new
 
 -- ---- the whole run
 
-ran_right : (lists : ListsAreSteps) (laws : KeepLaws) (strategies : Strategies) (opened : List Entry) (start : Map) (xs : List Call) (ts : List Told) (journal : List Event) (old new : Stage) → Ran strategies xs ts old new → IsPlainUse xs → AreMarked journal old.jobs → InOrder opened (journal ++ journal_of ts) → Sound opened start journal old.core → EachAnswers opened start journal xs ts × Sound opened start (journal ++ journal_of ts) new.core
+pub ran_right : (lists : ListsAreSteps) (laws : KeepLaws) (strategies : Strategies) (opened : List Entry) (start : Map) (xs : List Call) (ts : List Told) (journal : List Event) (old new : Stage) → Ran strategies xs ts old new → IsPlainUse xs → AreMarked journal old.jobs → InOrder opened (journal ++ journal_of ts) → Sound opened start journal old.core → EachAnswers opened start journal xs ts × Sound opened start (journal ++ journal_of ts) new.core
 ran_right lists laws strategies opened start [] [] journal old new r plain m order h = (tt, rw (r, append-nil journal) h)
 ran_right lists laws strategies opened start [] (t ∷ ts) journal old new r plain m order h = absurd r
 ran_right lists laws strategies opened start (x ∷ xs) [] journal old new r plain m order h = absurd r
@@ -164,7 +164,7 @@ ran_right lists laws strategies opened start (x ∷ xs) (t ∷ ts) journal old n
     ((step_answers lists laws.theory strategies opened start x t.reply journal t.entries old r.0 r.1 h, rest.0), subst (λ js. Sound opened start js new.core) joined rest.1)
 
 -- what is open is no part of what the theory sees
-closed : (opened : List Entry) (start : Map) (journal : List Event) (old new : Core) → Closes old new → Sound opened start journal old → Sound opened start journal new
+pub closed : (opened : List Entry) (start : Map) (journal : List Event) (old new : Core) → Closes old new → Sound opened start journal old → Sound opened start journal new
 closed opened start journal old new c h = subst (λ (x : Core). Sound opened start journal x) (sym c.rest) h
 
 pub run_replays : (lists : ListsAreSteps) (laws : KeepLaws) (strategies : Strategies) (opened : List Entry) (start : Map) (xs : List Call) (ts : List Told) (old new : Core) → RanToEnd strategies xs ts old new → RunEqualsReplay opened start xs ts old new

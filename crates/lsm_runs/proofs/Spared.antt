@@ -135,7 +135,7 @@ alone_spares laws strategies opened start IsUncertain reply journal events old n
 alone_spares laws strategies opened start TreeType reply journal events old new t plain order h = still laws.theory events old new t.1
 alone_spares laws strategies opened start (AtSlot slot step) reply journal events old new t plain order h = absurd t
 
-takes_spares : (laws : KeepLaws) (strategies : Strategies) (opened : List Entry) (start : Map) (x : Call) (reply : Reply) (journal events : List Event) (old new : Stage) → Takes strategies x reply events old new → (x ≡ ClearActiveMemtable → ⊥) → AreMarked journal old.jobs → InOrder opened (journal ++ events) → Sound opened start journal old.core → Spares events old.core new.core
+pub takes_spares : (laws : KeepLaws) (strategies : Strategies) (opened : List Entry) (start : Map) (x : Call) (reply : Reply) (journal events : List Event) (old new : Stage) → Takes strategies x reply events old new → (x ≡ ClearActiveMemtable → ⊥) → AreMarked journal old.jobs → InOrder opened (journal ++ events) → Sound opened start journal old.core → Spares events old.core new.core
 takes_spares laws strategies opened start (AtSlot slot step) reply journal events old new t plain m order h =
     kept_spares opened start journal events old.core new.core (job_after laws strategies step reply journal events (old.jobs slot) (new.jobs slot) old.core new.core (m slot) t.0) order h
 takes_spares laws strategies opened start x reply journal events old new t plain m order h = alone_spares laws strategies opened start x reply journal events old.core new.core t.0 plain order h

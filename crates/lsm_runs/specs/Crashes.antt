@@ -13,6 +13,7 @@ use Rattle.lsm_state.specs.Commits.{Upholds}
 use Rattle.lsm_runs.specs.declared.slots.Job.{Job}
 use Rattle.lsm_runs.specs.declared.steps.Step.{Step}
 use Rattle.lsm_runs.specs.Compacting.{Strategies}
+use Rattle.lsm_runs.specs.Files.{LeavesFiles}
 use Rattle.lsm_runs.specs.Noting.{notes_of}
 use Rattle.lsm_runs.specs.Runs.{Takes, IsPlainUse, journal_of, without_low_reads}
 use Rattle.lsm_runs.specs.Slots.{Stage, at_first, beside}
@@ -29,12 +30,18 @@ pub record Watched (F W : Type 0) : Type 0 where
 abbrev pub watched : {F W : Type 0} → Seen F → BTreeMap ℕ (Option Job) → W → Watched F W
 watched s slots watch = record { store = s.store; stage = beside s.core slots; watch = watch }
 
--- the steps, one after the other, lead there with these outcomes; each upholds the files, and behind it the watcher is told the
+-- what a step leaves of the files: those of its trees, also while nothing is done behind it; where it touches no store, that store
+pub record KeepsFiles {F : Type 0} (world : F → World) (x : Step) (was is : F) (old new : Core) : Type 0 where
+  pub upholds : Upholds (world was) (world is) old new
+  pub leaves : LeavesFiles world x was is old new
+  pub stays : Upholds (world is) (world is) new new
+
+-- the steps, one after the other, lead there with these outcomes; each keeps the files, and behind it the watcher is told the
 -- moment of the store
 abbrev pub RanWatched : {F W : Type 0} → (F → World) → (W → ℕ → W → Type 0) → Strategies → List Step → List Told → Watched F W → Watched F W → Type 0
 RanWatched world gives strategies [] [] old new = new ≡ old
 RanWatched {F} {W} world gives strategies (x ∷ xs) (t ∷ ts) old new = (mid : Watched F W) × Takes strategies x t.reply t.entries old.stage mid.stage
-    × Upholds (world old.store) (world mid.store) old.stage.core mid.stage.core × gives old.watch (world mid.store).moment mid.watch × RanWatched world gives strategies xs ts mid new
+    × KeepsFiles world x old.store mid.store old.stage.core mid.stage.core × gives old.watch (world mid.store).moment mid.watch × RanWatched world gives strategies xs ts mid new
 RanWatched world gives strategies [] (t ∷ ts) old new = ⊥
 RanWatched world gives strategies (x ∷ xs) [] old new = ⊥
 

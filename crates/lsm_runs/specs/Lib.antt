@@ -15,3 +15,7 @@ pub mod Noting
 pub mod Crashes
 pub mod Lives
 pub mod LifeAfterLife
+pub mod Adds
+pub mod After
+pub mod Moments
+pub mod ManyLives

@@ -16,15 +16,19 @@ ghost use Rattle.lsm_runs.specs.Files.{StaysStored, LeavesFiles, StepHasCause};
 ghost use Rattle.lsm_runs.specs.Crashes.{watched, RanWatched, RunLeaves, RunRecovers};
 ghost use Rattle.lsm_runs.specs.Compacting.{strategies_of};
 ghost use Rattle.lsm_runs.specs.Unknown.{RanUnknown, RunStops};
-ghost use Rattle.lsm_runs.specs.Slots.{beside, SameJobs};
+ghost use Rattle.lsm_runs.specs.Slots.{at_first, beside, SameJobs};
+ghost use Rattle.lsm_runs.specs.Moments.{RunHasMoments};
 ghost use Rattle.lsm_runs.specs.Runs.{Takes, TakesEntry, TakesBatch, TakesRotate, told_entry, told_batch, Ran, RanToEnd, RunEqualsReplay, RunSparesAnswers};
+ghost use Rattle.lsm_runs.specs.Adds.{EachAdds};
+ghost use Rattle.lsm_runs.specs.After.{RunIsRight};
 
+use crate::finding::TreeFiles;
 use crate::slots::Slots;
 use crate::watch::Unwatched;
 use crate::{Outcome, Reply, Step, Watch};
 use lsm_below::{InternalValue, SeqNo, UserKey, UserValue, ValueType, share};
 use lsm_journal::read_entry;
-use lsm_manifest::found_tables_show;
+use lsm_manifest::{found_tables_show, images_stand_once};
 use lsm_model::{
     Answer, JournalEntry, Op, Question, counted_is_in_order, deeds_join, every_crash_recovers,
     reads_are_sound,
@@ -32,6 +36,7 @@ use lsm_model::{
 use lsm_noted::noted_compactions_keep_reads;
 use lsm_parts::Error;
 use lsm_pick::CompactionStrategy;
+use lsm_run_model::{no_low_reads, numbers_are_bounded, runs_compose};
 use lsm_state::{
     TreeState, clears_keep_reads, flushes_are_deeds, flushes_keep_reads, lists_are_steps,
 };
@@ -359,6 +364,7 @@ fn add_step<S: Store>(
     ensures err { OnErr result (state.new ≡ state.old) }
     ensures slots_err { OnErr result (SameJobs slots.old slots.new) }
     ensures outcomes_err { OnErr result (outcomes.new.items ≡ outcomes.old.items) }
+    ensures files { S.tells → OnOk result (LeavesFiles S.world step.now state.old.store state.new.store state.old.core state.new.core) }
     ensures upholds { S.tells → Upholds (S.world state.old.store) (S.world state.new.store) state.old.core state.new.core }
     ensures no_call { IsSome state.old.core.lost → state.new.store ≡ state.old.store }
 {
@@ -389,7 +395,10 @@ fn take_steps<S: Store, W: Watch>(
     let mut outcomes = Vec::new(alloc);
     for step in steps {
         match add_step(alloc, state, slots, strategies, step, &mut outcomes) {
-            Ok(()) => watch.told(state),
+            Ok(()) => {
+                state.is_upheld();
+                watch.told(state)
+            }
             Err(_) => return outcomes,
         }
     }
@@ -416,6 +425,10 @@ pub fn run_told<S: Store, W: Watch>(
     ensures ran { RanToEnd (strategies_of (λ b. may_choose b) (λ b. may_refuse b) strategies.now) (take (length result.items) steps.now) result.items state.old.core state.new.core }
     ensures replays { (opened : List Entry) (start : Map) → RunEqualsReplay opened start (take (length result.items) steps.now) result.items state.old.core state.new.core }
     ensures spares { (opened : List Entry) (start : Map) → RunSparesAnswers (strategies_of (λ b. may_choose b) (λ b. may_refuse b) strategies.now) opened start (take (length result.items) steps.now) result.items state.old.core state.new.core }
+    // What each step adds to the journal, by its kind and its reply.
+    ensures adds { EachAdds (take (length result.items) steps.now) result.items }
+    // Both after whatever was called before, and of the first so many steps, whatever comes later.
+    ensures right { RunIsRight (strategies_of (λ b. may_choose b) (λ b. may_refuse b) strategies.now) (take (length result.items) steps.now) result.items state.old.core state.new.core }
     ensures in_order { RunIsInOrder (strategies_of (λ b. may_choose b) (λ b. may_refuse b) strategies.now) (take (length result.items) steps.now) result.items state.old.core state.new.core }
     // Each flush and each merge that a step begins ends or is given up, at the latest when the run ends.
     ensures flush { state.new.core.flush ≡ state.old.core.flush }
@@ -425,11 +438,19 @@ pub fn run_told<S: Store, W: Watch>(
     ensures passes { S.tells → Passes (S.world state.old.store) (S.world state.new.store) }
     // What a crash leaves at each moment.
     ensures crashes { S.tells → (opened : List Entry) (start : Map) → RunRecovers S.world W.gives (strategies_of (λ b. may_choose b) (λ b. may_refuse b) strategies.now) opened start (take (length result.items) steps.now) result.items state.old.store state.new.store watch.old watch.new state.old.core }
+    // The same of each moment, along a chain of stores, after whatever was called before: inside a step it is a beginning of the calls up to
+    // and with it. Calls may go on from there.
+    ensures moments { S.tells → RunHasMoments S.world W.gives (strategies_of (λ b. may_choose b) (λ b. may_refuse b) strategies.now) (take (length result.items) steps.now) result.items (record { store = state.old.store; stage = at_first state.old.core; watch = watch.old }) state.new.store state.new.core watch.new }
     // Behind a commit of unknown outcome no step calls the store.
     ensures unknown { RunStops (strategies_of (λ b. may_choose b) (λ b. may_refuse b) strategies.now) (take (length result.items) steps.now) result.items state.old.store state.new.store state.old.core state.new.core }
     // The store is blamed only where a call of it failed.
     ensures causes { EachHasCause S.world result.items state.old.store state.new.store }
 {
+    images_stand_once();
+    runs_compose(state.store(), &TreeFiles, &Reply::Done);
+    no_low_reads();
+    numbers_are_bounded();
+    state.is_upheld();
     every_crash_recovers();
     found_tables_show();
     deeds_join();
@@ -478,6 +499,10 @@ pub fn run<S: Store>(
     ensures ran { RanToEnd (strategies_of (λ b. may_choose b) (λ b. may_refuse b) strategies.now) (take (length result.items) steps.now) result.items state.old.core state.new.core }
     ensures replays { (opened : List Entry) (start : Map) → RunEqualsReplay opened start (take (length result.items) steps.now) result.items state.old.core state.new.core }
     ensures spares { (opened : List Entry) (start : Map) → RunSparesAnswers (strategies_of (λ b. may_choose b) (λ b. may_refuse b) strategies.now) opened start (take (length result.items) steps.now) result.items state.old.core state.new.core }
+    // What each step adds to the journal, by its kind and its reply.
+    ensures adds { EachAdds (take (length result.items) steps.now) result.items }
+    // Both after whatever was called before, and of the first so many steps, whatever comes later.
+    ensures right { RunIsRight (strategies_of (λ b. may_choose b) (λ b. may_refuse b) strategies.now) (take (length result.items) steps.now) result.items state.old.core state.new.core }
     ensures in_order { RunIsInOrder (strategies_of (λ b. may_choose b) (λ b. may_refuse b) strategies.now) (take (length result.items) steps.now) result.items state.old.core state.new.core }
     // Each flush and each merge that a step begins ends or is given up, at the latest when the run ends.
     ensures flush { state.new.core.flush ≡ state.old.core.flush }

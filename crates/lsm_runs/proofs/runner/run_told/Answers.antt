@@ -6,6 +6,9 @@ use Rattle.lsm_runs.specs.Crashes.{watched}
 use Rattle.lsm_runs.proofs.Unknown.{run_unknown}
 use Rattle.lsm_runs.proofs.Crashed.{run_recovers, then_store}
 use Rattle.lsm_runs.proofs.Keeping.{KeepLaws}
+use Rattle.lsm_runs.proofs.Adds.{run_adds_so}
+use Rattle.lsm_runs.proofs.After.{run_is_right}
+use Rattle.lsm_runs.proofs.Moments.{run_has_moments}
 use Rattle.lsm_runs.proofs.Files.{closed_stored}
 use Rattle.lsm_runs.proofs.GivingUp.{all_closes}
 use Rattle.lsm_runs.proofs.OpenMerges.{KeepsStart, start_kept, ran_kept}
@@ -41,6 +44,14 @@ returns-clause-spares g c opened start =
     let laws : KeepLaws = record { theory = c.reads_are_sound.ensures; flushes = c.flushes_keep_reads.ensures; compactions = c.noted_compactions_keep_reads.ensures; clears = c.clears_keep_reads.ensures } in
     run_spares laws _ opened start _ _ _ _ (returns-clause-ran g c)
 
+pub returns-clause-adds : goal.returns-clause-adds
+returns-clause-adds g c = run_adds_so _ _ _ _ _ (returns-clause-ran g c)
+
+pub returns-clause-right : goal.returns-clause-right
+returns-clause-right g c =
+    let laws : KeepLaws = record { theory = c.reads_are_sound.ensures; flushes = c.flushes_keep_reads.ensures; compactions = c.noted_compactions_keep_reads.ensures; clears = c.clears_keep_reads.ensures } in
+    run_is_right c.lists_are_steps.ensures laws _ _ _ _ _ (returns-clause-ran g c)
+
 pub returns-clause-in_order : goal.returns-clause-in_order
 returns-clause-in_order g c = run_in_order c.counted_is_in_order.ensures _ _ _ _ _ (returns-clause-ran g c)
 
@@ -73,4 +84,18 @@ returns-clause-crashes g c tells opened start =
     let told = c.take_steps-outcomes.result.items in
     let taken = take (length told) c.args.steps.now in
     then_store g.S.Store.world g.W.Watch.gives _ opened start taken told old.store mid.state.store c.give_up_all.new.state.store c.args.watch.now mid.watch old.core c.give_up_all.ensures.store (run_recovers c.every_crash_recovers.ensures c.found_tables_show.ensures.shows c.deeds_join.ensures.joined c.flushes_are_deeds.ensures laws _ opened start g.S.Store.world g.W.Watch.gives
-    taken told first last c.facts.ensures (free_slots c.new-slots.result old.core c.new-slots.ensures.empty) (c.take_steps-outcomes.ensures.watched tells) (c.is_upheld.ensures tells))
+    taken told first last c.facts.ensures (free_slots c.new-slots.result old.core c.new-slots.ensures.empty) (c.take_steps-outcomes.ensures.watched tells) (c.is_upheld-2.ensures tells))
+
+pub returns-clause-moments : goal.returns-clause-moments
+returns-clause-moments g c tells =
+    let laws : KeepLaws = record { theory = c.reads_are_sound.ensures; flushes = c.flushes_keep_reads.ensures; compactions = c.noted_compactions_keep_reads.ensures; clears = c.clears_keep_reads.ensures } in
+    let old = c.args.state.now in
+    let mid = c.take_steps-outcomes.new in
+    let first = watched old c.new-slots.result c.args.watch.now in
+    let last = watched mid.state mid.slots mid.watch in
+    let told = c.take_steps-outcomes.result.items in
+    let taken = take (length told) c.args.steps.now in
+    let world = g.S.Store.world in
+    run_has_moments laws _ world g.W.Watch.gives c.runs_compose.ensures c.flushes_are_deeds.ensures c.found_tables_show.ensures.shows c.images_stand_once.ensures.found c.no_low_reads.ensures c.numbers_are_bounded.ensures taken told first last
+    (c.take_steps-outcomes.ensures.watched tells) c.facts.ensures (free_slots c.new-slots.result old.core c.new-slots.ensures.empty) (c.is_upheld.ensures tells) c.give_up_all.new.state.store c.give_up_all.new.state.core c.give_up_all.ensures.store
+    (all_closes c.take_steps-outcomes.new.slots.entries mid.state.core _ c.give_up_all.ensures.core)

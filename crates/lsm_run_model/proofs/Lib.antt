@@ -1,0 +1,12 @@
+pub mod Numbers
+pub mod Composing
+pub mod Following
+pub mod Lives
+pub mod Settling
+pub mod Kills
+pub mod LowReads
+pub mod Rising
+pub mod Examples
+pub mod Counting
+pub mod CameAbout
+pub mod Repeating

@@ -1,0 +1,298 @@
+-- What the steps of a run add to the journal, by their kinds and replies.
+use Rattle.std.proofs.Common.{◌≡◌, ◌⊎◌, ⊎_elim, inl, inr, ℕ, Bool, true, false, cond, List, [], ◌∷◌, ◌++◌, Option, Some, None, Result, Ok, Err, refl, sym, subst}
+use Rattle.std.specs.List.{AllByRecursion}
+use Rattle.lsm_below.specs.Each.{each_append}
+use Rattle.lsm_below.specs.Entries.{Entry}
+use Rattle.lsm_below.specs.Keys.{Bytes}
+use Rattle.lsm_below.specs.declared.error.Error.{Error}
+use Rattle.lsm_below.specs.declared.error.Error.TheVariants.{CommitUnknown, AfterCommit}
+use Rattle.lsm_jobs.specs.declared.jobs.Registered.{Registered as Outcome}
+use Rattle.lsm_model.specs.Journal.{Event}
+use Rattle.lsm_model.specs.declared.op.Op.{Op}
+use Rattle.lsm_model.specs.declared.journal.JournalEntry.TheVariants.{Mark, Install}
+use Rattle.lsm_model.specs.declared.question.Question.{Question}
+use Rattle.lsm_pick.specs.declared.choice.Choice.{Choice}
+use Rattle.lsm_pick.specs.declared.choice.Choice.TheVariants.{DoNothing, Move, Merge, Drop}
+use Rattle.lsm_pick.specs.declared.choice.ChooseError.{ChooseError}
+use Rattle.lsm_state.specs.declared.compaction.Options.{Options}
+use Rattle.lsm_state.specs.declared.compaction.Begun.{Begun}
+use Rattle.lsm_state.specs.declared.compaction.Begun.TheVariants.{DidNothing, Declined, Installed, Job as BegunJob}
+use Rattle.lsm_state.specs.declared.compaction.Finished.{Finished}
+use Rattle.lsm_state.specs.declared.compaction.Finished.TheVariants.{Installed as IsFinished, Declined as Over}
+use Rattle.lsm_state.specs.Core.{Core}
+use Rattle.lsm_state.specs.Compactions.{Relation}
+use Rattle.lsm_state.specs.CompactionReads.{ranges_told, TellsChoice, TellsMerge}
+use Rattle.lsm_state.specs.FlushReads.{register_events, flush_events}
+use Rattle.lsm_noted.specs.Noted.{BeginsAnswer, TellsBehind, CompactsAnswer}
+use Rattle.lsm_runs.specs.declared.slots.Job.{Job}
+use Rattle.lsm_runs.specs.declared.steps.Counter.{Counter}
+use Rattle.lsm_runs.specs.declared.steps.JobStep.{JobStep}
+use Rattle.lsm_runs.specs.declared.steps.JobStep.TheVariants as job
+use Rattle.lsm_runs.specs.declared.steps.Reply.{Reply}
+use Rattle.lsm_runs.specs.declared.steps.Reply.TheVariants as reply
+use Rattle.lsm_runs.specs.declared.steps.Step.{Step as Call}
+use Rattle.lsm_runs.specs.declared.steps.Step.TheVariants as step
+use Rattle.lsm_runs.specs.Adds.{AddsEntry, AddsBatch, AddsGet, AddsPairs, AddsClear, IsUpkeep, IsUpkeepOrDrop, JobAdds, Adds, EachAdds}
+use Rattle.lsm_runs.specs.Clearing.{TakesClear, TakesForget}
+use Rattle.lsm_runs.specs.Compacting.{Strategies, BeginsFrom, TakesBeginCompaction, TakesRunCompaction, EndsFrom, TakesFinish, TakesAbandonCompaction, CompactsFrom, TakesCompact, TakesDropRange, TakesTableId}
+use Rattle.lsm_runs.specs.Flushing.{TakesBegin, TakesRun, TakesTables, TakesRegister, TakesAbandon, TakesFlush, TakesFlushActive, TakesMoment}
+use Rattle.lsm_runs.specs.JobSteps.{TakesJob}
+use Rattle.lsm_runs.specs.ReadSteps.{TakesGet, TakesGetEntry, TakesPairs}
+use Rattle.lsm_runs.specs.Runs.{Takes, TakesAlone, TakesEntry, TakesBatch, TakesRotate, TakesNext, TakesCounter, Ran, RanToEnd}
+use Rattle.lsm_runs.specs.Slots.{Stage}
+use Rattle.lsm_runs.specs.Told.{Told}
+
+-- ---- writes, reads and counters
+
+entry_adds : (e : Entry) (r : Reply) (events : List Event) (old new : Core) → TakesEntry e r events old new → AddsEntry e r events
+entry_adds e (reply.Sizes size total) events old new t = t.0
+entry_adds e (reply.Refused x) events old new t = t.0
+entry_adds e r events old new t = absurd t
+
+batch_adds : (ops : List (Bytes × Op)) (r : Reply) (events : List Event) (old new : Core) → TakesBatch ops r events old new → AddsBatch ops r events
+batch_adds ops (reply.Number n) events old new t = t.0
+batch_adds ops (reply.Refused x) events old new t = t.0
+batch_adds ops r events old new t = absurd t
+
+get_adds : (k : Bytes) (s : ℕ) (r : Reply) (events : List Event) (old new : Core) → TakesGet k s r events old new → AddsGet k s r events
+get_adds k s (reply.Value v) events old new t = t.0
+get_adds k s (reply.Refused x) events old new t = t.0
+get_adds k s r events old new t = absurd t
+
+entry_of_adds : (k : Bytes) (s : ℕ) (r : Reply) (events : List Event) (old new : Core) → TakesGetEntry k s r events old new → events ≡ []
+entry_of_adds k s (reply.Entry e) events old new t = t.0
+entry_of_adds k s (reply.Refused x) events old new t = t.0
+entry_of_adds k s r events old new t = absurd t
+
+pairs_add : (question : Question) (Right : List (Bytes × Bytes) → Type 0) (s : ℕ) (r : Reply) (events : List Event) (old new : Core) → TakesPairs question Right s r events old new → AddsPairs question s r events
+pairs_add question Right s (reply.Pairs pairs) events old new t = t.0
+pairs_add question Right s (reply.Refused x) events old new t = t.0
+pairs_add question Right s r events old new t = absurd t
+
+rotate_adds : (r : Reply) (events : List Event) (old new : Core) → TakesRotate r events old new → events ≡ []
+rotate_adds (reply.Sealed id) events old new t = t.0
+rotate_adds (reply.Refused x) events old new t = t.0
+rotate_adds r events old new t = absurd t
+
+next_adds : (counter : Counter) (r : Reply) (events : List Event) (old new : Core) → TakesNext counter r events old new → events ≡ []
+next_adds counter (reply.Number n) events old new t = t.0
+next_adds counter (reply.Refused x) events old new t = t.0
+next_adds counter r events old new t = absurd t
+
+counter_adds : (counter : Counter) (n : ℕ) (r : Reply) (events : List Event) (old new : Core) → TakesCounter counter n r events old new → events ≡ []
+counter_adds counter n reply.Done events old new t = t.0
+counter_adds counter n r events old new t = absurd t
+
+id_adds : (r : Reply) (events : List Event) (old new : Core) → TakesTableId r events old new → events ≡ []
+id_adds (reply.Number n) events old new t = t.0
+id_adds (reply.Refused x) events old new t = t.0
+id_adds r events old new t = absurd t
+
+moment_adds : (n : ℕ) (r : Reply) (events : List Event) (old new : Core) → TakesMoment n r events old new → events ≡ []
+moment_adds n reply.Done events old new t = t.0
+moment_adds n r events old new t = absurd t
+
+clear_adds : (r : Reply) (events : List Event) (old new : Core) → TakesClear r events old new → AddsClear r events
+clear_adds (reply.Cleared n) events old new t = t.0
+clear_adds (reply.Refused x) events old new t = t.0
+clear_adds r events old new t = absurd t
+
+forget_adds : (r : Reply) (events : List Event) (old new : Core) → TakesForget r events old new → events ≡ []
+forget_adds reply.Done events old new t = t.0
+forget_adds (reply.Refused x) events old new t = t.0
+forget_adds r events old new t = absurd t
+
+-- ---- flushes
+
+all_of : (P : Event → Type 0) (events told : List Event) → events ≡ told → AllByRecursion P told → AllByRecursion P events
+all_of P events told is h = subst (AllByRecursion P) (sym is) h
+
+registered : (w n : ℕ) (r : Result Outcome Error) → AllByRecursion IsUpkeep (register_events w n r)
+registered w n (Ok a) = elim a.installed as (λ b. AllByRecursion IsUpkeep (cond b (Mark w ∷ (Install n ∷ [])) (Mark w ∷ []))) [ true ↦ (tt, (tt, tt)) | false ↦ (tt, tt) ]
+registered w n (Err e) = (tt, tt)
+
+flushed : (w n : ℕ) (marked : Bool) (r : Result (Option (ℕ × Outcome)) Error) → AllByRecursion IsUpkeep (flush_events w n marked r)
+flushed w n false r = tt
+flushed w n true (Ok a) = (tt, (tt, tt))
+flushed w n true (Err e) = (tt, tt)
+
+flush_adds : (w : ℕ) (r : Reply) (events : List Event) (old new : Core) → TakesFlush w r events old new → AllByRecursion IsUpkeep events
+flush_adds w (reply.Flushed a) events old new t = all_of IsUpkeep events _ t.1 (flushed w old.seqno t.0 (Ok a))
+flush_adds w (reply.Refused x) events old new t = all_of IsUpkeep events _ t.1 (flushed w old.seqno t.0 (Err x))
+flush_adds w r events old new t = absurd t
+
+active_adds : (w : ℕ) (r : Reply) (events : List Event) (old new : Core) → TakesFlushActive w r events old new → AllByRecursion IsUpkeep events
+active_adds w (reply.FlushedActive id a) events old new t = all_of IsUpkeep events _ t.2.1 (flushed w t.0.seqno t.2.0 (Ok a))
+active_adds w (reply.RefusedActive id x) events old new (inl t) = all_of IsUpkeep events [] t.0 tt
+active_adds w (reply.RefusedActive id x) events old new (inr t) = all_of IsUpkeep events _ t.2.1 (flushed w t.0.seqno t.2.0 (Err x))
+active_adds w r events old new t = absurd t
+
+register_adds : (r : Reply) (events : List Event) (was is : Option Job) (old new : Core) → TakesRegister r events was is old new → AllByRecursion IsUpkeep events
+register_adds (reply.Registered a) events was is old new t = all_of IsUpkeep events _ t.3 (registered t.0.watermark old.seqno (Ok a))
+register_adds (reply.Refused x) events was is old new t = all_of IsUpkeep events _ t.3 (registered t.0.watermark old.seqno (Err x))
+register_adds reply.NoJob events was is old new t = all_of IsUpkeep events [] t.0.0 tt
+register_adds r events was is old new t = absurd t
+
+begin_adds : (r : Reply) (events : List Event) (was is : Option Job) (old new : Core) → TakesBegin r events was is old new → events ≡ []
+begin_adds (reply.Begun b) events was is old new t = t.0
+begin_adds (reply.Refused x) events was is old new t = t.0.0
+begin_adds reply.SlotInUse events was is old new t = t.0.0
+begin_adds r events was is old new t = absurd t
+
+run_adds : (w : ℕ) (r : Reply) (events : List Event) (was is : Option Job) (old new : Core) → TakesRun w r events was is old new → events ≡ []
+run_adds w reply.Done events was is old new t = t.0
+run_adds w (reply.Refused x) events was is old new t = t.0.0
+run_adds w reply.NoJob events was is old new t = t.0.0
+run_adds w r events was is old new t = absurd t
+
+tables_add : (r : Reply) (events : List Event) (was is : Option Job) (old new : Core) → TakesTables r events was is old new → events ≡ []
+tables_add reply.Done events was is old new t = t.0
+tables_add (reply.Refused x) events was is old new t = t.0
+tables_add reply.NoJob events was is old new t = t.0.0
+tables_add r events was is old new t = absurd t
+
+abandon_adds : (r : Reply) (events : List Event) (was is : Option Job) (old new : Core) → TakesAbandon r events was is old new → events ≡ []
+abandon_adds reply.Done events was is old new t = t.0
+abandon_adds reply.NoJob events was is old new t = t.0.0
+abandon_adds r events was is old new t = absurd t
+
+-- ---- compactions
+
+whole : (choice : Choice) (w n : ℕ) (c : Core) → AllByRecursion IsUpkeepOrDrop (Mark w ∷ (ranges_told choice c ++ Install n ∷ []))
+whole DoNothing w n c = (tt, (tt, tt))
+whole (Move input) w n c = (tt, (tt, tt))
+whole (Merge input) w n c = (tt, (tt, tt))
+whole (Drop ids) w n c = (tt, (tt, (tt, tt)))
+
+lost : (choice : Choice) (w : ℕ) (c : Core) → AllByRecursion IsUpkeepOrDrop (Mark w ∷ ranges_told choice c)
+lost DoNothing w c = (tt, tt)
+lost (Move input) w c = (tt, tt)
+lost (Merge input) w c = (tt, tt)
+lost (Drop ids) w c = (tt, (tt, tt))
+
+choice_adds : (choice : Choice) (w : ℕ) (r : Result Begun Error) (c : Core) (events : List Event) → TellsChoice choice w r c events → AllByRecursion IsUpkeepOrDrop events
+choice_adds choice w (Ok Installed) c events t = all_of IsUpkeepOrDrop events _ (t.done (inl refl)) (whole choice w c.seqno c)
+choice_adds choice w (Ok DidNothing) c events t = all_of IsUpkeepOrDrop events (Mark w ∷ []) (t.told (λ h. cc h)) (tt, tt)
+choice_adds choice w (Ok (Declined why)) c events t = all_of IsUpkeepOrDrop events (Mark w ∷ []) (t.told (λ h. cc h)) (tt, tt)
+choice_adds choice w (Ok (BegunJob job)) c events t = all_of IsUpkeepOrDrop events (Mark w ∷ []) (t.told (λ h. cc h)) (tt, tt)
+choice_adds choice w (Err AfterCommit) c events t = all_of IsUpkeepOrDrop events _ (t.done (inr refl)) (whole choice w c.seqno c)
+choice_adds choice w (Err CommitUnknown) c events t = all_of IsUpkeepOrDrop events _ (t.lost refl) (lost choice w c)
+choice_adds choice w (Err e) c events t = all_of IsUpkeepOrDrop events (Mark w ∷ []) (t.refused (λ h. cc h) (λ h. cc h)) (tt, tt)
+
+merge_adds : (r : Result Finished Error) (c : Core) (events : List Event) → TellsMerge r c events → AllByRecursion IsUpkeep events
+merge_adds (Ok IsFinished) c events t = all_of IsUpkeep events (Install c.seqno ∷ []) (t.done (inl refl)) (tt, tt)
+merge_adds (Ok (Over why)) c events t = all_of IsUpkeep events [] (t.told (λ h. cc h)) tt
+merge_adds (Err AfterCommit) c events t = all_of IsUpkeep events (Install c.seqno ∷ []) (t.done (inr refl)) (tt, tt)
+merge_adds (Err CommitUnknown) c events t = all_of IsUpkeep events [] (t.lost refl) tt
+merge_adds (Err e) c events t = all_of IsUpkeep events [] (t.refused (λ h. cc h) (λ h. cc h)) tt
+
+behind_adds : (begun r : Result Begun Error) (c : Core) (events : List Event) → TellsBehind begun r c events → AllByRecursion IsUpkeepOrDrop events
+behind_adds (Ok (BegunJob job)) r c events (inl t) = all_of IsUpkeepOrDrop events (Install c.seqno ∷ []) t.1 (tt, tt)
+behind_adds (Ok (BegunJob job)) r c events (inr t) = all_of IsUpkeepOrDrop events [] t.2 tt
+behind_adds (Ok DidNothing) r c events t = all_of IsUpkeepOrDrop events [] t tt
+behind_adds (Ok (Declined why)) r c events t = all_of IsUpkeepOrDrop events [] t tt
+behind_adds (Ok Installed) r c events t = all_of IsUpkeepOrDrop events [] t tt
+behind_adds (Err e) r c events t = all_of IsUpkeepOrDrop events [] t tt
+
+begun_adds : (answer : Result Choice Error) (o : Options) (r : Result Begun Error) (events : List Event) (old new : Core) → BeginsAnswer answer o r events old new → AllByRecursion IsUpkeepOrDrop events
+begun_adds (Ok choice) o r events old new b = choice_adds choice o.mvcc_gc_watermark r old events b.2
+begun_adds (Err e) o r events old new b = all_of IsUpkeepOrDrop events (Mark o.mvcc_gc_watermark ∷ []) b.1 (tt, tt)
+
+compacted_adds : (answer : Result Choice Error) (o : Options) (r : Result Begun Error) (events : List Event) (old new : Core) → CompactsAnswer answer o r events old new → AllByRecursion IsUpkeepOrDrop events
+compacted_adds (Ok choice) o r events old new c =
+    all_of IsUpkeepOrDrop events (c.front ++ c.behind) c.told (each_append IsUpkeepOrDrop c.front c.behind (choice_adds choice o.mvcc_gc_watermark c.compacts.begun old c.front c.begins) (behind_adds c.compacts.begun r c.compacts.mid c.behind c.follows))
+compacted_adds (Err e) o r events old new b = all_of IsUpkeepOrDrop events (Mark o.mvcc_gc_watermark ∷ []) b.1 (tt, tt)
+
+from_adds : (may_choose : Relation Choice) (may_refuse : Relation ChooseError) (o : Options) (r : Reply) (events : List Event) (old new : Core) → CompactsFrom may_choose may_refuse o r events old new → AllByRecursion IsUpkeepOrDrop events
+from_adds may_choose may_refuse o r events old new c = compacted_adds c.answer o c.does.done events old new c.does.compacts
+
+compact_adds : (strategies : Strategies) (at : ℕ) (o : Options) (r : Reply) (events : List Event) (old new : Core) → TakesCompact strategies at o r events old new → AllByRecursion IsUpkeepOrDrop events
+compact_adds strategies at o reply.NoStrategy events old new t = all_of IsUpkeepOrDrop events [] t.0 tt
+compact_adds strategies at o r events old new t = from_adds (strategies.may_choose at) (strategies.may_refuse at) o r events old new t.1
+
+range_adds : (bounds : _) (r : Reply) (events : List Event) (old new : Core) → TakesDropRange bounds r events old new → AllByRecursion IsUpkeepOrDrop events
+range_adds bounds r events old new (inl t) = all_of IsUpkeepOrDrop events [] t.3 tt
+range_adds bounds r events old new (inr t) = from_adds _ _ _ r events old new t.1
+
+begin_compaction_adds : (strategies : Strategies) (at : ℕ) (o : Options) (r : Reply) (events : List Event) (was is : Option Job) (old new : Core) → TakesBeginCompaction strategies at o r events was is old new → AllByRecursion IsUpkeepOrDrop events
+begin_compaction_adds strategies at o reply.SlotInUse events was is old new t = all_of IsUpkeepOrDrop events [] t.0.0 tt
+begin_compaction_adds strategies at o reply.NoStrategy events was is old new t = all_of IsUpkeepOrDrop events [] t.0.0 tt
+begin_compaction_adds strategies at o r events was is old new t = begun_adds t.answer o t.begun events old new t.begins
+
+run_compaction_adds : (r : Reply) (events : List Event) (was is : Option Job) (old new : Core) → TakesRunCompaction r events was is old new → events ≡ []
+run_compaction_adds reply.Done events was is old new t = t.0
+run_compaction_adds (reply.Refused x) events was is old new t = t.0.0
+run_compaction_adds reply.NoJob events was is old new t = t.0.0
+run_compaction_adds r events was is old new t = absurd t
+
+finish_adds : (r : Reply) (events : List Event) (was is : Option Job) (old new : Core) → TakesFinish r events was is old new → AllByRecursion IsUpkeep events
+finish_adds reply.NoJob events was is old new t = all_of IsUpkeep events [] t.0.0 tt
+finish_adds r events was is old new t = merge_adds t.end old events t.ends.2
+
+abandon_compaction_adds : (r : Reply) (events : List Event) (was is : Option Job) (old new : Core) → TakesAbandonCompaction r events was is old new → events ≡ []
+abandon_compaction_adds reply.Done events was is old new t = t.0
+abandon_compaction_adds reply.NoJob events was is old new t = t.0.0
+abandon_compaction_adds r events was is old new t = absurd t
+
+-- ---- all steps
+
+job_adds : (strategies : Strategies) (x : JobStep) (r : Reply) (events : List Event) (was is : Option Job) (old new : Core) → TakesJob strategies x r events was is old new → JobAdds x events
+job_adds strategies job.BeginFlush r events was is old new t = begin_adds r events was is old new t
+job_adds strategies (job.RunFlush w) r events was is old new t = run_adds w r events was is old new t
+job_adds strategies job.FlushToTables r events was is old new t = tables_add r events was is old new t
+job_adds strategies job.RegisterTables r events was is old new t = register_adds r events was is old new t
+job_adds strategies job.AbandonFlush r events was is old new t = abandon_adds r events was is old new t
+job_adds strategies (job.BeginCompaction at o) r events was is old new t = begin_compaction_adds strategies at o r events was is old new t
+job_adds strategies job.RunCompaction r events was is old new t = run_compaction_adds r events was is old new t
+job_adds strategies job.FinishCompaction r events was is old new t = finish_adds r events was is old new t
+job_adds strategies job.AbandonCompaction r events was is old new t = abandon_compaction_adds r events was is old new t
+
+alone_adds : (strategies : Strategies) (x : Call) (r : Reply) (events : List Event) (old new : Core) → TakesAlone strategies x r events old new → Adds x r events
+alone_adds strategies (step.Insert k v n) r events old new t = entry_adds _ r events old new t
+alone_adds strategies (step.Remove k n) r events old new t = entry_adds _ r events old new t
+alone_adds strategies (step.RemoveWeak k n) r events old new t = entry_adds _ r events old new t
+alone_adds strategies (step.AppendEntry e) r events old new t = entry_adds _ r events old new t
+alone_adds strategies (step.Write ops) r events old new t = batch_adds ops r events old new t
+alone_adds strategies (step.Get k s) r events old new t = get_adds k s r events old new t
+alone_adds strategies (step.GetInternalEntry k s) r events old new t = entry_of_adds k s r events old new t
+alone_adds strategies (step.ContainsKey k s) r events old new t = t.0
+alone_adds strategies (step.SizeOf k s) r events old new t = t.0
+alone_adds strategies (step.Range low high s) r events old new t = pairs_add _ _ s r events old new t
+alone_adds strategies (step.Iter s) r events old new t = pairs_add _ _ s r events old new t
+alone_adds strategies (step.Prefix p s) r events old new t = pairs_add _ _ s r events old new t
+alone_adds strategies (step.Len s) r events old new t = t.0
+alone_adds strategies (step.IsEmpty s) r events old new t = t.0
+alone_adds strategies (step.FirstKeyValue s) r events old new t = t.0
+alone_adds strategies (step.LastKeyValue s) r events old new t = t.0
+alone_adds strategies step.RotateMemtable r events old new t = rotate_adds r events old new t
+alone_adds strategies (step.Next counter) r events old new t = next_adds counter r events old new t
+alone_adds strategies (step.Set counter n) r events old new t = counter_adds counter n r events old new t
+alone_adds strategies (step.FetchMax counter n) r events old new t = counter_adds counter _ r events old new t
+alone_adds strategies (step.Flush w) r events old new t = flush_adds w r events old new t
+alone_adds strategies (step.FlushActiveMemtable w) r events old new t = active_adds w r events old new t
+alone_adds strategies (step.Compact at w) r events old new t = compact_adds strategies at _ r events old new t
+alone_adds strategies (step.DoCompaction at o) r events old new t = compact_adds strategies at o r events old new t
+alone_adds strategies (step.MajorCompact target w) r events old new t = from_adds _ _ _ r events old new t
+alone_adds strategies (step.DropRange low high) r events old new t = range_adds _ r events old new t
+alone_adds strategies step.Clear r events old new t = clear_adds r events old new t
+alone_adds strategies step.ClearActiveMemtable r events old new t = forget_adds r events old new t
+alone_adds strategies step.GetNextTableId r events old new t = id_adds r events old new t
+alone_adds strategies (step.SetMoment n) r events old new t = moment_adds n r events old new t
+alone_adds strategies (step.Count what) r events old new t = t.0
+alone_adds strategies step.IsUncertain r events old new t = t.0
+alone_adds strategies step.IsCompacting r events old new t = t.0
+alone_adds strategies step.TreeType r events old new t = t.0
+alone_adds strategies (step.AtSlot slot x) r events old new t = absurd t
+
+takes_adds : (strategies : Strategies) (x : Call) (r : Reply) (events : List Event) (old new : Stage) → Takes strategies x r events old new → Adds x r events
+takes_adds strategies (step.AtSlot slot x) r events old new t = job_adds strategies x r events (old.jobs slot) (new.jobs slot) old.core new.core t.0
+takes_adds strategies x r events old new t = alone_adds strategies x r events old.core new.core t.0
+
+ran_adds : (strategies : Strategies) (xs : List Call) (ts : List Told) (old new : Stage) → Ran strategies xs ts old new → EachAdds xs ts
+ran_adds strategies [] [] old new r = tt
+ran_adds strategies [] (t ∷ ts) old new r = absurd r
+ran_adds strategies (x ∷ xs) [] old new r = absurd r
+ran_adds strategies (x ∷ xs) (t ∷ ts) old new r = (takes_adds strategies x t.reply t.entries old r.0 r.1, ran_adds strategies xs ts r.0 new r.2)
+
+pub run_adds_so : (strategies : Strategies) (xs : List Call) (ts : List Told) (old new : Core) → RanToEnd strategies xs ts old new → EachAdds xs ts
+run_adds_so strategies xs ts old new r = ran_adds strategies xs ts _ r.0 r.1

@@ -1,0 +1,342 @@
+-- What the steps of a run are to the theory of runs: each does what its outcome tells, so the theory's theorem is that of runs.
+use Rattle.std.specs.FinMap.{empty}
+use Rattle.std.proofs.Common.{◌≡◌, ◌⊎◌, ⊎_elim, inl, inr, ℕ, zero, suc, ◌≤◌, arith, Bool, true, false, cond, List, [], ◌∷◌, ◌++◌, Option, Some, None, map, take, length, option_to_list, refl, sym, ap, ◌∙◌, subst, append-nil, append_assoc}
+use Rattle.lsm_below.specs.Entries.{Entry, above}
+use Rattle.lsm_below.specs.Members.{IsIn}
+use Rattle.lsm_below.specs.declared.error.Error.{Error}
+use Rattle.lsm_below.specs.declared.error.Error.TheVariants.{CommitUnknown}
+use Rattle.lsm_store.specs.World.{Image, World, LeavesOnly}
+use Rattle.lsm_model.specs.Journal.{Event, Map, InOrder, next_number}
+use Rattle.lsm_model.specs.Views.{HasDistinctIds, held}
+use Rattle.lsm_model.specs.Steps.{IsOpened}
+use Rattle.lsm_model.specs.Beginnings.{Note, FlushedIds, Saved, Deeds, Stands, shown_by, versions}
+use Rattle.lsm_versions.specs.Levels.{SeenVersion, Levels, placed_of}
+use Rattle.lsm_manifest.specs.Finding.{Named, FoundOnce, StandsForMap, FoundTablesShow}
+use Rattle.lsm_manifest.specs.Versions.{named_levels}
+use Rattle.lsm_manifest.specs.Standing.{StandsFor}
+use Rattle.lsm_files.specs.Stored.{IsStored, HoldsOneOf}
+use Rattle.lsm_state.specs.Core.{Core, latest_of, state_of, versions_left, written_of}
+use Rattle.lsm_state.specs.Commits.{Upholds}
+use Rattle.lsm_state.specs.Deeds.{saved_of}
+use Rattle.lsm_state.specs.FlushLaws.{FlushesAreDeeds}
+use Rattle.lsm_state.specs.Kept.{IsKeptTree}
+use Rattle.lsm_run_model.specs.declared.noted.Noted.{Noted}
+use Rattle.lsm_run_model.specs.declared.noted.Noted.TheVariants as note
+use Rattle.lsm_run_model.specs.Outcomes.{Past, nothing, after, after_all, note_at}
+use Rattle.lsm_run_model.specs.Outcomes as out
+use Rattle.lsm_run_model.specs.Moments.{LeavesNow, EachMoment, last_of}
+use Rattle.lsm_run_model.specs.Composing.{Point as Place, IsRight as IsRightThere, FindsAmong, IsOfEither, StandsAt, DoesCall, EachDoes, TablesShow, AreNumbered, CameAbout, Composed, RunsCompose, NoLowReads, NumbersAreBounded}
+use Rattle.lsm_runs.specs.declared.slots.Job.{Job}
+use Rattle.lsm_runs.specs.declared.steps.JobStep.{JobStep}
+use Rattle.lsm_runs.specs.declared.steps.JobStep.TheVariants as job
+use Rattle.lsm_runs.specs.declared.steps.Step.{Step as Call}
+use Rattle.lsm_runs.specs.declared.steps.Step.TheVariants.{ClearActiveMemtable}
+use Rattle.lsm_runs.specs.declared.steps.Step.TheVariants as step
+use Rattle.lsm_runs.specs.declared.steps.Reply.{Reply}
+use Rattle.lsm_runs.specs.declared.steps.Reply.TheVariants as reply
+use Rattle.lsm_runs.specs.Compacting.{Strategies}
+use Rattle.lsm_runs.specs.Crashes.{Watched, RanWatched}
+use Rattle.lsm_runs.specs.Moments.{sealed_noted, flushed_noted, job_noted, lost_noted, alone_noted, noted_of, RanAlong, outcome_of, outcomes_of, Reopens, FindsPlaced, StandsAfter, HasMoments, GoesOn, RunHasMoments}
+use Rattle.lsm_runs.specs.Noting.{sealed_note, sealed_behind, flushed_note, job_notes, lost_note, alone_notes, notes_of, ids_in}
+use Rattle.lsm_runs.specs.Runs.{Takes, IsPlainUse, without_low_reads}
+use Rattle.lsm_runs.specs.Slots.{Stage, at_first, Closes}
+use Rattle.lsm_runs.specs.Told.{Told}
+use Rattle.lsm_runs.proofs.RunDeeds.{step_deeds}
+use Rattle.lsm_runs.proofs.JobReplays.{AreMarked, first_marked_behind}
+use Rattle.lsm_runs.proofs.Files.{closed_stored}
+use Rattle.lsm_runs.proofs.Keeping.{KeepLaws}
+use Rattle.lsm_runs.proofs.LowReads.{without-append}
+use Rattle.lsm_runs.proofs.Members.{in_either}
+use Rattle.lsm_runs.proofs.Replays.{takes_marked}
+use Rattle.lsm_runs.proofs.StepDeeds.{HasDeeds, IsRight}
+
+-- ---- notes
+
+abbrev placed_at : List Event → List Noted → List Note
+placed_at journal notes = map (note_at (length journal)) notes
+
+sealed_same : (id : Option ℕ) (journal : List Event) → sealed_note id journal ≡ placed_at journal (sealed_noted id)
+sealed_same None journal = refl
+sealed_same (Some id) journal = refl
+
+flushed_same : (ids : List ℕ) (a : _) (journal : List Event) → flushed_note ids a ≡ placed_at journal (flushed_noted ids a)
+flushed_same ids None journal = refl
+flushed_same ids (Some a) journal = refl
+
+map-append : (f : Noted → Note) (xs ys : List Noted) → map f (xs ++ ys) ≡ map f xs ++ map f ys
+map-append f [] ys = refl
+map-append f (x ∷ xs) ys = ap (λ zs. f x ∷ zs) (map-append f xs ys)
+
+both_same : (ids : List ℕ) (a : _) (id : Option ℕ) (journal : List Event) → flushed_note ids a ++ sealed_note id journal ≡ placed_at journal (flushed_noted ids a ++ sealed_noted id)
+both_same ids a id journal =
+    ap (λ ns. ns ++ sealed_note id journal) (flushed_same ids a journal) ∙ ap (λ ns. placed_at journal (flushed_noted ids a) ++ ns) (sealed_same id journal) ∙ sym (map-append (note_at (length journal)) (flushed_noted ids a) (sealed_noted id))
+
+lost_same : (x : Error) (c : Core) (journal : List Event) → lost_note x c journal ≡ placed_at journal (lost_noted x c)
+lost_same CommitUnknown c journal = refl
+lost_same other c journal = refl
+
+job_same : (x : JobStep) (r : Reply) (was : Option Job) (journal : List Event) → job_notes x r was ≡ placed_at journal (job_noted x r was)
+job_same job.RegisterTables (reply.Registered a) was journal = one a.installed
+  where
+    one : (b : Bool) → cond b (FlushedIds (ids_in was) ∷ []) [] ≡ placed_at journal (cond b (note.Flushed (ids_in was) ∷ []) [])
+    one true = refl
+    one false = refl
+job_same x r was journal = refl
+
+alone_same : (x : Call) (r : Reply) (c : Core) (journal : List Event) → alone_notes x r c journal ≡ placed_at journal (alone_noted x r c)
+alone_same step.RotateMemtable (reply.Sealed id) c journal = sealed_same id journal
+alone_same (step.Flush w) (reply.Flushed a) c journal = flushed_same _ a journal
+alone_same (step.FlushActiveMemtable w) (reply.FlushedActive id a) c journal = both_same (sealed_behind id c) a id journal
+alone_same (step.FlushActiveMemtable w) (reply.RefusedActive id x) c journal = sealed_same id journal
+alone_same step.Clear (reply.Cleared n) c journal = refl
+alone_same step.Clear (reply.Refused x) c journal = lost_same x c journal
+alone_same x r c journal = refl
+
+notes_same : (x : Call) (r : Reply) (s : Stage) (journal : List Event) → notes_of x r s journal ≡ placed_at journal (noted_of x r s)
+notes_same (step.AtSlot slot call) r s journal = job_same call r (s.jobs slot) journal
+notes_same x r s journal = alone_same x r s.core journal
+
+-- ---- what is found
+
+placed_in_map : (v : SeenVersion) (vs : List SeenVersion) → IsIn v vs → IsIn (placed_of v.levels) (map (λ (x : SeenVersion). placed_of x.levels) vs)
+placed_in_map v [] i = absurd i
+placed_in_map v (x ∷ vs) i = ⊎_elim (λ (e : x ≡ v). inl (ap (λ (y : SeenVersion). placed_of y.levels) e)) (λ (j : IsIn v vs). inr (placed_in_map v vs j)) i
+
+found_of : (v : SeenVersion) (image : Image) → StandsFor image v.id (named_levels v.levels) v.levels → FindsPlaced image (placed_of v.levels)
+found_of v image s = (v.levels, Named v.id (named_levels v.levels) s, refl)
+
+module _ (shows : FoundTablesShow) (once : FoundOnce) where
+  tables_show : (n : ℕ) → TablesShow FindsPlaced (Reopens n) n
+  tables_show n image tables found stands low =
+      let levels = found.0 in
+      record {
+        stands = subst (λ ts. StandsForMap image (shown_by ts)) found.2 (shows image levels found.1 (subst Stands (sym found.2) stands));
+        below = λ others f. subst (λ ls. above (held (placed_of ls)) ≤ n) (once image levels others found.1 f) (subst (λ ts. above (held ts) ≤ n) (sym found.2) low);
+      }
+
+-- ---- the first elements
+
+take_twice : {A : Type 0} (n : ℕ) (xs : List A) → take n (take n xs) ≡ take n xs
+take_twice zero xs = refl
+take_twice (suc n) [] = refl
+take_twice (suc n) (x ∷ xs) = ap (λ ys. x ∷ ys) (take_twice n xs)
+
+take_all : {A : Type 0} (xs : List A) → take (length xs) xs ≡ xs
+take_all [] = refl
+take_all (x ∷ xs) = ap (λ ys. x ∷ ys) (take_all xs)
+
+module _ (laws : KeepLaws) (strategies : Strategies) (opened : List Entry) (start : Map) {F W : Type 0} (world : F → World) (gives : W → ℕ → W → Type 0) where
+  -- ---- the chain of a run that was watched
+
+  abbrev pub points_of : (xs : List Call) (ts : List Told) (old new : Watched F W) → RanWatched world gives strategies xs ts old new → List (Watched F W)
+  points_of [] ts old new r = []
+  points_of (x ∷ xs) [] old new r = []
+  points_of (x ∷ xs) (t ∷ ts) old new r = r.0 ∷ points_of xs ts r.0 new r.4
+
+  ran_along : (xs : List Call) (ts : List Told) (old new : Watched F W) (r : RanWatched world gives strategies xs ts old new) → RanAlong world gives strategies xs ts old (points_of xs ts old new r)
+  ran_along [] [] old new r = tt
+  ran_along [] (t ∷ ts) old new r = absurd r
+  ran_along (x ∷ xs) [] old new r = absurd r
+  ran_along (x ∷ xs) (t ∷ ts) old new r = (r.1, r.2.leaves, r.3, ran_along xs ts r.0 new r.4)
+
+  ends : (xs : List Call) (ts : List Told) (old new : Watched F W) (r : RanWatched world gives strategies xs ts old new) → last_of old (points_of xs ts old new r) ≡ new
+  ends [] [] old new r = sym r
+  ends [] (t ∷ ts) old new r = absurd r
+  ends (x ∷ xs) [] old new r = absurd r
+  ends (x ∷ xs) (t ∷ ts) old new r = ends xs ts r.0 new r.4
+
+  -- ---- trees
+
+  abbrev tree_at : Past → Core → Saved
+  tree_at past c = saved_of past.journal past.notes c
+
+  abbrev place_at : Past → Watched F W → Place F
+  place_at past p = record { store = p.store; tree = tree_at past p.stage.core }
+
+  abbrev places : List Call → List Told → Past → Watched F W → List (Watched F W) → List (Place F)
+  places (x ∷ xs) (t ∷ ts) past old (mid ∷ points) = let next = after opened past (outcome_of x t old.stage) in place_at next mid ∷ places xs ts next mid points
+  places xs ts past old points = []
+
+  -- one step, behind a journal whose events that count are these
+  step_at : (x : Call) (t : Told) (journal before : List Event) (notes : List Note) (old new : Stage) → without_low_reads opened journal ≡ before → (x ≡ ClearActiveMemtable → ⊥) → AreMarked journal old.jobs → Takes strategies x t.reply t.entries old new
+      → IsRight opened start before old.core → InOrder opened (before ++ without_low_reads opened t.entries) → HasDeeds opened before notes (without_low_reads opened t.entries) (notes_of x t.reply old before) old.core new.core
+  step_at x t journal before notes old new e plain marked takes =
+      subst (λ b. IsRight opened start b old.core → InOrder opened (b ++ without_low_reads opened t.entries) → HasDeeds opened b notes (without_low_reads opened t.entries) (notes_of x t.reply old b) old.core new.core) e
+      (λ right order. step_deeds laws strategies opened start journal notes x t.reply t.entries old new plain right marked order takes)
+
+  -- while nothing is done a crash leaves one of the tree's versions
+  now_found : (past : Past) (p : Watched F W) → IsStored (world p.store) (versions_left p.stage.core) (written_of p.stage.core) → Upholds (world p.store) (world p.store) p.stage.core p.stage.core
+      → LeavesNow (world p.store) (FindsAmong FindsPlaced (λ tables. IsIn tables (versions (tree_at past p.stage.core))))
+  now_found past p stored still image since =
+      let h = (still.files stored).1.each image since in
+      (placed_of h.0.levels, found_of h.0 image h.2, placed_in_map h.0 (versions_left p.stage.core) (⊎_elim (λ i. i) (λ i. i) (in_either h.0 (versions_left p.stage.core) (versions_left p.stage.core) h.1)))
+
+  does : (x : Call) (t : Told) (journal : List Event) (past : Past) (old mid : Watched F W) → without_low_reads opened journal ≡ past.journal → (x ≡ ClearActiveMemtable → ⊥) → AreMarked journal old.stage.jobs → Takes strategies x t.reply t.entries old.stage mid.stage
+      → IsStored (world old.store) (versions_left old.stage.core) (written_of old.stage.core) → Upholds (world old.store) (world mid.store) old.stage.core mid.stage.core → Upholds (world mid.store) (world mid.store) mid.stage.core mid.stage.core
+      → IsRightThere opened start (tree_at past old.stage.core) → InOrder opened (after opened past (outcome_of x t old.stage)).journal → DoesCall FindsPlaced world opened (outcome_of x t old.stage) (place_at past old) (place_at (after opened past (outcome_of x t old.stage)) mid)
+  does x t journal past old mid e plain marked takes stored upholds still right order =
+      let next = after opened past (outcome_of x t old.stage) in
+      let mine : IsRight opened start past.journal old.stage.core = record { holds = right.holds; distinct = right.distinct } in
+      let d = step_at x t journal past.journal past.notes old.stage mid.stage e plain marked takes mine order in
+      let up = upholds.files stored in
+      record {
+        deeds = d.0;
+        done = subst (λ ns. Deeds opened (tree_at past old.stage.core) d.0 (saved_of next.journal (ns ++ past.notes) mid.stage.core)) (notes_same x t.reply old.stage past.journal) d.1;
+        past = refl;
+        inside = record {
+          later = up.1.later;
+          each = λ image since. found_in image (up.1.each image since);
+          before = λ time image low since. ⊎_elim (λ s. inl s) (λ h. inr (found_in image h)) (up.1.before time image low since);
+        };
+        now = now_found next mid up.0 still;
+      }
+    where
+      found_in : (image : Image) → HoldsOneOf (versions_left old.stage.core ++ versions_left mid.stage.core) image → FindsAmong FindsPlaced (IsOfEither (tree_at past old.stage.core) (tree_at (after opened past (outcome_of x t old.stage)) mid.stage.core)) image
+      found_in image h = (
+        placed_of h.0.levels,
+        found_of h.0 image h.2,
+        ⊎_elim
+            (λ i. inl (placed_in_map h.0 (versions_left old.stage.core) i))
+            (λ i. inr (placed_in_map h.0 (versions_left mid.stage.core) i))
+            (in_either h.0 (versions_left old.stage.core) (versions_left mid.stage.core) h.1),
+      )
+
+  -- ---- the first so many steps
+
+  each_does : (many : ℕ) (xs : List Call) (ts : List Told) (journal : List Event) (past : Past) (old new : Watched F W) (r : RanWatched world gives strategies xs ts old new) → without_low_reads opened journal ≡ past.journal → IsPlainUse (take many xs) → AreMarked journal old.stage.jobs
+      → IsStored (world old.store) (versions_left old.stage.core) (written_of old.stage.core)
+      → EachDoes FindsPlaced world opened start (take many (outcomes_of xs ts old (points_of xs ts old new r))) (place_at past old) (take many (places xs ts past old (points_of xs ts old new r)))
+  each_does zero xs ts journal past old new r e plain marked stored = tt
+  each_does (suc many) [] [] journal past old new r e plain marked stored = tt
+  each_does (suc many) [] (t ∷ ts) journal past old new r e plain marked stored = absurd r
+  each_does (suc many) (x ∷ xs) [] journal past old new r e plain marked stored = absurd r
+  each_does (suc many) (x ∷ xs) (t ∷ ts) journal past old new r e plain marked stored =
+      let mid = r.0 in
+      let next = after opened past (outcome_of x t old.stage) in
+      let e' : without_low_reads opened (journal ++ t.entries) ≡ next.journal = without-append opened journal t.entries ∙ ap (λ b. b ++ without_low_reads opened t.entries) e in (
+        does x t journal past old mid e (λ is. plain (inl is)) marked r.1 stored r.2.upholds r.2.stays,
+        each_does many xs ts (journal ++ t.entries) next mid new r.4 e' (λ i. plain (inr i)) (takes_marked laws.compactions strategies x t.reply journal t.entries old.stage mid.stage r.1 marked) (r.2.upholds.files stored).0,
+      )
+
+  -- the stores of the places are those of the chain, and so is the last place
+  stores_same : (many : ℕ) (xs : List Call) (ts : List Told) (past : Past) (old new : Watched F W) (r : RanWatched world gives strategies xs ts old new)
+      → map (λ p. p.store) (take many (places xs ts past old (points_of xs ts old new r))) ≡ map (λ p. p.store) (take many (points_of xs ts old new r))
+  stores_same zero xs ts past old new r = refl
+  stores_same (suc many) [] [] past old new r = refl
+  stores_same (suc many) [] (t ∷ ts) past old new r = absurd r
+  stores_same (suc many) (x ∷ xs) [] past old new r = absurd r
+  stores_same (suc many) (x ∷ xs) (t ∷ ts) past old new r = ap (λ ss. r.0.store ∷ ss) (stores_same many xs ts (after opened past (outcome_of x t old.stage)) r.0 new r.4)
+
+  last_same : (many : ℕ) (xs : List Call) (ts : List Told) (past : Past) (old new : Watched F W) (r : RanWatched world gives strategies xs ts old new)
+      → last_of (place_at past old) (take many (places xs ts past old (points_of xs ts old new r))) ≡ place_at (after_all opened past (take many (outcomes_of xs ts old (points_of xs ts old new r)))) (last_of old (take many (points_of xs ts old new r)))
+  last_same zero xs ts past old new r = refl
+  last_same (suc many) [] [] past old new r = refl
+  last_same (suc many) [] (t ∷ ts) past old new r = absurd r
+  last_same (suc many) (x ∷ xs) [] past old new r = absurd r
+  last_same (suc many) (x ∷ xs) (t ∷ ts) past old new r = last_same many xs ts (after opened past (outcome_of x t old.stage)) r.0 new r.4
+
+  -- the files stay stored
+  stays_stored : (many : ℕ) (xs : List Call) (ts : List Told) (old new : Watched F W) (r : RanWatched world gives strategies xs ts old new) → IsStored (world old.store) (versions_left old.stage.core) (written_of old.stage.core)
+      → let last = last_of old (take many (points_of xs ts old new r)) in IsStored (world last.store) (versions_left last.stage.core) (written_of last.stage.core)
+  stays_stored zero xs ts old new r stored = stored
+  stays_stored (suc many) [] [] old new r stored = stored
+  stays_stored (suc many) [] (t ∷ ts) old new r stored = absurd r
+  stays_stored (suc many) (x ∷ xs) [] old new r stored = absurd r
+  stays_stored (suc many) (x ∷ xs) (t ∷ ts) old new r stored = stays_stored many xs ts r.0 new r.4 (r.2.upholds.files stored).0
+
+  all_points : (xs : List Call) (ts : List Told) (old new : Watched F W) (r : RanWatched world gives strategies xs ts old new) → length (outcomes_of xs ts old (points_of xs ts old new r)) ≡ length (points_of xs ts old new r)
+  all_points [] [] old new r = refl
+  all_points [] (t ∷ ts) old new r = absurd r
+  all_points (x ∷ xs) [] old new r = absurd r
+  all_points (x ∷ xs) (t ∷ ts) old new r = ap (λ n. suc n) (all_points xs ts r.0 new r.4)
+
+  all_steps : (xs : List Call) (ts : List Told) (old new : Watched F W) (r : RanWatched world gives strategies xs ts old new) → length xs ≡ length (points_of xs ts old new r)
+  all_steps [] [] old new r = refl
+  all_steps [] (t ∷ ts) old new r = absurd r
+  all_steps (x ∷ xs) [] old new r = absurd r
+  all_steps (x ∷ xs) (t ∷ ts) old new r = ap (λ n. suc n) (all_steps xs ts r.0 new r.4)
+
+  -- a tree as opening left it
+  begins : FlushesAreDeeds → (c : Core) → IsKeptTree c → IsOpened opened start (state_of [] c) → c.lost ≡ None → CameAbout opened start (tree_at nothing c)
+  begins deeds c kept opens certain =
+      let d = deeds.spends 0 0 c kept opened [] [] in
+      let distinct : HasDistinctIds (latest_of c).tables = subst (λ t. HasDistinctIds t.state.latest.tables) (sym d.2) d.1.distinct in
+      record {
+        first = saved_of [] [] c;
+        starts = record { opens = opens; distinct = distinct; notes = refl; others = ap (λ l. map (λ v. placed_of v.levels) (option_to_list l)) certain };
+        deeds = [];
+        done = refl;
+        order = tt;
+      }
+
+  module _ (compose : RunsCompose Reply FindsPlaced Reopens world) (shows : FoundTablesShow) (once : FoundOnce) (high : NoLowReads) (bounded : NumbersAreBounded) (xs : List Call) (ts : List Told) (old new : Watched F W) (r : RanWatched world gives strategies xs ts old new)
+      (free : old.stage ≡ at_first old.stage.core) (still : Upholds (world old.store) (world old.store) old.stage.core old.stage.core) (past : Past) where
+    abbrev points : List (Watched F W)
+    points = points_of xs ts old new r
+
+    abbrev outcomes : List (out.Told Reply)
+    outcomes = outcomes_of xs ts old points
+
+    abbrev all : List (Place F)
+    all = places xs ts past old points
+
+    marked : AreMarked past.journal old.stage.jobs
+    marked = subst (λ (s : Stage). AreMarked past.journal s.jobs) (sym free) (first_marked_behind past.journal old.stage.core)
+
+    whole : (many : ℕ) → IsPlainUse (take many xs) → StandsAfter world opened start past old.store old.stage.core → InOrder opened (after_all opened past (take many outcomes)).journal
+        → (n : ℕ) → AreNumbered n opened (after_all opened past (take many outcomes)).journal → Composed FindsPlaced (Reopens n) world opened start (take many outcomes) (place_at past old) (take many all)
+    whole many plain stands order n small =
+        let os = take_twice many outcomes in
+        let ps = take_twice many all in
+        subst (λ (ps : List (Place F)). Composed FindsPlaced (Reopens n) world opened start (take many outcomes) (place_at past old) ps) ps
+        (subst (λ (os : List (out.Told Reply)). Composed FindsPlaced (Reopens n) world opened start os (place_at past old) (take many (take many all))) os
+        (compose opened start n (take many outcomes) (place_at past old) (take many all) (tables_show shows once n)
+        (record { came = stands.came; now = now_found past old stands.stored still })
+        (each_does many xs ts past.journal past old new r (high opened start (tree_at past old.stage.core) stands.came) plain marked stands.stored) many
+        (subst (λ (os : List (out.Told Reply)). AreNumbered n opened (after_all opened past os).journal) (sym os) small)
+        (subst (λ (os : List (out.Told Reply)). InOrder opened (after_all opened past os).journal) (sym os) order)))
+
+    has_moments : HasMoments world opened start past xs ts old points
+    has_moments many plain stands order = (
+      λ n small. subst (λ ss. EachMoment (Reopens n) world opened start past (take many outcomes) old.store ss) (stores_same many xs ts past old new r) (whole many plain stands order n small).moments,
+      record { came = came; stored = stays_stored many xs ts old new r stands.stored },
+    )
+      where
+        came : CameAbout opened start (tree_at (after_all opened past (take many outcomes)) (last_of old (take many points)).stage.core)
+        came = subst (λ (p : Place F). CameAbout opened start p.tree) (last_same many xs ts past old new r)
+            (whole many plain stands order (next_number opened (after_all opened past (take many outcomes)).journal) (bounded opened (after_all opened past (take many outcomes)).journal (next_number opened (after_all opened past (take many outcomes)).journal) (omega arith))).stands.came
+
+    goes_on : (is : F) (core : Core) → (last_of old points).store ≡ is → Closes (last_of old points).stage.core core → GoesOn world opened start past xs ts old points is core
+    goes_on is core store closes plain stands order =
+        let many = length points in
+        let steps_all : take many xs ≡ xs = ap (λ n. take n xs) (sym (all_steps xs ts old new r)) ∙ take_all xs in
+        let outcomes_all : take many outcomes ≡ outcomes = ap (λ n. take n outcomes) (sym (all_points xs ts old new r)) ∙ take_all outcomes in
+        let last = (has_moments many (subst IsPlainUse (sym steps_all) plain) stands (subst (λ (os : List (out.Told Reply)). InOrder opened (after_all opened past os).journal) (sym outcomes_all) order)).1 in
+        let there = subst (λ (ps : List (Watched F W)). StandsAfter world opened start (after_all opened past (take many outcomes)) (last_of old ps).store (last_of old ps).stage.core) (take_all points) last in
+        let here = subst (λ (os : List (out.Told Reply)). StandsAfter world opened start (after_all opened past os) (last_of old points).store (last_of old points).stage.core) outcomes_all there in
+        record {
+          came = subst (λ (c : Core). CameAbout opened start (tree_at (after_all opened past outcomes) c)) (sym closes.rest) here.came;
+          stored = closed_stored world (last_of old points).store is (last_of old points).stage.core core closes (sym store) here.stored;
+        }
+
+-- any map
+any_map : Map
+any_map = empty
+
+pub run_has_moments : KeepLaws → (strategies : Strategies) {F W : Type 0} (world : F → World) (gives : W → ℕ → W → Type 0) → RunsCompose Reply FindsPlaced Reopens world → FlushesAreDeeds → FoundTablesShow → FoundOnce → NoLowReads → NumbersAreBounded
+    → (xs : List Call) (ts : List Told) (old new : Watched F W) → RanWatched world gives strategies xs ts old new → IsKeptTree old.stage.core → old.stage ≡ at_first old.stage.core → Upholds (world old.store) (world old.store) old.stage.core old.stage.core
+    → (is : F) (core : Core) → is ≡ new.store → Closes new.stage.core core → RunHasMoments world gives strategies xs ts (record { store = old.store; stage = at_first old.stage.core; watch = old.watch }) is core new.watch
+run_has_moments laws strategies world gives compose deeds shows once high bounded xs ts old new r kept free still is core store closes =
+    let here = ends laws strategies [] any_map world gives xs ts old new r in
+    let at_end : (last_of old (points_of laws strategies [] any_map world gives xs ts old new r)).store ≡ is = ap (λ (p : Watched _ _). p.store) here ∙ sym store in
+    let closed = subst (λ (c : Core). Closes c core) (sym (ap (λ (p : Watched _ _). p.stage.core) here)) closes in
+    subst (λ s. RunHasMoments world gives strategies xs ts (record { store = old.store; stage = s; watch = old.watch }) is core new.watch) free (record {
+      points = points_of laws strategies [] any_map world gives xs ts old new r;
+      ran = ran_along laws strategies [] any_map world gives xs ts old new r;
+      ends = at_end;
+      closes = closed;
+      watched = ap (λ (p : Watched _ _). p.watch) here;
+      begins = λ opened start opens certain stored. record { came = begins laws strategies opened start world gives deeds old.stage.core kept opens certain; stored = stored };
+      moments = λ opened start past. has_moments laws strategies opened start world gives compose shows once high bounded xs ts old new r free still past;
+      goes_on = λ opened start past. goes_on laws strategies opened start world gives compose shows once high bounded xs ts old new r free still past is core at_end closed;
+    })

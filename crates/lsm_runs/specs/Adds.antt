@@ -1,0 +1,99 @@
+-- What a step may add to the journal, by its kind and its reply alone.
+use Rattle.std.specs.Prelude.{◌≡◌, ℕ, List, [], ◌∷◌, map}
+use Rattle.std.specs.List.{AllByRecursion}
+use Rattle.std.specs.declared.ops.Bound.TheVariants.{Unbounded}
+use Rattle.lsm_below.specs.Keys.{Bytes}
+use Rattle.lsm_below.specs.Entries.{Entry, plain}
+use Rattle.lsm_model.specs.Journal.{Event}
+use Rattle.lsm_model.specs.Ops.{op_entry, op_entries}
+use Rattle.lsm_model.specs.declared.op.Op.{Op}
+use Rattle.lsm_model.specs.declared.op.Op.TheVariants.{Set as SetTo, Del, Weak}
+use Rattle.lsm_model.specs.declared.journal.JournalEntry.TheVariants.{Write as Wrote, Clear as DidClear, Install, Dropped, Mark, Read}
+use Rattle.lsm_model.specs.declared.question.Question.{Question}
+use Rattle.lsm_model.specs.declared.question.Question.TheVariants.{Get as AskGet, Between, Prefix as AskPrefix}
+use Rattle.lsm_model.specs.declared.question.Answer.TheVariants.{Found, Pairs as FoundPairs}
+use Rattle.lsm_runs.specs.declared.steps.JobStep.{JobStep}
+use Rattle.lsm_runs.specs.declared.steps.JobStep.TheVariants.{RegisterTables, BeginCompaction, FinishCompaction}
+use Rattle.lsm_runs.specs.declared.steps.Step.{Step}
+use Rattle.lsm_runs.specs.declared.steps.Step.TheVariants.{Insert, Remove, RemoveWeak, AppendEntry, Write, Get, Range, Iter, Prefix, AtSlot, Flush, FlushActiveMemtable, Compact, DoCompaction, MajorCompact, DropRange, Clear}
+use Rattle.lsm_runs.specs.declared.steps.Reply.{Reply}
+use Rattle.lsm_runs.specs.declared.steps.Reply.TheVariants.{Sizes, Number, Value, Pairs, Cleared}
+use Rattle.lsm_runs.specs.Told.{Told}
+
+-- ---- by kinds
+
+-- the write of one entry, where it is answered
+abbrev pub AddsEntry : Entry → Reply → List Event → Type 0
+AddsEntry e (Sizes size total) events = events ≡ Wrote e ∷ []
+AddsEntry e reply events = events ≡ []
+
+-- those of a batch, under the number that it answers
+abbrev pub AddsBatch : List (Bytes × Op) → Reply → List Event → Type 0
+AddsBatch ops (Number n) events = events ≡ map Wrote (op_entries n ops)
+AddsBatch ops reply events = events ≡ []
+
+-- a read of a key with its answer, and one of pairs
+abbrev pub AddsGet : Bytes → ℕ → Reply → List Event → Type 0
+AddsGet k s (Value v) events = events ≡ Read s (AskGet k) (Found v) ∷ []
+AddsGet k s reply events = events ≡ []
+
+abbrev pub AddsPairs : Question → ℕ → Reply → List Event → Type 0
+AddsPairs question s (Pairs pairs) events = events ≡ Read s question (FoundPairs pairs) ∷ []
+AddsPairs question s reply events = events ≡ []
+
+-- a clear, under the number that it answers
+abbrev pub AddsClear : Reply → List Event → Type 0
+AddsClear (Cleared n) events = events ≡ DidClear n ∷ []
+AddsClear reply events = events ≡ []
+
+-- a mark or an install, and beside them the ranges of a drop
+abbrev pub IsUpkeep : Event → Type 0
+IsUpkeep (Mark w) = Unit {0}
+IsUpkeep (Install n) = Unit {0}
+IsUpkeep (Wrote e) = ⊥
+IsUpkeep (DidClear n) = ⊥
+IsUpkeep (Dropped ranges n) = ⊥
+IsUpkeep (Read s question told) = ⊥
+
+abbrev pub IsUpkeepOrDrop : Event → Type 0
+IsUpkeepOrDrop (Mark w) = Unit {0}
+IsUpkeepOrDrop (Install n) = Unit {0}
+IsUpkeepOrDrop (Dropped ranges n) = Unit {0}
+IsUpkeepOrDrop (Wrote e) = ⊥
+IsUpkeepOrDrop (DidClear n) = ⊥
+IsUpkeepOrDrop (Read s question told) = ⊥
+
+-- ---- by steps
+
+abbrev pub JobAdds : JobStep → List Event → Type 0
+JobAdds RegisterTables events = AllByRecursion IsUpkeep events
+JobAdds (BeginCompaction at o) events = AllByRecursion IsUpkeepOrDrop events
+JobAdds FinishCompaction events = AllByRecursion IsUpkeep events
+JobAdds step events = events ≡ []
+
+-- all other steps add nothing
+abbrev pub Adds : Step → Reply → List Event → Type 0
+Adds (Insert k v n) reply events = AddsEntry (op_entry k n (SetTo v)) reply events
+Adds (Remove k n) reply events = AddsEntry (op_entry k n Del) reply events
+Adds (RemoveWeak k n) reply events = AddsEntry (op_entry k n Weak) reply events
+Adds (AppendEntry e) reply events = AddsEntry (plain e) reply events
+Adds (Write ops) reply events = AddsBatch ops reply events
+Adds (Get k s) reply events = AddsGet k s reply events
+Adds (Range low high s) reply events = AddsPairs (Between low high) s reply events
+Adds (Iter s) reply events = AddsPairs (Between Unbounded Unbounded) s reply events
+Adds (Prefix p s) reply events = AddsPairs (AskPrefix p) s reply events
+Adds Clear reply events = AddsClear reply events
+Adds (Flush w) reply events = AllByRecursion IsUpkeep events
+Adds (FlushActiveMemtable w) reply events = AllByRecursion IsUpkeep events
+Adds (Compact at w) reply events = AllByRecursion IsUpkeepOrDrop events
+Adds (DoCompaction at o) reply events = AllByRecursion IsUpkeepOrDrop events
+Adds (MajorCompact target w) reply events = AllByRecursion IsUpkeepOrDrop events
+Adds (DropRange low high) reply events = AllByRecursion IsUpkeepOrDrop events
+Adds (AtSlot slot step) reply events = JobAdds step events
+Adds step reply events = events ≡ []
+
+-- so each outcome of a run does
+abbrev pub EachAdds : List Step → List Told → Type 0
+EachAdds [] [] = Unit {0}
+EachAdds (x ∷ xs) (t ∷ ts) = Adds x t.reply t.entries × EachAdds xs ts
+EachAdds xs ts = ⊥

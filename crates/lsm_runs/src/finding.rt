@@ -1,0 +1,42 @@
+// What opening makes of a tree's files, and what follows for life after life.
+ghost use Rattle.lsm_manifest.specs.Ready.{IsReady};
+ghost use Rattle.lsm_runs.specs.Moments.{FindsPlaced, Reopens};
+ghost use Rattle.lsm_runs.specs.ManyLives.{LivesWithoutNumber};
+
+use crate::Reply;
+use lsm_manifest::{crashes_settle, images_stand_once, unread_names_dont_matter};
+use lsm_run_model::{Finding, lives_go_on};
+use lsm_store::Store;
+
+/// How the files of a tree are found.
+///
+/// ```text
+/// lives_go_on(&store, &TreeFiles, &Reply::Done);
+/// ```
+pub struct TreeFiles;
+
+impl Finding for TreeFiles {
+    ghost finds = { FindsPlaced };
+
+    ghost shows = { Reopens };
+
+    ghost ready = { IsReady };
+}
+
+/// Over any number of lives, each ended by a crash or because its process is killed or ends, also in an opening: what is left shows a
+/// beginning of the calls of its life, which holds all that was covered by the calls that had been answered, and the next life
+/// starts from what is left.
+///
+/// # Examples
+///
+/// ```text
+/// lives_without_number(&store);
+/// ```
+pub fn lives_without_number<S: Store>(store: &S)
+    ensures { LivesWithoutNumber S.world }
+{
+    crashes_settle(store);
+    images_stand_once();
+    unread_names_dont_matter();
+    lives_go_on(store, &TreeFiles, &Reply::Done);
+}
