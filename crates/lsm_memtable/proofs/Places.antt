@@ -45,6 +45,20 @@ module _ (parts : EntriesAreParted) (bs : List (List InternalValue)) (blocks : A
       let here : stands_before key s (get_or (joined bs) (a + (n - 1)) d) ≡ true = subst (λ e. stands_before key s e ≡ true) (sym (at_block bs b (n - 1) [] d lt (omega (arith, filled.0)))) (last d) in
       parts.ahead (joined bs) key s blocks.rises j (a + (n - 1)) d (omega (arith, filled.0)) (omega (arith, filled.0)) here
 
+  -- where the last entry of all is ahead, the place is the end
+  pub placed_end : (b i : ℕ) → b < length bs → b + 1 ≡ length bs → i ≡ length (get_or bs b []) → ((d : InternalValue) → stands_before key s (get_or (get_or bs b []) (length (get_or bs b []) - 1) d) ≡ true) → IsPlace bs key s b i
+  placed_end b i lt end full last =
+      let ends : length (joined (take (b + 1) bs)) ≡ start_at bs b + size_at bs b = subst (λ k. length (joined (take k bs)) ≡ start_at bs b + size_at bs b) (sym (add-one b)) (block_end bs b [] lt) in
+      let total = block_within bs b [] lt in
+      let past = drop_past bs (suc b) (omega arith) in
+      record {
+        block_in = lt;
+        at_in = omega arith;
+        edge = λ _. omega arith;
+        before = λ j d less. ahead_to b lt last j d (omega arith);
+        behind = λ j d ge in_range. absurd (omega arith);
+      }
+
   -- a place in a block is a place in the list
   pub placed : (b i : ℕ) → b < length bs
       → ((j : ℕ) (d : InternalValue) → j < length (joined (take b bs)) → stands_before key s (get_or (joined bs) j d) ≡ true)
@@ -113,13 +127,13 @@ module _ (bs : List (List InternalValue)) (b : ℕ) (block : List InternalValue)
 
   pub placed_read : EntriesAreParted → AreBlocks bs → (key : List ℕ) (s i : ℕ)
       → ((j : ℕ) (d : InternalValue) → j < length (joined (take b bs)) → stands_before key s (get_or (joined bs) j d) ≡ true)
-      → ((d : InternalValue) → b + 1 < length bs → stands_before key s (get_or (get_or bs b []) (length (get_or bs b []) - 1) d) ≡ false)
+      → ((d : InternalValue) → stands_before key s (get_or (get_or bs b []) (length (get_or bs b []) - 1) d) ≡ false)
       → i ≤ length block
       → ((j : ℕ) (d : InternalValue) → j < i → stands_before key s (get_or block j d) ≡ true)
       → ((j : ℕ) (d : InternalValue) → i ≤ j → j < length block → stands_before key s (get_or block j d) ≡ false)
       → IsPlace bs key s b i
   placed_read parts blocks key s i ahead edge at_in before behind =
-      placed parts bs blocks key s b i lt ahead edge (subst (λ (x : List InternalValue). i ≤ length x) read_block at_in)
+      placed parts bs blocks key s b i lt ahead (λ d _. edge d) (subst (λ (x : List InternalValue). i ≤ length x) read_block at_in)
       (λ j d less. subst (λ (x : List InternalValue). stands_before key s (get_or x j d) ≡ true) read_block (before j d less))
       (λ j d ge less. subst (λ (x : List InternalValue). stands_before key s (get_or x j d) ≡ false) read_block (behind j d ge (subst (λ (x : List InternalValue). j < length x) (sym read_block) less)))
 

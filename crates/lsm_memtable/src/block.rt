@@ -143,19 +143,21 @@ impl Block {
         Headed::new(&self.entries[at], self.last).is_ahead(head, key, number)
     }
 
-    /// How many entries come before each entry of the key with a sequence number below this.
+    /// How many entries come before each entry of the key with a sequence number below this. The last one doesn't.
     pub(crate) fn place(&self, head: u128, key: &[u8], number: u128, steps: &mut Steps) -> usize
+        requires some { 0 < length self.now }
         requires rises { Rises entry_cmp self.now }
         requires head { head ≡ key_head key.now }
-        ensures bound { result ≤ length self.now }
+        requires last { (d : InternalValue) → stands_before key.now number (slice_index_or self.now (length self.now - 1) d) ≡ false }
+        ensures bound { result < length self.now }
         ensures before { (j : ℕ) (d : InternalValue) → j < result → stands_before key.now number (slice_index_or self.now j d) ≡ true }
         ensures behind { (j : ℕ) (d : InternalValue) → result ≤ j → j < length self.now → stands_before key.now number (slice_index_or self.now j d) ≡ false }
-        ensures compared { CountsDigits (length self.now) 0 steps.old.compared steps.new.compared }
+        ensures compared { CountsDigits (length self.now - 1) 0 steps.old.compared steps.new.compared }
         ensures moved { steps.new.moved ≡ steps.old.moved }
     {
         entries_are_parted();
         let mut low = 0;
-        let mut high = self.len();
+        let mut high = self.len() - 1;
         while low < high {
             let mid = low + (high - low) / 2;
             if self.is_ahead(mid, head, key, number, steps) {

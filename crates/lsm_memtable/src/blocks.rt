@@ -19,7 +19,7 @@ use lsm_below::{
 use std::alloc::{AllocError, Global};
 use std::collections::VecDeque;
 
-/// The block where the entries of the key with a sequence number below this begin, or the last one.
+/// The block where the entries of the key with a sequence number below this begin. They begin before the end of all.
 fn block_for(
     blocks: &VecDeque<Block>,
     head: u128,
@@ -30,9 +30,10 @@ fn block_for(
     requires some { 0 < length blocks.now.items }
     requires head { head ≡ key_head key.now }
     requires blocks { AreBlocks blocks.now.items }
+    requires end { (d : InternalValue) → stands_before key.now number (slice_index_or (slice_index_or blocks.now.items (length blocks.now.items - 1) []) (length (slice_index_or blocks.now.items (length blocks.now.items - 1) []) - 1) d) ≡ false }
     ensures bound { result < length blocks.now.items }
     ensures before { (j : ℕ) (d : InternalValue) → j < length (joined (take result blocks.now.items)) → stands_before key.now number (slice_index_or (joined blocks.now.items) j d) ≡ true }
-    ensures edge { (d : InternalValue) → result + 1 < length blocks.now.items → stands_before key.now number (slice_index_or (slice_index_or blocks.now.items result []) (length (slice_index_or blocks.now.items result []) - 1) d) ≡ false }
+    ensures edge { (d : InternalValue) → stands_before key.now number (slice_index_or (slice_index_or blocks.now.items result []) (length (slice_index_or blocks.now.items result []) - 1) d) ≡ false }
     ensures compared { CountsDigits (length blocks.now.items) 0 steps.old.compared steps.new.compared }
     ensures moved { steps.new.moved ≡ steps.old.moved }
 {
@@ -59,7 +60,8 @@ pub(crate) struct Place {
     pub(crate) at: usize,
 }
 
-/// Where the entries of the key with a sequence number below this begin.
+/// Where the entries of the key with a sequence number below this begin. It looks at the end of all first, which is where
+/// an entry goes where keys rise.
 pub(crate) fn find(blocks: &VecDeque<Block>, key: &[u8], number: u128, steps: &mut Steps) -> Place
     requires some { 0 < length blocks.now.items }
     requires blocks { AreBlocks blocks.now.items }
@@ -69,6 +71,14 @@ pub(crate) fn find(blocks: &VecDeque<Block>, key: &[u8], number: u128, steps: &m
 {
     entries_are_parted();
     let head = head_of(key);
+    let end = blocks.len() - 1;
+    let last = &blocks[end];
+    if last.is_last_ahead(head, key, number, steps) {
+        return Place {
+            block: end,
+            at: last.len(),
+        };
+    }
     let block = block_for(blocks, head, key, number, steps);
     let at = blocks[block].place(head, key, number, steps);
     Place { block, at }

@@ -29,7 +29,7 @@ loop-low-preserved c =
       omega arith,
       omega arith,
       i.2,
-      λ d more. at_last bs mid c.at.result.now (omega arith) read c.args.key.now c.args.number c.is_last_ahead.result false c.is_last_ahead.ensures.is c.if-is_last_ahead.false d,
+      λ d. at_last bs mid c.at.result.now (omega arith) read c.args.key.now c.args.number c.is_last_ahead.result false c.is_last_ahead.ensures.is c.if-is_last_ahead.false d,
       paid_step (c.loop-low.high - c.loop-low.low) (mid - c.loop-low.low) (length bs) c.args.steps.now.compared c.loop-low.steps.compared c.is_last_ahead.new.steps.compared i.4 (omega arith) (omega arith) (omega (arith, c.is_last_ahead.ensures.compared)),
       c.is_last_ahead.ensures.moved ∙ i.5,
     )
