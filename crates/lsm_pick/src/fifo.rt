@@ -252,6 +252,8 @@ impl CompactionStrategy for Fifo {
 
     ghost may_refuse = { λ s config hidden version e. MayRefuse hidden version.levels e };
 
+    ghost is_configured = { λ s. Unit {0} };
+
     fn get_name(&self) -> &'static str
         ensures { result.now ≡ codes "FifoCompaction" }
     {

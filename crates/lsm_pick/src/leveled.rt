@@ -172,6 +172,8 @@ impl CompactionStrategy for Leveled {
 
     ghost may_refuse = { λ s config hidden version e. e ≡ OutOfMemory };
 
+    ghost is_configured = { λ s. Unit {0} };
+
     fn get_name(&self) -> &'static str
         ensures { result.now ≡ codes "LeveledCompaction" }
     {

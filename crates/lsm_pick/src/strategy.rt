@@ -1,5 +1,5 @@
 // Who chooses what a compaction takes.
-ghost use Rattle.std.specs.Prelude.{IfOk, IfErr};
+ghost use Rattle.std.specs.Prelude.{◌≡◌, [], IfOk, IfErr};
 
 use crate::{Choice, ChooseError};
 use lsm_below::KvPair;
@@ -29,11 +29,17 @@ pub trait CompactionStrategy: Drop {
     /// Why it may have no choice.
     ghost may_refuse: { Self → Config → List ℕ → SeenVersion → ChooseError → Type 0 };
 
+    /// Whether it may tell a configuration: by default it has none to tell.
+    ghost is_configured: { Self → Type 0 } = { λ s. ⊥ };
+
     /// Its name.
     fn get_name(&self) -> &'static str;
 
-    /// What it was given, as names and values. None by default. Refused only for want of memory.
-    fn get_config(&self, alloc: Global) -> Result<Vec<KvPair>, AllocError> {
+    /// What it was given, as names and values. None by default: a strategy that tells some says so (`is_configured`). Refused
+    /// only for want of memory.
+    fn get_config(&self, alloc: Global) -> Result<Vec<KvPair>, AllocError>
+        ensures none { (is_configured self.now → ⊥) → IfOk result (λ v. v.items ≡ []) }
+    {
         Ok(Vec::new(alloc))
     }
 

@@ -1,5 +1,5 @@
 -- Which calls of the store failed where a call of a tree tells a fault.
-use Rattle.std.proofs.Common.{ℕ, ◌-◌, ◌≤◌, ◌^◌, min, arith, ◌≡◌, ◌⊎◌, inl, inr, ⊎_elim, Bool, false, Result, Ok, Err, IfErr, ap, subst, refl}
+use Rattle.std.proofs.Common.{ℕ, ◌-◌, ◌≤◌, ◌^◌, min, arith, ◌≡◌, ◌∙◌, ◌⊎◌, inl, inr, ⊎_elim, Bool, false, List, Result, Ok, Err, IfErr, OnOk, ap, subst, refl}
 use Rattle.std.specs.Prelude.{is_ok}
 use Rattle.lsm_below.specs.declared.error.Error.{Error}
 use Rattle.lsm_below.specs.declared.error.Error.TheVariants.{OutOfMemory, Store, CommitUnknown, OutOfNumbers, AfterCommit, Unrecoverable}
@@ -11,7 +11,8 @@ use Rattle.lsm_state.specs.Causes.{BlamesEnd}
 use Rattle.lsm_state.specs.WholeCompactions.{Follows}
 use Rattle.lsm_files.specs.Stored.{CountsFaults}
 use Rattle.lsm_files.specs.Causes.{HasFailed, HasCause, BlamesStore, Blames, no_fault, one_fault, causes_then, causes_counted}
-use Rattle.lsm_state.specs.Cleaning.{RemovesDrawn}
+use Rattle.lsm_model.specs.Steps.{among}
+use Rattle.lsm_state.specs.Cleaning.{AreAbsent, RemovesDrawn, RemovesTables}
 
 -- a clean-up that isn't whole
 pub unclean : {T : Type 0} (old new : World) (r : Result T Error) (whole : Bool) → whole ≡ is_ok r → IfErr r (λ e. e ≡ Store) → CountsFaults old new r → HasCause (whole ≡ false) old new
@@ -68,3 +69,11 @@ refused_still w e isnt = no_fault (BlamesStore e) w w refl isnt
 
 pub removes_then : (first next : ℕ) (old mid new : World) → min old.failures (2 ^ 64 - 1) ≤ mid.failures → RemovesDrawn first next mid new → RemovesDrawn first next old new
 removes_then first next old mid new rises removes = ⊎_elim (λ gone. inl gone) (λ (failed : HasFailed mid new). let more : HasFailed old new = omega (arith, rises, failed) in inr more) removes
+
+pub removes_tables : (ids : List ℕ) (old new : World) (r : Result (Unit {0}) Error) → OnOk r (AreAbsent new ids) → IfErr r (λ e. e ≡ AfterCommit) → HasCause (Blames r) old new → RemovesTables ids old new
+removes_tables ids old new (Ok x) gone only causes = inl gone
+removes_tables ids old new (Err e) gone only causes = inr (causes.cause (inr (inr only)))
+
+-- behind another call, and of the same ids
+pub removes_behind : (xs ys : List ℕ) (old mid new : World) → min old.failures (2 ^ 64 - 1) ≤ mid.failures → ((i : ℕ) → among xs i ≡ among ys i) → RemovesTables xs mid new → RemovesTables ys old new
+removes_behind xs ys old mid new rises same removes = ⊎_elim (λ (gone : AreAbsent new xs). inl (λ i is. gone i (same i ∙ is))) (λ (failed : HasFailed mid new). let more : HasFailed old new = omega (arith, rises, failed) in inr more) removes

@@ -118,6 +118,11 @@ other_than (j ∷ ids) there i has none = other_one i j there (among ids i) (eqb
 flip : (a b : ℕ) → eqb a b ≡ false → eqb b a ≡ false
 flip a b e = grind (arith, nat_tests)
 
+-- nor has it one of theirs
+pub apart_ids : (xs : List SeenTable) (t : SeenTable) → IsApart xs t → among (map (λ u. u.id) xs) t.id ≡ false
+apart_ids [] t h = refl
+apart_ids (x ∷ xs) t h = ap (λ b. b || among (map (λ u. u.id) xs) t.id) (flip x.id t.id h.0) ∙ apart_ids xs t h.1
+
 pub swapped : (xs ys : List SeenTable) → AllByRecursion (IsApart xs) ys → AllByRecursion (IsApart ys) xs
 swapped [] ys h = tt
 swapped (x ∷ xs) ys h = (each_weaker (IsApart (x ∷ xs)) (λ u. eqb u.id x.id ≡ false) (λ u a. flip x.id u.id a.0) ys h, swapped xs ys (each_weaker (IsApart (x ∷ xs)) (IsApart xs) (λ t a. a.1) ys h))

@@ -48,6 +48,10 @@ pub record LeavesNoFiles (w : World) (ids : List ℕ) (old new : SeenHistory) : 
 abbrev pub AreDrawnBelow : ℕ → Core → Type 0
 AreDrawnBelow first c = AllByRecursion (λ t. t.id < first) (written_of c ++ all_of c.history.latest.version.levels)
 
+-- no file is left of the tables of these ids, or a call of the store failed meanwhile
+abbrev pub RemovesTables : List ℕ → World → World → Type 0
+RemovesTables ids old new = AreAbsent new ids ⊎ HasFailed old new
+
 -- no file is left of the tables with ids from the first on and below the next one, or a call of the store failed meanwhile
 abbrev pub RemovesDrawn : ℕ → ℕ → World → World → Type 0
 RemovesDrawn first next old new = ((i : ℕ) → first ≤ i → i < next → new.gives (table_name i) ≡ None) ⊎ HasFailed old new

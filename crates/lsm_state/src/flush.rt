@@ -52,7 +52,8 @@ fn with_tables(flush: Option<OpenFlush>, number: u64, tables: Vec<Table>) -> Opt
 
 impl<S: Store> TreeState<S> {
     /// Opens a flush of all sealed memtables: None where nothing is sealed. The job shares the memtables, and copies
-    /// nothing of them.
+    /// nothing of them. A job that is only dropped, and neither registered nor given up, leaves the flush open until the tree
+    /// is opened again.
     ///
     /// # Errors
     ///
@@ -185,7 +186,7 @@ impl<S: Store> TreeState<S> {
         Ok(job.with_tables(tables))
     }
 
-    /// Gives up a job: its flush is no longer open. Files that were written for it stay, as orphans.
+    /// Gives up a job: its flush is no longer open. Files that were written for it stay; the next opening removes them.
     pub fn abandon_flush(&mut self, job: FlushJob)
         ensures core { self.new.core ≡ spent job.number self.old.core }
         ensures store { self.new.store ≡ self.old.store }

@@ -1,13 +1,14 @@
 // How a flush is installed.
-ghost use Rattle.std.specs.Prelude.{[], ◌≡◌, ◌⊎◌, ◌↔◌, ◌++◌, ◌≤◌, ◌-◌, ◌^◌, None, true, take, reverse, length, map, IsTrue, IsSome, IfOk, IfErr, IsErrOf};
+ghost use Rattle.std.specs.Prelude.{ℕ, [], ◌≡◌, ◌⊎◌, ◌↔◌, ◌++◌, ◌≤◌, ◌-◌, ◌^◌, None, true, take, reverse, length, map, IsTrue, IsSome, IfOk, IfErr, IsErrOf};
 ghost use Rattle.std.specs.List.Sorted.{IsPermutation};
+ghost use Rattle.lsm_model.specs.Steps.{among};
 ghost use Rattle.lsm_versions.specs.Levels.{range, all_of, HasOwnIds};
 ghost use Rattle.lsm_versions.specs.Refusals.{IsRefusedFor};
 ghost use Rattle.lsm_below.specs.Runs.{IsRun};
 ghost use Rattle.lsm_files.specs.Stored.{AreOnDisk};
 ghost use Rattle.lsm_jobs.specs.Jobs.{ids_in, entries_in};
 ghost use Rattle.lsm_files.specs.Causes.{HasCause};
-ghost use Rattle.lsm_state.specs.Cleaning.{LeavesNoFiles};
+ghost use Rattle.lsm_state.specs.Cleaning.{LeavesNoFiles, RemovesTables};
 ghost use Rattle.lsm_state.specs.Causes.{BlamesOrUnclean};
 ghost use Rattle.lsm_state.specs.Held.{entries_of};
 ghost use Rattle.lsm_files.specs.Foreign.{Passes};
@@ -17,13 +18,15 @@ ghost use Rattle.lsm_state.specs.Flushes.{IsCurrent, IsFlushedOf, MayInstall, In
 
 use crate::flush::without_job;
 use crate::{Memtables, TreeState, flushes_are_deeds};
-use lsm_below::{MemtableId, SeqNo};
+use lsm_below::{MemtableId, SeqNo, TableId};
 use lsm_files::crashes_leave_versions;
 use lsm_jobs::{Registered, SealedMemtable, WrittenFlush, same_entries, same_ids, same_tables};
 use lsm_parts::{Error, LIMIT, SuperVersion};
 use lsm_store::Store;
+use lsm_tables::Table;
 use lsm_versions::changes_keep_tables;
-use std::alloc::Global;
+use std::alloc::{AllocError, Global};
+use std::collections::HashSet;
 
 /// Whether these ids, newest first, are the first of those sealed memtables, which stand in the order of sealing.
 fn are_first(ids: &[MemtableId], sealed: &[MemtableId]) -> bool
@@ -112,6 +115,17 @@ fn flushed_version(
     })
 }
 
+/// The ids of tables.
+fn ids_of(alloc: Global, tables: &[Table]) -> Result<HashSet<TableId>, AllocError>
+    ensures { IfOk result (λ ids. (i : ℕ) → among ids.keys i ≡ among (map (λ t. t.id) tables.now) i) }
+{
+    let mut ids = HashSet::new(alloc);
+    for table in tables {
+        ids.insert(table.id())?;
+    }
+    Ok(ids)
+}
+
 impl<S: Store> TreeState<S> {
     /// Whether a job is the open one, its tables are those that were written for it, its memtables are the first sealed
     /// ones, and their entries are its own. The cost is linear in the entries.
@@ -184,6 +198,35 @@ impl<S: Store> TreeState<S> {
         })
     }
 
+    /// As `register`, of a current job; refused, the files of its tables are removed, as far as the store lets it, unless the
+    /// version that names them may be the current one.
+    fn register_current(&mut self, job: WrittenFlush) -> Result<Registered, Error>
+        requires certain { self.old.core.lost ≡ None }
+        requires current { IsCurrent job self.old.core }
+        ensures registers { Registers job result self.old.core self.new.core }
+        ensures upholds { S.tells → Upholds (S.world self.old.store) (S.world self.new.store) self.old.core self.new.core }
+        ensures causes { HasCause (BlamesOrUnclean result) (S.world self.old.store) (S.world self.new.store) }
+        ensures gone { S.tells → IfOk result (λ a. a.installed ≡ true → a.cleaned ≡ true → LeavesNoFiles (S.world self.new.store) [] self.old.core.history self.new.core.history) }
+        ensures refused { S.tells → IsErrOf result Error.OutOfNumbers ⊎ IsErrOf result Error.TooManyRuns → RemovesTables (map (λ t. t.id) job.tables) (S.world self.old.store) (S.world self.new.store) }
+        ensures deeds { IfOk result (λ a. a.installed ≡ true → IsFlushDeed job self.old.core self.new.core) }
+        ensures lost { IsErrOf result Error.CommitUnknown → IsLostFlush job self.old.core self.new.core }
+    {
+        self.facts();
+        let Ok(ids) = ids_of(self.alloc, job.tables()) else {
+            self.is_upheld();
+            self.abandon_flush(job.into_job());
+            return Err(Error::OutOfMemory);
+        };
+        match self.register(job, true) {
+            Ok(registered) => Ok(registered),
+            Err(Error::CommitUnknown) => Err(Error::CommitUnknown),
+            Err(error) => {
+                self.give_up(&ids);
+                Err(error)
+            }
+        }
+    }
+
     /// Installs the tables of a job, if it is the open one, its tables are those that were written for it, its memtables
     /// are the first sealed ones, and their entries are its own: then a new super version reads the tables in place of the
     /// memtables, and what no snapshot from the job's watermark on reads is cleaned up behind it. Else it is stale, and
@@ -199,6 +242,9 @@ impl<S: Store> TreeState<S> {
     /// don't overlap are joined, or a run 2^32 tables; `OutOfMemory`; `Store` where the version's file wasn't written.
     /// `CommitUnknown` where replacing `current` failed: reads stay as they are, and a crash leaves the old version or the
     /// new one.
+    ///
+    /// Refused with any other of these, the files of its tables are removed, as far as the store lets it, but not where there
+    /// was no memory to begin. Those of a stale job stay, since they may be another tree's; the next opening removes them.
     pub fn register_tables(&mut self, job: WrittenFlush) -> Result<Registered, Error>
         ensures registers { Registers job result self.old.core self.new.core }
         // What a crash leaves.
@@ -207,13 +253,20 @@ impl<S: Store> TreeState<S> {
         ensures causes { HasCause (BlamesOrUnclean result) (S.world self.old.store) (S.world self.new.store) }
         // Behind a whole clean-up no file is left of what went.
         ensures gone { S.tells → IfOk result (λ a. a.installed ≡ true → a.cleaned ≡ true → LeavesNoFiles (S.world self.new.store) [] self.old.core.history self.new.core.history) }
+        // Where the counter or the level was full, no file is left of a current job, unless a call of the store failed.
+        ensures refused { S.tells → IsCurrent job self.old.core → IsErrOf result Error.OutOfNumbers ⊎ IsErrOf result Error.TooManyRuns → RemovesTables (map (λ t. t.id) job.tables) (S.world self.old.store) (S.world self.new.store) }
         ensures no_call { IsSome self.old.core.lost → self.new.store ≡ self.old.store }
         // As the theories see it: the mark, and behind it the flush and the maintenance, or one of unknown outcome.
         ensures marks { IsMarkDeed job.watermark self.old.core (spent job.job.number self.old.core) }
         ensures deeds { IfOk result (λ a. a.installed ≡ true → IsFlushDeed job self.old.core self.new.core) }
         ensures lost { IsErrOf result Error.CommitUnknown → IsLostFlush job self.old.core self.new.core }
     {
+        flushes_are_deeds();
+        self.facts();
         let current = self.is_current(&job);
+        if current && !self.is_uncertain() {
+            return self.register_current(job);
+        }
         self.register(job, current)
     }
 }

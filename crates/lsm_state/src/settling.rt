@@ -6,7 +6,7 @@ ghost use Rattle.lsm_files.specs.Commits.{AreOthers};
 ghost use Rattle.lsm_files.specs.Causes.{HasCause, Blames};
 ghost use Rattle.lsm_manifest.specs.Names.{version_name};
 ghost use Rattle.lsm_state.specs.Core.{written_of};
-ghost use Rattle.lsm_state.specs.Cleaning.{AreAbsent, AreDrawnBelow, LeavesNoFiles, RemovesDrawn};
+ghost use Rattle.lsm_state.specs.Cleaning.{AreAbsent, AreDrawnBelow, LeavesNoFiles, RemovesDrawn, RemovesTables};
 ghost use Rattle.lsm_files.specs.Foreign.{Passes};
 ghost use Rattle.lsm_state.specs.Commits.{UpholdsFiles, Upholds};
 ghost use Rattle.lsm_state.specs.Settling.{MaySettle, Settles};
@@ -44,6 +44,19 @@ impl<S: Store> TreeState<S> {
             Ok(()) => Ok(()),
             Err(_) => Err(Error::AfterCommit),
         }
+    }
+
+    /// As `remove_gone`, as far as the store lets it.
+    pub(crate) fn give_up(&mut self, ids: &HashSet<TableId>)
+        requires certain { self.old.core.lost ≡ None }
+        requires spares { AreOthers ids.now.keys (written_of self.old.core) }
+        requires others { AreOthers ids.now.keys (all_of self.old.core.history.latest.version.levels) }
+        ensures core { self.new.core ≡ self.old.core }
+        ensures upholds { S.tells → Upholds (S.world self.old.store) (S.world self.new.store) self.old.core self.new.core }
+        ensures causes { HasCause ⊥ (S.world self.old.store) (S.world self.new.store) }
+        ensures gone { S.tells → RemovesTables ids.now.keys (S.world self.old.store) (S.world self.new.store) }
+    {
+        let _ = self.remove_gone(ids);
     }
 
     /// Removes the files of the tables whose ids were drawn from this one on, which no version has, as far as the store lets it.

@@ -1,10 +1,11 @@
-use Rattle.std.proofs.Common.{◌≡◌, ℕ, true, [], Option, Some, None, IfSome}
+use Rattle.std.proofs.Common.{◌≡◌, ◌<◌, ◌^◌, ℕ, true, [], Option, Some, None, IfSome}
 use Rattle.lsm_jobs.specs.declared.jobs.Registered.{Registered}
-use Rattle.lsm_state.specs.Cleaning.{LeavesNoFiles}
+use Rattle.lsm_below.specs.declared.error.Error.TheVariants.{CommitUnknown}
+use Rattle.lsm_state.specs.Cleaning.{LeavesNoFiles, RemovesDrawn}
 use Rattle.lsm_state.proofs.CleaningUp.{rotated_leaves}
 use Rattle.std.proofs.Common.{◌∙◌, sym, ap, subst, IsSome}
 use Rattle.lsm_state.specs.Core.{versions_left, written_of}
-use Rattle.lsm_state.proofs.WholeFlushes.{upholds_same, rotated_lost}
+use Rattle.lsm_state.proofs.WholeFlushes.{upholds_same, rotated_lost, rotated_table, none_drawn}
 use Rattle.lsm_state.proofs.tree.TreeState.flush_active_memtable.Goals as goal
 
 pub returns-in-Err-clause-upholds : goal.returns-in-Err-clause-upholds
@@ -33,3 +34,20 @@ returns-in-Ok-flush-clause-gone g c tells =
     let new = c.flush.new.self in
     each_some (λ (p : ℕ × Registered). p.1.cleaned ≡ true → LeavesNoFiles (w new.store) [] mid.history new.core.history) (λ (p : ℕ × Registered). p.1.cleaned ≡ true → LeavesNoFiles (w new.store) [] old.history new.core.history) c.in-Ok-flush.flushed
     (λ p left whole. rotated_leaves (w new.store) [] old mid c.in-Ok.sealed new.core.history c.in-Ok.ensures.ok (left whole)) (c.in-Ok-flush.ensures.gone tells)
+
+pub returns-in-Err-clause-refused : goal.returns-in-Err-clause-refused
+returns-in-Err-clause-refused g c tells small known =
+    let w = g.S.Store.world in
+    let old = c.args.self.now in
+    let new = c.rotate_memtable.new.self in
+    none_drawn old.core.next_table new.core.next_table (w old.store) (w new.store) (ap (λ t. t.core.next_table) c.in-Err.ensures.err)
+
+pub returns-in-Err-flush-clause-refused : goal.returns-in-Err-flush-clause-refused
+returns-in-Err-flush-clause-refused g c tells =
+    let w = g.S.Store.world in
+    let old = c.args.self.now in
+    let mid = c.rotate_memtable.new.self in
+    let new = c.flush.new.self in
+    let same = rotated_table old.core c.in-Ok.sealed mid.core c.in-Ok.ensures.ok in
+    let did = subst (λ n. n < 2 ^ 63 → (c.in-Err-flush.error ≡ CommitUnknown → ⊥) → RemovesDrawn n new.core.next_table (w mid.store) (w new.store)) same (c.in-Err-flush.ensures.refused tells) in
+    subst (λ s. old.core.next_table < 2 ^ 63 → (c.in-Err-flush.error ≡ CommitUnknown → ⊥) → RemovesDrawn old.core.next_table new.core.next_table (w s) (w new.store)) c.rotate_memtable.ensures.store did
