@@ -1,10 +1,9 @@
 -- A batch on its way into a journal.
-use Rattle.std.proofs.Common.{◌≡◌, ℕ, zero, suc, ◌+◌, ◌<◌, Bool, true, false, ◌&&◌, List, [], ◌∷◌, ◌++◌, map, length, get_or, take, nat_lt, nat_le, refl, sym, ap, ◌∙◌, arith, lt-ltb, subst, IsSome, Result, Ok, Err, IsErrOf, ◌↔◌}
+use Rattle.std.proofs.Common.{◌≡◌, ℕ, zero, suc, ◌+◌, ◌<◌, Bool, true, false, ◌&&◌, List, [], ◌∷◌, map, length, get_or, nat_lt, nat_le, refl, sym, ap, ◌∙◌, arith, lt-ltb, subst, IsSome, Result, Ok, Err, IsErrOf, ◌↔◌}
 use Rattle.std.specs.List.{list_all}
-use Rattle.std.proofs.lemmas.List.{take_more, map-append}
 use Rattle.std.specs.BTreeMap as tree
 use Rattle.std.specs.BTreeMap.{BTreeMap}
-use Rattle.lsm_below.specs.Keys.{Bytes, bytes_cmp}
+use Rattle.lsm_below.specs.Keys.{Bytes}
 use Rattle.lsm_below.specs.Entries.{Entry}
 use Rattle.lsm_below.specs.declared.error.Error.{Error}
 use Rattle.lsm_below.specs.declared.error.Error.TheVariants.{OutOfMemory, OutOfOrder}
@@ -15,10 +14,11 @@ use Rattle.lsm_model.specs.declared.op.Op.TheVariants.{Set, Del, Weak}
 use Rattle.lsm_model.specs.declared.journal.JournalEntry.TheVariants.{Write}
 use Rattle.lsm_recorded.specs.declared.marks.Mark.{Mark}
 use Rattle.lsm_recorded.specs.declared.notes.Note.{Note}
+use Rattle.lsm_recorded.specs.Headed.{headed_cmp}
 use Rattle.lsm_recorded.specs.Marks.{mark_in, mark_allows, marked_by, marked_all, mark_tells_order, op_type, op_allowed}
 use Rattle.lsm_recorded.specs.Order.{keeps_order, batch_keeps_order}
 use Rattle.lsm_recorded.specs.Notes.{journal_entry, pass_entry, HaveNumber, HaveMarks, HasRoom}
-use Rattle.lsm_recorded.proofs.MarksLemmas.{order_told, marked_by_same}
+use Rattle.lsm_recorded.proofs.MarksLemmas.{order_told, marked_all_same}
 
 -- ---- the test of order
 
@@ -58,19 +58,24 @@ module _ (opened : List Entry) (journal : List Event) (n : ℕ) where
 
 -- ---- marks
 
-marked_all-push : (es : List Entry) (e : Entry) (f : Bytes → Mark) (q : Bytes) → marked_all (es ++ e ∷ []) f q ≡ marked_by e (marked_all es f) q
-marked_all-push [] e f q = refl
-marked_all-push (d ∷ es) e f q = marked_all-push es e (marked_by d f) q
-
 abbrev pub entries_of : List Note → List Entry
 entries_of notes = map (λ (n : Note). n.entry) notes
 
--- one more write is noted
-pub marked_more : (notes : List Note) (i : ℕ) (x : Note) (f : Bytes → Mark) (old new : Bytes → Mark) → i < length notes → x ≡ get_or notes i x → ((q : Bytes) → old q ≡ marked_all (entries_of (take i notes)) f q) → ((q : Bytes) → new q ≡ marked_by x.entry old q)
-    → (q : Bytes) → new q ≡ marked_all (entries_of (take (i + 1) notes)) f q
-marked_more notes i x f old new lt is before after q =
-    let more : entries_of (take (i + 1) notes) ≡ entries_of (take i notes) ++ x.entry ∷ [] = ap entries_of (take_more notes i x lt ∙ ap (λ y. take i notes ++ y ∷ []) (sym is)) ∙ map-append (λ (n : Note). n.entry) (take i notes) (x ∷ []) in
-    after q ∙ marked_by_same old (marked_all (entries_of (take i notes)) f) x.entry before q ∙ sym (ap (λ es. marked_all es f q) more ∙ marked_all-push (entries_of (take i notes)) x.entry f q)
+-- the first of the writes that are left is noted
+pub marked_next : (x : Note) (notes : List Note) (old new : Bytes → Mark) → ((q : Bytes) → new q ≡ marked_by x.entry old q) → (q : Bytes) → marked_all (entries_of (x ∷ notes)) old q ≡ marked_all (entries_of notes) new q
+marked_next x notes old new after q = marked_all_same (marked_by x.entry old) new (entries_of notes) (λ k. sym (after k)) q
+
+-- of writes that have room, the first one has, and what is left
+pub room_first : (marks : BTreeMap Bytes Mark) (x : Note) (notes all : List Note) → all ≡ x ∷ notes → HasRoom marks all → IsSome (tree.get headed_cmp marks x.entry.key.user_key)
+room_first marks x notes all is there = subst (λ (l : List Note). (j : ℕ) (e : Note) → j < length l → IsSome (tree.get headed_cmp marks (get_or l j e).entry.key.user_key)) is there 0 x (omega arith)
+
+pub room_next : (old new : BTreeMap Bytes Mark) (x : Note) (notes all : List Note) → all ≡ x ∷ notes → ((q : Bytes) → IsSome (tree.get headed_cmp old q) → IsSome (tree.get headed_cmp new q)) → HasRoom old all → HasRoom new notes
+room_next old new x notes all is kept there i d lt =
+    kept _ (subst (λ (l : List Note). (j : ℕ) (e : Note) → j < length l → IsSome (tree.get headed_cmp old (get_or l j e).entry.key.user_key)) is there (suc i) d (omega arith))
+
+-- what is left of writes of one number has it
+pub number_next : (n : ℕ) (x : Note) (notes all : List Note) → all ≡ x ∷ notes → HaveNumber n all → HaveNumber n notes
+number_next n x notes all is numbered i d lt = subst (λ (l : List Note). (j : ℕ) (e : Note) → j < length l → (get_or l j e).entry.key.seqno ≡ n) is numbered (suc i) d (omega arith)
 
 -- ---- entries
 
@@ -101,7 +106,7 @@ room_noted marks n [] ops is there i d lt = absurd (omega arith)
 room_noted marks n (x ∷ notes) [] is there i d lt = absurd (cc is)
 room_noted marks n (x ∷ notes) (p ∷ ops) is there zero d lt =
     let head : x.entry ≡ op_entry p.0 n p.1 = cc is in
-    subst (λ k. IsSome (tree.get bytes_cmp marks k)) (sym (ap (λ (e : Entry). e.key.user_key) head ∙ key_is p.0 n p.1)) (there 0 p (omega arith))
+    subst (λ k. IsSome (tree.get headed_cmp marks k)) (sym (ap (λ (e : Entry). e.key.user_key) head ∙ key_is p.0 n p.1)) (there 0 p (omega arith))
 room_noted marks n (x ∷ notes) (p ∷ ops) is there (suc i) d lt =
     let tail : entries_of notes ≡ op_entries n ops = cc is in
     room_noted marks n notes ops tail (λ j e less. there (suc j) e (omega arith)) i d (omega arith)

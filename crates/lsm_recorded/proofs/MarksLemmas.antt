@@ -8,6 +8,12 @@ use Rattle.std.proofs.lemmas.Grind.{fold-append}
 use Rattle.std.proofs.lemmas.Map.Text.{is_eq-slice_cmp}
 use Rattle.std.proofs.lemmas.Slice.Eq.{bytes_eq-Decides}
 use Rattle.lsm_below.specs.Orders.{same_swap}
+use Rattle.std.specs.Cmp.Lexicographic.{pointwise}
+use Rattle.std.specs.Prelude.{nat_eq}
+use Rattle.std.specs.Ordering.{eq_by_cmp, is_eq, nat_cmp, ordering_then}
+use Rattle.std.specs.declared.cmp.Ordering.{Ordering}
+use Rattle.std.specs.declared.cmp.Ordering.TheVariants.{Less, Equal, Greater}
+use Rattle.lsm_below.specs.Heads.{key_head}
 use Rattle.lsm_below.specs.Keys.{Bytes, bytes_cmp, is_same}
 use Rattle.lsm_below.specs.Entries.{Entry, stack, values, above, is_value, is_weak, is_value_kind, is_weak_kind}
 use Rattle.lsm_below.specs.declared.value_type.ValueType.{ValueType}
@@ -18,6 +24,7 @@ use Rattle.lsm_model.specs.declared.question.Question.{Question}
 use Rattle.lsm_model.specs.declared.question.Answer.{Answer}
 use Rattle.lsm_model.specs.Ops.{repeats}
 use Rattle.lsm_recorded.specs.declared.marks.Mark.{Mark}
+use Rattle.lsm_recorded.specs.Headed.{headed_cmp}
 use Rattle.lsm_recorded.specs.Marks.{mark_of, marked, marked_by, marked_all, no_mark, next_mark, mark_in, kind_allows, mark_allows, entry_allowed, mark_tells_order}
 use Rattle.lsm_recorded.specs.Order.{weak_after, weak_of, kind_keeps, keeps_order}
 
@@ -27,10 +34,30 @@ same_key a b h = (bytes_eq-Decides a b).0 (sym (is_eq-slice_cmp a b) ∙ h)
 pub same_self : (a : Bytes) → is_same a a ≡ true
 same_self a = is_eq-slice_cmp a a ∙ (bytes_eq-Decides a a).1 refl
 
-pub mark_set : (old new : BTreeMap Bytes Mark) (k : Bytes) (m : Mark) (q : Bytes) → tree.get bytes_cmp new q ≡ cond (is_same k q) (Some m) (tree.get bytes_cmp old q) → mark_of new q ≡ marked (mark_of old) k m q
+-- the order of marks ties where keys are the same
+number_self : (n : ℕ) → nat_cmp n n ≡ Equal
+number_self n = grind (arith, nat_tests)
+
+both_tie : (a b : Ordering) → (is_eq b ≡ true → a ≡ Equal) → is_eq (ordering_then a b) ≡ is_eq b
+both_tie Less Less h = refl
+both_tie Less Equal h = absurd (cc (h refl))
+both_tie Less Greater h = refl
+both_tie Equal b h = refl
+both_tie Greater Less h = refl
+both_tie Greater Equal h = absurd (cc (h refl))
+both_tie Greater Greater h = refl
+
+pub headed_ties : (a b : Bytes) → eq_by_cmp headed_cmp a b ≡ is_same a b
+headed_ties a b = both_tie (nat_cmp (key_head a) (key_head b)) (bytes_cmp a b) (λ h. ap (λ k. nat_cmp (key_head a) (key_head k)) (sym (same_key a b h)) ∙ number_self (key_head a))
+
+-- what is answered of the equality of two keys says whether they tie
+pub headed_eq : (a b : Bytes) (t u : Bool) → t ≡ pointwise nat_eq b a → t ≡ u → eq_by_cmp headed_cmp a b ≡ u
+headed_eq a b t u is told = headed_ties a b ∙ same_swap a b ∙ is_eq-slice_cmp b a ∙ sym is ∙ told
+
+pub mark_set : (old new : BTreeMap Bytes Mark) (k : Bytes) (m : Mark) (q : Bytes) → tree.get headed_cmp new q ≡ cond (eq_by_cmp headed_cmp k q) (Some m) (tree.get headed_cmp old q) → mark_of new q ≡ marked (mark_of old) k m q
 mark_set old new k m q e =
-    ap (λ o. unwrap_or o no_mark) (e ∙ ap (λ b. cond b (Some m) (tree.get bytes_cmp old q)) (same_swap k q))
-    ∙ (elim (is_same q k) as (λ b. unwrap_or (cond b (Some m) (tree.get bytes_cmp old q)) no_mark ≡ cond b m (unwrap_or (tree.get bytes_cmp old q) no_mark)) [ true ↦ refl | false ↦ refl ])
+    ap (λ o. unwrap_or o no_mark) (e ∙ ap (λ b. cond b (Some m) (tree.get headed_cmp old q)) (headed_ties k q ∙ same_swap k q))
+    ∙ (elim (is_same q k) as (λ b. unwrap_or (cond b (Some m) (tree.get headed_cmp old q)) no_mark ≡ cond b m (unwrap_or (tree.get headed_cmp old q) no_mark)) [ true ↦ refl | false ↦ refl ])
 
 -- a mark that is set to what it was
 pub marked_same : (marks new : BTreeMap Bytes Mark) (k k' : Bytes) (m : Mark) → k' ≡ k → m ≡ mark_of marks k → (q : Bytes) → mark_of new q ≡ marked (mark_of marks) k' m q → mark_of new q ≡ mark_of marks q
@@ -93,20 +120,20 @@ floor-writes [] journal = ap floor (append-nil journal)
 floor-writes (e ∷ es) journal = ap floor (sym (append_assoc journal (Write e ∷ []) (map Write es))) ∙ floor-writes es (journal ++ Write e ∷ []) ∙ floor-write journal e
 
 -- the mark that is there is the key's
-pub mark_there : (marks : BTreeMap Bytes Mark) (k : Bytes) (m : Mark) → Some m ≡ tree.get bytes_cmp marks k → m ≡ mark_of marks k
+pub mark_there : (marks : BTreeMap Bytes Mark) (k : Bytes) (m : Mark) → Some m ≡ tree.get headed_cmp marks k → m ≡ mark_of marks k
 mark_there marks k m is = ap (λ o. unwrap_or o no_mark) is
 
 -- a mark that is entered as it was changes none
-pub mark_entered : (old new : BTreeMap Bytes Mark) (k : Bytes) (m : Mark) → m ≡ mark_of old k → ((q : Bytes) → tree.get bytes_cmp new q ≡ cond (is_same k q) (Some m) (tree.get bytes_cmp old q)) → (q : Bytes) → mark_of new q ≡ mark_of old q
+pub mark_entered : (old new : BTreeMap Bytes Mark) (k : Bytes) (m : Mark) → m ≡ mark_of old k → ((q : Bytes) → tree.get headed_cmp new q ≡ cond (eq_by_cmp headed_cmp k q) (Some m) (tree.get headed_cmp old q)) → (q : Bytes) → mark_of new q ≡ mark_of old q
 mark_entered old new k m is written q = marked_same old new k k m refl is q (mark_set old new k m q (written q))
 
 -- a mark that is entered as a write leaves it
-pub mark_written : (old new : BTreeMap Bytes Mark) (k key : Bytes) (m w : Mark) (n : ℕ) (kind : ValueType) → k ≡ key → m ≡ mark_of old k → w ≡ next_mark m n kind → ((q : Bytes) → tree.get bytes_cmp new q ≡ cond (is_same k q) (Some w) (tree.get bytes_cmp old q)) → (q : Bytes) → mark_of new q ≡ marked (mark_of old) key (next_mark (mark_of old key) n kind) q
+pub mark_written : (old new : BTreeMap Bytes Mark) (k key : Bytes) (m w : Mark) (n : ℕ) (kind : ValueType) → k ≡ key → m ≡ mark_of old k → w ≡ next_mark m n kind → ((q : Bytes) → tree.get headed_cmp new q ≡ cond (eq_by_cmp headed_cmp k q) (Some w) (tree.get headed_cmp old q)) → (q : Bytes) → mark_of new q ≡ marked (mark_of old) key (next_mark (mark_of old key) n kind) q
 mark_written old new k key m w n kind at is after written q =
     mark_set old new k w q (written q) ∙ ap (λ x. marked (mark_of old) k x q) (after ∙ ap (λ z. next_mark z n kind) is) ∙ ap (λ z. marked (mark_of old) z (next_mark (mark_of old z) n kind) q) at
 
 -- where nothing stands, what is entered is no mark
-pub mark_found : (marks : BTreeMap Bytes Mark) (k : Bytes) (m : Mark) (o : Option Mark) → m ≡ unwrap_or o no_mark → o ≡ tree.get bytes_cmp marks k → m ≡ mark_of marks k
+pub mark_found : (marks : BTreeMap Bytes Mark) (k : Bytes) (m : Mark) (o : Option Mark) → m ≡ unwrap_or o no_mark → o ≡ tree.get headed_cmp marks k → m ≡ mark_of marks k
 mark_found marks k m o is found = is ∙ ap (λ x. unwrap_or x no_mark) found
 
 -- ---- beside a journal, of a tree with these entries

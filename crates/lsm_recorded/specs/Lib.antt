@@ -2,6 +2,7 @@ pub mod Passes
 pub mod Closing
 pub mod Ticks
 pub mod Order
+pub mod Headed
 pub mod Marks
 pub mod MarkedTables
 pub mod Notes

@@ -2,13 +2,14 @@
 use Rattle.std.specs.Prelude.{◌≡◌, ◌++◌, ℕ, ◌+◌, max, min, Bool, true, false, not, ◌&&◌, ◌||◌, List, [], ◌∷◌, unwrap_or, if◌then◌else◌, nat_lt, nat_le, ◌==◌}
 use Rattle.std.specs.BTreeMap as tree
 use Rattle.std.specs.BTreeMap.{BTreeMap}
-use Rattle.lsm_below.specs.Keys.{Bytes, bytes_cmp, is_same}
+use Rattle.lsm_below.specs.Keys.{Bytes, is_same}
 use Rattle.lsm_below.specs.Entries.{Entry, stack, above, IsOrdered, IsSingle}
 use Rattle.lsm_below.specs.declared.value_type.ValueType.{ValueType}
 use Rattle.lsm_below.specs.declared.value_type.ValueType.TheVariants.{Value, Tombstone, WeakTombstone}
 use Rattle.lsm_model.specs.Journal.{Event, next_of, sets_of, floor}
 use Rattle.lsm_model.specs.declared.op.Op.{Op}
 use Rattle.lsm_model.specs.declared.op.Op.TheVariants.{Set, Del, Weak}
+use Rattle.lsm_recorded.specs.Headed.{headed_cmp}
 use Rattle.lsm_recorded.specs.Order.{weak_of}
 use Rattle.lsm_recorded.specs.declared.marks.Mark.{Mark}
 use Rattle.lsm_recorded.specs.declared.opened.OpenedMarks.{OpenedMarks}
@@ -19,7 +20,7 @@ no_mark = record { next = 0; sets = 0; is_weak = false }
 
 -- the mark of a key, of which nothing may be noted yet
 abbrev pub mark_of : BTreeMap Bytes Mark → Bytes → Mark
-mark_of marks k = unwrap_or (tree.get bytes_cmp marks k) no_mark
+mark_of marks k = unwrap_or (tree.get headed_cmp marks k) no_mark
 
 -- marks, of which one is another
 abbrev pub marked : (Bytes → Mark) → Bytes → Mark → Bytes → Mark

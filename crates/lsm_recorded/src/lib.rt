@@ -11,6 +11,7 @@
 //! | `recorded::counted` | what is counted of it |
 //! | `pass` | what one caller's calls add to a journal |
 //! | `marks` | what was written to each key, by which a write in order is told |
+//! | `marked_key` | keys that are ordered by their heads first |
 //! | `opened` | what opened tables hold of each key, and whether they are in order |
 //! | `notes` | copies of the entries of a write, for the journal and a pass |
 //! | `writes` | writes to a tree that are noted |
@@ -19,6 +20,7 @@
 #![tactic(auto)]
 
 mod closing;
+mod marked_key;
 mod marks;
 mod notes;
 mod noting;

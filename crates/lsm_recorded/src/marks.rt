@@ -1,12 +1,14 @@
 // What was written to each key so far, by which a write in order is told without the journal.
 ghost use Rattle.std.specs.Prelude.{◌≡◌, ◌+◌, ◌^◌, ◌<◌, ◌↔◌, ◌⊎◌, false, OnOk, OnErr, IfOk, IfErr, IsErrOf, IsSome, ◌&&◌, if◌then◌else◌};
 ghost use Rattle.std.specs.BTreeMap as tree;
-ghost use Rattle.lsm_below.specs.Keys.{Bytes, bytes_cmp};
+ghost use Rattle.lsm_below.specs.Keys.{Bytes};
 ghost use Rattle.std.specs.List.{list_all};
+ghost use Rattle.lsm_recorded.specs.Headed.{headed_cmp};
 ghost use Rattle.lsm_recorded.specs.Marks.{mark_of, marked, marked_by, mark_allows, next_mark, op_type, op_allowed};
 ghost use Rattle.lsm_recorded.specs.Notes.{HaveMarks};
 
-use lsm_below::{Error, InternalValue, SeqNo, UserKey, ValueType, share};
+use crate::marked_key::MarkedKey;
+use lsm_below::{Error, InternalKey, InternalValue, SeqNo, UserKey, ValueType, share};
 use lsm_model::Op;
 use std::alloc::AllocError;
 use std::collections::BTreeMap;
@@ -28,7 +30,7 @@ pub(crate) const NOTHING: Mark = Mark {
 };
 
 /// The mark of a key, of which nothing may be noted yet.
-pub(crate) fn read_mark(marks: &BTreeMap<UserKey, Mark>, key: &UserKey) -> Mark
+pub(crate) fn read_mark(marks: &BTreeMap<MarkedKey, Mark>, key: &MarkedKey) -> Mark
     ensures { result ≡ mark_of marks.now key.now }
 {
     match marks.get(key) {
@@ -37,29 +39,42 @@ pub(crate) fn read_mark(marks: &BTreeMap<UserKey, Mark>, key: &UserKey) -> Mark
     }
 }
 
+/// `read_mark`, mark by mark, where there is no memory for another handle on the key.
+fn walk_to_mark(marks: &BTreeMap<MarkedKey, Mark>, key: &UserKey) -> Mark
+    ensures { result ≡ mark_of marks.now key.now }
+{
+    for (marked, mark) in marks {
+        if marked.key() == key {
+            return *mark;
+        }
+    }
+    NOTHING
+}
+
 /// The key, which shares the bytes of the key that is marked, if one is: so a journal keeps no bytes of its own for each
 /// read of a key.
 pub(crate) fn share_marked(
-    marks: &BTreeMap<UserKey, Mark>,
+    marks: &BTreeMap<MarkedKey, Mark>,
     key: &UserKey,
 ) -> Result<UserKey, AllocError>
     ensures { IfOk result (λ shared. shared ≡ key.now) }
 {
-    match marks.get_key_value(key) {
-        Some((marked, _)) => share(marked),
-        None => share(key),
+    let own = MarkedKey::new(share(key)?);
+    match marks.get_key_value(&own) {
+        Some((marked, _)) => share(marked.key()),
+        None => Ok(own.into_key()),
     }
 }
 
-/// Sets a key's mark. A new key shares its bytes.
+/// Sets a key's mark.
 pub(crate) fn set_mark(
-    marks: &mut BTreeMap<UserKey, Mark>,
-    key: &UserKey,
+    marks: &mut BTreeMap<MarkedKey, Mark>,
+    key: MarkedKey,
     mark: Mark,
 ) -> Result<(), AllocError>
-    ensures { OnOk result ((q : Bytes) → mark_of marks.new q ≡ marked (mark_of marks.old) key.now mark q) }
+    ensures { OnOk result ((q : Bytes) → mark_of marks.new q ≡ marked (mark_of marks.old) key mark q) }
 {
-    let _ = marks.insert(share(key)?, mark)?;
+    let _ = marks.insert(key, mark)?;
     Ok(())
 }
 
@@ -103,18 +118,18 @@ pub(crate) fn mark_after(mark: Mark, number: SeqNo, kind: ValueType) -> Mark
 /// The key of a write, for its mark; the two share their bytes. Where there is no memory for it, the order still comes
 /// first: `OutOfOrder` exactly where a write of this sequence number and type breaks the order of the key.
 pub(crate) fn share_key(
-    marks: &BTreeMap<UserKey, Mark>,
+    marks: &BTreeMap<MarkedKey, Mark>,
     key: &UserKey,
     number: SeqNo,
     kind: ValueType,
-) -> Result<UserKey, Error>
+) -> Result<MarkedKey, Error>
     ensures ok { IfOk result (λ shared. shared ≡ key.now) }
     ensures err { IfErr result (λ e. e ≡ (if mark_allows (mark_of marks.now key.now) number kind then Error.OutOfMemory else Error.OutOfOrder)) }
 {
     if let Ok(shared) = share(key) {
-        return Ok(shared);
+        return Ok(MarkedKey::new(shared));
     }
-    if is_allowed(read_mark(marks, key), number, kind) {
+    if is_allowed(walk_to_mark(marks, key), number, kind) {
         return Err(Error::OutOfMemory);
     }
     Err(Error::OutOfOrder)
@@ -134,7 +149,7 @@ pub(crate) fn type_of(op: &Op) -> ValueType
 /// Makes room for the mark of the key of a write, which stays what it is. `OutOfOrder`, before all else, exactly where the
 /// write breaks the order of its key, or of installs and clears.
 pub(crate) fn admit(
-    marks: &mut BTreeMap<UserKey, Mark>,
+    marks: &mut BTreeMap<MarkedKey, Mark>,
     floor: SeqNo,
     number: SeqNo,
     key: &UserKey,
@@ -143,8 +158,8 @@ pub(crate) fn admit(
     ensures out_of_order { IsErrOf result Error.OutOfOrder ↔ (op_allowed (mark_of marks.old) floor number (key.now, op.now) ≡ false) }
     ensures only { IfErr result (λ e. (e ≡ Error.OutOfOrder) ⊎ (e ≡ Error.OutOfMemory)) }
     ensures same { (q : Bytes) → mark_of marks.new q ≡ mark_of marks.old q }
-    ensures there { OnOk result (IsSome (tree.get bytes_cmp marks.new key.now)) }
-    ensures kept { (q : Bytes) → IsSome (tree.get bytes_cmp marks.old q) → IsSome (tree.get bytes_cmp marks.new q) }
+    ensures there { OnOk result (IsSome (tree.get headed_cmp marks.new key.now)) }
+    ensures kept { (q : Bytes) → IsSome (tree.get headed_cmp marks.old q) → IsSome (tree.get headed_cmp marks.new q) }
 {
     if number < floor {
         return Err(Error::OutOfOrder);
@@ -161,7 +176,7 @@ pub(crate) fn admit(
 /// Makes room for the marks of the keys of a batch, which stay what they are. `OutOfOrder`, before all else, exactly where one
 /// of its writes breaks the order.
 pub(crate) fn admit_all(
-    marks: &mut BTreeMap<UserKey, Mark>,
+    marks: &mut BTreeMap<MarkedKey, Mark>,
     floor: SeqNo,
     number: SeqNo,
     ops: &[(UserKey, Op)],
@@ -186,13 +201,48 @@ pub(crate) fn admit_all(
 }
 
 /// Notes a write in the mark of its key, for which there is room.
-pub(crate) fn mark_write(marks: &mut BTreeMap<UserKey, Mark>, entry: &InternalValue)
-    requires there { IsSome (tree.get bytes_cmp marks.old entry.now.key.user_key) }
-    requires fits { entry.now.key.seqno + 1 < 2 ^ 64 }
-    ensures is { (q : Bytes) → mark_of marks.new q ≡ marked_by entry.now (mark_of marks.old) q }
-    ensures kept { (q : Bytes) → IsSome (tree.get bytes_cmp marks.old q) → IsSome (tree.get bytes_cmp marks.new q) }
+fn raise_mark(
+    marks: &mut BTreeMap<MarkedKey, Mark>,
+    key: &MarkedKey,
+    number: SeqNo,
+    kind: ValueType,
+)
+    requires there { IsSome (tree.get headed_cmp marks.old key.now) }
+    requires fits { number + 1 < 2 ^ 64 }
+    ensures is { (q : Bytes) → mark_of marks.new q ≡ marked (mark_of marks.old) key.now (next_mark (mark_of marks.old key.now) number kind) q }
+    ensures kept { (q : Bytes) → IsSome (tree.get headed_cmp marks.old q) → IsSome (tree.get headed_cmp marks.new q) }
 {
-    if let Some(mark) = marks.get_mut(&entry.key.user_key) {
-        *mark = mark_after(*mark, entry.key.seqno, entry.key.value_type);
+    if let Some(mark) = marks.get_mut(key) {
+        *mark = mark_after(*mark, number, kind);
+    }
+}
+
+/// Notes a write in the mark of its key, for which there is room. The entry is given back, so that its key serves for the
+/// look-up and no other handle on it is made, which could be refused.
+pub(crate) fn mark_write(
+    marks: &mut BTreeMap<MarkedKey, Mark>,
+    entry: InternalValue,
+) -> InternalValue
+    requires there { IsSome (tree.get headed_cmp marks.old entry.key.user_key) }
+    requires fits { entry.key.seqno + 1 < 2 ^ 64 }
+    ensures same { result ≡ entry }
+    ensures is { (q : Bytes) → mark_of marks.new q ≡ marked_by entry (mark_of marks.old) q }
+    ensures kept { (q : Bytes) → IsSome (tree.get headed_cmp marks.old q) → IsSome (tree.get headed_cmp marks.new q) }
+{
+    let InternalKey {
+        user_key,
+        seqno,
+        value_type,
+    } = entry.key;
+    let marked = MarkedKey::new(user_key);
+    raise_mark(marks, &marked, seqno, value_type);
+    let key = InternalKey {
+        user_key: marked.into_key(),
+        seqno,
+        value_type,
+    };
+    InternalValue {
+        key,
+        value: entry.value,
     }
 }

@@ -8,6 +8,7 @@ ghost use Rattle.lsm_recorded.specs.Marks.{mark_of, marked_all};
 ghost use Rattle.lsm_recorded.specs.Passes.{listed};
 ghost use Rattle.lsm_recorded.specs.Notes.{HasRoom, journal_entry, pass_entry, HaveNumber};
 
+use crate::marked_key::MarkedKey;
 use crate::marks::{Mark, mark_write};
 use crate::pass::put_entry;
 use lsm_below::{InternalValue, SeqNo, UserKey, ValueType, share};
@@ -57,34 +58,30 @@ pub(crate) fn make_notes(
     Ok(notes)
 }
 
-/// Notes these writes in the marks of their keys, for which there is room. All have this sequence number.
-pub(crate) fn mark_notes(marks: &mut BTreeMap<UserKey, Mark>, number: SeqNo, notes: &[Note])
-    requires there { HasRoom marks.old notes.now }
-    requires numbered { HaveNumber number notes.now }
-    requires fits { number + 1 < 2 ^ 64 }
-    ensures { (q : Bytes) → mark_of marks.new q ≡ marked_all (map (λ n. n.entry) notes.now) (mark_of marks.old) q }
-{
-    for note in notes {
-        mark_write(marks, &note.entry);
-    }
-}
-
-/// Appends these entries to a journal, and their copies with their places to a pass. There is room.
+/// Notes these writes in the marks of their keys, appends them to a journal, and their copies with their places to a pass. There
+/// is room for all. All have this sequence number.
 pub(crate) fn put_notes(
+    marks: &mut BTreeMap<MarkedKey, Mark>,
     journal: &mut Vec<JournalEntry>,
     pass: &mut Vec<(u64, JournalEntry)>,
+    number: SeqNo,
     notes: Vec<Note>,
 )
+    requires there { HasRoom marks.old notes.items }
+    requires numbered { HaveNumber number notes.items }
+    requires fits { number + 1 < 2 ^ 64 }
     requires journal_room { vec_len journal.old + vec_len notes ≤ vec_capacity journal.old }
     requires pass_room { vec_len pass.old + vec_len notes ≤ vec_capacity pass.old }
+    ensures marks { (q : Bytes) → mark_of marks.new q ≡ marked_all (map (λ n. n.entry) notes.items) (mark_of marks.old) q }
     ensures journal { journal.new.items ≡ journal.old.items ++ map journal_entry notes.items }
     ensures pass { pass.new.items ≡ pass.old.items ++ listed (length journal.old.items) (map pass_entry notes.items) }
 {
     for note in notes {
+        let entry = mark_write(marks, note.entry);
         put_entry(
             journal,
             pass,
-            JournalEntry::Write(note.entry),
+            JournalEntry::Write(entry),
             JournalEntry::Write(note.copy),
         );
     }

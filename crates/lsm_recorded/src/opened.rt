@@ -7,8 +7,9 @@ ghost use Rattle.lsm_manifest.specs.Standing.{HasSmallNumbers};
 ghost use Rattle.lsm_recorded.specs.Marks.{opened_type, MarksMore, IsMarked};
 ghost use Rattle.lsm_recorded.specs.MarkedTables.{entries_in, run_entries, level_entries, IsSmall, TablesAreInOrder, IsOpenedWith};
 
+use crate::marked_key::MarkedKey;
 use crate::marks::{Mark, is_allowed, mark_after, read_mark, set_mark};
-use lsm_below::{InternalValue, Run, SeqNo, UserKey, ValueType};
+use lsm_below::{InternalValue, Run, SeqNo, ValueType, share};
 use lsm_tables::Table;
 use lsm_versions::{Level, Version};
 use std::alloc::{AllocError, Global};
@@ -17,7 +18,7 @@ use std::collections::BTreeMap;
 /// The marks of entries, and the least sequence number above all.
 #[derive(Drop)]
 pub(crate) struct OpenedMarks {
-    pub(crate) marks: BTreeMap<UserKey, Mark>,
+    pub(crate) marks: BTreeMap<MarkedKey, Mark>,
     pub(crate) least: SeqNo,
 }
 
@@ -38,12 +39,13 @@ fn mark_entry(opened: &mut OpenedMarks, entry: &InternalValue) -> Result<bool, A
     ensures { IfOk result (λ b. MarksMore opened.old b (entry.now ∷ []) opened.new) }
 {
     let number = entry.key.seqno;
-    let mark = read_mark(&opened.marks, &entry.key.user_key);
+    let key = MarkedKey::new(share(&entry.key.user_key)?);
+    let mark = read_mark(&opened.marks, &key);
     if !is_allowed(mark, number, entry.key.value_type) {
         return Ok(false);
     }
     let mark = mark_after(mark, number, opened_type(entry.key.value_type));
-    set_mark(&mut opened.marks, &entry.key.user_key, mark)?;
+    set_mark(&mut opened.marks, key, mark)?;
     opened.least = opened.least.max(number + 1);
     Ok(true)
 }

@@ -22,6 +22,7 @@ ghost use Rattle.lsm_recorded.specs.Passes.{Notes};
 ghost use Rattle.lsm_recorded.specs.Closing.{ListTogether};
 
 use crate::closing::list_together;
+use crate::marked_key::MarkedKey;
 use crate::marks::{Mark, share_marked};
 use crate::pass::{Pass, note_entry};
 use crate::writes::{append_marked, write_marked};
@@ -67,7 +68,7 @@ pub struct Recorded<S: Store = MemStore> {
     alloc: Global,
     core: TreeState<S>,
     journal: Vec<JournalEntry>,
-    marks: BTreeMap<UserKey, Mark>,
+    marks: BTreeMap<MarkedKey, Mark>,
     /// The greatest sequence number of an install or a clear.
     floor: SeqNo,
     /// The least sequence number above all that were opened.
@@ -91,7 +92,7 @@ impl<S: Store> Model for Recorded<S> {
 /// the key that is marked: so a journal keeps no bytes of its own for each read of a key.
 fn find<S: Store>(
     core: &TreeState<S>,
-    marks: &BTreeMap<UserKey, Mark>,
+    marks: &BTreeMap<MarkedKey, Mark>,
     key: &UserKey,
     snapshot: SeqNo,
 ) -> Result<(UserKey, Option<UserValue>), Error>

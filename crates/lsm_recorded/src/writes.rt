@@ -10,8 +10,9 @@ ghost use Rattle.lsm_recorded.specs.Marks.{mark_of, marked_by, marked_all, entry
 ghost use Rattle.lsm_recorded.specs.Passes.{Notes};
 ghost use Rattle.lsm_recorded.specs.Recorded.{OwnOr};
 
+use crate::marked_key::MarkedKey;
 use crate::marks::{Mark, NOTHING, admit_all, is_allowed, mark_after, share_key, type_of};
-use crate::notes::{make_note, make_notes, mark_notes, note_of, put_notes};
+use crate::notes::{make_note, make_notes, note_of, put_notes};
 use crate::pass::{make_room, put_entry};
 use lsm_below::{InternalValue, SeqNo, UserKey};
 use lsm_model::{JournalEntry, Op};
@@ -50,7 +51,7 @@ fn append_noted<S: Store>(
 /// changes nothing but the room that there is.
 pub(crate) fn append_marked<S: Store>(
     core: &mut TreeState<S>,
-    marks: &mut BTreeMap<UserKey, Mark>,
+    marks: &mut BTreeMap<MarkedKey, Mark>,
     floor: SeqNo,
     journal: &mut Vec<JournalEntry>,
     pass: &mut Vec<(u64, JournalEntry)>,
@@ -108,7 +109,7 @@ fn write_noted<S: Store>(
 /// Writes a batch of one, as `write_marked`, for which its mark is looked up once.
 fn write_one<S: Store>(
     core: &mut TreeState<S>,
-    marks: &mut BTreeMap<UserKey, Mark>,
+    marks: &mut BTreeMap<MarkedKey, Mark>,
     floor: SeqNo,
     journal: &mut Vec<JournalEntry>,
     pass: &mut Vec<(u64, JournalEntry)>,
@@ -143,7 +144,7 @@ fn write_one<S: Store>(
 /// changes nothing but the room that there is.
 pub(crate) fn write_marked<S: Store>(
     core: &mut TreeState<S>,
-    marks: &mut BTreeMap<UserKey, Mark>,
+    marks: &mut BTreeMap<MarkedKey, Mark>,
     floor: SeqNo,
     journal: &mut Vec<JournalEntry>,
     pass: &mut Vec<(u64, JournalEntry)>,
@@ -165,7 +166,6 @@ pub(crate) fn write_marked<S: Store>(
     let notes = make_notes(alloc, number, &ops)?;
     make_room(journal, pass, notes.len())?;
     let written = core.write(ops)?;
-    mark_notes(marks, number, &notes);
-    put_notes(journal, pass, notes);
+    put_notes(marks, journal, pass, number, notes);
     Ok(written)
 }

@@ -3,8 +3,9 @@ use Rattle.std.proofs.lemmas.List.{get_or_default}
 use Rattle.std.proofs.lemmas.List.Folds.{list_all_more}
 use Rattle.std.specs.BTreeMap as tree
 use borrow.Author.Count.{below_more}
-use Rattle.lsm_below.specs.Keys.{Bytes, bytes_cmp}
+use Rattle.lsm_below.specs.Keys.{Bytes}
 use Rattle.lsm_model.specs.declared.op.Op.{Op}
+use Rattle.lsm_recorded.specs.Headed.{headed_cmp}
 use Rattle.lsm_recorded.specs.Marks.{mark_of, mark_allows, op_type, op_allowed}
 use Rattle.lsm_recorded.proofs.BatchLemmas.{both_true, not_refused, not_refused_short}
 use Rattle.lsm_recorded.proofs.marks.admit_all.Goals.{in-Ok, in-Err-OutOfMemory}
@@ -26,7 +27,7 @@ loop-key-preserved c =
       same = λ q. c.admit.ensures.same q ∙ i.same q;
       allowed = list_all_more allows ops n op c.loop-key-test.true ∙ both_true _ _ i.allowed (ap allows (sym c.loop-key-item.is) ∙ allowed);
       there = elim c.match-admit.branch [
-        | in-Ok w ↦ λ known j d less. below_more (λ k. (d : Bytes × Op) → IsSome (tree.get bytes_cmp c.admit.new.marks (get_or ops k d).0)) n (λ k before e. c.admit.ensures.kept _ (i.there (sym w.is_short-is ∙ known) k e before)) (λ e. subst (λ (p : Bytes × Op). IsSome (tree.get bytes_cmp c.admit.new.marks p.0)) (c.loop-key-item.is ∙ get_or_default ops n op e c.loop-key-test.true) w.in-Ok.ensures.there) j less d
+        | in-Ok w ↦ λ known j d less. below_more (λ k. (d : Bytes × Op) → IsSome (tree.get headed_cmp c.admit.new.marks (get_or ops k d).0)) n (λ k before e. c.admit.ensures.kept _ (i.there (sym w.is_short-is ∙ known) k e before)) (λ e. subst (λ (p : Bytes × Op). IsSome (tree.get headed_cmp c.admit.new.marks p.0)) (c.loop-key-item.is ∙ get_or_default ops n op e c.loop-key-test.true) w.in-Ok.ensures.there) j less d
         | in-Err-OutOfMemory w ↦ λ known. absurd (cc (w.is_short-is, known))
       ];
     }

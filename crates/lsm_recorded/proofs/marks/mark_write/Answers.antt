@@ -1,13 +1,10 @@
 use Rattle.std.proofs.Common.{ap, ◌∙◌}
+use Rattle.lsm_below.specs.Keys.{Bytes}
 use Rattle.lsm_recorded.specs.Marks.{mark_of, marked, next_mark}
-use Rattle.lsm_recorded.proofs.MarksLemmas.{mark_set, mark_there}
 use Rattle.lsm_recorded.proofs.marks.mark_write.Goals as goal
 
-pub returns-in-Some-clause-is : goal.returns-in-Some-clause-is
-returns-in-Some-clause-is c q =
-    let old = c.args.marks.now in
-    let e = c.args.entry.now in
-    let key = e.key.user_key in
-    let m = c.mark_after.result in
-    mark_set old (c.get_mut.follows.lender m) key m q (((c.get_mut.follows.holds m).3 c.requires.there).0 q)
-    ∙ ap (λ z. marked (mark_of old) key z q) (c.mark_after.ensures ∙ ap (λ z. next_mark z e.key.seqno e.key.value_type) (mark_there old key c.in-Some.mark.now c.in-Some.ensures.value))
+pub returns-clause-is : goal.returns-clause-is
+returns-clause-is c q =
+    let marks = mark_of c.args.marks.now in
+    let e = c.args.entry in
+    c.raise_mark.ensures.is q ∙ ap (λ (k : Bytes). marked marks k (next_mark (marks k) e.key.seqno e.key.value_type) q) c.new-marked.ensures

@@ -1,9 +1,15 @@
-use Rattle.std.proofs.Common.{◌≡◌, IfOk, sym, subst}
-use Rattle.std.specs.FinMap.{slice_cmp-IsAntisymmetric, nat_cmp-IsAntisymmetric}
+use Rattle.std.proofs.Common.{◌≡◌, ◌∙◌, sym, ap, subst, IfOk, true}
+use Rattle.std.specs.Ordering.{eq_by_cmp, is_eq}
 use Rattle.lsm_below.specs.Keys.{Bytes}
+use Rattle.lsm_recorded.specs.Headed.{headed_cmp}
+use Rattle.lsm_recorded.proofs.MarksLemmas.{headed_ties, same_key}
 use Rattle.lsm_recorded.proofs.marks.share_marked.Goals as goal
 
 pub returns-in-Some : goal.returns-in-Some
 returns-in-Some c =
-    let same = slice_cmp-IsAntisymmetric nat_cmp-IsAntisymmetric c.args.key.now c.in-Some.marked.now c.in-Some.ensures.same_key in
-    subst (λ (k : Bytes). IfOk c.share.result (λ copy. copy ≡ k)) (sym same) c.share.ensures
+    let own = c.new-own.result in
+    let marked = c.in-Some.marked.now in
+    let tie : eq_by_cmp headed_cmp own marked ≡ true = ap is_eq c.in-Some.ensures.same_key in
+    let same : own ≡ marked = same_key own marked (sym (headed_ties own marked) ∙ tie) in
+    let whole : c.key.result.now ≡ c.args.key.now = c.key.ensures ∙ sym same ∙ c.new-own.ensures ∙ c.in_ok-share.ensures in
+    subst (λ (k : Bytes). IfOk c.share-in-Some.result (λ copy. copy ≡ k)) whole c.share-in-Some.ensures

@@ -8,14 +8,14 @@ use Rattle.lsm_recorded.specs.Passes.{listed}
 use Rattle.lsm_recorded.proofs.BatchLemmas.{numbered, room_noted, journal_entries, pass_entries, entries_of}
 use Rattle.lsm_recorded.proofs.writes.write_marked.Goals as goal
 
-pub mark_notes-requires-clause-there : goal.mark_notes-requires-clause-there
-mark_notes-requires-clause-there g c =
+pub put_notes-requires-clause-there : goal.put_notes-requires-clause-there
+put_notes-requires-clause-there g c =
     let there = subst (HaveMarks c.admit_all.new.marks) (c.deref.ensures.value ∙ sym c.deref-2.ensures.value) c.in_ok-admit_all.ensures.there in
-    rw c.deref-3.ensures.value (room_noted c.admit_all.new.marks c.get-number.result c.in_ok-notes.notes.items c.deref-2.result.now c.in_ok-notes.ensures.entries there)
+    room_noted c.admit_all.new.marks c.get-number.result c.in_ok-notes.notes.items c.deref-2.result.now c.in_ok-notes.ensures.entries there
 
-pub mark_notes-requires-clause-numbered : goal.mark_notes-requires-clause-numbered
-mark_notes-requires-clause-numbered g c =
-    rw c.deref-3.ensures.value (numbered c.get-number.result c.in_ok-notes.notes.items c.deref-2.result.now c.in_ok-notes.ensures.entries)
+pub put_notes-requires-clause-numbered : goal.put_notes-requires-clause-numbered
+put_notes-requires-clause-numbered g c =
+    numbered c.get-number.result c.in_ok-notes.notes.items c.deref-2.result.now c.in_ok-notes.ensures.entries
 
 pub returns-clause-noted : goal.returns-clause-noted
 returns-clause-noted g c =
