@@ -53,7 +53,10 @@ fn walk_to_mark(marks: &BTreeMap<MarkedKey, Mark>, key: &UserKey) -> Mark
 
 /// The key, which shares the bytes of the key that is marked, if one is: so a journal keeps no bytes of its own for each
 /// read of a key.
-pub(crate) fn share_marked(marks: &BTreeMap<MarkedKey, Mark>, key: &UserKey) -> Result<UserKey, AllocError>
+pub(crate) fn share_marked(
+    marks: &BTreeMap<MarkedKey, Mark>,
+    key: &UserKey,
+) -> Result<UserKey, AllocError>
     ensures { IfOk result (λ shared. shared ≡ key.now) }
 {
     let own = MarkedKey::new(share(key)?);
@@ -216,7 +219,10 @@ fn raise_mark(
 
 /// Notes a write in the mark of its key, for which there is room. The entry is given back, so that its key serves for the
 /// look-up and no other handle on it is made, which could be refused.
-pub(crate) fn mark_write(marks: &mut BTreeMap<MarkedKey, Mark>, entry: InternalValue) -> InternalValue
+pub(crate) fn mark_write(
+    marks: &mut BTreeMap<MarkedKey, Mark>,
+    entry: InternalValue,
+) -> InternalValue
     requires there { IsSome (tree.get headed_cmp marks.old entry.key.user_key) }
     requires fits { entry.key.seqno + 1 < 2 ^ 64 }
     ensures same { result ≡ entry }
