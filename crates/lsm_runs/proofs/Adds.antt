@@ -1,5 +1,5 @@
 -- What the steps of a run add to the journal, by their kinds and replies.
-use Rattle.std.proofs.Common.{◌≡◌, ◌⊎◌, ⊎_elim, inl, inr, ℕ, Bool, true, false, cond, List, [], ◌∷◌, ◌++◌, Option, Some, None, Result, Ok, Err, refl, sym, subst}
+use Rattle.std.proofs.Common.{◌≡◌, inl, inr, ℕ, Bool, true, false, cond, List, [], ◌∷◌, ◌++◌, Option, Result, Ok, Err, refl, sym, subst}
 use Rattle.std.specs.List.{AllByRecursion}
 use Rattle.lsm_below.specs.Each.{each_append}
 use Rattle.lsm_below.specs.Entries.{Entry}
@@ -34,7 +34,7 @@ use Rattle.lsm_runs.specs.declared.steps.Step.{Step as Call}
 use Rattle.lsm_runs.specs.declared.steps.Step.TheVariants as step
 use Rattle.lsm_runs.specs.Adds.{AddsEntry, AddsBatch, AddsGet, AddsPairs, AddsClear, IsUpkeep, IsUpkeepOrDrop, JobAdds, Adds, EachAdds}
 use Rattle.lsm_runs.specs.Clearing.{TakesClear, TakesForget}
-use Rattle.lsm_runs.specs.Compacting.{Strategies, BeginsFrom, TakesBeginCompaction, TakesRunCompaction, EndsFrom, TakesFinish, TakesAbandonCompaction, CompactsFrom, TakesCompact, TakesDropRange, TakesTableId}
+use Rattle.lsm_runs.specs.Compacting.{Strategies, TakesBeginCompaction, TakesRunCompaction, TakesFinish, TakesAbandonCompaction, CompactsFrom, TakesCompact, TakesDropRange, TakesTableId}
 use Rattle.lsm_runs.specs.Flushing.{TakesBegin, TakesRun, TakesTables, TakesRegister, TakesAbandon, TakesFlush, TakesFlushActive, TakesMoment}
 use Rattle.lsm_runs.specs.JobSteps.{TakesJob}
 use Rattle.lsm_runs.specs.ReadSteps.{TakesGet, TakesGetEntry, TakesPairs}

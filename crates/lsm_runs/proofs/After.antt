@@ -1,12 +1,12 @@
 -- A run after whatever was called before, and its first so many steps.
-use Rattle.std.proofs.Common.{◌≡◌, inl, inr, ℕ, zero, suc, List, [], ◌∷◌, ◌++◌, map, take, refl, sym, ap, subst, append_assoc}
+use Rattle.std.proofs.Common.{◌≡◌, inl, inr, ℕ, zero, suc, List, [], ◌∷◌, ◌++◌, map, take, refl, sym, subst, append_assoc}
 use Rattle.lsm_below.specs.Entries.{Entry}
 use Rattle.lsm_model.specs.Journal.{Event, Map, InOrder}
 use Rattle.lsm_run_model.specs.Moments.{last_of}
 use Rattle.lsm_state.specs.Core.{Core}
 use Rattle.lsm_state.specs.ListSteps.{ListsAreSteps}
 use Rattle.lsm_runs.specs.declared.steps.Step.{Step as Call}
-use Rattle.lsm_runs.specs.After.{AnswersAfter, EachSpares, SparesAfter, RanThrough, RunIsRight}
+use Rattle.lsm_runs.specs.After.{AnswersAfter, EachSpares, RanThrough, RunIsRight}
 use Rattle.lsm_runs.specs.Compacting.{Strategies}
 use Rattle.lsm_runs.specs.Runs.{Ran, RanToEnd, IsPlainUse, journal_of}
 use Rattle.lsm_runs.specs.Slots.{Stage, at_first, Closes}

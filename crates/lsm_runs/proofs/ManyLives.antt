@@ -1,5 +1,5 @@
 -- What is known of the files of a tree, as the theory of life after life asks it.
-use Rattle.std.proofs.Common.{◌≡◌, ℕ, ◌≤◌, List, [], ◌∷◌, sym}
+use Rattle.std.proofs.Common.{◌≡◌, ℕ, List, [], ◌∷◌, sym}
 use Rattle.std.specs.List.{AllByRecursion}
 use Rattle.std.specs.Prelude.{codes}
 use Rattle.lsm_store.specs.World.{Image, World, IsImage, Begins}

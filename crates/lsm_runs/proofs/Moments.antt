@@ -1,16 +1,16 @@
 -- What the steps of a run are to the theory of runs: each does what its outcome tells, so the theory's theorem is that of runs.
 use Rattle.std.specs.FinMap.{empty}
-use Rattle.std.proofs.Common.{◌≡◌, ◌⊎◌, ⊎_elim, inl, inr, ℕ, zero, suc, ◌≤◌, arith, Bool, true, false, cond, List, [], ◌∷◌, ◌++◌, Option, Some, None, map, take, length, option_to_list, refl, sym, ap, ◌∙◌, subst, append-nil, append_assoc}
+use Rattle.std.proofs.Common.{◌≡◌, ⊎_elim, inl, inr, ℕ, zero, suc, ◌≤◌, arith, Bool, true, false, cond, List, [], ◌∷◌, ◌++◌, Option, Some, None, map, take, length, option_to_list, refl, sym, ap, ◌∙◌, subst}
 use Rattle.lsm_below.specs.Entries.{Entry, above}
 use Rattle.lsm_below.specs.Members.{IsIn}
 use Rattle.lsm_below.specs.declared.error.Error.{Error}
 use Rattle.lsm_below.specs.declared.error.Error.TheVariants.{CommitUnknown}
-use Rattle.lsm_store.specs.World.{Image, World, LeavesOnly}
+use Rattle.lsm_store.specs.World.{Image, World}
 use Rattle.lsm_model.specs.Journal.{Event, Map, InOrder, next_number}
 use Rattle.lsm_model.specs.Views.{HasDistinctIds, held}
 use Rattle.lsm_model.specs.Steps.{IsOpened}
 use Rattle.lsm_model.specs.Beginnings.{Note, FlushedIds, Saved, Deeds, Stands, shown_by, versions}
-use Rattle.lsm_versions.specs.Levels.{SeenVersion, Levels, placed_of}
+use Rattle.lsm_versions.specs.Levels.{SeenVersion, placed_of}
 use Rattle.lsm_manifest.specs.Finding.{Named, FoundOnce, StandsForMap, FoundTablesShow}
 use Rattle.lsm_manifest.specs.Versions.{named_levels}
 use Rattle.lsm_manifest.specs.Standing.{StandsFor}
@@ -25,7 +25,7 @@ use Rattle.lsm_run_model.specs.declared.noted.Noted.TheVariants as note
 use Rattle.lsm_run_model.specs.Outcomes.{Past, nothing, after, after_all, note_at}
 use Rattle.lsm_run_model.specs.Outcomes as out
 use Rattle.lsm_run_model.specs.Moments.{LeavesNow, EachMoment, last_of}
-use Rattle.lsm_run_model.specs.Composing.{Point as Place, IsRight as IsRightThere, FindsAmong, IsOfEither, StandsAt, DoesCall, EachDoes, TablesShow, AreNumbered, CameAbout, Composed, RunsCompose, NoLowReads, NumbersAreBounded}
+use Rattle.lsm_run_model.specs.Composing.{Point as Place, IsRight as IsRightThere, FindsAmong, IsOfEither, DoesCall, EachDoes, TablesShow, AreNumbered, CameAbout, Composed, RunsCompose, NoLowReads, NumbersAreBounded}
 use Rattle.lsm_runs.specs.declared.slots.Job.{Job}
 use Rattle.lsm_runs.specs.declared.steps.JobStep.{JobStep}
 use Rattle.lsm_runs.specs.declared.steps.JobStep.TheVariants as job
