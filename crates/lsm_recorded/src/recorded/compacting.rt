@@ -4,8 +4,8 @@ ghost use Rattle.lsm_model.specs.declared.journal.JournalEntry.TheVariants.{Inst
 ghost use Rattle.lsm_files.specs.Causes.{HasCause, Blames};
 ghost use Rattle.lsm_state.specs.Cleaning.{LeavesNoFiles, RemovesDrawn};
 ghost use Rattle.lsm_state.specs.Commits.{Upholds};
-ghost use Rattle.lsm_state.specs.Compactions.{Spends};
-ghost use Rattle.lsm_state.specs.WholeCompactions.{options_at, only_memory, major_choice};
+ghost use Rattle.lsm_state.specs.Compactions.{Spends, given_up, LeavesNoneChosen};
+ghost use Rattle.lsm_state.specs.WholeCompactions.{options_at, only_memory, major_choice, drop_choice};
 ghost use Rattle.lsm_noted.specs.Noted.{noted_of, BeginsAnswer, CompactsAnswer};
 ghost use Rattle.lsm_recorded.specs.Flushing.{SpendsUnnoted, RefusesUnnoted};
 ghost use Rattle.lsm_recorded.specs.Compacting.{NotesWhatIsDone, BeginsRecorded, FinishesRecorded, CompactsRecorded, DropsRecorded};
@@ -62,6 +62,7 @@ impl<S: Store> Recorded<S> {
         ensures begins { RefusesUnnoted result self.old self.new pass.old pass.new ⊎ NotesWhatIsDone (λ events. BeginsAnswer chosen.answer options result events self.old.tree.core self.new.tree.core) self.old self.new pass.old pass.new }
         ensures upholds { S.tells → Upholds (S.world self.old.tree.store) (S.world self.new.tree.store) self.old.tree.core self.new.tree.core }
         ensures causes { (Blames chosen.answer → ⊥) → HasCause (Blames result) (S.world self.old.tree.store) (S.world self.new.tree.store) }
+        ensures gone { S.tells → IfOk chosen.answer (λ choice. result ≡ Ok Begun.Installed → LeavesNoFiles (S.world self.new.tree.store) (given_up choice) self.old.tree.core.history self.new.tree.core.history) }
         ensures no_call { IsSome self.old.tree.core.lost → self.new.tree.store ≡ self.old.tree.store }
         ensures views { StaysBehind self.old.journal self.new.journal self.old.tree.core self.new.tree.core }
         ensures opened { self.new.opened ≡ self.old.opened }
@@ -104,6 +105,8 @@ impl<S: Store> Recorded<S> {
         ensures upholds { S.tells → Upholds (S.world self.old.tree.store) (S.world self.new.tree.store) self.old.tree.core self.new.tree.core }
         // The store is blamed only where a call of it failed.
         ensures causes { HasCause (Blames result) (S.world self.old.tree.store) (S.world self.new.tree.store) }
+        // Behind a whole clean-up no file is left of what went.
+        ensures gone { S.tells → result ≡ Ok Begun.Installed → LeavesNoneChosen (S.world self.new.tree.store) (may_choose strategy.now) self.old.tree.core self.new.tree.core }
         ensures no_call { IsSome self.old.tree.core.lost → self.new.tree.store ≡ self.old.tree.store }
         ensures views { StaysBehind self.old.journal self.new.journal self.old.tree.core self.new.tree.core }
         ensures opened { self.new.opened ≡ self.old.opened }
@@ -187,6 +190,7 @@ impl<S: Store> Recorded<S> {
         ensures compacts { RefusesUnnoted result self.old self.new pass.old pass.new ⊎ NotesWhatIsDone (λ events. CompactsAnswer chosen.answer options result events self.old.tree.core self.new.tree.core) self.old self.new pass.old pass.new }
         ensures upholds { S.tells → Upholds (S.world self.old.tree.store) (S.world self.new.tree.store) self.old.tree.core self.new.tree.core }
         ensures causes { (Blames chosen.answer → ⊥) → HasCause (Blames result) (S.world self.old.tree.store) (S.world self.new.tree.store) }
+        ensures gone { S.tells → IfOk chosen.answer (λ choice. result ≡ Ok Begun.Installed → LeavesNoFiles (S.world self.new.tree.store) (given_up choice) self.old.tree.core.history self.new.tree.core.history) }
         ensures no_call { IsSome self.old.tree.core.lost → self.new.tree.store ≡ self.old.tree.store }
         ensures views { StaysBehind self.old.journal self.new.journal self.old.tree.core self.new.tree.core }
         ensures opened { self.new.opened ≡ self.old.opened }
@@ -228,6 +232,8 @@ impl<S: Store> Recorded<S> {
         ensures upholds { S.tells → Upholds (S.world self.old.tree.store) (S.world self.new.tree.store) self.old.tree.core self.new.tree.core }
         // The store is blamed only where a call of it failed.
         ensures causes { HasCause (Blames result) (S.world self.old.tree.store) (S.world self.new.tree.store) }
+        // Behind a whole clean-up no file is left of what went.
+        ensures gone { S.tells → result ≡ Ok Begun.Installed → LeavesNoneChosen (S.world self.new.tree.store) (may_choose strategy.now) self.old.tree.core self.new.tree.core }
         ensures no_call { IsSome self.old.tree.core.lost → self.new.tree.store ≡ self.old.tree.store }
         ensures views { StaysBehind self.old.journal self.new.journal self.old.tree.core self.new.tree.core }
         ensures opened { self.new.opened ≡ self.old.opened }
@@ -252,6 +258,8 @@ impl<S: Store> Recorded<S> {
         ensures upholds { S.tells → Upholds (S.world self.old.tree.store) (S.world self.new.tree.store) self.old.tree.core self.new.tree.core }
         // The store is blamed only where a call of it failed.
         ensures causes { HasCause (Blames result) (S.world self.old.tree.store) (S.world self.new.tree.store) }
+        // Behind a whole clean-up no file is left of what went.
+        ensures gone { S.tells → result ≡ Ok Begun.Installed → LeavesNoneChosen (S.world self.new.tree.store) (C.may_choose strategy.now) self.old.tree.core self.new.tree.core }
         ensures no_call { IsSome self.old.tree.core.lost → self.new.tree.store ≡ self.old.tree.store }
         ensures views { StaysBehind self.old.journal self.new.journal self.old.tree.core self.new.tree.core }
         ensures opened { self.new.opened ≡ self.old.opened }
@@ -291,6 +299,8 @@ impl<S: Store> Recorded<S> {
         ensures upholds { S.tells → Upholds (S.world self.old.tree.store) (S.world self.new.tree.store) self.old.tree.core self.new.tree.core }
         // The store is blamed only where a call of it failed.
         ensures causes { HasCause (Blames result) (S.world self.old.tree.store) (S.world self.new.tree.store) }
+        // Behind a whole clean-up no file is left of what went.
+        ensures gone { S.tells → result ≡ Ok Begun.Installed → LeavesNoneChosen (S.world self.new.tree.store) (may_choose strategy.now) self.old.tree.core self.new.tree.core }
         ensures no_call { IsSome self.old.tree.core.lost → self.new.tree.store ≡ self.old.tree.store }
         ensures views { StaysBehind self.old.journal self.new.journal self.old.tree.core self.new.tree.core }
         ensures opened { self.new.opened ≡ self.old.opened }
@@ -315,6 +325,8 @@ impl<S: Store> Recorded<S> {
         ensures upholds { S.tells → Upholds (S.world self.old.tree.store) (S.world self.new.tree.store) self.old.tree.core self.new.tree.core }
         // The store is blamed only where a call of it failed.
         ensures causes { HasCause (Blames result) (S.world self.old.tree.store) (S.world self.new.tree.store) }
+        // Behind a whole clean-up no file is left of what went.
+        ensures gone { S.tells → result ≡ Ok Begun.Installed → LeavesNoneChosen (S.world self.new.tree.store) (major_choice target) self.old.tree.core self.new.tree.core }
         ensures no_call { IsSome self.old.tree.core.lost → self.new.tree.store ≡ self.old.tree.store }
         ensures views { StaysBehind self.old.journal self.new.journal self.old.tree.core self.new.tree.core }
         ensures opened { self.new.opened ≡ self.old.opened }
@@ -335,6 +347,8 @@ impl<S: Store> Recorded<S> {
         ensures upholds { S.tells → Upholds (S.world self.old.tree.store) (S.world self.new.tree.store) self.old.tree.core self.new.tree.core }
         // The store is blamed only where a call of it failed.
         ensures causes { HasCause (Blames result) (S.world self.old.tree.store) (S.world self.new.tree.store) }
+        // Behind a whole clean-up no file is left of what went.
+        ensures gone { S.tells → result ≡ Ok Begun.Installed → LeavesNoneChosen (S.world self.new.tree.store) (drop_choice bounds) self.old.tree.core self.new.tree.core }
         ensures no_call { IsSome self.old.tree.core.lost → self.new.tree.store ≡ self.old.tree.store }
         ensures views { StaysBehind self.old.journal self.new.journal self.old.tree.core self.new.tree.core }
         ensures opened { self.new.opened ≡ self.old.opened }

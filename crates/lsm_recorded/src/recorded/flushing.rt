@@ -1,10 +1,10 @@
 // The calls of a flush, and what they add to a journal.
-ghost use Rattle.std.specs.Prelude.{◌≡◌, ◌⊎◌, ◌+◌, ◌≤◌, ◌<◌, [], true, IsSome, IfOk, IfErr, IfSome, vec_len, vec_capacity};
+ghost use Rattle.std.specs.Prelude.{◌≡◌, ◌⊎◌, ◌+◌, ◌≤◌, ◌<◌, [], map, true, IsSome, IfOk, IfErr, IfSome, IsErrOf, vec_len, vec_capacity};
 ghost use Rattle.lsm_files.specs.Causes.{HasCause};
 ghost use Rattle.lsm_state.specs.Causes.{BlamesBeside, BlamesOrUnclean, BlamesOrUncleanFlush, BlamesOrUncleanBehind};
-ghost use Rattle.lsm_state.specs.Cleaning.{LeavesNoFiles, RemovesDrawn};
+ghost use Rattle.lsm_state.specs.Cleaning.{LeavesNoFiles, RemovesDrawn, RemovesTables};
 ghost use Rattle.lsm_state.specs.Commits.{Upholds};
-ghost use Rattle.lsm_state.specs.Flushes.{Begins, WritesTables, Registers, spent};
+ghost use Rattle.lsm_state.specs.Flushes.{Begins, IsCurrent, WritesTables, Registers, spent};
 ghost use Rattle.lsm_state.specs.FlushReads.{register_events};
 ghost use Rattle.lsm_state.specs.WholeFlushes.{FlushesActive};
 ghost use Rattle.lsm_recorded.specs.Passes.{Notes};
@@ -66,6 +66,7 @@ fn register_noted<S: Store>(
     ensures upholds { S.tells → Upholds (S.world core.old.store) (S.world core.new.store) core.old.core core.new.core }
     ensures causes { HasCause (BlamesOrUnclean result) (S.world core.old.store) (S.world core.new.store) }
     ensures gone { S.tells → IfOk result (λ a. a.installed ≡ true → a.cleaned ≡ true → LeavesNoFiles (S.world core.new.store) [] core.old.core.history core.new.core.history) }
+    ensures refused { S.tells → IsCurrent job core.old.core → IsErrOf result Error.OutOfNumbers ⊎ IsErrOf result Error.TooManyRuns → RemovesTables (map (λ t. t.id) job.tables) (S.world core.old.store) (S.world core.new.store) }
     ensures no_call { IsSome core.old.core.lost → core.new.store ≡ core.old.store }
 {
     reads_are_sound();
@@ -194,6 +195,8 @@ impl<S: Store> Recorded<S> {
         ensures causes { HasCause (BlamesOrUnclean result) (S.world self.old.tree.store) (S.world self.new.tree.store) }
         // Behind a whole clean-up no file is left of what went.
         ensures gone { S.tells → IfOk result (λ a. a.installed ≡ true → a.cleaned ≡ true → LeavesNoFiles (S.world self.new.tree.store) [] self.old.tree.core.history self.new.tree.core.history) }
+        // Where the counter or the level was full, no file is left of a current job, unless a call of the store failed.
+        ensures refused { S.tells → IsCurrent job self.old.tree.core → IsErrOf result Error.OutOfNumbers ⊎ IsErrOf result Error.TooManyRuns → RemovesTables (map (λ t. t.id) job.tables) (S.world self.old.tree.store) (S.world self.new.tree.store) }
         ensures no_call { IsSome self.old.tree.core.lost → self.new.tree.store ≡ self.old.tree.store }
         ensures views { Stays self.old.tree.core self.new.tree.core }
         ensures opened { self.new.opened ≡ self.old.opened }
@@ -271,6 +274,10 @@ impl<S: Store> Recorded<S> {
         ensures upholds { S.tells → Upholds (S.world self.old.tree.store) (S.world self.new.tree.store) self.old.tree.core self.new.tree.core }
         // The store is blamed only where a call of it failed.
         ensures causes { HasCause (BlamesOrUncleanBehind result) (S.world self.old.tree.store) (S.world self.new.tree.store) }
+        // Behind a whole clean-up no file is left of what went.
+        ensures gone { S.tells → IfOk result (λ a. IfSome a.1 (λ p. p.1.cleaned ≡ true → LeavesNoFiles (S.world self.new.tree.store) [] self.old.tree.core.history self.new.tree.core.history)) }
+        // Refused, no file is left of what it wrote, unless a call of the store failed, or the outcome of a commit is unknown.
+        ensures refused { S.tells → self.old.tree.core.next_table < LIMIT → IfErr result (λ e. (e.0 ≡ Error.CommitUnknown → ⊥) → RemovesDrawn self.old.tree.core.next_table self.new.tree.core.next_table (S.world self.old.tree.store) (S.world self.new.tree.store)) }
         ensures no_call { IsSome self.old.tree.core.lost → self.new.tree.store ≡ self.old.tree.store }
         ensures views { Stays self.old.tree.core self.new.tree.core }
         ensures opened { self.new.opened ≡ self.old.opened }

@@ -1,7 +1,10 @@
-use Rattle.std.proofs.Common.{◌∙◌, ◌++◌, ap, subst}
+use Rattle.std.proofs.Common.{◌≡◌, ◌∙◌, ◌++◌, Ok, IfOk, ap, subst}
 use Rattle.lsm_versions.specs.Levels.{placed_of}
+use Rattle.lsm_state.specs.declared.compaction.Begun.TheVariants.{Installed}
+use Rattle.lsm_state.specs.Cleaning.{LeavesNoFiles}
+use Rattle.lsm_state.specs.Compactions.{given_up}
 use Rattle.lsm_recorded.specs.Recorded.{StaysBehind}
-use Rattle.lsm_recorded.proofs.CompactingLemmas.{begin_recorded}
+use Rattle.lsm_recorded.proofs.CompactingLemmas.{begin_recorded, any_ok}
 use Rattle.lsm_recorded.proofs.recorded.Recorded.begin_noted.Goals as goal
 
 pub invariant_of-self-2 : goal.invariant_of-self-2
@@ -20,3 +23,12 @@ returns-clause-views g c =
     let told = c.put_entries.ensures.noted.behind ∙ ap (λ j. j ++ es) c.make_copies-made.ensures.journal in
     let all = (begin_recorded (placed_of i.opened.levels) i.least i.marks c.reads_are_sound.ensures i.floor c.put_entries.new.floor i.core.core begun.new.tree.core i.journal.items c.put_entries.new.journal.items c.noted_compactions_keep_reads.ensures c.args.chosen.answer c.args.options begun.result.0 es begun.ensures.begins told c.put_entries.ensures.floor c.self.invariant).1 in
     subst (λ t. StaysBehind t.journal c.put_entries.new.journal.items t.tree.core begun.new.tree.core) c.self.view_is all
+
+pub returns-in_default-clause-gone : goal.returns-in_default-clause-gone
+returns-in_default-clause-gone g c tells = any_ok _ c.args.chosen.answer (λ choice done. absurd (cc done))
+
+pub returns-clause-gone : goal.returns-clause-gone
+returns-clause-gone g c tells =
+    let w = g.S.Store.world in
+    let begun = c.begin_chosen-begun in
+    subst (λ t. IfOk c.args.chosen.answer (λ choice. begun.result.0 ≡ Ok Installed → LeavesNoFiles (w begun.new.tree.store) (given_up choice) t.tree.core.history begun.new.tree.core.history)) c.self.view_is (begun.ensures.gone tells)

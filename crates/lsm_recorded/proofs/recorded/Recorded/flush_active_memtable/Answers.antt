@@ -1,10 +1,13 @@
-use Rattle.std.proofs.Common.{◌≡◌, IsSome, refl, ap, sym, subst, ◌∙◌}
+use Rattle.std.proofs.Common.{◌≡◌, ◌<◌, ◌^◌, ℕ, true, [], Option, Some, None, IfSome, IsSome, refl, ap, sym, subst, ◌∙◌}
+use Rattle.lsm_jobs.specs.declared.jobs.Registered.{Registered}
 use Rattle.lsm_versions.specs.Levels.{placed_of}
+use Rattle.lsm_state.specs.Cleaning.{LeavesNoFiles, RemovesDrawn}
 use Rattle.lsm_state.specs.Commits.{Upholds}
 use Rattle.lsm_recorded.specs.Recorded.{IsRecorded, Stays}
 use Rattle.lsm_files.specs.Foreign.{AtRest}
-use Rattle.lsm_recorded.proofs.FlushedFiles.{same_upholds, rotated_upholds, rotated_lost, stays_behind}
+use Rattle.lsm_recorded.proofs.FlushedFiles.{same_upholds, rotated_upholds, rotated_lost, rotated_table, rotated_leaves, none_drawn, stays_behind}
 use Rattle.lsm_recorded.proofs.RecordedLemmas.{recorded_rotate, rotate_spares}
+use Rattle.lsm_recorded.proofs.recorded.Recorded.flush_active_memtable.Goals.{in-Ok-flushed, in-Err-flushed}
 use Rattle.lsm_recorded.proofs.recorded.Recorded.flush_active_memtable.Goals as goal
 
 pub returns-then-is_err-clause-upholds : goal.returns-then-is_err-clause-upholds
@@ -61,3 +64,49 @@ returns-clause-views g c =
     let first = rotate_spares opened i.least c.reads_are_sound.ensures i.marks i.floor i.core.core mid i.journal.items c.in-Ok.sealed c.self.invariant c.in-Ok.ensures.ok in
     subst (λ t. Stays t.tree.core new) c.self.view_is
     (stays_behind i.core.core mid new c.in-Ok.sealed c.in-Ok.ensures.ok first (c.flush_noted-flushed.ensures.keeps opened i.least i.marks before).1)
+
+pub returns-then-is_err-clause-refused : goal.returns-then-is_err-clause-refused
+returns-then-is_err-clause-refused g c tells small known =
+    let w = g.S.Store.world in
+    let i = c.self.inside in
+    subst (λ t. RemovesDrawn t.tree.core.next_table i.core.core.next_table (w t.tree.store) (w i.core.store)) c.self.view_is (none_drawn i.core.core.next_table i.core.core.next_table (w i.core.store) (w i.core.store) refl)
+
+pub returns-in-Err-clause-refused : goal.returns-in-Err-clause-refused
+returns-in-Err-clause-refused g c tells small known =
+    let w = g.S.Store.world in
+    let i = c.self.inside in
+    let new = c.rotate_memtable.new.self in
+    subst (λ t. RemovesDrawn t.tree.core.next_table new.core.next_table (w t.tree.store) (w new.store)) c.self.view_is (none_drawn i.core.core.next_table new.core.next_table (w i.core.store) (w new.store) (ap (λ t. t.core.next_table) c.in-Err.ensures.err))
+
+each_some : {A : Type 0} (P Q : A → Type 0) (o : Option A) → ((x : A) → P x → Q x) → IfSome o P → IfSome o Q
+each_some P Q None f h = h
+each_some P Q (Some x) f h = f x h
+
+pub returns-clause-gone : goal.returns-clause-gone
+returns-clause-gone g c tells =
+    let w = g.S.Store.world in
+    let i = c.self.inside in
+    let old = c.args.self.now.tree.core in
+    let mid = c.rotate_memtable.new.self.core in
+    let new = c.flush_noted-flushed.new.core in
+    elim c.match-flushed.branch [
+      | in-Ok-flushed b ↦ rw b.result-is (each_some (λ (p : ℕ × Registered). p.1.cleaned ≡ true → LeavesNoFiles (w new.store) [] mid.history new.core.history) (λ (p : ℕ × Registered). p.1.cleaned ≡ true → LeavesNoFiles (w new.store) [] old.history new.core.history) b.in-Ok-flushed.flushed
+          (λ p left whole. subst (λ t. LeavesNoFiles (w new.store) [] t.tree.core.history new.core.history) c.self.view_is (rotated_leaves (w new.store) [] i.core.core mid c.in-Ok.sealed new.core.history c.in-Ok.ensures.ok (left whole))) (b.in-Ok-flushed.ensures.gone tells))
+      | in-Err-flushed b ↦ rw b.result-is tt
+    ]
+
+pub returns-clause-refused : goal.returns-clause-refused
+returns-clause-refused g c tells small =
+    let w = g.S.Store.world in
+    let i = c.self.inside in
+    let mid = c.rotate_memtable.new.self in
+    let new = c.flush_noted-flushed.new.core in
+    let table = rotated_table i.core.core mid.core c.in-Ok.sealed c.in-Ok.ensures.ok in
+    let below = subst (λ n. n < 2 ^ 63) (sym table) (subst (λ t. t.tree.core.next_table < 2 ^ 63) (sym c.self.view_is) small) in
+    elim c.match-flushed.branch [
+      | in-Ok-flushed b ↦ rw b.result-is tt
+      | in-Err-flushed b ↦ rw b.result-is (λ known.
+          let did = subst (λ s. RemovesDrawn mid.core.next_table new.core.next_table (w s) (w new.store)) c.rotate_memtable.ensures.store (b.in-Err-flushed.ensures.refused tells below known) in
+          let of_inside = subst (λ n. RemovesDrawn n new.core.next_table (w i.core.store) (w new.store)) table did in
+          subst (λ t. RemovesDrawn t.tree.core.next_table new.core.next_table (w t.tree.store) (w new.store)) c.self.view_is of_inside)
+    ]
