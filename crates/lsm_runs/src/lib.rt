@@ -4,6 +4,7 @@
 //! |-|-|
 //! | `steps` | calls as data, and what each replies |
 //! | `slots` | jobs that wait for their next call |
+//! | `telling` | what writes reply, and what they add to the journal |
 //! | `runner` | a list of calls on a tree, with the replay theorem, and what a crash leaves |
 //! | `finding` | how the files of a tree are found, and life after life |
 //! | `life` | a tree from its opening on, and what a crash leaves of it |
@@ -15,6 +16,7 @@ mod life;
 mod runner;
 mod slots;
 mod steps;
+mod telling;
 mod watch;
 
 pub use finding::{TreeFiles, lives_without_number};

@@ -24,6 +24,7 @@ ghost use Rattle.lsm_runs.specs.After.{RunIsRight};
 
 use crate::finding::TreeFiles;
 use crate::slots::Slots;
+use crate::telling::{batch_entries, of_batch, of_entry, one_entry, refused, share_ops, silent};
 use crate::watch::Unwatched;
 use crate::{Outcome, Reply, Step, Watch};
 use lsm_below::{InternalValue, SeqNo, UserKey, UserValue, ValueType, share};
@@ -42,50 +43,6 @@ use lsm_state::{
 };
 use lsm_store::Store;
 use std::alloc::{AllocError, Global};
-
-// ---- outcomes
-
-fn refused(alloc: Global, error: Error) -> Outcome
-    ensures { result ≡ record { reply = Reply.Refused error; entries = [] } }
-{
-    silent(alloc, Reply::Refused(error))
-}
-
-/// An outcome that adds nothing to the journal.
-fn silent(alloc: Global, reply: Reply) -> Outcome
-    ensures { result ≡ record { reply = reply; entries = [] } }
-{
-    Outcome {
-        reply,
-        entries: Vec::new(alloc),
-    }
-}
-
-/// A journal of one entry.
-fn one_entry(alloc: Global, entry: JournalEntry) -> Result<Vec<JournalEntry>, AllocError>
-    ensures { IfOk result (λ list. list.items ≡ entry ∷ []) }
-{
-    let mut list = Vec::new(alloc);
-    list.push(entry)?;
-    Ok(list)
-}
-
-/// The outcome of a write of one entry, which is noted if it was accepted.
-fn of_entry(
-    alloc: Global,
-    entries: Vec<JournalEntry>,
-    written: Result<(u64, u64), Error>,
-) -> Outcome
-    ensures { result ≡ told_entry entries.items written }
-{
-    match written {
-        Ok((size, total)) => Outcome {
-            reply: Reply::Sizes(size, total),
-            entries,
-        },
-        Err(error) => refused(alloc, error),
-    }
-}
 
 // ---- writes of one entry
 
@@ -154,54 +111,6 @@ fn append_entry<S: Store>(
 }
 
 // ---- batches
-
-fn share_op(op: &Op) -> Result<Op, AllocError>
-    ensures { IfOk result (λ copy. copy ≡ op.now) }
-{
-    match op {
-        Op::Set(value) => Ok(Op::Set(share(value)?)),
-        Op::Del => Ok(Op::Del),
-        Op::Weak => Ok(Op::Weak),
-    }
-}
-
-fn share_ops(alloc: Global, ops: &[(UserKey, Op)]) -> Result<Vec<(UserKey, Op)>, AllocError>
-    ensures { IfOk result (λ copy. copy.items ≡ ops.now) }
-{
-    let mut copy = Vec::with_capacity(alloc, ops.len())?;
-    for (key, op) in ops {
-        copy.push((share(key)?, share_op(op)?))?;
-    }
-    Ok(copy)
-}
-
-/// The entries of a batch, as the journal notes them.
-fn batch_entries(
-    alloc: Global,
-    seqno: SeqNo,
-    ops: &[(UserKey, Op)],
-) -> Result<Vec<JournalEntry>, AllocError>
-    ensures { IfOk result (λ list. list.items ≡ map Wrote (op_entries seqno ops.now)) }
-{
-    let mut list = Vec::with_capacity(alloc, ops.len())?;
-    for (key, op) in ops {
-        list.push(JournalEntry::Write(op.entry(key, seqno)?))?;
-    }
-    Ok(list)
-}
-
-/// The outcome of a batch, whose entries are noted if it was accepted.
-fn of_batch(alloc: Global, entries: Vec<JournalEntry>, written: Result<SeqNo, Error>) -> Outcome
-    ensures { result ≡ told_batch entries.items written }
-{
-    match written {
-        Ok(number) => Outcome {
-            reply: Reply::Number(number),
-            entries,
-        },
-        Err(error) => refused(alloc, error),
-    }
-}
 
 fn write<S: Store>(
     alloc: Global,
