@@ -1,10 +1,10 @@
 -- Tables that are written.
-use Rattle.std.proofs.Common.{◌≡◌, ℕ, ◌+◌, ◌<◌, ◌≤◌, ◌^◌, false, eqb, List, [], ◌∷◌, ◌++◌, map, flat_map, refl, sym, ap, ◌∙◌, subst, arith, append-nil, append_assoc}
+use Rattle.std.proofs.Common.{◌≡◌, ℕ, ◌+◌, ◌<◌, ◌≤◌, ◌^◌, false, eqb, List, [], ◌∷◌, ◌++◌, length, map, flat_map, refl, sym, ap, ◌∙◌, subst, arith, append-nil, append_assoc}
 use Rattle.std.specs.Prelude.{nat_eq}
 use Rattle.std.specs.Cmp.{nat_eq_equiv}
 use Rattle.std.specs.List.{AllByRecursion, IsDistinct, list_any}
 use Rattle.std.proofs.lemmas.Bool.{ne_eqb}
-use Rattle.std.proofs.lemmas.List.{map-append}
+use Rattle.std.proofs.lemmas.List.{map-append, length-append}
 use Rattle.std.proofs.lemmas.List.Concat.{flat_map-cons}
 use Rattle.std.proofs.lemmas.Map.Keys.{IsDistinct-push}
 use Rattle.lsm_below.specs.Each.{each_append, each_weaker, each_both}
@@ -38,6 +38,12 @@ pub record IsUnderway (target made_at first next : ℕ) (es : List Entry) (table
   pub below : AllByRecursion (λ t. t.id < next) tables
   pub own_ids : HasOwnIds tables
   pub rises : first ≤ next
+
+-- a table more is written, and one id more is used
+pub draws_more : (next first : ℕ) (front behind rest es : List Entry) → front ++ behind ≡ rest → 0 < length front → next + length rest ≤ first + length es → next + 1 + length behind ≤ first + length es
+draws_more next first front behind rest es parts some so_far =
+    let len : length rest ≡ length front + length behind = ap length (sym parts) ∙ length-append front behind in
+    omega (arith, len, some, so_far)
 
 own_none : HasOwnIds []
 unfolding IsDistinct

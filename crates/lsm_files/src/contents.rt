@@ -42,6 +42,7 @@ fn write_files<S: Store>(
     ensures below { IfOk result (λ ids. AllByRecursion (λ i. i < LIMIT) ids.items) }
     ensures next { IfOk result (λ _. next.new ≡ next.old + length contents.now) }
     ensures rises { next.old ≤ next.new }
+    ensures draws { next.new ≤ next.old + length contents.now }
     ensures on_disk { S.tells → IfOk result (λ ids. AreWritten (S.world store.new) ids.items contents.now) }
     ensures keeps { S.tells → KeepsElsewhere next.old (S.world store.old) (S.world store.new) }
     ensures any_moment { S.tells → LeavesOnly (S.world store.old) (S.world store.new) (IsKeptElsewhere next.old (S.world store.old)) }
@@ -80,6 +81,7 @@ pub fn write_contents<S: Store>(
     ensures below { IfOk result (λ ids. AllByRecursion (λ i. i < LIMIT) ids.items) }
     ensures next { IfOk result (λ _. next.new ≡ next.old + length contents.now) }
     ensures rises { next.old ≤ next.new }
+    ensures draws { next.new ≤ next.old + length contents.now }
     // What a crash leaves.
     ensures on_disk { S.tells → IfOk result (λ ids. AreWritten (S.world store.new) ids.items contents.now) }
     ensures keeps { S.tells → KeepsElsewhere next.old (S.world store.old) (S.world store.new) }

@@ -1,5 +1,5 @@
 // Tables that are written and on the disk.
-ghost use Rattle.std.specs.Prelude.{◌≡◌, ◌≤◌, ◌⊎◌, IfOk, IfErr, IsErrOf};
+ghost use Rattle.std.specs.Prelude.{◌≡◌, ◌+◌, ◌≤◌, ◌⊎◌, length, IfOk, IfErr, IsErrOf};
 ghost use Rattle.lsm_store.specs.World.{LeavesOnly};
 ghost use Rattle.lsm_store.specs.Synced.{IsBeside, KeepsOthers};
 ghost use Rattle.lsm_tables.specs.Image.{IsTable, image};
@@ -81,6 +81,7 @@ fn write_each<S: Store>(
     requires { IsWritable entries.now }
     ensures tables { IfOk result (λ tables. HoldEntries made_at entries.now next.old next.new tables.items) }
     ensures rises { next.old ≤ next.new }
+    ensures draws { next.new ≤ next.old + length entries.now }
     ensures on_disk { S.tells → IfOk result (λ tables. AreOnDisk (S.world store.new) tables.items) }
     ensures keeps { S.tells → KeepsElsewhere next.old (S.world store.old) (S.world store.new) }
     ensures any_moment { S.tells → LeavesOnly (S.world store.old) (S.world store.new) (IsKeptElsewhere next.old (S.world store.old)) }
@@ -123,6 +124,7 @@ pub fn write_tables<S: Store>(
     requires { IsWritable entries.now }
     ensures tables { IfOk result (λ tables. HoldEntries made_at entries.now next.old next.new tables.items) }
     ensures rises { next.old ≤ next.new }
+    ensures draws { next.new ≤ next.old + length entries.now }
     // What a crash leaves.
     ensures on_disk { S.tells → IfOk result (λ tables. AreOnDisk (S.world store.new) tables.items) }
     ensures keeps { S.tells → KeepsElsewhere next.old (S.world store.old) (S.world store.new) }

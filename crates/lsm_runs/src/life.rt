@@ -4,6 +4,7 @@ ghost use Rattle.lsm_store.specs.World.{Image, Begins, LeavesOnly};
 ghost use Rattle.lsm_model.specs.Journal.{Event, Map};
 ghost use Rattle.lsm_model.specs.Beginnings.{Note};
 ghost use Rattle.lsm_manifest.specs.Finding.{StandsForMap, IsSettled, RefusesFound};
+ghost use Rattle.lsm_files.specs.Causes.{HasCause, BlamesStore};
 ghost use Rattle.lsm_runs.specs.Causes.{EachHasCause};
 ghost use Rattle.lsm_runs.specs.Compacting.{strategies_of};
 ghost use Rattle.lsm_runs.specs.Crashes.{HoldsBeginning};
@@ -51,6 +52,7 @@ pub fn live<S: Store, W: Watch>(
     ensures lives { S.tells → IsSettled (S.world store) → (m : Map) → StandsForMap (S.world store).gives m → IfOk result (λ r. Lives S.world W.gives (strategies_of (λ b. may_choose b) (λ b. may_refuse b) strategies.now) m (take (length r.1.items) steps.now) r.1.items store r.0.store watch.old watch.new r.0.core) }
     // The store is blamed only where a call of it failed.
     ensures causes { IfOk result (λ r. EachHasCause S.world r.1.items store r.0.store) }
+    ensures blames { IfErr result (λ e. HasCause (BlamesStore e.0) (S.world store) (S.world e.1)) }
     ensures refused { S.tells → (m : Map) → StandsForMap (S.world store).gives m → IfErr result (λ e. RefusesFound (S.world store).gives e.0) }
     ensures stands { S.tells → IsSettled (S.world store) → (m : Map) → StandsForMap (S.world store).gives m → IfErr result (λ e. LeavesOnly (S.world store) (S.world e.1) (λ image. StandsForMap image m)) }
 {

@@ -25,7 +25,7 @@ use Rattle.lsm_state.specs.Kept.{IsKeptTree}
 use Rattle.lsm_state.specs.Commits.{Upholds, counted}
 use Rattle.lsm_state.specs.Settling.{MaySettle, HasItsTables, Settles, IsInstalled, IsDoubted}
 use Rattle.lsm_state.specs.Flushes.{with_next_table}
-use Rattle.lsm_state.specs.Compactions.{levels_of, HoldsMerged, AreMerged, MayMerge, IsMergedInto, InstallsMerge, closed}
+use Rattle.lsm_state.specs.Compactions.{levels_of, HoldsMerged, AreMerged, MayMerge, IsMergedInto, DrawsFor, InstallsMerge, closed}
 use Rattle.lsm_state.proofs.Choices.{may_settle, has_tables}
 use Rattle.lsm_state.proofs.Replacing.{IsApart, parts_apart, own_first, own_apart, others_left, swapped, spared, other_than, apart_none}
 use Rattle.lsm_state.proofs.Distinct.{own_behind}
@@ -179,10 +179,11 @@ spent_table old new n true closes other = ap (λ c. c.next_table) (closes refl)
 spent_table old new n false closes other = ap (λ c. c.next_table) (other refl)
 
 -- the counter has no number
-pub unnumbered : {T : Type 0} (job : SeenCompaction) (old : Core) → 2 ^ 63 ≤ old.seqno → InstallsMerge {T = T} job (Err OutOfNumbers) old old
-unnumbered job old great = record {
+pub unnumbered : {T : Type 0} (job : SeenCompaction) (old : Core) → DrawsFor job old.next_table old.next_table → 2 ^ 63 ≤ old.seqno → InstallsMerge {T = T} job (Err OutOfNumbers) old old
+unnumbered job old draws great = record {
   table = old.next_table;
   rises = omega arith;
+  draws = draws;
   settles = record { ok = tt; after = λ h. cc h; unknown = λ h. cc h; before = λ h. refl; store = λ h. cc h; memory = λ h. cc h };
   out_of_numbers = λ h. inl great;
   too_many_runs = λ h. cc h;
@@ -192,10 +193,11 @@ unnumbered job old great = record {
 
 module _ {T : Type 0} (job : SeenCompaction) (e : Error) (old new : Core) where
   -- files weren't written
-  pub unwritten : old.next_table ≤ new.next_table → new ≡ with_next_table new.next_table old → ((e ≡ OutOfMemory) ⊎ (e ≡ Store)) ⊎ (e ≡ OutOfNumbers) → (e ≡ OutOfNumbers → 2 ^ 63 ≤ new.next_table) → InstallsMerge {T = T} job (Err e) old new
-  unwritten rises is only numbers = record {
+  pub unwritten : old.next_table ≤ new.next_table → DrawsFor job old.next_table new.next_table → new ≡ with_next_table new.next_table old → ((e ≡ OutOfMemory) ⊎ (e ≡ Store)) ⊎ (e ≡ OutOfNumbers) → (e ≡ OutOfNumbers → 2 ^ 63 ≤ new.next_table) → InstallsMerge {T = T} job (Err e) old new
+  unwritten rises draws is only numbers = record {
     table = new.next_table;
     rises = rises;
+    draws = draws;
     settles = record {
       ok = tt;
       after = λ h. ⊎_elim (⊎_elim (λ (m : e ≡ OutOfMemory). cc (h, m)) (λ (m : e ≡ Store). cc (h, m))) (λ (m : e ≡ OutOfNumbers). cc (h, m)) only;
@@ -214,10 +216,11 @@ module _ {T : Type 0} (job : SeenCompaction) (e : Error) (old new : Core) where
       is_error f h = cc h
 
   -- no version was made
-  pub unmade : (tables : List SeenTable) → old.seqno < 2 ^ 63 → old.next_table ≤ new.next_table → new ≡ with_next_table new.next_table old → HoldsMerged job tables → IsRefusedFor job.ids tables job.settings.dest_level old.history.latest.version e → InstallsMerge {T = T} job (Err e) old new
-  unmade tables small rises is holds refused = record {
+  pub unmade : (tables : List SeenTable) → old.seqno < 2 ^ 63 → old.next_table ≤ new.next_table → DrawsFor job old.next_table new.next_table → new ≡ with_next_table new.next_table old → HoldsMerged job tables → IsRefusedFor job.ids tables job.settings.dest_level old.history.latest.version e → InstallsMerge {T = T} job (Err e) old new
+  unmade tables small rises draws is holds refused = record {
     table = new.next_table;
     rises = rises;
+    draws = draws;
     settles = record {
       ok = tt;
       after = λ h. none AfterCommit h (subst (IsRefusedFor job.ids tables job.settings.dest_level old.history.latest.version) (is_error AfterCommit h) refused);
@@ -245,10 +248,11 @@ module _ {T : Type 0} (job : SeenCompaction) (e : Error) (old new : Core) where
       kind _ r = absurd r
 
   -- it wasn't installed, or not wholly
-  pub unsettled : (mid : Core) (v : SeenVersion) → old.next_table ≤ mid.next_table → mid ≡ with_next_table mid.next_table old → IsMergedInto job old.history.latest.version v → Settles v job.settings.watermark (Err e) mid new → InstallsMerge {T = T} job (Err e) old new
-  unsettled mid v rises is made s = record {
+  pub unsettled : (mid : Core) (v : SeenVersion) → old.next_table ≤ mid.next_table → DrawsFor job old.next_table mid.next_table → mid ≡ with_next_table mid.next_table old → IsMergedInto job old.history.latest.version v → Settles v job.settings.watermark (Err e) mid new → InstallsMerge {T = T} job (Err e) old new
+  unsettled mid v rises draws is made s = record {
     table = mid.next_table;
     rises = rises;
+    draws = draws;
     settles = record {
       ok = tt;
       after = λ h. let one = s.after (ap Err (is_error AfterCommit h)) in (v, made, one.0, subst (λ k. IsInstalled v job.settings.watermark one.0 k new) is one.1);

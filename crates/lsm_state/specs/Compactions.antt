@@ -1,6 +1,7 @@
 -- The calls of a compaction: what each answers, and what it does.
-use Rattle.std.specs.Prelude.{◌≡◌, ◌⊎◌, ◌↔◌, ℕ, ◌-◌, ◌≤◌, ◌<◌, ◌^◌, true, false, List, [], ◌++◌, map, flat_map, Option, Some, None, IsSome, Result, Ok, Err, IfOk, IfErr, OnOk, OnErr, IsErrOf}
+use Rattle.std.specs.Prelude.{◌≡◌, ◌⊎◌, ◌↔◌, ℕ, ◌+◌, ◌-◌, ◌≤◌, ◌<◌, ◌^◌, true, false, List, [], ◌++◌, length, map, flat_map, Option, Some, None, IsSome, Result, Ok, Err, IfOk, IfErr, OnOk, OnErr, IsErrOf}
 use Rattle.std.specs.List.{AllByRecursion}
+use Rattle.lsm_below.specs.Keys.{Bytes}
 use Rattle.lsm_below.specs.declared.error.Error.{Error}
 use Rattle.lsm_below.specs.declared.error.Error.TheVariants.{OutOfMemory, Store, CommitUnknown, Unrecoverable, OutOfNumbers, TooManyRuns, NotDisjoint, Busy, AfterCommit, Strategy}
 use Rattle.lsm_below.specs.Optimizes.{tables_of}
@@ -19,7 +20,7 @@ use Rattle.lsm_choices.specs.declared.choice.Why.TheVariants.{UnknownJob}
 use Rattle.lsm_choices.specs.declared.input.Input.{Input}
 use Rattle.lsm_choices.specs.Choices.{first_reason_of, IsLastReason, HoldSame, IsMovable, AreThere, AllStand}
 use Rattle.lsm_merges.specs.declared.settings.MergeSettings.{MergeSettings}
-use Rattle.lsm_merges.specs.Merges.{SeenCompaction, inputs_in, evicts, run_entries, AreKept}
+use Rattle.lsm_merges.specs.Merges.{SeenCompaction, inputs_in, evicts, run_entries, AreKept, AreFilesOf}
 use Rattle.lsm_merges.specs.OpenMerges.{hides, IsOpenIn, opened, ended}
 use Rattle.lsm_pick.specs.declared.choice.Choice.{Choice}
 use Rattle.lsm_pick.specs.declared.choice.Choice.TheVariants.{DoNothing, Move, Merge, Drop}
@@ -216,11 +217,16 @@ pub record MayMerge (job : SeenCompaction) (c : Core) : Type 0 where
 abbrev pub IsTooFull : SeenCompaction → SeenVersion → Type 0
 IsTooFull job latest = (run : List SeenTable) × HoldsMerged job run × IsRefusedFor job.ids run job.settings.dest_level latest TooManyRuns
 
+-- ids of tables are used, no more than one for each file that a job makes
+abbrev pub DrawsFor : SeenCompaction → ℕ → ℕ → Type 0
+DrawsFor job first next = (files : List Bytes) × AreFilesOf job.settings job.inputs files × (next ≤ first + length files)
+
 -- what installing such a merge answers and does
 pub record InstallsMerge {T : Type 0} (job : SeenCompaction) (r : Result T Error) (old new : Core) : Type 0 where
   -- ids of tables may be used
   pub table : ℕ
   pub rises : old.next_table ≤ table
+  pub draws : DrawsFor job old.next_table table
   pub settles : SettlesSome (IsMergedInto job old.history.latest.version) job.settings.watermark r (with_next_table table old) new
   pub out_of_numbers : IsErrOf r OutOfNumbers → (2 ^ 63 ≤ old.seqno) ⊎ ((2 ^ 63 ≤ table) ⊎ (old.history.latest.version.id ≡ 2 ^ 64 - 1))
   pub too_many_runs : IsErrOf r TooManyRuns → IsTooFull job old.history.latest.version

@@ -73,6 +73,8 @@ pub record WritesTables (job : SeenMerged) (r : Result SeenWritten (Error × See
   pub back : IfErr r (λ e. e.1 ≡ job)
   pub err : OnErr r (new ≡ with_next_table new.next_table old)
   pub rises : old.next_table ≤ new.next_table
+  -- no more ids than entries
+  pub draws : new.next_table ≤ old.next_table + length job.entries
   pub unrecoverable : IfErr r (λ e. (e.0 ≡ Unrecoverable) ↔ IsSome old.lost)
   pub certain : IfOk r (λ w. old.lost ≡ None)
   pub out_of_numbers : IfErr r (λ e. e.0 ≡ OutOfNumbers → 2 ^ 63 ≤ new.next_table)

@@ -13,7 +13,7 @@ ghost use Rattle.lsm_state.specs.Commits.{Upholds};
 ghost use Rattle.lsm_state.specs.Flushes.{with_next_table};
 ghost use Rattle.lsm_state.specs.Deeds.{IsNoDeed};
 ghost use Rattle.lsm_state.specs.Settling.{MaySettle, HasItsTables};
-ghost use Rattle.lsm_state.specs.Compactions.{levels_of, closed, AreMerged, MayMerge, IsMergedInto, InstallsMerge, Ends, Spends, Finishes};
+ghost use Rattle.lsm_state.specs.Compactions.{levels_of, closed, AreMerged, MayMerge, IsMergedInto, DrawsFor, InstallsMerge, Ends, Spends, Finishes};
 ghost use Rattle.lsm_state.specs.CompactionDeeds.{MergeDeeds};
 
 use crate::{Finished, TreeState, compactions_are_deeds};
@@ -68,6 +68,7 @@ impl<S: Store> TreeState<S> {
         ensures below { IfOk result (λ ids. AllByRecursion (λ i. i < LIMIT) ids.items) }
         ensures next { IfOk result (λ _. self.new.core.next_table ≡ self.old.core.next_table + length contents.now) }
         ensures rises { self.old.core.next_table ≤ self.new.core.next_table }
+        ensures draws { self.new.core.next_table ≤ self.old.core.next_table + length contents.now }
         ensures core { self.new.core ≡ with_next_table self.new.core.next_table self.old.core }
         ensures on_disk { S.tells → IfOk result (λ ids. AreWritten (S.world self.new.store) ids.items contents.now) }
         ensures upholds { S.tells → Upholds (S.world self.old.store) (S.world self.new.store) self.old.core self.new.core }
@@ -93,6 +94,7 @@ impl<S: Store> TreeState<S> {
         requires certain { self.old.core.lost ≡ None }
         ensures merged { IfOk result (λ tables. AreMerged merged.now.job self.new.core tables.items) }
         ensures rises { self.old.core.next_table ≤ self.new.core.next_table }
+        ensures draws { DrawsFor merged.now.job self.old.core.next_table self.new.core.next_table }
         ensures core { self.new.core ≡ with_next_table self.new.core.next_table self.old.core }
         ensures on_disk { S.tells → IfOk result (λ tables. AreOnDisk (S.world self.new.store) tables.items) }
         ensures upholds { S.tells → Upholds (S.world self.old.store) (S.world self.new.store) self.old.core self.new.core }
@@ -101,6 +103,7 @@ impl<S: Store> TreeState<S> {
         ensures only { IfErr result (λ e. ((e ≡ Error.OutOfMemory) ⊎ (e ≡ Error.Store)) ⊎ (e ≡ Error.OutOfNumbers)) }
     {
         self.facts();
+        merged.facts();
         let ids = match self.write_files(merged.files()) {
             Ok(ids) => ids,
             Err(error) => return Err(error),
@@ -139,6 +142,7 @@ impl<S: Store> TreeState<S> {
         ensures gone { S.tells → OnOk result (LeavesNoFiles (S.world self.new.store) merged.now.job.ids self.old.core.history self.new.core.history) }
     {
         self.is_upheld();
+        merged.facts();
         if self.seqno.get() >= LIMIT {
             return Err(Error::OutOfNumbers);
         }

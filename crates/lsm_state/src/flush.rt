@@ -1,5 +1,5 @@
 // The calls of a flush, up to its tables.
-ghost use Rattle.std.specs.Prelude.{◌≡◌, ◌⊎◌, ◌≤◌, ◌<◌, ◌++◌, None, reverse, IsSome, IfOk, IfErr, IsErrOf};
+ghost use Rattle.std.specs.Prelude.{◌≡◌, ◌⊎◌, ◌+◌, ◌≤◌, ◌<◌, ◌++◌, None, length, reverse, IsSome, IfOk, IfErr, IsErrOf};
 ghost use Rattle.lsm_tables.specs.Cutting.{IsWritable};
 ghost use Rattle.lsm_versions.specs.Levels.{all_of, HasOwnIds};
 ghost use Rattle.lsm_files.specs.Stored.{AreOnDisk, CountsFaults};
@@ -96,6 +96,7 @@ impl<S: Store> TreeState<S> {
         ensures tables { IfOk result (λ tables. HoldEntries self.old.core.moment entries.now self.old.core.next_table self.new.core.next_table tables.items) }
         ensures own_ids { IfOk result (λ tables. HasOwnIds (tables.items ++ all_of self.old.core.history.latest.version.levels)) }
         ensures rises { self.old.core.next_table ≤ self.new.core.next_table }
+        ensures draws { self.new.core.next_table ≤ self.old.core.next_table + length entries.now }
         ensures core { self.new.core ≡ with_next_table self.new.core.next_table self.old.core }
         ensures upholds { S.tells → Upholds (S.world self.old.store) (S.world self.new.store) self.old.core self.new.core }
         ensures on_disk { S.tells → IfOk result (λ tables. AreOnDisk (S.world self.new.store) tables.items) }
@@ -126,6 +127,7 @@ impl<S: Store> TreeState<S> {
         ensures tables { IfOk result (λ tables. HoldEntries self.old.core.moment job.now.entries self.old.core.next_table self.new.core.next_table tables.items) }
         ensures own_ids { IfOk result (λ tables. HasOwnIds (tables.items ++ all_of self.old.core.history.latest.version.levels)) }
         ensures rises { self.old.core.next_table ≤ self.new.core.next_table }
+        ensures draws { self.new.core.next_table ≤ self.old.core.next_table + length job.now.entries }
         ensures core { self.new.core ≡ with_next_table self.new.core.next_table self.old.core }
         ensures upholds { S.tells → Upholds (S.world self.old.store) (S.world self.new.store) self.old.core self.new.core }
         ensures on_disk { S.tells → IfOk result (λ tables. AreOnDisk (S.world self.new.store) tables.items) }

@@ -3,7 +3,7 @@ use Rattle.lsm_tables.specs.Tables.{SeenTable}
 use Rattle.lsm_files.specs.declared.tables.TheConstants.{TABLE_TARGET}
 use Rattle.lsm_files.specs.Stored.{IsTableOnDisk, AreOnDisk}
 use Rattle.lsm_files.proofs.NextFiles.{files_none, leaves_more, files_more}
-use Rattle.lsm_files.proofs.Tabled.{IsUnderway, each_push, underway_none, underway_more, all_written, tables_stay}
+use Rattle.lsm_files.proofs.Tabled.{IsUnderway, draws_more, each_push, underway_none, underway_more, all_written, tables_stay}
 use Rattle.lsm_files.proofs.tables.write_each.Goals as goal
 
 pub loop-rest-init : goal.loop-rest-init
@@ -13,6 +13,7 @@ loop-rest-init g c =
     record {
       written = rw c.copy-rest.ensures (subst (λ (ts : List SeenTable). IsUnderway TABLE_TARGET c.args.made_at c.args.next.now c.args.next.now c.args.entries.now ts c.args.entries.now) none (underway_none TABLE_TARGET c.args.made_at c.args.next.now c.args.entries.now c.requires));
       on_disk = λ tells. subst (λ (ts : List SeenTable). AreOnDisk (w c.args.store.now) ts) none tt;
+      draws = rw c.copy-rest.ensures (omega arith);
       files = files_none g.S.Store.tells c.args.next.now (w c.args.store.now) (λ tells. g.met.S.Store.only_now tells c.args.store.now);
     }
 
@@ -42,6 +43,7 @@ loop-rest-preserved g c =
           (underway_more TABLE_TARGET c.args.made_at first at.next c.args.entries.now at.tables.items at.rest c.split_table-first.result.0 c.split_table-first.result.1 t written made.table c.split_table-first.ensures.writable c.split_table-first.ensures.cut);
       on_disk = λ tells. subst (λ (ts : List SeenTable). AreOnDisk new ts) (sym pushed)
           (each_push (IsTableOnDisk new) at.tables.items t (tables_stay c.names_are_apart.ensures.tables at.next (omega arith) mid new (made.keeps tells) at.tables.items written.below (at.invariant.on_disk tells)) (made.on_disk tells));
+      draws = draws_more at.next first c.split_table-first.result.0 c.split_table-first.result.1 at.rest c.args.entries.now c.split_table-first.ensures.parts c.split_table-first.ensures.table.some at.invariant.draws;
       files = files_more first at.next old mid new written.rises (omega arith) g.S.Store.tells at.invariant.files made.keeps made.any_moment (made.counts.none (λ e. absurd (cc e)) (λ e. absurd (cc e)));
     }
 

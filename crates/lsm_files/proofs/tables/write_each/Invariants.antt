@@ -1,4 +1,4 @@
-use Rattle.std.proofs.Common.{length}
+use Rattle.std.proofs.Common.{◌+◌, ◌≤◌, length}
 use Rattle.lsm_files.specs.declared.tables.TheConstants.{TABLE_TARGET}
 use Rattle.lsm_files.specs.Stored.{AreOnDisk}
 use Rattle.lsm_files.proofs.NextFiles.{KeepsFiles}
@@ -11,6 +11,7 @@ invariant-loop-rest g l =
     record {
       written : IsUnderway TABLE_TARGET l.made_at l.fn.next l.next l.entries l.tables.items l.rest;
       on_disk : g.S.Store.tells → AreOnDisk (w l.store) l.tables.items;
+      draws : l.next + length l.rest ≤ l.fn.next + length l.entries;
       files : KeepsFiles g.S.Store.tells l.fn.next (w l.fn.store) (w l.store);
     }
 

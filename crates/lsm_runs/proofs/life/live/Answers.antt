@@ -2,6 +2,7 @@ use Rattle.std.proofs.Common.{refl, ap}
 use Rattle.lsm_state.specs.Core.{Core}
 use Rattle.lsm_runs.proofs.Causing.{causes_between}
 use Rattle.lsm_runs.proofs.Living.{lived}
+use Rattle.lsm_runs.proofs.OpeningCauses.{opening_causes}
 use Rattle.lsm_runs.proofs.Settled.{settled_for}
 use Rattle.lsm_runs.proofs.life.live.Goals as goal
 
@@ -25,3 +26,7 @@ pub returns-in-Err-clause-stands : goal.returns-in-Err-clause-stands
 returns-in-Err-clause-stands g c tells settled m stands =
     let ready = c.settled_stores_are_ready.ensures c.args.store stands.levels settled stands.found in
     settled_for (g.S.Store.world c.args.store) (g.S.Store.world c.in-Err.refused.1) m stands ready ((c.in-Err.ensures.opens tells).stands_for ready.ready m stands)
+
+pub returns-in-Err-clause-blames : goal.returns-in-Err-clause-blames
+returns-in-Err-clause-blames g c =
+    opening_causes (g.S.Store.world c.args.store) (g.S.Store.world c.in-Err.refused.1) c.in-Err.refused.0 c.in-Err.ensures.counts

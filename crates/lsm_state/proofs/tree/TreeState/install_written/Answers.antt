@@ -11,7 +11,7 @@ use Rattle.lsm_state.proofs.tree.TreeState.install_written.Goals as goal
 pub returns-in-Err-clause-installs : goal.returns-in-Err-clause-installs
 returns-in-Err-clause-installs g c =
     let m = c.write_merged in
-    unwritten c.args.merged.now.job c.in-Err.error c.args.self.now.core m.new.self.core m.ensures.rises m.ensures.core c.in-Err.ensures.only (λ h. c.in-Err.ensures.out_of_numbers (ap Err h))
+    unwritten c.args.merged.now.job c.in-Err.error c.args.self.now.core m.new.self.core m.ensures.rises m.ensures.draws m.ensures.core c.in-Err.ensures.only (λ h. c.in-Err.ensures.out_of_numbers (ap Err h))
 
 pub returns-in-Err-version_merged-clause-installs : goal.returns-in-Err-version_merged-clause-installs
 returns-in-Err-version_merged-clause-installs g c =
@@ -23,7 +23,7 @@ returns-in-Err-version_merged-clause-installs g c =
     let of_job = subst (λ j. IsRefusedFor j.ids tables j.settings.dest_level latest c.in-Err-version_merged.error) c.job-job.ensures of_tables in
     let refused = subst (λ k. IsRefusedFor job.ids tables job.settings.dest_level k.history.latest.version c.in-Err-version_merged.error) m.ensures.core of_job in
     let small : c.args.self.now.core.seqno < 2 ^ 63 = search (rules, arith) in
-    unmade job c.in-Err-version_merged.error c.args.self.now.core m.new.self.core tables small m.ensures.rises m.ensures.core c.in-Ok.ensures.merged.holds refused
+    unmade job c.in-Err-version_merged.error c.args.self.now.core m.new.self.core tables small m.ensures.rises m.ensures.draws m.ensures.core c.in-Ok.ensures.merged.holds refused
 
 pub returns-in-Ok-settle-clause-upholds : goal.returns-in-Ok-settle-clause-upholds
 returns-in-Ok-settle-clause-upholds g c tells =
@@ -44,7 +44,7 @@ returns-clause-installs g c =
     let made = subst (λ k. IsMergedInto job k.history.latest.version v) m.ensures.core of_job in
     let end = c.in-Err-settle in
     let settles = subst (λ n. Settles v n (Err end.error) m.new.self.core c.settle.new.self.core) (ap (λ t. t.watermark) (c.settings.ensures ∙ ap (λ j. j.settings) c.job-job.ensures)) end.ensures.settles in
-    unsettled job end.error c.args.self.now.core c.settle.new.self.core m.new.self.core v m.ensures.rises m.ensures.core made settles
+    unsettled job end.error c.args.self.now.core c.settle.new.self.core m.new.self.core v m.ensures.rises m.ensures.draws m.ensures.core made settles
 
 pub returns-clause-upholds : goal.returns-clause-upholds
 returns-clause-upholds g c tells =

@@ -1,7 +1,8 @@
-use Rattle.std.proofs.Common.{◌+◌, ◌<◌, ◌^◌, length, sym, ap, ◌∙◌, subst}
+use Rattle.std.proofs.Common.{◌+◌, ◌<◌, ◌≤◌, ◌^◌, List, length, sym, ap, ◌∙◌, subst}
 use Rattle.std.specs.List.{AllByRecursion, range_with_len}
 use Rattle.std.proofs.lemmas.List.FromFn.{length-range_with_len}
 use Rattle.std.proofs.lemmas.Result.{IfOk-weaker}
+use Rattle.lsm_below.specs.Keys.{Bytes}
 use Rattle.lsm_files.specs.Stored.{AreOnDisk}
 use Rattle.lsm_files.specs.Contents.{AreWritten}
 use Rattle.lsm_merges.specs.Merges.{AreTablesOf}
@@ -32,3 +33,13 @@ returns-clause-on_disk g c tells =
     let written = subst (λ l. AreWritten w ids l) c.files.ensures (subst (λ l. AreWritten w l c.files.result.now) (sym c.deref.ensures.value) (c.in-Ok.ensures.on_disk tells)) in
     IfOk-weaker c.tables.result (λ ts. AreTablesOf m.job m.files ids ts.items) (λ ts. AreOnDisk w ts.items)
     (λ ts made. on_disk m.job m.files ids ts.items made w (c.see_files.ensures tells) written c.tables.ensures.moment) c.tables.ensures.tables
+
+pub returns-in-Err-clause-draws : goal.returns-in-Err-clause-draws
+returns-in-Err-clause-draws g c =
+    let m = c.args.merged.now in
+    (m.files, c.facts-2.ensures, subst (λ (l : List Bytes). c.write_files.new.self.core.next_table ≤ c.args.self.now.core.next_table + length l) c.files.ensures c.write_files.ensures.draws)
+
+pub returns-clause-draws : goal.returns-clause-draws
+returns-clause-draws g c =
+    let m = c.args.merged.now in
+    (m.files, c.facts-2.ensures, subst (λ (l : List Bytes). c.write_files.new.self.core.next_table ≤ c.args.self.now.core.next_table + length l) c.files.ensures c.write_files.ensures.draws)
