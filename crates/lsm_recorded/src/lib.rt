@@ -17,8 +17,10 @@
 //! | `writes` | writes to a tree that are noted |
 //! | `noting` | what a call came to, on its way into a journal and a pass |
 //! | `closing` | whether passes list a journal |
+//! | `closed` | a journal that is given out |
 #![tactic(auto)]
 
+mod closed;
 mod closing;
 mod marked_key;
 mod marks;
@@ -29,5 +31,6 @@ mod pass;
 mod recorded;
 mod writes;
 
+pub use closed::Closed;
 pub use pass::Pass;
 pub use recorded::Recorded;

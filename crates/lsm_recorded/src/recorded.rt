@@ -11,6 +11,7 @@ ghost use Rattle.lsm_model.specs.declared.journal.JournalEntry.TheVariants.{Writ
 ghost use Rattle.lsm_model.specs.declared.question.Question.TheVariants.{Get as GetQuestion};
 ghost use Rattle.lsm_model.specs.declared.question.Answer.TheVariants.{Found};
 ghost use Rattle.lsm_model.specs.declared.op.Op.TheVariants.{Set, Del, Weak};
+ghost use Rattle.lsm_versions.specs.Levels.{placed_of};
 ghost use Rattle.lsm_files.specs.Foreign.{AtRest};
 ghost use Rattle.lsm_state.specs.Held.{first_entries};
 ghost use Rattle.lsm_state.specs.Kept.{IsKeptTree};
@@ -21,6 +22,7 @@ ghost use Rattle.lsm_recorded.specs.Order.{keeps_order, batch_keeps_order};
 ghost use Rattle.lsm_recorded.specs.Passes.{Notes};
 ghost use Rattle.lsm_recorded.specs.Closing.{ListTogether};
 
+use crate::closed::Closed;
 use crate::closing::list_together;
 use crate::marked_key::MarkedKey;
 use crate::marks::{Mark, share_marked};
@@ -295,30 +297,35 @@ impl<S: Store> Recorded<S> {
     }
 
     /// A copy of the journal, where the passes together list it: each of its places once, with the entry there,
-    /// and nothing else, each pass its own by rising places. Else, also for want of memory, the passes.
-    pub fn close(&self, passes: Vec<Pass>) -> Result<Vec<JournalEntry>, Vec<Pass>>
-        ensures journal { IfOk result (λ j. j.items ≡ self.now.journal) }
-        ensures listed { IfOk result (λ j. ListTogether j.items passes.items) }
-        ensures agrees { IfOk result (λ j. Agrees (shown_by self.now.opened) j.items) }
+    /// and nothing else, each pass its own by rising places; beside it the version that was opened. Else, also for want of
+    /// memory, the passes.
+    pub fn close(&self, passes: Vec<Pass>) -> Result<Closed, Vec<Pass>>
+        ensures journal { IfOk result (λ c. c.journal.items ≡ self.now.journal) }
+        ensures opened { IfOk result (λ c. placed_of c.opened.levels ≡ self.now.opened) }
+        ensures listed { IfOk result (λ c. ListTogether c.journal.items passes.items) }
+        ensures agrees { IfOk result (λ c. Agrees (shown_by (placed_of c.opened.levels)) c.journal.items) }
         ensures back { IfErr result (λ back. back ≡ passes) }
     {
         self.facts();
         match self.copy_if_listed(&passes) {
-            Ok(Some(journal)) => Ok(journal),
+            Ok(Some(closed)) => Ok(closed),
             Ok(None) | Err(_) => Err(passes),
         }
     }
 
-    /// A copy of the journal, where the passes together list it.
-    fn copy_if_listed(&self, passes: &[Pass]) -> Result<Option<Vec<JournalEntry>>, AllocError>
-        ensures journal { IfOk result (λ told. IfSome told (λ j. j.items ≡ self.now.journal)) }
-        ensures listed { IfOk result (λ told. IfSome told (λ j. ListTogether j.items passes.now)) }
+    /// A copy of the journal and the version that was opened, where the passes together list it.
+    fn copy_if_listed(&self, passes: &[Pass]) -> Result<Option<Closed>, AllocError>
+        ensures journal { IfOk result (λ told. IfSome told (λ c. c.journal.items ≡ self.now.journal)) }
+        ensures opened { IfOk result (λ told. IfSome told (λ c. placed_of c.opened.levels ≡ self.now.opened)) }
+        ensures listed { IfOk result (λ told. IfSome told (λ c. ListTogether c.journal.items passes.now)) }
     {
         if !list_together(self.alloc, &self.journal, passes)? {
             return Ok(None);
         }
-        let journal = copy_journal(self.alloc, &self.journal)?;
-        Ok(Some(journal))
+        Ok(Some(Closed {
+            journal: copy_journal(self.alloc, &self.journal)?,
+            opened: self.opened.copy(self.alloc)?,
+        }))
     }
 
     /// Of files to which nothing is done, a crash leaves what they hold, and foreign names are as they are.

@@ -7,7 +7,8 @@ use Rattle.lsm_manifest.specs.declared.fault.Fault.{Fault}
 use Rattle.lsm_manifest.specs.declared.fault.Fault.TheVariants.{Unrecoverable, CurrentHeader, ChecksumMismatch, OutOfNumbers, InvalidVersion, TreeType, ChecksumType}
 use Rattle.lsm_manifest.specs.declared.fault.OpenError.{OpenError}
 use Rattle.lsm_manifest.specs.declared.fault.OpenError.TheVariants as opening
-use Rattle.lsm_manifest.specs.Recovery.{Opened, CountsStore}
+use Rattle.lsm_manifest.specs.declared.opening.Opened.{Opened}
+use Rattle.lsm_manifest.specs.Recovery.{CountsStore}
 use Rattle.lsm_manifest.specs.Told.{InStore, TellsFault, TellsOpen, Told}
 use Rattle.lsm_files.specs.Causes.{HasCause, BlamesStore, no_fault, one_fault}
 

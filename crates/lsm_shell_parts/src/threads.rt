@@ -36,7 +36,7 @@ pub fn call_all<R: Threads + Wait + Sync>(
 /// How many entries the journal has that these passes list.
 fn count_entries(rt: &impl Wait, tree: &RecordedTree, passes: Vec<Pass>) -> Option<usize> {
     match tree.close(rt, passes) {
-        Ok(journal) => Some(journal.len()),
+        Ok(closed) => Some(closed.journal.len()),
         Err(_) => None,
     }
 }

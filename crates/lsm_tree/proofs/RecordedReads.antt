@@ -4,12 +4,11 @@ use Rattle.std.proofs.lemmas.Bool.Decides.{nat_tests}
 use Rattle.lsm_below.specs.Entries.{above}
 use Rattle.lsm_below.specs.declared.error.Error.{Error}
 use Rattle.lsm_below.specs.declared.error.Error.TheVariants.{OutOfMemory, OutOfOrder, SnapshotTooOld}
-use Rattle.lsm_model.specs.Views.{Placed, held, SuperVersion, found_at}
+use Rattle.lsm_model.specs.Views.{held, SuperVersion, found_at}
 use Rattle.lsm_state.specs.Core.{Core, latest_of, older_of}
-use Rattle.lsm_state.specs.Kept.{IsKeptTree}
 use Rattle.lsm_state.specs.Calls.{RefusesRead}
-use Rattle.lsm_recorded.specs.Recorded.{RefusesRecorded}
-use Rattle.lsm_tree.specs.Shared.{RefusesRecordedRead}
+use Rattle.lsm_recorded.specs.Recorded.{SeenRecorded, RefusesRecorded}
+use Rattle.lsm_tree.specs.Shared.{IsKeptRecorded, RefusesRecordedRead}
 
 above_or_below : (a b : ℕ) → (a ≤ b) ⊎ (b < a)
 above_or_below a b = elim (nat_lt b a) as (λ t. nat_lt b a ≡ t → (a ≤ b) ⊎ (b < a)) [ true ↦ λ e. inr (grind (arith, nat_tests)) | false ↦ λ e. inl (grind (arith, nat_tests)) ] refl
@@ -25,17 +24,17 @@ only_of : {A : Type 0} (c : Core) (s : ℕ) (r : Result A Error) → RefusesRead
 only_of c s (Ok x) refuses = tt
 only_of c s (Err e) refuses = inr refuses.only
 
-late : {A : Type 0} (opened : List Placed) (s : ℕ) (r : Result A Error) → s < above (held opened) → r ≡ Err OutOfOrder → RefusesRecordedRead s r
-late {A} opened s r below is = subst (λ (q : Result A Error). RefusesRecordedRead s q) (sym is) (record { only = inl refl; out_of_order = λ e. (opened, below); too_old = λ e. absurd (cc e); at_zero = λ zero. inl refl })
+late : {S A : Type 0} (t : SeenRecorded S) (s : ℕ) (r : Result A Error) → IsKeptRecorded t → s < above (held t.opened) → r ≡ Err OutOfOrder → RefusesRecordedRead S s r
+late {S} {A} t s r kept below is = subst (λ (q : Result A Error). RefusesRecordedRead S s q) (sym is) (record { only = inl refl; out_of_order = λ e. (t, below, kept); too_old = λ e. absurd (cc e); at_zero = λ zero. inl refl })
 
-pub shared_read : {A : Type 0} (opened : List Placed) (c : Core) (s : ℕ) (r : Result A Error) → IsKeptTree c → RefusesRecorded (above (held opened)) c s r → RefusesRecordedRead s r
-shared_read opened c s r kept refuses =
+pub shared_read : {S A : Type 0} (t : SeenRecorded S) (s : ℕ) (r : Result A Error) → IsKeptRecorded t → RefusesRecorded (above (held t.opened)) t.tree.core s r → RefusesRecordedRead S s r
+shared_read t s r kept refuses =
     ⊎_elim
     (λ up.
     let read = refuses.refuses up in record {
-      only = only_of c s r read;
-      out_of_order = λ e. (opened, refuses.out_of_order.0 e);
-      too_old = λ e. (c, read.too_old.0 e, kept);
-      at_zero = λ zero. at_zero_of c s r zero read;
+      only = only_of t.tree.core s r read;
+      out_of_order = λ e. (t, refuses.out_of_order.0 e, kept);
+      too_old = λ e. (t.tree.core, read.too_old.0 e, kept.tree);
+      at_zero = λ zero. at_zero_of t.tree.core s r zero read;
     })
-    (λ below. late opened s r below (refuses.out_of_order.1 below)) (above_or_below (above (held opened)) s)
+    (λ below. late t s r kept below (refuses.out_of_order.1 below)) (above_or_below (above (held t.opened)) s)

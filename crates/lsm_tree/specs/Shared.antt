@@ -2,13 +2,14 @@
 use Rattle.std.specs.Prelude.{◌≡◌, ℕ, ◌<◌, ◌≤◌, ◌⊎◌, List, [], ◌++◌, None, Result, IfErr, IsErrOf, IsOk}
 use Rattle.lsm_model.specs.declared.journal.JournalEntry.{JournalEntry}
 use Rattle.lsm_below.specs.Entries.{above}
-use Rattle.lsm_model.specs.Journal.{Agrees}
-use Rattle.lsm_model.specs.Views.{Placed, held, found_at}
+use Rattle.lsm_model.specs.Journal.{InOrder, next_number}
+use Rattle.lsm_model.specs.Steps.{ReadsEqualReplay}
+use Rattle.lsm_model.specs.Views.{held, found_at}
 use Rattle.lsm_model.specs.Beginnings.{shown_by}
 use Rattle.lsm_below.specs.declared.error.Error.{Error}
 use Rattle.lsm_below.specs.declared.error.Error.TheVariants.{OutOfMemory, OutOfNumbers, OutOfOrder, SnapshotTooOld}
 use Rattle.lsm_versions.specs.declared.config.TheConstants.{LIMIT}
-use Rattle.lsm_state.specs.Core.{Core, latest_of, older_of}
+use Rattle.lsm_state.specs.Core.{Core, latest_of, older_of, state_of}
 use Rattle.lsm_state.specs.Held.{first_entries}
 use Rattle.lsm_state.specs.Kept.{IsKeptTree}
 use Rattle.lsm_recorded.specs.Passes.{listed}
@@ -26,6 +27,18 @@ AtSomeTree P = (c : Core) × P c × IsKeptTree c
 abbrev pub OnSomeRecorded : (S : Type 0) → (SeenRecorded S → SeenRecorded S → Type 0) → Type 0
 OnSomeRecorded S P = (old : SeenRecorded S) × (new : SeenRecorded S) × P old new × IsKeptTree old.tree.core × IsKeptTree new.tree.core
 
+-- what always holds of a tree with its journal: each read of it agrees with the replay before it, and its writes are in order,
+-- below the counter
+pub record IsKeptRecorded {S : Type 0} (t : SeenRecorded S) : Type 0 where
+  pub tree : IsKeptTree t.tree.core
+  pub reads : ReadsEqualReplay (held t.opened) (shown_by t.opened) (state_of t.journal t.tree.core)
+  pub in_order : InOrder (held t.opened) t.journal
+  pub counted : next_number (held t.opened) t.journal ≤ t.tree.core.seqno
+
+-- a call that looked at some tree with its journal, of which this holds
+abbrev pub AtSomeRecorded : (S : Type 0) → (SeenRecorded S → Type 0) → Type 0
+AtSomeRecorded S P = (t : SeenRecorded S) × P t × IsKeptRecorded t
+
 -- a read is refused as too old, where the tree has no super version for its snapshot, or for want of memory
 pub record RefusesSharedRead {A : Type 0} (snapshot : ℕ) (r : Result A Error) : Type 0 where
   pub only : IfErr r (λ e. (e ≡ SnapshotTooOld) ⊎ (e ≡ OutOfMemory))
@@ -34,16 +47,12 @@ pub record RefusesSharedRead {A : Type 0} (snapshot : ℕ) (r : Result A Error) 
   pub at_zero : snapshot ≡ 0 → IfErr r (λ e. e ≡ OutOfMemory)
 
 -- the same of a tree that was opened with its journal: a read is out of order at a snapshot that isn't above all that was opened
-pub record RefusesRecordedRead {A : Type 0} (snapshot : ℕ) (r : Result A Error) : Type 0 where
+pub record RefusesRecordedRead (S : Type 0) {A : Type 0} (snapshot : ℕ) (r : Result A Error) : Type 0 where
   pub only : IfErr r (λ e. (e ≡ OutOfOrder) ⊎ ((e ≡ SnapshotTooOld) ⊎ (e ≡ OutOfMemory)))
-  pub out_of_order : IsErrOf r OutOfOrder → (opened : List Placed) × (snapshot < above (held opened))
+  pub out_of_order : IsErrOf r OutOfOrder → AtSomeRecorded S (λ t. snapshot < above (held t.opened))
   pub too_old : IsErrOf r SnapshotTooOld → AtSomeTree (λ c. found_at snapshot (latest_of c) (older_of c) ≡ None)
   -- snapshot 0 is never too old
   pub at_zero : snapshot ≡ 0 → IfErr r (λ e. (e ≡ OutOfOrder) ⊎ (e ≡ OutOfMemory))
-
--- each read of a journal agrees with the replay before it, from what some tables show
-abbrev pub AgreesFromSome : List JournalEntry → Type 0
-AgreesFromSome journal = (opened : List Placed) × Agrees (shown_by opened) journal
 
 -- a look is refused as too old, where the tree has no super version for its snapshot
 pub record RefusesSharedLook {A : Type 0} (snapshot : ℕ) (r : Result A Error) : Type 0 where

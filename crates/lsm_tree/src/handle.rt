@@ -37,7 +37,7 @@ pub type Tree<S = MemStore> = Handle<TreeState<S>>;
 /// let tree = Handle::new(alloc, core)?;
 /// let mut pass = Pass::new(alloc);
 /// tree.write(&rt, &mut pass, vec![in alloc; (key, Op::Set(value))]?)?;
-/// let journal = tree.close(&rt, vec![in alloc; pass]?);
+/// let closed = tree.close(&rt, vec![in alloc; pass]?);
 /// ```
 pub type RecordedTree<S = MemStore> = Handle<Recorded<S>>;
 

@@ -137,6 +137,7 @@ pub use lsm_pick::Leveled;
 pub use lsm_pick::Levelled;
 pub use lsm_pick::Major;
 pub use lsm_pick::OwnedBounds;
+pub use lsm_recorded::Closed;
 pub use lsm_recorded::Pass;
 pub use lsm_recorded::Recorded;
 pub use lsm_runs::Compacted;

@@ -1,23 +1,28 @@
 // The calls of a tree with its journal, behind the lock.
-ghost use Rattle.std.specs.Prelude.{◌≡◌, [], ◌∷◌, ◌⊎◌, map, IfOk, IfErr, OnOk, OnErr};
+ghost use Rattle.std.specs.Prelude.{◌≡◌, [], ◌∷◌, ◌⊎◌, false, map, IfOk, IfErr, OnOk, OnErr, IsErrOf};
 ghost use Rattle.lsm_below.specs.Entries.{plain};
+ghost use Rattle.lsm_model.specs.Views.{held};
+ghost use Rattle.lsm_model.specs.Beginnings.{shown_by};
+ghost use Rattle.lsm_model.specs.Journal.{Agrees};
 ghost use Rattle.lsm_model.specs.Ops.{op_entry, op_entries};
 ghost use Rattle.lsm_model.specs.declared.journal.JournalEntry.TheVariants.{Write as WriteEntry, Read as ReadEntry};
 ghost use Rattle.lsm_model.specs.declared.question.Question.TheVariants.{Get as GetQuestion, Between, Prefix};
 ghost use Rattle.lsm_model.specs.declared.question.Answer.TheVariants.{Found, Pairs as PairsAnswer};
 ghost use Rattle.lsm_model.specs.declared.op.Op.TheVariants.{Set, Del, Weak};
+ghost use Rattle.lsm_versions.specs.Levels.{placed_of};
 ghost use Rattle.lsm_recorded.specs.Closing.{ListTogether};
+ghost use Rattle.lsm_recorded.specs.Order.{keeps_order, batch_keeps_order};
 ghost use Rattle.lsm_state.specs.Calls.{Appends, WritesBatch, Rotates};
 ghost use Rattle.lsm_recorded.specs.Recorded.{OwnOr};
 ghost use Rattle.lsm_recorded.specs.Flushing.{RefusesUnnoted};
 ghost use Rattle.lsm_recorded.specs.Clearing.{ClearsNoted};
-ghost use Rattle.lsm_tree.specs.Shared.{OnSomeTree, OnSomeRecorded, RefusesRecordedRead, AgreesFromSome, RefusesSharedRotation, Puts};
+ghost use Rattle.lsm_tree.specs.Shared.{OnSomeTree, OnSomeRecorded, AtSomeRecorded, RefusesRecordedRead, RefusesSharedRotation, Puts};
 
 use crate::handle::Handle;
 use lsm_below::{InternalValue, MemtableId, SeqNo, UserKey, UserValue};
-use lsm_model::{JournalEntry, KvPairs, Op};
+use lsm_model::{KvPairs, Op};
 use lsm_parts::Error;
-use lsm_recorded::{Pass, Recorded};
+use lsm_recorded::{Closed, Pass, Recorded};
 use lsm_store::Store;
 use std::ops::Bound;
 use std::sync::Wait;
@@ -33,7 +38,7 @@ impl<S: Store> Handle<Recorded<S>> {
         key: &UserKey,
         snapshot: SeqNo,
     ) -> Result<Option<UserValue>, Error>
-        ensures refused { RefusesRecordedRead snapshot result }
+        ensures refused { RefusesRecordedRead S snapshot result }
         ensures noted { IfOk result (λ v. Puts (ReadEntry snapshot (GetQuestion key.now) (Found v) ∷ []) pass.old pass.new) }
         ensures err { OnErr result (pass.new ≡ pass.old) }
     {
@@ -51,7 +56,7 @@ impl<S: Store> Handle<Recorded<S>> {
         bounds: &(Bound<UserKey>, Bound<UserKey>),
         snapshot: SeqNo,
     ) -> Result<KvPairs, Error>
-        ensures refused { RefusesRecordedRead snapshot result }
+        ensures refused { RefusesRecordedRead S snapshot result }
         ensures noted { IfOk result (λ pairs. Puts (ReadEntry snapshot (Between bounds.now.0 bounds.now.1) (PairsAnswer pairs) ∷ []) pass.old pass.new) }
         ensures err { OnErr result (pass.new ≡ pass.old) }
     {
@@ -69,7 +74,7 @@ impl<S: Store> Handle<Recorded<S>> {
         prefix: &UserKey,
         snapshot: SeqNo,
     ) -> Result<KvPairs, Error>
-        ensures refused { RefusesRecordedRead snapshot result }
+        ensures refused { RefusesRecordedRead S snapshot result }
         ensures noted { IfOk result (λ pairs. Puts (ReadEntry snapshot (Prefix prefix.now) (PairsAnswer pairs) ∷ []) pass.old pass.new) }
         ensures err { OnErr result (pass.new ≡ pass.old) }
     {
@@ -105,6 +110,7 @@ impl<S: Store> Handle<Recorded<S>> {
         entry: InternalValue,
     ) -> Result<(u64, u64), Error>
         ensures core { OwnOr result (OnSomeTree (λ old new. Appends (plain entry) result old new)) }
+        ensures out_of_order { IsErrOf result Error.OutOfOrder → AtSomeRecorded S (λ t. keeps_order (held t.opened) t.journal t.tree.core.seqno (plain entry) ≡ false) }
         ensures noted { OnOk result (Puts (WriteEntry (plain entry) ∷ []) pass.old pass.new) }
         ensures err { OnErr result (pass.new ≡ pass.old) }
     {
@@ -126,6 +132,7 @@ impl<S: Store> Handle<Recorded<S>> {
         seqno: SeqNo,
     ) -> Result<(u64, u64), Error>
         ensures core { OwnOr result (OnSomeTree (λ old new. Appends (op_entry key seqno (Set value)) result old new)) }
+        ensures out_of_order { IsErrOf result Error.OutOfOrder → AtSomeRecorded S (λ t. keeps_order (held t.opened) t.journal t.tree.core.seqno (op_entry key seqno (Set value)) ≡ false) }
         ensures noted { OnOk result (Puts (WriteEntry (op_entry key seqno (Set value)) ∷ []) pass.old pass.new) }
         ensures err { OnErr result (pass.new ≡ pass.old) }
     {
@@ -146,6 +153,7 @@ impl<S: Store> Handle<Recorded<S>> {
         seqno: SeqNo,
     ) -> Result<(u64, u64), Error>
         ensures core { OwnOr result (OnSomeTree (λ old new. Appends (op_entry key seqno Del) result old new)) }
+        ensures out_of_order { IsErrOf result Error.OutOfOrder → AtSomeRecorded S (λ t. keeps_order (held t.opened) t.journal t.tree.core.seqno (op_entry key seqno Del) ≡ false) }
         ensures noted { OnOk result (Puts (WriteEntry (op_entry key seqno Del) ∷ []) pass.old pass.new) }
         ensures err { OnErr result (pass.new ≡ pass.old) }
     {
@@ -166,6 +174,7 @@ impl<S: Store> Handle<Recorded<S>> {
         seqno: SeqNo,
     ) -> Result<(u64, u64), Error>
         ensures core { OwnOr result (OnSomeTree (λ old new. Appends (op_entry key seqno Weak) result old new)) }
+        ensures out_of_order { IsErrOf result Error.OutOfOrder → AtSomeRecorded S (λ t. keeps_order (held t.opened) t.journal t.tree.core.seqno (op_entry key seqno Weak) ≡ false) }
         ensures noted { OnOk result (Puts (WriteEntry (op_entry key seqno Weak) ∷ []) pass.old pass.new) }
         ensures err { OnErr result (pass.new ≡ pass.old) }
     {
@@ -185,6 +194,7 @@ impl<S: Store> Handle<Recorded<S>> {
         ops: Vec<(UserKey, Op)>,
     ) -> Result<SeqNo, Error>
         ensures core { OwnOr result (OnSomeTree (λ old new. WritesBatch ops.items result old new)) }
+        ensures out_of_order { IsErrOf result Error.OutOfOrder → AtSomeRecorded S (λ t. batch_keeps_order (held t.opened) t.journal t.tree.core.seqno ops.items ≡ false) }
         ensures noted { IfOk result (λ n. Puts (map WriteEntry (op_entries n ops.items)) pass.old pass.new) }
         ensures err { OnErr result (pass.new ≡ pass.old) }
     {
@@ -208,12 +218,18 @@ impl<S: Store> Handle<Recorded<S>> {
         told
     }
 
-    /// A copy of the journal, where the passes together list it, else the passes; as `Recorded::close`.
-    pub fn close(&self, rt: &impl Wait, passes: Vec<Pass>) -> Result<Vec<JournalEntry>, Vec<Pass>>
-        ensures listed { IfOk result (λ j. ListTogether j.items passes.items) }
-        ensures agrees { IfOk result (λ j. AgreesFromSome j.items) }
+    /// A copy of the journal and the version that was opened, where the passes together list the journal, else the passes; as
+    /// `Recorded::close`.
+    pub fn close(&self, rt: &impl Wait, passes: Vec<Pass>) -> Result<Closed, Vec<Pass>>
+        ensures listed { IfOk result (λ c. ListTogether c.journal.items passes.items) }
+        ensures agrees { IfOk result (λ c. Agrees (shown_by (placed_of c.opened.levels)) c.journal.items) }
+        // It is the journal of a tree, and these are the tables that it was opened with.
+        ensures tree { IfOk result (λ c. AtSomeRecorded S (λ t. (t.journal ≡ c.journal.items) × (t.opened ≡ placed_of c.opened.levels))) }
         ensures back { IfErr result (λ back. back ≡ passes) }
     {
-        self.shared.lock(rt).close(passes)
+        let tree = self.shared.lock(rt);
+        let tree = &*tree;
+        tree.facts();
+        tree.close(passes)
     }
 }

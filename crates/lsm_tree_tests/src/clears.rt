@@ -82,7 +82,11 @@ fn closes(rt: &impl Wait, alloc: Global, tree: &RecordedTree, pass: Pass) -> boo
         return false;
     };
     match tree.close(rt, passes) {
-        Ok(journal) => journal.len() == 3 && matches!(journal[1], JournalEntry::Clear(1)),
+        Ok(closed) => {
+            closed.opened.table_count() == 0
+                && closed.journal.len() == 3
+                && matches!(closed.journal[1], JournalEntry::Clear(1))
+        }
         Err(_) => false,
     }
 }
@@ -178,13 +182,13 @@ fn are_answered(rt: &impl Wait, alloc: Global, tree: &RecordedTree, one: Told, t
     let Ok(passes) = vec![in alloc; one.1, two.1] else {
         return false;
     };
-    let Ok(journal) = tree.close(rt, passes) else {
+    let Ok(closed) = tree.close(rt, passes) else {
         return false;
     };
     first == Some(text("a"))
         && second == Some(text("b"))
-        && is_read(journal.get(places.0), "a", &first)
-        && is_read(journal.get(places.1), "b", &second)
+        && is_read(closed.journal.get(places.0), "a", &first)
+        && is_read(closed.journal.get(places.1), "b", &second)
 }
 
 #[test]

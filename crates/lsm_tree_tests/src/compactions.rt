@@ -262,7 +262,7 @@ fn closes(rt: &impl Wait, alloc: Global, tree: &RecordedTree, pass: Pass, count:
     let mut passes = Vec::new(alloc);
     let _ = passes.push(pass);
     match tree.close(rt, passes) {
-        Ok(journal) => journal.len() == count,
+        Ok(closed) => closed.journal.len() == count,
         Err(_) => false,
     }
 }

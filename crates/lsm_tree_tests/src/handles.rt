@@ -81,7 +81,7 @@ fn two_passes(alloc: Global, first: Pass, second: Pass) -> Vec<Pass> {
 /// How many entries the journal has that is given out for these passes.
 fn closed(rt: &impl Wait, tree: &RecordedTree, passes: Vec<Pass>) -> Option<usize> {
     match tree.close(rt, passes) {
-        Ok(journal) => Some(journal.len()),
+        Ok(closed) => Some(closed.journal.len()),
         Err(_) => None,
     }
 }
