@@ -329,7 +329,7 @@ impl<P: Place> Bench<'_, P> {
         wanted: Wanted,
     ) -> Result<Figures> {
         let start = Instant::now(rt)?;
-        let tally = points::get_all(self.alloc, tree, wanted, &self.orders.reads)?;
+        let tally = points::get_all(tree, wanted, &self.orders.reads)?;
         timed(rt, start, tally)
     }
 
@@ -409,7 +409,7 @@ impl<P: Place> Bench<'_, P> {
             unreachable!()
         };
         let tally = match wanted {
-            Some(wanted) => points::get_all(self.alloc, tree, wanted, &self.orders.reads)?,
+            Some(wanted) => points::get_all(tree, wanted, &self.orders.reads)?,
             None => Tally {
                 ops: self.plan.keys,
                 check: tree.approximate_len() as u64,

@@ -18,12 +18,7 @@ pub trait Points {
     fn write(&mut self, ops: Vec<(UserKey, Op)>) -> Result<SeqNo, Error>;
 
     /// The value of a key at a snapshot.
-    fn get(
-        &mut self,
-        alloc: Global,
-        key: &[u8],
-        snapshot: SeqNo,
-    ) -> Result<Option<UserValue>, Error>;
+    fn get(&mut self, key: &[u8], snapshot: SeqNo) -> Result<Option<UserValue>, Error>;
 
     /// The snapshot that sees every write so far.
     fn snapshot(&self) -> SeqNo;
@@ -52,12 +47,7 @@ impl<S: Store> Points for TreeState<S> {
         self.write(ops)
     }
 
-    fn get(
-        &mut self,
-        _alloc: Global,
-        key: &[u8],
-        snapshot: SeqNo,
-    ) -> Result<Option<UserValue>, Error> {
+    fn get(&mut self, key: &[u8], snapshot: SeqNo) -> Result<Option<UserValue>, Error> {
         TreeState::get(self, key, snapshot)
     }
 
@@ -82,12 +72,7 @@ impl<R: Wait, S: Store> Points for Locked<'_, R, S> {
         self.tree.write(self.rt, ops)
     }
 
-    fn get(
-        &mut self,
-        _alloc: Global,
-        key: &[u8],
-        snapshot: SeqNo,
-    ) -> Result<Option<UserValue>, Error> {
+    fn get(&mut self, key: &[u8], snapshot: SeqNo) -> Result<Option<UserValue>, Error> {
         self.tree.get(self.rt, key, snapshot)
     }
 
@@ -112,14 +97,8 @@ impl<S: Store> Points for Noted<S> {
         self.tree.write(&mut self.pass, ops)
     }
 
-    fn get(
-        &mut self,
-        alloc: Global,
-        key: &[u8],
-        snapshot: SeqNo,
-    ) -> Result<Option<UserValue>, Error> {
-        let key = UserKey::copy_from_slice(alloc, key)?;
-        self.tree.get(&mut self.pass, &key, snapshot)
+    fn get(&mut self, key: &[u8], snapshot: SeqNo) -> Result<Option<UserValue>, Error> {
+        self.tree.get(&mut self.pass, key, snapshot)
     }
 
     fn snapshot(&self) -> SeqNo {
@@ -213,12 +192,7 @@ fn set(alloc: Global, key: u64, value: u64) -> Result<Vec<(UserKey, Op)>, AllocE
 }
 
 /// Gets a key for each id, one after the other. The check is the sum of the lengths of their values.
-pub fn get_all<T: Points>(
-    alloc: Global,
-    tree: &mut T,
-    wanted: Wanted,
-    ids: &[u64],
-) -> Result<Tally, Error> {
+pub fn get_all<T: Points>(tree: &mut T, wanted: Wanted, ids: &[u64]) -> Result<Tally, Error> {
     let snapshot = tree.snapshot();
     let mut check = 0u64;
     for id in ids {
@@ -226,7 +200,7 @@ pub fn get_all<T: Points>(
             Wanted::Present => key_of(*id),
             Wanted::Absent => absent_key_of(*id),
         };
-        if let Some(value) = tree.get(alloc, &key, snapshot)? {
+        if let Some(value) = tree.get(&key, snapshot)? {
             check = check.wrapping_add(value.len() as u64);
         }
     }

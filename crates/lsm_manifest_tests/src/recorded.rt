@@ -16,7 +16,7 @@ const A: &[u8] = b"a";
 
 /// Whether a read of a at this snapshot answers x.
 fn reads(tree: &mut Recorded, pass: &mut Pass, snapshot: u64) -> Result<bool, Error> {
-    let found = tree.get(pass, &UserKey::from_static(A), snapshot)?;
+    let found = tree.get(pass, A, snapshot)?;
     Ok(found.is_some_and(|value| value.as_slice() == b"x".as_slice()))
 }
 
@@ -61,7 +61,7 @@ fn starts(tree: &Recorded) -> bool {
 /// Whether a tree whose table holds a = x at 0 counts it as an earlier write.
 fn counts(alloc: Global, tree: &mut Recorded, pass: &mut Pass) -> Result<bool, Error> {
     let first = reads(tree, pass, 1)?;
-    let early = is_late(tree.get(pass, &UserKey::from_static(A), 0));
+    let early = is_late(tree.get(pass, A, 0));
     let again = is_late(tree.remove(pass, UserKey::from_static(A), 0));
     let number = tree.write(pass, vec![in alloc; (UserKey::from_static(A), Op::Del)]?)?;
     Ok(

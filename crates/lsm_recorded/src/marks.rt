@@ -51,15 +51,14 @@ fn walk_to_mark(marks: &BTreeMap<MarkedKey, Mark>, key: &UserKey) -> Mark
     NOTHING
 }
 
-/// The key, which shares the bytes of the key that is marked, if one is: so a journal keeps no bytes of its own for each
-/// read of a key.
+/// The key, or the key that is marked, if one is equal: so a journal keeps no bytes of its own for each read of a key.
 pub(crate) fn share_marked(
     marks: &BTreeMap<MarkedKey, Mark>,
-    key: &UserKey,
+    key: UserKey,
 ) -> Result<UserKey, AllocError>
-    ensures { IfOk result (λ shared. shared ≡ key.now) }
+    ensures { IfOk result (λ shared. shared ≡ key) }
 {
-    let own = MarkedKey::new(share(key)?);
+    let own = MarkedKey::new(key);
     match marks.get_key_value(&own) {
         Some((marked, _)) => share(marked.key()),
         None => Ok(own.into_key()),

@@ -54,7 +54,7 @@ use std::marker::Model;
 /// let mut tree = opened.map_err(|refused| refused.0)?;
 /// let mut pass = Pass::new(alloc);
 /// let number = tree.write(&mut pass, vec![in alloc; (key, Op::Set(value))]?)?;
-/// let found = tree.get(&mut pass, &key, number + 1)?;
+/// let found = tree.get(&mut pass, b"a", number + 1)?;
 /// ```
 ///
 /// Every write is in order: its sequence number is below the counter, not below an install or a clear, and above each
@@ -91,11 +91,12 @@ impl<S: Store> Model for Recorded<S> {
 }
 
 /// What a get finds, as `TreeState::get`, behind its key, which shares the bytes of the entry that is found, or else those of
-/// the key that is marked: so a journal keeps no bytes of its own for each read of a key.
+/// the key that is marked: so a journal keeps no bytes of its own for each read of a key that was ever written.
 fn find<S: Store>(
+    alloc: Global,
     core: &TreeState<S>,
     marks: &BTreeMap<MarkedKey, Mark>,
-    key: &UserKey,
+    key: &[u8],
     snapshot: SeqNo,
 ) -> Result<(UserKey, Option<UserValue>), Error>
     ensures key { IfOk result (λ found. found.0 ≡ key.now) }
@@ -103,9 +104,12 @@ fn find<S: Store>(
     ensures step { IfOk result (λ found. IsGetStep core.now.core key.now snapshot found.1) }
     ensures refuses { RefusesRead core.now.core snapshot result }
 {
-    match core.get_internal_entry(key.as_slice(), snapshot)? {
+    match core.get_internal_entry(key, snapshot)? {
         Some(entry) => Ok((entry.key.user_key, Some(entry.value))),
-        None => Ok((share_marked(marks, key)?, None)),
+        None => {
+            let own = UserKey::copy_from_slice(alloc, key)?;
+            Ok((share_marked(marks, own)?, None))
+        }
     }
 }
 
@@ -152,7 +156,7 @@ impl<S: Store> Recorded<S> {
     pub fn get(
         &mut self,
         pass: &mut Pass,
-        key: &UserKey,
+        key: &[u8],
         snapshot: SeqNo,
     ) -> Result<Option<UserValue>, Error>
         ensures core { IfOk result (λ v. Gives self.old.tree.core key.now snapshot v) }
@@ -169,7 +173,7 @@ impl<S: Store> Recorded<S> {
         if snapshot < self.least {
             return Err(Error::OutOfOrder);
         }
-        let (shared, value) = find(&self.core, &self.marks, key, snapshot)?;
+        let (shared, value) = find(self.alloc, &self.core, &self.marks, key, snapshot)?;
         let entry = read_entry(snapshot, shared, &value)?;
         note_entry(self.alloc, &mut self.journal, &mut pass.entries, entry)?;
         Ok(value)

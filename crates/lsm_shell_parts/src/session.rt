@@ -178,7 +178,7 @@ fn get<S: Store>(
     snapshot: Option<SeqNo>,
 ) -> Result<Reply, Error> {
     let snapshot = snapshot_or_now(tree, snapshot);
-    Ok(match tree.get(pass, key, snapshot)? {
+    Ok(match tree.get(pass, key.as_slice(), snapshot)? {
         Some(value) => Reply::Value(value),
         None => Reply::NoValue,
     })

@@ -87,7 +87,7 @@ fn write_and_read(
     key: UserKey,
 ) -> Result<bool, Error> {
     let number = tree.write(rt, pass, set(alloc, &key)?)?;
-    let found = tree.get(rt, pass, &key, number.saturating_add(1))?;
+    let found = tree.get(rt, pass, key.as_slice(), number.saturating_add(1))?;
     Ok(found.is_some_and(|value| value == key))
 }
 

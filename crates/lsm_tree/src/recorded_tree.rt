@@ -35,7 +35,7 @@ impl<S: Store> Handle<Recorded<S>> {
         &self,
         rt: &impl Wait,
         pass: &mut Pass,
-        key: &UserKey,
+        key: &[u8],
         snapshot: SeqNo,
     ) -> Result<Option<UserValue>, Error>
         ensures refused { RefusesRecordedRead S snapshot result }

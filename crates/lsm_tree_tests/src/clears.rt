@@ -15,8 +15,8 @@ use std::thread;
 fn clears(alloc: Global, tree: &mut Recorded, pass: &mut Pass) -> Result<bool, Error> {
     let written = tree.write(pass, vec![in alloc; (text("a"), Op::Set(text("x")))]?)?;
     let cleared = tree.clear(pass)?;
-    let before = tree.get(pass, &text("a"), 1)?;
-    let behind = tree.get(pass, &text("a"), 2)?;
+    let before = tree.get(pass, b"a", 1)?;
+    let behind = tree.get(pass, b"a", 2)?;
     Ok(written == 0 && cleared == 1 && before == Some(text("x")) && behind.is_none())
 }
 
@@ -72,7 +72,7 @@ fn clears_shared(
 ) -> Result<bool, Error> {
     tree.write(rt, pass, vec![in alloc; (text("a"), Op::Set(text("x")))]?)?;
     let cleared = tree.clear(rt, pass)?;
-    let found = tree.get(rt, pass, &text("a"), 2)?;
+    let found = tree.get(rt, pass, b"a", 2)?;
     Ok(cleared == 1 && found.is_none())
 }
 
@@ -148,7 +148,7 @@ fn read_back(
     key: &'static str,
 ) -> Result<Option<UserValue>, Error> {
     let number = tree.write(rt, pass, vec![in alloc; (text(key), Op::Set(text(key)))]?)?;
-    tree.get(rt, pass, &text(key), number.saturating_add(1))
+    tree.get(rt, pass, key.as_bytes(), number.saturating_add(1))
 }
 
 fn call(rt: &impl Wait, alloc: Global, tree: &RecordedTree, key: &'static str) -> Told {

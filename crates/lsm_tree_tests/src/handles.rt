@@ -43,7 +43,7 @@ fn write_and_read(
     key: &'static str,
 ) -> Result<bool, Error> {
     let number = set(rt, alloc, tree, pass, key)?;
-    let found = tree.get(rt, pass, &text(key), number.saturating_add(1))?;
+    let found = tree.get(rt, pass, key.as_bytes(), number.saturating_add(1))?;
     Ok(found == Some(text("x")))
 }
 
@@ -134,7 +134,7 @@ fn pass_elsewhere(rt: &impl Wait, alloc: Global) -> Pass {
 /// Appends the entries of `pass_of` to a pass, but for the read's snapshot, which is 0.
 fn put_altered(rt: &impl Wait, alloc: Global, tree: &RecordedTree, pass: &mut Pass) -> bool {
     matches!(set(rt, alloc, tree, pass, "a"), Ok(0))
-        && matches!(tree.get(rt, pass, &text("a"), 0), Ok(None))
+        && matches!(tree.get(rt, pass, b"a", 0), Ok(None))
 }
 
 /// A pass with the entries of `pass_of`, of which one is another.
@@ -152,7 +152,7 @@ fn put_read(rt: &impl Wait, alloc: Global, tree: &RecordedTree, pass: &mut Pass)
     let mut other = Pass::new(alloc);
     let is_set = matches!(set(rt, alloc, tree, &mut other, "a"), Ok(0));
     drop(other);
-    is_set && matches!(tree.get(rt, pass, &text("a"), 1), Ok(Some(_)))
+    is_set && matches!(tree.get(rt, pass, b"a", 1), Ok(Some(_)))
 }
 
 /// A pass with the entries of `pass_of`, the read before the write: of calls on two other trees.

@@ -101,11 +101,11 @@ fn a_weakly_removed_key_has_one_value(rt: HostRuntime) -> Result<(), Fail> {
 }
 
 fn finds_nothing(tree: &mut Recorded, pass: &mut Pass, snapshot: SeqNo) -> bool {
-    matches!(tree.get(pass, &text("a"), snapshot), Ok(None))
+    matches!(tree.get(pass, b"a", snapshot), Ok(None))
 }
 
 fn finds(tree: &mut Recorded, pass: &mut Pass, snapshot: SeqNo) -> bool {
-    match tree.get(pass, &text("a"), snapshot) {
+    match tree.get(pass, b"a", snapshot) {
         Ok(value) => value == Some(text("x")),
         Err(_) => false,
     }

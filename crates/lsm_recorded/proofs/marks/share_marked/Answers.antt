@@ -11,5 +11,5 @@ returns-in-Some c =
     let marked = c.in-Some.marked.now in
     let tie : eq_by_cmp headed_cmp own marked ≡ true = ap is_eq c.in-Some.ensures.same_key in
     let same : own ≡ marked = same_key own marked (sym (headed_ties own marked) ∙ tie) in
-    let whole : c.key.result.now ≡ c.args.key.now = c.key.ensures ∙ sym same ∙ c.new-own.ensures ∙ c.in_ok-share.ensures in
+    let whole : c.key.result.now ≡ c.args.key = c.key.ensures ∙ sym same ∙ c.new-own.ensures in
     subst (λ (k : Bytes). IfOk c.share-in-Some.result (λ copy. copy ≡ k)) whole c.share-in-Some.ensures
