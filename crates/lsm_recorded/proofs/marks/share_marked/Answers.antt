@@ -12,4 +12,4 @@ returns-in-Some c =
     let tie : eq_by_cmp headed_cmp own marked ≡ true = ap is_eq c.in-Some.ensures.same_key in
     let same : own ≡ marked = same_key own marked (sym (headed_ties own marked) ∙ tie) in
     let whole : c.key.result.now ≡ c.args.key = c.key.ensures ∙ sym same ∙ c.new-own.ensures in
-    subst (λ (k : Bytes). IfOk c.share-in-Some.result (λ copy. copy ≡ k)) whole c.share-in-Some.ensures
+    subst (λ (k : Bytes). IfOk c.share.result (λ copy. copy ≡ k)) whole c.share.ensures
