@@ -39,6 +39,10 @@ pub record IsKeptRecorded {S : Type 0} (t : SeenRecorded S) : Type 0 where
 abbrev pub AtSomeRecorded : (S : Type 0) → (SeenRecorded S → Type 0) → Type 0
 AtSomeRecorded S P = (t : SeenRecorded S) × P t × IsKeptRecorded t
 
+-- a call that took the store of some tree to another
+abbrev pub OnSomeStore : (S : Type 0) → (S → S → Type 0) → Type 0
+OnSomeStore S P = (old : S) × (new : S) × P old new
+
 -- a read is refused as too old, where the tree has no super version for its snapshot, or for want of memory
 pub record RefusesSharedRead {A : Type 0} (snapshot : ℕ) (r : Result A Error) : Type 0 where
   pub only : IfErr r (λ e. (e ≡ SnapshotTooOld) ⊎ (e ≡ OutOfMemory))

@@ -13,6 +13,6 @@ returns-in-Ok-Job-clause-gated g c =
     record {
       begun = c.begin_at.result;
       mid = mid;
-      begins = c.begin_at.ensures;
+      begins = c.begin_at.ensures.begins;
       follows = subst (λ b. FollowsGatedRecorded g.row.S.Denot b told mid last) (sym (c.in-Ok-Job.is ∙ ap Ok c.in-Ok-Job.field-0-is)) ends;
     }

@@ -10,6 +10,6 @@ returns-in-Ok-Job-clause-gated g c =
     let ends = of_the_job c.in-Ok-Job.job (λ j. EndsGated j told) c.pass.result c.pass.ensures.job c.pass.ensures.back c.end_gated.ensures.done c.end_gated.ensures.back in
     record {
       begun = c.begin_at.result;
-      begins = c.begin_at.ensures;
+      begins = c.begin_at.ensures.begins;
       follows = subst (λ b. FollowsGated b told) (sym (c.in-Ok-Job.is ∙ ap Ok c.in-Ok-Job.field-0-is)) ends;
     }
