@@ -36,7 +36,8 @@ use Rattle.lsm_runs.specs.declared.steps.Reply.{Reply}
 use Rattle.lsm_runs.specs.declared.steps.Reply.TheVariants as reply
 use Rattle.lsm_runs.specs.Compacting.{Strategies}
 use Rattle.lsm_runs.specs.Crashes.{Watched, RanWatched}
-use Rattle.lsm_runs.specs.Moments.{sealed_noted, flushed_noted, job_noted, lost_noted, alone_noted, noted_of, RanAlong, outcome_of, outcomes_of, Reopens, FindsPlaced, StandsAfter, HasMoments, GoesOn, RunHasMoments}
+use Rattle.lsm_runs.specs.Notes.{sealed_noted, flushed_noted}
+use Rattle.lsm_runs.specs.Moments.{job_noted, lost_noted, alone_noted, noted_of, RanAlong, outcome_of, outcomes_of, Reopens, FindsPlaced, StandsAfter, HasMoments, GoesOn, RunHasMoments}
 use Rattle.lsm_runs.specs.Noting.{sealed_note, sealed_behind, flushed_note, job_notes, lost_note, alone_notes, notes_of, ids_in}
 use Rattle.lsm_runs.specs.Runs.{Takes, IsPlainUse, without_low_reads}
 use Rattle.lsm_runs.specs.Slots.{Stage, at_first, Closes}

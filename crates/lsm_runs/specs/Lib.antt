@@ -17,5 +17,6 @@ pub mod Lives
 pub mod LifeAfterLife
 pub mod Adds
 pub mod After
+pub mod Notes
 pub mod Moments
 pub mod ManyLives

@@ -7,7 +7,6 @@ use Rattle.lsm_store.specs.World.{Image, World}
 use Rattle.lsm_model.specs.Journal.{Map, InOrder}
 use Rattle.lsm_model.specs.Views.{Placed, held}
 use Rattle.lsm_model.specs.Steps.{IsOpened}
-use Rattle.lsm_jobs.specs.declared.jobs.Registered.{Registered as Outcome}
 use Rattle.lsm_versions.specs.Levels.{Levels, placed_of}
 use Rattle.lsm_manifest.specs.Finding.{Finds, StandsForMap}
 use Rattle.lsm_files.specs.Stored.{IsStored}
@@ -30,20 +29,13 @@ use Rattle.lsm_runs.specs.declared.steps.Reply.TheVariants.{Sealed, Registered, 
 use Rattle.lsm_runs.specs.Compacting.{Strategies}
 use Rattle.lsm_runs.specs.Crashes.{Watched}
 use Rattle.lsm_runs.specs.Files.{LeavesFiles}
+use Rattle.lsm_runs.specs.Notes.{sealed_noted, flushed_noted}
 use Rattle.lsm_runs.specs.Noting.{sealed_behind, ids_in}
 use Rattle.lsm_runs.specs.Runs.{Takes, IsPlainUse}
 use Rattle.lsm_runs.specs.Slots.{Stage, Closes}
 use Rattle.lsm_runs.specs.Told.{Told}
 
 -- ---- notes without places
-
-abbrev pub sealed_noted : Option ℕ → List Noted
-sealed_noted None = []
-sealed_noted (Some id) = note.Sealed id ∷ []
-
-abbrev pub flushed_noted : List ℕ → Option (ℕ × Outcome) → List Noted
-flushed_noted ids None = []
-flushed_noted ids (Some a) = note.Flushed ids ∷ []
 
 abbrev pub job_noted : JobStep → Reply → Option Job → List Noted
 job_noted RegisterTables (Registered a) was = if a.installed then note.Flushed (ids_in was) ∷ [] else []
