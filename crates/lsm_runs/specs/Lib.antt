@@ -19,4 +19,5 @@ pub mod Adds
 pub mod After
 pub mod Notes
 pub mod Moments
+pub mod Living
 pub mod ManyLives
