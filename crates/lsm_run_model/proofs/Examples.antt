@@ -20,7 +20,7 @@ use Rattle.lsm_run_model.specs.Outcomes.{Told, nothing}
 use Rattle.lsm_run_model.specs.declared.noted.Noted.TheVariants.{Sealed, Flushed, ClearUnknown}
 use Rattle.lsm_run_model.specs.Moments.{EachMoment, HoldsBeginning}
 use Rattle.lsm_run_model.specs.Composing.{Point, past_of, FindsAmong, IsOfEither, EachDoes, Composed, TablesShow}
-use Rattle.lsm_run_model.specs.Lives.{Crashed, LifeAfterLife, Running, Reads, AllGoWell}
+use Rattle.lsm_run_model.specs.Lives.{Crashed, Knowledge, LifeAfterLife, Running, Reads, AllGoWell}
 use Rattle.lsm_run_model.specs.Rising.{Drawing, Silent, Own, Raises, Reserves, Draws, At, UpTo, RisesFrom, highest, Asks, WeakOnce}
 use Rattle.lsm_run_model.specs.Repeating.{ReadsShareAMap}
 use Rattle.lsm_run_model.proofs.Composing.{runs_compose}
@@ -277,6 +277,10 @@ shows_mark m (tables, found, stands, is) = ⊎_elim (λ (f : (mark ≡ none) × 
 abbrev Always : World → Type 0
 Always w = Unit {0}
 
+-- and nothing is known of the calls but their outcomes
+abbrev pub AllKnown : Knowledge ℕ
+AllKnown opened m calls = Unit {0}
+
 moved : (a b : Image) (m : Map) → b [] ≡ a [] → Shows a m → Shows b m
 moved a b m e (tables, found, stands, is) = (tables, subst (λ (c : Option (List ℕ)). ((c ≡ none) × (tables ≡ [])) ⊎ ((c ≡ mark) × (tables ≡ one))) (sym e) found, stands, is)
 
@@ -296,7 +300,7 @@ reads = record {
 
 module _ (theory : Soundness) (crashes : EveryCrashRecovers) (join : DeedsJoin) (opens : OpeningStarts) where
   -- the first crash comes in the flush, and leaves its table; the second one in the clear, and leaves nothing
-  pub lives : LifeAfterLife ℕ Always Shows world (Crashed (filled none)) (Crashed (filled mark) ∷ (Crashed (filled none) ∷ []))
+  pub lives : LifeAfterLife ℕ AllKnown Always Shows world (Crashed (filled none)) (Crashed (filled mark) ∷ (Crashed (filled none) ∷ []))
   lives = (
     record {
       store = New;
@@ -304,6 +308,7 @@ module _ (theory : Soundness) (crashes : EveryCrashRecovers) (join : DeedsJoin) 
       life = λ m ready shows each. Running (record {
         opened = [];
         told = told;
+        known = tt;
         first = New;
         stores = New ∷ (New ∷ (Behind ∷ []));
         moments = subst (λ x. EachMoment Shows world [] x nothing told New (New ∷ (New ∷ (Behind ∷ [])))) (sym (shows_none m shows)) (first_life theory crashes join).moments;
@@ -319,6 +324,7 @@ module _ (theory : Soundness) (crashes : EveryCrashRecovers) (join : DeedsJoin) 
         life = λ m ready shows each. Running (record {
           opened = held one;
           told = told_again;
+          known = tt;
           first = Again;
           stores = Doubted ∷ [];
           moments = subst (λ x. EachMoment Shows world (held one) x nothing told_again Again (Doubted ∷ [])) (sym (shows_mark m shows)) (second_life theory crashes join opens).moments;
@@ -332,8 +338,8 @@ module _ (theory : Soundness) (crashes : EveryCrashRecovers) (join : DeedsJoin) 
   )
 
   -- what the first crash left shows a beginning of its three calls, what the second one left a beginning of the clear
-  pub both_well : AllGoWell ℕ Always Shows world (λ m. IsIn m (empty ∷ [])) (Crashed (filled none)) (Crashed (filled mark) ∷ (Crashed (filled none) ∷ [])) lives
-  both_well = any_number ℕ Always Shows world reads (Crashed (filled none)) (empty ∷ []) tt tt (λ image is. (empty, moved (filled none) image empty (ap (λ (i : Image). i []) is) ([], inl (refl, refl), none_stands, refl), inl refl)) (Crashed (filled mark) ∷ (Crashed (filled none) ∷ [])) lives
+  pub both_well : AllGoWell ℕ AllKnown Always Shows world (λ m. IsIn m (empty ∷ [])) (Crashed (filled none)) (Crashed (filled mark) ∷ (Crashed (filled none) ∷ [])) lives
+  both_well = any_number ℕ AllKnown Always Shows world reads (Crashed (filled none)) (empty ∷ []) tt tt (λ image is. (empty, moved (filled none) image empty (ap (λ (i : Image). i []) is) ([], inl (refl, refl), none_stands, refl), inl refl)) (Crashed (filled mark) ∷ (Crashed (filled none) ∷ [])) lives
 
 -- ---- why each moment has its own journal
 

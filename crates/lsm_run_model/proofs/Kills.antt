@@ -12,7 +12,7 @@ use Rattle.lsm_run_model.specs.Lives.{End, Crashed, Killed, GivesOne, ShowsOld, 
 use Rattle.lsm_run_model.specs.Settling.{TellsMoments, LooksAt, IsPut, IsCleared, Settled}
 use Rattle.lsm_run_model.proofs.Lives.{any_number}
 use Rattle.lsm_run_model.proofs.Settling.{settling, breaks}
-use Rattle.lsm_run_model.proofs.Examples.{set0, told}
+use Rattle.lsm_run_model.proofs.Examples.{set0, told, AllKnown}
 
 -- ---- names: `current`, the file of the old version, and others, of which one is the new version's
 
@@ -352,14 +352,15 @@ begins_may (x ∷ (y ∷ zs)) c = (λ h. h, λ h. h)
 abbrev ends : List (End Store)
 ends = Killed Doubt ∷ (Killed Doubt ∷ (Crashed (filled names_new there) ∷ []))
 
-pub lives : LifeAfterLife ℕ Ready Shows world (Crashed (filled names_old there)) ends
+pub lives : LifeAfterLife ℕ AllKnown Ready Shows world (Crashed (filled names_old there)) ends
 lives = (
   record {
     store = Before;
     takes = record { gives = λ n. refl; may = begins_may; moment = refl; failures = refl };
-    life = λ m ready shows each. subst (λ x. OneLife ℕ Ready Shows world x Before (Killed Doubt)) (sym (is_old m shows)) (Running (record {
+    life = λ m ready shows each. subst (λ x. OneLife ℕ AllKnown Ready Shows world x Before (Killed Doubt)) (sym (is_old m shows)) (Running (record {
       opened = [];
       told = told;
+      known = tt;
       first = Before;
       stores = chain;
       moments = first_moments;
@@ -382,9 +383,10 @@ lives = (
       record {
         store = Doubt;
         takes = record { gives = λ n. refl; may = λ n c. (λ h. h, λ h. h) };
-        life = λ m ready shows each. subst (λ x. OneLife ℕ Ready Shows world x Doubt (Crashed (filled names_new there))) (sym (is_new m shows)) (Running (record {
+        life = λ m ready shows each. subst (λ x. OneLife ℕ AllKnown Ready Shows world x Doubt (Crashed (filled names_new there))) (sym (is_new m shows)) (Running (record {
           opened = [];
           told = [];
+          known = tt;
           first = Clean;
           stores = [];
           moments = λ image since. holds_none new_map image (opening_settles.now image since);
@@ -399,8 +401,8 @@ lives = (
 )
 
 -- after the first two lives both maps are open: beginnings of the set and the flush; after the third one it is the new one
-pub all_well : AllGoWell ℕ Ready Shows world (λ m. IsIn m (old_map ∷ [])) (Crashed (filled names_old there)) ends lives
-all_well = any_number ℕ Ready Shows world reads (Crashed (filled names_old there)) (old_map ∷ []) tt tt (λ image is. (old_map, same_shows (filled names_old there) image old_map (λ n. ap (λ i. i n) is) (inl (refl, refl, refl)), inl refl)) ends lives
+pub all_well : AllGoWell ℕ AllKnown Ready Shows world (λ m. IsIn m (old_map ∷ [])) (Crashed (filled names_old there)) ends lives
+all_well = any_number ℕ AllKnown Ready Shows world reads (Crashed (filled names_old there)) (old_map ∷ []) tt tt (λ image is. (old_map, same_shows (filled names_old there) image old_map (λ n. ap (λ i. i n) is) (inl (refl, refl, refl)), inl refl)) ends lives
 
 both_open : (IsImage doubt_may (filled names_old there) × Shows (filled names_old there) old_map) × (IsImage doubt_may (filled names_new there) × Shows (filled names_new there) new_map)
 both_open = ((filled_is names_old there (Either names_old names_new) (Only there) (inl refl) refl, inl (refl, refl, refl)), (filled_is names_new there (Either names_old names_new) (Only there) (inr refl) refl, inr (refl, refl, refl)))

@@ -9,4 +9,5 @@ pub mod Rising
 pub mod Examples
 pub mod Counting
 pub mod CameAbout
+pub mod Sealed
 pub mod Repeating

@@ -6,11 +6,11 @@ use Rattle.lsm_model.specs.Journal.{Map}
 use Rattle.lsm_model.specs.Beginnings.{covered}
 use Rattle.lsm_run_model.specs.Outcomes.{nothing, after_all}
 use Rattle.lsm_run_model.specs.Moments.{HoldsBeginning, last_of}
-use Rattle.lsm_run_model.specs.Lives.{End, Crashed, Killed, MayBe, TakesUp, EndGives, EndsIn, IsKill, LeavesReady, AllShow, EachShows, Lived, OneLife, Opening, Running, LifeAfterLife, LeavesOpen, AllGoWell, EndReady, Reads, ManyLives}
+use Rattle.lsm_run_model.specs.Lives.{End, Crashed, Killed, MayBe, TakesUp, EndGives, EndsIn, IsKill, LeavesReady, Knowledge, AllShow, EachShows, Lived, OneLife, Opening, Running, LifeAfterLife, LeavesOpen, AllGoWell, EndReady, Reads, ManyLives}
 use Rattle.lsm_run_model.proofs.Following.{moments_since}
 
-module _ {F : Type 0} (R : Type 0) (Ready : World → Type 0) (Shows : Image → Map → Type 0) (world : F → World) where
-  left_holds : (m : Map) (end : End F) (life : Lived R Ready Shows world m end) (image : Image) → MayBe world end image
+module _ {F : Type 0} (R : Type 0) (Known : Knowledge R) (Ready : World → Type 0) (Shows : Image → Map → Type 0) (world : F → World) where
+  left_holds : (m : Map) (end : End F) (life : Lived R Known Ready Shows world m end) (image : Image) → MayBe world end image
       → HoldsBeginning Shows m (after_all life.opened nothing life.told) (covered (after_all life.opened nothing (take life.answered life.told)).notes) image
   left_holds m end life image may = moments_since R Shows world life.opened m nothing life.told life.first life.stores life.answered life.moments image (life.ended.each image may)
 
@@ -23,7 +23,7 @@ module _ {F : Type 0} (R : Type 0) (Ready : World → Type 0) (Shows : Image →
   goes was is (Crashed left) ends ready = record { ready = tt; gives = tt }
   goes was is (Killed cut) ends ready = record { ready = ready tt cut ends; gives = ends.gives }
 
-  life_goes : (m : Map) (begun : F) (end : End F) → OneLife R Ready Shows world m begun end → Goes end
+  life_goes : (m : Map) (begun : F) (end : End F) → OneLife R Known Ready Shows world m begun end → Goes end
   life_goes m begun end (Opening ended leaves came ready) = goes begun ended end came ready
   life_goes m begun end (Running life) = goes (last_of life.first (take life.answered life.stores)) (last_of life.first life.stores) end life.ended life.ready
 
@@ -57,8 +57,8 @@ module _ {F : Type 0} (R : Type 0) (Ready : World → Type 0) (Shows : Image →
           among = one.2;
         }
 
-    one_well : (P : Map → Type 0) (m : Map) (begun : F) (end : End F) (life : OneLife R Ready Shows world m begun end) → AllShow Shows P (IsImage (world begun).may)
-        → AllShow Shows (LeavesOpen R Ready Shows world m begun end P life) (MayBe world end)
+    one_well : (P : Map → Type 0) (m : Map) (begun : F) (end : End F) (life : OneLife R Known Ready Shows world m begun end) → AllShow Shows P (IsImage (world begun).may)
+        → AllShow Shows (LeavesOpen R Known Ready Shows world m begun end P life) (MayBe world end)
     one_well P m begun end (Opening ended leaves came ready) all image may =
         let s = leaves.each image (came.each image may) in
         let o = all s.old s.possible in
@@ -66,14 +66,14 @@ module _ {F : Type 0} (R : Type 0) (Ready : World → Type 0) (Shows : Image →
     one_well P m begun end (Running life) all image may = let h = left_holds m end life image may in (h.map, h.shows, h.begins)
 
     all_well : (P : Map → Type 0) (before : End F) → Goes before → AllShow Shows P (MayBe world before)
-        → (ends : List (End F)) (lives : LifeAfterLife R Ready Shows world before ends) → AllGoWell R Ready Shows world P before ends lives
+        → (ends : List (End F)) (lives : LifeAfterLife R Known Ready Shows world before ends) → AllGoWell R Known Ready Shows world P before ends lives
     all_well P before can all [] lives = tt
     all_well P before can all (end ∷ more) lives =
         let here = taken P before lives.0.store can all lives.0.takes in
         let each : EachShows Shows (world lives.0.store) = λ image is. let a = here.all image is in (a.0, a.1) in
         let life = lives.0.life here.map here.ready here.shows each in
         let left = one_well P here.map lives.0.store end life here.all in
-        (here.map, here.ready, here.shows, each, here.among, left, all_well (LeavesOpen R Ready Shows world here.map lives.0.store end P life) end (life_goes here.map lives.0.store end life) left more lives.1)
+        (here.map, here.ready, here.shows, each, here.among, left, all_well (LeavesOpen R Known Ready Shows world here.map lives.0.store end P life) end (life_goes here.map lives.0.store end life) left more lives.1)
 
-  pub any_number : Reads Ready Shows world → ManyLives R Ready Shows world
+  pub any_number : Reads Ready Shows world → ManyLives R Known Ready Shows world
   any_number reads before maps ready gives all ends lives = all_well reads (λ m. IsIn m maps) before (record { ready = ready; gives = gives }) all ends lives

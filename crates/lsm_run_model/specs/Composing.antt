@@ -9,7 +9,7 @@ use Rattle.lsm_model.specs.Counted.{OfWrite}
 use Rattle.lsm_model.specs.Views.{Placed, held, HasDistinctIds}
 use Rattle.lsm_model.specs.Sound.{Holds}
 use Rattle.lsm_model.specs.Beginnings.{Saved, Deed, Deeds, IsStart, Stands, shown_by, versions}
-use Rattle.lsm_run_model.specs.Outcomes.{Told, Past, after, after_all, without_low_reads}
+use Rattle.lsm_run_model.specs.Outcomes.{Told, Past, after, after_all, without_low_reads, sealed_in}
 use Rattle.lsm_run_model.specs.Moments.{LeavesNow, EachMoment, last_of}
 
 -- ---- trees
@@ -118,6 +118,10 @@ ReadsStayRight R = (opened : List Entry) (start : Map) (told : List (Told R)) (f
 -- a tree that came about has no low reads in its journal
 abbrev pub NoLowReads : Type 0
 NoLowReads = (opened : List Entry) (start : Map) (t : Saved) → CameAbout opened start t → without_low_reads opened t.state.journal ≡ t.state.journal
+
+-- and has just those memtables sealed that its notes tell
+abbrev pub NotesTellSealed : Type 0
+NotesTellSealed = (opened : List Entry) (start : Map) (t : Saved) → CameAbout opened start t → sealed_in t.notes ≡ t.state.latest.sealed
 
 -- what was opened and written is numbered below the next number, and below any that is as great
 abbrev pub NumbersAreBounded : Type 0

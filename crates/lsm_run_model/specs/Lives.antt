@@ -74,11 +74,16 @@ EachShows Shows w = (image : Image) → IsImage w.may image → (m : Map) × Sho
 
 -- ---- one life
 
--- A tree was opened on what shows the map, and calls were made on it, of which the first ones had been answered when the life ended, in the
--- rest or after them: one call where it ended in it, none where it ended between calls.
-pub record Lived {F : Type 0} (R : Type 0) (Ready : World → Type 0) (Shows : Image → Map → Type 0) (world : F → World) (m : Map) (end : End F) : Type 0 where
+-- what is known of the calls of a life: of their outcomes, beside the entries that were opened and the map that these show
+abbrev pub Knowledge : Type 0 → Type 1
+Knowledge R = List Entry → Map → List (Told R) → Type 0
+
+-- A tree was opened on what shows the map, and calls were made on it whose outcomes are as is known of them; of these the first ones had been
+-- answered when the life ended, in the rest or after them: one call where it ended in it, none where it ended between calls.
+pub record Lived {F : Type 0} (R : Type 0) (Known : Knowledge R) (Ready : World → Type 0) (Shows : Image → Map → Type 0) (world : F → World) (m : Map) (end : End F) : Type 0 where
   pub opened : List Entry
   pub told : List (Told R)
+  pub known : Known opened m told
   pub first : F
   pub stores : List F
   pub moments : EachMoment Shows world opened m nothing told first stores
@@ -87,40 +92,40 @@ pub record Lived {F : Type 0} (R : Type 0) (Ready : World → Type 0) (Shows : I
   pub ready : IsKill end → LeavesReady Ready world (last_of first (take answered stores)) (last_of first stores)
 
 -- a life ends in the opening of its tree, whatever that then answers, or after it
-pub data OneLife {F : Type 0} (R : Type 0) (Ready : World → Type 0) (Shows : Image → Map → Type 0) (world : F → World) (m : Map) (begun : F) (end : End F) : Type 0 where
-  Opening : (ended : F) → LeavesOnly (world begun) (world ended) (ShowsOld Shows (world begun)) → EndsIn world (world begun) (world ended) end → (IsKill end → LeavesReady Ready world begun ended) → OneLife R Ready Shows world m begun end
-  Running : Lived R Ready Shows world m end → OneLife R Ready Shows world m begun end
+pub data OneLife {F : Type 0} (R : Type 0) (Known : Knowledge R) (Ready : World → Type 0) (Shows : Image → Map → Type 0) (world : F → World) (m : Map) (begun : F) (end : End F) : Type 0 where
+  Opening : (ended : F) → LeavesOnly (world begun) (world ended) (ShowsOld Shows (world begun)) → EndsIn world (world begun) (world ended) end → (IsKill end → LeavesReady Ready world begun ended) → OneLife R Known Ready Shows world m begun end
+  Running : Lived R Known Ready Shows world m end → OneLife R Known Ready Shows world m begun end
 
 -- ---- one after the other
 
 -- a store took up what was left; and where opening takes it, reads of it give what shows a map, and whatever a crash leaves of it shows one,
 -- the tree lives so
-pub record Begun {F : Type 0} (R : Type 0) (Ready : World → Type 0) (Shows : Image → Map → Type 0) (world : F → World) (before end : End F) : Type 0 where
+pub record Begun {F : Type 0} (R : Type 0) (Known : Knowledge R) (Ready : World → Type 0) (Shows : Image → Map → Type 0) (world : F → World) (before end : End F) : Type 0 where
   pub store : F
   pub takes : TakesUp world before store
-  pub life : (m : Map) → Ready (world store) → Shows (world store).gives m → EachShows Shows (world store) → OneLife R Ready Shows world m store end
+  pub life : (m : Map) → Ready (world store) → Shows (world store).gives m → EachShows Shows (world store) → OneLife R Known Ready Shows world m store end
 
 -- each life begins with what the one before left
-abbrev pub LifeAfterLife : {F : Type 0} → Type 0 → (World → Type 0) → (Image → Map → Type 0) → (F → World) → End F → List (End F) → Type 0
-LifeAfterLife R Ready Shows world before [] = Unit {0}
-LifeAfterLife R Ready Shows world before (end ∷ more) = Begun R Ready Shows world before end × LifeAfterLife R Ready Shows world end more
+abbrev pub LifeAfterLife : {F : Type 0} (R : Type 0) → Knowledge R → (World → Type 0) → (Image → Map → Type 0) → (F → World) → End F → List (End F) → Type 0
+LifeAfterLife R Known Ready Shows world before [] = Unit {0}
+LifeAfterLife R Known Ready Shows world before (end ∷ more) = Begun R Known Ready Shows world before end × LifeAfterLife R Known Ready Shows world end more
 
 -- the maps that a life leaves open: those that were open before, where its opening was cut off; else beginnings of its calls which hold
 -- all that those covered that had been answered
-abbrev pub LeavesOpen : {F : Type 0} (R : Type 0) (Ready : World → Type 0) (Shows : Image → Map → Type 0) (world : F → World) (m : Map) (begun : F) (end : End F) → (Map → Type 0) → OneLife R Ready Shows world m begun end → Map → Type 0
-LeavesOpen R Ready Shows world m begun end P (Opening ended leaves came ready) next = P next
-LeavesOpen R Ready Shows world m begun end P (Running life) next =
+abbrev pub LeavesOpen : {F : Type 0} (R : Type 0) (Known : Knowledge R) (Ready : World → Type 0) (Shows : Image → Map → Type 0) (world : F → World) (m : Map) (begun : F) (end : End F) → (Map → Type 0) → OneLife R Known Ready Shows world m begun end → Map → Type 0
+LeavesOpen R Known Ready Shows world m begun end P (Opening ended leaves came ready) next = P next
+LeavesOpen R Known Ready Shows world m begun end P (Running life) next =
     let all = after_all life.opened nothing life.told in
     IsBeginning m all.journal all.notes (covered (after_all life.opened nothing (take life.answered life.told)).notes) next
 
 -- each life finds a store that opening takes, which shows one of the maps that were open: from it the tree starts; and whatever a crash then
 -- finds of what the life left shows one of the maps that it left open
-abbrev pub AllGoWell : {F : Type 0} (R : Type 0) (Ready : World → Type 0) (Shows : Image → Map → Type 0) (world : F → World) (P : Map → Type 0) (before : End F) (ends : List (End F)) → LifeAfterLife R Ready Shows world before ends → Type 0
-AllGoWell R Ready Shows world P before [] lives = Unit {0}
-AllGoWell R Ready Shows world P before (end ∷ more) lives =
+abbrev pub AllGoWell : {F : Type 0} (R : Type 0) (Known : Knowledge R) (Ready : World → Type 0) (Shows : Image → Map → Type 0) (world : F → World) (P : Map → Type 0) (before : End F) (ends : List (End F)) → LifeAfterLife R Known Ready Shows world before ends → Type 0
+AllGoWell R Known Ready Shows world P before [] lives = Unit {0}
+AllGoWell R Known Ready Shows world P before (end ∷ more) lives =
     (m : Map) × (ready : Ready (world lives.0.store)) × (shows : Shows (world lives.0.store).gives m) × (each : EachShows Shows (world lives.0.store)) × P m
-    × AllShow Shows (LeavesOpen R Ready Shows world m lives.0.store end P (lives.0.life m ready shows each)) (MayBe world end)
-    × AllGoWell R Ready Shows world (LeavesOpen R Ready Shows world m lives.0.store end P (lives.0.life m ready shows each)) end more lives.1
+    × AllShow Shows (LeavesOpen R Known Ready Shows world m lives.0.store end P (lives.0.life m ready shows each)) (MayBe world end)
+    × AllGoWell R Known Ready Shows world (LeavesOpen R Known Ready Shows world m lives.0.store end P (lives.0.life m ready shows each)) end more lives.1
 
 -- opening takes what was left
 abbrev pub EndReady : {F : Type 0} → (World → Type 0) → (F → World) → End F → Type 0
@@ -128,9 +133,9 @@ EndReady Ready world (Crashed left) = Unit {0}
 EndReady Ready world (Killed cut) = Ready (world cut)
 
 -- from what shows one of these maps, over any number of crashes and kills
-abbrev pub ManyLives : {F : Type 0} → Type 0 → (World → Type 0) → (Image → Map → Type 0) → (F → World) → Type 0
-ManyLives {F} R Ready Shows world = (before : End F) (maps : List Map) → EndReady Ready world before → EndGives world before → AllShow Shows (λ m. IsIn m maps) (MayBe world before)
-    → (ends : List (End F)) (lives : LifeAfterLife R Ready Shows world before ends) → AllGoWell R Ready Shows world (λ m. IsIn m maps) before ends lives
+abbrev pub ManyLives : {F : Type 0} (R : Type 0) → Knowledge R → (World → Type 0) → (Image → Map → Type 0) → (F → World) → Type 0
+ManyLives {F} R Known Ready Shows world = (before : End F) (maps : List Map) → EndReady Ready world before → EndGives world before → AllShow Shows (λ m. IsIn m maps) (MayBe world before)
+    → (ends : List (End F)) (lives : LifeAfterLife R Known Ready Shows world before ends) → AllGoWell R Known Ready Shows world (λ m. IsIn m maps) before ends lives
 
 -- ---- what is known of a way of writing versions into files
 
@@ -146,5 +151,5 @@ pub record Reads {F : Type 0} (Ready : World → Type 0) (Shows : Image → Map 
   pub same : (a b : Image) (m : Map) → ((n : List ℕ) → b n ≡ a n) → Shows a m → Shows b m
   pub once : (image : Image) (m n : Map) → Shows image m → Shows image n → m ≡ n
 
-abbrev pub LivesGoOn : {F : Type 0} → Type 0 → (World → Type 0) → (Image → Map → Type 0) → (F → World) → Type 0
-LivesGoOn R Ready Shows world = Reads Ready Shows world → ManyLives R Ready Shows world
+abbrev pub LivesGoOn : {F : Type 0} (R : Type 0) → Knowledge R → (World → Type 0) → (Image → Map → Type 0) → (F → World) → Type 0
+LivesGoOn R Known Ready Shows world = Reads Ready Shows world → ManyLives R Known Ready Shows world

@@ -1,7 +1,8 @@
 -- What calls answer, as values, and what stands after them: a journal, and notes beside it.
-use Rattle.std.specs.Prelude.{ℕ, ◌+◌, true, Bool, List, [], ◌∷◌, ◌++◌, map, filter, fold, length, nat_le}
+use Rattle.std.specs.Prelude.{ℕ, ◌+◌, true, Bool, not, List, [], ◌∷◌, ◌++◌, map, filter, fold, length, nat_le}
 use Rattle.lsm_below.specs.Entries.{Entry, above}
 use Rattle.lsm_model.specs.Journal.{Event}
+use Rattle.lsm_model.specs.Steps.{among}
 use Rattle.lsm_model.specs.Beginnings.{Note, SealedAt, FlushedIds, ClearedTo, ClearLost}
 use Rattle.lsm_run_model.specs.declared.noted.Noted.{Noted}
 use Rattle.lsm_run_model.specs.declared.noted.Noted.TheVariants.{Sealed, Flushed, Cleared, ClearUnknown}
@@ -54,3 +55,11 @@ after opened past told = record { journal = past.journal ++ without_low_reads op
 -- and after all of these
 abbrev pub after_all : {R : Type 0} → List Entry → Past → List (Told R) → Past
 after_all opened past told = fold (after opened) past told
+
+-- the memtables that are sealed and neither flushed nor cleared away, by the notes, newest first
+abbrev pub sealed_in : List Note → List ℕ
+sealed_in [] = []
+sealed_in (SealedAt id place ∷ notes) = id ∷ sealed_in notes
+sealed_in (FlushedIds ids ∷ notes) = filter (λ id. not (among ids id)) (sealed_in notes)
+sealed_in (ClearedTo place ∷ notes) = []
+sealed_in (ClearLost n place ∷ notes) = sealed_in notes

@@ -1,6 +1,6 @@
 // The theorems of the theory, each as the contract of a function that does nothing.
 ghost use Rattle.std.specs.Prelude.{ℕ};
-ghost use Rattle.lsm_run_model.specs.Composing.{RunsCompose, ReadsStayRight, NoLowReads, NumbersAreBounded};
+ghost use Rattle.lsm_run_model.specs.Composing.{RunsCompose, ReadsStayRight, NoLowReads, NotesTellSealed, NumbersAreBounded};
 ghost use Rattle.lsm_run_model.specs.Counting.{CountedRunsAreInOrder};
 ghost use Rattle.lsm_run_model.specs.Following.{BeginningsGrow, MomentsMakeRuns, MomentsSince, MomentsJoin, EveryImageIsACalls};
 ghost use Rattle.lsm_run_model.specs.Lives.{LivesGoOn};
@@ -8,7 +8,7 @@ ghost use Rattle.lsm_run_model.specs.Repeating.{CameAboutReads};
 ghost use Rattle.lsm_run_model.specs.Settling.{Settling};
 ghost use Rattle.lsm_run_model.specs.Rising.{RisingIsInOrder, RisingFront, RisingLower, OrderWithoutReads};
 
-use crate::Finding;
+use crate::{Finding, Telling};
 use lsm_model::{
     counted_is_in_order, deeds_join, every_crash_recovers, maps_are_read, reads_are_sound,
 };
@@ -45,8 +45,8 @@ pub fn moments_join<S: Store, V: Finding, R>(_: &S, _: &V, _: &R)
 {}
 
 /// Over any number of crashes and kills, each with an opening after it, what is left shows a beginning of the calls of its life.
-pub fn lives_go_on<S: Store, V: Finding, R>(_: &S, _: &V, _: &R)
-    ensures { (n : ℕ) → LivesGoOn R V.ready (V.shows n) S.world }
+pub fn lives_go_on<S: Store, V: Finding, R: Telling>(_: &S, _: &V, _: &R)
+    ensures { (n : ℕ) → LivesGoOn R R.known V.ready (V.shows n) S.world }
 {}
 
 /// An opening that puts the name which says where to look on the disk, and then removes what the version that it read doesn't need,
@@ -99,6 +99,11 @@ pub fn counted_runs_are_in_order<R>(_: &R)
 /// A tree that came about has no reads below what was opened in its journal.
 pub fn no_low_reads()
     ensures { NoLowReads }
+{}
+
+/// A tree that came about has just those memtables sealed that its notes tell.
+pub fn notes_tell_sealed()
+    ensures { NotesTellSealed }
 {}
 
 /// What was opened and written is numbered below the next number, and below any that is as great.

@@ -284,7 +284,7 @@ alone_adds strategies step.IsCompacting r events old new t = t.0
 alone_adds strategies step.TreeType r events old new t = t.0
 alone_adds strategies (step.AtSlot slot x) r events old new t = absurd t
 
-takes_adds : (strategies : Strategies) (x : Call) (r : Reply) (events : List Event) (old new : Stage) → Takes strategies x r events old new → Adds x r events
+pub takes_adds : (strategies : Strategies) (x : Call) (r : Reply) (events : List Event) (old new : Stage) → Takes strategies x r events old new → Adds x r events
 takes_adds strategies (step.AtSlot slot x) r events old new t = job_adds strategies x r events (old.jobs slot) (new.jobs slot) old.core new.core t.0
 takes_adds strategies x r events old new t = alone_adds strategies x r events old.core new.core t.0
 

@@ -210,7 +210,7 @@ run_leaves world gives strategies opened start xs ts was is watch seen old r pla
 
 -- one more step
 pub watched_more : {F W : Type 0} (world : F → World) (gives : W → ℕ → W → Type 0) (strategies : Strategies) (xs : List Call) (ts : List Told) (x : Call) (t : Told) (old mid new : Watched F W) → RanWatched world gives strategies xs ts old mid
-    → Takes strategies x t.reply t.entries mid.stage new.stage → KeepsFiles world x mid.store new.store mid.stage.core new.stage.core → gives mid.watch (world new.store).moment new.watch → RanWatched world gives strategies (xs ++ x ∷ []) (ts ++ t ∷ []) old new
+    → Takes strategies x t.reply t.entries mid.stage new.stage → KeepsFiles world x t.reply mid.store new.store mid.stage.core new.stage.core → gives mid.watch (world new.store).moment new.watch → RanWatched world gives strategies (xs ++ x ∷ []) (ts ++ t ∷ []) old new
 watched_more world gives strategies [] [] x t old mid new r q u g =
     subst (λ (m : Watched _ _). RanWatched world gives strategies (x ∷ []) (t ∷ []) m new) r (new, q, u, g, refl)
 watched_more world gives strategies [] (y ∷ ts) x t old mid new r q u g = absurd r

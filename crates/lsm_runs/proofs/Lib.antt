@@ -32,6 +32,11 @@ pub mod RunDeeds
 pub mod Crashed
 pub mod Living
 pub mod LifeAfterLife
+pub mod Notes
+pub mod Made
+pub mod Naming
+pub mod Readiness
 pub mod Moments
 pub mod ManyLives
+pub mod RunLives
 pub mod Settled

@@ -9,6 +9,7 @@ use Rattle.lsm_manifest.specs.Ready.{IsReady}
 use Rattle.lsm_manifest.specs.Names.{current_name, version_name, table_name}
 use Rattle.lsm_run_model.specs.Lives.{Resumes, Reads}
 use Rattle.lsm_runs.specs.Moments.{Reopens}
+use Rattle.lsm_runs.proofs.Readiness.{less_ready}
 
 every : {A : Type 0} (P : A → Type 0) → ((x : A) → P x) → (xs : List A) → AllByRecursion P xs
 every P f [] = tt
@@ -33,14 +34,7 @@ module _ (unread : UnreadNamesDontMatter) where
 
 -- whether opening takes a store is a matter of the files
 taken_again : (old new : World) → Resumes old new → IsReady old → IsReady new
-taken_again old new r ready = record {
-  found = λ image is. ready.found image (before image is);
-  once = λ a b ts in_a in_b same finds. ready.once a b ts (before a in_a) (before b in_b) same finds;
-  none = λ a b ts in_a in_b absent finds. ready.none a b ts (before a in_a) (before b in_b) absent finds;
-}
-  where
-    before : (image : Image) → IsImage new.may image → IsImage old.may image
-    before image is n = (r.may n (image n)).0 (is n)
+taken_again old new r ready = less_ready old new (λ image is n. (r.may n (image n)).0 (is n)) ready
 
 pub tree_reads : {F : Type 0} (world : F → World) (n : ℕ) → ((s : F) (image : Image) (m : Map) → StandsForMap image m → Begins image (world s) → IsReady (world s)) → UnreadNamesDontMatter → MapIsOne → Reads IsReady (Reopens n) world
 tree_reads world n takes unread once = record {

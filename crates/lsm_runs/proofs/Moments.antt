@@ -15,17 +15,19 @@ use Rattle.lsm_manifest.specs.Finding.{Named, FoundOnce, StandsForMap, FoundTabl
 use Rattle.lsm_manifest.specs.Versions.{named_levels}
 use Rattle.lsm_manifest.specs.Standing.{StandsFor}
 use Rattle.lsm_files.specs.Stored.{IsStored, HoldsOneOf}
+use Rattle.lsm_files.specs.Opening.{StoredIsReady}
 use Rattle.lsm_state.specs.Core.{Core, latest_of, state_of, versions_left, written_of}
 use Rattle.lsm_state.specs.Commits.{Upholds}
 use Rattle.lsm_state.specs.Deeds.{saved_of}
+use Rattle.lsm_state.specs.Flushes.{sealed_ids}
 use Rattle.lsm_state.specs.FlushLaws.{FlushesAreDeeds}
 use Rattle.lsm_state.specs.Kept.{IsKeptTree}
 use Rattle.lsm_run_model.specs.declared.noted.Noted.{Noted}
 use Rattle.lsm_run_model.specs.declared.noted.Noted.TheVariants as note
-use Rattle.lsm_run_model.specs.Outcomes.{Past, nothing, after, after_all, note_at}
+use Rattle.lsm_run_model.specs.Outcomes.{Past, nothing, after, after_all, note_at, sealed_in}
 use Rattle.lsm_run_model.specs.Outcomes as out
 use Rattle.lsm_run_model.specs.Moments.{LeavesNow, EachMoment, last_of}
-use Rattle.lsm_run_model.specs.Composing.{Point as Place, IsRight as IsRightThere, FindsAmong, IsOfEither, DoesCall, EachDoes, TablesShow, AreNumbered, CameAbout, Composed, RunsCompose, NoLowReads, NumbersAreBounded}
+use Rattle.lsm_run_model.specs.Composing.{Point as Place, IsRight as IsRightThere, FindsAmong, IsOfEither, DoesCall, EachDoes, TablesShow, AreNumbered, CameAbout, Composed, RunsCompose, NoLowReads, NotesTellSealed, NumbersAreBounded}
 use Rattle.lsm_runs.specs.declared.slots.Job.{Job}
 use Rattle.lsm_runs.specs.declared.steps.JobStep.{JobStep}
 use Rattle.lsm_runs.specs.declared.steps.JobStep.TheVariants as job
@@ -36,7 +38,8 @@ use Rattle.lsm_runs.specs.declared.steps.Reply.{Reply}
 use Rattle.lsm_runs.specs.declared.steps.Reply.TheVariants as reply
 use Rattle.lsm_runs.specs.Compacting.{Strategies}
 use Rattle.lsm_runs.specs.Crashes.{Watched, RanWatched}
-use Rattle.lsm_runs.specs.Moments.{sealed_noted, flushed_noted, job_noted, lost_noted, alone_noted, noted_of, RanAlong, outcome_of, outcomes_of, Reopens, FindsPlaced, StandsAfter, HasMoments, GoesOn, RunHasMoments}
+use Rattle.lsm_runs.specs.Notes.{sealed_noted, flushed_noted, none_begun}
+use Rattle.lsm_runs.specs.Moments.{job_noted, lost_noted, alone_noted, noted_of, RanAlong, outcome_of, outcomes_of, Reopens, FindsPlaced, StandsAfter, EachReady, HasMoments, TellsSo, GoesOn, RunHasMoments}
 use Rattle.lsm_runs.specs.Noting.{sealed_note, sealed_behind, flushed_note, job_notes, lost_note, alone_notes, notes_of, ids_in}
 use Rattle.lsm_runs.specs.Runs.{Takes, IsPlainUse, without_low_reads}
 use Rattle.lsm_runs.specs.Slots.{Stage, at_first, Closes}
@@ -46,7 +49,10 @@ use Rattle.lsm_runs.proofs.JobReplays.{AreMarked, first_marked_behind}
 use Rattle.lsm_runs.proofs.Files.{closed_stored}
 use Rattle.lsm_runs.proofs.Keeping.{KeepLaws}
 use Rattle.lsm_runs.proofs.LowReads.{without-append}
-use Rattle.lsm_runs.proofs.Members.{in_either}
+use Rattle.lsm_runs.proofs.Members.{in_either, in_front}
+use Rattle.lsm_runs.proofs.Notes.{AreBegun, first_begun, each_tells, front_grows}
+use Rattle.lsm_runs.proofs.Made.{takes_one}
+use Rattle.lsm_runs.proofs.Readiness.{OnlyNow, stored_stays_ready, step_ready}
 use Rattle.lsm_runs.proofs.Replays.{takes_marked}
 use Rattle.lsm_runs.proofs.StepDeeds.{HasDeeds, IsRight}
 
@@ -137,7 +143,7 @@ module _ (laws : KeepLaws) (strategies : Strategies) (opened : List Entry) (star
   ran_along [] [] old new r = tt
   ran_along [] (t ∷ ts) old new r = absurd r
   ran_along (x ∷ xs) [] old new r = absurd r
-  ran_along (x ∷ xs) (t ∷ ts) old new r = (r.1, r.2.leaves, r.3, ran_along xs ts r.0 new r.4)
+  ran_along (x ∷ xs) (t ∷ ts) old new r = (r.1, r.2, r.3, ran_along xs ts r.0 new r.4)
 
   ends : (xs : List Call) (ts : List Told) (old new : Watched F W) (r : RanWatched world gives strategies xs ts old new) → last_of old (points_of xs ts old new r) ≡ new
   ends [] [] old new r = sym r
@@ -244,6 +250,20 @@ module _ (laws : KeepLaws) (strategies : Strategies) (opened : List Entry) (star
   stays_stored (suc many) (x ∷ xs) [] old new r stored = absurd r
   stays_stored (suc many) (x ∷ xs) (t ∷ ts) old new r stored = stays_stored many xs ts r.0 new r.4 (r.2.upholds.files stored).0
 
+  -- and each store stays ready, also in a step
+  module _ (ready : StoredIsReady F world) (only : OnlyNow world) (once : FoundOnce) where
+    each_ready : (xs : List Call) (ts : List Told) (old new : Watched F W) (r : RanWatched world gives strategies xs ts old new) → IsStored (world old.store) (versions_left old.stage.core) (written_of old.stage.core)
+        → EachReady world old.store (map (λ p. p.store) (points_of xs ts old new r))
+    each_ready [] [] old new r stored = stored_stays_ready world ready only old.store old.stage.core stored
+    each_ready [] (t ∷ ts) old new r stored = absurd r
+    each_ready (x ∷ xs) [] old new r stored = absurd r
+    each_ready (x ∷ xs) (t ∷ ts) old new r stored =
+        let mid = r.0 in (
+          stored_stays_ready world ready only old.store old.stage.core stored,
+          step_ready world ready only once x t.reply old.store mid.store old.stage.core mid.stage.core (λ certain. takes_one strategies x t.reply t.entries old.stage mid.stage certain r.1) r.2 stored,
+          each_ready xs ts mid new r.4 (r.2.upholds.files stored).0,
+        )
+
   all_points : (xs : List Call) (ts : List Told) (old new : Watched F W) (r : RanWatched world gives strategies xs ts old new) → length (outcomes_of xs ts old (points_of xs ts old new r)) ≡ length (points_of xs ts old new r)
   all_points [] [] old new r = refl
   all_points [] (t ∷ ts) old new r = absurd r
@@ -306,6 +326,19 @@ module _ (laws : KeepLaws) (strategies : Strategies) (opened : List Entry) (star
         came = subst (λ (p : Place F). CameAbout opened start p.tree) (last_same many xs ts past old new r)
             (whole many plain stands order (next_number opened (after_all opened past (take many outcomes)).journal) (bounded opened (after_all opened past (take many outcomes)).journal (next_number opened (after_all opened past (take many outcomes)).journal) (omega arith))).stands.came
 
+    tells_so : NotesTellSealed → TellsSo world opened start past xs ts old points
+    tells_so sealed many plain stands order = each_tells strategies opened world gives many xs ts past none_begun old points (ran_along xs ts old new r) begun known
+      where
+        begun : AreBegun none_begun old.stage.jobs
+        begun = subst (λ (s : Stage). AreBegun none_begun s.jobs) (sym free) (first_begun old.stage.core)
+
+        known : (k : ℕ) → k ≤ many → sealed_in (after_all opened past (take k outcomes)).notes ≡ sealed_ids (last_of old (take k points)).stage.core
+        known k low =
+            let here = after_all opened past (take k outcomes) in
+            let longer = front_grows opened k many outcomes past low in
+            let order_here = laws.theory.kept.front opened here.journal longer.0 (subst (InOrder opened) longer.1 order) in
+            sealed opened start (tree_at here (last_of old (take k points)).stage.core) (has_moments k (λ i. plain (in_front ClearActiveMemtable k many xs low i)) stands order_here).1.came
+
     goes_on : (is : F) (core : Core) → (last_of old points).store ≡ is → Closes (last_of old points).stage.core core → GoesOn world opened start past xs ts old points is core
     goes_on is core store closes plain stands order =
         let many = length points in
@@ -323,10 +356,10 @@ module _ (laws : KeepLaws) (strategies : Strategies) (opened : List Entry) (star
 any_map : Map
 any_map = empty
 
-pub run_has_moments : KeepLaws → (strategies : Strategies) {F W : Type 0} (world : F → World) (gives : W → ℕ → W → Type 0) → RunsCompose Reply FindsPlaced Reopens world → FlushesAreDeeds → FoundTablesShow → FoundOnce → NoLowReads → NumbersAreBounded
+pub run_has_moments : KeepLaws → (strategies : Strategies) {F W : Type 0} (world : F → World) (gives : W → ℕ → W → Type 0) → RunsCompose Reply FindsPlaced Reopens world → FlushesAreDeeds → FoundTablesShow → FoundOnce → NoLowReads → NumbersAreBounded → NotesTellSealed → StoredIsReady F world → OnlyNow world
     → (xs : List Call) (ts : List Told) (old new : Watched F W) → RanWatched world gives strategies xs ts old new → IsKeptTree old.stage.core → old.stage ≡ at_first old.stage.core → Upholds (world old.store) (world old.store) old.stage.core old.stage.core
     → (is : F) (core : Core) → is ≡ new.store → Closes new.stage.core core → RunHasMoments world gives strategies xs ts (record { store = old.store; stage = at_first old.stage.core; watch = old.watch }) is core new.watch
-run_has_moments laws strategies world gives compose deeds shows once high bounded xs ts old new r kept free still is core store closes =
+run_has_moments laws strategies world gives compose deeds shows once high bounded sealed ready only xs ts old new r kept free still is core store closes =
     let here = ends laws strategies [] any_map world gives xs ts old new r in
     let at_end : (last_of old (points_of laws strategies [] any_map world gives xs ts old new r)).store ≡ is = ap (λ (p : Watched _ _). p.store) here ∙ sym store in
     let closed = subst (λ (c : Core). Closes c core) (sym (ap (λ (p : Watched _ _). p.stage.core) here)) closes in
@@ -338,5 +371,7 @@ run_has_moments laws strategies world gives compose deeds shows once high bounde
       watched = ap (λ (p : Watched _ _). p.watch) here;
       begins = λ opened start opens certain stored. record { came = begins laws strategies opened start world gives deeds old.stage.core kept opens certain; stored = stored };
       moments = λ opened start past. has_moments laws strategies opened start world gives compose shows once high bounded xs ts old new r free still past;
+      ready = each_ready laws strategies [] any_map world gives ready only once xs ts old new r;
+      tells = λ opened start past. tells_so laws strategies opened start world gives compose shows once high bounded xs ts old new r free still past sealed;
       goes_on = λ opened start past. goes_on laws strategies opened start world gives compose shows once high bounded xs ts old new r free still past is core at_end closed;
     })

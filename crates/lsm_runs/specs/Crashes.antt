@@ -1,5 +1,5 @@
 -- Runs over a store, of which a watcher is told step by step, and what a crash at any moment of one leaves.
-use Rattle.std.specs.Prelude.{◌≡◌, ℕ, List, [], ◌∷◌, ◌++◌, Option, None}
+use Rattle.std.specs.Prelude.{◌≡◌, ℕ, List, [], ◌∷◌, ◌++◌, Option, None, IsSome}
 use Rattle.std.specs.BTreeMap.{BTreeMap}
 use Rattle.lsm_below.specs.Entries.{Entry}
 use Rattle.lsm_store.specs.World.{Image, World, LeavesOnly}
@@ -7,11 +7,14 @@ use Rattle.lsm_model.specs.Journal.{Event, Map, InOrder}
 use Rattle.lsm_model.specs.Steps.{IsOpened}
 use Rattle.lsm_model.specs.Beginnings.{Note, IsBeginning, covered}
 use Rattle.lsm_manifest.specs.Finding.{StandsForMap}
+use Rattle.lsm_files.specs.Causes.{HasCause}
 use Rattle.lsm_files.specs.Stored.{IsStored}
 use Rattle.lsm_state.specs.Core.{Core, Seen, state_of, versions_left, written_of}
 use Rattle.lsm_state.specs.Commits.{Upholds}
 use Rattle.lsm_runs.specs.declared.slots.Job.{Job}
 use Rattle.lsm_runs.specs.declared.steps.Step.{Step}
+use Rattle.lsm_runs.specs.declared.steps.Reply.{Reply}
+use Rattle.lsm_runs.specs.Causes.{ReplyBlames}
 use Rattle.lsm_runs.specs.Compacting.{Strategies}
 use Rattle.lsm_runs.specs.Files.{LeavesFiles}
 use Rattle.lsm_runs.specs.Noting.{notes_of}
@@ -30,18 +33,21 @@ pub record Watched (F W : Type 0) : Type 0 where
 abbrev pub watched : {F W : Type 0} → Seen F → BTreeMap ℕ (Option Job) → W → Watched F W
 watched s slots watch = record { store = s.store; stage = beside s.core slots; watch = watch }
 
--- what a step leaves of the files: those of its trees, also while nothing is done behind it; where it touches no store, that store
-pub record KeepsFiles {F : Type 0} (world : F → World) (x : Step) (was is : F) (old new : Core) : Type 0 where
+-- what a step leaves of the files: those of its trees, also while nothing is done behind it; where it touches no store, that store, and so
+-- where the outcome of a commit is unknown. And its reply blames the store only where a call of it failed meanwhile
+pub record KeepsFiles {F : Type 0} (world : F → World) (x : Step) (reply : Reply) (was is : F) (old new : Core) : Type 0 where
   pub upholds : Upholds (world was) (world is) old new
   pub leaves : LeavesFiles world x was is old new
   pub stays : Upholds (world is) (world is) new new
+  pub no_call : IsSome old.lost → is ≡ was
+  pub cause : HasCause (ReplyBlames reply) (world was) (world is)
 
 -- the steps, one after the other, lead there with these outcomes; each keeps the files, and behind it the watcher is told the
 -- moment of the store
 abbrev pub RanWatched : {F W : Type 0} → (F → World) → (W → ℕ → W → Type 0) → Strategies → List Step → List Told → Watched F W → Watched F W → Type 0
 RanWatched world gives strategies [] [] old new = new ≡ old
 RanWatched {F} {W} world gives strategies (x ∷ xs) (t ∷ ts) old new = (mid : Watched F W) × Takes strategies x t.reply t.entries old.stage mid.stage
-    × KeepsFiles world x old.store mid.store old.stage.core mid.stage.core × gives old.watch (world mid.store).moment mid.watch × RanWatched world gives strategies xs ts mid new
+    × KeepsFiles world x t.reply old.store mid.store old.stage.core mid.stage.core × gives old.watch (world mid.store).moment mid.watch × RanWatched world gives strategies xs ts mid new
 RanWatched world gives strategies [] (t ∷ ts) old new = ⊥
 RanWatched world gives strategies (x ∷ xs) [] old new = ⊥
 

@@ -17,5 +17,7 @@ pub mod Lives
 pub mod LifeAfterLife
 pub mod Adds
 pub mod After
+pub mod Notes
 pub mod Moments
+pub mod Living
 pub mod ManyLives

@@ -7,9 +7,9 @@ use Rattle.lsm_store.specs.World.{Image, World}
 use Rattle.lsm_model.specs.Journal.{Map, InOrder}
 use Rattle.lsm_model.specs.Views.{Placed, held}
 use Rattle.lsm_model.specs.Steps.{IsOpened}
-use Rattle.lsm_jobs.specs.declared.jobs.Registered.{Registered as Outcome}
 use Rattle.lsm_versions.specs.Levels.{Levels, placed_of}
 use Rattle.lsm_manifest.specs.Finding.{Finds, StandsForMap}
+use Rattle.lsm_manifest.specs.Ready.{IsReady}
 use Rattle.lsm_files.specs.Stored.{IsStored}
 use Rattle.lsm_state.specs.Core.{Core, state_of, versions_left, written_of}
 use Rattle.lsm_state.specs.Deeds.{saved_of}
@@ -20,6 +20,7 @@ use Rattle.lsm_run_model.specs.Outcomes.{Past, nothing, after_all}
 use Rattle.lsm_run_model.specs.Outcomes as out
 use Rattle.lsm_run_model.specs.Moments.{EachMoment, last_of}
 use Rattle.lsm_run_model.specs.Composing.{CameAbout, AreNumbered}
+use Rattle.lsm_run_model.specs.Lives.{LeavesReady}
 use Rattle.lsm_runs.specs.declared.slots.Job.{Job}
 use Rattle.lsm_runs.specs.declared.steps.JobStep.{JobStep}
 use Rattle.lsm_runs.specs.declared.steps.JobStep.TheVariants.{RegisterTables}
@@ -28,22 +29,14 @@ use Rattle.lsm_runs.specs.declared.steps.Step.TheVariants.{RotateMemtable, AtSlo
 use Rattle.lsm_runs.specs.declared.steps.Reply.{Reply}
 use Rattle.lsm_runs.specs.declared.steps.Reply.TheVariants.{Sealed, Registered, Flushed, FlushedActive, RefusedActive, Cleared, Refused}
 use Rattle.lsm_runs.specs.Compacting.{Strategies}
-use Rattle.lsm_runs.specs.Crashes.{Watched}
-use Rattle.lsm_runs.specs.Files.{LeavesFiles}
+use Rattle.lsm_runs.specs.Crashes.{Watched, KeepsFiles}
+use Rattle.lsm_runs.specs.Notes.{sealed_noted, flushed_noted, none_begun, EachTells}
 use Rattle.lsm_runs.specs.Noting.{sealed_behind, ids_in}
 use Rattle.lsm_runs.specs.Runs.{Takes, IsPlainUse}
 use Rattle.lsm_runs.specs.Slots.{Stage, Closes}
 use Rattle.lsm_runs.specs.Told.{Told}
 
 -- ---- notes without places
-
-abbrev pub sealed_noted : Option ℕ → List Noted
-sealed_noted None = []
-sealed_noted (Some id) = note.Sealed id ∷ []
-
-abbrev pub flushed_noted : List ℕ → Option (ℕ × Outcome) → List Noted
-flushed_noted ids None = []
-flushed_noted ids (Some a) = note.Flushed ids ∷ []
 
 abbrev pub job_noted : JobStep → Reply → Option Job → List Noted
 job_noted RegisterTables (Registered a) was = if a.installed then note.Flushed (ids_in was) ∷ [] else []
@@ -69,12 +62,13 @@ noted_of step reply s = alone_noted step reply s.core
 
 -- ---- a run along a chain
 
--- The steps, one after the other, lead along this chain with these outcomes: a tree and store for each, after the first. What a step leaves of
--- the files is theirs, and one that touches no store leaves it as it is; and after each the watcher is told the moment of that store.
+-- The steps, one after the other, lead along this chain with these outcomes: a tree and store for each, after the first. Each step keeps the
+-- files of its trees, one that touches no store leaves it as it is, and a reply blames the store only where a call of it failed in that step;
+-- and after each the watcher is told the moment of that store.
 abbrev pub RanAlong : {F W : Type 0} → (F → World) → (W → ℕ → W → Type 0) → Strategies → List Step → List Told → Watched F W → List (Watched F W) → Type 0
 RanAlong world gives strategies [] [] old [] = Unit {0}
 RanAlong world gives strategies (x ∷ xs) (t ∷ ts) old (mid ∷ points) =
-    Takes strategies x t.reply t.entries old.stage mid.stage × LeavesFiles world x old.store mid.store old.stage.core mid.stage.core × gives old.watch (world mid.store).moment mid.watch
+    Takes strategies x t.reply t.entries old.stage mid.stage × KeepsFiles world x t.reply old.store mid.store old.stage.core mid.stage.core × gives old.watch (world mid.store).moment mid.watch
     × RanAlong world gives strategies xs ts mid points
 RanAlong world gives strategies xs ts old points = ⊥
 
@@ -109,6 +103,15 @@ pub record StandsAfter {F : Type 0} (world : F → World) (opened : List Entry) 
 abbrev pub BeginsWith : {F : Type 0} → (F → World) → F → Core → Type 0
 BeginsWith world store c = (opened : List Entry) (start : Map) → IsOpened opened start (state_of [] c) → c.lost ≡ None → IsStored (world store) (versions_left c) (written_of c) → StandsAfter world opened start nothing store c
 
+-- opening takes the store, and so it does what a process leaves that ends then
+abbrev pub StaysReady : {F : Type 0} → (F → World) → F → Type 0
+StaysReady world store = IsReady (world store) × LeavesReady IsReady world store store
+
+-- along a chain of stores it does so at each of them, and in each call between two of them
+abbrev pub EachReady : {F : Type 0} → (F → World) → F → List F → Type 0
+EachReady world was [] = StaysReady world was
+EachReady world was (is ∷ stores) = StaysReady world was × LeavesReady IsReady world was is × EachReady world is stores
+
 -- ---- each moment
 
 -- After what was called so far, of the first so many steps, where these are in plain use and the journal stays in order, whatever comes
@@ -129,6 +132,13 @@ GoesOn world opened start past steps told old points is new =
     let all = after_all opened past (outcomes_of steps told old points) in
     IsPlainUse steps → StandsAfter world opened start past old.store old.stage.core → InOrder opened all.journal → StandsAfter world opened start all is new
 
+-- And what the first so many steps tell follows from their kinds and replies, and from what was noted before.
+abbrev pub TellsSo : {F W : Type 0} → (F → World) → (opened : List Entry) (start : Map) → Past → List Step → List Told → Watched F W → List (Watched F W) → Type 0
+TellsSo world opened start past steps told old points = (many : ℕ) →
+    let outcomes = take many (outcomes_of steps told old points) in
+    IsPlainUse (take many steps) → StandsAfter world opened start past old.store old.stage.core → InOrder opened (after_all opened past outcomes).journal
+    → EachTells opened past none_begun (take many steps) outcomes
+
 -- a run from one tree and store to another has a chain between them
 pub record RunHasMoments {F W : Type 0} (world : F → World) (gives : W → ℕ → W → Type 0) (strategies : Strategies) (steps : List Step) (told : List Told) (old : Watched F W) (is : F) (new : Core) (seen : W) : Type 0 where
   pub points : List (Watched F W)
@@ -138,5 +148,12 @@ pub record RunHasMoments {F W : Type 0} (world : F → World) (gives : W → ℕ
   pub closes : Closes (last_of old points).stage.core new
   pub watched : (last_of old points).watch ≡ seen
   pub begins : BeginsWith world old.store old.stage.core
+  -- a process may end at any moment, in a step or between two
+  pub ready : IsStored (world old.store) (versions_left old.stage.core) (written_of old.stage.core) → EachReady world old.store (map (λ p. p.store) points)
   pub moments : (opened : List Entry) (start : Map) (past : Past) → HasMoments world opened start past steps told old points
+  pub tells : (opened : List Entry) (start : Map) (past : Past) → TellsSo world opened start past steps told old points
   pub goes_on : (opened : List Entry) (start : Map) (past : Past) → GoesOn world opened start past steps told old points is new
+
+-- nobody is told of a run
+abbrev pub none_told : Unit {0} → ℕ → Unit {0} → Type 0
+none_told old moment new = Unit {0}

@@ -1,11 +1,13 @@
 // What opening makes of a tree's files, and what follows for life after life.
 ghost use Rattle.lsm_manifest.specs.Ready.{IsReady};
 ghost use Rattle.lsm_runs.specs.Moments.{FindsPlaced, Reopens};
-ghost use Rattle.lsm_runs.specs.ManyLives.{LivesWithoutNumber};
+ghost use Rattle.lsm_runs.specs.Compacting.{strategies_of};
+ghost use Rattle.lsm_runs.specs.ManyLives.{AreSteps, LivesWithoutNumber, RunsAreLives};
 
-use crate::Reply;
+use crate::{Reply, Watch};
 use lsm_manifest::{crashes_settle, images_stand_once, unread_names_dont_matter};
-use lsm_run_model::{Finding, lives_go_on};
+use lsm_pick::CompactionStrategy;
+use lsm_run_model::{Finding, Telling, lives_go_on};
 use lsm_store::Store;
 
 /// How the files of a tree are found.
@@ -23,9 +25,14 @@ impl Finding for TreeFiles {
     ghost ready = { IsReady };
 }
 
+impl Telling for Reply {
+    ghost known = { AreSteps };
+}
+
 /// Over any number of lives, each ended by a crash or because its process is killed or ends, also in an opening: what is left shows a
 /// beginning of the calls of its life, which holds all that was covered by the calls that had been answered, and the next life
-/// starts from what is left.
+/// starts from what is left. The calls of a life are steps in plain use, whose outcomes tell by their kinds and replies what is
+/// written and what is covered (`AreSteps`).
 ///
 /// # Examples
 ///
@@ -40,3 +47,19 @@ pub fn lives_without_number<S: Store>(store: &S)
     unread_names_dont_matter();
     lives_go_on(store, &TreeFiles, &Reply::Done);
 }
+
+/// The first so many steps of a run on a tree as opening left it are a life, as `lives_without_number` takes it: one that ended by a
+/// crash in one of them or after them, or because its process was killed in the last one of them, or ended after it.
+///
+/// # Examples
+///
+/// ```text
+/// runs_are_lives(&store, &watch, &strategies);
+/// ```
+pub fn runs_are_lives<S: Store, W: Watch>(
+    _: &S,
+    _: &W,
+    strategies: &[Box<dyn CompactionStrategy>],
+)
+    ensures { RunsAreLives S.world W.gives (strategies_of (λ b. may_choose b) (λ b. may_refuse b) strategies.now) }
+{}

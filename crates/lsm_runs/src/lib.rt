@@ -19,7 +19,7 @@ mod steps;
 mod telling;
 mod watch;
 
-pub use finding::{TreeFiles, lives_without_number};
+pub use finding::{TreeFiles, lives_without_number, runs_are_lives};
 pub use life::{any_number_of_lives, crashes_begin_lives, live};
 pub use runner::{run, run_told};
 pub use slots::Slot;

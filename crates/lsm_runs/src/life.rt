@@ -3,17 +3,20 @@ ghost use Rattle.std.specs.Prelude.{ℕ, List, take, length, ◌≤◌, IfOk, If
 ghost use Rattle.lsm_store.specs.World.{Image, Begins, LeavesOnly};
 ghost use Rattle.lsm_model.specs.Journal.{Event, Map};
 ghost use Rattle.lsm_model.specs.Beginnings.{Note};
-ghost use Rattle.lsm_manifest.specs.Finding.{StandsForMap, IsSettled, RefusesFound};
+ghost use Rattle.lsm_manifest.specs.Finding.{Finds, StandsForMap, IsSettled, RefusesFound};
+ghost use Rattle.lsm_manifest.specs.Ready.{IsReady, OpeningLeaves};
 ghost use Rattle.lsm_files.specs.Causes.{HasCause, BlamesStore};
+ghost use Rattle.lsm_versions.specs.Levels.{Levels};
 ghost use Rattle.lsm_runs.specs.Causes.{EachHasCause};
 ghost use Rattle.lsm_runs.specs.Compacting.{strategies_of};
 ghost use Rattle.lsm_runs.specs.Crashes.{HoldsBeginning};
 ghost use Rattle.lsm_runs.specs.LifeAfterLife.{AnyNumberOfLives};
 ghost use Rattle.lsm_runs.specs.Lives.{Lives, LivesAgain};
+ghost use Rattle.lsm_runs.specs.Living.{LivesOn};
 
 use crate::{Outcome, Step, Watch, run_told};
 use lsm_below::Error;
-use lsm_manifest::{crashes_settle, settled_stores_are_ready};
+use lsm_manifest::{crashes_settle, openings_leave_what_was_read, settled_stores_are_ready};
 use lsm_parts::Config;
 use lsm_pick::CompactionStrategy;
 use lsm_state::TreeState;
@@ -50,6 +53,11 @@ pub fn live<S: Store, W: Watch>(
 ) -> Result<(TreeState<S>, Vec<Outcome>), (Error, S)>
     ensures bound { IfOk result (λ r. length r.1.items ≤ length steps.now) }
     ensures lives { S.tells → IsSettled (S.world store) → (m : Map) → StandsForMap (S.world store).gives m → IfOk result (λ r. Lives S.world W.gives (strategies_of (λ b. may_choose b) (λ b. may_refuse b) strategies.now) m (take (length r.1.items) steps.now) r.1.items store r.0.store watch.old watch.new r.0.core) }
+    // The same of a store that is ready to be opened, also as a process left it that was killed: each moment of the run, after which calls
+    // may go on, and what opening it left. So it is a life (`runs_are_lives`).
+    ensures lives_on { S.tells → IsReady (S.world store) → (m : Map) → StandsForMap (S.world store).gives m → IfOk result (λ r. LivesOn S.world W.gives (strategies_of (λ b. may_choose b) (λ b. may_refuse b) strategies.now) m (take (length r.1.items) steps.now) r.1.items store r.0.store watch.old watch.new r.0.core) }
+    // Refused, it leaves the store ready to be opened again, and meanwhile a crash what it could before, or the tables that were read.
+    ensures opens_again { S.tells → IsReady (S.world store) → (tables : Levels) → Finds (S.world store).gives tables → IfErr result (λ e. OpeningLeaves (S.world store) (S.world e.1) tables) }
     // The store is blamed only where a call of it failed.
     ensures causes { IfOk result (λ r. EachHasCause S.world r.1.items store r.0.store) }
     ensures blames { IfErr result (λ e. HasCause (BlamesStore e.0) (S.world store) (S.world e.1)) }
@@ -57,6 +65,7 @@ pub fn live<S: Store, W: Watch>(
     ensures stands { S.tells → IsSettled (S.world store) → (m : Map) → StandsForMap (S.world store).gives m → IfErr result (λ e. LeavesOnly (S.world store) (S.world e.1) (λ image. StandsForMap image m)) }
 {
     settled_stores_are_ready(&store);
+    openings_leave_what_was_read(&store);
     let mut tree = match TreeState::open_raised(alloc, config, store) {
         Ok(tree) => tree,
         Err(refused) => return Err(refused),

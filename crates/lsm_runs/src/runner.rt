@@ -17,7 +17,7 @@ ghost use Rattle.lsm_runs.specs.Crashes.{watched, RanWatched, RunLeaves, RunReco
 ghost use Rattle.lsm_runs.specs.Compacting.{strategies_of};
 ghost use Rattle.lsm_runs.specs.Unknown.{RanUnknown, RunStops};
 ghost use Rattle.lsm_runs.specs.Slots.{at_first, beside, SameJobs};
-ghost use Rattle.lsm_runs.specs.Moments.{RunHasMoments};
+ghost use Rattle.lsm_runs.specs.Moments.{RunHasMoments, none_told};
 ghost use Rattle.lsm_runs.specs.Runs.{Takes, TakesEntry, TakesBatch, TakesRotate, told_entry, told_batch, Ran, RanToEnd, RunEqualsReplay, RunSparesAnswers};
 ghost use Rattle.lsm_runs.specs.Adds.{EachAdds};
 ghost use Rattle.lsm_runs.specs.After.{RunIsRight};
@@ -28,6 +28,7 @@ use crate::telling::{batch_entries, of_batch, of_entry, one_entry, refused, shar
 use crate::watch::Unwatched;
 use crate::{Outcome, Reply, Step, Watch};
 use lsm_below::{InternalValue, SeqNo, UserKey, UserValue, ValueType, share};
+use lsm_files::stored_files_are_ready;
 use lsm_journal::read_entry;
 use lsm_manifest::{found_tables_show, images_stand_once};
 use lsm_model::{
@@ -37,7 +38,7 @@ use lsm_model::{
 use lsm_noted::noted_compactions_keep_reads;
 use lsm_parts::Error;
 use lsm_pick::CompactionStrategy;
-use lsm_run_model::{no_low_reads, numbers_are_bounded, runs_compose};
+use lsm_run_model::{no_low_reads, notes_tell_sealed, numbers_are_bounded, runs_compose};
 use lsm_state::{
     TreeState, clears_keep_reads, flushes_are_deeds, flushes_keep_reads, lists_are_steps,
 };
@@ -348,7 +349,8 @@ pub fn run_told<S: Store, W: Watch>(
     // What a crash leaves at each moment.
     ensures crashes { S.tells → (opened : List Entry) (start : Map) → RunRecovers S.world W.gives (strategies_of (λ b. may_choose b) (λ b. may_refuse b) strategies.now) opened start (take (length result.items) steps.now) result.items state.old.store state.new.store watch.old watch.new state.old.core }
     // The same of each moment, along a chain of stores, after whatever was called before: inside a step it is a beginning of the calls up to
-    // and with it. Calls may go on from there.
+    // and with it. Calls may go on from there. What each step notes follows from its kind and its reply, and between the steps the store is
+    // ready to be opened again.
     ensures moments { S.tells → RunHasMoments S.world W.gives (strategies_of (λ b. may_choose b) (λ b. may_refuse b) strategies.now) (take (length result.items) steps.now) result.items (record { store = state.old.store; stage = at_first state.old.core; watch = watch.old }) state.new.store state.new.core watch.new }
     // Behind a commit of unknown outcome no step calls the store.
     ensures unknown { RunStops (strategies_of (λ b. may_choose b) (λ b. may_refuse b) strategies.now) (take (length result.items) steps.now) result.items state.old.store state.new.store state.old.core state.new.core }
@@ -359,6 +361,8 @@ pub fn run_told<S: Store, W: Watch>(
     runs_compose(state.store(), &TreeFiles, &Reply::Done);
     no_low_reads();
     numbers_are_bounded();
+    notes_tell_sealed();
+    stored_files_are_ready(state.store());
     state.is_upheld();
     every_crash_recovers();
     found_tables_show();
@@ -418,6 +422,9 @@ pub fn run<S: Store>(
     ensures merges { state.new.core.merges.underway ≡ state.old.core.merges.underway }
     // What a crash leaves at each moment.
     ensures crashes { S.tells → (opened : List Entry) (start : Map) → RunLeaves S.world (strategies_of (λ b. may_choose b) (λ b. may_refuse b) strategies.now) opened start (take (length result.items) steps.now) result.items state.old.store state.new.store state.old.core }
+    // The same of each moment, along a chain of stores, after whatever was called before, and what each step notes; behind each step the
+    // store is ready to be opened again.
+    ensures moments { S.tells → RunHasMoments S.world none_told (strategies_of (λ b. may_choose b) (λ b. may_refuse b) strategies.now) (take (length result.items) steps.now) result.items (record { store = state.old.store; stage = at_first state.old.core; watch = tt }) state.new.store state.new.core tt }
     ensures stored { S.tells → StaysStored (S.world state.old.store) (S.world state.new.store) state.old.core state.new.core }
     // Names that are none of the tree's are as they were, also in what a crash meanwhile leaves.
     ensures passes { S.tells → Passes (S.world state.old.store) (S.world state.new.store) }

@@ -1,6 +1,7 @@
 // Who is told of a run, step by step.
 use lsm_state::TreeState;
 use lsm_store::Store;
+use std::marker::Model;
 
 /// Who is told after each step of a run, with the tree as the step left it.
 ///
@@ -22,8 +23,16 @@ pub trait Watch {
 #[derive(Drop)]
 pub(crate) struct Unwatched;
 
+impl Model for Unwatched {
+    ghost Value = { Unit {0} };
+
+    ghost view = { λ nobody. tt };
+}
+
 impl Watch for Unwatched {
-    ghost gives = { λ old moment new. Unit {0} };
+    ghost use Rattle.lsm_runs.specs.Moments.{none_told};
+
+    ghost gives = { none_told };
 
     fn told<S: Store>(&mut self, _: &TreeState<S>) {}
 }

@@ -14,6 +14,22 @@ returns-clause-lives g c tells settled m stands =
     lived g.S.Store.world g.W.Watch.gives _ m _ _ c.args.store c.in-Ok.tree.store ran.new.state.store c.args.watch.now ran.new.watch c.in-Ok.tree.core ran.new.state.core
     ((opened.opens tells).shows m stands) opened.counted opened.visible (ap (λ (t : Core). t.lost) opened.core) ((opened.opens tells).stored ready.ready) (settled_for (g.S.Store.world c.args.store) (g.S.Store.world c.in-Ok.tree.store) m stands ready ((opened.opens tells).stands_for ready.ready m stands)) ran.ensures.ran (ran.ensures.replays _ m) (ran.ensures.spares _ m) ran.ensures.in_order (ran.ensures.crashes tells _ m)
 
+pub returns-clause-lives_on : goal.returns-clause-lives_on
+returns-clause-lives_on g c tells ready m stands =
+    let opened = c.in-Ok.ensures in
+    let ran = c.run_told-outcomes in
+    record {
+      old = c.in-Ok.tree.core;
+      first = c.in-Ok.tree.store;
+      starts = (opened.opens tells).shows m stands;
+      certain = ap (λ (t : Core). t.lost) opened.core;
+      stored = (opened.opens tells).stored ready;
+      counted = opened.counted;
+      visible = opened.visible;
+      opening = λ tables found. c.openings_leave_what_was_read.ensures.meanwhile tells c.args.store c.in-Ok.tree.store tables ready found (opened.opens tells).leaves;
+      run = ran.ensures.moments tells;
+    }
+
 pub returns-clause-causes : goal.returns-clause-causes
 returns-clause-causes g c =
     let ran = c.run_told-outcomes in
@@ -30,3 +46,6 @@ returns-in-Err-clause-stands g c tells settled m stands =
 pub returns-in-Err-clause-blames : goal.returns-in-Err-clause-blames
 returns-in-Err-clause-blames g c =
     opening_causes (g.S.Store.world c.args.store) (g.S.Store.world c.in-Err.refused.1) c.in-Err.refused.0 c.in-Err.ensures.counts
+
+pub returns-in-Err-clause-opens_again : goal.returns-in-Err-clause-opens_again
+returns-in-Err-clause-opens_again g c tells ready tables found = c.openings_leave_what_was_read.ensures.meanwhile tells c.args.store c.in-Err.refused.1 tables ready found (c.in-Err.ensures.opens tells).leaves

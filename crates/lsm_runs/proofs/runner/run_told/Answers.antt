@@ -96,6 +96,6 @@ returns-clause-moments g c tells =
     let told = c.take_steps-outcomes.result.items in
     let taken = take (length told) c.args.steps.now in
     let world = g.S.Store.world in
-    run_has_moments laws _ world g.W.Watch.gives c.runs_compose.ensures c.flushes_are_deeds.ensures c.found_tables_show.ensures.shows c.images_stand_once.ensures.found c.no_low_reads.ensures c.numbers_are_bounded.ensures taken told first last
+    run_has_moments laws _ world g.W.Watch.gives c.runs_compose.ensures c.flushes_are_deeds.ensures c.found_tables_show.ensures.shows c.images_stand_once.ensures.found c.no_low_reads.ensures c.numbers_are_bounded.ensures c.notes_tell_sealed.ensures c.stored_files_are_ready.ensures (g.met.S.Store.only_now tells) taken told first last
     (c.take_steps-outcomes.ensures.watched tells) c.facts.ensures (free_slots c.new-slots.result old.core c.new-slots.ensures.empty) (c.is_upheld.ensures tells) c.give_up_all.new.state.store c.give_up_all.new.state.core c.give_up_all.ensures.store
     (all_closes c.take_steps-outcomes.new.slots.entries mid.state.core _ c.give_up_all.ensures.core)
