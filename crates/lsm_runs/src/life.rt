@@ -1,11 +1,13 @@
 // A tree from its opening on.
-ghost use Rattle.std.specs.Prelude.{ℕ, List, take, length, ◌≤◌, IfOk, IfErr};
+ghost use Rattle.std.specs.Prelude.{ℕ, List, take, length, ◌≤◌, IfOk, IfErr, Err};
 ghost use Rattle.lsm_store.specs.World.{Image, Begins, LeavesOnly};
 ghost use Rattle.lsm_model.specs.Journal.{Event, Map};
 ghost use Rattle.lsm_model.specs.Beginnings.{Note};
 ghost use Rattle.lsm_manifest.specs.Finding.{Finds, StandsForMap, IsSettled, RefusesFound};
 ghost use Rattle.lsm_manifest.specs.Ready.{IsReady, OpeningLeaves};
-ghost use Rattle.lsm_files.specs.Causes.{HasCause, BlamesStore};
+ghost use Rattle.lsm_manifest.specs.Recovery.{CountsStore};
+ghost use Rattle.lsm_manifest.specs.Told.{Told, TellsOpen};
+ghost use Rattle.lsm_state.specs.Opened.{files_told};
 ghost use Rattle.lsm_versions.specs.Levels.{Levels};
 ghost use Rattle.lsm_runs.specs.Causes.{EachHasCause};
 ghost use Rattle.lsm_runs.specs.Compacting.{strategies_of};
@@ -60,7 +62,7 @@ pub fn live<S: Store, W: Watch>(
     ensures opens_again { S.tells → IsReady (S.world store) → (tables : Levels) → Finds (S.world store).gives tables → IfErr result (λ e. OpeningLeaves (S.world store) (S.world e.1) tables) }
     // The store is blamed only where a call of it failed.
     ensures causes { IfOk result (λ r. EachHasCause S.world r.1.items store r.0.store) }
-    ensures blames { IfErr result (λ e. HasCause (BlamesStore e.0) (S.world store) (S.world e.1)) }
+    ensures counts { IfErr result (λ e. Told TellsOpen (CountsStore (S.world store) (S.world e.1)) (files_told (Err e))) }
     ensures refused { S.tells → (m : Map) → StandsForMap (S.world store).gives m → IfErr result (λ e. RefusesFound (S.world store).gives e.0) }
     ensures stands { S.tells → IsSettled (S.world store) → (m : Map) → StandsForMap (S.world store).gives m → IfErr result (λ e. LeavesOnly (S.world store) (S.world e.1) (λ image. StandsForMap image m)) }
 {

@@ -1,3 +1,4 @@
 mod OwnOr
 pub mod RecordedReads
 pub mod Gates
+pub mod Closing

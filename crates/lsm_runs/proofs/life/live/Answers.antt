@@ -2,7 +2,6 @@ use Rattle.std.proofs.Common.{refl, ap}
 use Rattle.lsm_state.specs.Core.{Core}
 use Rattle.lsm_runs.proofs.Causing.{causes_between}
 use Rattle.lsm_runs.proofs.Living.{lived}
-use Rattle.lsm_runs.proofs.OpeningCauses.{opening_causes}
 use Rattle.lsm_runs.proofs.Settled.{settled_for}
 use Rattle.lsm_runs.proofs.life.live.Goals as goal
 
@@ -43,9 +42,8 @@ returns-in-Err-clause-stands g c tells settled m stands =
     let ready = c.settled_stores_are_ready.ensures c.args.store stands.levels settled stands.found in
     settled_for (g.S.Store.world c.args.store) (g.S.Store.world c.in-Err.refused.1) m stands ready ((c.in-Err.ensures.opens tells).stands_for ready.ready m stands)
 
-pub returns-in-Err-clause-blames : goal.returns-in-Err-clause-blames
-returns-in-Err-clause-blames g c =
-    opening_causes (g.S.Store.world c.args.store) (g.S.Store.world c.in-Err.refused.1) c.in-Err.refused.0 c.in-Err.ensures.counts
+pub returns-in-Err-clause-counts : goal.returns-in-Err-clause-counts
+returns-in-Err-clause-counts g c = c.in-Err.ensures.counts
 
 pub returns-in-Err-clause-opens_again : goal.returns-in-Err-clause-opens_again
 returns-in-Err-clause-opens_again g c tells ready tables found = c.openings_leave_what_was_read.ensures.meanwhile tells c.args.store c.in-Err.refused.1 tables ready found (c.in-Err.ensures.opens tells).leaves
