@@ -26,6 +26,10 @@ AtSomeTree P = (c : Core) × P c × IsKeptTree c
 abbrev pub OnSomeRecorded : (S : Type 0) → (SeenRecorded S → SeenRecorded S → Type 0) → Type 0
 OnSomeRecorded S P = (old : SeenRecorded S) × (new : SeenRecorded S) × P old new × IsKeptTree old.tree.core × IsKeptTree new.tree.core
 
+-- a call that took the store of some tree to another
+abbrev pub OnSomeStore : (S : Type 0) → (S → S → Type 0) → Type 0
+OnSomeStore S P = (old : S) × (new : S) × P old new
+
 -- a read is refused as too old, where the tree has no super version for its snapshot, or for want of memory
 pub record RefusesSharedRead {A : Type 0} (snapshot : ℕ) (r : Result A Error) : Type 0 where
   pub only : IfErr r (λ e. (e ≡ SnapshotTooOld) ⊎ (e ≡ OutOfMemory))

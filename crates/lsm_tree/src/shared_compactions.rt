@@ -1,9 +1,10 @@
 // The calls of a compaction, of a tree behind the lock.
-ghost use Rattle.std.specs.Prelude.{◌≡◌, ◌↔◌, ℕ, true, IfOk, IfErr, IsTrue};
+ghost use Rattle.std.specs.Prelude.{◌≡◌, ◌↔◌, ℕ, true, Err, IfOk, IfErr, IsTrue};
 ghost use Rattle.lsm_merges.specs.OpenMerges.{hides};
+ghost use Rattle.lsm_files.specs.Causes.{HasCause, Blames};
 ghost use Rattle.lsm_state.specs.Compactions.{BeginsChoice, BeginsCompaction, Finishes, Spends};
 ghost use Rattle.lsm_state.specs.WholeCompactions.{Compacts, DropsRange, options_at, only_memory, major_choice};
-ghost use Rattle.lsm_tree.specs.Shared.{OnSomeTree, AtSomeTree};
+ghost use Rattle.lsm_tree.specs.Shared.{OnSomeTree, OnSomeStore, AtSomeTree};
 ghost use Rattle.lsm_tree.specs.Gates.{IsNoJob, EndsGated, CompactsGated};
 
 use crate::gate::{Gate, told_end};
@@ -37,7 +38,9 @@ impl<S: Store> Handle<TreeState<S>> {
         strategy: &dyn CompactionStrategy,
         options: Options,
     ) -> Result<Begun, Error>
-        ensures { OnSomeTree (λ old new. BeginsCompaction (may_choose strategy.now) (may_refuse strategy.now) options result old new) }
+        ensures begins { OnSomeTree (λ old new. BeginsCompaction (may_choose strategy.now) (may_refuse strategy.now) options result old new) }
+        // The store is blamed only where a call of it failed.
+        ensures causes { OnSomeStore S (λ old new. HasCause (Blames result) (S.world old) (S.world new)) }
     {
         let mut tree = self.shared.lock(rt);
         let tree = &mut *tree;
@@ -54,7 +57,9 @@ impl<S: Store> Handle<TreeState<S>> {
         choice: Choice,
         options: Options,
     ) -> Result<Begun, Error>
-        ensures { OnSomeTree (λ old new. BeginsChoice choice options result old new) }
+        ensures begins { OnSomeTree (λ old new. BeginsChoice choice options result old new) }
+        // The store is blamed only where a call of it failed.
+        ensures causes { OnSomeStore S (λ old new. HasCause (Blames result) (S.world old) (S.world new)) }
     {
         let mut tree = self.shared.lock(rt);
         let tree = &mut *tree;
@@ -70,7 +75,9 @@ impl<S: Store> Handle<TreeState<S>> {
         rt: &impl Wait,
         merged: MergedCompaction,
     ) -> Result<Finished, Error>
-        ensures { OnSomeTree (λ old new. Finishes merged.job result old new) }
+        ensures finishes { OnSomeTree (λ old new. Finishes merged.job result old new) }
+        // The store is blamed only where a call of it failed.
+        ensures causes { OnSomeStore S (λ old new. HasCause (Blames result) (S.world old) (S.world new)) }
     {
         let mut tree = self.shared.lock(rt);
         let tree = &mut *tree;
@@ -98,7 +105,9 @@ impl<S: Store> Handle<TreeState<S>> {
         strategy: &dyn CompactionStrategy,
         options: Options,
     ) -> Result<Begun, Error>
-        ensures { OnSomeTree (λ old new. Compacts (may_choose strategy.now) (may_refuse strategy.now) options result old new) }
+        ensures compacts { OnSomeTree (λ old new. Compacts (may_choose strategy.now) (may_refuse strategy.now) options result old new) }
+        // The store is blamed only where a call of it failed.
+        ensures causes { OnSomeStore S (λ old new. HasCause (Blames result) (S.world old) (S.world new)) }
     {
         let mut tree = self.shared.lock(rt);
         let tree = &mut *tree;
@@ -115,7 +124,9 @@ impl<S: Store> Handle<TreeState<S>> {
         strategy: &dyn CompactionStrategy,
         watermark: SeqNo,
     ) -> Result<Begun, Error>
-        ensures { OnSomeTree (λ old new. Compacts (may_choose strategy.now) (may_refuse strategy.now) (options_at watermark old) result old new) }
+        ensures compacts { OnSomeTree (λ old new. Compacts (may_choose strategy.now) (may_refuse strategy.now) (options_at watermark old) result old new) }
+        // The store is blamed only where a call of it failed.
+        ensures causes { OnSomeStore S (λ old new. HasCause (Blames result) (S.world old) (S.world new)) }
     {
         let mut tree = self.shared.lock(rt);
         let tree = &mut *tree;
@@ -132,7 +143,8 @@ impl<S: Store> Handle<TreeState<S>> {
         strategy: &dyn CompactionStrategy,
         watermark: SeqNo,
     ) -> Result<Begun, Error>
-        ensures { OnSomeTree (λ old new. BeginsCompaction (may_choose strategy.now) (may_refuse strategy.now) (options_at watermark old) result old new) }
+        ensures begins { OnSomeTree (λ old new. BeginsCompaction (may_choose strategy.now) (may_refuse strategy.now) (options_at watermark old) result old new) }
+        ensures causes { OnSomeStore S (λ old new. HasCause (Blames result) (S.world old) (S.world new)) }
     {
         let mut tree = self.shared.lock(rt);
         let tree = &mut *tree;
@@ -155,6 +167,8 @@ impl<S: Store> Handle<TreeState<S>> {
         requires { IfErr passed (λ e. e.0 ≡ Error.OutOfMemory) }
         ensures done { IfOk passed (λ m. EndsGated m.job result) }
         ensures back { IfErr passed (λ e. EndsGated e.1 result) }
+        ensures causes { IfOk passed (λ _. OnSomeStore S (λ old new. HasCause (Blames result) (S.world old) (S.world new))) }
+        ensures given_up { IfErr passed (λ _. result ≡ Err Error.OutOfMemory) }
         ensures no_job { IsNoJob result }
     {
         match passed {
@@ -189,6 +203,8 @@ impl<S: Store> Handle<TreeState<S>> {
         gate: &impl Gate,
     ) -> Result<Begun, Error>
         ensures gated { CompactsGated (may_choose strategy.now) (may_refuse strategy.now) watermark result }
+        // The store is blamed only where a call of it failed.
+        ensures causes { OnSomeStore S (λ old new. HasCause (Blames result) (S.world old) (S.world new)) }
         ensures no_job { IsNoJob result }
     {
         match self.begin_at(rt, strategy, watermark) {
@@ -207,7 +223,9 @@ impl<S: Store> Handle<TreeState<S>> {
         target: u64,
         watermark: SeqNo,
     ) -> Result<Begun, Error>
-        ensures { OnSomeTree (λ old new. Compacts (major_choice target) only_memory (options_at watermark old) result old new) }
+        ensures compacts { OnSomeTree (λ old new. Compacts (major_choice target) only_memory (options_at watermark old) result old new) }
+        // The store is blamed only where a call of it failed.
+        ensures causes { OnSomeStore S (λ old new. HasCause (Blames result) (S.world old) (S.world new)) }
     {
         let mut tree = self.shared.lock(rt);
         let tree = &mut *tree;
@@ -219,7 +237,9 @@ impl<S: Store> Handle<TreeState<S>> {
 
     /// Drops the tables that lie within bounds, as `TreeState::drop_range`.
     pub fn drop_range(&self, rt: &impl Wait, bounds: OwnedBounds) -> Result<Begun, Error>
-        ensures { OnSomeTree (λ old new. DropsRange bounds result old new) }
+        ensures drops { OnSomeTree (λ old new. DropsRange bounds result old new) }
+        // The store is blamed only where a call of it failed.
+        ensures causes { OnSomeStore S (λ old new. HasCause (Blames result) (S.world old) (S.world new)) }
     {
         let mut tree = self.shared.lock(rt);
         let tree = &mut *tree;

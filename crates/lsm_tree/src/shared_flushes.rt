@@ -1,8 +1,10 @@
 // The calls of a flush, of a tree behind the lock.
 ghost use Rattle.std.specs.Prelude.{◌≡◌, is_some};
+ghost use Rattle.lsm_files.specs.Causes.{HasCause};
+ghost use Rattle.lsm_state.specs.Causes.{BlamesBeside, BlamesOrUnclean, BlamesOrUncleanFlush, BlamesOrUncleanBehind};
 ghost use Rattle.lsm_state.specs.Flushes.{Begins, WritesTables, Registers, spent};
 ghost use Rattle.lsm_state.specs.WholeFlushes.{Flushes, FlushesActive};
-ghost use Rattle.lsm_tree.specs.Shared.{OnSomeTree, AtSomeTree};
+ghost use Rattle.lsm_tree.specs.Shared.{OnSomeTree, OnSomeStore, AtSomeTree};
 
 use crate::handle::Handle;
 use lsm_below::{MemtableId, SeqNo};
@@ -33,7 +35,9 @@ impl<S: Store> Handle<TreeState<S>> {
         rt: &impl Wait,
         job: MergedFlush,
     ) -> Result<WrittenFlush, (Error, MergedFlush)>
-        ensures { OnSomeTree (λ old new. WritesTables job result old new) }
+        ensures writes { OnSomeTree (λ old new. WritesTables job result old new) }
+        // The store is blamed only where a call of it failed.
+        ensures causes { OnSomeStore S (λ old new. HasCause (BlamesBeside result) (S.world old) (S.world new)) }
     {
         let mut tree = self.shared.lock(rt);
         let tree = &mut *tree;
@@ -45,7 +49,9 @@ impl<S: Store> Handle<TreeState<S>> {
 
     /// Installs the tables of a job, or finds it stale, as `TreeState::register_tables`.
     pub fn register_tables(&self, rt: &impl Wait, job: WrittenFlush) -> Result<Registered, Error>
-        ensures { OnSomeTree (λ old new. Registers job result old new) }
+        ensures registers { OnSomeTree (λ old new. Registers job result old new) }
+        // The store is blamed only where a call of it failed.
+        ensures causes { OnSomeStore S (λ old new. HasCause (BlamesOrUnclean result) (S.world old) (S.world new)) }
     {
         let mut tree = self.shared.lock(rt);
         let tree = &mut *tree;
@@ -72,7 +78,9 @@ impl<S: Store> Handle<TreeState<S>> {
         rt: &impl Wait,
         watermark: SeqNo,
     ) -> Result<Option<(u64, Registered)>, Error>
-        ensures { OnSomeTree (λ old new. Flushes watermark result old new) }
+        ensures flushes { OnSomeTree (λ old new. Flushes watermark result old new) }
+        // The store is blamed only where a call of it failed.
+        ensures causes { OnSomeStore S (λ old new. HasCause (BlamesOrUncleanFlush result) (S.world old) (S.world new)) }
     {
         let mut tree = self.shared.lock(rt);
         let tree = &mut *tree;
@@ -89,7 +97,9 @@ impl<S: Store> Handle<TreeState<S>> {
         rt: &impl Wait,
         watermark: SeqNo,
     ) -> Result<(Option<MemtableId>, Option<(u64, Registered)>), (Error, Option<MemtableId>)>
-        ensures { OnSomeTree (λ old new. FlushesActive watermark result old new) }
+        ensures flushes { OnSomeTree (λ old new. FlushesActive watermark result old new) }
+        // The store is blamed only where a call of it failed.
+        ensures causes { OnSomeStore S (λ old new. HasCause (BlamesOrUncleanBehind result) (S.world old) (S.world new)) }
     {
         let mut tree = self.shared.lock(rt);
         let tree = &mut *tree;

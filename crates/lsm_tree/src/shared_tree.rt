@@ -4,10 +4,11 @@ ghost use Rattle.lsm_below.specs.Keys.{Bytes};
 ghost use Rattle.lsm_below.specs.Entries.{plain};
 ghost use Rattle.lsm_model.specs.Ops.{op_entry};
 ghost use Rattle.lsm_model.specs.declared.op.Op.TheVariants.{Set, Del, Weak};
+ghost use Rattle.lsm_files.specs.Causes.{HasCause, Blames};
 ghost use Rattle.lsm_state.specs.Flushes.{with_next_table};
 ghost use Rattle.lsm_state.specs.Calls.{Appends, WritesBatch, Gives, GivesEntry, Rotates, value_size};
 ghost use Rattle.lsm_state.specs.Clearing.{Clears, ForgetsUnflushed};
-ghost use Rattle.lsm_tree.specs.Shared.{OnSomeTree, AtSomeTree, RefusesSharedRead, RefusesSharedLook, RefusesSharedRotation};
+ghost use Rattle.lsm_tree.specs.Shared.{OnSomeTree, OnSomeStore, AtSomeTree, RefusesSharedRead, RefusesSharedLook, RefusesSharedRotation};
 
 use crate::handle::Handle;
 use lsm_below::{InternalValue, MemtableId, SeqNo, TableId, UserKey, UserValue};
@@ -160,7 +161,9 @@ impl<S: Store> Handle<TreeState<S>> {
 
     /// Clears the tree, as `TreeState::clear`. The lock is held while the version's file is written.
     pub fn clear(&self, rt: &impl Wait) -> Result<SeqNo, Error>
-        ensures { OnSomeTree (λ old new. Clears result old new) }
+        ensures clears { OnSomeTree (λ old new. Clears result old new) }
+        // The store is blamed only where a call of it failed.
+        ensures causes { OnSomeStore S (λ old new. HasCause (Blames result) (S.world old) (S.world new)) }
     {
         let mut tree = self.shared.lock(rt);
         let tree = &mut *tree;
