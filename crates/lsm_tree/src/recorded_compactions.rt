@@ -1,11 +1,12 @@
 // The calls of a compaction, of a tree with its journal behind the lock.
-ghost use Rattle.std.specs.Prelude.{◌≡◌, ◌⊎◌, ◌↔◌, ℕ, true, IfOk, IfErr, IsTrue};
+ghost use Rattle.std.specs.Prelude.{◌≡◌, ◌⊎◌, ◌↔◌, ℕ, true, Err, IfOk, IfErr, IsTrue};
 ghost use Rattle.lsm_merges.specs.OpenMerges.{hides};
+ghost use Rattle.lsm_files.specs.Causes.{HasCause, Blames};
 ghost use Rattle.lsm_state.specs.Compactions.{Spends};
 ghost use Rattle.lsm_state.specs.WholeCompactions.{options_at, only_memory, major_choice};
 ghost use Rattle.lsm_recorded.specs.Flushing.{SpendsUnnoted};
 ghost use Rattle.lsm_recorded.specs.Compacting.{BeginsRecorded, FinishesRecorded, CompactsRecorded, DropsRecorded};
-ghost use Rattle.lsm_tree.specs.Shared.{OnSomeTree, AtSomeTree, OnSomeRecorded};
+ghost use Rattle.lsm_tree.specs.Shared.{OnSomeTree, OnSomeStore, AtSomeTree, OnSomeRecorded};
 ghost use Rattle.lsm_tree.specs.Gates.{IsNoJob, EndsGatedRecorded, CompactsGatedRecorded};
 
 use crate::gate::{Gate, told_end};
@@ -30,7 +31,9 @@ impl<S: Store> Handle<Recorded<S>> {
         strategy: &dyn CompactionStrategy,
         options: Options,
     ) -> Result<Begun, Error>
-        ensures { OnSomeRecorded S (λ old new. BeginsRecorded (may_choose strategy.now) (may_refuse strategy.now) options result old new pass.old pass.new) }
+        ensures begins { OnSomeRecorded S (λ old new. BeginsRecorded (may_choose strategy.now) (may_refuse strategy.now) options result old new pass.old pass.new) }
+        // The store is blamed only where a call of it failed.
+        ensures causes { OnSomeStore S (λ old new. HasCause (Blames result) (S.world old) (S.world new)) }
     {
         let mut tree = self.shared.lock(rt);
         let tree = &mut *tree;
@@ -47,7 +50,9 @@ impl<S: Store> Handle<Recorded<S>> {
         pass: &mut Pass,
         merged: MergedCompaction,
     ) -> Result<Finished, Error>
-        ensures { OnSomeRecorded S (λ old new. SpendsUnnoted (Spends merged.job) result old new pass.old pass.new ⊎ FinishesRecorded merged.job result old new pass.old pass.new) }
+        ensures finishes { OnSomeRecorded S (λ old new. SpendsUnnoted (Spends merged.job) result old new pass.old pass.new ⊎ FinishesRecorded merged.job result old new pass.old pass.new) }
+        // The store is blamed only where a call of it failed.
+        ensures causes { OnSomeStore S (λ old new. HasCause (Blames result) (S.world old) (S.world new)) }
     {
         let mut tree = self.shared.lock(rt);
         let tree = &mut *tree;
@@ -77,7 +82,9 @@ impl<S: Store> Handle<Recorded<S>> {
         strategy: &dyn CompactionStrategy,
         options: Options,
     ) -> Result<Begun, Error>
-        ensures { OnSomeRecorded S (λ old new. CompactsRecorded (may_choose strategy.now) (may_refuse strategy.now) options result old new pass.old pass.new) }
+        ensures compacts { OnSomeRecorded S (λ old new. CompactsRecorded (may_choose strategy.now) (may_refuse strategy.now) options result old new pass.old pass.new) }
+        // The store is blamed only where a call of it failed.
+        ensures causes { OnSomeStore S (λ old new. HasCause (Blames result) (S.world old) (S.world new)) }
     {
         let mut tree = self.shared.lock(rt);
         let tree = &mut *tree;
@@ -95,7 +102,9 @@ impl<S: Store> Handle<Recorded<S>> {
         strategy: &dyn CompactionStrategy,
         watermark: SeqNo,
     ) -> Result<Begun, Error>
-        ensures { OnSomeRecorded S (λ old new. CompactsRecorded (may_choose strategy.now) (may_refuse strategy.now) (options_at watermark old.tree.core) result old new pass.old pass.new) }
+        ensures compacts { OnSomeRecorded S (λ old new. CompactsRecorded (may_choose strategy.now) (may_refuse strategy.now) (options_at watermark old.tree.core) result old new pass.old pass.new) }
+        // The store is blamed only where a call of it failed.
+        ensures causes { OnSomeStore S (λ old new. HasCause (Blames result) (S.world old) (S.world new)) }
     {
         let mut tree = self.shared.lock(rt);
         let tree = &mut *tree;
@@ -113,7 +122,8 @@ impl<S: Store> Handle<Recorded<S>> {
         strategy: &dyn CompactionStrategy,
         watermark: SeqNo,
     ) -> Result<Begun, Error>
-        ensures { OnSomeRecorded S (λ old new. BeginsRecorded (may_choose strategy.now) (may_refuse strategy.now) (options_at watermark old.tree.core) result old new pass.old pass.new) }
+        ensures begins { OnSomeRecorded S (λ old new. BeginsRecorded (may_choose strategy.now) (may_refuse strategy.now) (options_at watermark old.tree.core) result old new pass.old pass.new) }
+        ensures causes { OnSomeStore S (λ old new. HasCause (Blames result) (S.world old) (S.world new)) }
     {
         let mut tree = self.shared.lock(rt);
         let tree = &mut *tree;
@@ -137,6 +147,8 @@ impl<S: Store> Handle<Recorded<S>> {
         requires { IfErr passed (λ e. e.0 ≡ Error.OutOfMemory) }
         ensures done { IfOk passed (λ m. EndsGatedRecorded S m.job result pass.old pass.new) }
         ensures back { IfErr passed (λ e. EndsGatedRecorded S e.1 result pass.old pass.new) }
+        ensures causes { IfOk passed (λ _. OnSomeStore S (λ old new. HasCause (Blames result) (S.world old) (S.world new))) }
+        ensures given_up { IfErr passed (λ _. result ≡ Err Error.OutOfMemory) }
         ensures no_job { IsNoJob result }
     {
         match passed {
@@ -165,6 +177,8 @@ impl<S: Store> Handle<Recorded<S>> {
         gate: &impl Gate,
     ) -> Result<Begun, Error>
         ensures gated { CompactsGatedRecorded S (may_choose strategy.now) (may_refuse strategy.now) watermark result pass.old pass.new }
+        // The store is blamed only where a call of it failed.
+        ensures causes { OnSomeStore S (λ old new. HasCause (Blames result) (S.world old) (S.world new)) }
         ensures no_job { IsNoJob result }
     {
         match self.begin_at(rt, pass, strategy, watermark) {
@@ -184,7 +198,9 @@ impl<S: Store> Handle<Recorded<S>> {
         target: u64,
         watermark: SeqNo,
     ) -> Result<Begun, Error>
-        ensures { OnSomeRecorded S (λ old new. CompactsRecorded (major_choice target) only_memory (options_at watermark old.tree.core) result old new pass.old pass.new) }
+        ensures compacts { OnSomeRecorded S (λ old new. CompactsRecorded (major_choice target) only_memory (options_at watermark old.tree.core) result old new pass.old pass.new) }
+        // The store is blamed only where a call of it failed.
+        ensures causes { OnSomeStore S (λ old new. HasCause (Blames result) (S.world old) (S.world new)) }
     {
         let mut tree = self.shared.lock(rt);
         let tree = &mut *tree;
@@ -201,7 +217,9 @@ impl<S: Store> Handle<Recorded<S>> {
         pass: &mut Pass,
         bounds: OwnedBounds,
     ) -> Result<Begun, Error>
-        ensures { OnSomeRecorded S (λ old new. DropsRecorded bounds result old new pass.old pass.new) }
+        ensures drops { OnSomeRecorded S (λ old new. DropsRecorded bounds result old new pass.old pass.new) }
+        // The store is blamed only where a call of it failed.
+        ensures causes { OnSomeStore S (λ old new. HasCause (Blames result) (S.world old) (S.world new)) }
     {
         let mut tree = self.shared.lock(rt);
         let tree = &mut *tree;

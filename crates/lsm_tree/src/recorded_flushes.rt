@@ -1,9 +1,11 @@
 // The calls of a flush, of a tree with its journal behind the lock.
 ghost use Rattle.std.specs.Prelude.{◌≡◌, ◌⊎◌};
+ghost use Rattle.lsm_files.specs.Causes.{HasCause};
+ghost use Rattle.lsm_state.specs.Causes.{BlamesBeside, BlamesOrUnclean, BlamesOrUncleanFlush, BlamesOrUncleanBehind};
 ghost use Rattle.lsm_state.specs.Flushes.{Begins, WritesTables, spent};
 ghost use Rattle.lsm_state.specs.WholeFlushes.{FlushesActive};
 ghost use Rattle.lsm_recorded.specs.Flushing.{SpendsUnnoted, IsSpentFlush, RegistersNoted, RefusesUnnoted, FlushesNoted, NotesActive};
-ghost use Rattle.lsm_tree.specs.Shared.{OnSomeTree, OnSomeRecorded};
+ghost use Rattle.lsm_tree.specs.Shared.{OnSomeTree, OnSomeStore, OnSomeRecorded};
 
 use crate::handle::Handle;
 use lsm_below::{MemtableId, SeqNo};
@@ -37,6 +39,8 @@ impl<S: Store> Handle<Recorded<S>> {
         job: MergedFlush,
     ) -> Result<WrittenFlush, (Error, MergedFlush)>
         ensures writes { OnSomeTree (λ old new. WritesTables job result old new) }
+        // The store is blamed only where a call of it failed.
+        ensures causes { OnSomeStore S (λ old new. HasCause (BlamesBeside result) (S.world old) (S.world new)) }
         ensures pass { pass.new ≡ pass.old }
     {
         let mut tree = self.shared.lock(rt);
@@ -54,7 +58,9 @@ impl<S: Store> Handle<Recorded<S>> {
         pass: &mut Pass,
         job: WrittenFlush,
     ) -> Result<Registered, Error>
-        ensures { OnSomeRecorded S (λ old new. SpendsUnnoted (IsSpentFlush job) result old new pass.old pass.new ⊎ RegistersNoted job result old new pass.old pass.new) }
+        ensures registers { OnSomeRecorded S (λ old new. SpendsUnnoted (IsSpentFlush job) result old new pass.old pass.new ⊎ RegistersNoted job result old new pass.old pass.new) }
+        // The store is blamed only where a call of it failed.
+        ensures causes { OnSomeStore S (λ old new. HasCause (BlamesOrUnclean result) (S.world old) (S.world new)) }
     {
         let mut tree = self.shared.lock(rt);
         let tree = &mut *tree;
@@ -83,7 +89,9 @@ impl<S: Store> Handle<Recorded<S>> {
         pass: &mut Pass,
         watermark: SeqNo,
     ) -> Result<Option<(u64, Registered)>, Error>
-        ensures { OnSomeRecorded S (λ old new. RefusesUnnoted result old new pass.old pass.new ⊎ FlushesNoted watermark result old.tree.core new.tree.core old.journal new.journal pass.old pass.new) }
+        ensures flushes { OnSomeRecorded S (λ old new. RefusesUnnoted result old new pass.old pass.new ⊎ FlushesNoted watermark result old.tree.core new.tree.core old.journal new.journal pass.old pass.new) }
+        // The store is blamed only where a call of it failed.
+        ensures causes { OnSomeStore S (λ old new. HasCause (BlamesOrUncleanFlush result) (S.world old) (S.world new)) }
     {
         let mut tree = self.shared.lock(rt);
         let tree = &mut *tree;
@@ -102,6 +110,8 @@ impl<S: Store> Handle<Recorded<S>> {
         watermark: SeqNo,
     ) -> Result<(Option<MemtableId>, Option<(u64, Registered)>), (Error, Option<MemtableId>)>
         ensures flushes { OnSomeRecorded S (λ old new. FlushesActive watermark result old.tree.core new.tree.core × NotesActive watermark result old.tree.core new.tree.core old.journal new.journal pass.old pass.new) }
+        // The store is blamed only where a call of it failed.
+        ensures causes { OnSomeStore S (λ old new. HasCause (BlamesOrUncleanBehind result) (S.world old) (S.world new)) }
     {
         let mut tree = self.shared.lock(rt);
         let tree = &mut *tree;

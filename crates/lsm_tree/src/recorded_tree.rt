@@ -6,12 +6,13 @@ ghost use Rattle.lsm_model.specs.declared.journal.JournalEntry.TheVariants.{Writ
 ghost use Rattle.lsm_model.specs.declared.question.Question.TheVariants.{Get as GetQuestion, Between, Prefix};
 ghost use Rattle.lsm_model.specs.declared.question.Answer.TheVariants.{Found, Pairs as PairsAnswer};
 ghost use Rattle.lsm_model.specs.declared.op.Op.TheVariants.{Set, Del, Weak};
+ghost use Rattle.lsm_files.specs.Causes.{HasCause, Blames};
 ghost use Rattle.lsm_recorded.specs.Closing.{ListTogether};
 ghost use Rattle.lsm_state.specs.Calls.{Appends, WritesBatch, Rotates};
 ghost use Rattle.lsm_recorded.specs.Recorded.{OwnOr};
 ghost use Rattle.lsm_recorded.specs.Flushing.{RefusesUnnoted};
 ghost use Rattle.lsm_recorded.specs.Clearing.{ClearsNoted};
-ghost use Rattle.lsm_tree.specs.Shared.{OnSomeTree, OnSomeRecorded, RefusesRecordedRead, AgreesFromSome, RefusesSharedRotation, Puts};
+ghost use Rattle.lsm_tree.specs.Shared.{OnSomeTree, OnSomeStore, OnSomeRecorded, RefusesRecordedRead, AgreesFromSome, RefusesSharedRotation, Puts};
 
 use crate::handle::Handle;
 use lsm_below::{InternalValue, MemtableId, SeqNo, UserKey, UserValue};
@@ -198,7 +199,9 @@ impl<S: Store> Handle<Recorded<S>> {
 
     /// Clears the tree, as `Recorded::clear`. The lock is held while the version's file is written.
     pub fn clear(&self, rt: &impl Wait, pass: &mut Pass) -> Result<SeqNo, Error>
-        ensures { OnSomeRecorded S (λ old new. RefusesUnnoted result old new pass.old pass.new ⊎ ClearsNoted result old new pass.old pass.new) }
+        ensures clears { OnSomeRecorded S (λ old new. RefusesUnnoted result old new pass.old pass.new ⊎ ClearsNoted result old new pass.old pass.new) }
+        // The store is blamed only where a call of it failed.
+        ensures causes { OnSomeStore S (λ old new. HasCause (Blames result) (S.world old) (S.world new)) }
     {
         let mut tree = self.shared.lock(rt);
         let tree = &mut *tree;

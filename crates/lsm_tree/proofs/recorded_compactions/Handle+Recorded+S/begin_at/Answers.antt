@@ -2,8 +2,8 @@
 use Rattle.lsm_tree.proofs.Gates.{begins_at}
 use Rattle.lsm_tree.proofs.recorded_compactions.Handle+Recorded+S.begin_at.Goals as goal
 
-pub returns : goal.returns
-returns g c =
+pub returns-clause-begins : goal.returns-clause-begins
+returns-clause-begins g c =
     let old = c.deref_mut-tree.result.now in
     let told = c.begin_compaction-told in
     let strategy = c.args.strategy.now in
