@@ -7,6 +7,8 @@ mod clears;
 #[cfg(test)]
 mod compactions;
 #[cfg(test)]
+mod faults;
+#[cfg(test)]
 mod flushes;
 #[cfg(test)]
 mod gates;
