@@ -40,14 +40,15 @@ memory_blames_not : (r : Result Begun Error) → r ≡ Err OutOfMemory → Blame
 memory_blames_not r is blamed = ⊎_elim (λ h. cc h) (λ later. ⊎_elim (λ h. cc h) (λ h. cc h) later) (subst Blames is blamed)
 
 module _ (S : Type 0) (world : S → World) where
-  CausesOnSome : Type 0 → Type 0
+  abbrev CausesOnSome : Type 0 → Type 0
   CausesOnSome Blamed = OnSomeStore S (λ old new. HasCause Blamed (world old) (world new))
 
   less_on_some : (A B : Type 0) → (B → A) → CausesOnSome A → CausesOnSome B
   less_on_some A B less on = (on.0, on.1, causes_less A B (world on.0) (world on.1) on.2 less)
 
-  pub end_causes : (end : Result Finished Error) (r : Result Begun Error) → r ≡ told_end end → CausesOnSome (Blames end) → CausesOnSome (Blames r)
-  end_causes end r is on = less_on_some (Blames end) (Blames r) (λ blamed. told_blames end (subst Blames is blamed)) on
+  pub end_causes : (passed : Result SeenCompacted (Error × SeenCompaction)) (end : Result Finished Error) (r : Result Begun Error) → r ≡ told_end end → CausesOnSome (Blames end) → IfOk passed (λ _. CausesOnSome (Blames r))
+  end_causes (Ok m) end r is on = less_on_some (Blames end) (Blames r) (λ blamed. told_blames end (subst Blames is blamed)) on
+  end_causes (Err e) end r is on = tt
 
   -- a job that a gate gave back for want of memory leaves what its beginning left
   pub gated_causes : (passed : Result SeenCompacted (Error × SeenCompaction)) (begun r : Result Begun Error) → CausesOnSome (Blames begun) → IfOk passed (λ _. CausesOnSome (Blames r)) → IfErr passed (λ _. r ≡ Err OutOfMemory) → CausesOnSome (Blames r)
