@@ -1,5 +1,5 @@
 -- Which versions a step may leave: the latest one before it, and at most one other, which has a higher id.
-use Rattle.std.proofs.Common.{◌≡◌, ◌⊎◌, inl, inr, ℕ, ◌+◌, ◌<◌, arith, Bool, true, false, List, [], ◌∷◌, Option, Some, None, option_to_list, Result, Ok, Err, IfErr, refl, sym, ap, ◌∙◌, subst}
+use Rattle.std.proofs.Common.{◌≡◌, ◌⊎◌, inl, inr, ℕ, ◌+◌, ◌<◌, arith, Bool, true, false, List, Option, Some, None, option_to_list, Result, Ok, Err, IfErr, refl, sym, ap, ◌∙◌, subst}
 use Rattle.std.specs.List.{AllByRecursion}
 use Rattle.lsm_below.specs.declared.error.Error.{Error}
 use Rattle.lsm_below.specs.declared.error.Error.TheVariants.{OutOfMemory, Store, CommitUnknown, Unrecoverable, OutOfNumbers, TooManyRuns, AfterCommit}
@@ -25,7 +25,7 @@ use Rattle.lsm_state.specs.Settling.{SettlesSome, next_in}
 use Rattle.lsm_state.specs.Flushes.{Registers, Installs, Doubts, spent, with_next_table}
 use Rattle.lsm_state.specs.WholeFlushes.{Flushes, drawn_until}
 use Rattle.lsm_state.specs.Clearing.{Clears, cleared_in}
-use Rattle.lsm_state.specs.Compactions.{Relation, reason_of, OpensMerge, InstallsChoice, Does, BeginsChoice, closed, Ends, EndsFor, Spends, Finishes}
+use Rattle.lsm_state.specs.Compactions.{Relation, reason_of, Does, BeginsChoice, closed, Ends, EndsFor, Finishes}
 use Rattle.lsm_state.specs.WholeCompactions.{Completes, Follows}
 use Rattle.lsm_noted.specs.Noted.{BeginsAnswer, CompactsAnswer}
 use Rattle.lsm_runs.specs.declared.slots.Job.{Job}

@@ -2,7 +2,7 @@
 use Rattle.std.proofs.Common.{◌≡◌, ℕ, List, [], ◌∷◌, sym}
 use Rattle.std.specs.List.{AllByRecursion}
 use Rattle.std.specs.Prelude.{codes}
-use Rattle.lsm_store.specs.World.{Image, World, IsImage, Begins}
+use Rattle.lsm_store.specs.World.{Image, World, Begins}
 use Rattle.lsm_model.specs.Journal.{Map}
 use Rattle.lsm_manifest.specs.Finding.{StandsForMap, MapIsOne, AgreesInRead, UnreadNamesDontMatter}
 use Rattle.lsm_manifest.specs.Ready.{IsReady}

@@ -27,7 +27,7 @@ use Rattle.lsm_runs.specs.declared.steps.Reply.TheVariants as reply
 use Rattle.lsm_runs.specs.Adds.{Adds}
 use Rattle.lsm_runs.specs.Compacting.{Strategies, TakesBeginCompaction, TakesRunCompaction, TakesFinish, TakesAbandonCompaction, job_of}
 use Rattle.lsm_runs.specs.Crashes.{Watched}
-use Rattle.lsm_runs.specs.Flushing.{TakesBegin, TakesRun, TakesTables, TakesRegister, TakesAbandon}
+use Rattle.lsm_runs.specs.Flushing.{TakesRun, TakesTables, TakesRegister, TakesAbandon}
 use Rattle.lsm_runs.specs.JobSteps.{TakesJob, TakesInSlot}
 use Rattle.lsm_runs.specs.Moments.{job_noted, alone_noted, noted_of, RanAlong, outcome_of, outcomes_of}
 use Rattle.lsm_runs.specs.Notes.{NotesRotation, NotesFlush, NotesFlushActive, NotesClear, JobNotes, Notes, begun_after, none_begun, EachTells}
@@ -218,9 +218,9 @@ module _ (strategies : Strategies) (opened : List Entry) {F W : Type 0} (world :
       let here : sealed_in past.notes ≡ sealed_ids old.stage.core = sealed 0 (omega arith) in
       let rest = each_tells many xs ts next (begun_after (sealed_ids old.stage.core) x t.reply begun) mid points r.3 (takes_begun strategies begun x t.reply t.entries old.stage mid.stage known r.0) (λ k low. sealed (suc k) (omega (low, arith))) in
       subst
-          (λ ids. Adds x t.reply t.entries × Notes ids begun x t.reply outcome.notes × EachTells opened next (begun_after ids x t.reply begun) (take many xs) (take many (outcomes_of xs ts mid points)))
-          (sym here)
-          (takes_adds strategies x t.reply t.entries old.stage mid.stage r.0, takes_notes strategies begun x t.reply t.entries old.stage mid.stage known r.0, rest)
+      (λ ids. Adds x t.reply t.entries × Notes ids begun x t.reply outcome.notes × EachTells opened next (begun_after ids x t.reply begun) (take many xs) (take many (outcomes_of xs ts mid points)))
+      (sym here)
+      (takes_adds strategies x t.reply t.entries old.stage mid.stage r.0, takes_notes strategies begun x t.reply t.entries old.stage mid.stage known r.0, rest)
   each_tells (suc many) xs ts past begun old points r known sealed = absurd r
 
 -- ---- journals of the first so many

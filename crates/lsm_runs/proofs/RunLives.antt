@@ -1,5 +1,5 @@
 -- A run on a tree as opening left it is a life.
-use Rattle.std.proofs.Common.{◌≡◌, ℕ, zero, suc, ◌+◌, ◌≤◌, ◌^◌, arith, List, [], ◌∷◌, map, take, length, refl}
+use Rattle.std.proofs.Common.{ℕ, zero, suc, ◌+◌, ◌≤◌, ◌^◌, arith, List, [], ◌∷◌, map, take, length, refl}
 use Rattle.lsm_store.specs.World.{World}
 use Rattle.lsm_manifest.specs.Ready.{IsReady}
 use Rattle.lsm_run_model.specs.Outcomes.{nothing}

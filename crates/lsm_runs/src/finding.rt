@@ -56,10 +56,6 @@ pub fn lives_without_number<S: Store>(store: &S)
 /// ```text
 /// runs_are_lives(&store, &watch, &strategies);
 /// ```
-pub fn runs_are_lives<S: Store, W: Watch>(
-    _: &S,
-    _: &W,
-    strategies: &[Box<dyn CompactionStrategy>],
-)
+pub fn runs_are_lives<S: Store, W: Watch>(_: &S, _: &W, strategies: &[Box<dyn CompactionStrategy>])
     ensures { RunsAreLives S.world W.gives (strategies_of (λ b. may_choose b) (λ b. may_refuse b) strategies.now) }
 {}
