@@ -7,3 +7,5 @@ mod compaction_rows;
 mod folders;
 #[cfg(test)]
 mod shells;
+#[cfg(test)]
+mod spelled;

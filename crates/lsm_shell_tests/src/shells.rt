@@ -201,7 +201,7 @@ where
 }
 
 /// Whether a run without arguments prints this for the input, and ends with 0.
-fn prints<R>(rt: &R, alloc: Global, input: &[u8], printed: &[u8]) -> bool
+pub fn prints<R>(rt: &R, alloc: Global, input: &[u8], printed: &[u8]) -> bool
 where
     R: Threads + Wait + Sync + Files<File = File> + Alloc + Clone + Drop,
 {
@@ -209,7 +209,7 @@ where
 }
 
 /// Appends a line with its end.
-fn push_line(text: &mut Vec<u8>, line: &[u8]) -> Result<(), AllocError> {
+pub fn push_line(text: &mut Vec<u8>, line: &[u8]) -> Result<(), AllocError> {
     text.extend_from_slice(line)?;
     text.extend_from_slice(b"\n")
 }
