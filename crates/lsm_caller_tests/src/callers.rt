@@ -53,7 +53,7 @@ fn write_and_read(
 ) -> Result<(), Error> {
     let number = write(rt, alloc, tree, pass, at)?;
     let key = key_of(alloc, at.0.saturating_add(at.1 % 2) % WRITERS, at.1)?;
-    tree.get(rt, pass, &key, number.saturating_add(1))?;
+    tree.get(rt, pass, key.as_slice(), number.saturating_add(1))?;
     Ok(())
 }
 
@@ -117,7 +117,7 @@ fn open(alloc: Global) -> Result<RecordedTree, Error> {
 /// What is in the journal that is given out for all passes, where it agrees.
 fn close(rt: &impl Wait, tree: &RecordedTree, passes: Vec<Pass>) -> Option<Tally> {
     match tree.close(rt, passes) {
-        Ok(journal) => agrees(&journal),
+        Ok(closed) => agrees(&closed.journal),
         Err(_) => None,
     }
 }
