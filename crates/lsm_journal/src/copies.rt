@@ -1,10 +1,11 @@
 // Copies of the entries of a journal, which share their bytes and their lists of pairs.
 ghost use Rattle.std.specs.Prelude.{◌≡◌, IfOk};
 ghost use Rattle.lsm_model.specs.declared.journal.JournalEntry.TheVariants.{Read, Dropped};
+ghost use Rattle.lsm_model.specs.declared.question.Question.TheVariants.{Between};
 
 use crate::entries::share_value;
 use lsm_below::{KeyRange, SeqNo, UserKey, share};
-use lsm_model::{Answer, JournalEntry, KeyRanges, Question};
+use lsm_model::{Answer, JournalEntry, KeyBound, KeyRanges, Question};
 use std::alloc::{AllocError, Global};
 use std::ops::Bound;
 
@@ -19,15 +20,25 @@ pub fn copy_bound(bound: &Bound<UserKey>) -> Result<Bound<UserKey>, AllocError>
     }
 }
 
+/// The question about the keys in these bounds, whose bytes it shares. Refused only for want of memory.
+pub fn question_between(
+    alloc: Global,
+    low: &Bound<UserKey>,
+    high: &Bound<UserKey>,
+) -> Result<Question, AllocError>
+    ensures { IfOk result (λ question. question ≡ Between low.now high.now) }
+{
+    let low = KeyBound::new(alloc, copy_bound(low)?)?;
+    let high = KeyBound::new(alloc, copy_bound(high)?)?;
+    Ok(Question::Between(low, high))
+}
+
 fn copy_question(question: &Question) -> Result<Question, AllocError>
     ensures { IfOk result (λ copy. copy ≡ question.now) }
 {
     match question {
         Question::Get(key) => Ok(Question::Get(share(key)?)),
-        Question::Between(low, high) => {
-            let low = copy_bound(low)?;
-            Ok(Question::Between(low, copy_bound(high)?))
-        }
+        Question::Between(low, high) => Ok(Question::Between(low.copy()?, high.copy()?)),
         Question::Prefix(prefix) => Ok(Question::Prefix(share(prefix)?)),
     }
 }

@@ -14,7 +14,7 @@ mod entries;
 mod pairs;
 mod same;
 
-pub use copies::{copy_bound, copy_entry, copy_journal};
+pub use copies::{copy_bound, copy_entry, copy_journal, question_between};
 pub use entries::read_entry;
 pub use pairs::{pairs_entry, share_pairs, take_pairs};
 pub use same::same_entry;

@@ -68,7 +68,8 @@ fn same_question(left: &Question, right: &Question) -> bool
     match (left, right) {
         (Question::Get(left), Question::Get(right)) => same_bytes(left, right),
         (Question::Between(low, high), Question::Between(other_low, other_high)) => {
-            same_bound(low, other_low) && same_bound(high, other_high)
+            same_bound(low.as_bound(), other_low.as_bound())
+                && same_bound(high.as_bound(), other_high.as_bound())
         }
         (Question::Prefix(left), Question::Prefix(right)) => same_bytes(left, right),
         _ => false,

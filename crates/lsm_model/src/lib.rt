@@ -24,5 +24,5 @@ pub use laws::{
     reads_are_sound, steps_spare_answers, tables_are_placed, tables_show_above,
 };
 pub use op::{Op, Ops};
-pub use question::{Answer, KvPairs, Question};
+pub use question::{Answer, KeyBound, KvPairs, Question};
 pub use repeats::has_repeats;

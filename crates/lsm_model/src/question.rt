@@ -66,17 +66,64 @@ impl KvPairs {
     }
 }
 
+/// A bound of keys, seen as the bound. Copies share it, and it stands apart, so that a question about one key is small.
+///
+/// ```text
+/// let low = KeyBound::new(alloc, Bound::Included(key))?;
+/// ```
+#[derive(Drop, Debug)]
+pub struct KeyBound {
+    bound: Arc<Bound<UserKey>>,
+}
+
+impl Model for KeyBound {
+    ghost use Rattle.std.specs.Prelude.{List, ℕ};
+    ghost use Rattle.std.specs.Arc.{arc_value};
+    ghost use Rattle.std.specs.declared.ops.Bound.{Bound};
+
+    ghost Value = { Bound (List ℕ) };
+
+    ghost view = { λ b. arc_value b.bound };
+}
+
+impl KeyBound {
+    /// This bound. Refused only for want of memory.
+    pub fn new(alloc: Global, bound: Bound<UserKey>) -> Result<KeyBound, AllocError>
+        ensures { IfOk result (λ shared. shared ≡ bound) }
+    {
+        Ok(KeyBound {
+            bound: Arc::new(alloc, bound)?,
+        })
+    }
+
+    /// The bound.
+    pub fn as_bound(&self) -> &Bound<UserKey>
+        ensures { result.now ≡ self.now }
+    {
+        &self.bound
+    }
+
+    /// Another handle on the same bound.
+    pub fn copy(&self) -> Result<KeyBound, AllocError>
+        ensures { IfOk result (λ bound. bound ≡ self.now) }
+    {
+        Ok(KeyBound {
+            bound: Arc::try_clone(&self.bound)?,
+        })
+    }
+}
+
 /// What a read asks.
 ///
 /// ```text
-/// Question::Between(Bound::Included(low), Bound::Unbounded)
+/// Question::Between(KeyBound::new(alloc, Bound::Included(low))?, KeyBound::new(alloc, Bound::Unbounded)?)
 /// ```
-#[derive(Drop, Debug, PartialEq, Eq)]
+#[derive(Drop, Debug)]
 pub enum Question {
     /// The value of a key.
     Get(UserKey),
     /// The keys in these bounds, with their values.
-    Between(Bound<UserKey>, Bound<UserKey>),
+    Between(KeyBound, KeyBound),
     /// The keys that begin so, with their values.
     Prefix(UserKey),
 }

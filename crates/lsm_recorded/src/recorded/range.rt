@@ -16,7 +16,7 @@ use crate::pass::{Pass, note_entry};
 use crate::recorded::Recorded;
 use lsm_below::{SeqNo, UserKey, share};
 use lsm_iter::{Pairs, TreeIter};
-use lsm_journal::{copy_bound, pairs_entry, share_pairs};
+use lsm_journal::{pairs_entry, question_between, share_pairs};
 use lsm_model::{KvPairs, Question, reads_are_sound};
 use lsm_parts::Error;
 use lsm_store::Store;
@@ -124,7 +124,7 @@ impl<S: Store> Recorded<S> {
     {
         let pairs = self.pairs(bounds, snapshot)?;
         let list = share_pairs(self.alloc, pairs)?;
-        let question = Question::Between(copy_bound(&bounds.0)?, copy_bound(&bounds.1)?);
+        let question = question_between(self.alloc, &bounds.0, &bounds.1)?;
         self.note_listed(pass, snapshot, question, &list)?;
         Ok(list)
     }

@@ -8,7 +8,7 @@ use super::{one_entry, refused, silent};
 use crate::{Outcome, Reply};
 use lsm_below::{SeqNo, UserKey, share};
 use lsm_iter::{Guard, IterGuard, TreeIter};
-use lsm_journal::{copy_bound, pairs_entry, take_pairs};
+use lsm_journal::{copy_bound, pairs_entry, question_between, take_pairs};
 use lsm_model::{KvPairs, Question};
 use lsm_parts::Error;
 use lsm_state::{TreeState, lists_are_steps};
@@ -62,13 +62,8 @@ pub(super) fn range<S: Store>(
 {
     lists_are_steps();
     let bounds = (copy_bound(low)?, copy_bound(high)?);
-    let found = state.range(&bounds, snapshot, None);
-    of_found(
-        alloc,
-        snapshot,
-        Question::Between(bounds.0, bounds.1),
-        found,
-    )
+    let question = question_between(alloc, low, high)?;
+    of_found(alloc, snapshot, question, state.range(&bounds, snapshot, None))
 }
 
 pub(super) fn iter<S: Store>(
@@ -79,7 +74,7 @@ pub(super) fn iter<S: Store>(
     ensures { IfOk result (λ told. TakesRange Unbounded Unbounded snapshot told.reply told.entries state.now.core state.now.core) }
 {
     lists_are_steps();
-    let all = Question::Between(Bound::Unbounded, Bound::Unbounded);
+    let all = question_between(alloc, &Bound::Unbounded, &Bound::Unbounded)?;
     of_found(alloc, snapshot, all, state.iter(snapshot, None))
 }
 
