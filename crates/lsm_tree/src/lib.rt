@@ -111,6 +111,7 @@ pub use lsm_merges::create_compaction_stream;
 pub use lsm_merges::merge_runs;
 pub use lsm_model::Answer;
 pub use lsm_model::JournalEntry;
+pub use lsm_model::KeyBound;
 pub use lsm_model::KeyRanges;
 pub use lsm_model::KvPairs;
 pub use lsm_model::Op;
