@@ -5,3 +5,4 @@ pub mod Undo
 pub mod Parts
 pub mod Iters
 pub mod Spans
+pub mod Revoking

@@ -24,6 +24,6 @@ mod spread;
 mod steps;
 
 pub use iter::Iter;
-pub use memtable::Memtable;
+pub use memtable::{Memtable, Revocable};
 pub use span::Span;
 pub use steps::Steps;

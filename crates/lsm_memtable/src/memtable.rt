@@ -4,10 +4,11 @@ ghost use Rattle.std.specs.Bool.{OnTrue};
 ghost use Rattle.lsm_below.specs.declared.value.InternalValue.{InternalValue};
 ghost use Rattle.lsm_below.specs.Entries.{Entry, entry_cmp, top};
 ghost use Rattle.lsm_below.specs.Sorted.{Rises};
-ghost use Rattle.lsm_memtable.specs.Memtables.{entry_size, new_memtable, with_entry, with_entries, highest_of, within, IsTop, HasNone};
+ghost use Rattle.lsm_memtable.specs.Memtables.{SeenMemtable, entry_size, new_memtable, with_entry, with_entries, highest_of, within, IsTop, HasNone};
 ghost use Rattle.lsm_memtable.specs.Blocks.{AreBlocksOf, CountsDigits};
 ghost use Rattle.lsm_memtable.specs.Contents.{content_of, entries_of, added, all_added, IsContent};
 ghost use Rattle.lsm_memtable.specs.Undo.{Undoes, AreUndone, undo_of};
+ghost use Rattle.lsm_memtable.specs.Revoking.{TakesBack};
 
 use crate::block::Block;
 use crate::blocks::{Undo, first_visible, put_entry, take_all_back};
@@ -229,21 +230,40 @@ fn add_entries(
     Ok(())
 }
 
-/// Puts each entry in its place, in turn. Refused only for want of memory, and then nothing changes.
-fn add_all(
+/// What takes a batch back that was put into a memtable.
+#[derive(Drop)]
+pub struct Revocable {
+    log: Vec<Undo>,
+    count: usize,
+    size: u64,
+    highest: Option<SeqNo>,
+}
+
+/// Puts each entry in its place, in turn, and answers what takes them back. Refused only for want of memory, and then
+/// nothing changes.
+fn add_revocably(
     content: &mut Content,
     alloc: Global,
     batch: Vec<InternalValue>,
-) -> Result<(), AllocError>
+) -> Result<Revocable, AllocError>
     requires { IsContent content.old }
     ensures ok { OnOk result (content_of content.new ≡ all_added batch.items (content_of content.old)) }
+    ensures puts { IfOk result (λ r. AreUndone r.log.items (entries_of content.old) (entries_of content.new)) }
+    ensures count { IfOk result (λ r. r.count ≡ content.old.count) }
+    ensures size { IfOk result (λ r. r.size ≡ content.old.size) }
+    ensures highest { IfOk result (λ r. r.highest ≡ content.old.highest) }
     ensures err { OnErr result (content_of content.new ≡ content_of content.old) }
     ensures sound { IsContent content.new }
 {
     let (count, size, highest) = (content.count, content.size, content.highest);
     let mut log = Vec::with_capacity(alloc, batch.len())?;
     let Err(error) = add_entries(content, alloc, batch, &mut log) else {
-        return Ok(());
+        return Ok(Revocable {
+            log,
+            count,
+            size,
+            highest,
+        });
     };
     take_all_back(&mut content.blocks, log);
     content.count = count;
@@ -419,7 +439,30 @@ impl Memtable {
         ensures err { OnErr result (self.new ≡ self.old) }
         ensures memory { IfErr result (λ e. e ≡ Error.OutOfMemory) }
     {
-        add_all(&mut self.content, self.alloc, batch)?;
+        drop(self.insert_all_revocably(batch)?);
         Ok(())
+    }
+
+    /// `insert_all`, and answers what takes the batch back, as long as nothing else is done to the memtable.
+    /// Refused only for want of memory, and then nothing changes.
+    pub fn insert_all_revocably(&mut self, batch: Vec<InternalValue>) -> Result<Revocable, Error>
+        ensures ok { OnOk result (self.new ≡ with_entries batch.items self.old) }
+        ensures revocable { IfOk result (λ r. TakesBack r self.old self.new) }
+        ensures id { self.new.id ≡ self.old.id }
+        ensures err { OnErr result (self.new ≡ self.old) }
+        ensures memory { IfErr result (λ e. e ≡ Error.OutOfMemory) }
+    {
+        Ok(add_revocably(&mut self.content, self.alloc, batch)?)
+    }
+
+    /// Takes a batch back: the memtable is as it was. It takes no memory.
+    pub fn take_back(&mut self, batch: Revocable)
+        requires { (before : SeenMemtable) × TakesBack batch before self.old }
+        ensures { (before : SeenMemtable) → TakesBack batch before self.old → self.new ≡ before }
+    {
+        take_all_back(&mut self.content.blocks, batch.log);
+        self.content.count = batch.count;
+        self.content.size = batch.size;
+        self.content.highest = batch.highest;
     }
 }

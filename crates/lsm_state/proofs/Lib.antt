@@ -35,3 +35,4 @@ pub mod Clears
 pub mod ClearReads
 pub mod Raising
 pub mod Causing
+pub mod BehindRecords

@@ -24,3 +24,4 @@ pub mod CompactionDeeds
 pub mod WholeCompactions
 pub mod CompactionReads
 pub mod Clearing
+pub mod Recording

@@ -9,6 +9,7 @@
 //! | `opening` | how it is opened over a store, and what it says of its version |
 //! | `counted` | what is counted of its memtables and tables |
 //! | `writes` | its writes |
+//! | `recording` | its writes, each behind a record of a log |
 //! | `reads` | its reads of one key |
 //! | `ranges` | its reads of many keys |
 //! | `commit` | how a super version becomes the latest one, and what is cleaned up behind it |
@@ -39,6 +40,7 @@ mod memtables;
 mod opening;
 mod ranges;
 mod reads;
+mod recording;
 mod register;
 mod sealed;
 mod settling;

@@ -1,5 +1,5 @@
 // The memtables that are held, by id.
-ghost use Rattle.std.specs.Prelude.{◌≡◌, ℕ, ◌<◌, ◌≤◌, ◌∷◌, [], length, map, flat_map, sum_by, if◌then◌else◌, Some, IfOk, IfErr, OnOk, OnErr, IsTrue, IsSome, ◌↔◌, option_copied, MatchOption};
+ghost use Rattle.std.specs.Prelude.{◌≡◌, ℕ, ◌<◌, ◌≤◌, ◌∷◌, [], List, length, map, flat_map, sum_by, if◌then◌else◌, Some, IfOk, IfErr, OnOk, OnErr, IsTrue, IsSome, ◌↔◌, option_copied, MatchOption};
 ghost use Rattle.std.specs.List.{AllByRecursion, list_any};
 ghost use Rattle.lsm_below.specs.Entries.{top};
 ghost use Rattle.lsm_below.specs.Sums.{capped};
@@ -10,11 +10,14 @@ ghost use Rattle.lsm_parts.specs.History.{names, named_size, versions_of};
 ghost use Rattle.lsm_jobs.specs.Jobs.{ids_in, entries_in, AreWritable};
 ghost use Rattle.lsm_state.specs.Held.{entries_of, held_at, size_at, put_first, put_all_first, first_size, first_entries, HasFirst, FallFrom, ids_of, IsSealedIn};
 ghost use Rattle.lsm_state.specs.Cleaning.{from_id};
+ghost use Rattle.lsm_state.specs.Recording.{TakesFirstBack};
+ghost use Rattle.lsm_memtable.specs.Memtables.{SeenMemtable};
 
 use crate::counted::greater_of;
 use crate::sealed::{Room, Sealed};
 use lsm_below::{InternalValue, MemtableId, SeqNo};
 use lsm_jobs::SealedMemtable;
+use lsm_memtable::Revocable;
 use lsm_parts::{Error, Memtable, SuperVersions};
 use std::alloc::{AllocError, Global};
 use std::collections::VecDeque;
@@ -218,6 +221,28 @@ impl Memtables {
         let done = self.active.insert_all(batch);
         self.active.facts();
         done
+    }
+
+    /// `insert_all`, and answers what takes the batch back, as long as nothing else is done to the memtables.
+    /// Refused only for want of memory, and then nothing changes.
+    pub fn insert_all_revocably(&mut self, batch: Vec<InternalValue>) -> Result<Revocable, Error>
+        requires { AllByRecursion Fits batch.items }
+        ensures ok { OnOk result (self.new ≡ put_all_first batch.items self.old) }
+        ensures revocable { IfOk result (λ r. TakesFirstBack r self.old self.new) }
+        ensures err { OnErr result (self.new ≡ self.old) }
+        ensures memory { IfErr result (λ e. e ≡ Error.OutOfMemory) }
+    {
+        let done = self.active.insert_all_revocably(batch);
+        self.active.facts();
+        done
+    }
+
+    /// Takes a batch back: the memtables are as they were. It takes no memory.
+    pub fn take_back(&mut self, batch: Revocable)
+        requires { (before : List SeenMemtable) × TakesFirstBack batch before self.old }
+        ensures { (before : List SeenMemtable) → TakesFirstBack batch before self.old → self.new ≡ before }
+    {
+        self.active.take_back(batch);
     }
 
     /// Seals the active memtable in favour of a new one. Refused only for want of memory, and then nothing

@@ -61,7 +61,7 @@ fn has_long_value(ops: &[(UserKey, Op)]) -> bool
 }
 
 /// Why a batch is refused under a sequence number.
-fn check_batch(alloc: Global, number: SeqNo, ops: &[(UserKey, Op)]) -> Result<(), Error>
+pub(crate) fn check_batch(alloc: Global, number: SeqNo, ops: &[(UserKey, Op)]) -> Result<(), Error>
     ensures ok { OnOk result (batch_refusal number ops.now ≡ None) }
     ensures err { IfErr result (λ e. (batch_refusal number ops.now ≡ Some e) ⊎ (e ≡ Error.OutOfMemory)) }
 {
@@ -81,7 +81,7 @@ fn check_batch(alloc: Global, number: SeqNo, ops: &[(UserKey, Op)]) -> Result<()
 }
 
 /// The entries of a batch.
-fn make_entries(
+pub(crate) fn make_entries(
     alloc: Global,
     number: SeqNo,
     ops: Vec<(UserKey, Op)>,

@@ -4,7 +4,7 @@ use Rattle.lsm_below.specs.Entries.{HasBytes}
 use Rattle.lsm_memtable.specs.Memtables.{highest_of}
 use Rattle.lsm_memtable.specs.Contents.{SeenContent, entries_of}
 use Rattle.lsm_memtable.specs.Undo.{AreUndone}
-use Rattle.lsm_memtable.proofs.memtable.add_all.Goals as goal
+use Rattle.lsm_memtable.proofs.memtable.add_revocably.Goals as goal
 
 pub take_all_back-requires-clause-made : goal.take_all_back-requires-clause-made
 take_all_back-requires-clause-made c =

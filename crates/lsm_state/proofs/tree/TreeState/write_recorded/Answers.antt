@@ -1,0 +1,65 @@
+use Rattle.std.proofs.Common.{◌≡◌, ap, sym, subst, ◌∙◌, refl, rules, ⊎_elim, inr, Err}
+use Rattle.lsm_below.specs.declared.error.Error.TheVariants.{OutOfMemory, CommitUnknown}
+use Rattle.lsm_state.specs.Core.{Core}
+use Rattle.lsm_state.specs.Commits.{Upholds}
+use Rattle.lsm_state.specs.Held.{put_all_first}
+use Rattle.lsm_state.specs.Kept.{KeepsIds}
+use Rattle.lsm_state.specs.Recording.{WritesRecorded, RecordsBatch}
+use Rattle.lsm_state.proofs.Kept.{kept_put_all}
+use Rattle.lsm_state.proofs.Upholding.{upheld_still}
+use Rattle.lsm_state.proofs.BehindRecords.{put_upholds, recorded, refused, batch_refused}
+use Rattle.lsm_state.proofs.tree.TreeState.write_recorded.Goals as goal
+
+pub returns-in_err-content-clause-upholds : goal.returns-in_err-content-clause-upholds
+returns-in_err-content-clause-upholds g c tells =
+    let w = g.S.Store.world in
+    let i = c.self.inside in
+    let old : Core = record { config = i.config; memtables = i.memtables; history = i.history; next_memtable = i.next_memtable; next_table = i.next_table; next_job = i.next_job; moment = i.moment; seqno = i.seqno; visible_seqno = i.visible_seqno; flush = i.flush; lost = i.lost; merges = i.merges } in
+    subst (λ t. Upholds (w t.store) (w t.store) t.core t.core) c.self.view_is (upheld_still (w i.store) old old refl refl (c.crashes_leave_versions.ensures tells))
+
+pub invariant_of-self : goal.invariant_of-self
+invariant_of-self g c =
+    let i = c.self.inside in
+    (subst (λ ts. KeepsIds ts i.history i.next_memtable) (sym c.in-Ok.ensures.ok) (kept_put_all c.in_ok-content.entries.items i.memtables i.history i.next_memtable c.self.invariant.0), c.self.invariant.1)
+
+pub returns-in-Ok-clause-writes : goal.returns-in-Ok-clause-writes
+returns-in-Ok-clause-writes g c =
+    let i = c.self.inside in
+    let old : Core = record { config = i.config; memtables = i.memtables; history = i.history; next_memtable = i.next_memtable; next_table = i.next_table; next_job = i.next_job; moment = i.moment; seqno = i.seqno; visible_seqno = i.visible_seqno; flush = i.flush; lost = i.lost; merges = i.merges } in
+    rw (← c.self.view_is) (recorded c.args.ops.items old c.get-number.result c.set.new.self c.fetch_max.new.self c.put_recorded-put.new.memtables c.self.invariant.0.active c.get-number.ensures c.in_ok-content.ensures.accepted
+    (c.in-Ok.ensures.ok ∙ ap (λ es. put_all_first es i.memtables) c.in_ok-content.ensures.entries) c.set.ensures c.fetch_max.ensures)
+
+pub returns-in-Ok-clause-upholds : goal.returns-in-Ok-clause-upholds
+returns-in-Ok-clause-upholds g c tells =
+    let w = g.S.Store.world in
+    let i = c.self.inside in
+    let old : Core = record { config = i.config; memtables = i.memtables; history = i.history; next_memtable = i.next_memtable; next_table = i.next_table; next_job = i.next_job; moment = i.moment; seqno = i.seqno; visible_seqno = i.visible_seqno; flush = i.flush; lost = i.lost; merges = i.merges } in
+    let new : Core = record old { memtables = c.put_recorded-put.new.memtables; seqno = c.set.new.self; visible_seqno = c.fetch_max.new.self } in
+    subst (λ t. Upholds (w t.store) (w c.put_recorded-put.new.store) t.core new) c.self.view_is (put_upholds (w i.store) (w c.put_recorded-put.new.store) old new (c.in-Ok.ensures.records tells).spares refl refl refl)
+
+pub returns-in-Err-CommitUnknown-clause-upholds : goal.returns-in-Err-CommitUnknown-clause-upholds
+returns-in-Err-CommitUnknown-clause-upholds g c tells =
+    let w = g.S.Store.world in
+    let i = c.self.inside in
+    let old : Core = record { config = i.config; memtables = i.memtables; history = i.history; next_memtable = i.next_memtable; next_table = i.next_table; next_job = i.next_job; moment = i.moment; seqno = i.seqno; visible_seqno = i.visible_seqno; flush = i.flush; lost = i.lost; merges = i.merges } in
+    let new : Core = record old { memtables = c.put_recorded-put.new.memtables; seqno = c.set-in-Err-CommitUnknown.new.self } in
+    subst (λ t. Upholds (w t.store) (w c.put_recorded-put.new.store) t.core new) c.self.view_is (put_upholds (w i.store) (w c.put_recorded-put.new.store) old new (c.in-Err-CommitUnknown.ensures.records tells).spares refl refl refl)
+
+pub returns : goal.returns
+returns g c =
+    let w = g.S.Store.world in
+    let i = c.self.inside in
+    let e = c.in-Err.error in
+    let w' = w c.put_recorded-put.new.store in
+    let old : Core = record { config = i.config; memtables = i.memtables; history = i.history; next_memtable = i.next_memtable; next_table = i.next_table; next_job = i.next_job; moment = i.moment; seqno = i.seqno; visible_seqno = i.visible_seqno; flush = i.flush; lost = i.lost; merges = i.merges } in
+    let isnt : e ≡ CommitUnknown → ⊥ = search rules in
+    let short : e ≡ OutOfMemory = ⊎_elim (λ m. m) (λ u. absurd (isnt u)) c.in-Err.ensures.only in
+    let new : Core = record old { memtables = c.put_recorded-put.new.memtables } in
+    let same : new ≡ old = ap (λ ts. record old { memtables = ts }) c.in-Err.ensures.err in
+    let writes : WritesRecorded c.args.ops.items (Err e) old new = subst (λ k. WritesRecorded c.args.ops.items (Err e) old k) (sym same) (refused c.args.ops.items old c.get-number.result e c.get-number.ensures isnt (inr short)) in
+    record {
+      writes = subst (λ t. WritesRecorded c.args.ops.items (Err e) t.core new) c.self.view_is writes;
+      records = λ tells. subst (λ t. RecordsBatch t.core.seqno c.args.ops.items (w t.store) w' (Err e)) c.self.view_is
+          (subst (λ n. RecordsBatch n c.args.ops.items (w i.store) w' (Err e)) c.get-number.ensures (batch_refused c.get-number.result c.deref.result.now c.args.ops.items (w i.store) w' e short (c.in-Err.ensures.records tells)));
+      upholds = λ tells. subst (λ t. Upholds (w t.store) w' t.core new) c.self.view_is (put_upholds (w i.store) w' old new (c.in-Err.ensures.records tells).spares refl refl refl);
+    }

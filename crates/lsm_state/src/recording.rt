@@ -1,0 +1,101 @@
+// Writes whose record is put first.
+ghost use Rattle.std.specs.Prelude.{◌≡◌, ◌⊎◌, None, Some, IfOk, IfErr, OnOk, OnErr};
+ghost use Rattle.std.specs.List.{AllByRecursion};
+ghost use Rattle.lsm_tables.specs.Image.{Fits};
+ghost use Rattle.lsm_model.specs.Ops.{op_entries};
+ghost use Rattle.lsm_log.specs.Records.{IsRecordOf};
+ghost use Rattle.lsm_state.specs.Held.{put_all_first};
+ghost use Rattle.lsm_state.specs.Refusals.{batch_refusal};
+ghost use Rattle.lsm_state.specs.Recording.{Records, RecordsBatch, WritesRecorded};
+ghost use Rattle.lsm_state.specs.Commits.{Upholds};
+
+use crate::writes::{check_batch, make_entries};
+use crate::{Memtables, TreeState};
+use lsm_below::{InternalValue, SeqNo, UserKey};
+use lsm_files::crashes_leave_versions;
+use lsm_log::{encode, put_record};
+use lsm_model::Op;
+use lsm_parts::Error;
+use lsm_store::Store;
+use std::alloc::Global;
+
+/// The record of a batch, and its entries: all that a write needs beside the memtable.
+fn prepare(
+    alloc: Global,
+    number: SeqNo,
+    ops: Vec<(UserKey, Op)>,
+) -> Result<(Vec<u8>, Vec<InternalValue>), Error>
+    ensures record_of { IfOk result (λ p. IsRecordOf number ops.items p.0.items) }
+    ensures entries { IfOk result (λ p. p.1.items ≡ op_entries number ops.items) }
+    ensures accepted { OnOk result (batch_refusal number ops.items ≡ None) }
+    ensures err { IfErr result (λ e. (batch_refusal number ops.items ≡ Some e) ⊎ (e ≡ Error.OutOfMemory)) }
+{
+    check_batch(alloc, number, &ops)?;
+    let content = encode(alloc, number, &ops)?;
+    let entries = make_entries(alloc, number, ops)?;
+    Ok((content, entries))
+}
+
+/// Puts entries into the active memtable, once this record is put. They stand there before, so that no growth is refused
+/// behind the record, and are taken back where it is refused.
+fn put_recorded<S: Store>(
+    memtables: &mut Memtables,
+    store: &mut S,
+    number: SeqNo,
+    content: &[u8],
+    entries: Vec<InternalValue>,
+) -> Result<(), Error>
+    requires { AllByRecursion Fits entries.items }
+    ensures ok { OnOk result (memtables.new ≡ put_all_first entries.items memtables.old) }
+    ensures err { OnErr result (memtables.new ≡ memtables.old) }
+    ensures records { S.tells → Records number content.now (S.world store.old) (S.world store.new) result }
+    ensures only { IfErr result (λ e. (e ≡ Error.OutOfMemory) ⊎ (e ≡ Error.CommitUnknown)) }
+{
+    crashes_leave_versions(store);
+    let batch = memtables.insert_all_revocably(entries)?;
+    if let Err(error) = put_record(store, number, content) {
+        memtables.take_back(batch);
+        return Err(error);
+    }
+    Ok(())
+}
+
+impl<S: Store> TreeState<S> {
+    /// `write`, behind a record of the batch: makes all growths, puts the record `log/<n>` of the number n that the batch
+    /// draws, and only then writes the batch. It is the call of a log above the tree, which asks before it whether an outcome
+    /// is unknown.
+    ///
+    /// # Errors
+    ///
+    /// As `write`, and then nothing changes, in the store too. `CommitUnknown` where putting the record failed: the number is
+    /// used, and nothing of the batch is in the tree.
+    pub fn write_recorded(&mut self, ops: Vec<(UserKey, Op)>) -> Result<SeqNo, Error>
+        ensures writes { WritesRecorded ops.items result self.old.core self.new.core }
+        ensures records { S.tells → RecordsBatch self.old.core.seqno ops.items (S.world self.old.store) (S.world self.new.store) result }
+        // What a crash leaves of the tree.
+        ensures upholds { S.tells → Upholds (S.world self.old.store) (S.world self.new.store) self.old.core self.new.core }
+    {
+        crashes_leave_versions(&self.store);
+        let number = self.seqno.get();
+        let (content, entries) = prepare(self.alloc, number, ops)?;
+        let put = put_recorded(
+            &mut self.memtables,
+            &mut self.store,
+            number,
+            &content,
+            entries,
+        );
+        match put {
+            Ok(()) => {
+                self.seqno.set(number + 1);
+                self.visible_seqno.fetch_max(number + 1);
+                Ok(number)
+            }
+            Err(Error::CommitUnknown) => {
+                self.seqno.set(number + 1);
+                Err(Error::CommitUnknown)
+            }
+            Err(error) => Err(error),
+        }
+    }
+}
