@@ -2,7 +2,7 @@
 use Rattle.std.proofs.Common.{◌≡◌, ◌⊎◌, ⊎_elim, inl, inr, ℕ, ◌+◌, ◌∷◌, List, Option, Some, None, Result, Ok, Err, IsErrOf, IfSome, max, option_to_list, refl, sym, ap, ◌∙◌, subst}
 use Rattle.lsm_below.specs.Keys.{Bytes}
 use Rattle.lsm_below.specs.declared.error.Error.{Error}
-use Rattle.lsm_below.specs.declared.error.Error.TheVariants.{OutOfMemory, CommitUnknown}
+use Rattle.lsm_below.specs.declared.error.Error.TheVariants.{OutOfMemory, Store, CommitUnknown}
 use Rattle.lsm_store.specs.World.{World, Same, LeavesOnly}
 use Rattle.lsm_model.specs.Ops.{op_entries}
 use Rattle.lsm_model.specs.declared.op.Op.{Op}
@@ -13,7 +13,7 @@ use Rattle.lsm_state.specs.Core.{Core, versions_left, written_of, written_by, wr
 use Rattle.lsm_state.specs.Commits.{Upholds, counted}
 use Rattle.lsm_state.specs.Calls.{IsWriteRun}
 use Rattle.lsm_state.specs.Refusals.{batch_refusal}
-use Rattle.lsm_state.specs.Recording.{Records, RecordsBatch, WritesRecorded}
+use Rattle.lsm_state.specs.Recording.{Records, RecordsBatch, WritesBehindRecord}
 use Rattle.lsm_state.proofs.Steps.{HasActive, write_run}
 use Rattle.lsm_state.proofs.Upholding.{upheld, among_left}
 
@@ -27,7 +27,7 @@ put_upholds w w' old new spares history lost flush stored =
 
 module _ (ops : List (Bytes × Op)) (c : Core) where
   pub recorded : (n seqno visible : ℕ) (tables : List SeenMemtable) → HasActive c → n ≡ c.seqno → batch_refusal n ops ≡ None → tables ≡ put_all_first (op_entries n ops) c.memtables → seqno ≡ n + 1 → visible ≡ max c.visible_seqno (n + 1)
-      → WritesRecorded ops (Ok n) c (record c { memtables = tables; seqno = seqno; visible_seqno = visible })
+      → WritesBehindRecord ops (Ok n) c (record c { memtables = tables; seqno = seqno; visible_seqno = visible })
   recorded n seqno visible tables h is none put next shown =
       let whole : ◌≡◌ {A = Core} (record c { memtables = tables; seqno = seqno; visible_seqno = visible }) (drawn_core (written_all (op_entries c.seqno ops) c)) = rw (put, next, shown, is) refl in
       let free : batch_refusal c.seqno ops ≡ None = ap (λ m. batch_refusal m ops) (sym is) ∙ none in
@@ -43,7 +43,7 @@ module _ (ops : List (Bytes × Op)) (c : Core) where
         memory = λ _. tt;
       }
 
-  pub doubtful : (n seqno : ℕ) → n ≡ c.seqno → batch_refusal n ops ≡ None → seqno ≡ n + 1 → WritesRecorded ops (Err CommitUnknown) c (record c { seqno = seqno })
+  pub doubtful : (n seqno : ℕ) → n ≡ c.seqno → batch_refusal n ops ≡ None → seqno ≡ n + 1 → WritesBehindRecord ops (Err CommitUnknown) c (record c { seqno = seqno })
   doubtful n seqno is none next =
       let free : batch_refusal c.seqno ops ≡ None = ap (λ m. batch_refusal m ops) (sym is) ∙ none in
       record {
@@ -55,12 +55,16 @@ module _ (ops : List (Bytes × Op)) (c : Core) where
         accepted = tt;
         doubted = λ e. free;
         told = subst (λ o. IfSome o (λ x. (◌≡◌ {A = Result ℕ Error} (Err CommitUnknown) (Err x)) ⊎ (◌≡◌ {A = Result ℕ Error} (Err CommitUnknown) (Err OutOfMemory)))) (sym free) tt;
-        memory = λ _. inr refl;
+        memory = λ _. inr (inr refl);
       }
 
-  pub refused : (n : ℕ) (e : Error) → n ≡ c.seqno → (e ≡ CommitUnknown → ⊥) → (batch_refusal n ops ≡ Some e) ⊎ (e ≡ OutOfMemory) → WritesRecorded ops (Err e) c c
+  -- a reason of the batch's own, or else what went wrong meanwhile
+  abbrev pub Why : ℕ → Error → Type 0
+  Why n e = (batch_refusal n ops ≡ Some e) ⊎ ((e ≡ OutOfMemory) ⊎ ((e ≡ Store) × (batch_refusal n ops ≡ None)))
+
+  pub refused : (n : ℕ) (e : Error) → n ≡ c.seqno → (e ≡ CommitUnknown → ⊥) → Why n e → WritesBehindRecord ops (Err e) c c
   refused n e is isnt why =
-      let why' : (batch_refusal c.seqno ops ≡ Some e) ⊎ (e ≡ OutOfMemory) = subst (λ m. (batch_refusal m ops ≡ Some e) ⊎ (e ≡ OutOfMemory)) is why in
+      let why' : Why c.seqno e = subst (λ m. Why m e) is why in
       record {
         number = tt;
         core = tt;
@@ -69,8 +73,8 @@ module _ (ops : List (Bytes × Op)) (c : Core) where
         refused = inr refl;
         accepted = tt;
         doubted = λ u. absurd (isnt (cc u));
-        told = ⊎_elim (λ (r : batch_refusal c.seqno ops ≡ Some e). subst (λ o. IfSome o (λ x. (◌≡◌ {A = Result ℕ Error} (Err e) (Err x)) ⊎ (◌≡◌ {A = Result ℕ Error} (Err e) (Err OutOfMemory)))) (sym r) (inl refl)) (λ (m : e ≡ OutOfMemory). short (batch_refusal c.seqno ops) m) why';
-        memory = λ none. ⊎_elim (λ (r : batch_refusal c.seqno ops ≡ Some e). let z : Some e ≡ None = sym r ∙ none in absurd (cc z)) (λ (m : e ≡ OutOfMemory). inl m) why';
+        told = ⊎_elim (λ (r : batch_refusal c.seqno ops ≡ Some e). subst (λ o. IfSome o (λ x. (◌≡◌ {A = Result ℕ Error} (Err e) (Err x)) ⊎ (◌≡◌ {A = Result ℕ Error} (Err e) (Err OutOfMemory)))) (sym r) (inl refl)) (λ rest. ⊎_elim (λ (m : e ≡ OutOfMemory). short (batch_refusal c.seqno ops) m) (λ free. subst (λ o. IfSome o (λ x. (◌≡◌ {A = Result ℕ Error} (Err e) (Err x)) ⊎ (◌≡◌ {A = Result ℕ Error} (Err e) (Err OutOfMemory)))) (sym free.1) tt) rest) why';
+        memory = λ none. ⊎_elim (λ (r : batch_refusal c.seqno ops ≡ Some e). let z : Some e ≡ None = sym r ∙ none in absurd (cc z)) (λ rest. ⊎_elim (λ m. inl m) (λ free. inr (inl free.0)) rest) why';
       }
     where
       short : (o : Option Error) → e ≡ OutOfMemory → IfSome o (λ x. (◌≡◌ {A = Result ℕ Error} (Err e) (Err x)) ⊎ (◌≡◌ {A = Result ℕ Error} (Err e) (Err OutOfMemory)))
@@ -83,7 +87,8 @@ pub put_ok : (number : ℕ) (bytes : Bytes) (w w' : World) (x : Unit {0}) → Pu
 put_ok number bytes w w' x puts moment spares = record {
   ok = record { leaves = puts.ok.0; any_moment = moment };
   unknown = λ u. absurd (cc u);
-  refused = λ m. absurd (cc m);
+  memory = λ m. absurd (cc m);
+  nothing = λ m. absurd (cc m);
   spares = spares;
 }
 
@@ -91,12 +96,13 @@ pub put_err : (number : ℕ) (bytes : Bytes) (w w' : World) (e : Error) → Puts
 put_err number bytes w w' e puts moment spares = record {
   ok = tt;
   unknown = λ u. record { leaves = puts.unknown u; any_moment = moment };
-  refused = λ m. puts.memory m;
+  memory = λ m. puts.memory m;
+  nothing = λ m. puts.nothing m;
   spares = spares;
 }
 
-short_of_memory : (number : ℕ) (ops : List (Bytes × Op)) (w w' : World) (e : Error) → e ≡ OutOfMemory → Same w w' → RecordsBatch number ops w w' (Err e)
-short_of_memory number ops w w' e is same = record { ok = tt; unknown = λ u. let z : OutOfMemory ≡ CommitUnknown = sym is ∙ cc u in absurd (cc z); refused = inr same }
+nothing_put : (number : ℕ) (ops : List (Bytes × Op)) (w w' : World) (e : Error) → (e ≡ CommitUnknown → ⊥) → Same w w' → RecordsBatch number ops w w' (Err e)
+nothing_put number ops w w' e isnt same = record { ok = tt; unknown = λ u. absurd (isnt (cc u)); refused = inr same }
 
-pub batch_refused : (number : ℕ) (bytes : Bytes) (ops : List (Bytes × Op)) (w w' : World) (e : Error) → e ≡ OutOfMemory → Records {T = Unit {0}} number bytes w w' (Err e) → RecordsBatch number ops w w' (Err e)
-batch_refused number bytes ops w w' e is r = short_of_memory number ops w w' e is (r.refused (ap Err is))
+pub batch_refused : (number : ℕ) (bytes : Bytes) (ops : List (Bytes × Op)) (w w' : World) (e : Error) → (e ≡ CommitUnknown → ⊥) → (e ≡ OutOfMemory) ⊎ (e ≡ Store) → Records {T = Unit {0}} number bytes w w' (Err e) → RecordsBatch number ops w w' (Err e)
+batch_refused number bytes ops w w' e isnt why r = nothing_put number ops w w' e isnt (⊎_elim (λ m. r.memory (ap Err m)) (λ s. r.nothing (ap Err s)) why)

@@ -2,7 +2,7 @@
 use Rattle.std.specs.Prelude.{◌≡◌, ◌⊎◌, ℕ, List, [], ◌∷◌, Option, Some, None, Result, Err, IfOk, IfErr, IfSome, OnOk, OnErr, IsErrOf}
 use Rattle.lsm_below.specs.Keys.{Bytes}
 use Rattle.lsm_below.specs.declared.error.Error.{Error}
-use Rattle.lsm_below.specs.declared.error.Error.TheVariants.{OutOfMemory, CommitUnknown}
+use Rattle.lsm_below.specs.declared.error.Error.TheVariants.{OutOfMemory, Store, CommitUnknown}
 use Rattle.lsm_store.specs.World.{World, Row, Only, OldOr, Same, LeavesOnly}
 use Rattle.lsm_store.specs.Synced.{Leaves}
 use Rattle.lsm_memtable.specs.declared.memtable.Revocable.{Revocable}
@@ -39,7 +39,8 @@ pub record HasPut (number : ℕ) (bytes : Bytes) (row : Row) (old new : World) :
 pub record Records {T : Type 0} (number : ℕ) (bytes : Bytes) (old new : World) (r : Result T Error) : Type 0 where
   pub ok : OnOk r (HasPut number bytes (Only (Some bytes)) old new)
   pub unknown : IsErrOf r CommitUnknown → HasPut number bytes (OldOr (old.may (record_name number)) (Some bytes)) old new
-  pub refused : IsErrOf r OutOfMemory → Same old new
+  pub memory : IsErrOf r OutOfMemory → Same old new
+  pub nothing : IsErrOf r Store → Same old new
   -- what is stored of a tree stays so
   pub spares : Spares old new
 
@@ -52,7 +53,7 @@ pub record RecordsBatch (number : ℕ) (ops : List (Bytes × Op)) (old new : Wor
 -- ---- the tree
 
 -- a batch, whose record is put first, is written under the next sequence number, all of it or none
-pub record WritesRecorded (ops : List (Bytes × Op)) (r : Result ℕ Error) (old new : Core) : Type 0 where
+pub record WritesBehindRecord (ops : List (Bytes × Op)) (r : Result ℕ Error) (old new : Core) : Type 0 where
   pub number : IfOk r (λ n. n ≡ old.seqno)
   pub core : OnOk r (new ≡ drawn_core (written_all (op_entries old.seqno ops) old))
   pub run : OnOk r (IsWriteRun (op_entries old.seqno ops) old new)
@@ -62,6 +63,6 @@ pub record WritesRecorded (ops : List (Bytes × Op)) (r : Result ℕ Error) (old
   -- no reason holds then to refuse the batch
   pub accepted : OnOk r (batch_refusal old.seqno ops ≡ None)
   pub doubted : IsErrOf r CommitUnknown → batch_refusal old.seqno ops ≡ None
-  -- where a reason holds the first one is told, unless memory is missing; where none holds, memory may be, or the record's outcome unknown
+  -- where a reason holds the first one is told, unless memory is missing; where none holds, memory may be, or the store failed
   pub told : IfSome (batch_refusal old.seqno ops) (λ x. (r ≡ Err x) ⊎ (r ≡ Err OutOfMemory))
-  pub memory : batch_refusal old.seqno ops ≡ None → IfErr r (λ x. (x ≡ OutOfMemory) ⊎ (x ≡ CommitUnknown))
+  pub memory : batch_refusal old.seqno ops ≡ None → IfErr r (λ x. (x ≡ OutOfMemory) ⊎ (x ≡ Store) ⊎ (x ≡ CommitUnknown))

@@ -1,12 +1,13 @@
 // Writes whose record is put first.
-ghost use Rattle.std.specs.Prelude.{◌≡◌, ◌⊎◌, None, Some, IfOk, IfErr, OnOk, OnErr};
+ghost use Rattle.std.specs.Prelude.{◌≡◌, ◌⊎◌, None, Some, IfOk, IfErr, OnOk, OnErr, IsSome};
 ghost use Rattle.std.specs.List.{AllByRecursion};
 ghost use Rattle.lsm_tables.specs.Image.{Fits};
 ghost use Rattle.lsm_model.specs.Ops.{op_entries};
+ghost use Rattle.lsm_files.specs.Stored.{CountsFaults};
 ghost use Rattle.lsm_log.specs.Records.{IsRecordOf};
 ghost use Rattle.lsm_state.specs.Held.{put_all_first};
 ghost use Rattle.lsm_state.specs.Refusals.{batch_refusal};
-ghost use Rattle.lsm_state.specs.Recording.{Records, RecordsBatch, WritesRecorded};
+ghost use Rattle.lsm_state.specs.Recording.{Records, RecordsBatch, WritesBehindRecord};
 ghost use Rattle.lsm_state.specs.Commits.{Upholds};
 
 use crate::writes::{check_batch, make_entries};
@@ -38,7 +39,7 @@ fn prepare(
 
 /// Puts entries into the active memtable, once this record is put. They stand there before, so that no growth is refused
 /// behind the record, and are taken back where it is refused.
-fn put_recorded<S: Store>(
+fn put_behind_record<S: Store>(
     memtables: &mut Memtables,
     store: &mut S,
     number: SeqNo,
@@ -49,7 +50,8 @@ fn put_recorded<S: Store>(
     ensures ok { OnOk result (memtables.new ≡ put_all_first entries.items memtables.old) }
     ensures err { OnErr result (memtables.new ≡ memtables.old) }
     ensures records { S.tells → Records number content.now (S.world store.old) (S.world store.new) result }
-    ensures only { IfErr result (λ e. (e ≡ Error.OutOfMemory) ⊎ (e ≡ Error.CommitUnknown)) }
+    ensures only { IfErr result (λ e. (e ≡ Error.OutOfMemory) ⊎ (e ≡ Error.Store) ⊎ (e ≡ Error.CommitUnknown)) }
+    ensures counts { CountsFaults (S.world store.old) (S.world store.new) result }
 {
     crashes_leave_versions(store);
     let batch = memtables.insert_all_revocably(entries)?;
@@ -67,18 +69,28 @@ impl<S: Store> TreeState<S> {
     ///
     /// # Errors
     ///
-    /// As `write`, and then nothing changes, in the store too. `CommitUnknown` where putting the record failed: the number is
-    /// used, and nothing of the batch is in the tree.
-    pub fn write_recorded(&mut self, ops: Vec<(UserKey, Op)>) -> Result<SeqNo, Error>
-        ensures writes { WritesRecorded ops.items result self.old.core self.new.core }
+    /// As `write`, with no store call, and `Store` where putting the record failed and is known to have done nothing: then nothing
+    /// changes, in the store too, and no number is used. `CommitUnknown` where putting it failed otherwise: the number is used, and
+    /// nothing of the batch is in the tree.
+    ///
+    /// # Examples
+    ///
+    /// ```text
+    /// let number = tree.write_behind_record(vec![in alloc; (key, Op::Set(value))]?)?;
+    /// ```
+    pub fn write_behind_record(&mut self, ops: Vec<(UserKey, Op)>) -> Result<SeqNo, Error>
+        ensures writes { WritesBehindRecord ops.items result self.old.core self.new.core }
         ensures records { S.tells → RecordsBatch self.old.core.seqno ops.items (S.world self.old.store) (S.world self.new.store) result }
+        ensures no_call { IsSome (batch_refusal self.old.core.seqno ops.items) → self.new.store ≡ self.old.store }
+        // A call of the store failed exactly where the answer says so.
+        ensures counts { CountsFaults (S.world self.old.store) (S.world self.new.store) result }
         // What a crash leaves of the tree.
         ensures upholds { S.tells → Upholds (S.world self.old.store) (S.world self.new.store) self.old.core self.new.core }
     {
         crashes_leave_versions(&self.store);
         let number = self.seqno.get();
         let (content, entries) = prepare(self.alloc, number, ops)?;
-        let put = put_recorded(
+        let put = put_behind_record(
             &mut self.memtables,
             &mut self.store,
             number,

@@ -1,5 +1,5 @@
 use Rattle.lsm_state.proofs.BehindRecords.{put_ok, put_err}
-use Rattle.lsm_state.proofs.recording.put_recorded.Goals as goal
+use Rattle.lsm_state.proofs.recording.put_behind_record.Goals as goal
 
 pub returns-in-Err-clause-records : goal.returns-in-Err-clause-records
 returns-in-Err-clause-records g c tells =
