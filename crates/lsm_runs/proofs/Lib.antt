@@ -29,9 +29,7 @@ pub mod CallDeeds
 pub mod FlushDeeds
 pub mod MergeDeeds
 pub mod RunDeeds
-pub mod Crashed
-pub mod Living
-pub mod LifeAfterLife
+pub mod Chains
 pub mod Notes
 pub mod Made
 pub mod Naming

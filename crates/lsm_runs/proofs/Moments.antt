@@ -37,9 +37,9 @@ use Rattle.lsm_runs.specs.declared.steps.Step.TheVariants as step
 use Rattle.lsm_runs.specs.declared.steps.Reply.{Reply}
 use Rattle.lsm_runs.specs.declared.steps.Reply.TheVariants as reply
 use Rattle.lsm_runs.specs.Compacting.{Strategies}
-use Rattle.lsm_runs.specs.Crashes.{Watched, RanWatched}
+use Rattle.lsm_runs.specs.Chains.{Point, RanAlong, RanTo}
 use Rattle.lsm_runs.specs.Notes.{sealed_noted, flushed_noted, none_begun}
-use Rattle.lsm_runs.specs.Moments.{job_noted, lost_noted, alone_noted, noted_of, RanAlong, outcome_of, outcomes_of, Reopens, FindsPlaced, StandsAfter, EachReady, HasMoments, TellsSo, GoesOn, RunHasMoments}
+use Rattle.lsm_runs.specs.Moments.{job_noted, lost_noted, alone_noted, noted_of, outcome_of, outcomes_of, Reopens, FindsPlaced, StandsAfter, EachReady, HasMoments, TellsSo, GoesOn, RunHasMoments}
 use Rattle.lsm_runs.specs.Noting.{sealed_note, sealed_behind, flushed_note, job_notes, lost_note, alone_notes, notes_of, ids_in}
 use Rattle.lsm_runs.specs.Runs.{Takes, IsPlainUse, without_low_reads}
 use Rattle.lsm_runs.specs.Slots.{Stage, at_first, Closes}
@@ -131,35 +131,16 @@ take_all : {A : Type 0} (xs : List A) → take (length xs) xs ≡ xs
 take_all [] = refl
 take_all (x ∷ xs) = ap (λ ys. x ∷ ys) (take_all xs)
 
-module _ (laws : KeepLaws) (strategies : Strategies) (opened : List Entry) (start : Map) {F W : Type 0} (world : F → World) (gives : W → ℕ → W → Type 0) where
-  -- ---- the chain of a run that was watched
-
-  abbrev pub points_of : (xs : List Call) (ts : List Told) (old new : Watched F W) → RanWatched world gives strategies xs ts old new → List (Watched F W)
-  points_of [] ts old new r = []
-  points_of (x ∷ xs) [] old new r = []
-  points_of (x ∷ xs) (t ∷ ts) old new r = r.0 ∷ points_of xs ts r.0 new r.4
-
-  ran_along : (xs : List Call) (ts : List Told) (old new : Watched F W) (r : RanWatched world gives strategies xs ts old new) → RanAlong world gives strategies xs ts old (points_of xs ts old new r)
-  ran_along [] [] old new r = tt
-  ran_along [] (t ∷ ts) old new r = absurd r
-  ran_along (x ∷ xs) [] old new r = absurd r
-  ran_along (x ∷ xs) (t ∷ ts) old new r = (r.1, r.2, r.3, ran_along xs ts r.0 new r.4)
-
-  ends : (xs : List Call) (ts : List Told) (old new : Watched F W) (r : RanWatched world gives strategies xs ts old new) → last_of old (points_of xs ts old new r) ≡ new
-  ends [] [] old new r = sym r
-  ends [] (t ∷ ts) old new r = absurd r
-  ends (x ∷ xs) [] old new r = absurd r
-  ends (x ∷ xs) (t ∷ ts) old new r = ends xs ts r.0 new r.4
-
+module _ (laws : KeepLaws) (strategies : Strategies) (opened : List Entry) (start : Map) {F : Type 0} (world : F → World) where
   -- ---- trees
 
   abbrev tree_at : Past → Core → Saved
   tree_at past c = saved_of past.journal past.notes c
 
-  abbrev place_at : Past → Watched F W → Place F
+  abbrev place_at : Past → Point F → Place F
   place_at past p = record { store = p.store; tree = tree_at past p.stage.core }
 
-  abbrev places : List Call → List Told → Past → Watched F W → List (Watched F W) → List (Place F)
+  abbrev places : List Call → List Told → Past → Point F → List (Point F) → List (Place F)
   places (x ∷ xs) (t ∷ ts) past old (mid ∷ points) = let next = after opened past (outcome_of x t old.stage) in place_at next mid ∷ places xs ts next mid points
   places xs ts past old points = []
 
@@ -171,13 +152,13 @@ module _ (laws : KeepLaws) (strategies : Strategies) (opened : List Entry) (star
       (λ right order. step_deeds laws strategies opened start journal notes x t.reply t.entries old new plain right marked order takes)
 
   -- while nothing is done a crash leaves one of the tree's versions
-  now_found : (past : Past) (p : Watched F W) → IsStored (world p.store) (versions_left p.stage.core) (written_of p.stage.core) → Upholds (world p.store) (world p.store) p.stage.core p.stage.core
+  now_found : (past : Past) (p : Point F) → IsStored (world p.store) (versions_left p.stage.core) (written_of p.stage.core) → Upholds (world p.store) (world p.store) p.stage.core p.stage.core
       → LeavesNow (world p.store) (FindsAmong FindsPlaced (λ tables. IsIn tables (versions (tree_at past p.stage.core))))
   now_found past p stored still image since =
       let h = (still.files stored).1.each image since in
       (placed_of h.0.levels, found_of h.0 image h.2, placed_in_map h.0 (versions_left p.stage.core) (⊎_elim (λ i. i) (λ i. i) (in_either h.0 (versions_left p.stage.core) (versions_left p.stage.core) h.1)))
 
-  does : (x : Call) (t : Told) (journal : List Event) (past : Past) (old mid : Watched F W) → without_low_reads opened journal ≡ past.journal → (x ≡ ClearActiveMemtable → ⊥) → AreMarked journal old.stage.jobs → Takes strategies x t.reply t.entries old.stage mid.stage
+  does : (x : Call) (t : Told) (journal : List Event) (past : Past) (old mid : Point F) → without_low_reads opened journal ≡ past.journal → (x ≡ ClearActiveMemtable → ⊥) → AreMarked journal old.stage.jobs → Takes strategies x t.reply t.entries old.stage mid.stage
       → IsStored (world old.store) (versions_left old.stage.core) (written_of old.stage.core) → Upholds (world old.store) (world mid.store) old.stage.core mid.stage.core → Upholds (world mid.store) (world mid.store) mid.stage.core mid.stage.core
       → IsRightThere opened start (tree_at past old.stage.core) → InOrder opened (after opened past (outcome_of x t old.stage)).journal → DoesCall FindsPlaced world opened (outcome_of x t old.stage) (place_at past old) (place_at (after opened past (outcome_of x t old.stage)) mid)
   does x t journal past old mid e plain marked takes stored upholds still right order =
@@ -209,72 +190,60 @@ module _ (laws : KeepLaws) (strategies : Strategies) (opened : List Entry) (star
 
   -- ---- the first so many steps
 
-  each_does : (many : ℕ) (xs : List Call) (ts : List Told) (journal : List Event) (past : Past) (old new : Watched F W) (r : RanWatched world gives strategies xs ts old new) → without_low_reads opened journal ≡ past.journal → IsPlainUse (take many xs) → AreMarked journal old.stage.jobs
-      → IsStored (world old.store) (versions_left old.stage.core) (written_of old.stage.core)
-      → EachDoes FindsPlaced world opened start (take many (outcomes_of xs ts old (points_of xs ts old new r))) (place_at past old) (take many (places xs ts past old (points_of xs ts old new r)))
-  each_does zero xs ts journal past old new r e plain marked stored = tt
-  each_does (suc many) [] [] journal past old new r e plain marked stored = tt
-  each_does (suc many) [] (t ∷ ts) journal past old new r e plain marked stored = absurd r
-  each_does (suc many) (x ∷ xs) [] journal past old new r e plain marked stored = absurd r
-  each_does (suc many) (x ∷ xs) (t ∷ ts) journal past old new r e plain marked stored =
-      let mid = r.0 in
+  each_does : (many : ℕ) (xs : List Call) (ts : List Told) (journal : List Event) (past : Past) (old : Point F) (points : List (Point F)) → RanAlong world strategies xs ts old points → without_low_reads opened journal ≡ past.journal → IsPlainUse (take many xs) → AreMarked journal old.stage.jobs
+      → IsStored (world old.store) (versions_left old.stage.core) (written_of old.stage.core) → EachDoes FindsPlaced world opened start (take many (outcomes_of xs ts old points)) (place_at past old) (take many (places xs ts past old points))
+  each_does zero xs ts journal past old points r e plain marked stored = tt
+  each_does (suc many) [] [] journal past old [] r e plain marked stored = tt
+  each_does (suc many) (x ∷ xs) (t ∷ ts) journal past old (mid ∷ points) r e plain marked stored =
       let next = after opened past (outcome_of x t old.stage) in
       let e' : without_low_reads opened (journal ++ t.entries) ≡ next.journal = without-append opened journal t.entries ∙ ap (λ b. b ++ without_low_reads opened t.entries) e in (
-        does x t journal past old mid e (λ is. plain (inl is)) marked r.1 stored r.2.upholds r.2.stays,
-        each_does many xs ts (journal ++ t.entries) next mid new r.4 e' (λ i. plain (inr i)) (takes_marked laws.compactions strategies x t.reply journal t.entries old.stage mid.stage r.1 marked) (r.2.upholds.files stored).0,
+        does x t journal past old mid e (λ is. plain (inl is)) marked r.0 stored r.1.upholds r.1.stays,
+        each_does many xs ts (journal ++ t.entries) next mid points r.2 e' (λ i. plain (inr i)) (takes_marked laws.compactions strategies x t.reply journal t.entries old.stage mid.stage r.0 marked) (r.1.upholds.files stored).0,
       )
+  each_does (suc many) xs ts journal past old points r e plain marked stored = absurd r
 
   -- the stores of the places are those of the chain, and so is the last place
-  stores_same : (many : ℕ) (xs : List Call) (ts : List Told) (past : Past) (old new : Watched F W) (r : RanWatched world gives strategies xs ts old new)
-      → map (λ p. p.store) (take many (places xs ts past old (points_of xs ts old new r))) ≡ map (λ p. p.store) (take many (points_of xs ts old new r))
-  stores_same zero xs ts past old new r = refl
-  stores_same (suc many) [] [] past old new r = refl
-  stores_same (suc many) [] (t ∷ ts) past old new r = absurd r
-  stores_same (suc many) (x ∷ xs) [] past old new r = absurd r
-  stores_same (suc many) (x ∷ xs) (t ∷ ts) past old new r = ap (λ ss. r.0.store ∷ ss) (stores_same many xs ts (after opened past (outcome_of x t old.stage)) r.0 new r.4)
+  stores_same : (many : ℕ) (xs : List Call) (ts : List Told) (past : Past) (old : Point F) (points : List (Point F)) → RanAlong world strategies xs ts old points → map (λ p. p.store) (take many (places xs ts past old points)) ≡ map (λ p. p.store) (take many points)
+  stores_same zero xs ts past old points r = refl
+  stores_same (suc many) [] [] past old [] r = refl
+  stores_same (suc many) (x ∷ xs) (t ∷ ts) past old (mid ∷ points) r = ap (λ ss. mid.store ∷ ss) (stores_same many xs ts (after opened past (outcome_of x t old.stage)) mid points r.2)
+  stores_same (suc many) xs ts past old points r = absurd r
 
-  last_same : (many : ℕ) (xs : List Call) (ts : List Told) (past : Past) (old new : Watched F W) (r : RanWatched world gives strategies xs ts old new)
-      → last_of (place_at past old) (take many (places xs ts past old (points_of xs ts old new r))) ≡ place_at (after_all opened past (take many (outcomes_of xs ts old (points_of xs ts old new r)))) (last_of old (take many (points_of xs ts old new r)))
-  last_same zero xs ts past old new r = refl
-  last_same (suc many) [] [] past old new r = refl
-  last_same (suc many) [] (t ∷ ts) past old new r = absurd r
-  last_same (suc many) (x ∷ xs) [] past old new r = absurd r
-  last_same (suc many) (x ∷ xs) (t ∷ ts) past old new r = last_same many xs ts (after opened past (outcome_of x t old.stage)) r.0 new r.4
+  last_same : (many : ℕ) (xs : List Call) (ts : List Told) (past : Past) (old : Point F) (points : List (Point F)) → RanAlong world strategies xs ts old points
+      → last_of (place_at past old) (take many (places xs ts past old points)) ≡ place_at (after_all opened past (take many (outcomes_of xs ts old points))) (last_of old (take many points))
+  last_same zero xs ts past old points r = refl
+  last_same (suc many) [] [] past old [] r = refl
+  last_same (suc many) (x ∷ xs) (t ∷ ts) past old (mid ∷ points) r = last_same many xs ts (after opened past (outcome_of x t old.stage)) mid points r.2
+  last_same (suc many) xs ts past old points r = absurd r
 
   -- the files stay stored
-  stays_stored : (many : ℕ) (xs : List Call) (ts : List Told) (old new : Watched F W) (r : RanWatched world gives strategies xs ts old new) → IsStored (world old.store) (versions_left old.stage.core) (written_of old.stage.core)
-      → let last = last_of old (take many (points_of xs ts old new r)) in IsStored (world last.store) (versions_left last.stage.core) (written_of last.stage.core)
-  stays_stored zero xs ts old new r stored = stored
-  stays_stored (suc many) [] [] old new r stored = stored
-  stays_stored (suc many) [] (t ∷ ts) old new r stored = absurd r
-  stays_stored (suc many) (x ∷ xs) [] old new r stored = absurd r
-  stays_stored (suc many) (x ∷ xs) (t ∷ ts) old new r stored = stays_stored many xs ts r.0 new r.4 (r.2.upholds.files stored).0
+  stays_stored : (many : ℕ) (xs : List Call) (ts : List Told) (old : Point F) (points : List (Point F)) → RanAlong world strategies xs ts old points → IsStored (world old.store) (versions_left old.stage.core) (written_of old.stage.core)
+      → let last = last_of old (take many points) in IsStored (world last.store) (versions_left last.stage.core) (written_of last.stage.core)
+  stays_stored zero xs ts old points r stored = stored
+  stays_stored (suc many) [] [] old [] r stored = stored
+  stays_stored (suc many) (x ∷ xs) (t ∷ ts) old (mid ∷ points) r stored = stays_stored many xs ts mid points r.2 (r.1.upholds.files stored).0
+  stays_stored (suc many) xs ts old points r stored = absurd r
 
   -- and each store stays ready, also in a step
   module _ (ready : StoredIsReady F world) (only : OnlyNow world) (once : FoundOnce) where
-    each_ready : (xs : List Call) (ts : List Told) (old new : Watched F W) (r : RanWatched world gives strategies xs ts old new) → IsStored (world old.store) (versions_left old.stage.core) (written_of old.stage.core)
-        → EachReady world old.store (map (λ p. p.store) (points_of xs ts old new r))
-    each_ready [] [] old new r stored = stored_stays_ready world ready only old.store old.stage.core stored
-    each_ready [] (t ∷ ts) old new r stored = absurd r
-    each_ready (x ∷ xs) [] old new r stored = absurd r
-    each_ready (x ∷ xs) (t ∷ ts) old new r stored =
-        let mid = r.0 in (
-          stored_stays_ready world ready only old.store old.stage.core stored,
-          step_ready world ready only once x t.reply old.store mid.store old.stage.core mid.stage.core (λ certain. takes_one strategies x t.reply t.entries old.stage mid.stage certain r.1) r.2 stored,
-          each_ready xs ts mid new r.4 (r.2.upholds.files stored).0,
-        )
+    each_ready : (xs : List Call) (ts : List Told) (old : Point F) (points : List (Point F)) → RanAlong world strategies xs ts old points → IsStored (world old.store) (versions_left old.stage.core) (written_of old.stage.core) → EachReady world old.store (map (λ p. p.store) points)
+    each_ready [] [] old [] r stored = stored_stays_ready world ready only old.store old.stage.core stored
+    each_ready (x ∷ xs) (t ∷ ts) old (mid ∷ points) r stored = (
+      stored_stays_ready world ready only old.store old.stage.core stored,
+      step_ready world ready only once x t.reply old.store mid.store old.stage.core mid.stage.core (λ certain. takes_one strategies x t.reply t.entries old.stage mid.stage certain r.0) r.1 stored,
+      each_ready xs ts mid points r.2 (r.1.upholds.files stored).0,
+    )
+    each_ready xs ts old points r stored = absurd r
 
-  all_points : (xs : List Call) (ts : List Told) (old new : Watched F W) (r : RanWatched world gives strategies xs ts old new) → length (outcomes_of xs ts old (points_of xs ts old new r)) ≡ length (points_of xs ts old new r)
-  all_points [] [] old new r = refl
-  all_points [] (t ∷ ts) old new r = absurd r
-  all_points (x ∷ xs) [] old new r = absurd r
-  all_points (x ∷ xs) (t ∷ ts) old new r = ap (λ n. suc n) (all_points xs ts r.0 new r.4)
+  all_points : (xs : List Call) (ts : List Told) (old : Point F) (points : List (Point F)) → RanAlong world strategies xs ts old points → length (outcomes_of xs ts old points) ≡ length points
+  all_points [] [] old [] r = refl
+  all_points (x ∷ xs) (t ∷ ts) old (mid ∷ points) r = ap (λ n. suc n) (all_points xs ts mid points r.2)
+  all_points xs ts old points r = absurd r
 
-  all_steps : (xs : List Call) (ts : List Told) (old new : Watched F W) (r : RanWatched world gives strategies xs ts old new) → length xs ≡ length (points_of xs ts old new r)
-  all_steps [] [] old new r = refl
-  all_steps [] (t ∷ ts) old new r = absurd r
-  all_steps (x ∷ xs) [] old new r = absurd r
-  all_steps (x ∷ xs) (t ∷ ts) old new r = ap (λ n. suc n) (all_steps xs ts r.0 new r.4)
+  all_steps : (xs : List Call) (ts : List Told) (old : Point F) (points : List (Point F)) → RanAlong world strategies xs ts old points → length xs ≡ length points
+  all_steps [] [] old [] r = refl
+  all_steps (x ∷ xs) (t ∷ ts) old (mid ∷ points) r = ap (λ n. suc n) (all_steps xs ts mid points r.2)
+  all_steps xs ts old points r = absurd r
 
   -- a tree as opening left it
   begins : FlushesAreDeeds → (c : Core) → IsKeptTree c → IsOpened opened start (state_of [] c) → c.lost ≡ None → CameAbout opened start (tree_at nothing c)
@@ -289,10 +258,10 @@ module _ (laws : KeepLaws) (strategies : Strategies) (opened : List Entry) (star
         order = tt;
       }
 
-  module _ (compose : RunsCompose Reply FindsPlaced Reopens world) (shows : FoundTablesShow) (once : FoundOnce) (high : NoLowReads) (bounded : NumbersAreBounded) (xs : List Call) (ts : List Told) (old new : Watched F W) (r : RanWatched world gives strategies xs ts old new)
+  module _ (compose : RunsCompose Reply FindsPlaced Reopens world) (shows : FoundTablesShow) (once : FoundOnce) (high : NoLowReads) (bounded : NumbersAreBounded) (xs : List Call) (ts : List Told) (old : Point F) (points : List (Point F)) (r : RanAlong world strategies xs ts old points)
       (free : old.stage ≡ at_first old.stage.core) (still : Upholds (world old.store) (world old.store) old.stage.core old.stage.core) (past : Past) where
-    abbrev points : List (Watched F W)
-    points = points_of xs ts old new r
+    abbrev points : List (Point F)
+    points = points_of xs ts old points r
 
     abbrev outcomes : List (out.Told Reply)
     outcomes = outcomes_of xs ts old points
@@ -312,22 +281,22 @@ module _ (laws : KeepLaws) (strategies : Strategies) (opened : List Entry) (star
         (subst (λ (os : List (out.Told Reply)). Composed FindsPlaced (Reopens n) world opened start os (place_at past old) (take many (take many all))) os
         (compose opened start n (take many outcomes) (place_at past old) (take many all) (tables_show shows once n)
         (record { came = stands.came; now = now_found past old stands.stored still })
-        (each_does many xs ts past.journal past old new r (high opened start (tree_at past old.stage.core) stands.came) plain marked stands.stored) many
+        (each_does many xs ts past.journal past old points r (high opened start (tree_at past old.stage.core) stands.came) plain marked stands.stored) many
         (subst (λ (os : List (out.Told Reply)). AreNumbered n opened (after_all opened past os).journal) (sym os) small)
         (subst (λ (os : List (out.Told Reply)). InOrder opened (after_all opened past os).journal) (sym os) order)))
 
     has_moments : HasMoments world opened start past xs ts old points
     has_moments many plain stands order = (
-      λ n small. subst (λ ss. EachMoment (Reopens n) world opened start past (take many outcomes) old.store ss) (stores_same many xs ts past old new r) (whole many plain stands order n small).moments,
-      record { came = came; stored = stays_stored many xs ts old new r stands.stored },
+      λ n small. subst (λ ss. EachMoment (Reopens n) world opened start past (take many outcomes) old.store ss) (stores_same many xs ts past old points r) (whole many plain stands order n small).moments,
+      record { came = came; stored = stays_stored many xs ts old points r stands.stored },
     )
       where
         came : CameAbout opened start (tree_at (after_all opened past (take many outcomes)) (last_of old (take many points)).stage.core)
-        came = subst (λ (p : Place F). CameAbout opened start p.tree) (last_same many xs ts past old new r)
+        came = subst (λ (p : Place F). CameAbout opened start p.tree) (last_same many xs ts past old points r)
             (whole many plain stands order (next_number opened (after_all opened past (take many outcomes)).journal) (bounded opened (after_all opened past (take many outcomes)).journal (next_number opened (after_all opened past (take many outcomes)).journal) (omega arith))).stands.came
 
     tells_so : NotesTellSealed → TellsSo world opened start past xs ts old points
-    tells_so sealed many plain stands order = each_tells strategies opened world gives many xs ts past none_begun old points (ran_along xs ts old new r) begun known
+    tells_so sealed many plain stands order = each_tells strategies opened world many xs ts past none_begun old points r begun known
       where
         begun : AreBegun none_begun old.stage.jobs
         begun = subst (λ (s : Stage). AreBegun none_begun s.jobs) (sym free) (first_begun old.stage.core)
@@ -342,10 +311,10 @@ module _ (laws : KeepLaws) (strategies : Strategies) (opened : List Entry) (star
     goes_on : (is : F) (core : Core) → (last_of old points).store ≡ is → Closes (last_of old points).stage.core core → GoesOn world opened start past xs ts old points is core
     goes_on is core store closes plain stands order =
         let many = length points in
-        let steps_all : take many xs ≡ xs = ap (λ n. take n xs) (sym (all_steps xs ts old new r)) ∙ take_all xs in
-        let outcomes_all : take many outcomes ≡ outcomes = ap (λ n. take n outcomes) (sym (all_points xs ts old new r)) ∙ take_all outcomes in
+        let steps_all : take many xs ≡ xs = ap (λ n. take n xs) (sym (all_steps xs ts old points r)) ∙ take_all xs in
+        let outcomes_all : take many outcomes ≡ outcomes = ap (λ n. take n outcomes) (sym (all_points xs ts old points r)) ∙ take_all outcomes in
         let last = (has_moments many (subst IsPlainUse (sym steps_all) plain) stands (subst (λ (os : List (out.Told Reply)). InOrder opened (after_all opened past os).journal) (sym outcomes_all) order)).1 in
-        let there = subst (λ (ps : List (Watched F W)). StandsAfter world opened start (after_all opened past (take many outcomes)) (last_of old ps).store (last_of old ps).stage.core) (take_all points) last in
+        let there = subst (λ (ps : List (Point F)). StandsAfter world opened start (after_all opened past (take many outcomes)) (last_of old ps).store (last_of old ps).stage.core) (take_all points) last in
         let here = subst (λ (os : List (out.Told Reply)). StandsAfter world opened start (after_all opened past os) (last_of old points).store (last_of old points).stage.core) outcomes_all there in
         record {
           came = subst (λ (c : Core). CameAbout opened start (tree_at (after_all opened past outcomes) c)) (sym closes.rest) here.came;
@@ -356,22 +325,22 @@ module _ (laws : KeepLaws) (strategies : Strategies) (opened : List Entry) (star
 any_map : Map
 any_map = empty
 
-pub run_has_moments : KeepLaws → (strategies : Strategies) {F W : Type 0} (world : F → World) (gives : W → ℕ → W → Type 0) → RunsCompose Reply FindsPlaced Reopens world → FlushesAreDeeds → FoundTablesShow → FoundOnce → NoLowReads → NumbersAreBounded → NotesTellSealed → StoredIsReady F world → OnlyNow world
-    → (xs : List Call) (ts : List Told) (old new : Watched F W) → RanWatched world gives strategies xs ts old new → IsKeptTree old.stage.core → old.stage ≡ at_first old.stage.core → Upholds (world old.store) (world old.store) old.stage.core old.stage.core
-    → (is : F) (core : Core) → is ≡ new.store → Closes new.stage.core core → RunHasMoments world gives strategies xs ts (record { store = old.store; stage = at_first old.stage.core; watch = old.watch }) is core new.watch
-run_has_moments laws strategies world gives compose deeds shows once high bounded sealed ready only xs ts old new r kept free still is core store closes =
-    let here = ends laws strategies [] any_map world gives xs ts old new r in
-    let at_end : (last_of old (points_of laws strategies [] any_map world gives xs ts old new r)).store ≡ is = ap (λ (p : Watched _ _). p.store) here ∙ sym store in
-    let closed = subst (λ (c : Core). Closes c core) (sym (ap (λ (p : Watched _ _). p.stage.core) here)) closes in
-    subst (λ s. RunHasMoments world gives strategies xs ts (record { store = old.store; stage = s; watch = old.watch }) is core new.watch) free (record {
-      points = points_of laws strategies [] any_map world gives xs ts old new r;
-      ran = ran_along laws strategies [] any_map world gives xs ts old new r;
+pub run_has_moments : KeepLaws → (strategies : Strategies) {F : Type 0} (world : F → World) → RunsCompose Reply FindsPlaced Reopens world → FlushesAreDeeds → FoundTablesShow → FoundOnce → NoLowReads → NumbersAreBounded → NotesTellSealed → StoredIsReady F world → OnlyNow world
+    → (xs : List Call) (ts : List Told) (old new : Point F) → RanTo world strategies xs ts old new → IsKeptTree old.stage.core → old.stage ≡ at_first old.stage.core → Upholds (world old.store) (world old.store) old.stage.core old.stage.core
+    → (is : F) (core : Core) → is ≡ new.store → Closes new.stage.core core → RunHasMoments world strategies xs ts (record { store = old.store; stage = at_first old.stage.core }) is core
+run_has_moments laws strategies world compose deeds shows once high bounded sealed ready only xs ts old new ran kept free still is core store closes =
+    let points = ran.points in
+    let r = ran.ran in
+    let at_end : (last_of old points).store ≡ is = ap (λ (p : Point _). p.store) ran.ends ∙ sym store in
+    let closed = subst (λ (c : Core). Closes c core) (sym (ap (λ (p : Point _). p.stage.core) ran.ends)) closes in
+    subst (λ s. RunHasMoments world strategies xs ts (record { store = old.store; stage = s }) is core) free (record {
+      points = points;
+      ran = r;
       ends = at_end;
       closes = closed;
-      watched = ap (λ (p : Watched _ _). p.watch) here;
-      begins = λ opened start opens certain stored. record { came = begins laws strategies opened start world gives deeds old.stage.core kept opens certain; stored = stored };
-      moments = λ opened start past. has_moments laws strategies opened start world gives compose shows once high bounded xs ts old new r free still past;
-      ready = each_ready laws strategies [] any_map world gives ready only once xs ts old new r;
-      tells = λ opened start past. tells_so laws strategies opened start world gives compose shows once high bounded xs ts old new r free still past sealed;
-      goes_on = λ opened start past. goes_on laws strategies opened start world gives compose shows once high bounded xs ts old new r free still past is core at_end closed;
+      begins = λ opened start opens certain stored. record { came = begins laws strategies opened start world deeds old.stage.core kept opens certain; stored = stored };
+      moments = λ opened start past. has_moments laws strategies opened start world compose shows once high bounded xs ts old points r free still past;
+      ready = each_ready laws strategies [] any_map world ready only once xs ts old points r;
+      tells = λ opened start past. tells_so laws strategies opened start world compose shows once high bounded xs ts old points r free still past sealed;
+      goes_on = λ opened start past. goes_on laws strategies opened start world compose shows once high bounded xs ts old points r free still past is core at_end closed;
     })

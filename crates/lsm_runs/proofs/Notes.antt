@@ -26,7 +26,7 @@ use Rattle.lsm_runs.specs.declared.steps.Reply.{Reply}
 use Rattle.lsm_runs.specs.declared.steps.Reply.TheVariants as reply
 use Rattle.lsm_runs.specs.Adds.{Adds}
 use Rattle.lsm_runs.specs.Compacting.{Strategies, TakesBeginCompaction, TakesRunCompaction, TakesFinish, TakesAbandonCompaction, job_of}
-use Rattle.lsm_runs.specs.Crashes.{Watched}
+use Rattle.lsm_runs.specs.Chains.{Point, RanAlong}
 use Rattle.lsm_runs.specs.Flushing.{TakesRun, TakesTables, TakesRegister, TakesAbandon}
 use Rattle.lsm_runs.specs.JobSteps.{TakesJob, TakesInSlot}
 use Rattle.lsm_runs.specs.Moments.{job_noted, alone_noted, noted_of, RanAlong, outcome_of, outcomes_of}
@@ -205,9 +205,9 @@ takes_notes strategies begun x r events old new known t = refl
 
 -- ---- runs
 
-module _ (strategies : Strategies) (opened : List Entry) {F W : Type 0} (world : F → World) (gives : W → ℕ → W → Type 0) where
+module _ (strategies : Strategies) (opened : List Entry) {F : Type 0} (world : F → World) where
   -- where at each place before the end the notes tell what is sealed
-  pub each_tells : (many : ℕ) (xs : List Call) (ts : List Told) (past : Past) (begun : ℕ → List ℕ) (old : Watched F W) (points : List (Watched F W)) → RanAlong world gives strategies xs ts old points → AreBegun begun old.stage.jobs
+  pub each_tells : (many : ℕ) (xs : List Call) (ts : List Told) (past : Past) (begun : ℕ → List ℕ) (old : Point F) (points : List (Point F)) → RanAlong world strategies xs ts old points → AreBegun begun old.stage.jobs
       → ((k : ℕ) → k ≤ many → sealed_in (after_all opened past (take k (outcomes_of xs ts old points))).notes ≡ sealed_ids (last_of old (take k points)).stage.core)
       → EachTells opened past begun (take many xs) (take many (outcomes_of xs ts old points))
   each_tells zero xs ts past begun old points r known sealed = tt
@@ -216,7 +216,7 @@ module _ (strategies : Strategies) (opened : List Entry) {F W : Type 0} (world :
       let outcome = outcome_of x t old.stage in
       let next = after opened past outcome in
       let here : sealed_in past.notes ≡ sealed_ids old.stage.core = sealed 0 (omega arith) in
-      let rest = each_tells many xs ts next (begun_after (sealed_ids old.stage.core) x t.reply begun) mid points r.3 (takes_begun strategies begun x t.reply t.entries old.stage mid.stage known r.0) (λ k low. sealed (suc k) (omega (low, arith))) in
+      let rest = each_tells many xs ts next (begun_after (sealed_ids old.stage.core) x t.reply begun) mid points r.2 (takes_begun strategies begun x t.reply t.entries old.stage mid.stage known r.0) (λ k low. sealed (suc k) (omega (low, arith))) in
       subst
       (λ ids. Adds x t.reply t.entries × Notes ids begun x t.reply outcome.notes × EachTells opened next (begun_after ids x t.reply begun) (take many xs) (take many (outcomes_of xs ts mid points)))
       (sym here)

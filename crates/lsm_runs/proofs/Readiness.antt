@@ -14,7 +14,7 @@ use Rattle.lsm_state.specs.Commits.{Upholds}
 use Rattle.lsm_run_model.specs.Lives.{EndsIn, Killed, LeavesReady}
 use Rattle.lsm_runs.specs.declared.steps.Step.{Step as Call}
 use Rattle.lsm_runs.specs.declared.steps.Reply.{Reply}
-use Rattle.lsm_runs.specs.Crashes.{KeepsFiles}
+use Rattle.lsm_runs.specs.Chains.{KeepsFiles}
 use Rattle.lsm_runs.specs.Moments.{StaysReady}
 use Rattle.lsm_runs.proofs.Made.{MakesOne}
 use Rattle.lsm_runs.proofs.Members.{in_either}

@@ -1,25 +1,41 @@
 -- A run on a tree as opening left it is a life.
-use Rattle.std.proofs.Common.{ℕ, zero, suc, ◌+◌, ◌≤◌, ◌^◌, arith, List, [], ◌∷◌, map, take, length, refl}
+use Rattle.std.proofs.Common.{◌≡◌, ℕ, zero, suc, ◌+◌, ◌≤◌, ◌^◌, arith, List, [], ◌∷◌, map, take, length, refl, ap, subst, ◌∙◌}
+use Rattle.lsm_below.specs.Entries.{Entry}
 use Rattle.lsm_store.specs.World.{World}
-use Rattle.lsm_manifest.specs.Ready.{IsReady}
+use Rattle.lsm_model.specs.Journal.{Map}
+use Rattle.lsm_versions.specs.Levels.{Levels}
+use Rattle.lsm_manifest.specs.Finding.{Finds}
+use Rattle.lsm_manifest.specs.Ready.{IsReady, OpeningLeaves}
+use Rattle.lsm_state.specs.Core.{Core}
 use Rattle.lsm_run_model.specs.Outcomes.{nothing}
-use Rattle.lsm_run_model.specs.Moments.{last_of}
+use Rattle.lsm_run_model.specs.Outcomes as out
+use Rattle.lsm_run_model.specs.Moments.{EachMoment, last_of}
 use Rattle.lsm_run_model.specs.Lives.{LeavesReady}
+use Rattle.lsm_runs.specs.declared.steps.Step.{Step as Call}
+use Rattle.lsm_runs.specs.declared.steps.Reply.{Reply}
+use Rattle.lsm_runs.specs.Chains.{Point, RanAlong}
 use Rattle.lsm_runs.specs.Compacting.{Strategies}
-use Rattle.lsm_runs.specs.ManyLives.{RunsAreLives}
-use Rattle.lsm_runs.specs.Moments.{outcomes_of, EachReady}
+use Rattle.lsm_runs.specs.Lives.{StepsAreLives, Lives, told_of}
+use Rattle.lsm_runs.specs.Living.{RunsAreLives}
+use Rattle.lsm_runs.specs.Moments.{outcomes_of, EachReady, Reopens, RunHasMoments}
+use Rattle.lsm_runs.specs.Told.{Told}
 
-length_front : {A B : Type 0} (f : A → B) (many : ℕ) (xs : List A) → length (map f (take many xs)) ≤ many
-length_front f zero xs = omega arith
-length_front f (suc many) [] = omega arith
-length_front f (suc many) (x ∷ xs) = let rest = length_front f many xs in omega (rest, arith)
+map_take : {A B : Type 0} (f : A → B) (many : ℕ) (xs : List A) → map f (take many xs) ≡ take many (map f xs)
+map_take f zero xs = refl
+map_take f (suc many) [] = refl
+map_take f (suc many) (x ∷ xs) = ap (λ ys. f x ∷ ys) (map_take f many xs)
+
+length_front : {A : Type 0} (many : ℕ) (xs : List A) → length (take many xs) ≤ many
+length_front zero xs = omega arith
+length_front (suc many) [] = omega arith
+length_front (suc many) (x ∷ xs) = let rest = length_front many xs in omega (rest, arith)
 
 module _ {F : Type 0} (world : F → World) where
-  front_ready : {A : Type 0} (f : A → F) (many : ℕ) (was : F) (xs : List A) → EachReady world was (map f xs) → EachReady world was (map f (take many xs))
-  front_ready f zero was [] h = h
-  front_ready f zero was (x ∷ xs) h = h.0
-  front_ready f (suc many) was [] h = h
-  front_ready f (suc many) was (x ∷ xs) h = (h.0, h.1, front_ready f many (f x) xs h.2)
+  front_ready : (many : ℕ) (was : F) (stores : List F) → EachReady world was stores → EachReady world was (take many stores)
+  front_ready zero was [] h = h
+  front_ready zero was (is ∷ stores) h = h.0
+  front_ready (suc many) was [] h = h
+  front_ready (suc many) was (is ∷ stores) h = (h.0, h.1, front_ready many is stores h.2)
 
   -- from before the last call on
   last_ready : (answered : ℕ) (was : F) (stores : List F) → length stores ≤ answered + 1 → EachReady world was stores → LeavesReady IsReady world (last_of was (take answered stores)) (last_of was stores)
@@ -29,23 +45,49 @@ module _ {F : Type 0} (world : F → World) where
   last_ready (suc answered) was [] few h = h.1
   last_ready (suc answered) was (is ∷ stores) few h = last_ready answered is stores (omega (few, arith)) h.2
 
-pub runs_are_lives : {F W : Type 0} (world : F → World) (gives : W → ℕ → W → Type 0) (strategies : Strategies) → RunsAreLives world gives strategies
-runs_are_lives {F} world gives strategies steps told old is new seen run opened start many answered end opens certain stored plain order numbered ends all =
+pub runs_are_lives : {F : Type 0} (world : F → World) (strategies : Strategies) → RunsAreLives world strategies
+runs_are_lives {F} world strategies steps told old is new run opened start opens certain stored many answered end plain order numbered ends all =
     let stands = run.begins opened start opens certain stored in
-    let stores : List F = map (λ p. p.store) (take many run.points) in
-    let few = length_front (λ p. p.store) many run.points in
+    let every : List F = map (λ p. p.store) run.points in
+    let stores = take many every in
+    let few = length_front many every in
+    let outcomes : List (out.Told Reply) = take many (outcomes_of steps told old run.points) in
     record {
       life = record {
         opened = opened;
-        told = take many (outcomes_of steps told old run.points);
+        told = outcomes;
         known = record { starts = opens.starts; steps = take many steps; plain = plain; tells = run.tells opened start nothing many plain stands order; order = order };
         first = old.store;
         stores = stores;
-        moments = (run.moments opened start nothing many plain stands order).0 (2 ^ 63) numbered;
+        moments = subst (λ (ss : List F). EachMoment (Reopens (2 ^ 63)) world opened start nothing outcomes old.store ss) (map_take (λ (p : Point F). p.store) many run.points) ((run.moments opened start nothing many plain stands order).0 (2 ^ 63) numbered);
         answered = answered;
         ended = ends;
-        ready = λ kill. last_ready world answered old.store stores (let last = all kill in omega (few, last, arith)) (front_ready world (λ p. p.store) many old.store run.points (run.ready stored));
+        ready = λ kill. last_ready world answered old.store stores (let last = all kill in omega (few, last, arith)) (front_ready world many old.store every (run.ready stored));
       };
       told = refl;
       answered = refl;
     }
+
+-- what callers see of the outcomes
+pub told_same : {F : Type 0} (world : F → World) (strategies : Strategies) (xs : List Call) (ts : List Told) (old : Point F) (points : List (Point F)) → RanAlong world strategies xs ts old points → map told_of (outcomes_of xs ts old points) ≡ ts
+told_same world strategies [] [] old [] r = refl
+told_same world strategies (x ∷ xs) (t ∷ ts) old (mid ∷ points) r = ap (λ us. t ∷ us) (told_same world strategies xs ts mid points r.2)
+told_same world strategies xs ts old points r = absurd r
+
+stores_end : {F : Type 0} (old : Point F) (points : List (Point F)) → last_of old.store (map (λ p. p.store) points) ≡ (last_of old points).store
+stores_end old [] = refl
+stores_end old (p ∷ points) = stores_end p points
+
+-- a tree that was opened over this store, and took these steps
+pub lived : {F : Type 0} (world : F → World) (strategies : Strategies) (was : F) (opened : List Entry) (start : Map) (steps : List Call) (told : List Told) (old : Point F) (is : F) (new : Core) (run : RunHasMoments world strategies steps told old is new)
+    → ((tables : Levels) → Finds (world was).gives tables → OpeningLeaves (world was) (world old.store) tables) → StepsAreLives world opened start steps (outcomes_of steps told old run.points) old.store (map (λ p. p.store) run.points) → Lives world start steps told was is
+lived world strategies was opened start steps told old is new run opening lives = record {
+  opened = opened;
+  outcomes = outcomes_of steps told old run.points;
+  replies = told_same world strategies steps told old run.points run.ran;
+  first = old.store;
+  stores = map (λ p. p.store) run.points;
+  ends = stores_end old run.points ∙ run.ends;
+  opening = opening;
+  lives = lives;
+}

@@ -12,12 +12,10 @@ pub mod Runs
 pub mod Counting
 pub mod Unknown
 pub mod Noting
-pub mod Crashes
-pub mod Lives
-pub mod LifeAfterLife
+pub mod Chains
 pub mod Adds
 pub mod After
 pub mod Notes
 pub mod Moments
+pub mod Lives
 pub mod Living
-pub mod ManyLives

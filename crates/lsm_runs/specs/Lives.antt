@@ -1,55 +1,71 @@
--- A tree from its opening on, and what a crash leaves of it.
-use Rattle.std.specs.Prelude.{ℕ, ◌≤◌, List, []}
-use Rattle.lsm_below.specs.Entries.{Entry}
-use Rattle.lsm_store.specs.World.{World, LeavesOnly}
-use Rattle.lsm_model.specs.Journal.{Event, Map, InOrder, next_number}
-use Rattle.lsm_model.specs.Views.{held}
-use Rattle.lsm_model.specs.Beginnings.{Note, IsBeginning, covered}
-use Rattle.lsm_manifest.specs.Finding.{StandsForMap, IsSettled}
-use Rattle.lsm_state.specs.Core.{Core, latest_of}
-use Rattle.lsm_state.specs.Opened.{StartsWith}
+-- Life after life: a tree from its opening to its end, over the theory of runs.
+use Rattle.std.specs.Prelude.{◌≡◌, ℕ, ◌+◌, ◌≤◌, ◌^◌, List, [], ◌∷◌, None, map, take}
+use Rattle.std.specs.FinMap.{get}
+use Rattle.lsm_below.specs.Keys.{Bytes}
+use Rattle.lsm_below.specs.Entries.{Entry, above}
+use Rattle.lsm_store.specs.World.{World}
+use Rattle.lsm_model.specs.Journal.{Map, InOrder}
+use Rattle.lsm_model.specs.Views.{view_at}
+use Rattle.lsm_versions.specs.Levels.{Levels}
+use Rattle.lsm_manifest.specs.Finding.{Finds}
+use Rattle.lsm_manifest.specs.Ready.{IsReady, OpeningLeaves}
+use Rattle.lsm_run_model.specs.Outcomes.{nothing, after_all}
+use Rattle.lsm_run_model.specs.Outcomes as out
+use Rattle.lsm_run_model.specs.Moments.{last_of}
+use Rattle.lsm_run_model.specs.Composing.{AreNumbered}
+use Rattle.lsm_run_model.specs.Lives.{End, EndsIn, IsKill, Lived, ManyLives}
 use Rattle.lsm_runs.specs.declared.steps.Step.{Step}
-use Rattle.lsm_runs.specs.Compacting.{Strategies}
-use Rattle.lsm_runs.specs.Counting.{RunIsInOrder}
-use Rattle.lsm_runs.specs.Crashes.{HoldsBeginning, LeavesBeginnings, EachHolds}
-use Rattle.lsm_runs.specs.Runs.{RanToEnd, IsPlainUse, journal_of, without_low_reads, RunEqualsReplay, RunSparesAnswers}
-use Rattle.lsm_runs.specs.Slots.{Stage, at_first}
+use Rattle.lsm_runs.specs.declared.steps.Reply.{Reply}
+use Rattle.lsm_runs.specs.Moments.{Reopens}
+use Rattle.lsm_runs.specs.Notes.{none_begun, EachTells}
+use Rattle.lsm_runs.specs.Runs.{IsPlainUse}
 use Rattle.lsm_runs.specs.Told.{Told}
 
--- the entries that a tree was opened with
-abbrev pub opened_in : Core → List Entry
-opened_in c = held (latest_of c).tables
+-- The calls of a life on a tree that was opened with these entries, which show the map, are steps in plain use: what each adds and notes
+-- follows from its kind and its reply, and all they add is in order.
+pub record AreSteps (opened : List Entry) (start : Map) (told : List (out.Told Reply)) : Type 0 where
+  pub starts : (k : Bytes) → get start k ≡ view_at k (above opened) (opened ∷ [])
+  pub steps : List Step
+  pub plain : IsPlainUse steps
+  pub tells : EachTells opened nothing none_begun steps told
+  pub order : InOrder opened (after_all opened nothing told).journal
 
--- at each moment since then a crash leaves a beginning of the calls; since each moment that the watcher was told, and behind the
--- last call, one that holds all that was covered by then
-abbrev pub Survives : {F W : Type 0} → (F → World) → (W → ℕ → W → Type 0) → Strategies → Map → List Step → List Told → F → F → W → W → Core → Type 0
-Survives world gives strategies start steps told was is watch seen old =
-    let journal = without_low_reads (opened_in old) (journal_of told) in
-    (all : List Note) × (last : Stage) × LeavesOnly (world was) (world is) (HoldsBeginning start journal all 0)
-    × EachHolds (LeavesBeginnings (world is) start journal all) gives strategies (opened_in old) steps told (at_first old) last watch seen [] [] all
-    × LeavesBeginnings (world is) start journal all (world is).moment (covered all)
+-- From what shows one of some maps, over any number of crashes and kills: each life starts from one of the maps that the life before left
+-- open, and whatever it may leave shows one that it leaves open. What is found is numbered below 2^63, so that no opening is refused for it.
+abbrev pub AnyNumberOfLives : {F : Type 0} → (F → World) → Type 0
+AnyNumberOfLives world = ManyLives Reply AreSteps IsReady (Reopens (2 ^ 63)) world
 
--- a tree that was opened on what stands for a map, and took steps
-pub record Lives {F W : Type 0} (world : F → World) (gives : W → ℕ → W → Type 0) (strategies : Strategies) (m : Map) (steps : List Step) (told : List Told) (was is : F) (watch seen : W) (new : Core) : Type 0 where
-  -- as it opened, it showed the map
-  pub old : Core
-  pub starts : StartsWith m old
-  -- both counters stood above what was found: the order of writes begins there
-  pub counted : next_number (opened_in old) [] ≤ old.seqno
-  pub visible : next_number (opened_in old) [] ≤ old.visible_seqno
-  -- it took the steps
-  pub ran : RanToEnd strategies steps told old new
-  -- each answer is the replay's, and no step changes what it is to leave
-  pub replays : RunEqualsReplay (opened_in old) m steps told old new
-  pub spares : RunSparesAnswers strategies (opened_in old) m steps told old new
-  -- where callers keep the order by the counter and their keys, the journal is in order
-  pub in_order : RunIsInOrder strategies steps told old new
-  -- what a crash leaves at each moment since opening began
-  pub crashes : IsPlainUse steps → InOrder (opened_in old) (journal_of told) → Survives world gives strategies m steps told was is watch seen old
+-- ---- one life
 
--- what a crash left begins a life: a store that begins with it stands for a map that is a beginning of the calls before
-pub record LivesAgain (start : Map) (journal : List Event) (notes : List Note) (least : ℕ) (w : World) : Type 0 where
-  pub map : Map
-  pub begins : IsBeginning start journal notes least map
-  pub settled : IsSettled w
-  pub stands : StandsForMap w.gives map
+-- a life with these outcomes, of which the first ones had been answered when it ended
+pub record LivedSo {F : Type 0} (world : F → World) (start : Map) (outcomes : List (out.Told Reply)) (many : ℕ) (end : End F) : Type 0 where
+  pub life : Lived Reply AreSteps IsReady (Reopens (2 ^ 63)) world start end
+  pub told : life.told ≡ outcomes
+  pub answered : life.answered ≡ many
+
+-- The first so many of some steps, in plain use, in order and numbered below 2^63, are such a life, however it ended: by a crash in the steps that
+-- hadn't been answered or after them, or because the process was killed in the last one of them or after it. Behind each step there is a store.
+abbrev pub StepsAreLives : {F : Type 0} → (F → World) → (opened : List Entry) (start : Map) → List Step → List (out.Told Reply) → F → List F → Type 0
+StepsAreLives {F} world opened start steps told first stores = (many answered : ℕ) (end : End F) →
+    let outcomes = take many told in
+    let all = after_all opened nothing outcomes in
+    IsPlainUse (take many steps) → InOrder opened all.journal → AreNumbered (2 ^ 63) opened all.journal
+    → EndsIn world (world (last_of first (take answered (take many stores)))) (world (last_of first (take many stores))) end → (IsKill end → many ≤ answered + 1)
+    → LivedSo world start outcomes answered end
+
+-- what callers see of an outcome
+abbrev pub told_of : out.Told Reply → Told
+told_of o = record { reply = o.reply; entries = o.entries }
+
+-- A tree was opened on a store that stands for a map, and took steps: the first so many of them are a life.
+pub record Lives {F : Type 0} (world : F → World) (m : Map) (steps : List Step) (told : List Told) (was is : F) : Type 0 where
+  pub opened : List Entry
+  pub outcomes : List (out.Told Reply)
+  pub replies : map told_of outcomes ≡ told
+  -- the stores behind opening, and behind each step
+  pub first : F
+  pub stores : List F
+  pub ends : last_of first stores ≡ is
+  -- while it was opened a crash left what it could before, or the tables that were read
+  pub opening : (tables : Levels) → Finds (world was).gives tables → OpeningLeaves (world was) (world first) tables
+  pub lives : StepsAreLives world opened m steps outcomes first stores

@@ -1,22 +1,30 @@
--- A tree from its opening on, over the theory of runs.
-use Rattle.std.specs.Prelude.{◌≡◌, ℕ, ◌≤◌, List, [], None}
+-- A tree from its opening on, and how it goes on.
+use Rattle.std.specs.Prelude.{◌≡◌, ℕ, ◌≤◌, List, [], None, map}
+use Rattle.lsm_below.specs.Entries.{Entry}
 use Rattle.lsm_store.specs.World.{World}
 use Rattle.lsm_model.specs.Journal.{Map, next_number}
-use Rattle.lsm_versions.specs.Levels.{Levels}
-use Rattle.lsm_manifest.specs.Finding.{Finds}
-use Rattle.lsm_manifest.specs.Ready.{OpeningLeaves}
+use Rattle.lsm_model.specs.Steps.{IsOpened}
+use Rattle.lsm_model.specs.Views.{held}
 use Rattle.lsm_files.specs.Stored.{IsStored}
-use Rattle.lsm_state.specs.Core.{Core, versions_left, written_of}
+use Rattle.lsm_state.specs.Core.{Core, latest_of, state_of, versions_left, written_of}
 use Rattle.lsm_state.specs.Opened.{StartsWith}
 use Rattle.lsm_runs.specs.declared.steps.Step.{Step}
+use Rattle.lsm_runs.specs.Chains.{Point}
 use Rattle.lsm_runs.specs.Compacting.{Strategies}
-use Rattle.lsm_runs.specs.Lives.{opened_in}
-use Rattle.lsm_runs.specs.Moments.{RunHasMoments}
+use Rattle.lsm_runs.specs.Counting.{RunIsInOrder}
+use Rattle.lsm_runs.specs.Lives.{StepsAreLives}
+use Rattle.lsm_runs.specs.Moments.{outcomes_of, RunHasMoments}
+use Rattle.lsm_runs.specs.Runs.{RanToEnd, RunEqualsReplay, RunSparesAnswers}
 use Rattle.lsm_runs.specs.Slots.{at_first}
 use Rattle.lsm_runs.specs.Told.{Told}
+use Rattle.lsm_runs.specs.Unknown.{RunStops}
 
--- A tree was opened on a ready store that stands for the map, and took steps.
-pub record LivesOn {F W : Type 0} (world : F → World) (gives : W → ℕ → W → Type 0) (strategies : Strategies) (m : Map) (steps : List Step) (told : List Told) (was is : F) (watch seen : W) (new : Core) : Type 0 where
+-- the entries that a tree was opened with
+abbrev pub opened_in : Core → List Entry
+opened_in c = held (latest_of c).tables
+
+-- A tree was opened on a ready store that stands for the map, and took steps, after which it goes on.
+pub record LivesOn {F : Type 0} (world : F → World) (strategies : Strategies) (m : Map) (steps : List Step) (told : List Told) (is : F) (new : Core) : Type 0 where
   -- as it opened, it showed the map, over a store that holds its files
   pub old : Core
   pub first : F
@@ -26,7 +34,19 @@ pub record LivesOn {F W : Type 0} (world : F → World) (gives : W → ℕ → W
   -- both counters stood above what was found: the order of writes begins there
   pub counted : next_number (opened_in old) [] ≤ old.seqno
   pub visible : next_number (opened_in old) [] ≤ old.visible_seqno
-  -- meanwhile a crash left what it could before, or the tables that were read
-  pub opening : (tables : Levels) → Finds (world was).gives tables → OpeningLeaves (world was) (world first) tables
-  -- it took the steps
-  pub run : RunHasMoments world gives strategies steps told (record { store = first; stage = at_first old; watch = watch }) is new seen
+  -- it took the steps: each answer is the replay's, no step changes what it is to leave, and where callers keep the order by the counter and
+  -- their keys, the journal is in order
+  pub ran : RanToEnd strategies steps told old new
+  pub replays : RunEqualsReplay (opened_in old) m steps told old new
+  pub spares : RunSparesAnswers strategies (opened_in old) m steps told old new
+  pub in_order : RunIsInOrder strategies steps told old new
+  -- behind a commit of unknown outcome none called the store
+  pub unknown : RunStops strategies steps told first is old new
+  -- what stands at each moment, and how calls go on
+  pub moments : RunHasMoments world strategies steps told (record { store = first; stage = at_first old }) is new
+
+-- A run on a tree as opening left it, over a store that holds its files, is a life.
+abbrev pub RunsAreLives : {F : Type 0} → (F → World) → Strategies → Type 0
+RunsAreLives {F} world strategies = (steps : List Step) (told : List Told) (old : Point F) (is : F) (new : Core) (run : RunHasMoments world strategies steps told old is new) (opened : List Entry) (start : Map)
+    → IsOpened opened start (state_of [] old.stage.core) → old.stage.core.lost ≡ None → IsStored (world old.store) (versions_left old.stage.core) (written_of old.stage.core)
+    → StepsAreLives world opened start steps (outcomes_of steps told old run.points) old.store (map (λ p. p.store) run.points)

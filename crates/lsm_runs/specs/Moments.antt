@@ -29,10 +29,10 @@ use Rattle.lsm_runs.specs.declared.steps.Step.TheVariants.{RotateMemtable, AtSlo
 use Rattle.lsm_runs.specs.declared.steps.Reply.{Reply}
 use Rattle.lsm_runs.specs.declared.steps.Reply.TheVariants.{Sealed, Registered, Flushed, FlushedActive, RefusedActive, Cleared, Refused}
 use Rattle.lsm_runs.specs.Compacting.{Strategies}
-use Rattle.lsm_runs.specs.Crashes.{Watched, KeepsFiles}
+use Rattle.lsm_runs.specs.Chains.{Point, RanAlong}
 use Rattle.lsm_runs.specs.Notes.{sealed_noted, flushed_noted, none_begun, EachTells}
 use Rattle.lsm_runs.specs.Noting.{sealed_behind, ids_in}
-use Rattle.lsm_runs.specs.Runs.{Takes, IsPlainUse}
+use Rattle.lsm_runs.specs.Runs.{IsPlainUse}
 use Rattle.lsm_runs.specs.Slots.{Stage, Closes}
 use Rattle.lsm_runs.specs.Told.{Told}
 
@@ -60,24 +60,14 @@ abbrev pub noted_of : Step → Reply → Stage → List Noted
 noted_of (AtSlot slot step) reply s = job_noted step reply (s.jobs slot)
 noted_of step reply s = alone_noted step reply s.core
 
--- ---- a run along a chain
-
--- The steps, one after the other, lead along this chain with these outcomes: a tree and store for each, after the first. Each step keeps the
--- files of its trees, one that touches no store leaves it as it is, and a reply blames the store only where a call of it failed in that step;
--- and after each the watcher is told the moment of that store.
-abbrev pub RanAlong : {F W : Type 0} → (F → World) → (W → ℕ → W → Type 0) → Strategies → List Step → List Told → Watched F W → List (Watched F W) → Type 0
-RanAlong world gives strategies [] [] old [] = Unit {0}
-RanAlong world gives strategies (x ∷ xs) (t ∷ ts) old (mid ∷ points) =
-    Takes strategies x t.reply t.entries old.stage mid.stage × KeepsFiles world x t.reply old.store mid.store old.stage.core mid.stage.core × gives old.watch (world mid.store).moment mid.watch
-    × RanAlong world gives strategies xs ts mid points
-RanAlong world gives strategies xs ts old points = ⊥
+-- ---- the outcomes along a chain
 
 -- the outcome of a step
 abbrev pub outcome_of : Step → Told → Stage → out.Told Reply
 outcome_of x t s = record { reply = t.reply; entries = t.entries; notes = noted_of x t.reply s }
 
 -- those of steps that were taken along a chain
-abbrev pub outcomes_of : {F W : Type 0} → List Step → List Told → Watched F W → List (Watched F W) → List (out.Told Reply)
+abbrev pub outcomes_of : {F : Type 0} → List Step → List Told → Point F → List (Point F) → List (out.Told Reply)
 outcomes_of (x ∷ xs) (t ∷ ts) old (mid ∷ points) = outcome_of x t old.stage ∷ outcomes_of xs ts mid points
 outcomes_of xs ts old points = []
 
@@ -117,7 +107,7 @@ EachReady world was (is ∷ stores) = StaysReady world was × LeavesReady IsRead
 -- After what was called so far, of the first so many steps, where these are in plain use and the journal stays in order, whatever comes
 -- later: at each store of the chain a crash leaves a beginning of the calls so far, which holds all that is covered by then, and inside each
 -- step one of the calls up to and with it, which holds what was covered before it; and the same stands after these steps.
-abbrev pub HasMoments : {F W : Type 0} → (F → World) → (opened : List Entry) (start : Map) → Past → List Step → List Told → Watched F W → List (Watched F W) → Type 0
+abbrev pub HasMoments : {F : Type 0} → (F → World) → (opened : List Entry) (start : Map) → Past → List Step → List Told → Point F → List (Point F) → Type 0
 HasMoments world opened start past steps told old points = (many : ℕ) →
     let outcomes = take many (outcomes_of steps told old points) in
     let all = after_all opened past outcomes in
@@ -127,33 +117,28 @@ HasMoments world opened start past steps told old points = (many : ℕ) →
     × StandsAfter world opened start all last.store last.stage.core
 
 -- so it does after all of them
-abbrev pub GoesOn : {F W : Type 0} → (F → World) → (opened : List Entry) (start : Map) → Past → List Step → List Told → Watched F W → List (Watched F W) → F → Core → Type 0
+abbrev pub GoesOn : {F : Type 0} → (F → World) → (opened : List Entry) (start : Map) → Past → List Step → List Told → Point F → List (Point F) → F → Core → Type 0
 GoesOn world opened start past steps told old points is new =
     let all = after_all opened past (outcomes_of steps told old points) in
     IsPlainUse steps → StandsAfter world opened start past old.store old.stage.core → InOrder opened all.journal → StandsAfter world opened start all is new
 
 -- And what the first so many steps tell follows from their kinds and replies, and from what was noted before.
-abbrev pub TellsSo : {F W : Type 0} → (F → World) → (opened : List Entry) (start : Map) → Past → List Step → List Told → Watched F W → List (Watched F W) → Type 0
+abbrev pub TellsSo : {F : Type 0} → (F → World) → (opened : List Entry) (start : Map) → Past → List Step → List Told → Point F → List (Point F) → Type 0
 TellsSo world opened start past steps told old points = (many : ℕ) →
     let outcomes = take many (outcomes_of steps told old points) in
     IsPlainUse (take many steps) → StandsAfter world opened start past old.store old.stage.core → InOrder opened (after_all opened past outcomes).journal
     → EachTells opened past none_begun (take many steps) outcomes
 
 -- a run from one tree and store to another has a chain between them
-pub record RunHasMoments {F W : Type 0} (world : F → World) (gives : W → ℕ → W → Type 0) (strategies : Strategies) (steps : List Step) (told : List Told) (old : Watched F W) (is : F) (new : Core) (seen : W) : Type 0 where
-  pub points : List (Watched F W)
-  pub ran : RanAlong world gives strategies steps told old points
+pub record RunHasMoments {F : Type 0} (world : F → World) (strategies : Strategies) (steps : List Step) (told : List Told) (old : Point F) (is : F) (new : Core) : Type 0 where
+  pub points : List (Point F)
+  pub ran : RanAlong world strategies steps told old points
   -- jobs that wait in the end are given up, and that calls no store
   pub ends : (last_of old points).store ≡ is
   pub closes : Closes (last_of old points).stage.core new
-  pub watched : (last_of old points).watch ≡ seen
   pub begins : BeginsWith world old.store old.stage.core
   -- a process may end at any moment, in a step or between two
   pub ready : IsStored (world old.store) (versions_left old.stage.core) (written_of old.stage.core) → EachReady world old.store (map (λ p. p.store) points)
   pub moments : (opened : List Entry) (start : Map) (past : Past) → HasMoments world opened start past steps told old points
   pub tells : (opened : List Entry) (start : Map) (past : Past) → TellsSo world opened start past steps told old points
   pub goes_on : (opened : List Entry) (start : Map) (past : Past) → GoesOn world opened start past steps told old points is new
-
--- nobody is told of a run
-abbrev pub none_told : Unit {0} → ℕ → Unit {0} → Type 0
-none_told old moment new = Unit {0}

@@ -2,9 +2,10 @@
 ghost use Rattle.lsm_manifest.specs.Ready.{IsReady};
 ghost use Rattle.lsm_runs.specs.Moments.{FindsPlaced, Reopens};
 ghost use Rattle.lsm_runs.specs.Compacting.{strategies_of};
-ghost use Rattle.lsm_runs.specs.ManyLives.{AreSteps, LivesWithoutNumber, RunsAreLives};
+ghost use Rattle.lsm_runs.specs.Lives.{AreSteps, AnyNumberOfLives};
+ghost use Rattle.lsm_runs.specs.Living.{RunsAreLives};
 
-use crate::{Reply, Watch};
+use crate::Reply;
 use lsm_manifest::{crashes_settle, images_stand_once, unread_names_dont_matter};
 use lsm_pick::CompactionStrategy;
 use lsm_run_model::{Finding, Telling, lives_go_on};
@@ -37,10 +38,10 @@ impl Telling for Reply {
 /// # Examples
 ///
 /// ```text
-/// lives_without_number(&store);
+/// any_number_of_lives(&store);
 /// ```
-pub fn lives_without_number<S: Store>(store: &S)
-    ensures { LivesWithoutNumber S.world }
+pub fn any_number_of_lives<S: Store>(store: &S)
+    ensures { AnyNumberOfLives S.world }
 {
     crashes_settle(store);
     images_stand_once();
@@ -48,14 +49,14 @@ pub fn lives_without_number<S: Store>(store: &S)
     lives_go_on(store, &TreeFiles, &Reply::Done);
 }
 
-/// The first so many steps of a run on a tree as opening left it are a life, as `lives_without_number` takes it: one that ended by a
+/// The first so many steps of a run on a tree as opening left it are a life, as `any_number_of_lives` takes it: one that ended by a
 /// crash in one of them or after them, or because its process was killed in the last one of them, or ended after it.
 ///
 /// # Examples
 ///
 /// ```text
-/// runs_are_lives(&store, &watch, &strategies);
+/// runs_are_lives(&store, &strategies);
 /// ```
-pub fn runs_are_lives<S: Store, W: Watch>(_: &S, _: &W, strategies: &[Box<dyn CompactionStrategy>])
-    ensures { RunsAreLives S.world W.gives (strategies_of (λ b. may_choose b) (λ b. may_refuse b) strategies.now) }
+pub fn runs_are_lives<S: Store>(_: &S, strategies: &[Box<dyn CompactionStrategy>])
+    ensures { RunsAreLives S.world (strategies_of (λ b. may_choose b) (λ b. may_refuse b) strategies.now) }
 {}

@@ -13,11 +13,11 @@ ghost use Rattle.lsm_files.specs.Causes.{HasCause};
 ghost use Rattle.lsm_files.specs.Foreign.{Passes};
 ghost use Rattle.lsm_runs.specs.Causes.{ReplyBlames, EachHasCause};
 ghost use Rattle.lsm_runs.specs.Files.{StaysStored, LeavesFiles, StepHasCause};
-ghost use Rattle.lsm_runs.specs.Crashes.{watched, RanWatched, RunLeaves, RunRecovers};
+ghost use Rattle.lsm_runs.specs.Chains.{point, RanTo};
 ghost use Rattle.lsm_runs.specs.Compacting.{strategies_of};
 ghost use Rattle.lsm_runs.specs.Unknown.{RanUnknown, RunStops};
 ghost use Rattle.lsm_runs.specs.Slots.{at_first, beside, SameJobs};
-ghost use Rattle.lsm_runs.specs.Moments.{RunHasMoments, none_told};
+ghost use Rattle.lsm_runs.specs.Moments.{RunHasMoments};
 ghost use Rattle.lsm_runs.specs.Runs.{Takes, TakesEntry, TakesBatch, TakesRotate, told_entry, told_batch, Ran, RanToEnd, RunEqualsReplay, RunSparesAnswers};
 ghost use Rattle.lsm_runs.specs.Adds.{EachAdds};
 ghost use Rattle.lsm_runs.specs.After.{RunIsRight};
@@ -25,16 +25,12 @@ ghost use Rattle.lsm_runs.specs.After.{RunIsRight};
 use crate::finding::TreeFiles;
 use crate::slots::Slots;
 use crate::telling::{batch_entries, of_batch, of_entry, one_entry, refused, share_ops, silent};
-use crate::watch::Unwatched;
-use crate::{Outcome, Reply, Step, Watch};
+use crate::{Outcome, Reply, Step, Taken};
 use lsm_below::{InternalValue, SeqNo, UserKey, UserValue, ValueType, share};
 use lsm_files::stored_files_are_ready;
 use lsm_journal::read_entry;
 use lsm_manifest::{found_tables_show, images_stand_once};
-use lsm_model::{
-    Answer, JournalEntry, Op, Question, counted_is_in_order, deeds_join, every_crash_recovers,
-    reads_are_sound,
-};
+use lsm_model::{Answer, JournalEntry, Op, Question, counted_is_in_order, reads_are_sound};
 use lsm_noted::noted_compactions_keep_reads;
 use lsm_parts::Error;
 use lsm_pick::CompactionStrategy;
@@ -285,77 +281,93 @@ fn add_step<S: Store>(
     Ok(())
 }
 
-fn take_steps<S: Store, W: Watch>(
+fn take_steps<S: Store>(
     alloc: Global,
     state: &mut TreeState<S>,
     slots: &mut Slots,
     strategies: &[Box<dyn CompactionStrategy>],
     steps: &[Step],
-    watch: &mut W,
-) -> Vec<Outcome>
-    ensures bound { length result.items ≤ length steps.now }
-    ensures ran { Ran (strategies_of (λ b. may_choose b) (λ b. may_refuse b) strategies.now) (take (length result.items) steps.now) result.items (beside state.old.core slots.old) (beside state.new.core slots.new) }
+) -> Taken
+    ensures bound { length result.outcomes.items ≤ length steps.now }
+    ensures whole { OnOk result.ended (length result.outcomes.items ≡ length steps.now) }
+    ensures ran { Ran (strategies_of (λ b. may_choose b) (λ b. may_refuse b) strategies.now) (take (length result.outcomes.items) steps.now) result.outcomes.items (beside state.old.core slots.old) (beside state.new.core slots.new) }
     ensures stored { S.tells → StaysStored (S.world state.old.store) (S.world state.new.store) state.old.core state.new.core }
     ensures passes { S.tells → Passes (S.world state.old.store) (S.world state.new.store) }
-    ensures watched { S.tells → RanWatched S.world W.gives (strategies_of (λ b. may_choose b) (λ b. may_refuse b) strategies.now) (take (length result.items) steps.now) result.items (watched state.old slots.old watch.old) (watched state.new slots.new watch.new) }
-    ensures unknown { RanUnknown (strategies_of (λ b. may_choose b) (λ b. may_refuse b) strategies.now) (take (length result.items) steps.now) result.items (beside state.old.core slots.old) (beside state.new.core slots.new) state.old.store state.new.store }
-    ensures causes { EachHasCause S.world result.items state.old.store state.new.store }
+    ensures along { S.tells → RanTo S.world (strategies_of (λ b. may_choose b) (λ b. may_refuse b) strategies.now) (take (length result.outcomes.items) steps.now) result.outcomes.items (point state.old slots.old) (point state.new slots.new) }
+    ensures unknown { RanUnknown (strategies_of (λ b. may_choose b) (λ b. may_refuse b) strategies.now) (take (length result.outcomes.items) steps.now) result.outcomes.items (beside state.old.core slots.old) (beside state.new.core slots.new) state.old.store state.new.store }
+    ensures causes { EachHasCause S.world result.outcomes.items state.old.store state.new.store }
 {
     state.is_upheld();
     let mut outcomes = Vec::new(alloc);
     for step in steps {
         match add_step(alloc, state, slots, strategies, step, &mut outcomes) {
-            Ok(()) => {
-                state.is_upheld();
-                watch.told(state)
+            Ok(()) => state.is_upheld(),
+            Err(error) => {
+                return Taken {
+                    outcomes,
+                    ended: Err(error),
+                };
             }
-            Err(_) => return outcomes,
         }
     }
-    outcomes
+    Taken {
+        outcomes,
+        ended: Ok(()),
+    }
 }
 
-/// Takes the steps in turn, as `run`, and tells a watcher after each. From the moment that the watcher is told on, a crash
-/// leaves a beginning of the calls that holds all that was covered by then (`crashes`): each memtable whose flush was
-/// installed, and each answered clear.
+/// Takes the steps in turn, and returns each one's outcome. A step names a strategy by its index; where there is none it
+/// changes nothing.
+///
+/// A step that is refused has that as its reply, and the run goes on with the next one. The run ends early only
+/// before a step for whose outcome, journal entries included, no memory is left, and says so (`whole`): the tree is as it was
+/// before that step, and the outcomes are those of the steps that were taken. A job waits in its slot from one step to the next, and
+/// one that waits when the run ends is given up: each flush and each merge that a step begins ends within the run (`flush`,
+/// `merges`). A step costs what its call costs, and a list of pairs is kept once, for the reply and the journal.
+///
+/// Without an index, and where no step forgets what isn't flushed (`ClearActiveMemtable`), the replay theorem holds
+/// (`replays`) and no step changes what it is not to change (`spares`). That the journal is in order, the other premise of both,
+/// follows from the order that callers keep by the counter (`in_order`). Over a store that holds the tree's files a crash at any
+/// moment of the run leaves a beginning of the calls so far, which holds all that they covered, and calls may go on from any moment
+/// (`moments`). From a step that leaves the outcome of a commit unknown on, none makes a commit or removes a name (`unknown`).
 ///
 /// # Examples
 ///
 /// ```text
-/// let outcomes = run_told(alloc, &mut tree, &strategies, &steps, &mut watch);
+/// let taken = run(alloc, &mut tree, &strategies, &[Step::Write(Ops::new(ops)), Step::Compact(0, 1)]);
+/// for outcome in &taken.outcomes { .. }
 /// ```
-pub fn run_told<S: Store, W: Watch>(
+pub fn run<S: Store>(
     alloc: Global,
     state: &mut TreeState<S>,
     strategies: &[Box<dyn CompactionStrategy>],
     steps: &[Step],
-    watch: &mut W,
-) -> Vec<Outcome>
-    ensures bound { length result.items ≤ length steps.now }
-    ensures ran { RanToEnd (strategies_of (λ b. may_choose b) (λ b. may_refuse b) strategies.now) (take (length result.items) steps.now) result.items state.old.core state.new.core }
-    ensures replays { (opened : List Entry) (start : Map) → RunEqualsReplay opened start (take (length result.items) steps.now) result.items state.old.core state.new.core }
-    ensures spares { (opened : List Entry) (start : Map) → RunSparesAnswers (strategies_of (λ b. may_choose b) (λ b. may_refuse b) strategies.now) opened start (take (length result.items) steps.now) result.items state.old.core state.new.core }
+) -> Taken
+    // It ends early for want of memory alone.
+    ensures bound { length result.outcomes.items ≤ length steps.now }
+    ensures whole { OnOk result.ended (length result.outcomes.items ≡ length steps.now) }
+    ensures ran { RanToEnd (strategies_of (λ b. may_choose b) (λ b. may_refuse b) strategies.now) (take (length result.outcomes.items) steps.now) result.outcomes.items state.old.core state.new.core }
+    ensures replays { (opened : List Entry) (start : Map) → RunEqualsReplay opened start (take (length result.outcomes.items) steps.now) result.outcomes.items state.old.core state.new.core }
+    ensures spares { (opened : List Entry) (start : Map) → RunSparesAnswers (strategies_of (λ b. may_choose b) (λ b. may_refuse b) strategies.now) opened start (take (length result.outcomes.items) steps.now) result.outcomes.items state.old.core state.new.core }
     // What each step adds to the journal, by its kind and its reply.
-    ensures adds { EachAdds (take (length result.items) steps.now) result.items }
+    ensures adds { EachAdds (take (length result.outcomes.items) steps.now) result.outcomes.items }
     // Both after whatever was called before, and of the first so many steps, whatever comes later.
-    ensures right { RunIsRight (strategies_of (λ b. may_choose b) (λ b. may_refuse b) strategies.now) (take (length result.items) steps.now) result.items state.old.core state.new.core }
-    ensures in_order { RunIsInOrder (strategies_of (λ b. may_choose b) (λ b. may_refuse b) strategies.now) (take (length result.items) steps.now) result.items state.old.core state.new.core }
+    ensures right { RunIsRight (strategies_of (λ b. may_choose b) (λ b. may_refuse b) strategies.now) (take (length result.outcomes.items) steps.now) result.outcomes.items state.old.core state.new.core }
+    ensures in_order { RunIsInOrder (strategies_of (λ b. may_choose b) (λ b. may_refuse b) strategies.now) (take (length result.outcomes.items) steps.now) result.outcomes.items state.old.core state.new.core }
     // Each flush and each merge that a step begins ends or is given up, at the latest when the run ends.
     ensures flush { state.new.core.flush ≡ state.old.core.flush }
     ensures merges { state.new.core.merges.underway ≡ state.old.core.merges.underway }
+    // What a crash leaves at each moment, along a chain of stores, after whatever was called before: inside a step it is a beginning of the calls
+    // up to and with it. Calls may go on from there. What each step notes follows from its kind and its reply, and behind each step the store is
+    // ready to be opened again.
+    ensures moments { S.tells → RunHasMoments S.world (strategies_of (λ b. may_choose b) (λ b. may_refuse b) strategies.now) (take (length result.outcomes.items) steps.now) result.outcomes.items (record { store = state.old.store; stage = at_first state.old.core }) state.new.store state.new.core }
     ensures stored { S.tells → StaysStored (S.world state.old.store) (S.world state.new.store) state.old.core state.new.core }
     // Names that are none of the tree's are as they were, also in what a crash meanwhile leaves.
     ensures passes { S.tells → Passes (S.world state.old.store) (S.world state.new.store) }
-    // What a crash leaves at each moment.
-    ensures crashes { S.tells → (opened : List Entry) (start : Map) → RunRecovers S.world W.gives (strategies_of (λ b. may_choose b) (λ b. may_refuse b) strategies.now) opened start (take (length result.items) steps.now) result.items state.old.store state.new.store watch.old watch.new state.old.core }
-    // The same of each moment, along a chain of stores, after whatever was called before: inside a step it is a beginning of the calls up to
-    // and with it. Calls may go on from there. What each step notes follows from its kind and its reply, and between the steps the store is
-    // ready to be opened again.
-    ensures moments { S.tells → RunHasMoments S.world W.gives (strategies_of (λ b. may_choose b) (λ b. may_refuse b) strategies.now) (take (length result.items) steps.now) result.items (record { store = state.old.store; stage = at_first state.old.core; watch = watch.old }) state.new.store state.new.core watch.new }
     // Behind a commit of unknown outcome no step calls the store.
-    ensures unknown { RunStops (strategies_of (λ b. may_choose b) (λ b. may_refuse b) strategies.now) (take (length result.items) steps.now) result.items state.old.store state.new.store state.old.core state.new.core }
+    ensures unknown { RunStops (strategies_of (λ b. may_choose b) (λ b. may_refuse b) strategies.now) (take (length result.outcomes.items) steps.now) result.outcomes.items state.old.store state.new.store state.old.core state.new.core }
     // The store is blamed only where a call of it failed.
-    ensures causes { EachHasCause S.world result.items state.old.store state.new.store }
+    ensures causes { EachHasCause S.world result.outcomes.items state.old.store state.new.store }
 {
     images_stand_once();
     runs_compose(state.store(), &TreeFiles, &Reply::Done);
@@ -364,9 +376,7 @@ pub fn run_told<S: Store, W: Watch>(
     notes_tell_sealed();
     stored_files_are_ready(state.store());
     state.is_upheld();
-    every_crash_recovers();
     found_tables_show();
-    deeds_join();
     flushes_are_deeds();
     reads_are_sound();
     lists_are_steps();
@@ -376,64 +386,9 @@ pub fn run_told<S: Store, W: Watch>(
     counted_is_in_order();
     state.facts();
     let mut slots = Slots::new(alloc);
-    let outcomes = take_steps(alloc, state, &mut slots, strategies, steps, watch);
-    state.is_upheld();
+    let taken = take_steps(alloc, state, &mut slots, strategies, steps);
     jobs::give_up_all(state, slots);
-    outcomes
-}
-
-/// Takes the steps in turn, and returns each one's outcome. A step names a strategy by its index; where there is none it
-/// changes nothing.
-///
-/// A step that is refused has that as its reply, and the run goes on with the next one. The run ends early only
-/// before a step for whose outcome, journal entries included, no memory is left: the tree is as it was before that
-/// step, and the outcomes are those of the steps that were taken. A job waits in its slot from one step to the next, and
-/// one that waits when the run ends is given up: each flush and each merge that a step begins ends within the run (`flush`,
-/// `merges`). A step costs what its call costs, and a list of pairs is kept once, for the reply and the journal.
-///
-/// Without an index, and where no step forgets what isn't flushed (`ClearActiveMemtable`), the replay theorem holds
-/// (`replays`) and no step changes what it is not to change (`spares`). That the journal is in order, the other premise of both,
-/// follows from the order that callers keep by the counter (`in_order`). Over a store that holds the tree's files a crash at any
-/// moment of the run leaves a beginning of its calls, and behind the run one that holds all that it covered (`crashes`). From
-/// a step that leaves the outcome of a commit unknown on, none makes a commit or removes a name (`unknown`).
-///
-/// # Examples
-///
-/// ```text
-/// let outcomes = run(alloc, &mut tree, &strategies, &[Step::Write(Ops::new(ops)), Step::Compact(0, 1)]);
-/// ```
-pub fn run<S: Store>(
-    alloc: Global,
-    state: &mut TreeState<S>,
-    strategies: &[Box<dyn CompactionStrategy>],
-    steps: &[Step],
-) -> Vec<Outcome>
-    ensures bound { length result.items ≤ length steps.now }
-    ensures ran { RanToEnd (strategies_of (λ b. may_choose b) (λ b. may_refuse b) strategies.now) (take (length result.items) steps.now) result.items state.old.core state.new.core }
-    ensures replays { (opened : List Entry) (start : Map) → RunEqualsReplay opened start (take (length result.items) steps.now) result.items state.old.core state.new.core }
-    ensures spares { (opened : List Entry) (start : Map) → RunSparesAnswers (strategies_of (λ b. may_choose b) (λ b. may_refuse b) strategies.now) opened start (take (length result.items) steps.now) result.items state.old.core state.new.core }
-    // What each step adds to the journal, by its kind and its reply.
-    ensures adds { EachAdds (take (length result.items) steps.now) result.items }
-    // Both after whatever was called before, and of the first so many steps, whatever comes later.
-    ensures right { RunIsRight (strategies_of (λ b. may_choose b) (λ b. may_refuse b) strategies.now) (take (length result.items) steps.now) result.items state.old.core state.new.core }
-    ensures in_order { RunIsInOrder (strategies_of (λ b. may_choose b) (λ b. may_refuse b) strategies.now) (take (length result.items) steps.now) result.items state.old.core state.new.core }
-    // Each flush and each merge that a step begins ends or is given up, at the latest when the run ends.
-    ensures flush { state.new.core.flush ≡ state.old.core.flush }
-    ensures merges { state.new.core.merges.underway ≡ state.old.core.merges.underway }
-    // What a crash leaves at each moment.
-    ensures crashes { S.tells → (opened : List Entry) (start : Map) → RunLeaves S.world (strategies_of (λ b. may_choose b) (λ b. may_refuse b) strategies.now) opened start (take (length result.items) steps.now) result.items state.old.store state.new.store state.old.core }
-    // The same of each moment, along a chain of stores, after whatever was called before, and what each step notes; behind each step the
-    // store is ready to be opened again.
-    ensures moments { S.tells → RunHasMoments S.world none_told (strategies_of (λ b. may_choose b) (λ b. may_refuse b) strategies.now) (take (length result.items) steps.now) result.items (record { store = state.old.store; stage = at_first state.old.core; watch = tt }) state.new.store state.new.core tt }
-    ensures stored { S.tells → StaysStored (S.world state.old.store) (S.world state.new.store) state.old.core state.new.core }
-    // Names that are none of the tree's are as they were, also in what a crash meanwhile leaves.
-    ensures passes { S.tells → Passes (S.world state.old.store) (S.world state.new.store) }
-    // Behind a commit of unknown outcome no step calls the store.
-    ensures unknown { RunStops (strategies_of (λ b. may_choose b) (λ b. may_refuse b) strategies.now) (take (length result.items) steps.now) result.items state.old.store state.new.store state.old.core state.new.core }
-    // The store is blamed only where a call of it failed.
-    ensures causes { EachHasCause S.world result.items state.old.store state.new.store }
-{
-    run_told(alloc, state, strategies, steps, &mut Unwatched)
+    taken
 }
 
 mod clears;

@@ -9,6 +9,7 @@ use lsm_model::{JournalEntry, KvPairs, Ops};
 use lsm_parts::Error;
 use lsm_state::{Finished, Options};
 use lsm_versions::TreeType;
+use std::alloc::AllocError;
 use std::marker::Model;
 use std::ops::Bound;
 
@@ -264,4 +265,13 @@ impl Outcome {
     {
         &self.entries
     }
+}
+
+/// The steps that were taken.
+#[derive(Drop, Debug)]
+pub struct Taken {
+    /// Each one's outcome.
+    pub outcomes: Vec<Outcome>,
+    /// Whether these are all: else no memory was left for the next one's outcome.
+    pub ended: Result<(), AllocError>,
 }

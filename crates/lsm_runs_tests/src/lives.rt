@@ -3,26 +3,12 @@ use crate::calls::{At, Call, Key};
 use crate::rows::{FLUSHED_0, Note, Row, first_wrong, steps_of};
 use lsm_below::Error;
 use lsm_pick::CompactionStrategy;
-use lsm_runs::{Watch, live};
+use lsm_runs::live;
 use lsm_state::TreeState;
 use lsm_store::{MemStore, Store};
 use lsm_versions::Config;
 use std::alloc::Global;
 use std::test::Fail;
-
-/// How many steps the watcher was told of.
-#[derive(Drop)]
-struct Counted {
-    steps: usize,
-}
-
-impl Watch for Counted {
-    ghost gives = { λ old moment new. Unit {0} };
-
-    fn told<S: Store>(&mut self, _tree: &TreeState<S>) {
-        self.steps = self.steps.saturating_add(1);
-    }
-}
 
 /// What a crash leaves of the store of a tree.
 fn left(tree: TreeState) -> Result<MemStore, Error> {
@@ -38,15 +24,14 @@ fn after_life(
     number: u64,
     store: MemStore,
     rows: &[Row],
-    watch: &mut Counted,
 ) -> Result<(usize, MemStore), Error> {
     let steps = steps_of(alloc, rows)?;
     let strategies: Vec<Box<dyn CompactionStrategy>> = Vec::new(alloc);
     let config = Config::new(0, number, number);
-    match live(alloc, config, store, &strategies, &steps, watch) {
-        Ok((tree, told)) => {
-            let right = first_wrong(alloc, &told, rows);
-            drop(told);
+    match live(alloc, config, store, &strategies, &steps) {
+        Ok((tree, taken)) => {
+            let right = first_wrong(alloc, &taken.outcomes, rows);
+            drop(taken);
             drop(steps);
             match left(tree) {
                 Ok(store) => Ok((right, store)),
@@ -88,13 +73,12 @@ const RAISED: [Row; 1] = [(Call::Set(&[("c", "z")]), "Number(1)", &[Note::Write(
 #[test]
 fn a_crash_begins_the_next_life(rt: HostRuntime) -> Result<(), Fail> {
     let alloc = rt.alloc();
-    let mut watch = Counted { steps: 0 };
-    let (right, store) = after_life(alloc, 0, MemStore::new(alloc), &WRITES, &mut watch)?;
-    assert_eq!(rt; (right, watch.steps), (3, 3));
-    let (right, store) = after_life(alloc, 10, store, &READS, &mut watch)?;
-    assert_eq!(rt; (right, watch.steps), (2, 5));
-    let (right, store) = after_life(alloc, 0, store, &RAISED, &mut watch)?;
+    let (right, store) = after_life(alloc, 0, MemStore::new(alloc), &WRITES)?;
+    assert_eq!(rt; right, 3);
+    let (right, store) = after_life(alloc, 10, store, &READS)?;
+    assert_eq!(rt; right, 2);
+    let (right, store) = after_life(alloc, 0, store, &RAISED)?;
     drop(store);
-    assert_eq!(rt; (right, watch.steps), (1, 6));
+    assert_eq!(rt; right, 1);
     Ok(())
 }

@@ -34,9 +34,10 @@ fn run_new(
 ) -> Result<Vec<Outcome>, Error> {
     match TreeState::open(alloc, Config::new(0, 0, 0), MemStore::new(alloc)) {
         Ok(mut tree) => {
-            let told = run(alloc, &mut tree, strategies, steps);
+            let taken = run(alloc, &mut tree, strategies, steps);
             drop(tree);
-            Ok(told)
+            taken.ended?;
+            Ok(taken.outcomes)
         }
         Err((error, _)) => Err(error),
     }

@@ -1,9 +1,11 @@
 //! Theorems as the contracts of functions that do nothing: each is proved of the words that the contracts of
 //! other calls are made of.
 pub use lsm_below::{entries_are_ordered, first_visible_is_top, keys_are_ordered, merges_by_key};
+pub use lsm_files::stored_files_are_ready;
 pub use lsm_iter::shown_is_the_view;
 pub use lsm_manifest::{
-    crashes_settle, found_tables_show, images_stand_once, unread_names_dont_matter,
+    crashes_settle, found_tables_show, images_stand_once, openings_leave_what_was_read,
+    settled_stores_are_ready, unread_names_dont_matter,
 };
 pub use lsm_model::{
     any_number_of_crashes, beginnings_answer, counted_is_in_order, cover_lasts, deeds_join,
@@ -12,9 +14,7 @@ pub use lsm_model::{
     reads_are_sound, steps_spare_answers, tables_are_placed, tables_show_above,
 };
 pub use lsm_pick::leveled_is_lawful;
-pub use lsm_runs::{
-    any_number_of_lives, crashes_begin_lives, lives_without_number, runs_are_lives,
-};
+pub use lsm_runs::{any_number_of_lives, runs_are_lives};
 pub use lsm_state::{
     clears_keep_reads, compactions_are_deeds, compactions_keep_reads, flushes_are_deeds,
     flushes_keep_reads, lists_are_steps, opened_trees_are_fresh, ranges_are_overlaid,

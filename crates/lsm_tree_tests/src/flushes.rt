@@ -237,9 +237,10 @@ fn replies(alloc: Global, steps: Result<Vec<Step>, AllocError>) -> Option<Vec<Ou
     let Ok(mut state) = open_state(alloc) else {
         return None;
     };
-    let outcomes = run(alloc, &mut state, &[], &steps);
+    let taken = run(alloc, &mut state, &[], &steps);
     drop(state);
-    (outcomes.len() == steps.len()).then_some(outcomes)
+    taken.ended.ok()?;
+    Some(taken.outcomes)
 }
 
 /// a = x is flushed in parts from slot 7, while a = y is written, and calls come that find no job, or the slot in use.

@@ -1,22 +1,28 @@
 use Rattle.std.proofs.Common.{refl, ap}
 use Rattle.lsm_state.specs.Core.{Core}
+use Rattle.lsm_runs.specs.Chains.{Point}
+use Rattle.lsm_runs.specs.Living.{opened_in}
+use Rattle.lsm_runs.specs.Slots.{at_first}
 use Rattle.lsm_runs.proofs.Causing.{causes_between}
-use Rattle.lsm_runs.proofs.Living.{lived}
+use Rattle.lsm_runs.proofs.RunLives.{runs_are_lives, lived}
 use Rattle.lsm_runs.proofs.Settled.{settled_for}
 use Rattle.lsm_runs.proofs.life.live.Goals as goal
 
 pub returns-clause-lives : goal.returns-clause-lives
-returns-clause-lives g c tells settled m stands =
+returns-clause-lives g c tells ready m stands =
+    let world = g.S.Store.world in
     let opened = c.in-Ok.ensures in
-    let ran = c.run_told-outcomes in
-    let ready = c.settled_stores_are_ready.ensures c.args.store stands.levels settled stands.found in
-    lived g.S.Store.world g.W.Watch.gives _ m _ _ c.args.store c.in-Ok.tree.store ran.new.state.store c.args.watch.now ran.new.watch c.in-Ok.tree.core ran.new.state.core
-    ((opened.opens tells).shows m stands) opened.counted opened.visible (ap (λ (t : Core). t.lost) opened.core) ((opened.opens tells).stored ready.ready) (settled_for (g.S.Store.world c.args.store) (g.S.Store.world c.in-Ok.tree.store) m stands ready ((opened.opens tells).stands_for ready.ready m stands)) ran.ensures.ran (ran.ensures.replays _ m) (ran.ensures.spares _ m) ran.ensures.in_order (ran.ensures.crashes tells _ m)
+    let starts = (opened.opens tells).shows m stands in
+    let old : Point _ = record { store = c.in-Ok.tree.store; stage = at_first c.in-Ok.tree.core } in
+    let moments = c.run-taken.ensures.moments tells in
+    lived world _ c.args.store (opened_in c.in-Ok.tree.core) m _ _ old _ _ moments
+    (λ tables found. c.openings_leave_what_was_read.ensures.meanwhile tells c.args.store c.in-Ok.tree.store tables ready found (opened.opens tells).leaves)
+    (runs_are_lives world _ _ _ old _ _ moments (opened_in c.in-Ok.tree.core) m starts.starts (ap (λ (t : Core). t.lost) opened.core) ((opened.opens tells).stored ready))
 
 pub returns-clause-lives_on : goal.returns-clause-lives_on
 returns-clause-lives_on g c tells ready m stands =
     let opened = c.in-Ok.ensures in
-    let ran = c.run_told-outcomes in
+    let ran = c.run-taken in
     record {
       old = c.in-Ok.tree.core;
       first = c.in-Ok.tree.store;
@@ -25,14 +31,18 @@ returns-clause-lives_on g c tells ready m stands =
       stored = (opened.opens tells).stored ready;
       counted = opened.counted;
       visible = opened.visible;
-      opening = λ tables found. c.openings_leave_what_was_read.ensures.meanwhile tells c.args.store c.in-Ok.tree.store tables ready found (opened.opens tells).leaves;
-      run = ran.ensures.moments tells;
+      ran = ran.ensures.ran;
+      replays = ran.ensures.replays _ m;
+      spares = ran.ensures.spares _ m;
+      in_order = ran.ensures.in_order;
+      unknown = ran.ensures.unknown;
+      moments = ran.ensures.moments tells;
     }
 
 pub returns-clause-causes : goal.returns-clause-causes
 returns-clause-causes g c =
-    let ran = c.run_told-outcomes in
-    causes_between g.S.Store.world ran.result.items c.args.store c.in-Ok.tree.store ran.new.state.store ran.new.state.store c.in-Ok.ensures.counts refl ran.ensures.causes
+    let ran = c.run-taken in
+    causes_between g.S.Store.world ran.result.outcomes.items c.args.store c.in-Ok.tree.store ran.new.state.store ran.new.state.store c.in-Ok.ensures.counts refl ran.ensures.causes
 
 pub returns-in-Err-clause-refused : goal.returns-in-Err-clause-refused
 returns-in-Err-clause-refused g c tells m stands = (c.in-Err.ensures.opens tells).refuses m stands

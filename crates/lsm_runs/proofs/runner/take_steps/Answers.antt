@@ -2,7 +2,7 @@ use Rattle.std.proofs.Common.{◌∙◌, ◌+◌, ◌++◌, ap, [], ◌∷◌, s
 use Rattle.std.proofs.lemmas.List.{take_more}
 use Rattle.lsm_files.specs.Foreign.{passes_then}
 use Rattle.lsm_runs.proofs.Causing.{causes_more}
-use Rattle.lsm_runs.proofs.Crashed.{watched_more}
+use Rattle.lsm_runs.proofs.Chains.{ran_more as along_more}
 use Rattle.lsm_runs.proofs.Replays.{ran_more}
 use Rattle.lsm_runs.proofs.Unknown.{unknown_more, step_unknown}
 use Rattle.lsm_runs.proofs.runner.take_steps.Goals as goal
@@ -19,5 +19,5 @@ loop-step-preserved g c =
       many = ap (λ l. length l) h.1 ∙ length-append _ _ ∙ ap (λ n. n + 1) c.loop-step.invariant.many;
       stored = λ tells h. ((c.in-Ok.ensures.upholds tells).files (c.loop-step.invariant.stored tells h)).0;
       passes = λ tells. passes_then _ _ _ (c.loop-step.invariant.passes tells) (c.in-Ok.ensures.upholds tells).passes;
-      watched = λ tells. rw (h.1, more) (watched_more g.S.Store.world g.W.Watch.gives _ _ _ x h.0 _ _ _ (c.loop-step.invariant.watched tells) h.2 (record { upholds = c.in-Ok.ensures.upholds tells; leaves = c.in-Ok.ensures.files tells; stays = c.is_upheld-in-Ok.ensures tells; no_call = c.in-Ok.ensures.no_call; cause = h.3 }) (c.told.ensures tells));
+      along = λ tells. rw (h.1, more) (along_more g.S.Store.world _ x h.0 _ _ _ _ _ (c.loop-step.invariant.along tells) h.2 (record { upholds = c.in-Ok.ensures.upholds tells; leaves = c.in-Ok.ensures.files tells; stays = c.is_upheld-in-Ok.ensures tells; no_call = c.in-Ok.ensures.no_call; cause = h.3 }));
     }

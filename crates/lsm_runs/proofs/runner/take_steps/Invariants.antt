@@ -1,7 +1,7 @@
 use Rattle.std.proofs.Common.{◌≡◌, length, take}
 use Rattle.lsm_files.specs.Foreign.{Passes}
 use Rattle.lsm_runs.specs.Causes.{EachHasCause}
-use Rattle.lsm_runs.specs.Crashes.{watched, RanWatched}
+use Rattle.lsm_runs.specs.Chains.{point, RanTo}
 use Rattle.lsm_runs.specs.Compacting.{strategies_of}
 use Rattle.lsm_runs.specs.Files.{StaysStored}
 use Rattle.lsm_runs.specs.Runs.{Ran}
@@ -20,6 +20,6 @@ invariant-loop-step g l = record {
   many : length l.outcomes.items ≡ l.step-index;
   stored : g.S.Store.tells → StaysStored (g.S.Store.world l.fn.state.store) (g.S.Store.world l.state.store) l.fn.state.core l.state.core;
   passes : g.S.Store.tells → Passes (g.S.Store.world l.fn.state.store) (g.S.Store.world l.state.store);
-  watched : g.S.Store.tells → RanWatched g.S.Store.world g.W.Watch.gives (strategies_of (λ b. (goal.CompactionStrategy-dyn g (b.vtable, b.value)).may_choose b.value) (λ b. (goal.CompactionStrategy-dyn g (b.vtable, b.value)).may_refuse b.value) l.strategies)
-      (take l.step-index l.steps) l.outcomes.items (watched l.fn.state l.fn.slots l.fn.watch) (watched l.state l.slots l.watch);
+  along : g.S.Store.tells → RanTo g.S.Store.world (strategies_of (λ b. (goal.CompactionStrategy-dyn g (b.vtable, b.value)).may_choose b.value) (λ b. (goal.CompactionStrategy-dyn g (b.vtable, b.value)).may_refuse b.value) l.strategies)
+      (take l.step-index l.steps) l.outcomes.items (point l.fn.state l.fn.slots) (point l.state l.slots);
 }

@@ -1,6 +1,0 @@
-use Rattle.std.proofs.Common.{◌^◌}
-use Rattle.lsm_runs.proofs.ManyLives.{tree_reads}
-use Rattle.lsm_runs.proofs.finding.lives_without_number.Goals as goal
-
-pub returns : goal.returns
-returns g c = c.lives_go_on.ensures (2 ^ 63) (tree_reads g.S.Store.world (2 ^ 63) c.crashes_settle.ensures.ready c.unread_names_dont_matter.ensures c.images_stand_once.ensures.map)
