@@ -7,10 +7,11 @@ use Rattle.lsm_store.specs.World.{World, Same, LeavesOnly}
 use Rattle.lsm_model.specs.Ops.{op_entries}
 use Rattle.lsm_model.specs.declared.op.Op.{Op}
 use Rattle.lsm_memtable.specs.Memtables.{SeenMemtable}
-use Rattle.lsm_log.specs.Changes.{PutsRecord, IsPut, Spares}
+use Rattle.lsm_files.specs.Foreign.{Spares}
+use Rattle.lsm_log.specs.Changes.{PutsRecord, IsPut}
 use Rattle.lsm_state.specs.Held.{put_all_first}
 use Rattle.lsm_state.specs.Core.{Core, versions_left, written_of, written_by, written_all, drawn_core}
-use Rattle.lsm_state.specs.Commits.{Upholds, counted}
+use Rattle.lsm_state.specs.Commits.{UpholdsFiles, counted}
 use Rattle.lsm_state.specs.Calls.{IsWriteRun}
 use Rattle.lsm_state.specs.Refusals.{batch_refusal}
 use Rattle.lsm_state.specs.Recording.{Records, RecordsBatch, WritesBehindRecord}
@@ -18,7 +19,7 @@ use Rattle.lsm_state.proofs.Steps.{HasActive, write_run}
 use Rattle.lsm_state.proofs.Upholding.{upheld, among_left}
 
 -- what spares what is stored upholds a tree whose versions and written tables are the same
-pub put_upholds : (w w' : World) (old new : Core) → Spares w w' → new.history ≡ old.history → new.lost ≡ old.lost → new.flush ≡ old.flush → Upholds w w' old new
+pub put_upholds : (w w' : World) (old new : Core) → Spares w w' → new.history ≡ old.history → new.lost ≡ old.lost → new.flush ≡ old.flush → UpholdsFiles w w' old new
 put_upholds w w' old new spares history lost flush stored =
     let s = spares (versions_left old) (written_of old) stored in
     upheld w w' old new (versions_left old) (written_of old) (versions_left old) (ap (λ h. h.latest.version ∷ option_to_list new.lost) history ∙ ap (λ o. old.history.latest.version ∷ option_to_list o) lost) (ap written_by flush) s.0 s.1 (among_left (versions_left old) (versions_left old))

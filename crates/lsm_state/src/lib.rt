@@ -10,6 +10,7 @@
 //! | `counted` | what is counted of its memtables and tables |
 //! | `writes` | its writes |
 //! | `recording` | its writes, each behind a record of a log |
+//! | `lending` | its store, lent to a log: how records are read and removed |
 //! | `reads` | its reads of one key |
 //! | `ranges` | its reads of many keys |
 //! | `commit` | how a super version becomes the latest one, and what is cleaned up behind it |
@@ -36,6 +37,7 @@ mod flush;
 mod flushes;
 mod found;
 mod laws;
+mod lending;
 mod memtables;
 mod opening;
 mod ranges;

@@ -8,7 +8,7 @@ ghost use Rattle.lsm_log.specs.Records.{IsRecordOf};
 ghost use Rattle.lsm_state.specs.Held.{put_all_first};
 ghost use Rattle.lsm_state.specs.Refusals.{batch_refusal};
 ghost use Rattle.lsm_state.specs.Recording.{Records, RecordsBatch, WritesBehindRecord};
-ghost use Rattle.lsm_state.specs.Commits.{Upholds};
+ghost use Rattle.lsm_state.specs.Commits.{UpholdsFiles};
 
 use crate::writes::{check_batch, make_entries};
 use crate::{Memtables, TreeState};
@@ -84,8 +84,8 @@ impl<S: Store> TreeState<S> {
         ensures no_call { IsSome (batch_refusal self.old.core.seqno ops.items) → self.new.store ≡ self.old.store }
         // A call of the store failed exactly where the answer says so.
         ensures counts { CountsFaults (S.world self.old.store) (S.world self.new.store) result }
-        // What a crash leaves of the tree.
-        ensures upholds { S.tells → Upholds (S.world self.old.store) (S.world self.new.store) self.old.core self.new.core }
+        // The tree's files stay stored, and at each moment a crash leaves one of its versions.
+        ensures upholds { S.tells → UpholdsFiles (S.world self.old.store) (S.world self.new.store) self.old.core self.new.core }
     {
         crashes_leave_versions(&self.store);
         let number = self.seqno.get();

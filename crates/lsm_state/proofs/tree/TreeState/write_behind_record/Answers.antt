@@ -1,7 +1,7 @@
 use Rattle.std.proofs.Common.{◌≡◌, ap, sym, subst, ◌∙◌, refl, rules, ⊎_elim, inl, inr, Err}
 use Rattle.lsm_below.specs.declared.error.Error.TheVariants.{OutOfMemory, Store, CommitUnknown}
 use Rattle.lsm_state.specs.Core.{Core}
-use Rattle.lsm_state.specs.Commits.{Upholds}
+use Rattle.lsm_state.specs.Commits.{UpholdsFiles}
 use Rattle.lsm_state.specs.Held.{put_all_first}
 use Rattle.lsm_state.specs.Kept.{KeepsIds}
 use Rattle.lsm_state.specs.Recording.{WritesBehindRecord, RecordsBatch}
@@ -15,7 +15,7 @@ returns-in_err-content-clause-upholds g c tells =
     let w = g.S.Store.world in
     let i = c.self.inside in
     let old : Core = record { config = i.config; memtables = i.memtables; history = i.history; next_memtable = i.next_memtable; next_table = i.next_table; next_job = i.next_job; moment = i.moment; seqno = i.seqno; visible_seqno = i.visible_seqno; flush = i.flush; lost = i.lost; merges = i.merges } in
-    subst (λ t. Upholds (w t.store) (w t.store) t.core t.core) c.self.view_is (upheld_still (w i.store) old old refl refl (c.crashes_leave_versions.ensures tells))
+    subst (λ t. UpholdsFiles (w t.store) (w t.store) t.core t.core) c.self.view_is (upheld_still (w i.store) old old refl refl (c.crashes_leave_versions.ensures tells)).files
 
 pub invariant_of-self : goal.invariant_of-self
 invariant_of-self g c =
@@ -35,7 +35,7 @@ returns-in-Ok-clause-upholds g c tells =
     let i = c.self.inside in
     let old : Core = record { config = i.config; memtables = i.memtables; history = i.history; next_memtable = i.next_memtable; next_table = i.next_table; next_job = i.next_job; moment = i.moment; seqno = i.seqno; visible_seqno = i.visible_seqno; flush = i.flush; lost = i.lost; merges = i.merges } in
     let new : Core = record old { memtables = c.put_behind_record-put.new.memtables; seqno = c.set.new.self; visible_seqno = c.fetch_max.new.self } in
-    subst (λ t. Upholds (w t.store) (w c.put_behind_record-put.new.store) t.core new) c.self.view_is (put_upholds (w i.store) (w c.put_behind_record-put.new.store) old new (c.in-Ok.ensures.records tells).spares refl refl refl)
+    subst (λ t. UpholdsFiles (w t.store) (w c.put_behind_record-put.new.store) t.core new) c.self.view_is (put_upholds (w i.store) (w c.put_behind_record-put.new.store) old new (c.in-Ok.ensures.records tells).spares refl refl refl)
 
 pub returns-in-Err-CommitUnknown-clause-upholds : goal.returns-in-Err-CommitUnknown-clause-upholds
 returns-in-Err-CommitUnknown-clause-upholds g c tells =
@@ -43,7 +43,7 @@ returns-in-Err-CommitUnknown-clause-upholds g c tells =
     let i = c.self.inside in
     let old : Core = record { config = i.config; memtables = i.memtables; history = i.history; next_memtable = i.next_memtable; next_table = i.next_table; next_job = i.next_job; moment = i.moment; seqno = i.seqno; visible_seqno = i.visible_seqno; flush = i.flush; lost = i.lost; merges = i.merges } in
     let new : Core = record old { memtables = c.put_behind_record-put.new.memtables; seqno = c.set-in-Err-CommitUnknown.new.self } in
-    subst (λ t. Upholds (w t.store) (w c.put_behind_record-put.new.store) t.core new) c.self.view_is (put_upholds (w i.store) (w c.put_behind_record-put.new.store) old new (c.in-Err-CommitUnknown.ensures.records tells).spares refl refl refl)
+    subst (λ t. UpholdsFiles (w t.store) (w c.put_behind_record-put.new.store) t.core new) c.self.view_is (put_upholds (w i.store) (w c.put_behind_record-put.new.store) old new (c.in-Err-CommitUnknown.ensures.records tells).spares refl refl refl)
 
 pub returns : goal.returns
 returns g c =
@@ -63,5 +63,5 @@ returns g c =
       writes = subst (λ t. WritesBehindRecord c.args.ops.items (Err e) t.core new) c.self.view_is writes;
       records = λ tells. subst (λ t. RecordsBatch t.core.seqno c.args.ops.items (w t.store) w' (Err e)) c.self.view_is
           (subst (λ n. RecordsBatch n c.args.ops.items (w i.store) w' (Err e)) c.get-number.ensures (batch_refused c.get-number.result c.deref.result.now c.args.ops.items (w i.store) w' e isnt short (c.in-Err.ensures.records tells)));
-      upholds = λ tells. subst (λ t. Upholds (w t.store) w' t.core new) c.self.view_is (put_upholds (w i.store) w' old new (c.in-Err.ensures.records tells).spares refl refl refl);
+      upholds = λ tells. subst (λ t. UpholdsFiles (w t.store) w' t.core new) c.self.view_is (put_upholds (w i.store) w' old new (c.in-Err.ensures.records tells).spares refl refl refl);
     }

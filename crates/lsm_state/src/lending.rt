@@ -1,0 +1,54 @@
+// The store is lent to a log above the tree, for names that the tree itself doesn't read.
+ghost use Rattle.std.specs.Prelude.{◌≡◌, ◌⊎◌, ◌<◌, ℕ, None, Contains, IfOk, IfErr, OnOk, IsErrOf};
+ghost use Rattle.std.specs.List.Sorted.{IsStrictlyIncreasing};
+ghost use Rattle.lsm_store.specs.World.{Same, LeavesOnly};
+ghost use Rattle.lsm_files.specs.Stored.{CountsFaults};
+ghost use Rattle.lsm_log.specs.LogNames.{record_name};
+ghost use Rattle.lsm_log.specs.Changes.{IsBelow, ClearsRecords, AreCleared};
+ghost use Rattle.lsm_log.specs.Logs.{IsLogFrom, IsBadLog};
+ghost use Rattle.lsm_state.specs.Commits.{UpholdsFiles};
+
+use crate::{Found, TreeState};
+use lsm_below::{Error, SeqNo};
+use lsm_log::{Log, read_log, remove_below};
+use lsm_store::Store;
+
+impl<S: Store> Found<S> {
+    /// What the store has of a log, from a number on, as `read_log` of `lsm_log`. Nothing changes.
+    ///
+    /// # Errors
+    ///
+    /// `Unrecoverable` where a name of the log is bad, or a record from that number on; `OutOfMemory`, `Store`.
+    pub fn read_log(&mut self, from: SeqNo) -> Result<Log, Error>
+        ensures read { S.tells → IfOk result (λ l. IsLogFrom (S.world self.old.store).gives from l.passed.items l.records.items) }
+        ensures bad { S.tells → IsErrOf result Error.Unrecoverable → IsBadLog (S.world self.old.store).gives from }
+        ensures only { IfErr result (λ e. ((e ≡ Error.OutOfMemory) ⊎ (e ≡ Error.Store)) ⊎ (e ≡ Error.Unrecoverable)) }
+        ensures same { S.tells → Same (S.world self.old.store) (S.world self.new.store) }
+        ensures files { self.new.files ≡ self.old.files }
+        ensures counts { CountsFaults (S.world self.old.store) (S.world self.new.store) result }
+    {
+        read_log(self.alloc, &mut self.store, from)
+    }
+}
+
+impl<S: Store> TreeState<S> {
+    /// Removes those of these records of a log that are numbered below `from`, rising, as `remove_below` of `lsm_log`.
+    /// The tree has no part in it.
+    ///
+    /// # Errors
+    ///
+    /// `Store` where the store failed: some of them may have been removed.
+    pub fn remove_records_below(&mut self, from: SeqNo, numbers: &[SeqNo]) -> Result<(), Error>
+        requires { IsStrictlyIncreasing numbers.now }
+        ensures gone { S.tells → OnOk result ((k : ℕ) → Contains numbers.now k → k < from → (S.world self.new.store).gives (record_name k) ≡ None) }
+        ensures clears { S.tells → ClearsRecords (IsBelow from) (S.world self.old.store) (S.world self.new.store) }
+        ensures any_moment { S.tells → LeavesOnly (S.world self.old.store) (S.world self.new.store) (AreCleared (IsBelow from) (S.world self.old.store)) }
+        ensures core { self.new.core ≡ self.old.core }
+        // The tree's files stay stored, and at each moment a crash leaves one of its versions.
+        ensures upholds { S.tells → UpholdsFiles (S.world self.old.store) (S.world self.new.store) self.old.core self.new.core }
+        ensures only { IfErr result (λ e. e ≡ Error.Store) }
+        ensures counts { CountsFaults (S.world self.old.store) (S.world self.new.store) result }
+    {
+        remove_below(&mut self.store, from, numbers)
+    }
+}
