@@ -1,5 +1,5 @@
 -- No step of a run changes an answer that it is not to change.
-use Rattle.std.proofs.Common.{◌≡◌, inl, inr, ℕ, ◌≤◌, List, [], ◌∷◌, ◌++◌, Option, Some, None, map, refl, sym, ap, ◌∙◌, subst, append_assoc}
+use Rattle.std.proofs.Common.{◌≡◌, ℕ, ◌≤◌, List, [], ◌∷◌, ◌++◌, Option, Some, None, map, refl, sym, ap, ◌∙◌, subst}
 use Rattle.std.specs.List.{AllByRecursion}
 use Rattle.lsm_below.specs.Keys.{Bytes}
 use Rattle.lsm_below.specs.Entries.{Entry}
@@ -19,19 +19,17 @@ use Rattle.lsm_runs.specs.declared.steps.Step.{Step as Call}
 use Rattle.lsm_runs.specs.declared.steps.Step.TheVariants.{Insert, Remove, RemoveWeak, AppendEntry, Write, Get, GetInternalEntry, ContainsKey, SizeOf, Range, Iter, Prefix, Len, IsEmpty, FirstKeyValue, LastKeyValue, RotateMemtable, Next, Set, FetchMax, AtSlot, Flush, FlushActiveMemtable, Compact, DoCompaction, MajorCompact, DropRange, Clear, ClearActiveMemtable, GetNextTableId, SetMoment, Count as CountOf, IsUncertain, IsCompacting, TreeType}
 use Rattle.lsm_runs.specs.declared.steps.Reply.{Reply}
 use Rattle.lsm_runs.specs.declared.steps.Reply.TheVariants.{Value, Entry as EntryOf, Pairs, Sizes, Number, Sealed, Done, Refused}
-use Rattle.lsm_runs.specs.Told.{Told}
 use Rattle.lsm_runs.specs.ReadSteps.{TakesGet, TakesGetEntry, TakesPairs}
-use Rattle.lsm_runs.specs.Slots.{Stage, at_first}
+use Rattle.lsm_runs.specs.Slots.{Stage}
 use Rattle.lsm_runs.specs.Compacting.{Strategies}
-use Rattle.lsm_runs.specs.Runs.{Takes, TakesAlone, RanToEnd, TakesEntry, TakesBatch, TakesRotate, TakesNext, TakesCounter, with_counter, Ran, IsPlainUse, journal_of, without_low_reads, Spares, RanSparing, RunSparesAnswers}
+use Rattle.lsm_runs.specs.Runs.{Takes, TakesAlone, TakesEntry, TakesBatch, TakesRotate, TakesNext, TakesCounter, with_counter, without_low_reads, Spares}
 use Rattle.lsm_runs.proofs.LowReads.{without-append, writes_without, order_without}
 use Rattle.lsm_runs.proofs.Keeping.{KeepLaws, kept_spares}
 use Rattle.lsm_runs.proofs.Clearing.{clear_after}
 use Rattle.lsm_runs.proofs.FlushReplays.{flush_keeps, active_keeps, moment_keeps}
 use Rattle.lsm_runs.proofs.CompactionReplays.{compact_after, major_after, drop_after, table_id_after}
-use Rattle.lsm_runs.proofs.JobReplays.{flush_after, idle_after, job_after, AreMarked, first_marked}
+use Rattle.lsm_runs.proofs.JobReplays.{flush_after, idle_after, job_after, AreMarked}
 use Rattle.lsm_runs.proofs.ReadReplays.{Sound}
-use Rattle.lsm_runs.proofs.Replays.{takes_sound, takes_marked}
 
 -- a step that changes nothing
 still : (theory : Soundness) (events : List Event) (old new : Core) → new ≡ old → Spares events old new
@@ -139,18 +137,3 @@ pub takes_spares : (laws : KeepLaws) (strategies : Strategies) (opened : List En
 takes_spares laws strategies opened start (AtSlot slot step) reply journal events old new t plain m order h =
     kept_spares opened start journal events old.core new.core (job_after laws strategies step reply journal events (old.jobs slot) (new.jobs slot) old.core new.core (m slot) t.0) order h
 takes_spares laws strategies opened start x reply journal events old new t plain m order h = alone_spares laws strategies opened start x reply journal events old.core new.core t.0 plain order h
-
-ran_sparing : (laws : KeepLaws) (strategies : Strategies) (opened : List Entry) (start : Map) (xs : List Call) (ts : List Told) (journal : List Event) (old new : Stage) → Ran strategies xs ts old new → IsPlainUse xs → AreMarked journal old.jobs → InOrder opened (journal ++ journal_of ts) → Sound opened start journal old.core → RanSparing strategies xs ts old new
-ran_sparing laws strategies opened start [] [] journal old new r plain m order h = r
-ran_sparing laws strategies opened start [] (t ∷ ts) journal old new r plain m order h = absurd r
-ran_sparing laws strategies opened start (x ∷ xs) [] journal old new r plain m order h = absurd r
-ran_sparing laws strategies opened start (x ∷ xs) (t ∷ ts) journal old new r plain m order h =
-    let order' : InOrder opened ((journal ++ t.entries) ++ journal_of ts) = subst (InOrder opened) (sym (append_assoc journal t.entries (journal_of ts))) order in
-    let front = laws.theory.kept.front opened (journal ++ t.entries) (journal_of ts) order' in
-    let here = takes_sound laws strategies opened start x t.reply journal t.entries old r.0 r.1 (λ is. plain (inl is)) m front h in
-    let marked = takes_marked laws.compactions strategies x t.reply journal t.entries old r.0 r.1 m in
-    (r.0, r.1, takes_spares laws strategies opened start x t.reply journal t.entries old r.0 r.1 (λ is. plain (inl is)) m front h, ran_sparing laws strategies opened start xs ts (journal ++ t.entries) r.0 new r.2 (λ i. plain (inr i)) marked order' here)
-
-pub run_spares : (laws : KeepLaws) (strategies : Strategies) (opened : List Entry) (start : Map) (xs : List Call) (ts : List Told) (old new : Core) → RanToEnd strategies xs ts old new → RunSparesAnswers strategies opened start xs ts old new
-run_spares laws strategies opened start xs ts old new r plain is order =
-    (r.0, ran_sparing laws strategies opened start xs ts [] (at_first old) r.0 r.1 plain (first_marked old) order (laws.theory.kept.opened opened start (state_of [] old) is), r.2)

@@ -25,8 +25,8 @@ EachSpares (t ∷ ts) old (mid ∷ trees) = Spares t.entries old mid × EachSpar
 EachSpares ts old trees = ⊥
 
 -- so no step changes what a snapshot sees that is answered before and after, but a write, a clear or a drop at the snapshots above its number
-abbrev pub SparesAfter : (opened : List Entry) (start : Map) (journal : List Event) → List Step → List Told → Core → List Core → Type 0
-SparesAfter opened start journal steps told old trees =
+abbrev pub RunSparesAnswers : (opened : List Entry) (start : Map) (journal : List Event) → List Step → List Told → Core → List Core → Type 0
+RunSparesAnswers opened start journal steps told old trees =
     IsPlainUse steps → Holds opened start (state_of (without_low_reads opened journal) old) → InOrder opened (journal ++ journal_of told) → EachSpares told old trees
 
 -- the steps, one after the other, lead through these stages with these outcomes
@@ -41,5 +41,5 @@ pub record RunIsRight (strategies : Strategies) (steps : List Step) (told : List
   pub ran : RanThrough strategies steps told (at_first old) stages
   pub closes : Closes (last_of (at_first old) stages).core new
   pub answers : (many : ℕ) (opened : List Entry) (start : Map) (journal : List Event) → AnswersAfter opened start journal (take many steps) (take many told) old (last_of (at_first old) (take many stages)).core
-  pub spares : (many : ℕ) (opened : List Entry) (start : Map) (journal : List Event) → SparesAfter opened start journal (take many steps) (take many told) old (map (λ s. s.core) (take many stages))
+  pub spares : (many : ℕ) (opened : List Entry) (start : Map) (journal : List Event) → RunSparesAnswers opened start journal (take many steps) (take many told) old (map (λ s. s.core) (take many stages))
   pub goes_on : (opened : List Entry) (start : Map) (journal : List Event) → AnswersAfter opened start journal steps told old new

@@ -1,5 +1,5 @@
 -- A tree from its opening on, and how it goes on.
-use Rattle.std.specs.Prelude.{◌≡◌, ℕ, ◌≤◌, List, [], None, map}
+use Rattle.std.specs.Prelude.{◌≡◌, ◌≤◌, List, [], None, map}
 use Rattle.lsm_below.specs.Entries.{Entry}
 use Rattle.lsm_store.specs.World.{World}
 use Rattle.lsm_model.specs.Journal.{Map, next_number}
@@ -9,12 +9,13 @@ use Rattle.lsm_files.specs.Stored.{IsStored}
 use Rattle.lsm_state.specs.Core.{Core, latest_of, state_of, versions_left, written_of}
 use Rattle.lsm_state.specs.Opened.{StartsWith}
 use Rattle.lsm_runs.specs.declared.steps.Step.{Step}
+use Rattle.lsm_runs.specs.After.{RunIsRight}
 use Rattle.lsm_runs.specs.Chains.{Point}
 use Rattle.lsm_runs.specs.Compacting.{Strategies}
 use Rattle.lsm_runs.specs.Counting.{RunIsInOrder}
 use Rattle.lsm_runs.specs.Lives.{StepsAreLives}
 use Rattle.lsm_runs.specs.Moments.{outcomes_of, RunHasMoments}
-use Rattle.lsm_runs.specs.Runs.{RanToEnd, RunEqualsReplay, RunSparesAnswers}
+use Rattle.lsm_runs.specs.Runs.{RanToEnd, RunEqualsReplay}
 use Rattle.lsm_runs.specs.Slots.{at_first}
 use Rattle.lsm_runs.specs.Told.{Told}
 use Rattle.lsm_runs.specs.Unknown.{RunStops}
@@ -38,7 +39,7 @@ pub record LivesOn {F : Type 0} (world : F → World) (strategies : Strategies) 
   -- their keys, the journal is in order
   pub ran : RanToEnd strategies steps told old new
   pub replays : RunEqualsReplay (opened_in old) m steps told old new
-  pub spares : RunSparesAnswers strategies (opened_in old) m steps told old new
+  pub right : RunIsRight strategies steps told old new
   pub in_order : RunIsInOrder strategies steps told old new
   -- behind a commit of unknown outcome none called the store
   pub unknown : RunStops strategies steps told first is old new

@@ -197,15 +197,3 @@ RunEqualsReplay opened start steps told old new =
 -- what each snapshot sees stays, if all these events spare it and it finds a super version before and after
 abbrev pub Spares : List Event → Core → Core → Type 0
 Spares events old new = (s : ℕ) → AllByRecursion (IsSparedBy s) events → StaysAt s (state_of [] old) (state_of [] new)
-
--- the steps lead from the old state to the new with these outcomes, and each leaves what its events spare
-abbrev pub RanSparing : Strategies → List Step → List Told → Stage → Stage → Type 0
-RanSparing strategies [] [] old new = new ≡ old
-RanSparing strategies (x ∷ xs) (t ∷ ts) old new = (mid : Stage) × Takes strategies x t.reply t.entries old mid × Spares t.entries old.core mid.core × RanSparing strategies xs ts mid new
-RanSparing strategies [] (t ∷ ts) old new = ⊥
-RanSparing strategies (x ∷ xs) [] old new = ⊥
-
--- From a tree as opening left it, in plain use, whenever the journal is in order, no step changes what a snapshot sees
--- that is answered before and after, but a write, a clear or a drop at the snapshots above its sequence number.
-abbrev pub RunSparesAnswers : Strategies → (opened : List Entry) (start : Map) → List Step → List Told → Core → Core → Type 0
-RunSparesAnswers strategies opened start steps told old new = IsPlainUse steps → IsOpened opened start (state_of [] old) → InOrder opened (journal_of told) → (last : Stage) × RanSparing strategies steps told (at_first old) last × Closes last.core new

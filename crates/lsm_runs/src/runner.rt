@@ -1,10 +1,9 @@
 // A list of calls on a tree, with the replay theorem.
-ghost use Rattle.std.specs.Prelude.{◌≡◌, ◌≤◌, ◌++◌, ◌∷◌, [], List, map, take, length, IsSome, IfOk, OnOk, OnErr};
+ghost use Rattle.std.specs.Prelude.{◌≡◌, ◌≤◌, ◌++◌, ◌∷◌, [], List, take, length, IsSome, IfOk, OnOk, OnErr};
 ghost use Rattle.lsm_below.specs.Entries.{Entry, plain};
 ghost use Rattle.lsm_model.specs.Journal.{Map};
-ghost use Rattle.lsm_model.specs.Ops.{op_entry, op_entries};
+ghost use Rattle.lsm_model.specs.Ops.{op_entry};
 ghost use Rattle.lsm_model.specs.declared.op.Op.TheVariants.{Set as SetTo, Del, Weak};
-ghost use Rattle.lsm_model.specs.declared.journal.JournalEntry.TheVariants.{Write as Wrote};
 ghost use Rattle.lsm_runs.specs.Told.{Told};
 ghost use Rattle.lsm_runs.specs.Counting.{RunIsInOrder};
 ghost use Rattle.lsm_runs.specs.ReadSteps.{TakesGet, TakesGetEntry, TakesSilent, IsContainsReply, IsSizeReply};
@@ -18,7 +17,7 @@ ghost use Rattle.lsm_runs.specs.Compacting.{strategies_of};
 ghost use Rattle.lsm_runs.specs.Unknown.{RanUnknown, RunStops};
 ghost use Rattle.lsm_runs.specs.Slots.{at_first, beside, SameJobs};
 ghost use Rattle.lsm_runs.specs.Moments.{RunHasMoments};
-ghost use Rattle.lsm_runs.specs.Runs.{Takes, TakesEntry, TakesBatch, TakesRotate, told_entry, told_batch, Ran, RanToEnd, RunEqualsReplay, RunSparesAnswers};
+ghost use Rattle.lsm_runs.specs.Runs.{Takes, TakesEntry, TakesBatch, TakesRotate, Ran, RanToEnd, RunEqualsReplay};
 ghost use Rattle.lsm_runs.specs.Adds.{EachAdds};
 ghost use Rattle.lsm_runs.specs.After.{RunIsRight};
 
@@ -326,7 +325,7 @@ fn take_steps<S: Store>(
 /// `merges`). A step costs what its call costs, and a list of pairs is kept once, for the reply and the journal.
 ///
 /// Without an index, and where no step forgets what isn't flushed (`ClearActiveMemtable`), the replay theorem holds
-/// (`replays`) and no step changes what it is not to change (`spares`). That the journal is in order, the other premise of both,
+/// (`replays`) and no step changes what it is not to change (`right`). That the journal is in order, the other premise of both,
 /// follows from the order that callers keep by the counter (`in_order`). Over a store that holds the tree's files a crash at any
 /// moment of the run leaves a beginning of the calls so far, which holds all that they covered, and calls may go on from any moment
 /// (`moments`). From a step that leaves the outcome of a commit unknown on, none makes a commit or removes a name (`unknown`).
@@ -348,10 +347,9 @@ pub fn run<S: Store>(
     ensures whole { OnOk result.ended (length result.outcomes.items ≡ length steps.now) }
     ensures ran { RanToEnd (strategies_of (λ b. may_choose b) (λ b. may_refuse b) strategies.now) (take (length result.outcomes.items) steps.now) result.outcomes.items state.old.core state.new.core }
     ensures replays { (opened : List Entry) (start : Map) → RunEqualsReplay opened start (take (length result.outcomes.items) steps.now) result.outcomes.items state.old.core state.new.core }
-    ensures spares { (opened : List Entry) (start : Map) → RunSparesAnswers (strategies_of (λ b. may_choose b) (λ b. may_refuse b) strategies.now) opened start (take (length result.outcomes.items) steps.now) result.outcomes.items state.old.core state.new.core }
     // What each step adds to the journal, by its kind and its reply.
     ensures adds { EachAdds (take (length result.outcomes.items) steps.now) result.outcomes.items }
-    // Both after whatever was called before, and of the first so many steps, whatever comes later.
+    // Answers, and what no step changes of them, after whatever was called before, and of the first so many steps, whatever comes later.
     ensures right { RunIsRight (strategies_of (λ b. may_choose b) (λ b. may_refuse b) strategies.now) (take (length result.outcomes.items) steps.now) result.outcomes.items state.old.core state.new.core }
     ensures in_order { RunIsInOrder (strategies_of (λ b. may_choose b) (λ b. may_refuse b) strategies.now) (take (length result.outcomes.items) steps.now) result.outcomes.items state.old.core state.new.core }
     // Each flush and each merge that a step begins ends or is given up, at the latest when the run ends.

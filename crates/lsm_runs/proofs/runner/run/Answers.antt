@@ -12,7 +12,6 @@ use Rattle.lsm_runs.proofs.Files.{closed_stored}
 use Rattle.lsm_runs.proofs.GivingUp.{all_closes}
 use Rattle.lsm_runs.proofs.OpenMerges.{KeepsStart, start_kept, ran_kept}
 use Rattle.lsm_runs.proofs.Replays.{run_replays, run_to_end, free_slots}
-use Rattle.lsm_runs.proofs.Spared.{run_spares}
 use Rattle.lsm_runs.proofs.runner.run.Goals as goal
 
 pub returns-clause-ran : goal.returns-clause-ran
@@ -37,11 +36,6 @@ pub returns-clause-replays : goal.returns-clause-replays
 returns-clause-replays g c opened start =
     let laws : KeepLaws = record { theory = c.reads_are_sound.ensures; flushes = c.flushes_keep_reads.ensures; compactions = c.noted_compactions_keep_reads.ensures; clears = c.clears_keep_reads.ensures } in
     run_replays c.lists_are_steps.ensures laws _ opened start _ _ _ _ (returns-clause-ran g c)
-
-pub returns-clause-spares : goal.returns-clause-spares
-returns-clause-spares g c opened start =
-    let laws : KeepLaws = record { theory = c.reads_are_sound.ensures; flushes = c.flushes_keep_reads.ensures; compactions = c.noted_compactions_keep_reads.ensures; clears = c.clears_keep_reads.ensures } in
-    run_spares laws _ opened start _ _ _ _ (returns-clause-ran g c)
 
 pub returns-clause-adds : goal.returns-clause-adds
 returns-clause-adds g c = run_adds_so _ _ _ _ _ (returns-clause-ran g c)
