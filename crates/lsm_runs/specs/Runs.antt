@@ -1,16 +1,16 @@
 -- What a run of steps does, and what its reads answer.
-use Rattle.std.specs.Prelude.{◌≡◌, ℕ, ◌+◌, ◌<◌, ◌≤◌, ◌^◌, ◌⊎◌, max, Bool, true, List, [], ◌∷◌, ◌++◌, Result, Ok, Err, map, filter, nat_le}
+use Rattle.std.specs.Prelude.{◌≡◌, ℕ, ◌+◌, ◌<◌, ◌≤◌, ◌^◌, ◌⊎◌, max, List, [], ◌∷◌, ◌++◌, Result, Ok, Err, map}
 use Rattle.std.specs.List.{AllByRecursion}
 use Rattle.std.specs.declared.ops.Bound.TheVariants.{Unbounded}
 use Rattle.lsm_below.specs.Keys.{Bytes}
-use Rattle.lsm_below.specs.Entries.{Entry, above, plain}
+use Rattle.lsm_below.specs.Entries.{Entry, plain}
 use Rattle.lsm_below.specs.Members.{IsIn}
 use Rattle.lsm_model.specs.Journal.{Event, Map, InOrder}
 use Rattle.lsm_model.specs.Steps.{IsOpened, ReadsEqualReplay, StaysAt, IsSparedBy}
 use Rattle.lsm_model.specs.Ops.{op_entry, op_entries}
 use Rattle.lsm_model.specs.declared.op.Op.{Op}
 use Rattle.lsm_model.specs.declared.op.Op.TheVariants.{Set as SetTo, Del, Weak}
-use Rattle.lsm_model.specs.declared.journal.JournalEntry.TheVariants.{Write as Wrote, Read}
+use Rattle.lsm_model.specs.declared.journal.JournalEntry.TheVariants.{Write as Wrote}
 use Rattle.lsm_model.specs.declared.question.Question.TheVariants.{Between, Prefix as AskPrefix}
 use Rattle.lsm_iter.specs.declared.tree_iter.End.TheVariants.{Front, Back}
 use Rattle.lsm_below.specs.declared.error.Error.{Error}
@@ -19,6 +19,7 @@ use Rattle.lsm_state.specs.Held.{first_entries}
 use Rattle.lsm_state.specs.Core.{Core, state_of}
 use Rattle.lsm_state.specs.Calls.{Appends, WritesBatch, Rotates}
 use Rattle.lsm_state.specs.WholeCompactions.{options_at}
+pub use Rattle.lsm_run_model.specs.Outcomes.{is_no_low_read, without_low_reads}
 use Rattle.lsm_runs.specs.declared.steps.Counter.{Counter}
 use Rattle.lsm_runs.specs.declared.steps.Counter.TheVariants.{Seqno, Visible}
 use Rattle.lsm_runs.specs.declared.steps.Step.{Step}
@@ -174,15 +175,6 @@ abbrev pub EachAnswers : List Entry → Map → List Event → List Step → Lis
 EachAnswers opened start before (x ∷ xs) (t ∷ ts) = StepAnswers opened start before x t.reply × EachAnswers opened start (before ++ t.entries) xs ts
 EachAnswers opened start before [] ts = Unit {0}
 EachAnswers opened start before (x ∷ xs) [] = Unit {0}
-
--- is an event anything but a read at a snapshot below what was opened?
-abbrev pub is_no_low_read : List Entry → Event → Bool
-is_no_low_read opened (Read s question told) = nat_le (above opened) s
-is_no_low_read opened event = true
-
--- a journal without its reads below what was opened: what a key was down there is not known. All of it where nothing was opened
-abbrev pub without_low_reads : List Entry → List Event → List Event
-without_low_reads opened journal = filter (is_no_low_read opened) journal
 
 -- From a tree as opening left it, in plain use, whenever the journal is in order: each step answers right, every super
 -- version stays ordered, views equal replays, and kept snapshots are answered. In order speaks of the journal alone: a
