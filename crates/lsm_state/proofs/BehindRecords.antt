@@ -7,6 +7,7 @@ use Rattle.lsm_store.specs.World.{World, Same, LeavesOnly}
 use Rattle.lsm_model.specs.Ops.{op_entries}
 use Rattle.lsm_model.specs.declared.op.Op.{Op}
 use Rattle.lsm_memtable.specs.Memtables.{SeenMemtable}
+use Rattle.lsm_files.specs.Stored.{CountsFaults}
 use Rattle.lsm_files.specs.Foreign.{Spares}
 use Rattle.lsm_log.specs.Changes.{PutsRecord, IsPut}
 use Rattle.lsm_state.specs.Held.{put_all_first}
@@ -101,6 +102,16 @@ put_err number bytes w w' e puts moment spares = record {
   nothing = λ m. puts.nothing m;
   spares = spares;
 }
+
+-- the same error blames the store alike, whatever the answer's type
+pub counts_err : {A B : Type 0} (w w' : World) (e : Error) → CountsFaults {T = A} w w' (Err e) → CountsFaults {T = B} w w' (Err e)
+counts_err {A} {B} w w' e c = record { store = λ h. c.store (ap Err (error_of Store h)); unknown = λ h. c.unknown (ap Err (error_of CommitUnknown h)); none = λ s u. c.none (λ h. s (ap Err (back Store h))) (λ h. u (ap Err (back CommitUnknown h))) }
+  where
+    error_of : (x : Error) → IsErrOf {T = B} (Err e) x → e ≡ x
+    error_of x h = cc h
+
+    back : (x : Error) → IsErrOf {T = A} (Err e) x → e ≡ x
+    back x h = cc h
 
 nothing_put : (number : ℕ) (ops : List (Bytes × Op)) (w w' : World) (e : Error) → (e ≡ CommitUnknown → ⊥) → Same w w' → RecordsBatch number ops w w' (Err e)
 nothing_put number ops w w' e isnt same = record { ok = tt; unknown = λ u. absurd (isnt (cc u)); refused = inr same }

@@ -1,13 +1,16 @@
-use Rattle.std.proofs.Common.{◌≡◌, ap, sym, subst, ◌∙◌, refl, rules, ⊎_elim, inl, inr, Err}
+use Rattle.std.proofs.Common.{◌≡◌, ◌⊎◌, ap, sym, subst, ◌∙◌, refl, rules, ⊎_elim, inl, inr, Option, None, Err, IsSome}
+use Rattle.lsm_below.specs.declared.error.Error.{Error}
 use Rattle.lsm_below.specs.declared.error.Error.TheVariants.{OutOfMemory, Store, CommitUnknown}
+use Rattle.lsm_files.specs.Stored.{CountsFaults}
 use Rattle.lsm_state.specs.Core.{Core}
 use Rattle.lsm_state.specs.Commits.{UpholdsFiles}
 use Rattle.lsm_state.specs.Held.{put_all_first}
 use Rattle.lsm_state.specs.Kept.{KeepsIds}
+use Rattle.lsm_state.specs.Refusals.{batch_refusal}
 use Rattle.lsm_state.specs.Recording.{WritesBehindRecord, RecordsBatch}
 use Rattle.lsm_state.proofs.Kept.{kept_put_all}
 use Rattle.lsm_state.proofs.Upholding.{upheld_still}
-use Rattle.lsm_state.proofs.BehindRecords.{Why, put_upholds, recorded, refused, batch_refused}
+use Rattle.lsm_state.proofs.BehindRecords.{Why, put_upholds, recorded, refused, counts_err, batch_refused}
 use Rattle.lsm_state.proofs.tree.TreeState.write_behind_record.Goals as goal
 
 pub returns-in_err-content-clause-upholds : goal.returns-in_err-content-clause-upholds
@@ -63,5 +66,7 @@ returns g c =
       writes = subst (λ t. WritesBehindRecord c.args.ops.items (Err e) t.core new) c.self.view_is writes;
       records = λ tells. subst (λ t. RecordsBatch t.core.seqno c.args.ops.items (w t.store) w' (Err e)) c.self.view_is
           (subst (λ n. RecordsBatch n c.args.ops.items (w i.store) w' (Err e)) c.get-number.ensures (batch_refused c.get-number.result c.deref.result.now c.args.ops.items (w i.store) w' e isnt short (c.in-Err.ensures.records tells)));
+      no_call = λ some. let none : IsSome {T = Error} None = subst (λ (o : Option Error). IsSome o) (subst (λ t. batch_refusal t.core.seqno c.args.ops.items ≡ None) c.self.view_is (ap (λ m. batch_refusal m c.args.ops.items) (sym c.get-number.ensures) ∙ free)) some in absurd (cc none);
+      counts = subst (λ t. CountsFaults (w t.store) w' (Err e)) c.self.view_is (counts_err (w i.store) w' e c.in-Err.ensures.counts);
       upholds = λ tells. subst (λ t. UpholdsFiles (w t.store) w' t.core new) c.self.view_is (put_upholds (w i.store) w' old new (c.in-Err.ensures.records tells).spares refl refl refl);
     }
