@@ -18,6 +18,7 @@ pub mod Unknown
 pub mod Spared
 pub mod After
 pub mod Adds
+pub mod Small
 mod Counting
 pub mod OpenWork
 pub mod OpenFlush

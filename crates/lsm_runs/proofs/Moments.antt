@@ -1,6 +1,7 @@
 -- What the steps of a run are to the theory of runs: each does what its outcome tells, so the theory's theorem is that of runs.
 use Rattle.std.specs.FinMap.{empty}
 use Rattle.std.proofs.Common.{◌≡◌, ⊎_elim, inl, inr, ℕ, zero, suc, ◌≤◌, arith, Bool, true, false, cond, List, [], ◌∷◌, ◌++◌, Option, Some, None, map, take, length, option_to_list, refl, sym, ap, ◌∙◌, subst}
+use Rattle.std.specs.List.{AllByRecursion}
 use Rattle.lsm_below.specs.Entries.{Entry, above}
 use Rattle.lsm_below.specs.Members.{IsIn}
 use Rattle.lsm_below.specs.declared.error.Error.{Error}
@@ -41,7 +42,7 @@ use Rattle.lsm_runs.specs.Chains.{Point, RanAlong, RanTo}
 use Rattle.lsm_runs.specs.Notes.{sealed_noted, flushed_noted, none_begun}
 use Rattle.lsm_runs.specs.Moments.{job_noted, lost_noted, alone_noted, noted_of, outcome_of, outcomes_of, Reopens, FindsPlaced, StandsAfter, EachReady, HasMoments, TellsSo, GoesOn, RunHasMoments}
 use Rattle.lsm_runs.specs.Noting.{sealed_note, sealed_behind, flushed_note, job_notes, lost_note, alone_notes, notes_of, ids_in}
-use Rattle.lsm_runs.specs.Runs.{Takes, IsPlainUse, without_low_reads}
+use Rattle.lsm_runs.specs.Runs.{Takes, IsPlainUse, journal_of, without_low_reads}
 use Rattle.lsm_runs.specs.Slots.{Stage, at_first, Closes}
 use Rattle.lsm_runs.specs.Told.{Told}
 use Rattle.lsm_runs.proofs.RunDeeds.{step_deeds}
@@ -54,6 +55,7 @@ use Rattle.lsm_runs.proofs.Notes.{AreBegun, first_begun, each_tells, front_grows
 use Rattle.lsm_runs.proofs.Made.{takes_one}
 use Rattle.lsm_runs.proofs.Readiness.{OnlyNow, stored_stays_ready, step_ready}
 use Rattle.lsm_runs.proofs.Replays.{takes_marked}
+use Rattle.lsm_runs.proofs.Small.{IsSmall}
 use Rattle.lsm_runs.proofs.StepDeeds.{HasDeeds, IsRight}
 
 -- ---- notes
@@ -327,8 +329,8 @@ any_map = empty
 
 pub run_has_moments : KeepLaws → (strategies : Strategies) {F : Type 0} (world : F → World) → RunsCompose Reply FindsPlaced Reopens world → FlushesAreDeeds → FoundTablesShow → FoundOnce → NoLowReads → NumbersAreBounded → NotesTellSealed → StoredIsReady F world → OnlyNow world
     → (xs : List Call) (ts : List Told) (old new : Point F) → RanTo world strategies xs ts old new → IsKeptTree old.stage.core → old.stage ≡ at_first old.stage.core → Upholds (world old.store) (world old.store) old.stage.core old.stage.core
-    → (is : F) (core : Core) → is ≡ new.store → Closes new.stage.core core → RunHasMoments world strategies xs ts (record { store = old.store; stage = at_first old.stage.core }) is core
-run_has_moments laws strategies world compose deeds shows once high bounded sealed ready only xs ts old new ran kept free still is core store closes =
+    → (is : F) (core : Core) → is ≡ new.store → Closes new.stage.core core → AllByRecursion IsSmall (journal_of ts) → RunHasMoments world strategies xs ts (record { store = old.store; stage = at_first old.stage.core }) is core
+run_has_moments laws strategies world compose deeds shows once high bounded sealed ready only xs ts old new ran kept free still is core store closes small =
     let points = ran.points in
     let r = ran.ran in
     let at_end : (last_of old points).store ≡ is = ap (λ (p : Point _). p.store) ran.ends ∙ sym store in
@@ -338,6 +340,7 @@ run_has_moments laws strategies world compose deeds shows once high bounded seal
       ran = r;
       ends = at_end;
       closes = closed;
+      small = small;
       begins = λ opened start opens certain stored. record { came = begins laws strategies opened start world deeds old.stage.core kept opens certain; stored = stored };
       moments = λ opened start past. has_moments laws strategies opened start world compose shows once high bounded xs ts old points r free still past;
       ready = each_ready laws strategies [] any_map world ready only once xs ts old points r;

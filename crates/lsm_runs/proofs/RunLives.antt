@@ -1,5 +1,6 @@
 -- A run on a tree as opening left it is a life.
-use Rattle.std.proofs.Common.{◌≡◌, ℕ, zero, suc, ◌+◌, ◌≤◌, ◌^◌, arith, List, [], ◌∷◌, map, take, length, refl, ap, subst, ◌∙◌}
+use Rattle.std.proofs.Common.{◌≡◌, ℕ, zero, suc, ◌+◌, ◌≤◌, ◌^◌, arith, List, [], ◌∷◌, map, take, length, ◌++◌, refl, sym, ap, subst, ◌∙◌}
+use Rattle.std.specs.List.{AllByRecursion}
 use Rattle.lsm_below.specs.Entries.{Entry}
 use Rattle.lsm_store.specs.World.{World}
 use Rattle.lsm_model.specs.Journal.{Map}
@@ -18,7 +19,9 @@ use Rattle.lsm_runs.specs.Compacting.{Strategies}
 use Rattle.lsm_runs.specs.Lives.{StepsAreLives, Lives, told_of}
 use Rattle.lsm_runs.specs.Living.{RunsAreLives}
 use Rattle.lsm_runs.specs.Moments.{outcomes_of, EachReady, Reopens, RunHasMoments}
+use Rattle.lsm_runs.specs.Runs.{journal_of}
 use Rattle.lsm_runs.specs.Told.{Told}
+use Rattle.lsm_runs.proofs.Small.{IsSmall, numbered_front}
 
 map_take : {A B : Type 0} (f : A → B) (many : ℕ) (xs : List A) → map f (take many xs) ≡ take many (map f xs)
 map_take f zero xs = refl
@@ -45,13 +48,26 @@ module _ {F : Type 0} (world : F → World) where
   last_ready (suc answered) was [] few h = h.1
   last_ready (suc answered) was (is ∷ stores) few h = last_ready answered is stores (omega (few, arith)) h.2
 
+-- what callers see of the outcomes, and their journal
+journal_same : {F : Type 0} (world : F → World) (strategies : Strategies) (xs : List Call) (ts : List Told) (old : Point F) (points : List (Point F)) → RanAlong world strategies xs ts old points → out.journal_of (outcomes_of xs ts old points) ≡ journal_of ts
+journal_same world strategies [] [] old [] r = refl
+journal_same world strategies (x ∷ xs) (t ∷ ts) old (mid ∷ points) r = ap (λ es. t.entries ++ es) (journal_same world strategies xs ts mid points r.2)
+journal_same world strategies xs ts old points r = absurd r
+
+pub told_same : {F : Type 0} (world : F → World) (strategies : Strategies) (xs : List Call) (ts : List Told) (old : Point F) (points : List (Point F)) → RanAlong world strategies xs ts old points → map told_of (outcomes_of xs ts old points) ≡ ts
+told_same world strategies [] [] old [] r = refl
+told_same world strategies (x ∷ xs) (t ∷ ts) old (mid ∷ points) r = ap (λ us. t ∷ us) (told_same world strategies xs ts mid points r.2)
+told_same world strategies xs ts old points r = absurd r
+
 pub runs_are_lives : {F : Type 0} (world : F → World) (strategies : Strategies) → RunsAreLives world strategies
-runs_are_lives {F} world strategies steps told old is new run opened start opens certain stored many answered end plain order numbered ends all =
+runs_are_lives {F} world strategies steps told old is new run opened start opens certain stored low many answered end plain order ends all =
     let stands = run.begins opened start opens certain stored in
     let every : List F = map (λ p. p.store) run.points in
     let stores = take many every in
     let few = length_front many every in
-    let outcomes : List (out.Told Reply) = take many (outcomes_of steps told old run.points) in
+    let whole : List (out.Told Reply) = outcomes_of steps told old run.points in
+    let outcomes : List (out.Told Reply) = take many whole in
+    let numbered = numbered_front opened many whole low (subst (AllByRecursion IsSmall) (sym (journal_same world strategies steps told old run.points run.ran)) run.small) in
     record {
       life = record {
         opened = opened;
@@ -67,12 +83,6 @@ runs_are_lives {F} world strategies steps told old is new run opened start opens
       told = refl;
       answered = refl;
     }
-
--- what callers see of the outcomes
-pub told_same : {F : Type 0} (world : F → World) (strategies : Strategies) (xs : List Call) (ts : List Told) (old : Point F) (points : List (Point F)) → RanAlong world strategies xs ts old points → map told_of (outcomes_of xs ts old points) ≡ ts
-told_same world strategies [] [] old [] r = refl
-told_same world strategies (x ∷ xs) (t ∷ ts) old (mid ∷ points) r = ap (λ us. t ∷ us) (told_same world strategies xs ts mid points r.2)
-told_same world strategies xs ts old points r = absurd r
 
 stores_end : {F : Type 0} (old : Point F) (points : List (Point F)) → last_of old.store (map (λ p. p.store) points) ≡ (last_of old points).store
 stores_end old [] = refl

@@ -12,7 +12,6 @@ use Rattle.lsm_manifest.specs.Ready.{IsReady, OpeningLeaves}
 use Rattle.lsm_run_model.specs.Outcomes.{nothing, after_all}
 use Rattle.lsm_run_model.specs.Outcomes as out
 use Rattle.lsm_run_model.specs.Moments.{last_of}
-use Rattle.lsm_run_model.specs.Composing.{AreNumbered}
 use Rattle.lsm_run_model.specs.Lives.{End, EndsIn, IsKill, Lived, ManyLives}
 use Rattle.lsm_runs.specs.declared.steps.Step.{Step}
 use Rattle.lsm_runs.specs.declared.steps.Reply.{Reply}
@@ -43,14 +42,13 @@ pub record LivedSo {F : Type 0} (world : F → World) (start : Map) (outcomes : 
   pub told : life.told ≡ outcomes
   pub answered : life.answered ≡ many
 
--- The first so many of some steps, in plain use, in order and numbered below 2^63, are such a life, however it ended: by a crash in the steps that
--- hadn't been answered or after them, or because the process was killed in the last one of them or after it. Behind each step there is a store.
+-- The first so many of some steps, in plain use and in order, are such a life, however it ended: by a crash in the steps that hadn't been
+-- answered or after them, or because the process was killed in the last one of them or after it. Behind each step there is a store.
 abbrev pub StepsAreLives : {F : Type 0} → (F → World) → (opened : List Entry) (start : Map) → List Step → List (out.Told Reply) → F → List F → Type 0
 StepsAreLives {F} world opened start steps told first stores = (many answered : ℕ) (end : End F) →
     let outcomes = take many told in
     let all = after_all opened nothing outcomes in
-    IsPlainUse (take many steps) → InOrder opened all.journal → AreNumbered (2 ^ 63) opened all.journal
-    → EndsIn world (world (last_of first (take answered (take many stores)))) (world (last_of first (take many stores))) end → (IsKill end → many ≤ answered + 1)
+    IsPlainUse (take many steps) → InOrder opened all.journal → EndsIn world (world (last_of first (take answered (take many stores)))) (world (last_of first (take many stores))) end → (IsKill end → many ≤ answered + 1)
     → LivedSo world start outcomes answered end
 
 -- what callers see of an outcome

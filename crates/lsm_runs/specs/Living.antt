@@ -1,6 +1,6 @@
 -- A tree from its opening on, and how it goes on.
-use Rattle.std.specs.Prelude.{◌≡◌, ◌≤◌, List, [], None, map}
-use Rattle.lsm_below.specs.Entries.{Entry}
+use Rattle.std.specs.Prelude.{◌≡◌, ◌≤◌, ◌^◌, List, [], None, map}
+use Rattle.lsm_below.specs.Entries.{Entry, above}
 use Rattle.lsm_store.specs.World.{World}
 use Rattle.lsm_model.specs.Journal.{Map, next_number}
 use Rattle.lsm_model.specs.Steps.{IsOpened}
@@ -46,8 +46,8 @@ pub record LivesOn {F : Type 0} (world : F → World) (strategies : Strategies) 
   -- what stands at each moment, and how calls go on
   pub moments : RunHasMoments world strategies steps told (record { store = first; stage = at_first old }) is new
 
--- A run on a tree as opening left it, over a store that holds its files, is a life.
+-- A run on a tree as opening left it, over a store that holds its files, where what was opened is numbered below 2^63, is a life.
 abbrev pub RunsAreLives : {F : Type 0} → (F → World) → Strategies → Type 0
 RunsAreLives {F} world strategies = (steps : List Step) (told : List Told) (old : Point F) (is : F) (new : Core) (run : RunHasMoments world strategies steps told old is new) (opened : List Entry) (start : Map)
     → IsOpened opened start (state_of [] old.stage.core) → old.stage.core.lost ≡ None → IsStored (world old.store) (versions_left old.stage.core) (written_of old.stage.core)
-    → StepsAreLives world opened start steps (outcomes_of steps told old run.points) old.store (map (λ p. p.store) run.points)
+    → above opened ≤ 2 ^ 63 → StepsAreLives world opened start steps (outcomes_of steps told old run.points) old.store (map (λ p. p.store) run.points)

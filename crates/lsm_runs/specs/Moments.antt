@@ -1,9 +1,11 @@
 -- The outcomes of a run as the theory of runs has them, with their notes as values, and what a crash leaves at each moment of it.
-use Rattle.std.specs.Prelude.{◌≡◌, ℕ, ◌≤◌, List, [], ◌∷◌, ◌++◌, Option, None, map, take, if◌then◌else◌}
+use Rattle.std.specs.Prelude.{◌≡◌, ℕ, ◌<◌, ◌≤◌, ◌^◌, List, [], ◌∷◌, ◌++◌, Option, None, map, take, if◌then◌else◌}
+use Rattle.std.specs.List.{AllByRecursion}
 use Rattle.lsm_below.specs.Entries.{Entry, above}
 use Rattle.lsm_below.specs.declared.error.Error.{Error}
 use Rattle.lsm_below.specs.declared.error.Error.TheVariants.{CommitUnknown}
 use Rattle.lsm_store.specs.World.{Image, World}
+use Rattle.lsm_model.specs.Counted.{OfWrite}
 use Rattle.lsm_model.specs.Journal.{Map, InOrder}
 use Rattle.lsm_model.specs.Views.{Placed, held}
 use Rattle.lsm_model.specs.Steps.{IsOpened}
@@ -32,7 +34,7 @@ use Rattle.lsm_runs.specs.Compacting.{Strategies}
 use Rattle.lsm_runs.specs.Chains.{Point, RanAlong}
 use Rattle.lsm_runs.specs.Notes.{sealed_noted, flushed_noted, none_begun, EachTells}
 use Rattle.lsm_runs.specs.Noting.{sealed_behind, ids_in}
-use Rattle.lsm_runs.specs.Runs.{IsPlainUse}
+use Rattle.lsm_runs.specs.Runs.{IsPlainUse, journal_of}
 use Rattle.lsm_runs.specs.Slots.{Stage, Closes}
 use Rattle.lsm_runs.specs.Told.{Told}
 
@@ -136,6 +138,8 @@ pub record RunHasMoments {F : Type 0} (world : F → World) (strategies : Strate
   -- jobs that wait in the end are given up, and that calls no store
   pub ends : (last_of old points).store ≡ is
   pub closes : Closes (last_of old points).stage.core new
+  -- what is written is numbered below 2^63
+  pub small : AllByRecursion (OfWrite (λ e. e.key.seqno < 2 ^ 63)) (journal_of told)
   pub begins : BeginsWith world old.store old.stage.core
   -- a process may end at any moment, in a step or between two
   pub ready : IsStored (world old.store) (versions_left old.stage.core) (written_of old.stage.core) → EachReady world old.store (map (λ p. p.store) points)

@@ -5,6 +5,7 @@ use Rattle.lsm_runs.specs.Living.{opened_in}
 use Rattle.lsm_runs.specs.Slots.{at_first}
 use Rattle.lsm_runs.proofs.Causing.{causes_between}
 use Rattle.lsm_runs.proofs.RunLives.{runs_are_lives, lived}
+use Rattle.lsm_runs.proofs.Small.{found_low}
 use Rattle.lsm_runs.proofs.Settled.{settled_for}
 use Rattle.lsm_runs.proofs.life.live.Goals as goal
 
@@ -17,7 +18,7 @@ returns-clause-lives g c tells ready m stands =
     let moments = c.run-taken.ensures.moments tells in
     lived world _ c.args.store (opened_in c.in-Ok.tree.core) m _ _ old _ _ moments
     (λ tables found. c.openings_leave_what_was_read.ensures.meanwhile tells c.args.store c.in-Ok.tree.store tables ready found (opened.opens tells).leaves)
-    (runs_are_lives world _ _ _ old _ _ moments (opened_in c.in-Ok.tree.core) m starts.starts (ap (λ (t : Core). t.lost) opened.core) ((opened.opens tells).stored ready))
+    (runs_are_lives world _ _ _ old _ _ moments (opened_in c.in-Ok.tree.core) m starts.starts (ap (λ (t : Core). t.lost) opened.core) ((opened.opens tells).stored ready) (found_low c.in-Ok.tree.core.history.latest.version.levels opened.small))
 
 pub returns-clause-lives_on : goal.returns-clause-lives_on
 returns-clause-lives_on g c tells ready m stands =

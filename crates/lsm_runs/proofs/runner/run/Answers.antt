@@ -11,6 +11,7 @@ use Rattle.lsm_runs.proofs.Moments.{run_has_moments}
 use Rattle.lsm_runs.proofs.Files.{closed_stored}
 use Rattle.lsm_runs.proofs.GivingUp.{all_closes}
 use Rattle.lsm_runs.proofs.OpenMerges.{KeepsStart, start_kept, ran_kept}
+use Rattle.lsm_runs.proofs.Small.{run_small}
 use Rattle.lsm_runs.proofs.Replays.{run_replays, run_to_end, free_slots}
 use Rattle.lsm_runs.proofs.runner.run.Goals as goal
 
@@ -79,4 +80,4 @@ returns-clause-moments g c tells =
     let world = g.S.Store.world in
     run_has_moments laws _ world c.runs_compose.ensures c.flushes_are_deeds.ensures c.found_tables_show.ensures.shows c.images_stand_once.ensures.found c.no_low_reads.ensures c.numbers_are_bounded.ensures c.notes_tell_sealed.ensures c.stored_files_are_ready.ensures (g.met.S.Store.only_now tells) taken told first last
     (c.take_steps-taken.ensures.along tells) c.facts.ensures (free_slots c.new-slots.result old.core c.new-slots.ensures.empty) (c.is_upheld.ensures tells) c.give_up_all.new.state.store c.give_up_all.new.state.core c.give_up_all.ensures.store
-    (all_closes c.take_steps-taken.new.slots.entries mid.state.core _ c.give_up_all.ensures.core)
+    (all_closes c.take_steps-taken.new.slots.entries mid.state.core _ c.give_up_all.ensures.core) (run_small _ _ _ _ _ (returns-clause-ran g c))
