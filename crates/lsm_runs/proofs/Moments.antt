@@ -29,6 +29,7 @@ use Rattle.lsm_run_model.specs.Outcomes.{Past, nothing, after, after_all, note_a
 use Rattle.lsm_run_model.specs.Outcomes as out
 use Rattle.lsm_run_model.specs.Moments.{LeavesNow, EachMoment, last_of}
 use Rattle.lsm_run_model.specs.Composing.{Point as Place, IsRight as IsRightThere, FindsAmong, IsOfEither, DoesCall, EachDoes, TablesShow, AreNumbered, CameAbout, Composed, RunsCompose, NoLowReads, NotesTellSealed, NumbersAreBounded}
+use Rattle.lsm_run_model.specs.Rising.{EachUses}
 use Rattle.lsm_runs.specs.declared.slots.Job.{Job}
 use Rattle.lsm_runs.specs.declared.steps.JobStep.{JobStep}
 use Rattle.lsm_runs.specs.declared.steps.JobStep.TheVariants as job
@@ -38,6 +39,7 @@ use Rattle.lsm_runs.specs.declared.steps.Step.TheVariants as step
 use Rattle.lsm_runs.specs.declared.steps.Reply.{Reply}
 use Rattle.lsm_runs.specs.declared.steps.Reply.TheVariants as reply
 use Rattle.lsm_runs.specs.Compacting.{Strategies}
+use Rattle.lsm_runs.specs.Drawing.{asks_of}
 use Rattle.lsm_runs.specs.Chains.{Point, RanAlong, RanTo}
 use Rattle.lsm_runs.specs.Notes.{sealed_noted, flushed_noted, none_begun}
 use Rattle.lsm_runs.specs.Moments.{job_noted, lost_noted, alone_noted, noted_of, outcome_of, outcomes_of, Reopens, FindsPlaced, StandsAfter, EachReady, HasMoments, TellsSo, GoesOn, RunHasMoments}
@@ -45,6 +47,7 @@ use Rattle.lsm_runs.specs.Noting.{sealed_note, sealed_behind, flushed_note, job_
 use Rattle.lsm_runs.specs.Runs.{Takes, IsPlainUse, journal_of, without_low_reads}
 use Rattle.lsm_runs.specs.Slots.{Stage, at_first, Closes}
 use Rattle.lsm_runs.specs.Told.{Told}
+use Rattle.lsm_runs.proofs.Adds.{takes_adds}
 use Rattle.lsm_runs.proofs.RunDeeds.{step_deeds}
 use Rattle.lsm_runs.proofs.JobReplays.{AreMarked, first_marked_behind}
 use Rattle.lsm_runs.proofs.Files.{closed_stored}
@@ -56,6 +59,7 @@ use Rattle.lsm_runs.proofs.Made.{takes_one}
 use Rattle.lsm_runs.proofs.Readiness.{OnlyNow, stored_stays_ready, step_ready}
 use Rattle.lsm_runs.proofs.Replays.{takes_marked}
 use Rattle.lsm_runs.proofs.Small.{IsSmall}
+use Rattle.lsm_runs.proofs.Uses.{takes_numbers, adds_keys}
 use Rattle.lsm_runs.proofs.StepDeeds.{HasDeeds, IsRight}
 
 -- ---- notes
@@ -237,6 +241,13 @@ module _ (laws : KeepLaws) (strategies : Strategies) (opened : List Entry) (star
     )
     each_ready xs ts old points r stored = absurd r
 
+  -- the numbers and keys of each step
+  each_uses : (xs : List Call) (ts : List Told) (old : Point F) (points : List (Point F)) → RanAlong world strategies xs ts old points → EachUses (map asks_of xs) (outcomes_of xs ts old points) old.stage.core.seqno (map (λ p. p.stage.core.seqno) points)
+  each_uses [] [] old [] r = tt
+  each_uses (x ∷ xs) (t ∷ ts) old (mid ∷ points) r =
+      (takes_numbers strategies x t.reply t.entries old.stage mid.stage r.0, adds_keys x t.reply t.entries (takes_adds strategies x t.reply t.entries old.stage mid.stage r.0), each_uses xs ts mid points r.2)
+  each_uses xs ts old points r = absurd r
+
   all_points : (xs : List Call) (ts : List Told) (old : Point F) (points : List (Point F)) → RanAlong world strategies xs ts old points → length (outcomes_of xs ts old points) ≡ length points
   all_points [] [] old [] r = refl
   all_points (x ∷ xs) (t ∷ ts) old (mid ∷ points) r = ap (λ n. suc n) (all_points xs ts mid points r.2)
@@ -341,6 +352,7 @@ run_has_moments laws strategies world compose deeds shows once high bounded seal
       ends = at_end;
       closes = closed;
       small = small;
+      uses = each_uses laws strategies [] any_map world xs ts old points r;
       begins = λ opened start opens certain stored. record { came = begins laws strategies opened start world deeds old.stage.core kept opens certain; stored = stored };
       moments = λ opened start past. has_moments laws strategies opened start world compose shows once high bounded xs ts old points r free still past;
       ready = each_ready laws strategies [] any_map world ready only once xs ts old points r;

@@ -1,14 +1,15 @@
 -- A run on a tree as opening left it is a life.
-use Rattle.std.proofs.Common.{◌≡◌, ℕ, zero, suc, ◌+◌, ◌≤◌, ◌^◌, arith, List, [], ◌∷◌, map, take, length, ◌++◌, refl, sym, ap, subst, ◌∙◌}
+use Rattle.std.proofs.Common.{◌≡◌, ℕ, zero, suc, ◌+◌, ◌≤◌, ◌^◌, arith, List, [], ◌∷◌, map, take, length, ◌++◌, refl, sym, ap, subst, ◌∙◌, append-nil, append_assoc}
 use Rattle.std.specs.List.{AllByRecursion}
-use Rattle.lsm_below.specs.Entries.{Entry}
+use Rattle.lsm_below.specs.Entries.{Entry, above}
 use Rattle.lsm_store.specs.World.{World}
-use Rattle.lsm_model.specs.Journal.{Map}
+use Rattle.lsm_model.specs.Journal.{Map, InOrder}
 use Rattle.lsm_versions.specs.Levels.{Levels}
 use Rattle.lsm_manifest.specs.Finding.{Finds}
 use Rattle.lsm_manifest.specs.Ready.{IsReady, OpeningLeaves}
 use Rattle.lsm_state.specs.Core.{Core}
-use Rattle.lsm_run_model.specs.Outcomes.{nothing}
+use Rattle.lsm_run_model.specs.Outcomes.{Past, nothing, after, after_all, without_low_reads}
+use Rattle.lsm_run_model.specs.Rising.{At, Asks, RisesFrom, EachUses, StandsBelow, RisingIsInOrder, OrderWithoutReads}
 use Rattle.lsm_run_model.specs.Outcomes as out
 use Rattle.lsm_run_model.specs.Moments.{EachMoment, last_of}
 use Rattle.lsm_run_model.specs.Lives.{LeavesReady}
@@ -16,12 +17,15 @@ use Rattle.lsm_runs.specs.declared.steps.Step.{Step as Call}
 use Rattle.lsm_runs.specs.declared.steps.Reply.{Reply}
 use Rattle.lsm_runs.specs.Chains.{Point, RanAlong}
 use Rattle.lsm_runs.specs.Compacting.{Strategies}
-use Rattle.lsm_runs.specs.Lives.{StepsAreLives, Lives, told_of}
+use Rattle.lsm_runs.specs.Drawing.{asks_of}
+use Rattle.lsm_runs.specs.Lives.{StepsAreLives, Rise, Lives, told_of}
 use Rattle.lsm_runs.specs.Living.{RunsAreLives}
 use Rattle.lsm_runs.specs.Moments.{outcomes_of, EachReady, Reopens, RunHasMoments}
 use Rattle.lsm_runs.specs.Runs.{journal_of}
 use Rattle.lsm_runs.specs.Told.{Told}
+use Rattle.lsm_runs.proofs.LowReads.{without-append}
 use Rattle.lsm_runs.proofs.Small.{IsSmall, numbered_front}
+use Rattle.lsm_runs.proofs.Uses.{drawings}
 
 map_take : {A B : Type 0} (f : A → B) (many : ℕ) (xs : List A) → map f (take many xs) ≡ take many (map f xs)
 map_take f zero xs = refl
@@ -80,6 +84,8 @@ runs_are_lives {F} world strategies steps told old is new run opened start opens
         ended = ends;
         ready = λ kill. last_ready world answered old.store stores (let last = all kill in omega (few, last, arith)) (front_ready world many old.store every (run.ready stored));
       };
+      opened_with = refl;
+      took = refl;
       told = refl;
       answered = refl;
     }
@@ -88,12 +94,40 @@ stores_end : {F : Type 0} (old : Point F) (points : List (Point F)) → last_of 
 stores_end old [] = refl
 stores_end old (p ∷ points) = stores_end p points
 
+-- ---- the order of the first so many
+
+uses_front : (many : ℕ) (calls : List Asks) (outcomes : List (out.Told Reply)) (old : ℕ) (counters : List ℕ) → EachUses calls outcomes old counters → EachUses (take many calls) (take many outcomes) old (take many counters)
+uses_front zero calls outcomes old counters u = tt
+uses_front (suc many) [] [] old [] u = tt
+uses_front (suc many) (call ∷ calls) (o ∷ outcomes) old (new ∷ counters) u = (u.0, u.1, uses_front many calls outcomes new counters u.2)
+uses_front (suc many) calls outcomes old counters u = absurd u
+
+module _ (opened : List Entry) where
+  journal_after : (outcomes : List (out.Told Reply)) (past : Past) → (after_all opened past outcomes).journal ≡ past.journal ++ without_low_reads opened (out.journal_of outcomes)
+  journal_after [] past = sym (append-nil past.journal)
+  journal_after (o ∷ outcomes) past =
+      journal_after outcomes (after opened past o) ∙ append_assoc past.journal (without_low_reads opened o.entries) (without_low_reads opened (out.journal_of outcomes))
+      ∙ ap (λ es. past.journal ++ es) (sym (without-append opened o.entries (out.journal_of outcomes)))
+
+  pub front_in_order : RisingIsInOrder Reply → OrderWithoutReads → (steps : List Call) (outcomes : List (out.Told Reply)) (counter : ℕ) (counters : List ℕ) → above opened ≤ counter → EachUses (map asks_of steps) outcomes counter counters
+      → (many : ℕ) → Rise opened counter (take many steps) → InOrder opened (after_all opened nothing (take many outcomes)).journal
+  front_in_order rising without steps outcomes counter counters low uses many rise =
+      let front : List Call = take many steps in
+      let mine = subst (λ (calls : List Asks). EachUses calls (take many outcomes) counter (take many counters)) (sym (map_take asks_of many steps)) (uses_front many (map asks_of steps) outcomes counter counters uses) in
+      let numbers = subst (λ ds. RisesFrom (above opened) (At counter) ds) (drawings front) rise.numbers in
+      let none : StandsBelow opened [] counter (above opened) [] = record { order = tt; counted = low; used = omega arith; sets = λ k. omega arith } in
+      let stays = rising opened [] (map asks_of front) (take many outcomes) counter (above opened) (At counter) [] (take many counters) none refl numbers rise.weak mine in
+      subst (InOrder opened) (sym (journal_after (take many outcomes) nothing)) ((without.order opened (out.journal_of (take many outcomes))).0 stays.order)
+
 -- a tree that was opened over this store, and took these steps
 pub lived : {F : Type 0} (world : F → World) (strategies : Strategies) (was : F) (opened : List Entry) (start : Map) (steps : List Call) (told : List Told) (old : Point F) (is : F) (new : Core) (run : RunHasMoments world strategies steps told old is new)
-    → ((tables : Levels) → Finds (world was).gives tables → OpeningLeaves (world was) (world old.store) tables) → StepsAreLives world opened start steps (outcomes_of steps told old run.points) old.store (map (λ p. p.store) run.points) → Lives world start steps told was is
-lived world strategies was opened start steps told old is new run opening lives = record {
+    → ((tables : Levels) → Finds (world was).gives tables → OpeningLeaves (world was) (world old.store) tables) → StepsAreLives world opened start steps (outcomes_of steps told old run.points) old.store (map (λ p. p.store) run.points) → RisingIsInOrder Reply → OrderWithoutReads → above opened ≤ old.stage.core.seqno → Lives world start steps told was is
+lived world strategies was opened start steps told old is new run opening lives rising without low = record {
   opened = opened;
   outcomes = outcomes_of steps told old run.points;
+  counter = old.stage.core.seqno;
+  above_found = low;
+  in_order = front_in_order opened rising without steps (outcomes_of steps told old run.points) old.stage.core.seqno (map (λ p. p.stage.core.seqno) run.points) low run.uses;
   replies = told_same world strategies steps told old run.points run.ran;
   first = old.store;
   stores = map (λ p. p.store) run.points;

@@ -13,8 +13,10 @@ use Rattle.lsm_run_model.specs.Outcomes.{nothing, after_all}
 use Rattle.lsm_run_model.specs.Outcomes as out
 use Rattle.lsm_run_model.specs.Moments.{last_of}
 use Rattle.lsm_run_model.specs.Lives.{End, EndsIn, IsKill, Lived, ManyLives}
+use Rattle.lsm_run_model.specs.Rising.{At, RisesFrom, WeakOnce}
 use Rattle.lsm_runs.specs.declared.steps.Step.{Step}
 use Rattle.lsm_runs.specs.declared.steps.Reply.{Reply}
+use Rattle.lsm_runs.specs.Drawing.{drawing_of, asks_of}
 use Rattle.lsm_runs.specs.Moments.{Reopens}
 use Rattle.lsm_runs.specs.Notes.{none_begun, EachTells}
 use Rattle.lsm_runs.specs.Runs.{IsPlainUse}
@@ -36,9 +38,11 @@ AnyNumberOfLives world = ManyLives Reply AreSteps IsReady (Reopens (2 ^ 63)) wor
 
 -- ---- one life
 
--- a life with these outcomes, of which the first ones had been answered when it ended
-pub record LivedSo {F : Type 0} (world : F → World) (start : Map) (outcomes : List (out.Told Reply)) (many : ℕ) (end : End F) : Type 0 where
+-- a life of these steps with these outcomes, of which the first ones had been answered when it ended
+pub record LivedSo {F : Type 0} (world : F → World) (opened : List Entry) (start : Map) (steps : List Step) (outcomes : List (out.Told Reply)) (many : ℕ) (end : End F) : Type 0 where
   pub life : Lived Reply AreSteps IsReady (Reopens (2 ^ 63)) world start end
+  pub opened_with : life.opened ≡ opened
+  pub took : life.known.steps ≡ steps
   pub told : life.told ≡ outcomes
   pub answered : life.answered ≡ many
 
@@ -49,7 +53,12 @@ StepsAreLives {F} world opened start steps told first stores = (many answered : 
     let outcomes = take many told in
     let all = after_all opened nothing outcomes in
     IsPlainUse (take many steps) → InOrder opened all.journal → EndsIn world (world (last_of first (take answered (take many stores)))) (world (last_of first (take many stores))) end → (IsKill end → many ≤ answered + 1)
-    → LivedSo world start outcomes answered end
+    → LivedSo world opened start (take many steps) outcomes answered end
+
+-- the numbers of steps rise from where the counter stands, over what was opened, and a key that one of them removes weakly was set once at most
+pub record Rise (opened : List Entry) (counter : ℕ) (steps : List Step) : Type 0 where
+  pub numbers : RisesFrom (above opened) (At counter) (map drawing_of steps)
+  pub weak : WeakOnce opened [] (map asks_of steps)
 
 -- what callers see of an outcome
 abbrev pub told_of : out.Told Reply → Told
@@ -60,6 +69,10 @@ pub record Lives {F : Type 0} (world : F → World) (m : Map) (steps : List Step
   pub opened : List Entry
   pub outcomes : List (out.Told Reply)
   pub replies : map told_of outcomes ≡ told
+  -- the counter stood above what was found: where the numbers of the first so many steps rise from there, their journal is in order
+  pub counter : ℕ
+  pub above_found : above opened ≤ counter
+  pub in_order : (many : ℕ) → Rise opened counter (take many steps) → InOrder opened (after_all opened nothing (take many outcomes)).journal
   -- the stores behind opening, and behind each step
   pub first : F
   pub stores : List F

@@ -13,6 +13,7 @@ use Rattle.lsm_runs.specs.After.{RunIsRight}
 use Rattle.lsm_runs.specs.Chains.{Point}
 use Rattle.lsm_runs.specs.Compacting.{Strategies}
 use Rattle.lsm_runs.specs.Counting.{RunIsInOrder}
+use Rattle.lsm_runs.specs.Drawing.{RunRises}
 use Rattle.lsm_runs.specs.Lives.{StepsAreLives}
 use Rattle.lsm_runs.specs.Moments.{outcomes_of, RunHasMoments}
 use Rattle.lsm_runs.specs.Runs.{RanToEnd, RunEqualsReplay}
@@ -36,11 +37,12 @@ pub record LivesOn {F : Type 0} (world : F → World) (strategies : Strategies) 
   pub counted : next_number (opened_in old) [] ≤ old.seqno
   pub visible : next_number (opened_in old) [] ≤ old.visible_seqno
   -- it took the steps: each answer is the replay's, no step changes what it is to leave, and where callers keep the order by the counter and
-  -- their keys, the journal is in order
+  -- their keys, or their numbers rise, the journal is in order
   pub ran : RanToEnd strategies steps told old new
   pub replays : RunEqualsReplay (opened_in old) m steps told old new
   pub right : RunIsRight strategies steps told old new
   pub in_order : RunIsInOrder strategies steps told old new
+  pub rises : RunRises steps told old
   -- behind a commit of unknown outcome none called the store
   pub unknown : RunStops strategies steps told first is old new
   -- what stands at each moment, and how calls go on

@@ -23,6 +23,7 @@ use Rattle.lsm_run_model.specs.Outcomes as out
 use Rattle.lsm_run_model.specs.Moments.{EachMoment, last_of}
 use Rattle.lsm_run_model.specs.Composing.{CameAbout, AreNumbered}
 use Rattle.lsm_run_model.specs.Lives.{LeavesReady}
+use Rattle.lsm_run_model.specs.Rising.{EachUses}
 use Rattle.lsm_runs.specs.declared.slots.Job.{Job}
 use Rattle.lsm_runs.specs.declared.steps.JobStep.{JobStep}
 use Rattle.lsm_runs.specs.declared.steps.JobStep.TheVariants.{RegisterTables}
@@ -32,6 +33,7 @@ use Rattle.lsm_runs.specs.declared.steps.Reply.{Reply}
 use Rattle.lsm_runs.specs.declared.steps.Reply.TheVariants.{Sealed, Registered, Flushed, FlushedActive, RefusedActive, Cleared, Refused}
 use Rattle.lsm_runs.specs.Compacting.{Strategies}
 use Rattle.lsm_runs.specs.Chains.{Point, RanAlong}
+use Rattle.lsm_runs.specs.Drawing.{asks_of}
 use Rattle.lsm_runs.specs.Notes.{sealed_noted, flushed_noted, none_begun, EachTells}
 use Rattle.lsm_runs.specs.Noting.{sealed_behind, ids_in}
 use Rattle.lsm_runs.specs.Runs.{IsPlainUse, journal_of}
@@ -140,6 +142,8 @@ pub record RunHasMoments {F : Type 0} (world : F → World) (strategies : Strate
   pub closes : Closes (last_of old points).stage.core new
   -- what is written is numbered below 2^63
   pub small : AllByRecursion (OfWrite (λ e. e.key.seqno < 2 ^ 63)) (journal_of told)
+  -- each step uses the numbers and the keys that it asks for, while the counter stood so
+  pub uses : EachUses (map asks_of steps) (outcomes_of steps told old points) old.stage.core.seqno (map (λ p. p.stage.core.seqno) points)
   pub begins : BeginsWith world old.store old.stage.core
   -- a process may end at any moment, in a step or between two
   pub ready : IsStored (world old.store) (versions_left old.stage.core) (written_of old.stage.core) → EachReady world old.store (map (λ p. p.store) points)

@@ -13,11 +13,12 @@ ghost use Rattle.lsm_runs.specs.Compacting.{strategies_of};
 ghost use Rattle.lsm_runs.specs.Lives.{Lives};
 ghost use Rattle.lsm_runs.specs.Living.{LivesOn};
 
-use crate::{Step, Taken, run};
+use crate::{Reply, Step, Taken, run};
 use lsm_below::Error;
 use lsm_manifest::{openings_leave_what_was_read, settled_stores_are_ready};
 use lsm_parts::Config;
 use lsm_pick::CompactionStrategy;
+use lsm_run_model::{order_without_reads, rising_is_in_order};
 use lsm_state::TreeState;
 use lsm_store::Store;
 use std::alloc::Global;
@@ -27,7 +28,7 @@ use std::alloc::Global;
 /// of the opening beside the store.
 ///
 /// Where the store is ready to be opened (`IsReady`) and stands for a map, this is a life (`lives`): the first so many steps, in plain
-/// use and in order, as callers keep it by the counter, read what the replay from that map reads, and at each moment a crash, or the end of the
+/// use and in order, as it is where their numbers rise, read what the replay from that map reads, and at each moment a crash, or the end of the
 /// process, leaves a beginning of the calls so far, which holds all that was covered by those that were answered. What is left begins the
 /// next life, so this holds over any number of lives (`any_number_of_lives`).
 ///
@@ -64,6 +65,8 @@ pub fn live<S: Store>(
 {
     settled_stores_are_ready(&store);
     openings_leave_what_was_read(&store);
+    rising_is_in_order(&Reply::Done);
+    order_without_reads();
     let mut tree = match TreeState::open_raised(alloc, config, store) {
         Ok(tree) => tree,
         Err(refused) => return Err(refused),

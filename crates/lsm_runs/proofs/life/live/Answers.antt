@@ -19,6 +19,7 @@ returns-clause-lives g c tells ready m stands =
     lived world _ c.args.store (opened_in c.in-Ok.tree.core) m _ _ old _ _ moments
     (λ tables found. c.openings_leave_what_was_read.ensures.meanwhile tells c.args.store c.in-Ok.tree.store tables ready found (opened.opens tells).leaves)
     (runs_are_lives world _ _ _ old _ _ moments (opened_in c.in-Ok.tree.core) m starts.starts (ap (λ (t : Core). t.lost) opened.core) ((opened.opens tells).stored ready) (found_low c.in-Ok.tree.core.history.latest.version.levels opened.small))
+    c.rising_is_in_order.ensures c.order_without_reads.ensures opened.counted
 
 pub returns-clause-lives_on : goal.returns-clause-lives_on
 returns-clause-lives_on g c tells ready m stands =
@@ -36,6 +37,7 @@ returns-clause-lives_on g c tells ready m stands =
       replays = ran.ensures.replays _ m;
       right = ran.ensures.right;
       in_order = ran.ensures.in_order;
+      rises = ran.ensures.rises;
       unknown = ran.ensures.unknown;
       moments = ran.ensures.moments tells;
     }
