@@ -30,6 +30,9 @@ pub mod CallDeeds
 pub mod FlushDeeds
 pub mod MergeDeeds
 pub mod RunDeeds
+pub mod Committing
+pub mod Drawing
+pub mod Uses
 pub mod Chains
 pub mod Notes
 pub mod Made

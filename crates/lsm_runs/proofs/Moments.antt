@@ -273,9 +273,6 @@ module _ (laws : KeepLaws) (strategies : Strategies) (opened : List Entry) (star
 
   module _ (compose : RunsCompose Reply FindsPlaced Reopens world) (shows : FoundTablesShow) (once : FoundOnce) (high : NoLowReads) (bounded : NumbersAreBounded) (xs : List Call) (ts : List Told) (old : Point F) (points : List (Point F)) (r : RanAlong world strategies xs ts old points)
       (free : old.stage ≡ at_first old.stage.core) (still : Upholds (world old.store) (world old.store) old.stage.core old.stage.core) (past : Past) where
-    abbrev points : List (Point F)
-    points = points_of xs ts old points r
-
     abbrev outcomes : List (out.Told Reply)
     outcomes = outcomes_of xs ts old points
 

@@ -15,6 +15,7 @@ pub mod Noting
 pub mod Chains
 pub mod Adds
 pub mod After
+pub mod Drawing
 pub mod Notes
 pub mod Moments
 pub mod Lives

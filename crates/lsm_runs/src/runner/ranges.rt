@@ -63,12 +63,8 @@ pub(super) fn range<S: Store>(
     lists_are_steps();
     let bounds = (copy_bound(low)?, copy_bound(high)?);
     let question = question_between(alloc, low, high)?;
-    of_found(
-        alloc,
-        snapshot,
-        question,
-        state.range(&bounds, snapshot, None),
-    )
+    let found = state.range(&bounds, snapshot, None);
+    of_found(alloc, snapshot, question, found)
 }
 
 pub(super) fn iter<S: Store>(
