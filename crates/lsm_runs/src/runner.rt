@@ -19,6 +19,7 @@ ghost use Rattle.lsm_runs.specs.Slots.{at_first, beside, SameJobs};
 ghost use Rattle.lsm_runs.specs.Moments.{RunHasMoments};
 ghost use Rattle.lsm_runs.specs.Runs.{Takes, TakesEntry, TakesBatch, TakesRotate, Ran, RanToEnd, RunEqualsReplay};
 ghost use Rattle.lsm_runs.specs.Adds.{EachAdds};
+ghost use Rattle.lsm_runs.specs.Drawing.{RunUses, RunRises};
 ghost use Rattle.lsm_runs.specs.After.{RunIsRight};
 
 use crate::finding::TreeFiles;
@@ -33,7 +34,9 @@ use lsm_model::{Answer, JournalEntry, Op, Question, counted_is_in_order, reads_a
 use lsm_noted::noted_compactions_keep_reads;
 use lsm_parts::Error;
 use lsm_pick::CompactionStrategy;
-use lsm_run_model::{no_low_reads, notes_tell_sealed, numbers_are_bounded, runs_compose};
+use lsm_run_model::{
+    no_low_reads, notes_tell_sealed, numbers_are_bounded, rising_is_in_order, runs_compose,
+};
 use lsm_state::{
     TreeState, clears_keep_reads, flushes_are_deeds, flushes_keep_reads, lists_are_steps,
 };
@@ -326,9 +329,10 @@ fn take_steps<S: Store>(
 ///
 /// Without an index, and where no step forgets what isn't flushed (`ClearActiveMemtable`), the replay theorem holds
 /// (`replays`) and no step changes what it is not to change (`right`). That the journal is in order, the other premise of both,
-/// follows from the order that callers keep by the counter (`in_order`). Over a store that holds the tree's files a crash at any
-/// moment of the run leaves a beginning of the calls so far, which holds all that they covered, and calls may go on from any moment
-/// (`moments`). From a step that leaves the outcome of a commit unknown on, none makes a commit or removes a name (`unknown`).
+/// follows from the order that callers keep by the counter (`in_order`), and from the steps alone where their sequence numbers
+/// rise (`rises`). Over a store that holds the tree's files a crash at any moment of the run leaves a beginning of the calls so
+/// far, which holds all that they covered, and calls may go on from any moment (`moments`). From a step that leaves the outcome
+/// of a commit unknown on, none makes a commit or removes a name (`unknown`).
 ///
 /// # Examples
 ///
@@ -349,6 +353,9 @@ pub fn run<S: Store>(
     ensures replays { (opened : List Entry) (start : Map) → RunEqualsReplay opened start (take (length result.outcomes.items) steps.now) result.outcomes.items state.old.core state.new.core }
     // What each step adds to the journal, by its kind and its reply.
     ensures adds { EachAdds (take (length result.outcomes.items) steps.now) result.outcomes.items }
+    // Which sequence numbers and keys it uses, and that the journal is in order where the steps' own numbers rise.
+    ensures uses { RunUses (take (length result.outcomes.items) steps.now) result.outcomes.items state.old.core }
+    ensures rises { RunRises (take (length result.outcomes.items) steps.now) result.outcomes.items state.old.core }
     // Answers, and what no step changes of them, after whatever was called before, and of the first so many steps, whatever comes later.
     ensures right { RunIsRight (strategies_of (λ b. may_choose b) (λ b. may_refuse b) strategies.now) (take (length result.outcomes.items) steps.now) result.outcomes.items state.old.core state.new.core }
     ensures in_order { RunIsInOrder (strategies_of (λ b. may_choose b) (λ b. may_refuse b) strategies.now) (take (length result.outcomes.items) steps.now) result.outcomes.items state.old.core state.new.core }
@@ -382,6 +389,7 @@ pub fn run<S: Store>(
     noted_compactions_keep_reads();
     clears_keep_reads();
     counted_is_in_order();
+    rising_is_in_order(&Reply::Done);
     state.facts();
     let mut slots = Slots::new(alloc);
     let taken = take_steps(alloc, state, &mut slots, strategies, steps);

@@ -13,6 +13,7 @@ use Rattle.lsm_runs.proofs.GivingUp.{all_closes}
 use Rattle.lsm_runs.proofs.OpenMerges.{KeepsStart, start_kept, ran_kept}
 use Rattle.lsm_runs.proofs.Small.{run_small}
 use Rattle.lsm_runs.proofs.Replays.{run_replays, run_to_end, free_slots}
+use Rattle.lsm_runs.proofs.Uses.{run_uses, run_rises}
 use Rattle.lsm_runs.proofs.runner.run.Goals as goal
 
 pub returns-clause-ran : goal.returns-clause-ran
@@ -40,6 +41,12 @@ returns-clause-replays g c opened start =
 
 pub returns-clause-adds : goal.returns-clause-adds
 returns-clause-adds g c = run_adds_so _ _ _ _ _ (returns-clause-ran g c)
+
+pub returns-clause-uses : goal.returns-clause-uses
+returns-clause-uses g c = run_uses _ _ _ _ _ (returns-clause-ran g c)
+
+pub returns-clause-rises : goal.returns-clause-rises
+returns-clause-rises g c = run_rises c.rising_is_in_order.ensures _ _ _ (returns-clause-uses g c)
 
 pub returns-clause-right : goal.returns-clause-right
 returns-clause-right g c =
