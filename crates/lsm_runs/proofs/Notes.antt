@@ -29,7 +29,7 @@ use Rattle.lsm_runs.specs.Compacting.{Strategies, TakesBeginCompaction, TakesRun
 use Rattle.lsm_runs.specs.Chains.{Point, RanAlong}
 use Rattle.lsm_runs.specs.Flushing.{TakesRun, TakesTables, TakesRegister, TakesAbandon}
 use Rattle.lsm_runs.specs.JobSteps.{TakesJob, TakesInSlot}
-use Rattle.lsm_runs.specs.Moments.{job_noted, alone_noted, noted_of, RanAlong, outcome_of, outcomes_of}
+use Rattle.lsm_runs.specs.Moments.{job_noted, alone_noted, noted_of, outcome_of, outcomes_of}
 use Rattle.lsm_runs.specs.Notes.{NotesRotation, NotesFlush, NotesFlushActive, NotesClear, JobNotes, Notes, begun_after, none_begun, EachTells}
 use Rattle.lsm_runs.specs.Noting.{ids_in}
 use Rattle.lsm_runs.specs.Runs.{Takes}
