@@ -80,9 +80,6 @@ registers_numbers made (Ok a) events old new is g = by a.installed refl
     by false at = unnumbered events (Mark made.watermark ∷ []) old.seqno new.seqno (told false at) (tt, tt) (near_same old.seqno new.seqno (seqno_of new _ (g.stale at).1.1))
 registers_numbers made (Err x) events old new is g = unnumbered events (Mark made.watermark ∷ []) old.seqno new.seqno is (tt, tt) (go g.only)
   where
-    mid : Core
-    mid = spent made.job.number old
-
     go : ((x ≡ OutOfMemory) ⊎ ((x ≡ Store) ⊎ (x ≡ CommitUnknown))) ⊎ ((x ≡ Unrecoverable) ⊎ ((x ≡ OutOfNumbers) ⊎ (x ≡ TooManyRuns))) → Near old.seqno new.seqno
     go (inl (inl at)) = same_or_counted (spent made.job.number old) new (g.memory (ap Err at))
     go (inl (inr (inl at))) = same_or_counted (spent made.job.number old) new (inr (g.store (ap Err at)))

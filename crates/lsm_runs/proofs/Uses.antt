@@ -1,5 +1,5 @@
 -- Each step of a run uses the sequence numbers and the keys that it asks for, and what follows for the order of its journal.
-use Rattle.std.proofs.Common.{◌≡◌, ℕ, ◌+◌, ◌≤◌, max, arith, true, List, [], ◌∷◌, ◌++◌, map, Option, inl, inr, refl, sym, ap, subst}
+use Rattle.std.proofs.Common.{◌≡◌, ℕ, max, arith, true, List, [], ◌∷◌, ◌++◌, map, Option, inl, inr, refl, sym, ap, subst}
 use Rattle.std.specs.List.{AllByRecursion}
 use Rattle.lsm_below.specs.Each.{each_weaker}
 use Rattle.lsm_below.specs.Entries.{Entry, is_value, is_weak, plain, entry_at}
@@ -35,7 +35,6 @@ use Rattle.lsm_runs.specs.Told.{Told}
 use Rattle.lsm_runs.proofs.Adds.{takes_adds}
 use Rattle.lsm_runs.proofs.Committing.{flush_numbers, active_numbers, register_numbers, clear_numbers, from_numbers, compact_numbers, range_numbers, begin_compaction_numbers, finish_numbers}
 use Rattle.lsm_runs.proofs.Drawing.{still, entry_numbers, batch_numbers, get_numbers, get_entry_numbers, pairs_numbers, rotate_numbers, next_reserves, next_visible, put_raises, put_visible, table_id_numbers, moment_numbers, forget_numbers, begin_numbers, run_numbers, tables_numbers, abandon_numbers, run_compaction_numbers, abandon_compaction_numbers}
-use Rattle.lsm_runs.proofs.Members.{in_first}
 
 -- ---- numbers
 

@@ -14,6 +14,7 @@ pub mod Unknown
 pub mod Noting
 pub mod Chains
 pub mod Adds
+pub mod Drawing
 pub mod After
 pub mod Drawing
 pub mod Notes
