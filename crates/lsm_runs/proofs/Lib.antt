@@ -42,6 +42,3 @@ pub mod Moments
 pub mod ManyLives
 pub mod RunLives
 pub mod Settled
-pub mod Drawing
-pub mod Committing
-pub mod Uses

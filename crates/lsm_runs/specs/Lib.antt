@@ -16,7 +16,6 @@ pub mod Chains
 pub mod Adds
 pub mod Drawing
 pub mod After
-pub mod Drawing
 pub mod Notes
 pub mod Moments
 pub mod Lives
