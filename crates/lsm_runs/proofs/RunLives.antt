@@ -18,7 +18,7 @@ use Rattle.lsm_runs.specs.declared.steps.Reply.{Reply}
 use Rattle.lsm_runs.specs.Chains.{Point, RanAlong}
 use Rattle.lsm_runs.specs.Compacting.{Strategies}
 use Rattle.lsm_runs.specs.Drawing.{asks_of}
-use Rattle.lsm_runs.specs.Lives.{StepsAreLives, Rise, Lives, told_of}
+use Rattle.lsm_runs.specs.Lives.{StepsAreLives, Rise, LivesInOrder, told_of}
 use Rattle.lsm_runs.specs.Living.{RunsAreLives}
 use Rattle.lsm_runs.specs.Moments.{outcomes_of, EachReady, Reopens, RunHasMoments}
 use Rattle.lsm_runs.specs.Runs.{journal_of}
@@ -121,17 +121,19 @@ module _ (opened : List Entry) where
 
 -- a tree that was opened over this store, and took these steps
 pub lived : {F : Type 0} (world : F → World) (strategies : Strategies) (was : F) (opened : List Entry) (start : Map) (steps : List Call) (told : List Told) (old : Point F) (is : F) (new : Core) (run : RunHasMoments world strategies steps told old is new)
-    → ((tables : Levels) → Finds (world was).gives tables → OpeningLeaves (world was) (world old.store) tables) → StepsAreLives world opened start steps (outcomes_of steps told old run.points) old.store (map (λ p. p.store) run.points) → RisingIsInOrder Reply → OrderWithoutReads → above opened ≤ old.stage.core.seqno → Lives world start steps told was is
+    → ((tables : Levels) → Finds (world was).gives tables → OpeningLeaves (world was) (world old.store) tables) → StepsAreLives world opened start steps (outcomes_of steps told old run.points) old.store (map (λ p. p.store) run.points) → RisingIsInOrder Reply → OrderWithoutReads → above opened ≤ old.stage.core.seqno → LivesInOrder world start steps told was is
 lived world strategies was opened start steps told old is new run opening lives rising without low = record {
   opened = opened;
   outcomes = outcomes_of steps told old run.points;
+  replies = told_same world strategies steps told old run.points run.ran;
+  life = record {
+    first = old.store;
+    stores = map (λ p. p.store) run.points;
+    ends = stores_end old run.points ∙ run.ends;
+    opening = opening;
+    lives = lives;
+  };
   counter = old.stage.core.seqno;
   above_found = low;
   in_order = front_in_order opened rising without steps (outcomes_of steps told old run.points) old.stage.core.seqno (map (λ p. p.stage.core.seqno) run.points) low run.uses;
-  replies = told_same world strategies steps told old run.points run.ran;
-  first = old.store;
-  stores = map (λ p. p.store) run.points;
-  ends = stores_end old run.points ∙ run.ends;
-  opening = opening;
-  lives = lives;
 }

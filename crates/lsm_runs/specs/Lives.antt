@@ -55,24 +55,12 @@ StepsAreLives {F} world opened start steps told first stores = (many answered : 
     IsPlainUse (take many steps) → InOrder opened all.journal → EndsIn world (world (last_of first (take answered (take many stores)))) (world (last_of first (take many stores))) end → (IsKill end → many ≤ answered + 1)
     → LivedSo world opened start (take many steps) outcomes answered end
 
--- the numbers of steps rise from where the counter stands, over what was opened, and a key that one of them removes weakly was set once at most
-pub record Rise (opened : List Entry) (counter : ℕ) (steps : List Step) : Type 0 where
-  pub numbers : RisesFrom (above opened) (At counter) (map drawing_of steps)
-  pub weak : WeakOnce opened [] (map asks_of steps)
-
 -- what callers see of an outcome
 abbrev pub told_of : out.Told Reply → Told
 told_of o = record { reply = o.reply; entries = o.entries }
 
--- A tree was opened on a store that stands for a map, and took steps: the first so many of them are a life.
-pub record Lives {F : Type 0} (world : F → World) (m : Map) (steps : List Step) (told : List Told) (was is : F) : Type 0 where
-  pub opened : List Entry
-  pub outcomes : List (out.Told Reply)
-  pub replies : map told_of outcomes ≡ told
-  -- the counter stood above what was found: where the numbers of the first so many steps rise from there, their journal is in order
-  pub counter : ℕ
-  pub above_found : above opened ≤ counter
-  pub in_order : (many : ℕ) → Rise opened counter (take many steps) → InOrder opened (after_all opened nothing (take many outcomes)).journal
+-- A tree was opened on a store that stands for a map, and took steps, which had these outcomes: the first so many of them are a life.
+pub record Lives {F : Type 0} (world : F → World) (opened : List Entry) (m : Map) (steps : List Step) (outcomes : List (out.Told Reply)) (was is : F) : Type 0 where
   -- the stores behind opening, and behind each step
   pub first : F
   pub stores : List F
@@ -80,3 +68,21 @@ pub record Lives {F : Type 0} (world : F → World) (m : Map) (steps : List Step
   -- while it was opened a crash left what it could before, or the tables that were read
   pub opening : (tables : Levels) → Finds (world was).gives tables → OpeningLeaves (world was) (world first) tables
   pub lives : StepsAreLives world opened m steps outcomes first stores
+
+-- ---- its order
+
+-- the numbers of steps rise from where the counter stood, over what was opened, and a key that one of them removes weakly was set once at most
+pub record Rise (opened : List Entry) (counter : ℕ) (steps : List Step) : Type 0 where
+  pub numbers : RisesFrom (above opened) (At counter) (map drawing_of steps)
+  pub weak : WeakOnce opened [] (map asks_of steps)
+
+-- A tree lives so, and its counter stood above what was found as it was opened: where the numbers of the first so many steps rise from there,
+-- their journal is in order.
+pub record LivesInOrder {F : Type 0} (world : F → World) (m : Map) (steps : List Step) (told : List Told) (was is : F) : Type 0 where
+  pub opened : List Entry
+  pub outcomes : List (out.Told Reply)
+  pub replies : map told_of outcomes ≡ told
+  pub life : Lives world opened m steps outcomes was is
+  pub counter : ℕ
+  pub above_found : above opened ≤ counter
+  pub in_order : (many : ℕ) → Rise opened counter (take many steps) → InOrder opened (after_all opened nothing (take many outcomes)).journal

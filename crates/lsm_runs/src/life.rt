@@ -10,7 +10,7 @@ ghost use Rattle.lsm_state.specs.Opened.{files_told};
 ghost use Rattle.lsm_versions.specs.Levels.{Levels};
 ghost use Rattle.lsm_runs.specs.Causes.{EachHasCause};
 ghost use Rattle.lsm_runs.specs.Compacting.{strategies_of};
-ghost use Rattle.lsm_runs.specs.Lives.{Lives};
+ghost use Rattle.lsm_runs.specs.Lives.{LivesInOrder};
 ghost use Rattle.lsm_runs.specs.Living.{LivesOn};
 
 use crate::{Reply, Step, Taken, run};
@@ -52,7 +52,7 @@ pub fn live<S: Store>(
     ensures bound { IfOk result (λ r. length r.1.outcomes.items ≤ length steps.now) }
     ensures whole { IfOk result (λ r. OnOk r.1.ended (length r.1.outcomes.items ≡ length steps.now)) }
     // A life, however it ends.
-    ensures lives { S.tells → IsReady (S.world store) → (m : Map) → StandsForMap (S.world store).gives m → IfOk result (λ r. Lives S.world m (take (length r.1.outcomes.items) steps.now) r.1.outcomes.items store r.0.store) }
+    ensures lives { S.tells → IsReady (S.world store) → (m : Map) → StandsForMap (S.world store).gives m → IfOk result (λ r. LivesInOrder S.world m (take (length r.1.outcomes.items) steps.now) r.1.outcomes.items store r.0.store) }
     // The whole of what `run` says, behind what opening left.
     ensures lives_on { S.tells → IsReady (S.world store) → (m : Map) → StandsForMap (S.world store).gives m → IfOk result (λ r. LivesOn S.world (strategies_of (λ b. may_choose b) (λ b. may_refuse b) strategies.now) m (take (length r.1.outcomes.items) steps.now) r.1.outcomes.items r.0.store r.0.core) }
     // Refused, it leaves the store ready to be opened again, and meanwhile a crash what it could before, or the tables that were read.
