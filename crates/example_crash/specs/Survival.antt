@@ -1,26 +1,32 @@
--- What a crash leaves, as a user asks it: derived from the contracts of public calls.
-use Rattle.std.specs.Prelude.{◌≡◌, ℕ, List, [], map}
+-- What outlives a process, as a user asks it: derived from the contracts of public calls.
+use Rattle.std.specs.Prelude.{◌≡◌, List, [], map}
 use Rattle.std.specs.FinMap.{empty}
 use Rattle.lsm_below.specs.Entries.{Entry}
 use Rattle.lsm_model.specs.Journal.{Map}
 use Rattle.lsm_model.specs.Beginnings.{IsBeginning, covered}
 use Rattle.lsm_run_model.specs.Outcomes.{nothing, after_all}
 use Rattle.lsm_run_model.specs.Outcomes as out
-use Rattle.lsm_run_model.specs.Rising.{At, RisesFrom, WeakOnce}
 use Rattle.lsm_runs.specs.declared.steps.Step.{Step}
+use Rattle.lsm_runs.specs.declared.steps.Step.TheVariants.{Insert, Remove, RemoveWeak, AppendEntry, Write, Next, Set, FetchMax, ClearActiveMemtable}
 use Rattle.lsm_runs.specs.declared.steps.Reply.{Reply}
-use Rattle.lsm_runs.specs.Drawing.{drawing_of, asks_of}
+use Rattle.lsm_runs.specs.Drawing.{weaks_in}
 use Rattle.lsm_runs.specs.Lives.{told_of}
 use Rattle.lsm_runs.specs.Notes.{none_begun, EachTells}
-use Rattle.lsm_runs.specs.Runs.{IsPlainUse, EachAnswers}
+use Rattle.lsm_runs.specs.Runs.{EachAnswers}
 use Rattle.lsm_runs.specs.Told.{Told}
 
--- Steps as most callers have them: none forgets what isn't flushed, their numbers rise wherever the counter stands, since none brings one of
--- its own, and none removes a key weakly that was set before.
-pub record AreUsual (steps : List Step) : Type 0 where
-  pub plain : IsPlainUse steps
-  pub rises : (low counter : ℕ) → RisesFrom low (At counter) (map drawing_of steps)
-  pub weak : (opened : List Entry) → WeakOnce opened [] (map asks_of steps)
+-- A step as most callers have it: it writes by batches without weak removals, leaves the counters alone, and forgets nothing that isn't flushed.
+abbrev pub IsUsual : Step → Type 0
+IsUsual (Write ops) = weaks_in ops ≡ []
+IsUsual (Insert k v n) = ⊥
+IsUsual (Remove k n) = ⊥
+IsUsual (RemoveWeak k n) = ⊥
+IsUsual (AppendEntry e) = ⊥
+IsUsual (Next counter) = ⊥
+IsUsual (Set counter n) = ⊥
+IsUsual (FetchMax counter n) = ⊥
+IsUsual ClearActiveMemtable = ⊥
+IsUsual step = Unit {0}
 
 -- on a tree that showed this map each read answers what the replay of the calls before it does
 pub record AnswersReplay (start : Map) (steps : List Step) (told : List Told) : Type 0 where
@@ -36,7 +42,7 @@ pub record IsKept (steps : List Step) (told : List Told) (left : Map) : Type 0 w
   pub tells : EachTells opened nothing none_begun steps outcomes
   pub holds : let all = after_all opened nothing outcomes in IsBeginning empty all.journal all.notes (covered all.notes) left
 
--- a first life on a new tree, and a second one on what a crash left of it
+-- a first life on a new tree, and a second one on what a crash or the end of the process left of it
 pub record Survives (first : List Step) (told : List Told) (second : List Step) (more : List Told) : Type 0 where
   pub before : AnswersReplay empty first told
   pub left : Map

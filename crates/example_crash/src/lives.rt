@@ -1,14 +1,16 @@
 // Two lives of a tree over a store in memory.
-ghost use Rattle.std.specs.Prelude.{◌≡◌, take, length, IfOk, IfSome};
-ghost use Rattle.example_crash.specs.Survival.{AreUsual, Survives};
+ghost use Rattle.std.specs.Prelude.{None, take, length, IfOk, IfSome};
+ghost use Rattle.std.specs.List.{AllByRecursion};
+ghost use Rattle.lsm_model.specs.Journal.{Map};
+ghost use Rattle.lsm_store.specs.Memory.{world_of};
+ghost use Rattle.lsm_store.specs.World.{Begins};
+ghost use Rattle.lsm_manifest.specs.Finding.{StandsForMap};
+ghost use Rattle.lsm_manifest.specs.Ready.{IsReady};
+ghost use Rattle.lsm_runs.specs.Lives.{LivesInOrder};
+ghost use Rattle.example_crash.specs.Survival.{IsUsual, AnswersReplay, Survives};
 
-use lsm_below::Error;
-use lsm_manifest::{crashes_settle, images_stand_once};
-use lsm_parts::Config;
-use lsm_pick::CompactionStrategy;
-use lsm_run_model::rising_front;
-use lsm_runs::{Step, Taken, any_number_of_lives, live};
-use lsm_store::{MemStore, Pick};
+use lsm_tree::laws::{any_number_of_lives, crashes_settle, images_stand_once};
+use lsm_tree::{CompactionStrategy, Config, Error, MemStore, Pick, Step, Taken, live};
 use std::alloc::Global;
 
 /// What the steps of two lives answered.
@@ -18,30 +20,58 @@ pub struct TwoLives {
     pub after: Taken,
 }
 
+/// Opens the tree of a store, takes steps on it, and gives the store back: what stands in memtables alone is gone.
+fn life(alloc: Global, store: MemStore, steps: &[Step]) -> Result<(MemStore, Taken), Error>
+    ensures lives { IsReady (world_of store) → (m : Map) → StandsForMap (world_of store).gives m → IfOk result (λ r. LivesInOrder world_of m (take (length r.1.outcomes.items) steps.now) r.1.outcomes.items store r.0) }
+    ensures answers { IsReady (world_of store) → (m : Map) → StandsForMap (world_of store).gives m → AllByRecursion IsUsual steps.now → IfOk result (λ r. AnswersReplay m (take (length r.1.outcomes.items) steps.now) r.1.outcomes.items) }
+{
+    let strategies: Vec<Box<dyn CompactionStrategy>> = Vec::new(alloc);
+    match live(alloc, Config::new(0, 0, 0), store, &strategies, steps) {
+        Ok((tree, taken)) => Ok((tree.into_store(), taken)),
+        Err((error, _)) => Err(error),
+    }
+}
+
 /// Takes steps on a new tree, crashes its store so that of these names this is left, opens a tree on that, and takes steps on it.
-/// None where that can't be left.
+/// None where that can't be left. Faults may be planned in the store.
 ///
-/// Of usual steps nothing else is asked (`AreUsual`): each read answers what the replay of the calls before it does; and the second life
+/// Of usual steps nothing else is asked (`IsUsual`): each read answers what the replay of the calls before it does; and the second life
 /// starts from a beginning of the first one's calls, which holds each flush that was installed and each clear that was answered.
-pub fn two_lives(
+pub fn crash_between(
     alloc: Global,
+    store: MemStore,
     first: &[Step],
     picks: &[(&str, Pick<'_>)],
     second: &[Step],
 ) -> Result<Option<TwoLives>, Error>
-    ensures { AreUsual first.now → AreUsual second.now → IfOk result (λ r. IfSome r (λ l. Survives (take (length l.before.outcomes.items) first.now) l.before.outcomes.items (take (length l.after.outcomes.items) second.now) l.after.outcomes.items)) }
+    requires new { Begins (λ _. None) (world_of store) }
+    ensures { AllByRecursion IsUsual first.now → AllByRecursion IsUsual second.now → IfOk result (λ r. IfSome r (λ l. Survives (take (length l.before.outcomes.items) first.now) l.before.outcomes.items (take (length l.after.outcomes.items) second.now) l.after.outcomes.items)) }
 {
-    let store = MemStore::new(alloc);
     crashes_settle(&store);
     images_stand_once();
-    rising_front();
     any_number_of_lives(&store);
-    let none: Vec<Box<dyn CompactionStrategy>> = Vec::new(alloc);
-    let config = Config::new(0, 0, 0);
-    let (tree, before) = live(alloc, config, store, &none, first).map_err(|refused| refused.0)?;
-    let Some(left) = tree.into_store().crash(picks)? else {
+    let (store, before) = life(alloc, store, first)?;
+    let Some(left) = store.crash(picks)? else {
         return Ok(None);
     };
-    let (_, after) = live(alloc, config, left, &none, second).map_err(|refused| refused.0)?;
+    let (_, after) = life(alloc, left, second)?;
     Ok(Some(TwoLives { before, after }))
+}
+
+/// The same without a crash: the process ends, and the next one opens the store as it is.
+pub fn end_between(
+    alloc: Global,
+    store: MemStore,
+    first: &[Step],
+    second: &[Step],
+) -> Result<TwoLives, Error>
+    requires new { Begins (λ _. None) (world_of store) }
+    ensures { AllByRecursion IsUsual first.now → AllByRecursion IsUsual second.now → IfOk result (λ l. Survives (take (length l.before.outcomes.items) first.now) l.before.outcomes.items (take (length l.after.outcomes.items) second.now) l.after.outcomes.items) }
+{
+    crashes_settle(&store);
+    images_stand_once();
+    any_number_of_lives(&store);
+    let (store, before) = life(alloc, store, first)?;
+    let (_, after) = life(alloc, store, second)?;
+    Ok(TwoLives { before, after })
 }

@@ -1,0 +1,24 @@
+use Rattle.std.proofs.Common.{length, take, refl}
+use Rattle.std.specs.FinMap.{empty}
+use Rattle.lsm_store.specs.Memory.{world_of}
+use Rattle.lsm_run_model.specs.Lives.{Killed}
+use Rattle.example_crash.proofs.Usual.{first_usual}
+use Rattle.example_crash.proofs.Surviving.{none, stands_none, survives, stays_ready, ended_now, given_now}
+use Rattle.example_crash.proofs.lives.end_between.Goals as goal
+
+pub returns : goal.returns
+returns c usual more_usual =
+    let was = c.args.store in
+    let is = c.in_ok-store.store in
+    let ready = c.crashes_settle.ensures.ready was none empty stands_none c.requires.new in
+    let stands = c.crashes_settle.ensures.stands was none empty stands_none c.requires.new in
+    let told = c.in_ok-store.before.outcomes.items in
+    let first = first_usual (length told) c.args.first.now usual in
+    let kept = survives c.images_stand_once.ensures.found c.any_number_of_lives.ensures was is (Killed is) c.requires.new (ended_now is) (take (length told) c.args.first.now) told first (λ m stands. c.in_ok-store.ensures.lives ready m stands) (world_of is).gives (given_now is) in
+    let again = stays_ready c.images_stand_once.ensures.found c.any_number_of_lives.ensures was is (Killed is) c.requires.new (ended_now is) (take (length told) c.args.first.now) told first (λ m stands. c.in_ok-store.ensures.lives ready m stands) empty stands is refl in
+    record {
+      before = c.in_ok-store.ensures.answers ready empty stands usual;
+      left = kept.0;
+      kept = kept.2;
+      after = c.in_ok-after.ensures.answers again kept.0 kept.1 more_usual;
+    }
