@@ -73,7 +73,7 @@ impl CompactionStrategy for Careless {
 }
 
 /// What a compaction answers.
-#[derive(Clone, Copy, Debug, PartialEq, Eq)]
+#[derive(Clone, Copy, PartialEq, Eq)]
 enum Told {
     Nothing,
     Declined(Why),
@@ -100,12 +100,21 @@ fn compact(alloc: Global, tree: &mut TreeState, strategy: Careless) -> Result<To
     Ok(told)
 }
 
+fn set_twice(alloc: Global, tree: &mut TreeState) -> Result<(), Error> {
+    set(alloc, tree, "a", "1")?;
+    set(alloc, tree, "a", "2")
+}
+
 /// Two tables with a = 1 (0) and a = 2 (2).
 pub fn open_with_two(alloc: Global) -> Result<TreeState, Error> {
     let mut tree = open_new(alloc)?;
-    set(alloc, &mut tree, "a", "1")?;
-    set(alloc, &mut tree, "a", "2")?;
-    Ok(tree)
+    match set_twice(alloc, &mut tree) {
+        Ok(()) => Ok(tree),
+        Err(error) => {
+            drop(tree);
+            Err(error)
+        }
+    }
 }
 
 fn reads(tree: &TreeState, snapshot: u64, value: &[u8]) -> bool {

@@ -1,5 +1,5 @@
 // Names beside the files of a tree, and none of its own.
-use crate::samples::{FORMATS, Told, one_table, tells};
+use crate::samples::{FORMATS, Told, put_table, tells};
 use lsm_store::{MemStore, Store};
 use std::alloc::Global;
 use std::test::Fail;
@@ -44,10 +44,15 @@ const NAMES: [(&str, Told); 10] = [
     ("tables/._0", SKIPPED),
 ];
 
-fn tells_beside(alloc: Global, format: u8, name: &str) -> Result<Told, Fail> {
-    let mut store = one_table(alloc, format)?;
+fn put_and_tell(alloc: Global, store: &mut MemStore, format: u8, name: &str) -> Result<Told, Fail> {
+    put_table(alloc, store, format)?;
     store.replace(name, b"1")?;
-    let told = tells(alloc, &mut store);
+    tells(alloc, store)
+}
+
+fn tells_beside(alloc: Global, format: u8, name: &str) -> Result<Told, Fail> {
+    let mut store = MemStore::new(alloc);
+    let told = put_and_tell(alloc, &mut store, format, name);
     drop(store);
     told
 }
@@ -66,10 +71,14 @@ fn names_are_refused_or_removed_or_skipped(rt: HostRuntime) -> Result<(), Fail> 
     Ok(())
 }
 
+fn put_alone(alloc: Global, store: &mut MemStore, name: &str) -> Result<Told, Fail> {
+    store.replace(name, b"1")?;
+    tells(alloc, store)
+}
+
 fn tells_alone(alloc: Global, name: &str) -> Result<Told, Fail> {
     let mut store = MemStore::new(alloc);
-    store.replace(name, b"1")?;
-    let told = tells(alloc, &mut store);
+    let told = put_alone(alloc, &mut store, name);
     drop(store);
     told
 }

@@ -1,15 +1,8 @@
 // A file `version` of an older kind of tree beside each damage, and a run of no tables.
-use crate::samples::{FORMATS, Told, file, one_table, put_version, tells};
+use crate::samples::{FORMATS, Told, file, put_table, put_version, tells};
 use lsm_store::{MemStore, Store, StoreError};
 use std::alloc::Global;
 use std::test::Fail;
-
-/// The files, and how long each is in the formats.
-const FILES: [(&str, [usize; 2]); 3] = [
-    ("current", [25, 25]),
-    ("v1", [178, 203]),
-    ("tables/0", [37, 37]),
-];
 
 /// Names that are refused, each at the place of a file.
 const NAMES: [&str; 3] = ["tables/00", "tables/+0", "tables/18446744073709551616"];
@@ -34,35 +27,69 @@ fn is_told(alloc: Global, store: &mut MemStore) -> Result<bool, Fail> {
     )
 }
 
-/// How many cuts of a file are told so, and its absence, up to the first that isn't.
-fn count_told(alloc: Global, store: &mut MemStore, name: &str) -> Result<usize, Fail> {
-    let bytes = file(alloc, store, name)?;
+/// How many cuts of a file to less than these bytes are told so, up to the first that isn't.
+fn count_cuts(
+    alloc: Global,
+    store: &mut MemStore,
+    name: &str,
+    bytes: &[u8],
+) -> Result<usize, Fail> {
     for len in 0..bytes.len() {
         put(store, name, bytes.get(..len).unwrap_or_default())?;
         if !is_told(alloc, store)? {
             return Ok(len);
         }
     }
-    store.remove(name)?;
-    let is_last_told = is_told(alloc, store)?;
-    put(store, name, &bytes)?;
-    Ok(if is_last_told { bytes.len() } else { 0 })
+    Ok(bytes.len())
 }
 
-/// Whether changes of the version's file are told so.
+/// The same, 0 where the absence of the file isn't told so. It is put back.
+fn count_damages(
+    alloc: Global,
+    store: &mut MemStore,
+    name: &str,
+    bytes: &[u8],
+) -> Result<usize, Fail> {
+    let count = count_cuts(alloc, store, name, bytes)?;
+    store.remove(name)?;
+    let is_last_told = is_told(alloc, store)?;
+    put(store, name, bytes)?;
+    Ok(if is_last_told { count } else { 0 })
+}
+
+fn count_told(alloc: Global, store: &mut MemStore, name: &str) -> Result<usize, Fail> {
+    let bytes = file(alloc, store, name)?;
+    count_damages(alloc, store, name, &bytes)
+}
+
+/// Whether a change of the version's file is told so.
+fn is_change_told(
+    alloc: Global,
+    store: &mut MemStore,
+    bytes: &[u8],
+    (place, byte): (usize, u8),
+) -> Result<bool, Fail> {
+    let mut changed = bytes.to_vec(alloc)?;
+    if let Some(found) = changed.get_mut(place) {
+        *found = byte;
+    }
+    put_version(store, &changed)?;
+    is_told(alloc, store)
+}
+
+fn are_all_told(alloc: Global, store: &mut MemStore, bytes: &[u8]) -> Result<bool, Fail> {
+    for change in CHANGES {
+        if !is_change_told(alloc, store, bytes, change)? {
+            return Ok(false);
+        }
+    }
+    put_version(store, bytes)?;
+    Ok(true)
+}
+
 fn are_changes_told(alloc: Global, store: &mut MemStore) -> Result<bool, Fail> {
     let bytes = file(alloc, store, "v1")?;
-    let mut are_told = true;
-    for (place, byte) in CHANGES {
-        let mut changed = bytes.to_vec(alloc)?;
-        if let Some(found) = changed.get_mut(place) {
-            *found = byte;
-        }
-        put_version(store, &changed)?;
-        are_told = are_told && is_told(alloc, store)?;
-    }
-    put_version(store, &bytes)?;
-    Ok(are_told)
+    are_all_told(alloc, store, &bytes)
 }
 
 /// Whether a name that is refused is told so.
@@ -76,29 +103,33 @@ fn are_names_told(alloc: Global, store: &mut MemStore) -> Result<bool, Fail> {
     Ok(are_told)
 }
 
-fn are_others_told(alloc: Global, store: &mut MemStore) -> Result<bool, Fail> {
-    Ok(are_changes_told(alloc, store)? && are_names_told(alloc, store)?)
-}
+/// How many damages of each file are told so, and whether changes and names are.
+type Counts = (usize, usize, usize, bool);
 
-fn with_version(alloc: Global, format: u8) -> Result<MemStore, Fail> {
-    let mut store = one_table(alloc, format)?;
+fn count_each(alloc: Global, store: &mut MemStore, format: u8) -> Result<Counts, Fail> {
+    put_table(alloc, store, format)?;
     store.replace("version", b"")?;
-    Ok(store)
+    let current = count_told(alloc, store, "current")?;
+    let version = count_told(alloc, store, "v1")?;
+    let table = count_told(alloc, store, "tables/0")?;
+    let others = are_changes_told(alloc, store)? && are_names_told(alloc, store)?;
+    Ok((current, version, table, others))
 }
 
+fn count_in_format(alloc: Global, format: u8) -> Result<Counts, Fail> {
+    let mut store = MemStore::new(alloc);
+    let counts = count_each(alloc, &mut store, format);
+    drop(store);
+    counts
+}
+
+/// Each cut of each file is told so: they are so long.
 #[test]
 fn an_older_tree_is_told_before_all_else(rt: HostRuntime) -> Result<(), Fail> {
-    for format in FORMATS {
-        let mut store = with_version(rt.alloc(), format)?;
-        for (name, lens) in FILES {
-            let len = if format == 3 { lens[0] } else { lens[1] };
-            let count = count_told(rt.alloc(), &mut store, name);
-            assert_eq!(rt; count?, len, "{name} of format {format}");
-        }
-        let others = are_others_told(rt.alloc(), &mut store);
-        drop(store);
-        assert!(rt; others?);
-    }
+    let counts = count_in_format(rt.alloc(), 3)?;
+    assert_eq!(rt; counts, (25, 178, 37, true));
+    let counts = count_in_format(rt.alloc(), 4)?;
+    assert_eq!(rt; counts, (25, 203, 37, true));
     Ok(())
 }
 
@@ -125,12 +156,17 @@ fn without_table(alloc: Global, bytes: &[u8]) -> Result<Vec<u8>, Fail> {
     Ok(left)
 }
 
-fn tells_empty_run(alloc: Global, format: u8) -> Result<Told, Fail> {
-    let mut store = one_table(alloc, format)?;
-    let bytes = file(alloc, &mut store, "v1")?;
+fn put_without_table(alloc: Global, store: &mut MemStore, format: u8) -> Result<Told, Fail> {
+    put_table(alloc, store, format)?;
+    let bytes = file(alloc, store, "v1")?;
     let left = without_table(alloc, &bytes)?;
-    put_version(&mut store, &left)?;
-    let told = tells(alloc, &mut store);
+    put_version(store, &left)?;
+    tells(alloc, store)
+}
+
+fn tells_empty_run(alloc: Global, format: u8) -> Result<Told, Fail> {
+    let mut store = MemStore::new(alloc);
+    let told = put_without_table(alloc, &mut store, format);
     drop(store);
     told
 }

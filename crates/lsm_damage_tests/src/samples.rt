@@ -70,16 +70,16 @@ pub fn file(alloc: Global, store: &mut MemStore, name: &str) -> Result<Vec<u8>, 
     Ok(store.read(alloc, name)?.ok_or("it is there")?)
 }
 
-/// A store with `current`, `v1` in a format, and a = x in `tables/0`; `v0` is left of it.
-pub fn one_table(alloc: Global, format: u8) -> Result<MemStore, Fail> {
+/// Puts `current`, `v1` in a format, and a = x in `tables/0` into a store, in place of all that it held; `v0` is left beside.
+pub fn put_table(alloc: Global, store: &mut MemStore, format: u8) -> Result<(), Fail> {
     let mut tree = open_new(alloc)?;
     let told = set(alloc, &mut tree, "a", "x");
-    let mut store = tree.into_store();
+    *store = tree.into_store();
     told?;
-    let newest = file(alloc, &mut store, "v1")?;
+    let newest = file(alloc, store, "v1")?;
     let bytes = in_format(alloc, format, &newest)?;
-    put_version(&mut store, &bytes)?;
-    Ok(store)
+    put_version(store, &bytes)?;
+    Ok(())
 }
 
 /// What an opening answers: the number of its error, and the format that it found; how many names are left, and whether these
@@ -91,13 +91,6 @@ pub struct Told {
     pub names: usize,
     pub is_same: bool,
     pub next: u64,
-}
-
-fn format_of(error: &Error) -> u8 {
-    match error {
-        Error::InvalidVersion(format) => *format,
-        _ => 0,
-    }
 }
 
 /// Whether each name has the content that it had in another store.
@@ -115,38 +108,48 @@ fn are_same(
     Ok(true)
 }
 
-/// The store that an opening leaves, and the error that it is refused with, or the next table's id.
-fn opened(alloc: Global, store: MemStore) -> (MemStore, Result<u64, Error>) {
+/// The number of an error, and the format that it tells.
+fn numbers(error: Error) -> (u8, u8) {
+    let format = match error {
+        Error::InvalidVersion(format) => format,
+        _ => 0,
+    };
+    (error.number(), format)
+}
+
+/// The store that an opening leaves; the number of its error, the format that it found, and the next table's id.
+fn opened(alloc: Global, store: MemStore) -> (MemStore, (u8, u8), u64) {
     match open(alloc, 10, store) {
         Ok(tree) => {
             let next = tree.next_table_id();
-            (tree.into_store(), Ok(next))
+            (tree.into_store(), (0, 0), next)
         }
-        Err((error, store)) => (store, Err(error)),
+        Err((error, store)) => (store, numbers(error), 0),
     }
+}
+
+/// How many names are left, and whether they have the contents that they had.
+fn look(
+    alloc: Global,
+    left: &mut MemStore,
+    before: &mut MemStore,
+) -> Result<(usize, bool), StoreError> {
+    let names = left.list(alloc)?.len();
+    Ok((names, are_same(alloc, left, before)?))
 }
 
 /// What an opening of a store like this one answers.
 pub fn tells(alloc: Global, before: &mut MemStore) -> Result<Told, Fail> {
     let store = before.crash(&[])?.ok_or("nothing is picked")?;
-    let (mut left, told) = opened(alloc, store);
-    let names = left.list(alloc)?.len();
-    let is_same = are_same(alloc, &mut left, before)?;
+    let (mut left, (error, format), next) = opened(alloc, store);
+    let looked = look(alloc, &mut left, before);
     drop(left);
-    Ok(match told {
-        Ok(next) => Told {
-            error: 0,
-            format: 0,
-            names,
-            is_same,
-            next,
-        },
-        Err(error) => Told {
-            error: error.number(),
-            format: format_of(&error),
-            names,
-            is_same,
-            next: 0,
-        },
+    let (names, is_same) = looked?;
+    Ok(Told {
+        error,
+        format,
+        names,
+        is_same,
+        next,
     })
 }

@@ -1,5 +1,5 @@
 // One of the callers, and what it notes.
-use crate::writes::Write as Pair;
+use crate::writes::Batch;
 use anyhow::{Result, bail};
 use lsm_tree::{Error, Major, RunJob, SeqNo, Store, Tree};
 use std::alloc::Global;
@@ -93,20 +93,20 @@ impl<R: Wait + Clock + Files<File = File>, S: Store> Caller<'_, R, S> {
 
     fn write(&self, log: &mut File, turn: u64) -> Result<()> {
         let alloc = self.alloc;
-        let pair = Pair::at_turn(alloc, self.plan.session, self.number, turn)?;
-        note(log, &pair.line(alloc)?)?;
-        let number = self.tree.write(self.rt, pair.batch(alloc)?)?;
-        if !self.reads(&pair, number.saturating_add(1))? {
+        let batch = Batch::at_turn(alloc, self.plan.session, self.number, turn)?;
+        note(log, &batch.line(alloc)?)?;
+        let number = self.tree.write(self.rt, batch.ops(alloc)?)?;
+        if !self.reads(&batch, number.saturating_add(1))? {
             bail!("something else was read than was written");
         }
         self.end(log, number, SHORT)
     }
 
     /// Whether a write is read at the snapshot behind it, which may be gone.
-    fn reads(&self, pair: &Pair, snapshot: SeqNo) -> Result<bool> {
-        let key = pair.second_key(self.alloc)?;
+    fn reads(&self, batch: &Batch, snapshot: SeqNo) -> Result<bool> {
+        let key = batch.second_key(self.alloc)?;
         match self.tree.get(self.rt, key.as_slice(), snapshot) {
-            Ok(found) => Ok(pair.is_read(found)),
+            Ok(found) => Ok(batch.is_read(found)),
             Err(Error::SnapshotTooOld) => Ok(true),
             Err(error) => Err(error.into()),
         }

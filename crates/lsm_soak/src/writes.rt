@@ -7,7 +7,7 @@ const PAIRS: u64 = 50;
 
 /// What a writer does at a turn.
 #[derive(Drop)]
-pub struct Write {
+pub struct Batch {
     pair: u64,
     /// None where the keys are removed.
     value: Option<String>,
@@ -18,20 +18,20 @@ fn name_key(alloc: Global, letter: char, pair: u64) -> Result<UserKey, AllocErro
     UserKey::copy_from_slice(alloc, name.as_bytes())
 }
 
-impl Write {
+impl Batch {
     /// Sets a pair to a value that no other write has, or removes it, at each tenth turn.
     pub fn at_turn(
         alloc: Global,
         session: &str,
         caller: usize,
         turn: u64,
-    ) -> Result<Write, AllocError> {
+    ) -> Result<Batch, AllocError> {
         let value = if turn % 10 == 9 {
             None
         } else {
             Some(format!(in alloc; "{session}-{caller}-{turn}")?)
         };
-        Ok(Write {
+        Ok(Batch {
             pair: turn % PAIRS,
             value,
         })
@@ -52,7 +52,7 @@ impl Write {
         }
     }
 
-    pub fn batch(&self, alloc: Global) -> Result<Vec<(UserKey, Op)>, AllocError> {
+    pub fn ops(&self, alloc: Global) -> Result<Vec<(UserKey, Op)>, AllocError> {
         let mut ops = Vec::with_capacity(alloc, 2)?;
         ops.push((name_key(alloc, 'a', self.pair)?, self.op(alloc)?))?;
         ops.push((self.second_key(alloc)?, self.op(alloc)?))?;
