@@ -26,7 +26,7 @@ const REFUSALS: [Refusal; 5] = [
 fn may_end(ended: Result<(), (End, usize)>, refusal: Refusal) -> bool {
     match ended {
         Ok(()) => true,
-        Err((end, _)) => end == End::NoStore && refusal == Refusal::Fails(Fault::FromHere),
+        Err((end, _)) => end == End::NoStore && matches!(refusal, Refusal::Fails(Fault::FromHere)),
     }
 }
 

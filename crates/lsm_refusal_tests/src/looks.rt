@@ -7,49 +7,25 @@ const KEYS: [&str; 3] = ["a", "b", "c"];
 /// Snapshots at and above each number that a row uses.
 const SNAPSHOTS: [SeqNo; 12] = [0, 1, 2, 3, 4, 5, 6, 7, 8, 9, 10, u64::MAX];
 
-/// What is counted of a tree, which takes no memory.
-#[derive(Clone, Copy, Debug, PartialEq, Eq)]
-struct Counts {
-    tables: usize,
-    runs: usize,
-    lowest: Option<usize>,
-    sealed: usize,
-    len: usize,
-    tombstones: u64,
-    bytes: u64,
+/// Whether two trees hold as much.
+fn count_alike(one: &Tree, other: &Tree) -> bool {
+    one.table_count() == other.table_count()
+        && one.l0_run_count() == other.l0_run_count()
+        && one.level_table_count(6) == other.level_table_count(6)
+        && one.sealed_memtable_count() == other.sealed_memtable_count()
+        && one.approximate_len() == other.approximate_len()
+        && one.tombstone_count() == other.tombstone_count()
+        && one.disk_space() == other.disk_space()
 }
 
-#[derive(Clone, Copy, Debug, PartialEq, Eq)]
-struct Numbers {
-    next: SeqNo,
-    visible: SeqNo,
-    highest: Option<SeqNo>,
-    in_memory: Option<SeqNo>,
-    persisted: Option<SeqNo>,
-    is_compacting: bool,
-}
-
-fn count_all(tree: &Tree) -> Counts {
-    Counts {
-        tables: tree.table_count(),
-        runs: tree.l0_run_count(),
-        lowest: tree.level_table_count(6),
-        sealed: tree.sealed_memtable_count(),
-        len: tree.approximate_len(),
-        tombstones: tree.tombstone_count(),
-        bytes: tree.disk_space(),
-    }
-}
-
-fn numbers_of(tree: &Tree) -> Numbers {
-    Numbers {
-        next: tree.seqno().get(),
-        visible: tree.visible_seqno().get(),
-        highest: tree.get_highest_seqno(),
-        in_memory: tree.get_highest_memtable_seqno(),
-        persisted: tree.get_highest_persisted_seqno(),
-        is_compacting: tree.is_compacting(),
-    }
+/// Whether their numbers are the same.
+fn number_alike(one: &Tree, other: &Tree) -> bool {
+    one.seqno().get() == other.seqno().get()
+        && one.visible_seqno().get() == other.visible_seqno().get()
+        && one.get_highest_seqno() == other.get_highest_seqno()
+        && one.get_highest_memtable_seqno() == other.get_highest_memtable_seqno()
+        && one.get_highest_persisted_seqno() == other.get_highest_persisted_seqno()
+        && one.is_compacting() == other.is_compacting()
 }
 
 /// Where what was to go is gone, both have as many super versions and bytes in memory. Else the first may have more.
@@ -117,7 +93,5 @@ pub fn agree(one: &Tree, other: &Tree, is_clean: bool) -> bool {
             return false;
         }
     }
-    count_all(one) == count_all(other)
-        && numbers_of(one) == numbers_of(other)
-        && are_as_long(one, other, is_clean)
+    count_alike(one, other) && number_alike(one, other) && are_as_long(one, other, is_clean)
 }

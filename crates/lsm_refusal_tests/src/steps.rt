@@ -43,7 +43,7 @@ pub enum Step {
 }
 
 /// What is answered.
-#[derive(Clone, Copy, Debug, PartialEq, Eq)]
+#[derive(Clone, Copy, PartialEq, Eq)]
 pub enum Told {
     /// The number of a write.
     Number(SeqNo),
