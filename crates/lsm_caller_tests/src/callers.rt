@@ -98,14 +98,13 @@ fn call(rt: &impl Wait, alloc: Global, tree: &RecordedTree, caller: usize) -> To
 }
 
 /// The passes of all callers, and whether no call was refused.
-fn all_passes(alloc: Global, told: Vec<Told>) -> Result<(Vec<Pass>, bool), AllocError> {
-    let mut passes = Vec::with_capacity(alloc, told.len())?;
+fn all_passes(alloc: Global, told: Vec<Told>) -> (Vec<Pass>, bool) {
+    let mut passes = Vec::new(alloc);
     let mut are_done = true;
     for (pass, is_done) in told {
-        are_done = are_done && is_done;
-        passes.push(pass)?;
+        are_done = passes.push(pass).is_ok() && is_done && are_done;
     }
-    Ok((passes, are_done))
+    (passes, are_done)
 }
 
 /// What is counted in the journal that is given out for these passes.
@@ -128,8 +127,9 @@ fn call_all<R: Threads + Wait + Sync>(
         CALLERS,
         &|caller| { call(rt, alloc, tree, caller) },
     )?;
-    let (passes, are_done) = all_passes(alloc, told)?;
-    Ok(counts_of(rt, tree, passes).filter(|_| are_done))
+    let (passes, are_done) = all_passes(alloc, told);
+    let counts = counts_of(rt, tree, passes);
+    Ok(if are_done { counts } else { None })
 }
 
 fn open(alloc: Global) -> Result<RecordedTree, Error> {

@@ -6,9 +6,9 @@ use lsm_tree::{
 };
 use std::alloc::{AllocError, Global};
 use std::collections::HashSet;
-use std::sync::{Arc, Mutex, Wait};
+use std::sync::{Mutex, Wait};
 use std::test::Fail;
-use std::thread;
+use std::thread::{self, Threads};
 
 /// How often a flag is looked at.
 const LOOKS: u32 = 10_000_000;
@@ -88,18 +88,29 @@ impl<R: Wait> Gate for Meets<'_, R> {
     }
 }
 
-fn merges<R: Wait>(
-    rt: &R,
-    tree: &Tree,
-    id: TableId,
-    own: &Mutex<bool>,
-    other: &Mutex<bool>,
-) -> bool {
+/// Merges one of the tables: whether the merge is installed.
+fn merges<R: Wait>(rt: &R, tree: &Tree, flags: &Flags, place: usize) -> bool {
+    let (id, own, other) = if place == 0 {
+        (0, &flags.first, &flags.second)
+    } else {
+        (1, &flags.second, &flags.first)
+    };
     let gate = Meets { rt, own, other };
     matches!(
         tree.compact_gated(rt, &One { id }, 0, &gate),
         Ok(Begun::Installed)
     )
+}
+
+/// Merges both at once: whether both merges are installed.
+fn merge_both<R: Threads + Wait + Sync>(
+    rt: &R,
+    alloc: Global,
+    tree: &Tree,
+    flags: &Flags,
+) -> Result<bool, AllocError> {
+    let told = thread::map_indices(rt, alloc, 2, &|place| { merges(rt, tree, flags, place) })?;
+    Ok(told.iter().all(|is_merged| *is_merged))
 }
 
 /// Sets a key, in a table of its own.
@@ -146,29 +157,20 @@ fn are_merged(rt: &impl Wait, tree: &Tree) -> bool {
         && reads(rt, tree, "b", "2")
 }
 
-fn lower_flags(alloc: Global) -> Result<Arc<Flags>, AllocError> {
+#[test]
+fn two_merges_wait_for_each_other(rt: HostRuntime) -> Result<(), Fail> {
+    let tree = open(rt.alloc())?;
+    let filled = fill(&rt, rt.alloc(), &tree);
+    let runs = tree.l0_run_count(&rt);
     let flags = Flags {
         first: Mutex::new(false),
         second: Mutex::new(false),
     };
-    Ok(Arc::new(alloc, flags)?)
-}
-
-#[test]
-fn two_merges_wait_for_each_other(rt: HostRuntime) -> Result<(), Fail> {
-    let alloc = rt.alloc();
-    let tree = open(alloc)?;
-    let filled = fill(&rt, alloc, &tree);
-    assert!(rt; matches!(filled, Ok(())) && tree.l0_run_count(&rt) == 1);
-    let flags = lower_flags(alloc)?;
-    let (one, ones) = (tree.clone()?, Arc::try_clone(&flags)?);
-    let (two, twos) = (tree.clone()?, Arc::try_clone(&flags)?);
-    let first = thread::spawn(&rt, move || merges(&rt, &one, 0, &ones.first, &ones.second))?;
-    let second = thread::spawn(&rt, move || merges(&rt, &two, 1, &twos.second, &twos.first))?;
-    let (first, second) = (first.join(&rt), second.join(&rt));
-    assert!(rt; first && second);
-    assert!(rt; are_merged(&rt, &tree));
-    drop(flags);
+    let merged = merge_both(&rt, rt.alloc(), &tree, &flags);
+    let right = are_merged(&rt, &tree);
     drop(tree);
+    filled?;
+    assert_eq!(rt; runs, 1);
+    assert!(rt; merged? && right);
     Ok(())
 }
