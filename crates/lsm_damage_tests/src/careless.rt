@@ -10,7 +10,7 @@ use std::alloc::{AllocError, Global};
 use std::collections::HashSet;
 use std::test::Fail;
 
-#[derive(Drop, Clone, Copy, Debug)]
+#[derive(Clone, Copy)]
 enum Careless {
     /// Merges all tables into level 255.
     Far,
@@ -145,11 +145,10 @@ const STRATEGIES: [(Careless, Told, bool); 6] = [
 
 #[test]
 fn a_strategy_may_answer_anything(rt: HostRuntime) -> Result<(), Fail> {
-    for (strategy, told, is_read) in STRATEGIES {
-        assert!(rt;
-            tells(rt.alloc(), strategy)? == (told, is_read, true),
-            "{strategy:?}"
-        );
+    for (place, (strategy, wanted, was_read)) in STRATEGIES.iter().enumerate() {
+        let (told, is_read, is_free) = tells(rt.alloc(), *strategy)?;
+        let right = told == *wanted && is_read == *was_read && is_free;
+        assert!(rt; right, "strategy {place}");
     }
     Ok(())
 }

@@ -4,132 +4,123 @@ use lsm_store::{MemStore, Store, StoreError};
 use std::alloc::Global;
 use std::test::Fail;
 
-/// Names that are refused, each at the place of a file.
-const NAMES: [&str; 3] = ["tables/00", "tables/+0", "tables/18446744073709551616"];
+/// What is done to the files of a tree. None of them has 256 bytes.
+#[derive(Clone, Copy)]
+enum Damage {
+    /// A file has no more than its first bytes, so many.
+    Cut(&'static str, usize),
+    /// A file is removed.
+    Absent(&'static str),
+    /// A byte of `v1` is another one.
+    Byte(usize, u8),
+    /// There is a file of a name that is refused.
+    Name(&'static str),
+}
 
-/// Changes of bytes in `v1`: the format, the tree type, the level count.
-const CHANGES: [(usize, u8); 3] = [(23, 2), (70, 1), (91, 6)];
+use Damage::{Absent, Byte, Cut, Name};
+
+const FILES: [&str; 3] = ["current", "v1", "tables/0"];
+
+/// The format, the tree type and the level count are among the bytes that are changed.
+const OTHERS: [Damage; 9] = [
+    Absent("current"),
+    Absent("v1"),
+    Absent("tables/0"),
+    Byte(23, 2),
+    Byte(70, 1),
+    Byte(91, 6),
+    Name("tables/00"),
+    Name("tables/+0"),
+    Name("tables/18446744073709551616"),
+];
 
 /// Puts these bytes in place of a file's, with the sum made again where it is the version's.
 fn put(store: &mut MemStore, name: &str, bytes: &[u8]) -> Result<(), StoreError> {
     if name == "v1" {
-        return put_version(store, bytes);
+        put_version(store, bytes)
+    } else {
+        store.replace(name, bytes)
     }
-    store.replace(name, bytes)
 }
 
-/// Whether the older kind of tree is told of, and each name stays.
-fn is_told(alloc: Global, store: &mut MemStore) -> Result<bool, Fail> {
-    let told = tells(alloc, store)?;
-    Ok(
-        (told.error, told.format, told.is_same, told.names)
-            == (5, 1, true, store.list(alloc)?.len()),
-    )
+fn cut(alloc: Global, store: &mut MemStore, name: &str, len: usize) -> Result<(), StoreError> {
+    let mut bytes = file(alloc, store, name)?;
+    bytes.truncate(len);
+    put(store, name, &bytes)
 }
 
-/// How many cuts of a file to less than these bytes are told so, up to the first that isn't.
-fn count_cuts(
-    alloc: Global,
-    store: &mut MemStore,
-    name: &str,
-    bytes: &[u8],
-) -> Result<usize, Fail> {
-    for len in 0..bytes.len() {
-        put(store, name, bytes.get(..len).unwrap_or_default())?;
-        if !is_told(alloc, store)? {
-            return Ok(len);
-        }
-    }
-    Ok(bytes.len())
-}
-
-/// The same, 0 where the absence of the file isn't told so. It is put back.
-fn count_damages(
-    alloc: Global,
-    store: &mut MemStore,
-    name: &str,
-    bytes: &[u8],
-) -> Result<usize, Fail> {
-    let count = count_cuts(alloc, store, name, bytes)?;
-    store.remove(name)?;
-    let is_last_told = is_told(alloc, store)?;
-    put(store, name, bytes)?;
-    Ok(if is_last_told { count } else { 0 })
-}
-
-fn count_told(alloc: Global, store: &mut MemStore, name: &str) -> Result<usize, Fail> {
-    let bytes = file(alloc, store, name)?;
-    count_damages(alloc, store, name, &bytes)
-}
-
-/// Whether a change of the version's file is told so.
-fn is_change_told(
-    alloc: Global,
-    store: &mut MemStore,
-    bytes: &[u8],
-    (place, byte): (usize, u8),
-) -> Result<bool, Fail> {
-    let mut changed = bytes.to_vec(alloc)?;
-    if let Some(found) = changed.get_mut(place) {
+fn change(alloc: Global, store: &mut MemStore, place: usize, byte: u8) -> Result<(), StoreError> {
+    let mut bytes = file(alloc, store, "v1")?;
+    if let Some(found) = bytes.get_mut(place) {
         *found = byte;
     }
-    put_version(store, &changed)?;
+    put_version(store, &bytes)
+}
+
+fn harm(alloc: Global, store: &mut MemStore, damage: Damage) -> Result<(), StoreError> {
+    match damage {
+        Damage::Cut(name, len) => cut(alloc, store, name, len),
+        Damage::Absent(name) => store.remove(name),
+        Damage::Byte(place, byte) => change(alloc, store, place, byte),
+        Damage::Name(name) => store.replace(name, b"1"),
+    }
+}
+
+/// Whether the older kind of tree is told of a store, and each name stays.
+fn is_told(alloc: Global, store: &mut MemStore) -> Result<bool, StoreError> {
+    let told = tells(alloc, store)?;
+    let names = store.list(alloc)?.len();
+    Ok(told.error == 5 && told.format == 1 && told.is_same && told.names == names)
+}
+
+fn harm_and_tell(
+    alloc: Global,
+    store: &mut MemStore,
+    format: u8,
+    damage: Damage,
+) -> Result<bool, StoreError> {
+    put_table(alloc, store, format)?;
+    store.replace("version", b"")?;
+    harm(alloc, store, damage)?;
     is_told(alloc, store)
 }
 
-fn are_all_told(alloc: Global, store: &mut MemStore, bytes: &[u8]) -> Result<bool, Fail> {
-    for change in CHANGES {
-        if !is_change_told(alloc, store, bytes, change)? {
+fn is_told_beside(alloc: Global, format: u8, damage: Damage) -> Result<bool, StoreError> {
+    let mut store = MemStore::new(alloc);
+    let told = harm_and_tell(alloc, &mut store, format, damage);
+    drop(store);
+    told
+}
+
+/// Whether an older kind of tree is told of beside each cut of a file, and all of it.
+fn is_each_cut_told(alloc: Global, format: u8, name: &'static str) -> Result<bool, StoreError> {
+    for len in 0..256 {
+        if !is_told_beside(alloc, format, Cut(name, len))? {
             return Ok(false);
         }
     }
-    put_version(store, bytes)?;
     Ok(true)
 }
 
-fn are_changes_told(alloc: Global, store: &mut MemStore) -> Result<bool, Fail> {
-    let bytes = file(alloc, store, "v1")?;
-    are_all_told(alloc, store, &bytes)
-}
-
-/// Whether a name that is refused is told so.
-fn are_names_told(alloc: Global, store: &mut MemStore) -> Result<bool, Fail> {
-    let mut are_told = true;
-    for name in NAMES {
-        store.replace(name, b"1")?;
-        are_told = are_told && is_told(alloc, store)?;
-        store.remove(name)?;
+#[test]
+fn an_older_tree_is_told_before_a_cut(rt: HostRuntime) -> Result<(), Fail> {
+    for format in &FORMATS {
+        for name in &FILES {
+            let told = is_each_cut_told(rt.alloc(), *format, *name)?;
+            assert!(rt; told, "{name} of format {format}");
+        }
     }
-    Ok(are_told)
+    Ok(())
 }
 
-/// How many damages of each file are told so, and whether changes and names are.
-type Counts = (usize, usize, usize, bool);
-
-fn count_each(alloc: Global, store: &mut MemStore, format: u8) -> Result<Counts, Fail> {
-    put_table(alloc, store, format)?;
-    store.replace("version", b"")?;
-    let current = count_told(alloc, store, "current")?;
-    let version = count_told(alloc, store, "v1")?;
-    let table = count_told(alloc, store, "tables/0")?;
-    let others = are_changes_told(alloc, store)? && are_names_told(alloc, store)?;
-    Ok((current, version, table, others))
-}
-
-fn count_in_format(alloc: Global, format: u8) -> Result<Counts, Fail> {
-    let mut store = MemStore::new(alloc);
-    let counts = count_each(alloc, &mut store, format);
-    drop(store);
-    counts
-}
-
-/// Each cut of each file is told so: they are so long.
 #[test]
 fn an_older_tree_is_told_before_all_else(rt: HostRuntime) -> Result<(), Fail> {
-    let counts = count_in_format(rt.alloc(), 3)?;
-    assert_eq!(rt; counts, (25, 178, 37, true));
-    let counts = count_in_format(rt.alloc(), 4)?;
-    assert_eq!(rt; counts, (25, 203, 37, true));
+    for format in &FORMATS {
+        for (place, damage) in OTHERS.iter().enumerate() {
+            let told = is_told_beside(rt.alloc(), *format, *damage)?;
+            assert!(rt; told, "damage {place} of format {format}");
+        }
+    }
     Ok(())
 }
 
@@ -145,47 +136,45 @@ const TABLE: usize = 139;
 const BEHIND_TABLE: usize = 172;
 
 /// `v1` with a run of no tables in place of the one with a table.
-fn without_table(alloc: Global, bytes: &[u8]) -> Result<Vec<u8>, Fail> {
+fn without_table(alloc: Global, bytes: &[u8]) -> Result<Vec<u8>, StoreError> {
     let mut left = bytes.get(..TABLE).unwrap_or_default().to_vec(alloc)?;
     left.extend_from_slice(bytes.get(BEHIND_TABLE..).unwrap_or_default())?;
-    for (place, byte) in [(LAYOUT_LEN, 12), (RUN_LEN, 0)] {
-        if let Some(found) = left.get_mut(place) {
-            *found = byte;
-        }
+    if let Some(found) = left.get_mut(LAYOUT_LEN) {
+        *found = 12;
+    }
+    if let Some(found) = left.get_mut(RUN_LEN) {
+        *found = 0;
     }
     Ok(left)
 }
 
-fn put_without_table(alloc: Global, store: &mut MemStore, format: u8) -> Result<Told, Fail> {
+fn put_without_table(alloc: Global, store: &mut MemStore, format: u8) -> Result<Told, StoreError> {
     put_table(alloc, store, format)?;
     let bytes = file(alloc, store, "v1")?;
-    let left = without_table(alloc, &bytes)?;
-    put_version(store, &left)?;
+    put_version(store, &without_table(alloc, &bytes)?)?;
     tells(alloc, store)
 }
 
-fn tells_empty_run(alloc: Global, format: u8) -> Result<Told, Fail> {
+fn tells_empty_run(alloc: Global, format: u8) -> Result<Told, StoreError> {
     let mut store = MemStore::new(alloc);
     let told = put_without_table(alloc, &mut store, format);
     drop(store);
     told
 }
 
+const UNRECOVERABLE: Told = Told {
+    error: 4,
+    format: 0,
+    names: 4,
+    is_same: true,
+    next: 0,
+};
+
 #[test]
 fn a_run_of_no_tables_is_unrecoverable(rt: HostRuntime) -> Result<(), Fail> {
-    let wanted = Told {
-        error: 4,
-        format: 0,
-        names: 4,
-        is_same: true,
-        next: 0,
-    };
-    for format in FORMATS {
-        assert_eq!(rt;
-            tells_empty_run(rt.alloc(), format)?,
-            wanted,
-            "format {format}"
-        );
+    for format in &FORMATS {
+        let told = tells_empty_run(rt.alloc(), *format)?;
+        assert!(rt; told == UNRECOVERABLE, "format {format}");
     }
     Ok(())
 }

@@ -7,7 +7,6 @@ use lsm_state::TreeState;
 use lsm_store::{MemStore, Store, StoreError};
 use lsm_tables::Checksum;
 use std::alloc::Global;
-use std::test::Fail;
 
 pub const FORMATS: [u8; 2] = [3, 4];
 
@@ -55,36 +54,43 @@ pub fn put_version(store: &mut MemStore, bytes: &[u8]) -> Result<(), StoreError>
     )
 }
 
-/// The bytes of `v1` in a format, from those in format 4.
-fn in_format(alloc: Global, format: u8, bytes: &[u8]) -> Result<Vec<u8>, Fail> {
-    let end = if format == 3 { END_OF_3 } else { bytes.len() };
-    let mut found = bytes.get(..end).unwrap_or_default().to_vec(alloc)?;
-    if let Some(place) = found.get_mut(FORMAT_PLACE) {
-        *place = format;
+/// The bytes of a file: none where it isn't there.
+pub fn file(alloc: Global, store: &mut MemStore, name: &str) -> Result<Vec<u8>, StoreError> {
+    match store.read(alloc, name)? {
+        Some(bytes) => Ok(bytes),
+        None => Ok(Vec::new(alloc)),
     }
-    Ok(found)
 }
 
-/// The bytes of a file, which is there.
-pub fn file(alloc: Global, store: &mut MemStore, name: &str) -> Result<Vec<u8>, Fail> {
-    Ok(store.read(alloc, name)?.ok_or("it is there")?)
+/// Puts `v1` in a format in the place of the one in format 4.
+fn put_format(alloc: Global, store: &mut MemStore, format: u8) -> Result<(), StoreError> {
+    let mut bytes = file(alloc, store, "v1")?;
+    if let Some(place) = bytes.get_mut(FORMAT_PLACE) {
+        *place = format;
+    }
+    if format == 3 {
+        bytes.truncate(END_OF_3);
+    }
+    put_version(store, &bytes)
 }
 
 /// Puts `current`, `v1` in a format, and a = x in `tables/0` into a store, in place of all that it held; `v0` is left beside.
-pub fn put_table(alloc: Global, store: &mut MemStore, format: u8) -> Result<(), Fail> {
-    let mut tree = open_new(alloc)?;
-    let told = set(alloc, &mut tree, "a", "x");
+pub fn put_table(alloc: Global, store: &mut MemStore, format: u8) -> Result<(), StoreError> {
+    let Ok(mut tree) = open_new(alloc) else {
+        return Err(StoreError::OutOfMemory);
+    };
+    let is_set = set(alloc, &mut tree, "a", "x").is_ok();
     *store = tree.into_store();
-    told?;
-    let newest = file(alloc, store, "v1")?;
-    let bytes = in_format(alloc, format, &newest)?;
-    put_version(store, &bytes)?;
-    Ok(())
+    if is_set {
+        put_format(alloc, store, format)
+    } else {
+        Err(StoreError::OutOfMemory)
+    }
 }
 
 /// What an opening answers: the number of its error, and the format that it found; how many names are left, and whether these
 /// have the contents that they had; and the next table's id, 0 where it is refused.
-#[derive(Clone, Copy, Debug, PartialEq, Eq)]
+#[derive(Clone, Copy, PartialEq, Eq)]
 pub struct Told {
     pub error: u8,
     pub format: u8,
@@ -138,10 +144,17 @@ fn look(
     Ok((names, are_same(alloc, left, before)?))
 }
 
+/// A store like this one.
+fn copy(store: &MemStore) -> Result<MemStore, StoreError> {
+    match store.crash(&[])? {
+        Some(copy) => Ok(copy),
+        None => Err(StoreError::Fault),
+    }
+}
+
 /// What an opening of a store like this one answers.
-pub fn tells(alloc: Global, before: &mut MemStore) -> Result<Told, Fail> {
-    let store = before.crash(&[])?.ok_or("nothing is picked")?;
-    let (mut left, (error, format), next) = opened(alloc, store);
+pub fn tells(alloc: Global, before: &mut MemStore) -> Result<Told, StoreError> {
+    let (mut left, (error, format), next) = opened(alloc, copy(before)?);
     let looked = look(alloc, &mut left, before);
     drop(left);
     let (names, is_same) = looked?;
