@@ -50,10 +50,14 @@ pub fn get(tree: &Tree, name: &str, snapshot: SeqNo) -> Result<Option<UserValue>
     }
 }
 
-/// Whether both answer a read alike. A snapshot that the other one has forgotten may still be there where something was
+/// Whether both are answered alike. A snapshot that the other one has forgotten may still be there where something was
 /// to go and is not gone.
-fn read_alike(one: &Tree, other: &Tree, name: &str, snapshot: SeqNo, is_clean: bool) -> bool {
-    match (get(one, name, snapshot), get(other, name, snapshot)) {
+fn answer_alike<T: PartialEq + Drop>(
+    one: Result<T, Error>,
+    other: Result<T, Error>,
+    is_clean: bool,
+) -> bool {
+    match (one, other) {
         (Ok(found), Ok(other)) => found == other,
         (Err(Error::SnapshotTooOld), Err(Error::SnapshotTooOld)) => true,
         (Ok(_), Err(Error::SnapshotTooOld)) => !is_clean,
@@ -61,25 +65,23 @@ fn read_alike(one: &Tree, other: &Tree, name: &str, snapshot: SeqNo, is_clean: b
     }
 }
 
-/// The same of what takes no memory.
-fn size_alike(one: &Tree, other: &Tree, name: &str, snapshot: SeqNo, is_clean: bool) -> bool {
-    match (
-        one.size_of(name.as_bytes(), snapshot),
-        other.size_of(name.as_bytes(), snapshot),
-    ) {
-        (Ok(size), Ok(other)) => size == other,
-        (Err(Error::SnapshotTooOld), Err(Error::SnapshotTooOld)) => true,
-        (Ok(_), Err(Error::SnapshotTooOld)) => !is_clean,
-        _ => false,
-    }
+/// Whether both answer reads of a key alike, also what takes no memory.
+fn read_alike(one: &Tree, other: &Tree, name: &str, snapshot: SeqNo, is_clean: bool) -> bool {
+    let key = name.as_bytes();
+    answer_alike(
+        get(one, name, snapshot),
+        get(other, name, snapshot),
+        is_clean,
+    ) && answer_alike(
+        one.size_of(key, snapshot),
+        other.size_of(key, snapshot),
+        is_clean,
+    )
 }
 
-/// Whether each read of a key is answered alike.
 fn reads_alike(one: &Tree, other: &Tree, name: &str, is_clean: bool) -> bool {
-    for snapshot in SNAPSHOTS {
-        if !read_alike(one, other, name, snapshot, is_clean)
-            || !size_alike(one, other, name, snapshot, is_clean)
-        {
+    for snapshot in &SNAPSHOTS {
+        if !read_alike(one, other, name, *snapshot, is_clean) {
             return false;
         }
     }
@@ -88,8 +90,8 @@ fn reads_alike(one: &Tree, other: &Tree, name: &str, is_clean: bool) -> bool {
 
 /// Whether two trees answer each read alike, and count alike.
 pub fn agree(one: &Tree, other: &Tree, is_clean: bool) -> bool {
-    for name in KEYS {
-        if !reads_alike(one, other, name, is_clean) {
+    for name in &KEYS {
+        if !reads_alike(one, other, *name, is_clean) {
             return false;
         }
     }

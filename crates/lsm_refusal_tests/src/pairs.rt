@@ -7,7 +7,7 @@ use lsm_store::Fault;
 use std::alloc::Global;
 
 /// Why calls on both trees ended early.
-#[derive(Clone, Copy, Debug, PartialEq, Eq)]
+#[derive(Clone, Copy)]
 pub enum End {
     /// Memory was refused to the kept tree, and nothing more can be compared.
     NoMemory,
@@ -158,19 +158,19 @@ fn take_turn(
 }
 
 /// Takes each call on both trees. One that is refused is taken once more, as if nothing had been, and then left out.
-/// Answers what is known of the trees then, or how it ended and at which call, from 1 on.
+/// Answers what is known of the trees then, or how it ended.
 pub fn play(
     alloc: Global,
     tried: &mut Player,
     kept: &mut Player,
     steps: &[(Step, Told)],
     refusal: Refusal,
-) -> Result<Known, (End, usize)> {
+) -> Result<Known, End> {
     let mut known = Known {
         is_whole: true,
         is_clean: true,
     };
-    for (place, step) in steps.iter().enumerate() {
+    for step in steps {
         for _ in 0..2 {
             match take_turn(alloc, (&mut *tried, &mut *kept), *step, refusal, known) {
                 Ok((next, is_refused)) => {
@@ -179,7 +179,7 @@ pub fn play(
                         break;
                     }
                 }
-                Err(end) => return Err((end, place.saturating_add(1))),
+                Err(end) => return Err(end),
             }
         }
     }

@@ -10,9 +10,12 @@ use std::alloc::Global;
 /// The number of what an index holds.
 const INDEX: SeqNo = 9_223_372_036_854_775_808;
 
-fn shows(tree: &Tree, name: &str, snapshot: SeqNo, wanted: Option<&str>) -> Result<bool, Error> {
-    let found = get(tree, name, snapshot)?;
-    Ok(found.as_ref().map(|value| value.as_slice()) == wanted.map(|wanted| wanted.as_bytes()))
+fn shows(tree: &Tree, name: &str, snapshot: SeqNo, wanted: Option<&str>) -> bool {
+    match (get(tree, name, snapshot), wanted) {
+        (Ok(Some(found)), Some(wanted)) => found.as_slice() == wanted.as_bytes(),
+        (Ok(None), None) => true,
+        _ => false,
+    }
 }
 
 fn is_too_old(tree: &Tree, name: &str, snapshot: SeqNo) -> bool {
@@ -81,7 +84,7 @@ fn gives_under(
 
 fn is_so(alloc: Global, tree: &Tree, look: Look) -> Result<bool, Error> {
     match look {
-        Look::Shows(name, snapshot, wanted) => shows(tree, name, snapshot, wanted),
+        Look::Shows(name, snapshot, wanted) => Ok(shows(tree, name, snapshot, wanted)),
         Look::TooOld(name, snapshot) => Ok(is_too_old(tree, name, snapshot)),
         Look::Tables(tables) => Ok(tree.table_count() == tables),
         Look::Levels(runs, lowest) => {

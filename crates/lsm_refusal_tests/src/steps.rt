@@ -69,7 +69,7 @@ pub fn open(
     TreeState::open(alloc, Config::new(0, next, next), store)
 }
 
-fn write(alloc: Global, tree: &mut Tree, name: &'static str, op: Op) -> Result<Told, Error> {
+pub fn write(alloc: Global, tree: &mut Tree, name: &'static str, op: Op) -> Result<Told, Error> {
     Ok(Told::Number(tree.write(vec![in alloc; (text(name), op)]?)?))
 }
 
