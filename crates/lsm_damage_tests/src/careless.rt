@@ -22,7 +22,7 @@ enum Careless {
     NoMemory,
 }
 
-fn all_ids(alloc: Global, version: &Version) -> Result<HashSet<TableId>, AllocError> {
+pub fn all_ids(alloc: Global, version: &Version) -> Result<HashSet<TableId>, AllocError> {
     let mut ids = HashSet::new(alloc);
     for table in version.iter_tables() {
         ids.insert(table.id())?;

@@ -1,5 +1,5 @@
 // Jobs that end on another tree: there they do nothing, and here they stay open until the tree is opened again.
-use crate::careless::{into_level, open_with_two};
+use crate::careless::{all_ids, into_level, open_with_two};
 use crate::samples::{open, text};
 use lsm_below::Error;
 use lsm_choices::Why;
@@ -9,14 +9,11 @@ use lsm_model::Op;
 use lsm_pick::Choice;
 use lsm_state::{Begun, Finished, Options, TreeState};
 use std::alloc::Global;
-use std::collections::HashSet;
 use std::test::Fail;
 
 /// A merge of both tables into the last level that is begun and run.
 fn begin_merge(alloc: Global, tree: &mut TreeState) -> Result<MergedCompaction, Error> {
-    let mut ids = HashSet::new(alloc);
-    ids.insert(0)?;
-    ids.insert(1)?;
+    let ids = all_ids(alloc, tree.current_version())?;
     let options = Options::from_tree(tree);
     match tree.begin_choice(Choice::Merge(into_level(ids, 6)), options)? {
         Begun::Job(job) => job.run().map_err(|refused| refused.0),

@@ -52,6 +52,22 @@ fn open_again(alloc: Global, next: SeqNo, store: RefusingStore, refusal: Refusal
     }
 }
 
+/// A tree beside the one of another store.
+fn open_beside(
+    alloc: Global,
+    next: SeqNo,
+    tried: Player,
+    kept: RefusingStore,
+) -> Result<(Player, Player), End> {
+    match open_again(alloc, next, kept, Refusal::NoMemory) {
+        Ok(kept) => Ok((tried, kept)),
+        Err(end) => {
+            drop(tried);
+            Err(end)
+        }
+    }
+}
+
 /// The trees of two stores, of which calls of the first may be refused so.
 fn open_both(
     alloc: Global,
@@ -60,12 +76,12 @@ fn open_both(
     kept: RefusingStore,
     refusal: Refusal,
 ) -> Result<(Player, Player), End> {
-    let tried = open_again(alloc, next, tried, refusal);
-    let kept = open_again(alloc, next, kept, Refusal::NoMemory);
-    match (tried, kept) {
-        (Ok(tried), Ok(kept)) => Ok((tried, kept)),
-        (Err(end), _) => Err(end),
-        (_, Err(end)) => Err(end),
+    match open_again(alloc, next, tried, refusal) {
+        Ok(tried) => open_beside(alloc, next, tried, kept),
+        Err(end) => {
+            drop(kept);
+            Err(end)
+        }
     }
 }
 
@@ -90,9 +106,10 @@ fn reopen_both(
     kept: Player,
     refusal: Refusal,
 ) -> Result<(Player, Player), End> {
-    match (left_of(tried), left_of(kept)) {
-        (Ok(tried), Ok(kept)) => open_both(alloc, 10, tried, kept, refusal),
-        _ => Err(End::Wrong),
+    let tried = left_of(tried);
+    match left_of(kept) {
+        Ok(kept) => open_both(alloc, 10, tried?, kept, refusal),
+        Err(end) => Err(end),
     }
 }
 
