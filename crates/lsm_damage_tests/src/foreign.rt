@@ -1,5 +1,5 @@
 // Jobs that end on another tree: there they do nothing, and here they stay open until the tree is opened again.
-use crate::careless::{into_level, open_with_two};
+use crate::careless::{all_ids, into_level, open_with_two};
 use crate::samples::{open, text};
 use lsm_below::Error;
 use lsm_choices::Why;
@@ -9,14 +9,11 @@ use lsm_model::Op;
 use lsm_pick::Choice;
 use lsm_state::{Begun, Finished, Options, TreeState};
 use std::alloc::Global;
-use std::collections::HashSet;
 use std::test::Fail;
 
 /// A merge of both tables into the last level that is begun and run.
 fn begin_merge(alloc: Global, tree: &mut TreeState) -> Result<MergedCompaction, Error> {
-    let mut ids = HashSet::new(alloc);
-    ids.insert(0)?;
-    ids.insert(1)?;
+    let ids = all_ids(alloc, tree.current_version())?;
     let options = Options::from_tree(tree);
     match tree.begin_choice(Choice::Merge(into_level(ids, 6)), options)? {
         Begun::Job(job) => job.run().map_err(|refused| refused.0),
@@ -51,15 +48,33 @@ fn is_free_again(alloc: Global, tree: TreeState) -> bool {
     }
 }
 
-/// Whether a merge that is begun in one tree and finished in another is as it should be in both.
-fn merges_elsewhere(alloc: Global) -> Result<bool, Error> {
-    let mut one = open_with_two(alloc)?;
-    let mut other = open_with_two(alloc)?;
-    let merged = begin_merge(alloc, &mut one)?;
-    let unknown = is_unknown(&mut other, merged);
-    drop(other);
-    let hidden = is_hidden(&one);
-    Ok(is_free_again(alloc, one) && unknown && hidden)
+/// Whether a merge of another tree is unknown in a new one.
+fn is_unknown_elsewhere(alloc: Global, merged: MergedCompaction) -> bool {
+    match open_with_two(alloc) {
+        Ok(mut other) => {
+            let unknown = is_unknown(&mut other, merged);
+            drop(other);
+            unknown
+        }
+        Err(_) => false,
+    }
+}
+
+/// Whether a merge that is begun in this tree and finished in another is as it should be in both.
+fn merges_elsewhere(alloc: Global, tree: &mut TreeState) -> bool {
+    match begin_merge(alloc, tree) {
+        Ok(merged) => is_unknown_elsewhere(alloc, merged) && is_hidden(tree),
+        Err(_) => false,
+    }
+}
+
+#[test]
+fn a_merge_ends_on_its_own_tree_alone(rt: HostRuntime) -> Result<(), Fail> {
+    let mut tree = open_with_two(rt.alloc())?;
+    let right = merges_elsewhere(rt.alloc(), &mut tree);
+    let is_free = is_free_again(rt.alloc(), tree);
+    assert!(rt; right && is_free);
+    Ok(())
 }
 
 // ---- flushes
@@ -71,8 +86,9 @@ fn seal(alloc: Global, tree: &mut TreeState) -> Result<(), Error> {
     Ok(())
 }
 
-/// A flush whose tables are written.
-fn write_tables(tree: &mut TreeState) -> Result<WrittenFlush, Error> {
+/// A flush of b = y whose tables are written.
+fn write_tables(alloc: Global, tree: &mut TreeState) -> Result<WrittenFlush, Error> {
+    seal(alloc, tree)?;
     let Some(job) = tree.begin_flush()? else {
         return Err(Error::Store);
     };
@@ -106,35 +122,31 @@ fn flushes_again(alloc: Global, tree: TreeState) -> Result<bool, Error> {
     }
 }
 
-/// Whether both trees seal, and a flush that is begun in the one is stale in the other.
-fn registers_elsewhere(alloc: Global, one: &mut TreeState, other: &mut TreeState) -> bool {
-    if seal(alloc, one).is_err() || seal(alloc, other).is_err() {
-        return false;
-    }
-    match write_tables(one) {
-        Ok(written) => is_stale(other, written),
+/// Whether a flush of another tree is stale in a new one that has sealed the same.
+fn is_stale_elsewhere(alloc: Global, written: WrittenFlush) -> bool {
+    match open_with_two(alloc) {
+        Ok(mut other) => {
+            let stale = seal(alloc, &mut other).is_ok() && is_stale(&mut other, written);
+            drop(other);
+            stale
+        }
         Err(_) => false,
     }
 }
 
-/// Whether a flush that is begun in one tree and registered in another is as it should be in both.
-fn flushes_elsewhere(alloc: Global) -> Result<bool, Error> {
-    let mut one = open_with_two(alloc)?;
-    let mut other = open_with_two(alloc)?;
-    let stale = registers_elsewhere(alloc, &mut one, &mut other);
-    drop(other);
-    let waits = is_flush_open(&mut one);
-    Ok(flushes_again(alloc, one)? && stale && waits)
-}
-
-#[test]
-fn a_merge_ends_on_its_own_tree_alone(rt: HostRuntime) -> Result<(), Fail> {
-    assert!(rt; merges_elsewhere(rt.alloc())?);
-    Ok(())
+/// Whether a flush that is begun in this tree and registered in another is as it should be in both.
+fn flushes_elsewhere(alloc: Global, tree: &mut TreeState) -> bool {
+    match write_tables(alloc, tree) {
+        Ok(written) => is_stale_elsewhere(alloc, written) && is_flush_open(tree),
+        Err(_) => false,
+    }
 }
 
 #[test]
 fn a_flush_ends_on_its_own_tree_alone(rt: HostRuntime) -> Result<(), Fail> {
-    assert!(rt; flushes_elsewhere(rt.alloc())?);
+    let mut tree = open_with_two(rt.alloc())?;
+    let right = flushes_elsewhere(rt.alloc(), &mut tree);
+    let flushes = flushes_again(rt.alloc(), tree)?;
+    assert!(rt; right && flushes);
     Ok(())
 }

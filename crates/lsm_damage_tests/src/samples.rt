@@ -7,7 +7,6 @@ use lsm_state::TreeState;
 use lsm_store::{MemStore, Store, StoreError};
 use lsm_tables::Checksum;
 use std::alloc::Global;
-use std::test::Fail;
 
 pub const FORMATS: [u8; 2] = [3, 4];
 
@@ -55,49 +54,49 @@ pub fn put_version(store: &mut MemStore, bytes: &[u8]) -> Result<(), StoreError>
     )
 }
 
-/// The bytes of `v1` in a format, from those in format 4.
-fn in_format(alloc: Global, format: u8, bytes: &[u8]) -> Result<Vec<u8>, Fail> {
-    let end = if format == 3 { END_OF_3 } else { bytes.len() };
-    let mut found = bytes.get(..end).unwrap_or_default().to_vec(alloc)?;
-    if let Some(place) = found.get_mut(FORMAT_PLACE) {
+/// The bytes of a file: none where it isn't there.
+pub fn file(alloc: Global, store: &mut MemStore, name: &str) -> Result<Vec<u8>, StoreError> {
+    match store.read(alloc, name)? {
+        Some(bytes) => Ok(bytes),
+        None => Ok(Vec::new(alloc)),
+    }
+}
+
+/// Puts `v1` in a format in the place of the one in format 4.
+fn put_format(alloc: Global, store: &mut MemStore, format: u8) -> Result<(), StoreError> {
+    let mut bytes = file(alloc, store, "v1")?;
+    if let Some(place) = bytes.get_mut(FORMAT_PLACE) {
         *place = format;
     }
-    Ok(found)
+    if format == 3 {
+        bytes.truncate(END_OF_3);
+    }
+    put_version(store, &bytes)
 }
 
-/// The bytes of a file, which is there.
-pub fn file(alloc: Global, store: &mut MemStore, name: &str) -> Result<Vec<u8>, Fail> {
-    Ok(store.read(alloc, name)?.ok_or("it is there")?)
-}
-
-/// A store with `current`, `v1` in a format, and a = x in `tables/0`; `v0` is left of it.
-pub fn one_table(alloc: Global, format: u8) -> Result<MemStore, Fail> {
-    let mut tree = open_new(alloc)?;
-    let told = set(alloc, &mut tree, "a", "x");
-    let mut store = tree.into_store();
-    told?;
-    let newest = file(alloc, &mut store, "v1")?;
-    let bytes = in_format(alloc, format, &newest)?;
-    put_version(&mut store, &bytes)?;
-    Ok(store)
+/// Puts `current`, `v1` in a format, and a = x in `tables/0` into a store, in place of all that it held; `v0` is left beside.
+pub fn put_table(alloc: Global, store: &mut MemStore, format: u8) -> Result<(), StoreError> {
+    let Ok(mut tree) = open_new(alloc) else {
+        return Err(StoreError::OutOfMemory);
+    };
+    let is_set = set(alloc, &mut tree, "a", "x").is_ok();
+    *store = tree.into_store();
+    if is_set {
+        put_format(alloc, store, format)
+    } else {
+        Err(StoreError::OutOfMemory)
+    }
 }
 
 /// What an opening answers: the number of its error, and the format that it found; how many names are left, and whether these
 /// have the contents that they had; and the next table's id, 0 where it is refused.
-#[derive(Clone, Copy, Debug, PartialEq, Eq)]
+#[derive(Clone, Copy, PartialEq, Eq)]
 pub struct Told {
     pub error: u8,
     pub format: u8,
     pub names: usize,
     pub is_same: bool,
     pub next: u64,
-}
-
-fn format_of(error: &Error) -> u8 {
-    match error {
-        Error::InvalidVersion(format) => *format,
-        _ => 0,
-    }
 }
 
 /// Whether each name has the content that it had in another store.
@@ -115,38 +114,55 @@ fn are_same(
     Ok(true)
 }
 
-/// The store that an opening leaves, and the error that it is refused with, or the next table's id.
-fn opened(alloc: Global, store: MemStore) -> (MemStore, Result<u64, Error>) {
+/// The number of an error, and the format that it tells.
+fn numbers(error: Error) -> (u8, u8) {
+    let format = match error {
+        Error::InvalidVersion(format) => format,
+        _ => 0,
+    };
+    (error.number(), format)
+}
+
+/// The store that an opening leaves; the number of its error, the format that it found, and the next table's id.
+fn opened(alloc: Global, store: MemStore) -> (MemStore, (u8, u8), u64) {
     match open(alloc, 10, store) {
         Ok(tree) => {
             let next = tree.next_table_id();
-            (tree.into_store(), Ok(next))
+            (tree.into_store(), (0, 0), next)
         }
-        Err((error, store)) => (store, Err(error)),
+        Err((error, store)) => (store, numbers(error), 0),
+    }
+}
+
+/// How many names are left, and whether they have the contents that they had.
+fn look(
+    alloc: Global,
+    left: &mut MemStore,
+    before: &mut MemStore,
+) -> Result<(usize, bool), StoreError> {
+    let names = left.list(alloc)?.len();
+    Ok((names, are_same(alloc, left, before)?))
+}
+
+/// A store like this one.
+fn copy(store: &MemStore) -> Result<MemStore, StoreError> {
+    match store.crash(&[])? {
+        Some(copy) => Ok(copy),
+        None => Err(StoreError::Fault),
     }
 }
 
 /// What an opening of a store like this one answers.
-pub fn tells(alloc: Global, before: &mut MemStore) -> Result<Told, Fail> {
-    let store = before.crash(&[])?.ok_or("nothing is picked")?;
-    let (mut left, told) = opened(alloc, store);
-    let names = left.list(alloc)?.len();
-    let is_same = are_same(alloc, &mut left, before)?;
+pub fn tells(alloc: Global, before: &mut MemStore) -> Result<Told, StoreError> {
+    let (mut left, (error, format), next) = opened(alloc, copy(before)?);
+    let looked = look(alloc, &mut left, before);
     drop(left);
-    Ok(match told {
-        Ok(next) => Told {
-            error: 0,
-            format: 0,
-            names,
-            is_same,
-            next,
-        },
-        Err(error) => Told {
-            error: error.number(),
-            format: format_of(&error),
-            names,
-            is_same,
-            next: 0,
-        },
+    let (names, is_same) = looked?;
+    Ok(Told {
+        error,
+        format,
+        names,
+        is_same,
+        next,
     })
 }

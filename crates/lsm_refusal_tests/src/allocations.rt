@@ -11,10 +11,10 @@ use std::alloc::Global;
 
 /// Whether a row goes well, or ends early where memory is refused to the tree that is compared with.
 fn withstands(alloc: Global, row: &Row) -> bool {
-    match try_row(alloc, row, 0, Refusal::NoMemory).0 {
-        Ok(()) => true,
-        Err((end, _)) => end == End::NoMemory,
-    }
+    matches!(
+        try_row(alloc, row, 0, Refusal::NoMemory).0,
+        Ok(()) | Err(End::NoMemory)
+    )
 }
 
 #[test]

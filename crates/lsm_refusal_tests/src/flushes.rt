@@ -1,9 +1,9 @@
 // A flush of one table whose store calls are refused, each in each way, and what is left of the files that it wrote.
 use crate::looks::get;
-use crate::steps::{Tree, open, text};
+use crate::steps::{Tree, open, text, write};
 use crate::store::{Refusal, RefusingStore};
 use lsm_below::{Error, SeqNo};
-use lsm_jobs::WrittenFlush;
+use lsm_jobs::{FlushJob, WrittenFlush};
 use lsm_model::Op;
 use lsm_store::{Fault, Store};
 use std::alloc::Global;
@@ -32,20 +32,18 @@ const UNCLEAN: u8 = 101;
 
 const EMPTY: u8 = 102;
 
-fn write_x(alloc: Global, tree: &mut Tree) -> Result<SeqNo, Error> {
-    tree.write(vec![in alloc; (text("a"), Op::Set(text("x")))]?)
-}
-
 /// A new tree with a = x (0), of whose store a call behind the opening is refused.
 fn open_with_x(alloc: Global, call: u64, refusal: Refusal) -> Result<Tree, Error> {
     let store = RefusingStore::new(alloc, OPENING.saturating_add(call), refusal);
-    let mut tree = open(alloc, 0, store).map_err(|refused| refused.0)?;
-    match write_x(alloc, &mut tree) {
-        Ok(_) => Ok(tree),
-        Err(error) => {
-            drop(tree);
-            Err(error)
-        }
+    match open(alloc, 0, store) {
+        Ok(mut tree) => match write(alloc, &mut tree, "a", Op::Set(text("x"))) {
+            Ok(_) => Ok(tree),
+            Err(error) => {
+                drop(tree);
+                Err(error)
+            }
+        },
+        Err((error, _)) => Err(error),
     }
 }
 
@@ -130,30 +128,37 @@ const REFUSED: [Refused; 22] = [
 
 #[test]
 fn each_call_of_a_flush_is_refused(rt: HostRuntime) -> Result<(), Fail> {
-    for row in &REFUSED {
-        assert!(rt; tells(rt.alloc(), row)?, "{row:?}");
+    for (place, row) in REFUSED.iter().enumerate() {
+        let told = tells(rt.alloc(), row)?;
+        assert!(rt; told, "row {place}");
     }
     Ok(())
 }
 
 // ---- files
 
-/// Tables that are written for all that is sealed, if anything is.
-fn write(tree: &mut Tree) -> Result<Option<WrittenFlush>, Error> {
-    let Some(job) = tree.begin_flush()? else {
-        return Ok(None);
-    };
-    let merged = job.run(0).map_err(|refused| refused.0)?;
-    match tree.flush_to_tables(merged) {
-        Ok(written) => Ok(Some(written)),
+fn write_merged(tree: &mut Tree, job: FlushJob) -> Result<WrittenFlush, Error> {
+    match job.run(0) {
+        Ok(merged) => match tree.flush_to_tables(merged) {
+            Ok(written) => Ok(written),
+            Err((error, _)) => Err(error),
+        },
         Err((error, _)) => Err(error),
+    }
+}
+
+/// Tables that are written for all that is sealed, if anything is.
+fn write_tables(tree: &mut Tree) -> Result<Option<WrittenFlush>, Error> {
+    match tree.begin_flush()? {
+        Some(job) => Ok(Some(write_merged(tree, job)?)),
+        None => Ok(None),
     }
 }
 
 /// What `register_tables` answers, once the counter is at this number.
 fn register(tree: &mut Tree, next: SeqNo) -> Result<u8, Error> {
     tree.rotate_memtable()?;
-    let Some(written) = write(tree)? else {
+    let Some(written) = write_tables(tree)? else {
         return Ok(EMPTY);
     };
     tree.seqno_mut().set(next);
@@ -211,12 +216,9 @@ const LEFT: [(u64, Refusal, SeqNo, (u8, usize)); 9] = [
 
 #[test]
 fn a_refused_registration_leaves_no_file(rt: HostRuntime) -> Result<(), Fail> {
-    for (call, refusal, next, wanted) in LEFT {
-        let (told, files) = wanted;
-        assert!(rt;
-            leaves(rt.alloc(), call, refusal, next)? == (told, Some(files)),
-            "{refusal:?} of {call}"
-        );
+    for (place, (call, refusal, next, wanted)) in LEFT.iter().enumerate() {
+        let (told, files) = leaves(rt.alloc(), *call, *refusal, *next)?;
+        assert!(rt; told == wanted.0 && files == Some(wanted.1), "row {place}");
     }
     Ok(())
 }

@@ -7,49 +7,25 @@ const KEYS: [&str; 3] = ["a", "b", "c"];
 /// Snapshots at and above each number that a row uses.
 const SNAPSHOTS: [SeqNo; 12] = [0, 1, 2, 3, 4, 5, 6, 7, 8, 9, 10, u64::MAX];
 
-/// What is counted of a tree, which takes no memory.
-#[derive(Clone, Copy, Debug, PartialEq, Eq)]
-struct Counts {
-    tables: usize,
-    runs: usize,
-    lowest: Option<usize>,
-    sealed: usize,
-    len: usize,
-    tombstones: u64,
-    bytes: u64,
+/// Whether two trees hold as much.
+fn count_alike(one: &Tree, other: &Tree) -> bool {
+    one.table_count() == other.table_count()
+        && one.l0_run_count() == other.l0_run_count()
+        && one.level_table_count(6) == other.level_table_count(6)
+        && one.sealed_memtable_count() == other.sealed_memtable_count()
+        && one.approximate_len() == other.approximate_len()
+        && one.tombstone_count() == other.tombstone_count()
+        && one.disk_space() == other.disk_space()
 }
 
-#[derive(Clone, Copy, Debug, PartialEq, Eq)]
-struct Numbers {
-    next: SeqNo,
-    visible: SeqNo,
-    highest: Option<SeqNo>,
-    in_memory: Option<SeqNo>,
-    persisted: Option<SeqNo>,
-    is_compacting: bool,
-}
-
-fn count_all(tree: &Tree) -> Counts {
-    Counts {
-        tables: tree.table_count(),
-        runs: tree.l0_run_count(),
-        lowest: tree.level_table_count(6),
-        sealed: tree.sealed_memtable_count(),
-        len: tree.approximate_len(),
-        tombstones: tree.tombstone_count(),
-        bytes: tree.disk_space(),
-    }
-}
-
-fn numbers_of(tree: &Tree) -> Numbers {
-    Numbers {
-        next: tree.seqno().get(),
-        visible: tree.visible_seqno().get(),
-        highest: tree.get_highest_seqno(),
-        in_memory: tree.get_highest_memtable_seqno(),
-        persisted: tree.get_highest_persisted_seqno(),
-        is_compacting: tree.is_compacting(),
-    }
+/// Whether their numbers are the same.
+fn number_alike(one: &Tree, other: &Tree) -> bool {
+    one.seqno().get() == other.seqno().get()
+        && one.visible_seqno().get() == other.visible_seqno().get()
+        && one.get_highest_seqno() == other.get_highest_seqno()
+        && one.get_highest_memtable_seqno() == other.get_highest_memtable_seqno()
+        && one.get_highest_persisted_seqno() == other.get_highest_persisted_seqno()
+        && one.is_compacting() == other.is_compacting()
 }
 
 /// Where what was to go is gone, both have as many super versions and bytes in memory. Else the first may have more.
@@ -74,10 +50,14 @@ pub fn get(tree: &Tree, name: &str, snapshot: SeqNo) -> Result<Option<UserValue>
     }
 }
 
-/// Whether both answer a read alike. A snapshot that the other one has forgotten may still be there where something was
+/// Whether both are answered alike. A snapshot that the other one has forgotten may still be there where something was
 /// to go and is not gone.
-fn read_alike(one: &Tree, other: &Tree, name: &str, snapshot: SeqNo, is_clean: bool) -> bool {
-    match (get(one, name, snapshot), get(other, name, snapshot)) {
+fn answer_alike<T: PartialEq + Drop>(
+    one: Result<T, Error>,
+    other: Result<T, Error>,
+    is_clean: bool,
+) -> bool {
+    match (one, other) {
         (Ok(found), Ok(other)) => found == other,
         (Err(Error::SnapshotTooOld), Err(Error::SnapshotTooOld)) => true,
         (Ok(_), Err(Error::SnapshotTooOld)) => !is_clean,
@@ -85,25 +65,23 @@ fn read_alike(one: &Tree, other: &Tree, name: &str, snapshot: SeqNo, is_clean: b
     }
 }
 
-/// The same of what takes no memory.
-fn size_alike(one: &Tree, other: &Tree, name: &str, snapshot: SeqNo, is_clean: bool) -> bool {
-    match (
-        one.size_of(name.as_bytes(), snapshot),
-        other.size_of(name.as_bytes(), snapshot),
-    ) {
-        (Ok(size), Ok(other)) => size == other,
-        (Err(Error::SnapshotTooOld), Err(Error::SnapshotTooOld)) => true,
-        (Ok(_), Err(Error::SnapshotTooOld)) => !is_clean,
-        _ => false,
-    }
+/// Whether both answer reads of a key alike, also what takes no memory.
+fn read_alike(one: &Tree, other: &Tree, name: &str, snapshot: SeqNo, is_clean: bool) -> bool {
+    let key = name.as_bytes();
+    answer_alike(
+        get(one, name, snapshot),
+        get(other, name, snapshot),
+        is_clean,
+    ) && answer_alike(
+        one.size_of(key, snapshot),
+        other.size_of(key, snapshot),
+        is_clean,
+    )
 }
 
-/// Whether each read of a key is answered alike.
 fn reads_alike(one: &Tree, other: &Tree, name: &str, is_clean: bool) -> bool {
-    for snapshot in SNAPSHOTS {
-        if !read_alike(one, other, name, snapshot, is_clean)
-            || !size_alike(one, other, name, snapshot, is_clean)
-        {
+    for snapshot in &SNAPSHOTS {
+        if !read_alike(one, other, name, *snapshot, is_clean) {
             return false;
         }
     }
@@ -112,12 +90,10 @@ fn reads_alike(one: &Tree, other: &Tree, name: &str, is_clean: bool) -> bool {
 
 /// Whether two trees answer each read alike, and count alike.
 pub fn agree(one: &Tree, other: &Tree, is_clean: bool) -> bool {
-    for name in KEYS {
-        if !reads_alike(one, other, name, is_clean) {
+    for name in &KEYS {
+        if !reads_alike(one, other, *name, is_clean) {
             return false;
         }
     }
-    count_all(one) == count_all(other)
-        && numbers_of(one) == numbers_of(other)
-        && are_as_long(one, other, is_clean)
+    count_alike(one, other) && number_alike(one, other) && are_as_long(one, other, is_clean)
 }

@@ -7,7 +7,7 @@ use lsm_store::Fault;
 use std::alloc::Global;
 
 /// Why calls on both trees ended early.
-#[derive(Clone, Copy, Debug, PartialEq, Eq)]
+#[derive(Clone, Copy)]
 pub enum End {
     /// Memory was refused to the kept tree, and nothing more can be compared.
     NoMemory,
@@ -18,7 +18,7 @@ pub enum End {
 }
 
 /// How one call on both trees went.
-#[derive(Clone, Copy, Debug, PartialEq, Eq)]
+#[derive(Clone, Copy)]
 enum Turn {
     Answered(Told),
     /// The call has taken its effect, and not all that was to go is gone.
@@ -30,12 +30,12 @@ enum Turn {
 
 /// Whether this error may come of this refusal. Behind a commit of unknown outcome all others are refused.
 pub fn may_tell(error: &Error, refusal: Refusal, was_uncertain: bool) -> bool {
-    match error {
-        Error::OutOfMemory => refusal == Refusal::NoMemory,
-        Error::Store | Error::AfterCommit => refusal != Refusal::NoMemory,
-        Error::CommitUnknown => refusal != Refusal::NoMemory
-            && refusal != Refusal::Fails(Fault::OnceNothing),
-        Error::Unrecoverable => was_uncertain,
+    match (error, refusal) {
+        (Error::Unrecoverable, _) => was_uncertain,
+        (Error::OutOfMemory, Refusal::NoMemory) => true,
+        (_, Refusal::NoMemory) => false,
+        (Error::Store | Error::AfterCommit, Refusal::Fails(_)) => true,
+        (Error::CommitUnknown, Refusal::Fails(fault)) => !matches!(fault, Fault::OnceNothing),
         _ => false,
     }
 }
@@ -119,8 +119,8 @@ pub struct Known {
 
 fn known_behind(known: Known, turn: Turn) -> Known {
     Known {
-        is_whole: known.is_whole && turn != Turn::Refused,
-        is_clean: known.is_clean && turn != Turn::Unclean,
+        is_whole: known.is_whole && !matches!(turn, Turn::Refused),
+        is_clean: known.is_clean && !matches!(turn, Turn::Unclean),
     }
 }
 
@@ -146,31 +146,31 @@ fn take_turn(
 ) -> Result<(Known, bool), End> {
     let (tried, kept) = trees;
     let turn = call(alloc, tried, kept, step, refusal);
-    if turn == Turn::NoMemory {
+    if matches!(turn, Turn::NoMemory) {
         return Err(End::NoMemory);
     }
     let known = known_behind(known, turn);
     if is_right(&tried.tree, &kept.tree, known, turn, wanted) {
-        Ok((known, turn == Turn::Refused))
+        Ok((known, matches!(turn, Turn::Refused)))
     } else {
         Err(End::Wrong)
     }
 }
 
 /// Takes each call on both trees. One that is refused is taken once more, as if nothing had been, and then left out.
-/// Answers what is known of the trees then, or how it ended and at which call, from 1 on.
+/// Answers what is known of the trees then, or how it ended.
 pub fn play(
     alloc: Global,
     tried: &mut Player,
     kept: &mut Player,
     steps: &[(Step, Told)],
     refusal: Refusal,
-) -> Result<Known, (End, usize)> {
+) -> Result<Known, End> {
     let mut known = Known {
         is_whole: true,
         is_clean: true,
     };
-    for (place, step) in steps.iter().enumerate() {
+    for step in steps {
         for _ in 0..2 {
             match take_turn(alloc, (&mut *tried, &mut *kept), *step, refusal, known) {
                 Ok((next, is_refused)) => {
@@ -179,7 +179,7 @@ pub fn play(
                         break;
                     }
                 }
-                Err(end) => return Err((end, place.saturating_add(1))),
+                Err(end) => return Err(end),
             }
         }
     }

@@ -8,6 +8,9 @@ use lsm_below::SeqNo;
 use lsm_choices::Why;
 use lsm_iter::End;
 
+/// An end of an iterator, and the key and the value that it gives there: no pair where the key is empty.
+pub type Turn = (End, &'static str, &'static str);
+
 /// A look at what a tree shows.
 #[derive(Clone, Copy)]
 pub enum Look {
@@ -19,10 +22,10 @@ pub enum Look {
     /// The runs of the first level, and the tables of the last one.
     Levels(usize, usize),
     Entries(usize),
-    /// The keys that an iterator at a snapshot gives from its ends, "" for none.
-    Gives(SeqNo, &'static [(End, &'static str)]),
-    /// The pairs at a snapshot, under an index with a = o and a tombstone of b, both at 2^63, below a number.
-    Under(SeqNo, SeqNo, &'static [(&'static str, &'static str)]),
+    /// What an iterator at a snapshot gives.
+    Gives(SeqNo, &'static [Turn]),
+    /// The same, under an index with a = o and a tombstone of b, both at 2^63, below a number.
+    Under(SeqNo, SeqNo, &'static [Turn]),
 }
 
 use Look::{Entries, Gives, Levels, Shows, Tables, TooOld, Under};
@@ -160,10 +163,10 @@ pub const FROM_BOTH_ENDS: Row = (
     &[Gives(
         3,
         &[
-            (End::Front, "1"),
-            (End::Back, "5"),
-            (End::Front, "3"),
-            (End::Front, ""),
+            (End::Front, "1", "x"),
+            (End::Back, "5", "x"),
+            (End::Front, "3", "x"),
+            (End::Front, "", ""),
         ],
     )],
 );
@@ -175,7 +178,19 @@ pub const OVERLAID: Row = (
     ],
     false,
     &[
-        Under(9_223_372_036_854_775_809, 2, &[("a", "o")]),
-        Under(9_223_372_036_854_775_808, 2, &[("a", "x"), ("b", "y")]),
+        Under(
+            9_223_372_036_854_775_809,
+            2,
+            &[(End::Front, "a", "o"), (End::Front, "", "")],
+        ),
+        Under(
+            9_223_372_036_854_775_808,
+            2,
+            &[
+                (End::Front, "a", "x"),
+                (End::Front, "b", "y"),
+                (End::Front, "", ""),
+            ],
+        ),
     ],
 );

@@ -43,7 +43,7 @@ pub enum Step {
 }
 
 /// What is answered.
-#[derive(Clone, Copy, Debug, PartialEq, Eq)]
+#[derive(Clone, Copy, PartialEq, Eq)]
 pub enum Told {
     /// The number of a write.
     Number(SeqNo),
@@ -69,7 +69,7 @@ pub fn open(
     TreeState::open(alloc, Config::new(0, next, next), store)
 }
 
-fn write(alloc: Global, tree: &mut Tree, name: &'static str, op: Op) -> Result<Told, Error> {
+pub fn write(alloc: Global, tree: &mut Tree, name: &'static str, op: Op) -> Result<Told, Error> {
     Ok(Told::Number(tree.write(vec![in alloc; (text(name), op)]?)?))
 }
 

@@ -6,7 +6,7 @@ use lsm_store::{Fault, MemStore, Store, StoreError};
 use std::alloc::{AllocError, Global};
 
 /// How a call is refused.
-#[derive(Clone, Copy, Debug, PartialEq, Eq)]
+#[derive(Clone, Copy)]
 pub enum Refusal {
     /// For want of memory, which has no effect. A removal is never refused so, and is made.
     NoMemory,

@@ -8,8 +8,8 @@ use crate::store::{Refusal, RefusingStore};
 use lsm_below::{Error, SeqNo};
 use std::alloc::Global;
 
-/// How a row ended: at which call from 1 on, 0 for an opening.
-pub type Ended = Result<(), (End, usize)>;
+/// How a row ended.
+pub type Ended = Result<(), End>;
 
 /// A row that ended, and the call that is still to be refused: 0 where there is none.
 pub type Tried = (Ended, u64);
@@ -52,39 +52,64 @@ fn open_again(alloc: Global, next: SeqNo, store: RefusingStore, refusal: Refusal
     }
 }
 
-/// What a crash leaves of a store, once more where memory was refused to it.
-fn left_of(store: &RefusingStore) -> Result<RefusingStore, End> {
+/// A tree beside the one of another store.
+fn open_beside(
+    alloc: Global,
+    next: SeqNo,
+    tried: Player,
+    kept: RefusingStore,
+) -> Result<(Player, Player), End> {
+    match open_again(alloc, next, kept, Refusal::NoMemory) {
+        Ok(kept) => Ok((tried, kept)),
+        Err(end) => {
+            drop(tried);
+            Err(end)
+        }
+    }
+}
+
+/// The trees of two stores, of which calls of the first may be refused so.
+fn open_both(
+    alloc: Global,
+    next: SeqNo,
+    tried: RefusingStore,
+    kept: RefusingStore,
+    refusal: Refusal,
+) -> Result<(Player, Player), End> {
+    match open_again(alloc, next, tried, refusal) {
+        Ok(tried) => open_beside(alloc, next, tried, kept),
+        Err(end) => {
+            drop(kept);
+            Err(end)
+        }
+    }
+}
+
+/// What a crash leaves of a tree's store. It is asked once more where memory was refused.
+fn left_of(player: Player) -> Result<RefusingStore, End> {
+    let store = player.tree.into_store();
     let left = match store.crash() {
         Err(_) => store.crash(),
         left => left,
     };
+    drop(store);
     match left {
         Ok(Some(left)) => Ok(left),
         _ => Err(End::Wrong),
     }
 }
 
-/// The tree that is opened behind a crash.
-fn reopen(alloc: Global, player: Opened, refusal: Refusal) -> Opened {
-    let store = player?.tree.into_store();
-    let left = left_of(&store);
-    drop(store);
-    open_again(alloc, 10, left?, refusal)
-}
-
-fn play_both(
+/// The trees that are opened behind a crash.
+fn reopen_both(
     alloc: Global,
-    tried: &mut Opened,
-    kept: &mut Opened,
-    row: &Row,
+    tried: Player,
+    kept: Player,
     refusal: Refusal,
-) -> Result<Known, (End, usize)> {
-    match tried {
-        Ok(tried) => match kept {
-            Ok(kept) => play(alloc, tried, kept, row.0, refusal),
-            Err(end) => Err((*end, 0)),
-        },
-        Err(end) => Err((*end, 0)),
+) -> Result<(Player, Player), End> {
+    let tried = left_of(tried);
+    match left_of(kept) {
+        Ok(kept) => open_both(alloc, 10, tried?, kept, refusal),
+        Err(end) => Err(end),
     }
 }
 
@@ -96,92 +121,81 @@ fn is_right(alloc: Global, tried: &Tree, kept: &Tree, row: &Row, known: Known) -
 }
 
 /// How a row ended on these trees. What comes of a commit of unknown outcome isn't known behind a crash, but the tree opens.
-fn ends(
-    alloc: Global,
-    tried: &Player,
-    kept: &Player,
-    row: &Row,
-    known: Known,
-    is_known: bool,
-) -> Tried {
-    let right = !is_known || is_right(alloc, &tried.tree, &kept.tree, row, known);
-    let ended = if right {
-        Ok(())
-    } else {
-        Err((End::Wrong, row.0.len()))
-    };
-    (ended, tried.tree.store().call())
-}
-
 fn compare(
     alloc: Global,
-    tried: &Opened,
-    kept: &Opened,
+    tried: &Tree,
+    kept: &Tree,
     row: &Row,
-    played: Result<Known, (End, usize)>,
+    played: Result<Known, End>,
     is_known: bool,
-) -> Tried {
-    let known = match played {
-        Ok(known) => known,
-        Err(end) => return (Err(end), 0),
-    };
-    match tried {
-        Ok(tried) => match kept {
-            Ok(kept) => ends(alloc, tried, kept, row, known, is_known),
-            Err(end) => (Err((*end, 0)), 0),
+) -> Ended {
+    match played {
+        Ok(known) => if !is_known || is_right(alloc, tried, kept, row, known) {
+            Ok(())
+        } else {
+            Err(End::Wrong)
         },
-        Err(end) => (Err((*end, 0)), 0),
+        Err(end) => Err(end),
     }
 }
 
-fn is_certain(player: &Opened) -> bool {
-    match player {
-        Ok(player) => !player.tree.is_uncertain(),
-        Err(_) => true,
-    }
+fn end(
+    alloc: Global,
+    trees: (Player, Player),
+    row: &Row,
+    played: Result<Known, End>,
+    is_known: bool,
+) -> Tried {
+    let (tried, kept) = trees;
+    let ended = compare(alloc, &tried.tree, &kept.tree, row, played, is_known);
+    let left = tried.tree.store().call();
+    drop(tried);
+    drop(kept);
+    (ended, left)
 }
 
 /// Behind a crash and an opening all is gone that was to go.
-fn behind(played: Result<Known, (End, usize)>) -> Result<Known, (End, usize)> {
-    let known = played?;
-    Ok(Known {
-        is_whole: known.is_whole,
-        is_clean: true,
-    })
+fn behind(played: Result<Known, End>) -> Result<Known, End> {
+    match played {
+        Ok(known) => Ok(Known {
+            is_whole: known.is_whole,
+            is_clean: true,
+        }),
+        Err(end) => Err(end),
+    }
 }
 
 fn crash(
     alloc: Global,
-    tried: Opened,
-    kept: Opened,
+    trees: (Player, Player),
     row: &Row,
     refusal: Refusal,
-    played: Result<Known, (End, usize)>,
+    played: Result<Known, End>,
 ) -> Tried {
-    let is_known = is_certain(&tried);
-    let tried = reopen(alloc, tried, refusal);
-    let kept = reopen(alloc, kept, Refusal::NoMemory);
-    let told = compare(alloc, &tried, &kept, row, behind(played), is_known);
-    drop(tried);
-    drop(kept);
-    told
+    let (tried, kept) = trees;
+    let is_known = !tried.tree.is_uncertain();
+    match reopen_both(alloc, tried, kept, refusal) {
+        Ok(trees) => end(alloc, trees, row, behind(played), is_known),
+        Err(end) => (Err(end), 0),
+    }
+}
+
+fn play_row(alloc: Global, trees: (Player, Player), row: &Row, refusal: Refusal) -> Tried {
+    let (mut tried, mut kept) = trees;
+    let played = play(alloc, &mut tried, &mut kept, row.0, refusal);
+    if row.1 {
+        crash(alloc, (tried, kept), row, refusal, played)
+    } else {
+        end(alloc, (tried, kept), row, played, true)
+    }
 }
 
 /// Takes a row where a store call is refused, 1 for the first and 0 for none.
 pub fn try_row(alloc: Global, row: &Row, call: u64, refusal: Refusal) -> Tried {
-    let mut tried = open_again(alloc, 0, RefusingStore::new(alloc, call, refusal), refusal);
-    let mut kept = open_again(
-        alloc,
-        0,
-        RefusingStore::new(alloc, 0, refusal),
-        Refusal::NoMemory,
-    );
-    let played = play_both(alloc, &mut tried, &mut kept, row, refusal);
-    if row.1 {
-        return crash(alloc, tried, kept, row, refusal, played);
+    let tried = RefusingStore::new(alloc, call, refusal);
+    let kept = RefusingStore::new(alloc, 0, refusal);
+    match open_both(alloc, 0, tried, kept, refusal) {
+        Ok(trees) => play_row(alloc, trees, row, refusal),
+        Err(end) => (Err(end), 0),
     }
-    let told = compare(alloc, &tried, &kept, row, played, true);
-    drop(tried);
-    drop(kept);
-    told
 }

@@ -1,0 +1,156 @@
+// Eight callers that write and read, one that flushes, one that clears and two that compact.
+//
+// Helpers borrow the tree, and the test drops it by a call: a proof takes a tree that is dropped at the end of a block to
+// all its pieces.
+use crate::replay::{Counts, count_all};
+use crate::samples::set;
+use lsm_tree::{
+    Config, Error, Handle, Major, MemStore, Pass, Recorded, RecordedTree, RunJob, UserKey,
+};
+use std::alloc::{AllocError, Global};
+use std::sync::Wait;
+use std::test::Fail;
+use std::thread::{self, Threads};
+
+const CALLERS: usize = 12;
+
+const TURNS: u8 = 20;
+
+/// A key that all callers write.
+fn name_key(alloc: Global, turn: u8) -> Result<UserKey, AllocError> {
+    let name = format!(in alloc; "{}", turn % 4)?;
+    UserKey::copy_from_slice(alloc, name.as_bytes())
+}
+
+/// A value that no other write has.
+fn name_value(alloc: Global, caller: usize, turn: u8) -> Result<UserKey, AllocError> {
+    let name = format!(in alloc; "{caller}-{turn}")?;
+    UserKey::copy_from_slice(alloc, name.as_bytes())
+}
+
+/// Writes a key, and reads another one behind that write.
+fn write_and_read(
+    rt: &impl Wait,
+    alloc: Global,
+    tree: &RecordedTree,
+    pass: &mut Pass,
+    caller: usize,
+    turn: u8,
+) -> Result<(), Error> {
+    let ops = set(
+        alloc,
+        name_key(alloc, turn)?,
+        name_value(alloc, caller, turn)?,
+    )?;
+    let number = tree.write(rt, pass, ops)?;
+    let other = name_key(alloc, turn.saturating_add(1))?;
+    tree.get(rt, pass, other.as_slice(), number.saturating_add(1))?;
+    Ok(())
+}
+
+fn flush(rt: &impl Wait, tree: &RecordedTree, pass: &mut Pass) -> Result<(), Error> {
+    match tree.flush_active_memtable(rt, pass, 0) {
+        Ok(_) => Ok(()),
+        Err((error, _)) => Err(error),
+    }
+}
+
+/// Clears at each fourth turn.
+fn clear(rt: &impl Wait, tree: &RecordedTree, pass: &mut Pass, turn: u8) -> Result<(), Error> {
+    if turn % 4 == 0 {
+        tree.clear(rt, pass)?;
+    }
+    Ok(())
+}
+
+fn compact(rt: &impl Wait, tree: &RecordedTree, pass: &mut Pass) -> Result<(), Error> {
+    tree.compact_gated(rt, pass, &Major::new(u64::MAX), 0, &RunJob)?;
+    Ok(())
+}
+
+/// What a caller does at one of its turns.
+fn take_turn(
+    rt: &impl Wait,
+    alloc: Global,
+    tree: &RecordedTree,
+    pass: &mut Pass,
+    caller: usize,
+    turn: u8,
+) -> Result<(), Error> {
+    match caller {
+        0..=7 => write_and_read(rt, alloc, tree, pass, caller, turn),
+        8 => flush(rt, tree, pass),
+        9 => clear(rt, tree, pass, turn),
+        _ => compact(rt, tree, pass),
+    }
+}
+
+/// What a caller's calls put into the journal, and whether none of them was refused.
+type Told = (Pass, bool);
+
+fn call(rt: &impl Wait, alloc: Global, tree: &RecordedTree, caller: usize) -> Told {
+    let mut pass = Pass::new(alloc);
+    let mut is_done = true;
+    for turn in 0..TURNS {
+        is_done = is_done && take_turn(rt, alloc, tree, &mut pass, caller, turn).is_ok();
+    }
+    (pass, is_done)
+}
+
+/// The passes of all callers, and whether no call was refused.
+fn all_passes(alloc: Global, told: Vec<Told>) -> (Vec<Pass>, bool) {
+    let mut passes = Vec::new(alloc);
+    let mut are_done = true;
+    for (pass, is_done) in told {
+        are_done = passes.push(pass).is_ok() && is_done && are_done;
+    }
+    (passes, are_done)
+}
+
+/// What is counted in the journal that is given out for these passes.
+fn counts_of(rt: &impl Wait, tree: &RecordedTree, passes: Vec<Pass>) -> Option<Counts> {
+    match tree.close(rt, passes) {
+        Ok(closed) => Some(count_all(&closed.journal)),
+        Err(_) => None,
+    }
+}
+
+/// Starts all callers, and counts what their journal tells, None where a call was refused.
+fn call_all<R: Threads + Wait + Sync>(
+    rt: &R,
+    alloc: Global,
+    tree: &RecordedTree,
+) -> Result<Option<Counts>, AllocError> {
+    let told = thread::map_indices(
+        rt,
+        alloc,
+        CALLERS,
+        &|caller| { call(rt, alloc, tree, caller) },
+    )?;
+    let (passes, are_done) = all_passes(alloc, told);
+    let counts = counts_of(rt, tree, passes);
+    Ok(if are_done { counts } else { None })
+}
+
+fn open(alloc: Global) -> Result<RecordedTree, Error> {
+    match Recorded::open(alloc, Config::new(0, 0, 0), MemStore::new(alloc)) {
+        Ok(core) => Ok(Handle::new(alloc, core)?),
+        Err((error, _)) => Err(error),
+    }
+}
+
+#[test]
+fn each_read_of_many_callers_is_answered_as_the_journal_says(rt: HostRuntime) -> Result<(), Fail> {
+    let tree = open(rt.alloc())?;
+    let counts = call_all(&rt, rt.alloc(), &tree);
+    drop(tree);
+    let wanted = Counts {
+        reads: 160,
+        right: 160,
+        writes: 160,
+        clears: 5,
+        drops: 0,
+    };
+    assert_eq!(rt; counts?, Some(wanted));
+    Ok(())
+}
