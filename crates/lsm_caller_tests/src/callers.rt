@@ -5,7 +5,7 @@
 use crate::replay::{Counts, count_all};
 use crate::samples::set;
 use lsm_tree::{
-    Config, Error, Handle, Major, MemStore, Pass, Recorded, RecordedTree, RunJob, UserKey,
+    Config, Error, Handle, Major, MemStore, Pass, Recorded, RecordedTree, RunJob, SeqNo, UserKey,
 };
 use std::alloc::{AllocError, Global};
 use std::sync::Wait;
@@ -28,6 +28,39 @@ fn name_value(alloc: Global, caller: usize, turn: u8) -> Result<UserKey, AllocEr
     UserKey::copy_from_slice(alloc, name.as_bytes())
 }
 
+/// Writes a key under the next number.
+fn write(
+    rt: &impl Wait,
+    alloc: Global,
+    tree: &RecordedTree,
+    pass: &mut Pass,
+    caller: usize,
+    turn: u8,
+) -> Result<SeqNo, Error> {
+    let ops = set(
+        alloc,
+        name_key(alloc, turn)?,
+        name_value(alloc, caller, turn)?,
+    )?;
+    tree.write(rt, pass, ops)
+}
+
+/// Reads another key at this snapshot.
+fn read(
+    rt: &impl Wait,
+    alloc: Global,
+    tree: &RecordedTree,
+    pass: &mut Pass,
+    turn: u8,
+    snapshot: SeqNo,
+) -> Result<(), Error> {
+    let key = name_key(alloc, turn.saturating_add(1))?;
+    match tree.get(rt, pass, key.as_slice(), snapshot) {
+        Ok(_) => Ok(()),
+        Err(error) => Err(error),
+    }
+}
+
 /// Writes a key, and reads another one behind that write.
 fn write_and_read(
     rt: &impl Wait,
@@ -37,15 +70,8 @@ fn write_and_read(
     caller: usize,
     turn: u8,
 ) -> Result<(), Error> {
-    let ops = set(
-        alloc,
-        name_key(alloc, turn)?,
-        name_value(alloc, caller, turn)?,
-    )?;
-    let number = tree.write(rt, pass, ops)?;
-    let other = name_key(alloc, turn.saturating_add(1))?;
-    tree.get(rt, pass, other.as_slice(), number.saturating_add(1))?;
-    Ok(())
+    let number = write(rt, alloc, tree, pass, caller, turn)?;
+    read(rt, alloc, tree, pass, turn, number.saturating_add(1))
 }
 
 fn flush(rt: &impl Wait, tree: &RecordedTree, pass: &mut Pass) -> Result<(), Error> {
@@ -115,21 +141,33 @@ fn counts_of(rt: &impl Wait, tree: &RecordedTree, passes: Vec<Pass>) -> Option<C
     }
 }
 
+fn count_told(
+    rt: &impl Wait,
+    alloc: Global,
+    tree: &RecordedTree,
+    told: Vec<Told>,
+) -> Option<Counts> {
+    let (passes, are_done) = all_passes(alloc, told);
+    let counts = counts_of(rt, tree, passes);
+    if are_done { counts } else { None }
+}
+
 /// Starts all callers, and counts what their journal tells, None where a call was refused.
 fn call_all<R: Threads + Wait + Sync>(
     rt: &R,
     alloc: Global,
     tree: &RecordedTree,
-) -> Result<Option<Counts>, AllocError> {
+) -> Option<Counts> {
     let told = thread::map_indices(
         rt,
         alloc,
         CALLERS,
         &|caller| { call(rt, alloc, tree, caller) },
-    )?;
-    let (passes, are_done) = all_passes(alloc, told);
-    let counts = counts_of(rt, tree, passes);
-    Ok(if are_done { counts } else { None })
+    );
+    match told {
+        Ok(told) => count_told(rt, alloc, tree, told),
+        Err(_) => None,
+    }
 }
 
 fn open(alloc: Global) -> Result<RecordedTree, Error> {
@@ -139,18 +177,19 @@ fn open(alloc: Global) -> Result<RecordedTree, Error> {
     }
 }
 
+const WANTED: Counts = Counts {
+    reads: 160,
+    right: 160,
+    writes: 160,
+    clears: 5,
+    drops: 0,
+};
+
 #[test]
 fn each_read_of_many_callers_is_answered_as_the_journal_says(rt: HostRuntime) -> Result<(), Fail> {
     let tree = open(rt.alloc())?;
     let counts = call_all(&rt, rt.alloc(), &tree);
     drop(tree);
-    let wanted = Counts {
-        reads: 160,
-        right: 160,
-        writes: 160,
-        clears: 5,
-        drops: 0,
-    };
-    assert_eq!(rt; counts?, Some(wanted));
+    assert_eq!(rt; counts, Some(WANTED));
     Ok(())
 }

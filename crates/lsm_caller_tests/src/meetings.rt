@@ -88,29 +88,37 @@ impl<R: Wait> Gate for Meets<'_, R> {
     }
 }
 
-/// Merges one of the tables: whether the merge is installed.
-fn merges<R: Wait>(rt: &R, tree: &Tree, flags: &Flags, place: usize) -> bool {
-    let (id, own, other) = if place == 0 {
-        (0, &flags.first, &flags.second)
-    } else {
-        (1, &flags.second, &flags.first)
-    };
+/// Merges a table: whether the merge is installed.
+fn merges<R: Wait>(
+    rt: &R,
+    tree: &Tree,
+    id: TableId,
+    own: &Mutex<bool>,
+    other: &Mutex<bool>,
+) -> bool {
     let gate = Meets { rt, own, other };
-    matches!(
-        tree.compact_gated(rt, &One { id }, 0, &gate),
-        Ok(Begun::Installed)
-    )
+    let told = tree.compact_gated(rt, &One { id }, 0, &gate);
+    matches!(told, Ok(Begun::Installed))
 }
 
-/// Merges both at once: whether both merges are installed.
-fn merge_both<R: Threads + Wait + Sync>(
-    rt: &R,
-    alloc: Global,
-    tree: &Tree,
-    flags: &Flags,
-) -> Result<bool, AllocError> {
-    let told = thread::map_indices(rt, alloc, 2, &|place| { merges(rt, tree, flags, place) })?;
-    Ok(told.iter().all(|is_merged| *is_merged))
+/// Merges both tables at once: whether both merges are installed.
+fn merge_both<R: Threads + Wait + Sync>(rt: &R, alloc: Global, tree: &Tree, flags: &Flags) -> bool {
+    let told = thread::map_indices(
+        rt,
+        alloc,
+        2,
+        &|place| {
+            if place == 0 {
+                merges(rt, tree, 0, &flags.first, &flags.second)
+            } else {
+                merges(rt, tree, 1, &flags.second, &flags.first)
+            }
+        },
+    );
+    match told {
+        Ok(told) => matches!(told.as_slice(), [true, true]),
+        Err(_) => false,
+    }
 }
 
 /// Sets a key, in a table of its own.
@@ -157,20 +165,23 @@ fn are_merged(rt: &impl Wait, tree: &Tree) -> bool {
         && reads(rt, tree, "b", "2")
 }
 
-#[test]
-fn two_merges_wait_for_each_other(rt: HostRuntime) -> Result<(), Fail> {
-    let tree = open(rt.alloc())?;
-    let filled = fill(&rt, rt.alloc(), &tree);
-    let runs = tree.l0_run_count(&rt);
+/// Whether both tables are merged at once, and nothing else is read then.
+fn meet<R: Threads + Wait + Sync>(rt: &R, alloc: Global, tree: &Tree) -> bool {
+    if fill(rt, alloc, tree).is_err() || tree.l0_run_count(rt) != 1 {
+        return false;
+    }
     let flags = Flags {
         first: Mutex::new(false),
         second: Mutex::new(false),
     };
-    let merged = merge_both(&rt, rt.alloc(), &tree, &flags);
-    let right = are_merged(&rt, &tree);
+    merge_both(rt, alloc, tree, &flags) && are_merged(rt, tree)
+}
+
+#[test]
+fn two_merges_wait_for_each_other(rt: HostRuntime) -> Result<(), Fail> {
+    let tree = open(rt.alloc())?;
+    let right = meet(&rt, rt.alloc(), &tree);
     drop(tree);
-    filled?;
-    assert_eq!(rt; runs, 1);
-    assert!(rt; merged? && right);
+    assert!(rt; right);
     Ok(())
 }
