@@ -3,7 +3,7 @@ use crate::writes::Batch;
 use anyhow::{Result, bail};
 use lsm_tree::{Error, Major, RunJob, SeqNo, Store, Tree};
 use std::alloc::Global;
-use std::fs::{File, Files};
+use std::fs::File;
 use std::io::Write;
 use std::sync::Wait;
 use std::thread;
@@ -20,17 +20,17 @@ const TURNS_OF_CLEAR: u64 = 20;
 /// What the arguments ask.
 #[derive(Clone, Copy)]
 pub struct Plan<'a> {
-    pub folder: &'a str,
     pub session: &'a str,
     pub turns: u64,
 }
 
 #[derive(Drop)]
-pub struct Caller<'a, R: Wait + Clock + Files<File = File>, S: Store> {
+pub struct Caller<'a, R: Wait + Clock, S: Store> {
     pub rt: &'a R,
     pub alloc: Global,
     pub tree: &'a Tree<S>,
     pub plan: Plan<'a>,
+    /// Which one it is.
     pub number: usize,
 }
 
@@ -40,21 +40,9 @@ fn note(log: &mut File, line: &str) -> Result<()> {
     Ok(())
 }
 
-impl<R: Wait + Clock + Files<File = File>, S: Store> Caller<'_, R, S> {
-    /// Takes its turns. Answers whether all of them went well.
-    pub fn call(&self) -> bool {
-        match self.open_log() {
-            Ok(mut log) => self.take_turns(&mut log),
-            Err(_) => false,
-        }
-    }
-
-    fn open_log(&self) -> Result<File> {
-        let name = format!(in self.alloc; "{}.{}", self.plan.folder, self.number)?;
-        Ok(File::create(self.rt, name.as_str())?)
-    }
-
-    fn take_turns(&self, log: &mut File) -> bool {
+impl<R: Wait + Clock, S: Store> Caller<'_, R, S> {
+    /// Takes its turns, up to one that is refused. Answers whether none was.
+    pub fn call(&self, log: &mut File) -> bool {
         for turn in 0..self.plan.turns {
             if let Err(error) = self.take_turn(log, turn) {
                 let _ = self.note_failure(log, &error);

@@ -27,7 +27,7 @@ use caller::{Caller, Plan};
 use lsm_tree::{Config, FolderStore, Handle, IterGuard, Store, Tree, TreeState};
 use std::alloc::Global;
 use std::env;
-use std::fs::{File, Files};
+use std::fs::File;
 use std::sync::Wait;
 use std::thread::{self, Threads};
 use std::time::Clock;
@@ -42,45 +42,49 @@ fn open_folder(rt: &HostRuntime, folder: &str) -> Result<TreeState<FolderStore<H
     Ok(opened.map_err(|refused| refused.0)?)
 }
 
+/// A caller's number, and the file that it notes its calls in.
+type Job = (usize, File);
+
+fn open_log(rt: &HostRuntime, folder: &str, number: usize) -> Result<File> {
+    let name = format!(in rt.alloc(); "{folder}.{number}")?;
+    Ok(File::create(rt, name.as_str())?)
+}
+
+fn open_logs(rt: &HostRuntime, folder: &str) -> Result<Vec<Job>> {
+    let mut jobs = Vec::with_capacity(rt.alloc(), CALLERS)?;
+    for number in 0..CALLERS {
+        jobs.push((number, open_log(rt, folder, number)?))?;
+    }
+    Ok(jobs)
+}
+
 /// Gives each caller its turns: whether none of them was refused.
-fn call_all<R: Threads + Wait + Clock + Files<File = File> + Sync>(
+fn call_all<R: Threads + Wait + Clock + Sync>(
     rt: &R,
     alloc: Global,
     tree: &Soaked,
     plan: Plan<'_>,
-) -> Result<bool> {
-    let told = thread::map_indices(
+    jobs: Vec<Job>,
+) -> bool {
+    let told = thread::map_vec(
         rt,
-        alloc,
-        CALLERS,
-        &|number| {
-            Caller {
+        jobs,
+        &|job: Job| {
+            let (number, mut log) = job;
+            let caller = Caller {
                 rt,
                 alloc,
                 tree,
                 plan,
                 number,
-            }
-            .call()
+            };
+            caller.call(&mut log)
         },
-    )?;
-    Ok(told.iter().all(|is_done| *is_done))
-}
-
-/// Opens the tree of a folder, and gives all callers their turns.
-fn soak<R: Threads + Wait + Clock + Files<File = File> + Sync>(
-    rt: &R,
-    alloc: Global,
-    opened: TreeState<FolderStore<HostRuntime>>,
-    plan: Plan<'_>,
-) -> Result<()> {
-    let tree = Handle::new(alloc, opened)?;
-    let done = call_all(rt, alloc, &tree, plan);
-    drop(tree);
-    if !done? {
-        bail!("a caller was refused");
+    );
+    match told {
+        Ok(told) => !told.as_slice().contains(&false),
+        Err(_) => false,
     }
-    Ok(())
 }
 
 fn show<S: Store>(rt: &impl Print, tree: &TreeState<S>) -> Result<()> {
@@ -102,11 +106,19 @@ fn main(rt: HostRuntime) -> Result<()> {
         }
         [folder, session, turns] => {
             let plan = Plan {
-                folder,
                 session,
                 turns: turns.parse()?,
             };
-            soak(&rt, rt.alloc(), open_folder(&rt, folder)?, plan)
+            let tree = Handle::new(rt.alloc(), open_folder(&rt, folder)?)?;
+            let done = match open_logs(&rt, folder) {
+                Ok(jobs) => call_all(&rt, rt.alloc(), &tree, plan, jobs),
+                Err(_) => false,
+            };
+            drop(tree);
+            if !done {
+                bail!("a caller was refused");
+            }
+            Ok(())
         }
         _ => bail!("usage: lsm_soak FOLDER [SESSION TURNS]"),
     }
