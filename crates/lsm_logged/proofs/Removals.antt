@@ -1,0 +1,138 @@
+-- Records that the version has passed are removed, behind a commit or not.
+use Rattle.std.proofs.Common.{◌≡◌, ◌⊎◌, ⊎_elim, inl, inr, ℕ, ◌<◌, ◌≤◌, List, [], ◌++◌, Option, Some, None, Result, Ok, Err, refl, sym, ap, ◌∙◌, subst, arith}
+use Rattle.std.proofs.lemmas.List.Elements.{All-drop, All-weaker}
+use Rattle.lsm_below.specs.Each.{each_append}
+use Rattle.lsm_below.specs.Members.{IsIn, each_in}
+use Rattle.lsm_below.specs.declared.error.Error.{Error}
+use Rattle.lsm_store.specs.World.{Image, World, LeavesOnly}
+use Rattle.lsm_store.specs.Moments.{weakened, joined}
+use Rattle.lsm_files.specs.Foreign.{KeepsForeign, Passes}
+use Rattle.lsm_files.specs.Stored.{IsStored, HoldsOneOf, AreAmong}
+use Rattle.lsm_jobs.specs.declared.jobs.Registered.{Registered}
+use Rattle.lsm_log.specs.Changes.{IsBelow, AreCleared}
+use Rattle.lsm_log.proofs.Loaded.{rise_drop}
+use Rattle.lsm_state.specs.Core.{Core, versions_left, written_of}
+use Rattle.lsm_state.specs.Commits.{UpholdsFiles, Upholds, counted}
+use Rattle.lsm_state.specs.Calls.{Rotates}
+use Rattle.lsm_state.specs.Clearing.{Clears}
+use Rattle.lsm_state.specs.WholeFlushes.{Flushes}
+use Rattle.lsm_state.proofs.Upholding.{among_right, leaves_more}
+use Rattle.lsm_logged.specs.Keeping.{AreNumbered}
+use Rattle.lsm_logged.specs.Removing.{log_from_of, Forgets, RemovesPassed, HasOldOrPassed, Passed}
+use Rattle.lsm_logged.specs.Flushing.{IsEither, RemovesBehind}
+
+-- ---- numbers
+
+pub numbered_left : (from n m : ℕ) (old new : List ℕ) → n ≤ m → AreNumbered n old → Forgets from old new → AreNumbered m new
+numbered_left from n m old new le are left = subst (AreNumbered m) (sym left.items) (record {
+  rise = rise_drop left.at old are.rise;
+  below = All-drop (λ k. k < m) left.at old (All-weaker (λ k. k < n) (λ k. k < m) (λ k lt. omega (arith, lt, le)) old are.below);
+})
+
+-- ---- the store
+
+pub passes_on : (from : ℕ) (old new : World) → Passes old new → Passed from old new
+passes_on from old new passes = record {
+  gives = λ n foreign none. passes.gives n foreign;
+  may = λ n c foreign m. inl (passes.may n c foreign m);
+  any_moment = weakened old new (KeepsForeign old) (HasOldOrPassed old from) passes.leaves (λ image was n foreign. inl (was n foreign));
+}
+
+pub removed_on : {T : Type 0} (from : ℕ) (numbers : List ℕ) (old new : World) (r : Result T Error) → RemovesPassed from numbers old new r → Passed from old new
+removed_on from numbers old new r removes = record {
+  gives = λ n foreign none. removes.clears.gives n none;
+  may = λ n c foreign m. removes.clears.may n c m;
+  any_moment = weakened old new (AreCleared (IsBelow from) old) (HasOldOrPassed old from) removes.any_moment (λ image was n foreign. was n);
+}
+
+pub passed_then : (from : ℕ) (old mid new : World) → Passes old mid → Passed from mid new → Passed from old new
+passed_then from old mid new passes passed = record {
+  gives = λ n foreign none. passed.gives n foreign none ∙ passes.gives n foreign;
+  may = λ n c foreign m. ⊎_elim (λ was. inl (passes.may n c foreign was)) (λ gone. inr gone) (passed.may n c foreign m);
+  any_moment = joined old mid new (KeepsForeign old) (HasOldOrPassed mid from) (HasOldOrPassed old from) passes.leaves passed.any_moment
+      (λ image was n foreign. inl (was n foreign))
+      (λ image was n foreign. ⊎_elim (λ m. inl (passes.may n (image n) foreign m)) (λ gone. inr gone) (was n foreign));
+}
+
+both_leave : (old new : World) (P Q : Image → Type 0) → LeavesOnly old new P → LeavesOnly old new Q → LeavesOnly old new (λ image. P image × Q image)
+both_leave old new P Q a b = record {
+  later = a.later;
+  each = λ image since. (a.each image since, b.each image since);
+  before = λ t image le since. ⊎_elim (λ was. inl was) (λ p. ⊎_elim (λ was. inl was) (λ q. inr (p, q)) (b.before t image le since)) (a.before t image le since);
+}
+
+-- a commit, and then a removal while the tree stays as it is
+pub removed_behind : (w mid new : World) (old core : Core) → Upholds w mid old core → UpholdsFiles mid new core core → Passed (log_from_of core) mid new → RemovesBehind w new old core
+removed_behind w mid new old core commits files passed stored =
+    let vs = versions_left core in
+    let from = log_from_of core in
+    let self : AreAmong vs vs = among_right [] vs in
+    let leaves = leaves_more mid new (vs ++ vs) vs (each_append (λ v. IsIn v vs) vs vs self self) (files (commits.files stored).0).1 in
+    joined w mid new (KeepsForeign w) (λ image. HoldsOneOf vs image × HasOldOrPassed mid from image) (IsEither w core) commits.passes.leaves (both_leave mid new (HoldsOneOf vs) (HasOldOrPassed mid from) leaves passed.any_moment)
+    (λ image was. inl was)
+    (λ image is. inr (is.0, λ n foreign. ⊎_elim (λ m. inl (commits.passes.may n (image n) foreign m)) (λ gone. inr gone) (is.1 n foreign)))
+
+-- a commit alone
+pub none_behind : (w mid : World) (old core : Core) → Passes w mid → RemovesBehind w mid old core
+none_behind w mid old core passes stored = weakened w mid (KeepsForeign w) (IsEither w core) passes.leaves (λ image was. inl was)
+
+-- ---- the counter
+
+pub flush_rises : (w : ℕ) (r : Result (Option (ℕ × Registered)) Error) (old new : Core) → Flushes w r old new → old.seqno ≤ new.seqno
+flush_rises w (Ok None) old new f = let e = ap (λ (c : Core). c.seqno) (f.some refl).1 in omega (arith, e)
+flush_rises w (Ok (Some p)) old new f = let e = ap (λ (c : Core). c.seqno) f.installs.installs.cleans.rest in omega (arith, e)
+flush_rises w (Err e) old new f = ⊎_elim (λ s. omega (arith, s)) (λ s. omega (arith, s)) f.err.seqno
+
+pub clear_rises : (r : Result ℕ Error) (old new : Core) → Clears r old new → old.seqno ≤ new.seqno
+clear_rises (Ok n) old new c = let e = ap (λ (k : Core). k.seqno) c.ok.1 in omega (arith, e)
+clear_rises (Err e) old new c = ⊎_elim (λ a. ⊎_elim (λ m. memory (c.memory (ap Err m))) (λ s. counts (c.store (ap Err s))) a)
+    (λ b. ⊎_elim (λ u. let is = ap (λ (k : Core). k.seqno) (c.unknown (ap Err u)) in omega (arith, is)) (λ d. ⊎_elim (λ o. same (c.before (inr (ap Err o)))) (λ x. same (c.before (inl (ap Err x)))) d) b) c.only
+  where
+    same : new ≡ old → old.seqno ≤ new.seqno
+    same e = let is = ap (λ (k : Core). k.seqno) e in omega (arith, is)
+
+    counts : new ≡ counted old → old.seqno ≤ new.seqno
+    counts e = let is = ap (λ (k : Core). k.seqno) e in omega (arith, is)
+
+    memory : (new ≡ old) ⊎ (new ≡ counted old) → old.seqno ≤ new.seqno
+    memory (inl e) = same e
+    memory (inr e) = counts e
+
+-- ---- a call, and then a removal while the tree stays as it is
+
+-- two calls keep what is stored
+pub upheld_behind : (w mid new : World) (old core after : Core) → Upholds w mid old core → after ≡ core → UpholdsFiles mid new core after → UpholdsFiles w new old after
+upheld_behind w mid new old core after commits same files = subst (λ k. UpholdsFiles w new old k) (sym same) (λ stored.
+    let first = commits.files stored in
+    let then = subst (λ k. UpholdsFiles mid new core k) same files first.0 in
+    let vs = versions_left core in (
+      then.0,
+      joined w mid new (HoldsOneOf (versions_left old ++ vs)) (HoldsOneOf (vs ++ vs)) (HoldsOneOf (versions_left old ++ vs)) first.1 then.1 (λ image one. one)
+          (λ image one. (one.0, each_in (λ v. IsIn v (versions_left old ++ vs)) (vs ++ vs) one.0 (each_append (λ v. IsIn v (versions_left old ++ vs)) vs vs (among_right (versions_left old) vs) (among_right (versions_left old) vs)) one.1, one.2, one.3)),
+    ))
+
+pub passed_behind : (w mid new : World) (old core after : Core) → Upholds w mid old core → after ≡ core → Passed (log_from_of core) mid new → Passed (log_from_of after) w new
+passed_behind w mid new old core after commits same passed = subst (λ k. Passed (log_from_of k) w new) (sym same) (passed_then (log_from_of core) w mid new commits.passes passed)
+
+pub either_behind : (w mid new : World) (old core after : Core) → Upholds w mid old core → after ≡ core → UpholdsFiles mid new core after → Passed (log_from_of core) mid new → RemovesBehind w new old after
+either_behind w mid new old core after commits same files passed = subst (λ k. RemovesBehind w new old k) (sym same) (removed_behind w mid new old core commits (subst (λ k. UpholdsFiles mid new core k) same files) passed)
+
+-- ---- behind a rotation
+
+rotation_keeps : (id : Option ℕ) (old mid : Core) → Rotates old id mid → (versions_left mid ≡ versions_left old) × (written_of mid ≡ written_of old)
+rotation_keeps None old mid r = (ap versions_left r.1, ap written_of r.1)
+rotation_keeps (Some id) old mid r = (ap versions_left r.2, ap written_of r.2)
+
+module _ (w new : World) (id : Option ℕ) (old mid core : Core) (rotates : Rotates old id mid) where
+  stays : IsStored w (versions_left old) (written_of old) → IsStored w (versions_left mid) (written_of mid)
+  stays stored =
+      let same = rotation_keeps id old mid rotates in
+      subst (λ vs. IsStored w vs (written_of mid)) (sym same.0) (subst (λ ts. IsStored w (versions_left old) ts) (sym same.1) stored)
+
+  pub behind_rotation : RemovesBehind w new mid core → RemovesBehind w new old core
+  behind_rotation behind stored = behind (stays stored)
+
+  pub upheld_rotation : UpholdsFiles w new mid core → UpholdsFiles w new old core
+  upheld_rotation files stored =
+      let then = files (stays stored) in
+      (then.0, subst (λ vs. LeavesOnly w new (HoldsOneOf (vs ++ versions_left core))) (rotation_keeps id old mid rotates).0 then.1)

@@ -1,0 +1,49 @@
+use Rattle.std.proofs.Common.{inr, refl, sym, subst}
+use Rattle.lsm_files.specs.Foreign.{AtRest}
+use Rattle.lsm_state.specs.Commits.{UpholdsFiles}
+use Rattle.lsm_state.proofs.Upholding.{upheld_still}
+use Rattle.lsm_logged.specs.Keeping.{SeenLogged}
+use Rattle.lsm_logged.specs.Flushing.{RemovesBehind}
+use Rattle.lsm_logged.proofs.Removals.{behind_rotation, upheld_rotation}
+use Rattle.lsm_logged.proofs.logged.Logged.flush_active_memtable.Goals as goal
+
+pub returns-in-Err-clause-upholds : goal.returns-in-Err-clause-upholds
+returns-in-Err-clause-upholds g c tells =
+    let w = g.S.Store.world in
+    let old = c.args.self.now in
+    let rest : AtRest (w old.store) = subst (λ (t : SeenLogged g.row.S.Denot). AtRest (w t.store)) c.self.view_is (subst (λ (s : g.row.S.Denot). AtRest (w s)) c.store.ensures (c.crashes_leave_versions.ensures tells)) in
+    let still = (upheld_still (w old.store) old.core old.core refl refl rest).files in
+    subst (λ (t : SeenLogged g.row.S.Denot). UpholdsFiles (w old.store) (w t.store) old.core t.core) (sym c.in-Err.ensures.err) still
+
+pub returns-in-Ok-flush-clause-behind : goal.returns-in-Ok-flush-clause-behind
+returns-in-Ok-flush-clause-behind g c tells =
+    let w = g.S.Store.world in
+    let old = c.args.self.now in
+    let mid = c.rotate_memtable.new.self in
+    let new = c.flush.new.self in
+    let behind = subst (λ (s : g.row.S.Denot). RemovesBehind (w s) (w new.store) mid.core new.core) c.in-Ok.ensures.store (c.flush.ensures.behind tells) in
+    behind_rotation (w old.store) (w new.store) c.in-Ok.sealed old.core mid.core new.core c.in-Ok.ensures.ok behind
+
+pub returns-in-Err-flush-clause-flushes : goal.returns-in-Err-flush-clause-flushes
+returns-in-Err-flush-clause-flushes g c = record {
+  ok = tt;
+  err = inr (c.rotate_memtable.new.self, record { rotates = c.in-Ok.ensures.ok; store = c.in-Ok.ensures.store; numbers = c.in-Ok.ensures.log.0; doubt = c.in-Ok.ensures.log.1 }, c.in-Err-flush.ensures.flushes);
+}
+
+pub returns-in-Err-flush-clause-behind : goal.returns-in-Err-flush-clause-behind
+returns-in-Err-flush-clause-behind g c tells =
+    let w = g.S.Store.world in
+    let old = c.args.self.now in
+    let mid = c.rotate_memtable.new.self in
+    let new = c.flush.new.self in
+    let behind = subst (λ (s : g.row.S.Denot). RemovesBehind (w s) (w new.store) mid.core new.core) c.in-Ok.ensures.store (c.flush.ensures.behind tells) in
+    behind_rotation (w old.store) (w new.store) c.in-Ok.sealed old.core mid.core new.core c.in-Ok.ensures.ok behind
+
+pub returns-in-Err-flush-clause-upholds : goal.returns-in-Err-flush-clause-upholds
+returns-in-Err-flush-clause-upholds g c tells =
+    let w = g.S.Store.world in
+    let old = c.args.self.now in
+    let mid = c.rotate_memtable.new.self in
+    let new = c.flush.new.self in
+    let files = subst (λ (s : g.row.S.Denot). UpholdsFiles (w s) (w new.store) mid.core new.core) c.in-Ok.ensures.store (c.flush.ensures.upholds tells) in
+    upheld_rotation (w old.store) (w new.store) c.in-Ok.sealed old.core mid.core new.core c.in-Ok.ensures.ok files

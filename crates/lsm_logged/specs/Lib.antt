@@ -1,0 +1,6 @@
+pub mod Keeping
+pub mod Writing
+pub mod Removing
+pub mod Flushing
+pub mod Opening
+pub mod Asking

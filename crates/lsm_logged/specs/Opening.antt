@@ -1,0 +1,102 @@
+-- What opening makes of a store, and of the log in it.
+use Rattle.std.specs.Prelude.{◌≡◌, ◌⊎◌, ◌≤◌, ℕ, false, List, [], map, Option, None, Result, Ok, Err, IsSome, Contains}
+use Rattle.std.specs.List.{flat_map}
+use Rattle.lsm_below.specs.Entries.{Entry, above}
+use Rattle.lsm_below.specs.Sums.{capped}
+use Rattle.lsm_below.specs.declared.error.Error.{Error}
+use Rattle.lsm_below.specs.declared.error.Error.TheVariants.{OutOfMemory, Unrecoverable, KeyTooLong, ValueTooLong, NumberTooGreat}
+use Rattle.lsm_store.specs.World.{World, Same}
+use Rattle.lsm_model.specs.Ops.{op_entries}
+use Rattle.lsm_versions.specs.declared.config.Config.{Config}
+use Rattle.lsm_versions.specs.Configs.{raised}
+use Rattle.lsm_versions.specs.Levels.{SeenVersion, placed_of}
+use Rattle.lsm_manifest.specs.Names.{current_name}
+use Rattle.lsm_manifest.specs.Opening.{Opens, ReadsFrom}
+use Rattle.lsm_manifest.specs.Ready.{IsReady}
+use Rattle.lsm_manifest.specs.Told.{Told, TellsOpen}
+use Rattle.lsm_files.specs.Stored.{IsStored}
+use Rattle.lsm_log.specs.declared.record.Record.{Record}
+use Rattle.lsm_log.specs.declared.kinds.LogName.TheVariants.{Refused}
+use Rattle.lsm_log.specs.LogNames.{record_name, kind_of}
+use Rattle.lsm_log.specs.Logs.{IsLogFrom, IsBadLog}
+use Rattle.lsm_log_model.specs.Records.{Batch, LogImage, LogStands, opened_by}
+use Rattle.lsm_log_model.specs.Logs.{Logged as Log, MayBeDrawn}
+use Rattle.lsm_log_model.specs.Replays.{IsReopened}
+use Rattle.lsm_state.specs.Core.{opened_core, written_all, versions_left, written_of}
+use Rattle.lsm_state.specs.Opened.{found_entries}
+use Rattle.lsm_logged.specs.Keeping.{SeenLogged, AreNumbered, IsLogOf, KeepsLog}
+use Rattle.lsm_logged.specs.Removing.{Passed}
+
+-- ---- replays
+
+-- the entries of records that were read, record after record
+abbrev pub entries_read : List Record → List Entry
+entries_read records = flat_map (λ r. op_entries r.number r.ops) records
+
+-- why a record isn't written to a tree: for want of memory, or since an entry is none that a tree takes
+abbrev pub RefusesReplay : Error → Type 0
+RefusesReplay e = (e ≡ OutOfMemory) ⊎ ((e ≡ KeyTooLong) ⊎ ((e ≡ ValueTooLong) ⊎ (e ≡ NumberTooGreat)))
+
+-- ---- what is opened
+
+-- a record that was read, as a batch
+abbrev pub batch_read : Record → Batch
+batch_read r = record { number = r.number; ops = r.ops }
+
+-- what a version is to the theory, with the records beside it that were read
+abbrev pub image_read : SeenVersion → List Record → LogImage
+image_read v records = record { tables = placed_of v.levels; log_from = v.log_from; records = map batch_read records }
+
+abbrev pub version_of : {S : Type 0} → SeenLogged S → SeenVersion
+version_of t = t.core.history.latest.version
+
+-- the tree of the version, to which these records are written; its counters start above all numbers that were met, and at `log_from`
+-- at least
+pub record Replays {S : Type 0} (config : Config) (passed : List ℕ) (records : List Record) (t : SeenLogged S) : Type 0 where
+  pub least : ℕ
+  pub core : t.core ≡ written_all (entries_read records) (opened_core (raised least (raised (capped (above (found_entries t.core))) config)) (version_of t) t.core.next_table)
+  pub above_version : (version_of t).log_from ≤ least
+  pub above_passed : AreNumbered least passed
+  pub above_records : AreNumbered least (map (λ r. r.number) records)
+  pub numbers : t.numbers ≡ map (λ r. r.number) records
+  pub sure : t.doubted ≡ false
+
+-- what a store told of a log, of which the records below the version's `log_from` are removed
+pub record TakesLog (old new : World) (v : SeenVersion) (passed : List ℕ) (records : List Record) : Type 0 where
+  pub version : IsSome (old.gives current_name) → ReadsFrom old.gives v
+  pub log : IsLogFrom old.gives v.log_from passed records
+  pub gone : (k : ℕ) → Contains passed k → new.gives (record_name k) ≡ None
+  pub passed_on : Passed v.log_from old new
+
+-- each record that counts, and each number from here on that has none, has one possible content, and so has each name that a log refuses
+pub record IsSettledLog (w : World) (from : ℕ) : Type 0 where
+  pub records : (k : ℕ) → from ≤ k → (c : Option (List ℕ)) → w.may (record_name k) c → c ≡ w.gives (record_name k)
+  pub refused : (n : List ℕ) → kind_of n ≡ Refused → (c : Option (List ℕ)) → w.may n c → c ≡ w.gives n
+
+-- as the theory sees it: the reopened tree of the image, whose records are in the store, and whose counter is above them
+pub record Reopens {S : Type 0} (image : LogImage) (t : SeenLogged S) (w : World) : Type 0 where
+  pub first : Log
+  pub reopened : IsReopened image first
+  pub is : IsLogOf [] [] t.core t.doubted first
+  pub next : MayBeDrawn (opened_by image) first t.core.seqno
+  pub keeps : KeepsLog w first
+
+-- what is opened over a store
+pub record OpensLogged {S : Type 0} (tells : Type 0) (world : S → World) (store : S) (config : Config) (t : SeenLogged S) : Type 0 where
+  pub passed : List ℕ
+  pub records : List Record
+  pub replays : Replays config passed records t
+  pub takes : tells → TakesLog (world store) (world t.store) (version_of t) passed records
+  pub reopens : tells → LogStands (image_read (version_of t) records) → IsSettledLog (world store) (version_of t).log_from → Reopens (image_read (version_of t) records) t (world t.store)
+  pub stored : tells → IsReady (world store) → IsStored (world t.store) (versions_left t.core) (written_of t.core)
+
+-- ---- what is refused
+
+-- the store: in the tree, or beside the error
+abbrev pub logged_left : {S : Type 0} → Result (SeenLogged S) (Error × S) → S
+logged_left (Ok t) = t.store
+logged_left (Err e) = e.1
+
+-- it is `Unrecoverable` only for the tree's files, or for the log, and for the latter nothing is done
+abbrev pub ToldBad : World → World → Error → Type 0
+ToldBad old new e = e ≡ Unrecoverable → Told TellsOpen (Opens old new) (Err e) ⊎ (Same old new × ((from : ℕ) × IsBadLog old.gives from))

@@ -1,0 +1,178 @@
+// Flushes of a logged tree, and a clear.
+ghost use Rattle.std.specs.Prelude.{◌≡◌, true, false, IfOk, IfSome, IfErr};
+ghost use Rattle.lsm_files.specs.Causes.{HasCause, Blames};
+ghost use Rattle.lsm_state.specs.Causes.{BlamesOrUncleanFlush, BlamesOrUncleanBehind, BlamesOrUnclean, BlamesBeside};
+ghost use Rattle.lsm_state.specs.Commits.{UpholdsFiles, Upholds};
+ghost use Rattle.lsm_state.specs.Flushes.{spent};
+ghost use Rattle.lsm_logged.specs.Removing.{log_from_of, Passed};
+ghost use Rattle.lsm_logged.specs.Flushing.{FlushesLogged, FlushesBoth, BeginsLogged, WritesJobLogged, RegistersLogged, ClearsLogged, CleansLog, RemovesBehind};
+
+use crate::Logged;
+use lsm_below::{Error, MemtableId, SeqNo};
+use lsm_files::crashes_leave_versions;
+use lsm_jobs::{FlushJob, MergedFlush, Registered, WrittenFlush};
+use lsm_store::Store;
+
+impl<S: Store> Logged<S> {
+    /// What became of a flush, once the records that it passed are removed, where it was installed and all was cleaned up.
+    fn clean_log(&mut self, flushed: Registered) -> Registered
+        ensures cleans { CleansLog flushed result self.old self.new }
+        ensures passes { S.tells → Passed (log_from_of self.old.core) (S.world self.old.store) (S.world self.new.store) }
+        ensures upholds { S.tells → UpholdsFiles (S.world self.old.store) (S.world self.new.store) self.old.core self.new.core }
+        ensures causes { HasCause (flushed.cleaned ≡ true × result.cleaned ≡ false) (S.world self.old.store) (S.world self.new.store) }
+    {
+        self.tree.is_upheld();
+        if !flushed.installed || !flushed.cleaned {
+            return flushed;
+        }
+        Registered {
+            installed: true,
+            cleaned: self.remove_passed().is_ok(),
+        }
+    }
+
+    /// `TreeState::flush`, behind which the records below the version's `log_from` are removed, rising: those that the flush
+    /// passed, and any that were left before. `cleaned` is false too where one of them wasn't removed; the next flush or clear
+    /// tries it again.
+    ///
+    /// # Errors
+    ///
+    /// As `TreeState::flush`, and `Unrecoverable` also where a record has unknown outcome and something is sealed.
+    pub fn flush(&mut self, watermark: SeqNo) -> Result<Option<(u64, Registered)>, Error>
+        ensures flushes { FlushesLogged watermark result self.old self.new }
+        // Of names that are none of the tree's own, records that the version has passed may go, and nothing else changes.
+        ensures passes { S.tells → Passed (log_from_of self.new.core) (S.world self.old.store) (S.world self.new.store) }
+        // None of them before that version is on the disk.
+        ensures behind { S.tells → RemovesBehind (S.world self.old.store) (S.world self.new.store) self.old.core self.new.core }
+        ensures upholds { S.tells → UpholdsFiles (S.world self.old.store) (S.world self.new.store) self.old.core self.new.core }
+        // The store is blamed only where a call of it failed.
+        ensures causes { HasCause (BlamesOrUncleanFlush result) (S.world self.old.store) (S.world self.new.store) }
+    {
+        self.tree.is_upheld();
+        if self.doubted && self.tree.sealed_memtable_count() > 0 {
+            return Err(Error::Unrecoverable);
+        }
+        let flushed = self.tree.flush(watermark)?;
+        match flushed {
+            Some((bytes, registered)) => Ok(Some((bytes, self.clean_log(registered)))),
+            None => Ok(None),
+        }
+    }
+
+    /// Seals the active memtable, and flushes all that is sealed, as `rotate_memtable` and `flush` do in turn. Refused, it
+    /// tells beside the error which memtable is sealed meanwhile.
+    ///
+    /// # Errors
+    ///
+    /// Those of both calls.
+    pub fn flush_active_memtable(
+        &mut self,
+        watermark: SeqNo,
+    ) -> Result<(Option<MemtableId>, Option<(u64, Registered)>), (Error, Option<MemtableId>)>
+        ensures flushes { FlushesBoth watermark result self.old self.new }
+        ensures passes { S.tells → Passed (log_from_of self.new.core) (S.world self.old.store) (S.world self.new.store) }
+        ensures behind { S.tells → RemovesBehind (S.world self.old.store) (S.world self.new.store) self.old.core self.new.core }
+        ensures upholds { S.tells → UpholdsFiles (S.world self.old.store) (S.world self.new.store) self.old.core self.new.core }
+        ensures causes { HasCause (BlamesOrUncleanBehind result) (S.world self.old.store) (S.world self.new.store) }
+    {
+        crashes_leave_versions(self.tree.store());
+        let sealed = match self.rotate_memtable() {
+            Ok(sealed) => sealed,
+            Err(error) => return Err((error, None)),
+        };
+        match self.flush(watermark) {
+            Ok(flushed) => Ok((sealed, flushed)),
+            Err(error) => Err((error, sealed)),
+        }
+    }
+
+    /// `TreeState::begin_flush`.
+    ///
+    /// # Errors
+    ///
+    /// As that call, and `Unrecoverable` also where a record has unknown outcome and something is sealed.
+    pub fn begin_flush(&mut self) -> Result<Option<FlushJob>, Error>
+        ensures { BeginsLogged result self.old self.new }
+    {
+        if self.doubted && self.tree.sealed_memtable_count() > 0 {
+            return Err(Error::Unrecoverable);
+        }
+        self.tree.begin_flush()
+    }
+
+    /// `TreeState::flush_to_tables`.
+    ///
+    /// # Errors
+    ///
+    /// As that call, and `Unrecoverable` also where a record has unknown outcome.
+    pub fn flush_to_tables(
+        &mut self,
+        job: MergedFlush,
+    ) -> Result<WrittenFlush, (Error, MergedFlush)>
+        ensures writes { WritesJobLogged job result self.old self.new }
+        ensures upholds { S.tells → Upholds (S.world self.old.store) (S.world self.new.store) self.old.core self.new.core }
+        ensures causes { HasCause (BlamesBeside result) (S.world self.old.store) (S.world self.new.store) }
+    {
+        self.tree.is_upheld();
+        if self.doubted {
+            return Err((Error::Unrecoverable, job));
+        }
+        self.tree.flush_to_tables(job)
+    }
+
+    /// `TreeState::abandon_flush`.
+    pub fn abandon_flush(&mut self, job: FlushJob)
+        ensures core { self.new.core ≡ spent job.number self.old.core }
+        ensures store { self.new.store ≡ self.old.store }
+        ensures log { (self.new.numbers ≡ self.old.numbers) × (self.new.doubted ≡ self.old.doubted) }
+    {
+        self.tree.abandon_flush(job);
+    }
+
+    /// `TreeState::register_tables`, behind which records are removed as behind `flush`.
+    ///
+    /// # Errors
+    ///
+    /// As that call, and `Unrecoverable` also where a record has unknown outcome. The job is spent whatever is answered.
+    pub fn register_tables(&mut self, job: WrittenFlush) -> Result<Registered, Error>
+        ensures registers { RegistersLogged job result self.old self.new }
+        ensures passes { S.tells → Passed (log_from_of self.new.core) (S.world self.old.store) (S.world self.new.store) }
+        ensures behind { S.tells → RemovesBehind (S.world self.old.store) (S.world self.new.store) self.old.core self.new.core }
+        ensures upholds { S.tells → UpholdsFiles (S.world self.old.store) (S.world self.new.store) self.old.core self.new.core }
+        ensures causes { HasCause (BlamesOrUnclean result) (S.world self.old.store) (S.world self.new.store) }
+    {
+        self.tree.is_upheld();
+        crashes_leave_versions(self.tree.store());
+        if self.doubted {
+            self.tree.abandon_flush(job.into_job());
+            return Err(Error::Unrecoverable);
+        }
+        let registered = self.tree.register_tables(job)?;
+        Ok(self.clean_log(registered))
+    }
+
+    /// `TreeState::clear`, behind which the records below the version's `log_from` are removed, rising: from its number on
+    /// a log is read, so all batches before it are forgotten, flushed or not.
+    ///
+    /// # Errors
+    ///
+    /// As `TreeState::clear`, and `Unrecoverable` also where a record has unknown outcome. `AfterCommit` where the tree is
+    /// cleared, but a record wasn't removed: the next flush or clear tries it again.
+    pub fn clear(&mut self) -> Result<SeqNo, Error>
+        ensures clears { ClearsLogged result self.old self.new }
+        ensures passes { S.tells → Passed (log_from_of self.new.core) (S.world self.old.store) (S.world self.new.store) }
+        ensures behind { S.tells → RemovesBehind (S.world self.old.store) (S.world self.new.store) self.old.core self.new.core }
+        ensures upholds { S.tells → UpholdsFiles (S.world self.old.store) (S.world self.new.store) self.old.core self.new.core }
+        ensures causes { HasCause (Blames result) (S.world self.old.store) (S.world self.new.store) }
+    {
+        self.tree.is_upheld();
+        if self.is_uncertain() {
+            return Err(Error::Unrecoverable);
+        }
+        let number = self.tree.clear()?;
+        match self.remove_passed() {
+            Ok(()) => Ok(number),
+            Err(_) => Err(Error::AfterCommit),
+        }
+    }
+}

@@ -1,0 +1,20 @@
+//! A tree with a log above it: each batch has a record in the store before it is in the tree, so no crash takes it.
+//!
+//! | Module | Holds |
+//! |-|-|
+//! | `logged` | the tree and its log |
+//! | `opening` | how it is opened over a store |
+//! | `writing` | its writes |
+//! | `flushing` | its flushes, and a clear |
+//! | `compacting` | its compactions |
+//! | `removing` | how records that the version has passed are removed |
+#![tactic(auto)]
+
+mod compacting;
+mod flushing;
+mod logged;
+mod opening;
+mod removing;
+mod writing;
+
+pub use logged::Logged;

@@ -1,0 +1,84 @@
+// A tree with a log above it.
+ghost use Rattle.std.specs.Prelude.{◌≡◌, ◌≤◌, ◌⊎◌, [], length, Ok, None, IfOk, IfErr, OnErr, IsErrOf};
+ghost use Rattle.lsm_state.specs.Calls.{Rotates};
+ghost use Rattle.lsm_state.specs.Held.{first_entries};
+ghost use Rattle.lsm_logged.specs.Keeping.{is_unsure};
+
+use lsm_below::{Error, MemtableId, SeqNo};
+use lsm_parts::LIMIT;
+use lsm_state::TreeState;
+use lsm_store::{MemStore, Store};
+use std::marker::Model;
+
+/// A tree with a log above it, with one owner.
+///
+/// # Examples
+///
+/// ```text
+/// let number = tree.write(vec![in alloc; (key, Op::Set(value))]?)?;
+/// ```
+#[derive(Drop)]
+pub struct Logged<S: Store = MemStore> {
+    pub(crate) tree: TreeState<S>,
+    /// The numbers of the records that may be in the store, rising.
+    pub(crate) numbers: Vec<SeqNo>,
+    /// Whether a record has unknown outcome.
+    pub(crate) doubted: bool,
+}
+
+impl<S: Store> Model for Logged<S> {
+    ghost use Rattle.lsm_logged.specs.Keeping.{SeenLogged, AreNumbered};
+
+    ghost Value = { SeenLogged S };
+
+    ghost view = { λ t. record { store = t.tree.store; core = t.tree.core; numbers = t.numbers.items; doubted = t.doubted } };
+
+    ghost invariant = { λ t. AreNumbered t.tree.core.seqno t.numbers.items };
+}
+
+impl<S: Store> Logged<S> {
+    /// The tree, to be read: each read of `TreeState`, each count and each choice of a strategy is a call of it.
+    pub fn tree(&self) -> &TreeState<S>
+        ensures { result.now ≡ record { store = self.now.store; core = self.now.core } }
+    {
+        &self.tree
+    }
+
+    /// How many records may be in the store: those of batches that aren't flushed, and those that are still to be removed.
+    pub fn log_len(&self) -> usize
+        ensures { result ≡ length self.now.numbers }
+    {
+        self.numbers.len()
+    }
+
+    /// `TreeState::rotate_memtable`.
+    pub fn rotate_memtable(&mut self) -> Result<Option<MemtableId>, Error>
+        ensures ok { IfOk result (λ r. Rotates self.old.core r self.new.core) }
+        ensures err { OnErr result (self.new ≡ self.old) }
+        ensures store { self.new.store ≡ self.old.store }
+        ensures log { (self.new.numbers ≡ self.old.numbers) × (self.new.doubted ≡ self.old.doubted) }
+        ensures out_of_numbers { IsErrOf result Error.OutOfNumbers → LIMIT ≤ self.old.core.next_memtable }
+        ensures told { LIMIT ≤ self.old.core.next_memtable → IfOk result (λ _. first_entries self.old.core.memtables ≡ []) }
+        ensures empty { first_entries self.old.core.memtables ≡ [] → result ≡ Ok None }
+        ensures only { IfErr result (λ e. (e ≡ Error.OutOfNumbers) ⊎ (e ≡ Error.OutOfMemory)) }
+    {
+        self.tree.rotate_memtable()
+    }
+
+    /// Sets the moment at which tables are made from now on, in nanoseconds.
+    pub fn set_moment(&mut self, moment: u64)
+        ensures core { self.new.core ≡ record (self.old.core) { moment = moment } }
+        ensures store { self.new.store ≡ self.old.store }
+        ensures log { (self.new.numbers ≡ self.old.numbers) × (self.new.doubted ≡ self.old.doubted) }
+    {
+        self.tree.set_moment(moment);
+    }
+
+    /// Whether a `CommitUnknown` came before, of a commit or of a record: then nothing is written, committed or removed
+    /// until the tree is opened again.
+    pub fn is_uncertain(&self) -> bool
+        ensures { result ≡ is_unsure self.now }
+    {
+        self.doubted || self.tree.is_uncertain()
+    }
+}

@@ -1,0 +1,55 @@
+// Records that the version has passed are removed.
+ghost use Rattle.std.specs.Prelude.{◌≡◌, ◌<◌, ◌≤◌, length, take, drop, OnOk, OnErr, IfErr};
+ghost use Rattle.std.specs.List.{All};
+ghost use Rattle.std.specs.List.Sorted.{IsStrictlyIncreasing};
+ghost use Rattle.lsm_files.specs.Stored.{CountsFaults};
+ghost use Rattle.lsm_state.specs.Commits.{UpholdsFiles};
+ghost use Rattle.lsm_logged.specs.Removing.{log_from_of, Forgets, RemovesPassed};
+
+use crate::Logged;
+use lsm_below::{Error, SeqNo};
+use lsm_store::Store;
+
+/// The place of the first number that isn't below this one.
+fn first_from(numbers: &[SeqNo], from: SeqNo) -> usize
+    requires { IsStrictlyIncreasing numbers.now }
+    ensures within { result ≤ length numbers.now }
+    ensures before { All (λ k. k < from) (take result numbers.now) }
+    ensures behind { All (λ k. from ≤ k) (drop result numbers.now) }
+{
+    for i in 0..numbers.len() {
+        if numbers[i] >= from {
+            return i;
+        }
+    }
+    numbers.len()
+}
+
+/// Forgets the numbers below this one.
+fn forget_below(numbers: &mut Vec<SeqNo>, from: SeqNo)
+    requires { IsStrictlyIncreasing numbers.old.items }
+    ensures { Forgets from numbers.old.items numbers.new.items }
+{
+    let at = first_from(numbers, from);
+    drop(numbers.drain(..at));
+}
+
+impl<S: Store> Logged<S> {
+    /// Removes the records below the version's `log_from`, rising, and forgets their numbers. What a fault leaves is tried
+    /// again by the next call.
+    pub(crate) fn remove_passed(&mut self) -> Result<(), Error>
+        ensures removes { S.tells → RemovesPassed (log_from_of self.old.core) self.old.numbers (S.world self.old.store) (S.world self.new.store) result }
+        ensures upholds { S.tells → UpholdsFiles (S.world self.old.store) (S.world self.new.store) self.old.core self.new.core }
+        ensures core { self.new.core ≡ self.old.core }
+        ensures doubted { self.new.doubted ≡ self.old.doubted }
+        ensures forgets { OnOk result (Forgets (log_from_of self.old.core) self.old.numbers self.new.numbers) }
+        ensures keeps { OnErr result (self.new.numbers ≡ self.old.numbers) }
+        ensures only { IfErr result (λ e. e ≡ Error.Store) }
+        ensures counts { CountsFaults (S.world self.old.store) (S.world self.new.store) result }
+    {
+        let from = self.tree.current_version().log_from();
+        self.tree.remove_records_below(from, &self.numbers)?;
+        forget_below(&mut self.numbers, from);
+        Ok(())
+    }
+}
