@@ -24,7 +24,7 @@ use Rattle.lsm_runs.specs.Moments.{Reopens}
 use Rattle.lsm_runs.specs.Notes.{none_begun, EachTells}
 use Rattle.lsm_runs.specs.Runs.{IsPlainUse}
 use Rattle.lsm_runs.specs.Told.{Told}
-use Rattle.example_crash.specs.Survival.{IsUsual, IsKept}
+use Rattle.example_crash.specs.Survival.{IsUsual, IsLeftOf}
 use Rattle.example_crash.proofs.Usual.{usual_plain, usual_rises, usual_weak, whole, twice}
 
 -- ---- a new store
@@ -73,7 +73,7 @@ module _ (once : FoundOnce) (many : AnyNumberOfLives world_of) (was is : MemStor
   lives = (record { store = was; takes = begins; life = λ m ready shows each. Running (one (lived m shows.stands)).life }, tt)
 
   -- the map that an image shows which may be left
-  pub survives : (image : Image) → MayBe world_of end image → (left : Map) × StandsForMap image left × IsKept steps told left
+  pub survives : (image : Image) → MayBe world_of end image → (left : Map) × StandsForMap image left × IsLeftOf steps told left
   survives image may =
       let well = many (Crashed none) (empty ∷ []) tt tt (λ i same. (empty, subst (λ j. Reopens (2 ^ 63) j empty) (sym same) (reopens_none once), inl refl)) (end ∷ []) lives in
       let m = well.0 in

@@ -35,7 +35,7 @@ pub record AnswersReplay (start : Map) (steps : List Step) (told : List Told) : 
 
 -- The map is, outside dropped ranges, a beginning of the calls that these steps made on a new tree, and holds each flush that was installed and
 -- each clear that was answered. What each call adds to the journal and covers follows from its kind and its reply.
-pub record IsKept (steps : List Step) (told : List Told) (left : Map) : Type 0 where
+pub record IsLeftOf (steps : List Step) (told : List Told) (left : Map) : Type 0 where
   pub opened : List Entry
   pub outcomes : List (out.Told Reply)
   pub replies : map told_of outcomes ≡ told
@@ -46,5 +46,5 @@ pub record IsKept (steps : List Step) (told : List Told) (left : Map) : Type 0 w
 pub record Survives (first : List Step) (told : List Told) (second : List Step) (more : List Told) : Type 0 where
   pub before : AnswersReplay empty first told
   pub left : Map
-  pub kept : IsKept first told left
+  pub kept : IsLeftOf first told left
   pub after : AnswersReplay left second more

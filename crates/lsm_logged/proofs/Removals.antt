@@ -12,19 +12,18 @@ use Rattle.lsm_jobs.specs.declared.jobs.Registered.{Registered}
 use Rattle.lsm_log.specs.Changes.{IsBelow, AreCleared}
 use Rattle.lsm_log.proofs.Loaded.{rise_drop}
 use Rattle.lsm_state.specs.Core.{Core, versions_left, written_of}
-use Rattle.lsm_state.specs.Commits.{UpholdsFiles, Upholds, counted}
+use Rattle.lsm_state.specs.Commits.{UpholdsFiles, Upholds}
 use Rattle.lsm_state.specs.Calls.{Rotates}
-use Rattle.lsm_state.specs.Clearing.{Clears}
 use Rattle.lsm_state.specs.WholeFlushes.{Flushes}
 use Rattle.lsm_state.proofs.Upholding.{among_right, leaves_more}
-use Rattle.lsm_logged.specs.Keeping.{AreNumbered}
+use Rattle.lsm_logged.specs.Keeping.{AreRecordNumbers}
 use Rattle.lsm_logged.specs.Removing.{log_from_of, Forgets, RemovesPassed, HasOldOrPassed, Passed}
 use Rattle.lsm_logged.specs.Flushing.{IsEither, RemovesBehind}
 
 -- ---- numbers
 
-pub numbered_left : (from n m : ℕ) (old new : List ℕ) → n ≤ m → AreNumbered n old → Forgets from old new → AreNumbered m new
-numbered_left from n m old new le are left = subst (AreNumbered m) (sym left.items) (record {
+pub numbered_left : (from n m : ℕ) (old new : List ℕ) → n ≤ m → AreRecordNumbers n old → Forgets from old new → AreRecordNumbers m new
+numbered_left from n m old new le are left = subst (AreRecordNumbers m) (sym left.items) (record {
   rise = rise_drop left.at old are.rise;
   below = All-drop (λ k. k < m) left.at old (All-weaker (λ k. k < n) (λ k. k < m) (λ k lt. omega (arith, lt, le)) old are.below);
 })
@@ -82,21 +81,6 @@ pub flush_rises : (w : ℕ) (r : Result (Option (ℕ × Registered)) Error) (old
 flush_rises w (Ok None) old new f = let e = ap (λ (c : Core). c.seqno) (f.some refl).1 in omega (arith, e)
 flush_rises w (Ok (Some p)) old new f = let e = ap (λ (c : Core). c.seqno) f.installs.installs.cleans.rest in omega (arith, e)
 flush_rises w (Err e) old new f = ⊎_elim (λ s. omega (arith, s)) (λ s. omega (arith, s)) f.err.seqno
-
-pub clear_rises : (r : Result ℕ Error) (old new : Core) → Clears r old new → old.seqno ≤ new.seqno
-clear_rises (Ok n) old new c = let e = ap (λ (k : Core). k.seqno) c.ok.1 in omega (arith, e)
-clear_rises (Err e) old new c = ⊎_elim (λ a. ⊎_elim (λ m. memory (c.memory (ap Err m))) (λ s. counts (c.store (ap Err s))) a)
-    (λ b. ⊎_elim (λ u. let is = ap (λ (k : Core). k.seqno) (c.unknown (ap Err u)) in omega (arith, is)) (λ d. ⊎_elim (λ o. same (c.before (inr (ap Err o)))) (λ x. same (c.before (inl (ap Err x)))) d) b) c.only
-  where
-    same : new ≡ old → old.seqno ≤ new.seqno
-    same e = let is = ap (λ (k : Core). k.seqno) e in omega (arith, is)
-
-    counts : new ≡ counted old → old.seqno ≤ new.seqno
-    counts e = let is = ap (λ (k : Core). k.seqno) e in omega (arith, is)
-
-    memory : (new ≡ old) ⊎ (new ≡ counted old) → old.seqno ≤ new.seqno
-    memory (inl e) = same e
-    memory (inr e) = counts e
 
 -- ---- a call, and then a removal while the tree stays as it is
 

@@ -35,9 +35,9 @@ use Rattle.lsm_log_model.proofs.Batches.{each_entries, each_reverse, since_all}
 use Rattle.lsm_state.specs.Core.{Core, state_of, opened_core, written_all}
 use Rattle.lsm_state.specs.Deeds.{saved_of, OpenedIsFresh}
 use Rattle.lsm_state.proofs.Steps.{write_run}
-use Rattle.lsm_logged.specs.Keeping.{AreNumbered, IsLogOf, IsRecordFile, IsNoNumber}
+use Rattle.lsm_logged.specs.Keeping.{AreRecordNumbers, IsLogOf, IsRecordFile, IsNoNumber}
 use Rattle.lsm_logged.specs.Removing.{IsOldOrPassed, HasOldOrPassed}
-use Rattle.lsm_logged.specs.Opening.{entries_read, batch_read, image_read, Replays, TakesLog, IsSettledLog, Reopens}
+use Rattle.lsm_logged.specs.Opening.{entries_read, batch_read, image_read, Replays, TakesLog, IsSettledLog, IsReopenedLog}
 use Rattle.lsm_logged.proofs.LogNames.{apart, record_is_foreign, refused_is_foreign}
 
 -- ---- what was found
@@ -50,7 +50,7 @@ looks_on first mid new f g looks same is = record {
   same = same_then first mid new looks.same same;
 }
 
-pub numbered_more : (n m : ℕ) (xs : List ℕ) → n ≤ m → AreNumbered n xs → AreNumbered m xs
+pub numbered_more : (n m : ℕ) (xs : List ℕ) → n ≤ m → AreRecordNumbers n xs → AreRecordNumbers m xs
 numbered_more n m xs le are = record { rise = are.rise; below = All-weaker (λ k. k < n) (λ k. k < m) (λ k lt. omega (arith, lt, le)) xs are.below }
 
 -- ---- the tree
@@ -79,13 +79,13 @@ module _ (config cfg : Config) (v : SeenVersion) (next_table next : ℕ) (passed
   pub high : max v.log_from next ≤ core.seqno
   high = let a = seqno in let b = ap (λ (k : Config). k.seqno) is in omega (arith, a, b)
 
-  pub replays : {S : Type 0} (store : S) → numbers ≡ map (λ r. r.number) records → AreNumbered next numbers → AreNumbered next passed → Replays config passed records (record { store = store; core = core; numbers = numbers; doubted = false })
+  pub replays : {S : Type 0} (store : S) → numbers ≡ map (λ r. r.number) records → AreRecordNumbers next numbers → AreRecordNumbers next passed → Replays config passed records (record { store = store; core = core; numbers = numbers; doubted = false })
   replays store same after below = record {
     least = max v.log_from next;
     core = is_made;
     above_version = subst (λ (u : SeenVersion). u.log_from ≤ max v.log_from next) (sym version) (omega arith);
     above_passed = numbered_more next (max v.log_from next) passed (omega arith) below;
-    above_records = subst (AreNumbered (max v.log_from next)) same (numbered_more next (max v.log_from next) numbers (omega arith) after);
+    above_records = subst (AreRecordNumbers (max v.log_from next)) same (numbered_more next (max v.log_from next) numbers (omega arith) after);
     numbers = same;
     sure = refl;
   }
@@ -211,7 +211,7 @@ module _ (fresh : OpenedIsFresh) (reopen : ReplaysReopen) (stays : CounterStaysA
   is_log = subst (λ k. IsLogOf [] [] k false first) (sym whole) (record { tree = refl; from = refl; other = λ u lost. absurd (cc lost); doubt = refl })
 
   pub reopens : (old mid new : World) → IsLogFrom old.gives v.log_from passed records → Passes old mid → ClearsRecords (IsBelow v.log_from) mid new → PlainNumbersAreRead → IsSettledLog old v.log_from → {S : Type 0} (store : S) (numbers : List ℕ)
-      → Reopens image (record { store = store; core = core; numbers = numbers; doubted = false }) new
+      → IsReopenedLog image (record { store = store; core = core; numbers = numbers; doubted = false }) new
   reopens old mid new log passes clears read settled store numbers = record {
     first = first;
     reopened = reopened;

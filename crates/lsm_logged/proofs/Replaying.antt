@@ -1,5 +1,5 @@
 -- Records are written to a tree, under their own numbers.
-use Rattle.std.proofs.Common.{◌≡◌, inl, inr, ℕ, Bool, true, false, cond, List, [], ◌∷◌, ◌++◌, map, Contains, ◌<◌, ◌^◌, Some, None, Result, Ok, Err, IfErr, IfSome, refl, sym, ap, ◌∙◌, append-nil}
+use Rattle.std.proofs.Common.{◌≡◌, ℕ, List, [], ◌∷◌, ◌++◌, map, Contains, ◌<◌, ◌^◌, refl, sym, ap, ◌∙◌, append-nil}
 use Rattle.std.proofs.lemmas.List.{map-append}
 use Rattle.std.proofs.lemmas.Grind.{flat_map-append}
 use Rattle.std.specs.List.{All}
@@ -8,8 +8,6 @@ use Rattle.lsm_store.specs.World.{Image}
 use Rattle.lsm_log.specs.Logs.{IsLogFrom}
 use Rattle.lsm_below.specs.Keys.{Bytes}
 use Rattle.lsm_below.specs.Entries.{Entry, plain}
-use Rattle.lsm_below.specs.declared.error.Error.{Error}
-use Rattle.lsm_below.specs.declared.error.Error.TheVariants.{OutOfMemory, KeyTooLong, ValueTooLong, NumberTooGreat}
 use Rattle.lsm_model.specs.Ops.{op_entry, op_entries}
 use Rattle.lsm_model.specs.declared.op.Op.{Op}
 use Rattle.lsm_model.specs.declared.op.Op.TheVariants.{Set, Del, Weak}
@@ -17,9 +15,7 @@ use Rattle.lsm_memtable.specs.Memtables.{SeenMemtable, with_entry, with_entries}
 use Rattle.lsm_log.specs.declared.record.Record.{Record}
 use Rattle.lsm_state.specs.Held.{put_first, put_all_first}
 use Rattle.lsm_state.specs.Core.{Core, written_core, written_all}
-use Rattle.lsm_state.specs.Calls.{Appends}
-use Rattle.lsm_state.specs.Refusals.{is_long_key, is_long_value, is_great}
-use Rattle.lsm_logged.specs.Opening.{entries_read, RefusesReplay}
+use Rattle.lsm_logged.specs.Opening.{entries_read}
 
 -- ---- entries, one after the other
 
@@ -67,19 +63,6 @@ pub record_more : (rs : List Record) (r : Record) (first mid new : Core) → mid
 record_more rs r first mid new so_far did =
     did ∙ (ap (written_all (op_entries r.number r.ops)) so_far ∙ (written_joined (entries_read rs) (op_entries r.number r.ops) first
     ∙ ap (λ es. written_all es first) (ap (λ es. entries_read rs ++ es) (sym (append-nil (op_entries r.number r.ops))) ∙ sym (flat_map-append (λ x. op_entries x.number x.ops) rs (r ∷ [])))))
-
--- ---- refusals
-
-by_reason : (a b c : Bool) (x : Error) → IfSome (cond a (Some KeyTooLong) (cond b (Some ValueTooLong) (cond c (Some NumberTooGreat) None))) (λ y. ◌≡◌ {A = Result (ℕ × ℕ) Error} (Err x) (Err y))
-    → (cond a (Some KeyTooLong) (cond b (Some ValueTooLong) (cond c (Some NumberTooGreat) None)) ≡ None → x ≡ OutOfMemory) → RefusesReplay x
-by_reason true b c x told memory = inr (inl (cc told))
-by_reason false true c x told memory = inr (inr (inl (cc told)))
-by_reason false false true x told memory = inr (inr (inr (cc told)))
-by_reason false false false x told memory = inl (memory refl)
-
-pub append_refuses : (e : Entry) (r : Result (ℕ × ℕ) Error) (old new : Core) → Appends e r old new → IfErr r RefusesReplay
-append_refuses e (Ok s) old new a = tt
-append_refuses e (Err x) old new a = by_reason (is_long_key e.key.user_key) (is_long_value e.value) (is_great e.key.seqno) x a.told a.memory
 
 -- ---- what was read
 

@@ -23,7 +23,7 @@ pub record SeenLogged (S : Type 0) : Type 0 where
   pub doubted : Bool
 
 -- numbers of records rise, and are below the next one
-pub record AreNumbered (next : ℕ) (numbers : List ℕ) : Type 0 where
+pub record AreRecordNumbers (next : ℕ) (numbers : List ℕ) : Type 0 where
   pub rise : IsStrictlyIncreasing numbers
   pub below : All (λ k. k < next) numbers
 

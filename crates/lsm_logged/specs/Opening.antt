@@ -24,7 +24,7 @@ use Rattle.lsm_log_model.specs.Logs.{Logged as Log, MayBeDrawn}
 use Rattle.lsm_log_model.specs.Replays.{IsReopened}
 use Rattle.lsm_state.specs.Core.{opened_core, written_all, versions_left, written_of}
 use Rattle.lsm_state.specs.Opened.{found_entries}
-use Rattle.lsm_logged.specs.Keeping.{SeenLogged, AreNumbered, IsLogOf, KeepsLog}
+use Rattle.lsm_logged.specs.Keeping.{SeenLogged, AreRecordNumbers, IsLogOf, KeepsLog}
 use Rattle.lsm_logged.specs.Removing.{Passed}
 
 -- ---- replays
@@ -56,8 +56,8 @@ pub record Replays {S : Type 0} (config : Config) (passed : List ℕ) (records :
   pub least : ℕ
   pub core : t.core ≡ written_all (entries_read records) (opened_core (raised least (raised (capped (above (found_entries t.core))) config)) (version_of t) t.core.next_table)
   pub above_version : (version_of t).log_from ≤ least
-  pub above_passed : AreNumbered least passed
-  pub above_records : AreNumbered least (map (λ r. r.number) records)
+  pub above_passed : AreRecordNumbers least passed
+  pub above_records : AreRecordNumbers least (map (λ r. r.number) records)
   pub numbers : t.numbers ≡ map (λ r. r.number) records
   pub sure : t.doubted ≡ false
 
@@ -74,7 +74,7 @@ pub record IsSettledLog (w : World) (from : ℕ) : Type 0 where
   pub refused : (n : List ℕ) → kind_of n ≡ Refused → (c : Option (List ℕ)) → w.may n c → c ≡ w.gives n
 
 -- as the theory sees it: the reopened tree of the image, whose records are in the store, and whose counter is above them
-pub record Reopens {S : Type 0} (image : LogImage) (t : SeenLogged S) (w : World) : Type 0 where
+pub record IsReopenedLog {S : Type 0} (image : LogImage) (t : SeenLogged S) (w : World) : Type 0 where
   pub first : Log
   pub reopened : IsReopened image first
   pub is : IsLogOf [] [] t.core t.doubted first
@@ -87,7 +87,7 @@ pub record OpensLogged {S : Type 0} (tells : Type 0) (world : S → World) (stor
   pub records : List Record
   pub replays : Replays config passed records t
   pub takes : tells → TakesLog (world store) (world t.store) (version_of t) passed records
-  pub reopens : tells → LogStands (image_read (version_of t) records) → IsSettledLog (world store) (version_of t).log_from → Reopens (image_read (version_of t) records) t (world t.store)
+  pub reopens : tells → LogStands (image_read (version_of t) records) → IsSettledLog (world store) (version_of t).log_from → IsReopenedLog (image_read (version_of t) records) t (world t.store)
   pub stored : tells → IsReady (world store) → IsStored (world t.store) (versions_left t.core) (written_of t.core)
 
 -- ---- what is refused

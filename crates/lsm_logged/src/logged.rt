@@ -27,13 +27,13 @@ pub struct Logged<S: Store = MemStore> {
 }
 
 impl<S: Store> Model for Logged<S> {
-    ghost use Rattle.lsm_logged.specs.Keeping.{SeenLogged, AreNumbered};
+    ghost use Rattle.lsm_logged.specs.Keeping.{SeenLogged, AreRecordNumbers};
 
     ghost Value = { SeenLogged S };
 
     ghost view = { λ t. record { store = t.tree.store; core = t.tree.core; numbers = t.numbers.items; doubted = t.doubted } };
 
-    ghost invariant = { λ t. AreNumbered t.tree.core.seqno t.numbers.items };
+    ghost invariant = { λ t. AreRecordNumbers t.tree.core.seqno t.numbers.items };
 }
 
 impl<S: Store> Logged<S> {

@@ -10,7 +10,7 @@ ghost use Rattle.lsm_log.specs.Changes.{IsBelow, ClearsRecords, AreCleared};
 ghost use Rattle.lsm_log.specs.Logs.{IsLogFrom, IsBadLog};
 ghost use Rattle.lsm_state.specs.Core.{written_all};
 ghost use Rattle.lsm_state.specs.Commits.{UpholdsFiles};
-ghost use Rattle.lsm_logged.specs.Keeping.{AreNumbered};
+ghost use Rattle.lsm_logged.specs.Keeping.{AreRecordNumbers};
 ghost use Rattle.lsm_logged.specs.Opening.{entries_read, RefusesReplay, OpensLogged, ToldBad};
 
 use crate::Logged;
@@ -36,7 +36,7 @@ fn numbers_of(alloc: Global, records: &[Record]) -> Result<Vec<SeqNo>, AllocErro
 
 /// The number after these. None where they don't rise, or are 2^63 or more.
 fn number_after(numbers: &[SeqNo]) -> Option<SeqNo>
-    ensures after { IfSome result (λ n. AreNumbered n numbers.now) }
+    ensures after { IfSome result (λ n. AreRecordNumbers n numbers.now) }
     ensures none { IfNone result (IsStrictlyIncreasing numbers.now → All (λ k. k < 2 ^ 63) numbers.now → ⊥) }
 {
     let mut next = 0;
@@ -91,8 +91,8 @@ fn read_numbered<S: Store>(
 ) -> Result<ReadLog, Error>
     ensures read { S.tells → IfOk result (λ r. IsLogFrom (S.world found.old.store).gives from r.log.passed.items r.log.records.items) }
     ensures numbers { IfOk result (λ r. r.numbers.items ≡ map (λ x. x.number) r.log.records.items) }
-    ensures after { IfOk result (λ r. AreNumbered r.next r.numbers.items) }
-    ensures below { IfOk result (λ r. AreNumbered r.next r.log.passed.items) }
+    ensures after { IfOk result (λ r. AreRecordNumbers r.next r.numbers.items) }
+    ensures below { IfOk result (λ r. AreRecordNumbers r.next r.log.passed.items) }
     ensures bad { S.tells → IsErrOf result Error.Unrecoverable → IsBadLog (S.world found.old.store).gives from }
     ensures only { IfErr result (λ e. ((e ≡ Error.OutOfMemory) ⊎ (e ≡ Error.Store)) ⊎ (e ≡ Error.Unrecoverable)) }
     ensures same { S.tells → Same (S.world found.old.store) (S.world found.new.store) }

@@ -15,8 +15,8 @@ use Rattle.lsm_log.specs.Logs.{IsLogFrom, IsBadLog}
 use Rattle.lsm_log.specs.Changes.{IsBelow, ClearsRecords, AreCleared}
 use Rattle.lsm_log.proofs.Loaded.{gives_same}
 use Rattle.lsm_log_model.specs.Records.{LogStands}
-use Rattle.lsm_logged.specs.Keeping.{AreNumbered}
-use Rattle.lsm_logged.specs.Opening.{image_read, TakesLog, IsSettledLog, Reopens}
+use Rattle.lsm_logged.specs.Keeping.{AreRecordNumbers}
+use Rattle.lsm_logged.specs.Opening.{image_read, TakesLog, IsSettledLog, IsReopenedLog}
 use Rattle.lsm_logged.proofs.Reopening.{looks_on, numbered_more, whole, version, high, replays, takes, reopens}
 use Rattle.lsm_logged.proofs.logged.Logged.open.Goals as goal
 
@@ -67,7 +67,7 @@ returns-in-Ok-take_log-clause-opens g c =
     let take = c.in-Ok-take_log.ensures.core in
     let ver = version c.args.config cfg v id next passed numbers records before core made is take in
     let le = high c.args.config cfg v id next passed numbers records before core made is take in
-    let below = numbered_more next core.seqno (map (λ r. r.number) records) (omega (arith, le)) (subst (AreNumbered next) c.in-Ok.ensures.numbers c.in-Ok.ensures.after) in
+    let below = numbered_more next core.seqno (map (λ r. r.number) records) (omega (arith, le)) (subst (AreRecordNumbers next) c.in-Ok.ensures.numbers c.in-Ok.ensures.after) in
     let looks : g.S.Store.tells → Looks (w store) (w found'.store) found'.files = λ tells. looks_on (w store) (w found.store) (w found'.store) found.files found'.files (c.in_ok-found.ensures.found tells) (c.in-Ok.ensures.same tells) c.in-Ok.ensures.files in
     let log : g.S.Store.tells → IsLogFrom (w store).gives v.log_from passed records = λ tells. subst (λ n. IsLogFrom (w store).gives n passed records) from (subst (λ (image : Image). IsLogFrom image c.log_from-from.result passed records) (gives_same (w store) (w found.store) (c.in_ok-found.ensures.same tells)) (c.in-Ok.ensures.read tells)) in
     let passes : g.S.Store.tells → Passes (w store) (w mid) = λ tells. c.openings_pass.ensures store mid _ (c.in_ok-tree.ensures.opens tells store (looks tells)) (c.in_ok-tree.ensures.leaves tells store (looks tells)) in
@@ -79,7 +79,7 @@ returns-in-Ok-take_log-clause-opens g c =
       takes = λ tells. subst (λ u. TakesLog (w store) (w new) u passed records) (sym ver) (takes (w store) (w mid) (w new) v passed records (log tells) (passes tells) (clears tells) (looks tells).from
           (subst (λ n. (k : ℕ) → Contains passed k → k < n → (w new).gives (record_name k) ≡ None) from (c.in-Ok-take_log.ensures.gone tells))
           (subst (λ n. LeavesOnly (w mid) (w new) (AreCleared (IsBelow n) (w mid))) from (c.in-Ok-take_log.ensures.any_moment tells)));
-      reopens = λ tells. subst (λ u. LogStands (image_read u records) → IsSettledLog (w store) u.log_from → Reopens (image_read u records) (record { store = new; core = core; numbers = numbers; doubted = false }) (w new)) (sym ver)
+      reopens = λ tells. subst (λ u. LogStands (image_read u records) → IsSettledLog (w store) u.log_from → IsReopenedLog (image_read u records) (record { store = new; core = core; numbers = numbers; doubted = false }) (w new)) (sym ver)
           (λ stands settled. reopens c.opened_trees_are_fresh.ensures c.replays_reopen.ensures c.counter_stays_above.ensures cfg v id passed records core (whole c.args.config cfg v id next passed numbers records before core made is take) (omega (arith, le)) below.below
           (λ k there. (((log tells).read_are k).0 there).1) stands (w store) (w mid) (w new) (log tells) (passes tells) (clears tells) c.plain_numbers_are_read.ensures settled new numbers);
       stored = λ tells ready. (c.in-Ok-take_log.ensures.upholds tells (c.in_ok-tree.ensures.stored tells store (looks tells) ready)).0;
