@@ -53,7 +53,7 @@ passed_then from old mid new passes passed = record {
       (λ image was n foreign. ⊎_elim (λ m. inl (passes.may n (image n) foreign m)) (λ gone. inr gone) (was n foreign));
 }
 
-both_leave : (old new : World) (P Q : Image → Type 0) → LeavesOnly old new P → LeavesOnly old new Q → LeavesOnly old new (λ image. P image × Q image)
+pub both_leave : (old new : World) (P Q : Image → Type 0) → LeavesOnly old new P → LeavesOnly old new Q → LeavesOnly old new (λ image. P image × Q image)
 both_leave old new P Q a b = record {
   later = a.later;
   each = λ image since. (a.each image since, b.each image since);
