@@ -6,3 +6,5 @@ pub mod Reopening
 pub mod Removals
 pub mod Rising
 pub mod Left
+pub mod Led
+pub mod ClearActs

@@ -5,10 +5,11 @@ ghost use Rattle.lsm_state.specs.Causes.{BlamesOrUncleanFlush, BlamesOrUncleanBe
 ghost use Rattle.lsm_state.specs.Commits.{UpholdsFiles, Upholds};
 ghost use Rattle.lsm_state.specs.Flushes.{spent};
 ghost use Rattle.lsm_logged.specs.Removing.{log_from_of, Passed};
+ghost use Rattle.lsm_logged.specs.Acting.{ClearsAct};
 ghost use Rattle.lsm_logged.specs.Flushing.{FlushesLogged, FlushesBoth, BeginsLogged, WritesJobLogged, RegistersLogged, ClearsLogged, CleansLog, RemovesBehind};
 
 use crate::Logged;
-use lsm_below::{Error, MemtableId, SeqNo};
+use lsm_below::{Error, MemtableId, SeqNo, plain_numbers_are_read};
 use lsm_files::crashes_leave_versions;
 use lsm_jobs::{FlushJob, MergedFlush, Registered, WrittenFlush};
 use lsm_store::Store;
@@ -162,9 +163,13 @@ impl<S: Store> Logged<S> {
         ensures clears { ClearsLogged result self.old self.new }
         ensures passes { S.tells → Passed (log_from_of self.new.core) (S.world self.old.store) (S.world self.new.store) }
         ensures behind { S.tells → RemovesBehind (S.world self.old.store) (S.world self.new.store) self.old.core self.new.core }
+        // As the theory sees it: a clear, or one of unknown outcome, else nothing.
+        ensures acts { S.tells → ClearsAct result (S.world self.old.store) (S.world self.new.store) self.old self.new }
         ensures upholds { S.tells → UpholdsFiles (S.world self.old.store) (S.world self.new.store) self.old.core self.new.core }
         ensures causes { HasCause (Blames result) (S.world self.old.store) (S.world self.new.store) }
     {
+        plain_numbers_are_read();
+        self.counter_fits();
         self.tree.is_upheld();
         if self.is_uncertain() {
             return Err(Error::Unrecoverable);

@@ -1,5 +1,5 @@
 // A tree with a log above it.
-ghost use Rattle.std.specs.Prelude.{◌≡◌, ◌≤◌, ◌⊎◌, [], length, Ok, None, IfOk, IfErr, OnErr, IsErrOf};
+ghost use Rattle.std.specs.Prelude.{◌≡◌, ◌<◌, ◌≤◌, ◌^◌, ◌⊎◌, [], length, Ok, None, IfOk, IfErr, OnErr, IsErrOf};
 ghost use Rattle.lsm_state.specs.Calls.{Rotates};
 ghost use Rattle.lsm_state.specs.Held.{first_entries};
 ghost use Rattle.lsm_logged.specs.Keeping.{is_unsure};
@@ -49,6 +49,13 @@ impl<S: Store> Logged<S> {
         ensures { result ≡ length self.now.numbers }
     {
         self.numbers.len()
+    }
+
+    /// The counter is below 2^64.
+    pub(crate) fn counter_fits(&self)
+        ensures { self.now.core.seqno < 2 ^ 64 }
+    {
+        let _ = self.tree.seqno().get();
     }
 
     /// `TreeState::rotate_memtable`.
