@@ -93,3 +93,19 @@ module _ {S : Type 0} (read : PlainNumbersAreRead) (w w' : World) (old new : See
     refused_acts CommitUnknown clears deeds = is_lost clears deeds
     refused_acts AfterCommit clears deeds = absurd (⊎_elim (⊎_elim (λ m. cc m) (λ m. cc m)) (⊎_elim (λ m. cc m) (⊎_elim (λ m. cc m) (λ m. cc m))) clears.only)
     refused_acts e clears deeds = nothing (refusal e clears (λ u. absurd (cc u)))
+
+-- ---- the call
+
+module _ {S : Type 0} (w w' : World) (old new : SeenLogged S) where
+  -- it stands
+  pub stands_acts : PlainNumbersAreRead → is_unsure old ≡ false → new.doubted ≡ old.doubted → old.core.seqno < 2 ^ 64 → (n : ℕ) (mid : Core) → Clears (Ok n) old.core mid → ClearDeeds (Ok n) old.core mid → new.core ≡ mid
+      → UpholdsFiles w w' old.core new.core → Passed (log_from_of new.core) w w' → RemovesBehind w w' old.core new.core
+      → (opened : List Entry) (journal : List Event) (notes : List Note) (t : Log) → IsLogOf journal notes old.core old.doubted t → KeepsLog w t → MayBeDrawn opened t old.core.seqno → LeadsByClear opened journal notes t w w' old new
+  stands_acts read sure doubt small n mid clears deeds same files passed behind opened journal notes t is keeps next =
+      let deed = subst (λ k. Deeds opened (saved_of journal notes old.core) (Done (Cleared k old.core.next_memtable) ∷ []) (saved_of (journal ++ Clear k ∷ []) (ClearedTo (length journal + 1) ∷ notes) mid)) clears.ok.0 (deeds.done opened journal notes) in
+      let there = subst (λ c. Deeds opened (saved_of journal notes old.core) (Done (clear_of old) ∷ []) (saved_of (journal ++ Clear old.core.seqno ∷ []) (ClearedTo (length journal + 1) ∷ notes) c)) (sym same) deed in
+      cleared_leads read w w' old new sure doubt small opened journal notes t is keeps next (same ∙ clears.ok.1) there files passed behind
+
+-- an outcome is unknown, and nothing is done
+pub unsure_acts : {S : Type 0} (w : World) (old : SeenLogged S) → Upholds w w old.core old.core → ClearsAct (Err Unrecoverable) w w old old
+unsure_acts w old still opened journal notes t is keeps next = leads_nowhere opened journal notes t w w old old is keeps still.files refl still.passes refl refl refl (omega arith)
