@@ -1,5 +1,5 @@
 // Flushes of a logged tree, and a clear.
-ghost use Rattle.std.specs.Prelude.{◌≡◌, true, false};
+ghost use Rattle.std.specs.Prelude.{◌≡◌, ◌<◌, ◌^◌, true, false};
 ghost use Rattle.lsm_files.specs.Causes.{HasCause, Blames};
 ghost use Rattle.lsm_state.specs.Causes.{BlamesOrUncleanFlush, BlamesOrUncleanBehind, BlamesOrUnclean, BlamesBeside};
 ghost use Rattle.lsm_state.specs.Commits.{UpholdsFiles, Upholds};
@@ -15,6 +15,13 @@ use lsm_jobs::{FlushJob, MergedFlush, Registered, WrittenFlush};
 use lsm_store::Store;
 
 impl<S: Store> Logged<S> {
+    /// The counter is below 2^64.
+    fn counter_fits(&self)
+        ensures { self.now.core.seqno < 2 ^ 64 }
+    {
+        let _ = self.tree.seqno().get();
+    }
+
     /// What became of a flush, once the records that it passed are removed, where it was installed and all was cleaned up.
     fn clean_log(&mut self, flushed: Registered) -> Registered
         ensures cleans { CleansLog flushed result self.old self.new }
