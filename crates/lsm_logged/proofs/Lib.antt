@@ -8,3 +8,5 @@ pub mod Rising
 pub mod Left
 pub mod Led
 pub mod ClearActs
+pub mod CommitActs
+pub mod FlushActs

@@ -1,17 +1,22 @@
 -- What calls of a logged tree are to the theory: acts, whatever logged tree of the theory it is.
-use Rattle.std.specs.Prelude.{◌≡◌, ◌⊎◌, ℕ, ◌+◌, ◌≤◌, List, [], ◌∷◌, ◌++◌, length, Result, Ok, Err}
+use Rattle.std.specs.Prelude.{◌≡◌, ◌⊎◌, ℕ, ◌+◌, ◌≤◌, true, false, List, [], ◌∷◌, ◌++◌, length, Option, Some, None, Result, Ok, Err, IfOk, IfErr, IsErrOf}
 use Rattle.lsm_below.specs.Entries.{Entry}
 use Rattle.lsm_below.specs.declared.error.Error.{Error}
 use Rattle.lsm_below.specs.declared.error.Error.TheVariants.{CommitUnknown, AfterCommit}
 use Rattle.lsm_store.specs.World.{Image, World, LeavesOnly}
-use Rattle.lsm_model.specs.Journal.{Event}
-use Rattle.lsm_model.specs.Steps.{State, Action, Cleared}
-use Rattle.lsm_model.specs.Beginnings.{Note, ClearedTo, ClearLost}
-use Rattle.lsm_model.specs.declared.journal.JournalEntry.TheVariants.{Clear}
+use Rattle.lsm_model.specs.Journal.{Event, Map}
+use Rattle.lsm_model.specs.Sound.{Holds}
+use Rattle.lsm_model.specs.Steps.{State, Action, Flushed, Cleared, Marked, Maintained}
+use Rattle.lsm_model.specs.Views.{Placed}
+use Rattle.lsm_model.specs.Beginnings.{Note, FlushedIds, ClearedTo, ClearLost}
+use Rattle.lsm_model.specs.declared.journal.JournalEntry.TheVariants.{Clear, Install, Mark}
 use Rattle.lsm_files.specs.Stored.{IsStored, HoldsOneOf}
+use Rattle.lsm_jobs.specs.Jobs.{SeenWritten}
+use Rattle.lsm_jobs.specs.declared.jobs.Registered.{Registered}
 use Rattle.lsm_log_model.specs.Logs.{Logged as Log, MayBeDrawn, Act, Did, CommitLost, AllActs}
 use Rattle.lsm_log_model.specs.Joins.{DrawsBelow}
 use Rattle.lsm_state.specs.Core.{Core, versions_left, written_of}
+use Rattle.lsm_state.specs.Flushes.{sealed_ids, flush_of}
 use Rattle.lsm_logged.specs.Keeping.{SeenLogged, IsLogOf, KeepsLog, IsLogIn}
 
 -- ---- acts in a store
@@ -57,3 +62,45 @@ ActsByClear (Err e) opened journal notes t w w' old new = LeadsBy opened journal
 -- whatever logged tree of the theory it is, whose records are in the store
 abbrev pub ClearsAct : {S : Type 0} → Result ℕ Error → World → World → SeenLogged S → SeenLogged S → Type 0
 ClearsAct r w w' old new = (opened : List Entry) (journal : List Event) (notes : List Note) (t : Log) → IsLogOf journal notes old.core old.doubted t → KeepsLog w t → MayBeDrawn opened t old.core.seqno → ActsByClear r opened journal notes t w w' old new
+
+-- ---- commits behind a mark
+
+-- a commit that stands, at a watermark: the mark, the action, the maintenance
+abbrev pub LeadsByCommit : {S : Type 0} → ℕ → Action → List Event → List Note → (opened : List Entry) (journal : List Event) (notes : List Note) (t : Log) (w w' : World) (old new : SeenLogged S) → Type 0
+LeadsByCommit mark action events noted opened journal notes t w w' old new = LeadsBy opened (journal ++ Mark mark ∷ events) (noted ++ notes) t (Did (Marked mark) ∷ (Did action ∷ (Did (Maintained mark) ∷ []))) w w' old new
+
+-- one of unknown outcome: the mark, and the doubt
+abbrev pub LeadsByLost : {S : Type 0} → ℕ → Action → List Event → (opened : List Entry) (journal : List Event) (notes : List Note) (t : Log) (w w' : World) (old new : SeenLogged S) → Type 0
+LeadsByLost mark action events opened journal notes t w w' old new = (would : State) × LeadsBy opened (journal ++ Mark mark ∷ events) notes t (Did (Marked mark) ∷ (CommitLost action would ∷ [])) w w' old new
+
+-- whatever logged tree of the theory it is, whose records are in the store, and whose reads are right
+abbrev pub ForEachLog : {S : Type 0} → World → SeenLogged S → (List Entry → List Event → List Note → Log → Type 0) → Type 0
+ForEachLog w old P = (opened : List Entry) (start : Map) (journal : List Event) (notes : List Note) (t : Log) → IsLogOf journal notes old.core old.doubted t → KeepsLog w t → MayBeDrawn opened t old.core.seqno → Holds opened start t.tree.state → P opened journal notes t
+
+-- ---- a flush
+
+-- the flush of all sealed memtables, which makes these tables
+abbrev pub sealed_flush : {S : Type 0} → ℕ → SeenLogged S → List Placed → Action
+sealed_flush watermark t made = Flushed watermark (sealed_ids t.core) made
+
+-- an installed flush is an act; so is one of unknown outcome; where nothing is sealed, and refused otherwise, nothing is done
+abbrev pub ActsByFlush : {S : Type 0} → ℕ → Result (Option (ℕ × Registered)) Error → (w w' : World) (old new : SeenLogged S) (opened : List Entry) (journal : List Event) (notes : List Note) (t : Log) → Type 0
+ActsByFlush watermark (Ok None) w w' old new opened journal notes t = LeadsBy opened journal notes t [] w w' old new
+ActsByFlush watermark (Ok (Some p)) w w' old new opened journal notes t = (made : List Placed) × LeadsByCommit watermark (sealed_flush watermark old made) (Install old.core.seqno ∷ []) (FlushedIds (sealed_ids old.core) ∷ []) opened journal notes t w w' old new
+ActsByFlush watermark (Err CommitUnknown) w w' old new opened journal notes t = (made : List Placed) × LeadsByLost watermark (sealed_flush watermark old made) [] opened journal notes t w w' old new
+ActsByFlush watermark (Err e) w w' old new opened journal notes t = LeadsBy opened journal notes t [] w w' old new
+
+abbrev pub FlushesAct : {S : Type 0} → ℕ → Result (Option (ℕ × Registered)) Error → World → World → SeenLogged S → SeenLogged S → Type 0
+FlushesAct watermark r w w' old new = ForEachLog w old (ActsByFlush watermark r w w' old new)
+
+-- ---- a job that is registered
+
+-- installed it is an act; so is one of unknown outcome; stale, and refused otherwise, nothing is done
+pub record ActsByRegister {S : Type 0} (job : SeenWritten) (r : Result Registered Error) (w w' : World) (old new : SeenLogged S) (opened : List Entry) (journal : List Event) (notes : List Note) (t : Log) : Type 0 where
+  pub installed : IfOk r (λ a. a.installed ≡ true → LeadsByCommit job.watermark (flush_of job) (Install old.core.seqno ∷ []) (FlushedIds job.job.ids ∷ []) opened journal notes t w w' old new)
+  pub stale : IfOk r (λ a. a.installed ≡ false → LeadsBy opened journal notes t [] w w' old new)
+  pub unknown : IsErrOf r CommitUnknown → LeadsByLost job.watermark (flush_of job) [] opened journal notes t w w' old new
+  pub refused : IfErr r (λ e. (e ≡ CommitUnknown → ⊥) → LeadsBy opened journal notes t [] w w' old new)
+
+abbrev pub RegistersAct : {S : Type 0} → SeenWritten → Result Registered Error → World → World → SeenLogged S → SeenLogged S → Type 0
+RegistersAct job r w w' old new = ForEachLog w old (ActsByRegister job r w w' old new)
