@@ -32,7 +32,7 @@ use Rattle.lsm_state.specs.WholeFlushes.{Flushes, InstallsWhole, DoubtsWhole, Le
 use Rattle.lsm_logged.specs.Keeping.{SeenLogged, IsLogOf, KeepsLog}
 use Rattle.lsm_logged.specs.Removing.{log_from_of, Passed}
 use Rattle.lsm_logged.specs.Flushing.{RemovesBehind}
-use Rattle.lsm_logged.specs.Acting.{LeadsBy, LeadsByCommit, LeadsByLost, ActsByFlush, sealed_flush}
+use Rattle.lsm_logged.specs.Acting.{LeadsBy, LeadsByCommit, LeadsByLost, sealed_flush, FlushesAct}
 use Rattle.lsm_logged.proofs.Led.{leads_nowhere}
 use Rattle.lsm_logged.proofs.CommitActs.{commit_leads, lost_leads}
 
@@ -60,7 +60,7 @@ module _ {S : Type 0} (w w' : World) (old new : SeenLogged S) (sure : old.doubte
   mems = entries_of old.core.memtables
 
   -- sealed memtables hold only what is below the counter
-  sealed_below : above (flat_map mems (sealed_ids old.core)) ≤ old.core.seqno
+  pub sealed_below : above (flat_map mems (sealed_ids old.core)) ≤ old.core.seqno
   sealed_below =
       let h : Holds opened start (state_of journal old.core) = subst (λ (s : Saved). Holds opened start s.state) is.tree holds in
       let high : next_number opened journal ≤ old.core.seqno = subst (λ (s : Saved). next_number opened s.state.journal ≤ old.core.seqno) is.tree next.above_journal in
@@ -154,3 +154,28 @@ was_certain w r old new f some known = ⊎_elim (λ e. absurd (some (f.none e)))
     by_lost : (sealed_ids old ≡ [] → ⊥) → (l : Option SeenVersion) → old.lost ≡ l → old.lost ≡ None
     by_lost sealed None is = is
     by_lost sealed (Some v) is = absurd (known (f.unrecoverable.1 (sealed, subst (λ (p : Option SeenVersion). IsSome p) (sym is) refl)))
+
+-- ---- the call
+
+-- a record has unknown outcome, and nothing is done
+pub unsure_flush : {S : Type 0} (watermark : ℕ) (w : World) (old : SeenLogged S) → Upholds w w old.core old.core → FlushesAct watermark (Err Unrecoverable) w w old old
+unsure_flush watermark w old still opened start journal notes t is keeps next holds = same_acts w w old old refl still opened journal notes t is keeps refl
+
+module _ {S : Type 0} (watermark : ℕ) (w w' : World) (old new : SeenLogged S) (sure : (old.doubted ≡ false) ⊎ (sealed_ids old.core ≡ [])) (doubt : new.doubted ≡ old.doubted) (small : old.core.seqno < 2 ^ 64) where
+  no_doubt : (sealed_ids old.core ≡ [] → ⊥) → old.doubted ≡ false
+  no_doubt sealed = ⊎_elim (λ e. e) (λ none. absurd (sealed none)) sure
+
+  pub refused_flush : Upholds w w' old.core new.core → (e : Error) → Flushes watermark (Err e) old.core new.core → FlushesAct watermark (Err e) w w' old new
+  refused_flush commits CommitUnknown f opened start journal notes t is keeps next holds =
+      let two = was_certain watermark (Err CommitUnknown) old.core new.core f (λ z. cc z) (λ z. cc z) in
+      unknown_acts w w' old new (no_doubt two.0) two.1 doubt small commits.files opened start journal notes t is keeps next holds watermark (f.unknown refl) commits.passes
+  refused_flush commits e f opened start journal notes t is keeps next holds = rest_acts w w' old new doubt commits opened journal notes t is keeps f.err (f.known (λ h. absurd (cc h)))
+
+  pub installed_flush : (p b : ℕ × Registered) (mid : Core) → Flushes watermark (Ok (Some p)) old.core mid → new.core ≡ mid → UpholdsFiles w w' old.core new.core → PlainNumbersAreRead → Passed (log_from_of new.core) w w' → RemovesBehind w w' old.core new.core
+      → FlushesAct watermark (Ok (Some b)) w w' old new
+  installed_flush p b mid f same files read passed behind opened start journal notes t is keeps next holds =
+      let two = was_certain watermark (Ok (Some p)) old.core mid f (λ z. cc z) (λ z. cc z) in
+      installed_acts w w' old new (no_doubt two.0) two.1 doubt small files opened start journal notes t is keeps next holds watermark p.0 p.1 mid f.installs same read passed behind
+
+  pub none_flush : Upholds w w' old.core new.core → Flushes watermark (Ok None) old.core new.core → FlushesAct watermark (Ok None) w w' old new
+  none_flush commits f opened start journal notes t is keeps next holds = same_acts w w' old new doubt commits opened journal notes t is keeps (f.some refl).1

@@ -10,3 +10,6 @@ pub mod Led
 pub mod ClearActs
 pub mod CommitActs
 pub mod FlushActs
+pub mod RegisterActs
+pub mod RotateActs
+pub mod Compacted

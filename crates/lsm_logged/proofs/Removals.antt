@@ -103,7 +103,7 @@ either_behind w mid new old core after commits same files passed = subst (λ k. 
 
 -- ---- behind a rotation
 
-rotation_keeps : (id : Option ℕ) (old mid : Core) → Rotates old id mid → (versions_left mid ≡ versions_left old) × (written_of mid ≡ written_of old)
+pub rotation_keeps : (id : Option ℕ) (old mid : Core) → Rotates old id mid → (versions_left mid ≡ versions_left old) × (written_of mid ≡ written_of old)
 rotation_keeps None old mid r = (ap versions_left r.1, ap written_of r.1)
 rotation_keeps (Some id) old mid r = (ap versions_left r.2, ap written_of r.2)
 

@@ -6,9 +6,9 @@ use Rattle.lsm_below.specs.declared.error.Error.TheVariants.{CommitUnknown, Afte
 use Rattle.lsm_store.specs.World.{Image, World, LeavesOnly}
 use Rattle.lsm_model.specs.Journal.{Event, Map}
 use Rattle.lsm_model.specs.Sound.{Holds}
-use Rattle.lsm_model.specs.Steps.{State, Action, Flushed, Cleared, Marked, Maintained}
+use Rattle.lsm_model.specs.Steps.{State, Action, Rotated, Flushed, Merged, Moved, DroppedTables, Cleared, Marked, Maintained}
 use Rattle.lsm_model.specs.Views.{Placed}
-use Rattle.lsm_model.specs.Beginnings.{Note, FlushedIds, ClearedTo, ClearLost}
+use Rattle.lsm_model.specs.Beginnings.{Note, SealedAt, FlushedIds, ClearedTo, ClearLost}
 use Rattle.lsm_model.specs.declared.journal.JournalEntry.TheVariants.{Clear, Install, Mark}
 use Rattle.lsm_files.specs.Stored.{IsStored, HoldsOneOf}
 use Rattle.lsm_jobs.specs.Jobs.{SeenWritten}
@@ -16,7 +16,10 @@ use Rattle.lsm_jobs.specs.declared.jobs.Registered.{Registered}
 use Rattle.lsm_log_model.specs.Logs.{Logged as Log, MayBeDrawn, Act, Did, CommitLost, AllActs}
 use Rattle.lsm_log_model.specs.Joins.{DrawsBelow}
 use Rattle.lsm_state.specs.Core.{Core, versions_left, written_of}
+use Rattle.lsm_state.specs.CompactionDeeds.{dropped_by}
 use Rattle.lsm_state.specs.Flushes.{sealed_ids, flush_of}
+use Rattle.lsm_state.specs.declared.compaction.Begun.{Begun}
+use Rattle.lsm_state.specs.declared.compaction.Begun.TheVariants.{Installed as IsInstalled}
 use Rattle.lsm_logged.specs.Keeping.{SeenLogged, IsLogOf, KeepsLog, IsLogIn}
 
 -- ---- acts in a store
@@ -104,3 +107,61 @@ pub record ActsByRegister {S : Type 0} (job : SeenWritten) (r : Result Registere
 
 abbrev pub RegistersAct : {S : Type 0} → SeenWritten → Result Registered Error → World → World → SeenLogged S → SeenLogged S → Type 0
 RegistersAct job r w w' old new = ForEachLog w old (ActsByRegister job r w w' old new)
+
+-- ---- a rotation, and a flush behind it
+
+-- what sealing the active memtable does, and notes; nothing, where nothing was written to it
+abbrev pub rotation_of : Option ℕ → Core → List Act
+rotation_of None c = []
+rotation_of (Some id) c = Did (Rotated c.next_memtable) ∷ []
+
+abbrev pub sealed_notes : Option ℕ → List Event → Core → List Note
+sealed_notes None journal c = []
+sealed_notes (Some id) journal c = SealedAt c.history.latest.active_memtable (length journal) ∷ []
+
+abbrev pub LeadsByRotation : {S : Type 0} → Option ℕ → World → (old new : SeenLogged S) (opened : List Entry) (journal : List Event) (notes : List Note) (t : Log) → Type 0
+LeadsByRotation id w old new opened journal notes t = LeadsBy opened journal (sealed_notes id journal old.core ++ notes) t (rotation_of id old.core) w w old new
+
+-- a rotation leads to a logged tree, and what a flush answers is done from there
+abbrev pub ActsBehind : {S : Type 0} → ℕ → Option ℕ → Result (Option (ℕ × Registered)) Error → (w w' : World) (old new : SeenLogged S) (opened : List Entry) (journal : List Event) (notes : List Note) (t : Log) → Type 0
+ActsBehind {S} watermark id r w w' old new opened journal notes t = (mid : SeenLogged S) × (first : LeadsByRotation id w old mid opened journal notes t) × ActsByFlush watermark r w w' mid new opened journal (sealed_notes id journal old.core ++ notes) first.log
+
+-- both are acts, one after the other; a refused rotation does nothing
+pub record ActsByBoth {S : Type 0} (watermark : ℕ) (r : Result (Option ℕ × Option (ℕ × Registered)) (Error × Option ℕ)) (w w' : World) (old new : SeenLogged S) (opened : List Entry) (journal : List Event) (notes : List Note) (t : Log) : Type 0 where
+  pub ok : IfOk r (λ a. ActsBehind watermark a.0 (Ok a.1) w w' old new opened journal notes t)
+  pub err : IfErr r (λ e. ActsBehind watermark e.1 (Err e.0) w w' old new opened journal notes t)
+
+abbrev pub FlushesBothAct : {S : Type 0} → ℕ → Result (Option ℕ × Option (ℕ × Registered)) (Error × Option ℕ) → World → World → SeenLogged S → SeenLogged S → Type 0
+FlushesBothAct watermark r w w' old new = ForEachLog w old (ActsByBoth watermark r w w' old new)
+
+-- ---- a compaction
+
+-- a merge at this watermark, a move or a drop
+abbrev pub IsCompaction : ℕ → Action → Type 0
+IsCompaction watermark (Merged w d ids evict made) = w ≡ watermark
+IsCompaction watermark (Moved d ids moved) = Unit {0}
+IsCompaction watermark (DroppedTables ids) = Unit {0}
+IsCompaction watermark other = ⊥
+
+-- what it tells before it is known whether it stands: a drop its ranges
+abbrev pub told_by : Action → Core → List Event
+told_by (DroppedTables ids) c = dropped_by ids c
+told_by other c = []
+
+abbrev pub told_installed : Action → Core → List Event
+told_installed action c = told_by action c ++ Install c.seqno ∷ []
+
+-- the mark alone
+abbrev pub LeadsByMark : {S : Type 0} → ℕ → (w w' : World) (old new : SeenLogged S) (opened : List Entry) (journal : List Event) (notes : List Note) (t : Log) → Type 0
+LeadsByMark watermark w w' old new opened journal notes t = LeadsBy opened (journal ++ Mark watermark ∷ []) notes t (Did (Marked watermark) ∷ []) w w' old new
+
+-- an installed compaction is an act; so is one of unknown outcome; where nothing is installed, and refused otherwise, it is the mark
+-- of its watermark
+pub record ActsByCompaction {S : Type 0} (watermark : ℕ) (r : Result Begun Error) (w w' : World) (old new : SeenLogged S) (opened : List Entry) (journal : List Event) (notes : List Note) (t : Log) : Type 0 where
+  pub done : (r ≡ Ok IsInstalled) ⊎ IsErrOf r AfterCommit → (action : Action) × IsCompaction watermark action × LeadsByCommit watermark action (told_installed action old.core) [] opened journal notes t w w' old new
+  pub lost : IsErrOf r CommitUnknown → (action : Action) × IsCompaction watermark action × LeadsByLost watermark action (told_by action old.core) opened journal notes t w w' old new
+  pub told : IfOk r (λ b. (b ≡ IsInstalled → ⊥) → LeadsByMark watermark w w' old new opened journal notes t)
+  pub refused : IfErr r (λ e. (e ≡ AfterCommit → ⊥) → (e ≡ CommitUnknown → ⊥) → LeadsByMark watermark w w' old new opened journal notes t)
+
+abbrev pub CompactsAct : {S : Type 0} → ℕ → Result Begun Error → World → World → SeenLogged S → SeenLogged S → Type 0
+CompactsAct watermark r w w' old new = ForEachLog w old (ActsByCompaction watermark r w w' old new)

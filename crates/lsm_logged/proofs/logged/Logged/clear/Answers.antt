@@ -1,4 +1,6 @@
-use Rattle.std.proofs.Common.{◌≡◌, ◌<◌, ◌^◌, false, Ok, Err, refl, sym, ap, ◌∙◌, subst}
+use Rattle.std.proofs.Common.{◌≡◌, ℕ, ◌<◌, ◌^◌, false, Result, Ok, Err, refl, sym, ap, ◌∙◌, subst}
+use Rattle.std.proofs.lemmas.Result.{err_from_is_err_and}
+use Rattle.lsm_below.specs.declared.error.Error.{Error}
 use Rattle.lsm_below.specs.declared.error.Error.TheVariants.{Unrecoverable, AfterCommit}
 use Rattle.lsm_state.specs.Commits.{UpholdsFiles}
 use Rattle.lsm_logged.specs.Keeping.{SeenLogged, is_unsure}
@@ -78,8 +80,10 @@ returns-in_err-number-clause-acts g c tells =
     let new : SeenLogged g.row.S.Denot = record { store = mid.store; core = mid.core; numbers = i.numbers.items; doubted = i.doubted } in
     let sure : is_unsure old ≡ false = ap is_unsure c.self.view_is ∙ (sym c.is_uncertain.ensures ∙ c.if-is_uncertain.false) in
     let small = subst (λ (t : SeenLogged g.row.S.Denot). t.core.seqno < 2 ^ 64) (sym c.self.view_is) c.counter_fits.ensures in
-    subst (λ (t : SeenLogged g.row.S.Denot). ClearsAct (Err e) (w t.store) (w mid.store) t new) c.self.view_is
-    (λ opened journal notes t is keeps next. refused_acts c.plain_numbers_are_read.ensures (w old.store) (w mid.store) old new sure refl small opened journal notes t is keeps next (c.clear.ensures.upholds tells) e c.in_err-number.ensures.clears c.in_err-number.ensures.deeds)
+    let told = err_from_is_err_and c.from_residual.result c.from_residual.ensures.1 in
+    subst (λ (t : SeenLogged g.row.S.Denot). ClearsAct c.from_residual.result (w t.store) (w mid.store) t new) c.self.view_is
+    (subst (λ (r : Result ℕ Error). ClearsAct r (w old.store) (w mid.store) old new) (sym (told.1 ∙ ap (λ (x : Error). Err x) told.2))
+    (λ opened journal notes t is keeps next. refused_acts c.plain_numbers_are_read.ensures (w old.store) (w mid.store) old new sure refl small opened journal notes t is keeps next (c.clear.ensures.upholds tells) e c.in_err-number.ensures.clears c.in_err-number.ensures.deeds))
 
 pub returns-in-Ok-clause-acts : goal.returns-in-Ok-clause-acts
 returns-in-Ok-clause-acts g c tells =
