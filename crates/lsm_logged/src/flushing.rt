@@ -17,7 +17,7 @@ use lsm_store::Store;
 
 impl<S: Store> Logged<S> {
     /// The counter is below 2^64.
-    fn counter_fits(&self)
+    pub(crate) fn counter_fits(&self)
         ensures { self.now.core.seqno < 2 ^ 64 }
     {
         let _ = self.tree.seqno().get();
