@@ -24,6 +24,7 @@ use Rattle.lsm_state.specs.declared.compaction.Begun.{Begun}
 use Rattle.lsm_state.specs.declared.compaction.Begun.TheVariants.{Declined, Installed}
 use Rattle.lsm_state.specs.Core.{Core}
 use Rattle.lsm_state.specs.Kept.{IsKeptTree}
+use Rattle.lsm_state.specs.FlushLaws.{FlushesAreDeeds}
 use Rattle.lsm_state.specs.Commits.{Upholds, counted}
 use Rattle.lsm_state.specs.Deeds.{saved_of, IsMarkDeed, AreDone}
 use Rattle.lsm_state.specs.Settling.{SettlesSome, IsInstalled, IsDoubted}
@@ -310,3 +311,21 @@ begun_outcome may_choose may_refuse o r old new law kept deed b = by_lost old.lo
     by_lost (Some v) is =
         let there = subst (λ (p : Option SeenVersion). IsSome p) (sym is) refl in
         quiet_outcome o.mvcc_gc_watermark r old new (free_of Unrecoverable (b.unrecoverable.1 there) ((λ z. cc z), (λ z. cc z), (λ z. cc z))) (same_marked o.mvcc_gc_watermark old new deed (b.uncertain there))
+
+-- ---- a call
+
+-- a record has unknown outcome: the mark alone
+pub unsure_acts : {S : Type 0} (watermark : ℕ) (world : S → World) (old now : SeenLogged S) → old ≡ now → IsKeptTree now.core → FlushesAreDeeds → Upholds (world old.store) (world old.store) old.core old.core → CompactsAct watermark (Err Unrecoverable) (world now.store) (world now.store) now now
+unsure_acts {S} watermark world old now same kept law still =
+    let there : Upholds (world now.store) (world now.store) now.core now.core = subst (λ (t : SeenLogged S). Upholds (world t.store) (world t.store) t.core t.core) same still in
+    let deed : IsMarkDeed watermark now.core now.core = law.spends watermark 0 now.core kept in
+    λ opened start journal notes t is keeps next holds. unsure_compaction watermark (world now.store) (world now.store) now now refl there opened start journal notes t is keeps next holds (same_marked watermark now.core now.core deed refl)
+
+-- no record has: what the tree's call did
+pub answered_acts : {S : Type 0} (watermark : ℕ) (world : S → World) (old now new : SeenLogged S) → old ≡ now → IsKeptTree now.core → now.core.seqno < 2 ^ 64 → PlainNumbersAreRead → old.doubted ≡ false → new.doubted ≡ old.doubted → Upholds (world old.store) (world new.store) old.core new.core
+    → (r : Result Begun Error) → (IsKeptTree old.core → Outcome watermark r old.core new.core) → CompactsAct watermark r (world now.store) (world new.store) now new
+answered_acts {S} watermark world old now new same kept small read sure doubt commits r outcome =
+    let there = subst (λ (t : SeenLogged S). IsKeptTree t.core) (sym same) kept in
+    let fits = subst (λ (t : SeenLogged S). t.core.seqno < 2 ^ 64) (sym same) small in
+    subst (λ (t : SeenLogged S). CompactsAct watermark r (world t.store) (world new.store) t new) same
+    (λ opened start journal notes t is keeps next holds. outcome_acts watermark (world old.store) (world new.store) old new doubt commits opened start journal notes t is keeps next holds sure fits read r (outcome there))
