@@ -90,7 +90,7 @@ module _ (image : Image) (from at : ℕ) (ns : List ℕ) (are : AreNumbers image
 pub gives_same : (old mid : World) → Same old mid → mid.gives ≡ old.gives
 gives_same old mid same = image_same old.gives mid.gives same.gives
 
-numbers_push : (rs : List Record) (r : Record) (ns : List ℕ) (i : ℕ) → map (λ (x : Record). x.number) rs ≡ take i ns → i < length ns → r.number ≡ get_or ns i 0 → map (λ (x : Record). x.number) (rs ++ r ∷ []) ≡ take (i + 1) ns
+pub numbers_push : (rs : List Record) (r : Record) (ns : List ℕ) (i : ℕ) → map (λ (x : Record). x.number) rs ≡ take i ns → i < length ns → r.number ≡ get_or ns i 0 → map (λ (x : Record). x.number) (rs ++ r ∷ []) ≡ take (i + 1) ns
 numbers_push rs r ns i so_far lt same =
     map-append (λ (x : Record). x.number) rs (r ∷ []) ∙ ap (λ l. l ++ r.number ∷ []) so_far ∙ ap (λ x. take i ns ++ x ∷ []) same ∙ sym (take_more ns i 0 lt)
 
