@@ -13,3 +13,4 @@ pub mod FlushActs
 pub mod RegisterActs
 pub mod RotateActs
 pub mod Compacted
+pub mod Seen

@@ -1,11 +1,11 @@
 -- What opening makes of a store, and of the log in it.
 use Rattle.std.specs.Prelude.{◌≡◌, ◌⊎◌, ◌≤◌, ℕ, false, List, [], map, Option, None, Result, Ok, Err, IsSome, Contains}
-use Rattle.std.specs.List.{flat_map}
+use Rattle.std.specs.List.{flat_map, AllByRecursion}
 use Rattle.lsm_below.specs.Entries.{Entry, above}
 use Rattle.lsm_below.specs.Sums.{capped}
 use Rattle.lsm_below.specs.declared.error.Error.{Error}
-use Rattle.lsm_below.specs.declared.error.Error.TheVariants.{OutOfMemory, Unrecoverable, KeyTooLong, ValueTooLong, NumberTooGreat}
-use Rattle.lsm_store.specs.World.{World, Same}
+use Rattle.lsm_below.specs.declared.error.Error.TheVariants.{OutOfMemory, Store, Unrecoverable, KeyTooLong, ValueTooLong, NumberTooGreat}
+use Rattle.lsm_store.specs.World.{Image, World, Same}
 use Rattle.lsm_model.specs.Ops.{op_entries}
 use Rattle.lsm_versions.specs.declared.config.Config.{Config}
 use Rattle.lsm_versions.specs.Configs.{raised}
@@ -18,11 +18,11 @@ use Rattle.lsm_files.specs.Stored.{IsStored}
 use Rattle.lsm_log.specs.declared.record.Record.{Record}
 use Rattle.lsm_log.specs.declared.kinds.LogName.TheVariants.{Refused}
 use Rattle.lsm_log.specs.LogNames.{record_name, kind_of}
-use Rattle.lsm_log.specs.Logs.{IsLogFrom, IsBadLog}
+use Rattle.lsm_log.specs.Logs.{IsRecordAt, IsLogFrom, IsBadLog}
 use Rattle.lsm_log_model.specs.Records.{Batch, LogImage, LogStands, opened_by}
 use Rattle.lsm_log_model.specs.Logs.{Logged as Log, MayBeDrawn}
 use Rattle.lsm_log_model.specs.Replays.{IsReopened}
-use Rattle.lsm_state.specs.Core.{opened_core, written_all, versions_left, written_of}
+use Rattle.lsm_state.specs.Core.{Core, opened_core, written_all, versions_left, written_of}
 use Rattle.lsm_state.specs.Opened.{found_entries}
 use Rattle.lsm_logged.specs.Keeping.{SeenLogged, AreRecordNumbers, IsLogOf, KeepsLog}
 use Rattle.lsm_logged.specs.Removing.{Passed}
@@ -36,6 +36,17 @@ entries_read records = flat_map (λ r. op_entries r.number r.ops) records
 -- why a record isn't written to a tree: for want of memory, or since an entry is none that a tree takes
 abbrev pub RefusesReplay : Error → Type 0
 RefusesReplay e = (e ≡ OutOfMemory) ⊎ ((e ≡ KeyTooLong) ⊎ ((e ≡ ValueTooLong) ⊎ (e ≡ NumberTooGreat)))
+
+-- why records aren't replayed: one isn't written, the store fails, or it doesn't read a record again that it read before
+abbrev pub RefusesReplays : Error → Type 0
+RefusesReplays e = RefusesReplay e ⊎ ((e ≡ Store) ⊎ (e ≡ Unrecoverable))
+
+-- a record of each of these numbers was written, in their order; where the store tells, it is the one that the image has
+pub record ReplaysEach (tells : Type 0) (image : Image) (numbers : List ℕ) (old new : Core) : Type 0 where
+  pub records : List Record
+  pub named : map (λ r. r.number) records ≡ numbers
+  pub core : new ≡ written_all (entries_read records) old
+  pub records_are : tells → AllByRecursion (λ r. IsRecordAt image r.number r) records
 
 -- ---- what is opened
 

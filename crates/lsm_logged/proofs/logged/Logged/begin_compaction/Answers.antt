@@ -1,8 +1,5 @@
-use Rattle.std.proofs.Common.{◌≡◌, Ok, subst}
-use Rattle.lsm_state.specs.declared.compaction.Begun.TheVariants.{Installed}
-use Rattle.lsm_state.specs.Compactions.{LeavesNoneChosen}
-use Rattle.lsm_logged.specs.Keeping.{SeenLogged}
 use Rattle.lsm_logged.proofs.Reopening.{numbered_more}
+use Rattle.lsm_logged.proofs.Seen.{leaves_seen}
 use Rattle.lsm_logged.proofs.Rising.{begins_compaction}
 use Rattle.lsm_logged.proofs.logged.Logged.begin_compaction.Goals as goal
 
@@ -14,6 +11,6 @@ invariant_of-self g c =
 
 pub returns-clause-gone : goal.returns-clause-gone
 returns-clause-gone g c tells =
-    let w = g.S.Store.world in
     let new = c.begin_compaction.new.self in
-    subst (λ (t : SeenLogged g.row.S.Denot). c.begin_compaction.result ≡ Ok Installed → LeavesNoneChosen (w new.store) _ t.core new.core) c.self.view_is (c.begin_compaction.ensures.gone tells)
+    let strategy = c.args.strategy.now in
+    leaves_seen ((goal.CompactionStrategy-dyn g strategy).may_choose strategy.1) c.begin_compaction.result (g.S.Store.world new.store) _ _ new.core c.self.view_is (c.begin_compaction.ensures.gone tells)

@@ -1,9 +1,6 @@
-use Rattle.std.proofs.Common.{◌≡◌, Ok, subst}
-use Rattle.lsm_state.specs.declared.compaction.Begun.TheVariants.{Installed}
-use Rattle.lsm_state.specs.Compactions.{LeavesNoneChosen}
 use Rattle.lsm_state.specs.WholeCompactions.{options_at}
-use Rattle.lsm_logged.specs.Keeping.{SeenLogged}
 use Rattle.lsm_logged.proofs.Reopening.{numbered_more}
+use Rattle.lsm_logged.proofs.Seen.{leaves_seen}
 use Rattle.lsm_logged.proofs.Rising.{compacts}
 use Rattle.lsm_logged.proofs.logged.Logged.compact.Goals as goal
 
@@ -15,6 +12,6 @@ invariant_of-self g c =
 
 pub returns-clause-gone : goal.returns-clause-gone
 returns-clause-gone g c tells =
-    let w = g.S.Store.world in
     let new = c.compact.new.self in
-    subst (λ (t : SeenLogged g.row.S.Denot). c.compact.result ≡ Ok Installed → LeavesNoneChosen (w new.store) _ t.core new.core) c.self.view_is (c.compact.ensures.gone tells)
+    let strategy = c.args.strategy.now in
+    leaves_seen ((goal.CompactionStrategy-dyn g strategy).may_choose strategy.1) c.compact.result (g.S.Store.world new.store) _ _ new.core c.self.view_is (c.compact.ensures.gone tells)

@@ -1,8 +1,5 @@
-use Rattle.std.proofs.Common.{◌≡◌, Ok, subst}
-use Rattle.lsm_state.specs.declared.compaction.Begun.TheVariants.{Installed}
-use Rattle.lsm_state.specs.Compactions.{LeavesNoneChosen}
-use Rattle.lsm_logged.specs.Keeping.{SeenLogged}
 use Rattle.lsm_logged.proofs.Reopening.{numbered_more}
+use Rattle.lsm_logged.proofs.Seen.{leaves_seen}
 use Rattle.lsm_logged.proofs.Rising.{compacts}
 use Rattle.lsm_logged.proofs.logged.Logged.compact_with.Goals as goal
 
@@ -14,6 +11,5 @@ invariant_of-self g c =
 
 pub returns-clause-gone : goal.returns-clause-gone
 returns-clause-gone g c tells =
-    let w = g.S.Store.world in
     let new = c.compact_with.new.self in
-    subst (λ (t : SeenLogged g.row.S.Denot). c.compact_with.result ≡ Ok Installed → LeavesNoneChosen (w new.store) _ t.core new.core) c.self.view_is (c.compact_with.ensures.gone tells)
+    leaves_seen (g.C.CompactionStrategy.may_choose c.args.strategy.now) c.compact_with.result (g.S.Store.world new.store) _ _ new.core c.self.view_is (c.compact_with.ensures.gone tells)
