@@ -130,16 +130,16 @@ module _ {S : Type 0} (watermark : ℕ) (w w' : World) (old new : SeenLogged S) 
 
 -- ---- how it began
 
-abbrev IsFree : Result Begun Error → Type 0
+abbrev pub IsFree : Result Begun Error → Type 0
 IsFree r = (r ≡ Ok Installed → ⊥) × (IsErrOf r AfterCommit → ⊥) × (IsErrOf r CommitUnknown → ⊥)
 
-abbrev Stays : Core → Core → Type 0
+abbrev pub Stays : Core → Core → Type 0
 Stays old new = (log_from_of new ≡ log_from_of old) × (new.lost ≡ old.lost)
 
-stays_same : (old new : Core) → new ≡ old → Stays old new
+pub stays_same : (old new : Core) → new ≡ old → Stays old new
 stays_same old new e = (ap log_from_of e, ap (λ (c : Core). c.lost) e)
 
-stays_counted : (old new : Core) → new ≡ counted old → Stays old new
+pub stays_counted : (old new : Core) → new ≡ counted old → Stays old new
 stays_counted old new e = (ap log_from_of e, ap (λ (c : Core). c.lost) e)
 
 -- a version that is to be installed, and isn't

@@ -38,7 +38,7 @@ first_below mems sealed ids n first all =
     let sum = ap above (ap (flat_map mems) parts ∙ flat_map-append mems others ids) ∙ above-append (flat_map mems others) (flat_map mems ids) in
     omega (arith, all, sum)
 
-was_certain : {T : Type 0} (r : Result T Error) (c : Core) → (IsErrOf r Unrecoverable → ⊥) → (IsSome c.lost → IsErrOf r Unrecoverable) → c.lost ≡ None
+pub was_certain : {T : Type 0} (r : Result T Error) (c : Core) → (IsErrOf r Unrecoverable → ⊥) → (IsSome c.lost → IsErrOf r Unrecoverable) → c.lost ≡ None
 was_certain r c known told = by_lost c.lost refl
   where
     by_lost : (l : Option SeenVersion) → c.lost ≡ l → c.lost ≡ None
