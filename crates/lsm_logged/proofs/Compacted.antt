@@ -194,7 +194,7 @@ module _ (choice : Choice) (o : Options) (r : Result Begun Error) (old new : Cor
       by_lost None is = is
       by_lost (Some v) is = absurd (known (begins.unrecoverable.1 (subst (λ (p : Option SeenVersion). IsSome p) (sym is) refl)))
 
-  was_free : old.lost ≡ None → ((why : Why) → (r ≡ Ok (Declined why)) ⊎ (r ≡ Err OutOfMemory) → ⊥) → Does choice o r old new
+  pub was_free : old.lost ≡ None → ((why : Why) → (r ≡ Ok (Declined why)) ⊎ (r ≡ Err OutOfMemory) → ⊥) → Does choice o r old new
   was_free certain isnt = by_reason (reason_of choice old) refl
     where
       by_reason : (why : Option Why) → reason_of choice old ≡ why → Does choice o r old new
@@ -257,7 +257,7 @@ choice_lost (Drop ids) o r old new certain d deed u =
     let s = d.settles.unknown u in
     doubted_as o.mvcc_gc_watermark (DroppedTables ids.keys) old new deed.0 tt certain deed.1 s.0 s.1.next.log_from s.2
 
-abbrev ok_of : Begun → Result Begun Error
+abbrev pub ok_of : Begun → Result Begun Error
 ok_of x = Ok x
 
 ok_is : (x y : Begun) → ok_of x ≡ ok_of y → x ≡ y

@@ -34,7 +34,7 @@ is_install (Moved d ids moved) = true
 is_install (DroppedTables ids) = true
 is_install other = false
 
-told_last : (opened : List Entry) (old : State) (action : Action) (new : State) → is_install action ≡ true → Step opened old action new → (before : List Event) × (new.journal ≡ before ++ Install new.latest.number ∷ [])
+pub told_last : (opened : List Entry) (old : State) (action : Action) (new : State) → is_install action ≡ true → Step opened old action new → (before : List Event) × (new.journal ≡ before ++ Install new.latest.number ∷ [])
 told_last opened old (Wrote e) new c m = absurd (cc c)
 told_last opened old (Rotated a) new c m = absurd (cc c)
 told_last opened old (Flushed w job made) new c m = (old.journal, m.commit.journal)
@@ -50,7 +50,7 @@ told_last opened old (LostDrop ranges n) new c m = absurd (cc c)
 told_last opened old (Asked at question) new c m = absurd (cc c)
 told_last opened old (Maintained w) new c m = absurd (cc c)
 
-last_install : (xs ys : List Event) (n m : ℕ) → xs ++ Install n ∷ [] ≡ ys ++ Install m ∷ [] → m ≡ n
+pub last_install : (xs ys : List Event) (n m : ℕ) → xs ++ Install n ∷ [] ≡ ys ++ Install m ∷ [] → m ≡ n
 last_install xs ys n m e = let z : Install m ≡ Install n = sym (same_from_push xs ys (Install n) (Install m) e).1 in cc z
 
 -- ---- deeds as acts

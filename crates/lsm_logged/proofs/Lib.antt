@@ -14,3 +14,6 @@ pub mod RegisterActs
 pub mod RotateActs
 pub mod Compacted
 pub mod Seen
+pub mod Merged
+pub mod FinishActs
+pub mod WholeActs

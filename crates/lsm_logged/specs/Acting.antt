@@ -13,12 +13,15 @@ use Rattle.lsm_model.specs.declared.journal.JournalEntry.TheVariants.{Clear, Ins
 use Rattle.lsm_files.specs.Stored.{IsStored, HoldsOneOf}
 use Rattle.lsm_jobs.specs.Jobs.{SeenWritten}
 use Rattle.lsm_jobs.specs.declared.jobs.Registered.{Registered}
+use Rattle.lsm_merges.specs.Merges.{SeenCompaction, evicts}
 use Rattle.lsm_log_model.specs.Logs.{Logged as Log, MayBeDrawn, Act, Did, CommitLost, AllActs}
 use Rattle.lsm_log_model.specs.Joins.{DrawsBelow}
 use Rattle.lsm_state.specs.Core.{Core, versions_left, written_of}
-use Rattle.lsm_state.specs.CompactionDeeds.{dropped_by}
+use Rattle.lsm_state.specs.CompactionDeeds.{dropped_by, IsMarkedIn}
 use Rattle.lsm_state.specs.Flushes.{sealed_ids, flush_of}
 use Rattle.lsm_state.specs.declared.compaction.Begun.{Begun}
+use Rattle.lsm_state.specs.declared.compaction.Finished.{Finished}
+use Rattle.lsm_state.specs.declared.compaction.Finished.TheVariants.{Installed as IsFinished}
 use Rattle.lsm_state.specs.declared.compaction.Begun.TheVariants.{Installed as IsInstalled}
 use Rattle.lsm_logged.specs.Keeping.{SeenLogged, IsLogOf, KeepsLog, IsLogIn}
 
@@ -165,3 +168,20 @@ pub record ActsByCompaction {S : Type 0} (watermark : ℕ) (r : Result Begun Err
 
 abbrev pub CompactsAct : {S : Type 0} → ℕ → Result Begun Error → World → World → SeenLogged S → SeenLogged S → Type 0
 CompactsAct watermark r w w' old new = ForEachLog w old (ActsByCompaction watermark r w w' old new)
+
+-- ---- the end of a merge
+
+-- the merge of a job, which makes these tables
+abbrev pub merging : SeenCompaction → List Placed → Action
+merging job made = Merged job.settings.watermark job.settings.dest_level job.ids (evicts job.settings) made
+
+-- installed it is an act, with the maintenance behind it, where no kept snapshot is below its watermark; so is one of unknown outcome;
+-- where nothing is installed, and refused otherwise, nothing is done
+pub record ActsByMerge {S : Type 0} (job : SeenCompaction) (r : Result Finished Error) (w w' : World) (old new : SeenLogged S) (opened : List Entry) (journal : List Event) (notes : List Note) (t : Log) : Type 0 where
+  pub done : (r ≡ Ok IsFinished) ⊎ IsErrOf r AfterCommit → IsMarkedIn job.settings.watermark journal → (made : List Placed) × LeadsBy opened (journal ++ Install old.core.seqno ∷ []) notes t (Did (merging job made) ∷ (Did (Maintained job.settings.watermark) ∷ [])) w w' old new
+  pub lost : IsErrOf r CommitUnknown → (made : List Placed) × (would : State) × LeadsBy opened journal notes t (CommitLost (merging job made) would ∷ []) w w' old new
+  pub told : IfOk r (λ f. (f ≡ IsFinished → ⊥) → LeadsBy opened journal notes t [] w w' old new)
+  pub refused : IfErr r (λ e. (e ≡ AfterCommit → ⊥) → (e ≡ CommitUnknown → ⊥) → LeadsBy opened journal notes t [] w w' old new)
+
+abbrev pub MergesAct : {S : Type 0} → SeenCompaction → Result Finished Error → World → World → SeenLogged S → SeenLogged S → Type 0
+MergesAct job r w w' old new = ForEachLog w old (ActsByMerge job r w w' old new)

@@ -9,7 +9,7 @@ ghost use Rattle.lsm_state.specs.Compactions.{given_up, LeavesNoneChosen, Begins
 ghost use Rattle.lsm_state.specs.FlushLaws.{FlushesAreDeeds};
 ghost use Rattle.lsm_state.specs.Kept.{IsKeptTree};
 ghost use Rattle.lsm_state.specs.WholeCompactions.{CompactsChoice, Compacts, DropsRange, options_at, only_memory, major_choice, drop_choice};
-ghost use Rattle.lsm_logged.specs.Acting.{CompactsAct};
+ghost use Rattle.lsm_logged.specs.Acting.{CompactsAct, MergesAct};
 ghost use Rattle.lsm_logged.specs.Asking.{Asks};
 
 use crate::Logged;
@@ -122,6 +122,8 @@ impl<S: Store> Logged<S> {
     /// As that call, and `Unrecoverable` also where a record has unknown outcome.
     pub fn finish_compaction(&mut self, merged: MergedCompaction) -> Result<Finished, Error>
         ensures asks { Asks result self.old self.new (Finishes merged.job result self.old.core self.new.core) }
+        // As the theory sees it: a merge behind the mark of its beginning, or one of unknown outcome, else nothing.
+        ensures acts { S.tells → MergesAct merged.job result (S.world self.old.store) (S.world self.new.store) self.old self.new }
         // What a crash leaves, of the tree's files and of names that are none of its own.
         ensures upholds { S.tells → Upholds (S.world self.old.store) (S.world self.new.store) self.old.core self.new.core }
         // The store is blamed only where a call of it failed.
@@ -129,6 +131,7 @@ impl<S: Store> Logged<S> {
         // Behind a whole clean-up no file is left of what went.
         ensures gone { S.tells → result ≡ Ok Finished.Installed → LeavesNoFiles (S.world self.new.store) merged.job.ids self.old.core.history self.new.core.history }
     {
+        self.acts_are_known();
         self.tree.is_upheld();
         if self.doubted {
             return Err(Error::Unrecoverable);
@@ -152,6 +155,8 @@ impl<S: Store> Logged<S> {
     /// As that call, and `Unrecoverable` also where a record has unknown outcome.
     pub fn compact_choice(&mut self, choice: Choice, options: Options) -> Result<Begun, Error>
         ensures asks { Asks result self.old self.new (CompactsChoice choice options result self.old.core self.new.core) }
+        // As the theory sees it: an installed compaction, or one of unknown outcome, else the mark of its watermark.
+        ensures acts { S.tells → CompactsAct options.mvcc_gc_watermark result (S.world self.old.store) (S.world self.new.store) self.old self.new }
         // What a crash leaves, of the tree's files and of names that are none of its own.
         ensures upholds { S.tells → Upholds (S.world self.old.store) (S.world self.new.store) self.old.core self.new.core }
         // The store is blamed only where a call of it failed.
@@ -159,6 +164,7 @@ impl<S: Store> Logged<S> {
         // Behind a whole clean-up no file is left of what went.
         ensures gone { S.tells → result ≡ Ok Begun.Installed → LeavesNoFiles (S.world self.new.store) (given_up choice) self.old.core.history self.new.core.history }
     {
+        self.acts_are_known();
         self.tree.is_upheld();
         if self.doubted {
             return Err(Error::Unrecoverable);
@@ -177,6 +183,8 @@ impl<S: Store> Logged<S> {
         watermark: SeqNo,
     ) -> Result<Begun, Error>
         ensures asks { Asks result self.old self.new (Compacts (may_choose strategy.now) (may_refuse strategy.now) (options_at watermark self.old.core) result self.old.core self.new.core) }
+        // As the theory sees it: an installed compaction, or one of unknown outcome, else the mark of its watermark.
+        ensures acts { S.tells → CompactsAct watermark result (S.world self.old.store) (S.world self.new.store) self.old self.new }
         // What a crash leaves, of the tree's files and of names that are none of its own.
         ensures upholds { S.tells → Upholds (S.world self.old.store) (S.world self.new.store) self.old.core self.new.core }
         // The store is blamed only where a call of it failed.
@@ -184,6 +192,7 @@ impl<S: Store> Logged<S> {
         // Behind a whole clean-up no file is left of what went.
         ensures gone { S.tells → result ≡ Ok Begun.Installed → LeavesNoneChosen (S.world self.new.store) (may_choose strategy.now) self.old.core self.new.core }
     {
+        self.acts_are_known();
         self.tree.is_upheld();
         if self.doubted {
             return Err(Error::Unrecoverable);
@@ -202,6 +211,8 @@ impl<S: Store> Logged<S> {
         options: Options,
     ) -> Result<Begun, Error>
         ensures asks { Asks result self.old self.new (Compacts (C.may_choose strategy.now) (C.may_refuse strategy.now) options result self.old.core self.new.core) }
+        // As the theory sees it: an installed compaction, or one of unknown outcome, else the mark of its watermark.
+        ensures acts { S.tells → CompactsAct options.mvcc_gc_watermark result (S.world self.old.store) (S.world self.new.store) self.old self.new }
         // What a crash leaves, of the tree's files and of names that are none of its own.
         ensures upholds { S.tells → Upholds (S.world self.old.store) (S.world self.new.store) self.old.core self.new.core }
         // The store is blamed only where a call of it failed.
@@ -209,6 +220,7 @@ impl<S: Store> Logged<S> {
         // Behind a whole clean-up no file is left of what went.
         ensures gone { S.tells → result ≡ Ok Begun.Installed → LeavesNoneChosen (S.world self.new.store) (C.may_choose strategy.now) self.old.core self.new.core }
     {
+        self.acts_are_known();
         self.tree.is_upheld();
         if self.doubted {
             return Err(Error::Unrecoverable);
@@ -223,6 +235,8 @@ impl<S: Store> Logged<S> {
     /// As that call, and `Unrecoverable` also where a record has unknown outcome.
     pub fn major_compact(&mut self, target: u64, watermark: SeqNo) -> Result<Begun, Error>
         ensures asks { Asks result self.old self.new (Compacts (major_choice target) only_memory (options_at watermark self.old.core) result self.old.core self.new.core) }
+        // As the theory sees it: an installed compaction, or one of unknown outcome, else the mark of its watermark.
+        ensures acts { S.tells → CompactsAct watermark result (S.world self.old.store) (S.world self.new.store) self.old self.new }
         // What a crash leaves, of the tree's files and of names that are none of its own.
         ensures upholds { S.tells → Upholds (S.world self.old.store) (S.world self.new.store) self.old.core self.new.core }
         // The store is blamed only where a call of it failed.
@@ -230,6 +244,7 @@ impl<S: Store> Logged<S> {
         // Behind a whole clean-up no file is left of what went.
         ensures gone { S.tells → result ≡ Ok Begun.Installed → LeavesNoneChosen (S.world self.new.store) (major_choice target) self.old.core self.new.core }
     {
+        self.acts_are_known();
         self.tree.is_upheld();
         if self.doubted {
             return Err(Error::Unrecoverable);
@@ -244,6 +259,8 @@ impl<S: Store> Logged<S> {
     /// As that call, and `Unrecoverable` also where a record has unknown outcome.
     pub fn drop_range(&mut self, bounds: OwnedBounds) -> Result<Begun, Error>
         ensures asks { Asks result self.old self.new (DropsRange bounds result self.old.core self.new.core) }
+        // As the theory sees it: an installed compaction, or one of unknown outcome, else the mark of its watermark.
+        ensures acts { S.tells → CompactsAct 0 result (S.world self.old.store) (S.world self.new.store) self.old self.new }
         // What a crash leaves, of the tree's files and of names that are none of its own.
         ensures upholds { S.tells → Upholds (S.world self.old.store) (S.world self.new.store) self.old.core self.new.core }
         // The store is blamed only where a call of it failed.
@@ -251,6 +268,7 @@ impl<S: Store> Logged<S> {
         // Behind a whole clean-up no file is left of what went.
         ensures gone { S.tells → result ≡ Ok Begun.Installed → LeavesNoneChosen (S.world self.new.store) (drop_choice bounds) self.old.core self.new.core }
     {
+        self.acts_are_known();
         self.tree.is_upheld();
         if self.doubted {
             return Err(Error::Unrecoverable);
