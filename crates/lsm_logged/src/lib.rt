@@ -8,13 +8,16 @@
 //! | `flushing` | its flushes, and a clear |
 //! | `compacting` | its compactions |
 //! | `removing` | how records that the version has passed are removed |
+//! | `laws` | what is known of a log between two lives |
 #![tactic(auto)]
 
 mod compacting;
 mod flushing;
+mod laws;
 mod logged;
 mod opening;
 mod removing;
 mod writing;
 
+pub use laws::logs_can_be_settled;
 pub use logged::Logged;

@@ -15,7 +15,7 @@ ghost use Rattle.lsm_logged.specs.Opening.{RefusesReplay, RefusesReplays, Replay
 
 use crate::Logged;
 use lsm_below::{Error, SeqNo, plain_numbers_are_read};
-use lsm_files::{crashes_leave_versions, openings_pass};
+use lsm_files::{crashes_leave_versions, openings_pass, openings_settle};
 use lsm_log::{LogNumbers, Record};
 use lsm_log_model::{counter_stays_above, replays_reopen};
 use lsm_parts::{Config, LIMIT};
@@ -139,6 +139,7 @@ impl<S: Store> Logged<S> {
     {
         plain_numbers_are_read();
         openings_pass(&store);
+        openings_settle(&store);
         opened_trees_are_fresh();
         replays_reopen();
         counter_stays_above();
