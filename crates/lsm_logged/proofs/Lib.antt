@@ -5,3 +5,4 @@ pub mod Replaying
 pub mod Reopening
 pub mod Removals
 pub mod Rising
+pub mod Reached

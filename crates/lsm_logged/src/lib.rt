@@ -7,14 +7,17 @@
 //! | `writing` | its writes |
 //! | `flushing` | its flushes, and a clear |
 //! | `compacting` | its compactions |
+//! | `counting` | whether a store has records that count |
 //! | `removing` | how records that the version has passed are removed |
 #![tactic(auto)]
 
 mod compacting;
+mod counting;
 mod flushing;
 mod logged;
 mod opening;
 mod removing;
 mod writing;
 
+pub use counting::has_log;
 pub use logged::Logged;
