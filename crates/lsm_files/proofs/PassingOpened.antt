@@ -1,6 +1,6 @@
 -- An opening leaves foreign names.
 use Rattle.std.proofs.Common.{◌≡◌, ◌≢◌, ⊎_elim, ℕ, Bool, true, false, ◌||◌, List, Option, Some, None, Ok, IsSome, refl, sym, ap, ◌∙◌, subst, codes}
-use Rattle.lsm_store.specs.World.{World, LeavesOnly}
+use Rattle.lsm_store.specs.World.{World, IsOnDisk, LeavesOnly}
 use Rattle.lsm_store.specs.Moments.{weakened}
 use Rattle.lsm_manifest.specs.declared.kinds.NameKind.TheVariants.{VersionFile, Other}
 use Rattle.lsm_manifest.specs.declared.opening.Opened.{Opened}
@@ -51,5 +51,20 @@ module _ (first_kind : kind_of (version_name 0) ≡ VersionFile) where
           removed o.version.id (ids_of found.1.layout) old new (opens.removes o.version.id found.1.layout at) (leaves.any_moment o.version.id found.1.layout at)
 
       by_version : (c : Option (List ℕ)) → old.gives (codes "version") ≡ c → Passes old new
+      by_version None is = named is (old.gives current_name) refl
+      by_version (Some bytes) is = absurd (opens.version (subst IsSome (sym is) refl))
+
+  -- what was read of them is on the disk
+  pub opening_settles : (old new : World) (o : Opened) → Opens old new (Ok o) → (n : List ℕ) → IsForeign n → IsOnDisk old new n
+  opening_settles old new o opens n foreign = by_version (old.gives (codes "version")) refl
+    where
+      named : old.gives (codes "version") ≡ None → (c : Option (List ℕ)) → old.gives current_name ≡ c → IsOnDisk old new n
+      named none None is = (opens.fresh none is).persisted.on_disk n (no_first n foreign) foreign.not_current
+      named none (Some bytes) is =
+          let found = opens.opens none (subst IsSome (sym is) refl) in
+          let ids = ids_of found.1.layout in
+          (opens.removes o.version.id found.1.layout found.1.named).on_disk n (no_orphan o.version.id ids n foreign)
+
+      by_version : (c : Option (List ℕ)) → old.gives (codes "version") ≡ c → IsOnDisk old new n
       by_version None is = named is (old.gives current_name) refl
       by_version (Some bytes) is = absurd (opens.version (subst IsSome (sym is) refl))

@@ -3,7 +3,7 @@ ghost use Rattle.std.specs.Prelude.{List};
 ghost use Rattle.lsm_versions.specs.Levels.{SeenVersion};
 ghost use Rattle.lsm_files.specs.Stored.{AreAmong, Leaves};
 ghost use Rattle.lsm_files.specs.Contents.{FilesAreTables};
-ghost use Rattle.lsm_files.specs.Opening.{StoredIsReady, OpeningStores, OpeningsPass};
+ghost use Rattle.lsm_files.specs.Opening.{StoredIsReady, OpeningStores, OpeningsPass, OpeningsSettle};
 ghost use Rattle.lsm_files.specs.Foreign.{ForeignNamesSpare, AtRest};
 
 use lsm_manifest::{
@@ -48,6 +48,13 @@ pub fn opening_stores<S: Store>(store: &S)
 /// An opening that is answered leaves names that are none of a tree's as they are.
 pub fn openings_pass<S: Store>(_: &S)
     ensures { OpeningsPass S S.world }
+{
+    names_are_apart();
+}
+
+/// Behind an opening that is answered what was read of them is on the disk.
+pub fn openings_settle<S: Store>(_: &S)
+    ensures { OpeningsSettle S S.world }
 {
     names_are_apart();
 }

@@ -1,7 +1,7 @@
 -- Records that are read, and those below them.
 use Rattle.std.proofs.Common.{◌≡◌, ◌⊎◌, ⊎_elim, ℕ, zero, suc, ◌+◌, ◌<◌, ◌≤◌, List, [], ◌∷◌, ◌++◌, length, take, drop, get_or, map, ap, sym, subst, ◌∙◌, arith}
 use Rattle.std.specs.Prelude.{◌↔◌, Contains}
-use Rattle.std.specs.List.{All, AllByRecursion}
+use Rattle.std.specs.List.{All}
 use Rattle.std.specs.List.Sorted.{IsStrictlyIncreasing}
 use Rattle.std.proofs.lemmas.List.{take-append-drop, get_or-take, get_or-drop, get_or_default, length-take, length-drop, map-append, take_more}
 use Rattle.std.proofs.lemmas.List.Elements.{All-contains, Contains-append_left, Contains-append_right, Contains-append_cases}
@@ -10,7 +10,7 @@ use Rattle.lsm_below.specs.Each.{each_append}
 use Rattle.lsm_store.specs.World.{Image, World, Same}
 use Rattle.lsm_store.specs.Moments.{image_same}
 use Rattle.lsm_log.specs.declared.record.Record.{Record}
-use Rattle.lsm_log.specs.Logs.{IsThere, AreNumbers, IsRecordAt, IsLogFrom}
+use Rattle.lsm_log.specs.Logs.{IsThere, AreNumbers, IsRecordAt, HasEach, IsLogAt}
 
 -- ---- parts of numbers that rise
 
@@ -67,16 +67,22 @@ module _ (image : Image) (from at : ℕ) (ns : List ℕ) (are : AreNumbers image
     λ h. ⊎_elim (λ front. let lt : k < from = All-contains (λ x. x < from) (take at ns) k before front in absurd (omega (arith, lt, h.1))) (λ back. back) (either k h.0),
   )
 
-  pub log_is : (passed : List ℕ) (records : List Record) → passed ≡ take at ns → map (λ (r : Record). r.number) records ≡ drop at ns → AllByRecursion (λ (r : Record). IsRecordAt image r.number r) records → IsLogFrom image from passed records
-  log_is passed records front back each = record {
-    numbers = ns;
-    are = are;
-    passed_are = λ k. subst (λ l. Contains l k ↔ (IsThere image k × (k < from))) (sym front) (passed_are k);
-    read_are = λ k. subst (λ l. Contains l k ↔ (IsThere image k × (from ≤ k))) (sym back) (read_are k);
-    passed_rise = subst IsStrictlyIncreasing (sym front) (rise_take at ns are.rise);
-    read_rise = subst IsStrictlyIncreasing (sym back) (rise_drop at ns are.rise);
-    records_are = each;
-  }
+  pub log_is : (passed numbers : List ℕ) → passed ≡ take at ns → numbers ≡ drop at ns → HasEach image numbers → IsLogAt image from passed numbers
+  log_is passed numbers front back each =
+      let named = each.named ∙ back in
+      record {
+        records = each.records;
+        named = each.named;
+        log = record {
+          numbers = ns;
+          are = are;
+          passed_are = λ k. subst (λ l. Contains l k ↔ (IsThere image k × (k < from))) (sym front) (passed_are k);
+          read_are = λ k. subst (λ l. Contains l k ↔ (IsThere image k × (from ≤ k))) (sym named) (read_are k);
+          passed_rise = subst IsStrictlyIncreasing (sym front) (rise_take at ns are.rise);
+          read_rise = subst IsStrictlyIncreasing (sym named) (rise_drop at ns are.rise);
+          records_are = each.records_are;
+        };
+      }
 
 -- ---- reads one after the other
 
@@ -84,9 +90,14 @@ module _ (image : Image) (from at : ℕ) (ns : List ℕ) (are : AreNumbers image
 pub gives_same : (old mid : World) → Same old mid → mid.gives ≡ old.gives
 gives_same old mid same = image_same old.gives mid.gives same.gives
 
-pub each_push : (image : Image) (rs : List Record) (r : Record) → AllByRecursion (λ (x : Record). IsRecordAt image x.number x) rs → IsRecordAt image r.number r → AllByRecursion (λ (x : Record). IsRecordAt image x.number x) (rs ++ r ∷ [])
-each_push image rs r so_far here = each_append (λ (x : Record). IsRecordAt image x.number x) rs (r ∷ []) so_far (here, tt)
+pub numbers_push : (rs : List Record) (r : Record) (ns : List ℕ) (i : ℕ) → map (λ (x : Record). x.number) rs ≡ take i ns → i < length ns → r.number ≡ get_or ns i 0 → map (λ (x : Record). x.number) (rs ++ r ∷ []) ≡ take (i + 1) ns
+numbers_push rs r ns i so_far lt same =
+    map-append (λ (x : Record). x.number) rs (r ∷ []) ∙ ap (λ l. l ++ r.number ∷ []) so_far ∙ ap (λ x. take i ns ++ x ∷ []) same ∙ sym (take_more ns i 0 lt)
 
-pub numbers_push : (rs : List Record) (r : Record) (ns : List ℕ) (i : ℕ) (n : ℕ) → map (λ (x : Record). x.number) rs ≡ take i ns → i < length ns → n ≡ get_or ns i 0 → r.number ≡ n → map (λ (x : Record). x.number) (rs ++ r ∷ []) ≡ take (i + 1) ns
-numbers_push rs r ns i n so_far lt is same =
-    map-append (λ (x : Record). x.number) rs (r ∷ []) ∙ ap (λ l. l ++ r.number ∷ []) so_far ∙ ap (λ x. take i ns ++ x ∷ []) (same ∙ is) ∙ sym (take_more ns i 0 lt)
+-- one more number has its record
+pub each_more : (image : Image) (ns : List ℕ) (i : ℕ) (r : Record) → HasEach image (take i ns) → i < length ns → IsRecordAt image (get_or ns i 0) r → HasEach image (take (i + 1) ns)
+each_more image ns i r so_far lt at = record {
+  records = so_far.records ++ r ∷ [];
+  named = numbers_push so_far.records r ns i so_far.named lt at.number_is;
+  records_are = each_append (λ (x : Record). IsRecordAt image x.number x) so_far.records (r ∷ []) so_far.records_are (subst (λ (n : ℕ). IsRecordAt image n r) (sym at.number_is) at, tt);
+}

@@ -52,6 +52,18 @@ pub record IsLogFrom (image : Image) (from : ℕ) (passed : List ℕ) (records :
   pub read_rise : IsStrictlyIncreasing (map (λ r. r.number) records)
   pub records_are : AllByRecursion (λ r. IsRecordAt image r.number r) records
 
+-- each of these numbers has its record, in their order
+pub record HasEach (image : Image) (numbers : List ℕ) : Type 0 where
+  pub records : List Record
+  pub named : map (λ r. r.number) records ≡ numbers
+  pub records_are : AllByRecursion (λ r. IsRecordAt image r.number r) records
+
+-- which numbers of records stand below a number, and which from it on, each with its record
+pub record IsLogAt (image : Image) (from : ℕ) (passed numbers : List ℕ) : Type 0 where
+  pub records : List Record
+  pub named : map (λ r. r.number) records ≡ numbers
+  pub log : IsLogFrom image from passed records
+
 -- why a log isn't read: a refused name, or a record that is none
 abbrev pub IsBadLog : Image → ℕ → Type 0
 IsBadLog image from = HasBadName image ⊎ ((k : ℕ) × IsThere image k × (from ≤ k) × IsNoRecordAt image k)

@@ -23,8 +23,8 @@ mod removing;
 mod writing;
 
 pub use kinds::LogName;
-pub use loading::read_log;
-pub use log::Log;
+pub use loading::{check_log, first_from, read_record};
+pub use log::LogNumbers;
 pub use names::{RecordName, record_name};
 pub use putting::put_record;
 pub use reading::{decode, no_record_begins_another};

@@ -1,13 +1,12 @@
-// What is read of a log.
+// Which records a log has.
 
-use crate::Record;
 use lsm_below::SeqNo;
 
-/// What is read of a log from a number on.
+/// The numbers of a log's records, below a number and from it on.
 #[derive(Drop)]
-pub struct Log {
+pub struct LogNumbers {
     /// The numbers of the records below it, rising. They aren't read.
     pub passed: Vec<SeqNo>,
-    /// The records from it on, by rising number.
-    pub records: Vec<Record>,
+    /// The numbers of the records from it on, rising. Each was read.
+    pub numbers: Vec<SeqNo>,
 }

@@ -1,7 +1,7 @@
 // Records that are put, read and removed, and what a crash leaves of them.
 
 use lsm_below::Error;
-use lsm_log::{Log, put_record, read_log, record_name, remove_below};
+use lsm_log::{LogNumbers, check_log, put_record, read_record, record_name, remove_below};
 use lsm_store::{Fault, MemStore, Pick, Store};
 use std::alloc::{AllocError, Global};
 use std::test::Fail;
@@ -25,17 +25,9 @@ fn store_of(alloc: Global) -> Result<MemStore, Error> {
     }
 }
 
-/// Whether a log was read as these numbers below, and the numbers of these records.
-fn is_log(log: &Log, passed: &[u64], numbers: &[u64]) -> bool {
-    if log.passed.as_slice() != passed || log.records.len() != numbers.len() {
-        return false;
-    }
-    for i in 0..log.records.len() {
-        if i < numbers.len() && log.records[i].number != numbers[i] {
-            return false;
-        }
-    }
-    true
+/// Whether a log has these numbers below, and these from there on.
+fn is_log(log: &LogNumbers, passed: &[u64], numbers: &[u64]) -> bool {
+    log.passed.as_slice() == passed && log.numbers.as_slice() == numbers
 }
 
 #[test]
@@ -46,13 +38,27 @@ fn names_are_spelled(rt: HostRuntime) -> Result<(), Fail> {
 }
 
 #[test]
-fn records_are_read_from_a_number_on(rt: HostRuntime) -> Result<(), Fail> {
+fn logs_are_checked_from_a_number_on(rt: HostRuntime) -> Result<(), Fail> {
     let mut store = store_of(rt.alloc())?;
-    let log = read_log(rt.alloc(), &mut store, 2)?;
+    let log = check_log(rt.alloc(), &mut store, 2)?;
     let well = is_log(&log, &[0], &[2, 10]);
     drop(log);
     drop(store);
     assert!(rt; well);
+    Ok(())
+}
+
+/// One record is read by its number; where none is there, it is refused.
+#[test]
+fn records_are_read_by_number(rt: HostRuntime) -> Result<(), Fail> {
+    let mut store = store_of(rt.alloc())?;
+    let there = read_record(rt.alloc(), &mut store, 2)?.number == 2;
+    let absent = match read_record(rt.alloc(), &mut store, 3) {
+        Err(Error::Unrecoverable) => true,
+        _ => false,
+    };
+    drop(store);
+    assert!(rt; there && absent);
     Ok(())
 }
 
@@ -61,10 +67,10 @@ fn records_are_read_from_a_number_on(rt: HostRuntime) -> Result<(), Fail> {
 fn bad_records_are_refused(rt: HostRuntime) -> Result<(), Fail> {
     let mut store = store_of(rt.alloc())?;
     put_record(&mut store, 0, b"no record")?;
-    let unread = read_log(rt.alloc(), &mut store, 1).is_ok();
-    let bad = read_log(rt.alloc(), &mut store, 0).is_err();
+    let unread = check_log(rt.alloc(), &mut store, 1).is_ok();
+    let bad = check_log(rt.alloc(), &mut store, 0).is_err();
     put_record(&mut store, 0, &record(1))?;
-    let other = read_log(rt.alloc(), &mut store, 0).is_err();
+    let other = check_log(rt.alloc(), &mut store, 0).is_err();
     drop(store);
     assert!(rt; unread && bad && other);
     Ok(())
@@ -75,7 +81,7 @@ fn other_names_are_refused(rt: HostRuntime) -> Result<(), Fail> {
     for name in ["log/05", "log/", "log/9223372036854775808", "log/a"] {
         let mut store = MemStore::new(rt.alloc());
         let put = store.replace(name, b"").is_ok();
-        let refused = match read_log(rt.alloc(), &mut store, 0) {
+        let refused = match check_log(rt.alloc(), &mut store, 0) {
             Err(Error::Unrecoverable) => true,
             _ => false,
         };
@@ -89,7 +95,7 @@ fn other_names_are_refused(rt: HostRuntime) -> Result<(), Fail> {
 fn records_below_are_removed(rt: HostRuntime) -> Result<(), Fail> {
     let mut store = store_of(rt.alloc())?;
     remove_below(&mut store, 10, &[0, 2, 10])?;
-    let log = read_log(rt.alloc(), &mut store, 0)?;
+    let log = check_log(rt.alloc(), &mut store, 0)?;
     let well = is_log(&log, &[], &[10]);
     drop(log);
     drop(store);
@@ -103,7 +109,7 @@ fn a_fault_stops_removals(rt: HostRuntime) -> Result<(), Fail> {
     let mut store = store_of(rt.alloc())?;
     store.fail(2, Fault::Once);
     let refused = remove_below(&mut store, 11, &[0, 2, 10]).is_err();
-    let log = read_log(rt.alloc(), &mut store, 0)?;
+    let log = check_log(rt.alloc(), &mut store, 0)?;
     let well = is_log(&log, &[], &[2, 10]);
     drop(log);
     drop(store);
@@ -118,7 +124,7 @@ fn a_record_may_be_put_again(rt: HostRuntime) -> Result<(), Fail> {
     store.fail(1, Fault::OnceNothing);
     let first = put_record(&mut store, 0, &record(0));
     let again = put_record(&mut store, 0, &record(0));
-    let log = read_log(rt.alloc(), &mut store, 0)?;
+    let log = check_log(rt.alloc(), &mut store, 0)?;
     let well = matches!(first, Err(Error::Store)) && again.is_ok() && is_log(&log, &[], &[0]);
     drop(log);
     drop(store);
@@ -135,7 +141,7 @@ fn left_of(alloc: Global, picks: &[(&str, Pick<'_>)]) -> Result<usize, Error> {
         _ => return Err(Error::Store),
     }
     match store.crash(picks)? {
-        Some(mut left) => Ok(read_log(alloc, &mut left, 0)?.records.len()),
+        Some(mut left) => Ok(check_log(alloc, &mut left, 0)?.numbers.len()),
         None => Err(Error::Store),
     }
 }

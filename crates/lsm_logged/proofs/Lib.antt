@@ -6,3 +6,4 @@ pub mod Reopening
 pub mod Removals
 pub mod Rising
 pub mod Reached
+pub mod Seen

@@ -5,7 +5,7 @@ ghost use Rattle.lsm_store.specs.World.{Same};
 ghost use Rattle.lsm_logged.specs.Counting.{IsReadFrom, TellsLog, store_told};
 
 use lsm_below::{Error, SeqNo};
-use lsm_log::read_log;
+use lsm_log::check_log;
 use lsm_state::TreeState;
 use lsm_store::Store;
 use std::alloc::Global;
@@ -52,7 +52,7 @@ pub fn has_log<S: Store>(alloc: Global, store: S) -> Result<(bool, S), (Error, S
     ensures same { S.tells → Same (S.world store) (S.world (store_told result)) }
 {
     let mut store = store;
-    let log = match read_log(alloc, &mut store, u64::MAX) {
+    let log = match check_log(alloc, &mut store, u64::MAX) {
         Ok(log) => log,
         Err(error) => return Err((error, store)),
     };

@@ -144,10 +144,11 @@ on_disk_from old mid new same n settled impossible c never may = settled impossi
 
 -- ---- after calls that add no image
 
-pub first_named_on : (old mid new : World) → Narrows old mid → IsPersisted 0 (file_of first_version) mid new → IsFirstNamed old new
-first_named_on old mid new narrows p = record {
+pub first_named_on : (old mid new : World) → Narrows old mid → ((n : List ℕ) → IsOnDisk old mid n) → IsPersisted 0 (file_of first_version) mid new → IsFirstNamed old new
+first_named_on old mid new narrows settled p = record {
   gives = λ n v d. p.rest.gives n v d ∙ narrows.gives n;
   may = λ n c v d may. narrows.may n c ((p.rest.may n c v d).0 may);
+  on_disk = λ n v d impossible c never may. settled n impossible c never ((p.rest.may n c v d).0 may);
   current = p.current;
   version = p.version;
 }

@@ -117,16 +117,16 @@ module _ (first mid new : World) (f : Found) (only : Only first) (looks : IsFoun
   opens_in (Ok o) false found done is there = subst (λ (p : Opened). OpensFiles first.gives (Ok p)) (sym is) (f.ids.items, found)
   opens_in (Err e) false found done is there = not_opened first.gives e done.only
 
-  new_in : (r : Result Opened OpenError) (b : Bool) → FindsIn b first.gives f → FinishesIn b f mid new r → IfOk r (λ o. o ≡ f.opened) → NoFault r → first.gives current_name ≡ None → OpensNew first new r
-  new_in r false found done is clean absent = absurd (some_not_none _ (named_there first.gives f.opened.version.id found.layout found.named) absent)
-  new_in (Ok o) true finds done is clean absent =
+  new_in : (r : Result Opened OpenError) (b : Bool) → FindsIn b first.gives f → FinishesIn b f mid new r → OnOk r ((n : List ℕ) → IsOnDisk first mid n) → IfOk r (λ o. o ≡ f.opened) → NoFault r → first.gives current_name ≡ None → OpensNew first new r
+  new_in r false found done settled is clean absent = absurd (some_not_none _ (named_there first.gives f.opened.version.id found.layout found.named) absent)
+  new_in (Ok o) true finds done settled is clean absent =
       let fin = done (ap (λ (p : Opened). p.version) finds.1) in
       let same = is ∙ finds.1 in
-      record { version = ap (λ (p : Opened). p.version) same; next = ap (λ (p : Opened). p.next_table_id) same; persisted = first_named_on first mid new narrows fin.persisted; names = fin.names }
-  new_in (Err opening.OutOfMemory) true finds done is clean absent = tt
-  new_in (Err opening.Store) true finds done is clean absent = tt
-  new_in (Err opening.CommitUnknown) true finds done is clean absent = tt
-  new_in (Err (opening.Fault g)) true finds done is clean absent = absurd clean
+      record { version = ap (λ (p : Opened). p.version) same; next = ap (λ (p : Opened). p.next_table_id) same; persisted = first_named_on first mid new narrows settled fin.persisted; names = fin.names }
+  new_in (Err opening.OutOfMemory) true finds done settled is clean absent = tt
+  new_in (Err opening.Store) true finds done settled is clean absent = tt
+  new_in (Err opening.CommitUnknown) true finds done settled is clean absent = tt
+  new_in (Err (opening.Fault g)) true finds done settled is clean absent = absurd clean
 
   removes_in : ((n : List ℕ) → mid.may n (mid.gives n)) → (r : Result Opened OpenError) (b : Bool) → FindsIn b first.gives f → FinishesIn b f mid new r → OnOk r ((n : List ℕ) → IsOnDisk first mid n) → (id : ℕ) (ls : Levels) → IsNamed first.gives id ls → OnOk r (Removes (is_orphan id (ids_of ls)) first new)
   removes_in one (Err e) b finds done settled id ls named = tt
@@ -158,7 +158,7 @@ module _ (first mid new : World) (f : Found) (only : Only first) (looks : IsFoun
         opens = λ none there. opens_in r f.is_new finds done is there;
         from = λ there. IfOk-weaker r (λ o. o ≡ f.opened) (λ o. ReadsFrom first.gives o.version) (λ o same. subst (λ (x : Opened). ReadsFrom first.gives x.version) (sym same) (from there)) is;
         takes = λ id ls ts stands small. stands_opens once first.gives id ls ts r stands small (opens_in r f.is_new finds done is (named_there first.gives id ls stands.named));
-        fresh = λ none absent. new_in r f.is_new finds done is clean absent;
+        fresh = λ none absent. new_in r f.is_new finds done settled is clean absent;
         removes = removes_in one r f.is_new finds done settled;
         settles = λ there. settles_in r f.is_new finds done settled there;
         keeps = keeps_in r clean;

@@ -3,12 +3,13 @@ use Rattle.std.proofs.Common.{◌≡◌, ◌⊎◌, ⊎_elim, inl, inr, ℕ, ◌
 use Rattle.lsm_below.specs.Keys.{Bytes}
 use Rattle.lsm_below.specs.declared.error.Error.{Error}
 use Rattle.lsm_below.specs.declared.error.Error.TheVariants.{OutOfMemory, Store, CommitUnknown}
-use Rattle.lsm_store.specs.World.{World, Same, LeavesOnly}
+use Rattle.lsm_store.specs.World.{Image, World, IsImage, Same, LeavesOnly}
+use Rattle.lsm_store.specs.Moments.{started, rests}
 use Rattle.lsm_model.specs.Ops.{op_entries}
 use Rattle.lsm_model.specs.declared.op.Op.{Op}
 use Rattle.lsm_memtable.specs.Memtables.{SeenMemtable}
 use Rattle.lsm_files.specs.Stored.{CountsFaults}
-use Rattle.lsm_files.specs.Foreign.{Spares}
+use Rattle.lsm_files.specs.Foreign.{Spares, KeepsOwn, ChangesForeign}
 use Rattle.lsm_log.specs.Changes.{PutsRecord, IsPut}
 use Rattle.lsm_state.specs.Held.{put_all_first}
 use Rattle.lsm_state.specs.Core.{Core, versions_left, written_of, written_by, written_all, drawn_core}
@@ -24,6 +25,13 @@ pub put_upholds : (w w' : World) (old new : Core) → Spares w w' → new.histor
 put_upholds w w' old new spares history lost flush stored =
     let s = spares (versions_left old) (written_of old) stored in
     upheld w w' old new (versions_left old) (written_of old) (versions_left old) (ap (λ h. h.latest.version ∷ option_to_list new.lost) history ∙ ap (λ o. old.history.latest.version ∷ option_to_list o) lost) (ap written_by flush) s.0 s.1 (among_left (versions_left old) (versions_left old))
+
+-- a call without effect changes no name, so none but a foreign one
+pub same_changes : (old new : World) → ((image : Image) → old.since old.moment image → IsImage old.may image) → Same old new → ChangesForeign old new
+same_changes old new only same = record {
+  may = λ n c own may. (same.may n c).0 may;
+  leaves = rests old old new (KeepsOwn old) (started old (KeepsOwn old) (λ image left n own. only image left n)) same;
+}
 
 -- ---- what is answered
 

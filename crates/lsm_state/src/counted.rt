@@ -8,6 +8,8 @@ ghost use Rattle.lsm_tables.specs.Tables.{tombstones, weak_tombstones, reclaimab
 ghost use Rattle.lsm_memtable.specs.Memtables.{highest_of};
 ghost use Rattle.lsm_versions.specs.Levels.{bytes_of};
 ghost use Rattle.lsm_parts.specs.History.{named_size};
+ghost use Rattle.lsm_state.specs.Held.{HasFirst};
+ghost use Rattle.lsm_state.specs.WholeFlushes.{sealed_bytes};
 ghost use Rattle.lsm_state.specs.Counts.{tables_now, persisted_of, unflushed_of, counted_now};
 
 use crate::TreeState;
@@ -107,6 +109,15 @@ impl<S: Store> TreeState<S> {
         ensures { result ≡ named_size self.now.core.history self.now.core.memtables }
     {
         self.memtables.size_sum(&self.history)
+    }
+
+    /// The bytes that the active memtable and the sealed ones of the latest super version count: of each accepted insert those
+    /// of its key and value, and 48. The cost is linear in the sealed memtables, each of which is found by bisection.
+    pub fn unflushed_size(&self) -> u64
+        ensures { HasFirst self.now.core.memtables (λ m. result ≡ capped (sealed_bytes self.now.core + m.size)) }
+    {
+        self.sealed_size()
+            .saturating_add(self.active_memtable().size())
     }
 
     /// The greatest sequence number in the latest version's tables: None where there is no table.

@@ -16,7 +16,7 @@ use lsm_store::Store;
 
 impl<S: Store> TreeState<S> {
     /// The bytes that the sealed memtables of the latest super version count, up to 2^64 - 1.
-    fn sealed_size(&self) -> u64
+    pub(crate) fn sealed_size(&self) -> u64
         ensures { result ≡ sealed_bytes self.now.core }
     {
         let sealed = &self.history.latest_version().sealed_memtables;

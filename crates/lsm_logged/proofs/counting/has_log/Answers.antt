@@ -8,5 +8,6 @@ pub returns-clause-tells : goal.returns-clause-tells
 returns-clause-tells g c tells =
     let old = g.S.Store.world c.args.store in
     let from = c.in_ok-from.from in
-    let read = read_as old (g.S.Store.world c.read_log.new.store) from (c.read_log.ensures.same tells) (c.in_ok-from.ensures.from tells) in
-    reached old.gives c.in-Ok.log.passed.items c.in-Ok.log.records.items (c.in-Ok.ensures.read tells) from c.reaches.result read (c.reaches.ensures ∙ ap (list_any (λ k. nat_le from k)) c.deref.ensures.value)
+    let read = read_as old (g.S.Store.world c.check_log.new.store) from (c.check_log.ensures.same tells) (c.in_ok-from.ensures.from tells) in
+    let log = c.in-Ok.ensures.read tells in
+    reached old.gives c.in-Ok.log.passed.items log.records log.log from c.reaches.result read (c.reaches.ensures ∙ ap (list_any (λ k. nat_le from k)) c.deref.ensures.value)

@@ -1,15 +1,14 @@
-use Rattle.std.proofs.Common.{◌≡◌, ◌∙◌, ℕ, map, get_or, Err, refl, sym, ap, subst, rules}
-use Rattle.std.specs.List.{AllByRecursion}
+use Rattle.std.proofs.Common.{◌≡◌, get_or, Err, ap, subst, rules}
+use Rattle.std.proofs.lemmas.List.{take_all}
 use Rattle.std.proofs.lemmas.Result.{err_from_is_err_and}
 use Rattle.std.proofs.lemmas.List.Elements.{Contains-get_or}
 use Rattle.lsm_below.specs.declared.error.Error.{Error}
 use Rattle.lsm_below.specs.declared.error.Error.TheVariants.{Unrecoverable}
 use Rattle.lsm_store.specs.World.{Image}
 use Rattle.lsm_store.specs.Moments.{same_then}
-use Rattle.lsm_log.specs.declared.record.Record.{Record}
-use Rattle.lsm_log.specs.Logs.{IsRecordAt, IsNoRecordAt}
-use Rattle.lsm_log.proofs.Loaded.{gives_same, each_push, numbers_push}
-use Rattle.lsm_log.proofs.loading.read_each.Goals as goal
+use Rattle.lsm_log.specs.Logs.{IsRecordAt, IsNoRecordAt, HasEach}
+use Rattle.lsm_log.proofs.Loaded.{gives_same, each_more}
+use Rattle.lsm_log.proofs.loading.check_each.Goals as goal
 
 pub returns-in_err-record-clause-bad : goal.returns-in_err-record-clause-bad
 returns-in_err-record-clause-bad g c tells told =
@@ -27,19 +26,20 @@ pub loop-number-preserved : goal.loop-number-preserved
 loop-number-preserved g c =
     let w = g.S.Store.world in
     let i = c.loop-number.number-index in
-    let rs = c.loop-number.records.items in
     let r = c.in_ok-record.record in
     let so_far = c.loop-number.invariant in
     let old = w c.args.store.now in
     let mid = w c.loop-number.store in
     let did = c.in_ok-record.ensures in
-    let items = c.in_ok-push.ensures.items in
     record {
-      numbers = ap (map (λ (x : Record). x.number)) items ∙ numbers_push rs r c.args.numbers.now i (get_or c.args.numbers.now i 0) so_far.numbers c.loop-number-test.true refl did.number;
-      read = λ tells.
-          let gives = gives_same old mid (so_far.same tells) in
-          let here : IsRecordAt old.gives r.number r = subst (λ (n : ℕ). IsRecordAt old.gives n r) (sym did.number) (subst (λ (image : Image). IsRecordAt image (get_or c.args.numbers.now i 0) r) gives (did.read tells)) in
-          subst (AllByRecursion (λ (x : Record). IsRecordAt old.gives x.number x)) (sym items) (each_push old.gives rs r (so_far.read tells) here);
+      read = λ tells. each_more old.gives c.args.numbers.now i r (so_far.read tells) c.loop-number-test.true
+          (subst (λ (image : Image). IsRecordAt image (get_or c.args.numbers.now i 0) r) (gives_same old mid (so_far.same tells)) (did.read tells));
       same = λ tells. same_then old mid (w c.read_record.new.store) (so_far.same tells) (did.same tells);
       failures = search rules;
     }
+
+pub returns-clause-read : goal.returns-clause-read
+returns-clause-read g c tells =
+    let w = g.S.Store.world in
+    let ns = c.args.numbers.now in
+    subst (HasEach (w c.args.store.now).gives) (take_all c.loop-number.number-index ns c.loop-number-test.false) (c.loop-number.invariant.read tells)
