@@ -5,5 +5,6 @@ pub mod Replaying
 pub mod Reopening
 pub mod Removals
 pub mod Rising
+pub mod Reached
 pub mod Seen
 pub mod Settling

@@ -4,3 +4,4 @@ pub mod Removing
 pub mod Flushing
 pub mod Opening
 pub mod Asking
+pub mod Counting
