@@ -6,5 +6,13 @@ pub mod Reopening
 pub mod Removals
 pub mod Rising
 pub mod Reached
+pub mod Left
+pub mod Led
+pub mod ClearActs
+pub mod CommitActs
+pub mod FlushActs
+pub mod RegisterActs
+pub mod RotateActs
+pub mod Compacted
 pub mod Seen
 pub mod Settling

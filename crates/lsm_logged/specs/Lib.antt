@@ -5,3 +5,4 @@ pub mod Flushing
 pub mod Opening
 pub mod Asking
 pub mod Counting
+pub mod Acting
