@@ -131,8 +131,8 @@ impl<S: Store> Logged<S> {
     ///
     /// As `TreeState::open_raised`, and `Unrecoverable` where another name in the folder `log` isn't a number below 2^63 in plain
     /// decimal, or a record from `log_from` on is damaged: then nothing is removed. `Store` where the store failed, also behind
-    /// the replay: then some old records may be removed. Where a store reads a record otherwise the second time, `Unrecoverable`
-    /// too, behind the opening of the tree's files.
+    /// the replay: then some old records may be removed. A store that reads otherwise when a record is read again is
+    /// `Unrecoverable` too: then the tree's files are opened, and no record is removed.
     pub fn open(alloc: Global, config: Config, store: S) -> Result<Logged<S>, (Error, S)>
         ensures opens { IfOk result (OpensLogged S.tells S.world store config) }
         ensures bad { S.tells → IfErr result (λ e. ToldBad (S.world store) (S.world e.1) e.0) }
