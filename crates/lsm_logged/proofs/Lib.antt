@@ -5,6 +5,7 @@ pub mod Replaying
 pub mod Reopening
 pub mod Removals
 pub mod Rising
+pub mod Reached
 pub mod Left
 pub mod Led
 pub mod ClearActs
@@ -17,3 +18,4 @@ pub mod Seen
 pub mod Merged
 pub mod FinishActs
 pub mod WholeActs
+pub mod Settling

@@ -1,5 +1,5 @@
 -- What opening makes of a store, and of the log in it.
-use Rattle.std.specs.Prelude.{◌≡◌, ◌⊎◌, ◌≤◌, ℕ, false, List, [], map, Option, None, Result, Ok, Err, IsSome, Contains}
+use Rattle.std.specs.Prelude.{◌≡◌, ◌⊎◌, ◌<◌, ◌≤◌, ◌^◌, ℕ, false, List, [], map, Option, None, Result, Ok, Err, IsSome, Contains}
 use Rattle.std.specs.List.{flat_map, AllByRecursion}
 use Rattle.lsm_below.specs.Entries.{Entry, above}
 use Rattle.lsm_below.specs.Sums.{capped}
@@ -79,10 +79,11 @@ pub record TakesLog (old new : World) (v : SeenVersion) (passed : List ℕ) (rec
   pub gone : (k : ℕ) → Contains passed k → new.gives (record_name k) ≡ None
   pub passed_on : Passed v.log_from old new
 
--- each record that counts, and each number from here on that has none, has one possible content, and so has each name that a log refuses
-pub record IsSettledLog (w : World) (from : ℕ) : Type 0 where
-  pub records : (k : ℕ) → from ≤ k → (c : Option (List ℕ)) → w.may (record_name k) c → c ≡ w.gives (record_name k)
-  pub refused : (n : List ℕ) → kind_of n ≡ Refused → (c : Option (List ℕ)) → w.may n c → c ≡ w.gives n
+-- of each record from here on, and of each name that a log refuses, not any bytes can be left: so opening can put on the disk what it
+-- reads of them. It is so behind a crash, and where a process that kept its log was killed (`logs_can_be_settled`)
+pub record CanBeSettled (w : World) (from : ℕ) : Type 0 where
+  pub records : (k : ℕ) → k < 2 ^ 63 → from ≤ k → (impossible : Option (List ℕ)) × ¬ w.may (record_name k) impossible
+  pub refused : (n : List ℕ) → kind_of n ≡ Refused → (impossible : Option (List ℕ)) × ¬ w.may n impossible
 
 -- as the theory sees it: the reopened tree of the image, whose records are in the store, and whose counter is above them
 pub record IsReopenedLog {S : Type 0} (image : LogImage) (t : SeenLogged S) (w : World) : Type 0 where
@@ -98,7 +99,7 @@ pub record OpensLogged {S : Type 0} (tells : Type 0) (world : S → World) (stor
   pub records : List Record
   pub replays : Replays config passed records t
   pub takes : tells → TakesLog (world store) (world t.store) (version_of t) passed records
-  pub reopens : tells → LogStands (image_read (version_of t) records) → IsSettledLog (world store) (version_of t).log_from → IsReopenedLog (image_read (version_of t) records) t (world t.store)
+  pub reopens : tells → LogStands (image_read (version_of t) records) → CanBeSettled (world store) (version_of t).log_from → IsReopenedLog (image_read (version_of t) records) t (world t.store)
   pub stored : tells → IsReady (world store) → IsStored (world t.store) (versions_left t.core) (written_of t.core)
 
 -- ---- what is refused

@@ -15,7 +15,7 @@ ghost use Rattle.lsm_logged.specs.Opening.{RefusesReplay, RefusesReplays, Replay
 
 use crate::Logged;
 use lsm_below::{Error, SeqNo, plain_numbers_are_read};
-use lsm_files::{crashes_leave_versions, openings_pass};
+use lsm_files::{crashes_leave_versions, openings_pass, openings_settle};
 use lsm_log::{LogNumbers, Record};
 use lsm_log_model::{counter_stays_above, replays_reopen};
 use lsm_parts::{Config, LIMIT};
@@ -131,14 +131,15 @@ impl<S: Store> Logged<S> {
     ///
     /// As `TreeState::open_raised`, and `Unrecoverable` where another name in the folder `log` isn't a number below 2^63 in plain
     /// decimal, or a record from `log_from` on is damaged: then nothing is removed. `Store` where the store failed, also behind
-    /// the replay: then some old records may be removed. Where a store reads a record otherwise the second time, `Unrecoverable`
-    /// too, behind the opening of the tree's files.
+    /// the replay: then some old records may be removed. A store that reads otherwise when a record is read again is
+    /// `Unrecoverable` too: then the tree's files are opened, and no record is removed.
     pub fn open(alloc: Global, config: Config, store: S) -> Result<Logged<S>, (Error, S)>
         ensures opens { IfOk result (OpensLogged S.tells S.world store config) }
         ensures bad { S.tells → IfErr result (λ e. ToldBad (S.world store) (S.world e.1) e.0) }
     {
         plain_numbers_are_read();
         openings_pass(&store);
+        openings_settle(&store);
         opened_trees_are_fresh();
         replays_reopen();
         counter_stays_above();

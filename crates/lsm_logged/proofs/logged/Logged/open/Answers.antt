@@ -16,10 +16,10 @@ use Rattle.lsm_log.specs.Changes.{IsBelow, ClearsRecords, AreCleared}
 use Rattle.lsm_log.proofs.Loaded.{gives_same}
 use Rattle.lsm_log_model.specs.Records.{LogStands}
 use Rattle.lsm_logged.specs.Keeping.{AreRecordNumbers}
-use Rattle.lsm_logged.specs.Opening.{image_read, TakesLog, IsSettledLog, IsReopenedLog}
+use Rattle.lsm_logged.specs.Opening.{image_read, TakesLog, CanBeSettled, IsReopenedLog}
 use Rattle.lsm_logged.proofs.LogNames.{record_is_foreign}
 use Rattle.lsm_logged.proofs.Replaying.{log_read, none_lacks}
-use Rattle.lsm_logged.proofs.Reopening.{looks_on, numbered_more, whole, version, high, replays, takes, reopens}
+use Rattle.lsm_logged.proofs.Reopening.{looks_on, is_read_in, numbered_more, whole, version, high, replays, takes, reopens}
 use Rattle.lsm_logged.proofs.logged.Logged.open.Goals as goal
 
 pub returns-in-Err-clause-bad : goal.returns-in-Err-clause-bad
@@ -96,8 +96,9 @@ returns-in-Ok-take_log-clause-opens g c =
       takes = λ tells. subst (λ u. TakesLog (w store) (w new) u passed records) (sym ver) (takes (w store) (w mid) (w new) v passed records (log tells) (passes tells) (clears tells) (looks tells).from
           (subst (λ n. (k : ℕ) → Contains passed k → k < n → (w new).gives (record_name k) ≡ None) from (c.in-Ok-take_log.ensures.gone tells))
           (subst (λ n. LeavesOnly (w mid) (w new) (AreCleared (IsBelow n) (w mid))) from (c.in-Ok-take_log.ensures.any_moment tells)));
-      reopens = λ tells. subst (λ u. LogStands (image_read u records) → IsSettledLog (w store) u.log_from → IsReopenedLog (image_read u records) (record { store = new; core = core; numbers = numbers; doubted = false }) (w new)) (sym ver)
-          (λ stands settled. reopens c.opened_trees_are_fresh.ensures c.replays_reopen.ensures c.counter_stays_above.ensures cfg v id passed records core (whole c.args.config cfg v id next passed numbers records before core made is take) (omega (arith, le)) below.below
-          (λ k there. (((log tells).read_are k).0 there).1) stands (w store) (w mid) (w new) (log tells) (passes tells) (clears tells) c.plain_numbers_are_read.ensures settled new numbers);
+      reopens = λ tells. subst (λ u. LogStands (image_read u records) → CanBeSettled (w store) u.log_from → IsReopenedLog (image_read u records) (record { store = new; core = core; numbers = numbers; doubted = false }) (w new)) (sym ver)
+          (λ stands can. reopens c.opened_trees_are_fresh.ensures c.replays_reopen.ensures c.counter_stays_above.ensures cfg v id passed records core (whole c.args.config cfg v id next passed numbers records before core made is take) (omega (arith, le)) below.below
+          (λ k there. (((log tells).read_are k).0 there).1) stands (w store) (w mid) (w new) (log tells) (passes tells) (clears tells) c.plain_numbers_are_read.ensures
+          (is_read_in (w store) (w mid) v.log_from (c.openings_settle.ensures store mid _ (c.in_ok-tree.ensures.opens tells store (looks tells))) can) new numbers);
       stored = λ tells ready. (c.in-Ok-take_log.ensures.upholds tells (c.in_ok-tree.ensures.stored tells store (looks tells) ready)).0;
     }
