@@ -1,9 +1,9 @@
 -- What a compaction did to a tree, as acts of the theory.
-use Rattle.std.proofs.Common.{◌≡◌, ◌⊎◌, ⊎_elim, inl, inr, ℕ, ◌+◌, ◌<◌, ◌≤◌, ◌^◌, max, true, false, List, [], ◌∷◌, ◌++◌, Option, Some, None, IsSome, Result, Ok, Err, IfOk, IfErr, OnOk, IsErrOf, refl, sym, ap, ◌∙◌, subst, arith}
+use Rattle.std.proofs.Common.{◌≡◌, ◌⊎◌, ⊎_elim, inl, inr, ℕ, ◌+◌, ◌<◌, ◌≤◌, ◌^◌, max, true, false, List, [], ◌∷◌, ◌++◌, Option, Some, None, IsSome, Result, Ok, Err, IfOk, IfErr, IsErrOf, refl, sym, ap, ◌∙◌, subst, arith}
 use Rattle.lsm_below.specs.Entries.{Entry}
 use Rattle.lsm_below.specs.Numbers.{PlainNumbersAreRead}
 use Rattle.lsm_below.specs.declared.error.Error.{Error}
-use Rattle.lsm_below.specs.declared.error.Error.TheVariants.{OutOfMemory, Store, CommitUnknown, Unrecoverable, OutOfNumbers, TooManyRuns, AfterCommit}
+use Rattle.lsm_below.specs.declared.error.Error.TheVariants.{OutOfMemory, CommitUnknown, Unrecoverable, AfterCommit}
 use Rattle.lsm_choices.specs.declared.choice.Why.{Why}
 use Rattle.lsm_pick.specs.declared.choice.ChooseError.{ChooseError}
 use Rattle.lsm_pick.specs.declared.choice.ChooseError.TheVariants.{OutOfMemory as NoMemory, NotDisjoint as Several, Busy as InUse, Refused}
@@ -14,11 +14,10 @@ use Rattle.lsm_model.specs.Journal.{Event, Map}
 use Rattle.lsm_model.specs.Sound.{Holds}
 use Rattle.lsm_model.specs.Steps.{State, Action, Wrote, Rotated, Flushed, Merged, Moved, DroppedTables, Cleared, Marked, LostDrop, Asked, Maintained}
 use Rattle.lsm_model.specs.Beginnings.{Note, Saved, Done, Deeds}
-use Rattle.lsm_model.specs.declared.journal.JournalEntry.TheVariants.{Install, Mark}
+use Rattle.lsm_model.specs.declared.journal.JournalEntry.TheVariants.{Mark}
 use Rattle.lsm_versions.specs.Levels.{SeenVersion, placed_in}
 use Rattle.lsm_parts.specs.declared.version.super_version.SuperVersion.{SuperVersion}
 use Rattle.lsm_log_model.specs.Logs.{Logged as Log, MayBeDrawn, is_write, next_from, Did, did}
-use Rattle.lsm_log_model.proofs.Batches.{since_high}
 use Rattle.lsm_state.specs.declared.compaction.Options.{Options}
 use Rattle.lsm_state.specs.declared.compaction.Begun.{Begun}
 use Rattle.lsm_state.specs.declared.compaction.Begun.TheVariants.{Declined, Installed}
@@ -33,7 +32,7 @@ use Rattle.lsm_state.specs.CompactionDeeds.{AreLostTelling, IsChoiceDeed, IsLost
 use Rattle.lsm_logged.specs.Keeping.{SeenLogged, IsLogOf, KeepsLog}
 use Rattle.lsm_logged.specs.Removing.{log_from_of}
 use Rattle.lsm_logged.specs.Acting.{IsCompaction, told_by, told_installed, LeadsByCommit, LeadsByLost, LeadsByMark, ActsByCompaction, CompactsAct}
-use Rattle.lsm_logged.proofs.Led.{Lifted, is_install, first, stop, leads_passing}
+use Rattle.lsm_logged.proofs.Led.{is_install, first, stop, leads_passing}
 use Rattle.lsm_logged.proofs.CommitActs.{commit_leads, lost_leads}
 use Rattle.lsm_logged.proofs.Removals.{passes_on, none_behind}
 use Rattle.lsm_logged.proofs.Rising.{begins_choice}
@@ -203,13 +202,12 @@ module _ (choice : Choice) (o : Options) (r : Result Begun Error) (old new : Cor
 
   does_it : (r ≡ Ok Installed) ⊎ (IsErrOf r AfterCommit ⊎ IsErrOf r CommitUnknown) → (old.lost ≡ None) × Does choice o r old new
   does_it h =
-      let certain = was_certain (λ k. ⊎_elim (λ e. let z : Err Unrecoverable ≡ Ok Installed = sym k ∙ e in absurd (cc z)) (λ m. ⊎_elim (λ e. let z : Err Unrecoverable ≡ Err AfterCommit = sym k ∙ e in absurd (cc z)) (λ e. let z : Err Unrecoverable ≡ Err CommitUnknown = sym k ∙ e in absurd (cc z)) m) h) in
-      (
+      let certain = was_certain (λ k. ⊎_elim (λ e. let z : Err Unrecoverable ≡ Ok Installed = sym k ∙ e in absurd (cc z)) (λ m. ⊎_elim (λ e. let z : Err Unrecoverable ≡ Err AfterCommit = sym k ∙ e in absurd (cc z)) (λ e. let z : Err Unrecoverable ≡ Err CommitUnknown = sym k ∙ e in absurd (cc z)) m) h) in (
         certain,
         was_free certain (λ why k. ⊎_elim
-        (λ d. ⊎_elim (λ e. let z : Ok (Declined why) ≡ Ok Installed = sym d ∙ e in absurd (cc z)) (λ m. ⊎_elim (λ e. let z : Ok (Declined why) ≡ Err AfterCommit = sym d ∙ e in absurd (cc z)) (λ e. let z : Ok (Declined why) ≡ Err CommitUnknown = sym d ∙ e in absurd (cc z)) m) h)
-        (λ d. ⊎_elim (λ e. let z : Err OutOfMemory ≡ Ok Installed = sym d ∙ e in absurd (cc z)) (λ m. ⊎_elim (λ e. let z : Err OutOfMemory ≡ Err AfterCommit = sym d ∙ e in absurd (cc z)) (λ e. let z : Err OutOfMemory ≡ Err CommitUnknown = sym d ∙ e in absurd (cc z)) m) h)
-        k),
+            (λ d. ⊎_elim (λ e. let z : Ok (Declined why) ≡ Ok Installed = sym d ∙ e in absurd (cc z)) (λ m. ⊎_elim (λ e. let z : Ok (Declined why) ≡ Err AfterCommit = sym d ∙ e in absurd (cc z)) (λ e. let z : Ok (Declined why) ≡ Err CommitUnknown = sym d ∙ e in absurd (cc z)) m) h)
+            (λ d. ⊎_elim (λ e. let z : Err OutOfMemory ≡ Ok Installed = sym d ∙ e in absurd (cc z)) (λ m. ⊎_elim (λ e. let z : Err OutOfMemory ≡ Err AfterCommit = sym d ∙ e in absurd (cc z)) (λ e. let z : Err OutOfMemory ≡ Err CommitUnknown = sym d ∙ e in absurd (cc z)) m) h)
+            k),
       )
 
 installed_as : (w : ℕ) (action : Action) (old new : Core) → IsCompaction w action → old.lost ≡ None → AreDone w action (told_installed action old) [] old new → (v : SeenVersion) → v.log_from ≡ max (log_from_of old) 0 → (whole : _) → IsInstalled v w whole old new → Installs w old new
@@ -279,6 +277,7 @@ choice_outcome choice o (Err e) old new begins deeds = record {
   told = tt;
   refused = λ a u. marks choice o (Err e) old new begins deeds ((λ z. cc z), (λ z. a (err_is e AfterCommit z)), (λ z. u (err_is e CommitUnknown z))) (deeds.refused a u);
 }
+
 -- ---- where nothing is installed
 
 pub quiet_outcome : (w : ℕ) (r : Result Begun Error) (old new : Core) → IsFree r → StaysMarked w old new → Outcome w r old new

@@ -1,5 +1,5 @@
 -- The end of a merge of a logged tree is an act of the theory.
-use Rattle.std.proofs.Common.{◌≡◌, ◌⊎◌, ⊎_elim, inl, inr, ℕ, ◌+◌, ◌<◌, ◌≤◌, false, List, [], ◌∷◌, ◌++◌, Some, None, Result, Ok, Err, IsErrOf, refl, sym, ap, ◌∙◌, subst, arith}
+use Rattle.std.proofs.Common.{◌≡◌, ⊎_elim, false, List, [], ◌∷◌, ◌++◌, Some, None, Result, Ok, Err, IsErrOf, refl, sym, ap, ◌∙◌, subst, arith}
 use Rattle.lsm_below.specs.Entries.{Entry}
 use Rattle.lsm_below.specs.declared.error.Error.{Error}
 use Rattle.lsm_below.specs.declared.error.Error.TheVariants.{CommitUnknown, Unrecoverable, AfterCommit}
@@ -75,11 +75,10 @@ module _ {S : Type 0} (job : SeenCompaction) (w w' : World) (old new : SeenLogge
         let last = told_last opened t.tree.state action would refl d.1.step in
         let number : would.latest.number ≡ old.core.seqno = last_install journal last.0 old.core.seqno would.latest.number last.1 in
         let l = subst (λ c. Lifted opened t acts tree t.log_from t.log_from c ⊥) (sym i.counter) (unknown opened t old.core.seqno action would d.0 tree (certain i.certain) next number d.1 (sym d.2)) in
-        let counter = i.counter in
-        (
+        let counter = i.counter in (
           would,
           leads_passing opened journal notes t w w' old new is keeps commits.files doubt commits.passes journal notes acts t.log_from t.log_from ⊥ l (omega arith) (is.from ∙ sym i.from)
-          (λ v h. is.from ∙ sym i.version ∙ ap (λ (x : SeenVersion). x.log_from) (some_is i.v v (sym i.lost ∙ h))) (omega (arith, counter)),
+              (λ v h. is.from ∙ sym i.version ∙ ap (λ (x : SeenVersion). x.log_from) (some_is i.v v (sym i.lost ∙ h))) (omega (arith, counter)),
         )
       where
         some_is : (x y : SeenVersion) → Some x ≡ Some y → x ≡ y

@@ -1,5 +1,5 @@
 -- Deeds of a tree, as acts of a logged one, and how a call leads by them.
-use Rattle.std.proofs.Common.{◌≡◌, ◌⊎◌, ℕ, ◌+◌, ◌<◌, ◌≤◌, Bool, true, false, List, [], ◌∷◌, ◌++◌, Option, Some, None, option_to_list, map, refl, sym, ap, ◌∙◌, subst, arith, append_assoc}
+use Rattle.std.proofs.Common.{◌≡◌, ℕ, ◌+◌, ◌<◌, ◌≤◌, Bool, true, false, List, [], ◌∷◌, ◌++◌, Option, Some, None, option_to_list, map, refl, sym, ap, ◌∙◌, subst, arith, append_assoc}
 use Rattle.std.specs.Option.{is_some}
 use Rattle.std.specs.List.{AllByRecursion}
 use Rattle.std.proofs.lemmas.Grind.{fold-append}
@@ -13,8 +13,8 @@ use Rattle.lsm_model.specs.declared.journal.JournalEntry.TheVariants.{Install, D
 use Rattle.lsm_store.specs.World.{World}
 use Rattle.lsm_versions.specs.Levels.{SeenVersion, placed_of}
 use Rattle.lsm_files.specs.Foreign.{Passes}
-use Rattle.lsm_log_model.specs.Records.{Batch, since}
-use Rattle.lsm_log_model.specs.Logs.{Logged as Log, IsCertain, MayBeDrawn, is_write, next_from, did, doubted, Act, Did, CommitLost, Acts, AllActs}
+use Rattle.lsm_log_model.specs.Records.{since}
+use Rattle.lsm_log_model.specs.Logs.{Logged as Log, IsCertain, MayBeDrawn, is_write, next_from, did, doubted, Act, Did, CommitLost, AllActs}
 use Rattle.lsm_log_model.proofs.Batches.{since_each, since_high}
 use Rattle.lsm_state.specs.Core.{Core}
 use Rattle.lsm_state.specs.Deeds.{saved_of}
@@ -168,9 +168,9 @@ is_certain journal notes c doubted t is sure none = (
   ap (λ (s : Saved). s.others) is.tree ∙ ap (λ l. map (λ v. placed_of v.levels) (option_to_list l)) none,
   none_left t.lost (is.doubt ∙ sure),
 )
+
 module _ {S : Type 0} (opened : List Entry) (journal : List Event) (notes : List Note) (t : Log) (w w' : World) (old new : SeenLogged S)
     (is : IsLogOf journal notes old.core old.doubted t) (keeps : KeepsLog w t) (files : UpholdsFiles w w' old.core new.core) (doubt : new.doubted ≡ old.doubted) where
-
   pub leads : (journal' : List Event) (notes' : List Note) (acts : List Act) (f o : ℕ) (K : Type 0) (l : Lifted opened t acts (saved_of journal' notes' new.core) f o new.core.seqno K) → f ≡ log_from_of new.core → ((v : SeenVersion) → new.core.lost ≡ Some v → o ≡ v.log_from)
       → old.core.seqno ≤ new.core.seqno → StaysIn w w' old.core new.core t l.log → LeadsBy opened journal' notes' t acts w w' old new
   leads journal' notes' acts f o K l from other counter stays = record {

@@ -1,18 +1,16 @@
 -- What is left of a log in a store, behind a call that passes records or removes some.
 use Rattle.std.proofs.Common.{◌≡◌, ◌≢◌, ◌⊎◌, ⊎_elim, inl, inr, ℕ, ◌<◌, ◌≤◌, ◌^◌, true, false, cond, List, [], ◌∷◌, ◌++◌, Option, Some, None, refl, sym, ap, ◌∙◌, subst, arith, leb, codes, decimal}
 use Rattle.std.specs.List.{AllByRecursion}
-use Rattle.std.proofs.lemmas.Bool.{leb-true, leb-false}
+use Rattle.std.proofs.lemmas.Bool.{leb-false}
 use Rattle.std.proofs.lemmas.List.{append_cancel_left}
 use Rattle.lsm_below.specs.Each.{each_append, each_left, each_right, each_both, each_weaker}
 use Rattle.lsm_below.specs.Members.{IsIn}
 use Rattle.lsm_below.specs.Numbers.{PlainNumbersAreRead, plain_number}
 use Rattle.lsm_store.specs.World.{Image, World, LeavesOnly}
 use Rattle.lsm_store.specs.Moments.{weakened}
-use Rattle.lsm_versions.specs.Levels.{SeenVersion}
 use Rattle.lsm_files.specs.Foreign.{IsForeign, KeepsForeign, Passes}
 use Rattle.lsm_files.specs.Stored.{IsStored, HoldsOneOf}
-use Rattle.lsm_log.specs.declared.kinds.LogName.TheVariants.{Refused}
-use Rattle.lsm_log.specs.LogNames.{record_name, kind_of}
+use Rattle.lsm_log.specs.LogNames.{record_name}
 use Rattle.lsm_log.specs.Changes.{IsBelow, IsOneOf}
 use Rattle.lsm_log_model.specs.Records.{Batch, since}
 use Rattle.lsm_log_model.specs.Logs.{Logged as Log, lost_of}

@@ -1,6 +1,5 @@
 -- The end of a merge, and a compaction in one call, as acts of the theory.
-use Rattle.std.proofs.Common.{◌≡◌, ◌⊎◌, ⊎_elim, inl, inr, ℕ, ◌+◌, ◌<◌, ◌≤◌, ◌^◌, max, Bool, true, false, List, [], ◌∷◌, ◌++◌, Option, Some, None, IsSome, Result, Ok, Err, IfOk, IfErr, OnOk, IsErrOf, refl, sym, ap, ◌∙◌, subst, arith, append_assoc}
-use Rattle.lsm_below.specs.Entries.{Entry}
+use Rattle.std.proofs.Common.{◌≡◌, ◌⊎◌, ⊎_elim, inl, inr, ℕ, ◌+◌, max, Bool, true, List, [], ◌∷◌, ◌++◌, Option, Some, None, IsSome, Result, Ok, Err, IfOk, IfErr, OnOk, IsErrOf, refl, sym, ap, ◌∙◌, subst, arith, append_assoc}
 use Rattle.lsm_below.specs.declared.error.Error.{Error}
 use Rattle.lsm_below.specs.declared.error.Error.TheVariants.{OutOfMemory, Store, CommitUnknown, Unrecoverable, OutOfNumbers, TooManyRuns, AfterCommit}
 use Rattle.lsm_choices.specs.declared.choice.Why.{Why}
@@ -8,22 +7,21 @@ use Rattle.lsm_choices.specs.declared.choice.Why.TheVariants.{UnknownJob}
 use Rattle.lsm_merges.specs.Merges.{SeenCompaction}
 use Rattle.lsm_model.specs.Journal.{Event}
 use Rattle.lsm_model.specs.Steps.{Marked, Maintained}
-use Rattle.lsm_model.specs.Beginnings.{Note, Saved, Done, Lost, Deeds}
+use Rattle.lsm_model.specs.Beginnings.{Saved, Done, Lost, Deeds}
 use Rattle.lsm_model.specs.declared.journal.JournalEntry.TheVariants.{Install, Mark}
 use Rattle.lsm_versions.specs.Levels.{SeenVersion}
 use Rattle.lsm_parts.specs.declared.version.super_version.SuperVersion.{SuperVersion}
 use Rattle.lsm_state.specs.declared.compaction.Finished.{Finished}
 use Rattle.lsm_state.specs.declared.compaction.Finished.TheVariants.{Declined as Over, Installed as Whole}
 use Rattle.lsm_state.specs.Core.{Core, state_of}
-use Rattle.lsm_state.specs.Commits.{counted}
 use Rattle.lsm_state.specs.Flushes.{with_next_table}
 use Rattle.lsm_state.specs.Deeds.{saved_of, HasOrder, IsNoDeed, IsMarkDeed, AreDone}
-use Rattle.lsm_state.specs.Settling.{SettlesSome, IsInstalled, IsDoubted}
-use Rattle.lsm_state.specs.Compactions.{closed, Spends, InstallsMerge, IsMergedInto, Ends, EndsFor, Finishes}
+use Rattle.lsm_state.specs.Settling.{IsInstalled}
+use Rattle.lsm_state.specs.Compactions.{closed, InstallsMerge, IsMergedInto, Ends, EndsFor, Finishes}
 use Rattle.lsm_state.specs.CompactionDeeds.{AreLostTelling, IsMarkedIn, merge_of, IsMergeDeed, IsLostMerge}
 use Rattle.lsm_state.proofs.FlushDeeds.{marked}
 use Rattle.lsm_logged.specs.Removing.{log_from_of}
-use Rattle.lsm_logged.proofs.Compacted.{Stays, stays_same, stays_counted}
+use Rattle.lsm_logged.proofs.Compacted.{Stays, stays_same}
 use Rattle.lsm_logged.proofs.RegisterActs.{was_certain}
 
 -- ---- the end of a merge
@@ -105,13 +103,13 @@ module _ (job : SeenCompaction) (r : Result Finished Error) (mid new : Core) (fi
   pub is_in : (r ≡ Ok Whole) ⊎ IsErrOf r AfterCommit → IsIn mid new
   is_in h = ⊎_elim
       (λ (e : r ≡ Ok Whole).
-          let m = ended (inl e) in
-          let s = subst (λ (x : Result Finished Error). OnOk x ((v : SeenVersion) × IsMergedInto job mid.history.latest.version v × IsInstalled v job.settings.watermark true (with_next_table m.1.table (closed job.number mid)) new)) e m.1.settles.ok in
-          put_in (with_next_table m.1.table (closed job.number mid)) s.0 true refl refl refl m.0 s.1.next.log_from s.2)
+      let m = ended (inl e) in
+      let s = subst (λ (x : Result Finished Error). OnOk x ((v : SeenVersion) × IsMergedInto job mid.history.latest.version v × IsInstalled v job.settings.watermark true (with_next_table m.1.table (closed job.number mid)) new)) e m.1.settles.ok in
+      put_in (with_next_table m.1.table (closed job.number mid)) s.0 true refl refl refl m.0 s.1.next.log_from s.2)
       (λ (a : IsErrOf r AfterCommit).
-          let m = ended (inr (inl a)) in
-          let s = m.1.settles.after a in
-          put_in (with_next_table m.1.table (closed job.number mid)) s.0 s.2 refl refl refl m.0 s.1.next.log_from s.3)
+      let m = ended (inr (inl a)) in
+      let s = m.1.settles.after a in
+      put_in (with_next_table m.1.table (closed job.number mid)) s.0 s.2 refl refl refl m.0 s.1.next.log_from s.3)
       h
 
   pub in_doubt : IsErrOf r CommitUnknown → IsInDoubt mid new

@@ -1,5 +1,5 @@
 -- A job that a logged tree registers is an act of the theory.
-use Rattle.std.proofs.Common.{◌≡◌, ◌⊎◌, ⊎_elim, inl, inr, ℕ, ◌+◌, ◌<◌, ◌≤◌, ◌^◌, max, Bool, true, false, List, [], ◌∷◌, ◌++◌, map, flat_map, take, drop, length, reverse, Option, Some, None, IsSome, Result, Ok, Err, IsErrOf, refl, sym, ap, ◌∙◌, subst, arith}
+use Rattle.std.proofs.Common.{◌≡◌, ◌⊎◌, ⊎_elim, inl, inr, ℕ, ◌<◌, ◌≤◌, ◌^◌, max, false, List, [], ◌++◌, flat_map, take, drop, length, reverse, Option, Some, None, IsSome, Result, Ok, Err, IsErrOf, refl, sym, ap, ◌∙◌, subst, arith}
 use Rattle.std.proofs.lemmas.Grind.{flat_map-append}
 use Rattle.std.proofs.lemmas.List.{reverse-append, reverse-reverse, take-append-drop}
 use Rattle.lsm_below.specs.Entries.{Entry, above}
@@ -22,11 +22,11 @@ use Rattle.lsm_state.specs.Kept.{IsKeptTree}
 use Rattle.lsm_state.specs.Deeds.{saved_of}
 use Rattle.lsm_state.specs.FlushLaws.{FlushesAreDeeds}
 use Rattle.lsm_state.specs.Commits.{UpholdsFiles, Upholds, counted}
-use Rattle.lsm_state.specs.Flushes.{sealed_ids, spent, flush_of, IsCurrent, IsFlushDeed, Registers}
+use Rattle.lsm_state.specs.Flushes.{spent, IsFlushDeed, Registers}
 use Rattle.lsm_logged.specs.Keeping.{SeenLogged, IsLogOf, KeepsLog}
 use Rattle.lsm_logged.specs.Removing.{log_from_of, Passed}
 use Rattle.lsm_logged.specs.Flushing.{RemovesBehind}
-use Rattle.lsm_logged.specs.Acting.{LeadsBy, ActsByRegister, RegistersAct}
+use Rattle.lsm_logged.specs.Acting.{LeadsBy, RegistersAct}
 use Rattle.lsm_logged.proofs.Led.{leads_nowhere}
 use Rattle.lsm_logged.proofs.FlushActs.{flush_leads, flush_lost, sealed_below}
 

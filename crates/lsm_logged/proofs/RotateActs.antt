@@ -1,5 +1,5 @@
 -- A rotation of a logged tree is an act of the theory, and a flush behind it acts on.
-use Rattle.std.proofs.Common.{◌≡◌, ◌⊎◌, ⊎_elim, inl, inr, ℕ, ◌<◌, ◌≤◌, List, [], ◌∷◌, ◌++◌, length, map, Option, Some, None, option_to_list, Result, Ok, Err, refl, sym, ap, ◌∙◌, subst, arith}
+use Rattle.std.proofs.Common.{◌≡◌, ◌⊎◌, ⊎_elim, ℕ, ◌<◌, ◌≤◌, List, [], ◌∷◌, ◌++◌, length, map, Option, Some, None, option_to_list, Result, Err, refl, sym, ap, ◌∙◌, subst, arith}
 use Rattle.std.specs.FinMap.{get}
 use Rattle.std.specs.List.{AllByRecursion}
 use Rattle.lsm_below.specs.Entries.{Entry}
@@ -24,8 +24,8 @@ use Rattle.lsm_state.specs.Commits.{Upholds}
 use Rattle.lsm_state.proofs.Upholding.{upheld_still}
 use Rattle.lsm_logged.specs.Keeping.{SeenLogged, IsLogOf, KeepsLog}
 use Rattle.lsm_logged.specs.Removing.{log_from_of}
-use Rattle.lsm_logged.specs.Acting.{LeadsBy, rotation_of, sealed_notes, LeadsByRotation, ActsByFlush, ActsBehind, FlushesAct}
-use Rattle.lsm_logged.proofs.Led.{Lifted, first, stop, leads_passing, leads_nowhere}
+use Rattle.lsm_logged.specs.Acting.{rotation_of, sealed_notes, LeadsByRotation, ActsByFlush, ActsBehind, FlushesAct}
+use Rattle.lsm_logged.proofs.Led.{first, stop, leads_passing, leads_nowhere}
 use Rattle.lsm_logged.proofs.Removals.{rotation_keeps}
 
 -- a rotation keeps what holds of reads
@@ -55,7 +55,7 @@ module _ {S : Type 0} (w : World) (old mid : SeenLogged S) (doubt : mid.doubted 
       let lost : mid.core.lost ≡ old.core.lost = ap (λ (c : Core). c.lost) r.2 in
       let one : IsDone opened (saved_of journal notes old.core) (Rotated a) tree = record { answered = refl; certain = λ z. absurd (cc z); step = r.3 opened journal; distinct = same; notes = refl; others = ap (λ l. map (λ (v : SeenVersion). placed_of v.levels) (option_to_list l)) lost } in
       let l = first opened t (Rotated a) tree [] tree t.log_from t.other_from mid.core.seqno ⊥ refl (λ z. absurd (cc z)) (subst (λ (s : Saved). IsDone opened s (Rotated a) tree) (sym is.tree) one) (omega arith)
-          (stop opened (did t (Rotated a) tree) tree mid.core.seqno ⊥ refl (λ no. absurd no)) in
+      (stop opened (did t (Rotated a) tree) tree mid.core.seqno ⊥ refl (λ no. absurd no)) in
       let from : log_from_of mid.core ≡ log_from_of old.core = ap log_from_of r.2 in
       leads_passing opened journal notes t w w old mid is keeps up.files doubt up.passes journal notes' (Did (Rotated a) ∷ []) t.log_from t.other_from ⊥ l (omega arith) (is.from ∙ sym from) (λ v h. is.other v (sym lost ∙ h)) (omega (arith, q))
 

@@ -1,8 +1,7 @@
 -- Compactions in one call of a logged tree are acts of the theory.
-use Rattle.std.proofs.Common.{◌≡◌, ◌⊎◌, ⊎_elim, inl, inr, ℕ, ◌+◌, ◌<◌, ◌≤◌, true, false, Bool, List, [], ◌∷◌, Option, Some, None, IsSome, Result, Ok, Err, IsErrOf, refl, sym, ap, ◌∙◌, subst, arith}
+use Rattle.std.proofs.Common.{◌≡◌, ◌⊎◌, ⊎_elim, inl, inr, ℕ, ◌+◌, ◌≤◌, true, false, Bool, Option, Some, None, IsSome, Result, Ok, Err, IsErrOf, refl, sym, ap, ◌∙◌, subst, arith}
 use Rattle.lsm_below.specs.declared.error.Error.{Error}
 use Rattle.lsm_below.specs.declared.error.Error.TheVariants.{OutOfMemory, CommitUnknown, Unrecoverable, AfterCommit}
-use Rattle.lsm_choices.specs.declared.choice.Why.{Why}
 use Rattle.lsm_merges.specs.Merges.{SeenCompaction}
 use Rattle.lsm_pick.specs.declared.bounds.OwnedBounds.{OwnedBounds}
 use Rattle.lsm_pick.specs.declared.choice.Choice.{Choice}
@@ -10,7 +9,6 @@ use Rattle.lsm_pick.specs.declared.choice.Choice.TheVariants.{DoNothing, Move, M
 use Rattle.lsm_pick.specs.declared.choice.ChooseError.{ChooseError}
 use Rattle.lsm_pick.specs.Simple.{are_reversed}
 use Rattle.lsm_versions.specs.Levels.{SeenVersion}
-use Rattle.lsm_choices.specs.declared.input.Input.{Input}
 use Rattle.lsm_state.specs.declared.compaction.Options.{Options}
 use Rattle.lsm_state.specs.declared.compaction.Begun.{Begun}
 use Rattle.lsm_state.specs.declared.compaction.Begun.TheVariants.{DidNothing, Declined, Installed, Job}
@@ -19,7 +17,7 @@ use Rattle.lsm_state.specs.declared.compaction.Finished.TheVariants.{Declined as
 use Rattle.lsm_state.specs.Core.{Core}
 use Rattle.lsm_state.specs.Kept.{IsKeptTree}
 use Rattle.lsm_state.specs.Deeds.{HasOrder, IsMarkDeed}
-use Rattle.lsm_state.specs.Compactions.{Relation, Does, BeginsChoice, BeginsCompaction, Finishes, Spends, job_for, with_merge}
+use Rattle.lsm_state.specs.Compactions.{Relation, Does, BeginsChoice, Finishes, Spends, job_for}
 use Rattle.lsm_state.specs.CompactionDeeds.{ChoiceDeeds, merge_of, MergeDeeds, CompactionsAreDeeds}
 use Rattle.lsm_state.specs.WholeCompactions.{told_end, Completes, Follows, CompactsChoice, Compacts, DropsRange, options_at}
 use Rattle.lsm_logged.specs.Removing.{log_from_of}
