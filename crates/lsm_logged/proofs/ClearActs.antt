@@ -52,7 +52,7 @@ module _ {S : Type 0} (read : PlainNumbersAreRead) (w w' : World) (old new : See
       let number = ap (λ (s : State). s.latest.number) d.1.step.1 in
       let counter : new.core.seqno ≡ old.core.seqno + 1 = ap (λ (c : Core). c.seqno) core in
       let l = first opened t (clear_of old) d.0 [] tree old.core.seqno t.other_from new.core.seqno (Unit {0}) refl (λ q. (is_certain journal notes old.core old.doubted t is both.0 both.1, subst (MayBeDrawn opened t) (sym number) next, omega (arith, number, counter))) d.1 (omega arith)
-          (stop opened (did t (clear_of old) d.0) tree new.core.seqno (Unit {0}) (sym d.2) (λ u. since_high old.core.seqno t.records)) in
+      (stop opened (did t (clear_of old) d.0) tree new.core.seqno (Unit {0}) (sym d.2) (λ u. since_high old.core.seqno t.records)) in
       let from : old.core.seqno ≡ log_from_of new.core = sym (ap log_from_of core) in
       let lost : new.core.lost ≡ None = ap (λ (c : Core). c.lost) core ∙ both.1 in
       leads opened journal notes t w w' old new is keeps files doubt journal' notes' (Did (clear_of old) ∷ []) old.core.seqno t.other_from (Unit {0}) l from (λ v h. let z : None ≡ Some v = sym lost ∙ h in absurd (cc z)) (omega (arith, counter))
@@ -76,11 +76,10 @@ module _ {S : Type 0} (read : PlainNumbersAreRead) (w w' : World) (old new : See
         let d = subst (λ (s : Saved). Deeds opened s (Lost (clear_of old) would ∷ []) tree) (sym is.tree) (lost.1 opened journal notes) in
         let number = ap (λ (s : State). s.latest.number) d.1.step.1 in
         let counter : new.core.seqno ≡ old.core.seqno + 1 = ap (λ (c : Core). c.seqno) core in
-        let l = unknown opened t old.core.seqno (clear_of old) would d.0 tree (is_certain journal notes old.core old.doubted t is both.0 both.1) next number d.1 (sym d.2) in
-        (
+        let l = unknown opened t old.core.seqno (clear_of old) would d.0 tree (is_certain journal notes old.core old.doubted t is both.0 both.1) next number d.1 (sym d.2) in (
           would,
           leads_passing opened journal notes t w w' old new is keeps commits.files doubt commits.passes journal notes' (CommitLost (clear_of old) would ∷ []) t.log_from old.core.seqno ⊥ (subst (λ c. Lifted opened t (CommitLost (clear_of old) would ∷ []) tree t.log_from old.core.seqno c ⊥) (sym counter) l) (omega arith) (is.from ∙ sym (ap log_from_of core))
-          (λ v h. let z : Some (cleared_in old.core).version ≡ Some v = sym (ap (λ (c : Core). c.lost) core) ∙ h in ap (λ (v : SeenVersion). v.log_from) (some_same (cleared_in old.core).version v z)) (omega (arith, counter)),
+              (λ v h. let z : Some (cleared_in old.core).version ≡ Some v = sym (ap (λ (c : Core). c.lost) core) ∙ h in ap (λ (v : SeenVersion). v.log_from) (some_same (cleared_in old.core).version v z)) (omega (arith, counter)),
         )
 
     refusal : (e : Error) → Clears (Err e) old.core new.core → not_unknown e → (new.core ≡ old.core) ⊎ (new.core ≡ counted old.core)

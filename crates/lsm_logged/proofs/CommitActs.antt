@@ -53,11 +53,10 @@ module _ {S : Type 0} (w w' : World) (old new : SeenLogged S) (sure : old.doubte
       let made = state_of (journal ++ Mark mark ∷ events) would in
       let acts = Did (Marked mark) ∷ (CommitLost action made ∷ []) in
       let d = subst (λ (s : Saved). Deeds opened s (Done (Marked mark) ∷ (Lost action made ∷ [])) tree) (sym is.tree) (deeds opened journal notes ordered) in
-      let l = subst (λ c. Lifted opened t acts tree t.log_from f c ⊥) (sym counter) (lost_marked opened t old.core.seqno mark action tree (journal ++ Mark mark ∷ before) certain next silent installs f from rises made told_last d) in
-      (
+      let l = subst (λ c. Lifted opened t acts tree t.log_from f c ⊥) (sym counter) (lost_marked opened t old.core.seqno mark action tree (journal ++ Mark mark ∷ before) certain next silent installs f from rises made told_last d) in (
         made,
         leads_passing opened journal notes t w w' old new is keeps files doubt passes (journal ++ Mark mark ∷ told) notes acts t.log_from f ⊥ l (omega arith) (is.from ∙ sym same)
-        (λ u h. version ∙ ap (λ (x : SeenVersion). x.log_from) (some_is v u (sym lost ∙ h))) (omega (arith, counter)),
+            (λ u h. version ∙ ap (λ (x : SeenVersion). x.log_from) (some_is v u (sym lost ∙ h))) (omega (arith, counter)),
       )
     where
       some_is : (x y : SeenVersion) → Some x ≡ Some y → x ≡ y

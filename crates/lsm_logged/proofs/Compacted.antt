@@ -203,13 +203,12 @@ module _ (choice : Choice) (o : Options) (r : Result Begun Error) (old new : Cor
 
   does_it : (r ≡ Ok Installed) ⊎ (IsErrOf r AfterCommit ⊎ IsErrOf r CommitUnknown) → (old.lost ≡ None) × Does choice o r old new
   does_it h =
-      let certain = was_certain (λ k. ⊎_elim (λ e. let z : Err Unrecoverable ≡ Ok Installed = sym k ∙ e in absurd (cc z)) (λ m. ⊎_elim (λ e. let z : Err Unrecoverable ≡ Err AfterCommit = sym k ∙ e in absurd (cc z)) (λ e. let z : Err Unrecoverable ≡ Err CommitUnknown = sym k ∙ e in absurd (cc z)) m) h) in
-      (
+      let certain = was_certain (λ k. ⊎_elim (λ e. let z : Err Unrecoverable ≡ Ok Installed = sym k ∙ e in absurd (cc z)) (λ m. ⊎_elim (λ e. let z : Err Unrecoverable ≡ Err AfterCommit = sym k ∙ e in absurd (cc z)) (λ e. let z : Err Unrecoverable ≡ Err CommitUnknown = sym k ∙ e in absurd (cc z)) m) h) in (
         certain,
         was_free certain (λ why k. ⊎_elim
-        (λ d. ⊎_elim (λ e. let z : Ok (Declined why) ≡ Ok Installed = sym d ∙ e in absurd (cc z)) (λ m. ⊎_elim (λ e. let z : Ok (Declined why) ≡ Err AfterCommit = sym d ∙ e in absurd (cc z)) (λ e. let z : Ok (Declined why) ≡ Err CommitUnknown = sym d ∙ e in absurd (cc z)) m) h)
-        (λ d. ⊎_elim (λ e. let z : Err OutOfMemory ≡ Ok Installed = sym d ∙ e in absurd (cc z)) (λ m. ⊎_elim (λ e. let z : Err OutOfMemory ≡ Err AfterCommit = sym d ∙ e in absurd (cc z)) (λ e. let z : Err OutOfMemory ≡ Err CommitUnknown = sym d ∙ e in absurd (cc z)) m) h)
-        k),
+            (λ d. ⊎_elim (λ e. let z : Ok (Declined why) ≡ Ok Installed = sym d ∙ e in absurd (cc z)) (λ m. ⊎_elim (λ e. let z : Ok (Declined why) ≡ Err AfterCommit = sym d ∙ e in absurd (cc z)) (λ e. let z : Ok (Declined why) ≡ Err CommitUnknown = sym d ∙ e in absurd (cc z)) m) h)
+            (λ d. ⊎_elim (λ e. let z : Err OutOfMemory ≡ Ok Installed = sym d ∙ e in absurd (cc z)) (λ m. ⊎_elim (λ e. let z : Err OutOfMemory ≡ Err AfterCommit = sym d ∙ e in absurd (cc z)) (λ e. let z : Err OutOfMemory ≡ Err CommitUnknown = sym d ∙ e in absurd (cc z)) m) h)
+            k),
       )
 
 installed_as : (w : ℕ) (action : Action) (old new : Core) → IsCompaction w action → old.lost ≡ None → AreDone w action (told_installed action old) [] old new → (v : SeenVersion) → v.log_from ≡ max (log_from_of old) 0 → (whole : _) → IsInstalled v w whole old new → Installs w old new
@@ -279,6 +278,7 @@ choice_outcome choice o (Err e) old new begins deeds = record {
   told = tt;
   refused = λ a u. marks choice o (Err e) old new begins deeds ((λ z. cc z), (λ z. a (err_is e AfterCommit z)), (λ z. u (err_is e CommitUnknown z))) (deeds.refused a u);
 }
+
 -- ---- where nothing is installed
 
 pub quiet_outcome : (w : ℕ) (r : Result Begun Error) (old new : Core) → IsFree r → StaysMarked w old new → Outcome w r old new

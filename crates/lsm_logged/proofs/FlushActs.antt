@@ -104,11 +104,10 @@ module _ {S : Type 0} (w w' : World) (old new : SeenLogged S) (sure : old.doubte
         let version : log_from_of mid ≡ max (log_from_of old.core) (passed_by job.job.sources) = ap (λ (sv : SuperVersion). sv.version.log_from) latest ∙ i.installs.flushed.version.log_from in
         let counter = ap (λ (c : Core). c.seqno) (same ∙ i.installs.cleans.rest) in
         let lost = ap (λ (c : Core). c.lost) (same ∙ i.installs.cleans.rest) ∙ none in
-        let led = flush_leads job sources low (log_from_of mid) version (sym (ap log_from_of same)) counter lost (subst (IsFlushDeed job old.core) (sym same) i.deeds) read passed behind in
-        (
+        let led = flush_leads job sources low (log_from_of mid) version (sym (ap log_from_of same)) counter lost (subst (IsFlushDeed job old.core) (sym same) i.deeds) read passed behind in (
           placed_in 0 job.tables,
           subst (λ xs. LeadsByCommit watermark (Flushed watermark xs (placed_in 0 job.tables)) (Install old.core.seqno ∷ []) (FlushedIds xs ∷ []) opened journal notes t w w' old new) ids
-          (subst (λ k. LeadsByCommit k (Flushed k job.job.ids (placed_in 0 job.tables)) (Install old.core.seqno ∷ []) (FlushedIds job.job.ids ∷ []) opened journal notes t w w' old new) i.whole.watermark led),
+              (subst (λ k. LeadsByCommit k (Flushed k job.job.ids (placed_in 0 job.tables)) (Install old.core.seqno ∷ []) (FlushedIds job.job.ids ∷ []) opened journal notes t w w' old new) i.whole.watermark led),
         )
 
     -- its outcome is unknown
@@ -120,11 +119,10 @@ module _ {S : Type 0} (w w' : World) (old new : SeenLogged S) (sure : old.doubte
         let low = subst (λ xs. above (flat_map mems xs) ≤ old.core.seqno) (sym ids) sealed_below in
         let core = i.doubts.is in
         let v = i.doubts.next.version in
-        let led = flush_lost job sources low v.log_from i.doubts.flushed.version.log_from v refl (ap (λ (c : Core). c.seqno) core) (ap (λ (c : Core). c.lost) core) (ap log_from_of core) i.deeds passes in
-        (
+        let led = flush_lost job sources low v.log_from i.doubts.flushed.version.log_from v refl (ap (λ (c : Core). c.seqno) core) (ap (λ (c : Core). c.lost) core) (ap log_from_of core) i.deeds passes in (
           placed_in 0 job.tables,
           subst (λ xs. LeadsByLost watermark (Flushed watermark xs (placed_in 0 job.tables)) [] opened journal notes t w w' old new) ids
-          (subst (λ k. LeadsByLost k (Flushed k job.job.ids (placed_in 0 job.tables)) [] opened journal notes t w w' old new) i.whole.watermark led),
+              (subst (λ k. LeadsByLost k (Flushed k job.job.ids (placed_in 0 job.tables)) [] opened journal notes t w w' old new) i.whole.watermark led),
         )
 
 -- nothing is installed

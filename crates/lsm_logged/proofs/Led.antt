@@ -168,9 +168,9 @@ is_certain journal notes c doubted t is sure none = (
   ap (λ (s : Saved). s.others) is.tree ∙ ap (λ l. map (λ v. placed_of v.levels) (option_to_list l)) none,
   none_left t.lost (is.doubt ∙ sure),
 )
+
 module _ {S : Type 0} (opened : List Entry) (journal : List Event) (notes : List Note) (t : Log) (w w' : World) (old new : SeenLogged S)
     (is : IsLogOf journal notes old.core old.doubted t) (keeps : KeepsLog w t) (files : UpholdsFiles w w' old.core new.core) (doubt : new.doubted ≡ old.doubted) where
-
   pub leads : (journal' : List Event) (notes' : List Note) (acts : List Act) (f o : ℕ) (K : Type 0) (l : Lifted opened t acts (saved_of journal' notes' new.core) f o new.core.seqno K) → f ≡ log_from_of new.core → ((v : SeenVersion) → new.core.lost ≡ Some v → o ≡ v.log_from)
       → old.core.seqno ≤ new.core.seqno → StaysIn w w' old.core new.core t l.log → LeadsBy opened journal' notes' t acts w w' old new
   leads journal' notes' acts f o K l from other counter stays = record {

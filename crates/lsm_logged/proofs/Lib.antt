@@ -16,3 +16,4 @@ pub mod RotateActs
 pub mod Compacted
 pub mod Seen
 pub mod Settling
+pub mod Taken

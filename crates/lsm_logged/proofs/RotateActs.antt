@@ -55,7 +55,7 @@ module _ {S : Type 0} (w : World) (old mid : SeenLogged S) (doubt : mid.doubted 
       let lost : mid.core.lost ≡ old.core.lost = ap (λ (c : Core). c.lost) r.2 in
       let one : IsDone opened (saved_of journal notes old.core) (Rotated a) tree = record { answered = refl; certain = λ z. absurd (cc z); step = r.3 opened journal; distinct = same; notes = refl; others = ap (λ l. map (λ (v : SeenVersion). placed_of v.levels) (option_to_list l)) lost } in
       let l = first opened t (Rotated a) tree [] tree t.log_from t.other_from mid.core.seqno ⊥ refl (λ z. absurd (cc z)) (subst (λ (s : Saved). IsDone opened s (Rotated a) tree) (sym is.tree) one) (omega arith)
-          (stop opened (did t (Rotated a) tree) tree mid.core.seqno ⊥ refl (λ no. absurd no)) in
+      (stop opened (did t (Rotated a) tree) tree mid.core.seqno ⊥ refl (λ no. absurd no)) in
       let from : log_from_of mid.core ≡ log_from_of old.core = ap log_from_of r.2 in
       leads_passing opened journal notes t w w old mid is keeps up.files doubt up.passes journal notes' (Did (Rotated a) ∷ []) t.log_from t.other_from ⊥ l (omega arith) (is.from ∙ sym from) (λ v h. is.other v (sym lost ∙ h)) (omega (arith, q))
 
