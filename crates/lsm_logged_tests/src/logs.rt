@@ -123,7 +123,7 @@ fn is_shut(alloc: Global) -> Result<bool, Error> {
 /// What a = x is where the record stands, and where it doesn't.
 fn either(alloc: Global) -> Result<(bool, bool), Error> {
     let mut tree = doubtful(alloc)?;
-    doubted(alloc, &mut tree);
+    let _ = doubted(alloc, &mut tree);
     let stands = crashed(alloc, &tree, &[])?;
     let gone = crashed(alloc, &tree, &[("log/0", Pick::Before)])?;
     Ok((
