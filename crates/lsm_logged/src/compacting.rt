@@ -3,14 +3,14 @@ ghost use Rattle.std.specs.Prelude.{◌≡◌, Ok};
 ghost use Rattle.lsm_files.specs.Causes.{HasCause, Blames};
 ghost use Rattle.lsm_state.specs.Cleaning.{LeavesNoFiles};
 ghost use Rattle.lsm_state.specs.Commits.{Upholds};
-ghost use Rattle.lsm_state.specs.Compactions.{given_up, LeavesNoneChosen, BeginsChoice, Finishes, Spends};
+ghost use Rattle.lsm_state.specs.Compactions.{given_up, LeavesNoneChosen, BeginsChoice, BeginsCompaction, Finishes, Spends};
 ghost use Rattle.lsm_state.specs.WholeCompactions.{CompactsChoice, Compacts, DropsRange, options_at, only_memory, major_choice, drop_choice};
 ghost use Rattle.lsm_logged.specs.Asking.{Asks};
 
 use crate::Logged;
 use lsm_below::{Error, SeqNo};
 use lsm_merges::{CompactionJob, MergedCompaction};
-use lsm_pick::{Choice, OwnedBounds};
+use lsm_pick::{Choice, CompactionStrategy, OwnedBounds};
 use lsm_state::{Begun, Finished, Options};
 use lsm_store::Store;
 
@@ -34,6 +34,56 @@ impl<S: Store> Logged<S> {
             return Err(Error::Unrecoverable);
         }
         self.tree.begin_choice(choice, options)
+    }
+
+    /// `TreeState::begin_compaction`.
+    ///
+    /// # Errors
+    ///
+    /// As that call, and `Unrecoverable` also where a record has unknown outcome: then the strategy isn't asked.
+    pub fn begin_compaction(
+        &mut self,
+        strategy: &dyn CompactionStrategy,
+        options: Options,
+    ) -> Result<Begun, Error>
+        ensures asks { Asks result self.old self.new (BeginsCompaction (may_choose strategy.now) (may_refuse strategy.now) options result self.old.core self.new.core) }
+        // What a crash leaves, of the tree's files and of names that are none of its own.
+        ensures upholds { S.tells → Upholds (S.world self.old.store) (S.world self.new.store) self.old.core self.new.core }
+        // The store is blamed only where a call of it failed.
+        ensures causes { HasCause (Blames result) (S.world self.old.store) (S.world self.new.store) }
+        // Behind a whole clean-up no file is left of what went.
+        ensures gone { S.tells → result ≡ Ok Begun.Installed → LeavesNoneChosen (S.world self.new.store) (may_choose strategy.now) self.old.core self.new.core }
+    {
+        self.tree.is_upheld();
+        if self.doubted {
+            return Err(Error::Unrecoverable);
+        }
+        self.tree.begin_compaction(strategy, options)
+    }
+
+    /// `TreeState::begin_with`.
+    ///
+    /// # Errors
+    ///
+    /// As that call, and `Unrecoverable` also where a record has unknown outcome: then the strategy isn't asked.
+    pub fn begin_with<C: CompactionStrategy>(
+        &mut self,
+        strategy: &C,
+        options: Options,
+    ) -> Result<Begun, Error>
+        ensures asks { Asks result self.old self.new (BeginsCompaction (C.may_choose strategy.now) (C.may_refuse strategy.now) options result self.old.core self.new.core) }
+        // What a crash leaves, of the tree's files and of names that are none of its own.
+        ensures upholds { S.tells → Upholds (S.world self.old.store) (S.world self.new.store) self.old.core self.new.core }
+        // The store is blamed only where a call of it failed.
+        ensures causes { HasCause (Blames result) (S.world self.old.store) (S.world self.new.store) }
+        // Behind a whole clean-up no file is left of what went.
+        ensures gone { S.tells → result ≡ Ok Begun.Installed → LeavesNoneChosen (S.world self.new.store) (C.may_choose strategy.now) self.old.core self.new.core }
+    {
+        self.tree.is_upheld();
+        if self.doubted {
+            return Err(Error::Unrecoverable);
+        }
+        self.tree.begin_with(strategy, options)
     }
 
     /// `TreeState::finish_compaction`.
@@ -85,6 +135,56 @@ impl<S: Store> Logged<S> {
             return Err(Error::Unrecoverable);
         }
         self.tree.compact_choice(choice, options)
+    }
+
+    /// `TreeState::compact`.
+    ///
+    /// # Errors
+    ///
+    /// As that call, and `Unrecoverable` also where a record has unknown outcome: then the strategy isn't asked.
+    pub fn compact(
+        &mut self,
+        strategy: &dyn CompactionStrategy,
+        watermark: SeqNo,
+    ) -> Result<Begun, Error>
+        ensures asks { Asks result self.old self.new (Compacts (may_choose strategy.now) (may_refuse strategy.now) (options_at watermark self.old.core) result self.old.core self.new.core) }
+        // What a crash leaves, of the tree's files and of names that are none of its own.
+        ensures upholds { S.tells → Upholds (S.world self.old.store) (S.world self.new.store) self.old.core self.new.core }
+        // The store is blamed only where a call of it failed.
+        ensures causes { HasCause (Blames result) (S.world self.old.store) (S.world self.new.store) }
+        // Behind a whole clean-up no file is left of what went.
+        ensures gone { S.tells → result ≡ Ok Begun.Installed → LeavesNoneChosen (S.world self.new.store) (may_choose strategy.now) self.old.core self.new.core }
+    {
+        self.tree.is_upheld();
+        if self.doubted {
+            return Err(Error::Unrecoverable);
+        }
+        self.tree.compact(strategy, watermark)
+    }
+
+    /// `TreeState::compact_with`.
+    ///
+    /// # Errors
+    ///
+    /// As that call, and `Unrecoverable` also where a record has unknown outcome: then the strategy isn't asked.
+    pub fn compact_with<C: CompactionStrategy>(
+        &mut self,
+        strategy: &C,
+        options: Options,
+    ) -> Result<Begun, Error>
+        ensures asks { Asks result self.old self.new (Compacts (C.may_choose strategy.now) (C.may_refuse strategy.now) options result self.old.core self.new.core) }
+        // What a crash leaves, of the tree's files and of names that are none of its own.
+        ensures upholds { S.tells → Upholds (S.world self.old.store) (S.world self.new.store) self.old.core self.new.core }
+        // The store is blamed only where a call of it failed.
+        ensures causes { HasCause (Blames result) (S.world self.old.store) (S.world self.new.store) }
+        // Behind a whole clean-up no file is left of what went.
+        ensures gone { S.tells → result ≡ Ok Begun.Installed → LeavesNoneChosen (S.world self.new.store) (C.may_choose strategy.now) self.old.core self.new.core }
+    {
+        self.tree.is_upheld();
+        if self.doubted {
+            return Err(Error::Unrecoverable);
+        }
+        self.tree.compact_with(strategy, options)
     }
 
     /// `TreeState::major_compact`.

@@ -1,10 +1,13 @@
 // A tree with a log above it.
-ghost use Rattle.std.specs.Prelude.{◌≡◌, ◌≤◌, ◌⊎◌, [], length, Ok, None, IfOk, IfErr, OnErr, IsErrOf};
+ghost use Rattle.std.specs.Prelude.{◌≡◌, ◌≤◌, ◌+◌, ◌⊎◌, ◌↔◌, [], length, Ok, None, IfOk, IfErr, OnOk, OnErr, IsErrOf};
 ghost use Rattle.lsm_state.specs.Calls.{Rotates};
-ghost use Rattle.lsm_state.specs.Held.{first_entries};
+ghost use Rattle.lsm_below.specs.Sums.{capped};
+ghost use Rattle.lsm_state.specs.Held.{first_entries, HasFirst};
+ghost use Rattle.lsm_state.specs.Flushes.{with_next_table};
+ghost use Rattle.lsm_state.specs.WholeFlushes.{sealed_bytes};
 ghost use Rattle.lsm_logged.specs.Keeping.{is_unsure};
 
-use lsm_below::{Error, MemtableId, SeqNo};
+use lsm_below::{Error, MemtableId, SeqNo, TableId};
 use lsm_parts::LIMIT;
 use lsm_state::TreeState;
 use lsm_store::{MemStore, Store};
@@ -49,6 +52,32 @@ impl<S: Store> Logged<S> {
         ensures { result ≡ length self.now.numbers }
     {
         self.numbers.len()
+    }
+
+    /// The bytes that the memtables count which aren't flushed: of each write in them those of its key and value, and 48, so no
+    /// fewer than its part of a record takes. It is about what replaying the log takes in memory. The cost is linear in the sealed
+    /// memtables.
+    pub fn log_bytes(&self) -> u64
+        ensures { HasFirst self.now.core.memtables (λ m. result ≡ capped (sealed_bytes self.now.core + m.size)) }
+    {
+        self.tree.unflushed_size()
+    }
+
+    /// `TreeState::get_next_table_id`.
+    ///
+    /// # Errors
+    ///
+    /// As that call.
+    pub fn get_next_table_id(&mut self) -> Result<TableId, Error>
+        ensures ok { IfOk result (λ id. id ≡ self.old.core.next_table) }
+        ensures used { OnOk result (self.new.core ≡ with_next_table (self.old.core.next_table + 1) self.old.core) }
+        ensures store { self.new.store ≡ self.old.store }
+        ensures log { (self.new.numbers ≡ self.old.numbers) × (self.new.doubted ≡ self.old.doubted) }
+        ensures err { OnErr result (self.new ≡ self.old) }
+        ensures out_of_numbers { IsErrOf result Error.OutOfNumbers ↔ LIMIT ≤ self.old.core.next_table }
+        ensures only { IfErr result (λ e. e ≡ Error.OutOfNumbers) }
+    {
+        self.tree.get_next_table_id()
     }
 
     /// `TreeState::rotate_memtable`.

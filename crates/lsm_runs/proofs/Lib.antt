@@ -39,6 +39,6 @@ pub mod Made
 pub mod Naming
 pub mod Readiness
 pub mod Moments
-pub mod ManyLives
+pub mod ReadFiles
 pub mod RunLives
 pub mod Settled

@@ -1,5 +1,5 @@
 use Rattle.std.proofs.Common.{◌^◌}
-use Rattle.lsm_runs.proofs.ManyLives.{tree_reads}
+use Rattle.lsm_runs.proofs.ReadFiles.{tree_reads}
 use Rattle.lsm_runs.proofs.finding.any_number_of_lives.Goals as goal
 
 pub returns : goal.returns
