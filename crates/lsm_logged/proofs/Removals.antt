@@ -1,5 +1,5 @@
 -- Records that the version has passed are removed, behind a commit or not.
-use Rattle.std.proofs.Common.{◌≡◌, ◌⊎◌, ⊎_elim, inl, inr, ℕ, ◌<◌, ◌≤◌, List, [], ◌++◌, Option, Some, None, Result, Ok, Err, refl, sym, ap, ◌∙◌, subst, arith}
+use Rattle.std.proofs.Common.{◌≡◌, ⊎_elim, inl, inr, ℕ, ◌<◌, ◌≤◌, List, [], ◌++◌, Option, Some, None, Result, Ok, Err, refl, sym, ap, ◌∙◌, subst, arith}
 use Rattle.std.proofs.lemmas.List.Elements.{All-drop, All-weaker}
 use Rattle.lsm_below.specs.Each.{each_append}
 use Rattle.lsm_below.specs.Members.{IsIn, each_in}
@@ -53,7 +53,7 @@ passed_then from old mid new passes passed = record {
       (λ image was n foreign. ⊎_elim (λ m. inl (passes.may n (image n) foreign m)) (λ gone. inr gone) (was n foreign));
 }
 
-both_leave : (old new : World) (P Q : Image → Type 0) → LeavesOnly old new P → LeavesOnly old new Q → LeavesOnly old new (λ image. P image × Q image)
+pub both_leave : (old new : World) (P Q : Image → Type 0) → LeavesOnly old new P → LeavesOnly old new Q → LeavesOnly old new (λ image. P image × Q image)
 both_leave old new P Q a b = record {
   later = a.later;
   each = λ image since. (a.each image since, b.each image since);
@@ -103,7 +103,7 @@ either_behind w mid new old core after commits same files passed = subst (λ k. 
 
 -- ---- behind a rotation
 
-rotation_keeps : (id : Option ℕ) (old mid : Core) → Rotates old id mid → (versions_left mid ≡ versions_left old) × (written_of mid ≡ written_of old)
+pub rotation_keeps : (id : Option ℕ) (old mid : Core) → Rotates old id mid → (versions_left mid ≡ versions_left old) × (written_of mid ≡ written_of old)
 rotation_keeps None old mid r = (ap versions_left r.1, ap written_of r.1)
 rotation_keeps (Some id) old mid r = (ap versions_left r.2, ap written_of r.2)
 

@@ -7,7 +7,7 @@ use Rattle.lsm_below.specs.Each.{each_left}
 use Rattle.lsm_below.specs.Entries.{above}
 use Rattle.lsm_below.specs.Numbers.{PlainNumbersAreRead}
 use Rattle.lsm_below.specs.Sums.{capped}
-use Rattle.lsm_store.specs.World.{World, Same, LeavesOnly}
+use Rattle.lsm_store.specs.World.{World, Same, IsOnDisk, LeavesOnly}
 use Rattle.lsm_store.specs.Moments.{same_then, joined}
 use Rattle.lsm_model.specs.Steps.{Run, Wrote}
 use Rattle.lsm_model.specs.Views.{held}
@@ -23,7 +23,7 @@ use Rattle.lsm_files.specs.Foreign.{IsForeign, KeepsForeign, Passes}
 use Rattle.lsm_log.specs.declared.record.Record.{Record}
 use Rattle.lsm_log.specs.declared.kinds.LogName.TheVariants.{Refused}
 use Rattle.lsm_log.specs.LogNames.{record_name, kind_of}
-use Rattle.lsm_log.specs.Changes.{IsBelow, ClearsRecords, AreCleared}
+use Rattle.lsm_log.specs.Changes.{IsBelow, IsOneOf, ClearsRecords, AreCleared}
 use Rattle.lsm_log.specs.Logs.{IsLogFrom, IsRecordAt}
 use Rattle.lsm_log_model.specs.Records.{LogImage, LogStands, entries_of, entries_in, counted, opened_by}
 use Rattle.lsm_model.specs.Ops.{op_entries}
@@ -37,7 +37,7 @@ use Rattle.lsm_state.specs.Deeds.{saved_of, OpenedIsFresh}
 use Rattle.lsm_state.proofs.Steps.{write_run}
 use Rattle.lsm_logged.specs.Keeping.{AreRecordNumbers, IsLogOf, IsRecordFile, IsNoNumber}
 use Rattle.lsm_logged.specs.Removing.{IsOldOrPassed, HasOldOrPassed}
-use Rattle.lsm_logged.specs.Opening.{entries_read, batch_read, image_read, Replays, TakesLog, IsSettledLog, IsReopenedLog}
+use Rattle.lsm_logged.specs.Opening.{entries_read, batch_read, image_read, Replays, TakesLog, CanBeSettled, IsReopenedLog}
 use Rattle.lsm_logged.proofs.LogNames.{apart, record_is_foreign, refused_is_foreign}
 
 -- ---- what was found
@@ -92,6 +92,18 @@ module _ (config cfg : Config) (v : SeenVersion) (next_table next : ℕ) (passed
 
 -- ---- the store
 
+-- of each record from here on, and of each refused name, a crash leaves just what was read
+pub record IsReadIn (old mid : World) (from : ℕ) : Type 0 where
+  pub records : (k : ℕ) → k < 2 ^ 63 → from ≤ k → (c : Option (List ℕ)) → mid.may (record_name k) c → c ≡ old.gives (record_name k)
+  pub refused : (n : List ℕ) → kind_of n ≡ Refused → (c : Option (List ℕ)) → mid.may n c → c ≡ old.gives n
+
+-- so it is where opening has settled what could be settled
+pub is_read_in : (old mid : World) (from : ℕ) → ((n : List ℕ) → IsForeign n → IsOnDisk old mid n) → CanBeSettled old from → IsReadIn old mid from
+is_read_in old mid from settles can = record {
+  records = λ k small le c m. let p = can.records k small le in settles (record_name k) (record_is_foreign k) p.0 c p.1 m;
+  refused = λ n refused c m. let p = can.refused n refused in settles n (refused_is_foreign n refused) p.0 c p.1 m;
+}
+
 module _ (old mid new : World) (v : SeenVersion) (passed : List ℕ) (records : List Record) (log : IsLogFrom old.gives v.log_from passed records) (passes : Passes old mid) (clears : ClearsRecords (IsBelow v.log_from) mid new) where
   may_be : (n : List ℕ) (c : Option (List ℕ)) → IsForeign n → new.may n c → IsOldOrPassed old v.log_from n c
   may_be n c foreign m = ⊎_elim (λ was. inl (passes.may n c foreign was)) (λ gone. inr gone) (clears.may n c m)
@@ -112,14 +124,13 @@ module _ (old mid new : World) (v : SeenVersion) (passed : List ℕ) (records : 
 
   -- ---- the log
 
-  module _ (read : PlainNumbersAreRead) (settled : IsSettledLog old v.log_from) where
+  module _ (read : PlainNumbersAreRead) (settled : IsReadIn old mid v.log_from) where
     -- of a record's name that isn't below, a crash leaves what was read
     is_read : (k : ℕ) → k < 2 ^ 63 → v.log_from ≤ k → (c : Option (List ℕ)) → new.may (record_name k) c → c ≡ old.gives (record_name k)
-    is_read k small le c m = settled.records k le c (was (may_be (record_name k) c (record_is_foreign k) m))
+    is_read k small le c m = ⊎_elim (λ was. settled.records k small le c was) below (clears.may (record_name k) c m)
       where
-        was : IsOldOrPassed old v.log_from (record_name k) c → old.may (record_name k) c
-        was (inl o) = o
-        was (inr gone) =
+        below : (c ≡ None) × IsOneOf (IsBelow v.log_from) (record_name k) → c ≡ old.gives (record_name k)
+        below gone =
             let lt : gone.1.0 < v.log_from = gone.1.1 in
             let same : k ≡ gone.1.0 = apart read k gone.1.0 small (omega (arith, lt, le, small)) gone.1.2 in
             absurd (omega (arith, lt, le, same))
@@ -153,7 +164,7 @@ module _ (old mid new : World) (v : SeenVersion) (passed : List ℕ) (records : 
         by_file (Some bytes) is = absurd (none_of records n none ((log.read_are n).1 (record { small = small; file = subst (λ (p : Option (List ℕ)). IsSome p) (sym is) refl }, le)))
 
     pub named : (n : List ℕ) → kind_of n ≡ Refused → (c : Option (List ℕ)) → new.may n c → c ≡ None
-    named n refused c m = ⊎_elim (λ was. settled.refused n refused c was ∙ log.are.good n refused) (λ gone. gone.0) (may_be n c (refused_is_foreign n refused) m)
+    named n refused c m = ⊎_elim (λ was. settled.refused n refused c was ∙ log.are.good n refused) (λ gone. gone.0) (clears.may n c m)
 
 -- ---- as the theory sees it
 
@@ -210,7 +221,7 @@ module _ (fresh : OpenedIsFresh) (reopen : ReplaysReopen) (stays : CounterStaysA
   is_log : IsLogOf [] [] core false first
   is_log = subst (λ k. IsLogOf [] [] k false first) (sym whole) (record { tree = refl; from = refl; other = λ u lost. absurd (cc lost); doubt = refl })
 
-  pub reopens : (old mid new : World) → IsLogFrom old.gives v.log_from passed records → Passes old mid → ClearsRecords (IsBelow v.log_from) mid new → PlainNumbersAreRead → IsSettledLog old v.log_from → {S : Type 0} (store : S) (numbers : List ℕ)
+  pub reopens : (old mid new : World) → IsLogFrom old.gives v.log_from passed records → Passes old mid → ClearsRecords (IsBelow v.log_from) mid new → PlainNumbersAreRead → IsReadIn old mid v.log_from → {S : Type 0} (store : S) (numbers : List ℕ)
       → IsReopenedLog image (record { store = store; core = core; numbers = numbers; doubted = false }) new
   reopens old mid new log passes clears read settled store numbers = record {
     first = first;

@@ -14,6 +14,7 @@ use Rattle.lsm_log_model.specs.Records.{Batch}
 use Rattle.lsm_log_model.specs.Logs.{Logged as Log, lost_of}
 use Rattle.lsm_state.specs.Core.{Core}
 use Rattle.lsm_state.specs.Deeds.{saved_of}
+use Rattle.lsm_state.specs.Kept.{IsKeptTree}
 
 -- a tree beside its store, the numbers of the records that may be there, and whether one of them has unknown outcome
 pub record SeenLogged (S : Type 0) : Type 0 where
@@ -26,6 +27,11 @@ pub record SeenLogged (S : Type 0) : Type 0 where
 pub record AreRecordNumbers (next : ℕ) (numbers : List ℕ) : Type 0 where
   pub rise : IsStrictlyIncreasing numbers
   pub below : All (λ k. k < next) numbers
+
+-- what always holds of it
+pub record IsKeptLogged {S : Type 0} (t : SeenLogged S) : Type 0 where
+  pub tree : IsKeptTree t.core
+  pub numbers : AreRecordNumbers t.core.seqno t.numbers
 
 -- is the outcome of a commit or of a record unknown?
 abbrev pub is_unsure : {S : Type 0} → SeenLogged S → Bool

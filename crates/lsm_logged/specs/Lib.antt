@@ -4,3 +4,5 @@ pub mod Removing
 pub mod Flushing
 pub mod Opening
 pub mod Asking
+pub mod Counting
+pub mod Acting

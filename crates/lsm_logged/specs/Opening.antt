@@ -1,11 +1,11 @@
 -- What opening makes of a store, and of the log in it.
-use Rattle.std.specs.Prelude.{◌≡◌, ◌⊎◌, ◌≤◌, ℕ, false, List, [], map, Option, None, Result, Ok, Err, IsSome, Contains}
-use Rattle.std.specs.List.{flat_map}
+use Rattle.std.specs.Prelude.{◌≡◌, ◌⊎◌, ◌<◌, ◌≤◌, ◌^◌, ℕ, false, List, [], map, Option, None, Result, Ok, Err, IsSome, Contains}
+use Rattle.std.specs.List.{flat_map, AllByRecursion}
 use Rattle.lsm_below.specs.Entries.{Entry, above}
 use Rattle.lsm_below.specs.Sums.{capped}
 use Rattle.lsm_below.specs.declared.error.Error.{Error}
-use Rattle.lsm_below.specs.declared.error.Error.TheVariants.{OutOfMemory, Unrecoverable, KeyTooLong, ValueTooLong, NumberTooGreat}
-use Rattle.lsm_store.specs.World.{World, Same}
+use Rattle.lsm_below.specs.declared.error.Error.TheVariants.{OutOfMemory, Store, Unrecoverable, KeyTooLong, ValueTooLong, NumberTooGreat}
+use Rattle.lsm_store.specs.World.{Image, World, Same}
 use Rattle.lsm_model.specs.Ops.{op_entries}
 use Rattle.lsm_versions.specs.declared.config.Config.{Config}
 use Rattle.lsm_versions.specs.Configs.{raised}
@@ -18,12 +18,13 @@ use Rattle.lsm_files.specs.Stored.{IsStored}
 use Rattle.lsm_log.specs.declared.record.Record.{Record}
 use Rattle.lsm_log.specs.declared.kinds.LogName.TheVariants.{Refused}
 use Rattle.lsm_log.specs.LogNames.{record_name, kind_of}
-use Rattle.lsm_log.specs.Logs.{IsLogFrom, IsBadLog}
+use Rattle.lsm_log.specs.Logs.{IsRecordAt, IsLogFrom, IsBadLog}
 use Rattle.lsm_log_model.specs.Records.{Batch, LogImage, LogStands, opened_by}
 use Rattle.lsm_log_model.specs.Logs.{Logged as Log, MayBeDrawn}
 use Rattle.lsm_log_model.specs.Replays.{IsReopened}
-use Rattle.lsm_state.specs.Core.{opened_core, written_all, versions_left, written_of}
+use Rattle.lsm_state.specs.Core.{Core, opened_core, written_all, versions_left, written_of}
 use Rattle.lsm_state.specs.Opened.{found_entries}
+use Rattle.lsm_logged.specs.Counting.{IsReadFrom}
 use Rattle.lsm_logged.specs.Keeping.{SeenLogged, AreRecordNumbers, IsLogOf, KeepsLog}
 use Rattle.lsm_logged.specs.Removing.{Passed}
 
@@ -33,9 +34,24 @@ use Rattle.lsm_logged.specs.Removing.{Passed}
 abbrev pub entries_read : List Record → List Entry
 entries_read records = flat_map (λ r. op_entries r.number r.ops) records
 
+-- why records aren't read: for want of memory, by a fault of the store, or since one is none
+abbrev pub RefusesReading : Error → Type 0
+RefusesReading e = ((e ≡ OutOfMemory) ⊎ (e ≡ Store)) ⊎ (e ≡ Unrecoverable)
+
 -- why a record isn't written to a tree: for want of memory, or since an entry is none that a tree takes
 abbrev pub RefusesReplay : Error → Type 0
 RefusesReplay e = (e ≡ OutOfMemory) ⊎ ((e ≡ KeyTooLong) ⊎ ((e ≡ ValueTooLong) ⊎ (e ≡ NumberTooGreat)))
+
+-- why records aren't replayed: one isn't written, the store fails, or it doesn't read a record again that it read before
+abbrev pub RefusesReplays : Error → Type 0
+RefusesReplays e = RefusesReplay e ⊎ ((e ≡ Store) ⊎ (e ≡ Unrecoverable))
+
+-- a record of each of these numbers was written, in their order; where the store tells, it is the one that the image has
+pub record ReplaysEach (tells : Type 0) (image : Image) (numbers : List ℕ) (old new : Core) : Type 0 where
+  pub records : List Record
+  pub named : map (λ r. r.number) records ≡ numbers
+  pub core : new ≡ written_all (entries_read records) old
+  pub records_are : tells → AllByRecursion (λ r. IsRecordAt image r.number r) records
 
 -- ---- what is opened
 
@@ -68,10 +84,11 @@ pub record TakesLog (old new : World) (v : SeenVersion) (passed : List ℕ) (rec
   pub gone : (k : ℕ) → Contains passed k → new.gives (record_name k) ≡ None
   pub passed_on : Passed v.log_from old new
 
--- each record that counts, and each number from here on that has none, has one possible content, and so has each name that a log refuses
-pub record IsSettledLog (w : World) (from : ℕ) : Type 0 where
-  pub records : (k : ℕ) → from ≤ k → (c : Option (List ℕ)) → w.may (record_name k) c → c ≡ w.gives (record_name k)
-  pub refused : (n : List ℕ) → kind_of n ≡ Refused → (c : Option (List ℕ)) → w.may n c → c ≡ w.gives n
+-- of each record from here on, and of each name that a log refuses, not any bytes can be left: so opening can put on the disk what it
+-- reads of them. It is so behind a crash, and where a process that kept its log was killed (`logs_can_be_settled`)
+pub record CanBeSettled (w : World) (from : ℕ) : Type 0 where
+  pub records : (k : ℕ) → k < 2 ^ 63 → from ≤ k → (impossible : Option (List ℕ)) × ¬ w.may (record_name k) impossible
+  pub refused : (n : List ℕ) → kind_of n ≡ Refused → (impossible : Option (List ℕ)) × ¬ w.may n impossible
 
 -- as the theory sees it: the reopened tree of the image, whose records are in the store, and whose counter is above them
 pub record IsReopenedLog {S : Type 0} (image : LogImage) (t : SeenLogged S) (w : World) : Type 0 where
@@ -87,7 +104,7 @@ pub record OpensLogged {S : Type 0} (tells : Type 0) (world : S → World) (stor
   pub records : List Record
   pub replays : Replays config passed records t
   pub takes : tells → TakesLog (world store) (world t.store) (version_of t) passed records
-  pub reopens : tells → LogStands (image_read (version_of t) records) → IsSettledLog (world store) (version_of t).log_from → IsReopenedLog (image_read (version_of t) records) t (world t.store)
+  pub reopens : tells → LogStands (image_read (version_of t) records) → CanBeSettled (world store) (version_of t).log_from → IsReopenedLog (image_read (version_of t) records) t (world t.store)
   pub stored : tells → IsReady (world store) → IsStored (world t.store) (versions_left t.core) (written_of t.core)
 
 -- ---- what is refused
@@ -97,6 +114,16 @@ abbrev pub logged_left : {S : Type 0} → Result (SeenLogged S) (Error × S) →
 logged_left (Ok t) = t.store
 logged_left (Err e) = e.1
 
--- it is `Unrecoverable` only for the tree's files, or for the log, and for the latter nothing is done
-abbrev pub ToldBad : World → World → Error → Type 0
-ToldBad old new e = e ≡ Unrecoverable → Told TellsOpen (Opens old new) (Err e) ⊎ (Same old new × ((from : ℕ) × IsBadLog old.gives from))
+-- the log is bad, from the number on from which it is read; then nothing is done
+pub record IsBadFrom (old new : World) : Type 0 where
+  pub from : ℕ
+  pub read : IsReadFrom old.gives from
+  pub bad : IsBadLog old.gives from
+  pub same : Same old new
+
+-- as an opening of the tree's files is refused; or for want of memory, or by a fault of the store; or for the log
+pub data RefusesLogged (old new : World) (e : Error) : Type 0 where
+  Files : Told TellsOpen (Opens old new) (Err e) → RefusesLogged old new e
+  Memory : e ≡ OutOfMemory → RefusesLogged old new e
+  Faulty : e ≡ Store → RefusesLogged old new e
+  BadLog : e ≡ Unrecoverable → IsBadFrom old new → RefusesLogged old new e

@@ -1,20 +1,40 @@
 // Compactions of a logged tree.
-ghost use Rattle.std.specs.Prelude.{◌≡◌, Ok};
+ghost use Rattle.std.specs.Prelude.{◌≡◌, ◌<◌, ◌^◌, Ok};
+ghost use Rattle.lsm_below.specs.Numbers.{PlainNumbersAreRead};
 ghost use Rattle.lsm_files.specs.Causes.{HasCause, Blames};
 ghost use Rattle.lsm_state.specs.Cleaning.{LeavesNoFiles};
 ghost use Rattle.lsm_state.specs.Commits.{Upholds};
+ghost use Rattle.lsm_state.specs.CompactionDeeds.{CompactionsAreDeeds};
 ghost use Rattle.lsm_state.specs.Compactions.{given_up, LeavesNoneChosen, BeginsChoice, BeginsCompaction, Finishes, Spends};
+ghost use Rattle.lsm_state.specs.FlushLaws.{FlushesAreDeeds};
+ghost use Rattle.lsm_state.specs.Kept.{IsKeptTree};
 ghost use Rattle.lsm_state.specs.WholeCompactions.{CompactsChoice, Compacts, DropsRange, options_at, only_memory, major_choice, drop_choice};
+ghost use Rattle.lsm_logged.specs.Acting.{CompactsAct, MergesAct};
 ghost use Rattle.lsm_logged.specs.Asking.{Asks};
 
 use crate::Logged;
-use lsm_below::{Error, SeqNo};
+use lsm_below::{Error, SeqNo, plain_numbers_are_read};
 use lsm_merges::{CompactionJob, MergedCompaction};
 use lsm_pick::{Choice, CompactionStrategy, OwnedBounds};
-use lsm_state::{Begun, Finished, Options};
+use lsm_state::{Begun, Finished, Options, compactions_are_deeds, flushes_are_deeds};
 use lsm_store::Store;
 
 impl<S: Store> Logged<S> {
+    /// What the acts of compactions are told from: laws, and what every logged tree meets.
+    fn acts_are_known(&self)
+        ensures numbers { PlainNumbersAreRead }
+        ensures flushes { FlushesAreDeeds }
+        ensures compactions { CompactionsAreDeeds }
+        ensures tree { IsKeptTree self.now.core }
+        ensures counter { self.now.core.seqno < 2 ^ 64 }
+    {
+        plain_numbers_are_read();
+        flushes_are_deeds();
+        compactions_are_deeds();
+        self.tree.facts();
+        self.counter_fits();
+    }
+
     /// `TreeState::begin_choice`.
     ///
     /// # Errors
@@ -22,6 +42,8 @@ impl<S: Store> Logged<S> {
     /// As that call, and `Unrecoverable` also where a record has unknown outcome.
     pub fn begin_choice(&mut self, choice: Choice, options: Options) -> Result<Begun, Error>
         ensures asks { Asks result self.old self.new (BeginsChoice choice options result self.old.core self.new.core) }
+        // As the theory sees it: an installed compaction, or one of unknown outcome, else the mark of its watermark.
+        ensures acts { S.tells → CompactsAct options.mvcc_gc_watermark result (S.world self.old.store) (S.world self.new.store) self.old self.new }
         // What a crash leaves, of the tree's files and of names that are none of its own.
         ensures upholds { S.tells → Upholds (S.world self.old.store) (S.world self.new.store) self.old.core self.new.core }
         // The store is blamed only where a call of it failed.
@@ -29,6 +51,7 @@ impl<S: Store> Logged<S> {
         // Behind a whole clean-up no file is left of what went.
         ensures gone { S.tells → result ≡ Ok Begun.Installed → LeavesNoFiles (S.world self.new.store) (given_up choice) self.old.core.history self.new.core.history }
     {
+        self.acts_are_known();
         self.tree.is_upheld();
         if self.doubted {
             return Err(Error::Unrecoverable);
@@ -47,6 +70,8 @@ impl<S: Store> Logged<S> {
         options: Options,
     ) -> Result<Begun, Error>
         ensures asks { Asks result self.old self.new (BeginsCompaction (may_choose strategy.now) (may_refuse strategy.now) options result self.old.core self.new.core) }
+        // As the theory sees it: an installed compaction, or one of unknown outcome, else the mark of its watermark.
+        ensures acts { S.tells → CompactsAct options.mvcc_gc_watermark result (S.world self.old.store) (S.world self.new.store) self.old self.new }
         // What a crash leaves, of the tree's files and of names that are none of its own.
         ensures upholds { S.tells → Upholds (S.world self.old.store) (S.world self.new.store) self.old.core self.new.core }
         // The store is blamed only where a call of it failed.
@@ -54,6 +79,7 @@ impl<S: Store> Logged<S> {
         // Behind a whole clean-up no file is left of what went.
         ensures gone { S.tells → result ≡ Ok Begun.Installed → LeavesNoneChosen (S.world self.new.store) (may_choose strategy.now) self.old.core self.new.core }
     {
+        self.acts_are_known();
         self.tree.is_upheld();
         if self.doubted {
             return Err(Error::Unrecoverable);
@@ -72,6 +98,8 @@ impl<S: Store> Logged<S> {
         options: Options,
     ) -> Result<Begun, Error>
         ensures asks { Asks result self.old self.new (BeginsCompaction (C.may_choose strategy.now) (C.may_refuse strategy.now) options result self.old.core self.new.core) }
+        // As the theory sees it: an installed compaction, or one of unknown outcome, else the mark of its watermark.
+        ensures acts { S.tells → CompactsAct options.mvcc_gc_watermark result (S.world self.old.store) (S.world self.new.store) self.old self.new }
         // What a crash leaves, of the tree's files and of names that are none of its own.
         ensures upholds { S.tells → Upholds (S.world self.old.store) (S.world self.new.store) self.old.core self.new.core }
         // The store is blamed only where a call of it failed.
@@ -79,6 +107,7 @@ impl<S: Store> Logged<S> {
         // Behind a whole clean-up no file is left of what went.
         ensures gone { S.tells → result ≡ Ok Begun.Installed → LeavesNoneChosen (S.world self.new.store) (C.may_choose strategy.now) self.old.core self.new.core }
     {
+        self.acts_are_known();
         self.tree.is_upheld();
         if self.doubted {
             return Err(Error::Unrecoverable);
@@ -93,6 +122,8 @@ impl<S: Store> Logged<S> {
     /// As that call, and `Unrecoverable` also where a record has unknown outcome.
     pub fn finish_compaction(&mut self, merged: MergedCompaction) -> Result<Finished, Error>
         ensures asks { Asks result self.old self.new (Finishes merged.job result self.old.core self.new.core) }
+        // As the theory sees it: a merge behind the mark of its beginning, or one of unknown outcome, else nothing.
+        ensures acts { S.tells → MergesAct merged.job result (S.world self.old.store) (S.world self.new.store) self.old self.new }
         // What a crash leaves, of the tree's files and of names that are none of its own.
         ensures upholds { S.tells → Upholds (S.world self.old.store) (S.world self.new.store) self.old.core self.new.core }
         // The store is blamed only where a call of it failed.
@@ -100,6 +131,7 @@ impl<S: Store> Logged<S> {
         // Behind a whole clean-up no file is left of what went.
         ensures gone { S.tells → result ≡ Ok Finished.Installed → LeavesNoFiles (S.world self.new.store) merged.job.ids self.old.core.history self.new.core.history }
     {
+        self.acts_are_known();
         self.tree.is_upheld();
         if self.doubted {
             return Err(Error::Unrecoverable);
@@ -123,6 +155,8 @@ impl<S: Store> Logged<S> {
     /// As that call, and `Unrecoverable` also where a record has unknown outcome.
     pub fn compact_choice(&mut self, choice: Choice, options: Options) -> Result<Begun, Error>
         ensures asks { Asks result self.old self.new (CompactsChoice choice options result self.old.core self.new.core) }
+        // As the theory sees it: an installed compaction, or one of unknown outcome, else the mark of its watermark.
+        ensures acts { S.tells → CompactsAct options.mvcc_gc_watermark result (S.world self.old.store) (S.world self.new.store) self.old self.new }
         // What a crash leaves, of the tree's files and of names that are none of its own.
         ensures upholds { S.tells → Upholds (S.world self.old.store) (S.world self.new.store) self.old.core self.new.core }
         // The store is blamed only where a call of it failed.
@@ -130,6 +164,7 @@ impl<S: Store> Logged<S> {
         // Behind a whole clean-up no file is left of what went.
         ensures gone { S.tells → result ≡ Ok Begun.Installed → LeavesNoFiles (S.world self.new.store) (given_up choice) self.old.core.history self.new.core.history }
     {
+        self.acts_are_known();
         self.tree.is_upheld();
         if self.doubted {
             return Err(Error::Unrecoverable);
@@ -148,6 +183,8 @@ impl<S: Store> Logged<S> {
         watermark: SeqNo,
     ) -> Result<Begun, Error>
         ensures asks { Asks result self.old self.new (Compacts (may_choose strategy.now) (may_refuse strategy.now) (options_at watermark self.old.core) result self.old.core self.new.core) }
+        // As the theory sees it: an installed compaction, or one of unknown outcome, else the mark of its watermark.
+        ensures acts { S.tells → CompactsAct watermark result (S.world self.old.store) (S.world self.new.store) self.old self.new }
         // What a crash leaves, of the tree's files and of names that are none of its own.
         ensures upholds { S.tells → Upholds (S.world self.old.store) (S.world self.new.store) self.old.core self.new.core }
         // The store is blamed only where a call of it failed.
@@ -155,6 +192,7 @@ impl<S: Store> Logged<S> {
         // Behind a whole clean-up no file is left of what went.
         ensures gone { S.tells → result ≡ Ok Begun.Installed → LeavesNoneChosen (S.world self.new.store) (may_choose strategy.now) self.old.core self.new.core }
     {
+        self.acts_are_known();
         self.tree.is_upheld();
         if self.doubted {
             return Err(Error::Unrecoverable);
@@ -173,6 +211,8 @@ impl<S: Store> Logged<S> {
         options: Options,
     ) -> Result<Begun, Error>
         ensures asks { Asks result self.old self.new (Compacts (C.may_choose strategy.now) (C.may_refuse strategy.now) options result self.old.core self.new.core) }
+        // As the theory sees it: an installed compaction, or one of unknown outcome, else the mark of its watermark.
+        ensures acts { S.tells → CompactsAct options.mvcc_gc_watermark result (S.world self.old.store) (S.world self.new.store) self.old self.new }
         // What a crash leaves, of the tree's files and of names that are none of its own.
         ensures upholds { S.tells → Upholds (S.world self.old.store) (S.world self.new.store) self.old.core self.new.core }
         // The store is blamed only where a call of it failed.
@@ -180,6 +220,7 @@ impl<S: Store> Logged<S> {
         // Behind a whole clean-up no file is left of what went.
         ensures gone { S.tells → result ≡ Ok Begun.Installed → LeavesNoneChosen (S.world self.new.store) (C.may_choose strategy.now) self.old.core self.new.core }
     {
+        self.acts_are_known();
         self.tree.is_upheld();
         if self.doubted {
             return Err(Error::Unrecoverable);
@@ -194,6 +235,8 @@ impl<S: Store> Logged<S> {
     /// As that call, and `Unrecoverable` also where a record has unknown outcome.
     pub fn major_compact(&mut self, target: u64, watermark: SeqNo) -> Result<Begun, Error>
         ensures asks { Asks result self.old self.new (Compacts (major_choice target) only_memory (options_at watermark self.old.core) result self.old.core self.new.core) }
+        // As the theory sees it: an installed compaction, or one of unknown outcome, else the mark of its watermark.
+        ensures acts { S.tells → CompactsAct watermark result (S.world self.old.store) (S.world self.new.store) self.old self.new }
         // What a crash leaves, of the tree's files and of names that are none of its own.
         ensures upholds { S.tells → Upholds (S.world self.old.store) (S.world self.new.store) self.old.core self.new.core }
         // The store is blamed only where a call of it failed.
@@ -201,6 +244,7 @@ impl<S: Store> Logged<S> {
         // Behind a whole clean-up no file is left of what went.
         ensures gone { S.tells → result ≡ Ok Begun.Installed → LeavesNoneChosen (S.world self.new.store) (major_choice target) self.old.core self.new.core }
     {
+        self.acts_are_known();
         self.tree.is_upheld();
         if self.doubted {
             return Err(Error::Unrecoverable);
@@ -215,6 +259,8 @@ impl<S: Store> Logged<S> {
     /// As that call, and `Unrecoverable` also where a record has unknown outcome.
     pub fn drop_range(&mut self, bounds: OwnedBounds) -> Result<Begun, Error>
         ensures asks { Asks result self.old self.new (DropsRange bounds result self.old.core self.new.core) }
+        // As the theory sees it: an installed compaction, or one of unknown outcome, else the mark of its watermark.
+        ensures acts { S.tells → CompactsAct 0 result (S.world self.old.store) (S.world self.new.store) self.old self.new }
         // What a crash leaves, of the tree's files and of names that are none of its own.
         ensures upholds { S.tells → Upholds (S.world self.old.store) (S.world self.new.store) self.old.core self.new.core }
         // The store is blamed only where a call of it failed.
@@ -222,6 +268,7 @@ impl<S: Store> Logged<S> {
         // Behind a whole clean-up no file is left of what went.
         ensures gone { S.tells → result ≡ Ok Begun.Installed → LeavesNoneChosen (S.world self.new.store) (drop_choice bounds) self.old.core self.new.core }
     {
+        self.acts_are_known();
         self.tree.is_upheld();
         if self.doubted {
             return Err(Error::Unrecoverable);

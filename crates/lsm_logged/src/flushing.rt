@@ -1,22 +1,40 @@
 // Flushes of a logged tree, and a clear.
-ghost use Rattle.std.specs.Prelude.{◌≡◌, true, false};
+ghost use Rattle.std.specs.Prelude.{◌≡◌, ◌⊎◌, ◌<◌, ◌^◌, [], true, false};
 ghost use Rattle.lsm_files.specs.Causes.{HasCause, Blames};
 ghost use Rattle.lsm_state.specs.Causes.{BlamesOrUncleanFlush, BlamesOrUncleanBehind, BlamesOrUnclean, BlamesBeside};
 ghost use Rattle.lsm_state.specs.Commits.{UpholdsFiles, Upholds};
-ghost use Rattle.lsm_state.specs.Flushes.{spent};
+ghost use Rattle.lsm_state.specs.Flushes.{sealed_ids, spent};
 ghost use Rattle.lsm_logged.specs.Removing.{log_from_of, Passed};
+ghost use Rattle.lsm_logged.specs.Acting.{FlushesAct, FlushesBothAct, RegistersAct, ClearsAct};
 ghost use Rattle.lsm_logged.specs.Flushing.{FlushesLogged, FlushesBoth, BeginsLogged, WritesJobLogged, RegistersLogged, ClearsLogged, CleansLog, RemovesBehind};
 
 use crate::Logged;
-use lsm_below::{Error, MemtableId, SeqNo};
+use lsm_below::{Error, MemtableId, SeqNo, plain_numbers_are_read};
 use lsm_files::crashes_leave_versions;
 use lsm_jobs::{FlushJob, MergedFlush, Registered, WrittenFlush};
+use lsm_state::flushes_are_deeds;
 use lsm_store::Store;
 
 impl<S: Store> Logged<S> {
+    /// The counter is below 2^64.
+    pub(crate) fn counter_fits(&self)
+        ensures { self.now.core.seqno < 2 ^ 64 }
+    {
+        let _ = self.tree.seqno().get();
+    }
+
+    /// Whether a record has unknown outcome, and something is sealed.
+    fn is_flush_unsure(&self) -> bool
+        ensures unsure { result ≡ true → (self.now.doubted ≡ true) × (sealed_ids self.now.core ≡ [] → ⊥) }
+        ensures sure { result ≡ false → (self.now.doubted ≡ false) ⊎ (sealed_ids self.now.core ≡ []) }
+    {
+        self.doubted && self.tree.sealed_memtable_count() > 0
+    }
+
     /// What became of a flush, once the records that it passed are removed, where it was installed and all was cleaned up.
     fn clean_log(&mut self, flushed: Registered) -> Registered
         ensures cleans { CleansLog flushed result self.old self.new }
+        ensures still { flushed.installed ≡ false → self.new ≡ self.old }
         ensures passes { S.tells → Passed (log_from_of self.old.core) (S.world self.old.store) (S.world self.new.store) }
         ensures upholds { S.tells → UpholdsFiles (S.world self.old.store) (S.world self.new.store) self.old.core self.new.core }
         ensures causes { HasCause (flushed.cleaned ≡ true × result.cleaned ≡ false) (S.world self.old.store) (S.world self.new.store) }
@@ -44,12 +62,16 @@ impl<S: Store> Logged<S> {
         ensures passes { S.tells → Passed (log_from_of self.new.core) (S.world self.old.store) (S.world self.new.store) }
         // None of them before that version is on the disk.
         ensures behind { S.tells → RemovesBehind (S.world self.old.store) (S.world self.new.store) self.old.core self.new.core }
+        // As the theory sees it: a flush, or one of unknown outcome, else nothing.
+        ensures acts { S.tells → FlushesAct watermark result (S.world self.old.store) (S.world self.new.store) self.old self.new }
         ensures upholds { S.tells → UpholdsFiles (S.world self.old.store) (S.world self.new.store) self.old.core self.new.core }
         // The store is blamed only where a call of it failed.
         ensures causes { HasCause (BlamesOrUncleanFlush result) (S.world self.old.store) (S.world self.new.store) }
     {
+        plain_numbers_are_read();
+        self.counter_fits();
         self.tree.is_upheld();
-        if self.doubted && self.tree.sealed_memtable_count() > 0 {
+        if self.is_flush_unsure() {
             return Err(Error::Unrecoverable);
         }
         let flushed = self.tree.flush(watermark)?;
@@ -72,10 +94,14 @@ impl<S: Store> Logged<S> {
         ensures flushes { FlushesBoth watermark result self.old self.new }
         ensures passes { S.tells → Passed (log_from_of self.new.core) (S.world self.old.store) (S.world self.new.store) }
         ensures behind { S.tells → RemovesBehind (S.world self.old.store) (S.world self.new.store) self.old.core self.new.core }
+        // As the theory sees it: a rotation, and behind it a flush.
+        ensures acts { S.tells → FlushesBothAct watermark result (S.world self.old.store) (S.world self.new.store) self.old self.new }
         ensures upholds { S.tells → UpholdsFiles (S.world self.old.store) (S.world self.new.store) self.old.core self.new.core }
         ensures causes { HasCause (BlamesOrUncleanBehind result) (S.world self.old.store) (S.world self.new.store) }
     {
         crashes_leave_versions(self.tree.store());
+        flushes_are_deeds();
+        self.tree.facts();
         let sealed = match self.rotate_memtable() {
             Ok(sealed) => sealed,
             Err(error) => return Err((error, None)),
@@ -94,7 +120,7 @@ impl<S: Store> Logged<S> {
     pub fn begin_flush(&mut self) -> Result<Option<FlushJob>, Error>
         ensures { BeginsLogged result self.old self.new }
     {
-        if self.doubted && self.tree.sealed_memtable_count() > 0 {
+        if self.is_flush_unsure() {
             return Err(Error::Unrecoverable);
         }
         self.tree.begin_flush()
@@ -138,9 +164,16 @@ impl<S: Store> Logged<S> {
         ensures registers { RegistersLogged job result self.old self.new }
         ensures passes { S.tells → Passed (log_from_of self.new.core) (S.world self.old.store) (S.world self.new.store) }
         ensures behind { S.tells → RemovesBehind (S.world self.old.store) (S.world self.new.store) self.old.core self.new.core }
+        // As the theory sees it: a flush, or one of unknown outcome, else nothing.
+        ensures acts { S.tells → RegistersAct job result (S.world self.old.store) (S.world self.new.store) self.old self.new }
         ensures upholds { S.tells → UpholdsFiles (S.world self.old.store) (S.world self.new.store) self.old.core self.new.core }
         ensures causes { HasCause (BlamesOrUnclean result) (S.world self.old.store) (S.world self.new.store) }
     {
+        plain_numbers_are_read();
+        flushes_are_deeds();
+        job.facts();
+        self.tree.facts();
+        self.counter_fits();
         self.tree.is_upheld();
         crashes_leave_versions(self.tree.store());
         if self.doubted {
@@ -162,9 +195,13 @@ impl<S: Store> Logged<S> {
         ensures clears { ClearsLogged result self.old self.new }
         ensures passes { S.tells → Passed (log_from_of self.new.core) (S.world self.old.store) (S.world self.new.store) }
         ensures behind { S.tells → RemovesBehind (S.world self.old.store) (S.world self.new.store) self.old.core self.new.core }
+        // As the theory sees it: a clear, or one of unknown outcome, else nothing.
+        ensures acts { S.tells → ClearsAct result (S.world self.old.store) (S.world self.new.store) self.old self.new }
         ensures upholds { S.tells → UpholdsFiles (S.world self.old.store) (S.world self.new.store) self.old.core self.new.core }
         ensures causes { HasCause (Blames result) (S.world self.old.store) (S.world self.new.store) }
     {
+        plain_numbers_are_read();
+        self.counter_fits();
         self.tree.is_upheld();
         if self.is_uncertain() {
             return Err(Error::Unrecoverable);

@@ -7,14 +7,20 @@
 //! | `writing` | its writes |
 //! | `flushing` | its flushes, and a clear |
 //! | `compacting` | its compactions |
+//! | `counting` | whether a store has records that count |
 //! | `removing` | how records that the version has passed are removed |
+//! | `laws` | what is known of a log between two lives |
 #![tactic(auto)]
 
 mod compacting;
+mod counting;
 mod flushing;
+mod laws;
 mod logged;
 mod opening;
 mod removing;
 mod writing;
 
+pub use counting::has_log;
+pub use laws::logs_can_be_settled;
 pub use logged::Logged;

@@ -5,7 +5,7 @@ ghost use Rattle.lsm_below.specs.Sums.{capped};
 ghost use Rattle.lsm_state.specs.Held.{first_entries, HasFirst};
 ghost use Rattle.lsm_state.specs.Flushes.{with_next_table};
 ghost use Rattle.lsm_state.specs.WholeFlushes.{sealed_bytes};
-ghost use Rattle.lsm_logged.specs.Keeping.{is_unsure};
+ghost use Rattle.lsm_logged.specs.Keeping.{is_unsure, IsKeptLogged};
 
 use lsm_below::{Error, MemtableId, SeqNo, TableId};
 use lsm_parts::LIMIT;
@@ -40,6 +40,13 @@ impl<S: Store> Model for Logged<S> {
 }
 
 impl<S: Store> Logged<S> {
+    /// What every logged tree meets: what its tree does, and the numbers of its records rise and are below the counter.
+    pub fn facts(&self)
+        ensures { IsKeptLogged self.now }
+    {
+        self.tree.facts();
+    }
+
     /// The tree, to be read: each read of `TreeState`, each count and each choice of a strategy is a call of it.
     pub fn tree(&self) -> &TreeState<S>
         ensures { result.now ≡ record { store = self.now.store; core = self.now.core } }

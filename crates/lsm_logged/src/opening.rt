@@ -1,38 +1,28 @@
 // A logged tree is opened over a store, and gives it back.
-ghost use Rattle.std.specs.Prelude.{◌≡◌, ◌⊎◌, ◌<◌, ◌^◌, ℕ, None, map, Contains, IfOk, IfErr, OnOk, IsErrOf, IfSome, IfNone};
-ghost use Rattle.std.specs.List.{All};
+ghost use Rattle.std.specs.Prelude.{◌≡◌, ◌⊎◌, ◌<◌, ◌^◌, ℕ, None, Contains, IfOk, IfErr, OnOk, IsErrOf, IfSome, IfNone};
+ghost use Rattle.std.specs.List.{All, AllByRecursion};
 ghost use Rattle.std.specs.List.Sorted.{IsStrictlyIncreasing};
 ghost use Rattle.lsm_store.specs.World.{Same, LeavesOnly};
+ghost use Rattle.lsm_tables.specs.Image.{Fits};
 ghost use Rattle.lsm_model.specs.Ops.{op_entries};
 ghost use Rattle.lsm_files.specs.Stored.{CountsFaults};
 ghost use Rattle.lsm_log.specs.LogNames.{record_name};
 ghost use Rattle.lsm_log.specs.Changes.{IsBelow, ClearsRecords, AreCleared};
-ghost use Rattle.lsm_log.specs.Logs.{IsLogFrom, IsBadLog};
+ghost use Rattle.lsm_log.specs.Logs.{LacksOne, IsLogAt, IsBadLog};
 ghost use Rattle.lsm_state.specs.Core.{written_all};
 ghost use Rattle.lsm_state.specs.Commits.{UpholdsFiles};
 ghost use Rattle.lsm_logged.specs.Keeping.{AreRecordNumbers};
-ghost use Rattle.lsm_logged.specs.Opening.{entries_read, RefusesReplay, OpensLogged, ToldBad};
+ghost use Rattle.lsm_logged.specs.Opening.{RefusesReading, RefusesReplay, RefusesReplays, ReplaysEach, OpensLogged, RefusesLogged};
 
 use crate::Logged;
 use lsm_below::{Error, SeqNo, plain_numbers_are_read};
-use lsm_files::openings_pass;
-use lsm_log::{Log, Record};
+use lsm_files::{crashes_leave_versions, openings_pass, openings_settle};
+use lsm_log::{LogNumbers, Record};
 use lsm_log_model::{counter_stays_above, replays_reopen};
 use lsm_parts::{Config, LIMIT};
 use lsm_state::{Found, TreeState, opened_trees_are_fresh};
 use lsm_store::Store;
-use std::alloc::{AllocError, Global};
-
-/// The numbers of records, in their order.
-fn numbers_of(alloc: Global, records: &[Record]) -> Result<Vec<SeqNo>, AllocError>
-    ensures { IfOk result (λ v. v.items ≡ map (λ r. r.number) records.now) }
-{
-    let mut numbers = Vec::new(alloc);
-    for record in records {
-        numbers.push(record.number)?;
-    }
-    Ok(numbers)
-}
+use std::alloc::Global;
 
 /// The number after these. None where they don't rise, or are 2^63 or more.
 fn number_after(numbers: &[SeqNo]) -> Option<SeqNo>
@@ -54,6 +44,7 @@ fn number_after(numbers: &[SeqNo]) -> Option<SeqNo>
 fn replay<S: Store>(tree: &mut TreeState<S>, read: Record) -> Result<(), Error>
     ensures ok { OnOk result (tree.new.core ≡ written_all (op_entries read.number read.ops) tree.old.core) }
     ensures only { IfErr result RefusesReplay }
+    ensures memory { AllByRecursion Fits (op_entries read.number read.ops) → read.number < 2 ^ 63 → IfErr result (λ e. e ≡ Error.OutOfMemory) }
     ensures store { tree.new.store ≡ tree.old.store }
 {
     let number = read.number;
@@ -63,78 +54,79 @@ fn replay<S: Store>(tree: &mut TreeState<S>, read: Record) -> Result<(), Error>
     Ok(())
 }
 
-/// Writes records to the tree, in their order.
-fn replay_all<S: Store>(tree: &mut TreeState<S>, records: Vec<Record>) -> Result<(), Error>
-    ensures ok { OnOk result (tree.new.core ≡ written_all (entries_read records.items) tree.old.core) }
-    ensures only { IfErr result RefusesReplay }
-    ensures store { tree.new.store ≡ tree.old.store }
+/// Reads each of these records again, and writes it to the tree, in their order. One is in memory at a time, beside the
+/// tree.
+fn replay_each<S: Store>(tree: &mut TreeState<S>, numbers: &[SeqNo]) -> Result<(), Error>
+    ensures replays { OnOk result (ReplaysEach S.tells (S.world tree.old.store).gives numbers.now tree.old.core tree.new.core) }
+    ensures bad { S.tells → IsErrOf result Error.Unrecoverable → LacksOne (S.world tree.old.store).gives numbers.now }
+    ensures told { S.tells → All (λ k. k < 2 ^ 63) numbers.now → IfErr result RefusesReading }
+    ensures only { IfErr result RefusesReplays }
+    ensures same { S.tells → Same (S.world tree.old.store) (S.world tree.new.store) }
+    ensures upholds { S.tells → OnOk result (UpholdsFiles (S.world tree.old.store) (S.world tree.new.store) tree.old.core tree.new.core) }
+    ensures counts { CountsFaults (S.world tree.old.store) (S.world tree.new.store) result }
 {
-    for record in records {
-        replay(tree, record)?;
+    crashes_leave_versions(tree.store());
+    for number in numbers {
+        let read = tree.read_record(*number)?;
+        replay(tree, read)?;
     }
     Ok(())
 }
 
-/// What is read of a log, the numbers of its records, and the number after all that were met.
+/// What a check of a log tells: the numbers of its records, and the number after all that were met.
 #[derive(Drop)]
-struct ReadLog {
-    log: Log,
-    numbers: Vec<SeqNo>,
+struct CheckedLog {
+    log: LogNumbers,
     next: SeqNo,
 }
 
-/// What the store has of a log, from a number on.
-fn read_numbered<S: Store>(
-    alloc: Global,
-    found: &mut Found<S>,
-    from: SeqNo,
-) -> Result<ReadLog, Error>
-    ensures read { S.tells → IfOk result (λ r. IsLogFrom (S.world found.old.store).gives from r.log.passed.items r.log.records.items) }
-    ensures numbers { IfOk result (λ r. r.numbers.items ≡ map (λ x. x.number) r.log.records.items) }
-    ensures after { IfOk result (λ r. AreRecordNumbers r.next r.numbers.items) }
+/// Checks the log of what was found, from a number on.
+fn check_numbered<S: Store>(found: &mut Found<S>, from: SeqNo) -> Result<CheckedLog, Error>
+    ensures read { S.tells → IfOk result (λ r. IsLogAt (S.world found.old.store).gives from r.log.passed.items r.log.numbers.items) }
+    ensures after { IfOk result (λ r. AreRecordNumbers r.next r.log.numbers.items) }
     ensures below { IfOk result (λ r. AreRecordNumbers r.next r.log.passed.items) }
     ensures bad { S.tells → IsErrOf result Error.Unrecoverable → IsBadLog (S.world found.old.store).gives from }
-    ensures only { IfErr result (λ e. ((e ≡ Error.OutOfMemory) ⊎ (e ≡ Error.Store)) ⊎ (e ≡ Error.Unrecoverable)) }
+    ensures only { IfErr result RefusesReading }
     ensures same { S.tells → Same (S.world found.old.store) (S.world found.new.store) }
     ensures files { found.new.files ≡ found.old.files }
     ensures counts { CountsFaults (S.world found.old.store) (S.world found.new.store) result }
 {
-    let log = found.read_log(from)?;
-    let numbers = numbers_of(alloc, &log.records)?;
+    let log = found.check_log(from)?;
     let Some(below) = number_after(&log.passed) else {
         return Err(Error::Unrecoverable);
     };
-    let Some(after) = number_after(&numbers) else {
+    let Some(after) = number_after(&log.numbers) else {
         return Err(Error::Unrecoverable);
     };
-    Ok(ReadLog {
+    Ok(CheckedLog {
         log,
-        numbers,
         next: below.max(after),
     })
 }
 
-/// Writes the records of a log to the tree, and removes those below it.
-fn take_log<S: Store>(tree: &mut TreeState<S>, from: SeqNo, log: Log) -> Result<(), Error>
-    requires { IsStrictlyIncreasing log.passed.items }
-    ensures core { OnOk result (tree.new.core ≡ written_all (entries_read log.records.items) tree.old.core) }
+/// Writes the records of a checked log to the tree, and removes those below it.
+fn take_log<S: Store>(tree: &mut TreeState<S>, from: SeqNo, log: &LogNumbers) -> Result<(), Error>
+    requires { IsStrictlyIncreasing log.now.passed.items }
+    ensures replays { OnOk result (ReplaysEach S.tells (S.world tree.old.store).gives log.now.numbers.items tree.old.core tree.new.core) }
+    ensures bad { S.tells → IsErrOf result Error.Unrecoverable → LacksOne (S.world tree.old.store).gives log.now.numbers.items }
+    ensures told { S.tells → All (λ k. k < 2 ^ 63) log.now.numbers.items → IfErr result RefusesReading }
     ensures upholds { S.tells → OnOk result (UpholdsFiles (S.world tree.old.store) (S.world tree.new.store) tree.old.core tree.new.core) }
-    ensures gone { S.tells → OnOk result ((k : ℕ) → Contains log.passed.items k → k < from → (S.world tree.new.store).gives (record_name k) ≡ None) }
+    ensures gone { S.tells → OnOk result ((k : ℕ) → Contains log.now.passed.items k → k < from → (S.world tree.new.store).gives (record_name k) ≡ None) }
     ensures clears { S.tells → ClearsRecords (IsBelow from) (S.world tree.old.store) (S.world tree.new.store) }
     ensures any_moment { S.tells → LeavesOnly (S.world tree.old.store) (S.world tree.new.store) (AreCleared (IsBelow from) (S.world tree.old.store)) }
-    ensures only { IfErr result (λ e. RefusesReplay e ⊎ (e ≡ Error.Store)) }
+    ensures only { IfErr result RefusesReplays }
     ensures counts { CountsFaults (S.world tree.old.store) (S.world tree.new.store) result }
 {
-    replay_all(tree, log.records)?;
+    replay_each(tree, &log.numbers)?;
     tree.remove_records_below(from, &log.passed)
 }
 
 impl<S: Store> Logged<S> {
-    /// The logged tree that a store holds, or a new one where there is no `current`. The log is read, and all of it is checked,
-    /// before anything is changed. The records from the version's `log_from` on are written to the active memtable, by rising
-    /// number, each batch under its own number; those below are removed unread. Both counters start above all numbers that were
-    /// met, and at `log_from` at least, or where the configuration says, if that is higher. What isn't flushed must fit in
-    /// memory.
+    /// The logged tree that a store holds, or a new one where there is no `current`. All of the log is read and checked before
+    /// anything is changed. Then the records from the version's `log_from` on are read again and written to the active memtable,
+    /// by rising number, each batch under its own number; those below are removed unread. Both counters start above all numbers
+    /// that were met, and at `log_from` at least, or where the configuration says, if that is higher. The memtable must fit in
+    /// memory, beside one record at a time.
     ///
     /// A store that was written through `Logged` is opened through nothing else: a flush of another tree over it would pass
     /// records that it never read. Refused, it gives the store back beside the error.
@@ -143,28 +135,30 @@ impl<S: Store> Logged<S> {
     ///
     /// As `TreeState::open_raised`, and `Unrecoverable` where another name in the folder `log` isn't a number below 2^63 in plain
     /// decimal, or a record from `log_from` on is damaged: then nothing is removed. `Store` where the store failed, also behind
-    /// the replay: then some old records may be removed.
+    /// the replay: then some old records may be removed. A store that reads otherwise when a record is read again is
+    /// `Unrecoverable` too: then the tree's files are opened, and no record is removed.
     pub fn open(alloc: Global, config: Config, store: S) -> Result<Logged<S>, (Error, S)>
         ensures opens { IfOk result (OpensLogged S.tells S.world store config) }
-        ensures bad { S.tells → IfErr result (λ e. ToldBad (S.world store) (S.world e.1) e.0) }
+        ensures refused { S.tells → IfErr result (λ e. RefusesLogged (S.world store) (S.world e.1) e.0) }
     {
         plain_numbers_are_read();
         openings_pass(&store);
+        openings_settle(&store);
         opened_trees_are_fresh();
         replays_reopen();
         counter_stays_above();
         let mut found = TreeState::look(alloc, store)?;
         let from = found.version().log_from();
-        let read = match read_numbered(alloc, &mut found, from) {
-            Ok(read) => read,
+        let checked = match check_numbered(&mut found, from) {
+            Ok(checked) => checked,
             Err(error) => return Err((error, found.into_store())),
         };
-        let config = found.raised(config).raised(from.max(read.next));
+        let config = found.raised(config).raised(from.max(checked.next));
         let mut tree = found.open(config)?;
-        match take_log(&mut tree, from, read.log) {
+        match take_log(&mut tree, from, &checked.log) {
             Ok(()) => Ok(Logged {
                 tree,
-                numbers: read.numbers,
+                numbers: checked.log.numbers,
                 doubted: false,
             }),
             Err(error) => Err((error, tree.into_store())),

@@ -1,6 +1,5 @@
 // Records that the version has passed are removed.
-ghost use Rattle.std.specs.Prelude.{◌≡◌, ◌<◌, ◌≤◌, length, take, drop, OnOk, OnErr, IfErr};
-ghost use Rattle.std.specs.List.{All};
+ghost use Rattle.std.specs.Prelude.{◌≡◌, OnOk, OnErr, IfErr};
 ghost use Rattle.std.specs.List.Sorted.{IsStrictlyIncreasing};
 ghost use Rattle.lsm_files.specs.Stored.{CountsFaults};
 ghost use Rattle.lsm_state.specs.Commits.{UpholdsFiles};
@@ -8,22 +7,8 @@ ghost use Rattle.lsm_logged.specs.Removing.{log_from_of, Forgets, RemovesPassed}
 
 use crate::Logged;
 use lsm_below::{Error, SeqNo};
+use lsm_log::first_from;
 use lsm_store::Store;
-
-/// The place of the first number that isn't below this one.
-fn first_from(numbers: &[SeqNo], from: SeqNo) -> usize
-    requires { IsStrictlyIncreasing numbers.now }
-    ensures within { result ≤ length numbers.now }
-    ensures before { All (λ k. k < from) (take result numbers.now) }
-    ensures behind { All (λ k. from ≤ k) (drop result numbers.now) }
-{
-    for i in 0..numbers.len() {
-        if numbers[i] >= from {
-            return i;
-        }
-    }
-    numbers.len()
-}
 
 /// Forgets the numbers below this one.
 fn forget_below(numbers: &mut Vec<SeqNo>, from: SeqNo)

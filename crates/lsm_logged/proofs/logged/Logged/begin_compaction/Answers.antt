@@ -1,8 +1,8 @@
-use Rattle.std.proofs.Common.{◌≡◌, Ok, subst}
-use Rattle.lsm_state.specs.declared.compaction.Begun.TheVariants.{Installed}
-use Rattle.lsm_state.specs.Compactions.{LeavesNoneChosen}
+use Rattle.std.proofs.Common.{refl}
 use Rattle.lsm_logged.specs.Keeping.{SeenLogged}
+use Rattle.lsm_logged.proofs.Compacted.{begun_outcome, answered_acts, unsure_acts}
 use Rattle.lsm_logged.proofs.Reopening.{numbered_more}
+use Rattle.lsm_logged.proofs.Seen.{leaves_seen}
 use Rattle.lsm_logged.proofs.Rising.{begins_compaction}
 use Rattle.lsm_logged.proofs.logged.Logged.begin_compaction.Goals as goal
 
@@ -14,6 +14,23 @@ invariant_of-self g c =
 
 pub returns-clause-gone : goal.returns-clause-gone
 returns-clause-gone g c tells =
-    let w = g.S.Store.world in
     let new = c.begin_compaction.new.self in
-    subst (λ (t : SeenLogged g.row.S.Denot). c.begin_compaction.result ≡ Ok Installed → LeavesNoneChosen (w new.store) _ t.core new.core) c.self.view_is (c.begin_compaction.ensures.gone tells)
+    let strategy = c.args.strategy.now in
+    leaves_seen ((goal.CompactionStrategy-dyn g strategy).may_choose strategy.1) c.begin_compaction.result (g.S.Store.world new.store) _ _ new.core c.self.view_is (c.begin_compaction.ensures.gone tells)
+
+pub returns-then-self-clause-acts : goal.returns-then-self-clause-acts
+returns-then-self-clause-acts g c tells =
+    let i = c.self.inside in
+    let known = c.acts_are_known.ensures in
+    let old : SeenLogged g.row.S.Denot = record { store = i.tree.store; core = i.tree.core; numbers = i.numbers.items; doubted = i.doubted } in
+    unsure_acts c.args.options.mvcc_gc_watermark g.S.Store.world old c.args.self.now c.self.view_is known.tree known.flushes (c.is_upheld.ensures tells)
+
+pub returns-clause-acts : goal.returns-clause-acts
+returns-clause-acts g c tells =
+    let i = c.self.inside in
+    let mid = c.begin_compaction.new.self in
+    let known = c.acts_are_known.ensures in
+    let old : SeenLogged g.row.S.Denot = record { store = i.tree.store; core = i.tree.core; numbers = i.numbers.items; doubted = i.doubted } in
+    let new : SeenLogged g.row.S.Denot = record { store = mid.store; core = mid.core; numbers = i.numbers.items; doubted = i.doubted } in
+    answered_acts c.args.options.mvcc_gc_watermark g.S.Store.world old c.args.self.now new c.self.view_is known.tree known.counter known.numbers c.if-self.false refl (c.begin_compaction.ensures.upholds tells) c.begin_compaction.result
+    (λ kept. begun_outcome _ _ c.args.options c.begin_compaction.result old.core mid.core known.compactions kept (known.flushes.spends c.args.options.mvcc_gc_watermark 0 old.core kept) c.begin_compaction.ensures.begins)

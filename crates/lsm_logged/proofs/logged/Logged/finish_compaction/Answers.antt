@@ -1,3 +1,6 @@
+use Rattle.std.proofs.Common.{refl}
+use Rattle.lsm_logged.specs.Keeping.{SeenLogged}
+use Rattle.lsm_logged.proofs.FinishActs.{merge_acts, unsure_merge}
 use Rattle.lsm_logged.proofs.Reopening.{numbered_more}
 use Rattle.lsm_logged.proofs.Rising.{finishes}
 use Rattle.lsm_logged.proofs.logged.Logged.finish_compaction.Goals as goal
@@ -7,3 +10,18 @@ invariant_of-self g c =
     let old = c.self.inside.tree.core in
     let new = c.finish_compaction.new.self.core in
     numbered_more old.seqno new.seqno c.self.inside.numbers.items (finishes c.args.merged.job c.finish_compaction.result old new c.finish_compaction.ensures.finishes) c.self.invariant
+
+pub returns-then-self-clause-acts : goal.returns-then-self-clause-acts
+returns-then-self-clause-acts g c tells =
+    let i = c.self.inside in
+    let old : SeenLogged g.row.S.Denot = record { store = i.tree.store; core = i.tree.core; numbers = i.numbers.items; doubted = i.doubted } in
+    unsure_merge c.args.merged.job g.S.Store.world old c.args.self.now c.self.view_is (c.is_upheld.ensures tells)
+
+pub returns-clause-acts : goal.returns-clause-acts
+returns-clause-acts g c tells =
+    let i = c.self.inside in
+    let mid = c.finish_compaction.new.self in
+    let known = c.acts_are_known.ensures in
+    let old : SeenLogged g.row.S.Denot = record { store = i.tree.store; core = i.tree.core; numbers = i.numbers.items; doubted = i.doubted } in
+    let new : SeenLogged g.row.S.Denot = record { store = mid.store; core = mid.core; numbers = i.numbers.items; doubted = i.doubted } in
+    merge_acts c.args.merged.job g.S.Store.world old c.args.self.now new c.self.view_is known.tree known.compactions c.if-self.false refl (c.finish_compaction.ensures.upholds tells) c.finish_compaction.result c.finish_compaction.ensures.finishes

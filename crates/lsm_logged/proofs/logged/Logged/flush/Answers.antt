@@ -1,8 +1,16 @@
-use Rattle.std.proofs.Common.{subst}
+use Rattle.std.proofs.Common.{◌≡◌, ◌⊎◌, ℕ, ◌<◌, ◌^◌, false, [], Option, Some, None, Result, Ok, Err, refl, sym, ap, ◌∙◌, subst}
+use Rattle.std.proofs.lemmas.Result.{err_from_is_err_and}
+use Rattle.lsm_below.specs.declared.error.Error.{Error}
+use Rattle.lsm_below.specs.declared.error.Error.TheVariants.{Unrecoverable}
+use Rattle.lsm_jobs.specs.declared.jobs.Registered.{Registered}
+use Rattle.lsm_state.specs.Flushes.{sealed_ids}
+use Rattle.lsm_state.specs.WholeFlushes.{Flushes}
 use Rattle.lsm_state.specs.Commits.{UpholdsFiles}
 use Rattle.lsm_logged.specs.Keeping.{SeenLogged}
 use Rattle.lsm_logged.specs.Removing.{log_from_of, Passed}
 use Rattle.lsm_logged.specs.Flushing.{RemovesBehind}
+use Rattle.lsm_logged.specs.Acting.{FlushesAct}
+use Rattle.lsm_logged.proofs.FlushActs.{unsure_flush, refused_flush, installed_flush, none_flush}
 use Rattle.lsm_logged.proofs.Removals.{passes_on, none_behind, upheld_behind, passed_behind, either_behind}
 use Rattle.lsm_logged.proofs.logged.Logged.flush.Goals as goal
 
@@ -50,3 +58,60 @@ returns-in-None-clause-behind g c tells =
     let i = c.self.inside in
     let mid = c.flush.new.self in
     subst (λ (t : SeenLogged g.row.S.Denot). RemovesBehind (w t.store) (w mid.store) t.core mid.core) c.self.view_is (none_behind (w i.tree.store) (w mid.store) i.tree.core mid.core (c.flush.ensures.upholds tells).passes)
+
+pub returns-then-is_flush_unsure-clause-acts : goal.returns-then-is_flush_unsure-clause-acts
+returns-then-is_flush_unsure-clause-acts g c tells =
+    let w = g.S.Store.world in
+    let i = c.self.inside in
+    let old : SeenLogged g.row.S.Denot = record { store = i.tree.store; core = i.tree.core; numbers = i.numbers.items; doubted = i.doubted } in
+    subst (λ (t : SeenLogged g.row.S.Denot). FlushesAct c.args.watermark (Err Unrecoverable) (w t.store) (w t.store) t t) c.self.view_is (unsure_flush c.args.watermark (w old.store) old (c.is_upheld.ensures tells))
+
+pub returns-in_err-flushed-clause-acts : goal.returns-in_err-flushed-clause-acts
+returns-in_err-flushed-clause-acts g c tells =
+    let w = g.S.Store.world in
+    let i = c.self.inside in
+    let mid = c.flush.new.self in
+    let e = c.in_err-flushed.field-0.0 in
+    let old : SeenLogged g.row.S.Denot = record { store = i.tree.store; core = i.tree.core; numbers = i.numbers.items; doubted = i.doubted } in
+    let new : SeenLogged g.row.S.Denot = record { store = mid.store; core = mid.core; numbers = i.numbers.items; doubted = i.doubted } in
+    let sure : (old.doubted ≡ false) ⊎ (sealed_ids old.core ≡ []) = subst (λ (t : SeenLogged g.row.S.Denot). (t.doubted ≡ false) ⊎ (sealed_ids t.core ≡ [])) (sym c.self.view_is) (c.is_flush_unsure.ensures.sure c.if-is_flush_unsure.false) in
+    let small = subst (λ (t : SeenLogged g.row.S.Denot). t.core.seqno < 2 ^ 64) (sym c.self.view_is) c.counter_fits.ensures in
+    let told = err_from_is_err_and c.from_residual.result c.from_residual.ensures.1 in
+    subst (λ (t : SeenLogged g.row.S.Denot). FlushesAct c.args.watermark c.from_residual.result (w t.store) (w mid.store) t new) c.self.view_is
+    (subst (λ (r : Result (Option (ℕ × Registered)) Error). FlushesAct c.args.watermark r (w old.store) (w mid.store) old new) (sym (told.1 ∙ ap (λ (x : Error). Err x) told.2))
+    (refused_flush c.args.watermark (w old.store) (w mid.store) old new sure refl small (c.flush.ensures.upholds tells) e c.in_err-flushed.ensures.flushes))
+
+pub returns-in-Some-clause-acts : goal.returns-in-Some-clause-acts
+returns-in-Some-clause-acts g c tells =
+    let w = g.S.Store.world in
+    let i = c.self.inside in
+    let mid = c.flush.new.self in
+    let new = c.clean_log.new.self in
+    let p : ℕ × Registered = (c.in-Some.bytes, c.in-Some.registered) in
+    let b : ℕ × Registered = (c.in-Some.bytes, c.clean_log.result) in
+    let old : SeenLogged g.row.S.Denot = record { store = i.tree.store; core = i.tree.core; numbers = i.numbers.items; doubted = i.doubted } in
+    let sure : (old.doubted ≡ false) ⊎ (sealed_ids old.core ≡ []) = subst (λ (t : SeenLogged g.row.S.Denot). (t.doubted ≡ false) ⊎ (sealed_ids t.core ≡ [])) (sym c.self.view_is) (c.is_flush_unsure.ensures.sure c.if-is_flush_unsure.false) in
+    let small = subst (λ (t : SeenLogged g.row.S.Denot). t.core.seqno < 2 ^ 64) (sym c.self.view_is) c.counter_fits.ensures in
+    let f = subst (λ (x : Option (ℕ × Registered)). Flushes c.args.watermark (Ok x) old.core mid.core) c.in-Some.is c.in_ok-flushed.ensures.flushes in
+    let up = c.flush.ensures.upholds tells in
+    let files = c.clean_log.ensures.upholds tells in
+    let passed = c.clean_log.ensures.passes tells in
+    let same = c.clean_log.ensures.cleans.core in
+    subst (λ (t : SeenLogged g.row.S.Denot). FlushesAct c.args.watermark (Ok (Some b)) (w t.store) (w new.store) t new) c.self.view_is
+    (installed_flush c.args.watermark (w old.store) (w new.store) old new sure c.clean_log.ensures.cleans.doubted small p b mid.core f same
+    (upheld_behind (w old.store) (w mid.store) (w new.store) old.core mid.core new.core up same files) c.plain_numbers_are_read.ensures
+    (passed_behind (w old.store) (w mid.store) (w new.store) old.core mid.core new.core up same passed)
+    (either_behind (w old.store) (w mid.store) (w new.store) old.core mid.core new.core up same files passed))
+
+pub returns-in-None-clause-acts : goal.returns-in-None-clause-acts
+returns-in-None-clause-acts g c tells =
+    let w = g.S.Store.world in
+    let i = c.self.inside in
+    let mid = c.flush.new.self in
+    let old : SeenLogged g.row.S.Denot = record { store = i.tree.store; core = i.tree.core; numbers = i.numbers.items; doubted = i.doubted } in
+    let new : SeenLogged g.row.S.Denot = record { store = mid.store; core = mid.core; numbers = i.numbers.items; doubted = i.doubted } in
+    let sure : (old.doubted ≡ false) ⊎ (sealed_ids old.core ≡ []) = subst (λ (t : SeenLogged g.row.S.Denot). (t.doubted ≡ false) ⊎ (sealed_ids t.core ≡ [])) (sym c.self.view_is) (c.is_flush_unsure.ensures.sure c.if-is_flush_unsure.false) in
+    let small = subst (λ (t : SeenLogged g.row.S.Denot). t.core.seqno < 2 ^ 64) (sym c.self.view_is) c.counter_fits.ensures in
+    let f = subst (λ (x : Option (ℕ × Registered)). Flushes c.args.watermark (Ok x) old.core mid.core) c.in-None.is c.in_ok-flushed.ensures.flushes in
+    subst (λ (t : SeenLogged g.row.S.Denot). FlushesAct c.args.watermark (Ok None) (w t.store) (w mid.store) t new) c.self.view_is
+    (none_flush c.args.watermark (w old.store) (w mid.store) old new sure refl small (c.flush.ensures.upholds tells) f)

@@ -1,10 +1,15 @@
-use Rattle.std.proofs.Common.{inr, refl, sym, subst}
+use Rattle.std.proofs.Common.{None, Ok, Err, inr, refl, sym, subst}
+use Rattle.lsm_model.specs.Views.{HasDistinctIds}
 use Rattle.lsm_files.specs.Foreign.{AtRest}
 use Rattle.lsm_state.specs.Commits.{UpholdsFiles}
+use Rattle.lsm_state.specs.Core.{latest_of}
 use Rattle.lsm_state.proofs.Upholding.{upheld_still}
 use Rattle.lsm_logged.specs.Keeping.{SeenLogged}
 use Rattle.lsm_logged.specs.Flushing.{RemovesBehind}
+use Rattle.lsm_logged.specs.Acting.{FlushesAct, ActsBehind}
+use Rattle.lsm_logged.proofs.Acted.{own_tables}
 use Rattle.lsm_logged.proofs.Removals.{behind_rotation, upheld_rotation}
+use Rattle.lsm_logged.proofs.RotateActs.{refused_rotation, acts_behind}
 use Rattle.lsm_logged.proofs.logged.Logged.flush_active_memtable.Goals as goal
 
 pub returns-in-Err-clause-upholds : goal.returns-in-Err-clause-upholds
@@ -47,3 +52,34 @@ returns-in-Err-flush-clause-upholds g c tells =
     let new = c.flush.new.self in
     let files = subst (λ (s : g.row.S.Denot). UpholdsFiles (w s) (w new.store) mid.core new.core) c.in-Ok.ensures.store (c.flush.ensures.upholds tells) in
     upheld_rotation (w old.store) (w new.store) c.in-Ok.sealed old.core mid.core new.core c.in-Ok.ensures.ok files
+
+pub returns-in-Err-clause-acts : goal.returns-in-Err-clause-acts
+returns-in-Err-clause-acts g c tells opened start journal notes t is keeps next holds =
+    let w = g.S.Store.world in
+    let old = c.args.self.now in
+    let rest : AtRest (w old.store) = subst (λ (t : SeenLogged g.row.S.Denot). AtRest (w t.store)) c.self.view_is (subst (λ (s : g.row.S.Denot). AtRest (w s)) c.store.ensures (c.crashes_leave_versions.ensures tells)) in
+    let e = c.in-Err.error in
+    let none = refused_rotation c.args.watermark e (w old.store) old rest c.in-Err.ensures.only opened journal notes t is keeps in
+    record { ok = tt; err = subst (λ (n : SeenLogged g.row.S.Denot). ActsBehind c.args.watermark None (Err e) (w old.store) (w n.store) old n opened journal notes t) (sym c.in-Err.ensures.err) none }
+
+pub returns-in-Ok-flush-clause-acts : goal.returns-in-Ok-flush-clause-acts
+returns-in-Ok-flush-clause-acts g c tells opened start journal notes t is keeps next holds =
+    let w = g.S.Store.world in
+    let old = c.args.self.now in
+    let mid = c.rotate_memtable.new.self in
+    let new = c.flush.new.self in
+    let rest : AtRest (w old.store) = subst (λ (t : SeenLogged g.row.S.Denot). AtRest (w t.store)) c.self.view_is (subst (λ (s : g.row.S.Denot). AtRest (w s)) c.store.ensures (c.crashes_leave_versions.ensures tells)) in
+    let distinct = subst (λ (t : SeenLogged g.row.S.Denot). HasDistinctIds (latest_of t.core).tables) c.self.view_is (own_tables c.flushes_are_deeds.ensures.spends c.self.inside.tree.core c.facts.ensures) in
+    let acts = subst (λ (s : g.row.S.Denot). FlushesAct c.args.watermark (Ok c.in-Ok-flush.flushed) (w s) (w new.store) mid new) c.in-Ok.ensures.store (c.in-Ok-flush.ensures.acts tells) in
+    record { ok = acts_behind (w old.store) old mid c.in-Ok.ensures.log.1 rest distinct opened start journal notes t is keeps next holds c.args.watermark c.in-Ok.sealed (Ok c.in-Ok-flush.flushed) (w new.store) new c.in-Ok.ensures.ok acts; err = tt }
+
+pub returns-in-Err-flush-clause-acts : goal.returns-in-Err-flush-clause-acts
+returns-in-Err-flush-clause-acts g c tells opened start journal notes t is keeps next holds =
+    let w = g.S.Store.world in
+    let old = c.args.self.now in
+    let mid = c.rotate_memtable.new.self in
+    let new = c.flush.new.self in
+    let rest : AtRest (w old.store) = subst (λ (t : SeenLogged g.row.S.Denot). AtRest (w t.store)) c.self.view_is (subst (λ (s : g.row.S.Denot). AtRest (w s)) c.store.ensures (c.crashes_leave_versions.ensures tells)) in
+    let distinct = subst (λ (t : SeenLogged g.row.S.Denot). HasDistinctIds (latest_of t.core).tables) c.self.view_is (own_tables c.flushes_are_deeds.ensures.spends c.self.inside.tree.core c.facts.ensures) in
+    let acts = subst (λ (s : g.row.S.Denot). FlushesAct c.args.watermark (Err c.in-Err-flush.error) (w s) (w new.store) mid new) c.in-Ok.ensures.store (c.in-Err-flush.ensures.acts tells) in
+    record { ok = tt; err = acts_behind (w old.store) old mid c.in-Ok.ensures.log.1 rest distinct opened start journal notes t is keeps next holds c.args.watermark c.in-Ok.sealed (Err c.in-Err-flush.error) (w new.store) new c.in-Ok.ensures.ok acts }

@@ -1,4 +1,4 @@
-use Rattle.std.proofs.Common.{◌≡◌, ◌∙◌, ℕ, ◌<◌, max, map, Contains, None, Err, false, inl, inr, sym, ap, subst, arith}
+use Rattle.std.proofs.Common.{◌≡◌, ◌∙◌, ⊎_elim, ℕ, ◌<◌, max, map, Contains, None, Err, false, sym, ap, subst, arith}
 use Rattle.std.proofs.lemmas.Result.{err_from_is_err_and}
 use Rattle.lsm_below.specs.Sums.{capped}
 use Rattle.lsm_below.specs.Entries.{above}
@@ -11,50 +11,84 @@ use Rattle.lsm_manifest.specs.declared.found.Found.{Found}
 use Rattle.lsm_manifest.specs.Looking.{Looks}
 use Rattle.lsm_files.specs.Foreign.{Passes}
 use Rattle.lsm_log.specs.LogNames.{record_name}
-use Rattle.lsm_log.specs.Logs.{IsLogFrom, IsBadLog}
+use Rattle.lsm_log.specs.Logs.{IsLogFrom, IsLogAt, IsBadLog}
 use Rattle.lsm_log.specs.Changes.{IsBelow, ClearsRecords, AreCleared}
 use Rattle.lsm_log.proofs.Loaded.{gives_same}
 use Rattle.lsm_log_model.specs.Records.{LogStands}
 use Rattle.lsm_logged.specs.Keeping.{AreRecordNumbers}
-use Rattle.lsm_logged.specs.Opening.{image_read, TakesLog, IsSettledLog, IsReopenedLog}
-use Rattle.lsm_logged.proofs.Reopening.{looks_on, numbered_more, whole, version, high, replays, takes, reopens}
+use Rattle.lsm_logged.specs.Opening.{Files, Memory, Faulty, BadLog, image_read, TakesLog, CanBeSettled, IsReopenedLog}
+use Rattle.lsm_logged.proofs.LogNames.{record_is_foreign}
+use Rattle.lsm_logged.proofs.Reached.{looked as looked_from}
+use Rattle.lsm_logged.proofs.Replaying.{log_read, none_lacks, small_numbers}
+use Rattle.lsm_logged.proofs.Reopening.{looks_on, is_read_in, numbered_more, whole, version, high, replays, takes, reopens}
 use Rattle.lsm_logged.proofs.logged.Logged.open.Goals as goal
 
-pub returns-in-Err-clause-bad : goal.returns-in-Err-clause-bad
-returns-in-Err-clause-bad g c tells is =
-    let w = g.S.Store.world in
-    let looked = c.in_ok-found.ensures.same tells in
-    let same = same_then (w c.args.store) (w c.in_ok-found.found.store) (w c.read_numbered.new.found.store) looked (c.in-Err.ensures.same tells) in
-    inr (rw (c.into_store.ensures) same, (c.log_from-from.result, subst (λ (image : Image). IsBadLog image c.log_from-from.result) (gives_same (w c.args.store) (w c.in_ok-found.found.store) looked) (c.in-Err.ensures.bad tells (ap Err is))))
+pub returns-in_err-found-clause-refused : goal.returns-in_err-found-clause-refused
+returns-in_err-found-clause-refused g c tells =
+    let p = err_from_is_err_and c.from_residual.result c.from_residual.ensures.1 in
+    rw (p.1, p.2) (Files (c.in_err-found.ensures.refused tells))
 
-pub returns-in_err-tree-clause-bad : goal.returns-in_err-tree-clause-bad
-returns-in_err-tree-clause-bad g c tells =
+pub returns-in-Err-clause-refused : goal.returns-in-Err-clause-refused
+returns-in-Err-clause-refused g c tells =
     let w = g.S.Store.world in
-    let looks = looks_on (w c.args.store) (w c.in_ok-found.found.store) (w c.read_numbered.new.found.store) c.in_ok-found.found.files c.read_numbered.new.found.files (c.in_ok-found.ensures.found tells) (c.in-Ok.ensures.same tells) c.in-Ok.ensures.files in
+    let store = c.args.store in
+    let found = c.in_ok-found.found in
+    let mid = c.check_numbered.new.found.store in
+    let looked = c.in_ok-found.ensures.same tells in
+    let from = c.log_from-from.result in
+    ⊎_elim (λ few. ⊎_elim (λ e. Memory e) (λ e. Faulty e) few)
+        (λ e. BadLog e (record {
+          from = from;
+          read = looked_from (w store) (w found.store) found.files from (c.in_ok-found.ensures.found tells) (c.log_from-from.ensures ∙ ap (λ (u : SeenVersion). u.log_from) c.version.ensures);
+          bad = subst (λ (image : Image). IsBadLog image from) (gives_same (w store) (w found.store) looked) (c.in-Err.ensures.bad tells (ap Err e));
+          same = rw (c.into_store.ensures) (same_then (w store) (w found.store) (w mid) looked (c.in-Err.ensures.same tells));
+        }))
+        c.in-Err.ensures.only
+
+pub returns-in_err-tree-clause-refused : goal.returns-in_err-tree-clause-refused
+returns-in_err-tree-clause-refused g c tells =
+    let w = g.S.Store.world in
+    let looks = looks_on (w c.args.store) (w c.in_ok-found.found.store) (w c.check_numbered.new.found.store) c.in_ok-found.found.files c.check_numbered.new.found.files (c.in_ok-found.ensures.found tells) (c.in-Ok.ensures.same tells) c.in-Ok.ensures.files in
     let p = err_from_is_err_and c.from_residual-in_err-tree.result c.from_residual-in_err-tree.ensures.1 in
-    rw (p.1, p.2) (λ is. inl (c.in_err-tree.ensures.opens tells c.args.store looks))
+    rw (p.1, p.2) (Files (c.in_err-tree.ensures.opens tells c.args.store looks))
+
+pub returns-in-Err-take_log-clause-refused : goal.returns-in-Err-take_log-clause-refused
+returns-in-Err-take_log-clause-refused g c tells =
+    let w = g.S.Store.world in
+    let store = c.args.store in
+    let found = c.in_ok-found.found in
+    let found' = c.check_numbered.new.found in
+    let mid = c.in_ok-tree.tree.store in
+    let log = c.in-Ok.checked.log in
+    let looks = looks_on (w store) (w found.store) (w found'.store) found.files found'.files (c.in_ok-found.ensures.found tells) (c.in-Ok.ensures.same tells) c.in-Ok.ensures.files in
+    let passes = c.openings_pass.ensures store mid _ (c.in_ok-tree.ensures.opens tells store looks) (c.in_ok-tree.ensures.leaves tells store looks) in
+    let read = subst (λ (image : Image). IsLogAt image c.log_from-from.result log.passed.items log.numbers.items) (gives_same (w store) (w found.store) (c.in_ok-found.ensures.same tells)) (c.in-Ok.ensures.read tells) in
+    ⊎_elim (λ few. ⊎_elim (λ e. Memory e) (λ e. Faulty e) few)
+        (λ e. absurd (none_lacks (w store).gives c.log_from-from.result log.passed.items log.numbers.items read (w mid).gives (λ k. passes.gives (record_name k) (record_is_foreign k)) (c.in-Err-take_log.ensures.bad tells (ap Err e))))
+        (c.in-Err-take_log.ensures.told tells (small_numbers (w store).gives c.log_from-from.result log.passed.items log.numbers.items read))
 
 pub invariant_of-result : goal.invariant_of-result
 invariant_of-result g c =
-    let found' = c.read_numbered.new.found in
+    let found' = c.check_numbered.new.found in
     let v : SeenVersion = found'.files.opened.version in
-    let next = c.in-Ok.read.next in
+    let next = c.in-Ok.checked.next in
     let from : c.log_from-from.result ≡ v.log_from = c.log_from-from.ensures ∙ (ap (λ (u : SeenVersion). u.log_from) c.version.ensures ∙ ap (λ (f : Found). f.opened.version.log_from) (sym c.in-Ok.ensures.files)) in
     let is : c.raised-config.result ≡ raised (max v.log_from next) (raised (capped (above (held (placed_of v.levels)))) c.args.config) = c.raised-config.ensures ∙ (ap (λ n. raised n c.raised.result) (c.max.ensures ∙ ap (λ n. max n next) from) ∙ ap (raised (max v.log_from next)) c.raised.ensures) in
-    let le = high c.args.config c.raised-config.result v found'.files.opened.next_table_id next c.in-Ok.read.log.passed.items c.in-Ok.read.numbers.items c.in-Ok.read.log.records.items c.in_ok-tree.tree.core c.take_log.new.tree.core c.in_ok-tree.ensures.core is c.in-Ok-take_log.ensures.core in
-    numbered_more next c.take_log.new.tree.core.seqno c.in-Ok.read.numbers.items (omega (arith, le)) c.in-Ok.ensures.after
+    let le = high c.args.config c.raised-config.result v found'.files.opened.next_table_id next c.in-Ok.checked.log.passed.items c.in-Ok.checked.log.numbers.items c.in-Ok-take_log.ensures.replays.records c.in_ok-tree.tree.core c.take_log.new.tree.core c.in_ok-tree.ensures.core is c.in-Ok-take_log.ensures.replays.core in
+    numbered_more next c.take_log.new.tree.core.seqno c.in-Ok.checked.log.numbers.items (omega (arith, le)) c.in-Ok.ensures.after
 
 pub returns-in-Ok-take_log-clause-opens : goal.returns-in-Ok-take_log-clause-opens
 returns-in-Ok-take_log-clause-opens g c =
     let w = g.S.Store.world in
     let store = c.args.store in
     let found = c.in_ok-found.found in
-    let found' = c.read_numbered.new.found in
+    let found' = c.check_numbered.new.found in
     let v : SeenVersion = found'.files.opened.version in
-    let next = c.in-Ok.read.next in
-    let numbers = c.in-Ok.read.numbers.items in
-    let passed = c.in-Ok.read.log.passed.items in
-    let records = c.in-Ok.read.log.records.items in
+    let next = c.in-Ok.checked.next in
+    let numbers = c.in-Ok.checked.log.numbers.items in
+    let passed = c.in-Ok.checked.log.passed.items in
+    let replayed = c.in-Ok-take_log.ensures.replays in
+    let records = replayed.records in
     let cfg = c.raised-config.result in
     let id = found'.files.opened.next_table_id in
     let mid = c.in_ok-tree.tree.store in
@@ -64,23 +98,25 @@ returns-in-Ok-take_log-clause-opens g c =
     let from : c.log_from-from.result ≡ v.log_from = c.log_from-from.ensures ∙ (ap (λ (u : SeenVersion). u.log_from) c.version.ensures ∙ ap (λ (f : Found). f.opened.version.log_from) (sym c.in-Ok.ensures.files)) in
     let is : cfg ≡ raised (max v.log_from next) (raised (capped (above (held (placed_of v.levels)))) c.args.config) = c.raised-config.ensures ∙ (ap (λ n. raised n c.raised.result) (c.max.ensures ∙ ap (λ n. max n next) from) ∙ ap (raised (max v.log_from next)) c.raised.ensures) in
     let made = c.in_ok-tree.ensures.core in
-    let take = c.in-Ok-take_log.ensures.core in
+    let take = replayed.core in
     let ver = version c.args.config cfg v id next passed numbers records before core made is take in
     let le = high c.args.config cfg v id next passed numbers records before core made is take in
-    let below = numbered_more next core.seqno (map (λ r. r.number) records) (omega (arith, le)) (subst (AreRecordNumbers next) c.in-Ok.ensures.numbers c.in-Ok.ensures.after) in
+    let below = numbered_more next core.seqno (map (λ r. r.number) records) (omega (arith, le)) (subst (AreRecordNumbers next) (sym replayed.named) c.in-Ok.ensures.after) in
     let looks : g.S.Store.tells → Looks (w store) (w found'.store) found'.files = λ tells. looks_on (w store) (w found.store) (w found'.store) found.files found'.files (c.in_ok-found.ensures.found tells) (c.in-Ok.ensures.same tells) c.in-Ok.ensures.files in
-    let log : g.S.Store.tells → IsLogFrom (w store).gives v.log_from passed records = λ tells. subst (λ n. IsLogFrom (w store).gives n passed records) from (subst (λ (image : Image). IsLogFrom image c.log_from-from.result passed records) (gives_same (w store) (w found.store) (c.in_ok-found.ensures.same tells)) (c.in-Ok.ensures.read tells)) in
     let passes : g.S.Store.tells → Passes (w store) (w mid) = λ tells. c.openings_pass.ensures store mid _ (c.in_ok-tree.ensures.opens tells store (looks tells)) (c.in_ok-tree.ensures.leaves tells store (looks tells)) in
+    let read : g.S.Store.tells → IsLogAt (w store).gives v.log_from passed numbers = λ tells. subst (λ n. IsLogAt (w store).gives n passed numbers) from (subst (λ (image : Image). IsLogAt image c.log_from-from.result passed numbers) (gives_same (w store) (w found.store) (c.in_ok-found.ensures.same tells)) (c.in-Ok.ensures.read tells)) in
+    let log : g.S.Store.tells → IsLogFrom (w store).gives v.log_from passed records = λ tells. log_read (w store).gives v.log_from passed numbers (read tells) (w mid).gives (λ k. (passes tells).gives (record_name k) (record_is_foreign k)) records replayed.named (replayed.records_are tells) in
     let clears : g.S.Store.tells → ClearsRecords (IsBelow v.log_from) (w mid) (w new) = λ tells. subst (λ n. ClearsRecords (IsBelow n) (w mid) (w new)) from (c.in-Ok-take_log.ensures.clears tells) in
     record {
       passed = passed;
       records = records;
-      replays = replays c.args.config cfg v id next passed numbers records before core made is take new c.in-Ok.ensures.numbers c.in-Ok.ensures.after c.in-Ok.ensures.below;
+      replays = replays c.args.config cfg v id next passed numbers records before core made is take new (sym replayed.named) c.in-Ok.ensures.after c.in-Ok.ensures.below;
       takes = λ tells. subst (λ u. TakesLog (w store) (w new) u passed records) (sym ver) (takes (w store) (w mid) (w new) v passed records (log tells) (passes tells) (clears tells) (looks tells).from
           (subst (λ n. (k : ℕ) → Contains passed k → k < n → (w new).gives (record_name k) ≡ None) from (c.in-Ok-take_log.ensures.gone tells))
           (subst (λ n. LeavesOnly (w mid) (w new) (AreCleared (IsBelow n) (w mid))) from (c.in-Ok-take_log.ensures.any_moment tells)));
-      reopens = λ tells. subst (λ u. LogStands (image_read u records) → IsSettledLog (w store) u.log_from → IsReopenedLog (image_read u records) (record { store = new; core = core; numbers = numbers; doubted = false }) (w new)) (sym ver)
-          (λ stands settled. reopens c.opened_trees_are_fresh.ensures c.replays_reopen.ensures c.counter_stays_above.ensures cfg v id passed records core (whole c.args.config cfg v id next passed numbers records before core made is take) (omega (arith, le)) below.below
-          (λ k there. (((log tells).read_are k).0 there).1) stands (w store) (w mid) (w new) (log tells) (passes tells) (clears tells) c.plain_numbers_are_read.ensures settled new numbers);
+      reopens = λ tells. subst (λ u. LogStands (image_read u records) → CanBeSettled (w store) u.log_from → IsReopenedLog (image_read u records) (record { store = new; core = core; numbers = numbers; doubted = false }) (w new)) (sym ver)
+          (λ stands can. reopens c.opened_trees_are_fresh.ensures c.replays_reopen.ensures c.counter_stays_above.ensures cfg v id passed records core (whole c.args.config cfg v id next passed numbers records before core made is take) (omega (arith, le)) below.below
+          (λ k there. (((log tells).read_are k).0 there).1) stands (w store) (w mid) (w new) (log tells) (passes tells) (clears tells) c.plain_numbers_are_read.ensures
+          (is_read_in (w store) (w mid) v.log_from (c.openings_settle.ensures store mid _ (c.in_ok-tree.ensures.opens tells store (looks tells))) can) new numbers);
       stored = λ tells ready. (c.in-Ok-take_log.ensures.upholds tells (c.in_ok-tree.ensures.stored tells store (looks tells) ready)).0;
     }

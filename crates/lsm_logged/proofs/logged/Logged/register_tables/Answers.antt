@@ -1,12 +1,19 @@
-use Rattle.std.proofs.Common.{sym, subst}
+use Rattle.std.proofs.Common.{◌≡◌, ◌<◌, ◌^◌, false, Result, Ok, Err, refl, sym, ap, ◌∙◌, subst}
+use Rattle.std.proofs.lemmas.Result.{err_from_is_err_and}
+use Rattle.lsm_below.specs.declared.error.Error.{Error}
+use Rattle.lsm_below.specs.declared.error.Error.TheVariants.{Unrecoverable}
+use Rattle.lsm_jobs.specs.Jobs.{SeenJob}
+use Rattle.lsm_jobs.specs.declared.jobs.Registered.{Registered}
 use Rattle.lsm_files.specs.Foreign.{AtRest}
 use Rattle.lsm_state.specs.Core.{Core}
 use Rattle.lsm_state.specs.Flushes.{spent}
-use Rattle.lsm_state.specs.Commits.{UpholdsFiles}
+use Rattle.lsm_state.specs.Commits.{UpholdsFiles, Upholds}
 use Rattle.lsm_state.proofs.Registering.{spent_upholds}
 use Rattle.lsm_logged.specs.Keeping.{SeenLogged}
 use Rattle.lsm_logged.specs.Removing.{log_from_of, Passed}
 use Rattle.lsm_logged.specs.Flushing.{RemovesBehind}
+use Rattle.lsm_logged.specs.Acting.{RegistersAct}
+use Rattle.lsm_logged.proofs.RegisterActs.{spent_acts, refused_acts, registered_acts}
 use Rattle.lsm_logged.proofs.Removals.{passes_on, none_behind, upheld_behind, passed_behind, either_behind}
 use Rattle.lsm_logged.proofs.logged.Logged.register_tables.Goals as goal
 
@@ -69,3 +76,54 @@ returns-in_err-registered-clause-behind g c tells =
     let i = c.self.inside in
     let mid = c.register_tables.new.self in
     subst (λ (t : SeenLogged g.row.S.Denot). RemovesBehind (w t.store) (w mid.store) t.core mid.core) c.self.view_is (none_behind (w i.tree.store) (w mid.store) i.tree.core mid.core (c.register_tables.ensures.upholds tells).passes)
+
+pub returns-then-self-clause-acts : goal.returns-then-self-clause-acts
+returns-then-self-clause-acts g c tells =
+    let w = g.S.Store.world in
+    let i = c.self.inside in
+    let job = c.args.job in
+    let left = c.abandon_flush.new.self in
+    let old : SeenLogged g.row.S.Denot = record { store = i.tree.store; core = i.tree.core; numbers = i.numbers.items; doubted = i.doubted } in
+    let new : SeenLogged g.row.S.Denot = record { store = left.store; core = left.core; numbers = i.numbers.items; doubted = i.doubted } in
+    let rest : AtRest (w i.tree.store) = subst (λ (s : g.row.S.Denot). AtRest (w s)) c.store.ensures (c.crashes_leave_versions.ensures tells) in
+    let same : left.core ≡ spent job.job.number i.tree.core = c.abandon_flush.ensures.core ∙ ap (λ (j : SeenJob). spent j.number i.tree.core) c.into_job.ensures in
+    let there = subst (λ (s : g.row.S.Denot). Upholds (w i.tree.store) (w s) i.tree.core (spent job.job.number i.tree.core)) (sym c.abandon_flush.ensures.store) (spent_upholds (w i.tree.store) i.tree.core job.job.number rest) in
+    let here = subst (λ (k : Core). Upholds (w i.tree.store) (w left.store) i.tree.core k) (sym same) there in
+    subst (λ (t : SeenLogged g.row.S.Denot). RegistersAct job (Err Unrecoverable) (w t.store) (w left.store) t new) c.self.view_is (spent_acts job (w old.store) (w new.store) old new refl here same)
+
+pub returns-in_err-registered-clause-acts : goal.returns-in_err-registered-clause-acts
+returns-in_err-registered-clause-acts g c tells =
+    let w = g.S.Store.world in
+    let i = c.self.inside in
+    let mid = c.register_tables.new.self in
+    let job = c.args.job in
+    let e = c.in_err-registered.field-0.0 in
+    let old : SeenLogged g.row.S.Denot = record { store = i.tree.store; core = i.tree.core; numbers = i.numbers.items; doubted = i.doubted } in
+    let new : SeenLogged g.row.S.Denot = record { store = mid.store; core = mid.core; numbers = i.numbers.items; doubted = i.doubted } in
+    let small = subst (λ (t : SeenLogged g.row.S.Denot). t.core.seqno < 2 ^ 64) (sym c.self.view_is) c.counter_fits.ensures in
+    let told = err_from_is_err_and c.from_residual.result c.from_residual.ensures.1 in
+    subst (λ (t : SeenLogged g.row.S.Denot). RegistersAct job c.from_residual.result (w t.store) (w mid.store) t new) c.self.view_is
+    (subst (λ (r : Result Registered Error). RegistersAct job r (w old.store) (w mid.store) old new) (sym (told.1 ∙ ap (λ (x : Error). Err x) told.2))
+    (refused_acts job (w old.store) (w mid.store) old new refl c.if-self.false small c.flushes_are_deeds.ensures c.facts-2.ensures c.facts.ensures (c.register_tables.ensures.upholds tells) e c.in_err-registered.ensures.registers))
+
+pub returns-clause-acts : goal.returns-clause-acts
+returns-clause-acts g c tells =
+    let w = g.S.Store.world in
+    let i = c.self.inside in
+    let mid = c.register_tables.new.self in
+    let new = c.clean_log.new.self in
+    let job = c.args.job in
+    let a = c.in_ok-registered.registered in
+    let old : SeenLogged g.row.S.Denot = record { store = i.tree.store; core = i.tree.core; numbers = i.numbers.items; doubted = i.doubted } in
+    let small = subst (λ (t : SeenLogged g.row.S.Denot). t.core.seqno < 2 ^ 64) (sym c.self.view_is) c.counter_fits.ensures in
+    let up = c.register_tables.ensures.upholds tells in
+    let files = c.clean_log.ensures.upholds tells in
+    let passed = c.clean_log.ensures.passes tells in
+    let cleans = c.clean_log.ensures.cleans in
+    let same = cleans.core in
+    let rests = λ (no : c.clean_log.result.installed ≡ false). let stays = c.clean_log.ensures.still (sym cleans.installed ∙ no) in subst (λ (t : SeenLogged g.row.S.Denot). Upholds (w old.store) (w t.store) old.core t.core) (sym stays) up in
+    subst (λ (t : SeenLogged g.row.S.Denot). RegistersAct job (Ok c.clean_log.result) (w t.store) (w new.store) t new) c.self.view_is
+    (registered_acts job (w old.store) (w new.store) old new cleans.doubted c.if-self.false small c.flushes_are_deeds.ensures c.facts-2.ensures c.facts.ensures a c.clean_log.result mid.core c.in_ok-registered.ensures.registers cleans.installed same
+    (upheld_behind (w old.store) (w mid.store) (w new.store) old.core mid.core new.core up same files) c.plain_numbers_are_read.ensures
+    (passed_behind (w old.store) (w mid.store) (w new.store) old.core mid.core new.core up same passed)
+    (either_behind (w old.store) (w mid.store) (w new.store) old.core mid.core new.core up same files passed) rests)

@@ -1,0 +1,15 @@
+-- What is known of a tree, said of the logged tree that it stands in.
+use Rattle.std.proofs.Common.{◌≡◌, Result, Ok, subst}
+use Rattle.lsm_below.specs.declared.error.Error.{Error}
+use Rattle.lsm_store.specs.World.{World}
+use Rattle.lsm_pick.specs.declared.choice.Choice.{Choice}
+use Rattle.lsm_state.specs.declared.compaction.Begun.{Begun}
+use Rattle.lsm_state.specs.declared.compaction.Begun.TheVariants.{Installed}
+use Rattle.lsm_state.specs.Core.{Core}
+use Rattle.lsm_state.specs.Compactions.{Relation, LeavesNoneChosen}
+use Rattle.lsm_logged.specs.Keeping.{SeenLogged}
+
+-- behind an installed compaction no file is left
+pub leaves_seen : {S : Type 0} (may_choose : Relation Choice) (r : Result Begun Error) (w : World) (t u : SeenLogged S) (new : Core) → t ≡ u
+    → (r ≡ Ok Installed → LeavesNoneChosen w may_choose t.core new) → r ≡ Ok Installed → LeavesNoneChosen w may_choose u.core new
+leaves_seen {S} may_choose r w t u new is left = subst (λ (x : SeenLogged S). r ≡ Ok Installed → LeavesNoneChosen w may_choose x.core new) is left
