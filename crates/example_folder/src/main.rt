@@ -4,32 +4,38 @@
 #![tactic(auto)]
 
 use anyhow::Result;
-use lsm_tree::{Config, FolderStore, IterGuard, Op, Store, TreeState, UserKey};
+use lsm_tree::{Config, FolderStore, IterGuard, Logged, Op, Store, UserKey};
 use std::alloc::Global;
 
-/// The tree that the folder holds, or a new one. Its counters start above all that was found.
-fn open(rt: &HostRuntime) -> Result<TreeState<FolderStore<HostRuntime>>> {
+/// The tree that the folder holds, with all that was acknowledged before, or a new one.
+fn open(rt: &HostRuntime) -> Result<Logged<FolderStore<HostRuntime>>> {
     let alloc = rt.alloc();
     let store = FolderStore::new(rt, alloc, "runs")?;
-    let config = Config::new(0, 0, 0);
-    let tree = TreeState::open_raised(alloc, config, store).map_err(|refused| refused.0)?;
+    let tree = Logged::open(alloc, Config::new(0, 0, 0), store).map_err(|refused| refused.0)?;
     Ok(tree)
 }
 
-/// Writes one key more than there are, and flushes it: what isn't flushed is lost when the tree is closed.
-fn add_run<S: Store>(alloc: Global, tree: &mut TreeState<S>) -> Result<()> {
-    let runs = tree.len(tree.visible_seqno().get(), None)?;
+/// Writes one key more than there are. Once it is answered, no crash takes it.
+fn add_run<S: Store>(alloc: Global, tree: &mut Logged<S>) -> Result<()> {
+    let reads = tree.tree();
+    let runs = reads.len(reads.visible_seqno().get(), None)?;
     let key = format!(in alloc; "run {}", runs.saturating_add(1))?;
     let key = UserKey::copy_from_slice(alloc, key.as_bytes())?;
     tree.write(vec![in alloc; (key, Op::Set(UserKey::from_static(b"done")))]?)?;
-    let watermark = tree.visible_seqno().get();
+    Ok(())
+}
+
+/// Writes all that is only in the log to a table, so that the log doesn't grow on.
+fn flush_all<S: Store>(tree: &mut Logged<S>) -> Result<()> {
+    let watermark = tree.tree().visible_seqno().get();
     tree.flush_active_memtable(watermark)
         .map_err(|refused| refused.0)?;
     Ok(())
 }
 
-fn list_runs<S: Store>(rt: &impl Print, tree: &TreeState<S>) -> Result<()> {
-    for pair in tree.iter(tree.visible_seqno().get(), None)? {
+fn list_runs<S: Store>(rt: &impl Print, tree: &Logged<S>) -> Result<()> {
+    let reads = tree.tree();
+    for pair in reads.iter(reads.visible_seqno().get(), None)? {
         let (key, value) = pair.into_inner()?;
         println!(rt; "{key:?} is {value:?}")?;
     }
@@ -42,8 +48,11 @@ fn main(rt: HostRuntime) -> Result<()> {
     drop(tree);
     added?;
 
-    let tree = open(&rt)?;
+    let mut tree = open(&rt)?;
     let listed = list_runs(&rt, &tree);
+    if tree.log_len() >= 1_000 {
+        flush_all(&mut tree)?;
+    }
     drop(tree);
     listed
 }
