@@ -19,3 +19,4 @@ pub mod Merged
 pub mod FinishActs
 pub mod WholeActs
 pub mod Settling
+pub mod NoActs
