@@ -2,12 +2,15 @@
 ghost use Rattle.std.specs.Prelude.{IfOk, IsSome};
 
 use crate::lists::list;
+use crate::logs::{at_most, put_logged, reopen_logged};
 use crate::merges::{clear_all, ingest, merge_all};
 use crate::points::{self, Locked, Noted, Points};
 use crate::progress::Progress;
 use crate::report::{Figures, Tally, print_figures};
 use crate::trees::{Slot, Trees, close, open_locked, open_owned, open_recorded, reopen};
-use crate::workloads::{FOLDER_WORKLOADS, Filling, Ingest, Job, Kind, Listing, WORKLOADS, Wanted};
+use crate::workloads::{
+    FOLDER_WORKLOADS, Filling, Ingest, Job, Kind, Listing, Logging, WORKLOADS, Wanted,
+};
 use anyhow::{Context, Result};
 use lsm_bench_parts::{Folder, Memory, Orders, Place, Plan, resident_bytes};
 use lsm_tree::{Tree, TreeState};
@@ -143,6 +146,7 @@ impl<P: Place> Bench<'_, P> {
             Job::Major => self.merge(rt, &mut trees.owned),
             Job::Ingest(way) => self.ingest(rt, trees, way),
             Job::Clear => self.clear(rt, trees),
+            Job::Log(logging) => self.log(rt, trees, logging),
         }
     }
 
@@ -461,6 +465,25 @@ impl<P: Place> Bench<'_, P> {
         let figures = timed(rt, start, cleared?);
         drop(tree);
         figures
+    }
+
+    /// Does something with the log of a tree over an empty store.
+    fn log<R>(&self, rt: &R, trees: &mut Trees<P::Store>, logging: Logging) -> Result<Figures>
+    where
+        R: AllocGlobal + Clone + Clock + Files,
+    {
+        trees.clear();
+        let store = self.place.store(self.alloc)?;
+        let ids = &self.orders.puts;
+        let (tally, time) = match logging {
+            Logging::Put { most, batch } => {
+                put_logged(rt, self.alloc, store, at_most(ids, most), batch)?
+            }
+            Logging::Reopen { most } => {
+                reopen_logged(rt, self.alloc, store, at_most(ids, most))?
+            }
+        };
+        Ok(Figures { tally, time })
     }
 }
 

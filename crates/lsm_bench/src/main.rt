@@ -19,6 +19,7 @@
 //! | `points` | workloads that write or read one key at a time, on any tree, and flushes |
 //! | `lists` | workloads that read many keys at a time |
 //! | `merges` | workloads that merge tables |
+//! | `logs` | workloads on a tree with a log above it |
 //! | `trees` | the trees that workloads find |
 //! | `bench` | the run of one workload after the other |
 //! | `report` | the line of a workload |
@@ -27,6 +28,7 @@
 
 mod bench;
 mod lists;
+mod logs;
 mod merges;
 mod points;
 mod progress;

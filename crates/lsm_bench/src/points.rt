@@ -6,8 +6,8 @@ use crate::report::Tally;
 use crate::workloads::{Filling, Wanted};
 use lsm_bench_parts::{Orders, absent_key_of, key_of, user_key, user_value};
 use lsm_tree::{
-    Error, MemtableId, Op, Pass, Recorded, Registered, SeqNo, Store, Tree, TreeState, UserKey,
-    UserValue,
+    Error, Logged, MemtableId, Op, Pass, Recorded, Registered, SeqNo, Store, Tree, TreeState,
+    UserKey, UserValue,
 };
 use std::alloc::{AllocError, Global};
 use std::sync::Wait;
@@ -110,6 +110,24 @@ impl<S: Store> Points for Noted<S> {
     }
 }
 
+impl<S: Store> Points for Logged<S> {
+    fn write(&mut self, ops: Vec<(UserKey, Op)>) -> Result<SeqNo, Error> {
+        Logged::write(self, ops)
+    }
+
+    fn get(&mut self, key: &[u8], snapshot: SeqNo) -> Result<Option<UserValue>, Error> {
+        self.tree().get(key, snapshot)
+    }
+
+    fn snapshot(&self) -> SeqNo {
+        self.tree().visible_seqno().get()
+    }
+
+    fn flush(&mut self, watermark: SeqNo) -> Result<u64, Error> {
+        size_of(self.flush_active_memtable(watermark))
+    }
+}
+
 /// Flushes the active memtable, as `Points::flush`, and keeps what any snapshot sees, so that no memtable goes.
 pub fn flush<T: Points>(tree: &mut T) -> Result<u64, Error> {
     tree.flush(KEEP_ALL)
@@ -163,6 +181,29 @@ pub fn put_all<T: Points>(alloc: Global, tree: &mut T, ids: &[u64]) -> Result<Ta
     let mut check = 0;
     for id in ids {
         check = tree.write(set(alloc, *id, *id)?)?;
+    }
+    Ok(Tally {
+        ops: ids.len(),
+        check,
+    })
+}
+
+/// Puts the key of each id with its value, so many a batch. Each id stands once.
+pub fn put_batches<T: Points>(
+    alloc: Global,
+    tree: &mut T,
+    ids: &[u64],
+    batch: usize,
+) -> Result<Tally, Error>
+    requires { 0 < batch }
+{
+    let mut check = 0;
+    for part in ids.chunks(batch) {
+        let mut ops = Vec::with_capacity(alloc, part.len())?;
+        for id in part {
+            ops.push((user_key(alloc, *id)?, Op::Set(user_value(alloc, *id)?)))?;
+        }
+        check = tree.write(ops)?;
     }
     Ok(Tally {
         ops: ids.len(),

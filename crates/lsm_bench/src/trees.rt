@@ -3,7 +3,7 @@ ghost use Rattle.std.specs.Prelude.{◌≡◌, IsSome, true};
 
 use crate::points::Noted;
 use crate::workloads::Filling;
-use lsm_tree::{Config, Error, Handle, Pass, Recorded, Store, Tree, TreeState};
+use lsm_tree::{Config, Error, Handle, Logged, Pass, Recorded, Store, Tree, TreeState};
 use std::alloc::Global;
 
 /// Where the counters of an empty tree start.
@@ -38,6 +38,14 @@ pub fn open_recorded<S: Store>(alloc: Global, store: S) -> Result<Noted<S>, Erro
             tree,
             pass: Pass::new(alloc),
         }),
+        Err((error, _)) => Err(error),
+    }
+}
+
+/// A logged tree of a store, be it empty or not.
+pub fn open_logged<S: Store>(alloc: Global, store: S) -> Result<Logged<S>, Error> {
+    match Logged::open(alloc, START, store) {
+        Ok(tree) => Ok(tree),
         Err((error, _)) => Err(error),
     }
 }

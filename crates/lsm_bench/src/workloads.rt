@@ -22,6 +22,17 @@ pub enum Job {
     Ingest(Ingest),
     /// Clears an empty tree with one owner, 100 times at most.
     Clear,
+    /// Writes to a tree with a log above it, or opens one.
+    Log(Logging),
+}
+
+/// What is done with a log.
+#[derive(Clone, Copy)]
+pub enum Logging {
+    /// Puts so many keys at most in random order into an empty tree, so many a batch, each of which has a record.
+    Put { most: usize, batch: usize },
+    /// Opens a tree again that was closed, none of whose batches is flushed: of one key, and so many at most.
+    Reopen { most: usize },
 }
 
 /// When tables are merged while keys are put.
@@ -95,7 +106,7 @@ pub enum Listing {
 ///
 /// Those that read one tree stand behind the one that makes it, so that it is done once. The first is the fill that
 /// is weighed, before other trees have left memory behind.
-pub const WORKLOADS: [(&str, Job); 38] = [
+pub const WORKLOADS: [(&str, Job); 40] = [
     ("put_rand", Job::Fill(Kind::Owned, Filling::Random)),
     ("bytes_mem", Job::Weigh),
     (
@@ -182,13 +193,42 @@ pub const WORKLOADS: [(&str, Job); 38] = [
         "recorded_get_mem",
         Job::Get(Kind::Recorded, Filling::Random, Wanted::Present),
     ),
+    (
+        "logged_put_rand",
+        Job::Log(Logging::Put {
+            most: 100_000,
+            batch: 1,
+        }),
+    ),
+    (
+        "logged_reopen_mem",
+        Job::Log(Logging::Reopen { most: 10_000 }),
+    ),
 ];
 
 /// The same of trees that stand in a folder. They run behind those, where a folder was given.
-pub const FOLDER_WORKLOADS: [(&str, Job); 3] = [
+pub const FOLDER_WORKLOADS: [(&str, Job); 6] = [
     ("flush_disk", Job::Flush),
     ("reopen_disk", Job::Reopen(None)),
     ("reopen_read_disk", Job::Reopen(Some(Wanted::Present))),
+    (
+        "logged_put_disk",
+        Job::Log(Logging::Put {
+            most: 10_000,
+            batch: 1,
+        }),
+    ),
+    (
+        "logged_put100_disk",
+        Job::Log(Logging::Put {
+            most: 100_000,
+            batch: 100,
+        }),
+    ),
+    (
+        "logged_reopen_disk",
+        Job::Log(Logging::Reopen { most: 10_000 }),
+    ),
 ];
 
 /// Whether there is a workload of this name.

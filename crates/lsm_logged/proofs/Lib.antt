@@ -20,3 +20,4 @@ pub mod FinishActs
 pub mod WholeActs
 pub mod Settling
 pub mod NoActs
+pub mod Taken

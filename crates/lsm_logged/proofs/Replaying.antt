@@ -153,3 +153,9 @@ pub cleared_behind : (P : ℕ → Type 0) (old mid new : World) → ((image : Im
 cleared_behind P old mid new only same leaves =
     joined old mid new (AreCleared P old) (AreCleared P mid) (AreCleared P old) (cleared_none P old mid only same) leaves (λ image was. was)
     (λ image was n. ⊎_elim (λ m. inl ((same.may n (image n)).0 m)) (λ gone. inr gone) (was n))
+
+-- the numbers of a log are below 2^63
+pub small_numbers : (image : Image) (from : ℕ) (passed numbers : List ℕ) → IsLogAt image from passed numbers → All (λ k. k < 2 ^ 63) numbers
+small_numbers image from passed numbers at =
+    let rs = map (λ (r : Record). r.number) at.records in
+    subst (All (λ k. k < 2 ^ 63)) at.named (All-weaker (Contains rs) (λ k. k < 2 ^ 63) (λ k there. ((at.log.read_are k).0 there).0.small) rs (All-contains_itself rs))

@@ -24,6 +24,7 @@ use Rattle.lsm_log_model.specs.Logs.{Logged as Log, MayBeDrawn}
 use Rattle.lsm_log_model.specs.Replays.{IsReopened}
 use Rattle.lsm_state.specs.Core.{Core, opened_core, written_all, versions_left, written_of}
 use Rattle.lsm_state.specs.Opened.{found_entries}
+use Rattle.lsm_logged.specs.Counting.{IsReadFrom}
 use Rattle.lsm_logged.specs.Keeping.{SeenLogged, AreRecordNumbers, IsLogOf, KeepsLog}
 use Rattle.lsm_logged.specs.Removing.{Passed}
 
@@ -32,6 +33,10 @@ use Rattle.lsm_logged.specs.Removing.{Passed}
 -- the entries of records that were read, record after record
 abbrev pub entries_read : List Record → List Entry
 entries_read records = flat_map (λ r. op_entries r.number r.ops) records
+
+-- why records aren't read: for want of memory, by a fault of the store, or since one is none
+abbrev pub RefusesReading : Error → Type 0
+RefusesReading e = ((e ≡ OutOfMemory) ⊎ (e ≡ Store)) ⊎ (e ≡ Unrecoverable)
 
 -- why a record isn't written to a tree: for want of memory, or since an entry is none that a tree takes
 abbrev pub RefusesReplay : Error → Type 0
@@ -109,6 +114,16 @@ abbrev pub logged_left : {S : Type 0} → Result (SeenLogged S) (Error × S) →
 logged_left (Ok t) = t.store
 logged_left (Err e) = e.1
 
--- it is `Unrecoverable` only for the tree's files, or for the log, and for the latter nothing is done
-abbrev pub ToldBad : World → World → Error → Type 0
-ToldBad old new e = e ≡ Unrecoverable → Told TellsOpen (Opens old new) (Err e) ⊎ (Same old new × ((from : ℕ) × IsBadLog old.gives from))
+-- the log is bad, from the number on from which it is read; then nothing is done
+pub record IsBadFrom (old new : World) : Type 0 where
+  pub from : ℕ
+  pub read : IsReadFrom old.gives from
+  pub bad : IsBadLog old.gives from
+  pub same : Same old new
+
+-- as an opening of the tree's files is refused; or for want of memory, or by a fault of the store; or for the log
+pub data RefusesLogged (old new : World) (e : Error) : Type 0 where
+  Files : Told TellsOpen (Opens old new) (Err e) → RefusesLogged old new e
+  Memory : e ≡ OutOfMemory → RefusesLogged old new e
+  Faulty : e ≡ Store → RefusesLogged old new e
+  BadLog : e ≡ Unrecoverable → IsBadFrom old new → RefusesLogged old new e

@@ -1,8 +1,9 @@
 // A logged tree is opened over a store, and gives it back.
 ghost use Rattle.std.specs.Prelude.{◌≡◌, ◌⊎◌, ◌<◌, ◌^◌, ℕ, None, Contains, IfOk, IfErr, OnOk, IsErrOf, IfSome, IfNone};
-ghost use Rattle.std.specs.List.{All};
+ghost use Rattle.std.specs.List.{All, AllByRecursion};
 ghost use Rattle.std.specs.List.Sorted.{IsStrictlyIncreasing};
 ghost use Rattle.lsm_store.specs.World.{Same, LeavesOnly};
+ghost use Rattle.lsm_tables.specs.Image.{Fits};
 ghost use Rattle.lsm_model.specs.Ops.{op_entries};
 ghost use Rattle.lsm_files.specs.Stored.{CountsFaults};
 ghost use Rattle.lsm_log.specs.LogNames.{record_name};
@@ -11,7 +12,7 @@ ghost use Rattle.lsm_log.specs.Logs.{LacksOne, IsLogAt, IsBadLog};
 ghost use Rattle.lsm_state.specs.Core.{written_all};
 ghost use Rattle.lsm_state.specs.Commits.{UpholdsFiles};
 ghost use Rattle.lsm_logged.specs.Keeping.{AreRecordNumbers};
-ghost use Rattle.lsm_logged.specs.Opening.{RefusesReplay, RefusesReplays, ReplaysEach, OpensLogged, ToldBad};
+ghost use Rattle.lsm_logged.specs.Opening.{RefusesReading, RefusesReplay, RefusesReplays, ReplaysEach, OpensLogged, RefusesLogged};
 
 use crate::Logged;
 use lsm_below::{Error, SeqNo, plain_numbers_are_read};
@@ -43,6 +44,7 @@ fn number_after(numbers: &[SeqNo]) -> Option<SeqNo>
 fn replay<S: Store>(tree: &mut TreeState<S>, read: Record) -> Result<(), Error>
     ensures ok { OnOk result (tree.new.core ≡ written_all (op_entries read.number read.ops) tree.old.core) }
     ensures only { IfErr result RefusesReplay }
+    ensures memory { AllByRecursion Fits (op_entries read.number read.ops) → read.number < 2 ^ 63 → IfErr result (λ e. e ≡ Error.OutOfMemory) }
     ensures store { tree.new.store ≡ tree.old.store }
 {
     let number = read.number;
@@ -57,6 +59,7 @@ fn replay<S: Store>(tree: &mut TreeState<S>, read: Record) -> Result<(), Error>
 fn replay_each<S: Store>(tree: &mut TreeState<S>, numbers: &[SeqNo]) -> Result<(), Error>
     ensures replays { OnOk result (ReplaysEach S.tells (S.world tree.old.store).gives numbers.now tree.old.core tree.new.core) }
     ensures bad { S.tells → IsErrOf result Error.Unrecoverable → LacksOne (S.world tree.old.store).gives numbers.now }
+    ensures told { S.tells → All (λ k. k < 2 ^ 63) numbers.now → IfErr result RefusesReading }
     ensures only { IfErr result RefusesReplays }
     ensures same { S.tells → Same (S.world tree.old.store) (S.world tree.new.store) }
     ensures upholds { S.tells → OnOk result (UpholdsFiles (S.world tree.old.store) (S.world tree.new.store) tree.old.core tree.new.core) }
@@ -83,7 +86,7 @@ fn check_numbered<S: Store>(found: &mut Found<S>, from: SeqNo) -> Result<Checked
     ensures after { IfOk result (λ r. AreRecordNumbers r.next r.log.numbers.items) }
     ensures below { IfOk result (λ r. AreRecordNumbers r.next r.log.passed.items) }
     ensures bad { S.tells → IsErrOf result Error.Unrecoverable → IsBadLog (S.world found.old.store).gives from }
-    ensures only { IfErr result (λ e. ((e ≡ Error.OutOfMemory) ⊎ (e ≡ Error.Store)) ⊎ (e ≡ Error.Unrecoverable)) }
+    ensures only { IfErr result RefusesReading }
     ensures same { S.tells → Same (S.world found.old.store) (S.world found.new.store) }
     ensures files { found.new.files ≡ found.old.files }
     ensures counts { CountsFaults (S.world found.old.store) (S.world found.new.store) result }
@@ -106,6 +109,7 @@ fn take_log<S: Store>(tree: &mut TreeState<S>, from: SeqNo, log: &LogNumbers) ->
     requires { IsStrictlyIncreasing log.now.passed.items }
     ensures replays { OnOk result (ReplaysEach S.tells (S.world tree.old.store).gives log.now.numbers.items tree.old.core tree.new.core) }
     ensures bad { S.tells → IsErrOf result Error.Unrecoverable → LacksOne (S.world tree.old.store).gives log.now.numbers.items }
+    ensures told { S.tells → All (λ k. k < 2 ^ 63) log.now.numbers.items → IfErr result RefusesReading }
     ensures upholds { S.tells → OnOk result (UpholdsFiles (S.world tree.old.store) (S.world tree.new.store) tree.old.core tree.new.core) }
     ensures gone { S.tells → OnOk result ((k : ℕ) → Contains log.now.passed.items k → k < from → (S.world tree.new.store).gives (record_name k) ≡ None) }
     ensures clears { S.tells → ClearsRecords (IsBelow from) (S.world tree.old.store) (S.world tree.new.store) }
@@ -135,7 +139,7 @@ impl<S: Store> Logged<S> {
     /// `Unrecoverable` too: then the tree's files are opened, and no record is removed.
     pub fn open(alloc: Global, config: Config, store: S) -> Result<Logged<S>, (Error, S)>
         ensures opens { IfOk result (OpensLogged S.tells S.world store config) }
-        ensures bad { S.tells → IfErr result (λ e. ToldBad (S.world store) (S.world e.1) e.0) }
+        ensures refused { S.tells → IfErr result (λ e. RefusesLogged (S.world store) (S.world e.1) e.0) }
     {
         plain_numbers_are_read();
         openings_pass(&store);

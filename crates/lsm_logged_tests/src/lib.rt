@@ -2,8 +2,17 @@
 //!
 //! | Module | Tests |
 //! |-|-|
-//! | `logs` | batches that come back, and records that are removed |
+//! | `logs` | batches that come back, outcomes that are unknown, and records that are removed |
+//! | `formats` | a log beside a version in format 3 |
+//! | `lives` | three lives in which any one store call fails, and what crashes leave behind them |
+//! | `trees` | holds no test: logged trees, and what they show |
 #![tactic(auto)]
 
 #[cfg(test)]
+mod formats;
+#[cfg(test)]
+mod lives;
+#[cfg(test)]
 mod logs;
+#[cfg(test)]
+mod trees;

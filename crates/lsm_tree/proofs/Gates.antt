@@ -12,8 +12,10 @@ use Rattle.lsm_state.specs.declared.compaction.Options.{Options}
 use Rattle.lsm_state.specs.declared.compaction.Begun.{Begun}
 use Rattle.lsm_state.specs.declared.compaction.Finished.{Finished}
 use Rattle.lsm_state.specs.declared.compaction.Finished.TheVariants.{Installed, Declined}
-use Rattle.lsm_state.specs.Compactions.{Relation}
+use Rattle.lsm_state.specs.Compactions.{Relation, BeginsCompaction}
 use Rattle.lsm_state.specs.WholeCompactions.{options_at, told_end}
+use Rattle.lsm_logged.specs.Keeping.{SeenLogged}
+use Rattle.lsm_logged.specs.Asking.{Asks}
 use Rattle.lsm_recorded.specs.Recorded.{SeenRecorded}
 use Rattle.lsm_recorded.specs.Compacting.{BeginsRecorded}
 use Rattle.lsm_tree.specs.Shared.{OnSomeStore}
@@ -27,6 +29,11 @@ of_the_job job P (Err e) is back done given = subst P back given
 pub begins_at : {S : Type 0} (may_choose : Relation Choice) (may_refuse : Relation ChooseError) (w m : ℕ) (r : Result Begun Error) (old new : SeenRecorded S) (pass pass' : List (ℕ × JournalEntry)) → m ≡ old.tree.core.moment → BeginsRecorded may_choose may_refuse (record { mvcc_gc_watermark = w; moment = m }) r old new pass pass'
     → BeginsRecorded may_choose may_refuse (options_at w old.tree.core) r old new pass pass'
 begins_at may_choose may_refuse w m r old new pass pass' is begins = subst (λ n. BeginsRecorded may_choose may_refuse (let o : Options = record { mvcc_gc_watermark = w; moment = n } in o) r old new pass pass') is begins
+
+-- the same of a tree with a log above it
+pub asks_at : {S : Type 0} (may_choose : Relation Choice) (may_refuse : Relation ChooseError) (w m : ℕ) (r : Result Begun Error) (old new : SeenLogged S) → m ≡ old.core.moment → Asks r old new (BeginsCompaction may_choose may_refuse (record { mvcc_gc_watermark = w; moment = m }) r old.core new.core)
+    → Asks r old new (BeginsCompaction may_choose may_refuse (options_at w old.core) r old.core new.core)
+asks_at may_choose may_refuse w m r old new is asks = subst (λ n. Asks r old new (BeginsCompaction may_choose may_refuse (let o : Options = record { mvcc_gc_watermark = w; moment = n } in o) r old.core new.core)) is asks
 
 -- ---- why its answer blames the store
 

@@ -13,7 +13,8 @@ use Rattle.lsm_state.specs.Compactions.{Relation, BeginsCompaction, Finishes, Sp
 use Rattle.lsm_state.specs.WholeCompactions.{options_at, told_end}
 use Rattle.lsm_recorded.specs.Flushing.{SpendsUnnoted}
 use Rattle.lsm_recorded.specs.Compacting.{BeginsRecorded, FinishesRecorded}
-use Rattle.lsm_tree.specs.Shared.{OnSomeTree, OnSomeRecorded}
+use Rattle.lsm_logged.specs.Asking.{Asks}
+use Rattle.lsm_tree.specs.Shared.{OnSomeTree, OnSomeRecorded, OnSomeLogged, TouchesTreeAlone}
 
 -- it is never a job
 abbrev pub IsNoJob : Result Begun Error → Type 0
@@ -56,3 +57,20 @@ pub record CompactsGatedRecorded (S : Type 0) (may_choose : Relation Choice) (ma
   pub mid : List (ℕ × JournalEntry)
   pub begins : OnSomeRecorded S (λ old new. BeginsRecorded may_choose may_refuse (options_at w old.tree.core) begun old new pass mid)
   pub follows : FollowsGatedRecorded S begun r mid pass'
+
+-- ---- a tree with a log above it
+
+-- the same; where a record has unknown outcome, the merge that was done is refused
+abbrev pub EndsGatedLogged : (S : Type 0) → SeenCompaction → Result Begun Error → Type 0
+EndsGatedLogged S job r =
+    ((r ≡ Err OutOfMemory) × OnSomeLogged S (TouchesTreeAlone (λ old new. Spends job old new)))
+    ⊎ ((end : Result Finished Error) × (r ≡ told_end end) × OnSomeLogged S (λ old new. Asks end old new (Finishes job end old.core new.core)))
+
+abbrev pub FollowsGatedLogged : (S : Type 0) → Result Begun Error → Result Begun Error → Type 0
+FollowsGatedLogged S (Ok (Job job)) r = EndsGatedLogged S job r
+FollowsGatedLogged S begun r = r ≡ begun
+
+pub record CompactsGatedLogged (S : Type 0) (may_choose : Relation Choice) (may_refuse : Relation ChooseError) (w : ℕ) (r : Result Begun Error) : Type 0 where
+  pub begun : Result Begun Error
+  pub begins : OnSomeLogged S (λ old new. Asks begun old new (BeginsCompaction may_choose may_refuse (options_at w old.core) begun old.core new.core))
+  pub follows : FollowsGatedLogged S begun r

@@ -12,6 +12,7 @@ use Rattle.lsm_versions.specs.declared.config.TheConstants.{LIMIT}
 use Rattle.lsm_state.specs.Core.{Core, latest_of, older_of, state_of}
 use Rattle.lsm_state.specs.Held.{first_entries}
 use Rattle.lsm_state.specs.Kept.{IsKeptTree}
+use Rattle.lsm_logged.specs.Keeping.{SeenLogged, IsKeptLogged}
 use Rattle.lsm_recorded.specs.Passes.{listed}
 use Rattle.lsm_recorded.specs.Recorded.{SeenRecorded}
 
@@ -38,6 +39,21 @@ pub record IsKeptRecorded {S : Type 0} (t : SeenRecorded S) : Type 0 where
 -- a call that looked at some tree with its journal, of which this holds
 abbrev pub AtSomeRecorded : (S : Type 0) → (SeenRecorded S → Type 0) → Type 0
 AtSomeRecorded S P = (t : SeenRecorded S) × P t × IsKeptRecorded t
+
+-- a call that took some tree with a log above it to another; of both holds what holds of every one
+abbrev pub OnSomeLogged : (S : Type 0) → (SeenLogged S → SeenLogged S → Type 0) → Type 0
+OnSomeLogged S P = (old : SeenLogged S) × (new : SeenLogged S) × P old new × IsKeptLogged old × IsKeptLogged new
+
+-- a call that looked at some tree with a log above it, of which this holds
+abbrev pub AtSomeLogged : (S : Type 0) → (SeenLogged S → Type 0) → Type 0
+AtSomeLogged S P = (t : SeenLogged S) × P t × IsKeptLogged t
+
+-- it is a call of the tree below the log; the log stays, and so does the store
+pub record TouchesTreeAlone {S : Type 0} (P : Core → Core → Type 0) (old new : SeenLogged S) : Type 0 where
+  pub call : P old.core new.core
+  pub store : new.store ≡ old.store
+  pub numbers : new.numbers ≡ old.numbers
+  pub doubt : new.doubted ≡ old.doubted
 
 -- a call that took the store of some tree to another
 abbrev pub OnSomeStore : (S : Type 0) → (S → S → Type 0) → Type 0

@@ -1,5 +1,6 @@
 // Trees that several callers share.
 
+use lsm_logged::Logged;
 use lsm_recorded::Recorded;
 use lsm_state::TreeState;
 use lsm_store::MemStore;
@@ -40,6 +41,26 @@ pub type Tree<S = MemStore> = Handle<TreeState<S>>;
 /// let closed = tree.close(&rt, vec![in alloc; pass]?);
 /// ```
 pub type RecordedTree<S = MemStore> = Handle<Recorded<S>>;
+
+/// A tree with a log above it, that several callers share: each batch has a record in the store before `write` returns, so no
+/// crash takes it.
+///
+/// Each call of `write` makes one record and syncs it: whoever wants fewer syncs gives a batch more operations.
+///
+/// After a `CommitUnknown` each write, commit and removal is `Unrecoverable`, and reads go on. Then drop all handles (a folder
+/// stays locked until the last one is dropped), open a store over the same folder again, and `Logged::open` it: then all of the
+/// batch is there, or nothing of it.
+///
+/// # Examples
+///
+/// ```text
+/// let store = FolderStore::new(rt, alloc, "folder")?;
+/// let core = Logged::open(alloc, Config::new(0, 0, 0), store).map_err(|refused| refused.0)?;
+/// let tree: LoggedTree<_> = Handle::new(alloc, core)?;
+/// let number = tree.write(&rt, vec![in alloc; (key, Op::Set(value))]?)?;
+/// let found = tree.get(&rt, b"a", number + 1)?;
+/// ```
+pub type LoggedTree<S = MemStore> = Handle<Logged<S>>;
 
 impl<C: Drop + Send> Handle<C> {
     /// The first handle on a tree.

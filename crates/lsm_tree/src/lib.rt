@@ -13,12 +13,22 @@
 //! | `recorded_flushes` | its flushes |
 //! | `recorded_compactions` | its compactions |
 //! | `recorded_counts` | what is counted and told of it |
+//! | `logged_tree` | the calls of a tree with a log above it, behind the lock |
+//! | `logged_ranges` | its reads of many keys |
+//! | `logged_flushes` | its flushes |
+//! | `logged_compactions` | its compactions |
+//! | `logged_counts` | what is counted and told of it |
 //! | `laws` | theorems as the contracts of functions that do nothing |
 #![tactic(auto)]
 
 mod gate;
 mod handle;
 pub mod laws;
+mod logged_compactions;
+mod logged_counts;
+mod logged_flushes;
+mod logged_ranges;
+mod logged_tree;
 mod recorded_compactions;
 mod recorded_counts;
 mod recorded_flushes;
@@ -32,6 +42,7 @@ mod shared_tree;
 pub use gate::Gate;
 pub use gate::RunJob;
 pub use handle::Handle;
+pub use handle::LoggedTree;
 pub use handle::RecordedTree;
 pub use handle::Tree;
 pub use lsm_below::AsEntry;
@@ -84,6 +95,8 @@ pub use lsm_jobs::FlushJob;
 pub use lsm_jobs::MergedFlush;
 pub use lsm_jobs::Registered;
 pub use lsm_jobs::WrittenFlush;
+pub use lsm_logged::Logged;
+pub use lsm_logged::has_log;
 pub use lsm_manifest::FileName;
 pub use lsm_manifest::FormatVersion;
 pub use lsm_manifest::Manifest;

@@ -1,7 +1,9 @@
-use Rattle.std.proofs.Common.{◌≡◌, ◌∙◌, get_or, Err, refl, sym, ap, subst, rules}
+use Rattle.std.proofs.Common.{◌≡◌, ◌∙◌, ◌<◌, ◌^◌, get_or, Err, inl, refl, sym, ap, subst, rules}
+use Rattle.std.specs.List.{AllByRecursion}
+use Rattle.lsm_tables.specs.Image.{Fits}
 use Rattle.std.proofs.lemmas.List.{take_all}
 use Rattle.std.proofs.lemmas.Result.{err_from_is_err_and}
-use Rattle.std.proofs.lemmas.List.Elements.{Contains-get_or}
+use Rattle.std.proofs.lemmas.List.Elements.{Contains-get_or, All-contains}
 use Rattle.lsm_below.specs.declared.error.Error.{Error}
 use Rattle.lsm_below.specs.declared.error.Error.TheVariants.{Unrecoverable}
 use Rattle.lsm_store.specs.World.{Image, Same}
@@ -71,3 +73,16 @@ returns-clause-replays g c =
     let w = g.S.Store.world in
     let ns = c.args.numbers.now in
     subst (λ l. ReplaysEach g.S.Store.tells (w c.args.tree.now.store).gives l c.args.tree.now.core c.loop-number.tree.core) (take_all c.loop-number.number-index ns c.loop-number-test.false) c.loop-number.invariant.replays
+
+pub returns-in_err-replay-clause-told : goal.returns-in_err-replay-clause-told
+returns-in_err-replay-clause-told g c tells small =
+    let w = g.S.Store.world in
+    let ns = c.args.numbers.now in
+    let i = c.loop-number.number-index in
+    let k = get_or ns i 0 in
+    let r = c.in_ok-read.read in
+    let did = c.in_ok-read.ensures in
+    let fit = subst (λ n. AllByRecursion Fits (op_entries n r.ops)) (sym did.number) (did.read tells).reads.batch.each in
+    let lt = subst (λ n. n < 2 ^ 63) (sym did.number) (All-contains (λ n. n < 2 ^ 63) ns k small (Contains-get_or ns i 0 c.loop-number-test.true)) in
+    let p = err_from_is_err_and c.from_residual-in_err-replay.result c.from_residual-in_err-replay.ensures.1 in
+    rw (p.1, p.2) (inl (inl (c.in_err-replay.ensures.memory fit lt)))

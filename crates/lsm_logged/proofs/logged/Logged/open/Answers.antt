@@ -1,4 +1,4 @@
-use Rattle.std.proofs.Common.{◌≡◌, ◌∙◌, ℕ, ◌<◌, max, map, Contains, None, Err, false, inl, inr, sym, ap, subst, arith}
+use Rattle.std.proofs.Common.{◌≡◌, ◌∙◌, ⊎_elim, ℕ, ◌<◌, max, map, Contains, None, Err, false, sym, ap, subst, arith}
 use Rattle.std.proofs.lemmas.Result.{err_from_is_err_and}
 use Rattle.lsm_below.specs.Sums.{capped}
 use Rattle.lsm_below.specs.Entries.{above}
@@ -16,28 +16,44 @@ use Rattle.lsm_log.specs.Changes.{IsBelow, ClearsRecords, AreCleared}
 use Rattle.lsm_log.proofs.Loaded.{gives_same}
 use Rattle.lsm_log_model.specs.Records.{LogStands}
 use Rattle.lsm_logged.specs.Keeping.{AreRecordNumbers}
-use Rattle.lsm_logged.specs.Opening.{image_read, TakesLog, CanBeSettled, IsReopenedLog}
+use Rattle.lsm_logged.specs.Opening.{Files, Memory, Faulty, BadLog, image_read, TakesLog, CanBeSettled, IsReopenedLog}
 use Rattle.lsm_logged.proofs.LogNames.{record_is_foreign}
-use Rattle.lsm_logged.proofs.Replaying.{log_read, none_lacks}
+use Rattle.lsm_logged.proofs.Reached.{looked as looked_from}
+use Rattle.lsm_logged.proofs.Replaying.{log_read, none_lacks, small_numbers}
 use Rattle.lsm_logged.proofs.Reopening.{looks_on, is_read_in, numbered_more, whole, version, high, replays, takes, reopens}
 use Rattle.lsm_logged.proofs.logged.Logged.open.Goals as goal
 
-pub returns-in-Err-clause-bad : goal.returns-in-Err-clause-bad
-returns-in-Err-clause-bad g c tells is =
-    let w = g.S.Store.world in
-    let looked = c.in_ok-found.ensures.same tells in
-    let same = same_then (w c.args.store) (w c.in_ok-found.found.store) (w c.check_numbered.new.found.store) looked (c.in-Err.ensures.same tells) in
-    inr (rw (c.into_store.ensures) same, (c.log_from-from.result, subst (λ (image : Image). IsBadLog image c.log_from-from.result) (gives_same (w c.args.store) (w c.in_ok-found.found.store) looked) (c.in-Err.ensures.bad tells (ap Err is))))
+pub returns-in_err-found-clause-refused : goal.returns-in_err-found-clause-refused
+returns-in_err-found-clause-refused g c tells =
+    let p = err_from_is_err_and c.from_residual.result c.from_residual.ensures.1 in
+    rw (p.1, p.2) (Files (c.in_err-found.ensures.refused tells))
 
-pub returns-in_err-tree-clause-bad : goal.returns-in_err-tree-clause-bad
-returns-in_err-tree-clause-bad g c tells =
+pub returns-in-Err-clause-refused : goal.returns-in-Err-clause-refused
+returns-in-Err-clause-refused g c tells =
+    let w = g.S.Store.world in
+    let store = c.args.store in
+    let found = c.in_ok-found.found in
+    let mid = c.check_numbered.new.found.store in
+    let looked = c.in_ok-found.ensures.same tells in
+    let from = c.log_from-from.result in
+    ⊎_elim (λ few. ⊎_elim (λ e. Memory e) (λ e. Faulty e) few)
+        (λ e. BadLog e (record {
+          from = from;
+          read = looked_from (w store) (w found.store) found.files from (c.in_ok-found.ensures.found tells) (c.log_from-from.ensures ∙ ap (λ (u : SeenVersion). u.log_from) c.version.ensures);
+          bad = subst (λ (image : Image). IsBadLog image from) (gives_same (w store) (w found.store) looked) (c.in-Err.ensures.bad tells (ap Err e));
+          same = rw (c.into_store.ensures) (same_then (w store) (w found.store) (w mid) looked (c.in-Err.ensures.same tells));
+        }))
+        c.in-Err.ensures.only
+
+pub returns-in_err-tree-clause-refused : goal.returns-in_err-tree-clause-refused
+returns-in_err-tree-clause-refused g c tells =
     let w = g.S.Store.world in
     let looks = looks_on (w c.args.store) (w c.in_ok-found.found.store) (w c.check_numbered.new.found.store) c.in_ok-found.found.files c.check_numbered.new.found.files (c.in_ok-found.ensures.found tells) (c.in-Ok.ensures.same tells) c.in-Ok.ensures.files in
     let p = err_from_is_err_and c.from_residual-in_err-tree.result c.from_residual-in_err-tree.ensures.1 in
-    rw (p.1, p.2) (λ is. inl (c.in_err-tree.ensures.opens tells c.args.store looks))
+    rw (p.1, p.2) (Files (c.in_err-tree.ensures.opens tells c.args.store looks))
 
-pub returns-in-Err-take_log-clause-bad : goal.returns-in-Err-take_log-clause-bad
-returns-in-Err-take_log-clause-bad g c tells is =
+pub returns-in-Err-take_log-clause-refused : goal.returns-in-Err-take_log-clause-refused
+returns-in-Err-take_log-clause-refused g c tells =
     let w = g.S.Store.world in
     let store = c.args.store in
     let found = c.in_ok-found.found in
@@ -47,7 +63,9 @@ returns-in-Err-take_log-clause-bad g c tells is =
     let looks = looks_on (w store) (w found.store) (w found'.store) found.files found'.files (c.in_ok-found.ensures.found tells) (c.in-Ok.ensures.same tells) c.in-Ok.ensures.files in
     let passes = c.openings_pass.ensures store mid _ (c.in_ok-tree.ensures.opens tells store looks) (c.in_ok-tree.ensures.leaves tells store looks) in
     let read = subst (λ (image : Image). IsLogAt image c.log_from-from.result log.passed.items log.numbers.items) (gives_same (w store) (w found.store) (c.in_ok-found.ensures.same tells)) (c.in-Ok.ensures.read tells) in
-    absurd (none_lacks (w store).gives c.log_from-from.result log.passed.items log.numbers.items read (w mid).gives (λ k. passes.gives (record_name k) (record_is_foreign k)) (c.in-Err-take_log.ensures.bad tells (ap Err is)))
+    ⊎_elim (λ few. ⊎_elim (λ e. Memory e) (λ e. Faulty e) few)
+        (λ e. absurd (none_lacks (w store).gives c.log_from-from.result log.passed.items log.numbers.items read (w mid).gives (λ k. passes.gives (record_name k) (record_is_foreign k)) (c.in-Err-take_log.ensures.bad tells (ap Err e))))
+        (c.in-Err-take_log.ensures.told tells (small_numbers (w store).gives c.log_from-from.result log.passed.items log.numbers.items read))
 
 pub invariant_of-result : goal.invariant_of-result
 invariant_of-result g c =

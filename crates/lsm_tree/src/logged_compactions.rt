@@ -1,0 +1,272 @@
+// The calls of a compaction, of a logged tree behind the lock.
+ghost use Rattle.std.specs.Prelude.{◌≡◌, Err, IfOk, IfErr};
+ghost use Rattle.lsm_files.specs.Causes.{HasCause, Blames};
+ghost use Rattle.lsm_state.specs.Compactions.{BeginsChoice, BeginsCompaction, Finishes, Spends};
+ghost use Rattle.lsm_state.specs.WholeCompactions.{CompactsChoice, Compacts, DropsRange, options_at, only_memory, major_choice};
+ghost use Rattle.lsm_logged.specs.Asking.{Asks};
+ghost use Rattle.lsm_tree.specs.Shared.{OnSomeStore, OnSomeLogged, TouchesTreeAlone};
+ghost use Rattle.lsm_tree.specs.Gates.{IsNoJob, EndsGatedLogged, CompactsGatedLogged};
+
+use crate::gate::{Gate, told_end};
+use crate::handle::Handle;
+use lsm_below::SeqNo;
+use lsm_logged::Logged;
+use lsm_merges::{CompactionJob, MergedCompaction};
+use lsm_parts::Error;
+use lsm_pick::{Choice, CompactionStrategy, OwnedBounds};
+use lsm_state::{Begun, Finished, Options};
+use lsm_store::Store;
+use std::sync::Wait;
+
+/// A compaction in its parts, or in one call, as those of the same names of `Logged`, on the tree as the lock finds it. Where a
+/// record has unknown outcome each of them is `Unrecoverable`. While `CompactionJob::run` merges, other callers read and write.
+impl<S: Store> Handle<Logged<S>> {
+    /// Asks a strategy for a choice and does it, as `Logged::begin_compaction`. The strategy is asked under the lock.
+    pub fn begin_compaction(
+        &self,
+        rt: &impl Wait,
+        strategy: &dyn CompactionStrategy,
+        options: Options,
+    ) -> Result<Begun, Error>
+        ensures begins { OnSomeLogged S (λ old new. Asks result old new (BeginsCompaction (may_choose strategy.now) (may_refuse strategy.now) options result old.core new.core)) }
+        // The store is blamed only where a call of it failed.
+        ensures causes { OnSomeStore S (λ old new. HasCause (Blames result) (S.world old) (S.world new)) }
+    {
+        let mut tree = self.shared.lock(rt);
+        let tree = &mut *tree;
+        tree.facts();
+        let told = tree.begin_compaction(strategy, options);
+        tree.facts();
+        told
+    }
+
+    /// `begin_compaction` with a strategy whose type is known, as `Logged::begin_with`.
+    pub fn begin_with<C: CompactionStrategy>(
+        &self,
+        rt: &impl Wait,
+        strategy: &C,
+        options: Options,
+    ) -> Result<Begun, Error>
+        ensures begins { OnSomeLogged S (λ old new. Asks result old new (BeginsCompaction (C.may_choose strategy.now) (C.may_refuse strategy.now) options result old.core new.core)) }
+        // The store is blamed only where a call of it failed.
+        ensures causes { OnSomeStore S (λ old new. HasCause (Blames result) (S.world old) (S.world new)) }
+    {
+        let mut tree = self.shared.lock(rt);
+        let tree = &mut *tree;
+        tree.facts();
+        let told = tree.begin_with(strategy, options);
+        tree.facts();
+        told
+    }
+
+    /// Does a choice of the caller's own, as `Logged::begin_choice`.
+    pub fn begin_choice(
+        &self,
+        rt: &impl Wait,
+        choice: Choice,
+        options: Options,
+    ) -> Result<Begun, Error>
+        ensures begins { OnSomeLogged S (λ old new. Asks result old new (BeginsChoice choice options result old.core new.core)) }
+        // The store is blamed only where a call of it failed.
+        ensures causes { OnSomeStore S (λ old new. HasCause (Blames result) (S.world old) (S.world new)) }
+    {
+        let mut tree = self.shared.lock(rt);
+        let tree = &mut *tree;
+        tree.facts();
+        let told = tree.begin_choice(choice, options);
+        tree.facts();
+        told
+    }
+
+    /// Ends a merge that was done, as `Logged::finish_compaction`. The lock is held while its files are written.
+    pub fn finish_compaction(
+        &self,
+        rt: &impl Wait,
+        merged: MergedCompaction,
+    ) -> Result<Finished, Error>
+        ensures finishes { OnSomeLogged S (λ old new. Asks result old new (Finishes merged.job result old.core new.core)) }
+        // The store is blamed only where a call of it failed.
+        ensures causes { OnSomeStore S (λ old new. HasCause (Blames result) (S.world old) (S.world new)) }
+    {
+        let mut tree = self.shared.lock(rt);
+        let tree = &mut *tree;
+        tree.facts();
+        let told = tree.finish_compaction(merged);
+        tree.facts();
+        told
+    }
+
+    /// Gives up a merge, as `Logged::abandon_compaction`.
+    pub fn abandon_compaction(&self, rt: &impl Wait, job: CompactionJob)
+        ensures { OnSomeLogged S (TouchesTreeAlone (λ old new. Spends job old new)) }
+    {
+        let mut tree = self.shared.lock(rt);
+        let tree = &mut *tree;
+        tree.facts();
+        tree.abandon_compaction(job);
+        tree.facts();
+    }
+
+    /// Compacts as a strategy chooses, in one call, at a watermark and at the tree's moment, as `Logged::compact`. The lock is held
+    /// throughout.
+    pub fn compact(
+        &self,
+        rt: &impl Wait,
+        strategy: &dyn CompactionStrategy,
+        watermark: SeqNo,
+    ) -> Result<Begun, Error>
+        ensures compacts { OnSomeLogged S (λ old new. Asks result old new (Compacts (may_choose strategy.now) (may_refuse strategy.now) (options_at watermark old.core) result old.core new.core)) }
+        // The store is blamed only where a call of it failed.
+        ensures causes { OnSomeStore S (λ old new. HasCause (Blames result) (S.world old) (S.world new)) }
+    {
+        let mut tree = self.shared.lock(rt);
+        let tree = &mut *tree;
+        tree.facts();
+        let told = tree.compact(strategy, watermark);
+        tree.facts();
+        told
+    }
+
+    /// The same with a strategy whose type is known, and with options, as `Logged::compact_with`. The lock is held throughout.
+    pub fn compact_with<C: CompactionStrategy>(
+        &self,
+        rt: &impl Wait,
+        strategy: &C,
+        options: Options,
+    ) -> Result<Begun, Error>
+        ensures compacts { OnSomeLogged S (λ old new. Asks result old new (Compacts (C.may_choose strategy.now) (C.may_refuse strategy.now) options result old.core new.core)) }
+        // The store is blamed only where a call of it failed.
+        ensures causes { OnSomeStore S (λ old new. HasCause (Blames result) (S.world old) (S.world new)) }
+    {
+        let mut tree = self.shared.lock(rt);
+        let tree = &mut *tree;
+        tree.facts();
+        let told = tree.compact_with(strategy, options);
+        tree.facts();
+        told
+    }
+
+    /// Does a choice of the caller's own, in one call, as `Logged::compact_choice`. The lock is held throughout.
+    pub fn compact_choice(
+        &self,
+        rt: &impl Wait,
+        choice: Choice,
+        options: Options,
+    ) -> Result<Begun, Error>
+        ensures compacts { OnSomeLogged S (λ old new. Asks result old new (CompactsChoice choice options result old.core new.core)) }
+        // The store is blamed only where a call of it failed.
+        ensures causes { OnSomeStore S (λ old new. HasCause (Blames result) (S.world old) (S.world new)) }
+    {
+        let mut tree = self.shared.lock(rt);
+        let tree = &mut *tree;
+        tree.facts();
+        let told = tree.compact_choice(choice, options);
+        tree.facts();
+        told
+    }
+
+    /// `begin_compaction` at a watermark, and at the moment of the tree.
+    fn begin_at(
+        &self,
+        rt: &impl Wait,
+        strategy: &dyn CompactionStrategy,
+        watermark: SeqNo,
+    ) -> Result<Begun, Error>
+        ensures begins { OnSomeLogged S (λ old new. Asks result old new (BeginsCompaction (may_choose strategy.now) (may_refuse strategy.now) (options_at watermark old.core) result old.core new.core)) }
+        ensures causes { OnSomeStore S (λ old new. HasCause (Blames result) (S.world old) (S.world new)) }
+    {
+        let mut tree = self.shared.lock(rt);
+        let tree = &mut *tree;
+        tree.facts();
+        let options = Options {
+            mvcc_gc_watermark: watermark,
+            moment: tree.tree().moment(),
+        };
+        let told = tree.begin_compaction(strategy, options);
+        tree.facts();
+        told
+    }
+
+    /// Ends the merge of a job: finishes what a gate did, and gives up what it gave back.
+    fn end_gated(
+        &self,
+        rt: &impl Wait,
+        passed: Result<MergedCompaction, (Error, CompactionJob)>,
+    ) -> Result<Begun, Error>
+        requires { IfErr passed (λ e. e.0 ≡ Error.OutOfMemory) }
+        ensures done { IfOk passed (λ m. EndsGatedLogged S m.job result) }
+        ensures back { IfErr passed (λ e. EndsGatedLogged S e.1 result) }
+        ensures causes { IfOk passed (λ _. OnSomeStore S (λ old new. HasCause (Blames result) (S.world old) (S.world new))) }
+        ensures given_up { IfErr passed (λ _. result ≡ Err Error.OutOfMemory) }
+        ensures no_job { IsNoJob result }
+    {
+        match passed {
+            Ok(merged) => told_end(self.finish_compaction(rt, merged)),
+            Err((error, job)) => {
+                self.abandon_compaction(rt, job);
+                Err(error)
+            }
+        }
+    }
+
+    /// Compacts as a strategy chooses, at a watermark and at the tree's moment, and has a gate do the merge where there is one, as
+    /// `Tree::compact_gated`: the gate is handed the job while no lock is held. The answer is never `Begun::Job`.
+    ///
+    /// # Errors
+    ///
+    /// Those of `begin_compaction` and of `finish_compaction`; `OutOfMemory` where the gate gives the job back: it is given up
+    /// then, and nothing is installed.
+    pub fn compact_gated(
+        &self,
+        rt: &impl Wait,
+        strategy: &dyn CompactionStrategy,
+        watermark: SeqNo,
+        gate: &impl Gate,
+    ) -> Result<Begun, Error>
+        ensures gated { CompactsGatedLogged S (may_choose strategy.now) (may_refuse strategy.now) watermark result }
+        // The store is blamed only where a call of it failed.
+        ensures causes { OnSomeStore S (λ old new. HasCause (Blames result) (S.world old) (S.world new)) }
+        ensures no_job { IsNoJob result }
+    {
+        match self.begin_at(rt, strategy, watermark) {
+            Ok(Begun::Job(job)) => self.end_gated(rt, gate.pass(job)),
+            Ok(Begun::DidNothing) => Ok(Begun::DidNothing),
+            Ok(Begun::Declined(why)) => Ok(Begun::Declined(why)),
+            Ok(Begun::Installed) => Ok(Begun::Installed),
+            Err(error) => Err(error),
+        }
+    }
+
+    /// Merges all tables into the last level, as `Logged::major_compact`. The lock is held throughout.
+    pub fn major_compact(
+        &self,
+        rt: &impl Wait,
+        target: u64,
+        watermark: SeqNo,
+    ) -> Result<Begun, Error>
+        ensures compacts { OnSomeLogged S (λ old new. Asks result old new (Compacts (major_choice target) only_memory (options_at watermark old.core) result old.core new.core)) }
+        // The store is blamed only where a call of it failed.
+        ensures causes { OnSomeStore S (λ old new. HasCause (Blames result) (S.world old) (S.world new)) }
+    {
+        let mut tree = self.shared.lock(rt);
+        let tree = &mut *tree;
+        tree.facts();
+        let told = tree.major_compact(target, watermark);
+        tree.facts();
+        told
+    }
+
+    /// Drops the tables that lie within bounds, as `Logged::drop_range`.
+    pub fn drop_range(&self, rt: &impl Wait, bounds: OwnedBounds) -> Result<Begun, Error>
+        ensures drops { OnSomeLogged S (λ old new. Asks result old new (DropsRange bounds result old.core new.core)) }
+        // The store is blamed only where a call of it failed.
+        ensures causes { OnSomeStore S (λ old new. HasCause (Blames result) (S.world old) (S.world new)) }
+    {
+        let mut tree = self.shared.lock(rt);
+        let tree = &mut *tree;
+        tree.facts();
+        let told = tree.drop_range(bounds);
+        tree.facts();
+        told
+    }
+}

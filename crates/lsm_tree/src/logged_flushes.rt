@@ -1,0 +1,112 @@
+// The calls of a flush, of a logged tree behind the lock.
+ghost use Rattle.std.specs.Prelude.{◌≡◌};
+ghost use Rattle.lsm_files.specs.Causes.{HasCause};
+ghost use Rattle.lsm_state.specs.Causes.{BlamesBeside, BlamesOrUnclean, BlamesOrUncleanFlush, BlamesOrUncleanBehind};
+ghost use Rattle.lsm_state.specs.Flushes.{spent};
+ghost use Rattle.lsm_logged.specs.Flushing.{FlushesLogged, FlushesBoth, BeginsLogged, WritesJobLogged, RegistersLogged};
+ghost use Rattle.lsm_tree.specs.Shared.{OnSomeStore, OnSomeLogged, TouchesTreeAlone};
+
+use crate::handle::Handle;
+use lsm_below::{MemtableId, SeqNo};
+use lsm_jobs::{FlushJob, MergedFlush, Registered, WrittenFlush};
+use lsm_logged::Logged;
+use lsm_parts::Error;
+use lsm_store::Store;
+use std::sync::Wait;
+
+/// A flush in its parts, or in one call, each on the tree as the lock finds it. A job shares its memtables and knows nothing of
+/// the lock: while `FlushJob::run` merges them, other callers read and write.
+impl<S: Store> Handle<Logged<S>> {
+    /// Opens a flush of all sealed memtables, as `Logged::begin_flush`.
+    pub fn begin_flush(&self, rt: &impl Wait) -> Result<Option<FlushJob>, Error>
+        ensures { OnSomeLogged S (λ old new. BeginsLogged result old new) }
+    {
+        let mut tree = self.shared.lock(rt);
+        let tree = &mut *tree;
+        tree.facts();
+        let told = tree.begin_flush();
+        tree.facts();
+        told
+    }
+
+    /// Writes the tables of a merged job, as `Logged::flush_to_tables`. The lock is held while they are written.
+    pub fn flush_to_tables(
+        &self,
+        rt: &impl Wait,
+        job: MergedFlush,
+    ) -> Result<WrittenFlush, (Error, MergedFlush)>
+        ensures writes { OnSomeLogged S (λ old new. WritesJobLogged job result old new) }
+        // The store is blamed only where a call of it failed.
+        ensures causes { OnSomeStore S (λ old new. HasCause (BlamesBeside result) (S.world old) (S.world new)) }
+    {
+        let mut tree = self.shared.lock(rt);
+        let tree = &mut *tree;
+        tree.facts();
+        let told = tree.flush_to_tables(job);
+        tree.facts();
+        told
+    }
+
+    /// Installs the tables of a job, or finds it stale, and removes the records that it passed, as `Logged::register_tables`.
+    pub fn register_tables(&self, rt: &impl Wait, job: WrittenFlush) -> Result<Registered, Error>
+        ensures registers { OnSomeLogged S (λ old new. RegistersLogged job result old new) }
+        // The store is blamed only where a call of it failed.
+        ensures causes { OnSomeStore S (λ old new. HasCause (BlamesOrUnclean result) (S.world old) (S.world new)) }
+    {
+        let mut tree = self.shared.lock(rt);
+        let tree = &mut *tree;
+        tree.facts();
+        let told = tree.register_tables(job);
+        tree.facts();
+        told
+    }
+
+    /// Gives up a job, as `Logged::abandon_flush`.
+    pub fn abandon_flush(&self, rt: &impl Wait, job: FlushJob)
+        ensures { OnSomeLogged S (TouchesTreeAlone (λ old new. new ≡ spent job.number old)) }
+    {
+        let mut tree = self.shared.lock(rt);
+        let tree = &mut *tree;
+        tree.facts();
+        tree.abandon_flush(job);
+        tree.facts();
+    }
+
+    /// Flushes all sealed memtables in one call, and removes the records that it passed, as `Logged::flush`. The lock is held
+    /// throughout.
+    pub fn flush(
+        &self,
+        rt: &impl Wait,
+        watermark: SeqNo,
+    ) -> Result<Option<(u64, Registered)>, Error>
+        ensures flushes { OnSomeLogged S (λ old new. FlushesLogged watermark result old new) }
+        // The store is blamed only where a call of it failed.
+        ensures causes { OnSomeStore S (λ old new. HasCause (BlamesOrUncleanFlush result) (S.world old) (S.world new)) }
+    {
+        let mut tree = self.shared.lock(rt);
+        let tree = &mut *tree;
+        tree.facts();
+        let told = tree.flush(watermark);
+        tree.facts();
+        told
+    }
+
+    /// Seals the active memtable and flushes all sealed ones, as `Logged::flush_active_memtable`. The lock is held
+    /// throughout.
+    pub fn flush_active_memtable(
+        &self,
+        rt: &impl Wait,
+        watermark: SeqNo,
+    ) -> Result<(Option<MemtableId>, Option<(u64, Registered)>), (Error, Option<MemtableId>)>
+        ensures flushes { OnSomeLogged S (λ old new. FlushesBoth watermark result old new) }
+        // The store is blamed only where a call of it failed.
+        ensures causes { OnSomeStore S (λ old new. HasCause (BlamesOrUncleanBehind result) (S.world old) (S.world new)) }
+    {
+        let mut tree = self.shared.lock(rt);
+        let tree = &mut *tree;
+        tree.facts();
+        let told = tree.flush_active_memtable(watermark);
+        tree.facts();
+        told
+    }
+}
