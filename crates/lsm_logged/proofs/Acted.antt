@@ -35,11 +35,12 @@ use Rattle.lsm_state.specs.Refusals.{is_great, is_long_key, is_long_value, batch
 use Rattle.lsm_logged.specs.Keeping.{SeenLogged, is_unsure, IsLogOf, KeepsLog, IsLogIn, AreKnown}
 use Rattle.lsm_logged.specs.Writing.{leaves_doubt, with_number, WritesLogged, Leads, WritesAct, batch_of}
 use Rattle.lsm_logged.proofs.LogNames.{apart}
+use Rattle.lsm_logged.proofs.Led.{none_left}
 use Rattle.lsm_logged.proofs.Keeping.{narrower, with_record, with_doubt, was_absent}
 
 -- ---- keys
 
-neither : (a b : Bool) → (a || b) ≡ false → (a ≡ false) × (b ≡ false)
+pub neither : (a b : Bool) → (a || b) ≡ false → (a ≡ false) × (b ≡ false)
 neither true b h = absurd (cc h)
 neither false b h = (refl, h)
 
@@ -63,10 +64,6 @@ writes opened (e ∷ es) old new r distinct =
     let mid : Saved = record { state = r.0; notes = old.notes; others = old.others } in
     let there = subst HasDistinctIds (sym (ap (λ sv. sv.tables) r.1.latest)) distinct in
     (mid, record { answered = refl; certain = λ commits. absurd (cc commits); step = r.1; distinct = there; notes = refl; others = refl }, writes opened es mid new r.2 there)
-
-none_left : {A : Type 0} (o : Option A) → is_some o ≡ false → o ≡ None
-none_left None h = refl
-none_left (Some x) h = absurd (cc h)
 
 -- ---- acts
 

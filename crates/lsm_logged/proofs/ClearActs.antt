@@ -1,5 +1,5 @@
 -- A clear of a logged tree is an act of the theory.
-use Rattle.std.proofs.Common.{◌≡◌, ◌⊎◌, ⊎_elim, inl, inr, ℕ, ◌+◌, ◌<◌, ◌^◌, Bool, true, false, ◌||◌, List, [], ◌∷◌, ◌++◌, length, Some, None, Ok, Err, IsErrOf, refl, sym, ap, ◌∙◌, subst, arith}
+use Rattle.std.proofs.Common.{◌≡◌, ◌⊎◌, ⊎_elim, inl, inr, ℕ, ◌+◌, ◌<◌, ◌^◌, false, List, [], ◌∷◌, ◌++◌, length, Some, None, Ok, Err, IsErrOf, refl, sym, ap, ◌∙◌, subst, arith}
 use Rattle.std.specs.Option.{is_some}
 use Rattle.lsm_below.specs.Entries.{Entry}
 use Rattle.lsm_below.specs.Numbers.{PlainNumbersAreRead}
@@ -21,12 +21,9 @@ use Rattle.lsm_logged.specs.Keeping.{SeenLogged, is_unsure, IsLogOf, KeepsLog}
 use Rattle.lsm_logged.specs.Removing.{log_from_of, Passed}
 use Rattle.lsm_logged.specs.Flushing.{RemovesBehind}
 use Rattle.lsm_logged.specs.Acting.{LeadsBy, clear_of, LeadsByClear, ActsByClear, ClearsAct}
+use Rattle.lsm_logged.proofs.Acted.{neither}
 use Rattle.lsm_logged.proofs.Left.{removed_stay}
 use Rattle.lsm_logged.proofs.Led.{first, stop, unknown, none_left, is_certain, leads, leads_passing, leads_nowhere, Lifted}
-
-neither : (a b : Bool) → (a || b) ≡ false → (a ≡ false) × (b ≡ false)
-neither true b h = absurd (cc h)
-neither false b h = (refl, h)
 
 abbrev not_unknown : Error → Type 0
 not_unknown e = IsErrOf {T = ℕ} (Err e) CommitUnknown → ⊥

@@ -19,4 +19,5 @@ pub mod Merged
 pub mod FinishActs
 pub mod WholeActs
 pub mod Settling
+pub mod NoActs
 pub mod Taken

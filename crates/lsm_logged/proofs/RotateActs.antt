@@ -1,5 +1,5 @@
 -- A rotation of a logged tree is an act of the theory, and a flush behind it acts on.
-use Rattle.std.proofs.Common.{◌≡◌, ◌⊎◌, ⊎_elim, ℕ, ◌<◌, ◌≤◌, List, [], ◌∷◌, ◌++◌, length, map, Option, Some, None, option_to_list, Result, Err, refl, sym, ap, ◌∙◌, subst, arith}
+use Rattle.std.proofs.Common.{◌≡◌, ◌⊎◌, ⊎_elim, ℕ, ◌<◌, ◌≤◌, List, [], ◌∷◌, ◌++◌, length, map, Option, Some, None, option_to_list, Result, Ok, Err, IfOk, refl, sym, ap, ◌∙◌, subst, arith}
 use Rattle.std.specs.FinMap.{get}
 use Rattle.std.specs.List.{AllByRecursion}
 use Rattle.lsm_below.specs.Entries.{Entry}
@@ -24,7 +24,7 @@ use Rattle.lsm_state.specs.Commits.{Upholds}
 use Rattle.lsm_state.proofs.Upholding.{upheld_still}
 use Rattle.lsm_logged.specs.Keeping.{SeenLogged, IsLogOf, KeepsLog}
 use Rattle.lsm_logged.specs.Removing.{log_from_of}
-use Rattle.lsm_logged.specs.Acting.{rotation_of, sealed_notes, LeadsByRotation, ActsByFlush, ActsBehind, FlushesAct}
+use Rattle.lsm_logged.specs.Acting.{rotation_of, sealed_notes, LeadsByRotation, ActsByFlush, ActsBehind, FlushesAct, RotatesAct}
 use Rattle.lsm_logged.proofs.Led.{first, stop, leads_passing, leads_nowhere}
 use Rattle.lsm_logged.proofs.Removals.{rotation_keeps}
 
@@ -96,3 +96,9 @@ refused_rotation watermark e w old rest only opened journal notes t is keeps =
     let one = leads_nowhere opened journal notes t w w old old is keeps up.files refl up.passes refl refl refl (omega arith) in
     let two = leads_nowhere opened journal notes one.log w w old old one.is one.keeps up.files refl up.passes refl refl refl (omega arith) in
     (old, one, ⊎_elim (λ m. subst (λ x. ActsByFlush watermark (Err x) w w old old opened journal notes one.log) (sym m) two) (λ m. subst (λ x. ActsByFlush watermark (Err x) w w old old opened journal notes one.log) (sym m) two) only)
+
+-- ---- a rotation alone
+
+pub rotate_acts : {S : Type 0} (w : World) (old new : SeenLogged S) → new.doubted ≡ old.doubted → AtRest w → HasDistinctIds (latest_of old.core).tables → (r : Result (Option ℕ) Error) → IfOk r (λ id. Rotates old.core id new.core) → RotatesAct r w old new
+rotate_acts w old new doubt rest distinct (Ok id) rotates opened start journal notes t is keeps next holds = rotation_leads w old new doubt rest distinct opened start journal notes t is keeps next holds id rotates
+rotate_acts w old new doubt rest distinct (Err e) rotates opened start journal notes t is keeps next holds = tt

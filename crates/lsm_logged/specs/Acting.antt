@@ -83,6 +83,10 @@ LeadsByLost mark action events opened journal notes t w w' old new = (would : St
 abbrev pub ForEachLog : {S : Type 0} → World → SeenLogged S → (List Entry → List Event → List Note → Log → Type 0) → Type 0
 ForEachLog w old P = (opened : List Entry) (start : Map) (journal : List Event) (notes : List Note) (t : Log) → IsLogOf journal notes old.core old.doubted t → KeepsLog w t → MayBeDrawn opened t old.core.seqno → Holds opened start t.tree.state → P opened journal notes t
 
+-- nothing is done, as the theory sees it
+abbrev pub ActsNot : {S : Type 0} → World → World → SeenLogged S → SeenLogged S → Type 0
+ActsNot w w' old new = (opened : List Entry) (journal : List Event) (notes : List Note) (t : Log) → IsLogOf journal notes old.core old.doubted t → KeepsLog w t → LeadsBy opened journal notes t [] w w' old new
+
 -- ---- a flush
 
 -- the flush of all sealed memtables, which makes these tables
@@ -124,6 +128,9 @@ sealed_notes (Some id) journal c = SealedAt c.history.latest.active_memtable (le
 
 abbrev pub LeadsByRotation : {S : Type 0} → Option ℕ → World → (old new : SeenLogged S) (opened : List Entry) (journal : List Event) (notes : List Note) (t : Log) → Type 0
 LeadsByRotation id w old new opened journal notes t = LeadsBy opened journal (sealed_notes id journal old.core ++ notes) t (rotation_of id old.core) w w old new
+
+abbrev pub RotatesAct : {S : Type 0} → Result (Option ℕ) Error → World → (old new : SeenLogged S) → Type 0
+RotatesAct r w old new = ForEachLog w old (λ opened journal notes t. IfOk r (λ id. LeadsByRotation id w old new opened journal notes t))
 
 -- a rotation leads to a logged tree, and what a flush answers is done from there
 abbrev pub ActsBehind : {S : Type 0} → ℕ → Option ℕ → Result (Option (ℕ × Registered)) Error → (w w' : World) (old new : SeenLogged S) (opened : List Entry) (journal : List Event) (notes : List Note) (t : Log) → Type 0

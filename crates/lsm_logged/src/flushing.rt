@@ -5,7 +5,7 @@ ghost use Rattle.lsm_state.specs.Causes.{BlamesOrUncleanFlush, BlamesOrUncleanBe
 ghost use Rattle.lsm_state.specs.Commits.{UpholdsFiles, Upholds};
 ghost use Rattle.lsm_state.specs.Flushes.{sealed_ids, spent};
 ghost use Rattle.lsm_logged.specs.Removing.{log_from_of, Passed};
-ghost use Rattle.lsm_logged.specs.Acting.{FlushesAct, FlushesBothAct, RegistersAct, ClearsAct};
+ghost use Rattle.lsm_logged.specs.Acting.{ActsNot, FlushesAct, FlushesBothAct, RegistersAct, ClearsAct};
 ghost use Rattle.lsm_logged.specs.Flushing.{FlushesLogged, FlushesBoth, BeginsLogged, WritesJobLogged, RegistersLogged, ClearsLogged, CleansLog, RemovesBehind};
 
 use crate::Logged;
@@ -118,8 +118,12 @@ impl<S: Store> Logged<S> {
     ///
     /// As that call, and `Unrecoverable` also where a record has unknown outcome and something is sealed.
     pub fn begin_flush(&mut self) -> Result<Option<FlushJob>, Error>
-        ensures { BeginsLogged result self.old self.new }
+        ensures begins { BeginsLogged result self.old self.new }
+        // As the theory sees it nothing is done.
+        ensures acts { S.tells → ActsNot (S.world self.old.store) (S.world self.new.store) self.old self.new }
     {
+        self.tree.is_upheld();
+        crashes_leave_versions(self.tree.store());
         if self.is_flush_unsure() {
             return Err(Error::Unrecoverable);
         }
@@ -136,6 +140,8 @@ impl<S: Store> Logged<S> {
         job: MergedFlush,
     ) -> Result<WrittenFlush, (Error, MergedFlush)>
         ensures writes { WritesJobLogged job result self.old self.new }
+        // As the theory sees it nothing is done.
+        ensures acts { S.tells → ActsNot (S.world self.old.store) (S.world self.new.store) self.old self.new }
         ensures upholds { S.tells → Upholds (S.world self.old.store) (S.world self.new.store) self.old.core self.new.core }
         ensures causes { HasCause (BlamesBeside result) (S.world self.old.store) (S.world self.new.store) }
     {

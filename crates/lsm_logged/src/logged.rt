@@ -5,11 +5,13 @@ ghost use Rattle.lsm_below.specs.Sums.{capped};
 ghost use Rattle.lsm_state.specs.Held.{first_entries, HasFirst};
 ghost use Rattle.lsm_state.specs.Flushes.{with_next_table};
 ghost use Rattle.lsm_state.specs.WholeFlushes.{sealed_bytes};
+ghost use Rattle.lsm_logged.specs.Acting.{RotatesAct};
 ghost use Rattle.lsm_logged.specs.Keeping.{is_unsure, IsKeptLogged};
 
 use lsm_below::{Error, MemtableId, SeqNo, TableId};
+use lsm_files::crashes_leave_versions;
 use lsm_parts::LIMIT;
-use lsm_state::TreeState;
+use lsm_state::{TreeState, flushes_are_deeds};
 use lsm_store::{MemStore, Store};
 use std::marker::Model;
 
@@ -97,7 +99,12 @@ impl<S: Store> Logged<S> {
         ensures told { LIMIT ≤ self.old.core.next_memtable → IfOk result (λ _. first_entries self.old.core.memtables ≡ []) }
         ensures empty { first_entries self.old.core.memtables ≡ [] → result ≡ Ok None }
         ensures only { IfErr result (λ e. (e ≡ Error.OutOfNumbers) ⊎ (e ≡ Error.OutOfMemory)) }
+        // As the theory sees it: a rotation, or nothing.
+        ensures acts { S.tells → RotatesAct result (S.world self.old.store) self.old self.new }
     {
+        flushes_are_deeds();
+        self.tree.facts();
+        crashes_leave_versions(self.tree.store());
         self.tree.rotate_memtable()
     }
 
