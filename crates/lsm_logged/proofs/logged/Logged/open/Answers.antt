@@ -37,13 +37,13 @@ returns-in-Err-clause-refused g c tells =
     let looked = c.in_ok-found.ensures.same tells in
     let from = c.log_from-from.result in
     ⊎_elim (λ few. ⊎_elim (λ e. Memory e) (λ e. Faulty e) few)
-        (λ e. BadLog e (record {
-          from = from;
-          read = looked_from (w store) (w found.store) found.files from (c.in_ok-found.ensures.found tells) (c.log_from-from.ensures ∙ ap (λ (u : SeenVersion). u.log_from) c.version.ensures);
-          bad = subst (λ (image : Image). IsBadLog image from) (gives_same (w store) (w found.store) looked) (c.in-Err.ensures.bad tells (ap Err e));
-          same = rw (c.into_store.ensures) (same_then (w store) (w found.store) (w mid) looked (c.in-Err.ensures.same tells));
-        }))
-        c.in-Err.ensures.only
+    (λ e. BadLog e (record {
+      from = from;
+      read = looked_from (w store) (w found.store) found.files from (c.in_ok-found.ensures.found tells) (c.log_from-from.ensures ∙ ap (λ (u : SeenVersion). u.log_from) c.version.ensures);
+      bad = subst (λ (image : Image). IsBadLog image from) (gives_same (w store) (w found.store) looked) (c.in-Err.ensures.bad tells (ap Err e));
+      same = rw (c.into_store.ensures) (same_then (w store) (w found.store) (w mid) looked (c.in-Err.ensures.same tells));
+    }))
+    c.in-Err.ensures.only
 
 pub returns-in_err-tree-clause-refused : goal.returns-in_err-tree-clause-refused
 returns-in_err-tree-clause-refused g c tells =
@@ -64,8 +64,8 @@ returns-in-Err-take_log-clause-refused g c tells =
     let passes = c.openings_pass.ensures store mid _ (c.in_ok-tree.ensures.opens tells store looks) (c.in_ok-tree.ensures.leaves tells store looks) in
     let read = subst (λ (image : Image). IsLogAt image c.log_from-from.result log.passed.items log.numbers.items) (gives_same (w store) (w found.store) (c.in_ok-found.ensures.same tells)) (c.in-Ok.ensures.read tells) in
     ⊎_elim (λ few. ⊎_elim (λ e. Memory e) (λ e. Faulty e) few)
-        (λ e. absurd (none_lacks (w store).gives c.log_from-from.result log.passed.items log.numbers.items read (w mid).gives (λ k. passes.gives (record_name k) (record_is_foreign k)) (c.in-Err-take_log.ensures.bad tells (ap Err e))))
-        (c.in-Err-take_log.ensures.told tells (small_numbers (w store).gives c.log_from-from.result log.passed.items log.numbers.items read))
+    (λ e. absurd (none_lacks (w store).gives c.log_from-from.result log.passed.items log.numbers.items read (w mid).gives (λ k. passes.gives (record_name k) (record_is_foreign k)) (c.in-Err-take_log.ensures.bad tells (ap Err e))))
+    (c.in-Err-take_log.ensures.told tells (small_numbers (w store).gives c.log_from-from.result log.passed.items log.numbers.items read))
 
 pub invariant_of-result : goal.invariant_of-result
 invariant_of-result g c =
