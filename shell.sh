@@ -16,7 +16,7 @@ crate=$root/crates/lsm_shell
 program=$crate/out/lsm_shell
 
 # The line with which the program refuses its arguments.
-usage='usage: lsm_shell [FOLDER | threads N]'
+usage='usage: lsm_shell [FOLDER | logged [FOLDER] | threads N]'
 
 # How many crates of tests are built at a time. Each takes more than one processor, and up to 2 GB.
 jobs=3
@@ -34,11 +34,12 @@ require_rt() {
 
 print_help() {
     cat << 'HELP'
-usage: ./shell.sh [FOLDER | threads N]
+usage: ./shell.sh [FOLDER | logged [FOLDER] | threads N]
        ./shell.sh --build | --test | --version | --help
 
   FOLDER     answers lines over the tree of a folder, which is made where it is absent;
              without it over a tree in memory. A folder whose name is an option here is given as ./--build
+  logged     the same with a write log: no write that was answered is lost. A folder of that name is ./logged
   threads N  starts N callers, 1 to 64, on one tree, and says whether each read what it wrote
   --build    proves each crate and makes the program: 20 minutes to an hour from nothing, on four cores.
              Without it a quick build of about a minute, of which nothing is proved, answers at the end of the input
@@ -89,9 +90,17 @@ check_arguments() {
         is_text "$1" || refuse
         ;;
     2)
-        [ "$1" = threads ] || refuse
-        case $2 in
-        [123456789] | [12345][0123456789] | 6[01234]) ;;
+        case $1 in
+        logged)
+            [ -n "$2" ] || refuse
+            is_text "$2" || refuse
+            ;;
+        threads)
+            case $2 in
+            [123456789] | [12345][0123456789] | 6[01234]) ;;
+            *) refuse ;;
+            esac
+            ;;
         *) refuse ;;
         esac
         ;;
@@ -123,12 +132,12 @@ build() {
 # which it removes, so a folder is named from the root on.
 try() {
     require_rt
-    if [ $# -eq 1 ]; then
-        case $1 in
-        /*) ;;
-        *) set -- "$PWD/$1" ;;
-        esac
-    fi
+    case $#:${1-}:${2-} in
+    1:logged: | 1:/*) ;;
+    1:*) set -- "$PWD/$1" ;;
+    2:logged:/*) ;;
+    2:logged:*) set -- logged "$PWD/$2" ;;
+    esac
     say 'a quick build, of which nothing is proved; it answers at the end of the input, after about a minute,'
     say 'and takes no more than a minute and 1 MiB of output; ./shell.sh --build makes the proved program'
     kept=$(mktemp)

@@ -1,6 +1,6 @@
 // What the program's arguments ask.
 ghost use Rattle.std.specs.Prelude.{◌≡◌, map, option_map, string_bytes};
-ghost use Rattle.lsm_shell_parts.specs.Arguments.{asked, asked_by, callers_of};
+ghost use Rattle.lsm_shell_parts.specs.Arguments.{asked, asked_by, asked_by_word, asked_by_two, logged_of, callers_of};
 
 use lsm_below::parse_number;
 
@@ -14,6 +14,10 @@ pub enum Mode<'a> {
     Memory,
     /// Answer lines, over this folder.
     Folder(&'a str),
+    /// Answer lines, over a store in memory, with a log above the tree.
+    LoggedMemory,
+    /// Answer lines, over this folder, with a log above the tree.
+    LoggedFolder(&'a str),
     /// Start so many callers, from 1 to 64.
     Threads(u8),
 }
@@ -24,10 +28,43 @@ pub fn parse_arguments(arguments: &[String]) -> Option<Mode<'_>>
 {
     match arguments {
         [] => Some(Mode::Memory),
-        [folder] if !folder.is_empty() => Some(Mode::Folder(folder.as_str())),
-        [verb, count] if verb.as_str() == "threads" => parse_callers(count.as_bytes()),
+        [word] => parse_word(word.as_str()),
+        [verb, word] => parse_two(verb.as_str(), word.as_str()),
         _ => None,
     }
+}
+
+fn parse_word(word: &str) -> Option<Mode<'_>>
+    ensures { option_map asked result ≡ asked_by_word word.now }
+{
+    if word.is_empty() {
+        return None;
+    }
+    if word == "logged" {
+        return Some(Mode::LoggedMemory);
+    }
+    Some(Mode::Folder(word))
+}
+
+fn parse_two<'a>(verb: &str, word: &'a str) -> Option<Mode<'a>>
+    ensures { option_map asked result ≡ asked_by_two verb.now word.now }
+{
+    if verb == "threads" {
+        return parse_callers(word.as_bytes());
+    }
+    if verb == "logged" {
+        return parse_logged(word);
+    }
+    None
+}
+
+fn parse_logged(folder: &str) -> Option<Mode<'_>>
+    ensures { option_map asked result ≡ logged_of folder.now }
+{
+    if folder.is_empty() {
+        return None;
+    }
+    Some(Mode::LoggedFolder(folder))
 }
 
 fn parse_callers<'a>(count: &[u8]) -> Option<Mode<'a>>

@@ -33,11 +33,47 @@ impl<P: Files<File = File> + Alloc + Clone + Drop> SessionStore for FolderStore<
     }
 }
 
-/// Why nothing was opened: the error, and what it fell on, where that is known.
+/// What is told of a folder that has a write log.
+const HAS_LOG: &str = "log: open: the folder has a write log and is to be opened with `logged`";
+
+/// Why nothing was opened: the error, what it fell on, where that is known, and whether a log is the reason.
 #[derive(Drop)]
 pub struct Refusal {
     pub error: Error,
     pub cause: Option<String>,
+    pub has_log: bool,
+}
+
+/// A tree that wasn't opened: why, and its store.
+#[derive(Drop)]
+pub struct Unopened<S> {
+    pub refusal: Refusal,
+    pub store: S,
+}
+
+impl<S: SessionStore> Unopened<S> {
+    /// A refused opening. The words are told where no file of the tree is damaged, and yet it is `Unrecoverable`.
+    pub(crate) fn new(alloc: Global, error: Error, store: S, otherwise: &str) -> Unopened<S> {
+        let mut store = store;
+        let cause = cause_of(alloc, &mut store, &error, otherwise);
+        let refusal = Refusal {
+            error,
+            cause,
+            has_log: false,
+        };
+        Unopened { refusal, store }
+    }
+
+    /// A store that is left alone, since records count in it, which only a tree with a log reads.
+    pub(crate) fn for_log(alloc: Global, store: S) -> Unopened<S> {
+        let cause = String::from_str(alloc, HAS_LOG).ok();
+        let refusal = Refusal {
+            error: Error::Unrecoverable,
+            cause,
+            has_log: true,
+        };
+        Unopened { refusal, store }
+    }
 }
 
 /// The last fault of a store in words. None where the store tells none, or memory is refused.
@@ -46,20 +82,26 @@ pub(crate) fn fault_of<S: SessionStore>(alloc: Global, store: &S) -> Option<Stri
     format!(in alloc; "{fault}").ok()
 }
 
-/// The damaged file that keeps a tree from being opened, in words; or that no file is, where the order of their entries does.
-fn damage_of<S: Store>(alloc: Global, store: &mut S, error: &Error) -> Option<String> {
+/// The damaged file that keeps a tree from being opened, in words; or these words, where no file is.
+fn damage_of<S: Store>(
+    alloc: Global,
+    store: &mut S,
+    error: &Error,
+    otherwise: &str,
+) -> Option<String> {
     match damaged_file(alloc, store) {
         Ok(Some(name)) => format!(in alloc; "{name}: open: {error}").ok(),
-        Ok(None) => format!(in alloc; "tables: open: entries of a key are out of order").ok(),
+        Ok(None) => String::from_str(alloc, otherwise).ok(),
         Err(_) => None,
     }
 }
 
 /// Why a tree over this store wasn't opened, in words.
-pub(crate) fn cause_of<S: SessionStore>(
+fn cause_of<S: SessionStore>(
     alloc: Global,
     store: &mut S,
     error: &Error,
+    otherwise: &str,
 ) -> Option<String> {
     match error {
         Error::Store | Error::CommitUnknown => fault_of(alloc, store),
@@ -67,7 +109,7 @@ pub(crate) fn cause_of<S: SessionStore>(
         | Error::InvalidVersion(_)
         | Error::InvalidTag(_, _)
         | Error::InvalidHeader(_)
-        | Error::ChecksumMismatch => damage_of(alloc, store, error),
+        | Error::ChecksumMismatch => damage_of(alloc, store, error, otherwise),
         _ => None,
     }
 }

@@ -38,7 +38,7 @@ impl<R: Drop, W: Drop, E: Write + Drop> Console<R, W, E> {
             self.tell(cause.as_str());
         }
         if self.is_terminal {
-            self.tell(remedy(&refusal.error));
+            self.tell(remedy(refusal));
         }
     }
 
@@ -64,8 +64,11 @@ impl<E: Write + Drop> Errors<E> {
 }
 
 /// What can be done about a folder that isn't opened.
-fn remedy(error: &Error) -> &'static str {
-    match error {
+fn remedy(refusal: &Refusal) -> &'static str {
+    if refusal.has_log {
+        return "nothing was changed: give `logged` before the folder";
+    }
+    match refusal.error {
         Error::OutOfMemory => "all tables are held in memory, and there isn't enough of it",
         Error::Store | Error::CommitUnknown => {
             "see that the folder may be written, that its disk has room, and that no other session has it open"

@@ -8,6 +8,9 @@
 //! | `command` | what a line asks |
 //! | `reply` | what is printed for a line |
 //! | `cause` | why a store failed, or which file is damaged |
+//! | `kinds` | the kinds of trees that a session may be over |
+//! | `plain` | a session over a tree with its journal |
+//! | `logged` | a session over a tree with a log above it |
 //! | `session` | a tree that answers commands |
 //! | `arguments` | what the program's arguments ask |
 //! | `console` | where lines come from, and where answers and hints go |
@@ -20,6 +23,9 @@ mod bounds;
 mod cause;
 mod command;
 mod console;
+mod kinds;
+mod logged;
+mod plain;
 mod reply;
 mod session;
 mod shell;

@@ -1,48 +1,40 @@
 // A tree that answers commands.
-use crate::cause::{Refusal, SessionStore, cause_of, fault_of};
+use crate::cause::{Refusal, SessionStore, Unopened, fault_of};
 use crate::command::{Command, Plan, parse};
-use crate::reply::{Reply, Stats};
+use crate::kinds::SessionTree;
+use crate::reply::Reply;
 use lsm_below::{SeqNo, UserKey};
-use lsm_tree::{Begun, Config, Error, Fifo, Leveled, Op, OwnedBounds, Pass, Recorded, Store};
+use lsm_tree::{Begun, Error, Fifo, Leveled, Op, OwnedBounds};
 use std::alloc::Global;
 use std::ops::Bound;
 
-/// The tree that a store holds, or a new one. Its counters stand above each sequence number that the store holds. Refused,
-/// the store comes back beside the error.
-pub fn open_tree<S: Store>(alloc: Global, store: S) -> Result<Recorded<S>, (Error, S)> {
-    Recorded::open(alloc, Config::new(0, 0, 0), store)
-}
-
 /// What a session has: a tree, or after a crash or a refused opening its store alone.
 #[derive(Drop)]
-enum Stage<S: Store> {
-    Open(Recorded<S>),
+enum Stage<S, T> {
+    Open(T),
     Closed(S),
 }
 
 /// A tree that answers lines.
 #[derive(Drop)]
-pub struct Session<S: Store> {
+pub struct Session<S, T> {
     alloc: Global,
     /// None only while the tree is opened again.
-    stage: Option<Stage<S>>,
+    stage: Option<Stage<S, T>>,
     /// Why the last opening was refused, until it is told.
     cause: Option<String>,
 }
 
-impl<S: SessionStore> Session<S> {
+impl<S: SessionStore, T: SessionTree<S>> Session<S, T> {
     /// A session over the tree that a store holds, or a new one.
-    pub fn open(alloc: Global, store: S) -> Result<Session<S>, Refusal> {
-        match open_tree(alloc, store) {
+    pub fn open(alloc: Global, store: S) -> Result<Session<S, T>, Refusal> {
+        match T::open(alloc, store) {
             Ok(tree) => Ok(Session {
                 alloc,
                 stage: Some(Stage::Open(tree)),
                 cause: None,
             }),
-            Err((error, mut store)) => {
-                let cause = cause_of(alloc, &mut store, &error);
-                Err(Refusal { error, cause })
-            }
+            Err(unopened) => Err(unopened.refusal),
         }
     }
 
@@ -98,16 +90,16 @@ impl<S: SessionStore> Session<S> {
             Some(Stage::Closed(store)) => store,
             None => return Ok(Reply::Usage),
         };
-        match open_tree(self.alloc, store) {
+        match T::open(self.alloc, store) {
             Ok(tree) => {
-                let tables = tree.table_count();
+                let tables = tree.stats().tables;
                 self.stage = Some(Stage::Open(tree));
                 Ok(Reply::Opened(tables))
             }
-            Err((error, mut store)) => {
-                self.cause = cause_of(self.alloc, &mut store, &error);
+            Err(Unopened { refusal, store }) => {
+                self.cause = refusal.cause;
                 self.stage = Some(Stage::Closed(store));
-                Err(error)
+                Err(refusal.error)
             }
         }
     }
@@ -127,113 +119,108 @@ impl<S: SessionStore> Session<S> {
     }
 }
 
-/// Does what a command asks of an open tree. A pass serves for one call: nobody closes the tree, so none outlives its call.
-fn run_on<S: Store>(
+/// Does what a command asks of an open tree.
+fn run_on<S: SessionStore, T: SessionTree<S>>(
     alloc: Global,
-    tree: &mut Recorded<S>,
+    tree: &mut T,
     command: Command,
 ) -> Result<Reply, Error> {
-    let mut pass = Pass::new(alloc);
     match command {
-        Command::Put(key, value) => write(alloc, tree, &mut pass, key, Op::Set(value)),
-        Command::Del(key) => write(alloc, tree, &mut pass, key, Op::Del),
-        Command::Weak(key) => write(alloc, tree, &mut pass, key, Op::Weak),
-        Command::Get(key, snapshot) => get(tree, &mut pass, &key, snapshot),
+        Command::Put(key, value) => write(alloc, tree, key, Op::Set(value)),
+        Command::Del(key) => write(alloc, tree, key, Op::Del),
+        Command::Weak(key) => write(alloc, tree, key, Op::Weak),
+        Command::Get(key, snapshot) => get(alloc, tree, &key, snapshot),
         Command::Range(low, high, snapshot) => range(tree, &(low, high), snapshot),
         Command::Prefix(key, snapshot) => prefix(tree, &key, snapshot),
-        Command::Rotate => rotate(tree, &mut pass),
-        Command::Flush(watermark) => flush(tree, &mut pass, watermark),
-        Command::Compact(plan, watermark) => compact(alloc, tree, &mut pass, plan, watermark),
+        Command::Rotate => rotate(alloc, tree),
+        Command::Flush(watermark) => flush(alloc, tree, watermark),
+        Command::Compact(plan, watermark) => compact(alloc, tree, plan, watermark),
         Command::DropRange(start, end) => {
-            let bounds = OwnedBounds { start, end };
-            Ok(told(tree.drop_range(&mut pass, bounds)?))
+            Ok(told(tree.drop_range(alloc, OwnedBounds { start, end })?))
         }
-        Command::Clear => Ok(Reply::Cleared(tree.clear(&mut pass)?)),
+        Command::Clear => Ok(Reply::Cleared(tree.clear(alloc)?)),
         Command::Now(moment) => {
             tree.set_moment(moment);
             Ok(Reply::Done)
         }
-        Command::Stats => Ok(Reply::Counted(stats(tree))),
+        Command::Stats => Ok(Reply::Counted(tree.stats())),
         Command::Crash | Command::Reopen => Ok(Reply::Usage),
     }
 }
 
-fn write<S: Store>(
+fn write<S: SessionStore, T: SessionTree<S>>(
     alloc: Global,
-    tree: &mut Recorded<S>,
-    pass: &mut Pass,
+    tree: &mut T,
     key: UserKey,
     op: Op,
 ) -> Result<Reply, Error> {
     let Ok(ops) = vec![in alloc; (key, op)] else {
         return Err(Error::OutOfMemory);
     };
-    Ok(Reply::Written(tree.write(pass, ops)?))
+    Ok(Reply::Written(tree.write(alloc, ops)?))
 }
 
-fn get<S: Store>(
-    tree: &mut Recorded<S>,
-    pass: &mut Pass,
+fn get<S: SessionStore, T: SessionTree<S>>(
+    alloc: Global,
+    tree: &mut T,
     key: &UserKey,
     snapshot: Option<SeqNo>,
 ) -> Result<Reply, Error> {
     let snapshot = snapshot_or_now(tree, snapshot);
-    Ok(match tree.get(pass, key.as_slice(), snapshot)? {
+    Ok(match tree.get(alloc, key.as_slice(), snapshot)? {
         Some(value) => Reply::Value(value),
         None => Reply::NoValue,
     })
 }
 
-fn range<S: Store>(
-    tree: &Recorded<S>,
+fn range<S: SessionStore, T: SessionTree<S>>(
+    tree: &T,
     bounds: &(Bound<UserKey>, Bound<UserKey>),
     snapshot: Option<SeqNo>,
 ) -> Result<Reply, Error> {
     let snapshot = snapshot_or_now(tree, snapshot);
-    Ok(Reply::Pairs(tree.create_range(bounds, snapshot)?))
+    Ok(Reply::Pairs(tree.range(bounds, snapshot)?))
 }
 
-fn prefix<S: Store>(
-    tree: &Recorded<S>,
+fn prefix<S: SessionStore, T: SessionTree<S>>(
+    tree: &T,
     prefix: &UserKey,
     snapshot: Option<SeqNo>,
 ) -> Result<Reply, Error> {
     let snapshot = snapshot_or_now(tree, snapshot);
-    Ok(Reply::Pairs(tree.create_prefix(prefix, snapshot)?))
+    Ok(Reply::Pairs(tree.prefix(prefix, snapshot)?))
 }
 
-fn rotate<S: Store>(tree: &mut Recorded<S>, pass: &mut Pass) -> Result<Reply, Error> {
-    Ok(match tree.rotate_memtable(pass)? {
+fn rotate<S: SessionStore, T: SessionTree<S>>(alloc: Global, tree: &mut T) -> Result<Reply, Error> {
+    Ok(match tree.rotate_memtable(alloc)? {
         Some(id) => Reply::Rotated(id),
         None => Reply::Nothing,
     })
 }
 
-fn flush<S: Store>(
-    tree: &mut Recorded<S>,
-    pass: &mut Pass,
+fn flush<S: SessionStore, T: SessionTree<S>>(
+    alloc: Global,
+    tree: &mut T,
     watermark: SeqNo,
 ) -> Result<Reply, Error> {
-    match tree.flush_active_memtable(pass, watermark) {
-        Ok((_, Some((size, registered)))) => Ok(Reply::Flushed(size, registered.installed)),
-        Ok((_, None)) => Ok(Reply::Nothing),
-        Err((error, _)) => Err(error),
-    }
+    Ok(match tree.flush_active_memtable(alloc, watermark)? {
+        Some((size, registered)) => Reply::Flushed(size, registered.installed),
+        None => Reply::Nothing,
+    })
 }
 
-fn compact<S: Store>(
+fn compact<S: SessionStore, T: SessionTree<S>>(
     alloc: Global,
-    tree: &mut Recorded<S>,
-    pass: &mut Pass,
+    tree: &mut T,
     plan: Plan,
     watermark: SeqNo,
 ) -> Result<Reply, Error> {
     let begun = match plan {
-        Plan::Leveled => tree.compact(pass, &Leveled::new(alloc)?, watermark)?,
-        Plan::Major => tree.major_compact(pass, u64::MAX, watermark)?,
+        Plan::Leveled => tree.compact(alloc, &Leveled::new(alloc)?, watermark)?,
+        Plan::Major => tree.major_compact(alloc, watermark)?,
         Plan::Fifo(limit, ttl) => {
             let fifo = Fifo::new(limit, Some(ttl), tree.moment());
-            tree.compact(pass, &fifo, watermark)?
+            tree.compact(alloc, &fifo, watermark)?
         }
     };
     Ok(told(begun))
@@ -248,20 +235,10 @@ fn told(begun: Begun) -> Reply {
     }
 }
 
-fn stats<S: Store>(tree: &Recorded<S>) -> Stats {
-    Stats {
-        tables: tree.table_count(),
-        runs: tree.l0_run_count(),
-        sealed: tree.sealed_memtable_count(),
-        len: tree.approximate_len(),
-        bytes: tree.disk_space(),
-    }
-}
-
 /// The snapshot, or the one that sees every write so far.
-fn snapshot_or_now<S: Store>(tree: &Recorded<S>, snapshot: Option<SeqNo>) -> SeqNo {
+fn snapshot_or_now<S: SessionStore, T: SessionTree<S>>(tree: &T, snapshot: Option<SeqNo>) -> SeqNo {
     match snapshot {
         Some(snapshot) => snapshot,
-        None => tree.visible_seqno().get(),
+        None => tree.visible_number(),
     }
 }

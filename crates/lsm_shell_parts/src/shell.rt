@@ -6,10 +6,11 @@ ghost use Rattle.std.specs.Io.KnownBytes.{IsAtEnd};
 use crate::arguments::{Mode, parse_arguments};
 use crate::cause::{Refusal, SessionStore};
 use crate::console::Console;
+use crate::kinds::SessionTree;
 use crate::reply::Reply;
 use crate::session::Session;
 use crate::threads::call_all;
-use lsm_tree::{Error, FolderStore, MemStore, StoreError};
+use lsm_tree::{Error, FolderStore, Logged, MemStore, Recorded, StoreError};
 use std::alloc::Global;
 use std::fs::{File, Files};
 use std::io::{self, BufRead, BufReader, BufWriter, ErrorKind, Read, Write};
@@ -26,8 +27,10 @@ const USAGE: u8 = 2;
 ///
 /// Without arguments it answers the lines of the input on the output, from a tree over a store in memory, and with one
 /// that isn't empty from a tree over that folder: 0 at the end of the input, 1 after a fault of the input or the output,
-/// or where the tree can't be opened, which it prints. With `threads N` it starts N callers on one tree: 0 where each
-/// read what it wrote, else 1. With any other arguments, 2; `arguments` is None where one of them is no text.
+/// or where the tree can't be opened, which it prints. With `logged` before that, the tree has a log above it, and no write
+/// that was answered is lost; without it a folder isn't opened in which records of a log count. With `threads N` it starts N
+/// callers on one tree: 0 where each read what it wrote, else 1. With any other arguments, 2; `arguments` is None where one
+/// of them is no text.
 ///
 /// Beside the answers it writes to the errors why a call of the store failed, and which file keeps a folder from being
 /// opened.
@@ -47,16 +50,24 @@ where
     E: Write + Drop,
 {
     let Some(mode) = arguments.and_then(parse_arguments) else {
-        console.tell("usage: lsm_shell [FOLDER | threads N]");
+        console.tell("usage: lsm_shell [FOLDER | logged [FOLDER] | threads N]");
         return USAGE;
     };
     let told = match mode {
         Mode::Memory => {
-            let opened = Session::open(alloc, MemStore::new(alloc));
+            let opened = Session::<MemStore, Recorded>::open(alloc, MemStore::new(alloc));
             answer_lines(alloc, opened, console)
         }
         Mode::Folder(folder) => {
-            let opened = open_folder(rt, alloc, folder);
+            let opened = open_folder::<P, Recorded<FolderStore<P>>>(rt, alloc, folder);
+            answer_lines(alloc, opened, console)
+        }
+        Mode::LoggedMemory => {
+            let opened = Session::<MemStore, Logged>::open(alloc, MemStore::new(alloc));
+            answer_lines(alloc, opened, console)
+        }
+        Mode::LoggedFolder(folder) => {
+            let opened = open_folder::<P, Logged<FolderStore<P>>>(rt, alloc, folder);
             answer_lines(alloc, opened, console)
         }
         Mode::Threads(callers) => report_callers(rt, alloc, callers, console),
@@ -65,9 +76,14 @@ where
 }
 
 /// A session over the tree of a folder, which is made where it is absent.
-fn open_folder<P>(rt: &P, alloc: Global, folder: &str) -> Result<Session<FolderStore<P>>, Refusal>
+fn open_folder<P, T>(
+    rt: &P,
+    alloc: Global,
+    folder: &str,
+) -> Result<Session<FolderStore<P>, T>, Refusal>
 where
     P: Files<File = File> + Alloc + Clone + Drop,
+    T: SessionTree<FolderStore<P>>,
 {
     match FolderStore::new(rt, alloc, folder) {
         Ok(store) => Session::open(alloc, store),
@@ -77,7 +93,11 @@ where
                 StoreError::OutOfMemory => Error::OutOfMemory,
                 StoreError::Fault | StoreError::NothingDone => Error::Store,
             };
-            Err(Refusal { error, cause })
+            Err(Refusal {
+                error,
+                cause,
+                has_log: false,
+            })
         }
     }
 }
@@ -111,13 +131,14 @@ where
 }
 
 /// Answers lines from what was opened, or says why nothing was.
-fn answer_lines<S, R, W, E>(
+fn answer_lines<S, T, R, W, E>(
     alloc: Global,
-    opened: Result<Session<S>, Refusal>,
+    opened: Result<Session<S, T>, Refusal>,
     mut console: Console<R, W, E>,
 ) -> io::Result<u8>
 where
     S: SessionStore,
+    T: SessionTree<S>,
     R: Read + Drop,
     W: Write + Drop,
     E: Write + Drop,
@@ -137,13 +158,14 @@ where
     }
 }
 
-fn answer_each<S, R, W, E>(
+fn answer_each<S, T, R, W, E>(
     alloc: Global,
-    session: &mut Session<S>,
+    session: &mut Session<S, T>,
     console: Console<R, W, E>,
 ) -> io::Result<()>
 where
     S: SessionStore,
+    T: SessionTree<S>,
     R: Read + Drop,
     W: Write + Drop,
     E: Write + Drop,

@@ -1,7 +1,6 @@
 // Callers in threads of their own, on one tree.
-use crate::session::open_tree;
 use lsm_below::UserKey;
-use lsm_tree::{Error, Handle, MemStore, Op, Pass, RecordedTree};
+use lsm_tree::{Config, Error, Handle, MemStore, Op, Pass, Recorded, RecordedTree};
 use std::alloc::{AllocError, Global};
 use std::sync::Wait;
 use std::thread::{self, Threads};
@@ -19,7 +18,9 @@ pub fn call_all<R: Threads + Wait + Sync>(
     alloc: Global,
     callers: u8,
 ) -> Result<Option<usize>, Error> {
-    let core = open_tree(alloc, MemStore::new(alloc)).map_err(|refused| refused.0)?;
+    let core = Recorded::open(alloc, Config::new(0, 0, 0), MemStore::new(alloc)).map_err(
+        |refused| refused.0,
+    )?;
     let tree = Handle::new(alloc, core)?;
     let told = thread::map_indices(
         rt,

@@ -16,7 +16,7 @@ use std::thread::Threads;
 pub type Row = (&'static [u8], &'static [u8]);
 
 /// A key is written, read, removed, and read at older snapshots.
-const REMOVED: [Row; 9] = [
+pub const REMOVED: [Row; 9] = [
     (b"put a x", b"ok 0"),
     (b"get a", b"value x"),
     (b"del a", b"ok 1"),
@@ -35,19 +35,19 @@ const WEAKLY_REMOVED: [Row; 3] = [
 ];
 
 /// Any byte from 33 to 126 makes a word, and the greatest number is a snapshot.
-const EXTREMES: [Row; 3] = [
+pub const EXTREMES: [Row; 3] = [
     (b"put ! ~", b"ok 0"),
     (b"get ! 18446744073709551615", b"value ~"),
     (b"get ~ 0", b"none"),
 ];
 
-const GOES_ON: [Row; 3] = [
+pub const GOES_ON: [Row; 3] = [
     (b"get a", b"none"),
     (b"", b"error 0 Usage"),
     (b"rotate", b"nothing"),
 ];
 
-const LISTED: [Row; 11] = [
+pub const LISTED: [Row; 11] = [
     (b"put a 1", b"ok 0"),
     (b"put b 2", b"ok 1"),
     (b"put c 3", b"ok 2"),
@@ -61,7 +61,7 @@ const LISTED: [Row; 11] = [
     (b"prefix - 1", b"a 1\nend 1"),
 ];
 
-const FLUSHED: [Row; 8] = [
+pub const FLUSHED: [Row; 8] = [
     (b"put a x", b"ok 0"),
     (b"flush 0", b"flushed 50 installed"),
     (b"del a", b"ok 2"),
@@ -73,7 +73,7 @@ const FLUSHED: [Row; 8] = [
 ];
 
 /// A value and its weak removal leave together.
-const FLUSHED_AWAY: [Row; 7] = [
+pub const FLUSHED_AWAY: [Row; 7] = [
     (b"put a x", b"ok 0"),
     (b"weak a", b"ok 1"),
     (b"flush 2", b"flushed 99 installed"),
@@ -313,11 +313,18 @@ fn arguments_of(alloc: Global, text: &str) -> Result<Vec<String>, AllocError> {
 }
 
 /// What is told of arguments that ask nothing.
-const USAGE: (&[u8], &[u8], u8) = (b"", b"usage: lsm_shell [FOLDER | threads N]\n", 2);
+const USAGE: (&[u8], &[u8], u8) = (
+    b"",
+    b"usage: lsm_shell [FOLDER | logged [FOLDER] | threads N]\n",
+    2,
+);
 
 #[test]
 fn takes_arguments(rt: HostRuntime) -> Result<(), Fail> {
-    let table: [(&str, (&[u8], &[u8], u8)); 10] = [
+    let table: [(&str, (&[u8], &[u8], u8)); 13] = [
+        ("logged", (b"ok 0\nvalue x\n", b"", 0)),
+        ("logged a b", USAGE),
+        ("threads logged", USAGE),
         ("threads 1", (b"threads 1 entries 20 all equal\n", b"", 0)),
         ("threads 2", (b"threads 2 entries 40 all equal\n", b"", 0)),
         ("threads 4", (b"threads 4 entries 80 all equal\n", b"", 0)),
@@ -339,6 +346,9 @@ fn takes_arguments(rt: HostRuntime) -> Result<(), Fail> {
     }
     let empty = vec![in rt.alloc(); String::new(rt.alloc())]?;
     assert!(rt; ends(&rt, rt.alloc(), Some(&empty), input, USAGE));
+    let logged = String::from_str(rt.alloc(), "logged")?;
+    let no_folder = vec![in rt.alloc(); logged, String::new(rt.alloc())]?;
+    assert!(rt; ends(&rt, rt.alloc(), Some(&no_folder), input, USAGE));
     assert!(rt; ends(&rt, rt.alloc(), None, input, USAGE));
     Ok(())
 }
