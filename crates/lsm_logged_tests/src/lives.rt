@@ -69,66 +69,64 @@ const NOTHING: Keys = Keys {
     c: Known::Gone,
 };
 
-fn write(alloc: Global, tree: &mut Logged, key: &'static [u8]) -> Result<Known, AllocError> {
+fn write(alloc: Global, tree: &mut Logged, key: &'static [u8]) -> Known {
     let op = Op::Set(UserKey::from_static(b"v"));
-    let ops = vec![in alloc; (UserKey::from_static(key), op)]?;
-    Ok(match tree.write(ops) {
+    let Ok(ops) = vec![in alloc; (UserKey::from_static(key), op)] else {
+        return Known::Gone;
+    };
+    match tree.write(ops) {
         Ok(_) => Known::There,
         Err(Error::CommitUnknown) => Known::Doubtful,
         Err(_) => Known::Gone,
-    })
+    }
 }
 
 /// A life over a store: a is written and flushed.
-fn first_life(alloc: Global, store: MemStore) -> Result<(MemStore, Keys), AllocError> {
+fn first_life(alloc: Global, store: MemStore) -> (MemStore, Keys) {
     match Logged::open(alloc, Config::new(0, 0, 0), store) {
         Ok(mut tree) => {
-            let a = write(alloc, &mut tree, b"a")?;
+            let a = write(alloc, &mut tree, b"a");
             let _ = tree.flush_active_memtable(0);
-            Ok((tree.into_store(), Keys { a, ..NOTHING }))
+            (tree.into_store(), Keys { a, ..NOTHING })
         }
-        Err((_, store)) => Ok((store, NOTHING)),
+        Err((_, store)) => (store, NOTHING),
     }
 }
 
 /// The next one: b is written, and all is cleared.
-fn second_life(
-    alloc: Global,
-    store: MemStore,
-    known: Keys,
-) -> Result<(MemStore, Keys), AllocError> {
+fn second_life(alloc: Global, store: MemStore, known: Keys) -> (MemStore, Keys) {
     match Logged::open(alloc, Config::new(0, 0, 0), store) {
         Ok(mut tree) => {
-            let b = write(alloc, &mut tree, b"b")?;
+            let b = write(alloc, &mut tree, b"b");
             let told = tree.clear();
             let known = Keys {
                 a: known.a.cleared(&told),
                 b: b.cleared(&told),
                 c: Known::Gone,
             };
-            Ok((tree.into_store(), known))
+            (tree.into_store(), known)
         }
-        Err((_, store)) => Ok((store, known)),
+        Err((_, store)) => (store, known),
     }
 }
 
 /// The last one: c is written.
-fn third_life(alloc: Global, store: MemStore, known: Keys) -> Result<(MemStore, Keys), AllocError> {
+fn third_life(alloc: Global, store: MemStore, known: Keys) -> (MemStore, Keys) {
     match Logged::open(alloc, Config::new(0, 0, 0), store) {
         Ok(mut tree) => {
-            let c = write(alloc, &mut tree, b"c")?;
-            Ok((tree.into_store(), Keys { c, ..known }))
+            let c = write(alloc, &mut tree, b"c");
+            (tree.into_store(), Keys { c, ..known })
         }
-        Err((_, store)) => Ok((store, known)),
+        Err((_, store)) => (store, known),
     }
 }
 
 /// The three, one after the other, where this call of the store fails so.
-fn three_lives(alloc: Global, call: u64, fault: Fault) -> Result<(MemStore, Keys), AllocError> {
+fn three_lives(alloc: Global, call: u64, fault: Fault) -> (MemStore, Keys) {
     let mut store = MemStore::new(alloc);
     store.fail(call, fault);
-    let (store, known) = first_life(alloc, store)?;
-    let (store, known) = second_life(alloc, store, known)?;
+    let (store, known) = first_life(alloc, store);
+    let (store, known) = second_life(alloc, store, known);
     third_life(alloc, store, known)
 }
 
@@ -150,25 +148,47 @@ fn agrees(tree: &Logged, key: &[u8], known: Known) -> Result<bool, Error> {
     Ok(known.allows(tree.tree().contains_key(key, snapshot)?))
 }
 
+/// Whether each key shows what it is to show.
+fn agree(tree: &Logged, known: Keys) -> Result<bool, Error> {
+    let (a, b) = (agrees(tree, b"a", known.a)?, agrees(tree, b"b", known.b)?);
+    Ok(a && b && agrees(tree, b"c", known.c)?)
+}
+
+/// The store that such a crash leaves, if it can leave that.
+fn left_of(alloc: Global, store: &MemStore, set: u32) -> Result<Option<MemStore>, AllocError> {
+    let picks = picks_of(alloc, set)?;
+    let left = store.crash(&picks);
+    drop(picks);
+    left
+}
+
 /// Whether what a crash leaves so is opened, and shows what it is to show. Also where it can't leave that.
 fn is_well(alloc: Global, store: &MemStore, known: Keys, set: u32) -> Result<bool, Error> {
-    let Some(left) = store.crash(&picks_of(alloc, set)?)? else {
+    let Some(left) = left_of(alloc, store, set)? else {
         return Ok(true);
     };
     let tree = opened(alloc, left)?;
-    let (a, b) = (agrees(&tree, b"a", known.a)?, agrees(&tree, b"b", known.b)?);
-    Ok(a && b && agrees(&tree, b"c", known.c)?)
+    let told = agree(&tree, known);
+    drop(tree);
+    told
 }
 
-/// Whether each crash behind the lives leaves what it is to leave.
-fn all_is_well(alloc: Global, call: u64, fault: Fault) -> Result<bool, Error> {
-    let (store, known) = three_lives(alloc, call, fault)?;
+/// Whether each crash leaves what it is to leave.
+fn are_well(alloc: Global, store: &MemStore, known: Keys) -> Result<bool, Error> {
     for set in 0..SETS {
-        if !is_well(alloc, &store, known, set)? {
+        if !is_well(alloc, store, known, set)? {
             return Ok(false);
         }
     }
     Ok(true)
+}
+
+/// The same behind the three lives, where this call of the store fails so.
+fn all_is_well(alloc: Global, call: u64, fault: Fault) -> Result<bool, Error> {
+    let (store, known) = three_lives(alloc, call, fault);
+    let told = are_well(alloc, &store, known);
+    drop(store);
+    told
 }
 
 #[test]

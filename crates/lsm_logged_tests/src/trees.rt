@@ -70,7 +70,9 @@ pub fn shows(tree: &Logged, snapshot: u64, key: &str, value: Option<&str>) -> Re
 /// How many records the store has.
 pub fn count_records(alloc: Global, tree: &Logged) -> Result<usize, Error> {
     let mut store = left(tree, &[])?;
-    match store.list(alloc) {
+    let listed = store.list(alloc);
+    drop(store);
+    match listed {
         Ok(names) => Ok(names.iter().filter(|name| name.starts_with("log/")).count()),
         Err(_) => Err(Error::Store),
     }
@@ -79,7 +81,9 @@ pub fn count_records(alloc: Global, tree: &Logged) -> Result<usize, Error> {
 /// The bytes of a file, none where it isn't there.
 pub fn file(alloc: Global, tree: &Logged, name: &str) -> Result<Vec<u8>, Error> {
     let mut store = left(tree, &[])?;
-    match store.read(alloc, name) {
+    let read = store.read(alloc, name);
+    drop(store);
+    match read {
         Ok(Some(bytes)) => Ok(bytes),
         Ok(None) => Ok(Vec::new(alloc)),
         Err(_) => Err(Error::Store),
