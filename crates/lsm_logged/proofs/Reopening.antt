@@ -1,5 +1,5 @@
 -- A logged tree that is opened.
-use Rattle.std.proofs.Common.{◌≡◌, ◌≢◌, ⊎_elim, inl, inr, ℕ, ◌<◌, ◌≤◌, ◌^◌, max, false, List, [], ◌∷◌, ◌++◌, map, reverse, Contains, Option, Some, None, IsSome, refl, sym, ap, ◌∙◌, subst, arith}
+use Rattle.std.proofs.Common.{◌≡◌, ◌≢◌, ⊎_elim, inl, inr, ℕ, ◌<◌, ◌≤◌, ◌^◌, max, Bool, true, false, List, [], ◌∷◌, ◌++◌, map, reverse, Contains, Option, Some, None, IsSome, refl, sym, ap, ◌∙◌, subst, arith}
 use Rattle.std.specs.List.{All, AllByRecursion}
 use Rattle.std.proofs.lemmas.List.Elements.{All-weaker, All-contains, All-from_recursion, All-head, All-tail, Contains-append_right}
 use Rattle.std.proofs.lemmas.List.Concat.{flat_map-cons}
@@ -7,7 +7,7 @@ use Rattle.lsm_below.specs.Each.{each_left}
 use Rattle.lsm_below.specs.Entries.{above}
 use Rattle.lsm_below.specs.Numbers.{PlainNumbersAreRead}
 use Rattle.lsm_below.specs.Sums.{capped}
-use Rattle.lsm_store.specs.World.{World, Same, IsOnDisk, LeavesOnly}
+use Rattle.lsm_store.specs.World.{Image, World, Same, IsOnDisk, LeavesOnly}
 use Rattle.lsm_store.specs.Moments.{same_then, joined}
 use Rattle.lsm_model.specs.Steps.{Run, Wrote}
 use Rattle.lsm_model.specs.Views.{held}
@@ -16,8 +16,11 @@ use Rattle.lsm_versions.specs.declared.config.Config.{Config}
 use Rattle.lsm_versions.specs.Configs.{raised}
 use Rattle.lsm_versions.specs.Levels.{SeenVersion, placed_of}
 use Rattle.lsm_manifest.specs.declared.found.Found.{Found}
+use Rattle.lsm_manifest.specs.declared.opening.Opened.{Opened}
+use Rattle.lsm_manifest.specs.Finding.{Finds, Named}
 use Rattle.lsm_manifest.specs.Names.{current_name}
-use Rattle.lsm_manifest.specs.Looking.{Looks, IsFoundIn}
+use Rattle.lsm_manifest.specs.Looking.{FindsIn, Looks, IsFoundIn}
+use Rattle.lsm_manifest.specs.Versions.{first_version}
 use Rattle.lsm_manifest.specs.Opening.{ReadsFrom}
 use Rattle.lsm_files.specs.Foreign.{IsForeign, KeepsForeign, Passes}
 use Rattle.lsm_log.specs.declared.record.Record.{Record}
@@ -49,6 +52,21 @@ looks_on first mid new f g looks same is = record {
   from = λ there. subst (λ (x : Found). ReadsFrom first.gives x.opened.version) (sym is) (looks.from there);
   same = same_then first mid new looks.same same;
 }
+
+-- it is a new tree without `current`, and else has the tables that the image has
+pub fresh_in : (image : Image) (f : Found) → IsFoundIn image f → image current_name ≡ None → f.opened.version ≡ first_version
+fresh_in image f is none = by_kind f.is_new is.finds
+  where
+    by_kind : (is_new : Bool) → FindsIn is_new image f → f.opened.version ≡ first_version
+    by_kind true finds = ap (λ (o : Opened). o.version) finds.1
+    by_kind false finds = let named = finds.named in absurd (cc (sym none ∙ named.current))
+
+pub found_in : (image : Image) (f : Found) → IsFoundIn image f → IsSome (image current_name) → Finds image f.opened.version.levels
+found_in image f is there = by_kind f.is_new is.finds
+  where
+    by_kind : (is_new : Bool) → FindsIn is_new image f → Finds image f.opened.version.levels
+    by_kind true finds = let no = subst (λ (c : Option (List ℕ)). IsSome c) finds.0 there in absurd (cc no)
+    by_kind false finds = Named f.opened.version.id finds.layout (record { named = finds.named; tables = finds.tables; runs = finds.runs; names = record { no_version = is.no_version; in_tables = finds.good } })
 
 pub numbered_more : (n m : ℕ) (xs : List ℕ) → n ≤ m → AreRecordNumbers n xs → AreRecordNumbers m xs
 numbered_more n m xs le are = record { rise = are.rise; below = All-weaker (λ k. k < n) (λ k. k < m) (λ k lt. omega (arith, lt, le)) xs are.below }
@@ -108,9 +126,11 @@ module _ (old mid new : World) (v : SeenVersion) (passed : List ℕ) (records : 
   may_be : (n : List ℕ) (c : Option (List ℕ)) → IsForeign n → new.may n c → IsOldOrPassed old v.log_from n c
   may_be n c foreign m = ⊎_elim (λ was. inl (passes.may n c foreign was)) (λ gone. inr gone) (clears.may n c m)
 
-  pub takes : (IsSome (old.gives current_name) → ReadsFrom old.gives v) → ((k : ℕ) → Contains passed k → k < v.log_from → new.gives (record_name k) ≡ None) → LeavesOnly mid new (AreCleared (IsBelow v.log_from) mid) → TakesLog old new v passed records
-  takes from gone moments = record {
+  pub takes : (IsSome (old.gives current_name) → ReadsFrom old.gives v) → (old.gives current_name ≡ None → v ≡ first_version) → (IsSome (old.gives current_name) → Finds old.gives v.levels) → ((k : ℕ) → Contains passed k → k < v.log_from → new.gives (record_name k) ≡ None) → LeavesOnly mid new (AreCleared (IsBelow v.log_from) mid) → TakesLog old new v passed records
+  takes from fresh found gone moments = record {
     version = from;
+    fresh = fresh;
+    found = found;
     log = log;
     gone = λ k there. gone k there (((log.passed_are k).0 there).1);
     passed_on = record {

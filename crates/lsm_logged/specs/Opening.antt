@@ -10,10 +10,12 @@ use Rattle.lsm_model.specs.Ops.{op_entries}
 use Rattle.lsm_versions.specs.declared.config.Config.{Config}
 use Rattle.lsm_versions.specs.Configs.{raised}
 use Rattle.lsm_versions.specs.Levels.{SeenVersion, placed_of}
+use Rattle.lsm_manifest.specs.Finding.{Finds}
 use Rattle.lsm_manifest.specs.Names.{current_name}
 use Rattle.lsm_manifest.specs.Opening.{Opens, ReadsFrom}
 use Rattle.lsm_manifest.specs.Ready.{IsReady}
 use Rattle.lsm_manifest.specs.Told.{Told, TellsOpen}
+use Rattle.lsm_manifest.specs.Versions.{first_version}
 use Rattle.lsm_files.specs.Stored.{IsStored}
 use Rattle.lsm_log.specs.declared.record.Record.{Record}
 use Rattle.lsm_log.specs.declared.kinds.LogName.TheVariants.{Refused}
@@ -80,6 +82,9 @@ pub record Replays {S : Type 0} (config : Config) (passed : List ℕ) (records :
 -- what a store told of a log, of which the records below the version's `log_from` are removed
 pub record TakesLog (old new : World) (v : SeenVersion) (passed : List ℕ) (records : List Record) : Type 0 where
   pub version : IsSome (old.gives current_name) → ReadsFrom old.gives v
+  -- which version it is: the first one without `current`, else one with the tables that the store had
+  pub fresh : old.gives current_name ≡ None → v ≡ first_version
+  pub found : IsSome (old.gives current_name) → Finds old.gives v.levels
   pub log : IsLogFrom old.gives v.log_from passed records
   pub gone : (k : ℕ) → Contains passed k → new.gives (record_name k) ≡ None
   pub passed_on : Passed v.log_from old new

@@ -20,7 +20,7 @@ use Rattle.lsm_logged.specs.Opening.{Files, Memory, Faulty, BadLog, image_read, 
 use Rattle.lsm_logged.proofs.LogNames.{record_is_foreign}
 use Rattle.lsm_logged.proofs.Reached.{looked as looked_from}
 use Rattle.lsm_logged.proofs.Replaying.{log_read, none_lacks, small_numbers}
-use Rattle.lsm_logged.proofs.Reopening.{looks_on, is_read_in, numbered_more, whole, version, high, replays, takes, reopens}
+use Rattle.lsm_logged.proofs.Reopening.{looks_on, fresh_in, found_in, is_read_in, numbered_more, whole, version, high, replays, takes, reopens}
 use Rattle.lsm_logged.proofs.logged.Logged.open.Goals as goal
 
 pub returns-in_err-found-clause-refused : goal.returns-in_err-found-clause-refused
@@ -111,7 +111,7 @@ returns-in-Ok-take_log-clause-opens g c =
       passed = passed;
       records = records;
       replays = replays c.args.config cfg v id next passed numbers records before core made is take new (sym replayed.named) c.in-Ok.ensures.after c.in-Ok.ensures.below;
-      takes = λ tells. subst (λ u. TakesLog (w store) (w new) u passed records) (sym ver) (takes (w store) (w mid) (w new) v passed records (log tells) (passes tells) (clears tells) (looks tells).from
+      takes = λ tells. subst (λ u. TakesLog (w store) (w new) u passed records) (sym ver) (takes (w store) (w mid) (w new) v passed records (log tells) (passes tells) (clears tells) (looks tells).from (fresh_in (w store).gives found'.files (looks tells).found) (found_in (w store).gives found'.files (looks tells).found)
           (subst (λ n. (k : ℕ) → Contains passed k → k < n → (w new).gives (record_name k) ≡ None) from (c.in-Ok-take_log.ensures.gone tells))
           (subst (λ n. LeavesOnly (w mid) (w new) (AreCleared (IsBelow n) (w mid))) from (c.in-Ok-take_log.ensures.any_moment tells)));
       reopens = λ tells. subst (λ u. LogStands (image_read u records) → CanBeSettled (w store) u.log_from → IsReopenedLog (image_read u records) (record { store = new; core = core; numbers = numbers; doubted = false }) (w new)) (sym ver)

@@ -1,0 +1,117 @@
+-- A batch that is acknowledged on a new tree.
+use Rattle.std.proofs.Common.{◌≡◌, ℕ, ◌<◌, ◌^◌, Bool, true, false, ◌||◌, List, [], ◌∷◌, map, Option, Some, None, Ok, refl, sym, ap, ◌∙◌, subst, arith, cond}
+use Rattle.std.proofs.lemmas.Bool.Decides.{nat_tests}
+use Rattle.std.specs.Option.{is_some}
+use Rattle.std.specs.List.{AllByRecursion}
+use Rattle.lsm_below.specs.Keys.{Bytes}
+use Rattle.lsm_below.specs.declared.error.Error.{Error}
+use Rattle.lsm_below.specs.declared.error.Error.TheVariants.{OutOfNumbers}
+use Rattle.lsm_store.specs.World.{Image, World, Begins}
+use Rattle.lsm_model.specs.Beginnings.{Stands}
+use Rattle.lsm_model.specs.Ops.{op_entries}
+use Rattle.lsm_model.specs.Views.{Placed}
+use Rattle.lsm_model.specs.declared.op.Op.{Op}
+use Rattle.lsm_model.specs.declared.journal.JournalEntry.TheVariants.{Write}
+use Rattle.lsm_versions.specs.declared.config.Config.{Config}
+use Rattle.lsm_versions.specs.Levels.{SeenVersion, empty_levels, placed_of}
+use Rattle.lsm_manifest.specs.Names.{current_name}
+use Rattle.lsm_log.specs.declared.record.Record.{Record}
+use Rattle.lsm_log.specs.LogNames.{record_name}
+use Rattle.lsm_log.specs.Logs.{IsRecordAt, IsLogFrom}
+use Rattle.lsm_log_model.specs.Logs.{Logged as Log, IsBatched}
+use Rattle.lsm_log_model.specs.Records.{LogImage, LogStands}
+use Rattle.lsm_log_model.specs.Replays.{IsReopened, TablesAloneStand}
+use Rattle.lsm_state.specs.Core.{Core}
+use Rattle.lsm_state.specs.Refusals.{batch_refusal, is_great}
+use Rattle.lsm_logged.specs.Keeping.{SeenLogged, is_unsure, IsLogOf, KeepsLog}
+use Rattle.lsm_logged.specs.Opening.{OpensLogged, CanBeSettled, IsReopenedLog, batch_read, image_read, version_of}
+use Rattle.lsm_logged.specs.Writing.{WritesLogged, WritesAct, batch_of}
+
+-- ---- a new store
+
+no_records : (image : Image) (from : ℕ) (passed : List ℕ) (records : List Record) → ((n : List ℕ) → image n ≡ None) → IsLogFrom image from passed records → records ≡ []
+no_records image from passed records none log = go records log.records_are
+  where
+    go : (rs : List Record) → AllByRecursion (λ r. IsRecordAt image r.number r) rs → rs ≡ []
+    go [] h = refl
+    go (r ∷ rs) h = let file = h.0.file in absurd (cc (sym (none (record_name r.number)) ∙ file))
+
+-- nothing, read from this number on
+abbrev pub fresh_image : ℕ → LogImage
+fresh_image from = record { tables = []; log_from = from; records = [] }
+
+abbrev imaged : List Placed → ℕ → List Record → LogImage
+imaged tables from records = record { tables = tables; log_from = from; records = map batch_read records }
+
+is_fresh : (v : SeenVersion) (records : List Record) → v.levels ≡ empty_levels → records ≡ [] → image_read v records ≡ fresh_image v.log_from
+is_fresh v records a b = ap (λ ls. imaged (placed_of ls) v.log_from records) a ∙ ap (imaged [] v.log_from) b
+
+nothing_stands : Stands []
+nothing_stands = record { distinct = tt; laid = record { covers = tt; by_level = tt }; ordered = λ k. tt; single = λ k. tt }
+
+pub fresh_stands : TablesAloneStand → (from : ℕ) → LogStands (fresh_image from)
+fresh_stands tables from = (tables [] from nothing_stands (omega arith)).0
+
+-- ---- the batch
+
+not_great : (n : ℕ) → is_great n ≡ false → n < 2 ^ 63
+not_great n h = grind (arith, nat_tests)
+
+first_test : (b : Bool) (rest : Option Error) → cond b (Some OutOfNumbers) rest ≡ None → b ≡ false
+first_test true rest h = absurd (cc h)
+first_test false rest h = refl
+
+small_number : (n : ℕ) (ops : List (Bytes × Op)) → batch_refusal n ops ≡ None → n < 2 ^ 63
+small_number n ops h = not_great n (first_test (is_great n) _ h)
+
+-- a tree without tables that has one batch, which is recorded in its store
+pub record HasOne (ops : List (Bytes × Op)) (c : Core) (w : World) : Type 0 where
+  pub number : ℕ
+  pub small : number < 2 ^ 63
+  pub from : ℕ
+  pub first : Log
+  pub reopened : IsReopened (fresh_image from) first
+  pub log : Log
+  pub act : IsBatched [] first (batch_of number ops) log
+  pub is : IsLogOf (map Write (op_entries number ops)) [] c false log
+  pub keeps : KeepsLog w log
+  pub certain : c.lost ≡ None
+  pub levels : c.history.latest.version.levels ≡ empty_levels
+
+module _ {S : Type 0} (world : S → World) (store : S) (config : Config) (t u : SeenLogged S) (ops : List (Bytes × Op)) (n : ℕ) (tables : TablesAloneStand) (opens : OpensLogged (Unit {0}) world store config t) (new : Begins (λ _. None) (world store))
+    (fresh_levels : (world store).gives current_name ≡ None → (version_of t).levels ≡ empty_levels) (settle : CanBeSettled (world store) (version_of t).log_from) (writes : WritesLogged ops (Ok n) t u) (acts : WritesAct ops (Ok n) (world t.store) (world u.store) t u) where
+  abbrev v : SeenVersion
+  v = version_of t
+
+  levels : v.levels ≡ empty_levels
+  levels = fresh_levels (new.gives current_name)
+
+  fresh : image_read v opens.records ≡ fresh_image v.log_from
+  fresh = is_fresh v opens.records levels (no_records (world store).gives v.log_from opens.passed opens.records new.gives (opens.takes tt).log)
+
+  again : IsReopenedLog (fresh_image v.log_from) t (world t.store)
+  again = subst (λ i. IsReopenedLog i t (world t.store)) fresh (opens.reopens tt (subst LogStands (sym fresh) (fresh_stands tables v.log_from)) settle)
+
+  none : t.core.lost ≡ None
+  none = ap (λ (c : Core). c.lost) opens.replays.core
+
+  sure : is_unsure t ≡ false
+  sure = ap (λ b. b || is_some t.core.lost) opens.replays.sure ∙ ap is_some none
+
+  pub has_one : HasOne ops u.core (world u.store)
+  has_one =
+      let tree = writes.tree sure in
+      let leads = (acts [] [] [] again.first again.is again.keeps again.next).ok in
+      record {
+        number = t.core.seqno;
+        small = small_number t.core.seqno ops tree.accepted;
+        from = v.log_from;
+        first = again.first;
+        reopened = again.reopened;
+        log = leads.log;
+        act = leads.acts;
+        is = subst (λ d. IsLogOf (map Write (op_entries t.core.seqno ops)) [] u.core d leads.log) (writes.doubt sure) leads.is;
+        keeps = leads.keeps;
+        certain = ap (λ (c : Core). c.lost) tree.core ∙ none;
+        levels = ap (λ (c : Core). c.history.latest.version.levels) tree.core ∙ levels;
+      }

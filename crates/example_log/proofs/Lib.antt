@@ -1,0 +1,6 @@
+pub mod Versions
+pub mod Found
+pub mod Batches
+pub mod Acknowledged
+pub mod Reopened
+pub mod Stores

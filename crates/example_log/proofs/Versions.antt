@@ -1,0 +1,24 @@
+-- An image tells once from which number a version reads a log.
+use Rattle.std.proofs.Common.{◌≡◌, ℕ, Option, Some, sym, ap, ◌∙◌}
+use Rattle.lsm_store.specs.World.{Image}
+use Rattle.lsm_tables.specs.Spellings.{ok_is}
+use Rattle.lsm_versions.specs.Levels.{SeenVersion}
+use Rattle.lsm_manifest.specs.Names.{version_name}
+use Rattle.lsm_manifest.specs.Opening.{ReadsFrom}
+use Rattle.lsm_manifest.specs.Reading.{told_at}
+use Rattle.lsm_manifest.specs.Recovery.{Levels, IsNamed, IsNamedFrom}
+use Rattle.lsm_manifest.specs.Versions.{log_from_in}
+use Rattle.lsm_manifest.proofs.OpeningLemmas.{named_once}
+use Rattle.lsm_manifest.proofs.Whole.{told_again}
+
+named : (image : Image) (id : ℕ) (from : Option ℕ) (ls : Levels) → IsNamedFrom image id from ls → IsNamed image id ls
+named image id from ls is = record { id_fits = is.id_fits; bytes = is.bytes; current = is.current; version = is.version; reads = record { from = from; file = is.reads } }
+
+pub from_once : (image : Image) (u v : SeenVersion) → ReadsFrom image u → ReadsFrom image v → u.levels ≡ v.levels → u.log_from ≡ v.log_from
+from_once image u v a b same =
+    let id : u.id ≡ v.id = (named_once image u.id v.id a.layout b.layout (named image u.id a.from a.layout a.named) (named image v.id b.from b.layout b.named)).0 in
+    let files : Some a.named.bytes ≡ Some b.named.bytes = sym a.named.version ∙ ap (λ i. image (version_name i)) id ∙ b.named.version in
+    let bytes : a.named.bytes ≡ b.named.bytes = cc files in
+    let told = ok_is (a.from, a.layout) (b.from, b.layout) (sym (told_again a.from a.layout a.named.bytes a.named.reads) ∙ ap told_at bytes ∙ told_again b.from b.layout b.named.bytes b.named.reads) in
+    let from : a.from ≡ b.from = ap (λ (p : Option ℕ × Levels). p.0) told in
+    a.is ∙ ap (λ o. log_from_in o u.levels) from ∙ ap (log_from_in b.from) same ∙ sym b.is

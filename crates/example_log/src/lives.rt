@@ -1,0 +1,94 @@
+// Lives of a logged tree over a store in memory.
+ghost use Rattle.std.specs.Prelude.{None, IfOk, IfSome};
+ghost use Rattle.lsm_store.specs.Memory.{world_of};
+ghost use Rattle.lsm_store.specs.World.{Begins};
+ghost use Rattle.lsm_logged.specs.Opening.{OpensLogged};
+ghost use Rattle.example_log.specs.Kept.{HoldsBatch};
+
+use lsm_below::{Error, UserKey};
+use lsm_files::crashes_leave_versions;
+use lsm_log::no_record_begins_another;
+use lsm_log_model::{
+    every_crash_keeps_batches, log_stays_sound, logged_reads_are_right, records_are_found,
+    replays_are_in_order, tables_alone_stand, whole_is_logged,
+};
+use lsm_logged::{Logged, logs_can_be_settled};
+use lsm_manifest::{crashes_settle, images_stand_once};
+use lsm_model::Op;
+use lsm_parts::Config;
+use lsm_store::{MemStore, Pick};
+use std::alloc::Global;
+
+/// Opens the logged tree of a store.
+fn opened(alloc: Global, store: MemStore) -> Result<Logged, Error>
+    ensures { IfOk result (λ t. OpensLogged (Unit {0}) world_of store (record { id = 0; seqno = 0; visible_seqno = 0 }) t) }
+{
+    match Logged::open(alloc, Config::new(0, 0, 0), store) {
+        Ok(tree) => Ok(tree),
+        Err((error, _)) => Err(error),
+    }
+}
+
+/// Writes a batch to a new logged tree, crashes its store so that of these names this is left, and opens a logged tree on what
+/// is left. None where that can't be left. Faults may be planned in the store.
+///
+/// Where the batch is acknowledged, all of it is there behind the crash, whatever that leaves: a get of its keys answers what it
+/// wrote, and a get of another one nothing.
+pub fn write_and_crash(
+    alloc: Global,
+    store: MemStore,
+    ops: Vec<(UserKey, Op)>,
+    picks: &[(&str, Pick<'_>)],
+) -> Result<Option<Logged>, Error>
+    requires new { Begins (λ _. None) (world_of store) }
+    ensures { IfOk result (λ r. IfSome r (λ t. HoldsBatch ops.items t.core)) }
+{
+    crashes_settle(&store);
+    images_stand_once();
+    logs_can_be_settled(&store);
+    no_record_begins_another();
+    tables_alone_stand();
+    replays_are_in_order();
+    records_are_found();
+    log_stays_sound();
+    every_crash_keeps_batches();
+    whole_is_logged();
+    logged_reads_are_right();
+    let mut tree = opened(alloc, store)?;
+    tree.write(ops)?;
+    let store = tree.into_store();
+    crashes_leave_versions(&store);
+    let Some(left) = store.crash(picks)? else {
+        return Ok(None);
+    };
+    let again = opened(alloc, left)?;
+    Ok(Some(again))
+}
+
+/// The same without a crash: the process ends, and the next one opens the store as it is.
+pub fn write_and_end(
+    alloc: Global,
+    store: MemStore,
+    ops: Vec<(UserKey, Op)>,
+) -> Result<Logged, Error>
+    requires new { Begins (λ _. None) (world_of store) }
+    ensures { IfOk result (λ t. HoldsBatch ops.items t.core) }
+{
+    crashes_settle(&store);
+    images_stand_once();
+    logs_can_be_settled(&store);
+    no_record_begins_another();
+    tables_alone_stand();
+    replays_are_in_order();
+    records_are_found();
+    log_stays_sound();
+    every_crash_keeps_batches();
+    whole_is_logged();
+    logged_reads_are_right();
+    let mut tree = opened(alloc, store)?;
+    tree.write(ops)?;
+    let store = tree.into_store();
+    crashes_leave_versions(&store);
+    let again = opened(alloc, store)?;
+    Ok(again)
+}
