@@ -1,4 +1,4 @@
-use Rattle.std.proofs.Common.{ℕ, ◌≡◌, ◌<◌, List, None, Result, Ok, Err, tt, ◌∙◌, sym, subst}
+use Rattle.std.proofs.Common.{ℕ, ◌≡◌, ◌<◌, List, None, Result, Ok, Err, ◌∙◌, sym, subst}
 use Rattle.std.specs.Prelude.{Contains, OnOk}
 use Rattle.lsm_store.specs.World.{LeavesOnly}
 use Rattle.lsm_log.specs.LogNames.{record_name}
