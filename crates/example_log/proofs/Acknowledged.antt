@@ -1,11 +1,8 @@
 -- A batch that is acknowledged on a new tree.
-use Rattle.std.proofs.Common.{◌≡◌, ℕ, ◌<◌, ◌^◌, Bool, true, false, ◌||◌, List, [], ◌∷◌, map, Option, Some, None, Ok, refl, sym, ap, ◌∙◌, subst, arith, cond}
-use Rattle.std.proofs.lemmas.Bool.Decides.{nat_tests}
+use Rattle.std.proofs.Common.{◌≡◌, ℕ, false, ◌||◌, List, [], ◌∷◌, map, None, Ok, refl, sym, ap, ◌∙◌, subst, arith}
 use Rattle.std.specs.Option.{is_some}
 use Rattle.std.specs.List.{AllByRecursion}
 use Rattle.lsm_below.specs.Keys.{Bytes}
-use Rattle.lsm_below.specs.declared.error.Error.{Error}
-use Rattle.lsm_below.specs.declared.error.Error.TheVariants.{OutOfNumbers}
 use Rattle.lsm_store.specs.World.{Image, World, Begins}
 use Rattle.lsm_model.specs.Beginnings.{Stands}
 use Rattle.lsm_model.specs.Ops.{op_entries}
@@ -22,7 +19,6 @@ use Rattle.lsm_log_model.specs.Logs.{Logged as Log, IsBatched}
 use Rattle.lsm_log_model.specs.Records.{LogImage, LogStands}
 use Rattle.lsm_log_model.specs.Replays.{IsReopened, TablesAloneStand}
 use Rattle.lsm_state.specs.Core.{Core}
-use Rattle.lsm_state.specs.Refusals.{batch_refusal, is_great}
 use Rattle.lsm_logged.specs.Keeping.{SeenLogged, is_unsure, IsLogOf, KeepsLog}
 use Rattle.lsm_logged.specs.Opening.{OpensLogged, CanBeSettled, IsReopenedLog, batch_read, image_read, version_of}
 use Rattle.lsm_logged.specs.Writing.{WritesLogged, WritesAct, batch_of}
@@ -54,20 +50,9 @@ fresh_stands tables from = (tables [] from nothing_stands (omega arith)).0
 
 -- ---- the batch
 
-not_great : (n : ℕ) → is_great n ≡ false → n < 2 ^ 63
-not_great n h = grind (arith, nat_tests)
-
-first_test : (b : Bool) (rest : Option Error) → cond b (Some OutOfNumbers) rest ≡ None → b ≡ false
-first_test true rest h = absurd (cc h)
-first_test false rest h = refl
-
-small_number : (n : ℕ) (ops : List (Bytes × Op)) → batch_refusal n ops ≡ None → n < 2 ^ 63
-small_number n ops h = not_great n (first_test (is_great n) _ h)
-
 -- a tree without tables that has one batch, which is recorded in its store
 pub record HasOne (ops : List (Bytes × Op)) (c : Core) (w : World) : Type 0 where
   pub number : ℕ
-  pub small : number < 2 ^ 63
   pub from : ℕ
   pub first : Log
   pub reopened : IsReopened (fresh_image from) first
@@ -104,7 +89,6 @@ module _ {S : Type 0} (world : S → World) (store : S) (config : Config) (t u :
       let leads = (acts [] [] [] again.first again.is again.keeps again.next).ok in
       record {
         number = t.core.seqno;
-        small = small_number t.core.seqno ops tree.accepted;
         from = v.log_from;
         first = again.first;
         reopened = again.reopened;

@@ -1,5 +1,3 @@
-pub mod Versions
-pub mod Found
 pub mod Batches
 pub mod Acknowledged
 pub mod Reopened

@@ -1,5 +1,5 @@
 -- What a tree with one batch is once it is opened again on what a crash left of it.
-use Rattle.std.proofs.Common.{◌≡◌, ⊎_elim, inl, ℕ, ◌+◌, ◌<◌, ◌≤◌, ◌^◌, true, List, [], ◌∷◌, ◌++◌, map, reverse, Option, Some, None, IsSome, refl, sym, ap, ◌∙◌, subst, arith}
+use Rattle.std.proofs.Common.{◌≡◌, ⊎_elim, inl, ℕ, ◌+◌, ◌<◌, ◌≤◌, true, List, [], ◌∷◌, ◌++◌, map, reverse, Option, Some, None, IsSome, refl, sym, ap, ◌∙◌, subst, arith}
 use Rattle.std.specs.FinMap.{empty, get}
 use Rattle.std.specs.Option.{option_to_list}
 use Rattle.std.specs.List.{AllByRecursion}
@@ -17,13 +17,14 @@ use Rattle.lsm_model.specs.declared.op.Op.{Op}
 use Rattle.lsm_model.specs.declared.journal.JournalEntry.TheVariants.{Write}
 use Rattle.lsm_versions.specs.declared.config.Config.{Config}
 use Rattle.lsm_versions.specs.Levels.{SeenVersion, empty_levels, placed_of}
-use Rattle.lsm_manifest.specs.Finding.{Finds, Named, FoundOnce}
+use Rattle.lsm_manifest.specs.Finding.{Finds}
 use Rattle.lsm_manifest.specs.Names.{current_name}
 use Rattle.lsm_manifest.specs.Standing.{StandsFor}
 use Rattle.lsm_manifest.specs.Versions.{named_levels}
 use Rattle.lsm_files.specs.Foreign.{AtRest}
 use Rattle.lsm_files.specs.Stored.{IsStored, HoldsOneOf}
-use Rattle.lsm_log_model.specs.Joins.{LogStaysSound, RecordsAreFound}
+use Rattle.lsm_log.specs.declared.record.Record.{Record}
+use Rattle.lsm_log_model.specs.Joins.{LogStaysSound}
 use Rattle.lsm_log_model.specs.Logs.{Logged as Log, LostBatch, LogIsSound, IsCertain, HasRecords, MayLeave, Batched, AllActs}
 use Rattle.lsm_log_model.specs.Records.{Batch, LogImage, LogStands, counted, entries_in, logged, opened_by, since}
 use Rattle.lsm_log_model.specs.Recovery.{EveryCrashKeepsBatches, WholeIsLogged, LoggedReadsRight}
@@ -35,20 +36,18 @@ use Rattle.lsm_state.specs.Calls.{Gives}
 use Rattle.lsm_state.specs.Core.{Core, latest_of, older_of, state_of, versions_left, written_of}
 use Rattle.lsm_state.specs.Deeds.{saved_of}
 use Rattle.lsm_state.specs.Held.{entries_of}
-use Rattle.lsm_logged.specs.Keeping.{SeenLogged, IsLogIn}
+use Rattle.lsm_logged.specs.Images.{RecordsAreThoseRead, CountedAreRead, VersionIsToldOnce}
+use Rattle.lsm_logged.specs.Keeping.{SeenLogged, KeepsLog, IsLogIn}
 use Rattle.lsm_logged.specs.Opening.{OpensLogged, CanBeSettled, IsReopenedLog, image_read, version_of}
 use Rattle.lsm_logged.specs.Writing.{batch_of}
-use Rattle.lsm_logged.proofs.Keeping.{narrower}
 use Rattle.example_log.specs.Kept.{HoldsBatch}
 use Rattle.example_log.proofs.Acknowledged.{HasOne, fresh_image, fresh_stands}
 use Rattle.example_log.proofs.Batches.{in_order, spared_writes, replay_writes}
-use Rattle.example_log.proofs.Found.{RecordsAreFirst, numbers_of, has_records, is_read}
-use Rattle.example_log.proofs.Versions.{from_once}
 
 module _ {S : Type 0} (world : S → World) (ops : List (Bytes × Op)) (c : Core) (w : World) (one : HasOne ops c w) (stored : IsStored w (versions_left c) (written_of c)) (rest : AtRest w)
     (left : S) (config : Config) (t : SeenLogged S) (opens : OpensLogged (Unit {0}) world left config t) (found : IsSome ((world left).gives current_name) → Finds (world left).gives (version_of t).levels)
     (may : IsImage w.may (world left).gives) (now : w.since w.moment (world left).gives)
-    (tables : TablesAloneStand) (replays : ReplaysAreInOrder) (once : FoundOnce) (first : RecordsAreFirst) (are_found : RecordsAreFound) (stays_sound : LogStaysSound) (recovers : EveryCrashKeepsBatches) (whole : WholeIsLogged) (right : LoggedReadsRight) where
+    (tables : TablesAloneStand) (replays : ReplaysAreInOrder) (told_once : VersionIsToldOnce) (have_log : (log : Log) (image : Image) → KeepsLog w log → IsImage w.may image → IsLogIn log image) (those_read : RecordsAreThoseRead) (are_read : CountedAreRead) (stays_sound : LogStaysSound) (recovers : EveryCrashKeepsBatches) (whole : WholeIsLogged) (right : LoggedReadsRight) where
   abbrev image : Image
   image = (world left).gives
 
@@ -90,7 +89,7 @@ module _ {S : Type 0} (world : S → World) (ops : List (Bytes × Op)) (c : Core
   -- ---- what is left of it
 
   kept : IsLogIn log image
-  kept = narrower log w.may (λ n o. o ≡ image n) (λ n o e. subst (w.may n) (sym e) (may n)) one.keeps
+  kept = have_log log image one.keeps may
 
   holds : HoldsOneOf (versions_left c) image
   holds = (rest.leaves (versions_left c) (written_of c) stored).each image now
@@ -110,17 +109,14 @@ module _ {S : Type 0} (world : S → World) (ops : List (Bytes × Op)) (c : Core
   there : IsSome (image current_name)
   there = subst (λ (o : Option (List ℕ)). IsSome o) (sym stands_u.named.current) refl
 
-  levels : u.levels ≡ v.levels
-  levels = once image u.levels v.levels (Named u.id (named_levels u.levels) stands_u) (found there)
-
-  from : u.log_from ≡ v.log_from
-  from = from_once image u v holds.3 ((opens.takes tt).version there) levels
+  same_version : (u.levels ≡ v.levels) × (u.log_from ≡ v.log_from)
+  same_version = told_once (versions_left c) image v holds (found there) ((opens.takes tt).version there)
 
   log_from : log.log_from ≡ v.log_from
-  log_from = one.is.from ∙ ap (λ (x : SeenVersion). x.log_from) is_u ∙ from
+  log_from = one.is.from ∙ ap (λ (x : SeenVersion). x.log_from) is_u ∙ same_version.1
 
   same_levels : c.history.latest.version.levels ≡ v.levels
-  same_levels = ap (λ (x : SeenVersion). x.levels) is_u ∙ levels
+  same_levels = ap (λ (x : SeenVersion). x.levels) is_u ∙ same_version.0
 
   no_tables : v.levels ≡ empty_levels
   no_tables = sym same_levels ∙ one.levels
@@ -131,11 +127,8 @@ module _ {S : Type 0} (world : S → World) (ops : List (Bytes × Op)) (c : Core
   pub low : log.log_from ≤ v.log_from
   low = let e = log_from in omega (arith, e)
 
-  small : AllByRecursion (λ x. x.number < 2 ^ 63) log.records
-  small = subst (AllByRecursion (λ (x : Batch). x.number < 2 ^ 63)) (sym records) (one.small, tt)
-
   has : HasRecords image2 log
-  has = has_records first image (placed_of v.levels) v.log_from opens.passed opens.records (opens.takes tt).log log kept low small are_found sound
+  has = those_read image (placed_of v.levels) v.log_from opens.passed opens.records log (opens.takes tt).log kept low sound
 
   is_left : MayLeave log image2
   is_left = record {
@@ -190,8 +183,8 @@ module _ {S : Type 0} (world : S → World) (ops : List (Bytes × Op)) (c : Core
             let low_first : one.first.log_from ≤ one.number = one.act.drawn.above_version in
             let same = ap (λ (l : Log). l.log_from) one.act.rest in
             let e = log_from in
-            let has_number = is_read first image (placed_of v.levels) v.log_from opens.passed opens.records (opens.takes tt).log log kept low small b (subst (IsIn b) (sym records) (inl refl)) (omega (arith, low_first, same, e)) in
-            let lt = All-contains (λ k. k < opens.replays.least) (numbers_of opens.records) one.number opens.replays.above_records.below has_number in
+            let has_number = are_read image v.log_from opens.passed opens.records log (opens.takes tt).log kept b (subst (IsIn b) (sym records) (inl refl)) (omega (arith, low_first, same, e)) in
+            let lt = All-contains (λ k. k < opens.replays.least) (map (λ (r : Record). r.number) opens.records) one.number opens.replays.above_records.below has_number in
             let is = ap (λ (x : Core). x.visible_seqno) opens.replays.core in
             omega (arith, lt, is)
 

@@ -7,13 +7,14 @@ ghost use Rattle.example_log.specs.Kept.{HoldsBatch};
 
 use lsm_below::{Error, UserKey};
 use lsm_files::crashes_leave_versions;
-use lsm_log::no_record_begins_another;
 use lsm_log_model::{
-    every_crash_keeps_batches, log_stays_sound, logged_reads_are_right, records_are_found,
-    replays_are_in_order, tables_alone_stand, whole_is_logged,
+    every_crash_keeps_batches, log_stays_sound, logged_reads_are_right, replays_are_in_order,
+    tables_alone_stand, whole_is_logged,
 };
-use lsm_logged::{Logged, logs_can_be_settled};
-use lsm_manifest::{crashes_settle, images_stand_once};
+use lsm_logged::{
+    Logged, images_have_logs, logs_can_be_settled, records_are_those_read, versions_are_told_once,
+};
+use lsm_manifest::crashes_settle;
 use lsm_model::Op;
 use lsm_parts::Config;
 use lsm_store::{MemStore, Pick};
@@ -44,12 +45,12 @@ pub fn write_and_crash(
     ensures { IfOk result (λ r. IfSome r (λ t. HoldsBatch ops.items t.core)) }
 {
     crashes_settle(&store);
-    images_stand_once();
     logs_can_be_settled(&store);
-    no_record_begins_another();
+    images_have_logs(&store);
+    versions_are_told_once();
+    records_are_those_read();
     tables_alone_stand();
     replays_are_in_order();
-    records_are_found();
     log_stays_sound();
     every_crash_keeps_batches();
     whole_is_logged();
@@ -75,12 +76,12 @@ pub fn write_and_end(
     ensures { IfOk result (λ t. HoldsBatch ops.items t.core) }
 {
     crashes_settle(&store);
-    images_stand_once();
     logs_can_be_settled(&store);
-    no_record_begins_another();
+    images_have_logs(&store);
+    versions_are_told_once();
+    records_are_those_read();
     tables_alone_stand();
     replays_are_in_order();
-    records_are_found();
     log_stays_sound();
     every_crash_keeps_batches();
     whole_is_logged();

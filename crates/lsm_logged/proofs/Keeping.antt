@@ -22,6 +22,7 @@ narrower t has less within h = record {
   doubted = each_both (λ b. (c : Option (List ℕ)) → has (record_name b.number) c → (c ≡ None) ⊎ IsRecordFile b c) (λ b. Unit {0}) (λ b. (c : Option (List ℕ)) → less (record_name b.number) c → (c ≡ None) ⊎ IsRecordFile b c) (λ b p u c m. p c (within (record_name b.number) c m)) (lost_of t.lost) h.doubted (units (lost_of t.lost));
   absent = λ n small le none c m. h.absent n small le none c (within (record_name n) c m);
   named = λ n refused c m. h.named n refused c (within n c m);
+  small = h.small;
 }
   where
     units : (bs : List Batch) → AllByRecursion (λ b. Unit {0}) bs
@@ -44,6 +45,12 @@ module _ (read : PlainNumbersAreRead) (t : Log) (b : Batch) (small : b.number < 
   none_lost : (n : ℕ) (xs : List Batch) → IsNoNumber n xs → IsNoNumber n (xs ++ lost_of t.lost)
   none_lost n xs none = subst (λ l. IsNoNumber n (xs ++ lost_of l)) (sym certain) (subst (IsNoNumber n) (sym (append-nil xs)) none)
 
+  abbrev IsSmall : Batch → Type 0
+  IsSmall x = x.number < 2 ^ 63
+
+  all_small : AllByRecursion IsSmall (t.records ++ b ∷ [])
+  all_small = each_append IsSmall t.records (b ∷ []) (each_left IsSmall t.records (lost_of t.lost) h.small) (small, tt)
+
   lost_none : (n : ℕ) (xs : List Batch) → IsNoNumber n (xs ++ lost_of t.lost) → IsNoNumber n xs
   lost_none n xs none = each_left (λ x. x.number ≢ n) xs (lost_of t.lost) none
 
@@ -60,11 +67,12 @@ module _ (read : PlainNumbersAreRead) (t : Log) (b : Batch) (small : b.number < 
     doubted = subst (λ l. AllByRecursion (λ x. (c : Option (List ℕ)) → now (record_name x.number) c → (c ≡ None) ⊎ IsRecordFile x c) (lost_of l)) (sym certain) tt;
     absent = λ n low le none c m. absent n low le (lost_none n (t.records ++ b ∷ []) none) c m;
     named = named;
+    small = each_append IsSmall (t.records ++ b ∷ []) (lost_of t.lost) all_small (each_right IsSmall t.records (lost_of t.lost) h.small);
   }
 
   -- the record may be there
   pub with_doubt : (place : ℕ) → ((c : Option (List ℕ)) → now (record_name b.number) c → (c ≡ None) ⊎ IsRecordFile b c) → HasLog (record t { lost = Some (record { batch = b; place = place }) }) now
-  with_doubt place here = record { counted = stays; doubted = (here, tt); absent = absent; named = named }
+  with_doubt place here = record { counted = stays; doubted = (here, tt); absent = absent; named = named; small = all_small }
 
   -- nothing is under its name before
   pub was_absent : t.log_from ≤ b.number → (c : Option (List ℕ)) → has (record_name b.number) c → c ≡ None

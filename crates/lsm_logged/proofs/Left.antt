@@ -10,6 +10,7 @@ use Rattle.lsm_store.specs.World.{Image, World, LeavesOnly}
 use Rattle.lsm_store.specs.Moments.{weakened}
 use Rattle.lsm_files.specs.Foreign.{IsForeign, KeepsForeign, Passes}
 use Rattle.lsm_files.specs.Stored.{IsStored, HoldsOneOf}
+use Rattle.lsm_versions.specs.Levels.{SeenVersion}
 use Rattle.lsm_log.specs.LogNames.{record_name}
 use Rattle.lsm_log.specs.Changes.{IsBelow, IsOneOf}
 use Rattle.lsm_log_model.specs.Records.{Batch, since}
@@ -69,6 +70,9 @@ module _ (t log : Log) (left : IsLeft log.log_from t.records log.records) (lost 
   abbrev MayBeThere : Has → Batch → Type 0
   MayBeThere it b = (c : Option (List ℕ)) → it (record_name b.number) c → (c ≡ None) ⊎ IsRecordFile b c
 
+  abbrev IsSmall : Batch → Type 0
+  IsSmall b = b.number < 2 ^ 63
+
   pub has_left : HasLog t has → HasLog log now
   has_left h = record {
     counted = each_both (IsThere has) (λ b. Gone (record_name b.number) → ⊥) (IsThere now)
@@ -82,6 +86,8 @@ module _ (t log : Log) (left : IsLeft log.log_from t.records log.records) (lost 
         (λ gone. gone.0)
         (step (record_name n) c (record_is_foreign n) m);
     named = λ n refused c m. ⊎_elim (λ was. h.named n refused c was) (λ gone. gone.0) (step n c (refused_is_foreign n refused) m);
+    small = each_append IsSmall log.records (lost_of log.lost) (left.each IsSmall (each_left IsSmall t.records (lost_of t.lost) h.small))
+        (subst (λ l. AllByRecursion IsSmall (lost_of l)) (sym lost) (each_right IsSmall t.records (lost_of t.lost) h.small));
   }
 
 none_gone : (bs : List Batch) → AllByRecursion (λ b. ⊥ → ⊥) bs
@@ -138,3 +144,22 @@ module _ (w w' : World) (old new : Core) (t log : Log) (left : IsLeft log.log_fr
           (both_leave w w' (HoldsOneOf (versions_left old ++ versions_left new)) (IsEither w new) (files stored).1 (behind stored))
           (λ image is. ⊎_elim (λ kept. by_version image is.0 kept) (λ gone. inr (gone.0, passed_in image gone.1)) is.1);
     }
+
+-- ---- where the versions stay
+
+-- each image has one of the tree's versions, beside the records from before or those from now
+pub beside_versions : (w w' : World) (old new : Core) (t log : Log) → versions_left new ≡ versions_left old → LeavesOnly w w' (HoldsOneOf (versions_left old ++ versions_left new)) → LeavesOnly w w' (λ image. IsLogIn t image ⊎ IsLogIn log image)
+    → LeavesOnly w w' (λ image. HoldsLog old t image ⊎ HoldsLog new log image)
+beside_versions w w' old new t log same versions logs =
+    weakened w w' (λ image. HoldsOneOf (versions_left old ++ versions_left new) image × (IsLogIn t image ⊎ IsLogIn log image)) (λ image. HoldsLog old t image ⊎ HoldsLog new log image)
+    (both_leave w w' (HoldsOneOf (versions_left old ++ versions_left new)) (λ image. IsLogIn t image ⊎ IsLogIn log image) versions logs)
+    (λ image is. ⊎_elim (λ was. inl (one_before image is.0, was)) (λ now. inr (one_now image is.0, now)) is.1)
+  where
+    among : (v : SeenVersion) → IsIn v (versions_left old ++ versions_left new) → IsIn v (versions_left old)
+    among v i = ⊎_elim (λ j. j) (λ j. subst (IsIn v) same j) (split v (versions_left old) (versions_left new) i)
+
+    one_before : (image : Image) → HoldsOneOf (versions_left old ++ versions_left new) image → HoldsOneOf (versions_left old) image
+    one_before image one = (one.0, among one.0 one.1, one.2, one.3)
+
+    one_now : (image : Image) → HoldsOneOf (versions_left old ++ versions_left new) image → HoldsOneOf (versions_left new) image
+    one_now image one = (one.0, subst (IsIn one.0) (sym same) (among one.0 one.1), one.2, one.3)

@@ -3,7 +3,9 @@ pub mod Keeping
 pub mod Acted
 pub mod Replaying
 pub mod Reopening
+pub mod Blaming
 pub mod Removals
+pub mod Known
 pub mod Rising
 pub mod Reached
 pub mod Left
@@ -21,3 +23,5 @@ pub mod WholeActs
 pub mod Settling
 pub mod NoActs
 pub mod Taken
+pub mod Found
+pub mod Versions

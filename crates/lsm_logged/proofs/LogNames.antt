@@ -1,5 +1,5 @@
 -- Names of a log are none of a tree's.
-use Rattle.std.proofs.Common.{◌≡◌, ℕ, ◌<◌, ◌^◌, Bool, true, false, cond, List, ◌++◌, take, drop, get_or, codes, refl, sym, ap, ◌∙◌, subst, arith}
+use Rattle.std.proofs.Common.{◌≡◌, ◌≢◌, ℕ, ◌<◌, ◌≤◌, ◌^◌, Bool, true, false, cond, List, ◌++◌, take, drop, get_or, codes, refl, sym, ap, ◌∙◌, subst, arith}
 use Rattle.std.specs.Prelude.{nat_eq}
 use Rattle.std.specs.List.{starts_with}
 use Rattle.std.proofs.lemmas.List.{take-append-drop}
@@ -16,6 +16,10 @@ use Rattle.lsm_log.proofs.NameLemmas.{record_kind}
 -- records of two numbers have two names
 pub apart : PlainNumbersAreRead → (i j : ℕ) → i < 2 ^ 63 → j < 2 ^ 63 → record_name i ≡ record_name j → i ≡ j
 apart read i j low small e = let z : RecordFile i ≡ RecordFile j = sym (record_kind read i low) ∙ (ap kind_of e ∙ record_kind read j small) in cc z
+
+-- a record that isn't below a number has the name of none that is
+pub none_below : PlainNumbersAreRead → (from k : ℕ) → from ≤ k → k < 2 ^ 63 → (j : ℕ) → j < from → record_name k ≢ record_name j
+none_below read from k le small j lt e = let same : k ≡ j = apart read k j small (omega (arith, lt, le, small)) e in omega (arith, same, lt, le)
 
 -- ---- names in the folder of the log
 

@@ -1,5 +1,5 @@
 -- Records that the version has passed are removed, behind a commit or not.
-use Rattle.std.proofs.Common.{◌≡◌, ⊎_elim, inl, inr, ℕ, ◌<◌, ◌≤◌, List, [], ◌++◌, Option, Some, None, Result, Ok, Err, refl, sym, ap, ◌∙◌, subst, arith}
+use Rattle.std.proofs.Common.{◌≡◌, ⊎_elim, inl, inr, ℕ, ◌<◌, ◌≤◌, List, [], ◌++◌, Option, Some, None, Result, sym, ap, ◌∙◌, subst, arith}
 use Rattle.std.proofs.lemmas.List.Elements.{All-drop, All-weaker}
 use Rattle.lsm_below.specs.Each.{each_append}
 use Rattle.lsm_below.specs.Members.{IsIn, each_in}
@@ -8,13 +8,11 @@ use Rattle.lsm_store.specs.World.{Image, World, LeavesOnly}
 use Rattle.lsm_store.specs.Moments.{weakened, joined}
 use Rattle.lsm_files.specs.Foreign.{KeepsForeign, Passes}
 use Rattle.lsm_files.specs.Stored.{IsStored, HoldsOneOf, AreAmong}
-use Rattle.lsm_jobs.specs.declared.jobs.Registered.{Registered}
 use Rattle.lsm_log.specs.Changes.{IsBelow, AreCleared}
 use Rattle.lsm_log.proofs.Loaded.{rise_drop}
 use Rattle.lsm_state.specs.Core.{Core, versions_left, written_of}
 use Rattle.lsm_state.specs.Commits.{UpholdsFiles, Upholds}
 use Rattle.lsm_state.specs.Calls.{Rotates}
-use Rattle.lsm_state.specs.WholeFlushes.{Flushes}
 use Rattle.lsm_state.proofs.Upholding.{among_right, leaves_more}
 use Rattle.lsm_logged.specs.Keeping.{AreRecordNumbers}
 use Rattle.lsm_logged.specs.Removing.{log_from_of, Forgets, RemovesPassed, HasOldOrPassed, Passed}
@@ -75,31 +73,34 @@ removed_behind w mid new old core commits files passed stored =
 pub none_behind : (w mid : World) (old core : Core) → Passes w mid → RemovesBehind w mid old core
 none_behind w mid old core passes stored = weakened w mid (KeepsForeign w) (IsEither w core) passes.leaves (λ image was. inl was)
 
--- ---- the counter
-
-pub flush_rises : (w : ℕ) (r : Result (Option (ℕ × Registered)) Error) (old new : Core) → Flushes w r old new → old.seqno ≤ new.seqno
-flush_rises w (Ok None) old new f = let e = ap (λ (c : Core). c.seqno) (f.some refl).1 in omega (arith, e)
-flush_rises w (Ok (Some p)) old new f = let e = ap (λ (c : Core). c.seqno) f.installs.installs.cleans.rest in omega (arith, e)
-flush_rises w (Err e) old new f = ⊎_elim (λ s. omega (arith, s)) (λ s. omega (arith, s)) f.err.seqno
-
 -- ---- a call, and then a removal while the tree stays as it is
 
--- two calls keep what is stored
-pub upheld_behind : (w mid new : World) (old core after : Core) → Upholds w mid old core → after ≡ core → UpholdsFiles mid new core after → UpholdsFiles w new old after
-upheld_behind w mid new old core after commits same files = subst (λ k. UpholdsFiles w new old k) (sym same) (λ stored.
-    let first = commits.files stored in
-    let then = subst (λ k. UpholdsFiles mid new core k) same files first.0 in
-    let vs = versions_left core in (
-      then.0,
-      joined w mid new (HoldsOneOf (versions_left old ++ vs)) (HoldsOneOf (vs ++ vs)) (HoldsOneOf (versions_left old ++ vs)) first.1 then.1 (λ image one. one)
-          (λ image one. (one.0, each_in (λ v. IsIn v (versions_left old ++ vs)) (vs ++ vs) one.0 (each_append (λ v. IsIn v (versions_left old ++ vs)) vs vs (among_right (versions_left old) vs) (among_right (versions_left old) vs)) one.1, one.2, one.3)),
-    ))
+-- the tree's files stay stored, records that the version has passed may be gone, and none of them before that version is on the disk
+pub record LeavesBehind (w new : World) (old after : Core) : Type 0 where
+  pub files : UpholdsFiles w new old after
+  pub passed : Passed (log_from_of after) w new
+  pub either : RemovesBehind w new old after
 
-pub passed_behind : (w mid new : World) (old core after : Core) → Upholds w mid old core → after ≡ core → Passed (log_from_of core) mid new → Passed (log_from_of after) w new
-passed_behind w mid new old core after commits same passed = subst (λ k. Passed (log_from_of k) w new) (sym same) (passed_then (log_from_of core) w mid new commits.passes passed)
+pub leaves_behind : (w mid new : World) (old core after : Core) → Upholds w mid old core → after ≡ core → UpholdsFiles mid new core after → Passed (log_from_of core) mid new → LeavesBehind w new old after
+leaves_behind w mid new old core after commits same files passed = subst (LeavesBehind w new old) (sym same) (record {
+  files = upheld;
+  passed = passed_then (log_from_of core) w mid new commits.passes passed;
+  either = removed_behind w mid new old core commits still passed;
+})
+  where
+    still : UpholdsFiles mid new core core
+    still = subst (UpholdsFiles mid new core) same files
 
-pub either_behind : (w mid new : World) (old core after : Core) → Upholds w mid old core → after ≡ core → UpholdsFiles mid new core after → Passed (log_from_of core) mid new → RemovesBehind w new old after
-either_behind w mid new old core after commits same files passed = subst (λ k. RemovesBehind w new old k) (sym same) (removed_behind w mid new old core commits (subst (λ k. UpholdsFiles mid new core k) same files) passed)
+    -- two calls keep what is stored
+    upheld : UpholdsFiles w new old core
+    upheld stored =
+        let first = commits.files stored in
+        let then = still first.0 in
+        let vs = versions_left core in (
+          then.0,
+          joined w mid new (HoldsOneOf (versions_left old ++ vs)) (HoldsOneOf (vs ++ vs)) (HoldsOneOf (versions_left old ++ vs)) first.1 then.1 (λ image one. one)
+              (λ image one. (one.0, each_in (λ v. IsIn v (versions_left old ++ vs)) (vs ++ vs) one.0 (each_append (λ v. IsIn v (versions_left old ++ vs)) vs vs (among_right (versions_left old) vs) (among_right (versions_left old) vs)) one.1, one.2, one.3)),
+        )
 
 -- ---- behind a rotation
 

@@ -3,7 +3,7 @@ use Rattle.std.proofs.Common.{◌≡◌, ◌≢◌, ⊎_elim, inl, inr, ℕ, ◌
 use Rattle.std.specs.List.{All, AllByRecursion}
 use Rattle.std.proofs.lemmas.List.Elements.{All-weaker, All-contains, All-from_recursion, All-head, All-tail, Contains-append_right}
 use Rattle.std.proofs.lemmas.List.Concat.{flat_map-cons}
-use Rattle.lsm_below.specs.Each.{each_left}
+use Rattle.lsm_below.specs.Each.{each_append, each_left}
 use Rattle.lsm_below.specs.Entries.{above}
 use Rattle.lsm_below.specs.Numbers.{PlainNumbersAreRead}
 use Rattle.lsm_below.specs.Sums.{capped}
@@ -41,7 +41,8 @@ use Rattle.lsm_state.proofs.Steps.{write_run}
 use Rattle.lsm_logged.specs.Keeping.{AreRecordNumbers, IsLogOf, IsRecordFile, IsNoNumber}
 use Rattle.lsm_logged.specs.Removing.{IsOldOrPassed, HasOldOrPassed}
 use Rattle.lsm_logged.specs.Opening.{entries_read, batch_read, image_read, Replays, TakesLog, CanBeSettled, IsReopenedLog}
-use Rattle.lsm_logged.proofs.LogNames.{apart, record_is_foreign, refused_is_foreign}
+use Rattle.lsm_logged.proofs.LogNames.{apart, none_below, record_is_foreign, refused_is_foreign}
+use Rattle.lsm_logged.proofs.Replaying.{small_each}
 
 -- ---- what was found
 
@@ -126,13 +127,14 @@ module _ (old mid new : World) (v : SeenVersion) (passed : List ℕ) (records : 
   may_be : (n : List ℕ) (c : Option (List ℕ)) → IsForeign n → new.may n c → IsOldOrPassed old v.log_from n c
   may_be n c foreign m = ⊎_elim (λ was. inl (passes.may n c foreign was)) (λ gone. inr gone) (clears.may n c m)
 
-  pub takes : (IsSome (old.gives current_name) → ReadsFrom old.gives v) → (old.gives current_name ≡ None → v ≡ first_version) → (IsSome (old.gives current_name) → Finds old.gives v.levels) → ((k : ℕ) → Contains passed k → k < v.log_from → new.gives (record_name k) ≡ None) → LeavesOnly mid new (AreCleared (IsBelow v.log_from) mid) → TakesLog old new v passed records
-  takes from fresh found gone moments = record {
+  pub takes : PlainNumbersAreRead → (IsSome (old.gives current_name) → ReadsFrom old.gives v) → (old.gives current_name ≡ None → v ≡ first_version) → (IsSome (old.gives current_name) → Finds old.gives v.levels) → ((k : ℕ) → Contains passed k → k < v.log_from → new.gives (record_name k) ≡ None) → LeavesOnly mid new (AreCleared (IsBelow v.log_from) mid) → TakesLog old new v passed records
+  takes read from fresh found gone moments = record {
     version = from;
     fresh = fresh;
     found = found;
     log = log;
     gone = λ k there. gone k there (((log.passed_are k).0 there).1);
+    known = λ k le small there. (log.read_are k).1 (record { small = small; file = subst (λ (c : Option (List ℕ)). IsSome c) (clears.gives (record_name k) (none_below read v.log_from k le small) ∙ passes.gives (record_name k) (record_is_foreign k)) there }, le);
     passed_on = record {
       gives = λ n foreign none. clears.gives n none ∙ passes.gives n foreign;
       may = may_be;
@@ -253,5 +255,6 @@ module _ (fresh : OpenedIsFresh) (reopen : ReplaysReopen) (stays : CounterStaysA
       doubted = tt;
       absent = λ n small le none c m. absent old mid new v passed records log passes clears read settled n small le (subst (IsNoNumber n) count_is (each_left (λ b. b.number ≢ n) (counted image) [] none)) c m;
       named = named old mid new v passed records log passes clears read settled;
+      small = each_append (λ b. b.number < 2 ^ 63) (counted image) [] (subst (AllByRecursion (λ b. b.number < 2 ^ 63)) (sym count_is) (low_each (2 ^ 63) records (small_each (map (λ (r : Record). r.number) records) (λ k there. ((log.read_are k).0 there).0.small)))) tt;
     };
   }

@@ -90,7 +90,7 @@ written_upholds w w' es old mid new is upheld = subst (UpholdsFiles w w' old) (s
 
 -- ---- what was checked
 
-small_each : (xs : List ℕ) → ((k : ℕ) → Contains xs k → k < 2 ^ 63) → All (λ k. k < 2 ^ 63) xs
+pub small_each : (xs : List ℕ) → ((k : ℕ) → Contains xs k → k < 2 ^ 63) → All (λ k. k < 2 ^ 63) xs
 small_each xs h = All-weaker (Contains xs) (λ k. k < 2 ^ 63) h xs (All-contains_itself xs)
 
 module _ (image : Image) (from : ℕ) (passed numbers : List ℕ) (log : IsLogAt image from passed numbers) where

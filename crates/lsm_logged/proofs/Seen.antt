@@ -1,13 +1,17 @@
 -- What is known of a tree, said of the logged tree that it stands in.
-use Rattle.std.proofs.Common.{◌≡◌, Result, Ok, subst}
+use Rattle.std.proofs.Common.{◌≡◌, ℕ, Bool, List, Result, Ok, subst}
 use Rattle.lsm_below.specs.declared.error.Error.{Error}
 use Rattle.lsm_store.specs.World.{World}
 use Rattle.lsm_pick.specs.declared.choice.Choice.{Choice}
 use Rattle.lsm_state.specs.declared.compaction.Begun.{Begun}
 use Rattle.lsm_state.specs.declared.compaction.Begun.TheVariants.{Installed}
-use Rattle.lsm_state.specs.Core.{Core}
+use Rattle.lsm_state.specs.Core.{Core, Seen}
 use Rattle.lsm_state.specs.Compactions.{Relation, LeavesNoneChosen}
 use Rattle.lsm_logged.specs.Keeping.{SeenLogged}
+
+-- the logged tree in which a tree stands, with these numbers
+abbrev pub logged_with : {S : Type 0} → Seen S → List ℕ → Bool → SeenLogged S
+logged_with tree numbers doubted = record { store = tree.store; core = tree.core; numbers = numbers; doubted = doubted }
 
 -- behind an installed compaction no file is left
 pub leaves_seen : {S : Type 0} (may_choose : Relation Choice) (r : Result Begun Error) (w : World) (t u : SeenLogged S) (new : Core) → t ≡ u

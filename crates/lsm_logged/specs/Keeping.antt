@@ -56,13 +56,14 @@ IsRecordFile b c = (bytes : List ℕ) × (c ≡ Some bytes) × IsRecordOf b.numb
 abbrev pub IsNoNumber : ℕ → List Batch → Type 0
 IsNoNumber n batches = AllByRecursion (λ b. b.number ≢ n) batches
 
--- each record that counts is there, one of unknown outcome may be, and from `log_from` on there is no other; no name is refused.
--- Of what stands below `log_from` nothing is said
+-- each record that counts is there, one of unknown outcome may be, and from `log_from` on there is no other; their numbers are below
+-- 2^63, and no name is refused. Of what stands below `log_from` nothing is said
 pub record HasLog (t : Log) (has : List ℕ → Option (List ℕ) → Type 0) : Type 0 where
   pub counted : AllByRecursion (λ b. (c : Option (List ℕ)) → has (record_name b.number) c → IsRecordFile b c) t.records
   pub doubted : AllByRecursion (λ b. (c : Option (List ℕ)) → has (record_name b.number) c → (c ≡ None) ⊎ IsRecordFile b c) (lost_of t.lost)
   pub absent : (n : ℕ) → n < 2 ^ 63 → t.log_from ≤ n → IsNoNumber n (t.records ++ lost_of t.lost) → (c : Option (List ℕ)) → has (record_name n) c → c ≡ None
   pub named : (n : List ℕ) → kind_of n ≡ Refused → (c : Option (List ℕ)) → has n c → c ≡ None
+  pub small : AllByRecursion (λ b. b.number < 2 ^ 63) (t.records ++ lost_of t.lost)
 
 -- so it is in what a crash may leave
 abbrev pub KeepsLog : World → Log → Type 0
@@ -72,6 +73,6 @@ KeepsLog w t = HasLog t w.may
 abbrev pub IsLogIn : Log → Image → Type 0
 IsLogIn t image = HasLog t (λ n c. c ≡ image n)
 
--- each record that reads give has one of these numbers
-abbrev pub AreKnown : World → List ℕ → Type 0
-AreKnown w numbers = (k : ℕ) → k < 2 ^ 63 → IsSome (w.gives (record_name k)) → Contains numbers k
+-- each record from a number on that reads give has one of these numbers
+abbrev pub AreKnown : World → ℕ → List ℕ → Type 0
+AreKnown w from numbers = (k : ℕ) → from ≤ k → k < 2 ^ 63 → IsSome (w.gives (record_name k)) → Contains numbers k

@@ -16,6 +16,7 @@ use Rattle.lsm_manifest.specs.Opening.{Opens, ReadsFrom}
 use Rattle.lsm_manifest.specs.Ready.{IsReady}
 use Rattle.lsm_manifest.specs.Told.{Told, TellsOpen}
 use Rattle.lsm_manifest.specs.Versions.{first_version}
+use Rattle.lsm_files.specs.Causes.{HasFailed}
 use Rattle.lsm_files.specs.Stored.{IsStored}
 use Rattle.lsm_log.specs.declared.record.Record.{Record}
 use Rattle.lsm_log.specs.declared.kinds.LogName.TheVariants.{Refused}
@@ -27,7 +28,7 @@ use Rattle.lsm_log_model.specs.Replays.{IsReopened}
 use Rattle.lsm_state.specs.Core.{Core, opened_core, written_all, versions_left, written_of}
 use Rattle.lsm_state.specs.Opened.{found_entries}
 use Rattle.lsm_logged.specs.Counting.{IsReadFrom}
-use Rattle.lsm_logged.specs.Keeping.{SeenLogged, AreRecordNumbers, IsLogOf, KeepsLog}
+use Rattle.lsm_logged.specs.Keeping.{SeenLogged, AreRecordNumbers, IsLogOf, KeepsLog, AreKnown}
 use Rattle.lsm_logged.specs.Removing.{Passed}
 
 -- ---- replays
@@ -87,6 +88,7 @@ pub record TakesLog (old new : World) (v : SeenVersion) (passed : List ℕ) (rec
   pub found : IsSome (old.gives current_name) → Finds old.gives v.levels
   pub log : IsLogFrom old.gives v.log_from passed records
   pub gone : (k : ℕ) → Contains passed k → new.gives (record_name k) ≡ None
+  pub known : AreKnown new v.log_from (map (λ r. r.number) records)
   pub passed_on : Passed v.log_from old new
 
 -- of each record from here on, and of each name that a log refuses, not any bytes can be left: so opening can put on the disk what it
@@ -126,9 +128,9 @@ pub record IsBadFrom (old new : World) : Type 0 where
   pub bad : IsBadLog old.gives from
   pub same : Same old new
 
--- as an opening of the tree's files is refused; or for want of memory, or by a fault of the store; or for the log
+-- as an opening of the tree's files is refused; or for want of memory, or by a fault of the store, which then failed; or for the log
 pub data RefusesLogged (old new : World) (e : Error) : Type 0 where
   Files : Told TellsOpen (Opens old new) (Err e) → RefusesLogged old new e
   Memory : e ≡ OutOfMemory → RefusesLogged old new e
-  Faulty : e ≡ Store → RefusesLogged old new e
+  Faulty : e ≡ Store → HasFailed old new → RefusesLogged old new e
   BadLog : e ≡ Unrecoverable → IsBadFrom old new → RefusesLogged old new e

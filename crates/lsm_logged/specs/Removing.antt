@@ -7,6 +7,7 @@ use Rattle.lsm_files.specs.Foreign.{IsForeign}
 use Rattle.lsm_log.specs.LogNames.{record_name}
 use Rattle.lsm_log.specs.Changes.{IsBelow, IsOneOf, IsNoneOf, ClearsRecords, AreCleared}
 use Rattle.lsm_state.specs.Core.{Core}
+use Rattle.lsm_logged.specs.Keeping.{AreKnown}
 
 -- from which number on the latest version reads the log
 abbrev pub log_from_of : Core → ℕ
@@ -19,11 +20,22 @@ pub record Forgets (from : ℕ) (old new : List ℕ) : Type 0 where
   pub gone : All (λ k. k < from) (take at old)
   pub kept : All (λ k. from ≤ k) new
 
+-- of these numbers below this one no record is left
+abbrev pub AreGone : World → ℕ → List ℕ → Type 0
+AreGone w from numbers = (k : ℕ) → Contains numbers k → k < from → w.gives (record_name k) ≡ None
+
+-- which records are known behind a call that may remove some below this number
+pub record KeepsKnown (from : ℕ) (old new : World) (numbers left : List ℕ) : Type 0 where
+  -- a number is forgotten only where no record of it is left
+  pub forgotten : (k : ℕ) → Contains numbers k → Contains left k ⊎ (new.gives (record_name k) ≡ None)
+  -- each record that isn't below is known, where it was
+  pub known : (n : ℕ) → from ≤ n → AreKnown old n numbers → AreKnown new n left
+
 -- records below `log_from` go, and nothing else; after Ok none of these numbers is left below
 pub record RemovesPassed {T : Type 0} (from : ℕ) (numbers : List ℕ) (old new : World) (r : Result T Error) : Type 0 where
   pub clears : ClearsRecords (IsBelow from) old new
   pub any_moment : LeavesOnly old new (AreCleared (IsBelow from) old)
-  pub gone : OnOk r ((k : ℕ) → Contains numbers k → k < from → new.gives (record_name k) ≡ None)
+  pub gone : OnOk r (AreGone new from numbers)
 
 -- a name has what it could have before, or it is that of a record below this number, and absent
 abbrev pub IsOldOrPassed : World → ℕ → List ℕ → Option (List ℕ) → Type 0

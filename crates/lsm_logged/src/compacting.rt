@@ -9,11 +9,12 @@ ghost use Rattle.lsm_state.specs.Compactions.{given_up, LeavesNoneChosen, Begins
 ghost use Rattle.lsm_state.specs.FlushLaws.{FlushesAreDeeds};
 ghost use Rattle.lsm_state.specs.Kept.{IsKeptTree};
 ghost use Rattle.lsm_state.specs.WholeCompactions.{CompactsChoice, Compacts, DropsRange, options_at, only_memory, major_choice, drop_choice};
-ghost use Rattle.lsm_logged.specs.Acting.{CompactsAct, MergesAct};
+ghost use Rattle.lsm_logged.specs.Acting.{ActsNot, CompactsAct, MergesAct};
 ghost use Rattle.lsm_logged.specs.Asking.{Asks};
 
 use crate::Logged;
 use lsm_below::{Error, SeqNo, plain_numbers_are_read};
+use lsm_files::crashes_leave_versions;
 use lsm_merges::{CompactionJob, MergedCompaction};
 use lsm_pick::{Choice, CompactionStrategy, OwnedBounds};
 use lsm_state::{Begun, Finished, Options, compactions_are_deeds, flushes_are_deeds};
@@ -144,7 +145,10 @@ impl<S: Store> Logged<S> {
         ensures spends { Spends job self.old.core self.new.core }
         ensures store { self.new.store ≡ self.old.store }
         ensures log { (self.new.numbers ≡ self.old.numbers) × (self.new.doubted ≡ self.old.doubted) }
+        // As the theory sees it nothing is done.
+        ensures acts { S.tells → ActsNot (S.world self.old.store) (S.world self.new.store) self.old self.new }
     {
+        crashes_leave_versions(self.tree.store());
         self.tree.abandon_compaction(job);
     }
 

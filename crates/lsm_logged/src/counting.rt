@@ -1,8 +1,8 @@
 // Whether a store has records that count.
-ghost use Rattle.std.specs.Prelude.{◌≡◌, IfOk, nat_le};
+ghost use Rattle.std.specs.Prelude.{◌≡◌, IfOk, IfErr, nat_le};
 ghost use Rattle.std.specs.List.{list_any};
 ghost use Rattle.lsm_store.specs.World.{Same};
-ghost use Rattle.lsm_logged.specs.Counting.{IsReadFrom, TellsLog, store_told};
+ghost use Rattle.lsm_logged.specs.Counting.{IsReadFrom, TellsLog, RefusesLook, RefusesTelling, store_told};
 
 use lsm_below::{Error, SeqNo};
 use lsm_log::check_log;
@@ -26,6 +26,8 @@ fn reaches(numbers: &[SeqNo], from: SeqNo) -> bool
 fn read_from<S: Store>(alloc: Global, store: S) -> Result<(SeqNo, S), (Error, S)>
     ensures from { S.tells → IfOk result (λ r. IsReadFrom (S.world store).gives r.0) }
     ensures same { S.tells → Same (S.world store) (S.world (store_told result)) }
+    ensures refused { S.tells → IfErr result (λ e. RefusesLook (S.world store) (S.world e.1) e.0) }
+    ensures counts { IfOk result (λ r. (S.world r.1).failures ≡ (S.world store).failures) }
 {
     let found = TreeState::look(alloc, store)?;
     let from = found.version().log_from();
@@ -50,6 +52,10 @@ fn read_from<S: Store>(alloc: Global, store: S) -> Result<(SeqNo, S), (Error, S)
 pub fn has_log<S: Store>(alloc: Global, store: S) -> Result<(bool, S), (Error, S)>
     ensures tells { S.tells → IfOk result (λ r. TellsLog (S.world store).gives r.0) }
     ensures same { S.tells → Same (S.world store) (S.world (store_told result)) }
+    // Refused for want of memory, by a fault, for a bad name of the log, or as a look at the tree's files is.
+    ensures refused { S.tells → IfErr result (λ e. RefusesTelling S.world store e.1 e.0) }
+    // Answered, no call of the store failed.
+    ensures counts { IfOk result (λ r. (S.world r.1).failures ≡ (S.world store).failures) }
 {
     let mut store = store;
     let log = match check_log(alloc, &mut store, u64::MAX) {

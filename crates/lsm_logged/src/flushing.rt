@@ -1,10 +1,10 @@
 // Flushes of a logged tree, and a clear.
-ghost use Rattle.std.specs.Prelude.{◌≡◌, ◌⊎◌, ◌<◌, ◌^◌, [], true, false};
+ghost use Rattle.std.specs.Prelude.{◌≡◌, ◌⊎◌, ◌<◌, ◌^◌, [], true, false, IfOk, OnOk, IfSome};
 ghost use Rattle.lsm_files.specs.Causes.{HasCause, Blames};
 ghost use Rattle.lsm_state.specs.Causes.{BlamesOrUncleanFlush, BlamesOrUncleanBehind, BlamesOrUnclean, BlamesBeside};
 ghost use Rattle.lsm_state.specs.Commits.{UpholdsFiles, Upholds};
 ghost use Rattle.lsm_state.specs.Flushes.{sealed_ids, spent};
-ghost use Rattle.lsm_logged.specs.Removing.{log_from_of, Passed};
+ghost use Rattle.lsm_logged.specs.Removing.{log_from_of, AreGone, KeepsKnown, Passed};
 ghost use Rattle.lsm_logged.specs.Acting.{ActsNot, FlushesAct, FlushesBothAct, RegistersAct, ClearsAct};
 ghost use Rattle.lsm_logged.specs.Flushing.{FlushesLogged, FlushesBoth, BeginsLogged, WritesJobLogged, RegistersLogged, ClearsLogged, CleansLog, RemovesBehind};
 
@@ -37,6 +37,8 @@ impl<S: Store> Logged<S> {
         ensures still { flushed.installed ≡ false → self.new ≡ self.old }
         ensures passes { S.tells → Passed (log_from_of self.old.core) (S.world self.old.store) (S.world self.new.store) }
         ensures upholds { S.tells → UpholdsFiles (S.world self.old.store) (S.world self.new.store) self.old.core self.new.core }
+        ensures known { S.tells → KeepsKnown (log_from_of self.old.core) (S.world self.old.store) (S.world self.new.store) self.old.numbers self.new.numbers }
+        ensures gone { S.tells → result.installed ≡ true → result.cleaned ≡ true → AreGone (S.world self.new.store) (log_from_of self.old.core) self.old.numbers }
         ensures causes { HasCause (flushed.cleaned ≡ true × result.cleaned ≡ false) (S.world self.old.store) (S.world self.new.store) }
     {
         self.tree.is_upheld();
@@ -62,6 +64,10 @@ impl<S: Store> Logged<S> {
         ensures passes { S.tells → Passed (log_from_of self.new.core) (S.world self.old.store) (S.world self.new.store) }
         // None of them before that version is on the disk.
         ensures behind { S.tells → RemovesBehind (S.world self.old.store) (S.world self.new.store) self.old.core self.new.core }
+        // Each record that is there stays known, and a number is forgotten only where its record is gone.
+        ensures known { S.tells → KeepsKnown (log_from_of self.new.core) (S.world self.old.store) (S.world self.new.store) self.old.numbers self.new.numbers }
+        // Behind a whole clean-up no record is left that the version has passed.
+        ensures passed_are_gone { S.tells → IfOk result (λ a. IfSome a (λ p. p.1.cleaned ≡ true → AreGone (S.world self.new.store) (log_from_of self.new.core) self.old.numbers)) }
         // As the theory sees it: a flush, or one of unknown outcome, else nothing.
         ensures acts { S.tells → FlushesAct watermark result (S.world self.old.store) (S.world self.new.store) self.old self.new }
         ensures upholds { S.tells → UpholdsFiles (S.world self.old.store) (S.world self.new.store) self.old.core self.new.core }
@@ -94,6 +100,10 @@ impl<S: Store> Logged<S> {
         ensures flushes { FlushesBoth watermark result self.old self.new }
         ensures passes { S.tells → Passed (log_from_of self.new.core) (S.world self.old.store) (S.world self.new.store) }
         ensures behind { S.tells → RemovesBehind (S.world self.old.store) (S.world self.new.store) self.old.core self.new.core }
+        // Each record that is there stays known, and a number is forgotten only where its record is gone.
+        ensures known { S.tells → KeepsKnown (log_from_of self.new.core) (S.world self.old.store) (S.world self.new.store) self.old.numbers self.new.numbers }
+        // Behind a whole clean-up no record is left that the version has passed.
+        ensures passed_are_gone { S.tells → IfOk result (λ a. IfSome a.1 (λ p. p.1.cleaned ≡ true → AreGone (S.world self.new.store) (log_from_of self.new.core) self.old.numbers)) }
         // As the theory sees it: a rotation, and behind it a flush.
         ensures acts { S.tells → FlushesBothAct watermark result (S.world self.old.store) (S.world self.new.store) self.old self.new }
         ensures upholds { S.tells → UpholdsFiles (S.world self.old.store) (S.world self.new.store) self.old.core self.new.core }
@@ -157,7 +167,10 @@ impl<S: Store> Logged<S> {
         ensures core { self.new.core ≡ spent job.number self.old.core }
         ensures store { self.new.store ≡ self.old.store }
         ensures log { (self.new.numbers ≡ self.old.numbers) × (self.new.doubted ≡ self.old.doubted) }
+        // As the theory sees it nothing is done.
+        ensures acts { S.tells → ActsNot (S.world self.old.store) (S.world self.new.store) self.old self.new }
     {
+        crashes_leave_versions(self.tree.store());
         self.tree.abandon_flush(job);
     }
 
@@ -170,6 +183,10 @@ impl<S: Store> Logged<S> {
         ensures registers { RegistersLogged job result self.old self.new }
         ensures passes { S.tells → Passed (log_from_of self.new.core) (S.world self.old.store) (S.world self.new.store) }
         ensures behind { S.tells → RemovesBehind (S.world self.old.store) (S.world self.new.store) self.old.core self.new.core }
+        // Each record that is there stays known, and a number is forgotten only where its record is gone.
+        ensures known { S.tells → KeepsKnown (log_from_of self.new.core) (S.world self.old.store) (S.world self.new.store) self.old.numbers self.new.numbers }
+        // Behind a whole clean-up no record is left that the version has passed.
+        ensures passed_are_gone { S.tells → IfOk result (λ a. a.installed ≡ true → a.cleaned ≡ true → AreGone (S.world self.new.store) (log_from_of self.new.core) self.old.numbers) }
         // As the theory sees it: a flush, or one of unknown outcome, else nothing.
         ensures acts { S.tells → RegistersAct job result (S.world self.old.store) (S.world self.new.store) self.old self.new }
         ensures upholds { S.tells → UpholdsFiles (S.world self.old.store) (S.world self.new.store) self.old.core self.new.core }
@@ -201,6 +218,10 @@ impl<S: Store> Logged<S> {
         ensures clears { ClearsLogged result self.old self.new }
         ensures passes { S.tells → Passed (log_from_of self.new.core) (S.world self.old.store) (S.world self.new.store) }
         ensures behind { S.tells → RemovesBehind (S.world self.old.store) (S.world self.new.store) self.old.core self.new.core }
+        // Each record that is there stays known, and a number is forgotten only where its record is gone.
+        ensures known { S.tells → KeepsKnown (log_from_of self.new.core) (S.world self.old.store) (S.world self.new.store) self.old.numbers self.new.numbers }
+        // Behind a whole clean-up no record is left that the version has passed.
+        ensures passed_are_gone { S.tells → OnOk result (AreGone (S.world self.new.store) (log_from_of self.new.core) self.old.numbers) }
         // As the theory sees it: a clear, or one of unknown outcome, else nothing.
         ensures acts { S.tells → ClearsAct result (S.world self.old.store) (S.world self.new.store) self.old self.new }
         ensures upholds { S.tells → UpholdsFiles (S.world self.old.store) (S.world self.new.store) self.old.core self.new.core }

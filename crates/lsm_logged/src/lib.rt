@@ -9,7 +9,7 @@
 //! | `compacting` | its compactions |
 //! | `counting` | whether a store has records that count |
 //! | `removing` | how records that the version has passed are removed |
-//! | `laws` | what is known of a log between two lives |
+//! | `laws` | what is known of a log between two lives, and of an image of it |
 #![tactic(auto)]
 
 mod compacting;
@@ -22,5 +22,7 @@ mod removing;
 mod writing;
 
 pub use counting::has_log;
-pub use laws::logs_can_be_settled;
+pub use laws::{
+    images_have_logs, logs_can_be_settled, records_are_those_read, versions_are_told_once,
+};
 pub use logged::Logged;

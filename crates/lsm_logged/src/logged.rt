@@ -5,7 +5,7 @@ ghost use Rattle.lsm_below.specs.Sums.{capped};
 ghost use Rattle.lsm_state.specs.Held.{first_entries, HasFirst};
 ghost use Rattle.lsm_state.specs.Flushes.{with_next_table};
 ghost use Rattle.lsm_state.specs.WholeFlushes.{sealed_bytes};
-ghost use Rattle.lsm_logged.specs.Acting.{RotatesAct};
+ghost use Rattle.lsm_logged.specs.Acting.{ActsNot, RotatesAct};
 ghost use Rattle.lsm_logged.specs.Keeping.{is_unsure, IsKeptLogged};
 
 use lsm_below::{Error, MemtableId, SeqNo, TableId};
@@ -85,7 +85,10 @@ impl<S: Store> Logged<S> {
         ensures err { OnErr result (self.new ≡ self.old) }
         ensures out_of_numbers { IsErrOf result Error.OutOfNumbers ↔ LIMIT ≤ self.old.core.next_table }
         ensures only { IfErr result (λ e. e ≡ Error.OutOfNumbers) }
+        // As the theory sees it nothing is done.
+        ensures acts { S.tells → ActsNot (S.world self.old.store) (S.world self.new.store) self.old self.new }
     {
+        crashes_leave_versions(self.tree.store());
         self.tree.get_next_table_id()
     }
 
@@ -113,7 +116,10 @@ impl<S: Store> Logged<S> {
         ensures core { self.new.core ≡ record (self.old.core) { moment = moment } }
         ensures store { self.new.store ≡ self.old.store }
         ensures log { (self.new.numbers ≡ self.old.numbers) × (self.new.doubted ≡ self.old.doubted) }
+        // As the theory sees it nothing is done.
+        ensures acts { S.tells → ActsNot (S.world self.old.store) (S.world self.new.store) self.old self.new }
     {
+        crashes_leave_versions(self.tree.store());
         self.tree.set_moment(moment);
     }
 

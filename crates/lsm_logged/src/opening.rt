@@ -140,6 +140,8 @@ impl<S: Store> Logged<S> {
     pub fn open(alloc: Global, config: Config, store: S) -> Result<Logged<S>, (Error, S)>
         ensures opens { IfOk result (OpensLogged S.tells S.world store config) }
         ensures refused { S.tells → IfErr result (λ e. RefusesLogged (S.world store) (S.world e.1) e.0) }
+        // Answered, no call of the store failed.
+        ensures counts { IfOk result (λ t. (S.world t.store).failures ≡ (S.world store).failures) }
     {
         plain_numbers_are_read();
         openings_pass(&store);

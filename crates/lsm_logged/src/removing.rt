@@ -3,10 +3,10 @@ ghost use Rattle.std.specs.Prelude.{◌≡◌, OnOk, OnErr, IfErr};
 ghost use Rattle.std.specs.List.Sorted.{IsStrictlyIncreasing};
 ghost use Rattle.lsm_files.specs.Stored.{CountsFaults};
 ghost use Rattle.lsm_state.specs.Commits.{UpholdsFiles};
-ghost use Rattle.lsm_logged.specs.Removing.{log_from_of, Forgets, RemovesPassed};
+ghost use Rattle.lsm_logged.specs.Removing.{log_from_of, Forgets, KeepsKnown, RemovesPassed};
 
 use crate::Logged;
-use lsm_below::{Error, SeqNo};
+use lsm_below::{Error, SeqNo, plain_numbers_are_read};
 use lsm_log::first_from;
 use lsm_store::Store;
 
@@ -27,11 +27,13 @@ impl<S: Store> Logged<S> {
         ensures upholds { S.tells → UpholdsFiles (S.world self.old.store) (S.world self.new.store) self.old.core self.new.core }
         ensures core { self.new.core ≡ self.old.core }
         ensures doubted { self.new.doubted ≡ self.old.doubted }
+        ensures known { S.tells → KeepsKnown (log_from_of self.old.core) (S.world self.old.store) (S.world self.new.store) self.old.numbers self.new.numbers }
         ensures forgets { OnOk result (Forgets (log_from_of self.old.core) self.old.numbers self.new.numbers) }
         ensures keeps { OnErr result (self.new.numbers ≡ self.old.numbers) }
         ensures only { IfErr result (λ e. e ≡ Error.Store) }
         ensures counts { CountsFaults (S.world self.old.store) (S.world self.new.store) result }
     {
+        plain_numbers_are_read();
         let from = self.tree.current_version().log_from();
         self.tree.remove_records_below(from, &self.numbers)?;
         forget_below(&mut self.numbers, from);

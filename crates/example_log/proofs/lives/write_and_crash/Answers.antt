@@ -33,5 +33,5 @@ returns c =
     let reopens = c.in_ok-again.ensures in
     holds_batch world_of c.args.ops.items u.core (world_of u.store) one stored rest left _ r reopens (reopens.takes tt).found
     may (now_left u.store (world_of left).gives may)
-    c.tables_alone_stand.ensures c.replays_are_in_order.ensures c.images_stand_once.ensures.found c.no_record_begins_another.ensures c.records_are_found.ensures c.log_stays_sound.ensures c.every_crash_keeps_batches.ensures c.whole_is_logged.ensures c.logged_reads_are_right.ensures
+    c.tables_alone_stand.ensures c.replays_are_in_order.ensures c.versions_are_told_once.ensures.version (λ log image. c.images_have_logs.ensures u.store log image) c.records_are_those_read.ensures.found c.records_are_those_read.ensures.counted c.log_stays_sound.ensures c.every_crash_keeps_batches.ensures c.whole_is_logged.ensures c.logged_reads_are_right.ensures
     (c.logs_can_be_settled.ensures.left left image (version_of r).log_from crashed.1.world)

@@ -28,7 +28,7 @@ returns c =
     let may = given_now u.store in
     let now = now_left u.store (world_of u.store).gives may in
     let from = low world_of c.args.ops.items u.core (world_of u.store) one stored rest u.store config r reopens (reopens.takes tt).found may now
-    c.tables_alone_stand.ensures c.replays_are_in_order.ensures c.images_stand_once.ensures.found c.no_record_begins_another.ensures c.records_are_found.ensures c.log_stays_sound.ensures c.every_crash_keeps_batches.ensures c.whole_is_logged.ensures c.logged_reads_are_right.ensures in
+    c.tables_alone_stand.ensures c.replays_are_in_order.ensures c.versions_are_told_once.ensures.version (λ log image. c.images_have_logs.ensures u.store log image) c.records_are_those_read.ensures.found c.records_are_those_read.ensures.counted c.log_stays_sound.ensures c.every_crash_keeps_batches.ensures c.whole_is_logged.ensures c.logged_reads_are_right.ensures in
     holds_batch world_of c.args.ops.items u.core (world_of u.store) one stored rest u.store config r reopens (reopens.takes tt).found may now
-    c.tables_alone_stand.ensures c.replays_are_in_order.ensures c.images_stand_once.ensures.found c.no_record_begins_another.ensures c.records_are_found.ensures c.log_stays_sound.ensures c.every_crash_keeps_batches.ensures c.whole_is_logged.ensures c.logged_reads_are_right.ensures
+    c.tables_alone_stand.ensures c.replays_are_in_order.ensures c.versions_are_told_once.ensures.version (λ log image. c.images_have_logs.ensures u.store log image) c.records_are_those_read.ensures.found c.records_are_those_read.ensures.counted c.log_stays_sound.ensures c.every_crash_keeps_batches.ensures c.whole_is_logged.ensures c.logged_reads_are_right.ensures
     (c.logs_can_be_settled.ensures.kept u.store one.log (version_of r).log_from one.keeps from)

@@ -1,8 +1,8 @@
 use Rattle.std.proofs.Common.{refl}
-use Rattle.lsm_logged.specs.Keeping.{SeenLogged}
 use Rattle.lsm_logged.proofs.Compacted.{choice_outcome, answered_acts, unsure_acts}
 use Rattle.lsm_logged.proofs.Reopening.{numbered_more}
 use Rattle.lsm_logged.proofs.Rising.{begins_choice}
+use Rattle.lsm_logged.proofs.Seen.{logged_with}
 use Rattle.lsm_logged.proofs.logged.Logged.begin_choice.Goals as goal
 
 pub invariant_of-self : goal.invariant_of-self
@@ -15,7 +15,7 @@ pub returns-then-self-clause-acts : goal.returns-then-self-clause-acts
 returns-then-self-clause-acts g c tells =
     let i = c.self.inside in
     let known = c.acts_are_known.ensures in
-    let old : SeenLogged g.row.S.Denot = record { store = i.tree.store; core = i.tree.core; numbers = i.numbers.items; doubted = i.doubted } in
+    let old = logged_with i.tree i.numbers.items i.doubted in
     unsure_acts c.args.options.mvcc_gc_watermark g.S.Store.world old c.args.self.now c.self.view_is known.tree known.flushes (c.is_upheld.ensures tells)
 
 pub returns-clause-acts : goal.returns-clause-acts
@@ -23,7 +23,7 @@ returns-clause-acts g c tells =
     let i = c.self.inside in
     let mid = c.begin_choice.new.self in
     let known = c.acts_are_known.ensures in
-    let old : SeenLogged g.row.S.Denot = record { store = i.tree.store; core = i.tree.core; numbers = i.numbers.items; doubted = i.doubted } in
-    let new : SeenLogged g.row.S.Denot = record { store = mid.store; core = mid.core; numbers = i.numbers.items; doubted = i.doubted } in
+    let old = logged_with i.tree i.numbers.items i.doubted in
+    let new = logged_with mid i.numbers.items i.doubted in
     answered_acts c.args.options.mvcc_gc_watermark g.S.Store.world old c.args.self.now new c.self.view_is known.tree known.counter known.numbers c.if-self.false refl (c.begin_choice.ensures.upholds tells) c.begin_choice.result
     (λ kept. choice_outcome c.args.choice c.args.options c.begin_choice.result old.core mid.core c.begin_choice.ensures.begins (known.compactions.choices c.args.choice c.args.options c.begin_choice.result old.core mid.core kept c.begin_choice.ensures.begins))

@@ -1,8 +1,8 @@
 use Rattle.std.proofs.Common.{refl}
-use Rattle.lsm_logged.specs.Keeping.{SeenLogged}
 use Rattle.lsm_logged.proofs.FinishActs.{merge_acts, unsure_merge}
 use Rattle.lsm_logged.proofs.Reopening.{numbered_more}
 use Rattle.lsm_logged.proofs.Rising.{finishes}
+use Rattle.lsm_logged.proofs.Seen.{logged_with}
 use Rattle.lsm_logged.proofs.logged.Logged.finish_compaction.Goals as goal
 
 pub invariant_of-self : goal.invariant_of-self
@@ -14,7 +14,7 @@ invariant_of-self g c =
 pub returns-then-self-clause-acts : goal.returns-then-self-clause-acts
 returns-then-self-clause-acts g c tells =
     let i = c.self.inside in
-    let old : SeenLogged g.row.S.Denot = record { store = i.tree.store; core = i.tree.core; numbers = i.numbers.items; doubted = i.doubted } in
+    let old = logged_with i.tree i.numbers.items i.doubted in
     unsure_merge c.args.merged.job g.S.Store.world old c.args.self.now c.self.view_is (c.is_upheld.ensures tells)
 
 pub returns-clause-acts : goal.returns-clause-acts
@@ -22,6 +22,6 @@ returns-clause-acts g c tells =
     let i = c.self.inside in
     let mid = c.finish_compaction.new.self in
     let known = c.acts_are_known.ensures in
-    let old : SeenLogged g.row.S.Denot = record { store = i.tree.store; core = i.tree.core; numbers = i.numbers.items; doubted = i.doubted } in
-    let new : SeenLogged g.row.S.Denot = record { store = mid.store; core = mid.core; numbers = i.numbers.items; doubted = i.doubted } in
+    let old = logged_with i.tree i.numbers.items i.doubted in
+    let new = logged_with mid i.numbers.items i.doubted in
     merge_acts c.args.merged.job g.S.Store.world old c.args.self.now new c.self.view_is known.tree known.compactions c.if-self.false refl (c.finish_compaction.ensures.upholds tells) c.finish_compaction.result c.finish_compaction.ensures.finishes

@@ -5,13 +5,14 @@ use Rattle.lsm_below.specs.declared.error.Error.TheVariants.{Unrecoverable}
 use Rattle.lsm_jobs.specs.declared.jobs.Registered.{Registered}
 use Rattle.lsm_state.specs.Flushes.{sealed_ids}
 use Rattle.lsm_state.specs.WholeFlushes.{Flushes}
-use Rattle.lsm_state.specs.Commits.{UpholdsFiles}
 use Rattle.lsm_logged.specs.Keeping.{SeenLogged}
-use Rattle.lsm_logged.specs.Removing.{log_from_of, Passed}
+use Rattle.lsm_logged.specs.Removing.{log_from_of, KeepsKnown, Passed}
 use Rattle.lsm_logged.specs.Flushing.{RemovesBehind}
 use Rattle.lsm_logged.specs.Acting.{FlushesAct}
 use Rattle.lsm_logged.proofs.FlushActs.{unsure_flush, refused_flush, installed_flush, none_flush}
-use Rattle.lsm_logged.proofs.Removals.{passes_on, none_behind, upheld_behind, passed_behind, either_behind}
+use Rattle.lsm_logged.proofs.Known.{known_still, leaves_logged, all_left, gone_left}
+use Rattle.lsm_logged.proofs.Removals.{passes_on, none_behind, leaves_behind}
+use Rattle.lsm_logged.proofs.Seen.{logged_with}
 use Rattle.lsm_logged.proofs.logged.Logged.flush.Goals as goal
 
 pub returns-in_err-flushed-clause-passes : goal.returns-in_err-flushed-clause-passes
@@ -30,27 +31,21 @@ returns-in_err-flushed-clause-behind g c tells =
 
 pub returns-in-Some-clause-passes : goal.returns-in-Some-clause-passes
 returns-in-Some-clause-passes g c tells =
-    let w = g.S.Store.world in
     let i = c.self.inside in
-    let mid = c.flush.new.self in
     let new = c.clean_log.new.self in
-    subst (λ (t : SeenLogged g.row.S.Denot). Passed (log_from_of new.core) (w t.store) (w new.store)) c.self.view_is (passed_behind (w i.tree.store) (w mid.store) (w new.store) i.tree.core mid.core new.core (c.flush.ensures.upholds tells) c.clean_log.ensures.cleans.core (c.clean_log.ensures.passes tells))
+    (leaves_logged c.plain_numbers_are_read.ensures g.S.Store.world i.tree c.flush.new.self i.numbers.items i.doubted new c.args.self.now c.self.view_is (c.flush.ensures.upholds tells) c.clean_log.ensures.cleans.core (c.clean_log.ensures.upholds tells) (c.clean_log.ensures.passes tells) (c.clean_log.ensures.known tells)).left.passed
 
 pub returns-in-Some-clause-behind : goal.returns-in-Some-clause-behind
 returns-in-Some-clause-behind g c tells =
-    let w = g.S.Store.world in
     let i = c.self.inside in
-    let mid = c.flush.new.self in
     let new = c.clean_log.new.self in
-    subst (λ (t : SeenLogged g.row.S.Denot). RemovesBehind (w t.store) (w new.store) t.core new.core) c.self.view_is (either_behind (w i.tree.store) (w mid.store) (w new.store) i.tree.core mid.core new.core (c.flush.ensures.upholds tells) c.clean_log.ensures.cleans.core (c.clean_log.ensures.upholds tells) (c.clean_log.ensures.passes tells))
+    (leaves_logged c.plain_numbers_are_read.ensures g.S.Store.world i.tree c.flush.new.self i.numbers.items i.doubted new c.args.self.now c.self.view_is (c.flush.ensures.upholds tells) c.clean_log.ensures.cleans.core (c.clean_log.ensures.upholds tells) (c.clean_log.ensures.passes tells) (c.clean_log.ensures.known tells)).left.either
 
 pub returns-in-Some-clause-upholds : goal.returns-in-Some-clause-upholds
 returns-in-Some-clause-upholds g c tells =
-    let w = g.S.Store.world in
     let i = c.self.inside in
-    let mid = c.flush.new.self in
     let new = c.clean_log.new.self in
-    subst (λ (t : SeenLogged g.row.S.Denot). UpholdsFiles (w t.store) (w new.store) t.core new.core) c.self.view_is (upheld_behind (w i.tree.store) (w mid.store) (w new.store) i.tree.core mid.core new.core (c.flush.ensures.upholds tells) c.clean_log.ensures.cleans.core (c.clean_log.ensures.upholds tells))
+    (leaves_logged c.plain_numbers_are_read.ensures g.S.Store.world i.tree c.flush.new.self i.numbers.items i.doubted new c.args.self.now c.self.view_is (c.flush.ensures.upholds tells) c.clean_log.ensures.cleans.core (c.clean_log.ensures.upholds tells) (c.clean_log.ensures.passes tells) (c.clean_log.ensures.known tells)).left.files
 
 pub returns-in-None-clause-behind : goal.returns-in-None-clause-behind
 returns-in-None-clause-behind g c tells =
@@ -63,7 +58,7 @@ pub returns-then-is_flush_unsure-clause-acts : goal.returns-then-is_flush_unsure
 returns-then-is_flush_unsure-clause-acts g c tells =
     let w = g.S.Store.world in
     let i = c.self.inside in
-    let old : SeenLogged g.row.S.Denot = record { store = i.tree.store; core = i.tree.core; numbers = i.numbers.items; doubted = i.doubted } in
+    let old = logged_with i.tree i.numbers.items i.doubted in
     subst (λ (t : SeenLogged g.row.S.Denot). FlushesAct c.args.watermark (Err Unrecoverable) (w t.store) (w t.store) t t) c.self.view_is (unsure_flush c.args.watermark (w old.store) old (c.is_upheld.ensures tells))
 
 pub returns-in_err-flushed-clause-acts : goal.returns-in_err-flushed-clause-acts
@@ -72,8 +67,8 @@ returns-in_err-flushed-clause-acts g c tells =
     let i = c.self.inside in
     let mid = c.flush.new.self in
     let e = c.in_err-flushed.field-0.0 in
-    let old : SeenLogged g.row.S.Denot = record { store = i.tree.store; core = i.tree.core; numbers = i.numbers.items; doubted = i.doubted } in
-    let new : SeenLogged g.row.S.Denot = record { store = mid.store; core = mid.core; numbers = i.numbers.items; doubted = i.doubted } in
+    let old = logged_with i.tree i.numbers.items i.doubted in
+    let new = logged_with mid i.numbers.items i.doubted in
     let sure : (old.doubted ≡ false) ⊎ (sealed_ids old.core ≡ []) = subst (λ (t : SeenLogged g.row.S.Denot). (t.doubted ≡ false) ⊎ (sealed_ids t.core ≡ [])) (sym c.self.view_is) (c.is_flush_unsure.ensures.sure c.if-is_flush_unsure.false) in
     let small = subst (λ (t : SeenLogged g.row.S.Denot). t.core.seqno < 2 ^ 64) (sym c.self.view_is) c.counter_fits.ensures in
     let told = err_from_is_err_and c.from_residual.result c.from_residual.ensures.1 in
@@ -89,29 +84,55 @@ returns-in-Some-clause-acts g c tells =
     let new = c.clean_log.new.self in
     let p : ℕ × Registered = (c.in-Some.bytes, c.in-Some.registered) in
     let b : ℕ × Registered = (c.in-Some.bytes, c.clean_log.result) in
-    let old : SeenLogged g.row.S.Denot = record { store = i.tree.store; core = i.tree.core; numbers = i.numbers.items; doubted = i.doubted } in
+    let old = logged_with i.tree i.numbers.items i.doubted in
     let sure : (old.doubted ≡ false) ⊎ (sealed_ids old.core ≡ []) = subst (λ (t : SeenLogged g.row.S.Denot). (t.doubted ≡ false) ⊎ (sealed_ids t.core ≡ [])) (sym c.self.view_is) (c.is_flush_unsure.ensures.sure c.if-is_flush_unsure.false) in
     let small = subst (λ (t : SeenLogged g.row.S.Denot). t.core.seqno < 2 ^ 64) (sym c.self.view_is) c.counter_fits.ensures in
     let f = subst (λ (x : Option (ℕ × Registered)). Flushes c.args.watermark (Ok x) old.core mid.core) c.in-Some.is c.in_ok-flushed.ensures.flushes in
-    let up = c.flush.ensures.upholds tells in
-    let files = c.clean_log.ensures.upholds tells in
-    let passed = c.clean_log.ensures.passes tells in
     let same = c.clean_log.ensures.cleans.core in
+    let left = leaves_behind (w old.store) (w mid.store) (w new.store) old.core mid.core new.core (c.flush.ensures.upholds tells) same (c.clean_log.ensures.upholds tells) (c.clean_log.ensures.passes tells) in
     subst (λ (t : SeenLogged g.row.S.Denot). FlushesAct c.args.watermark (Ok (Some b)) (w t.store) (w new.store) t new) c.self.view_is
     (installed_flush c.args.watermark (w old.store) (w new.store) old new sure c.clean_log.ensures.cleans.doubted small p b mid.core f same
-    (upheld_behind (w old.store) (w mid.store) (w new.store) old.core mid.core new.core up same files) c.plain_numbers_are_read.ensures
-    (passed_behind (w old.store) (w mid.store) (w new.store) old.core mid.core new.core up same passed)
-    (either_behind (w old.store) (w mid.store) (w new.store) old.core mid.core new.core up same files passed))
+    left.files c.plain_numbers_are_read.ensures left.passed left.either)
 
 pub returns-in-None-clause-acts : goal.returns-in-None-clause-acts
 returns-in-None-clause-acts g c tells =
     let w = g.S.Store.world in
     let i = c.self.inside in
     let mid = c.flush.new.self in
-    let old : SeenLogged g.row.S.Denot = record { store = i.tree.store; core = i.tree.core; numbers = i.numbers.items; doubted = i.doubted } in
-    let new : SeenLogged g.row.S.Denot = record { store = mid.store; core = mid.core; numbers = i.numbers.items; doubted = i.doubted } in
+    let old = logged_with i.tree i.numbers.items i.doubted in
+    let new = logged_with mid i.numbers.items i.doubted in
     let sure : (old.doubted ≡ false) ⊎ (sealed_ids old.core ≡ []) = subst (λ (t : SeenLogged g.row.S.Denot). (t.doubted ≡ false) ⊎ (sealed_ids t.core ≡ [])) (sym c.self.view_is) (c.is_flush_unsure.ensures.sure c.if-is_flush_unsure.false) in
     let small = subst (λ (t : SeenLogged g.row.S.Denot). t.core.seqno < 2 ^ 64) (sym c.self.view_is) c.counter_fits.ensures in
     let f = subst (λ (x : Option (ℕ × Registered)). Flushes c.args.watermark (Ok x) old.core mid.core) c.in-None.is c.in_ok-flushed.ensures.flushes in
     subst (λ (t : SeenLogged g.row.S.Denot). FlushesAct c.args.watermark (Ok None) (w t.store) (w mid.store) t new) c.self.view_is
     (none_flush c.args.watermark (w old.store) (w mid.store) old new sure refl small (c.flush.ensures.upholds tells) f)
+
+pub returns-in_err-flushed-clause-known : goal.returns-in_err-flushed-clause-known
+returns-in_err-flushed-clause-known g c tells =
+    let i = c.self.inside in
+    all_left c.plain_numbers_are_read.ensures g.S.Store.world i.tree c.flush.new.self i.numbers.items i.doubted c.args.self.now c.self.view_is (c.flush.ensures.upholds tells).passes
+
+pub returns-in-None-clause-known : goal.returns-in-None-clause-known
+returns-in-None-clause-known g c tells =
+    let i = c.self.inside in
+    all_left c.plain_numbers_are_read.ensures g.S.Store.world i.tree c.flush.new.self i.numbers.items i.doubted c.args.self.now c.self.view_is (c.flush.ensures.upholds tells).passes
+
+pub returns-then-is_flush_unsure-clause-known : goal.returns-then-is_flush_unsure-clause-known
+returns-then-is_flush_unsure-clause-known g c tells =
+    let w = g.S.Store.world in
+    let i = c.self.inside in
+    subst (λ (t : SeenLogged g.row.S.Denot). KeepsKnown (log_from_of t.core) (w t.store) (w t.store) t.numbers t.numbers) c.self.view_is (known_still (log_from_of i.tree.core) (w i.tree.store) i.numbers.items)
+
+pub returns-in-Some-clause-known : goal.returns-in-Some-clause-known
+returns-in-Some-clause-known g c tells =
+    let i = c.self.inside in
+    let new = c.clean_log.new.self in
+    (leaves_logged c.plain_numbers_are_read.ensures g.S.Store.world i.tree c.flush.new.self i.numbers.items i.doubted new c.args.self.now c.self.view_is (c.flush.ensures.upholds tells) c.clean_log.ensures.cleans.core (c.clean_log.ensures.upholds tells) (c.clean_log.ensures.passes tells) (c.clean_log.ensures.known tells)).known
+
+pub returns-in-Some-clause-passed_are_gone : goal.returns-in-Some-clause-passed_are_gone
+returns-in-Some-clause-passed_are_gone g c tells cleaned =
+    let i = c.self.inside in
+    let mid = c.flush.new.self in
+    let f = subst (λ (x : Option (ℕ × Registered)). Flushes c.args.watermark (Ok x) i.tree.core mid.core) c.in-Some.is c.in_ok-flushed.ensures.flushes in
+    let gone = c.clean_log.ensures.gone tells (c.clean_log.ensures.cleans.installed ∙ f.installs.installed) cleaned in
+    gone_left g.S.Store.world i.tree mid.core i.numbers.items i.doubted c.clean_log.new.self c.args.self.now c.self.view_is c.clean_log.ensures.cleans.core gone

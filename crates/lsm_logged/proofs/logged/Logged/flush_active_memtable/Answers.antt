@@ -1,13 +1,15 @@
-use Rattle.std.proofs.Common.{None, Ok, Err, inr, refl, sym, subst}
+use Rattle.std.proofs.Common.{◌≡◌, ℕ, true, List, None, IfSome, Ok, Err, inr, refl, sym, subst}
 use Rattle.lsm_model.specs.Views.{HasDistinctIds}
 use Rattle.lsm_files.specs.Foreign.{AtRest}
 use Rattle.lsm_state.specs.Commits.{UpholdsFiles}
 use Rattle.lsm_state.specs.Core.{latest_of}
 use Rattle.lsm_state.proofs.Upholding.{upheld_still}
 use Rattle.lsm_logged.specs.Keeping.{SeenLogged}
+use Rattle.lsm_logged.specs.Removing.{log_from_of, AreGone, KeepsKnown}
 use Rattle.lsm_logged.specs.Flushing.{RemovesBehind}
 use Rattle.lsm_logged.specs.Acting.{FlushesAct, ActsBehind}
 use Rattle.lsm_logged.proofs.Acted.{own_tables}
+use Rattle.lsm_logged.proofs.Known.{known_still}
 use Rattle.lsm_logged.proofs.Removals.{behind_rotation, upheld_rotation}
 use Rattle.lsm_logged.proofs.RotateActs.{refused_rotation, acts_behind}
 use Rattle.lsm_logged.proofs.logged.Logged.flush_active_memtable.Goals as goal
@@ -83,3 +85,29 @@ returns-in-Err-flush-clause-acts g c tells opened start journal notes t is keeps
     let distinct = subst (λ (t : SeenLogged g.row.S.Denot). HasDistinctIds (latest_of t.core).tables) c.self.view_is (own_tables c.flushes_are_deeds.ensures.spends c.self.inside.tree.core c.facts.ensures) in
     let acts = subst (λ (s : g.row.S.Denot). FlushesAct c.args.watermark (Err c.in-Err-flush.error) (w s) (w new.store) mid new) c.in-Ok.ensures.store (c.in-Err-flush.ensures.acts tells) in
     record { ok = tt; err = acts_behind (w old.store) old mid c.in-Ok.ensures.log.1 rest distinct opened start journal notes t is keeps next holds c.args.watermark c.in-Ok.sealed (Err c.in-Err-flush.error) (w new.store) new c.in-Ok.ensures.ok acts }
+
+pub returns-in-Err-clause-known : goal.returns-in-Err-clause-known
+returns-in-Err-clause-known g c tells =
+    let w = g.S.Store.world in
+    let old = c.args.self.now in
+    subst (λ (t : SeenLogged g.row.S.Denot). KeepsKnown (log_from_of t.core) (w old.store) (w t.store) old.numbers t.numbers) (sym c.in-Err.ensures.err) (known_still (log_from_of old.core) (w old.store) old.numbers)
+
+pub returns-in-Ok-flush-clause-known : goal.returns-in-Ok-flush-clause-known
+returns-in-Ok-flush-clause-known g c tells =
+    let w = g.S.Store.world in
+    let old = c.args.self.now in
+    let new = c.flush.new.self in
+    subst (λ l. KeepsKnown (log_from_of new.core) (w old.store) (w new.store) l new.numbers) c.in-Ok.ensures.log.0 (subst (λ (s : g.row.S.Denot). KeepsKnown (log_from_of new.core) (w s) (w new.store) c.rotate_memtable.new.self.numbers new.numbers) c.in-Ok.ensures.store (c.flush.ensures.known tells))
+
+pub returns-in-Err-flush-clause-known : goal.returns-in-Err-flush-clause-known
+returns-in-Err-flush-clause-known g c tells =
+    let w = g.S.Store.world in
+    let old = c.args.self.now in
+    let new = c.flush.new.self in
+    subst (λ l. KeepsKnown (log_from_of new.core) (w old.store) (w new.store) l new.numbers) c.in-Ok.ensures.log.0 (subst (λ (s : g.row.S.Denot). KeepsKnown (log_from_of new.core) (w s) (w new.store) c.rotate_memtable.new.self.numbers new.numbers) c.in-Ok.ensures.store (c.flush.ensures.known tells))
+
+pub returns-in-Ok-flush-clause-passed_are_gone : goal.returns-in-Ok-flush-clause-passed_are_gone
+returns-in-Ok-flush-clause-passed_are_gone g c tells =
+    let w = g.S.Store.world in
+    let new = c.flush.new.self in
+    subst (λ (l : List ℕ). IfSome c.in-Ok-flush.flushed (λ p. p.1.cleaned ≡ true → AreGone (w new.store) (log_from_of new.core) l)) c.in-Ok.ensures.log.0 (c.in-Ok-flush.ensures.passed_are_gone tells)

@@ -7,6 +7,7 @@ use Rattle.lsm_logged.proofs.Compacted.{answered_acts, unsure_acts}
 use Rattle.lsm_logged.proofs.WholeActs.{compacts_outcome}
 use Rattle.lsm_logged.proofs.Reopening.{numbered_more}
 use Rattle.lsm_logged.proofs.Rising.{compacts}
+use Rattle.lsm_logged.proofs.Seen.{logged_with}
 use Rattle.lsm_logged.proofs.logged.Logged.major_compact.Goals as goal
 
 pub invariant_of-self : goal.invariant_of-self
@@ -25,7 +26,7 @@ pub returns-then-self-clause-acts : goal.returns-then-self-clause-acts
 returns-then-self-clause-acts g c tells =
     let i = c.self.inside in
     let known = c.acts_are_known.ensures in
-    let old : SeenLogged g.row.S.Denot = record { store = i.tree.store; core = i.tree.core; numbers = i.numbers.items; doubted = i.doubted } in
+    let old = logged_with i.tree i.numbers.items i.doubted in
     unsure_acts c.args.watermark g.S.Store.world old c.args.self.now c.self.view_is known.tree known.flushes (c.is_upheld.ensures tells)
 
 pub returns-clause-acts : goal.returns-clause-acts
@@ -33,7 +34,7 @@ returns-clause-acts g c tells =
     let i = c.self.inside in
     let mid = c.major_compact.new.self in
     let known = c.acts_are_known.ensures in
-    let old : SeenLogged g.row.S.Denot = record { store = i.tree.store; core = i.tree.core; numbers = i.numbers.items; doubted = i.doubted } in
-    let new : SeenLogged g.row.S.Denot = record { store = mid.store; core = mid.core; numbers = i.numbers.items; doubted = i.doubted } in
+    let old = logged_with i.tree i.numbers.items i.doubted in
+    let new = logged_with mid i.numbers.items i.doubted in
     answered_acts c.args.watermark g.S.Store.world old c.args.self.now new c.self.view_is known.tree known.counter known.numbers c.if-self.false refl (c.major_compact.ensures.upholds tells) c.major_compact.result
     (λ kept. compacts_outcome _ _ (options_at c.args.watermark old.core) c.major_compact.result old.core mid.core known.compactions kept (known.flushes.spends c.args.watermark 0 old.core kept) c.major_compact.ensures.compacts)

@@ -17,6 +17,7 @@ use Rattle.lsm_log.proofs.Loaded.{gives_same}
 use Rattle.lsm_log_model.specs.Records.{LogStands}
 use Rattle.lsm_logged.specs.Keeping.{AreRecordNumbers}
 use Rattle.lsm_logged.specs.Opening.{Files, Memory, Faulty, BadLog, image_read, TakesLog, CanBeSettled, IsReopenedLog}
+use Rattle.lsm_logged.proofs.Blaming.{none_counted, one_failed}
 use Rattle.lsm_logged.proofs.LogNames.{record_is_foreign}
 use Rattle.lsm_logged.proofs.Reached.{looked as looked_from}
 use Rattle.lsm_logged.proofs.Replaying.{log_read, none_lacks, small_numbers}
@@ -36,7 +37,7 @@ returns-in-Err-clause-refused g c tells =
     let mid = c.check_numbered.new.found.store in
     let looked = c.in_ok-found.ensures.same tells in
     let from = c.log_from-from.result in
-    ⊎_elim (λ few. ⊎_elim (λ e. Memory e) (λ e. Faulty e) few)
+    ⊎_elim (λ few. ⊎_elim (λ e. Memory e) (λ e. Faulty e (rw (c.into_store.ensures) (one_failed (w store) (w found.store) (w mid) c.in_ok-found.ensures.counts (c.in-Err.ensures.counts.store (ap Err e))))) few)
     (λ e. BadLog e (record {
       from = from;
       read = looked_from (w store) (w found.store) found.files from (c.in_ok-found.ensures.found tells) (c.log_from-from.ensures ∙ ap (λ (u : SeenVersion). u.log_from) c.version.ensures);
@@ -63,7 +64,8 @@ returns-in-Err-take_log-clause-refused g c tells =
     let looks = looks_on (w store) (w found.store) (w found'.store) found.files found'.files (c.in_ok-found.ensures.found tells) (c.in-Ok.ensures.same tells) c.in-Ok.ensures.files in
     let passes = c.openings_pass.ensures store mid _ (c.in_ok-tree.ensures.opens tells store looks) (c.in_ok-tree.ensures.leaves tells store looks) in
     let read = subst (λ (image : Image). IsLogAt image c.log_from-from.result log.passed.items log.numbers.items) (gives_same (w store) (w found.store) (c.in_ok-found.ensures.same tells)) (c.in-Ok.ensures.read tells) in
-    ⊎_elim (λ few. ⊎_elim (λ e. Memory e) (λ e. Faulty e) few)
+    let unfailed = c.in_ok-tree.ensures.counts ∙ none_counted (w found.store) (w found'.store) c.in-Ok.checked c.in-Ok.ensures.counts ∙ c.in_ok-found.ensures.counts in
+    ⊎_elim (λ few. ⊎_elim (λ e. Memory e) (λ e. Faulty e (rw (c.into_store-in-Err-take_log.ensures) (one_failed (w store) (w mid) (w c.take_log.new.tree.store) unfailed (c.in-Err-take_log.ensures.counts.store (ap Err e))))) few)
     (λ e. absurd (none_lacks (w store).gives c.log_from-from.result log.passed.items log.numbers.items read (w mid).gives (λ k. passes.gives (record_name k) (record_is_foreign k)) (c.in-Err-take_log.ensures.bad tells (ap Err e))))
     (c.in-Err-take_log.ensures.told tells (small_numbers (w store).gives c.log_from-from.result log.passed.items log.numbers.items read))
 
@@ -111,7 +113,7 @@ returns-in-Ok-take_log-clause-opens g c =
       passed = passed;
       records = records;
       replays = replays c.args.config cfg v id next passed numbers records before core made is take new (sym replayed.named) c.in-Ok.ensures.after c.in-Ok.ensures.below;
-      takes = λ tells. subst (λ u. TakesLog (w store) (w new) u passed records) (sym ver) (takes (w store) (w mid) (w new) v passed records (log tells) (passes tells) (clears tells) (looks tells).from (fresh_in (w store).gives found'.files (looks tells).found) (found_in (w store).gives found'.files (looks tells).found)
+      takes = λ tells. subst (λ u. TakesLog (w store) (w new) u passed records) (sym ver) (takes (w store) (w mid) (w new) v passed records (log tells) (passes tells) (clears tells) c.plain_numbers_are_read.ensures (looks tells).from (fresh_in (w store).gives found'.files (looks tells).found) (found_in (w store).gives found'.files (looks tells).found)
           (subst (λ n. (k : ℕ) → Contains passed k → k < n → (w new).gives (record_name k) ≡ None) from (c.in-Ok-take_log.ensures.gone tells))
           (subst (λ n. LeavesOnly (w mid) (w new) (AreCleared (IsBelow n) (w mid))) from (c.in-Ok-take_log.ensures.any_moment tells)));
       reopens = λ tells. subst (λ u. LogStands (image_read u records) → CanBeSettled (w store) u.log_from → IsReopenedLog (image_read u records) (record { store = new; core = core; numbers = numbers; doubted = false }) (w new)) (sym ver)
@@ -120,3 +122,13 @@ returns-in-Ok-take_log-clause-opens g c =
           (is_read_in (w store) (w mid) v.log_from (c.openings_settle.ensures store mid _ (c.in_ok-tree.ensures.opens tells store (looks tells))) can) new numbers);
       stored = λ tells ready. (c.in-Ok-take_log.ensures.upholds tells (c.in_ok-tree.ensures.stored tells store (looks tells) ready)).0;
     }
+
+-- ---- which calls failed
+
+pub returns-in-Ok-take_log-clause-counts : goal.returns-in-Ok-take_log-clause-counts
+returns-in-Ok-take_log-clause-counts g c =
+    let w = g.S.Store.world in
+    let found = c.in_ok-found.found in
+    let mid = c.check_numbered.new.found.store in
+    none_counted (w c.in_ok-tree.tree.store) (w c.take_log.new.tree.store) tt c.in-Ok-take_log.ensures.counts
+    ∙ c.in_ok-tree.ensures.counts ∙ none_counted (w found.store) (w mid) c.in-Ok.checked c.in-Ok.ensures.counts ∙ c.in_ok-found.ensures.counts

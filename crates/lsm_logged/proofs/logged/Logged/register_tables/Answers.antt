@@ -10,11 +10,13 @@ use Rattle.lsm_state.specs.Flushes.{spent}
 use Rattle.lsm_state.specs.Commits.{UpholdsFiles, Upholds}
 use Rattle.lsm_state.proofs.Registering.{spent_upholds}
 use Rattle.lsm_logged.specs.Keeping.{SeenLogged}
-use Rattle.lsm_logged.specs.Removing.{log_from_of, Passed}
+use Rattle.lsm_logged.specs.Removing.{log_from_of, KeepsKnown, Passed}
 use Rattle.lsm_logged.specs.Flushing.{RemovesBehind}
 use Rattle.lsm_logged.specs.Acting.{RegistersAct}
 use Rattle.lsm_logged.proofs.RegisterActs.{spent_acts, refused_acts, registered_acts}
-use Rattle.lsm_logged.proofs.Removals.{passes_on, none_behind, upheld_behind, passed_behind, either_behind}
+use Rattle.lsm_logged.proofs.Known.{known_still, leaves_logged, all_left, gone_left}
+use Rattle.lsm_logged.proofs.Removals.{passes_on, none_behind, leaves_behind}
+use Rattle.lsm_logged.proofs.Seen.{logged_with}
 use Rattle.lsm_logged.proofs.logged.Logged.register_tables.Goals as goal
 
 pub returns-in_err-registered-clause-passes : goal.returns-in_err-registered-clause-passes
@@ -26,27 +28,21 @@ returns-in_err-registered-clause-passes g c tells =
 
 pub returns-clause-passes : goal.returns-clause-passes
 returns-clause-passes g c tells =
-    let w = g.S.Store.world in
     let i = c.self.inside in
-    let mid = c.register_tables.new.self in
     let new = c.clean_log.new.self in
-    subst (λ (t : SeenLogged g.row.S.Denot). Passed (log_from_of new.core) (w t.store) (w new.store)) c.self.view_is (passed_behind (w i.tree.store) (w mid.store) (w new.store) i.tree.core mid.core new.core (c.register_tables.ensures.upholds tells) c.clean_log.ensures.cleans.core (c.clean_log.ensures.passes tells))
+    (leaves_logged c.plain_numbers_are_read.ensures g.S.Store.world i.tree c.register_tables.new.self i.numbers.items i.doubted new c.args.self.now c.self.view_is (c.register_tables.ensures.upholds tells) c.clean_log.ensures.cleans.core (c.clean_log.ensures.upholds tells) (c.clean_log.ensures.passes tells) (c.clean_log.ensures.known tells)).left.passed
 
 pub returns-clause-behind : goal.returns-clause-behind
 returns-clause-behind g c tells =
-    let w = g.S.Store.world in
     let i = c.self.inside in
-    let mid = c.register_tables.new.self in
     let new = c.clean_log.new.self in
-    subst (λ (t : SeenLogged g.row.S.Denot). RemovesBehind (w t.store) (w new.store) t.core new.core) c.self.view_is (either_behind (w i.tree.store) (w mid.store) (w new.store) i.tree.core mid.core new.core (c.register_tables.ensures.upholds tells) c.clean_log.ensures.cleans.core (c.clean_log.ensures.upholds tells) (c.clean_log.ensures.passes tells))
+    (leaves_logged c.plain_numbers_are_read.ensures g.S.Store.world i.tree c.register_tables.new.self i.numbers.items i.doubted new c.args.self.now c.self.view_is (c.register_tables.ensures.upholds tells) c.clean_log.ensures.cleans.core (c.clean_log.ensures.upholds tells) (c.clean_log.ensures.passes tells) (c.clean_log.ensures.known tells)).left.either
 
 pub returns-clause-upholds : goal.returns-clause-upholds
 returns-clause-upholds g c tells =
-    let w = g.S.Store.world in
     let i = c.self.inside in
-    let mid = c.register_tables.new.self in
     let new = c.clean_log.new.self in
-    subst (λ (t : SeenLogged g.row.S.Denot). UpholdsFiles (w t.store) (w new.store) t.core new.core) c.self.view_is (upheld_behind (w i.tree.store) (w mid.store) (w new.store) i.tree.core mid.core new.core (c.register_tables.ensures.upholds tells) c.clean_log.ensures.cleans.core (c.clean_log.ensures.upholds tells))
+    (leaves_logged c.plain_numbers_are_read.ensures g.S.Store.world i.tree c.register_tables.new.self i.numbers.items i.doubted new c.args.self.now c.self.view_is (c.register_tables.ensures.upholds tells) c.clean_log.ensures.cleans.core (c.clean_log.ensures.upholds tells) (c.clean_log.ensures.passes tells) (c.clean_log.ensures.known tells)).left.files
 
 pub returns-then-self-clause-upholds : goal.returns-then-self-clause-upholds
 returns-then-self-clause-upholds g c tells =
@@ -83,8 +79,8 @@ returns-then-self-clause-acts g c tells =
     let i = c.self.inside in
     let job = c.args.job in
     let left = c.abandon_flush.new.self in
-    let old : SeenLogged g.row.S.Denot = record { store = i.tree.store; core = i.tree.core; numbers = i.numbers.items; doubted = i.doubted } in
-    let new : SeenLogged g.row.S.Denot = record { store = left.store; core = left.core; numbers = i.numbers.items; doubted = i.doubted } in
+    let old = logged_with i.tree i.numbers.items i.doubted in
+    let new = logged_with left i.numbers.items i.doubted in
     let rest : AtRest (w i.tree.store) = subst (λ (s : g.row.S.Denot). AtRest (w s)) c.store.ensures (c.crashes_leave_versions.ensures tells) in
     let same : left.core ≡ spent job.job.number i.tree.core = c.abandon_flush.ensures.core ∙ ap (λ (j : SeenJob). spent j.number i.tree.core) c.into_job.ensures in
     let there = subst (λ (s : g.row.S.Denot). Upholds (w i.tree.store) (w s) i.tree.core (spent job.job.number i.tree.core)) (sym c.abandon_flush.ensures.store) (spent_upholds (w i.tree.store) i.tree.core job.job.number rest) in
@@ -98,8 +94,8 @@ returns-in_err-registered-clause-acts g c tells =
     let mid = c.register_tables.new.self in
     let job = c.args.job in
     let e = c.in_err-registered.field-0.0 in
-    let old : SeenLogged g.row.S.Denot = record { store = i.tree.store; core = i.tree.core; numbers = i.numbers.items; doubted = i.doubted } in
-    let new : SeenLogged g.row.S.Denot = record { store = mid.store; core = mid.core; numbers = i.numbers.items; doubted = i.doubted } in
+    let old = logged_with i.tree i.numbers.items i.doubted in
+    let new = logged_with mid i.numbers.items i.doubted in
     let small = subst (λ (t : SeenLogged g.row.S.Denot). t.core.seqno < 2 ^ 64) (sym c.self.view_is) c.counter_fits.ensures in
     let told = err_from_is_err_and c.from_residual.result c.from_residual.ensures.1 in
     subst (λ (t : SeenLogged g.row.S.Denot). RegistersAct job c.from_residual.result (w t.store) (w mid.store) t new) c.self.view_is
@@ -114,16 +110,37 @@ returns-clause-acts g c tells =
     let new = c.clean_log.new.self in
     let job = c.args.job in
     let a = c.in_ok-registered.registered in
-    let old : SeenLogged g.row.S.Denot = record { store = i.tree.store; core = i.tree.core; numbers = i.numbers.items; doubted = i.doubted } in
+    let old = logged_with i.tree i.numbers.items i.doubted in
     let small = subst (λ (t : SeenLogged g.row.S.Denot). t.core.seqno < 2 ^ 64) (sym c.self.view_is) c.counter_fits.ensures in
     let up = c.register_tables.ensures.upholds tells in
-    let files = c.clean_log.ensures.upholds tells in
-    let passed = c.clean_log.ensures.passes tells in
     let cleans = c.clean_log.ensures.cleans in
     let same = cleans.core in
+    let b = leaves_behind (w old.store) (w mid.store) (w new.store) old.core mid.core new.core up same (c.clean_log.ensures.upholds tells) (c.clean_log.ensures.passes tells) in
     let rests = λ (no : c.clean_log.result.installed ≡ false). let stays = c.clean_log.ensures.still (sym cleans.installed ∙ no) in subst (λ (t : SeenLogged g.row.S.Denot). Upholds (w old.store) (w t.store) old.core t.core) (sym stays) up in
     subst (λ (t : SeenLogged g.row.S.Denot). RegistersAct job (Ok c.clean_log.result) (w t.store) (w new.store) t new) c.self.view_is
     (registered_acts job (w old.store) (w new.store) old new cleans.doubted c.if-self.false small c.flushes_are_deeds.ensures c.facts-2.ensures c.facts.ensures a c.clean_log.result mid.core c.in_ok-registered.ensures.registers cleans.installed same
-    (upheld_behind (w old.store) (w mid.store) (w new.store) old.core mid.core new.core up same files) c.plain_numbers_are_read.ensures
-    (passed_behind (w old.store) (w mid.store) (w new.store) old.core mid.core new.core up same passed)
-    (either_behind (w old.store) (w mid.store) (w new.store) old.core mid.core new.core up same files passed) rests)
+    b.files c.plain_numbers_are_read.ensures b.passed b.either rests)
+
+pub returns-then-self-clause-known : goal.returns-then-self-clause-known
+returns-then-self-clause-known g c tells =
+    let w = g.S.Store.world in
+    let i = c.self.inside in
+    let left = c.abandon_flush.new.self in
+    let there = subst (λ (s : g.row.S.Denot). KeepsKnown (log_from_of left.core) (w i.tree.store) (w s) i.numbers.items i.numbers.items) (sym c.abandon_flush.ensures.store) (known_still (log_from_of left.core) (w i.tree.store) i.numbers.items) in
+    subst (λ (t : SeenLogged g.row.S.Denot). KeepsKnown (log_from_of left.core) (w t.store) (w left.store) t.numbers i.numbers.items) c.self.view_is there
+
+pub returns-in_err-registered-clause-known : goal.returns-in_err-registered-clause-known
+returns-in_err-registered-clause-known g c tells =
+    let i = c.self.inside in
+    all_left c.plain_numbers_are_read.ensures g.S.Store.world i.tree c.register_tables.new.self i.numbers.items i.doubted c.args.self.now c.self.view_is (c.register_tables.ensures.upholds tells).passes
+
+pub returns-clause-known : goal.returns-clause-known
+returns-clause-known g c tells =
+    let i = c.self.inside in
+    let new = c.clean_log.new.self in
+    (leaves_logged c.plain_numbers_are_read.ensures g.S.Store.world i.tree c.register_tables.new.self i.numbers.items i.doubted new c.args.self.now c.self.view_is (c.register_tables.ensures.upholds tells) c.clean_log.ensures.cleans.core (c.clean_log.ensures.upholds tells) (c.clean_log.ensures.passes tells) (c.clean_log.ensures.known tells)).known
+
+pub returns-clause-passed_are_gone : goal.returns-clause-passed_are_gone
+returns-clause-passed_are_gone g c tells installed cleaned =
+    let i = c.self.inside in
+    gone_left g.S.Store.world i.tree c.register_tables.new.self.core i.numbers.items i.doubted c.clean_log.new.self c.args.self.now c.self.view_is c.clean_log.ensures.cleans.core (c.clean_log.ensures.gone tells installed cleaned)

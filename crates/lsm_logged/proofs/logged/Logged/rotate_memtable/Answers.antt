@@ -4,6 +4,7 @@ use Rattle.lsm_logged.specs.Keeping.{SeenLogged}
 use Rattle.lsm_logged.specs.Acting.{RotatesAct}
 use Rattle.lsm_logged.proofs.Acted.{own_tables}
 use Rattle.lsm_logged.proofs.RotateActs.{rotate_acts}
+use Rattle.lsm_logged.proofs.Seen.{logged_with}
 use Rattle.lsm_logged.proofs.logged.Logged.rotate_memtable.Goals as goal
 
 pub returns-clause-acts : goal.returns-clause-acts
@@ -11,8 +12,8 @@ returns-clause-acts g c tells =
     let w = g.S.Store.world in
     let i = c.self.inside in
     let mid = c.rotate_memtable.new.self in
-    let old : SeenLogged g.row.S.Denot = record { store = i.tree.store; core = i.tree.core; numbers = i.numbers.items; doubted = i.doubted } in
-    let new : SeenLogged g.row.S.Denot = record { store = mid.store; core = mid.core; numbers = i.numbers.items; doubted = i.doubted } in
+    let old = logged_with i.tree i.numbers.items i.doubted in
+    let new = logged_with mid i.numbers.items i.doubted in
     let rest : AtRest (w i.tree.store) = subst (λ (s : g.row.S.Denot). AtRest (w s)) c.store.ensures (c.crashes_leave_versions.ensures tells) in
     subst (λ (t : SeenLogged g.row.S.Denot). RotatesAct c.rotate_memtable.result (w t.store) t new) c.self.view_is
     (rotate_acts (w old.store) old new refl rest (own_tables c.flushes_are_deeds.ensures.spends i.tree.core c.facts.ensures) c.rotate_memtable.result c.rotate_memtable.ensures.ok)

@@ -4,7 +4,7 @@ use Rattle.std.specs.List.{AllByRecursion}
 use Rattle.std.specs.List.Sorted.{IsStrictlyIncreasing}
 use Rattle.std.proofs.lemmas.Bool.{eqb-false, le-leb}
 use Rattle.std.proofs.lemmas.List.Elements.{All-contains, All-from_recursion, Contains-append_right}
-use Rattle.lsm_below.specs.Each.{each_weaker}
+use Rattle.lsm_below.specs.Each.{each_weaker, each_left}
 use Rattle.lsm_below.specs.Members.{IsIn, each_in, in_filter, filter_in}
 use Rattle.lsm_store.specs.World.{Image}
 use Rattle.lsm_model.specs.Views.{Placed}
@@ -86,8 +86,7 @@ rising (r ∷ rs) h = (above_first r.number rs h, rising rs (rise_drop 1 (number
 
 -- ---- what reading finds
 
-module _ (first : RecordsAreFirst) (image : Image) (tables : List Placed) (from : ℕ) (passed : List ℕ) (records : List Record) (log : IsLogFrom image from passed records) (t : Log) (is : IsLogIn t image) (low : t.log_from ≤ from)
-    (small : AllByRecursion (λ b. b.number < 2 ^ 63) t.records) where
+module _ (first : RecordsAreFirst) (image : Image) (tables : List Placed) (from : ℕ) (passed : List ℕ) (records : List Record) (log : IsLogFrom image from passed records) (t : Log) (is : IsLogIn t image) where
   abbrev pub left : LogImage
   left = record { tables = tables; log_from = from; records = map batch_read records }
 
@@ -104,8 +103,8 @@ module _ (first : RecordsAreFirst) (image : Image) (tables : List Placed) (from 
   file_in b i = each_in (λ b. (c : Option (List ℕ)) → c ≡ image (record_name b.number) → IsRecordFile b c) t.records b is.counted i (image (record_name b.number)) refl
 
   -- a record that is read is one that may be there
-  one : (r : Record) → IsRecordAt image r.number r → r.number < 2 ^ 63 → from ≤ r.number → IsIn (batch_read r) all_batches
-  one r at fits le = ⊎_elim numbered none (number_of r.number all_batches)
+  one : t.log_from ≤ from → (r : Record) → IsRecordAt image r.number r → r.number < 2 ^ 63 → from ≤ r.number → IsIn (batch_read r) all_batches
+  one low r at fits le = ⊎_elim numbered none (number_of r.number all_batches)
     where
       there_is : image (record_name r.number) ≡ None → ⊥
       there_is e = let z : None ≡ Some at.bytes = sym e ∙ at.file in absurd (cc z)
@@ -122,19 +121,19 @@ module _ (first : RecordsAreFirst) (image : Image) (tables : List Placed) (from 
       numbered : (b : Batch) × IsIn b all_batches × (b.number ≡ r.number) → IsIn (batch_read r) all_batches
       numbered z = subst (λ c. IsIn c all_batches) (same_as r z.0 at z.2 (file_of z.0 z.1 z.2)) z.1
 
-  only : (b : Batch) → IsIn b (counted left) → IsIn b all_batches
-  only b i =
+  only : t.log_from ≤ from → (b : Batch) → IsIn b (counted left) → IsIn b all_batches
+  only low b i =
       let z = in_filter (λ (c : Batch). nat_le from c.number) (map batch_read records) b i in
       let r = from_map batch_read records b z.0 in
       let at = each_in (λ r. IsRecordAt image r.number r) records r.0 log.records_are r.1 in
       let where_is = (log.read_are r.0.number).0 (there records r.0 r.1) in
-      subst (λ c. IsIn c all_batches) r.2 (one r.0 at where_is.0.small where_is.1)
+      subst (λ c. IsIn c all_batches) r.2 (one low r.0 at where_is.0.small where_is.1)
 
   -- the number of a record that counts is read
   pub is_read : (b : Batch) → IsIn b t.records → from ≤ b.number → Contains (numbers_of records) b.number
   is_read b i le =
       let file = file_in b i in
-      (log.read_are b.number).1 (record { small = each_in (λ b. b.number < 2 ^ 63) t.records b small i; file = subst (λ (c : Option (List ℕ)). IsSome c) (sym file.1) refl }, le)
+      (log.read_are b.number).1 (record { small = each_in (λ b. b.number < 2 ^ 63) t.records b (each_left (λ b. b.number < 2 ^ 63) t.records (lost_of t.lost) is.small) i; file = subst (λ (c : Option (List ℕ)). IsSome c) (sym file.1) refl }, le)
 
   all : (b : Batch) → IsIn b t.records → from ≤ b.number → IsIn b (counted left)
   all b i le =
@@ -142,5 +141,5 @@ module _ (first : RecordsAreFirst) (image : Image) (tables : List Placed) (from 
       let same = same_as r.0 b (each_in (λ r. IsRecordAt image r.number r) records r.0 log.records_are r.1) (sym r.2) (file_in b i) in
       filter_in (λ (c : Batch). nat_le from c.number) (map batch_read records) b (subst (λ c. IsIn c (map batch_read records)) (sym same) (in_map batch_read records r.0 r.1)) (le-leb from b.number le)
 
-  pub has_records : RecordsAreFound → LogIsSound t → HasRecords left t
-  has_records found sound = found t left sound (since_rising from (map batch_read records) (rising records log.read_rise)) only all
+  pub has_records : RecordsAreFound → t.log_from ≤ from → LogIsSound t → HasRecords left t
+  has_records found low sound = found t left sound (since_rising from (map batch_read records) (rising records log.read_rise)) (only low) all

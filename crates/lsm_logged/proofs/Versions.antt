@@ -1,13 +1,15 @@
 -- An image tells once from which number a version reads a log.
-use Rattle.std.proofs.Common.{◌≡◌, ℕ, Option, Some, sym, ap, ◌∙◌}
+use Rattle.std.proofs.Common.{◌≡◌, ℕ, List, Option, Some, sym, ap, ◌∙◌}
 use Rattle.lsm_store.specs.World.{Image}
 use Rattle.lsm_tables.specs.Spellings.{ok_is}
 use Rattle.lsm_versions.specs.Levels.{SeenVersion}
+use Rattle.lsm_manifest.specs.Finding.{Finds, Named, FoundOnce}
 use Rattle.lsm_manifest.specs.Names.{version_name}
 use Rattle.lsm_manifest.specs.Opening.{ReadsFrom}
 use Rattle.lsm_manifest.specs.Reading.{told_at}
 use Rattle.lsm_manifest.specs.Recovery.{Levels, IsNamed, IsNamedFrom}
-use Rattle.lsm_manifest.specs.Versions.{log_from_in}
+use Rattle.lsm_manifest.specs.Versions.{log_from_in, named_levels}
+use Rattle.lsm_files.specs.Stored.{HoldsOneOf}
 use Rattle.lsm_manifest.proofs.OpeningLemmas.{named_once}
 use Rattle.lsm_manifest.proofs.Whole.{told_again}
 
@@ -22,3 +24,9 @@ from_once image u v a b same =
     let told = ok_is (a.from, a.layout) (b.from, b.layout) (sym (told_again a.from a.layout a.named.bytes a.named.reads) ∙ ap told_at bytes ∙ told_again b.from b.layout b.named.bytes b.named.reads) in
     let from : a.from ≡ b.from = ap (λ (p : Option ℕ × Levels). p.0) told in
     a.is ∙ ap (λ o. log_from_in o u.levels) from ∙ ap (log_from_in b.from) same ∙ sym b.is
+
+-- what is found in an image that has one of these versions is that version
+pub version_once : FoundOnce → (versions : List SeenVersion) (image : Image) (v : SeenVersion) → (one : HoldsOneOf versions image) → Finds image v.levels → ReadsFrom image v → (one.0.levels ≡ v.levels) × (one.0.log_from ≡ v.log_from)
+version_once once versions image v one found reads =
+    let same = once image one.0.levels v.levels (Named one.0.id (named_levels one.0.levels) one.2) found in
+    (same, from_once image one.0 v one.3 reads same)
