@@ -1,5 +1,7 @@
-use Rattle.std.proofs.Common.{◌++◌, ap, ◌∙◌, subst}
+use Rattle.std.proofs.Common.{◌≡◌, ◌<◌, ◌^◌, ◌++◌, IfErr, ap, ◌∙◌, subst}
+use Rattle.lsm_below.specs.declared.error.Error.TheVariants.{CommitUnknown}
 use Rattle.lsm_versions.specs.Levels.{placed_of}
+use Rattle.lsm_state.specs.Cleaning.{RemovesDrawn}
 use Rattle.lsm_state.specs.WholeFlushes.{FlushesActive}
 use Rattle.lsm_recorded.specs.Passes.{Notes}
 use Rattle.lsm_recorded.specs.Recorded.{Stays}
@@ -40,3 +42,9 @@ returns-clause-views g c =
     let told = put.ensures.noted.behind ∙ ap (λ j. j ++ es) c.beside_copies-both.ensures.journal in
     let all = (active_recorded (placed_of i.opened.levels) i.least i.marks c.reads_are_sound.ensures c.flushes_keep_reads.ensures i.floor put.new.floor i.journal.items put.new.journal.items es told put.ensures.floor c.args.watermark flushed.result.0 i.core.core flushed.new.tree.core flushed.ensures.flushes c.self.invariant).1 in
     subst (λ t. Stays t.tree.core flushed.new.tree.core) c.self.view_is all
+
+pub returns-clause-refused : goal.returns-clause-refused
+returns-clause-refused g c tells =
+    let w = g.S.Store.world in
+    let flushed = c.flush_active_noting-entries in
+    subst (λ t. t.tree.core.next_table < 2 ^ 63 → IfErr flushed.result.0 (λ e. (e.0 ≡ CommitUnknown → ⊥) → RemovesDrawn t.tree.core.next_table flushed.new.tree.core.next_table (w t.tree.store) (w flushed.new.tree.store))) c.self.view_is (flushed.ensures.refused tells)
