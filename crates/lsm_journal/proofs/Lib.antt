@@ -2,3 +2,4 @@ mod DroppedRanges
 mod Telling
 mod Compacting
 mod KeptReads
+mod Rotated

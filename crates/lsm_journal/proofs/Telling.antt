@@ -1,6 +1,5 @@
 -- Which of the entries that were made come to be.
-use Rattle.std.proofs.Common.{◌≡◌, ◌⊎◌, ⊎_elim, ℕ, List, ◌∷◌, length, take, refl, sym, ap, ◌∙◌, Result, Ok, Err, IsErrOf}
-use Rattle.std.proofs.lemmas.List.{length-take, take_min}
+use Rattle.std.proofs.Common.{◌≡◌, ◌⊎◌, ⊎_elim, ℕ, List, ◌∷◌, length, take, refl, ap, ◌∙◌, Result, Ok, Err, IsErrOf}
 use Rattle.lsm_below.specs.declared.error.Error.{Error}
 use Rattle.lsm_below.specs.declared.error.Error.TheVariants.{CommitUnknown, AfterCommit}
 use Rattle.lsm_model.specs.Journal.{Event}
@@ -46,7 +45,3 @@ module _ (choice : Choice) (w : ℕ) (c : Core) where
   tells_choice (Err AfterCommit) = record { done = installed (Err AfterCommit); lost = unknown (Err AfterCommit); told = tt; refused = λ after known. absurd (after refl) }
   tells_choice (Err CommitUnknown) = record { done = installed (Err CommitUnknown); lost = unknown (Err CommitUnknown); told = tt; refused = λ after known. absurd (known refl) }
   tells_choice (Err e) = record { done = installed (Err e); lost = unknown (Err e); told = tt; refused = λ after known. refl }
-
--- what was cut is cut by its own length
-pub front_of : (n : ℕ) (all part : List Event) → part ≡ take n all → part ≡ take (length part) all
-front_of n all part is = is ∙ sym (take_min n all) ∙ ap (λ k. take k all) (sym (length-take n all)) ∙ ap (λ es. take (length es) all) (sym is)

@@ -1,2 +1,4 @@
 pub mod Noted
 pub mod NotedReads
+pub mod NotedFlushes
+pub mod NotedClears

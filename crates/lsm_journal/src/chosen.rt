@@ -1,16 +1,18 @@
 // A strategy's choice, beside what a journal notes of it if it is done.
-ghost use Rattle.std.specs.Prelude.{◌≡◌, ◌∷◌, [], IfOk};
-ghost use Rattle.lsm_model.specs.declared.journal.JournalEntry.TheVariants.{Mark};
+ghost use Rattle.std.specs.Prelude.{◌≡◌, ◌⊎◌, ◌∷◌, [], true, false, None, IsSome, IsTrue, IfOk};
+ghost use Rattle.lsm_pick.specs.Simple.{are_reversed};
 ghost use Rattle.lsm_files.specs.Causes.{Blames};
 ghost use Rattle.lsm_state.specs.CompactionDeeds.{dropped_by};
+ghost use Rattle.lsm_state.specs.WholeCompactions.{options_at};
 ghost use Rattle.lsm_journal.specs.Noted.{IsAnswerOf, noted_of};
 
+use crate::lists::one_entry;
 use crate::ranges::ranges_of;
 use lsm_below::{SeqNo, TableId};
 use lsm_model::{JournalEntry, KeyRanges};
 use lsm_parts::Error;
-use lsm_pick::{Choice, CompactionStrategy};
-use lsm_state::{TreeState, told_as};
+use lsm_pick::{Choice, CompactionStrategy, OwnedBounds};
+use lsm_state::{Options, TreeState, told_as};
 use lsm_store::Store;
 use std::alloc::{AllocError, Global};
 use std::collections::HashSet;
@@ -27,6 +29,24 @@ pub struct Chosen {
     pub answer: Result<Choice, Error>,
     /// What is noted if it is done: the mark, of a drop the ranges of its tables, and the install.
     pub entries: Vec<JournalEntry>,
+}
+
+/// A watermark, and the tree's moment.
+pub fn options_at<S: Store>(tree: &TreeState<S>, watermark: SeqNo) -> Options
+    ensures { result ≡ options_at watermark tree.now.core }
+{
+    Options {
+        mvcc_gc_watermark: watermark,
+        moment: tree.moment(),
+    }
+}
+
+/// Whether a drop of a range has nothing to do: where its bounds are reversed, unless a commit of unknown outcome came before.
+pub fn drops_nothing<S: Store>(tree: &TreeState<S>, bounds: &OwnedBounds) -> bool
+    ensures yes { IsTrue result → (tree.now.core.lost ≡ None) × (are_reversed bounds.now ≡ true) }
+    ensures no { result ≡ false → IsSome tree.now.core.lost ⊎ (are_reversed bounds.now ≡ false) }
+{
+    !tree.is_uncertain() && bounds.is_reversed()
 }
 
 /// What a drop of the tables of these ids tells.
@@ -51,20 +71,11 @@ fn choice_entries<S: Store>(
 ) -> Result<Vec<JournalEntry>, AllocError>
     ensures { IfOk result (λ list. list.items ≡ noted_of (Ok choice.now) watermark tree.now.core) }
 {
-    let mut list = mark_entries(alloc, watermark)?;
+    let mut list = one_entry(alloc, JournalEntry::Mark(watermark))?;
     if let Choice::Drop(ids) = choice {
         list.push(dropped(alloc, tree, ids)?)?;
     }
     list.push(JournalEntry::Install(tree.seqno().get()))?;
-    Ok(list)
-}
-
-/// The mark alone.
-fn mark_entries(alloc: Global, watermark: SeqNo) -> Result<Vec<JournalEntry>, AllocError>
-    ensures { IfOk result (λ list. list.items ≡ Mark watermark ∷ []) }
-{
-    let mut list = Vec::new(alloc);
-    list.push(JournalEntry::Mark(watermark))?;
     Ok(list)
 }
 
@@ -80,7 +91,7 @@ fn note<S: Store>(
 {
     let entries = match &answer {
         Ok(choice) => choice_entries(alloc, tree, choice, watermark)?,
-        Err(_) => mark_entries(alloc, watermark)?,
+        Err(_) => one_entry(alloc, JournalEntry::Mark(watermark))?,
     };
     Ok(Chosen { answer, entries })
 }

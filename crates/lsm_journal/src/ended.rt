@@ -8,6 +8,7 @@ ghost use Rattle.lsm_state.specs.Core.{Core};
 ghost use Rattle.lsm_state.specs.CompactionReads.{TellsMerge};
 ghost use Rattle.lsm_journal.specs.Noted.{EndsNoted};
 
+use crate::lists::one_entry;
 use lsm_below::SeqNo;
 use lsm_merges::MergedCompaction;
 use lsm_model::JournalEntry;
@@ -20,9 +21,7 @@ use std::alloc::{AllocError, Global};
 pub fn finish_entries(alloc: Global, number: SeqNo) -> Result<Vec<JournalEntry>, AllocError>
     ensures { IfOk result (λ list. list.items ≡ Install number ∷ []) }
 {
-    let mut list = Vec::new(alloc);
-    list.push(JournalEntry::Install(number))?;
-    Ok(list)
+    one_entry(alloc, JournalEntry::Install(number))
 }
 
 /// That of it that came to be.

@@ -1,5 +1,5 @@
 -- What a clear keeps of a tree with its journal.
-use Rattle.std.proofs.Common.{◌≡◌, ℕ, ◌+◌, ◌≤◌, List, [], ◌∷◌, ◌++◌, Result, Ok, Err, inl, inr, ⊎_elim, fold, refl, ap, arith}
+use Rattle.std.proofs.Common.{◌≡◌, ℕ, ◌+◌, ◌≤◌, List, [], ◌∷◌, ◌++◌, Result, Ok, Err, inl, inr, ⊎_elim, fold, refl, ap, ◌∙◌, arith}
 use Rattle.std.specs.BTreeMap.{BTreeMap}
 use Rattle.lsm_below.specs.Keys.{Bytes}
 use Rattle.lsm_below.specs.declared.error.Error.{Error}
@@ -10,7 +10,8 @@ use Rattle.lsm_model.specs.Views.{Placed}
 use Rattle.lsm_model.specs.declared.journal.JournalEntry.TheVariants.{Clear}
 use Rattle.lsm_state.specs.Core.{Core}
 use Rattle.lsm_state.specs.Commits.{counted}
-use Rattle.lsm_state.specs.Clearing.{Clears, ClearDeeds, clear_events, ClearsKeepReads}
+use Rattle.lsm_state.specs.Clearing.{Clears, clear_events, ClearsKeepReads}
+use Rattle.lsm_journal.specs.NotedClears.{ClearsNoted}
 use Rattle.lsm_recorded.specs.declared.marks.Mark.{Mark}
 use Rattle.lsm_recorded.specs.Recorded.{IsRecorded, StaysBehind}
 use Rattle.lsm_recorded.proofs.Watermarks.{still_marked}
@@ -42,5 +43,6 @@ clears_go (Err e) old new c =
 
 module _ (opened : List Placed) (least : ℕ) (marks : BTreeMap Bytes Mark) (theory : Soundness) (law : ClearsKeepReads) (low low' : ℕ) (old new : Core) (journal journal' : List Event) where
   -- a clear and what it tells keep what always holds
-  pub clear_recorded : (r : Result ℕ Error) → Clears r old new → ClearDeeds r old new → journal' ≡ journal ++ clear_events r → low' ≡ fold floor_after low (clear_events r) → IsRecorded opened least marks low old journal → IsRecorded opened least marks low' new journal' × StaysBehind journal journal' old new
-  clear_recorded r clears deeds told floored h = spared_recorded opened least marks theory low low' old new journal journal' (clear_events r) (law.clears r old new deeds) (clears_go r old new clears) told floored h
+  pub clear_recorded : (r : Result ℕ Error) (events : List Event) → ClearsNoted r events old new → journal' ≡ journal ++ events → low' ≡ fold floor_after low events → IsRecorded opened least marks low old journal → IsRecorded opened least marks low' new journal' × StaysBehind journal journal' old new
+  clear_recorded r events c told floored h =
+      spared_recorded opened least marks theory low low' old new journal journal' (clear_events r) (law.clears r old new c.2) (clears_go r old new c.1) (told ∙ ap (λ es. journal ++ es) c.0) (floored ∙ ap (fold floor_after low) c.0) h

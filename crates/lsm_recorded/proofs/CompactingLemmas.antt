@@ -39,7 +39,7 @@ module _ (opened : List Placed) (least : ℕ) (marks : BTreeMap Bytes Mark) (the
   Behind = IsRecorded opened least marks low' new journal'
 
   -- a call that tells these events
-  events_recorded : (IsBefore : List Event → Type 0) (IsSpared : ℕ → Type 0) (es : List Event) → SparesReads IsBefore es IsSpared old new → IsBefore journal → GoesOn es old new → journal' ≡ journal ++ es → low' ≡ fold floor_after low es → Before → Behind × ((s : ℕ) → IsSpared s → StaysAt s (state_of [] old) (state_of [] new))
+  pub events_recorded : (IsBefore : List Event → Type 0) (IsSpared : ℕ → Type 0) (es : List Event) → SparesReads IsBefore es IsSpared old new → IsBefore journal → GoesOn es old new → journal' ≡ journal ++ es → low' ≡ fold floor_after low es → Before → Behind × ((s : ℕ) → IsSpared s → StaysAt s (state_of [] old) (state_of [] new))
   events_recorded IsBefore IsSpared es spares before goes told floored r =
       let t = told_recorded opened least marks theory IsBefore IsSpared es low low' old new journal spares before goes.told goes.next (told_floor opened least marks low low' journal es r.floored floored) (goes.marked journal r.marked) r in
       (subst (λ j. IsRecorded opened least marks low' new j) (sym told) t.0, t.1)

@@ -49,33 +49,6 @@ spent_upholds w v n old new leaves same is =
 
 -- ---- behind a rotation
 
-pub rotated_upholds : (w v : World) (old mid new : Core) (id : Option ℕ) → Rotates old id mid → Upholds w v mid new → Upholds w v old new
-rotated_upholds w v old mid new None t u = subst (λ c. Upholds w v c new) t.1 u
-rotated_upholds w v old mid new (Some id) t u = let behind = subst (λ c. Upholds w v c new) t.2 u in record { files = behind.files; passes = behind.passes }
-
-pub rotated_lost : (old mid : Core) (id : Option ℕ) → Rotates old id mid → mid.lost ≡ old.lost
-rotated_lost old mid None t = ap (λ (c : Core). c.lost) t.1
-rotated_lost old mid (Some id) t = ap (λ (c : Core). c.lost) t.2
-
-pub rotated_table : (old mid : Core) (id : Option ℕ) → Rotates old id mid → mid.next_table ≡ old.next_table
-rotated_table old mid None t = ap (λ (c : Core). c.next_table) t.1
-rotated_table old mid (Some id) t = ap (λ (c : Core). c.next_table) t.2
-
--- it changes no version
-same_versions : (w : World) (a b : Kept) (svs : List Kept) (n : ℕ) → a.version ≡ b.version → AllByRecursion (λ sv. w.gives (version_name sv.version.id) ≡ None) (drop n (a ∷ svs)) → AllByRecursion (λ sv. w.gives (version_name sv.version.id) ≡ None) (drop n (b ∷ svs))
-same_versions w a b svs zero is all = (subst (λ (v : SeenVersion). w.gives (version_name v.id) ≡ None) is all.0, all.1)
-same_versions w a b svs (suc n) is all = all
-
-pub rotated_leaves : (w : World) (ids : List ℕ) (old mid : Core) (id : Option ℕ) (new : SeenHistory) → Rotates old id mid → LeavesNoFiles w ids mid.history new → LeavesNoFiles w ids old.history new
-rotated_leaves w ids old mid None new t left = subst (λ (c : Core). LeavesNoFiles w ids c.history new) t.1 left
-rotated_leaves w ids old mid (Some id) new t left =
-    let mine = subst (λ (c : Core). LeavesNoFiles w ids c.history new) t.2 left in
-    record { tables = mine.tables; versions = same_versions w (rotated_core old).history.latest old.history.latest old.history.older (length new.older) refl mine.versions }
-
--- where no id of a table was drawn, none is to be removed
-pub none_drawn : (n m : ℕ) (w v : World) → m ≡ n → RemovesDrawn n m w v
-none_drawn n m w v same = inl (λ i from below. absurd (omega (arith, same, from, below)))
-
 found_still : (z b : Bool) (f g x y sv : SuperVersion) (rest : Option SuperVersion) → cond z (Some f) (cond b (Some x) rest) ≡ Some sv → (sv' : SuperVersion) × (cond z (Some g) (cond b (Some y) rest) ≡ Some sv')
 found_still true b f g x y sv rest h = (g, refl)
 found_still false true f g x y sv rest h = (y, refl)

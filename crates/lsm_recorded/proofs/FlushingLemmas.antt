@@ -1,80 +1,39 @@
 -- What the calls of a flush keep of a tree with its journal.
-use Rattle.std.proofs.Common.{cond, ◌≡◌, ℕ, ◌+◌, ◌≤◌, max, Bool, true, false, List, [], ◌∷◌, ◌++◌, Option, Some, None, Result, Ok, Err, IfOk, inl, inr, ⊎_elim, fold, refl, sym, ap, ◌∙◌, subst, arith}
+use Rattle.std.proofs.Common.{cond, ◌≡◌, ◌⊎◌, ℕ, ◌+◌, ◌≤◌, Bool, true, false, List, [], ◌∷◌, ◌++◌, Option, Some, None, Result, Ok, Err, inl, inr, ⊎_elim, fold, refl, sym, ap, ◌∙◌, subst, arith, append-nil}
 use Rattle.std.specs.BTreeMap.{BTreeMap}
-use Rattle.std.specs.Result.{is_ok}
-use Rattle.std.proofs.lemmas.Grind.{fold-append}
 use Rattle.lsm_below.specs.Keys.{Bytes}
-use Rattle.lsm_below.specs.Entries.{Entry, above}
 use Rattle.lsm_below.specs.declared.error.Error.{Error}
 use Rattle.lsm_below.specs.declared.error.Error.TheVariants.{OutOfMemory, Store, CommitUnknown, Unrecoverable, OutOfNumbers, TooManyRuns}
 use Rattle.lsm_model.specs.Soundness.{Soundness}
-use Rattle.lsm_model.specs.Journal.{Event, floor_after, floor, next_number_after, next_number}
-use Rattle.lsm_model.specs.Views.{Placed, held}
-use Rattle.lsm_model.specs.declared.journal.JournalEntry.TheVariants.{Write, Clear, Install, Dropped, Mark as Watermark, Read}
+use Rattle.lsm_model.specs.Journal.{Event, floor_after}
+use Rattle.lsm_model.specs.Views.{Placed}
+use Rattle.lsm_model.specs.declared.journal.JournalEntry.{JournalEntry}
+use Rattle.lsm_model.specs.declared.journal.JournalEntry.TheVariants.{Install, Mark as Watermark}
 use Rattle.lsm_jobs.specs.Jobs.{SeenJob, SeenMerged, SeenWritten}
 use Rattle.lsm_jobs.specs.declared.jobs.Registered.{Registered}
-use Rattle.lsm_state.specs.Core.{Core}
+use Rattle.lsm_state.specs.Core.{Core, state_of}
 use Rattle.lsm_state.specs.CompactionReads.{SparesReads, IsAny, IsAnySnapshot}
-use Rattle.lsm_state.specs.FlushReads.{register_events, KeepsReads, FlushesKeepReads}
-use Rattle.lsm_state.specs.Flushes.{Begins, WritesTables, Registers, IsFlushDeed, spent}
+use Rattle.lsm_state.specs.FlushReads.{register_events, flush_events, KeepsReads, FlushesKeepReads}
+use Rattle.lsm_state.specs.Flushes.{Begins, WritesTables, Registers, spent}
 use Rattle.lsm_state.specs.Commits.{counted}
-use Rattle.lsm_state.specs.WholeFlushes.{Flushes, MarksFlush}
+use Rattle.lsm_state.specs.WholeFlushes.{Flushes, MarksFlush, RefusesRotation, FlushesActive}
+use Rattle.lsm_journal.specs.NotedFlushes.{FlushesNoted as TellsFlush, FlushesRotated, FlushesActiveNoted, RegistersNoted as TellsRegister}
 use Rattle.lsm_recorded.specs.declared.marks.Mark.{Mark}
-use Rattle.lsm_recorded.specs.Recorded.{IsRecorded, Stays}
-use Rattle.lsm_recorded.specs.Flushing.{mark_events, is_installed}
+use Rattle.lsm_recorded.specs.Passes.{Notes}
+use Rattle.lsm_recorded.specs.Recorded.{SeenRecorded, IsRecorded, Stays}
+use Rattle.lsm_recorded.specs.Flushing.{FlushesNoted, NotesBehind, NotesNothing, NotesActive}
+use Rattle.lsm_recorded.proofs.CompactingLemmas.{events_recorded}
+use Rattle.lsm_recorded.proofs.FlushedFiles.{stays_behind}
+use Rattle.lsm_recorded.proofs.GoingOn.{GoesOn}
+use Rattle.lsm_recorded.proofs.RecordedLemmas.{recorded_rotate, rotate_spares}
+use Rattle.lsm_recorded.proofs.Telling.{silent_recorded}
 use Rattle.lsm_recorded.proofs.Watermarks.{same_marked, still_marked}
-use Rattle.lsm_recorded.proofs.Telling.{IsTold, told_recorded, silent_recorded}
-
--- ---- what is told
-
-events_are : (w n : ℕ) (r : Result Registered Error) → register_events w n r ≡ mark_events w n (is_installed r)
-events_are w n (Ok a) = refl
-events_are w n (Err e) = refl
 
 -- ---- the counter, and the open merges
 
 -- the counter is at this number or above, and the open merges stay
 abbrev pub Goes : ℕ → Core → Core → Type 0
 Goes n old new = (n ≤ new.seqno) × (new.merges ≡ old.merges)
-
--- whatever a job that is registered is answered, the counter doesn't fall, and an install is below it
-pub registers_goes : (job : SeenWritten) (r : Result Registered Error) (old new : Core) → Registers job r old new → Goes (cond (is_installed r) (old.seqno + 1) old.seqno) old new
-registers_goes job (Ok a) old new r = by_case a.installed refl
-  where
-    by_case : (b : Bool) → a.installed ≡ b → Goes (cond a.installed (old.seqno + 1) old.seqno) old new
-    by_case true is =
-        let rest = (r.installs is).1.cleans.rest in
-        let q : new.seqno ≡ old.seqno + 1 = ap (λ (c : Core). c.seqno) rest in
-        subst (λ b. Goes (cond b (old.seqno + 1) old.seqno) old new) (sym is) (omega (arith, q), ap (λ (c : Core). c.merges) rest)
-    by_case false is =
-        let rest = (r.stale is).1.1 in
-        let q : new.seqno ≡ old.seqno = ap (λ (c : Core). c.seqno) rest in
-        subst (λ b. Goes (cond b (old.seqno + 1) old.seqno) old new) (sym is) (omega (arith, q), ap (λ (c : Core). c.merges) rest)
-registers_goes job (Err e) old new r =
-    ⊎_elim
-    (⊎_elim
-    (λ (m : e ≡ OutOfMemory). ⊎_elim same more (r.memory (ap Err m)))
-    (⊎_elim
-    (λ (s : e ≡ Store). more (r.store (ap Err s)))
-    (λ (u : e ≡ CommitUnknown). let rest = (r.unknown (ap Err u)).1.is in let q : new.seqno ≡ old.seqno + 1 = ap (λ (c : Core). c.seqno) rest in (omega (arith, q), ap (λ (c : Core). c.merges) rest))))
-    (⊎_elim
-    (λ (u : e ≡ Unrecoverable). same (r.before (inl (ap Err u))))
-    (⊎_elim
-    (λ (o : e ≡ OutOfNumbers). same (r.before (inr (inl (ap Err o)))))
-    (λ (t : e ≡ TooManyRuns). same (r.before (inr (inr (ap Err t)))))))
-    r.only
-  where
-    same : new ≡ spent job.job.number old → Goes old.seqno old new
-    same h = let q : new.seqno ≡ old.seqno = ap (λ (c : Core). c.seqno) h in (omega (arith, q), ap (λ (c : Core). c.merges) h)
-
-    more : new ≡ counted (spent job.job.number old) → Goes old.seqno old new
-    more h = let q : new.seqno ≡ old.seqno + 1 = ap (λ (c : Core). c.seqno) h in (omega (arith, q), ap (λ (c : Core). c.merges) h)
-
--- the same of a flush in one call
-pub refused_goes : (w : ℕ) (e : Error) (old new : Core) → Flushes w (Err e) old new → Goes old.seqno old new
-refused_goes w e old new f =
-    let le : old.seqno ≤ new.seqno = ⊎_elim (λ (q : new.seqno ≡ old.seqno). let le : old.seqno ≤ new.seqno = omega (arith, q) in le) (λ (q : new.seqno ≡ old.seqno + 1). let le : old.seqno ≤ new.seqno = omega (arith, q) in le) f.err.seqno in
-    (le, ap (λ (c : Core). c.merges) f.err.rest)
 
 -- where all else stays
 still_goes : (old new : Core) → new.seqno ≡ old.seqno → new.merges ≡ old.merges → Goes old.seqno old new
@@ -92,29 +51,69 @@ writes_goes job (Err e) old new w = still_goes old new (ap (λ (c : Core). c.seq
 pub spent_goes : (n : ℕ) (old new : Core) → new ≡ spent n old → Goes old.seqno old new
 spent_goes n old new is = still_goes old new (ap (λ (c : Core). c.seqno) is) (ap (λ (c : Core). c.merges) is)
 
--- ---- the floor is below the next number
+-- a flush in one call that is refused
+refused_goes : (w : ℕ) (e : Error) (old new : Core) → Flushes w (Err e) old new → Goes old.seqno old new
+refused_goes w e old new f =
+    let le : old.seqno ≤ new.seqno = ⊎_elim (λ (q : new.seqno ≡ old.seqno). let le : old.seqno ≤ new.seqno = omega (arith, q) in le) (λ (q : new.seqno ≡ old.seqno + 1). let le : old.seqno ≤ new.seqno = omega (arith, q) in le) f.err.seqno in
+    (le, ap (λ (c : Core). c.merges) f.err.rest)
 
-below_after : (f n : ℕ) (x : Event) → f ≤ n → floor_after f x ≤ next_number_after n x
-below_after f n (Write e) h = omega (arith, h)
-below_after f n (Clear m) h = omega (arith, h)
-below_after f n (Install m) h = omega (arith, h)
-below_after f n (Dropped ranges m) h = h
-below_after f n (Watermark w) h = h
-below_after f n (Read at question answer) h = h
+-- ---- what is told
 
-floor_below : (f n : ℕ) (journal : List Event) → f ≤ n → fold floor_after f journal ≤ fold next_number_after n journal
-floor_below f n [] h = h
-floor_below f n (x ∷ journal) h = floor_below (floor_after f x) (next_number_after n x) journal (below_after f n x h)
+nothing_goes : (old new : Core) → Goes old.seqno old new → GoesOn [] old new
+nothing_goes old new goes = record { told = tt; next = goes.0; marked = λ journal. still_marked old new journal [] goes.1 }
 
--- ---- what is noted of a flush
+mark_goes : (w : ℕ) (old new : Core) → Goes old.seqno old new → GoesOn (Watermark w ∷ []) old new
+mark_goes w old new goes = record { told = tt; next = goes.0; marked = λ journal. still_marked old new journal (Watermark w ∷ []) goes.1 }
 
-events_told : (w n : ℕ) (b : Bool) → IsTold n (mark_events w n b)
-events_told w n true = (refl, refl)
-events_told w n false = tt
+install_goes : (w : ℕ) (old new : Core) → Goes (old.seqno + 1) old new → GoesOn (Watermark w ∷ (Install old.seqno ∷ [])) old new
+install_goes w old new goes = let le = goes.0 in record { told = (refl, refl); next = omega (arith, le); marked = λ journal. still_marked old new journal (Watermark w ∷ (Install old.seqno ∷ [])) goes.1 }
 
-events_next : (w n next : ℕ) (b : Bool) → cond b (n + 1) n ≤ next → fold next_number_after n (mark_events w n b) ≤ next
-events_next w n next true le = omega (arith, le)
-events_next w n next false le = le
+-- whatever a job that is registered is answered
+registers_go : (job : SeenWritten) (r : Result Registered Error) (old new : Core) → Registers job r old new → GoesOn (register_events job.watermark old.seqno r) old new
+registers_go job (Ok a) old new r = by_case a.installed refl
+  where
+    by_case : (b : Bool) → a.installed ≡ b → GoesOn (cond a.installed (Watermark job.watermark ∷ (Install old.seqno ∷ [])) (Watermark job.watermark ∷ [])) old new
+    by_case true is =
+        let rest = (r.installs is).1.cleans.rest in
+        let q : new.seqno ≡ old.seqno + 1 = ap (λ (c : Core). c.seqno) rest in
+        subst (λ b. GoesOn (cond b (Watermark job.watermark ∷ (Install old.seqno ∷ [])) (Watermark job.watermark ∷ [])) old new) (sym is) (install_goes job.watermark old new (omega (arith, q), ap (λ (c : Core). c.merges) rest))
+    by_case false is =
+        let rest = (r.stale is).1.1 in
+        subst (λ b. GoesOn (cond b (Watermark job.watermark ∷ (Install old.seqno ∷ [])) (Watermark job.watermark ∷ [])) old new) (sym is) (mark_goes job.watermark old new (still_goes old new (ap (λ (c : Core). c.seqno) rest) (ap (λ (c : Core). c.merges) rest)))
+registers_go job (Err e) old new r =
+    mark_goes job.watermark old new
+    (⊎_elim
+    (⊎_elim
+    (λ (m : e ≡ OutOfMemory). ⊎_elim same more (r.memory (ap Err m)))
+    (⊎_elim
+    (λ (s : e ≡ Store). more (r.store (ap Err s)))
+    (λ (u : e ≡ CommitUnknown). let rest = (r.unknown (ap Err u)).1.is in let q : new.seqno ≡ old.seqno + 1 = ap (λ (c : Core). c.seqno) rest in (omega (arith, q), ap (λ (c : Core). c.merges) rest))))
+    (⊎_elim
+    (λ (u : e ≡ Unrecoverable). same (r.before (inl (ap Err u))))
+    (⊎_elim
+    (λ (o : e ≡ OutOfNumbers). same (r.before (inr (inl (ap Err o)))))
+    (λ (t : e ≡ TooManyRuns). same (r.before (inr (inr (ap Err t)))))))
+    r.only)
+  where
+    same : new ≡ spent job.job.number old → Goes old.seqno old new
+    same h = spent_goes job.job.number old new h
+
+    more : new ≡ counted (spent job.job.number old) → Goes old.seqno old new
+    more h = let q : new.seqno ≡ old.seqno + 1 = ap (λ (c : Core). c.seqno) h in (omega (arith, q), ap (λ (c : Core). c.merges) h)
+
+-- the same of a flush in one call
+by_mark : (w : ℕ) (marked : Bool) (r : Result (Option (ℕ × Registered)) Error) (old new : Core) → Flushes w r old new → MarksFlush marked r → GoesOn (flush_events w old.seqno marked r) old new
+by_mark w false (Ok None) old new f m = let is = (f.some refl).1 in nothing_goes old new (still_goes old new (ap (λ (c : Core). c.seqno) is) (ap (λ (c : Core). c.merges) is))
+by_mark w false (Ok (Some p)) old new f m = absurd (cc (m.ok.0 refl))
+by_mark w false (Err e) old new f m = nothing_goes old new (refused_goes w e old new f)
+by_mark w true (Ok None) old new f m = absurd (cc (m.ok.1 refl))
+by_mark w true (Ok (Some p)) old new f m =
+    let rest = f.installs.installs.cleans.rest in
+    let q : new.seqno ≡ old.seqno + 1 = ap (λ (c : Core). c.seqno) rest in
+    install_goes w old new (omega (arith, q), ap (λ (c : Core). c.merges) rest)
+by_mark w true (Err e) old new f m = mark_goes w old new (refused_goes w e old new f)
+
+-- ---- what is kept
 
 -- reads that it keeps are all spared
 all_spared : (events : List Event) (old new : Core) → KeepsReads events old new → SparesReads IsAny events IsAnySnapshot old new
@@ -123,57 +122,82 @@ all_spared events old new keeps = record {
   stays = λ opened start journal before order holds s spared. keeps.stays opened start journal order holds s;
 }
 
-module _ (opened : List Placed) (least : ℕ) (marks : BTreeMap Bytes Mark) where
-  abbrev first : List Entry
-  first = held opened
-
-  events_floor : (journal : List Event) (w n low : ℕ) (b : Bool) → low ≡ floor journal → next_number first journal ≤ n → cond b n low ≡ floor (journal ++ mark_events w n b)
-  events_floor journal w n low false is up = is ∙ sym (fold-append floor_after 0 journal (Watermark w ∷ []))
-  events_floor journal w n low true is up =
-      let le : floor journal ≤ next_number first journal = floor_below 0 (above first) journal (omega arith) in
-      let top : n ≡ max (floor journal) n = omega (arith, le, up) in
-      top ∙ sym (fold-append floor_after 0 journal (Watermark w ∷ (Install n ∷ [])))
-
-  -- a call that keeps reads behind what it notes keeps what always holds
-  pub marked_recorded : (theory : Soundness) (w low : ℕ) (b : Bool) (old new : Core) (journal : List Event) → KeepsReads (mark_events w old.seqno b) old new → Goes (cond b (old.seqno + 1) old.seqno) old new → IsRecorded opened least marks low old journal
-      → IsRecorded opened least marks (cond b old.seqno low) new (journal ++ mark_events w old.seqno b) × Stays old new
-  marked_recorded theory w low b old new journal keeps goes r =
-      let es = mark_events w old.seqno b in
-      let t = told_recorded opened least marks theory IsAny IsAnySnapshot es low (cond b old.seqno low) old new journal (all_spared es old new keeps) tt (events_told w old.seqno b) (events_next w old.seqno new.seqno b goes.0) (events_floor journal w old.seqno low b r.floored r.counted) (still_marked old new journal es goes.1 r.marked) r in
+module _ (opened : List Placed) (least : ℕ) (marks : BTreeMap Bytes Mark) (theory : Soundness) where
+  -- a call that keeps reads behind what it tells keeps what always holds
+  told_keeps : (low low' : ℕ) (old new : Core) (journal journal' es : List Event) → KeepsReads es old new → GoesOn es old new → journal' ≡ journal ++ es → low' ≡ fold floor_after low es → IsRecorded opened least marks low old journal → IsRecorded opened least marks low' new journal' × Stays old new
+  told_keeps low low' old new journal journal' es keeps goes told floored h =
+      let t = events_recorded opened least marks theory low low' old new journal journal' IsAny IsAnySnapshot es (all_spared es old new keeps) tt goes told floored h in
       (t.0, λ s. t.1 s tt)
 
-  -- one that notes nothing
-  pub unnoted_recorded : (theory : Soundness) (low : ℕ) (old new : Core) (journal : List Event) → KeepsReads [] old new → Goes old.seqno old new → IsRecorded opened least marks low old journal → IsRecorded opened least marks low new journal × Stays old new
-  unnoted_recorded theory low old new journal keeps goes r = silent_recorded opened least marks theory low old new journal (all_spared [] old new keeps) goes.0 (same_marked old new journal goes.1 r.marked) r
+  -- one that tells nothing
+  pub unnoted_recorded : (low : ℕ) (old new : Core) (journal : List Event) → KeepsReads [] old new → Goes old.seqno old new → IsRecorded opened least marks low old journal → IsRecorded opened least marks low new journal × Stays old new
+  unnoted_recorded low old new journal keeps goes r = silent_recorded opened least marks theory low old new journal (all_spared [] old new keeps) goes.0 (same_marked old new journal goes.1 r.marked) r
 
-  -- ---- what is registered
+  module _ (law : FlushesKeepReads) (low low' : ℕ) (journal journal' es : List Event) (told : journal' ≡ journal ++ es) (floored : low' ≡ fold floor_after low es) where
+    pub register_recorded : (job : SeenWritten) (r : Result Registered Error) (old new : Core) → TellsRegister job r es old new → IsRecorded opened least marks low old journal → IsRecorded opened least marks low' new journal' × Stays old new
+    register_recorded job r old new n h =
+        told_keeps low low' old new journal journal' es (subst (λ l. KeepsReads l old new) (sym n.told) (law.registers job r old new n.registers n.deeds)) (subst (λ l. GoesOn l old new) (sym n.told) (registers_go job r old new n.registers)) told floored h
 
-  moved : (low low' : ℕ) (old new : Core) (journal journal' : List Event) → low' ≡ low → journal' ≡ journal → IsRecorded opened least marks low new journal × Stays old new → IsRecorded opened least marks low' new journal' × Stays old new
-  moved low low' old new journal journal' is same t = (subst (λ l. IsRecorded opened least marks l new journal') (sym is) (subst (λ j. IsRecorded opened least marks low new j) (sym same) t.0), t.1)
+    pub flush_recorded : (w : ℕ) (r : Result (Option (ℕ × Registered)) Error) (old new : Core) → TellsFlush w r es old new → IsRecorded opened least marks low old journal → IsRecorded opened least marks low' new journal' × Stays old new
+    flush_recorded w r old new f h =
+        told_keeps low low' old new journal journal' es (subst (λ l. KeepsReads l old new) (sym f.1) (law.flushes w f.0 r old new f.2 f.3)) (subst (λ l. GoesOn l old new) (sym f.1) (by_mark w f.0 r old new f.2 f.3)) told floored h
 
-  pub register_recorded : (theory : Soundness) (law : FlushesKeepReads) (job : SeenWritten) (w low low' n : ℕ) (b : Bool) (r : Result Registered Error) (old new : Core) (journal journal' : List Event) → Registers job r old new → IfOk r (λ a. a.installed ≡ true → IsFlushDeed job old new)
-      → w ≡ job.watermark → b ≡ is_installed r → n ≡ old.seqno → journal' ≡ journal ++ mark_events w n b → low' ≡ cond b n low → IsRecorded opened least marks low old journal → IsRecorded opened least marks low' new journal' × Stays old new
-  register_recorded theory law job w low low' n b r old new journal journal' registers deeds mark installed number told floored h =
-      let v = job.watermark in
-      let c = is_installed r in
-      moved (cond c old.seqno low) low' old new (journal ++ mark_events v old.seqno c) journal'
-      (floored ∙ ap (λ x. cond x n low) installed ∙ ap (λ m. cond c m low) number)
-      (told ∙ ap (λ x. journal ++ mark_events x n b) mark ∙ ap (λ m. journal ++ mark_events v m b) number ∙ ap (λ x. journal ++ mark_events v old.seqno x) installed)
-      (marked_recorded theory v low c old new journal (subst (λ es. KeepsReads es old new) (events_are v old.seqno r) (law.registers job r old new registers deeds)) (registers_goes job r old new registers) h)
+    -- behind a rotation
+    rotated_recorded : (w : ℕ) (id : Option ℕ) (r : Result (Option (ℕ × Registered)) Error) (old new : Core) → FlushesRotated w id r es old new → IsRecorded opened least marks low old journal → IsRecorded opened least marks low' new journal' × Stays old new
+    rotated_recorded w id r old new t h =
+        let mid = t.0 in
+        let behind = flush_recorded w r mid new t.2 (recorded_rotate opened least theory marks low old mid journal id h t.1) in
+        (behind.0, stays_behind old mid new id t.1 (rotate_spares opened least theory marks low old mid journal id h t.1) behind.1)
 
-  pub flush_recorded : (theory : Soundness) (law : FlushesKeepReads) (w low low' n : ℕ) (b : Bool) (r : Result (Option (ℕ × Registered)) Error) (old new : Core) (journal journal' : List Event) → Flushes w r old new → MarksFlush true r
-      → b ≡ is_ok r → n ≡ old.seqno → journal' ≡ journal ++ mark_events w n b → low' ≡ cond b n low → IsRecorded opened least marks low old journal → IsRecorded opened least marks low' new journal' × Stays old new
-  flush_recorded theory law w low low' n b r old new journal journal' flushes marks_it ok number told floored h =
-      moved (cond (is_ok r) old.seqno low) low' old new (journal ++ mark_events w old.seqno (is_ok r)) journal'
-      (floored ∙ ap (λ x. cond x n low) ok ∙ ap (λ m. cond (is_ok r) m low) number)
-      (told ∙ ap (λ m. journal ++ mark_events w m b) number ∙ ap (λ x. journal ++ mark_events w old.seqno x) ok)
-      (by_case r flushes marks_it)
-    where
-      by_case : (q : Result (Option (ℕ × Registered)) Error) → Flushes w q old new → MarksFlush true q → IsRecorded opened least marks (cond (is_ok q) old.seqno low) new (journal ++ mark_events w old.seqno (is_ok q)) × Stays old new
-      by_case (Ok None) f m = absurd (cc (m.ok.1 refl))
-      by_case (Ok (Some p)) f m =
-          let rest = f.installs.installs.cleans.rest in
-          let q : new.seqno ≡ old.seqno + 1 = ap (λ (c : Core). c.seqno) rest in
-          let le : old.seqno + 1 ≤ new.seqno = omega (arith, q) in
-          marked_recorded theory w low true old new journal (law.flushes w true (Ok (Some p)) old new f m) (le, ap (λ (c : Core). c.merges) rest) h
-      by_case (Err e) f m = marked_recorded theory w low false old new journal (law.flushes w true (Err e) old new f m) (refused_goes w e old new f) h
+    -- where nothing is done or told
+    refused_recorded : (old new : Core) → es ≡ [] → new ≡ old → IsRecorded opened least marks low old journal → IsRecorded opened least marks low' new journal' × Stays old new
+    refused_recorded old new none same h =
+        let still : journal' ≡ journal = told ∙ ap (λ l. journal ++ l) none ∙ append-nil journal in
+        let low_still : low' ≡ low = floored ∙ ap (fold floor_after low) none in
+        subst (λ c. IsRecorded opened least marks low' c journal' × Stays old c) (sym same)
+        (subst (λ l. IsRecorded opened least marks l old journal') (sym low_still) (subst (IsRecorded opened least marks low old) (sym still) h), λ s. theory.spares.same s (state_of [] old) (state_of [] old) refl refl refl)
+
+    pub active_recorded : (w : ℕ) (r : Result (Option ℕ × Option (ℕ × Registered)) (Error × Option ℕ)) (old new : Core) → FlushesActiveNoted w r es old new → IsRecorded opened least marks low old journal → IsRecorded opened least marks low' new journal' × Stays old new
+    active_recorded w (Ok a) old new f h = rotated_recorded w a.0 (Ok a.1) old new f.ok h
+    active_recorded w (Err e) old new f h =
+        ⊎_elim
+        (λ (none : (es ≡ []) × RefusesRotation e.1 e.0 old new). refused_recorded old new none.0 none.1.unchanged h)
+        (λ (some : FlushesRotated w e.1 (Err e.0) es old new). rotated_recorded w e.1 (Err e.0) old new some h)
+        f.err
+
+-- ---- what is noted
+
+-- a flush in one call, whose entries are appended
+pub flush_notes : (w : ℕ) (r : Result (Option (ℕ × Registered)) Error) (events : List Event) (old new : Core) (journal journal' : List JournalEntry) (pass pass' : List (ℕ × JournalEntry)) → TellsFlush w r events old new → Notes events journal journal' pass pass' → FlushesNoted w r old new journal journal' pass pass'
+flush_notes w r events old new journal journal' pass pass' f notes = record { flushes = f.2; marked = f.0; marks = f.3; noted = subst (λ es. Notes es journal journal' pass pass') f.1 notes }
+
+module _ (w : ℕ) (events : List Event) (old new : Core) (journal journal' : List JournalEntry) (pass pass' : List (ℕ × JournalEntry)) (notes : Notes events journal journal' pass pass') where
+  notes_behind : (id : Option ℕ) (r : Result (Option (ℕ × Registered)) Error) → FlushesRotated w id r events old new → NotesBehind w id r old new journal journal' pass pass'
+  notes_behind id r t = record { mid = t.0; rotates = t.1; flushes = flush_notes w r events t.0 new journal journal' pass pass' t.2 notes }
+
+  notes_nothing : (id : Option ℕ) (e : Error) → events ≡ [] → RefusesRotation id e old new → NotesNothing id e old new journal journal' pass pass'
+  notes_nothing id e none refuses =
+      let still = subst (λ es. Notes es journal journal' pass pass') none notes in
+      record { rotation = refuses; journal_stays = still.behind ∙ append-nil journal; pass_stays = still.passed ∙ append-nil pass }
+
+  -- one of the active memtable
+  pub active_notes : (r : Result (Option ℕ × Option (ℕ × Registered)) (Error × Option ℕ)) → FlushesActiveNoted w r events old new → NotesActive w r old new journal journal' pass pass'
+  active_notes (Ok a) f = record { ok = notes_behind a.0 (Ok a.1) f.ok; err = tt }
+  active_notes (Err e) f = record {
+    ok = tt;
+    err = ⊎_elim
+        (λ (none : (events ≡ []) × RefusesRotation e.1 e.0 old new). inl (notes_nothing e.1 e.0 none.0 none.1))
+        (λ (some : FlushesRotated w e.1 (Err e.0) events old new). inr (notes_behind e.1 (Err e.0) some))
+        f.err;
+  }
+
+-- what it answers and does
+pub active_does : (w : ℕ) (r : Result (Option ℕ × Option (ℕ × Registered)) (Error × Option ℕ)) (events : List Event) (old new : Core) → FlushesActiveNoted w r events old new → FlushesActive w r old new
+active_does w (Ok a) events old new f = record { ok = record { mid = f.ok.0; rotates = f.ok.1; flushes = f.ok.2.2 }; err = tt }
+active_does w (Err e) events old new f = record {
+  ok = tt;
+  err = ⊎_elim
+      (λ (none : (events ≡ []) × RefusesRotation e.1 e.0 old new). inl none.1)
+      (λ (some : FlushesRotated w e.1 (Err e.0) events old new). inr (record { mid = some.0; rotates = some.1; flushes = some.2.2 }))
+      f.err;
+}

@@ -19,17 +19,6 @@ use Rattle.lsm_recorded.specs.declared.marks.Mark.{Mark}
 use Rattle.lsm_recorded.specs.Passes.{Notes}
 use Rattle.lsm_recorded.specs.Recorded.{SeenRecorded, IsRecorded, Stays}
 
--- ---- words
-
--- the mark, and behind it the install, where there is one
-abbrev pub mark_events : ℕ → ℕ → Bool → List Event
-mark_events w n installed = if installed then Watermark w ∷ (Install n ∷ []) else Watermark w ∷ []
-
--- is the job installed?
-abbrev pub is_installed : Result Registered Error → Bool
-is_installed (Ok a) = a.installed
-is_installed (Err e) = false
-
 -- ---- a job
 
 -- a job that there is no room to note: it is spent, and nothing else changes
@@ -82,9 +71,3 @@ pub record NotesNothing (id : Option ℕ) (e : Error) (old new : Core) (journal 
 pub record NotesActive (w : ℕ) (r : Result (Option ℕ × Option (ℕ × Registered)) (Error × Option ℕ)) (old new : Core) (journal journal' : List JournalEntry) (pass pass' : List (ℕ × JournalEntry)) : Type 0 where
   pub ok : IfOk r (λ a. NotesBehind w a.0 (Ok a.1) old new journal journal' pass pass')
   pub err : IfErr r (λ e. NotesNothing e.1 e.0 old new journal journal' pass pass' ⊎ NotesBehind w e.1 (Err e.0) old new journal journal' pass pass')
-
--- ---- what always holds
-
--- whatever was opened and marked, what always holds of a tree with its journal goes on, and what each snapshot sees stays
-abbrev pub KeepsRecorded : ℕ → ℕ → Core → Core → List JournalEntry → List JournalEntry → Type 0
-KeepsRecorded low low' old new journal journal' = (opened : List Placed) (least : ℕ) (marks : BTreeMap Bytes Mark) → IsRecorded opened least marks low old journal → IsRecorded opened least marks low' new journal' × Stays old new

@@ -1,5 +1,5 @@
 // What a call came to, appended to a journal and to a pass.
-ghost use Rattle.std.specs.Prelude.{◌≡◌, ◌+◌, ◌≤◌, IfOk, fold, length, take, vec_len, vec_capacity};
+ghost use Rattle.std.specs.Prelude.{◌≡◌, ◌+◌, ◌≤◌, Ok, IfOk, fold, length, take, vec_len, vec_capacity};
 ghost use Rattle.lsm_model.specs.Journal.{floor_after};
 ghost use Rattle.lsm_recorded.specs.Passes.{Notes};
 
@@ -25,6 +25,25 @@ pub(crate) fn make_copies(
     let copies = copy_journal(alloc, entries)?;
     make_room(journal, pass, copies.len())?;
     Ok(copies)
+}
+
+/// Entries that were made, beside copies for a pass, with room for them there and in a journal.
+pub(crate) fn beside_copies(
+    alloc: Global,
+    journal: &mut Vec<JournalEntry>,
+    pass: &mut Vec<(u64, JournalEntry)>,
+    made: Result<Vec<JournalEntry>, AllocError>,
+) -> Result<(Vec<JournalEntry>, Vec<JournalEntry>), AllocError>
+    ensures entries { IfOk result (λ both. made ≡ Ok (both.0)) }
+    ensures copies { IfOk result (λ both. both.1.items ≡ both.0.items) }
+    ensures journal { journal.new.items ≡ journal.old.items }
+    ensures pass { pass.new.items ≡ pass.old.items }
+    ensures journal_room { IfOk result (λ both. vec_len journal.new + vec_len both.1 ≤ vec_capacity journal.new) }
+    ensures pass_room { IfOk result (λ both. vec_len pass.new + vec_len both.1 ≤ vec_capacity pass.new) }
+{
+    let entries = made?;
+    let copies = make_copies(alloc, journal, pass, &entries)?;
+    Ok((entries, copies))
 }
 
 /// The greatest sequence number of an install or a clear, also among these entries.

@@ -17,7 +17,7 @@ use Rattle.lsm_files.specs.Causes.{HasCause, BlamesStore, Blames, no_fault, caus
 use Rattle.lsm_jobs.specs.declared.jobs.Registered.{Registered}
 use Rattle.lsm_state.specs.declared.compaction.Begun.{Begun}
 use Rattle.lsm_state.specs.declared.compaction.Begun.TheVariants.{DidNothing, Declined, Installed, Job as BegunJob}
-use Rattle.lsm_state.specs.Causes.{BlamesOrUnclean}
+use Rattle.lsm_state.specs.Causes.{BlamesOrUnclean, BlamesOrUncleanBehind}
 use Rattle.lsm_state.specs.Core.{Core}
 use Rattle.lsm_state.specs.Refusals.{is_long_key, is_long_value, is_great, entry_refusal, batch_refusal}
 use Rattle.lsm_runs.specs.declared.slots.Job.{Job}
@@ -34,7 +34,7 @@ use Rattle.lsm_runs.specs.Files.{JobHasCause, StepHasCause}
 use Rattle.lsm_runs.specs.Clearing.{TakesForget}
 use Rattle.lsm_runs.specs.Compacting.{Strategies, TakesRunCompaction, TakesAbandonCompaction, TakesTableId, IsCompactingReply, reply_of}
 use Rattle.lsm_runs.specs.CountSteps.{IsCounted, IsUncertainReply, IsKindReply}
-use Rattle.lsm_runs.specs.Flushing.{TakesBegin, TakesRun, TakesAbandon, TakesMoment, told_registered}
+use Rattle.lsm_runs.specs.Flushing.{TakesBegin, TakesRun, TakesAbandon, TakesMoment, told_registered, told_active}
 use Rattle.lsm_runs.specs.JobSteps.{TakesJob}
 use Rattle.lsm_runs.specs.ReadSteps.{IsReadRefusal, TakesGet, TakesGetEntry, TakesPairs, IsContainsReply, IsSizeReply, IsLenReply, IsEmptyReply, IsEndReply}
 use Rattle.lsm_runs.specs.Runs.{Takes, TakesAlone, TakesEntry, TakesBatch, TakesRotate, TakesNext, TakesCounter}
@@ -300,12 +300,19 @@ module _ {F : Type 0} (world : F → World) (was is : F) where
 
 -- ---- what is replied of an answer
 
-registered_blames : (w n : ℕ) (r : Result Registered Error) → ReplyBlames (told_registered w n r).reply → BlamesOrUnclean r
-registered_blames w n (Ok a) blamed = blamed
-registered_blames w n (Err x) blamed = blamed
+registered_blames : (events : List Event) (r : Result Registered Error) → ReplyBlames (told_registered events r).reply → BlamesOrUnclean r
+registered_blames events (Ok a) blamed = blamed
+registered_blames events (Err x) blamed = blamed
 
-pub registered_cause : (w n : ℕ) (r : Result Registered Error) (told : Told) (old new : World) → told ≡ told_registered w n r → HasCause (BlamesOrUnclean r) old new → HasCause (ReplyBlames told.reply) old new
-registered_cause w n r told old new is c = rw is (causes_less _ _ old new c (registered_blames w n r))
+pub registered_cause : (events : List Event) (r : Result Registered Error) (old new : World) → HasCause (BlamesOrUnclean r) old new → HasCause (ReplyBlames (told_registered events r).reply) old new
+registered_cause events r old new c = causes_less _ _ old new c (registered_blames events r)
+
+active_blames : (events : List Event) (r : Result (Option ℕ × Option (ℕ × Registered)) (Error × Option ℕ)) → ReplyBlames (told_active events r).reply → BlamesOrUncleanBehind r
+active_blames events (Ok a) blamed = blamed
+active_blames events (Err e) blamed = blamed
+
+pub active_cause : (events : List Event) (r : Result (Option ℕ × Option (ℕ × Registered)) (Error × Option ℕ)) (old new : World) → HasCause (BlamesOrUncleanBehind r) old new → HasCause (ReplyBlames (told_active events r).reply) old new
+active_cause events r old new c = causes_less _ _ old new c (active_blames events r)
 
 begun_blames : (r : Result Begun Error) → ReplyBlames (reply_of r) → Blames r
 begun_blames (Ok DidNothing) blamed = blamed

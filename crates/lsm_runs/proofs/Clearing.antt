@@ -11,16 +11,17 @@ use Rattle.lsm_state.specs.Commits.{doubted}
 use Rattle.lsm_state.specs.Clearing.{cleared, cleared_in, Clears, ClearDeeds, clear_events, ClearsKeepReads, forgotten, ForgetsUnflushed}
 use Rattle.lsm_runs.specs.declared.steps.Reply.{Reply}
 use Rattle.lsm_runs.specs.declared.steps.Reply.TheVariants.{Cleared, Done, Refused}
-use Rattle.lsm_runs.specs.Clearing.{ClearsNoted, TakesClear, TakesForget, told_clear}
+use Rattle.lsm_journal.specs.NotedClears.{ClearsNoted}
+use Rattle.lsm_runs.specs.Clearing.{TakesClear, TakesForget, told_clear}
 use Rattle.lsm_runs.proofs.Keeping.{AreNoReads, KeepsAfter, keeps_any}
 use Rattle.lsm_runs.proofs.CompactionRest.{KeepsOpenWork, kept_by, same_or_counted}
 
 -- ---- a clear
 
 -- a clear, of which the number that the counter stood at is noted
-pub clear_taken : (r : Result ℕ Error) (events : List Event) (old new : Core) → events ≡ Clear old.seqno ∷ [] → Clears r old new → ClearDeeds r old new → TakesClear (told_clear events r).reply (told_clear events r).entries old new
-clear_taken (Ok n) events old new noted c d = (noted ∙ ap (λ m. Clear m ∷ []) (sym c.ok.0), c, d)
-clear_taken (Err x) events old new noted c d = (refl, c, d)
+pub clear_taken : (r : Result ℕ Error) (events : List Event) (old new : Core) → ClearsNoted r events old new → TakesClear (told_clear events r).reply (told_clear events r).entries old new
+clear_taken (Ok n) events old new t = t
+clear_taken (Err x) events old new t = t
 
 unread : (r : Result ℕ Error) → AreNoReads (clear_events r)
 unread (Ok n) opened = refl

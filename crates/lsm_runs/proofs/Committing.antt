@@ -34,7 +34,8 @@ use Rattle.lsm_runs.specs.declared.steps.Reply.{Reply}
 use Rattle.lsm_runs.specs.declared.steps.Reply.TheVariants as reply
 use Rattle.lsm_runs.specs.Clearing.{TakesClear}
 use Rattle.lsm_runs.specs.Compacting.{Strategies, TakesBeginCompaction, TakesFinish, CompactsFrom, TakesCompact, TakesDropRange}
-use Rattle.lsm_runs.specs.Flushing.{TakesRegister, FlushesNoted, FlushesRotated, TakesFlush, TakesFlushActive}
+use Rattle.lsm_journal.specs.NotedFlushes.{FlushesNoted, FlushesRotated}
+use Rattle.lsm_runs.specs.Flushing.{TakesRegister, TakesFlush, TakesFlushActive}
 use Rattle.lsm_choices.specs.declared.choice.Why.TheVariants.{UnknownJob}
 use Rattle.lsm_merges.specs.OpenMerges.{IsOpenIn}
 use Rattle.lsm_runs.proofs.Drawing.{Near, seqno_of, near_same, near_next, near_either, same_or_counted, unnumbered, idle, drawn, rotated_same, spends_same}

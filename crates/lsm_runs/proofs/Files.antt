@@ -23,10 +23,6 @@ use Rattle.lsm_runs.specs.JobSteps.{TakesJob}
 use Rattle.lsm_runs.specs.Runs.{Takes, TakesAlone}
 use Rattle.lsm_runs.specs.Slots.{Stage, Closes}
 
-pub rotated_upheld : (w w' : World) (old mid new : Core) (id : Option ℕ) → Rotates old id mid → Upholds w w' mid new → Upholds w w' old new
-rotated_upheld w w' old mid new None r u = subst (λ c. Upholds w w' c new) r.1 u
-rotated_upheld w w' old mid new (Some id) r u = let behind = subst (λ c. Upholds w w' c new) r.2 u in record { files = behind.files; passes = behind.passes }
-
 -- what must stand on the disk stays, or less must
 rests_stored : (w : World) (old new : Core) → Rests old new → StaysStored w w old new
 rests_stored w old new r h = go r.written

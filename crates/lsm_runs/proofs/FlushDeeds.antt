@@ -23,7 +23,8 @@ use Rattle.lsm_runs.specs.declared.steps.JobStep.TheVariants.{RegisterTables}
 use Rattle.lsm_runs.specs.declared.steps.Reply.{Reply}
 use Rattle.lsm_runs.specs.declared.steps.Reply.TheVariants.{Begun, Done as NothingMore, Registered, Flushed, FlushedActive, RefusedActive, NoJob, SlotInUse, Refused}
 use Rattle.lsm_runs.specs.declared.steps.Step.TheVariants.{Flush, FlushActiveMemtable}
-use Rattle.lsm_runs.specs.Flushing.{TakesBegin, TakesRun, TakesTables, TakesRegister, TakesAbandon, TakesFlush, TakesFlushActive, TakesMoment, FlushesNoted, FlushesRotated}
+use Rattle.lsm_journal.specs.NotedFlushes.{FlushesNoted, FlushesRotated}
+use Rattle.lsm_runs.specs.Flushing.{TakesBegin, TakesRun, TakesTables, TakesRegister, TakesAbandon, TakesFlush, TakesFlushActive, TakesMoment}
 use Rattle.lsm_runs.specs.Noting.{sealed_note, sealed_behind, flushed_note, job_notes, alone_notes}
 use Rattle.lsm_runs.proofs.CallDeeds.{rotated_deeds}
 use Rattle.lsm_runs.proofs.StepDeeds.{HasDeeds, IsRight, IsSame, idle, nothing, no_deed, mark, order_of, right_behind, then}

@@ -1,19 +1,22 @@
 -- Outcomes of flushes.
-use Rattle.std.proofs.Common.{◌≡◌, Option, Some, None, true, Result, Ok, Err, IfOk, IsErrOf, refl, sym, subst}
+use Rattle.std.proofs.Common.{◌≡◌, ℕ, List, Option, Some, None, Result, Ok, Err}
 use Rattle.lsm_below.specs.declared.error.Error.{Error}
-use Rattle.lsm_below.specs.declared.error.Error.TheVariants.{CommitUnknown}
+use Rattle.lsm_model.specs.Journal.{Event}
 use Rattle.lsm_jobs.specs.Jobs.{SeenWritten}
 use Rattle.lsm_jobs.specs.declared.jobs.Registered.{Registered}
 use Rattle.lsm_state.specs.Core.{Core}
-use Rattle.lsm_state.specs.Flushes.{Registers, IsFlushDeed, IsLostFlush}
+use Rattle.lsm_journal.specs.NotedFlushes.{RegistersNoted, FlushesActiveNoted}
 use Rattle.lsm_runs.specs.declared.slots.Job.{Job}
 use Rattle.lsm_runs.specs.declared.slots.Job.TheVariants.{Written}
-use Rattle.lsm_runs.specs.Flushing.{TakesRegister, told_registered}
-use Rattle.lsm_runs.specs.Told.{Told}
+use Rattle.lsm_runs.specs.Flushing.{TakesRegister, TakesFlushActive, told_registered, told_active}
 
 -- a job that was registered
-pub registered_taken : (job : SeenWritten) (r : Result Registered Error) (told : Told) (was is : Option Job) (old new : Core)
-    → told ≡ told_registered job.watermark old.seqno r → was ≡ Some (Written job) → is ≡ None → Registers job r old new
-    → IfOk r (λ a. a.installed ≡ true → IsFlushDeed job old new) → (IsErrOf r CommitUnknown → IsLostFlush job old new) → TakesRegister told.reply told.entries was is old new
-registered_taken job (Ok a) told was is old new e waits free done deed lost = subst (λ (t : Told). TakesRegister t.reply t.entries was is old new) (sym e) (job, waits, free, refl, done, deed, lost)
-registered_taken job (Err x) told was is old new e waits free done deed lost = subst (λ (t : Told). TakesRegister t.reply t.entries was is old new) (sym e) (job, waits, free, refl, done, deed, lost)
+pub registered_taken : (job : SeenWritten) (r : Result Registered Error) (events : List Event) (was is : Option Job) (old new : Core)
+    → was ≡ Some (Written job) → is ≡ None → RegistersNoted job r events old new → TakesRegister (told_registered events r).reply (told_registered events r).entries was is old new
+registered_taken job (Ok a) events was is old new waits free n = (job, waits, free, n.told, n.registers, n.deeds, n.lost)
+registered_taken job (Err x) events was is old new waits free n = (job, waits, free, n.told, n.registers, n.deeds, n.lost)
+
+-- a flush of the active memtable
+pub active_taken : (w : ℕ) (r : Result (Option ℕ × Option (ℕ × Registered)) (Error × Option ℕ)) (events : List Event) (old new : Core) → FlushesActiveNoted w r events old new → TakesFlushActive w (told_active events r).reply (told_active events r).entries old new
+active_taken w (Ok a) events old new f = f.ok
+active_taken w (Err e) events old new f = f.err

@@ -16,7 +16,8 @@ use Rattle.lsm_state.specs.WholeFlushes.{RefusesRotation}
 use Rattle.lsm_runs.specs.declared.slots.Job.{Job}
 use Rattle.lsm_runs.specs.declared.steps.Reply.{Reply}
 use Rattle.lsm_runs.specs.declared.steps.Reply.TheVariants.{Begun, Done, Registered, Flushed, FlushedActive, RefusedActive, NoJob, SlotInUse, Refused}
-use Rattle.lsm_runs.specs.Flushing.{TakesBegin, TakesRun, TakesTables, TakesRegister, RegistersFrom, TakesAbandon, TakesFlush, TakesFlushActive, TakesMoment, FlushesNoted, FlushesRotated}
+use Rattle.lsm_journal.specs.NotedFlushes.{FlushesNoted, FlushesRotated}
+use Rattle.lsm_runs.specs.Flushing.{TakesBegin, TakesRun, TakesTables, TakesRegister, RegistersFrom, TakesAbandon, TakesFlush, TakesFlushActive, TakesMoment}
 use Rattle.lsm_runs.specs.Runs.{without_low_reads}
 use Rattle.lsm_runs.proofs.Keeping.{AreNoReads}
 

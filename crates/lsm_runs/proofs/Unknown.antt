@@ -23,9 +23,11 @@ use Rattle.lsm_runs.specs.declared.steps.Step.{Step}
 use Rattle.lsm_runs.specs.declared.steps.Step.TheVariants.{AtSlot, Flush, FlushActiveMemtable, Compact, DoCompaction, MajorCompact, DropRange, Clear}
 use Rattle.lsm_runs.specs.declared.steps.Reply.{Reply}
 use Rattle.lsm_runs.specs.declared.steps.Reply.TheVariants.{Done, Registered, Flushed, FlushedActive, RefusedActive, Cleared, NoJob, NoStrategy, SlotInUse, Refused}
-use Rattle.lsm_runs.specs.Flushing.{TakesTables, RegistersFrom, TakesRegister, FlushesRotated, TakesFlush, TakesFlushActive}
+use Rattle.lsm_journal.specs.NotedFlushes.{FlushesRotated}
+use Rattle.lsm_runs.specs.Flushing.{TakesTables, RegistersFrom, TakesRegister, TakesFlush, TakesFlushActive}
 use Rattle.lsm_runs.specs.Compacting.{Strategies, TakesBeginCompaction, TakesFinish, CompactsFrom, TakesCompact, TakesDropRange}
-use Rattle.lsm_runs.specs.Clearing.{ClearsNoted, TakesClear}
+use Rattle.lsm_journal.specs.NotedClears.{ClearsNoted}
+use Rattle.lsm_runs.specs.Clearing.{TakesClear}
 use Rattle.lsm_runs.specs.JobSteps.{TakesJob}
 use Rattle.lsm_runs.specs.Runs.{Takes, TakesAlone}
 use Rattle.lsm_runs.specs.Slots.{Stage, Closes, at_first, beside}

@@ -3,14 +3,11 @@ use Rattle.std.specs.Prelude.{◌≡◌, ℕ, List, [], Result, Ok, Err}
 use Rattle.lsm_below.specs.declared.error.Error.{Error}
 use Rattle.lsm_model.specs.Journal.{Event}
 use Rattle.lsm_state.specs.Core.{Core}
-use Rattle.lsm_state.specs.Clearing.{Clears, ClearDeeds, ForgetsUnflushed, clear_events}
+use Rattle.lsm_state.specs.Clearing.{ForgetsUnflushed}
+use Rattle.lsm_journal.specs.NotedClears.{ClearsNoted}
 use Rattle.lsm_runs.specs.declared.steps.Reply.{Reply}
 use Rattle.lsm_runs.specs.declared.steps.Reply.TheVariants.{Cleared, Done, Refused}
 use Rattle.lsm_runs.specs.Told.{Told}
-
--- a clear, which is noted where it is answered
-abbrev pub ClearsNoted : Result ℕ Error → List Event → Core → Core → Type 0
-ClearsNoted r events old new = (events ≡ clear_events r) × Clears r old new × ClearDeeds r old new
 
 abbrev pub TakesClear : Reply → List Event → Core → Core → Type 0
 TakesClear (Cleared n) events old new = ClearsNoted (Ok n) events old new
@@ -23,7 +20,7 @@ TakesForget Done events old new = (events ≡ []) × ForgetsUnflushed (Ok tt) ol
 TakesForget (Refused x) events old new = (events ≡ []) × ForgetsUnflushed (Err x) old new
 TakesForget reply events old new = ⊥
 
--- the outcome of a clear, where these events are noted if it is answered
+-- the outcome of a clear
 abbrev pub told_clear : List Event → Result ℕ Error → Told
 told_clear events (Ok n) = record { reply = Cleared n; entries = events }
-told_clear events (Err x) = record { reply = Refused x; entries = [] }
+told_clear events (Err x) = record { reply = Refused x; entries = events }

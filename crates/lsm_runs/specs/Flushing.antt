@@ -1,16 +1,16 @@
 -- What a step of a flush may answer, add to the journal and do.
-use Rattle.std.specs.Prelude.{◌≡◌, ◌⊎◌, ℕ, Bool, true, List, [], Option, Some, None, IsSome, is_some, option_map, Result, Ok, Err, IfOk, IsErrOf}
+use Rattle.std.specs.Prelude.{◌≡◌, ◌⊎◌, ℕ, true, List, [], Option, Some, None, IsSome, is_some, option_map, Result, Ok, Err, IfOk, IsErrOf}
 use Rattle.lsm_below.specs.declared.error.Error.{Error}
 use Rattle.lsm_below.specs.declared.error.Error.TheVariants.{OutOfMemory, CommitUnknown}
 use Rattle.lsm_model.specs.Journal.{Event}
 use Rattle.lsm_jobs.specs.Jobs.{SeenJob, SeenMerged, SeenWritten, IsMergedFrom}
 use Rattle.lsm_jobs.specs.declared.jobs.Registered.{Registered as Outcome}
 use Rattle.lsm_state.specs.Core.{Core}
-use Rattle.lsm_state.specs.Calls.{Rotates}
 use Rattle.lsm_state.specs.Deeds.{IsNoDeed}
 use Rattle.lsm_state.specs.Flushes.{Begins, WritesTables, Registers, IsFlushDeed, IsLostFlush, spent}
-use Rattle.lsm_state.specs.WholeFlushes.{Flushes, MarksFlush, RefusesRotation}
-use Rattle.lsm_state.specs.FlushReads.{register_events, flush_events}
+use Rattle.lsm_state.specs.WholeFlushes.{RefusesRotation}
+use Rattle.lsm_state.specs.FlushReads.{register_events}
+use Rattle.lsm_journal.specs.NotedFlushes.{FlushesNoted, FlushesRotated}
 use Rattle.lsm_runs.specs.declared.slots.Job.{Job}
 use Rattle.lsm_runs.specs.declared.slots.Job.TheVariants.{Begun as BegunJob, Merged, Written}
 use Rattle.lsm_runs.specs.declared.steps.Reply.{Reply}
@@ -76,18 +76,10 @@ TakesAbandon reply events was is old new = ⊥
 
 -- ---- a flush in one call
 
--- its watermark counts where it came to register a job
-abbrev pub FlushesNoted : ℕ → Result (Option (ℕ × Outcome)) Error → List Event → Core → Core → Type 0
-FlushesNoted w r events old new = (marked : Bool) × (events ≡ flush_events w old.seqno marked r) × Flushes w r old new × MarksFlush marked r
-
 abbrev pub TakesFlush : ℕ → Reply → List Event → Core → Core → Type 0
 TakesFlush w (Flushed a) events old new = FlushesNoted w (Ok a) events old new
 TakesFlush w (Refused x) events old new = FlushesNoted w (Err x) events old new
 TakesFlush w reply events old new = ⊥
-
--- a rotation, and then a flush
-abbrev pub FlushesRotated : ℕ → Option ℕ → Result (Option (ℕ × Outcome)) Error → List Event → Core → Core → Type 0
-FlushesRotated w id r events old new = (mid : Core) × Rotates old id mid × FlushesNoted w r events mid new
 
 -- a flush of the active memtable, whose answer and refusal name the memtable that was sealed
 abbrev pub TakesFlushActive : ℕ → Reply → List Event → Core → Core → Type 0
@@ -102,17 +94,17 @@ TakesMoment n reply events old new = ⊥
 
 -- ---- outcomes
 
--- the outcome of a job that was registered at a watermark, while the counter stood at n
-abbrev pub told_registered : ℕ → ℕ → Result Outcome Error → Told
-told_registered w n (Ok a) = record { reply = Registered a; entries = register_events w n (Ok a) }
-told_registered w n (Err x) = record { reply = Refused x; entries = register_events w n (Err x) }
+-- the outcome of a job that was registered
+abbrev pub told_registered : List Event → Result Outcome Error → Told
+told_registered events (Ok a) = record { reply = Registered a; entries = events }
+told_registered events (Err x) = record { reply = Refused x; entries = events }
 
 -- the outcome of a flush
 abbrev pub told_flush : List Event → Result (Option (ℕ × Outcome)) Error → Told
 told_flush events (Ok a) = record { reply = Flushed a; entries = events }
 told_flush events (Err x) = record { reply = Refused x; entries = events }
 
--- that of one behind a rotation
-abbrev pub told_active : Option ℕ → List Event → Result (Option (ℕ × Outcome)) Error → Told
-told_active id events (Ok a) = record { reply = FlushedActive id a; entries = events }
-told_active id events (Err x) = record { reply = RefusedActive id x; entries = events }
+-- that of one of the active memtable
+abbrev pub told_active : List Event → Result (Option ℕ × Option (ℕ × Outcome)) (Error × Option ℕ) → Told
+told_active events (Ok a) = record { reply = FlushedActive a.0 a.1; entries = events }
+told_active events (Err e) = record { reply = RefusedActive e.1 e.0; entries = events }

@@ -24,11 +24,11 @@ ghost use Rattle.lsm_runs.specs.After.{RunIsRight};
 
 use crate::finding::TreeFiles;
 use crate::slots::Slots;
-use crate::telling::{batch_entries, of_batch, of_entry, one_entry, refused, share_ops, silent};
+use crate::telling::{batch_entries, of_batch, of_entry, refused, share_ops, silent};
 use crate::{Outcome, Reply, Step, Taken};
 use lsm_below::{InternalValue, SeqNo, UserKey, UserValue, ValueType, share};
 use lsm_files::stored_files_are_ready;
-use lsm_journal::{noted_compactions_keep_reads, read_entry};
+use lsm_journal::{noted_compactions_keep_reads, one_entry, read_entry};
 use lsm_manifest::{found_tables_show, images_stand_once};
 use lsm_model::{Answer, JournalEntry, Op, Question, counted_is_in_order, reads_are_sound};
 use lsm_parts::Error;

@@ -1,5 +1,5 @@
 // The outcomes of calls that write: what they reply, and what they add to the journal.
-ghost use Rattle.std.specs.Prelude.{◌≡◌, ◌∷◌, [], map, IfOk};
+ghost use Rattle.std.specs.Prelude.{◌≡◌, [], map, IfOk};
 ghost use Rattle.lsm_model.specs.Ops.{op_entries};
 ghost use Rattle.lsm_model.specs.declared.journal.JournalEntry.TheVariants.{Write as Wrote};
 ghost use Rattle.lsm_runs.specs.Runs.{told_entry, told_batch};
@@ -24,15 +24,6 @@ pub(crate) fn silent(alloc: Global, reply: Reply) -> Outcome
         reply,
         entries: Vec::new(alloc),
     }
-}
-
-/// A journal of one entry.
-pub(crate) fn one_entry(alloc: Global, entry: JournalEntry) -> Result<Vec<JournalEntry>, AllocError>
-    ensures { IfOk result (λ list. list.items ≡ entry ∷ []) }
-{
-    let mut list = Vec::new(alloc);
-    list.push(entry)?;
-    Ok(list)
 }
 
 /// The outcome of a write of one entry, which is noted if it was accepted.

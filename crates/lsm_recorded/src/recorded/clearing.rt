@@ -5,10 +5,12 @@ ghost use Rattle.lsm_state.specs.Commits.{Upholds};
 ghost use Rattle.lsm_recorded.specs.Flushing.{RefusesUnnoted};
 ghost use Rattle.lsm_recorded.specs.Clearing.{ClearsNoted};
 
-use crate::pass::{Pass, make_room, put_entry};
+use crate::noting::{beside_copies, put_entries};
+use crate::pass::Pass;
 use crate::recorded::Recorded;
 use lsm_below::SeqNo;
-use lsm_model::{JournalEntry, reads_are_sound};
+use lsm_journal::{clear_entries, clear_noting};
+use lsm_model::reads_are_sound;
 use lsm_parts::Error;
 use lsm_state::clears_keep_reads;
 use lsm_store::Store;
@@ -36,16 +38,19 @@ impl<S: Store> Recorded<S> {
         reads_are_sound();
         clears_keep_reads();
         self.is_upheld();
-        if make_room(&mut self.journal, &mut pass.entries, 1).is_err() {
+        let made = clear_entries(self.alloc, self.core.seqno().get());
+        let both = beside_copies(self.alloc, &mut self.journal, &mut pass.entries, made);
+        let Ok((entries, copies)) = both else {
             return Err(Error::OutOfMemory);
-        }
-        let number = match self.core.clear() {
-            Ok(number) => number,
-            Err(error) => return Err(error),
         };
-        let (entry, copy) = (JournalEntry::Clear(number), JournalEntry::Clear(number));
-        put_entry(&mut self.journal, &mut pass.entries, entry, copy);
-        self.floor = self.floor.max(number);
-        Ok(number)
+        let (cleared, entries) = clear_noting(&mut self.core, entries);
+        put_entries(
+            &mut self.journal,
+            &mut pass.entries,
+            &mut self.floor,
+            entries,
+            copies,
+        );
+        cleared
     }
 }

@@ -1,6 +1,5 @@
 // The calls of a compaction, and what they add to a journal.
-ghost use Rattle.std.specs.Prelude.{◌≡◌, ◌⊎◌, ◌+◌, ◌≤◌, ◌<◌, [], ◌∷◌, IsSome, Ok, IfOk, IfErr, vec_len, vec_capacity};
-ghost use Rattle.lsm_model.specs.declared.journal.JournalEntry.TheVariants.{Install};
+ghost use Rattle.std.specs.Prelude.{◌≡◌, ◌⊎◌, ◌<◌, IsSome, Ok, IfOk, IfErr};
 ghost use Rattle.lsm_files.specs.Causes.{HasCause, Blames};
 ghost use Rattle.lsm_state.specs.Cleaning.{LeavesNoFiles, RemovesDrawn};
 ghost use Rattle.lsm_state.specs.Commits.{Upholds};
@@ -10,40 +9,20 @@ ghost use Rattle.lsm_journal.specs.Noted.{noted_of, BeginsAnswer, CompactsAnswer
 ghost use Rattle.lsm_recorded.specs.Flushing.{SpendsUnnoted, RefusesUnnoted};
 ghost use Rattle.lsm_recorded.specs.Compacting.{NotesWhatIsDone, BeginsRecorded, FinishesRecorded, CompactsRecorded, DropsRecorded};
 
-use crate::noting::{make_copies, put_entries};
+use crate::noting::{beside_copies, make_copies, put_entries};
 use crate::pass::Pass;
 use crate::recorded::Recorded;
 use lsm_below::SeqNo;
 use lsm_journal::{
-    Chosen, ask, ask_with, begin_chosen, compact_chosen, finish_entries, finish_noting,
-    noted_compactions_keep_reads,
+    Chosen, ask, ask_with, begin_chosen, compact_chosen, drops_nothing, finish_entries,
+    finish_noting, noted_compactions_keep_reads, options_at,
 };
 use lsm_merges::{CompactionJob, MergedCompaction};
-use lsm_model::{JournalEntry, reads_are_sound};
+use lsm_model::reads_are_sound;
 use lsm_parts::{Error, LIMIT};
 use lsm_pick::{CompactionStrategy, DropRange, Major, OwnedBounds};
 use lsm_state::{Begun, Finished, Options};
 use lsm_store::Store;
-use std::alloc::{AllocError, Global};
-
-/// What the end of a merge notes under a number, and copies for a pass, with room for them there and in a journal.
-fn make_finish(
-    alloc: Global,
-    journal: &mut Vec<JournalEntry>,
-    pass: &mut Vec<(u64, JournalEntry)>,
-    number: SeqNo,
-) -> Result<(Vec<JournalEntry>, Vec<JournalEntry>), AllocError>
-    ensures entries { IfOk result (λ made. made.0.items ≡ Install number ∷ []) }
-    ensures copies { IfOk result (λ made. made.1.items ≡ Install number ∷ []) }
-    ensures journal { journal.new.items ≡ journal.old.items }
-    ensures pass { pass.new.items ≡ pass.old.items }
-    ensures journal_room { IfOk result (λ made. vec_len journal.new + vec_len made.1 ≤ vec_capacity journal.new) }
-    ensures pass_room { IfOk result (λ made. vec_len pass.new + vec_len made.1 ≤ vec_capacity pass.new) }
-{
-    let entries = finish_entries(alloc, number)?;
-    let copies = make_copies(alloc, journal, pass, &entries)?;
-    Ok((entries, copies))
-}
 
 /// A compaction in its parts, or in one call. None changes what a snapshot sees that is answered before and after, but for a
 /// drop, which changes what those above its number see. What is done is noted: a `Mark` of the watermark, whatever a
@@ -146,9 +125,9 @@ impl<S: Store> Recorded<S> {
     {
         reads_are_sound();
         noted_compactions_keep_reads();
-        let number = self.core.seqno().get();
-        let made = make_finish(self.alloc, &mut self.journal, &mut pass.entries, number);
-        let Ok((entries, copies)) = made else {
+        let made = finish_entries(self.alloc, self.core.seqno().get());
+        let both = beside_copies(self.alloc, &mut self.journal, &mut pass.entries, made);
+        let Ok((entries, copies)) = both else {
             self.core.abandon_compaction(merged.into_job());
             return Err(Error::OutOfMemory);
         };
@@ -272,16 +251,6 @@ impl<S: Store> Recorded<S> {
         }
     }
 
-    /// A watermark, and the tree's moment.
-    fn options_at(&self, watermark: SeqNo) -> Options
-        ensures { result ≡ options_at watermark self.now.tree.core }
-    {
-        Options {
-            mvcc_gc_watermark: watermark,
-            moment: self.moment(),
-        }
-    }
-
     /// Compacts as a strategy chooses, at a watermark and at the tree's moment, as `TreeState::compact`: `do_compaction` with
     /// these options.
     ///
@@ -305,7 +274,7 @@ impl<S: Store> Recorded<S> {
         ensures views { StaysBehind self.old.journal self.new.journal self.old.tree.core self.new.tree.core }
         ensures opened { self.new.opened ≡ self.old.opened }
     {
-        let options = self.options_at(watermark);
+        let options = options_at(&self.core, watermark);
         self.do_compaction(pass, strategy, options)
     }
 
@@ -331,7 +300,7 @@ impl<S: Store> Recorded<S> {
         ensures views { StaysBehind self.old.journal self.new.journal self.old.tree.core self.new.tree.core }
         ensures opened { self.new.opened ≡ self.old.opened }
     {
-        let options = self.options_at(watermark);
+        let options = options_at(&self.core, watermark);
         self.compact_with(pass, &Major::new(target), options)
     }
 
@@ -355,10 +324,10 @@ impl<S: Store> Recorded<S> {
     {
         reads_are_sound();
         self.is_upheld();
-        if bounds.is_reversed() && !self.core.is_uncertain() {
+        if drops_nothing(&self.core, &bounds) {
             return Ok(Begun::DidNothing);
         }
-        let options = self.options_at(0);
+        let options = options_at(&self.core, 0);
         self.compact_with(pass, &DropRange::new(bounds), options)
     }
 }

@@ -1,118 +1,23 @@
 // The calls of a flush, and what they add to a journal.
-ghost use Rattle.std.specs.Prelude.{◌≡◌, ◌⊎◌, ◌+◌, ◌≤◌, ◌<◌, [], map, true, IsSome, IfOk, IfErr, IfSome, IsErrOf, vec_len, vec_capacity};
+ghost use Rattle.std.specs.Prelude.{◌≡◌, ◌⊎◌, ◌<◌, [], map, true, IsSome, IfOk, IfErr, IfSome, IsErrOf};
 ghost use Rattle.lsm_files.specs.Causes.{HasCause};
 ghost use Rattle.lsm_state.specs.Causes.{BlamesBeside, BlamesOrUnclean, BlamesOrUncleanFlush, BlamesOrUncleanBehind};
 ghost use Rattle.lsm_state.specs.Cleaning.{LeavesNoFiles, RemovesDrawn, RemovesTables};
 ghost use Rattle.lsm_state.specs.Commits.{Upholds};
-ghost use Rattle.lsm_state.specs.Flushes.{Begins, IsCurrent, WritesTables, Registers, spent};
-ghost use Rattle.lsm_state.specs.FlushReads.{register_events};
+ghost use Rattle.lsm_state.specs.Flushes.{Begins, IsCurrent, WritesTables, spent};
 ghost use Rattle.lsm_state.specs.WholeFlushes.{FlushesActive};
-ghost use Rattle.lsm_recorded.specs.Passes.{Notes};
-ghost use Rattle.lsm_recorded.specs.Flushing.{mark_events, is_installed, SpendsUnnoted, IsSpentFlush, RegistersNoted, RefusesUnnoted, FlushesNoted, NotesActive, KeepsRecorded};
+ghost use Rattle.lsm_recorded.specs.Flushing.{SpendsUnnoted, IsSpentFlush, RegistersNoted, RefusesUnnoted, FlushesNoted, NotesActive};
 
-use crate::pass::{Pass, make_room, put_entry};
+use crate::noting::{beside_copies, put_entries};
+use crate::pass::Pass;
 use crate::recorded::Recorded;
 use lsm_below::{MemtableId, SeqNo};
 use lsm_jobs::{FlushJob, MergedFlush, Registered, WrittenFlush};
-use lsm_model::{JournalEntry, reads_are_sound};
+use lsm_journal::{flush_active_noting, flush_entries, flush_noting, register_noting};
+use lsm_model::reads_are_sound;
 use lsm_parts::{Error, LIMIT};
-use lsm_state::{TreeState, flushes_keep_reads};
+use lsm_state::flushes_keep_reads;
 use lsm_store::Store;
-
-/// Whether a job was installed.
-fn is_installed(registered: &Result<Registered, Error>) -> bool
-    ensures { result ≡ is_installed registered.now }
-{
-    match registered {
-        Ok(registered) => registered.installed,
-        Err(_) => false,
-    }
-}
-
-/// Appends a mark, and an install behind it where there is one, to a journal, and copies with their places to a pass.
-/// There is room.
-fn put_mark(
-    journal: &mut Vec<JournalEntry>,
-    pass: &mut Vec<(u64, JournalEntry)>,
-    watermark: SeqNo,
-    number: SeqNo,
-    installed: bool,
-)
-    requires journal_room { vec_len journal.old + 2 ≤ vec_capacity journal.old }
-    requires pass_room { vec_len pass.old + 2 ≤ vec_capacity pass.old }
-    ensures { Notes (mark_events watermark number installed) journal.old.items journal.new.items pass.old.items pass.new.items }
-{
-    let (entry, copy) = (JournalEntry::Mark(watermark), JournalEntry::Mark(watermark));
-    put_entry(journal, pass, entry, copy);
-    if installed {
-        let (entry, copy) = (JournalEntry::Install(number), JournalEntry::Install(number));
-        put_entry(journal, pass, entry, copy);
-    }
-}
-
-/// Registers a job, and notes it. There is room.
-fn register_noted<S: Store>(
-    core: &mut TreeState<S>,
-    journal: &mut Vec<JournalEntry>,
-    pass: &mut Vec<(u64, JournalEntry)>,
-    floor: &mut SeqNo,
-    job: WrittenFlush,
-) -> Result<Registered, Error>
-    requires journal_room { vec_len journal.old + 2 ≤ vec_capacity journal.old }
-    requires pass_room { vec_len pass.old + 2 ≤ vec_capacity pass.old }
-    ensures registers { Registers job result core.old.core core.new.core }
-    ensures noted { Notes (register_events job.watermark core.old.core.seqno result) journal.old.items journal.new.items pass.old.items pass.new.items }
-    ensures keeps { KeepsRecorded floor.old floor.new core.old.core core.new.core journal.old.items journal.new.items }
-    ensures upholds { S.tells → Upholds (S.world core.old.store) (S.world core.new.store) core.old.core core.new.core }
-    ensures causes { HasCause (BlamesOrUnclean result) (S.world core.old.store) (S.world core.new.store) }
-    ensures gone { S.tells → IfOk result (λ a. a.installed ≡ true → a.cleaned ≡ true → LeavesNoFiles (S.world core.new.store) [] core.old.core.history core.new.core.history) }
-    ensures refused { S.tells → IsCurrent job core.old.core → IsErrOf result Error.OutOfNumbers ⊎ IsErrOf result Error.TooManyRuns → RemovesTables (map (λ t. t.id) job.tables) (S.world core.old.store) (S.world core.new.store) }
-    ensures no_call { IsSome core.old.core.lost → core.new.store ≡ core.old.store }
-{
-    reads_are_sound();
-    flushes_keep_reads();
-    let number = core.seqno().get();
-    let watermark = job.watermark();
-    let registered = core.register_tables(job);
-    let installed = is_installed(&registered);
-    put_mark(journal, pass, watermark, number, installed);
-    if installed {
-        *floor = number;
-    }
-    registered
-}
-
-/// Flushes all sealed memtables, and notes it. There is room.
-fn flush_noted<S: Store>(
-    core: &mut TreeState<S>,
-    journal: &mut Vec<JournalEntry>,
-    pass: &mut Vec<(u64, JournalEntry)>,
-    floor: &mut SeqNo,
-    watermark: SeqNo,
-) -> Result<Option<(u64, Registered)>, Error>
-    requires journal_room { vec_len journal.old + 2 ≤ vec_capacity journal.old }
-    requires pass_room { vec_len pass.old + 2 ≤ vec_capacity pass.old }
-    ensures flushes { FlushesNoted watermark result core.old.core core.new.core journal.old.items journal.new.items pass.old.items pass.new.items }
-    ensures keeps { KeepsRecorded floor.old floor.new core.old.core core.new.core journal.old.items journal.new.items }
-    ensures upholds { S.tells → Upholds (S.world core.old.store) (S.world core.new.store) core.old.core core.new.core }
-    ensures causes { HasCause (BlamesOrUncleanFlush result) (S.world core.old.store) (S.world core.new.store) }
-    ensures gone { S.tells → IfOk result (λ a. IfSome a (λ p. p.1.cleaned ≡ true → LeavesNoFiles (S.world core.new.store) [] core.old.core.history core.new.core.history)) }
-    ensures refused { S.tells → core.old.core.next_table < LIMIT → IfErr result (λ e. (e ≡ Error.CommitUnknown → ⊥) → RemovesDrawn core.old.core.next_table core.new.core.next_table (S.world core.old.store) (S.world core.new.store)) }
-    ensures no_call { IsSome core.old.core.lost → core.new.store ≡ core.old.store }
-{
-    reads_are_sound();
-    flushes_keep_reads();
-    let number = core.seqno().get();
-    let (flushed, marked) = core.flush_with_mark(watermark);
-    if marked {
-        let installed = flushed.is_ok();
-        put_mark(journal, pass, watermark, number, installed);
-        if installed {
-            *floor = number;
-        }
-    }
-    flushed
-}
 
 /// A flush in its parts, or in one call. No call changes what a snapshot sees that is answered before and after. What
 /// is registered is noted: a `Mark` of the watermark, and where tables are installed an `Install` under the sequence
@@ -204,17 +109,21 @@ impl<S: Store> Recorded<S> {
         reads_are_sound();
         flushes_keep_reads();
         self.stays_stored();
-        if make_room(&mut self.journal, &mut pass.entries, 2).is_err() {
+        let made = flush_entries(self.alloc, job.watermark(), self.core.seqno().get());
+        let both = beside_copies(self.alloc, &mut self.journal, &mut pass.entries, made);
+        let Ok((entries, copies)) = both else {
             self.core.abandon_flush(job.into_job());
             return Err(Error::OutOfMemory);
-        }
-        register_noted(
-            &mut self.core,
+        };
+        let (registered, entries) = register_noting(&mut self.core, job, entries);
+        put_entries(
             &mut self.journal,
             &mut pass.entries,
             &mut self.floor,
-            job,
-        )
+            entries,
+            copies,
+        );
+        registered
     }
 
     /// Flushes all sealed memtables in one call, as `TreeState::flush`. Where it comes to register a job it notes the
@@ -243,17 +152,22 @@ impl<S: Store> Recorded<S> {
         ensures opened { self.new.opened ≡ self.old.opened }
     {
         reads_are_sound();
-        self.stays_stored();
-        if make_room(&mut self.journal, &mut pass.entries, 2).is_err() {
+        flushes_keep_reads();
+        self.is_upheld();
+        let made = flush_entries(self.alloc, watermark, self.core.seqno().get());
+        let both = beside_copies(self.alloc, &mut self.journal, &mut pass.entries, made);
+        let Ok((entries, copies)) = both else {
             return Err(Error::OutOfMemory);
-        }
-        flush_noted(
-            &mut self.core,
+        };
+        let (flushed, entries) = flush_noting(&mut self.core, watermark, entries);
+        put_entries(
             &mut self.journal,
             &mut pass.entries,
             &mut self.floor,
-            watermark,
-        )
+            entries,
+            copies,
+        );
+        flushed
     }
 
     /// Seals the active memtable, and flushes all sealed ones: `rotate_memtable` and then `flush`, as
@@ -283,24 +197,21 @@ impl<S: Store> Recorded<S> {
         ensures opened { self.new.opened ≡ self.old.opened }
     {
         reads_are_sound();
-        self.stays_stored();
-        if make_room(&mut self.journal, &mut pass.entries, 2).is_err() {
+        flushes_keep_reads();
+        self.is_upheld();
+        let made = flush_entries(self.alloc, watermark, self.core.seqno().get());
+        let both = beside_copies(self.alloc, &mut self.journal, &mut pass.entries, made);
+        let Ok((entries, copies)) = both else {
             return Err((Error::OutOfMemory, None));
-        }
-        let sealed = match self.core.rotate_memtable() {
-            Ok(sealed) => sealed,
-            Err(error) => return Err((error, None)),
         };
-        let flushed = flush_noted(
-            &mut self.core,
+        let (flushed, entries) = flush_active_noting(&mut self.core, watermark, entries);
+        put_entries(
             &mut self.journal,
             &mut pass.entries,
             &mut self.floor,
-            watermark,
+            entries,
+            copies,
         );
-        match flushed {
-            Ok(flushed) => Ok((sealed, flushed)),
-            Err(error) => Err((error, sealed)),
-        }
+        flushed
     }
 }

@@ -5,26 +5,25 @@ ghost use Rattle.lsm_files.specs.Causes.{HasCause};
 ghost use Rattle.lsm_state.specs.Commits.{Upholds};
 ghost use Rattle.lsm_runs.specs.Causes.{ReplyBlames};
 
-use super::{one_entry, refused, silent};
+use super::{refused, silent};
 use crate::{Outcome, Reply};
 use lsm_below::SeqNo;
+use lsm_journal::{clear_entries, clear_noting};
 use lsm_model::JournalEntry;
 use lsm_parts::Error;
 use lsm_state::TreeState;
 use lsm_store::Store;
 use std::alloc::{AllocError, Global};
 
-/// The outcome of a clear, which is noted if it was answered.
-fn of_clear(alloc: Global, entries: Vec<JournalEntry>, cleared: Result<SeqNo, Error>) -> Outcome
+/// The outcome of a clear.
+fn of_clear(entries: Vec<JournalEntry>, cleared: Result<SeqNo, Error>) -> Outcome
     ensures { result ≡ told_clear entries.items cleared }
 {
-    match cleared {
-        Ok(number) => Outcome {
-            reply: Reply::Cleared(number),
-            entries,
-        },
-        Err(error) => refused(alloc, error),
-    }
+    let reply = match cleared {
+        Ok(number) => Reply::Cleared(number),
+        Err(error) => Reply::Refused(error),
+    };
+    Outcome { reply, entries }
 }
 
 pub(super) fn clear<S: Store>(
@@ -38,9 +37,9 @@ pub(super) fn clear<S: Store>(
     ensures no_call { IsSome state.old.core.lost → state.new.store ≡ state.old.store }
 {
     state.is_upheld();
-    let entries = one_entry(alloc, JournalEntry::Clear(state.seqno().get()))?;
-    let cleared = state.clear();
-    Ok(of_clear(alloc, entries, cleared))
+    let entries = clear_entries(alloc, state.seqno().get())?;
+    let (cleared, entries) = clear_noting(state, entries);
+    Ok(of_clear(entries, cleared))
 }
 
 pub(super) fn clear_active_memtable<S: Store>(alloc: Global, state: &mut TreeState<S>) -> Outcome

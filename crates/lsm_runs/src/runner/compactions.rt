@@ -13,7 +13,8 @@ use crate::slots::Job;
 use crate::{Compacted, Outcome, Reply};
 use lsm_below::{SeqNo, UserKey};
 use lsm_journal::{
-    Chosen, ask, ask_with, begin_chosen, compact_chosen, copy_bound, finish_entries, finish_noting,
+    Chosen, ask, ask_with, begin_chosen, compact_chosen, copy_bound, drops_nothing, finish_entries,
+    finish_noting, options_at,
 };
 use lsm_parts::Error;
 use lsm_pick::{CompactionStrategy, DropRange, Major, OwnedBounds};
@@ -207,16 +208,6 @@ pub(super) fn do_compaction<S: Store>(
     Ok(compact_noting(state, chosen, options))
 }
 
-/// A watermark, and the tree's moment.
-fn options_of<S: Store>(state: &TreeState<S>, watermark: SeqNo) -> Options
-    ensures { result ≡ options_at watermark state.now.core }
-{
-    Options {
-        mvcc_gc_watermark: watermark,
-        moment: state.moment(),
-    }
-}
-
 pub(super) fn compact<S: Store>(
     alloc: Global,
     state: &mut TreeState<S>,
@@ -230,7 +221,7 @@ pub(super) fn compact<S: Store>(
     ensures causes { IfOk result (λ told. HasCause (ReplyBlames told.reply) (S.world state.old.store) (S.world state.new.store)) }
     ensures no_call { IsSome state.old.core.lost → state.new.store ≡ state.old.store }
 {
-    let options = options_of(state, watermark);
+    let options = options_at(state, watermark);
     do_compaction(alloc, state, strategies, at, options)
 }
 
@@ -248,7 +239,7 @@ fn compact_with<S: Store, C: CompactionStrategy>(
     ensures no_call { IsSome state.old.core.lost → state.new.store ≡ state.old.store }
 {
     state.is_upheld();
-    let options = options_of(state, watermark);
+    let options = options_at(state, watermark);
     let chosen = ask_with(alloc, state, strategy, watermark)?;
     Ok(compact_noting(state, chosen, options))
 }
@@ -285,7 +276,7 @@ pub(super) fn drop_range<S: Store>(
         start: copy_bound(low)?,
         end: copy_bound(high)?,
     };
-    if !state.is_uncertain() && bounds.is_reversed() {
+    if drops_nothing(state, &bounds) {
         return Ok(silent(alloc, Reply::Compacted(Compacted::DidNothing)));
     }
     compact_with(alloc, state, &DropRange::new(bounds), 0)

@@ -1,18 +1,16 @@
 // The calls of a flush, as steps.
-ghost use Rattle.std.specs.Prelude.{◌≡◌, ◌∷◌, [], ℕ, IfOk, OnErr, IsSome};
-ghost use Rattle.lsm_model.specs.declared.journal.JournalEntry.TheVariants.{Mark, Install};
-ghost use Rattle.lsm_state.specs.FlushReads.{flush_events};
-ghost use Rattle.lsm_runs.specs.Flushing.{TakesBegin, TakesRun, TakesTables, TakesRegister, TakesAbandon, TakesFlush, TakesFlushActive, TakesMoment, FlushesNoted, told_registered, told_flush, told_active};
+ghost use Rattle.std.specs.Prelude.{◌≡◌, IfOk, OnErr, IsSome};
+ghost use Rattle.lsm_runs.specs.Flushing.{TakesBegin, TakesRun, TakesTables, TakesRegister, TakesAbandon, TakesFlush, TakesFlushActive, TakesMoment, told_registered, told_flush, told_active};
 ghost use Rattle.lsm_files.specs.Causes.{HasCause};
-ghost use Rattle.lsm_state.specs.Causes.{BlamesOrUncleanFlush};
 ghost use Rattle.lsm_state.specs.Commits.{Upholds};
 ghost use Rattle.lsm_runs.specs.Causes.{ReplyBlames};
 
-use super::{one_entry, refused, silent};
+use super::{refused, silent};
 use crate::slots::Job;
 use crate::{Outcome, Reply};
 use lsm_below::{MemtableId, SeqNo};
 use lsm_jobs::Registered;
+use lsm_journal::{flush_active_noting, flush_entries, flush_noting, register_noting};
 use lsm_model::JournalEntry;
 use lsm_parts::Error;
 use lsm_state::TreeState;
@@ -99,42 +97,15 @@ pub(super) fn flush_to_tables<S: Store>(
     }
 }
 
-/// The entries of a flush that is installed under a sequence number.
-fn flush_entries(
-    alloc: Global,
-    watermark: SeqNo,
-    number: SeqNo,
-) -> Result<Vec<JournalEntry>, AllocError>
-    ensures { IfOk result (λ list. list.items ≡ Mark watermark ∷ (Install number ∷ [])) }
-{
-    let mut list = one_entry(alloc, JournalEntry::Mark(watermark))?;
-    list.push(JournalEntry::Install(number))?;
-    Ok(list)
-}
-
-/// The outcome of a job that was registered, of whose entries those are noted that came to be.
+/// The outcome of a job that was registered.
 fn of_registered(entries: Vec<JournalEntry>, registered: Result<Registered, Error>) -> Outcome
-    ensures { (w n : ℕ) → entries.items ≡ Mark w ∷ (Install n ∷ []) → result ≡ told_registered w n registered }
+    ensures { result ≡ told_registered entries.items registered }
 {
-    let mut entries = entries;
-    match registered {
-        Ok(answer) => {
-            if !answer.installed {
-                entries.truncate(1);
-            }
-            Outcome {
-                reply: Reply::Registered(answer),
-                entries,
-            }
-        }
-        Err(error) => {
-            entries.truncate(1);
-            Outcome {
-                reply: Reply::Refused(error),
-                entries,
-            }
-        }
-    }
+    let reply = match registered {
+        Ok(answer) => Reply::Registered(answer),
+        Err(error) => Reply::Refused(error),
+    };
+    Outcome { reply, entries }
 }
 
 pub(super) fn register_tables<S: Store>(
@@ -157,7 +128,10 @@ pub(super) fn register_tables<S: Store>(
         }
     };
     match flush_entries(alloc, job.watermark(), state.seqno().get()) {
-        Ok(entries) => Ok(of_registered(entries, state.register_tables(job))),
+        Ok(entries) => {
+            let (registered, entries) = register_noting(state, job, entries);
+            Ok(of_registered(entries, registered))
+        }
         Err(error) => {
             *place = Some(Job::Written(job));
             Err(error)
@@ -187,40 +161,6 @@ pub(super) fn abandon_flush<S: Store>(
 }
 
 // ---- flushes in one call
-
-/// The entries of a flush, of which those are noted that came to be.
-fn noted(
-    entries: Vec<JournalEntry>,
-    marked: bool,
-    flushed: &Result<Option<(u64, Registered)>, Error>,
-) -> Vec<JournalEntry>
-    ensures { (w n : ℕ) → entries.items ≡ Mark w ∷ (Install n ∷ []) → result.items ≡ flush_events w n marked flushed.now }
-{
-    let mut entries = entries;
-    if !marked {
-        entries.clear();
-    } else if flushed.is_err() {
-        entries.truncate(1);
-    }
-    entries
-}
-
-/// Flushes, with the entries of a flush that is installed at hand.
-fn flush_noting<S: Store>(
-    state: &mut TreeState<S>,
-    watermark: SeqNo,
-    entries: Vec<JournalEntry>,
-) -> (Result<Option<(u64, Registered)>, Error>, Vec<JournalEntry>)
-    requires { entries.items ≡ Mark watermark ∷ (Install state.old.core.seqno ∷ []) }
-    ensures flushes { FlushesNoted watermark result.0 result.1.items state.old.core state.new.core }
-    ensures upholds { S.tells → Upholds (S.world state.old.store) (S.world state.new.store) state.old.core state.new.core }
-    ensures causes { HasCause (BlamesOrUncleanFlush result.0) (S.world state.old.store) (S.world state.new.store) }
-    ensures no_call { IsSome state.old.core.lost → state.new.store ≡ state.old.store }
-{
-    let (flushed, marked) = state.flush_with_mark(watermark);
-    let entries = noted(entries, marked, &flushed);
-    (flushed, entries)
-}
 
 /// The outcome of a flush.
 fn of_flush(
@@ -253,17 +193,16 @@ pub(super) fn flush<S: Store>(
     Ok(of_flush(entries, flushed))
 }
 
-/// The outcome of a flush behind a rotation.
+/// The outcome of a flush of the active memtable.
 fn of_active(
-    sealed: Option<MemtableId>,
     entries: Vec<JournalEntry>,
-    flushed: Result<Option<(u64, Registered)>, Error>,
+    flushed: Result<(Option<MemtableId>, Option<(u64, Registered)>), (Error, Option<MemtableId>)>,
 ) -> Outcome
-    ensures { result ≡ told_active sealed entries.items flushed }
+    ensures { result ≡ told_active entries.items flushed }
 {
     let reply = match flushed {
-        Ok(answer) => Reply::FlushedActive(sealed, answer),
-        Err(error) => Reply::RefusedActive(sealed, error),
+        Ok((sealed, answer)) => Reply::FlushedActive(sealed, answer),
+        Err((error, sealed)) => Reply::RefusedActive(sealed, error),
     };
     Outcome { reply, entries }
 }
@@ -281,12 +220,8 @@ pub(super) fn flush_active<S: Store>(
 {
     state.is_upheld();
     let entries = flush_entries(alloc, watermark, state.seqno().get())?;
-    let sealed = match state.rotate_memtable() {
-        Ok(sealed) => sealed,
-        Err(error) => return Ok(silent(alloc, Reply::RefusedActive(None, error))),
-    };
-    let (flushed, entries) = flush_noting(state, watermark, entries);
-    Ok(of_active(sealed, entries, flushed))
+    let (flushed, entries) = flush_active_noting(state, watermark, entries);
+    Ok(of_active(entries, flushed))
 }
 
 pub(super) fn set_moment<S: Store>(alloc: Global, state: &mut TreeState<S>, moment: u64) -> Outcome

@@ -4,11 +4,11 @@ ghost use Rattle.std.specs.declared.ops.Bound.TheVariants.{Unbounded};
 ghost use Rattle.lsm_iter.specs.declared.tree_iter.End.TheVariants.{Front, Back};
 ghost use Rattle.lsm_runs.specs.ReadSteps.{TakesRange, TakesPrefix, TakesSilent, IsLenReply, IsEmptyReply, IsEndReply, ToldFound, told_pairs, told_end};
 
-use super::{one_entry, refused, silent};
+use super::{refused, silent};
 use crate::{Outcome, Reply};
 use lsm_below::{SeqNo, UserKey, share};
 use lsm_iter::{Guard, IterGuard, TreeIter};
-use lsm_journal::{copy_bound, pairs_entry, question_between, take_pairs};
+use lsm_journal::{copy_bound, one_entry, pairs_entry, question_between, take_pairs};
 use lsm_model::{KvPairs, Question};
 use lsm_parts::Error;
 use lsm_state::{TreeState, lists_are_steps};

@@ -12,7 +12,7 @@ invariant_of-self g c =
     let i = c.self.inside in
     let opened = placed_of i.opened.levels in
     let new = c.abandon_compaction.new.self.core in
-    subst (λ j. IsRecorded opened i.least i.marks i.floor new j) (sym c.make_finish-made.ensures.journal)
+    subst (λ j. IsRecorded opened i.least i.marks i.floor new j) (sym c.beside_copies-both.ensures.journal)
     (abandon_recorded opened i.least i.marks c.reads_are_sound.ensures c.noted_compactions_keep_reads.ensures i.floor i.core.core new i.journal.items c.into_job.result c.abandon_compaction.ensures.deeds c.abandon_compaction.ensures.spends c.self.invariant).0
 
 pub returns-in_default-clause-views : goal.returns-in_default-clause-views
@@ -27,7 +27,7 @@ invariant_of-self-2 g c =
     let i = c.self.inside in
     let ended = c.finish_noting-entries in
     let es = ended.result.1.items in
-    let told = c.put_entries.ensures.noted.behind ∙ ap (λ j. j ++ es) c.make_finish-made.ensures.journal in
+    let told = c.put_entries.ensures.noted.behind ∙ ap (λ j. j ++ es) c.beside_copies-both.ensures.journal in
     (finish_recorded (placed_of i.opened.levels) i.least i.marks c.reads_are_sound.ensures i.floor c.put_entries.new.floor i.core.core ended.new.tree.core i.journal.items c.put_entries.new.journal.items c.noted_compactions_keep_reads.ensures c.args.merged.job ended.result.0 es ended.ensures.ends told c.put_entries.ensures.floor c.self.invariant).0
 
 pub returns-clause-views : goal.returns-clause-views
@@ -35,7 +35,7 @@ returns-clause-views g c =
     let i = c.self.inside in
     let ended = c.finish_noting-entries in
     let es = ended.result.1.items in
-    let told = c.put_entries.ensures.noted.behind ∙ ap (λ j. j ++ es) c.make_finish-made.ensures.journal in
+    let told = c.put_entries.ensures.noted.behind ∙ ap (λ j. j ++ es) c.beside_copies-both.ensures.journal in
     let all = (finish_recorded (placed_of i.opened.levels) i.least i.marks c.reads_are_sound.ensures i.floor c.put_entries.new.floor i.core.core ended.new.tree.core i.journal.items c.put_entries.new.journal.items c.noted_compactions_keep_reads.ensures c.args.merged.job ended.result.0 es ended.ensures.ends told c.put_entries.ensures.floor c.self.invariant).1 in
     subst (λ t. Stays t.tree.core ended.new.tree.core) c.self.view_is all
 

@@ -1,28 +1,35 @@
-use Rattle.std.proofs.Common.{refl, sym, subst}
+use Rattle.std.proofs.Common.{◌++◌, inr, ap, ◌∙◌, subst}
 use Rattle.lsm_versions.specs.Levels.{placed_of}
-use Rattle.lsm_state.specs.Commits.{Upholds}
-use Rattle.lsm_recorded.specs.Recorded.{IsRecorded, Stays}
-use Rattle.lsm_files.specs.Foreign.{AtRest}
-use Rattle.lsm_recorded.proofs.FlushedFiles.{same_upholds}
+use Rattle.lsm_recorded.specs.Passes.{Notes}
+use Rattle.lsm_recorded.specs.Recorded.{Stays}
+use Rattle.lsm_recorded.proofs.FlushingLemmas.{flush_recorded, flush_notes}
 use Rattle.lsm_recorded.proofs.recorded.Recorded.flush.Goals as goal
-
-pub returns-then-is_err-clause-upholds : goal.returns-then-is_err-clause-upholds
-returns-then-is_err-clause-upholds g c tells =
-    let w = g.S.Store.world in
-    let i = c.self.inside in
-    let leaves = subst (λ t. AtRest (w t.tree.store)) (sym c.self.view_is) (c.stays_stored.ensures tells) in
-    subst (λ t. Upholds (w t.tree.store) (w i.core.store) t.tree.core i.core.core) c.self.view_is (same_upholds (w i.core.store) (w i.core.store) i.core.core i.core.core leaves refl refl)
 
 pub invariant_of-self-2 : goal.invariant_of-self-2
 invariant_of-self-2 g c =
     let i = c.self.inside in
-    let opened = placed_of i.opened.levels in
-    let before = subst (IsRecorded opened i.least i.marks i.floor i.core.core) (sym c.make_room.ensures.journal) c.self.invariant in
-    (c.flush_noted.ensures.keeps opened i.least i.marks before).0
+    let flushed = c.flush_noting-entries in
+    let put = c.put_entries in
+    let es = flushed.result.1.items in
+    let told = put.ensures.noted.behind ∙ ap (λ j. j ++ es) c.beside_copies-both.ensures.journal in
+    (flush_recorded (placed_of i.opened.levels) i.least i.marks c.reads_are_sound.ensures c.flushes_keep_reads.ensures i.floor put.new.floor i.journal.items put.new.journal.items es told put.ensures.floor c.args.watermark flushed.result.0 i.core.core flushed.new.tree.core flushed.ensures.flushes c.self.invariant).0
+
+pub returns-clause-flushes : goal.returns-clause-flushes
+returns-clause-flushes g c =
+    let i = c.self.inside in
+    let flushed = c.flush_noting-entries in
+    let put = c.put_entries in
+    let es = flushed.result.1.items in
+    let both = c.beside_copies-both in
+    let notes = subst (λ j. Notes es j put.new.journal.items c.pass.inside.entries.items put.new.pass.items) both.ensures.journal (subst (λ p. Notes es both.new.journal.items put.new.journal.items p put.new.pass.items) both.ensures.pass put.ensures.noted) in
+    rw (← c.self.view_is, ← c.pass.view_is) (inr (flush_notes c.args.watermark flushed.result.0 es i.core.core flushed.new.tree.core i.journal.items put.new.journal.items c.pass.inside.entries.items put.new.pass.items flushed.ensures.flushes notes))
 
 pub returns-clause-views : goal.returns-clause-views
 returns-clause-views g c =
     let i = c.self.inside in
-    let opened = placed_of i.opened.levels in
-    let before = subst (IsRecorded opened i.least i.marks i.floor i.core.core) (sym c.make_room.ensures.journal) c.self.invariant in
-    subst (λ t. Stays t.tree.core c.flush_noted.new.core.core) c.self.view_is (c.flush_noted.ensures.keeps opened i.least i.marks before).1
+    let flushed = c.flush_noting-entries in
+    let put = c.put_entries in
+    let es = flushed.result.1.items in
+    let told = put.ensures.noted.behind ∙ ap (λ j. j ++ es) c.beside_copies-both.ensures.journal in
+    let all = (flush_recorded (placed_of i.opened.levels) i.least i.marks c.reads_are_sound.ensures c.flushes_keep_reads.ensures i.floor put.new.floor i.journal.items put.new.journal.items es told put.ensures.floor c.args.watermark flushed.result.0 i.core.core flushed.new.tree.core flushed.ensures.flushes c.self.invariant).1 in
+    subst (λ t. Stays t.tree.core flushed.new.tree.core) c.self.view_is all

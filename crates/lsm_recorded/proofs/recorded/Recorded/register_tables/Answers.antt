@@ -1,14 +1,15 @@
-use Rattle.std.proofs.Common.{◌≡◌, ap, sym, subst}
+use Rattle.std.proofs.Common.{◌≡◌, ◌++◌, ap, sym, subst, ◌∙◌}
 use Rattle.lsm_versions.specs.Levels.{placed_of}
 use Rattle.lsm_state.specs.Commits.{Upholds}
 use Rattle.lsm_state.specs.Flushes.{spent}
-use Rattle.lsm_recorded.specs.Recorded.{IsRecorded, Stays}
+use Rattle.lsm_recorded.specs.Recorded.{Stays}
 use Rattle.lsm_files.specs.Foreign.{AtRest}
 use Rattle.lsm_recorded.proofs.FlushedFiles.{spent_upholds}
+use Rattle.lsm_recorded.proofs.FlushingLemmas.{register_recorded}
 use Rattle.lsm_recorded.proofs.recorded.Recorded.register_tables.Goals as goal
 
-pub returns-then-is_err-clause-upholds : goal.returns-then-is_err-clause-upholds
-returns-then-is_err-clause-upholds g c tells =
+pub returns-in_default-clause-upholds : goal.returns-in_default-clause-upholds
+returns-in_default-clause-upholds g c tells =
     let w = g.S.Store.world in
     let i = c.self.inside in
     let new = c.abandon_flush.new.self in
@@ -19,13 +20,18 @@ returns-then-is_err-clause-upholds g c tells =
 pub invariant_of-self-2 : goal.invariant_of-self-2
 invariant_of-self-2 g c =
     let i = c.self.inside in
-    let opened = placed_of i.opened.levels in
-    let before = subst (IsRecorded opened i.least i.marks i.floor i.core.core) (sym c.make_room.ensures.journal) c.self.invariant in
-    (c.register_noted.ensures.keeps opened i.least i.marks before).0
+    let registered = c.register_noting-entries in
+    let put = c.put_entries in
+    let es = registered.result.1.items in
+    let told = put.ensures.noted.behind ∙ ap (λ j. j ++ es) c.beside_copies-both.ensures.journal in
+    (register_recorded (placed_of i.opened.levels) i.least i.marks c.reads_are_sound.ensures c.flushes_keep_reads.ensures i.floor put.new.floor i.journal.items put.new.journal.items es told put.ensures.floor c.args.job registered.result.0 i.core.core registered.new.tree.core registered.ensures.registers c.self.invariant).0
 
 pub returns-clause-views : goal.returns-clause-views
 returns-clause-views g c =
     let i = c.self.inside in
-    let opened = placed_of i.opened.levels in
-    let before = subst (IsRecorded opened i.least i.marks i.floor i.core.core) (sym c.make_room.ensures.journal) c.self.invariant in
-    subst (λ t. Stays t.tree.core c.register_noted.new.core.core) c.self.view_is (c.register_noted.ensures.keeps opened i.least i.marks before).1
+    let registered = c.register_noting-entries in
+    let put = c.put_entries in
+    let es = registered.result.1.items in
+    let told = put.ensures.noted.behind ∙ ap (λ j. j ++ es) c.beside_copies-both.ensures.journal in
+    let all = (register_recorded (placed_of i.opened.levels) i.least i.marks c.reads_are_sound.ensures c.flushes_keep_reads.ensures i.floor put.new.floor i.journal.items put.new.journal.items es told put.ensures.floor c.args.job registered.result.0 i.core.core registered.new.tree.core registered.ensures.registers c.self.invariant).1 in
+    subst (λ t. Stays t.tree.core registered.new.tree.core) c.self.view_is all

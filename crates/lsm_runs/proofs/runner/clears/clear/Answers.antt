@@ -1,7 +1,7 @@
-use Rattle.std.proofs.Common.{rules}
 use Rattle.lsm_runs.proofs.Clearing.{clear_taken}
 use Rattle.lsm_runs.proofs.runner.clears.clear.Goals as goal
 
 pub returns-clause-ok : goal.returns-clause-ok
 returns-clause-ok g c =
-    rw c.of_clear.ensures (clear_taken c.clear-cleared.result c.in_ok-entries.entries.items c.args.state.now.core c.clear-cleared.new.self.core (search rules) c.clear-cleared.ensures.clears c.clear-cleared.ensures.deeds)
+    let cleared = c.clear_noting-entries in
+    rw c.of_clear.ensures (clear_taken cleared.result.0 cleared.result.1.items c.args.state.now.core cleared.new.tree.core cleared.ensures.clears)

@@ -1,8 +1,13 @@
-use Rattle.lsm_runs.proofs.Files.{rotated_upheld}
+use Rattle.lsm_runs.proofs.Causing.{active_cause}
+use Rattle.lsm_runs.proofs.FlushOutcomes.{active_taken}
 use Rattle.lsm_runs.proofs.runner.flushes.flush_active.Goals as goal
 
-pub returns-clause-upholds : goal.returns-clause-upholds
-returns-clause-upholds g c tells =
-    let mid = c.rotate_memtable.new.self in
-    rotated_upheld _ _ c.args.state.now.core mid.core c.flush_noting-entries.new.state.core c.in-Ok.sealed c.in-Ok.ensures.ok
-    (rw c.in-Ok.ensures.store at (c.flush_noting-entries.ensures.upholds tells))
+pub returns-clause-ok : goal.returns-clause-ok
+returns-clause-ok g c =
+    let flushed = c.flush_active_noting-entries in
+    rw c.of_active.ensures (active_taken c.args.watermark flushed.result.0 flushed.result.1.items c.args.state.now.core flushed.new.tree.core flushed.ensures.flushes)
+
+pub returns-clause-causes : goal.returns-clause-causes
+returns-clause-causes g c =
+    let flushed = c.flush_active_noting-entries in
+    rw c.of_active.ensures (active_cause flushed.result.1.items flushed.result.0 _ _ flushed.ensures.causes)

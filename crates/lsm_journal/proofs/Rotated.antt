@@ -1,0 +1,71 @@
+-- A flush behind a rotation.
+use Rattle.std.proofs.Common.{◌≡◌, ℕ, zero, suc, ◌<◌, ◌^◌, true, List, [], ◌∷◌, drop, length, Option, Some, None, Result, Ok, Err, IfOk, IfErr, IfSome, inl, inr, refl, ap, sym, subst, arith}
+use Rattle.std.specs.List.{AllByRecursion}
+use Rattle.lsm_below.specs.declared.error.Error.{Error}
+use Rattle.lsm_below.specs.declared.error.Error.TheVariants.{CommitUnknown}
+use Rattle.lsm_store.specs.World.{World}
+use Rattle.lsm_model.specs.Journal.{Event}
+use Rattle.lsm_versions.specs.Levels.{SeenVersion}
+use Rattle.lsm_manifest.specs.Names.{version_name}
+use Rattle.lsm_files.specs.Causes.{HasCause, causes_less}
+use Rattle.lsm_jobs.specs.declared.jobs.Registered.{Registered}
+use Rattle.lsm_parts.specs.declared.version.super_version.SuperVersion.{SuperVersion}
+use Rattle.lsm_parts.specs.History.{SeenHistory}
+use Rattle.lsm_state.specs.Calls.{Rotates}
+use Rattle.lsm_state.specs.Causes.{BlamesOrUncleanFlush, BlamesOrUncleanBehind}
+use Rattle.lsm_state.specs.Cleaning.{LeavesNoFiles, RemovesDrawn}
+use Rattle.lsm_state.specs.Core.{Core, rotated_core}
+use Rattle.lsm_state.specs.Commits.{Upholds}
+use Rattle.lsm_journal.specs.NotedFlushes.{FlushesNoted, FlushesActiveNoted, answer_behind}
+
+-- ---- the rotation
+
+pub rotated_upholds : (w v : World) (old mid new : Core) (id : Option ℕ) → Rotates old id mid → Upholds w v mid new → Upholds w v old new
+rotated_upholds w v old mid new None t u = subst (λ c. Upholds w v c new) t.1 u
+rotated_upholds w v old mid new (Some id) t u = let behind = subst (λ c. Upholds w v c new) t.2 u in record { files = behind.files; passes = behind.passes }
+
+rotated_table : (old mid : Core) (id : Option ℕ) → Rotates old id mid → mid.next_table ≡ old.next_table
+rotated_table old mid None t = ap (λ (c : Core). c.next_table) t.1
+rotated_table old mid (Some id) t = ap (λ (c : Core). c.next_table) t.2
+
+-- it changes no version
+same_versions : (w : World) (a b : SuperVersion) (svs : List SuperVersion) (n : ℕ) → a.version ≡ b.version → AllByRecursion (λ sv. w.gives (version_name sv.version.id) ≡ None) (drop n (a ∷ svs)) → AllByRecursion (λ sv. w.gives (version_name sv.version.id) ≡ None) (drop n (b ∷ svs))
+same_versions w a b svs zero is all = (subst (λ (v : SeenVersion). w.gives (version_name v.id) ≡ None) is all.0, all.1)
+same_versions w a b svs (suc n) is all = all
+
+rotated_leaves : (w : World) (old mid : Core) (id : Option ℕ) (new : SeenHistory) → Rotates old id mid → LeavesNoFiles w [] mid.history new → LeavesNoFiles w [] old.history new
+rotated_leaves w old mid None new t left = subst (λ (c : Core). LeavesNoFiles w [] c.history new) t.1 left
+rotated_leaves w old mid (Some id) new t left =
+    let mine = subst (λ (c : Core). LeavesNoFiles w [] c.history new) t.2 left in
+    record { tables = mine.tables; versions = same_versions w (rotated_core old).history.latest old.history.latest old.history.older (length new.older) refl mine.versions }
+
+-- where no id of a table was drawn, none is to be removed
+pub none_drawn : (n m : ℕ) (w v : World) → m ≡ n → RemovesDrawn n m w v
+none_drawn n m w v same = inl (λ i from below. absurd (omega (arith, same, from, below)))
+
+-- ---- the flush behind it
+
+abbrev Flushed : Type 0
+Flushed = Result (Option (ℕ × Registered)) Error
+
+pub active_noted : (w : ℕ) (id : Option ℕ) (r : Flushed) (events : List Event) (old mid new : Core) → Rotates old id mid → FlushesNoted w r events mid new → FlushesActiveNoted w (answer_behind id r) events old new
+active_noted w id (Ok a) events old mid new rotates flushes = record { ok = (mid, rotates, flushes); err = tt }
+active_noted w id (Err e) events old mid new rotates flushes = record { ok = tt; err = inr (mid, rotates, flushes) }
+
+blames_behind : (id : Option ℕ) (r : Flushed) → BlamesOrUncleanBehind (answer_behind id r) → BlamesOrUncleanFlush r
+blames_behind id (Ok a) blamed = blamed
+blames_behind id (Err e) blamed = blamed
+
+pub behind_cause : (id : Option ℕ) (r : Flushed) (w v : World) → HasCause (BlamesOrUncleanFlush r) w v → HasCause (BlamesOrUncleanBehind (answer_behind id r)) w v
+behind_cause id r w v cause = causes_less _ _ w v cause (blames_behind id r)
+
+pub behind_gone : (id : Option ℕ) (r : Flushed) (w : World) (old mid : Core) (new : SeenHistory) → Rotates old id mid → IfOk r (λ a. IfSome a (λ p. p.1.cleaned ≡ true → LeavesNoFiles w [] mid.history new)) → IfOk (answer_behind id r) (λ a. IfSome a.1 (λ p. p.1.cleaned ≡ true → LeavesNoFiles w [] old.history new))
+behind_gone id (Ok None) w old mid new rotates left = left
+behind_gone id (Ok (Some p)) w old mid new rotates left = λ whole. rotated_leaves w old mid id new rotates (left whole)
+behind_gone id (Err e) w old mid new rotates left = tt
+
+pub behind_refused : (id : Option ℕ) (r : Flushed) (w v : World) (old mid new : Core) → Rotates old id mid → (mid.next_table < 2 ^ 63 → IfErr r (λ e. (e ≡ CommitUnknown → ⊥) → RemovesDrawn mid.next_table new.next_table w v)) → old.next_table < 2 ^ 63 → IfErr (answer_behind id r) (λ e. (e.0 ≡ CommitUnknown → ⊥) → RemovesDrawn old.next_table new.next_table w v)
+behind_refused id (Ok a) w v old mid new rotates did small = tt
+behind_refused id (Err e) w v old mid new rotates did small =
+    let same = rotated_table old mid id rotates in
+    λ known. subst (λ n. RemovesDrawn n new.next_table w v) same (did (subst (λ n. n < 2 ^ 63) (sym same) small) known)
