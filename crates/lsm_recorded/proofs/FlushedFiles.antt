@@ -1,19 +1,14 @@
 -- What a crash leaves of the files of a tree that is flushed, and what a flush behind a rotation leaves.
-use Rattle.std.proofs.Common.{cond, ◌≡◌, ℕ, zero, suc, Bool, true, false, List, [], ◌∷◌, ◌++◌, drop, length, Option, Some, None, refl, sym, ap, ◌∙◌, subst, inl, inr, ⊎_elim, eqb, nat_lt, arith}
-use Rattle.std.specs.List.{AllByRecursion}
+use Rattle.std.proofs.Common.{cond, ◌≡◌, ℕ, Bool, true, false, List, [], ◌∷◌, ◌++◌, Option, Some, None, refl, sym, ◌∙◌, subst, inl, inr, ⊎_elim, eqb, nat_lt}
 use Rattle.lsm_below.specs.Members.{IsIn}
 use Rattle.lsm_store.specs.World.{World}
 use Rattle.lsm_store.specs.Moments.{weakened}
 use Rattle.lsm_versions.specs.Levels.{SeenVersion}
 use Rattle.lsm_files.specs.Stored.{IsStored, HoldsOneOf}
 use Rattle.lsm_files.specs.Foreign.{AtRest}
-use Rattle.lsm_manifest.specs.Names.{version_name}
 use Rattle.lsm_model.specs.Views.{SuperVersion, front, lookup, found_at}
 use Rattle.lsm_jobs.specs.Jobs.{SeenOpen}
-use Rattle.lsm_parts.specs.declared.version.super_version.SuperVersion.{SuperVersion as Kept}
-use Rattle.lsm_parts.specs.History.{SeenHistory}
 use Rattle.lsm_state.specs.Calls.{Rotates}
-use Rattle.lsm_state.specs.Cleaning.{LeavesNoFiles, RemovesDrawn}
 use Rattle.lsm_state.specs.Core.{Core, versions_left, written_by, written_of, latest_of, older_of, rotated_core}
 use Rattle.lsm_state.specs.Commits.{Upholds}
 use Rattle.lsm_state.specs.Flushes.{spent, spent_in}

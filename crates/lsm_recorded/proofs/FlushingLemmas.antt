@@ -1,5 +1,5 @@
 -- What the calls of a flush keep of a tree with its journal.
-use Rattle.std.proofs.Common.{cond, ◌≡◌, ◌⊎◌, ℕ, ◌+◌, ◌≤◌, Bool, true, false, List, [], ◌∷◌, ◌++◌, Option, Some, None, Result, Ok, Err, inl, inr, ⊎_elim, fold, refl, sym, ap, ◌∙◌, subst, arith, append-nil}
+use Rattle.std.proofs.Common.{cond, ◌≡◌, ℕ, ◌+◌, ◌≤◌, Bool, true, false, List, [], ◌∷◌, ◌++◌, Option, Some, None, Result, Ok, Err, inl, inr, ⊎_elim, fold, refl, sym, ap, ◌∙◌, subst, arith, append-nil}
 use Rattle.std.specs.BTreeMap.{BTreeMap}
 use Rattle.lsm_below.specs.Keys.{Bytes}
 use Rattle.lsm_below.specs.declared.error.Error.{Error}
@@ -20,7 +20,7 @@ use Rattle.lsm_state.specs.WholeFlushes.{Flushes, MarksFlush, RefusesRotation, F
 use Rattle.lsm_journal.specs.NotedFlushes.{FlushesNoted as TellsFlush, FlushesRotated, FlushesActiveNoted, RegistersNoted as TellsRegister}
 use Rattle.lsm_recorded.specs.declared.marks.Mark.{Mark}
 use Rattle.lsm_recorded.specs.Passes.{Notes}
-use Rattle.lsm_recorded.specs.Recorded.{SeenRecorded, IsRecorded, Stays}
+use Rattle.lsm_recorded.specs.Recorded.{IsRecorded, Stays}
 use Rattle.lsm_recorded.specs.Flushing.{FlushesNoted, NotesBehind, NotesNothing, NotesActive}
 use Rattle.lsm_recorded.proofs.CompactingLemmas.{events_recorded}
 use Rattle.lsm_recorded.proofs.FlushedFiles.{stays_behind}

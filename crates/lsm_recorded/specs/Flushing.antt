@@ -1,13 +1,8 @@
 -- What the calls of a flush add to a journal.
-use Rattle.std.specs.Prelude.{◌≡◌, ◌⊎◌, ℕ, Bool, false, List, [], ◌∷◌, Option, Result, Ok, Err, IfOk, IfErr, if◌then◌else◌}
-use Rattle.std.specs.BTreeMap.{BTreeMap}
-use Rattle.lsm_below.specs.Keys.{Bytes}
+use Rattle.std.specs.Prelude.{◌≡◌, ◌⊎◌, ℕ, Bool, List, Option, Result, Ok, Err, IfOk, IfErr}
 use Rattle.lsm_below.specs.declared.error.Error.{Error}
 use Rattle.lsm_below.specs.declared.error.Error.TheVariants.{OutOfMemory}
-use Rattle.lsm_model.specs.Journal.{Event}
-use Rattle.lsm_model.specs.Views.{Placed}
 use Rattle.lsm_model.specs.declared.journal.JournalEntry.{JournalEntry}
-use Rattle.lsm_model.specs.declared.journal.JournalEntry.TheVariants.{Mark as Watermark, Install}
 use Rattle.lsm_jobs.specs.Jobs.{SeenWritten}
 use Rattle.lsm_jobs.specs.declared.jobs.Registered.{Registered}
 use Rattle.lsm_state.specs.Calls.{Rotates}
@@ -15,9 +10,8 @@ use Rattle.lsm_state.specs.Core.{Core}
 use Rattle.lsm_state.specs.FlushReads.{register_events, flush_events}
 use Rattle.lsm_state.specs.Flushes.{Registers, spent}
 use Rattle.lsm_state.specs.WholeFlushes.{Flushes, MarksFlush, RefusesRotation}
-use Rattle.lsm_recorded.specs.declared.marks.Mark.{Mark}
 use Rattle.lsm_recorded.specs.Passes.{Notes}
-use Rattle.lsm_recorded.specs.Recorded.{SeenRecorded, IsRecorded, Stays}
+use Rattle.lsm_recorded.specs.Recorded.{SeenRecorded}
 
 -- ---- a job
 
