@@ -2,7 +2,7 @@
 use crate::cause::{Refusal, SessionStore, Unopened, fault_of};
 use crate::command::{Command, Plan, parse};
 use crate::kinds::SessionTree;
-use crate::reply::Reply;
+use crate::reply::{Reply, Stats};
 use lsm_below::{SeqNo, UserKey};
 use lsm_tree::{Begun, Error, Fifo, Leveled, Op, OwnedBounds};
 use std::alloc::Global;
@@ -55,6 +55,20 @@ impl<S: SessionStore, T: SessionTree<S>> Session<S, T> {
             None => None,
         };
         (reply, cause)
+    }
+
+    /// What a line is to work on that takes long where there are many entries: a flush or a compaction.
+    pub fn foresee(&self, line: &[u8]) -> Option<(&'static str, Stats)> {
+        let Some(Stage::Open(tree)) = &self.stage else {
+            return None;
+        };
+        if line.starts_with(b"flush ") {
+            Some(("flush", tree.stats()))
+        } else if line.starts_with(b"compact ") {
+            Some(("compaction", tree.stats()))
+        } else {
+            None
+        }
     }
 
     fn store(&self) -> Option<&S> {
