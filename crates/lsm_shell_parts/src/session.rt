@@ -1,6 +1,7 @@
 // A tree that answers commands.
 use crate::cause::{Refusal, SessionStore, Unopened, fault_of};
 use crate::command::{Command, Plan, parse};
+use crate::drawing::draw_levels;
 use crate::kinds::SessionTree;
 use crate::reply::{Reply, Stats};
 use lsm_below::{SeqNo, UserKey};
@@ -158,6 +159,7 @@ fn run_on<S: SessionStore, T: SessionTree<S>>(
             Ok(Reply::Done)
         }
         Command::Stats => Ok(Reply::Counted(tree.stats())),
+        Command::Levels => Ok(Reply::Drawn(draw_levels(alloc, tree.version())?)),
         Command::Crash | Command::Reopen => Ok(Reply::Usage),
     }
 }
