@@ -11,6 +11,8 @@
 //! | `totals` | what is counted of all files |
 //! | `shown`, `grid` | bytes as they are printed, and rows of words |
 //! | `text`, `json` | a look as text and as an object |
+//! | `levels`, `svg` | the levels drawn with characters, and the levels and the log as a picture |
+//! | `rows`, `span` | the runs of a version, and where keys stand between the first and the last one |
 //! | `entries` | the entries of a table, and the writes of a record |
 //! | `run` | the run of the program |
 #![tactic(auto)]
@@ -21,10 +23,14 @@ mod flaws;
 mod folder;
 mod grid;
 mod json;
+mod levels;
 mod look;
 mod names;
+mod rows;
 mod run;
 mod shown;
+mod span;
+mod svg;
 mod text;
 mod totals;
 mod verdict;

@@ -6,7 +6,9 @@ use crate::entries::{
 use crate::flaws::{Flaw, flaw_words};
 use crate::folder::FolderView;
 use crate::json::{look_value, verdict_value};
+use crate::levels::push_levels;
 use crate::look::{Damage, Look, look_into};
+use crate::svg::push_svg;
 use crate::text::{push_damage, push_look, push_verdict};
 use crate::verdict::judge;
 use lsm_below::Error;
@@ -68,13 +70,22 @@ fn object_text(alloc: Global, value: &Value) -> Result<String, AllocError> {
     Ok(text)
 }
 
-/// The text of a look.
-fn dump_text(alloc: Global, found: &Look, is_json: bool) -> Result<String, AllocError> {
+/// The text of a look, by what is shown of it.
+fn look_text(
+    alloc: Global,
+    found: &Look,
+    view: View,
+    is_json: bool,
+) -> Result<String, AllocError> {
     if is_json {
         return object_text(alloc, &look_value(alloc, found)?);
     }
     let mut text = String::new(alloc);
-    push_look(alloc, &mut text, found)?;
+    match view {
+        View::Levels => push_levels(alloc, &mut text, found)?,
+        View::Svg => push_svg(alloc, &mut text, found)?,
+        _ => push_look(alloc, &mut text, found)?,
+    }
     Ok(text)
 }
 
@@ -178,7 +189,7 @@ pub fn show<S: Store>(
         View::Record(number) => show_record(alloc, store, number, plan.is_json),
         View::Dump | View::Levels | View::Svg => {
             let found = look_into(alloc, store)?;
-            Ok(good(dump_text(alloc, &found, plan.is_json)?))
+            Ok(good(look_text(alloc, &found, plan.view, plan.is_json)?))
         }
     }
 }
