@@ -2,7 +2,7 @@
 use crate::look::{Look, TableLook};
 use crate::rows::{bytes_of, count_damaged, place_of, runs_of};
 use crate::shown::{Cut, push_bytes};
-use crate::span::{KeySpan, ends_of};
+use crate::span::KeySpan;
 use std::alloc::{AllocError, Global};
 
 /// How many characters a line has for keys.
@@ -15,7 +15,7 @@ fn set(line: &mut [u8], at: usize, byte: u8) {
 }
 
 /// Draws a table: `[==]` from its first key to its last one, `|` where both stand at one character.
-fn draw(line: &mut [u8], span: &KeySpan, table: &TableLook) {
+fn draw(line: &mut [u8], span: &KeySpan<'_>, table: &TableLook) {
     let Some(entries) = table.whole() else {
         return;
     };
@@ -34,7 +34,7 @@ fn draw(line: &mut [u8], span: &KeySpan, table: &TableLook) {
 }
 
 /// The line of a run.
-fn line_of(alloc: Global, span: &KeySpan, run: &[TableLook]) -> Result<String, AllocError> {
+fn line_of(alloc: Global, span: &KeySpan<'_>, run: &[TableLook]) -> Result<String, AllocError> {
     let mut line = vec![in alloc; b' '; COLUMNS]?;
     for table in run {
         draw(&mut line, span, table);
@@ -49,7 +49,7 @@ fn line_of(alloc: Global, span: &KeySpan, run: &[TableLook]) -> Result<String, A
 fn push_run(
     alloc: Global,
     out: &mut String,
-    span: &KeySpan,
+    span: &KeySpan<'_>,
     run: &[TableLook],
 ) -> Result<(), AllocError> {
     let (level, place) = place_of(run);
@@ -64,8 +64,8 @@ fn push_run(
 }
 
 /// Appends the keys at both ends.
-fn push_ends(out: &mut String, look: &Look) -> Result<(), AllocError> {
-    let Some((low, high)) = ends_of(&look.tables) else {
+fn push_ends(out: &mut String, span: &KeySpan<'_>) -> Result<(), AllocError> {
+    let Some((low, high)) = span.ends() else {
         return Ok(());
     };
     out.push_str("keys    ")?;
@@ -77,11 +77,11 @@ fn push_ends(out: &mut String, look: &Look) -> Result<(), AllocError> {
 
 /// Appends a line for each run, and one for the log.
 pub fn push_levels(alloc: Global, out: &mut String, look: &Look) -> Result<(), AllocError> {
-    let span = KeySpan::of(&look.tables);
+    let span = KeySpan::of(alloc, &look.tables)?;
     for run in runs_of(look)? {
         push_run(alloc, out, &span, run)?;
     }
-    push_ends(out, look)?;
+    push_ends(out, &span)?;
     let (records, passed, from) = (look.records.len(), look.passed.len(), look.log_from);
     write!(out, "log     {records} records from {from} on, {passed} below\n")
 }

@@ -41,4 +41,4 @@ pub use flaws::{Flaw, Part, Place, RunPlace, flaw_words};
 pub use folder::FolderView;
 pub use look::{Content, Damage, Entries, Look, Others, RecordLook, TableLook, Wanted, Writes, look_into};
 pub use run::{Shown, run_dump, show};
-pub use verdict::judge;
+pub use verdict::{judge, judge_tree};

@@ -3,7 +3,7 @@ use crate::flaws::flaw_words;
 use crate::look::{Content, Entries, Look, RecordLook, TableLook};
 use crate::rows::{place_of, runs_of};
 use crate::shown::{Cut, bytes_shown};
-use crate::span::{KeySpan, ends_of};
+use crate::span::KeySpan;
 use lsm_below::SeqNo;
 use std::alloc::{AllocError, Global};
 
@@ -156,7 +156,7 @@ fn push_entries(alloc: Global, out: &mut String, entries: &Entries) -> Result<()
 }
 
 /// Where a table stands in a row. A damaged one stands at the end.
-fn table_frame(span: &KeySpan, table: &TableLook, y: u64) -> Frame {
+fn table_frame(span: &KeySpan<'_>, table: &TableLook, y: u64) -> Frame {
     let Some(entries) = table.whole() else {
         return Frame {
             x: LEFT.saturating_add(KEYS).saturating_mul(10),
@@ -178,7 +178,7 @@ fn table_frame(span: &KeySpan, table: &TableLook, y: u64) -> Frame {
 fn push_table(
     alloc: Global,
     out: &mut String,
-    span: &KeySpan,
+    span: &KeySpan<'_>,
     table: &TableLook,
     y: u64,
     largest: u64,
@@ -205,7 +205,7 @@ fn push_line(out: &mut String, y: u64) -> Result<(), AllocError> {
 fn push_run(
     alloc: Global,
     out: &mut String,
-    span: &KeySpan,
+    span: &KeySpan<'_>,
     run: &[TableLook],
     y: u64,
     largest: u64,
@@ -237,8 +237,13 @@ fn largest_record(records: &[RecordLook]) -> u64 {
 }
 
 /// Appends the keys at both ends of the rows.
-fn push_axis(alloc: Global, out: &mut String, look: &Look, y: u64) -> Result<(), AllocError> {
-    let Some((first, last)) = ends_of(&look.tables) else {
+fn push_axis(
+    alloc: Global,
+    out: &mut String,
+    span: &KeySpan<'_>,
+    y: u64,
+) -> Result<(), AllocError> {
+    let Some((first, last)) = span.ends() else {
         return Ok(());
     };
     let first = bytes_shown(alloc, first, Cut::Long)?;
@@ -347,13 +352,13 @@ pub fn push_svg(alloc: Global, out: &mut String, look: &Look) -> Result<(), Allo
     out.push_str(STYLE)?;
     let title = heading(alloc, look)?;
     push_label(out, "title", 12, 24, title.as_str())?;
-    let span = KeySpan::of(&look.tables);
+    let span = KeySpan::of(alloc, &look.tables)?;
     let largest = largest_table(&look.tables);
     for (place, run) in runs.iter().enumerate() {
         let y = TOP.saturating_add(ROW.saturating_mul(place as u64));
         push_run(alloc, out, &span, run, y, largest)?;
     }
-    push_axis(alloc, out, look, axis)?;
+    push_axis(alloc, out, &span, axis)?;
     push_log(alloc, out, look, log)?;
     out.push_str("</svg>\n")
 }

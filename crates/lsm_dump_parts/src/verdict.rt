@@ -7,8 +7,12 @@ use lsm_manifest::look_for_files;
 use lsm_store::Store;
 use std::alloc::Global;
 
-/// What opening reads of the tree's files, by the reading that opens them: from which number the log is read.
-fn read_tree<S: Store>(alloc: Global, store: &mut S) -> Result<SeqNo, Error>
+/// Reads all that opening a tree without its log reads, by the same call: from which number its log is read.
+///
+/// # Errors
+///
+/// The error with which `TreeState::open` would refuse the store.
+pub fn judge_tree<S: Store>(alloc: Global, store: &mut S) -> Result<SeqNo, Error>
     ensures { S.tells → Same (S.world store.old) (S.world store.new) }
 {
     match look_for_files(alloc, store) {
@@ -27,7 +31,7 @@ fn read_tree<S: Store>(alloc: Global, store: &mut S) -> Result<SeqNo, Error>
 pub fn judge<S: Store>(alloc: Global, store: &mut S) -> Result<(), Error>
     ensures { S.tells → Same (S.world store.old) (S.world store.new) }
 {
-    let from = read_tree(alloc, store)?;
+    let from = judge_tree(alloc, store)?;
     match check_log(alloc, store, from) {
         Ok(_) => Ok(()),
         Err(error) => Err(error),
