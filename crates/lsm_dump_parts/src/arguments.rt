@@ -266,6 +266,8 @@ pub fn push_bad(out: &mut String, bad: BadArguments<'_>) -> Result<(), AllocErro
         BadArguments::TwoViews(option) => write!(out, "{option}: what is shown is chosen twice"),
         BadArguments::NoTable => out.push_str("--from, --to and --limit go with --table alone"),
         BadArguments::NoObject => out.push_str("--json: a picture is no object"),
-        BadArguments::NoHex => out.push_str("--from, --to: what stands behind 0x is no bytes in hex"),
+        BadArguments::NoHex => out.push_str(
+            "--from, --to: what stands behind 0x is no bytes in hex",
+        ),
     }
 }

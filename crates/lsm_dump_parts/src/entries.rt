@@ -8,7 +8,7 @@ use crate::look::content_of;
 use crate::shown::{Cut, push_bytes};
 use bytes::Bytes;
 use lsm_below::{Error, InternalValue, SeqNo, TableId, UserKey, ValueType, share};
-use lsm_log::{RecordError, Record, decode, record_name};
+use lsm_log::{Record, RecordError, decode, record_name};
 use lsm_manifest::table_name;
 use lsm_model::Op;
 use lsm_store::Store;
@@ -74,11 +74,7 @@ fn judge_table(alloc: Global, id: TableId, bytes: Bytes) -> Result<FoundTable, E
 }
 
 /// The table of this id, or what is wrong with its file. Nothing else is read.
-pub fn find_table<S: Store>(
-    alloc: Global,
-    store: &mut S,
-    id: TableId,
-) -> Result<FoundTable, Error>
+pub fn find_table<S: Store>(alloc: Global, store: &mut S, id: TableId) -> Result<FoundTable, Error>
     ensures { S.tells → Same (S.world store.old) (S.world store.new) }
 {
     let name = table_name(id);

@@ -85,7 +85,12 @@ impl Grid {
         Ok(widths)
     }
 
-    fn push_row(&self, out: &mut String, row: &[String], widths: &[usize]) -> Result<(), AllocError> {
+    fn push_row(
+        &self,
+        out: &mut String,
+        row: &[String],
+        widths: &[usize],
+    ) -> Result<(), AllocError> {
         let last = row.len().saturating_sub(1);
         for (column, word) in row.iter().enumerate() {
             let width = widths.get(column).copied().unwrap_or(0);

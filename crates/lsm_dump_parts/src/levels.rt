@@ -55,7 +55,10 @@ fn push_run(
     let (level, place) = place_of(run);
     let line = line_of(alloc, span, run)?;
     let (tables, bytes) = (run.len(), bytes_of(run));
-    write!(out, "L{level} {place:>3} |{line}| {tables} tables, {bytes} bytes")?;
+    write!(
+        out,
+        "L{level} {place:>3} |{line}| {tables} tables, {bytes} bytes"
+    )?;
     let damaged = count_damaged(run);
     if damaged > 0 {
         write!(out, ", {damaged} damaged")?;
@@ -83,5 +86,8 @@ pub fn push_levels(alloc: Global, out: &mut String, look: &Look) -> Result<(), A
     }
     push_ends(out, &span)?;
     let (records, passed, from) = (look.records.len(), look.passed.len(), look.log_from);
-    write!(out, "log     {records} records from {from} on, {passed} below\n")
+    write!(
+        out,
+        "log     {records} records from {from} on, {passed} below\n"
+    )
 }

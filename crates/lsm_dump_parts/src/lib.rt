@@ -39,6 +39,8 @@ pub use arguments::{Asked, BadArguments, Plan, Slice, View, parse_arguments};
 pub use entries::{Bounds, bounds_of};
 pub use flaws::{Flaw, Part, Place, RunPlace, flaw_words};
 pub use folder::FolderView;
-pub use look::{Content, Damage, Entries, Look, Others, RecordLook, TableLook, Wanted, Writes, look_into};
+pub use look::{
+    Content, Damage, Entries, Look, Others, RecordLook, TableLook, Wanted, Writes, look_into,
+};
 pub use run::{Shown, run_dump, show};
 pub use verdict::{judge, judge_tree};

@@ -17,9 +17,7 @@ fn end_of_run(tables: &[TableLook], start: usize) -> usize {
 }
 
 /// The runs, in the order of the levels. None where no version is read.
-pub(crate) fn runs_of<'a>(
-    look: &'a Look,
-) -> Result<Vec<&'a [TableLook]>, std::alloc::AllocError> {
+pub(crate) fn runs_of<'a>(look: &'a Look) -> Result<Vec<&'a [TableLook]>, std::alloc::AllocError> {
     let alloc = *look.tables.allocator();
     let mut runs = Vec::new(alloc);
     if look.version.is_none() {

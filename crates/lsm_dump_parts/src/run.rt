@@ -71,12 +71,7 @@ fn object_text(alloc: Global, value: &Value) -> Result<String, AllocError> {
 }
 
 /// The text of a look, by what is shown of it.
-fn look_text(
-    alloc: Global,
-    found: &Look,
-    view: View,
-    is_json: bool,
-) -> Result<String, AllocError> {
+fn look_text(alloc: Global, found: &Look, view: View, is_json: bool) -> Result<String, AllocError> {
     if is_json {
         return object_text(alloc, &look_value(alloc, found)?);
     }

@@ -9,12 +9,16 @@ use std::alloc::{AllocError, Global};
 
 /// The picture's width, where the keys begin in it, and how wide all of them are.
 const WIDTH: u64 = 960;
+
 const LEFT: u64 = 96;
+
 const KEYS: u64 = 840;
 
 /// The height of a row and of a box in it, and where the first row begins.
 const ROW: u64 = 26;
+
 const BOX: u64 = 18;
+
 const TOP: u64 = 44;
 
 /// The least width of a box.
@@ -74,13 +78,7 @@ fn push_tenths(out: &mut String, tenths: u64) -> Result<(), AllocError> {
 }
 
 /// Appends a line of text.
-fn push_label(
-    out: &mut String,
-    class: &str,
-    x: u64,
-    y: u64,
-    text: &str,
-) -> Result<(), AllocError> {
+fn push_label(out: &mut String, class: &str, x: u64, y: u64, text: &str) -> Result<(), AllocError> {
     write!(out, "<text class=\"{class}\" x=\"{x}\" y=\"{y}\">")?;
     push_escaped(out, text)?;
     out.push_str("</text>\n")
@@ -88,7 +86,10 @@ fn push_label(
 
 /// Appends a text that ends at a place.
 fn push_end_label(out: &mut String, x: u64, y: u64, text: &str) -> Result<(), AllocError> {
-    write!(out, "<text class=\"dim\" text-anchor=\"end\" x=\"{x}\" y=\"{y}\">")?;
+    write!(
+        out,
+        "<text class=\"dim\" text-anchor=\"end\" x=\"{x}\" y=\"{y}\">"
+    )?;
     push_escaped(out, text)?;
     out.push_str("</text>\n")
 }
@@ -102,7 +103,10 @@ fn push_box(
     title: &str,
 ) -> Result<(), AllocError> {
     let y = frame.y;
-    write!(out, "<rect class=\"{class}\" rx=\"2\" y=\"{y}\" height=\"{BOX}\" x=\"")?;
+    write!(
+        out,
+        "<rect class=\"{class}\" rx=\"2\" y=\"{y}\" height=\"{BOX}\" x=\""
+    )?;
     push_tenths(out, frame.x)?;
     out.push_str("\" width=\"")?;
     push_tenths(out, frame.width)?;
@@ -149,7 +153,10 @@ fn push_entries(alloc: Global, out: &mut String, entries: &Entries) -> Result<()
         highest,
         ..
     } = entries;
-    write!(out, ", {count} entries, {tombstones} tombstones, numbers {lowest} to {highest}")?;
+    write!(
+        out,
+        ", {count} entries, {tombstones} tombstones, numbers {lowest} to {highest}"
+    )?;
     let first = bytes_shown(alloc, &entries.first, Cut::Long)?;
     let last = bytes_shown(alloc, &entries.last, Cut::Long)?;
     write!(out, ", keys {first} to {last}")

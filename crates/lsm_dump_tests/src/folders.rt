@@ -55,7 +55,10 @@ fn a_folder_is_read(rt: HostRuntime) -> Result<(), Fail> {
     assert_eq!(rt; ends(&rt, alloc, &[FOLDER])?, (0, false, true));
     assert_eq!(rt; ends(&rt, alloc, &[FOLDER, "--check"])?, (0, false, true));
     assert_eq!(rt; ends(&rt, alloc, &["--svg", FOLDER])?, (0, false, true));
-    assert_eq!(rt; ends(&rt, alloc, &[FOLDER, "--table", "9"])?, (1, false, true));
+    assert_eq!(rt;
+        ends(&rt, alloc, &[FOLDER, "--table", "9"])?,
+        (1, false, true)
+    );
     assert_eq!(rt; count_names(&rt, FOLDER)?, before);
     Ok(())
 }

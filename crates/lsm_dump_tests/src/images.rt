@@ -65,11 +65,7 @@ fn put_table(out: &mut Vec<u8>, id: u64, sum: &[u8; 16]) -> Result<(), AllocErro
 }
 
 /// The version's file whose first level has one run of tables 3 and 4, with these sums, in format 4 or 3.
-fn version_of(
-    alloc: Global,
-    is_fourth: bool,
-    sums: &[[u8; 16]; 2],
-) -> Result<Vec<u8>, AllocError> {
+fn version_of(alloc: Global, is_fourth: bool, sums: &[[u8; 16]; 2]) -> Result<Vec<u8>, AllocError> {
     let mut out = Vec::new(alloc);
     for part in HEAD {
         out.extend_from_slice(part)?;

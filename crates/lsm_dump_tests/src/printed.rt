@@ -66,10 +66,35 @@ fn a_tree_is_dumped(rt: HostRuntime) -> Result<(), Fail> {
 fn entries_and_writes_are_listed(rt: HostRuntime) -> Result<(), Fail> {
     let alloc = rt.alloc();
     let rows = [
-        (View::Table(4), ALL, "1  \"c\"  \"y\"\n0  \"c\"  tombstone\n"),
-        (View::Table(4), Slice { limit: Some(1), ..ALL }, "1  \"c\"  \"y\"\n"),
-        (View::Table(4), Slice { to: Some("c"), ..ALL }, ""),
-        (View::Table(3), Slice { from: Some("0x61"), ..ALL }, "0  \"a\"  \"x\"\n"),
+        (
+            View::Table(4),
+            ALL,
+            "1  \"c\"  \"y\"\n0  \"c\"  tombstone\n",
+        ),
+        (
+            View::Table(4),
+            Slice {
+                limit: Some(1),
+                ..ALL
+            },
+            "1  \"c\"  \"y\"\n",
+        ),
+        (
+            View::Table(4),
+            Slice {
+                to: Some("c"),
+                ..ALL
+            },
+            "",
+        ),
+        (
+            View::Table(3),
+            Slice {
+                from: Some("0x61"),
+                ..ALL
+            },
+            "0  \"a\"  \"x\"\n",
+        ),
         (View::Record(2), ALL, "\"b\"  \"y\"\n\"a\"  tombstone\n"),
         (View::Record(9), ALL, "log/9: is missing\n"),
         (View::Table(7), ALL, "tables/7: is cut: it has 1 bytes\n"),
@@ -87,7 +112,8 @@ fn entries_and_writes_are_listed(rt: HostRuntime) -> Result<(), Fail> {
     Ok(())
 }
 
-const OBJECT: &str = r#"{"entries":[{"key":{"text":"c"},"number":1,"type":"value","value":{"text":"y"}},{"key":{"text":"c"},"number":0,"type":"tombstone"}],"table":4}
+const OBJECT: &str =
+    r#"{"entries":[{"key":{"text":"c"},"number":1,"type":"value","value":{"text":"y"}},{"key":{"text":"c"},"number":0,"type":"tombstone"}],"table":4}
 "#;
 
 #[test]

@@ -44,17 +44,14 @@ fn told_of(alloc: Global, store: &mut MemStore) -> Result<(u8, u8, bool), Error>
 fn agrees(alloc: Global, first: MemStore, second: MemStore) -> Result<bool, Error> {
     let mut first = first;
     let (verdict, tree, is_damaged) = told_of(alloc, &mut first)?;
-    Ok(verdict == opens_logged(alloc, first)
-        && tree == opens_tree(alloc, second)
-        && is_damaged == (verdict != 0))
+    Ok(
+        verdict == opens_logged(alloc, first)
+            && tree == opens_tree(alloc, second)
+            && is_damaged == (verdict != 0),
+    )
 }
 
-fn agrees_on(
-    alloc: Global,
-    files: &[Held],
-    name: &str,
-    change: Change<'_>,
-) -> Result<bool, Fail> {
+fn agrees_on(alloc: Global, files: &[Held], name: &str, change: Change<'_>) -> Result<bool, Fail> {
     let first = store_of(alloc, files, name, change)?;
     let second = store_of(alloc, files, name, change)?;
     Ok(agrees(alloc, first, second)?)
@@ -165,7 +162,11 @@ fn missing_files_and_bytes_too_many(rt: HostRuntime) -> Result<(), Fail> {
     for is_fourth in [false, true] {
         let files = image(alloc, is_fourth)?;
         for file in &files {
-            assert!(rt; agrees_at_ends(alloc, &files, is_fourth, file)?, "{}", file.name);
+            assert!(rt;
+                agrees_at_ends(alloc, &files, is_fourth, file)?,
+                "{}",
+                file.name
+            );
         }
     }
     Ok(())
@@ -196,8 +197,14 @@ fn names_beside_a_tree(rt: HostRuntime) -> Result<(), Fail> {
     let alloc = rt.alloc();
     let files = image(alloc, true)?;
     for name in NAMES {
-        assert!(rt; agrees_on(alloc, &files, name, Change::Holds(b"1"))?, "{name}");
-        assert!(rt; agrees_on(alloc, &[], name, Change::Holds(b"1"))?, "{name} alone");
+        assert!(rt;
+            agrees_on(alloc, &files, name, Change::Holds(b"1"))?,
+            "{name}"
+        );
+        assert!(rt;
+            agrees_on(alloc, &[], name, Change::Holds(b"1"))?,
+            "{name} alone"
+        );
     }
     Ok(())
 }

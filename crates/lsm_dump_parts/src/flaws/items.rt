@@ -13,6 +13,7 @@ const COUNT_PLACE: usize = 12;
 
 /// The bytes before an entry's key, and before an operation's.
 const ENTRY_HEAD: u64 = 15;
+
 const OPERATION_HEAD: u64 = 7;
 
 /// An entry or an operation, as it is spelled. An operation has no number of its own.

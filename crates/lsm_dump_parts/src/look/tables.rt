@@ -122,11 +122,7 @@ fn judge(alloc: Global, wanted: Wanted, bytes: Bytes) -> Result<TableLook, Error
     })
 }
 
-fn look_at_table<S: Store>(
-    alloc: Global,
-    store: &mut S,
-    wanted: Wanted,
-) -> Result<TableLook, Error>
+fn look_at_table<S: Store>(alloc: Global, store: &mut S, wanted: Wanted) -> Result<TableLook, Error>
     ensures { S.tells → Same (S.world store.old) (S.world store.new) }
 {
     let name = table_name(wanted.id);
