@@ -52,7 +52,7 @@ Lines of the input, words between single spaces; S is a snapshot, W a watermark,
   get K [S]   range LO HI [S]   prefix P [S]  read a key, the keys from LO on and below HI, those that begin with P
   rotate   flush W                            seal the memtable; write all memtables to tables
   compact leveled W   compact major W   compact fifo LIMIT TTL W   drop LO HI   clear   now N
-  stats   crash   reopen                      docs/SHELL.md says what each line does and prints
+  stats   levels   crash   reopen                      docs/SHELL.md says what each line does and prints
 
 Status:
   0    the input has ended; every caller read what it wrote

@@ -2,9 +2,7 @@
 use crate::cause::{SessionStore, Unopened};
 use crate::reply::Stats;
 use lsm_below::{MemtableId, SeqNo, UserKey, UserValue};
-use lsm_tree::{
-    Begun, CompactionStrategy, Error, Op, OwnedBounds, Registered, TreeIter, Version,
-};
+use lsm_tree::{Begun, CompactionStrategy, Error, Op, OwnedBounds, Registered, TreeIter, Version};
 use std::alloc::Global;
 use std::ops::Bound;
 

@@ -303,6 +303,19 @@ fn answers_long_lines(rt: HostRuntime) -> Result<(), Fail> {
     Ok(())
 }
 
+/// The levels as they are drawn: none, and a table of one key, whose file has 37 bytes.
+#[test]
+fn draws_levels(rt: HostRuntime) -> Result<(), Fail> {
+    let alloc = rt.alloc();
+    let mut told = Vec::from_slice(alloc, b"no tables\nok 0\nflushed 50 installed\nL0   0 ||")?;
+    for _ in 1..72 {
+        told.push(b' ')?;
+    }
+    told.extend_from_slice(b"| 1 tables, 37 bytes\nkeys    \"a\" .. \"a\"\n")?;
+    assert!(rt; prints(&rt, alloc, b"levels\nput a x\nflush 0\nlevels\n", &told));
+    Ok(())
+}
+
 /// The arguments between single spaces, none for an empty text.
 fn arguments_of(alloc: Global, text: &str) -> Result<Vec<String>, AllocError> {
     let mut words = Vec::new(alloc);

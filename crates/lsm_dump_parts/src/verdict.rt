@@ -1,0 +1,39 @@
+// Whether a tree and its log would be opened.
+ghost use Rattle.lsm_store.specs.World.{Same};
+
+use lsm_below::{Error, SeqNo};
+use lsm_log::check_log;
+use lsm_manifest::look_for_files;
+use lsm_store::Store;
+use std::alloc::Global;
+
+/// Reads all that opening a tree without its log reads, by the same call: from which number its log is read.
+///
+/// # Errors
+///
+/// The error with which `TreeState::open` would refuse the store.
+pub fn judge_tree<S: Store>(alloc: Global, store: &mut S) -> Result<SeqNo, Error>
+    ensures { S.tells → Same (S.world store.old) (S.world store.new) }
+{
+    match look_for_files(alloc, store) {
+        Ok(found) => Ok(found.opened.version.log_from()),
+        Err(error) => Err(error),
+    }
+}
+
+/// Reads all that opening a tree with its log reads, by the same calls, and tells the error that it would be refused with.
+/// All tables are in memory, as where a tree is opened. It changes nothing.
+///
+/// # Errors
+///
+/// The error with which `Logged::open` would refuse the store.
+#[tactic(auto, using(lsm_store::specs::Moments::same_then))]
+pub fn judge<S: Store>(alloc: Global, store: &mut S) -> Result<(), Error>
+    ensures { S.tells → Same (S.world store.old) (S.world store.new) }
+{
+    let from = judge_tree(alloc, store)?;
+    match check_log(alloc, store, from) {
+        Ok(_) => Ok(()),
+        Err(error) => Err(error),
+    }
+}
