@@ -7,6 +7,10 @@
 //! folder, or behind `-` for none, are run alone, so that a profile sees one of them. docs/PERFORMANCE.md says what
 //! each workload does.
 //!
+//! `lsm_bench --svg bars FILE` prints a picture of figures that stand in a file: lines as above, of which the middle of each
+//! workload counts, and lines `WORKLOAD KEYS NANOSECONDS PROGRAM` of other programs. `--svg growth` draws them against the
+//! number of keys.
+//!
 //! On standard error it says at first which program this is and how many processors it may use: `rt run` builds
 //! `out/lsm_bench` of what is proved alone, and any other program that has these sources may be slower.
 //!
@@ -23,6 +27,7 @@
 //! | `trees` | the trees that workloads find |
 //! | `bench` | the run of one workload after the other |
 //! | `report` | the line of a workload |
+//! | `pictures` | pictures of figures |
 //! | `progress` | how far the run is, on a terminal |
 #![tactic(auto)]
 
@@ -30,6 +35,7 @@ mod bench;
 mod lists;
 mod logs;
 mod merges;
+mod pictures;
 mod points;
 mod progress;
 mod report;
@@ -38,7 +44,8 @@ mod workloads;
 
 use anyhow::Error;
 use bench::run_workloads;
-use lsm_bench_parts::{BadArguments, Plan, parse_arguments};
+use lsm_bench_parts::{BadArguments, Plan, parse_arguments, parse_picture};
+use pictures::print_picture;
 use progress::Progress;
 use std::io::ErrorKind;
 use std::process::ExitCode;
@@ -57,6 +64,11 @@ fn main(rt: HostRuntime) -> ExitCode {
         }
         Err(error) => return tell_fault(&rt, Error::from(error)),
     };
+    match parse_picture(&words) {
+        None => {}
+        Some(Ok((kind, path))) => return end(&rt, print_picture(&rt, kind, path)),
+        Some(Err(error)) => return tell_usage(&rt, error),
+    }
     let plan = match parse_arguments(&words) {
         Ok(plan) if are_workloads(plan.rows) => plan,
         Ok(_) => return tell_usage(&rt, BadArguments::NoRow),
@@ -66,9 +78,14 @@ fn main(rt: HostRuntime) -> ExitCode {
         tell_program(&rt, plan);
     }
     let mut progress = Progress::new(rt.stderr());
-    match run_workloads(&rt, &rt, &mut progress, plan) {
+    end(&rt, run_workloads(&rt, &rt, &mut progress, plan))
+}
+
+/// The status in which a run or a picture ended.
+fn end(rt: &impl Eprint, ended: Result<(), Error>) -> ExitCode {
+    match ended {
         Ok(()) => ExitCode::SUCCESS,
-        Err(error) => tell_fault(&rt, error),
+        Err(error) => tell_fault(rt, error),
     }
 }
 
@@ -100,7 +117,9 @@ fn tell_program<R: Env + AllocGlobal + Files + Threads + Eprint>(rt: &R, plan: P
 
 /// Says why the arguments ask nothing. Nothing is left to be told where even this can't be written.
 fn tell_usage(rt: &impl Eprint, error: BadArguments) -> ExitCode {
-    let _ = eprintln!(rt; "lsm_bench: {error}\nusage: lsm_bench [N [FOLDER | - [WORKLOAD ..]]]");
+    let _ = eprintln!(rt;
+        "lsm_bench: {error}\nusage: lsm_bench [N [FOLDER | - [WORKLOAD ..]]]\n       lsm_bench --svg bars|growth FILE"
+    );
     ExitCode::from(USAGE)
 }
 

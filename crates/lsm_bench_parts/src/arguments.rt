@@ -40,6 +40,18 @@ pub const CHECKS: Plan<'static> = Plan {
 /// Stands for no folder, where workloads are named behind it.
 const NO_FOLDER: &str = "-";
 
+/// A picture of figures that were printed before.
+#[derive(Debug, Clone, Copy, PartialEq, Eq)]
+pub enum Picture {
+    /// Bars beside those of other programs.
+    Bars,
+    /// Lines against the number of keys.
+    Growth,
+}
+
+/// Stands before the picture and the file of the figures that it is drawn of.
+const PICTURE: &str = "--svg";
+
 /// Why arguments ask nothing that the program does.
 #[derive(Debug, PartialEq, Eq, Drop, Error)]
 pub enum BadArguments {
@@ -49,6 +61,24 @@ pub enum BadArguments {
     NoNumber,
     #[error("there is no such workload")]
     NoRow,
+    #[error("behind --svg stand 'bars' or 'growth' and a file of figures")]
+    NoPicture,
+}
+
+/// The picture that these arguments ask, and the file of its figures. None where they ask a run.
+pub fn parse_picture(words: &[String]) -> Option<Result<(Picture, &str), BadArguments>> {
+    let (first, rest) = words.split_first()?;
+    if first.as_str() != PICTURE {
+        return None;
+    }
+    let [kind, path] = rest else {
+        return Some(Err(BadArguments::NoPicture));
+    };
+    Some(match kind.as_str() {
+        "bars" => Ok((Picture::Bars, path.as_str())),
+        "growth" => Ok((Picture::Growth, path.as_str())),
+        _ => Err(BadArguments::NoPicture),
+    })
 }
 
 /// What these arguments ask: how many keys, a folder or `-`, and names of workloads.

@@ -1,5 +1,8 @@
 // What no contract says: which arguments and folders are taken, which order a seed gives, and the bytes of a key.
-use crate::arguments::{BadArguments, CHECKS, parse_arguments};
+use crate::arguments::{BadArguments, CHECKS, Picture, parse_arguments, parse_picture};
+use crate::bars::draw_bars;
+use crate::figures::read_figures;
+use crate::growth::{draw_growth, log_of};
 use crate::keys::{absent_key_of, key_of};
 use crate::orders::shuffled;
 use crate::places::{Folder, Place};
@@ -123,4 +126,93 @@ fn finds_the_resident_bytes(rt: HostRuntime) {
     assert_eq!(rt; find_resident("705 768 689 7 0 108 0\n"), Some(3_145_728));
     assert_eq!(rt; find_resident("705"), None);
     assert_eq!(rt; find_resident("705 x 689"), None);
+}
+
+/// What arguments ask of a picture: none, or its kind and how long the name of its file is.
+type AskedPicture = Option<Result<(Picture, usize), BadArguments>>;
+
+fn asks_picture(words: &[String], told: &AskedPicture) -> bool {
+    match (parse_picture(words), told) {
+        (None, None) => true,
+        (Some(Ok((kind, path))), Some(Ok((picture, length)))) => {
+            kind == *picture && path.len() == *length
+        }
+        (Some(Err(error)), Some(Err(told))) => error == *told,
+        _ => false,
+    }
+}
+
+#[test]
+fn takes_pictures(rt: HostRuntime) -> Result<(), Fail> {
+    let table: [(&str, AskedPicture); 6] = [
+        ("", None),
+        ("1000 - get_mem", None),
+        ("--svg bars figures", Some(Ok((Picture::Bars, 7)))),
+        ("--svg growth x", Some(Ok((Picture::Growth, 1)))),
+        ("--svg bars", Some(Err(BadArguments::NoPicture))),
+        ("--svg lines x", Some(Err(BadArguments::NoPicture))),
+    ];
+    for (text, told) in table {
+        let words = words_of(rt.alloc(), text)?;
+        assert!(rt; asks_picture(&words, &told));
+    }
+    Ok(())
+}
+
+/// Three runs of one workload, and another program on it: 2 s over 1,000 operations are 2,000,000 ns.
+const LINES: &str = "# a quiet machine
+put_rand 1000 1000 2.000000000 7
+put_rand 1000 1000 9.000000000 7
+put_rand 1000 1000 0.500000000 7
+put_rand 1000 4000000 LevelDB
+put_rand 10000 1000 0.004096000 7
+";
+
+/// The middle run counts, and the longest bar of a workload is 300 wide.
+#[test]
+fn bars_stand_beside_each_other(rt: HostRuntime) -> Result<(), Fail> {
+    let figures = read_figures(rt.alloc(), LINES)?;
+    let picture = draw_bars(rt.alloc(), &figures)?;
+    let ours = picture.contains("class=\"ours\" x=\"210\" y=\"44\" width=\"150\"");
+    let peer = picture.contains("class=\"peer\" x=\"210\" y=\"62\" width=\"300\"");
+    let figure = picture.contains("2,000,000 ns <tspan class=\"dim\">Jadvork<");
+    drop(picture);
+    drop(figures);
+    assert!(rt; ours && peer && figure);
+    Ok(())
+}
+
+/// The two ends of a line stand at the ends of both axes: fewer keys left, more time above.
+#[test]
+fn growth_goes_from_corner_to_corner(rt: HostRuntime) -> Result<(), Fail> {
+    let figures = read_figures(rt.alloc(), LINES)?;
+    let picture = draw_growth(rt.alloc(), &figures)?;
+    let line = picture.contains("points=\"80,50 560,380 \"");
+    drop(picture);
+    drop(figures);
+    assert!(rt; line);
+    Ok(())
+}
+
+#[test]
+fn other_lines_are_refused(rt: HostRuntime) -> Result<(), Fail> {
+    let table = [
+        "put_rand 1000",
+        "a b c d e",
+        "put_rand 1000 10 1.5 7",
+        "put_rand x 10 LevelDB",
+    ];
+    for text in table {
+        let refused = read_figures(rt.alloc(), text).is_err();
+        assert!(rt; refused);
+    }
+    Ok(())
+}
+
+#[test]
+fn logarithms_go_straight_between_powers(rt: HostRuntime) -> Result<(), Fail> {
+    assert!(rt; log_of(0) == 0 && log_of(1) == 0 && log_of(2) == 256);
+    assert!(rt; log_of(3) == 384 && log_of(1_024) == 2_560);
+    assert!(rt; log_of(u64::MAX) == 63 * 256 + 255);
+    Ok(())
 }

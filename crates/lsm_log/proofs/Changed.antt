@@ -4,8 +4,8 @@ use Rattle.std.specs.Prelude.{Contains}
 use Rattle.std.specs.List.{All}
 use Rattle.std.proofs.lemmas.List.{take_more, take-append-drop}
 use Rattle.std.proofs.lemmas.List.Elements.{All-contains, Contains-push_cases, Contains-append_cases}
-use Rattle.lsm_store.specs.World.{Image, World, Row, Only, OldOr, IsImage, At, Same, Becomes, Changes, LeavesOnly}
-use Rattle.lsm_store.specs.Moments.{started, called, joined, weakened, same_or_not}
+use Rattle.lsm_store.specs.World.{Image, World, Row, Only, OldOr, IsImage, At, Same, Becomes, Changes, Narrows, LeavesOnly}
+use Rattle.lsm_store.specs.Moments.{started, called, joined, weakened, narrows_on, same_or_not}
 use Rattle.lsm_store.specs.declared.store.StoreError.{StoreError}
 use Rattle.lsm_store.specs.declared.store.StoreError.TheVariants as store
 use Rattle.lsm_log.specs.LogNames.{record_name}
@@ -37,12 +37,11 @@ remove_leaves {T} number old new r only call =
 record_becomes : (number : ℕ) (old new : World) → Becomes (record_name number) (OldOr (old.may (record_name number)) None) (OldOr (old.may (record_name number)) None) old new → ClearsRecords (λ (k : ℕ). k ≡ number) old new
 record_becomes number old new call = record {
   may = λ n c may. removed_row number old n c ((call.may n c).0 may);
-  kept = λ n c out may. (call.may n c).1 (record { here = λ same. absurd (out number refl same); elsewhere = λ _. may });
   gives = λ n out. call.elsewhere n (out number refl);
 }
 
 record_same : (number : ℕ) (old new : World) → Same old new → ClearsRecords (λ (k : ℕ). k ≡ number) old new
-record_same number old new same = record { may = λ n c may. inl ((same.may n c).0 may); kept = λ n c out may. (same.may n c).1 may; gives = λ n out. same.gives n }
+record_same number old new same = record { may = λ n c may. inl ((same.may n c).0 may); gives = λ n out. same.gives n }
 
 pub record_clears : {T : Type 0} (number : ℕ) (old new : World) (r : Result T StoreError) → Changes (record_name number) (OldOr (old.may (record_name number)) None) (OldOr (old.may (record_name number)) None) None old new r → ClearsRecords (λ (k : ℕ). k ≡ number) old new
 record_clears number old new (Ok x) call = record_becomes number old new call.0
@@ -64,7 +63,6 @@ module _ (P : ℕ → Type 0) where
     pub clears_more : ClearsRecords P old mid → ClearsRecords (λ (k : ℕ). k ≡ number) mid new → ClearsRecords P old new
     clears_more so_far step = record {
       may = λ n c may. ⊎_elim (λ was. so_far.may n c was) (λ none. inr (none.0, (none.1.0, subst P (sym none.1.1) has, none.1.2))) (step.may n c may);
-      kept = λ n c out may. step.kept n c (other n out) (so_far.kept n c out may);
       gives = λ n out. step.gives n (other n out) ∙ so_far.gives n out;
     }
 
@@ -83,6 +81,18 @@ gone_more ns i number mid new lt is step gone so_far k at =
     ⊎_elim (λ early. absent_after number mid new step gone (record_name k) (so_far k early)) (λ here. ap (λ (j : ℕ). new.gives (record_name j)) (sym here ∙ sym is) ∙ gone)
     (Contains-push_cases (take i ns) (get_or ns i 0) k (subst (λ (l : List ℕ). Contains l k) (take_more ns i 0 lt) at))
 
+-- ---- names that are settled behind
+
+module _ (P : ℕ → Type 0) (old mid new : World) (narrows : Narrows mid new) where
+  pub clears_settled : ClearsRecords P old mid → ClearsRecords P old new
+  clears_settled clears = record {
+    may = λ n c may. clears.may n c (narrows.may n c may);
+    gives = λ n out. narrows.gives n ∙ clears.gives n out;
+  }
+
+  pub cleared_settled : LeavesOnly old mid (AreCleared P old) → LeavesOnly old new (AreCleared P old)
+  cleared_settled leaves = narrows_on old mid new (AreCleared P old) leaves narrows
+
 -- ---- those below a number
 
 module _ (from at : ℕ) (ns : List ℕ) (before : All (λ (k : ℕ). k < from) (take at ns)) (old new : World) where
@@ -95,7 +105,6 @@ module _ (from at : ℕ) (ns : List ℕ) (before : All (λ (k : ℕ). k < from) 
   pub clears_below : ClearsRecords (Contains (take at ns)) old new → ClearsRecords (IsBelow from) old new
   clears_below clears = record {
     may = λ n c may. ⊎_elim (λ was. inl was) (λ none. inr (none.0, one_below n none.1)) (clears.may n c may);
-    kept = λ n c out may. clears.kept n c (λ k h. out k (below k h)) may;
     gives = λ n out. clears.gives n (λ k h. out k (below k h));
   }
 

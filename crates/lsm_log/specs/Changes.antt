@@ -37,10 +37,9 @@ IsNoneOf P n = (k : ℕ) → P k → n ≢ record_name k
 abbrev pub IsBelow : ℕ → ℕ → Type 0
 IsBelow from k = k < from
 
--- some of these records are removed, and nothing else changes
+-- some of these records are removed, other names give what they gave, and a crash leaves nothing that it could not leave before
 pub record ClearsRecords (P : ℕ → Type 0) (old new : World) : Type 0 where
   pub may : (n : List ℕ) (c : Option (List ℕ)) → new.may n c → old.may n c ⊎ ((c ≡ None) × IsOneOf P n)
-  pub kept : (n : List ℕ) (c : Option (List ℕ)) → IsNoneOf P n → old.may n c → new.may n c
   pub gives : (n : List ℕ) → IsNoneOf P n → new.gives n ≡ old.gives n
 
 -- each name has what it could have before, or it is that of one of these records, and absent

@@ -1,7 +1,7 @@
 // Records that nothing needs any more.
-ghost use Rattle.std.specs.Prelude.{◌≡◌, ◌<◌, ◌≤◌, ℕ, None, length, take, Contains, OnOk, IfErr};
+ghost use Rattle.std.specs.Prelude.{◌≡◌, ◌<◌, ◌≤◌, ℕ, None, false, length, take, Contains, OnOk, IfErr};
 ghost use Rattle.std.specs.List.Sorted.{IsStrictlyIncreasing};
-ghost use Rattle.lsm_store.specs.World.{LeavesOnly};
+ghost use Rattle.lsm_store.specs.World.{LeavesOnly, Narrows, Same};
 ghost use Rattle.lsm_log.specs.LogNames.{record_name};
 ghost use Rattle.lsm_files.specs.Stored.{CountsFaults};
 ghost use Rattle.lsm_files.specs.Foreign.{Spares};
@@ -49,9 +49,27 @@ fn before(numbers: &[SeqNo], at: usize) -> &[SeqNo]
     numbers.split_at(at).0
 }
 
+/// Puts on the disk what was removed, if anything was, so that a store in memory need not keep it for a crash. Where there is
+/// no memory for that, a crash may still bring it back.
+fn settle_removed<S: Store>(store: &mut S, any: bool) -> Result<(), Error>
+    ensures narrows { S.tells → Narrows (S.world store.old) (S.world store.new) }
+    ensures none { S.tells → any ≡ false → Same (S.world store.old) (S.world store.new) }
+    ensures only { IfErr result (λ e. e ≡ Error.Store) }
+    ensures counts { CountsFaults (S.world store.old) (S.world store.new) result }
+{
+    if !any {
+        return Ok(());
+    }
+    match store.settle() {
+        Ok(()) | Err(StoreError::OutOfMemory) => Ok(()),
+        Err(StoreError::Fault | StoreError::NothingDone) => Err(Error::Store),
+    }
+}
+
 /// Removes those of these records that are numbered below `from`, rising, and stops at the first that can't be removed.
-/// After Ok each is absent; a crash may bring it back. Each other name is as it was. It takes no memory. The cost is
-/// linear in the records that it removes.
+/// After Ok each is absent, and the store's names are settled, so that a crash doesn't bring it back, unless there was no memory
+/// for that. What other names give is as it was. The cost is linear in the records that it removes, and that of one
+/// `Store::settle`.
 ///
 /// # Errors
 ///
@@ -68,5 +86,6 @@ pub fn remove_below<S: Store>(store: &mut S, from: SeqNo, numbers: &[SeqNo]) -> 
 {
     foreign_names_spare(store);
     let at = first_from(numbers, from);
-    remove_each(store, before(numbers, at))
+    remove_each(store, before(numbers, at))?;
+    settle_removed(store, at > 0)
 }

@@ -117,6 +117,28 @@ fn a_fault_stops_removals(rt: HostRuntime) -> Result<(), Fail> {
     Ok(())
 }
 
+/// Whether a crash can leave record 0.
+fn can_come_back(store: &MemStore) -> Result<bool, Error> {
+    let left = store.crash(&[("log/0", Pick::Bytes(&record(0)))])?;
+    Ok(left.is_some())
+}
+
+/// What is removed is settled; where that fails it is told, and a crash may bring a record back.
+#[test]
+fn no_crash_brings_records_back(rt: HostRuntime) -> Result<(), Fail> {
+    let mut store = store_of(rt.alloc())?;
+    remove_below(&mut store, 10, &[0, 2, 10])?;
+    let back = can_come_back(&store)?;
+    drop(store);
+    let mut store = store_of(rt.alloc())?;
+    store.fail(3, Fault::Once);
+    let refused = remove_below(&mut store, 10, &[0, 2, 10]).is_err();
+    let unsettled = can_come_back(&store)?;
+    drop(store);
+    assert!(rt; !back && refused && unsettled);
+    Ok(())
+}
+
 /// A record that is known not to be put uses no number.
 #[test]
 fn a_record_may_be_put_again(rt: HostRuntime) -> Result<(), Fail> {

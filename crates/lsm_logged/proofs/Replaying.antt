@@ -135,14 +135,12 @@ module _ (image : Image) (from : ℕ) (passed numbers : List ℕ) (log : IsLogAt
 pub clears_none : (P : ℕ → Type 0) (old new : World) → Same old new → ClearsRecords P old new
 clears_none P old new same = record {
   may = λ n c m. inl ((same.may n c).0 m);
-  kept = λ n c none m. (same.may n c).1 m;
   gives = λ n none. same.gives n;
 }
 
 pub clears_behind : (P : ℕ → Type 0) (old mid new : World) → Same old mid → ClearsRecords P mid new → ClearsRecords P old new
 clears_behind P old mid new same clears = record {
   may = λ n c m. ⊎_elim (λ was. inl ((same.may n c).0 was)) (λ gone. inr gone) (clears.may n c m);
-  kept = λ n c none m. clears.kept n c none ((same.may n c).1 m);
   gives = λ n none. clears.gives n none ∙ same.gives n;
 }
 

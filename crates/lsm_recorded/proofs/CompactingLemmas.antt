@@ -21,8 +21,8 @@ use Rattle.lsm_state.specs.Deeds.{IsNoDeed}
 use Rattle.lsm_state.specs.Cleaning.{LeavesNoFiles}
 use Rattle.lsm_state.specs.Compactions.{Relation, Spends, given_up, LeavesNoneChosen}
 use Rattle.lsm_state.specs.CompactionReads.{SparesReads, IsAny, IsAnySnapshot, AreSparedBy}
-use Rattle.lsm_noted.specs.Noted.{IsAnswerOf, BeginsAnswer, EndsNoted, CompactsAnswer}
-use Rattle.lsm_noted.specs.NotedReads.{IsMarkedFor, NotedCompactionsKeepReads}
+use Rattle.lsm_journal.specs.Noted.{IsAnswerOf, BeginsAnswer, EndsNoted, CompactsAnswer}
+use Rattle.lsm_journal.specs.NotedReads.{IsMarkedFor, NotedCompactionsKeepReads}
 use Rattle.lsm_recorded.specs.declared.marks.Mark.{Mark}
 use Rattle.lsm_recorded.specs.Flushing.{RefusesUnnoted}
 use Rattle.lsm_recorded.specs.Compacting.{NotesWhatIsDone}

@@ -23,8 +23,8 @@ use Rattle.lsm_state.specs.Flushes.{with_next_table}
 use Rattle.lsm_state.specs.Compactions.{IsMovedTo, IsNotMoved, IsDroppedFrom, IsNotDropped, IsMergedInto, reason_of, settings_of, closed, OpensMerge, InstallsChoice, Does, BeginsChoice, InstallsMerge, EndsFor, Ends, Spends, Finishes}
 use Rattle.lsm_state.specs.CompactionReads.{ranges_told, TellsChoice, TellsMerge}
 use Rattle.lsm_state.specs.WholeCompactions.{told_end, Completes, Follows}
-use Rattle.lsm_noted.specs.Noted.{BeginsAnswer, EndsNoted, TellsBehind, CompactsAnswer}
-use Rattle.lsm_noted.specs.NotedReads.{NotedCompactionsKeepReads}
+use Rattle.lsm_journal.specs.Noted.{BeginsAnswer, EndsNoted, TellsBehind, CompactsAnswer}
+use Rattle.lsm_journal.specs.NotedReads.{NotedCompactionsKeepReads}
 use Rattle.lsm_recorded.specs.Recorded.{AreMarked}
 use Rattle.lsm_recorded.proofs.Telling.{IsTold}
 use Rattle.lsm_recorded.proofs.Watermarks.{still_marked, closed_marked, opened_marked}

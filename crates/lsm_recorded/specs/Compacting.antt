@@ -14,7 +14,7 @@ use Rattle.lsm_state.specs.declared.compaction.Begun.TheVariants.{DidNothing}
 use Rattle.lsm_state.specs.declared.compaction.Finished.{Finished}
 use Rattle.lsm_state.specs.Compactions.{Relation}
 use Rattle.lsm_state.specs.WholeCompactions.{options_at, only_memory, drop_choice}
-use Rattle.lsm_noted.specs.Noted.{IsAnswerOf, BeginsAnswer, EndsNoted, CompactsAnswer}
+use Rattle.lsm_journal.specs.Noted.{IsAnswerOf, BeginsAnswer, EndsNoted, CompactsAnswer}
 use Rattle.lsm_recorded.specs.Flushing.{RefusesUnnoted}
 use Rattle.lsm_recorded.specs.Passes.{Notes}
 use Rattle.lsm_recorded.specs.Recorded.{SeenRecorded}

@@ -23,7 +23,7 @@ use Rattle.lsm_state.specs.Core.{Core}
 use Rattle.lsm_state.specs.Compactions.{Relation}
 use Rattle.lsm_state.specs.CompactionReads.{ranges_told, TellsChoice, TellsMerge}
 use Rattle.lsm_state.specs.FlushReads.{register_events, flush_events}
-use Rattle.lsm_noted.specs.Noted.{BeginsAnswer, TellsBehind, CompactsAnswer}
+use Rattle.lsm_journal.specs.Noted.{BeginsAnswer, TellsBehind, CompactsAnswer}
 use Rattle.lsm_runs.specs.declared.slots.Job.{Job}
 use Rattle.lsm_runs.specs.declared.steps.Counter.{Counter}
 use Rattle.lsm_runs.specs.declared.steps.JobStep.{JobStep}

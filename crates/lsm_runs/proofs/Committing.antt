@@ -28,7 +28,7 @@ use Rattle.lsm_state.specs.Clearing.{Clears, clear_events}
 use Rattle.lsm_state.specs.Compactions.{Relation, reason_of, Does, BeginsChoice, closed, Ends, EndsFor, Finishes}
 use Rattle.lsm_state.specs.CompactionReads.{ranges_told, TellsChoice, TellsMerge}
 use Rattle.lsm_state.specs.WholeCompactions.{told_end, Completes, Follows}
-use Rattle.lsm_noted.specs.Noted.{BeginsAnswer, TellsBehind, CompactsAnswer}
+use Rattle.lsm_journal.specs.Noted.{BeginsAnswer, TellsBehind, CompactsAnswer}
 use Rattle.lsm_runs.specs.declared.slots.Job.{Job}
 use Rattle.lsm_runs.specs.declared.steps.Reply.{Reply}
 use Rattle.lsm_runs.specs.declared.steps.Reply.TheVariants as reply

@@ -9,7 +9,7 @@ use Rattle.lsm_state.specs.declared.compaction.Begun.{Begun}
 use Rattle.lsm_state.specs.declared.compaction.Begun.TheVariants.{DidNothing, Declined, Installed, Job as BegunJob}
 use Rattle.lsm_state.specs.Core.{Core}
 use Rattle.lsm_state.specs.Compactions.{Relation}
-use Rattle.lsm_noted.specs.Noted.{IsAnswerOf}
+use Rattle.lsm_journal.specs.Noted.{IsAnswerOf}
 use Rattle.lsm_runs.specs.declared.slots.Job.{Job}
 use Rattle.lsm_runs.specs.declared.steps.Reply.{Reply}
 use Rattle.lsm_runs.specs.Compacting.{Strategies, strategies_of, relation_of, reply_of, BeginsFrom, TakesBeginCompaction, CompactsFrom, TakesCompact}

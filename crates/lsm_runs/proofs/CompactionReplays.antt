@@ -19,8 +19,8 @@ use Rattle.lsm_state.specs.Compactions.{Relation}
 use Rattle.lsm_state.specs.Deeds.{IsNoDeed}
 use Rattle.lsm_state.specs.CompactionDeeds.{IsMarkedIn}
 use Rattle.lsm_state.specs.CompactionReads.{ranges_told, TellsChoice, TellsMerge}
-use Rattle.lsm_noted.specs.Noted.{BeginsAnswer, TellsBehind, CompactsAnswer}
-use Rattle.lsm_noted.specs.NotedReads.{NotedCompactionsKeepReads}
+use Rattle.lsm_journal.specs.Noted.{BeginsAnswer, TellsBehind, CompactsAnswer}
+use Rattle.lsm_journal.specs.NotedReads.{NotedCompactionsKeepReads}
 use Rattle.lsm_runs.specs.declared.slots.Job.{Job}
 use Rattle.lsm_runs.specs.declared.steps.Reply.{Reply}
 use Rattle.lsm_runs.specs.declared.steps.Reply.TheVariants.{Number, Done, NoStrategy, NoJob, SlotInUse, Refused}

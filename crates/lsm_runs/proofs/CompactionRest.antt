@@ -30,7 +30,7 @@ use Rattle.lsm_state.specs.Settling.{SettlesSome, IsInstalled}
 use Rattle.lsm_state.specs.Flushes.{with_next_table}
 use Rattle.lsm_state.specs.Compactions.{settings_of, job_for, reason_of, OpensMerge, InstallsChoice, Does, BeginsChoice, closed, Ends, EndsFor, Spends, Finishes}
 use Rattle.lsm_state.specs.WholeCompactions.{Completes, Follows}
-use Rattle.lsm_noted.specs.Noted.{BeginsAnswer, CompactsAnswer}
+use Rattle.lsm_journal.specs.Noted.{BeginsAnswer, CompactsAnswer}
 
 -- ---- words
 

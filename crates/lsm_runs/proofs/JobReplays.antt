@@ -6,7 +6,7 @@ use Rattle.lsm_model.specs.Journal.{Event}
 use Rattle.lsm_jobs.specs.Jobs.{SeenJob}
 use Rattle.lsm_state.specs.declared.compaction.Options.{Options}
 use Rattle.lsm_state.specs.Core.{Core}
-use Rattle.lsm_noted.specs.NotedReads.{NotedCompactionsKeepReads}
+use Rattle.lsm_journal.specs.NotedReads.{NotedCompactionsKeepReads}
 use Rattle.lsm_runs.specs.declared.slots.Job.{Job}
 use Rattle.lsm_runs.specs.declared.slots.Job.TheVariants.{Begun as BegunJob}
 use Rattle.lsm_runs.specs.declared.steps.JobStep.{JobStep}

@@ -10,7 +10,7 @@ use Rattle.lsm_state.specs.Core.{Core, state_of}
 use Rattle.lsm_state.specs.CompactionDeeds.{IsMarkedIn}
 use Rattle.lsm_state.specs.CompactionReads.{SparesReads, IsAny, AreSparedBy, IsAnySnapshot}
 use Rattle.lsm_state.specs.FlushReads.{KeepsReads, FlushesKeepReads}
-use Rattle.lsm_noted.specs.NotedReads.{IsMarkedFor, NotedCompactionsKeepReads}
+use Rattle.lsm_journal.specs.NotedReads.{IsMarkedFor, NotedCompactionsKeepReads}
 use Rattle.lsm_runs.specs.Runs.{without_low_reads, Spares}
 use Rattle.lsm_runs.proofs.LowReads.{kept_without, without-append, order_without}
 use Rattle.lsm_runs.proofs.ReadReplays.{Sound}

@@ -27,7 +27,7 @@ use Rattle.lsm_state.specs.WholeFlushes.{Flushes, drawn_until}
 use Rattle.lsm_state.specs.Clearing.{Clears, cleared_in}
 use Rattle.lsm_state.specs.Compactions.{Relation, reason_of, Does, BeginsChoice, closed, Ends, EndsFor, Finishes}
 use Rattle.lsm_state.specs.WholeCompactions.{Completes, Follows}
-use Rattle.lsm_noted.specs.Noted.{BeginsAnswer, CompactsAnswer}
+use Rattle.lsm_journal.specs.Noted.{BeginsAnswer, CompactsAnswer}
 use Rattle.lsm_runs.specs.declared.slots.Job.{Job}
 use Rattle.lsm_runs.specs.declared.steps.JobStep.{JobStep}
 use Rattle.lsm_runs.specs.declared.steps.JobStep.TheVariants as job

@@ -25,8 +25,8 @@ use Rattle.lsm_state.specs.Deeds.{saved_of, HasOrder, IsNoDeed}
 use Rattle.lsm_state.specs.CompactionDeeds.{ChoiceDeeds, IsChoiceDeed, IsLostChoice, IsMarkedIn, dropped_by, merge_of, IsMergeDeed, MergeDeeds, IsLostMerge}
 use Rattle.lsm_state.specs.CompactionReads.{ranges_told, TellsChoice, TellsMerge}
 use Rattle.lsm_state.specs.WholeCompactions.{Follows, told_end}
-use Rattle.lsm_noted.specs.Noted.{BeginsAnswer, TellsBehind, CompactsNoted, CompactsAnswer}
-use Rattle.lsm_noted.specs.NotedReads.{NotedCompactionsKeepReads}
+use Rattle.lsm_journal.specs.Noted.{BeginsAnswer, TellsBehind, CompactsNoted, CompactsAnswer}
+use Rattle.lsm_journal.specs.NotedReads.{NotedCompactionsKeepReads}
 use Rattle.lsm_runs.specs.declared.slots.Job.{Job}
 use Rattle.lsm_runs.specs.declared.steps.Reply.{Reply}
 use Rattle.lsm_runs.specs.declared.steps.Reply.TheVariants.{Number, Done as NothingMore, NoStrategy, NoJob, SlotInUse, Refused}

@@ -17,7 +17,7 @@ use Rattle.lsm_iter.specs.declared.tree_iter.End.TheVariants.{Front, Back}
 use Rattle.lsm_state.specs.Core.{Core, state_of}
 use Rattle.lsm_state.specs.Calls.{Rotates}
 use Rattle.lsm_state.specs.ListSteps.{ListsAreSteps}
-use Rattle.lsm_noted.specs.NotedReads.{NotedCompactionsKeepReads}
+use Rattle.lsm_journal.specs.NotedReads.{NotedCompactionsKeepReads}
 use Rattle.lsm_runs.specs.declared.steps.Counter.{Counter}
 use Rattle.lsm_runs.specs.declared.steps.Counter.TheVariants.{Seqno, Visible}
 use Rattle.lsm_runs.specs.declared.steps.Step.{Step as Call}

@@ -8,7 +8,7 @@ use Rattle.lsm_jobs.specs.declared.jobs.Registered.{Registered as Outcome}
 use Rattle.lsm_pick.specs.declared.choice.Choice.{Choice}
 use Rattle.lsm_pick.specs.declared.bounds.OwnedBounds.{OwnedBounds}
 use Rattle.lsm_pick.specs.declared.choice.ChooseError.{ChooseError}
-use Rattle.lsm_noted.specs.Noted.{BeginsAnswer, CompactsAnswer}
+use Rattle.lsm_journal.specs.Noted.{BeginsAnswer, CompactsAnswer}
 use Rattle.lsm_state.specs.Core.{Core}
 use Rattle.lsm_state.specs.Flushes.{sealed_ids}
 use Rattle.lsm_state.specs.WholeFlushes.{Flushes, RefusesRotation}

@@ -18,7 +18,7 @@ use Rattle.lsm_state.specs.Deeds.{IsNoDeed}
 use Rattle.lsm_state.specs.Flushes.{with_next_table}
 use Rattle.lsm_state.specs.Compactions.{Relation, Spends}
 use Rattle.lsm_state.specs.WholeCompactions.{options_at, only_memory, major_choice, drop_choice}
-use Rattle.lsm_noted.specs.Noted.{IsAnswerOf, BeginsAnswer, EndsNoted, CompactsAnswer}
+use Rattle.lsm_journal.specs.Noted.{IsAnswerOf, BeginsAnswer, EndsNoted, CompactsAnswer}
 use Rattle.lsm_runs.specs.declared.slots.Job.{Job}
 use Rattle.lsm_runs.specs.declared.slots.Job.TheVariants.{Compaction, Compacted as CompactedJob}
 use Rattle.lsm_runs.specs.declared.steps.Compacted.TheVariants.{DidNothing as NothingDone, Declined as DeclinedFor, Installed as IsInstalled, Waits}

@@ -28,10 +28,9 @@ use crate::telling::{batch_entries, of_batch, of_entry, one_entry, refused, shar
 use crate::{Outcome, Reply, Step, Taken};
 use lsm_below::{InternalValue, SeqNo, UserKey, UserValue, ValueType, share};
 use lsm_files::stored_files_are_ready;
-use lsm_journal::read_entry;
+use lsm_journal::{noted_compactions_keep_reads, read_entry};
 use lsm_manifest::{found_tables_show, images_stand_once};
 use lsm_model::{Answer, JournalEntry, Op, Question, counted_is_in_order, reads_are_sound};
-use lsm_noted::noted_compactions_keep_reads;
 use lsm_parts::Error;
 use lsm_pick::CompactionStrategy;
 use lsm_run_model::{

@@ -6,7 +6,7 @@ ghost use Rattle.lsm_state.specs.Cleaning.{LeavesNoFiles, RemovesDrawn};
 ghost use Rattle.lsm_state.specs.Commits.{Upholds};
 ghost use Rattle.lsm_state.specs.Compactions.{Spends, given_up, LeavesNoneChosen};
 ghost use Rattle.lsm_state.specs.WholeCompactions.{options_at, only_memory, major_choice, drop_choice};
-ghost use Rattle.lsm_noted.specs.Noted.{noted_of, BeginsAnswer, CompactsAnswer};
+ghost use Rattle.lsm_journal.specs.Noted.{noted_of, BeginsAnswer, CompactsAnswer};
 ghost use Rattle.lsm_recorded.specs.Flushing.{SpendsUnnoted, RefusesUnnoted};
 ghost use Rattle.lsm_recorded.specs.Compacting.{NotesWhatIsDone, BeginsRecorded, FinishesRecorded, CompactsRecorded, DropsRecorded};
 
@@ -14,12 +14,12 @@ use crate::noting::{make_copies, put_entries};
 use crate::pass::Pass;
 use crate::recorded::Recorded;
 use lsm_below::SeqNo;
-use lsm_merges::{CompactionJob, MergedCompaction};
-use lsm_model::{JournalEntry, reads_are_sound};
-use lsm_noted::{
+use lsm_journal::{
     Chosen, ask, ask_with, begin_chosen, compact_chosen, finish_entries, finish_noting,
     noted_compactions_keep_reads,
 };
+use lsm_merges::{CompactionJob, MergedCompaction};
+use lsm_model::{JournalEntry, reads_are_sound};
 use lsm_parts::{Error, LIMIT};
 use lsm_pick::{CompactionStrategy, DropRange, Major, OwnedBounds};
 use lsm_state::{Begun, Finished, Options};

@@ -1,7 +1,7 @@
 // The calls of a compaction, as steps.
 ghost use Rattle.std.specs.Prelude.{◌≡◌, IfOk, OnErr, IsSome};
 ghost use Rattle.lsm_state.specs.WholeCompactions.{options_at};
-ghost use Rattle.lsm_noted.specs.Noted.{IsAnswerOf, noted_of};
+ghost use Rattle.lsm_journal.specs.Noted.{IsAnswerOf, noted_of};
 ghost use Rattle.lsm_runs.specs.Compacting.{strategies_of, reply_of, job_of, end_reply_of, TakesBeginCompaction, TakesRunCompaction, TakesFinish, TakesAbandonCompaction, DoesAnswer, CompactsFrom, TakesCompact, TakesMajor, TakesDropRange, TakesTableId, IsCompactingReply};
 ghost use Rattle.lsm_runs.specs.ReadSteps.{TakesSilent};
 ghost use Rattle.lsm_files.specs.Causes.{HasCause, Blames};
@@ -12,9 +12,8 @@ use super::{refused, silent};
 use crate::slots::Job;
 use crate::{Compacted, Outcome, Reply};
 use lsm_below::{SeqNo, UserKey};
-use lsm_journal::copy_bound;
-use lsm_noted::{
-    Chosen, ask, ask_with, begin_chosen, compact_chosen, finish_entries, finish_noting,
+use lsm_journal::{
+    Chosen, ask, ask_with, begin_chosen, compact_chosen, copy_bound, finish_entries, finish_noting,
 };
 use lsm_parts::Error;
 use lsm_pick::{CompactionStrategy, DropRange, Major, OwnedBounds};

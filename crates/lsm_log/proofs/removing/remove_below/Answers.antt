@@ -1,35 +1,71 @@
-use Rattle.std.proofs.Common.{ℕ, List, sym, subst}
-use Rattle.std.specs.Prelude.{Contains}
-use Rattle.std.proofs.lemmas.Result.{on_ok_weaker}
+use Rattle.std.proofs.Common.{ℕ, ◌≡◌, ◌<◌, List, None, Result, Ok, Err, ◌∙◌, sym, subst}
+use Rattle.std.specs.Prelude.{Contains, OnOk}
 use Rattle.lsm_store.specs.World.{LeavesOnly}
+use Rattle.lsm_log.specs.LogNames.{record_name}
 use Rattle.lsm_log.specs.Changes.{IsBelow, ClearsRecords, AreCleared}
-use Rattle.lsm_log.proofs.Changed.{is_below, clears_below, cleared_below}
+use Rattle.lsm_log.proofs.Changed.{is_below, clears_below, cleared_below, clears_settled, cleared_settled}
 use Rattle.lsm_log.proofs.BesideTree.{clears_change}
 use Rattle.lsm_log.proofs.removing.remove_below.Goals as goal
 
-pub returns-clause-gone : goal.returns-clause-gone
-returns-clause-gone g c tells =
-    let ns = c.args.numbers.now in
-    let at = c.first_from-at.result in
-    on_ok_weaker c.remove_each.result (λ gone k has lt. gone k (subst (λ (l : List ℕ). Contains l k) (sym c.before-2.ensures) (is_below c.args.from at ns c.first_from-at.ensures.behind k has lt))) (c.remove_each.ensures.gone tells)
+always : {T E : Type 0} (r : Result T E) (P : Type 0) → P → OnOk r P
+always (Ok x) P p = p
+always (Err e) P p = tt
 
-pub returns-clause-clears : goal.returns-clause-clears
-returns-clause-clears g c tells =
+-- ---- a record can't be removed
+
+pub returns-in_err-remove_each-clause-clears : goal.returns-in_err-remove_each-clause-clears
+returns-in_err-remove_each-clause-clears g c tells =
     let w = g.S.Store.world in
     let ns = c.args.numbers.now in
     let at = c.first_from-at.result in
     clears_below c.args.from at ns c.first_from-at.ensures.before (w c.args.store.now) (w c.remove_each.new.store)
     (subst (λ (l : List ℕ). ClearsRecords (Contains l) (w c.args.store.now) (w c.remove_each.new.store)) c.before-2.ensures (c.remove_each.ensures.clears tells))
 
-pub returns-clause-any_moment : goal.returns-clause-any_moment
-returns-clause-any_moment g c tells =
+pub returns-in_err-remove_each-clause-any_moment : goal.returns-in_err-remove_each-clause-any_moment
+returns-in_err-remove_each-clause-any_moment g c tells =
     let w = g.S.Store.world in
     let ns = c.args.numbers.now in
     let at = c.first_from-at.result in
     cleared_below c.args.from at ns c.first_from-at.ensures.before (w c.args.store.now) (w c.remove_each.new.store)
     (subst (λ (l : List ℕ). LeavesOnly (w c.args.store.now) (w c.remove_each.new.store) (AreCleared (Contains l) (w c.args.store.now))) c.before-2.ensures (c.remove_each.ensures.any_moment tells))
 
+pub returns-in_err-remove_each-clause-stored : goal.returns-in_err-remove_each-clause-stored
+returns-in_err-remove_each-clause-stored g c tells =
+    let w = g.S.Store.world in
+    c.foreign_names_spare.ensures c.args.store.now c.remove_each.new.store (clears_change (IsBelow c.args.from) (w c.args.store.now) (w c.remove_each.new.store) (returns-in_err-remove_each-clause-clears g c tells) (returns-in_err-remove_each-clause-any_moment g c tells))
+
+-- ---- all are removed, and the names settled
+
+pub returns-clause-gone : goal.returns-clause-gone
+returns-clause-gone g c tells =
+    let w = g.S.Store.world in
+    let ns = c.args.numbers.now in
+    let at = c.first_from-at.result in
+    let narrows = c.settle_removed.ensures.narrows tells in
+    let gone = c.in_ok-remove_each.ensures.gone tells in
+    always c.settle_removed.result ((k : ℕ) → Contains ns k → k < c.args.from → (w c.settle_removed.new.store).gives (record_name k) ≡ None) (λ k has lt. narrows.gives (record_name k) ∙ gone k (subst (λ (l : List ℕ). Contains l k) (sym c.before-2.ensures) (is_below c.args.from at ns c.first_from-at.ensures.behind k has lt)))
+
+pub returns-clause-clears : goal.returns-clause-clears
+returns-clause-clears g c tells =
+    let w = g.S.Store.world in
+    let ns = c.args.numbers.now in
+    let at = c.first_from-at.result in
+    let old = w c.args.store.now in
+    let mid = w c.remove_each.new.store in
+    clears_settled (IsBelow c.args.from) old mid (w c.settle_removed.new.store) (c.settle_removed.ensures.narrows tells)
+    (clears_below c.args.from at ns c.first_from-at.ensures.before old mid (subst (λ (l : List ℕ). ClearsRecords (Contains l) old mid) c.before-2.ensures (c.in_ok-remove_each.ensures.clears tells)))
+
+pub returns-clause-any_moment : goal.returns-clause-any_moment
+returns-clause-any_moment g c tells =
+    let w = g.S.Store.world in
+    let ns = c.args.numbers.now in
+    let at = c.first_from-at.result in
+    let old = w c.args.store.now in
+    let mid = w c.remove_each.new.store in
+    cleared_settled (IsBelow c.args.from) old mid (w c.settle_removed.new.store) (c.settle_removed.ensures.narrows tells)
+    (cleared_below c.args.from at ns c.first_from-at.ensures.before old mid (subst (λ (l : List ℕ). LeavesOnly old mid (AreCleared (Contains l) old)) c.before-2.ensures (c.in_ok-remove_each.ensures.any_moment tells)))
+
 pub returns-clause-stored : goal.returns-clause-stored
 returns-clause-stored g c tells =
     let w = g.S.Store.world in
-    c.foreign_names_spare.ensures c.args.store.now c.remove_each.new.store (clears_change (IsBelow c.args.from) (w c.args.store.now) (w c.remove_each.new.store) (returns-clause-clears g c tells) (returns-clause-any_moment g c tells))
+    c.foreign_names_spare.ensures c.args.store.now c.settle_removed.new.store (clears_change (IsBelow c.args.from) (w c.args.store.now) (w c.settle_removed.new.store) (returns-clause-clears g c tells) (returns-clause-any_moment g c tells))

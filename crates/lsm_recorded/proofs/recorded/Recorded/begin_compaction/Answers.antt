@@ -1,6 +1,6 @@
 -- What is installed is a choice that the strategy may make.
 use Rattle.std.proofs.Common.{subst}
-use Rattle.lsm_noted.specs.Noted.{IsAnswerOf, BeginsAnswer}
+use Rattle.lsm_journal.specs.Noted.{IsAnswerOf, BeginsAnswer}
 use Rattle.lsm_recorded.proofs.CompactingLemmas.{leaves_chosen}
 use Rattle.lsm_recorded.proofs.recorded.Recorded.begin_compaction.Goals as goal
 

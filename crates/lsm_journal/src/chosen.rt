@@ -3,7 +3,7 @@ ghost use Rattle.std.specs.Prelude.{◌≡◌, ◌∷◌, [], IfOk};
 ghost use Rattle.lsm_model.specs.declared.journal.JournalEntry.TheVariants.{Mark};
 ghost use Rattle.lsm_files.specs.Causes.{Blames};
 ghost use Rattle.lsm_state.specs.CompactionDeeds.{dropped_by};
-ghost use Rattle.lsm_noted.specs.Noted.{IsAnswerOf, noted_of};
+ghost use Rattle.lsm_journal.specs.Noted.{IsAnswerOf, noted_of};
 
 use crate::ranges::ranges_of;
 use lsm_below::{SeqNo, TableId};

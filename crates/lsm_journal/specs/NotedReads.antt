@@ -14,7 +14,7 @@ use Rattle.lsm_state.specs.Core.{Core}
 use Rattle.lsm_state.specs.CompactionDeeds.{IsMarkedIn}
 use Rattle.lsm_state.specs.Deeds.{IsNoDeed}
 use Rattle.lsm_state.specs.CompactionReads.{SparesReads, IsAny, AreSparedBy, IsAnySnapshot}
-use Rattle.lsm_noted.specs.Noted.{BeginsAnswer, EndsNoted, CompactsAnswer}
+use Rattle.lsm_journal.specs.Noted.{BeginsAnswer, EndsNoted, CompactsAnswer}
 
 -- where a job is open, its watermark is marked
 abbrev pub IsMarkedFor : SeenCompaction → Core → List Event → Type 0

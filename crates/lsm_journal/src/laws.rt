@@ -1,5 +1,5 @@
 // What compactions leave of reads, as the contract of a function.
-ghost use Rattle.lsm_noted.specs.NotedReads.{NotedCompactionsKeepReads};
+ghost use Rattle.lsm_journal.specs.NotedReads.{NotedCompactionsKeepReads};
 
 use lsm_model::reads_are_sound;
 use lsm_state::compactions_keep_reads;

@@ -1,9 +1,9 @@
 use Rattle.std.proofs.Common.{◌≡◌, Ok, List, length, take, refl, sym, ap, ◌∙◌, subst}
 use Rattle.lsm_model.specs.Journal.{Event}
 use Rattle.lsm_files.specs.Causes.{Blames, no_fault}
-use Rattle.lsm_noted.specs.Noted.{noted_of, kept_of, CompactsAnswer, CompactsNoted}
-use Rattle.lsm_noted.proofs.Compacting.{compacts_noted}
-use Rattle.lsm_noted.proofs.compacted.compact_chosen.Goals as goal
+use Rattle.lsm_journal.specs.Noted.{noted_of, kept_of, CompactsAnswer, CompactsNoted}
+use Rattle.lsm_journal.proofs.Compacting.{compacts_noted}
+use Rattle.lsm_journal.proofs.compacted.compact_chosen.Goals as goal
 
 pub returns-in-Ok-clause-compacts : goal.returns-in-Ok-clause-compacts
 returns-in-Ok-clause-compacts g c =

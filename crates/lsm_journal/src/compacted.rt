@@ -4,7 +4,7 @@ ghost use Rattle.lsm_files.specs.Causes.{HasCause, Blames};
 ghost use Rattle.lsm_state.specs.Cleaning.{LeavesNoFiles};
 ghost use Rattle.lsm_state.specs.Commits.{Upholds};
 ghost use Rattle.lsm_state.specs.Compactions.{given_up};
-ghost use Rattle.lsm_noted.specs.Noted.{noted_of, CompactsAnswer};
+ghost use Rattle.lsm_journal.specs.Noted.{noted_of, CompactsAnswer};
 
 use crate::Chosen;
 use crate::begun::told;

@@ -11,7 +11,7 @@ use Rattle.lsm_state.specs.declared.compaction.Begun.{Begun}
 use Rattle.lsm_state.specs.declared.compaction.Begun.TheVariants.{Installed}
 use Rattle.lsm_state.specs.Core.{Core}
 use Rattle.lsm_state.specs.CompactionReads.{ranges_told, TellsChoice}
-use Rattle.lsm_noted.specs.Noted.{noted_of, kept_of}
+use Rattle.lsm_journal.specs.Noted.{noted_of, kept_of}
 
 -- all, all but the install, and the mark
 all_kept : (choice : Choice) (w : ℕ) (c : Core) → take (length (noted_of (Ok choice) w c)) (noted_of (Ok choice) w c) ≡ noted_of (Ok choice) w c

@@ -7,7 +7,7 @@ ghost use Rattle.lsm_state.specs.Commits.{Upholds};
 ghost use Rattle.lsm_state.specs.Compactions.{given_up};
 ghost use Rattle.lsm_state.specs.Core.{Core};
 ghost use Rattle.lsm_state.specs.CompactionReads.{TellsChoice};
-ghost use Rattle.lsm_noted.specs.Noted.{noted_of, kept_of, BeginsAnswer};
+ghost use Rattle.lsm_journal.specs.Noted.{noted_of, kept_of, BeginsAnswer};
 
 use crate::Chosen;
 use lsm_model::JournalEntry;

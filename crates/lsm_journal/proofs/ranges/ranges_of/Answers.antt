@@ -4,8 +4,8 @@ use Rattle.lsm_tables.specs.Tables.{SeenTable}
 use Rattle.lsm_model.specs.Steps.{among}
 use Rattle.lsm_versions.specs.Levels.{range}
 use Rattle.lsm_merges.specs.Passing.{takes_in, leaves_out}
-use Rattle.lsm_noted.proofs.DroppedRanges.{ranges_in, ranges_shown}
-use Rattle.lsm_noted.proofs.ranges.ranges_of.Goals as goal
+use Rattle.lsm_journal.proofs.DroppedRanges.{ranges_in, ranges_shown}
+use Rattle.lsm_journal.proofs.ranges.ranges_of.Goals as goal
 
 pub loop-table-preserved-in_ok-push : goal.loop-table-preserved-in_ok-push
 loop-table-preserved-in_ok-push c =

@@ -25,9 +25,9 @@ use Rattle.lsm_state.specs.CompactionDeeds.{MergeDeeds, IsMarkedIn}
 use Rattle.lsm_state.specs.CompactionReads.{SparesReads, IsAny, AreSparedBy, IsAnySnapshot, TellsMerge, TellsChoice, CompactionsKeepReads}
 use Rattle.lsm_state.specs.Deeds.{IsNoDeed}
 use Rattle.lsm_state.specs.WholeCompactions.{told_end, Follows}
-use Rattle.lsm_noted.specs.Noted.{BeginsAnswer, EndsNoted, TellsBehind, CompactsNoted, CompactsAnswer}
-use Rattle.lsm_noted.specs.NotedReads.{IsMarkedFor, NotedCompactionsKeepReads}
-use Rattle.lsm_noted.proofs.Compacting.{IsOpened, job_begun}
+use Rattle.lsm_journal.specs.Noted.{BeginsAnswer, EndsNoted, TellsBehind, CompactsNoted, CompactsAnswer}
+use Rattle.lsm_journal.specs.NotedReads.{IsMarkedFor, NotedCompactionsKeepReads}
+use Rattle.lsm_journal.proofs.Compacting.{IsOpened, job_begun}
 
 -- ---- marks
 

@@ -17,8 +17,8 @@ use Rattle.lsm_state.specs.Core.{Core}
 use Rattle.lsm_state.specs.Compactions.{reason_of, Does, OpensMerge, BeginsChoice}
 use Rattle.lsm_state.specs.CompactionReads.{TellsChoice, ranges_told}
 use Rattle.lsm_state.specs.WholeCompactions.{Follows, CompactsChoice}
-use Rattle.lsm_noted.specs.Noted.{noted_of, kept_of, TellsBehind, CompactsNoted}
-use Rattle.lsm_noted.proofs.Telling.{kept, tells_choice}
+use Rattle.lsm_journal.specs.Noted.{noted_of, kept_of, TellsBehind, CompactsNoted}
+use Rattle.lsm_journal.proofs.Telling.{kept, tells_choice}
 
 -- ---- what becomes a job is a merge
 

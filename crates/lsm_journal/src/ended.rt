@@ -6,7 +6,7 @@ ghost use Rattle.lsm_state.specs.Cleaning.{LeavesNoFiles, RemovesDrawn};
 ghost use Rattle.lsm_state.specs.Commits.{Upholds};
 ghost use Rattle.lsm_state.specs.Core.{Core};
 ghost use Rattle.lsm_state.specs.CompactionReads.{TellsMerge};
-ghost use Rattle.lsm_noted.specs.Noted.{EndsNoted};
+ghost use Rattle.lsm_journal.specs.Noted.{EndsNoted};
 
 use lsm_below::SeqNo;
 use lsm_merges::MergedCompaction;
