@@ -143,24 +143,37 @@ fn with_value<'a>(
     awaited: Awaited,
     word: &'a str,
 ) -> Result<Draft<'a>, BadArguments<'a>> {
-    let mut draft = Draft {
+    let draft = Draft {
         awaited: None,
         ..draft
     };
+    let slice = draft.slice;
     match awaited {
-        Awaited::Table => {
-            let view = View::Table(number_of(awaited, word)?);
-            return with_view(draft, view, "--table");
+        Awaited::Table => with_view(draft, View::Table(number_of(awaited, word)?), "--table"),
+        Awaited::Record => with_view(draft, View::Record(number_of(awaited, word)?), "--record"),
+        Awaited::From => Ok(with_slice(
+            draft,
+            Slice {
+                from: Some(word),
+                ..slice
+            },
+        )),
+        Awaited::To => Ok(with_slice(
+            draft,
+            Slice {
+                to: Some(word),
+                ..slice
+            },
+        )),
+        Awaited::Limit => {
+            let limit = Some(number_of(awaited, word)?);
+            Ok(with_slice(draft, Slice { limit, ..slice }))
         }
-        Awaited::Record => {
-            let view = View::Record(number_of(awaited, word)?);
-            return with_view(draft, view, "--record");
-        }
-        Awaited::From => draft.slice.from = Some(word),
-        Awaited::To => draft.slice.to = Some(word),
-        Awaited::Limit => draft.slice.limit = Some(number_of(awaited, word)?),
     }
-    Ok(draft)
+}
+
+fn with_slice<'a>(draft: Draft<'a>, slice: Slice<'a>) -> Draft<'a> {
+    Draft { slice, ..draft }
 }
 
 fn awaiting(draft: Draft<'_>, awaited: Awaited) -> Draft<'_> {

@@ -361,9 +361,10 @@ pub fn push_svg(alloc: Global, out: &mut String, look: &Look) -> Result<(), Allo
     push_label(out, "title", 12, 24, title.as_str())?;
     let span = KeySpan::of(alloc, &look.tables)?;
     let largest = largest_table(&look.tables);
-    for (place, run) in runs.iter().enumerate() {
-        let y = TOP.saturating_add(ROW.saturating_mul(place as u64));
+    let mut y = TOP;
+    for run in runs {
         push_run(alloc, out, &span, run, y, largest)?;
+        y = y.saturating_add(ROW);
     }
     push_axis(alloc, out, &span, axis)?;
     push_log(alloc, out, look, log)?;

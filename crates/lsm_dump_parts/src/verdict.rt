@@ -1,5 +1,7 @@
 // Whether a tree and its log would be opened.
+ghost use Rattle.std.specs.Prelude.{IfOk, OnOk, IfErr};
 ghost use Rattle.lsm_store.specs.World.{Same};
+ghost use Rattle.lsm_dump_parts.specs.Verdicts.{IsTreeAt, RefusesTree, IsWhole, Refuses};
 
 use lsm_below::{Error, SeqNo};
 use lsm_log::check_log;
@@ -13,7 +15,9 @@ use std::alloc::Global;
 ///
 /// The error with which `TreeState::open` would refuse the store.
 pub fn judge_tree<S: Store>(alloc: Global, store: &mut S) -> Result<SeqNo, Error>
-    ensures { S.tells → Same (S.world store.old) (S.world store.new) }
+    ensures found { S.tells → IfOk result (IsTreeAt (S.world store.old).gives) }
+    ensures refused { S.tells → IfErr result (RefusesTree (S.world store.old) (S.world store.new)) }
+    ensures same { S.tells → Same (S.world store.old) (S.world store.new) }
 {
     match look_for_files(alloc, store) {
         Ok(found) => Ok(found.opened.version.log_from()),
@@ -29,7 +33,9 @@ pub fn judge_tree<S: Store>(alloc: Global, store: &mut S) -> Result<SeqNo, Error
 /// The error with which `Logged::open` would refuse the store.
 #[tactic(auto, using(lsm_store::specs::Moments::same_then))]
 pub fn judge<S: Store>(alloc: Global, store: &mut S) -> Result<(), Error>
-    ensures { S.tells → Same (S.world store.old) (S.world store.new) }
+    ensures whole { S.tells → OnOk result (IsWhole (S.world store.old).gives) }
+    ensures refused { S.tells → IfErr result (Refuses (S.world store.old) (S.world store.new)) }
+    ensures same { S.tells → Same (S.world store.old) (S.world store.new) }
 {
     let from = judge_tree(alloc, store)?;
     match check_log(alloc, store, from) {

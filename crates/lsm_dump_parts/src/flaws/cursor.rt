@@ -1,5 +1,5 @@
 // Bytes, cut from the front.
-ghost use Rattle.std.specs.Prelude.{◌≤◌, length};
+ghost use Rattle.std.specs.Prelude.{◌≡◌, length};
 
 /// What is left of a file's bytes, and how many were cut from them.
 #[derive(Clone, Copy)]
@@ -19,7 +19,9 @@ impl<'a> Cursor<'a> {
     }
 
     /// How many bytes are left.
-    pub(crate) fn left(&self) -> u64 {
+    pub(crate) fn left(&self) -> u64
+        ensures { result ≡ length self.now.rest.now }
+    {
         self.rest.len() as u64
     }
 
