@@ -1,6 +1,6 @@
 use Rattle.std.proofs.Common.{inl, inr, subst, Result, Ok, Err, OnOk, IfErr}
-use Rattle.lsm_below.specs.declared.error.Error.{Error}
 use Rattle.lsm_store.specs.World.{Image}
+use Rattle.lsm_store.specs.Moments.{same_then}
 use Rattle.lsm_log.proofs.Loaded.{gives_same}
 use Rattle.lsm_dump_parts.specs.Verdicts.{IsLogRead, IsWhole, RefusesLog, Refuses}
 use Rattle.lsm_dump_parts.proofs.verdict.judge.Goals as goal
@@ -21,8 +21,8 @@ returns-in-Ok-clause-whole g c tells =
     let from = c.in-Ok.from in
     let gives = gives_same old mid (c.in-Ok.ensures.same tells) in
     on_ok_weaker (IsLogRead mid.gives from) (IsWhole old.gives) c.judge_log.result
-        (λ read. record { from = from; tree = c.in-Ok.ensures.found tells; log = subst (λ (i : Image). IsLogRead i from) gives read })
-        (c.judge_log.ensures.read tells)
+    (λ read. record { from = from; tree = c.in-Ok.ensures.found tells; log = subst (λ (i : Image). IsLogRead i from) gives read })
+    (c.judge_log.ensures.read tells)
 
 pub returns-in-Ok-clause-refused : goal.returns-in-Ok-clause-refused
 returns-in-Ok-clause-refused g c tells =
@@ -32,8 +32,11 @@ returns-in-Ok-clause-refused g c tells =
     let from = c.in-Ok.from in
     let gives = gives_same old mid (c.in-Ok.ensures.same tells) in
     if_err_weaker (RefusesLog mid.gives from) (Refuses old (w c.judge_log.new.store)) c.judge_log.result
-        (λ e refused. inr (record { from = from; tree = c.in-Ok.ensures.found tells; refused = subst (λ (i : Image). RefusesLog i from e) gives refused }))
-        (c.judge_log.ensures.refused tells)
+    (λ e refused. inr (record { from = from; tree = c.in-Ok.ensures.found tells; refused = subst (λ (i : Image). RefusesLog i from e) gives refused }))
+    (c.judge_log.ensures.refused tells)
 
 pub returns-in-Err-clause-refused : goal.returns-in-Err-clause-refused
 returns-in-Err-clause-refused g c tells = inl (c.in-Err.ensures.refused tells)
+
+pub returns-in-Ok-clause-same : goal.returns-in-Ok-clause-same
+returns-in-Ok-clause-same g c tells = same_then _ _ _ (c.in-Ok.ensures.same tells) (c.judge_log.ensures.same tells)
