@@ -1,7 +1,7 @@
 // Whether a tree and its log would be opened.
 ghost use Rattle.std.specs.Prelude.{IfOk, OnOk, IfErr};
 ghost use Rattle.lsm_store.specs.World.{Same};
-ghost use Rattle.lsm_dump_parts.specs.Verdicts.{IsTreeAt, RefusesTree, IsWhole, Refuses};
+ghost use Rattle.lsm_dump_parts.specs.Verdicts.{IsTreeAt, IsLogRead, IsWhole, RefusesTree, RefusesLog, Refuses};
 
 use lsm_below::{Error, SeqNo};
 use lsm_log::check_log;
@@ -25,6 +25,21 @@ pub fn judge_tree<S: Store>(alloc: Global, store: &mut S) -> Result<SeqNo, Error
     }
 }
 
+/// Reads the records of a log from a number on.
+fn judge_log<S: Store>(alloc: Global, store: &mut S, from: SeqNo) -> Result<(), Error>
+    ensures read { S.tells → OnOk result (IsLogRead (S.world store.old).gives from) }
+    ensures refused { S.tells → IfErr result (RefusesLog (S.world store.old).gives from) }
+    ensures same { S.tells → Same (S.world store.old) (S.world store.new) }
+{
+    match check_log(alloc, store, from) {
+        Ok(log) => {
+            drop(log);
+            Ok(())
+        }
+        Err(error) => Err(error),
+    }
+}
+
 /// Reads all that opening a tree with its log reads, by the same calls, and tells the error that it would be refused with.
 /// All tables are in memory, as where a tree is opened. It changes nothing.
 ///
@@ -37,9 +52,8 @@ pub fn judge<S: Store>(alloc: Global, store: &mut S) -> Result<(), Error>
     ensures refused { S.tells → IfErr result (Refuses (S.world store.old) (S.world store.new)) }
     ensures same { S.tells → Same (S.world store.old) (S.world store.new) }
 {
-    let from = judge_tree(alloc, store)?;
-    match check_log(alloc, store, from) {
-        Ok(_) => Ok(()),
+    match judge_tree(alloc, store) {
+        Ok(from) => judge_log(alloc, store, from),
         Err(error) => Err(error),
     }
 }
