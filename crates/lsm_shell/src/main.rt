@@ -1,10 +1,11 @@
 //! A shell over a versioned tree: it reads lines, asks the tree, and prints the answers (`lsm_shell_parts`).
 #![tactic(auto)]
 
-use lsm_shell_parts::{Console, run_shell};
+use lsm_shell_parts::{Console, Watch, run_shell};
 use std::io::IsTerminal;
 use std::process::ExitCode;
 use std::rt::Env;
+use std::time::Duration;
 use std::{env, io};
 
 fn main(rt: HostRuntime) -> ExitCode {
@@ -19,9 +20,30 @@ fn main(rt: HostRuntime) -> ExitCode {
         input: rt.stdin(),
         output: rt.stdout(),
         errors: rt.stderr(),
+        watch: watch(&rt),
     };
     let status = run_shell(&rt, rt.alloc(), words, console);
     ExitCode::from(status)
+}
+
+/// How long work goes on unseen.
+const BEAT: Duration = Duration::from_secs(1);
+
+/// From how many entries on a flush or a compaction takes about a second.
+const LONG: usize = 1_000_000;
+
+/// Where long work shows itself: on a terminal.
+fn watch(rt: &HostRuntime) -> Option<Watch<Stderr>> {
+    let errors = rt.stderr();
+    if errors.is_terminal() {
+        Some(Watch {
+            errors,
+            beat: BEAT,
+            entries: LONG,
+        })
+    } else {
+        None
+    }
 }
 
 // The program's arguments, without its name. One that is no text is an error of the kind InvalidData.

@@ -5,7 +5,7 @@ use Rattle.std.proofs.lemmas.List.Splits.{slice_split_at, join_with_byte-slice_s
 use Rattle.std.specs.List.{list_all, join_with_byte}
 use Rattle.std.specs.Prelude.{codes, option_map, option_and_then}
 use Rattle.lsm_shell_parts.specs.declared.command.Command.{Command}
-use Rattle.lsm_shell_parts.specs.declared.command.Command.TheVariants.{Put, Del, Weak, Get, Range, Prefix, Rotate, Flush, Compact, DropRange, Clear, Now, Stats, Crash, Reopen}
+use Rattle.lsm_shell_parts.specs.declared.command.Command.TheVariants.{Put, Del, Weak, Get, Range, Prefix, Rotate, Flush, Compact, DropRange, Clear, Now, Stats, Levels, Crash, Reopen}
 use Rattle.lsm_shell_parts.specs.declared.command.Plan.TheVariants.{Leveled, Major, Fifo}
 use Rattle.lsm_shell_parts.specs.Bounds.{included_of, excluded_of, prefix_of, included_word, excluded_word, prefix_word}
 use Rattle.lsm_shell_parts.specs.Word.{is_word, parts_of, words_of}
@@ -24,14 +24,15 @@ AreWordsOf words command = (words ≡ spelling_of command) × HasFitNumber comma
 same : (v text : List ℕ) → bytes_eq v text ≡ true → v ≡ text
 same v text e = (bytes_eq-Decides v text).0 e
 
-one_word : (v : List ℕ) (r o s c l : Bool) → bytes_eq v (codes "rotate") ≡ r → bytes_eq v (codes "reopen") ≡ o → bytes_eq v (codes "stats") ≡ s → bytes_eq v (codes "crash") ≡ c → bytes_eq v (codes "clear") ≡ l
-    → IfSome (cond r (Some Rotate) (cond o (Some Reopen) (cond s (Some Stats) (cond c (Some Crash) (cond l (Some Clear) None))))) (AreWordsOf (v ∷ []))
-one_word v true o s c l er eo es ec el = (ap (λ w. w ∷ []) (same v _ er), tt)
-one_word v false true s c l er eo es ec el = (ap (λ w. w ∷ []) (same v _ eo), tt)
-one_word v false false true c l er eo es ec el = (ap (λ w. w ∷ []) (same v _ es), tt)
-one_word v false false false true l er eo es ec el = (ap (λ w. w ∷ []) (same v _ ec), tt)
-one_word v false false false false true er eo es ec el = (ap (λ w. w ∷ []) (same v _ el), tt)
-one_word v false false false false false er eo es ec el = tt
+one_word : (v : List ℕ) (r o s d c l : Bool) → bytes_eq v (codes "rotate") ≡ r → bytes_eq v (codes "reopen") ≡ o → bytes_eq v (codes "stats") ≡ s → bytes_eq v (codes "levels") ≡ d → bytes_eq v (codes "crash") ≡ c → bytes_eq v (codes "clear") ≡ l
+    → IfSome (cond r (Some Rotate) (cond o (Some Reopen) (cond s (Some Stats) (cond d (Some Levels) (cond c (Some Crash) (cond l (Some Clear) None)))))) (AreWordsOf (v ∷ []))
+one_word v true o s d c l er eo es ed ec el = (ap (λ w. w ∷ []) (same v _ er), tt)
+one_word v false true s d c l er eo es ed ec el = (ap (λ w. w ∷ []) (same v _ eo), tt)
+one_word v false false true d c l er eo es ed ec el = (ap (λ w. w ∷ []) (same v _ es), tt)
+one_word v false false false true c l er eo es ed ec el = (ap (λ w. w ∷ []) (same v _ ed), tt)
+one_word v false false false false true l er eo es ed ec el = (ap (λ w. w ∷ []) (same v _ ec), tt)
+one_word v false false false false false true er eo es ed ec el = (ap (λ w. w ∷ []) (same v _ el), tt)
+one_word v false false false false false false er eo es ed ec el = tt
 
 -- a command of one number is spelled by its word
 with_number : (name v word : List ℕ) (make : ℕ → Command) (n : Option ℕ) → ((m : ℕ) → m < 2 ^ 64 → AreWordsOf (name ∷ decimal m ∷ []) (make m)) → plain_number word ≡ n → v ≡ name → IfSome (option_map (λ m. make m) n) (AreWordsOf (v ∷ word ∷ []))
@@ -143,7 +144,7 @@ second_is v key more all = (both (is_word key) (list_all is_word more) (both (is
 words_spell : (words : List (List ℕ)) → list_all is_word words ≡ true → IfSome (command_of_words words) (AreWordsOf words)
 unfolding command_of_words
 words_spell [] all = tt
-words_spell (v ∷ []) all = one_word v _ _ _ _ _ refl refl refl refl refl
+words_spell (v ∷ []) all = one_word v _ _ _ _ _ _ refl refl refl refl refl refl
 words_spell (v ∷ key ∷ []) all = two_words v key _ _ _ (second_is v key [] all) refl refl refl
 words_spell (v ∷ key ∷ last ∷ []) all = three_words v key last _ _ (second_is v key (last ∷ []) all) refl refl
 words_spell (v ∷ low ∷ high ∷ last ∷ []) all = four_words v low high last _ refl
@@ -216,6 +217,7 @@ asked_by_words (DropRange low high) h all =
 asked_by_words Clear h all = (omega arith, refl)
 asked_by_words (Now n) h all = (omega arith, ap (option_map (λ m. Now m)) (plain_number-decimal (decimal n) n h refl))
 asked_by_words Stats h all = (omega arith, refl)
+asked_by_words Levels h all = (omega arith, refl)
 asked_by_words Crash h all = (omega arith, refl)
 asked_by_words Reopen h all = (omega arith, refl)
 

@@ -4,7 +4,7 @@ use Rattle.lsm_shell_parts.specs.Bounds.{included_of, excluded_of, prefix_of}
 use Rattle.lsm_below.specs.Numbers.{plain_number}
 use Rattle.lsm_shell_parts.specs.Word.{words_of}
 use Rattle.lsm_shell_parts.specs.declared.command.Command.{Command}
-use Rattle.lsm_shell_parts.specs.declared.command.Command.TheVariants.{Put, Del, Weak, Get, Range, Prefix, Rotate, Flush, Compact, DropRange, Clear, Now, Stats, Crash, Reopen}
+use Rattle.lsm_shell_parts.specs.declared.command.Command.TheVariants.{Put, Del, Weak, Get, Range, Prefix, Rotate, Flush, Compact, DropRange, Clear, Now, Stats, Levels, Crash, Reopen}
 use Rattle.lsm_shell_parts.specs.declared.command.Plan.{Plan}
 use Rattle.lsm_shell_parts.specs.declared.command.Plan.TheVariants.{Leveled, Major, Fifo}
 
@@ -12,6 +12,7 @@ use Rattle.lsm_shell_parts.specs.declared.command.Plan.TheVariants.{Leveled, Maj
 abbrev pub command_of_other : List ℕ → Option Command
 command_of_other verb =
     if bytes_eq verb (codes "stats") then Some Stats
+    else if bytes_eq verb (codes "levels") then Some Levels
     else if bytes_eq verb (codes "crash") then Some Crash
     else if bytes_eq verb (codes "clear") then Some Clear
     else None

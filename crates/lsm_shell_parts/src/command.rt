@@ -53,6 +53,8 @@ pub enum Command {
     Now(u64),
     /// Count tables, runs, sealed memtables, entries and bytes.
     Stats,
+    /// Draw the levels.
+    Levels,
     /// Crash the store.
     Crash,
     /// Open the tree again from its store.
@@ -107,6 +109,7 @@ fn parse_other(verb: &[u8]) -> Option<Command>
 {
     match verb {
         b"stats" => Some(Command::Stats),
+        b"levels" => Some(Command::Levels),
         b"crash" => Some(Command::Crash),
         b"clear" => Some(Command::Clear),
         _ => None,

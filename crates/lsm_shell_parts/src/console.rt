@@ -1,13 +1,14 @@
 // Where lines come from, and where answers and hints go.
 use crate::cause::Refusal;
-use crate::reply::Reply;
+use crate::progress::Watch;
+use crate::reply::{Reply, Stats};
 use lsm_tree::Error;
 use std::io::Write;
 
 /// The lines that there are.
 const LINES: &str =
     "lines: put K V, del K, weak K, get K [S], range LO HI [S], prefix P [S], rotate, \
-flush W, compact leveled W, compact major W, compact fifo LIMIT TTL W, drop LO HI, clear, now N, stats, crash, reopen";
+flush W, compact leveled W, compact major W, compact fifo LIMIT TTL W, drop LO HI, clear, now N, stats, levels, crash, reopen";
 
 /// What the program reads lines from, and writes answers and errors to.
 #[derive(Drop)]
@@ -17,6 +18,8 @@ pub struct Console<R, W, E> {
     pub errors: E,
     /// Whether somebody types the lines, who is helped by hints.
     pub is_terminal: bool,
+    /// Where long work shows itself. None where nobody waits for it.
+    pub watch: Option<Watch<E>>,
 }
 
 /// Where errors and hints go. What can't be written there is left out: nothing is left to be told it.
@@ -24,6 +27,8 @@ pub struct Console<R, W, E> {
 pub(crate) struct Errors<E> {
     errors: E,
     is_terminal: bool,
+    /// From how many entries on work is announced.
+    long: Option<usize>,
 }
 
 impl<R: Drop, W: Drop, E: Write + Drop> Console<R, W, E> {
@@ -42,16 +47,32 @@ impl<R: Drop, W: Drop, E: Write + Drop> Console<R, W, E> {
         }
     }
 
-    pub(crate) fn into_parts(self) -> (R, W, Errors<E>) {
+    /// Its input and its output, and where errors go. Work is announced from so many entries on.
+    pub(crate) fn into_parts(self, long: Option<usize>) -> (R, W, Errors<E>) {
         let errors = Errors {
             errors: self.errors,
             is_terminal: self.is_terminal,
+            long,
         };
         (self.input, self.output, errors)
     }
 }
 
 impl<E: Write + Drop> Errors<E> {
+    /// Says that work begins, where it will take long and somebody waits for it.
+    pub(crate) fn announce(&mut self, work: &str, stats: Stats) {
+        let Some(long) = self.long else {
+            return;
+        };
+        if stats.len >= long {
+            let (entries, tables, megabytes) = (stats.len, stats.tables, stats.bytes / 1_000_000);
+            let _ = writeln!(
+                self.errors,
+                "{work}: a tree of {entries} entries, {tables} tables, {megabytes} MB"
+            );
+        }
+    }
+
     /// Writes why a call of the store failed, and at a terminal which lines there are where one isn't known.
     pub(crate) fn tell_of(&mut self, reply: &Reply, cause: Option<String>) {
         if let Some(cause) = cause {

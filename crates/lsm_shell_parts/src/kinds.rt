@@ -2,7 +2,7 @@
 use crate::cause::{SessionStore, Unopened};
 use crate::reply::Stats;
 use lsm_below::{MemtableId, SeqNo, UserKey, UserValue};
-use lsm_tree::{Begun, CompactionStrategy, Error, Op, OwnedBounds, Registered, TreeIter};
+use lsm_tree::{Begun, CompactionStrategy, Error, Op, OwnedBounds, Registered, TreeIter, Version};
 use std::alloc::Global;
 use std::ops::Bound;
 
@@ -62,4 +62,7 @@ pub trait SessionTree<S: SessionStore>: Drop {
     fn visible_number(&self) -> SeqNo;
 
     fn stats(&self) -> Stats;
+
+    /// The latest version.
+    fn version(&self) -> &Version;
 }

@@ -14,6 +14,8 @@
 //! | `session` | a tree that answers commands |
 //! | `arguments` | what the program's arguments ask |
 //! | `console` | where lines come from, and where answers and hints go |
+//! | `drawing` | the levels of a tree, drawn with characters |
+//! | `progress`, `watched` | how far long work is, and a store that says so |
 //! | `threads` | callers in threads of their own, on one tree |
 //! | `shell` | the run from the first line to the last |
 #![tactic(auto)]
@@ -23,14 +25,18 @@ mod bounds;
 mod cause;
 mod command;
 mod console;
+mod drawing;
 mod kinds;
 mod logged;
 mod plain;
+mod progress;
 mod reply;
 mod session;
 mod shell;
 mod threads;
+mod watched;
 mod word;
 
 pub use console::Console;
+pub use progress::Watch;
 pub use shell::run_shell;

@@ -5,6 +5,7 @@ use crate::reply::Stats;
 use lsm_below::{MemtableId, SeqNo, UserKey, UserValue};
 use lsm_tree::{
     Begun, CompactionStrategy, Config, Error, Logged, Op, OwnedBounds, Registered, TreeIter,
+    Version,
 };
 use std::alloc::Global;
 use std::ops::Bound;
@@ -111,5 +112,9 @@ impl<S: SessionStore> SessionTree<S> for Logged<S> {
             len: tree.approximate_len(),
             bytes: tree.disk_space(),
         }
+    }
+
+    fn version(&self) -> &Version {
+        self.tree().current_version()
     }
 }

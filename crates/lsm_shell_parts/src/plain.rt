@@ -5,7 +5,7 @@ use crate::reply::Stats;
 use lsm_below::{MemtableId, SeqNo, UserKey, UserValue};
 use lsm_tree::{
     Begun, CompactionStrategy, Config, Error, Op, OwnedBounds, Pass, Recorded, Registered,
-    TreeIter, has_log,
+    TreeIter, Version, has_log,
 };
 use std::alloc::Global;
 use std::ops::Bound;
@@ -120,5 +120,9 @@ impl<S: SessionStore> SessionTree<S> for Recorded<S> {
             len: self.approximate_len(),
             bytes: self.disk_space(),
         }
+    }
+
+    fn version(&self) -> &Version {
+        self.current_version()
     }
 }

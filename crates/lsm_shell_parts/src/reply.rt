@@ -41,6 +41,8 @@ pub enum Reply {
     Done,
     /// What the tree counts.
     Counted(Stats),
+    /// The levels as they are drawn, a line each run.
+    Drawn(String),
     /// The store was crashed.
     Crashed,
     /// The tree was opened, with so many tables.
@@ -73,6 +75,7 @@ impl Reply {
             Reply::Cleared(number) => writeln!(output, "cleared {number}"),
             Reply::Done => output.write_all(b"ok\n"),
             Reply::Counted(stats) => write_stats(output, stats),
+            Reply::Drawn(lines) => output.write_all(lines.as_bytes()),
             Reply::Crashed => output.write_all(b"crashed\n"),
             Reply::Opened(tables) => writeln!(output, "opened {tables}"),
             Reply::Refused(error) => write_refused(output, error),

@@ -1,8 +1,9 @@
 // A tree that answers commands.
 use crate::cause::{Refusal, SessionStore, Unopened, fault_of};
 use crate::command::{Command, Plan, parse};
+use crate::drawing::draw_levels;
 use crate::kinds::SessionTree;
-use crate::reply::Reply;
+use crate::reply::{Reply, Stats};
 use lsm_below::{SeqNo, UserKey};
 use lsm_tree::{Begun, Error, Fifo, Leveled, Op, OwnedBounds};
 use std::alloc::Global;
@@ -55,6 +56,20 @@ impl<S: SessionStore, T: SessionTree<S>> Session<S, T> {
             None => None,
         };
         (reply, cause)
+    }
+
+    /// What a line is to work on that takes long where there are many entries: a flush or a compaction.
+    pub fn foresee(&self, line: &[u8]) -> Option<(&'static str, Stats)> {
+        let Some(Stage::Open(tree)) = &self.stage else {
+            return None;
+        };
+        if line.starts_with(b"flush ") {
+            Some(("flush", tree.stats()))
+        } else if line.starts_with(b"compact ") {
+            Some(("compaction", tree.stats()))
+        } else {
+            None
+        }
     }
 
     fn store(&self) -> Option<&S> {
@@ -144,6 +159,7 @@ fn run_on<S: SessionStore, T: SessionTree<S>>(
             Ok(Reply::Done)
         }
         Command::Stats => Ok(Reply::Counted(tree.stats())),
+        Command::Levels => Ok(Reply::Drawn(draw_levels(alloc, tree.version())?)),
         Command::Crash | Command::Reopen => Ok(Reply::Usage),
     }
 }

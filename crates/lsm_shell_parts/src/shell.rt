@@ -7,21 +7,30 @@ use crate::arguments::{Mode, parse_arguments};
 use crate::cause::{Refusal, SessionStore};
 use crate::console::Console;
 use crate::kinds::SessionTree;
+use crate::progress::Watch;
 use crate::reply::Reply;
 use crate::session::Session;
 use crate::threads::call_all;
+use crate::watched::WatchedStore;
 use lsm_tree::{Error, FolderStore, Logged, MemStore, Recorded, StoreError};
 use std::alloc::Global;
 use std::fs::{File, Files};
 use std::io::{self, BufRead, BufReader, BufWriter, ErrorKind, Read, Write};
 use std::sync::Wait;
 use std::thread::Threads;
+use std::time::Clock;
 
 const SUCCESS: u8 = 0;
 
 const FAULT: u8 = 1;
 
 const USAGE: u8 = 2;
+
+/// Stands before the other arguments, where long work isn't to show itself.
+const QUIET: &str = "--quiet";
+
+/// A store over a folder, which says how far long work is.
+type Watched<P, E> = WatchedStore<FolderStore<P>, P, E>;
 
 /// Does what the arguments ask, and gives the status to end with.
 ///
@@ -32,8 +41,8 @@ const USAGE: u8 = 2;
 /// callers on one tree: 0 where each read what it wrote, else 1. With any other arguments, 2; `arguments` is None where one
 /// of them is no text.
 ///
-/// Beside the answers it writes to the errors why a call of the store failed, and which file keeps a folder from being
-/// opened.
+/// Beside the answers it writes to the errors why a call of the store failed, which file keeps a folder from being
+/// opened, and, where the console has a watch and `--quiet` doesn't stand before the other arguments, how far long work is.
 ///
 /// Where a line finds no memory, its answer says so, and the run goes on with the next line. Where
 /// the buffers of the input or the output find none, the status is 1.
@@ -44,61 +53,86 @@ pub fn run_shell<P, R, W, E>(
     mut console: Console<R, W, E>,
 ) -> u8
 where
-    P: Threads + Wait + Sync + Files<File = File> + Alloc + Clone + Drop,
+    P: Threads + Wait + Sync + Files<File = File> + Clock + Alloc + Clone + Drop,
     R: Read + Drop,
     W: Write + Drop,
     E: Write + Drop,
 {
+    let (is_quiet, arguments) = split_quiet(arguments);
+    if is_quiet {
+        console.watch = None;
+    }
     let Some(mode) = arguments.and_then(parse_arguments) else {
-        console.tell("usage: lsm_shell [FOLDER | logged [FOLDER] | threads N]");
+        console.tell("usage: lsm_shell [--quiet] [FOLDER | logged [FOLDER] | threads N]");
         return USAGE;
     };
+    let watch = console.watch.take();
+    let long = watch.as_ref().map(|watch| watch.entries);
     let told = match mode {
         Mode::Memory => {
             let opened = Session::<MemStore, Recorded>::open(alloc, MemStore::new(alloc));
-            answer_lines(alloc, opened, console)
+            answer_lines(alloc, opened, console, long)
         }
         Mode::Folder(folder) => {
-            let opened = open_folder::<P, Recorded<FolderStore<P>>>(rt, alloc, folder);
-            answer_lines(alloc, opened, console)
+            let opened = open_folder::<P, E, Recorded<Watched<P, E>>>(rt, alloc, folder, watch);
+            answer_lines(alloc, opened, console, long)
         }
         Mode::LoggedMemory => {
             let opened = Session::<MemStore, Logged>::open(alloc, MemStore::new(alloc));
-            answer_lines(alloc, opened, console)
+            answer_lines(alloc, opened, console, long)
         }
         Mode::LoggedFolder(folder) => {
-            let opened = open_folder::<P, Logged<FolderStore<P>>>(rt, alloc, folder);
-            answer_lines(alloc, opened, console)
+            let opened = open_folder::<P, E, Logged<Watched<P, E>>>(rt, alloc, folder, watch);
+            answer_lines(alloc, opened, console, long)
         }
         Mode::Threads(callers) => report_callers(rt, alloc, callers, console),
     };
     told.unwrap_or(FAULT)
 }
 
+/// The arguments behind `--quiet`, and whether that stands before them.
+fn split_quiet(arguments: Option<&[String]>) -> (bool, Option<&[String]>) {
+    match arguments {
+        Some([first, rest @ ..]) if first.as_str() == QUIET => (true, Some(rest)),
+        _ => (false, arguments),
+    }
+}
+
 /// A session over the tree of a folder, which is made where it is absent.
-fn open_folder<P, T>(
+fn open_folder<P, E, T>(
     rt: &P,
     alloc: Global,
     folder: &str,
-) -> Result<Session<FolderStore<P>, T>, Refusal>
+    watch: Option<Watch<E>>,
+) -> Result<Session<Watched<P, E>, T>, Refusal>
 where
-    P: Files<File = File> + Alloc + Clone + Drop,
-    T: SessionTree<FolderStore<P>>,
+    P: Files<File = File> + Clock + Alloc + Clone + Drop,
+    E: Write + Drop,
+    T: SessionTree<Watched<P, E>>,
 {
     match FolderStore::new(rt, alloc, folder) {
-        Ok(store) => Session::open(alloc, store),
+        Ok(store) => match rt.clone() {
+            Ok(clock) => Session::open(alloc, WatchedStore::new(store, clock, watch)),
+            Err(_) => Err(unopened(Error::OutOfMemory, None)),
+        },
         Err(fault) => {
             let cause = format!(in alloc; "{fault}").ok();
-            let error = match StoreError::from(fault) {
-                StoreError::OutOfMemory => Error::OutOfMemory,
-                StoreError::Fault | StoreError::NothingDone => Error::Store,
-            };
-            Err(Refusal {
-                error,
-                cause,
-                has_log: false,
-            })
+            match StoreError::from(fault) {
+                StoreError::OutOfMemory => Err(unopened(Error::OutOfMemory, cause)),
+                StoreError::Fault | StoreError::NothingDone => {
+                    Err(unopened(Error::Store, cause))
+                }
+            }
         }
+    }
+}
+
+/// Why a folder is no store.
+fn unopened(error: Error, cause: Option<String>) -> Refusal {
+    Refusal {
+        error,
+        cause,
+        has_log: false,
     }
 }
 
@@ -135,6 +169,7 @@ fn answer_lines<S, T, R, W, E>(
     alloc: Global,
     opened: Result<Session<S, T>, Refusal>,
     mut console: Console<R, W, E>,
+    long: Option<usize>,
 ) -> io::Result<u8>
 where
     S: SessionStore,
@@ -145,7 +180,7 @@ where
 {
     match opened {
         Ok(mut session) => {
-            answer_each(alloc, &mut session, console)?;
+            answer_each(alloc, &mut session, console, long)?;
             Ok(SUCCESS)
         }
         Err(refusal) => {
@@ -162,6 +197,7 @@ fn answer_each<S, T, R, W, E>(
     alloc: Global,
     session: &mut Session<S, T>,
     console: Console<R, W, E>,
+    long: Option<usize>,
 ) -> io::Result<()>
 where
     S: SessionStore,
@@ -170,7 +206,7 @@ where
     W: Write + Drop,
     E: Write + Drop,
 {
-    let (input, output, mut errors) = console.into_parts();
+    let (input, output, mut errors) = console.into_parts(long);
     let mut output = BufWriter::new(alloc, output)?;
     let mut input = BufReader::new(alloc, input)?;
     let mut line = Vec::new(alloc);
@@ -181,7 +217,12 @@ where
             output.flush()?;
         }
         let (reply, cause) = match read_line(&mut input, &mut line) {
-            Ok(true) => session.answer(line.as_slice()),
+            Ok(true) => {
+                if let Some((work, stats)) = session.foresee(line.as_slice()) {
+                    errors.announce(work, stats);
+                }
+                session.answer(line.as_slice())
+            }
             Ok(false) => break,
             Err(error) if error.kind() == ErrorKind::OutOfMemory => {
                 // A short line after a long one may find memory once the long one's is given back.

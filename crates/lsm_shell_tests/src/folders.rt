@@ -9,6 +9,7 @@ use std::fs::{self, File, Files};
 use std::sync::Wait;
 use std::test::Fail;
 use std::thread::Threads;
+use std::time::Clock;
 
 const FOLDER: &str = "lsm_shell_test";
 
@@ -52,7 +53,7 @@ fn answers_over<R>(
     told: (&[u8], &[u8], u8),
 ) -> Result<bool, AllocError>
 where
-    R: Threads + Wait + Sync + Files<File = File> + Alloc + Clone + Drop,
+    R: Threads + Wait + Sync + Files<File = File> + Clock + Alloc + Clone + Drop,
 {
     let arguments = vec![in alloc; String::from_str(alloc, folder)?]?;
     let input = b"get a\nput b y\nrange - -\n".as_slice();
@@ -60,7 +61,7 @@ where
 }
 
 /// A folder with the files of a tree of one table.
-fn filled<R>(rt: &R, alloc: Global, folder: &str) -> Result<FolderStore<R>, Fail>
+pub fn filled<R>(rt: &R, alloc: Global, folder: &str) -> Result<FolderStore<R>, Fail>
 where
     R: Files<File = File> + Alloc + Clone + Drop,
 {

@@ -12,3 +12,5 @@ mod logged;
 mod shells;
 #[cfg(test)]
 mod spelled;
+#[cfg(test)]
+mod watching;

@@ -9,6 +9,7 @@ use std::io::{self, Read};
 use std::sync::Wait;
 use std::test::Fail;
 use std::thread::Threads;
+use std::time::Clock;
 
 /// What was answered is there behind a crash, also at older snapshots, and numbers go on behind it.
 const KEPT: [Row; 10] = [
@@ -85,7 +86,7 @@ fn answers_over<R>(
     told: (&[u8], &[u8], u8),
 ) -> Result<bool, AllocError>
 where
-    R: Threads + Wait + Sync + Files<File = File> + Alloc + Clone + Drop,
+    R: Threads + Wait + Sync + Files<File = File> + Clock + Alloc + Clone + Drop,
 {
     let mut arguments = Vec::new(alloc);
     if words.0 {

@@ -11,6 +11,7 @@ use std::io::{self, ErrorKind, Read, Write};
 use std::sync::Wait;
 use std::test::Fail;
 use std::thread::Threads;
+use std::time::Clock;
 
 /// A line, and what is printed for it.
 pub type Row = (&'static [u8], &'static [u8]);
@@ -178,6 +179,7 @@ fn console<R, W, E>(input: R, output: W, errors: E) -> Console<R, W, E> {
         output,
         errors,
         is_terminal: false,
+        watch: None,
     }
 }
 
@@ -190,7 +192,7 @@ pub fn ends<R, I>(
     told: (&[u8], &[u8], u8),
 ) -> bool
 where
-    R: Threads + Wait + Sync + Files<File = File> + Alloc + Clone + Drop,
+    R: Threads + Wait + Sync + Files<File = File> + Clock + Alloc + Clone + Drop,
     I: Read + Drop,
 {
     let mut printed = Vec::new(alloc);
@@ -203,7 +205,7 @@ where
 /// Whether a run without arguments prints this for the input, and ends with 0.
 pub fn prints<R>(rt: &R, alloc: Global, input: &[u8], printed: &[u8]) -> bool
 where
-    R: Threads + Wait + Sync + Files<File = File> + Alloc + Clone + Drop,
+    R: Threads + Wait + Sync + Files<File = File> + Clock + Alloc + Clone + Drop,
 {
     ends(rt, alloc, Some(&[]), input, (printed, b"", 0))
 }
@@ -223,7 +225,7 @@ pub fn answers_with<R>(
     told: &[u8],
 ) -> Result<bool, AllocError>
 where
-    R: Threads + Wait + Sync + Files<File = File> + Alloc + Clone + Drop,
+    R: Threads + Wait + Sync + Files<File = File> + Clock + Alloc + Clone + Drop,
 {
     let mut input = Vec::new(alloc);
     let mut printed = Vec::new(alloc);
@@ -243,7 +245,7 @@ where
 /// Whether a run without arguments does.
 fn answers<R>(rt: &R, alloc: Global, rows: &[Row]) -> Result<bool, AllocError>
 where
-    R: Threads + Wait + Sync + Files<File = File> + Alloc + Clone + Drop,
+    R: Threads + Wait + Sync + Files<File = File> + Clock + Alloc + Clone + Drop,
 {
     answers_with(rt, alloc, &[], rows, b"")
 }
@@ -301,6 +303,19 @@ fn answers_long_lines(rt: HostRuntime) -> Result<(), Fail> {
     Ok(())
 }
 
+/// The levels as they are drawn: none, and a table of one key, whose file has 37 bytes.
+#[test]
+fn draws_levels(rt: HostRuntime) -> Result<(), Fail> {
+    let alloc = rt.alloc();
+    let mut told = Vec::from_slice(alloc, b"no tables\nok 0\nflushed 50 installed\nL0   0 ||")?;
+    for _ in 1..72 {
+        told.push(b' ')?;
+    }
+    told.extend_from_slice(b"| 1 tables, 37 bytes\nkeys    \"a\" .. \"a\"\n")?;
+    assert!(rt; prints(&rt, alloc, b"levels\nput a x\nflush 0\nlevels\n", &told));
+    Ok(())
+}
+
 /// The arguments between single spaces, none for an empty text.
 fn arguments_of(alloc: Global, text: &str) -> Result<Vec<String>, AllocError> {
     let mut words = Vec::new(alloc);
@@ -315,14 +330,18 @@ fn arguments_of(alloc: Global, text: &str) -> Result<Vec<String>, AllocError> {
 /// What is told of arguments that ask nothing.
 const USAGE: (&[u8], &[u8], u8) = (
     b"",
-    b"usage: lsm_shell [FOLDER | logged [FOLDER] | threads N]\n",
+    b"usage: lsm_shell [--quiet] [FOLDER | logged [FOLDER] | threads N]\n",
     2,
 );
 
 #[test]
 fn takes_arguments(rt: HostRuntime) -> Result<(), Fail> {
-    let table: [(&str, (&[u8], &[u8], u8)); 13] = [
+    let table: [(&str, (&[u8], &[u8], u8)); 17] = [
         ("logged", (b"ok 0\nvalue x\n", b"", 0)),
+        ("--quiet", (b"ok 0\nvalue x\n", b"", 0)),
+        ("--quiet logged", (b"ok 0\nvalue x\n", b"", 0)),
+        ("--quiet threads 0", USAGE),
+        ("logged --quiet b", USAGE),
         ("logged a b", USAGE),
         ("threads logged", USAGE),
         ("threads 1", (b"threads 1 entries 20 all equal\n", b"", 0)),
@@ -469,6 +488,7 @@ fn hints_at_a_terminal(rt: HostRuntime) {
         output: &mut printed,
         errors: &mut errors,
         is_terminal: true,
+        watch: None,
     };
     let status = run_shell(&rt, rt.alloc(), Some(&[]), console);
     assert_eq!(rt; status, 0);

@@ -1,0 +1,159 @@
+// What is printed of a tree, and which arguments are refused.
+use crate::images::{Change, Held, image, store_of};
+use lsm_dump_parts::{Bounds, Plan, Shown, Slice, View, bounds_of, show};
+use lsm_store::MemStore;
+use std::alloc::Global;
+use std::test::Fail;
+
+const ALL: Slice<'static> = Slice {
+    from: None,
+    to: None,
+    limit: None,
+};
+
+fn shown(
+    alloc: Global,
+    store: &mut MemStore,
+    view: View,
+    is_json: bool,
+    slice: Slice<'_>,
+) -> Result<Shown, Fail> {
+    let plan = Plan {
+        folder: "",
+        view,
+        is_json,
+        slice,
+    };
+    let bounds: Bounds = bounds_of(alloc, &plan.slice)?.ok_or("the keys are well-formed")?;
+    Ok(show(alloc, store, &plan, &bounds)?)
+}
+
+/// What is shown of the tree in format 4.
+fn shown_whole(alloc: Global, view: View, is_json: bool, slice: Slice<'_>) -> Result<Shown, Fail> {
+    let files = image(alloc, true)?;
+    let mut store = store_of(alloc, &files, "other", Change::Holds(b"1"))?;
+    shown(alloc, &mut store, view, is_json, slice)
+}
+
+const DUMP: &str = "\
+version 5, format 4, log_from 2
+
+level  run  table  entries  tombstones  weak  bytes  numbers  made at  checksum                          sum    keys
+    0    0      3        1           0     0     37  0..0           0  b72e25e2ac01463851bb09022af9675b  right  \"a\" .. \"a\"
+    0    0      4        2           1     0     53  0..1           0  f99977f44aada9534a6e1bfc7d869658  right  \"c\" .. \"c\"
+
+record  writes  removals  bytes  state
+     1       -         -      -  below log_from, not read
+     2       2         1     33  whole
+
+orphan  tables/7
+orphan  v4
+other   other
+
+total  2 tables in 1 runs, 3 entries, 1 tombstones, 0 of them weak, 90 bytes
+total  1 records, 2 writes, 33 bytes; 1 records below log_from; 2 orphans; 0 faults
+";
+
+#[test]
+fn a_tree_is_dumped(rt: HostRuntime) -> Result<(), Fail> {
+    let told = shown_whole(rt.alloc(), View::Dump, false, ALL)?;
+    assert_eq!(rt; told.text.as_str(), DUMP);
+    assert!(rt; told.is_good);
+    Ok(())
+}
+
+#[test]
+fn entries_and_writes_are_listed(rt: HostRuntime) -> Result<(), Fail> {
+    let alloc = rt.alloc();
+    let rows = [
+        (
+            View::Table(4),
+            ALL,
+            "1  \"c\"  \"y\"\n0  \"c\"  tombstone\n",
+        ),
+        (
+            View::Table(4),
+            Slice {
+                limit: Some(1),
+                ..ALL
+            },
+            "1  \"c\"  \"y\"\n",
+        ),
+        (
+            View::Table(4),
+            Slice {
+                to: Some("c"),
+                ..ALL
+            },
+            "",
+        ),
+        (
+            View::Table(3),
+            Slice {
+                from: Some("0x61"),
+                ..ALL
+            },
+            "0  \"a\"  \"x\"\n",
+        ),
+        (View::Record(2), ALL, "\"b\"  \"y\"\n\"a\"  tombstone\n"),
+        (View::Record(9), ALL, "log/9: is missing\n"),
+        (View::Table(7), ALL, "tables/7: is cut: it has 1 bytes\n"),
+        (View::Check, ALL, "opens\n"),
+        (
+            View::Levels,
+            ALL,
+            "L0   0 ||                                                                      || 2 tables, 90 bytes\nkeys    \"a\" .. \"c\"\nlog     1 records from 2 on, 1 below\n",
+        ),
+    ];
+    for (view, slice, text) in rows {
+        let told = shown_whole(alloc, view, false, slice)?;
+        assert_eq!(rt; told.text.as_str(), text);
+    }
+    Ok(())
+}
+
+const OBJECT: &str =
+    r#"{"entries":[{"key":{"text":"c"},"number":1,"type":"value","value":{"text":"y"}},{"key":{"text":"c"},"number":0,"type":"tombstone"}],"table":4}
+"#;
+
+#[test]
+fn entries_are_an_object(rt: HostRuntime) -> Result<(), Fail> {
+    let told = shown_whole(rt.alloc(), View::Table(4), true, ALL)?;
+    assert_eq!(rt; told.text.as_str(), OBJECT);
+    Ok(())
+}
+
+/// What a check tells of the tree with one file changed.
+fn checked(alloc: Global, files: &[Held], name: &str, bytes: &[u8]) -> Result<Shown, Fail> {
+    let mut store = store_of(alloc, files, name, Change::Holds(bytes))?;
+    shown(alloc, &mut store, View::Check, false, ALL)
+}
+
+#[test]
+fn what_is_wrong_is_told(rt: HostRuntime) -> Result<(), Fail> {
+    let alloc = rt.alloc();
+    let files = image(alloc, true)?;
+    let rows: [(&str, &[u8], &str); 3] = [
+        (
+            "log/2",
+            b"LSML\x02\0\0\0\0\0\0\0\x02\0\0\0\x01\0\0\x01\0\0\0b",
+            "log/2: is cut: operation 0, at byte 16, lacks 1 bytes\nrefused: error 4 Unrecoverable\n",
+        ),
+        (
+            "log/x",
+            b"",
+            "log/x: is no name that a tree gives\nrefused: error 4 Unrecoverable\n",
+        ),
+        (
+            "current",
+            b"",
+            "current: has 0 bytes, and not 25\ntables/7: is cut: it has 1 bytes\nrefused: error 7 InvalidHeader\n",
+        ),
+    ];
+    for (name, bytes, text) in rows {
+        let told = checked(alloc, &files, name, bytes)?;
+        assert_eq!(rt; told.text.as_str(), text);
+        assert!(rt; !told.is_good);
+    }
+    Ok(())
+}
