@@ -24,15 +24,15 @@ AreWordsOf words command = (words ≡ spelling_of command) × HasFitNumber comma
 same : (v text : List ℕ) → bytes_eq v text ≡ true → v ≡ text
 same v text e = (bytes_eq-Decides v text).0 e
 
-one_word : (v : List ℕ) (r o s d c l : Bool) → bytes_eq v (codes "rotate") ≡ r → bytes_eq v (codes "reopen") ≡ o → bytes_eq v (codes "stats") ≡ s → bytes_eq v (codes "levels") ≡ d → bytes_eq v (codes "crash") ≡ c → bytes_eq v (codes "clear") ≡ l
-    → IfSome (cond r (Some Rotate) (cond o (Some Reopen) (cond s (Some Stats) (cond d (Some Levels) (cond c (Some Crash) (cond l (Some Clear) None)))))) (AreWordsOf (v ∷ []))
-one_word v true o s d c l er eo es ed ec el = (ap (λ w. w ∷ []) (same v _ er), tt)
-one_word v false true s d c l er eo es ed ec el = (ap (λ w. w ∷ []) (same v _ eo), tt)
-one_word v false false true d c l er eo es ed ec el = (ap (λ w. w ∷ []) (same v _ es), tt)
-one_word v false false false true c l er eo es ed ec el = (ap (λ w. w ∷ []) (same v _ ed), tt)
-one_word v false false false false true l er eo es ed ec el = (ap (λ w. w ∷ []) (same v _ ec), tt)
-one_word v false false false false false true er eo es ed ec el = (ap (λ w. w ∷ []) (same v _ el), tt)
-one_word v false false false false false false er eo es ed ec el = tt
+one_word : (v : List ℕ) (r o d s c l : Bool) → bytes_eq v (codes "rotate") ≡ r → bytes_eq v (codes "reopen") ≡ o → bytes_eq v (codes "levels") ≡ d → bytes_eq v (codes "stats") ≡ s → bytes_eq v (codes "crash") ≡ c → bytes_eq v (codes "clear") ≡ l
+    → IfSome (cond r (Some Rotate) (cond o (Some Reopen) (cond d (Some Levels) (cond s (Some Stats) (cond c (Some Crash) (cond l (Some Clear) None)))))) (AreWordsOf (v ∷ []))
+one_word v true o d s c l er eo ed es ec el = (ap (λ w. w ∷ []) (same v _ er), tt)
+one_word v false true d s c l er eo ed es ec el = (ap (λ w. w ∷ []) (same v _ eo), tt)
+one_word v false false true s c l er eo ed es ec el = (ap (λ w. w ∷ []) (same v _ ed), tt)
+one_word v false false false true c l er eo ed es ec el = (ap (λ w. w ∷ []) (same v _ es), tt)
+one_word v false false false false true l er eo ed es ec el = (ap (λ w. w ∷ []) (same v _ ec), tt)
+one_word v false false false false false true er eo ed es ec el = (ap (λ w. w ∷ []) (same v _ el), tt)
+one_word v false false false false false false er eo ed es ec el = tt
 
 -- a command of one number is spelled by its word
 with_number : (name v word : List ℕ) (make : ℕ → Command) (n : Option ℕ) → ((m : ℕ) → m < 2 ^ 64 → AreWordsOf (name ∷ decimal m ∷ []) (make m)) → plain_number word ≡ n → v ≡ name → IfSome (option_map (λ m. make m) n) (AreWordsOf (v ∷ word ∷ []))

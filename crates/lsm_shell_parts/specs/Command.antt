@@ -8,11 +8,10 @@ use Rattle.lsm_shell_parts.specs.declared.command.Command.TheVariants.{Put, Del,
 use Rattle.lsm_shell_parts.specs.declared.command.Plan.{Plan}
 use Rattle.lsm_shell_parts.specs.declared.command.Plan.TheVariants.{Leveled, Major, Fifo}
 
--- what a word alone asks, but for a rotation and an opening
+-- what a word alone asks, but for a rotation, an opening and a drawing
 abbrev pub command_of_other : List ℕ → Option Command
 command_of_other verb =
     if bytes_eq verb (codes "stats") then Some Stats
-    else if bytes_eq verb (codes "levels") then Some Levels
     else if bytes_eq verb (codes "crash") then Some Crash
     else if bytes_eq verb (codes "clear") then Some Clear
     else None
@@ -22,6 +21,7 @@ abbrev pub command_of_one : List ℕ → Option Command
 command_of_one verb =
     if bytes_eq verb (codes "rotate") then Some Rotate
     else if bytes_eq verb (codes "reopen") then Some Reopen
+    else if bytes_eq verb (codes "levels") then Some Levels
     else command_of_other verb
 
 -- what a word asks of a key

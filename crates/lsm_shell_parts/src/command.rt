@@ -92,6 +92,12 @@ fn is_reopen(verb: &[u8]) -> bool
     verb == b"reopen".as_slice()
 }
 
+fn is_levels(verb: &[u8]) -> bool
+    ensures { result ≡ bytes_eq verb.now (codes "levels") }
+{
+    verb == b"levels".as_slice()
+}
+
 fn parse_one(verb: &[u8]) -> Option<Command>
     ensures { result ≡ command_of_one verb.now }
 {
@@ -101,6 +107,9 @@ fn parse_one(verb: &[u8]) -> Option<Command>
     if is_reopen(verb) {
         return Some(Command::Reopen);
     }
+    if is_levels(verb) {
+        return Some(Command::Levels);
+    }
     parse_other(verb)
 }
 
@@ -109,7 +118,6 @@ fn parse_other(verb: &[u8]) -> Option<Command>
 {
     match verb {
         b"stats" => Some(Command::Stats),
-        b"levels" => Some(Command::Levels),
         b"crash" => Some(Command::Crash),
         b"clear" => Some(Command::Clear),
         _ => None,
