@@ -2,7 +2,7 @@
 #![tactic(auto)]
 
 use lsm_shell_parts::{Console, Watch, run_shell};
-use std::io::IsTerminal;
+use std::io::{IsTerminal, Stderr};
 use std::process::ExitCode;
 use std::rt::Env;
 use std::time::Duration;
@@ -26,8 +26,8 @@ fn main(rt: HostRuntime) -> ExitCode {
     ExitCode::from(status)
 }
 
-/// How long work goes on unseen.
-const BEAT: Duration = Duration::from_secs(1);
+/// For how many seconds work goes on unseen.
+const BEAT: u64 = 1;
 
 /// From how many entries on a flush or a compaction takes about a second.
 const LONG: usize = 1_000_000;
@@ -38,7 +38,7 @@ fn watch(rt: &HostRuntime) -> Option<Watch<Stderr>> {
     if errors.is_terminal() {
         Some(Watch {
             errors,
-            beat: BEAT,
+            beat: Duration::from_secs(BEAT),
             entries: LONG,
         })
     } else {
