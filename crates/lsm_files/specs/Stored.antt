@@ -1,9 +1,7 @@
 -- What a crash leaves of the files of an open tree.
-use Rattle.std.specs.Prelude.{◌≡◌, ◌↔◌, ℕ, ◌+◌, ◌-◌, ◌<◌, ◌^◌, min, List, Option, Some, None, Result, IsErrOf, codes}
+use Rattle.std.specs.Prelude.{◌≡◌, ◌↔◌, ℕ, ◌<◌, ◌^◌, List, Option, Some, None, codes}
 use Rattle.std.specs.List.{AllByRecursion}
 use Rattle.lsm_below.specs.Members.{IsIn}
-use Rattle.lsm_below.specs.declared.error.Error.{Error}
-use Rattle.lsm_below.specs.declared.error.Error.TheVariants.{Store, CommitUnknown}
 use Rattle.lsm_store.specs.World.{Image, World, LeavesOnly}
 use Rattle.lsm_tables.specs.Image.{IsImageOf, image}
 use Rattle.lsm_tables.specs.Tables.{SeenTable}
@@ -16,6 +14,7 @@ use Rattle.lsm_manifest.specs.Versions.{named_levels, log_from_in}
 use Rattle.lsm_manifest.specs.Persist.{naming}
 use Rattle.lsm_manifest.specs.Standing.{StandsFor}
 use Rattle.lsm_manifest.specs.Opening.{ReadsFrom}
+pub use Rattle.lsm_manifest.specs.Told.{CountsFaults}
 
 -- ---- what is on the disk
 
@@ -85,11 +84,3 @@ Leaves old new versions = LeavesOnly old new (HoldsOneOf versions)
 -- one list's versions are among another's
 abbrev pub AreAmong : List SeenVersion → List SeenVersion → Type 0
 AreAmong some all = AllByRecursion (λ v. IsIn v all) some
-
--- ---- failures
-
--- one call of the store failed where the answer says so, and none where it doesn't
-pub record CountsFaults {T : Type 0} (old new : World) (r : Result T Error) : Type 0 where
-  pub store : IsErrOf r Store → new.failures ≡ min (old.failures + 1) (2 ^ 64 - 1)
-  pub unknown : IsErrOf r CommitUnknown → new.failures ≡ min (old.failures + 1) (2 ^ 64 - 1)
-  pub none : (IsErrOf r Store → ⊥) → (IsErrOf r CommitUnknown → ⊥) → new.failures ≡ old.failures

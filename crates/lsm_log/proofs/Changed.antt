@@ -3,7 +3,7 @@ use Rattle.std.proofs.Common.{◌≡◌, ◌⊎◌, inl, inr, ⊎_elim, ℕ, ◌
 use Rattle.std.specs.Prelude.{Contains}
 use Rattle.std.specs.List.{All}
 use Rattle.std.proofs.lemmas.List.{take_more, take-append-drop}
-use Rattle.std.proofs.lemmas.List.Elements.{All-contains, Contains-push_cases, Contains-append_cases}
+use Rattle.std.proofs.lemmas.List.Elements.{All-contains, Contains-push_cases, Contains-append_cases, Contains-append_left}
 use Rattle.lsm_store.specs.World.{Image, World, Row, Only, OldOr, IsImage, At, Same, Becomes, Changes, Narrows, LeavesOnly}
 use Rattle.lsm_store.specs.Moments.{started, called, joined, weakened, narrows_on, same_or_not}
 use Rattle.lsm_store.specs.declared.store.StoreError.{StoreError}
@@ -110,6 +110,10 @@ module _ (from at : ℕ) (ns : List ℕ) (before : All (λ (k : ℕ). k < from) 
 
   pub cleared_below : LeavesOnly old new (AreCleared (Contains (take at ns)) old) → LeavesOnly old new (AreCleared (IsBelow from) old)
   cleared_below leaves = weakened old new (AreCleared (Contains (take at ns)) old) (AreCleared (IsBelow from) old) leaves (λ image is n. ⊎_elim (λ was. inl was) (λ none. inr (none.0, one_below n none.1)) (is n))
+
+-- a name of none of the numbers, where only the first of them are removed
+pub others_stay : (at : ℕ) (ns : List ℕ) (old new : World) → ClearsRecords (Contains (take at ns)) old new → (n : List ℕ) → IsNoneOf (Contains ns) n → new.gives n ≡ old.gives n
+others_stay at ns old new clears n out = clears.gives n (λ k early. out k (subst (λ (l : List ℕ). Contains l k) (take-append-drop at ns) (Contains-append_left (take at ns) (drop at ns) k early)))
 
 -- which of the numbers are below
 pub is_below : (from at : ℕ) (ns : List ℕ) → All (λ (k : ℕ). from ≤ k) (drop at ns) → (k : ℕ) → Contains ns k → k < from → Contains (take at ns) k

@@ -1,11 +1,11 @@
 // Records that nothing needs any more.
-ghost use Rattle.std.specs.Prelude.{◌≡◌, ◌<◌, ◌≤◌, ℕ, None, false, length, take, Contains, OnOk, IfErr};
+ghost use Rattle.std.specs.Prelude.{◌≡◌, ◌<◌, ◌≤◌, ℕ, List, None, false, length, take, Contains, OnOk, IfErr};
 ghost use Rattle.std.specs.List.Sorted.{IsStrictlyIncreasing};
 ghost use Rattle.lsm_store.specs.World.{LeavesOnly, Narrows, Same};
 ghost use Rattle.lsm_log.specs.LogNames.{record_name};
 ghost use Rattle.lsm_files.specs.Stored.{CountsFaults};
 ghost use Rattle.lsm_files.specs.Foreign.{Spares};
-ghost use Rattle.lsm_log.specs.Changes.{IsBelow, ClearsRecords, AreCleared};
+ghost use Rattle.lsm_log.specs.Changes.{IsBelow, IsNoneOf, ClearsRecords, AreCleared};
 
 use crate::loading::first_from;
 use crate::record_name;
@@ -78,6 +78,8 @@ pub fn remove_below<S: Store>(store: &mut S, from: SeqNo, numbers: &[SeqNo]) -> 
     requires { IsStrictlyIncreasing numbers.now }
     ensures gone { S.tells → OnOk result ((k : ℕ) → Contains numbers.now k → k < from → (S.world store.new).gives (record_name k) ≡ None) }
     ensures clears { S.tells → ClearsRecords (IsBelow from) (S.world store.old) (S.world store.new) }
+    // A name of none of these records gives what it gave: one that was absent isn't brought back.
+    ensures others { S.tells → (n : List ℕ) → IsNoneOf (Contains numbers.now) n → (S.world store.new).gives n ≡ (S.world store.old).gives n }
     ensures any_moment { S.tells → LeavesOnly (S.world store.old) (S.world store.new) (AreCleared (IsBelow from) (S.world store.old)) }
     // What is stored of a tree beside them stays so.
     ensures stored { S.tells → Spares (S.world store.old) (S.world store.new) }

@@ -6,6 +6,8 @@ use Rattle.std.specs.declared.string.String.{String}
 use Rattle.std.specs.declared.alloc.Global.{Global}
 use Rattle.std.proofs.lemmas.Result.{on_ok_weaker, IfOk-weaker}
 use Rattle.lsm_below.specs.Numbers.{PlainNumbersAreRead}
+use Rattle.lsm_below.specs.declared.error.Error.{Error}
+use Rattle.lsm_below.specs.declared.error.Error.TheVariants.{CommitUnknown}
 use Rattle.lsm_store.specs.World.{Image, World, Lists, Same, Narrows, IsOnDisk, LeavesOnly}
 use Rattle.lsm_store.specs.Moments.{narrows_on, narrows_same, weakened, image_same}
 use Rattle.lsm_versions.specs.Levels.{Levels as SeenLevels, SeenVersion}
@@ -18,6 +20,7 @@ use Rattle.lsm_manifest.specs.Kinds.{is_orphan}
 use Rattle.lsm_manifest.specs.Names.{current_name}
 use Rattle.lsm_manifest.specs.Spelling.{ids_of}
 use Rattle.lsm_manifest.specs.Recovery.{Levels, IsNamed, StoreOnly}
+use Rattle.lsm_manifest.specs.Told.{TellsOpen, fault_is_known}
 use Rattle.lsm_manifest.specs.Standing.{StandsFor, HasSmallNumbers}
 use Rattle.lsm_manifest.specs.Persist.{IsOldOrNew}
 use Rattle.lsm_manifest.specs.Versions.{file_of, first_version}
@@ -31,6 +34,13 @@ use Rattle.lsm_manifest.proofs.Recovering.{named_so}
 use Rattle.lsm_manifest.proofs.Pins.{current_stays, pinned_stands, pinned_reads}
 
 -- ---- refused before anything is changed
+
+-- a look commits nothing
+pub look_is_sure : (image : Image) (why : OpenError) (e : Error) → LooksInto image (Err why) → TellsOpen why e → e ≡ CommitUnknown → ⊥
+look_is_sure image opening.OutOfMemory e looks is h = let z = sym is ∙ h in cc z
+look_is_sure image opening.Store e looks is h = let z = sym is ∙ h in cc z
+look_is_sure image opening.CommitUnknown e looks is h = looks
+look_is_sure image (opening.Fault f) e looks is h = fault_is_known f e is h
 
 refused_version : (image : Image) (e : OpenError) → LooksInto image (Err e) → IsSome (image (codes "version")) → OnlyFault {T = Opened} (InvalidVersion 1) (Err e)
 refused_version image opening.OutOfMemory h there = tt

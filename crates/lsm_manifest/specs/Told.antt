@@ -1,8 +1,9 @@
 -- Refusals as the errors of the tree.
-use Rattle.std.specs.Prelude.{◌≡◌, ℕ, List, Result, Ok, Err, OnOk, codes}
+use Rattle.std.specs.Prelude.{◌≡◌, ◌∙◌, sym, ap, ℕ, ◌+◌, ◌-◌, ◌^◌, min, List, Result, Ok, Err, OnOk, IsErrOf, codes}
 use Rattle.std.specs.Borrow.{Bor}
 use Rattle.lsm_below.specs.declared.error.Error.{Error}
 use Rattle.lsm_below.specs.declared.error.Error.TheVariants as error
+use Rattle.lsm_store.specs.World.{World}
 use Rattle.lsm_manifest.specs.declared.fault.Fault.{Fault}
 use Rattle.lsm_manifest.specs.declared.fault.Fault.TheVariants.{Unrecoverable, CurrentHeader, ChecksumMismatch, OutOfNumbers, InvalidVersion, TreeType, ChecksumType}
 use Rattle.lsm_manifest.specs.declared.fault.ReadError.{ReadError}
@@ -11,6 +12,7 @@ use Rattle.lsm_manifest.specs.declared.fault.OpenError.{OpenError}
 use Rattle.lsm_manifest.specs.declared.fault.OpenError.TheVariants as opening
 use Rattle.lsm_manifest.specs.declared.persist.PersistError.{PersistError}
 use Rattle.lsm_manifest.specs.declared.persist.PersistError.TheVariants as persisting
+use Rattle.lsm_manifest.specs.Recovery.{CountsStore}
 
 -- the error names a type byte so
 abbrev pub IsTag : List ℕ → ℕ → Error → Type 0
@@ -71,3 +73,42 @@ told_any tells P X (Err e) f told = f (Err told.0) told.2
 pub told_ok : {T E : Type 0} (tells : E → Error → Type 0) (P : Result T E → Type 0) (X : Type 0) (r : Result T Error) → ((q : Result T E) → P q → OnOk q X) → Told tells P r → OnOk r X
 told_ok tells P X (Ok x) f told = f (Ok x) told
 told_ok tells P X (Err e) f told = tt
+
+-- ---- whether the store failed
+
+-- one call of the store failed where the answer says so, and none where it doesn't
+pub record CountsFaults {T : Type 0} (old new : World) (r : Result T Error) : Type 0 where
+  pub store : IsErrOf r error.Store → new.failures ≡ min (old.failures + 1) (2 ^ 64 - 1)
+  pub unknown : IsErrOf r error.CommitUnknown → new.failures ≡ min (old.failures + 1) (2 ^ 64 - 1)
+  pub none : (IsErrOf r error.Store → ⊥) → (IsErrOf r error.CommitUnknown → ⊥) → new.failures ≡ old.failures
+
+-- what is wrong with files doesn't blame the store
+fault_spares_store : (f : Fault) (e : Error) → TellsFault InStore f e → e ≡ error.Store → ⊥
+fault_spares_store Unrecoverable e is h = let z = sym is ∙ h in cc z
+fault_spares_store CurrentHeader e is h = let z = sym is.1 ∙ h in cc z
+fault_spares_store ChecksumMismatch e is h = let z = sym is ∙ h in cc z
+fault_spares_store OutOfNumbers e is h = let z = sym is ∙ h in cc z
+fault_spares_store (InvalidVersion byte) e is h = let z = sym is ∙ h in cc z
+fault_spares_store (TreeType byte) e is h = let z = sym is.1 ∙ h in cc z
+fault_spares_store (ChecksumType byte) e is h = let z = sym is.1 ∙ h in cc z
+
+-- nor is it a commit of unknown outcome
+pub fault_is_known : (f : Fault) (e : Error) → TellsFault InStore f e → e ≡ error.CommitUnknown → ⊥
+fault_is_known Unrecoverable e is h = let z = sym is ∙ h in cc z
+fault_is_known CurrentHeader e is h = let z = sym is.1 ∙ h in cc z
+fault_is_known ChecksumMismatch e is h = let z = sym is ∙ h in cc z
+fault_is_known OutOfNumbers e is h = let z = sym is ∙ h in cc z
+fault_is_known (InvalidVersion byte) e is h = let z = sym is ∙ h in cc z
+fault_is_known (TreeType byte) e is h = let z = sym is.1 ∙ h in cc z
+fault_is_known (ChecksumType byte) e is h = let z = sym is.1 ∙ h in cc z
+
+-- so an opening's failures are counted as its error says
+pub told_counts : {T : Type 0} (old new : World) (r : Result T Error) → Told TellsOpen (CountsStore {T = T} old new) r → CountsFaults old new r
+told_counts {T} old new (Ok x) same = record { store = λ h. cc h; unknown = λ h. cc h; none = λ s u. same }
+told_counts {T} old new (Err e) told = by_why told.0 told.1 told.2
+  where
+    by_why : (why : OpenError) → TellsOpen why e → CountsStore {T = T} old new (Err why) → CountsFaults {T = T} old new (Err e)
+    by_why opening.OutOfMemory is same = record { store = λ h. (let z = ap Err (sym is) ∙ h in cc z); unknown = λ h. (let z = ap Err (sym is) ∙ h in cc z); none = λ s u. same }
+    by_why opening.Store is more = record { store = λ h. more; unknown = λ h. more; none = λ s u. absurd (s (ap Err is)) }
+    by_why opening.CommitUnknown is more = record { store = λ h. more; unknown = λ h. more; none = λ s u. absurd (u (ap Err is)) }
+    by_why (opening.Fault f) is same = record { store = λ h. absurd (fault_spares_store f e is (cc h)); unknown = λ h. absurd (fault_is_known f e is (cc h)); none = λ s u. same }

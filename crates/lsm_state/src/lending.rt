@@ -1,10 +1,10 @@
 // The store is lent to a log above the tree, for names that the tree itself doesn't read.
-ghost use Rattle.std.specs.Prelude.{◌≡◌, ◌⊎◌, ◌<◌, ℕ, None, Contains, IfOk, IfErr, OnOk, IsErrOf};
+ghost use Rattle.std.specs.Prelude.{◌≡◌, ◌⊎◌, ◌<◌, ℕ, List, None, Contains, IfOk, IfErr, OnOk, IsErrOf};
 ghost use Rattle.std.specs.List.Sorted.{IsStrictlyIncreasing};
 ghost use Rattle.lsm_store.specs.World.{Same, LeavesOnly};
 ghost use Rattle.lsm_files.specs.Stored.{CountsFaults};
 ghost use Rattle.lsm_log.specs.LogNames.{record_name};
-ghost use Rattle.lsm_log.specs.Changes.{IsBelow, ClearsRecords, AreCleared};
+ghost use Rattle.lsm_log.specs.Changes.{IsBelow, IsNoneOf, ClearsRecords, AreCleared};
 ghost use Rattle.lsm_log.specs.Logs.{IsRecordAt, IsNoRecordAt, IsLogAt, IsBadLog};
 ghost use Rattle.lsm_state.specs.Commits.{UpholdsFiles};
 
@@ -64,6 +64,8 @@ impl<S: Store> TreeState<S> {
         requires { IsStrictlyIncreasing numbers.now }
         ensures gone { S.tells → OnOk result ((k : ℕ) → Contains numbers.now k → k < from → (S.world self.new.store).gives (record_name k) ≡ None) }
         ensures clears { S.tells → ClearsRecords (IsBelow from) (S.world self.old.store) (S.world self.new.store) }
+        // A name of none of these records gives what it gave.
+        ensures others { S.tells → (n : List ℕ) → IsNoneOf (Contains numbers.now) n → (S.world self.new.store).gives n ≡ (S.world self.old.store).gives n }
         ensures any_moment { S.tells → LeavesOnly (S.world self.old.store) (S.world self.new.store) (AreCleared (IsBelow from) (S.world self.old.store)) }
         ensures core { self.new.core ≡ self.old.core }
         // The tree's files stay stored, and at each moment a crash leaves one of its versions.

@@ -116,6 +116,8 @@ impl<S: Store> TreeState<S> {
         ensures stands { S.tells → (id : ℕ) (ls : Levels) (ts : SeenLevels) → StandsFor (S.world store).gives id ls ts → HasSmallNumbers ts → IfOk result (λ f. OpensAs id ls ts (Ok f.files.opened)) }
         ensures leaves { S.tells → LeavesStanding (S.world store) (S.world (store_held result)) }
         ensures same { S.tells → Same (S.world store) (S.world (store_held result)) }
+        // Nothing is committed, so no outcome is unknown.
+        ensures sure { S.tells → IfErr result (λ e. e.0 ≡ Error.CommitUnknown → ⊥) }
         ensures next { IfOk result (λ f. IsAbove f.files.opened.next_table_id f.files.opened.version.levels) }
         ensures small { IfOk result (λ f. HasSmallNumbers f.files.opened.version.levels) }
         ensures counts { Told TellsOpen (CountsStore (S.world store) (S.world (store_held result))) (files_found result) }

@@ -1,5 +1,6 @@
 pub mod HeldPlaces
 pub mod HeldFiles
+pub mod HeldSettled
 pub mod HeldRows
 pub mod HeldNames
 pub mod HeldPicks

@@ -198,15 +198,19 @@ impl File {
         true
     }
 
-    /// What was last replaced or removed is on the disk, as reads give it. What isn't synced stays so.
-    pub fn settle_name(&mut self)
-        ensures { self.new ≡ settled self.old }
+    /// What was last replaced or removed is on the disk, as reads give it. What isn't synced stays so. Whether anything
+    /// is held of the name any more.
+    pub fn settle_name(&mut self) -> bool
+        ensures is { self.new ≡ settled self.old }
+        ensures gone { result ≡ false → self.new ≡ nothing }
     {
-        if !self.torn && !self.settle() {
-            self.contents.clear();
-            self.before = None;
-            self.absence = Absence::Usual;
+        if self.torn || self.settle() {
+            return true;
         }
+        self.contents.clear();
+        self.before = None;
+        self.absence = Absence::Usual;
+        false
     }
 
     /// After a removal: gone, or where it failed perhaps not. It takes no memory.

@@ -125,14 +125,11 @@ pub fn end_by(files: &mut Files, name: &str, outcome: Outcome) -> Outcome
     }
 }
 
-/// What was last replaced or removed is on the disk, as reads give it.
+/// What was last replaced or removed is on the disk, as reads give it. A name that is gone for good takes no memory.
 fn settle_names(files: &mut Files)
     ensures { AltersEach settled files.old files.new }
 {
-    files.retain(|_, file| {
-        file.settle_name();
-        true
-    });
+    files.retain(|_, file| file.settle_name());
 }
 
 /// What a call with this outcome that settles names makes of them.

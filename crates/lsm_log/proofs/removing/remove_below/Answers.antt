@@ -3,7 +3,7 @@ use Rattle.std.specs.Prelude.{Contains, OnOk}
 use Rattle.lsm_store.specs.World.{LeavesOnly}
 use Rattle.lsm_log.specs.LogNames.{record_name}
 use Rattle.lsm_log.specs.Changes.{IsBelow, ClearsRecords, AreCleared}
-use Rattle.lsm_log.proofs.Changed.{is_below, clears_below, cleared_below, clears_settled, cleared_settled}
+use Rattle.lsm_log.proofs.Changed.{is_below, clears_below, cleared_below, others_stay, clears_settled, cleared_settled}
 use Rattle.lsm_log.proofs.BesideTree.{clears_change}
 use Rattle.lsm_log.proofs.removing.remove_below.Goals as goal
 
@@ -28,6 +28,13 @@ returns-in_err-remove_each-clause-any_moment g c tells =
     let at = c.first_from-at.result in
     cleared_below c.args.from at ns c.first_from-at.ensures.before (w c.args.store.now) (w c.remove_each.new.store)
     (subst (λ (l : List ℕ). LeavesOnly (w c.args.store.now) (w c.remove_each.new.store) (AreCleared (Contains l) (w c.args.store.now))) c.before-2.ensures (c.remove_each.ensures.any_moment tells))
+
+pub returns-in_err-remove_each-clause-others : goal.returns-in_err-remove_each-clause-others
+returns-in_err-remove_each-clause-others g c tells =
+    let w = g.S.Store.world in
+    let ns = c.args.numbers.now in
+    let at = c.first_from-at.result in
+    others_stay at ns (w c.args.store.now) (w c.remove_each.new.store) (subst (λ (l : List ℕ). ClearsRecords (Contains l) (w c.args.store.now) (w c.remove_each.new.store)) c.before-2.ensures (c.remove_each.ensures.clears tells))
 
 pub returns-in_err-remove_each-clause-stored : goal.returns-in_err-remove_each-clause-stored
 returns-in_err-remove_each-clause-stored g c tells =
@@ -54,6 +61,16 @@ returns-clause-clears g c tells =
     let mid = w c.remove_each.new.store in
     clears_settled (IsBelow c.args.from) old mid (w c.settle_removed.new.store) (c.settle_removed.ensures.narrows tells)
     (clears_below c.args.from at ns c.first_from-at.ensures.before old mid (subst (λ (l : List ℕ). ClearsRecords (Contains l) old mid) c.before-2.ensures (c.in_ok-remove_each.ensures.clears tells)))
+
+pub returns-clause-others : goal.returns-clause-others
+returns-clause-others g c tells n out =
+    let w = g.S.Store.world in
+    let ns = c.args.numbers.now in
+    let at = c.first_from-at.result in
+    let old = w c.args.store.now in
+    let mid = w c.remove_each.new.store in
+    (c.settle_removed.ensures.narrows tells).gives n
+    ∙ others_stay at ns old mid (subst (λ (l : List ℕ). ClearsRecords (Contains l) old mid) c.before-2.ensures (c.in_ok-remove_each.ensures.clears tells)) n out
 
 pub returns-clause-any_moment : goal.returns-clause-any_moment
 returns-clause-any_moment g c tells =

@@ -1,4 +1,4 @@
-use Rattle.lsm_manifest.proofs.OpensLemmas.{refused, leaves_same, stands_found, not_new}
+use Rattle.lsm_manifest.proofs.OpensLemmas.{refused, look_is_sure, leaves_same, stands_found, not_new}
 use Rattle.lsm_manifest.proofs.opening.look_for_files.Goals as goal
 
 pub returns-in-Ok-clause-leaves : goal.returns-in-Ok-clause-leaves
@@ -24,3 +24,6 @@ returns-in-Ok-clause-from g c tells there = c.in-Ok.ensures.from tells (not_new 
 
 pub returns-in-Ok-clause-found : goal.returns-in-Ok-clause-found
 returns-in-Ok-clause-found g c tells = record { found = c.in-Ok.ensures.looks tells; from = returns-in-Ok-clause-from g c tells; same = c.in-Ok.ensures.same tells }
+
+pub returns-in-Err-clause-sure : goal.returns-in-Err-clause-sure
+returns-in-Err-clause-sure g c tells h = look_is_sure (g.S.Store.world c.args.store.now).gives c.in-Err.why c.tell_open.result (c.in-Err.ensures.looks tells) c.tell_open.ensures h
