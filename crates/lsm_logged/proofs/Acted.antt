@@ -230,25 +230,25 @@ module _ (read : PlainNumbersAreRead) (w w' : World) (ops : List (Bytes × Op)) 
       refusal tree store = ⊎_elim (λ u. inl u) (λ core. ⊎_elim (λ u. inl u) (λ same. by_error (is_unknown e) core same) store) tree
 
   -- each record that is there is known
-  put_known : (number : ℕ) (bytes : Bytes) (row : Row) (numbers : List ℕ) → number < 2 ^ 63 → HasPut number bytes row w w' → (from : ℕ) → AreKnown w from numbers → AreKnown w' from (numbers ++ number ∷ [])
-  put_known number bytes row numbers small put from known k le low there = by_number (same_or_not (record_name k) (record_name number))
+  put_known : (number : ℕ) (bytes : Bytes) (row : Row) (numbers : List ℕ) → number < 2 ^ 63 → HasPut number bytes row w w' → AreKnown w numbers → AreKnown w' (numbers ++ number ∷ [])
+  put_known number bytes row numbers small put known k low there = by_number (same_or_not (record_name k) (record_name number))
     where
       head_there : (n : ℕ) → Contains (n ∷ []) n
       head_there n = (0, omega arith, refl)
 
       by_number : (record_name k ≡ record_name number) ⊎ (record_name k ≢ record_name number) → Contains (numbers ++ number ∷ []) k
       by_number (inl e) = Contains-append_right numbers (number ∷ []) k (subst (λ m. Contains (number ∷ []) m) (sym (apart read k number low small e)) (head_there number))
-      by_number (inr other) = Contains-append_left numbers (number ∷ []) k (known k le low (subst (λ (o : Option (List ℕ)). IsSome o) (put.leaves.gives (record_name k) other) there))
+      by_number (inr other) = Contains-append_left numbers (number ∷ []) k (known k low (subst (λ (o : Option (List ℕ)). IsSome o) (put.leaves.gives (record_name k) other) there))
 
-  pub write_known : (r : Result ℕ Error) → WritesLogged ops r old new → RecordsBatch old.core.seqno ops w w' r → (from : ℕ) → AreKnown w from old.numbers → AreKnown w' from new.numbers
-  write_known r all records from known = subst (AreKnown w' from) (sym (all.numbers sure)) (by_answer r (all.tree sure) records)
+  pub write_known : (r : Result ℕ Error) → WritesLogged ops r old new → RecordsBatch old.core.seqno ops w w' r → AreKnown w old.numbers → AreKnown w' new.numbers
+  write_known r all records known = subst (AreKnown w') (sym (all.numbers sure)) (by_answer r (all.tree sure) records)
     where
-      by_answer : (r : Result ℕ Error) → WritesBehindRecord ops r old.core new.core → RecordsBatch old.core.seqno ops w w' r → AreKnown w' from (with_number r old.core.seqno old.numbers)
-      by_answer (Ok n) did records = put_known old.core.seqno records.ok.0 (Only (Some records.ok.0)) old.numbers (free old.core.seqno ops did.accepted).0 records.ok.2 from known
+      by_answer : (r : Result ℕ Error) → WritesBehindRecord ops r old.core new.core → RecordsBatch old.core.seqno ops w w' r → AreKnown w' (with_number r old.core.seqno old.numbers)
+      by_answer (Ok n) did records = put_known old.core.seqno records.ok.0 (Only (Some records.ok.0)) old.numbers (free old.core.seqno ops did.accepted).0 records.ok.2 known
       by_answer (Err CommitUnknown) did records =
           let put = records.unknown refl in
-          put_known old.core.seqno put.0 (OldOr (w.may (record_name old.core.seqno)) (Some put.0)) old.numbers (free old.core.seqno ops (did.doubted refl)).0 put.2 from known
-      by_answer (Err e) did records = ⊎_elim (λ u. absurd (cc u)) (λ same. λ k le low there. known k le low (subst (λ (o : Option (List ℕ)). IsSome o) (same.gives (record_name k)) there)) records.refused
+          put_known old.core.seqno put.0 (OldOr (w.may (record_name old.core.seqno)) (Some put.0)) old.numbers (free old.core.seqno ops (did.doubted refl)).0 put.2 known
+      by_answer (Err e) did records = ⊎_elim (λ u. absurd (cc u)) (λ same. λ k low there. known k low (subst (λ (o : Option (List ℕ)). IsSome o) (same.gives (record_name k)) there)) records.refused
 
 -- ---- where an outcome is unknown
 

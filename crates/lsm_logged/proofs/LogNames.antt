@@ -1,10 +1,10 @@
 -- Names of a log are none of a tree's.
-use Rattle.std.proofs.Common.{◌≡◌, ◌≢◌, ℕ, ◌<◌, ◌≤◌, ◌^◌, Bool, true, false, cond, List, ◌++◌, take, drop, get_or, codes, refl, sym, ap, ◌∙◌, subst, arith}
+use Rattle.std.proofs.Common.{◌≡◌, ◌≢◌, ℕ, ◌<◌, ◌≤◌, ◌^◌, Bool, true, false, cond, List, ◌++◌, take, drop, get_or, Some, codes, refl, sym, ap, ◌∙◌, subst, arith}
 use Rattle.std.specs.Prelude.{nat_eq}
 use Rattle.std.specs.List.{starts_with}
 use Rattle.std.proofs.lemmas.List.{take-append-drop}
 use Rattle.std.proofs.lemmas.Slice.Eq.{bytes_eq-Decides}
-use Rattle.lsm_below.specs.Numbers.{PlainNumbersAreRead}
+use Rattle.lsm_below.specs.Numbers.{plain_number, PlainNumbersAreRead}
 use Rattle.lsm_manifest.specs.declared.kinds.NameKind.TheVariants as tree
 use Rattle.lsm_manifest.specs.Kinds.{kind_of as kind_in_tree}
 use Rattle.lsm_files.specs.Foreign.{IsForeign}
@@ -16,6 +16,10 @@ use Rattle.lsm_log.proofs.NameLemmas.{record_kind}
 -- records of two numbers have two names
 pub apart : PlainNumbersAreRead → (i j : ℕ) → i < 2 ^ 63 → j < 2 ^ 63 → record_name i ≡ record_name j → i ≡ j
 apart read i j low small e = let z : RecordFile i ≡ RecordFile j = sym (record_kind read i low) ∙ (ap kind_of e ∙ record_kind read j small) in cc z
+
+-- also where they aren't below 2^63
+pub names_apart : PlainNumbersAreRead → (i j : ℕ) → i < 2 ^ 64 → j < 2 ^ 64 → record_name i ≡ record_name j → i ≡ j
+names_apart read i j low small e = let z : Some i ≡ Some j = sym (read i low) ∙ (ap (λ (l : List ℕ). plain_number (drop 4 l)) e ∙ read j small) in cc z
 
 -- a record that isn't below a number has the name of none that is
 pub none_below : PlainNumbersAreRead → (from k : ℕ) → from ≤ k → k < 2 ^ 63 → (j : ℕ) → j < from → record_name k ≢ record_name j

@@ -1,6 +1,8 @@
 -- A logged tree that is opened.
-use Rattle.std.proofs.Common.{◌≡◌, ◌≢◌, ⊎_elim, inl, inr, ℕ, ◌<◌, ◌≤◌, ◌^◌, max, Bool, true, false, List, [], ◌∷◌, ◌++◌, map, reverse, Contains, Option, Some, None, IsSome, refl, sym, ap, ◌∙◌, subst, arith}
+use Rattle.std.proofs.Common.{◌≡◌, ◌≢◌, ◌⊎◌, ⊎_elim, inl, inr, ℕ, ◌<◌, ◌≤◌, ◌^◌, max, Bool, true, false, List, [], ◌∷◌, ◌++◌, map, reverse, Contains, Option, Some, None, IsSome, refl, sym, ap, ◌∙◌, subst, arith}
+use Rattle.std.specs.Prelude.{nat_lt}
 use Rattle.std.specs.List.{All, AllByRecursion}
+use Rattle.std.proofs.lemmas.Bool.Decides.{nat_tests}
 use Rattle.std.proofs.lemmas.List.Elements.{All-weaker, All-contains, All-from_recursion, All-head, All-tail, Contains-append_right}
 use Rattle.std.proofs.lemmas.List.Concat.{flat_map-cons}
 use Rattle.lsm_below.specs.Each.{each_append, each_left}
@@ -26,7 +28,7 @@ use Rattle.lsm_files.specs.Foreign.{IsForeign, KeepsForeign, Passes}
 use Rattle.lsm_log.specs.declared.record.Record.{Record}
 use Rattle.lsm_log.specs.declared.kinds.LogName.TheVariants.{Refused}
 use Rattle.lsm_log.specs.LogNames.{record_name, kind_of}
-use Rattle.lsm_log.specs.Changes.{IsBelow, IsOneOf, ClearsRecords, AreCleared}
+use Rattle.lsm_log.specs.Changes.{IsBelow, IsOneOf, IsNoneOf, ClearsRecords, AreCleared}
 use Rattle.lsm_log.specs.Logs.{IsLogFrom, IsRecordAt}
 use Rattle.lsm_log_model.specs.Records.{LogImage, LogStands, entries_of, entries_in, counted, opened_by}
 use Rattle.lsm_model.specs.Ops.{op_entries}
@@ -41,6 +43,7 @@ use Rattle.lsm_state.proofs.Steps.{write_run}
 use Rattle.lsm_logged.specs.Keeping.{AreRecordNumbers, IsLogOf, IsRecordFile, IsNoNumber}
 use Rattle.lsm_logged.specs.Removing.{IsOldOrPassed, HasOldOrPassed}
 use Rattle.lsm_logged.specs.Opening.{entries_read, batch_read, image_read, Replays, TakesLog, CanBeSettled, IsReopenedLog}
+use Rattle.lsm_logged.proofs.Known.{is_known_or_not}
 use Rattle.lsm_logged.proofs.LogNames.{apart, none_below, record_is_foreign, refused_is_foreign}
 use Rattle.lsm_logged.proofs.Replaying.{small_each}
 
@@ -123,18 +126,21 @@ is_read_in old mid from settles can = record {
   refused = λ n refused c m. let p = can.refused n refused in settles n (refused_is_foreign n refused) p.0 c p.1 m;
 }
 
+reaches_or_not : (from k : ℕ) → (from ≤ k) ⊎ (k < from)
+reaches_or_not from k = elim (nat_lt k from) as (λ t. nat_lt k from ≡ t → (from ≤ k) ⊎ (k < from)) [ true ↦ λ e. inr (grind (arith, nat_tests)) | false ↦ λ e. inl (grind (arith, nat_tests)) ] refl
+
 module _ (old mid new : World) (v : SeenVersion) (passed : List ℕ) (records : List Record) (log : IsLogFrom old.gives v.log_from passed records) (passes : Passes old mid) (clears : ClearsRecords (IsBelow v.log_from) mid new) where
   may_be : (n : List ℕ) (c : Option (List ℕ)) → IsForeign n → new.may n c → IsOldOrPassed old v.log_from n c
   may_be n c foreign m = ⊎_elim (λ was. inl (passes.may n c foreign was)) (λ gone. inr gone) (clears.may n c m)
 
-  pub takes : PlainNumbersAreRead → (IsSome (old.gives current_name) → ReadsFrom old.gives v) → (old.gives current_name ≡ None → v ≡ first_version) → (IsSome (old.gives current_name) → Finds old.gives v.levels) → ((k : ℕ) → Contains passed k → k < v.log_from → new.gives (record_name k) ≡ None) → LeavesOnly mid new (AreCleared (IsBelow v.log_from) mid) → TakesLog old new v passed records
-  takes read from fresh found gone moments = record {
+  pub takes : PlainNumbersAreRead → (IsSome (old.gives current_name) → ReadsFrom old.gives v) → (old.gives current_name ≡ None → v ≡ first_version) → (IsSome (old.gives current_name) → Finds old.gives v.levels) → ((k : ℕ) → Contains passed k → k < v.log_from → new.gives (record_name k) ≡ None) → ((n : List ℕ) → IsNoneOf (Contains passed) n → new.gives n ≡ mid.gives n) → LeavesOnly mid new (AreCleared (IsBelow v.log_from) mid) → TakesLog old new v passed records
+  takes read from fresh found gone others moments = record {
     version = from;
     fresh = fresh;
     found = found;
     log = log;
     gone = λ k there. gone k there (((log.passed_are k).0 there).1);
-    known = λ k le small there. (log.read_are k).1 (record { small = small; file = subst (λ (c : Option (List ℕ)). IsSome c) (clears.gives (record_name k) (none_below read v.log_from k le small) ∙ passes.gives (record_name k) (record_is_foreign k)) there }, le);
+    known = λ k small there. by_place k small there (reaches_or_not v.log_from k);
     passed_on = record {
       gives = λ n foreign none. clears.gives n none ∙ passes.gives n foreign;
       may = may_be;
@@ -143,6 +149,19 @@ module _ (old mid new : World) (v : SeenVersion) (passed : List ℕ) (records : 
           (λ image was n foreign. ⊎_elim (λ m. inl (passes.may n (image n) foreign m)) (λ g. inr g) (was n));
     };
   }
+    where
+      by_place : (k : ℕ) → k < 2 ^ 63 → IsSome (new.gives (record_name k)) → (v.log_from ≤ k) ⊎ (k < v.log_from) → Contains (map (λ r. r.number) records) k
+      by_place k small there (inl le) = (log.read_are k).1 (record { small = small; file = subst (λ (c : Option (List ℕ)). IsSome c) (clears.gives (record_name k) (none_below read v.log_from k le small) ∙ passes.gives (record_name k) (record_is_foreign k)) there }, le)
+      by_place k small there (inr lt) = absurd (not_there (is_known_or_not k passed))
+        where
+          not_there : Contains passed k ⊎ AllByRecursion (λ j. j ≢ k) passed → ⊥
+          not_there (inl has) = let no = subst (λ (c : Option (List ℕ)). IsSome c) (gone k has lt) there in cc no
+          not_there (inr out) =
+              let same = others (record_name k) (λ j has e. All-contains (λ j. j ≢ k) passed j (All-from_recursion (λ j. j ≢ k) passed out) has (sym (apart read k j small ((log.passed_are j).0 has).0.small e))) ∙ passes.gives (record_name k) (record_is_foreign k) in
+              out_of k out ((log.passed_are k).1 (record { small = small; file = subst (λ (c : Option (List ℕ)). IsSome c) same there }, lt))
+
+          out_of : (k : ℕ) → AllByRecursion (λ j. j ≢ k) passed → Contains passed k → ⊥
+          out_of k out has = All-contains (λ j. j ≢ k) passed k (All-from_recursion (λ j. j ≢ k) passed out) has refl
 
   -- ---- the log
 

@@ -73,6 +73,6 @@ KeepsLog w t = HasLog t w.may
 abbrev pub IsLogIn : Log → Image → Type 0
 IsLogIn t image = HasLog t (λ n c. c ≡ image n)
 
--- each record from a number on that reads give has one of these numbers
-abbrev pub AreKnown : World → ℕ → List ℕ → Type 0
-AreKnown w from numbers = (k : ℕ) → from ≤ k → k < 2 ^ 63 → IsSome (w.gives (record_name k)) → Contains numbers k
+-- each record that reads give has one of these numbers
+abbrev pub AreKnown : World → List ℕ → Type 0
+AreKnown w numbers = (k : ℕ) → k < 2 ^ 63 → IsSome (w.gives (record_name k)) → Contains numbers k

@@ -88,7 +88,8 @@ pub record TakesLog (old new : World) (v : SeenVersion) (passed : List ℕ) (rec
   pub found : IsSome (old.gives current_name) → Finds old.gives v.levels
   pub log : IsLogFrom old.gives v.log_from passed records
   pub gone : (k : ℕ) → Contains passed k → new.gives (record_name k) ≡ None
-  pub known : AreKnown new v.log_from (map (λ r. r.number) records)
+  -- no other record is there: none below `log_from`
+  pub known : AreKnown new (map (λ r. r.number) records)
   pub passed_on : Passed v.log_from old new
 
 -- of each record from here on, and of each name that a log refuses, not any bytes can be left: so opening can put on the disk what it
@@ -120,6 +121,11 @@ pub record OpensLogged {S : Type 0} (tells : Type 0) (world : S → World) (stor
 abbrev pub logged_left : {S : Type 0} → Result (SeenLogged S) (Error × S) → S
 logged_left (Ok t) = t.store
 logged_left (Err e) = e.1
+
+-- the tree, or the error without the store beside it
+abbrev pub logged_told : {S : Type 0} → Result (SeenLogged S) (Error × S) → Result (SeenLogged S) Error
+logged_told (Ok t) = Ok t
+logged_told (Err e) = Err e.0
 
 -- the log is bad, from the number on from which it is read; then nothing is done
 pub record IsBadFrom (old new : World) : Type 0 where

@@ -24,16 +24,17 @@ pub record Forgets (from : ℕ) (old new : List ℕ) : Type 0 where
 abbrev pub AreGone : World → ℕ → List ℕ → Type 0
 AreGone w from numbers = (k : ℕ) → Contains numbers k → k < from → w.gives (record_name k) ≡ None
 
--- which records are known behind a call that may remove some below this number
-pub record KeepsKnown (from : ℕ) (old new : World) (numbers left : List ℕ) : Type 0 where
+-- which records are known behind a call that may remove some
+pub record KeepsKnown (old new : World) (numbers left : List ℕ) : Type 0 where
   -- a number is forgotten only where no record of it is left
   pub forgotten : (k : ℕ) → Contains numbers k → Contains left k ⊎ (new.gives (record_name k) ≡ None)
-  -- each record that isn't below is known, where it was
-  pub known : (n : ℕ) → from ≤ n → AreKnown old n numbers → AreKnown new n left
+  -- each record that is there is known, where each was
+  pub known : AreKnown old numbers → AreKnown new left
 
--- records below `log_from` go, and nothing else; after Ok none of these numbers is left below
+-- records below `log_from` go, and nothing else, nor is another one brought back; after Ok none of these numbers is left below
 pub record RemovesPassed {T : Type 0} (from : ℕ) (numbers : List ℕ) (old new : World) (r : Result T Error) : Type 0 where
   pub clears : ClearsRecords (IsBelow from) old new
+  pub others : (n : List ℕ) → IsNoneOf (Contains numbers) n → new.gives n ≡ old.gives n
   pub any_moment : LeavesOnly old new (AreCleared (IsBelow from) old)
   pub gone : OnOk r (AreGone new from numbers)
 

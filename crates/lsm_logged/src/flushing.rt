@@ -37,7 +37,7 @@ impl<S: Store> Logged<S> {
         ensures still { flushed.installed ≡ false → self.new ≡ self.old }
         ensures passes { S.tells → Passed (log_from_of self.old.core) (S.world self.old.store) (S.world self.new.store) }
         ensures upholds { S.tells → UpholdsFiles (S.world self.old.store) (S.world self.new.store) self.old.core self.new.core }
-        ensures known { S.tells → KeepsKnown (log_from_of self.old.core) (S.world self.old.store) (S.world self.new.store) self.old.numbers self.new.numbers }
+        ensures known { S.tells → KeepsKnown (S.world self.old.store) (S.world self.new.store) self.old.numbers self.new.numbers }
         ensures gone { S.tells → result.installed ≡ true → result.cleaned ≡ true → AreGone (S.world self.new.store) (log_from_of self.old.core) self.old.numbers }
         ensures causes { HasCause (flushed.cleaned ≡ true × result.cleaned ≡ false) (S.world self.old.store) (S.world self.new.store) }
     {
@@ -65,8 +65,8 @@ impl<S: Store> Logged<S> {
         // None of them before that version is on the disk.
         ensures behind { S.tells → RemovesBehind (S.world self.old.store) (S.world self.new.store) self.old.core self.new.core }
         // Each record that is there stays known, and a number is forgotten only where its record is gone.
-        ensures known { S.tells → KeepsKnown (log_from_of self.new.core) (S.world self.old.store) (S.world self.new.store) self.old.numbers self.new.numbers }
-        // Behind a whole clean-up no record is left that the version has passed.
+        ensures known { S.tells → KeepsKnown (S.world self.old.store) (S.world self.new.store) self.old.numbers self.new.numbers }
+        // Behind a whole clean-up no record is left that the version has passed: none of the known ones, and with `known` none at all.
         ensures passed_are_gone { S.tells → IfOk result (λ a. IfSome a (λ p. p.1.cleaned ≡ true → AreGone (S.world self.new.store) (log_from_of self.new.core) self.old.numbers)) }
         // As the theory sees it: a flush, or one of unknown outcome, else nothing.
         ensures acts { S.tells → FlushesAct watermark result (S.world self.old.store) (S.world self.new.store) self.old self.new }
@@ -101,8 +101,8 @@ impl<S: Store> Logged<S> {
         ensures passes { S.tells → Passed (log_from_of self.new.core) (S.world self.old.store) (S.world self.new.store) }
         ensures behind { S.tells → RemovesBehind (S.world self.old.store) (S.world self.new.store) self.old.core self.new.core }
         // Each record that is there stays known, and a number is forgotten only where its record is gone.
-        ensures known { S.tells → KeepsKnown (log_from_of self.new.core) (S.world self.old.store) (S.world self.new.store) self.old.numbers self.new.numbers }
-        // Behind a whole clean-up no record is left that the version has passed.
+        ensures known { S.tells → KeepsKnown (S.world self.old.store) (S.world self.new.store) self.old.numbers self.new.numbers }
+        // Behind a whole clean-up no record is left that the version has passed: none of the known ones, and with `known` none at all.
         ensures passed_are_gone { S.tells → IfOk result (λ a. IfSome a.1 (λ p. p.1.cleaned ≡ true → AreGone (S.world self.new.store) (log_from_of self.new.core) self.old.numbers)) }
         // As the theory sees it: a rotation, and behind it a flush.
         ensures acts { S.tells → FlushesBothAct watermark result (S.world self.old.store) (S.world self.new.store) self.old self.new }
@@ -184,8 +184,8 @@ impl<S: Store> Logged<S> {
         ensures passes { S.tells → Passed (log_from_of self.new.core) (S.world self.old.store) (S.world self.new.store) }
         ensures behind { S.tells → RemovesBehind (S.world self.old.store) (S.world self.new.store) self.old.core self.new.core }
         // Each record that is there stays known, and a number is forgotten only where its record is gone.
-        ensures known { S.tells → KeepsKnown (log_from_of self.new.core) (S.world self.old.store) (S.world self.new.store) self.old.numbers self.new.numbers }
-        // Behind a whole clean-up no record is left that the version has passed.
+        ensures known { S.tells → KeepsKnown (S.world self.old.store) (S.world self.new.store) self.old.numbers self.new.numbers }
+        // Behind a whole clean-up no record is left that the version has passed: none of the known ones, and with `known` none at all.
         ensures passed_are_gone { S.tells → IfOk result (λ a. a.installed ≡ true → a.cleaned ≡ true → AreGone (S.world self.new.store) (log_from_of self.new.core) self.old.numbers) }
         // As the theory sees it: a flush, or one of unknown outcome, else nothing.
         ensures acts { S.tells → RegistersAct job result (S.world self.old.store) (S.world self.new.store) self.old self.new }
@@ -219,8 +219,8 @@ impl<S: Store> Logged<S> {
         ensures passes { S.tells → Passed (log_from_of self.new.core) (S.world self.old.store) (S.world self.new.store) }
         ensures behind { S.tells → RemovesBehind (S.world self.old.store) (S.world self.new.store) self.old.core self.new.core }
         // Each record that is there stays known, and a number is forgotten only where its record is gone.
-        ensures known { S.tells → KeepsKnown (log_from_of self.new.core) (S.world self.old.store) (S.world self.new.store) self.old.numbers self.new.numbers }
-        // Behind a whole clean-up no record is left that the version has passed.
+        ensures known { S.tells → KeepsKnown (S.world self.old.store) (S.world self.new.store) self.old.numbers self.new.numbers }
+        // Behind a whole clean-up no record is left that the version has passed: none of the known ones, and with `known` none at all.
         ensures passed_are_gone { S.tells → OnOk result (AreGone (S.world self.new.store) (log_from_of self.new.core) self.old.numbers) }
         // As the theory sees it: a clear, or one of unknown outcome, else nothing.
         ensures acts { S.tells → ClearsAct result (S.world self.old.store) (S.world self.new.store) self.old self.new }

@@ -1,5 +1,5 @@
 // A logged tree is opened over a store, and gives it back.
-ghost use Rattle.std.specs.Prelude.{◌≡◌, ◌⊎◌, ◌<◌, ◌^◌, ℕ, None, Contains, IfOk, IfErr, OnOk, IsErrOf, IfSome, IfNone};
+ghost use Rattle.std.specs.Prelude.{◌≡◌, ◌⊎◌, ◌<◌, ◌^◌, ℕ, List, None, Contains, IfOk, IfErr, OnOk, IsErrOf, IfSome, IfNone};
 ghost use Rattle.std.specs.List.{All, AllByRecursion};
 ghost use Rattle.std.specs.List.Sorted.{IsStrictlyIncreasing};
 ghost use Rattle.lsm_store.specs.World.{Same, LeavesOnly};
@@ -7,12 +7,12 @@ ghost use Rattle.lsm_tables.specs.Image.{Fits};
 ghost use Rattle.lsm_model.specs.Ops.{op_entries};
 ghost use Rattle.lsm_files.specs.Stored.{CountsFaults};
 ghost use Rattle.lsm_log.specs.LogNames.{record_name};
-ghost use Rattle.lsm_log.specs.Changes.{IsBelow, ClearsRecords, AreCleared};
+ghost use Rattle.lsm_log.specs.Changes.{IsBelow, IsNoneOf, ClearsRecords, AreCleared};
 ghost use Rattle.lsm_log.specs.Logs.{LacksOne, IsLogAt, IsBadLog};
 ghost use Rattle.lsm_state.specs.Core.{written_all};
 ghost use Rattle.lsm_state.specs.Commits.{UpholdsFiles};
 ghost use Rattle.lsm_logged.specs.Keeping.{AreRecordNumbers};
-ghost use Rattle.lsm_logged.specs.Opening.{RefusesReading, RefusesReplay, RefusesReplays, ReplaysEach, OpensLogged, RefusesLogged};
+ghost use Rattle.lsm_logged.specs.Opening.{RefusesReading, RefusesReplay, RefusesReplays, ReplaysEach, OpensLogged, RefusesLogged, logged_left, logged_told};
 
 use crate::Logged;
 use lsm_below::{Error, SeqNo, plain_numbers_are_read};
@@ -112,6 +112,7 @@ fn take_log<S: Store>(tree: &mut TreeState<S>, from: SeqNo, log: &LogNumbers) ->
     ensures told { S.tells → All (λ k. k < 2 ^ 63) log.now.numbers.items → IfErr result RefusesReading }
     ensures upholds { S.tells → OnOk result (UpholdsFiles (S.world tree.old.store) (S.world tree.new.store) tree.old.core tree.new.core) }
     ensures gone { S.tells → OnOk result ((k : ℕ) → Contains log.now.passed.items k → k < from → (S.world tree.new.store).gives (record_name k) ≡ None) }
+    ensures others { S.tells → OnOk result ((n : List ℕ) → IsNoneOf (Contains log.now.passed.items) n → (S.world tree.new.store).gives n ≡ (S.world tree.old.store).gives n) }
     ensures clears { S.tells → ClearsRecords (IsBelow from) (S.world tree.old.store) (S.world tree.new.store) }
     ensures any_moment { S.tells → LeavesOnly (S.world tree.old.store) (S.world tree.new.store) (AreCleared (IsBelow from) (S.world tree.old.store)) }
     ensures only { IfErr result RefusesReplays }
@@ -140,8 +141,8 @@ impl<S: Store> Logged<S> {
     pub fn open(alloc: Global, config: Config, store: S) -> Result<Logged<S>, (Error, S)>
         ensures opens { IfOk result (OpensLogged S.tells S.world store config) }
         ensures refused { S.tells → IfErr result (λ e. RefusesLogged (S.world store) (S.world e.1) e.0) }
-        // Answered, no call of the store failed.
-        ensures counts { IfOk result (λ t. (S.world t.store).failures ≡ (S.world store).failures) }
+        // One call of the store failed where the error says so, and none where it doesn't.
+        ensures counts { CountsFaults (S.world store) (S.world (logged_left result)) (logged_told result) }
     {
         plain_numbers_are_read();
         openings_pass(&store);

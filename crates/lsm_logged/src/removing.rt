@@ -27,13 +27,14 @@ impl<S: Store> Logged<S> {
         ensures upholds { S.tells → UpholdsFiles (S.world self.old.store) (S.world self.new.store) self.old.core self.new.core }
         ensures core { self.new.core ≡ self.old.core }
         ensures doubted { self.new.doubted ≡ self.old.doubted }
-        ensures known { S.tells → KeepsKnown (log_from_of self.old.core) (S.world self.old.store) (S.world self.new.store) self.old.numbers self.new.numbers }
+        ensures known { S.tells → KeepsKnown (S.world self.old.store) (S.world self.new.store) self.old.numbers self.new.numbers }
         ensures forgets { OnOk result (Forgets (log_from_of self.old.core) self.old.numbers self.new.numbers) }
         ensures keeps { OnErr result (self.new.numbers ≡ self.old.numbers) }
         ensures only { IfErr result (λ e. e ≡ Error.Store) }
         ensures counts { CountsFaults (S.world self.old.store) (S.world self.new.store) result }
     {
         plain_numbers_are_read();
+        self.counter_fits();
         let from = self.tree.current_version().log_from();
         self.tree.remove_records_below(from, &self.numbers)?;
         forget_below(&mut self.numbers, from);

@@ -56,7 +56,7 @@ impl<S: Store> Logged<S> {
         // As the theory sees it: the batch is acknowledged, or of unknown outcome.
         ensures acts { S.tells → WritesAct ops.items result (S.world self.old.store) (S.world self.new.store) self.old self.new }
         // Each record that is there is known, so it can be removed.
-        ensures known { S.tells → (from : ℕ) → AreKnown (S.world self.old.store) from self.old.numbers → AreKnown (S.world self.new.store) from self.new.numbers }
+        ensures known { S.tells → AreKnown (S.world self.old.store) self.old.numbers → AreKnown (S.world self.new.store) self.new.numbers }
         // The tree's files stay stored, and at each moment a crash leaves one of its versions.
         ensures upholds { S.tells → UpholdsFiles (S.world self.old.store) (S.world self.new.store) self.old.core self.new.core }
         ensures counts { CountsFaults (S.world self.old.store) (S.world self.new.store) result }

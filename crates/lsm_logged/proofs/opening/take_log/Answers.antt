@@ -1,6 +1,6 @@
-use Rattle.std.proofs.Common.{ap}
+use Rattle.std.proofs.Common.{Contains, ap, ◌∙◌, subst}
 use Rattle.std.proofs.lemmas.Result.{on_ok_weaker}
-use Rattle.lsm_log.specs.Changes.{IsBelow}
+use Rattle.lsm_log.specs.Changes.{IsBelow, IsNoneOf}
 use Rattle.lsm_state.specs.Core.{versions_left}
 use Rattle.lsm_state.proofs.Installing.{files_join}
 use Rattle.lsm_logged.proofs.Replaying.{clears_none, clears_behind, cleared_none, cleared_behind}
@@ -36,3 +36,7 @@ returns-clause-upholds g c tells =
     let new = c.remove_records_below.new.self in
     let both = files_join (w old.store) (w mid.store) (w new.store) old.core mid.core new.core (ap versions_left c.remove_records_below.ensures.core) (c.in_ok-replay_each.ensures.upholds tells) (c.remove_records_below.ensures.upholds tells) in
     on_ok_weaker c.remove_records_below.result (λ gone. both) (c.remove_records_below.ensures.gone tells)
+
+pub returns-clause-others : goal.returns-clause-others
+returns-clause-others g c tells =
+    on_ok_weaker c.remove_records_below.result (λ gone n out. c.remove_records_below.ensures.others tells n (subst (λ l. IsNoneOf (Contains l) n) c.deref.ensures.value out) ∙ (c.replay_each.ensures.same tells).gives n) (c.remove_records_below.ensures.gone tells)

@@ -16,42 +16,42 @@ returns-in-Ok-clause-passes g c tells =
     let i = c.self.inside in
     let passed = removed_on (log_from_of c.clear.new.self.core) i.numbers.items (g.S.Store.world c.clear.new.self.store) (g.S.Store.world c.remove_passed.new.self.store) c.remove_passed.result (c.remove_passed.ensures.removes tells) in
     let new = c.remove_passed.new.self in
-    (leaves_logged c.plain_numbers_are_read.ensures g.S.Store.world i.tree c.clear.new.self i.numbers.items i.doubted new c.args.self.now c.self.view_is (c.clear.ensures.upholds tells) c.remove_passed.ensures.core (c.remove_passed.ensures.upholds tells) passed (c.remove_passed.ensures.known tells)).left.passed
+    (leaves_logged g.S.Store.world i.tree c.clear.new.self i.numbers.items i.doubted new c.args.self.now c.self.view_is (c.clear.ensures.upholds tells) c.remove_passed.ensures.core (c.remove_passed.ensures.upholds tells) passed (c.remove_passed.ensures.known tells)).left.passed
 
 pub returns-in-Ok-clause-behind : goal.returns-in-Ok-clause-behind
 returns-in-Ok-clause-behind g c tells =
     let i = c.self.inside in
     let passed = removed_on (log_from_of c.clear.new.self.core) i.numbers.items (g.S.Store.world c.clear.new.self.store) (g.S.Store.world c.remove_passed.new.self.store) c.remove_passed.result (c.remove_passed.ensures.removes tells) in
     let new = c.remove_passed.new.self in
-    (leaves_logged c.plain_numbers_are_read.ensures g.S.Store.world i.tree c.clear.new.self i.numbers.items i.doubted new c.args.self.now c.self.view_is (c.clear.ensures.upholds tells) c.remove_passed.ensures.core (c.remove_passed.ensures.upholds tells) passed (c.remove_passed.ensures.known tells)).left.either
+    (leaves_logged g.S.Store.world i.tree c.clear.new.self i.numbers.items i.doubted new c.args.self.now c.self.view_is (c.clear.ensures.upholds tells) c.remove_passed.ensures.core (c.remove_passed.ensures.upholds tells) passed (c.remove_passed.ensures.known tells)).left.either
 
 pub returns-in-Ok-clause-upholds : goal.returns-in-Ok-clause-upholds
 returns-in-Ok-clause-upholds g c tells =
     let i = c.self.inside in
     let passed = removed_on (log_from_of c.clear.new.self.core) i.numbers.items (g.S.Store.world c.clear.new.self.store) (g.S.Store.world c.remove_passed.new.self.store) c.remove_passed.result (c.remove_passed.ensures.removes tells) in
     let new = c.remove_passed.new.self in
-    (leaves_logged c.plain_numbers_are_read.ensures g.S.Store.world i.tree c.clear.new.self i.numbers.items i.doubted new c.args.self.now c.self.view_is (c.clear.ensures.upholds tells) c.remove_passed.ensures.core (c.remove_passed.ensures.upholds tells) passed (c.remove_passed.ensures.known tells)).left.files
+    (leaves_logged g.S.Store.world i.tree c.clear.new.self i.numbers.items i.doubted new c.args.self.now c.self.view_is (c.clear.ensures.upholds tells) c.remove_passed.ensures.core (c.remove_passed.ensures.upholds tells) passed (c.remove_passed.ensures.known tells)).left.files
 
 pub returns-in-Err-clause-passes : goal.returns-in-Err-clause-passes
 returns-in-Err-clause-passes g c tells =
     let i = c.self.inside in
     let passed = removed_on (log_from_of c.clear.new.self.core) i.numbers.items (g.S.Store.world c.clear.new.self.store) (g.S.Store.world c.remove_passed.new.self.store) c.remove_passed.result (c.remove_passed.ensures.removes tells) in
     let new = c.remove_passed.new.self in
-    (leaves_logged c.plain_numbers_are_read.ensures g.S.Store.world i.tree c.clear.new.self i.numbers.items i.doubted new c.args.self.now c.self.view_is (c.clear.ensures.upholds tells) c.remove_passed.ensures.core (c.remove_passed.ensures.upholds tells) passed (c.remove_passed.ensures.known tells)).left.passed
+    (leaves_logged g.S.Store.world i.tree c.clear.new.self i.numbers.items i.doubted new c.args.self.now c.self.view_is (c.clear.ensures.upholds tells) c.remove_passed.ensures.core (c.remove_passed.ensures.upholds tells) passed (c.remove_passed.ensures.known tells)).left.passed
 
 pub returns-in-Err-clause-behind : goal.returns-in-Err-clause-behind
 returns-in-Err-clause-behind g c tells =
     let i = c.self.inside in
     let passed = removed_on (log_from_of c.clear.new.self.core) i.numbers.items (g.S.Store.world c.clear.new.self.store) (g.S.Store.world c.remove_passed.new.self.store) c.remove_passed.result (c.remove_passed.ensures.removes tells) in
     let new = c.remove_passed.new.self in
-    (leaves_logged c.plain_numbers_are_read.ensures g.S.Store.world i.tree c.clear.new.self i.numbers.items i.doubted new c.args.self.now c.self.view_is (c.clear.ensures.upholds tells) c.remove_passed.ensures.core (c.remove_passed.ensures.upholds tells) passed (c.remove_passed.ensures.known tells)).left.either
+    (leaves_logged g.S.Store.world i.tree c.clear.new.self i.numbers.items i.doubted new c.args.self.now c.self.view_is (c.clear.ensures.upholds tells) c.remove_passed.ensures.core (c.remove_passed.ensures.upholds tells) passed (c.remove_passed.ensures.known tells)).left.either
 
 pub returns-in-Err-clause-upholds : goal.returns-in-Err-clause-upholds
 returns-in-Err-clause-upholds g c tells =
     let i = c.self.inside in
     let passed = removed_on (log_from_of c.clear.new.self.core) i.numbers.items (g.S.Store.world c.clear.new.self.store) (g.S.Store.world c.remove_passed.new.self.store) c.remove_passed.result (c.remove_passed.ensures.removes tells) in
     let new = c.remove_passed.new.self in
-    (leaves_logged c.plain_numbers_are_read.ensures g.S.Store.world i.tree c.clear.new.self i.numbers.items i.doubted new c.args.self.now c.self.view_is (c.clear.ensures.upholds tells) c.remove_passed.ensures.core (c.remove_passed.ensures.upholds tells) passed (c.remove_passed.ensures.known tells)).left.files
+    (leaves_logged g.S.Store.world i.tree c.clear.new.self i.numbers.items i.doubted new c.args.self.now c.self.view_is (c.clear.ensures.upholds tells) c.remove_passed.ensures.core (c.remove_passed.ensures.upholds tells) passed (c.remove_passed.ensures.known tells)).left.files
 
 pub returns-then-is_uncertain-clause-acts : goal.returns-then-is_uncertain-clause-acts
 returns-then-is_uncertain-clause-acts g c tells =
@@ -110,14 +110,14 @@ returns-in-Ok-clause-known g c tells =
     let i = c.self.inside in
     let passed = removed_on (log_from_of c.clear.new.self.core) i.numbers.items (g.S.Store.world c.clear.new.self.store) (g.S.Store.world c.remove_passed.new.self.store) c.remove_passed.result (c.remove_passed.ensures.removes tells) in
     let new = c.remove_passed.new.self in
-    (leaves_logged c.plain_numbers_are_read.ensures g.S.Store.world i.tree c.clear.new.self i.numbers.items i.doubted new c.args.self.now c.self.view_is (c.clear.ensures.upholds tells) c.remove_passed.ensures.core (c.remove_passed.ensures.upholds tells) passed (c.remove_passed.ensures.known tells)).known
+    (leaves_logged g.S.Store.world i.tree c.clear.new.self i.numbers.items i.doubted new c.args.self.now c.self.view_is (c.clear.ensures.upholds tells) c.remove_passed.ensures.core (c.remove_passed.ensures.upholds tells) passed (c.remove_passed.ensures.known tells)).known
 
 pub returns-in-Err-clause-known : goal.returns-in-Err-clause-known
 returns-in-Err-clause-known g c tells =
     let i = c.self.inside in
     let passed = removed_on (log_from_of c.clear.new.self.core) i.numbers.items (g.S.Store.world c.clear.new.self.store) (g.S.Store.world c.remove_passed.new.self.store) c.remove_passed.result (c.remove_passed.ensures.removes tells) in
     let new = c.remove_passed.new.self in
-    (leaves_logged c.plain_numbers_are_read.ensures g.S.Store.world i.tree c.clear.new.self i.numbers.items i.doubted new c.args.self.now c.self.view_is (c.clear.ensures.upholds tells) c.remove_passed.ensures.core (c.remove_passed.ensures.upholds tells) passed (c.remove_passed.ensures.known tells)).known
+    (leaves_logged g.S.Store.world i.tree c.clear.new.self i.numbers.items i.doubted new c.args.self.now c.self.view_is (c.clear.ensures.upholds tells) c.remove_passed.ensures.core (c.remove_passed.ensures.upholds tells) passed (c.remove_passed.ensures.known tells)).known
 
 pub returns-in-Ok-clause-passed_are_gone : goal.returns-in-Ok-clause-passed_are_gone
 returns-in-Ok-clause-passed_are_gone g c tells =
@@ -127,10 +127,10 @@ returns-in-Ok-clause-passed_are_gone g c tells =
 pub returns-in_err-number-clause-known : goal.returns-in_err-number-clause-known
 returns-in_err-number-clause-known g c tells =
     let i = c.self.inside in
-    all_left c.plain_numbers_are_read.ensures g.S.Store.world i.tree c.clear.new.self i.numbers.items i.doubted c.args.self.now c.self.view_is (c.clear.ensures.upholds tells).passes
+    all_left g.S.Store.world i.tree c.clear.new.self i.numbers.items i.doubted c.args.self.now c.self.view_is (c.clear.ensures.upholds tells).passes
 
 pub returns-then-is_uncertain-clause-known : goal.returns-then-is_uncertain-clause-known
 returns-then-is_uncertain-clause-known g c tells =
     let w = g.S.Store.world in
     let i = c.self.inside in
-    subst (λ (t : SeenLogged g.row.S.Denot). KeepsKnown (log_from_of t.core) (w t.store) (w t.store) t.numbers t.numbers) c.self.view_is (known_still (log_from_of i.tree.core) (w i.tree.store) i.numbers.items)
+    subst (λ (t : SeenLogged g.row.S.Denot). KeepsKnown (w t.store) (w t.store) t.numbers t.numbers) c.self.view_is (known_still (w i.tree.store) i.numbers.items)

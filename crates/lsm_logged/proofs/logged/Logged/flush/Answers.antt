@@ -33,19 +33,19 @@ pub returns-in-Some-clause-passes : goal.returns-in-Some-clause-passes
 returns-in-Some-clause-passes g c tells =
     let i = c.self.inside in
     let new = c.clean_log.new.self in
-    (leaves_logged c.plain_numbers_are_read.ensures g.S.Store.world i.tree c.flush.new.self i.numbers.items i.doubted new c.args.self.now c.self.view_is (c.flush.ensures.upholds tells) c.clean_log.ensures.cleans.core (c.clean_log.ensures.upholds tells) (c.clean_log.ensures.passes tells) (c.clean_log.ensures.known tells)).left.passed
+    (leaves_logged g.S.Store.world i.tree c.flush.new.self i.numbers.items i.doubted new c.args.self.now c.self.view_is (c.flush.ensures.upholds tells) c.clean_log.ensures.cleans.core (c.clean_log.ensures.upholds tells) (c.clean_log.ensures.passes tells) (c.clean_log.ensures.known tells)).left.passed
 
 pub returns-in-Some-clause-behind : goal.returns-in-Some-clause-behind
 returns-in-Some-clause-behind g c tells =
     let i = c.self.inside in
     let new = c.clean_log.new.self in
-    (leaves_logged c.plain_numbers_are_read.ensures g.S.Store.world i.tree c.flush.new.self i.numbers.items i.doubted new c.args.self.now c.self.view_is (c.flush.ensures.upholds tells) c.clean_log.ensures.cleans.core (c.clean_log.ensures.upholds tells) (c.clean_log.ensures.passes tells) (c.clean_log.ensures.known tells)).left.either
+    (leaves_logged g.S.Store.world i.tree c.flush.new.self i.numbers.items i.doubted new c.args.self.now c.self.view_is (c.flush.ensures.upholds tells) c.clean_log.ensures.cleans.core (c.clean_log.ensures.upholds tells) (c.clean_log.ensures.passes tells) (c.clean_log.ensures.known tells)).left.either
 
 pub returns-in-Some-clause-upholds : goal.returns-in-Some-clause-upholds
 returns-in-Some-clause-upholds g c tells =
     let i = c.self.inside in
     let new = c.clean_log.new.self in
-    (leaves_logged c.plain_numbers_are_read.ensures g.S.Store.world i.tree c.flush.new.self i.numbers.items i.doubted new c.args.self.now c.self.view_is (c.flush.ensures.upholds tells) c.clean_log.ensures.cleans.core (c.clean_log.ensures.upholds tells) (c.clean_log.ensures.passes tells) (c.clean_log.ensures.known tells)).left.files
+    (leaves_logged g.S.Store.world i.tree c.flush.new.self i.numbers.items i.doubted new c.args.self.now c.self.view_is (c.flush.ensures.upholds tells) c.clean_log.ensures.cleans.core (c.clean_log.ensures.upholds tells) (c.clean_log.ensures.passes tells) (c.clean_log.ensures.known tells)).left.files
 
 pub returns-in-None-clause-behind : goal.returns-in-None-clause-behind
 returns-in-None-clause-behind g c tells =
@@ -110,24 +110,24 @@ returns-in-None-clause-acts g c tells =
 pub returns-in_err-flushed-clause-known : goal.returns-in_err-flushed-clause-known
 returns-in_err-flushed-clause-known g c tells =
     let i = c.self.inside in
-    all_left c.plain_numbers_are_read.ensures g.S.Store.world i.tree c.flush.new.self i.numbers.items i.doubted c.args.self.now c.self.view_is (c.flush.ensures.upholds tells).passes
+    all_left g.S.Store.world i.tree c.flush.new.self i.numbers.items i.doubted c.args.self.now c.self.view_is (c.flush.ensures.upholds tells).passes
 
 pub returns-in-None-clause-known : goal.returns-in-None-clause-known
 returns-in-None-clause-known g c tells =
     let i = c.self.inside in
-    all_left c.plain_numbers_are_read.ensures g.S.Store.world i.tree c.flush.new.self i.numbers.items i.doubted c.args.self.now c.self.view_is (c.flush.ensures.upholds tells).passes
+    all_left g.S.Store.world i.tree c.flush.new.self i.numbers.items i.doubted c.args.self.now c.self.view_is (c.flush.ensures.upholds tells).passes
 
 pub returns-then-is_flush_unsure-clause-known : goal.returns-then-is_flush_unsure-clause-known
 returns-then-is_flush_unsure-clause-known g c tells =
     let w = g.S.Store.world in
     let i = c.self.inside in
-    subst (λ (t : SeenLogged g.row.S.Denot). KeepsKnown (log_from_of t.core) (w t.store) (w t.store) t.numbers t.numbers) c.self.view_is (known_still (log_from_of i.tree.core) (w i.tree.store) i.numbers.items)
+    subst (λ (t : SeenLogged g.row.S.Denot). KeepsKnown (w t.store) (w t.store) t.numbers t.numbers) c.self.view_is (known_still (w i.tree.store) i.numbers.items)
 
 pub returns-in-Some-clause-known : goal.returns-in-Some-clause-known
 returns-in-Some-clause-known g c tells =
     let i = c.self.inside in
     let new = c.clean_log.new.self in
-    (leaves_logged c.plain_numbers_are_read.ensures g.S.Store.world i.tree c.flush.new.self i.numbers.items i.doubted new c.args.self.now c.self.view_is (c.flush.ensures.upholds tells) c.clean_log.ensures.cleans.core (c.clean_log.ensures.upholds tells) (c.clean_log.ensures.passes tells) (c.clean_log.ensures.known tells)).known
+    (leaves_logged g.S.Store.world i.tree c.flush.new.self i.numbers.items i.doubted new c.args.self.now c.self.view_is (c.flush.ensures.upholds tells) c.clean_log.ensures.cleans.core (c.clean_log.ensures.upholds tells) (c.clean_log.ensures.passes tells) (c.clean_log.ensures.known tells)).known
 
 pub returns-in-Some-clause-passed_are_gone : goal.returns-in-Some-clause-passed_are_gone
 returns-in-Some-clause-passed_are_gone g c tells cleaned =

@@ -90,21 +90,21 @@ pub returns-in-Err-clause-known : goal.returns-in-Err-clause-known
 returns-in-Err-clause-known g c tells =
     let w = g.S.Store.world in
     let old = c.args.self.now in
-    subst (λ (t : SeenLogged g.row.S.Denot). KeepsKnown (log_from_of t.core) (w old.store) (w t.store) old.numbers t.numbers) (sym c.in-Err.ensures.err) (known_still (log_from_of old.core) (w old.store) old.numbers)
+    subst (λ (t : SeenLogged g.row.S.Denot). KeepsKnown (w old.store) (w t.store) old.numbers t.numbers) (sym c.in-Err.ensures.err) (known_still (w old.store) old.numbers)
 
 pub returns-in-Ok-flush-clause-known : goal.returns-in-Ok-flush-clause-known
 returns-in-Ok-flush-clause-known g c tells =
     let w = g.S.Store.world in
     let old = c.args.self.now in
     let new = c.flush.new.self in
-    subst (λ l. KeepsKnown (log_from_of new.core) (w old.store) (w new.store) l new.numbers) c.in-Ok.ensures.log.0 (subst (λ (s : g.row.S.Denot). KeepsKnown (log_from_of new.core) (w s) (w new.store) c.rotate_memtable.new.self.numbers new.numbers) c.in-Ok.ensures.store (c.flush.ensures.known tells))
+    subst (λ l. KeepsKnown (w old.store) (w new.store) l new.numbers) c.in-Ok.ensures.log.0 (subst (λ (s : g.row.S.Denot). KeepsKnown (w s) (w new.store) c.rotate_memtable.new.self.numbers new.numbers) c.in-Ok.ensures.store (c.flush.ensures.known tells))
 
 pub returns-in-Err-flush-clause-known : goal.returns-in-Err-flush-clause-known
 returns-in-Err-flush-clause-known g c tells =
     let w = g.S.Store.world in
     let old = c.args.self.now in
     let new = c.flush.new.self in
-    subst (λ l. KeepsKnown (log_from_of new.core) (w old.store) (w new.store) l new.numbers) c.in-Ok.ensures.log.0 (subst (λ (s : g.row.S.Denot). KeepsKnown (log_from_of new.core) (w s) (w new.store) c.rotate_memtable.new.self.numbers new.numbers) c.in-Ok.ensures.store (c.flush.ensures.known tells))
+    subst (λ l. KeepsKnown (w old.store) (w new.store) l new.numbers) c.in-Ok.ensures.log.0 (subst (λ (s : g.row.S.Denot). KeepsKnown (w s) (w new.store) c.rotate_memtable.new.self.numbers new.numbers) c.in-Ok.ensures.store (c.flush.ensures.known tells))
 
 pub returns-in-Ok-flush-clause-passed_are_gone : goal.returns-in-Ok-flush-clause-passed_are_gone
 returns-in-Ok-flush-clause-passed_are_gone g c tells =

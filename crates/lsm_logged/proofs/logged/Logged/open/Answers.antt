@@ -1,4 +1,4 @@
-use Rattle.std.proofs.Common.{◌≡◌, ◌∙◌, ⊎_elim, ℕ, ◌<◌, max, map, Contains, None, Err, false, sym, ap, subst, arith}
+use Rattle.std.proofs.Common.{◌≡◌, ◌∙◌, ⊎_elim, ℕ, ◌<◌, max, map, Contains, None, Err, false, refl, sym, ap, subst, arith}
 use Rattle.std.proofs.lemmas.Result.{err_from_is_err_and}
 use Rattle.lsm_below.specs.Sums.{capped}
 use Rattle.lsm_below.specs.Entries.{above}
@@ -9,6 +9,7 @@ use Rattle.lsm_versions.specs.Configs.{raised}
 use Rattle.lsm_versions.specs.Levels.{SeenVersion, placed_of}
 use Rattle.lsm_manifest.specs.declared.found.Found.{Found}
 use Rattle.lsm_manifest.specs.Looking.{Looks}
+use Rattle.lsm_manifest.specs.Told.{told_counts}
 use Rattle.lsm_files.specs.Foreign.{Passes}
 use Rattle.lsm_log.specs.LogNames.{record_name}
 use Rattle.lsm_log.specs.Logs.{IsLogFrom, IsLogAt, IsBadLog}
@@ -17,7 +18,7 @@ use Rattle.lsm_log.proofs.Loaded.{gives_same}
 use Rattle.lsm_log_model.specs.Records.{LogStands}
 use Rattle.lsm_logged.specs.Keeping.{AreRecordNumbers}
 use Rattle.lsm_logged.specs.Opening.{Files, Memory, Faulty, BadLog, image_read, TakesLog, CanBeSettled, IsReopenedLog}
-use Rattle.lsm_logged.proofs.Blaming.{none_counted, one_failed}
+use Rattle.lsm_logged.proofs.Blaming.{none_counted, one_failed, counted_behind, none_behind}
 use Rattle.lsm_logged.proofs.LogNames.{record_is_foreign}
 use Rattle.lsm_logged.proofs.Reached.{looked as looked_from}
 use Rattle.lsm_logged.proofs.Replaying.{log_read, none_lacks, small_numbers}
@@ -115,7 +116,7 @@ returns-in-Ok-take_log-clause-opens g c =
       replays = replays c.args.config cfg v id next passed numbers records before core made is take new (sym replayed.named) c.in-Ok.ensures.after c.in-Ok.ensures.below;
       takes = λ tells. subst (λ u. TakesLog (w store) (w new) u passed records) (sym ver) (takes (w store) (w mid) (w new) v passed records (log tells) (passes tells) (clears tells) c.plain_numbers_are_read.ensures (looks tells).from (fresh_in (w store).gives found'.files (looks tells).found) (found_in (w store).gives found'.files (looks tells).found)
           (subst (λ n. (k : ℕ) → Contains passed k → k < n → (w new).gives (record_name k) ≡ None) from (c.in-Ok-take_log.ensures.gone tells))
-          (subst (λ n. LeavesOnly (w mid) (w new) (AreCleared (IsBelow n) (w mid))) from (c.in-Ok-take_log.ensures.any_moment tells)));
+          (c.in-Ok-take_log.ensures.others tells) (subst (λ n. LeavesOnly (w mid) (w new) (AreCleared (IsBelow n) (w mid))) from (c.in-Ok-take_log.ensures.any_moment tells)));
       reopens = λ tells. subst (λ u. LogStands (image_read u records) → CanBeSettled (w store) u.log_from → IsReopenedLog (image_read u records) (record { store = new; core = core; numbers = numbers; doubted = false }) (w new)) (sym ver)
           (λ stands can. reopens c.opened_trees_are_fresh.ensures c.replays_reopen.ensures c.counter_stays_above.ensures cfg v id passed records core (whole c.args.config cfg v id next passed numbers records before core made is take) (omega (arith, le)) below.below
           (λ k there. (((log tells).read_are k).0 there).1) stands (w store) (w mid) (w new) (log tells) (passes tells) (clears tells) c.plain_numbers_are_read.ensures
@@ -125,10 +126,41 @@ returns-in-Ok-take_log-clause-opens g c =
 
 -- ---- which calls failed
 
-pub returns-in-Ok-take_log-clause-counts : goal.returns-in-Ok-take_log-clause-counts
-returns-in-Ok-take_log-clause-counts g c =
+pub returns-in_err-found-clause-counts : goal.returns-in_err-found-clause-counts
+returns-in_err-found-clause-counts g c =
+    let w = g.S.Store.world in
+    let p = err_from_is_err_and c.from_residual.result c.from_residual.ensures.1 in
+    rw (p.1, p.2) (counted_behind (w c.args.store) (w c.args.store) _ _ refl (told_counts _ _ _ c.in_err-found.ensures.counts))
+
+pub returns-in-Err-clause-counts : goal.returns-in-Err-clause-counts
+returns-in-Err-clause-counts g c =
+    let w = g.S.Store.world in
+    rw (c.into_store.ensures) (counted_behind (w c.args.store) (w c.in_ok-found.found.store) (w c.check_numbered.new.found.store) _ c.in_ok-found.ensures.counts c.in-Err.ensures.counts)
+
+pub returns-in_err-tree-clause-counts : goal.returns-in_err-tree-clause-counts
+returns-in_err-tree-clause-counts g c =
     let w = g.S.Store.world in
     let found = c.in_ok-found.found in
     let mid = c.check_numbered.new.found.store in
-    none_counted (w c.in_ok-tree.tree.store) (w c.take_log.new.tree.store) tt c.in-Ok-take_log.ensures.counts
-    ∙ c.in_ok-tree.ensures.counts ∙ none_counted (w found.store) (w mid) c.in-Ok.checked c.in-Ok.ensures.counts ∙ c.in_ok-found.ensures.counts
+    let p = err_from_is_err_and c.from_residual-in_err-tree.result c.from_residual-in_err-tree.ensures.1 in
+    rw (p.1, p.2) (counted_behind (w c.args.store) (w mid) _ _ (none_counted (w found.store) (w mid) c.in-Ok.checked c.in-Ok.ensures.counts ∙ c.in_ok-found.ensures.counts) (told_counts _ _ _ c.in_err-tree.ensures.counts))
+
+pub returns-in-Err-take_log-clause-counts : goal.returns-in-Err-take_log-clause-counts
+returns-in-Err-take_log-clause-counts g c =
+    let w = g.S.Store.world in
+    let found = c.in_ok-found.found in
+    let mid = c.check_numbered.new.found.store in
+    let unfailed = c.in_ok-tree.ensures.counts ∙ none_counted (w found.store) (w mid) c.in-Ok.checked c.in-Ok.ensures.counts ∙ c.in_ok-found.ensures.counts in
+    rw (c.into_store-in-Err-take_log.ensures) (counted_behind (w c.args.store) (w c.in_ok-tree.tree.store) (w c.take_log.new.tree.store) _ unfailed c.in-Err-take_log.ensures.counts)
+
+pub returns-in-Ok-take_log-clause-counts : goal.returns-in-Ok-take_log-clause-counts
+returns-in-Ok-take_log-clause-counts g c =
+    let w = g.S.Store.world in
+    let store = c.args.store in
+    let found = c.in_ok-found.found in
+    let mid = c.check_numbered.new.found.store in
+    let new = c.take_log.new.tree.store in
+    let same : (w new).failures ≡ (w store).failures =
+        none_counted (w c.in_ok-tree.tree.store) (w new) tt c.in-Ok-take_log.ensures.counts
+        ∙ c.in_ok-tree.ensures.counts ∙ none_counted (w found.store) (w mid) c.in-Ok.checked c.in-Ok.ensures.counts ∙ c.in_ok-found.ensures.counts in
+    none_behind (w store) (w new) _ same

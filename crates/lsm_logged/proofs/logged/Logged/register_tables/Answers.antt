@@ -30,19 +30,19 @@ pub returns-clause-passes : goal.returns-clause-passes
 returns-clause-passes g c tells =
     let i = c.self.inside in
     let new = c.clean_log.new.self in
-    (leaves_logged c.plain_numbers_are_read.ensures g.S.Store.world i.tree c.register_tables.new.self i.numbers.items i.doubted new c.args.self.now c.self.view_is (c.register_tables.ensures.upholds tells) c.clean_log.ensures.cleans.core (c.clean_log.ensures.upholds tells) (c.clean_log.ensures.passes tells) (c.clean_log.ensures.known tells)).left.passed
+    (leaves_logged g.S.Store.world i.tree c.register_tables.new.self i.numbers.items i.doubted new c.args.self.now c.self.view_is (c.register_tables.ensures.upholds tells) c.clean_log.ensures.cleans.core (c.clean_log.ensures.upholds tells) (c.clean_log.ensures.passes tells) (c.clean_log.ensures.known tells)).left.passed
 
 pub returns-clause-behind : goal.returns-clause-behind
 returns-clause-behind g c tells =
     let i = c.self.inside in
     let new = c.clean_log.new.self in
-    (leaves_logged c.plain_numbers_are_read.ensures g.S.Store.world i.tree c.register_tables.new.self i.numbers.items i.doubted new c.args.self.now c.self.view_is (c.register_tables.ensures.upholds tells) c.clean_log.ensures.cleans.core (c.clean_log.ensures.upholds tells) (c.clean_log.ensures.passes tells) (c.clean_log.ensures.known tells)).left.either
+    (leaves_logged g.S.Store.world i.tree c.register_tables.new.self i.numbers.items i.doubted new c.args.self.now c.self.view_is (c.register_tables.ensures.upholds tells) c.clean_log.ensures.cleans.core (c.clean_log.ensures.upholds tells) (c.clean_log.ensures.passes tells) (c.clean_log.ensures.known tells)).left.either
 
 pub returns-clause-upholds : goal.returns-clause-upholds
 returns-clause-upholds g c tells =
     let i = c.self.inside in
     let new = c.clean_log.new.self in
-    (leaves_logged c.plain_numbers_are_read.ensures g.S.Store.world i.tree c.register_tables.new.self i.numbers.items i.doubted new c.args.self.now c.self.view_is (c.register_tables.ensures.upholds tells) c.clean_log.ensures.cleans.core (c.clean_log.ensures.upholds tells) (c.clean_log.ensures.passes tells) (c.clean_log.ensures.known tells)).left.files
+    (leaves_logged g.S.Store.world i.tree c.register_tables.new.self i.numbers.items i.doubted new c.args.self.now c.self.view_is (c.register_tables.ensures.upholds tells) c.clean_log.ensures.cleans.core (c.clean_log.ensures.upholds tells) (c.clean_log.ensures.passes tells) (c.clean_log.ensures.known tells)).left.files
 
 pub returns-then-self-clause-upholds : goal.returns-then-self-clause-upholds
 returns-then-self-clause-upholds g c tells =
@@ -126,19 +126,19 @@ returns-then-self-clause-known g c tells =
     let w = g.S.Store.world in
     let i = c.self.inside in
     let left = c.abandon_flush.new.self in
-    let there = subst (λ (s : g.row.S.Denot). KeepsKnown (log_from_of left.core) (w i.tree.store) (w s) i.numbers.items i.numbers.items) (sym c.abandon_flush.ensures.store) (known_still (log_from_of left.core) (w i.tree.store) i.numbers.items) in
-    subst (λ (t : SeenLogged g.row.S.Denot). KeepsKnown (log_from_of left.core) (w t.store) (w left.store) t.numbers i.numbers.items) c.self.view_is there
+    let there = subst (λ (s : g.row.S.Denot). KeepsKnown (w i.tree.store) (w s) i.numbers.items i.numbers.items) (sym c.abandon_flush.ensures.store) (known_still (w i.tree.store) i.numbers.items) in
+    subst (λ (t : SeenLogged g.row.S.Denot). KeepsKnown (w t.store) (w left.store) t.numbers i.numbers.items) c.self.view_is there
 
 pub returns-in_err-registered-clause-known : goal.returns-in_err-registered-clause-known
 returns-in_err-registered-clause-known g c tells =
     let i = c.self.inside in
-    all_left c.plain_numbers_are_read.ensures g.S.Store.world i.tree c.register_tables.new.self i.numbers.items i.doubted c.args.self.now c.self.view_is (c.register_tables.ensures.upholds tells).passes
+    all_left g.S.Store.world i.tree c.register_tables.new.self i.numbers.items i.doubted c.args.self.now c.self.view_is (c.register_tables.ensures.upholds tells).passes
 
 pub returns-clause-known : goal.returns-clause-known
 returns-clause-known g c tells =
     let i = c.self.inside in
     let new = c.clean_log.new.self in
-    (leaves_logged c.plain_numbers_are_read.ensures g.S.Store.world i.tree c.register_tables.new.self i.numbers.items i.doubted new c.args.self.now c.self.view_is (c.register_tables.ensures.upholds tells) c.clean_log.ensures.cleans.core (c.clean_log.ensures.upholds tells) (c.clean_log.ensures.passes tells) (c.clean_log.ensures.known tells)).known
+    (leaves_logged g.S.Store.world i.tree c.register_tables.new.self i.numbers.items i.doubted new c.args.self.now c.self.view_is (c.register_tables.ensures.upholds tells) c.clean_log.ensures.cleans.core (c.clean_log.ensures.upholds tells) (c.clean_log.ensures.passes tells) (c.clean_log.ensures.known tells)).known
 
 pub returns-clause-passed_are_gone : goal.returns-clause-passed_are_gone
 returns-clause-passed_are_gone g c tells installed cleaned =

@@ -27,9 +27,9 @@ returns-then-is_uncertain-clause-acts g c tells =
     subst (λ (t : SeenLogged g.row.S.Denot). WritesAct c.args.ops.items (Err Unrecoverable) (w t.store) (w t.store) t t) c.self.view_is (nothing_done (w old.store) c.args.ops.items old (c.is_upheld.ensures tells))
 
 pub returns-clause-known : goal.returns-clause-known
-returns-clause-known g c tells from known =
+returns-clause-known g c tells known =
     let w = g.S.Store.world in
     let old = c.args.self.now in
     let new = c.write_certain.new.self in
     let sure : is_unsure old ≡ false = sym c.is_uncertain.ensures ∙ c.if-is_uncertain.false in
-    write_known c.plain_numbers_are_read.ensures (w old.store) (w new.store) c.args.ops.items old new sure c.write_certain.result c.write_certain.ensures.writes (c.write_certain.ensures.records tells) from known
+    write_known c.plain_numbers_are_read.ensures (w old.store) (w new.store) c.args.ops.items old new sure c.write_certain.result c.write_certain.ensures.writes (c.write_certain.ensures.records tells) known
