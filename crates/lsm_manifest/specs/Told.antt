@@ -1,5 +1,6 @@
 -- Refusals as the errors of the tree.
-use Rattle.std.specs.Prelude.{◌≡◌, ◌∙◌, sym, ap, ℕ, ◌+◌, ◌-◌, ◌^◌, min, List, Result, Ok, Err, OnOk, IsErrOf, codes}
+use Rattle.std.proofs.Common.{◌∙◌, sym, ap}
+use Rattle.std.specs.Prelude.{◌≡◌, ℕ, ◌+◌, ◌-◌, ◌^◌, min, List, Result, Ok, Err, OnOk, IsErrOf, codes}
 use Rattle.std.specs.Borrow.{Bor}
 use Rattle.lsm_below.specs.declared.error.Error.{Error}
 use Rattle.lsm_below.specs.declared.error.Error.TheVariants as error
