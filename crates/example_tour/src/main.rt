@@ -98,6 +98,7 @@ fn work(rt: &HostRuntime, tree: &mut Logged<FolderStore<HostRuntime>>) -> Result
     remove(alloc, tree, b"plum")?;
     flush(tree)?;
     look(rt, &[FOLDER, "--levels"])?;
+    look(rt, &[FOLDER, "--svg"])?;
 
     merge(tree)?;
     look(rt, &[FOLDER, "--levels"])?;
@@ -124,6 +125,7 @@ fn main(rt: HostRuntime) -> Result<()> {
     worked?;
     look(&rt, &[FOLDER, "--check"])?;
     look(&rt, &[FOLDER])?;
+    look(&rt, &[FOLDER, "--svg"])?;
 
     let tree = open(&rt)?;
     let listed = list(&rt, &tree);

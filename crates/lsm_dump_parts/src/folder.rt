@@ -102,12 +102,13 @@ impl<R: Files<File = File> + Alloc + Clone + Drop> FolderView<R> {
         self.last_fault.as_ref()
     }
 
-    /// Counts a call that failed, and keeps why.
+    /// Counts a call that failed, and keeps why. A call about no file is told of the folder.
     fn count(&mut self, call: FolderCall, name: &str, error: io::Error)
         ensures { self.new.failures ≡ min (self.old.failures + 1) (2 ^ 64 - 1) }
     {
         let alloc = *self.root.allocator();
-        let name = match String::from_str(alloc, name) {
+        let about = if name.is_empty() { self.root.as_str() } else { name };
+        let name = match String::from_str(alloc, about) {
             Ok(name) => name,
             Err(_) => String::new(alloc),
         };
