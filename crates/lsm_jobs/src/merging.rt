@@ -78,10 +78,14 @@ pub fn merge_memtables(
     take_all(alloc, stream)
 }
 
-/// Whether no entry is hidden by the one before it, of the same key. Keys are compared only below the watermark.
+/// Whether no entry is hidden by the one before it, of the same key. Keys are compared only below the watermark, so at 0
+/// nothing is looked at.
 fn hides_none(watermark: SeqNo, entries: Iter<'_>) -> bool
     ensures { IsTrue result ↔ HidesNone watermark entries.entry }
 {
+    if watermark == 0 {
+        return true;
+    }
     let mut rest = entries;
     let Some(first) = rest.next() else {
         return true;
