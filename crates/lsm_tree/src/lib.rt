@@ -167,6 +167,7 @@ pub use lsm_runs::live;
 pub use lsm_runs::run;
 pub use lsm_state::Begun;
 pub use lsm_state::Finished;
+pub use lsm_state::Found;
 pub use lsm_state::MAX_KEY_LEN;
 pub use lsm_state::MAX_VALUE_LEN;
 pub use lsm_state::Options;
