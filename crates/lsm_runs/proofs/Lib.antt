@@ -42,3 +42,4 @@ pub mod Moments
 pub mod ReadFiles
 pub mod RunLives
 pub mod Settled
+pub mod Openings

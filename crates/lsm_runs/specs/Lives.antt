@@ -8,11 +8,12 @@ use Rattle.lsm_model.specs.Journal.{Map, InOrder}
 use Rattle.lsm_model.specs.Views.{view_at}
 use Rattle.lsm_versions.specs.Levels.{Levels}
 use Rattle.lsm_manifest.specs.Finding.{Finds}
+use Rattle.lsm_manifest.specs.Opening.{LeavesStanding}
 use Rattle.lsm_manifest.specs.Ready.{IsReady, OpeningLeaves}
 use Rattle.lsm_run_model.specs.Outcomes.{nothing, after_all}
 use Rattle.lsm_run_model.specs.Outcomes as out
 use Rattle.lsm_run_model.specs.Moments.{last_of}
-use Rattle.lsm_run_model.specs.Lives.{End, EndsIn, IsKill, Lived, ManyLives}
+use Rattle.lsm_run_model.specs.Lives.{End, EachShows, EndsIn, IsKill, Lived, OneLife, ManyLives}
 use Rattle.lsm_run_model.specs.Rising.{At, RisesFrom, WeakOnce}
 use Rattle.lsm_runs.specs.declared.steps.Step.{Step}
 use Rattle.lsm_runs.specs.declared.steps.Reply.{Reply}
@@ -35,6 +36,12 @@ pub record AreSteps (opened : List Entry) (start : Map) (told : List (out.Told R
 -- open, and whatever it may leave shows one that it leaves open. What is found is numbered below 2^63, so that no opening is refused for it.
 abbrev pub AnyNumberOfLives : {F : Type 0} → (F → World) → Type 0
 AnyNumberOfLives world = ManyLives Reply AreSteps IsReady (Reopens (2 ^ 63)) world
+
+-- A ready store that shows the map was being opened when a crash came, or when the process was killed: what the opening leaves at each moment,
+-- whatever it was to answer, is a life that ended in its opening. `TreeState::open` says so much of the store behind it, by `opens`.
+abbrev pub OpeningsAreLives : {F : Type 0} → (F → World) → Type 0
+OpeningsAreLives {F} world = (was is : F) (m : Map) (end : End F) → IsReady (world was) → Reopens (2 ^ 63) (world was).gives m → EachShows (Reopens (2 ^ 63)) (world was) → LeavesStanding (world was) (world is) → EndsIn world (world was) (world is) end
+    → OneLife Reply AreSteps IsReady (Reopens (2 ^ 63)) world m was end
 
 -- ---- one life
 

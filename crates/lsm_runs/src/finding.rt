@@ -2,14 +2,16 @@
 ghost use Rattle.lsm_manifest.specs.Ready.{IsReady};
 ghost use Rattle.lsm_runs.specs.Moments.{FindsPlaced, Reopens};
 ghost use Rattle.lsm_runs.specs.Compacting.{strategies_of};
-ghost use Rattle.lsm_runs.specs.Lives.{AreSteps, AnyNumberOfLives};
+ghost use Rattle.lsm_runs.specs.Lives.{AreSteps, AnyNumberOfLives, OpeningsAreLives};
 ghost use Rattle.lsm_runs.specs.Living.{RunsAreLives};
 
 use crate::Reply;
+use lsm_below::plain_numbers_are_read;
 use lsm_manifest::{crashes_settle, images_stand_once, unread_names_dont_matter};
 use lsm_pick::CompactionStrategy;
 use lsm_run_model::{Finding, Telling, lives_go_on};
 use lsm_store::Store;
+use lsm_tables::no_image_begins_another;
 
 /// How the files of a tree are found.
 ///
@@ -60,3 +62,19 @@ pub fn any_number_of_lives<S: Store>(store: &S)
 pub fn runs_are_lives<S: Store>(_: &S, strategies: &[Box<dyn CompactionStrategy>])
     ensures { RunsAreLives S.world (strategies_of (λ b. may_choose b) (λ b. may_refuse b) strategies.now) }
 {}
+
+/// A crash in the opening of a tree, or a kill in it, is the end of a life, as `any_number_of_lives` takes it: what it leaves is ready to be
+/// opened again, and shows a map that a crash might have left before.
+///
+/// # Examples
+///
+/// ```text
+/// openings_are_lives(&store);
+/// ```
+pub fn openings_are_lives<S: Store>(_: &S)
+    ensures { S.tells → OpeningsAreLives S.world }
+{
+    plain_numbers_are_read();
+    no_image_begins_another();
+    images_stand_once();
+}

@@ -17,7 +17,7 @@ mod slots;
 mod steps;
 mod telling;
 
-pub use finding::{TreeFiles, any_number_of_lives, runs_are_lives};
+pub use finding::{TreeFiles, any_number_of_lives, openings_are_lives, runs_are_lives};
 pub use life::live;
 pub use runner::run;
 pub use slots::Slot;

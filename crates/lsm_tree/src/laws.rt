@@ -14,7 +14,7 @@ pub use lsm_model::{
     reads_are_sound, steps_spare_answers, tables_are_placed, tables_show_above,
 };
 pub use lsm_pick::leveled_is_lawful;
-pub use lsm_runs::{any_number_of_lives, runs_are_lives};
+pub use lsm_runs::{any_number_of_lives, openings_are_lives, runs_are_lives};
 pub use lsm_state::{
     clears_keep_reads, compactions_are_deeds, compactions_keep_reads, flushes_are_deeds,
     flushes_keep_reads, lists_are_steps, opened_trees_are_fresh, ranges_are_overlaid,
