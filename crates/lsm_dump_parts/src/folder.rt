@@ -107,7 +107,11 @@ impl<R: Files<File = File> + Alloc + Clone + Drop> FolderView<R> {
         ensures { self.new.failures ≡ min (self.old.failures + 1) (2 ^ 64 - 1) }
     {
         let alloc = *self.root.allocator();
-        let about = if name.is_empty() { self.root.as_str() } else { name };
+        let about = if name.is_empty() {
+            self.root.as_str()
+        } else {
+            name
+        };
         let name = match String::from_str(alloc, about) {
             Ok(name) => name,
             Err(_) => String::new(alloc),

@@ -161,6 +161,6 @@ returns-in-Ok-take_log-clause-counts g c =
     let mid = c.check_numbered.new.found.store in
     let new = c.take_log.new.tree.store in
     let same : (w new).failures ≡ (w store).failures =
-        none_counted (w c.in_ok-tree.tree.store) (w new) tt c.in-Ok-take_log.ensures.counts
-        ∙ c.in_ok-tree.ensures.counts ∙ none_counted (w found.store) (w mid) c.in-Ok.checked c.in-Ok.ensures.counts ∙ c.in_ok-found.ensures.counts in
+    none_counted (w c.in_ok-tree.tree.store) (w new) tt c.in-Ok-take_log.ensures.counts
+    ∙ c.in_ok-tree.ensures.counts ∙ none_counted (w found.store) (w mid) c.in-Ok.checked c.in-Ok.ensures.counts ∙ c.in_ok-found.ensures.counts in
     none_behind (w store) (w new) _ same
