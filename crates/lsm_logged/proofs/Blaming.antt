@@ -1,5 +1,5 @@
 -- Why an opening, and a look before it, are refused: which calls of the store failed.
-use Rattle.std.proofs.Common.{◌≡◌, ⊎_elim, ◌+◌, ◌-◌, ◌^◌, min, Ok, Err, ap, ◌∙◌, arith}
+use Rattle.std.proofs.Common.{◌≡◌, ⊎_elim, ◌+◌, ◌-◌, ◌^◌, min, Ok, Err, IsErrOf, ap, ◌∙◌, arith}
 use Rattle.lsm_below.specs.declared.error.Error.{Error}
 use Rattle.lsm_below.specs.declared.error.Error.TheVariants.{Store, CommitUnknown}
 use Rattle.lsm_store.specs.World.{Image, World}
@@ -30,7 +30,7 @@ counted_behind {A} {B} old mid new e same counts = record {
     more : min (mid.failures + 1) (2 ^ 64 - 1) ≡ min (old.failures + 1) (2 ^ 64 - 1)
     more = ap (λ n. min (n + 1) (2 ^ 64 - 1)) same
 
-    err_is : {T : Type 0} (e f : Error) → Err {T = T} e ≡ Err f → e ≡ f
+    err_is : {T : Type 0} (e f : Error) → IsErrOf {T = T} (Err e) f → e ≡ f
     err_is e f h = cc h
 
 -- and none behind them

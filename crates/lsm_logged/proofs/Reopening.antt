@@ -154,14 +154,14 @@ module _ (old mid new : World) (v : SeenVersion) (passed : List ℕ) (records : 
       by_place k small there (inl le) = (log.read_are k).1 (record { small = small; file = subst (λ (c : Option (List ℕ)). IsSome c) (clears.gives (record_name k) (none_below read v.log_from k le small) ∙ passes.gives (record_name k) (record_is_foreign k)) there }, le)
       by_place k small there (inr lt) = absurd (not_there (is_known_or_not k passed))
         where
+          out_of : (k : ℕ) → AllByRecursion (λ j. j ≢ k) passed → Contains passed k → ⊥
+          out_of k out has = All-contains (λ j. j ≢ k) passed k (All-from_recursion (λ j. j ≢ k) passed out) has refl
+
           not_there : Contains passed k ⊎ AllByRecursion (λ j. j ≢ k) passed → ⊥
           not_there (inl has) = let no = subst (λ (c : Option (List ℕ)). IsSome c) (gone k has lt) there in cc no
           not_there (inr out) =
               let same = others (record_name k) (λ j has e. All-contains (λ j. j ≢ k) passed j (All-from_recursion (λ j. j ≢ k) passed out) has (sym (apart read k j small ((log.passed_are j).0 has).0.small e))) ∙ passes.gives (record_name k) (record_is_foreign k) in
               out_of k out ((log.passed_are k).1 (record { small = small; file = subst (λ (c : Option (List ℕ)). IsSome c) same there }, lt))
-
-          out_of : (k : ℕ) → AllByRecursion (λ j. j ≢ k) passed → Contains passed k → ⊥
-          out_of k out has = All-contains (λ j. j ≢ k) passed k (All-from_recursion (λ j. j ≢ k) passed out) has refl
 
   -- ---- the log
 

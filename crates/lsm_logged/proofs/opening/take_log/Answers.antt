@@ -1,4 +1,4 @@
-use Rattle.std.proofs.Common.{Contains, ap, ◌∙◌, subst}
+use Rattle.std.proofs.Common.{Contains, sym, ap, ◌∙◌, subst}
 use Rattle.std.proofs.lemmas.Result.{on_ok_weaker}
 use Rattle.lsm_log.specs.Changes.{IsBelow, IsNoneOf}
 use Rattle.lsm_state.specs.Core.{versions_left}
@@ -39,4 +39,4 @@ returns-clause-upholds g c tells =
 
 pub returns-clause-others : goal.returns-clause-others
 returns-clause-others g c tells =
-    on_ok_weaker c.remove_records_below.result (λ gone n out. c.remove_records_below.ensures.others tells n (subst (λ l. IsNoneOf (Contains l) n) c.deref.ensures.value out) ∙ (c.replay_each.ensures.same tells).gives n) (c.remove_records_below.ensures.gone tells)
+    on_ok_weaker c.remove_records_below.result (λ gone n out. c.remove_records_below.ensures.others tells n (subst (λ l. IsNoneOf (Contains l) n) (sym c.deref-2.ensures.value) out) ∙ (c.replay_each.ensures.same tells).gives n) (c.remove_records_below.ensures.gone tells)

@@ -8,6 +8,7 @@ use Rattle.lsm_model.specs.Views.{held}
 use Rattle.lsm_versions.specs.Configs.{raised}
 use Rattle.lsm_versions.specs.Levels.{SeenVersion, placed_of}
 use Rattle.lsm_manifest.specs.declared.found.Found.{Found}
+use Rattle.lsm_manifest.specs.declared.opening.Opened.{Opened}
 use Rattle.lsm_manifest.specs.Looking.{Looks}
 use Rattle.lsm_manifest.specs.Told.{told_counts}
 use Rattle.lsm_files.specs.Foreign.{Passes}
@@ -130,7 +131,7 @@ pub returns-in_err-found-clause-counts : goal.returns-in_err-found-clause-counts
 returns-in_err-found-clause-counts g c =
     let w = g.S.Store.world in
     let p = err_from_is_err_and c.from_residual.result c.from_residual.ensures.1 in
-    rw (p.1, p.2) (counted_behind (w c.args.store) (w c.args.store) _ _ refl (told_counts _ _ _ c.in_err-found.ensures.counts))
+    rw (p.1, p.2) (counted_behind {A = Found} (w c.args.store) (w c.args.store) _ _ refl (told_counts _ _ _ c.in_err-found.ensures.counts))
 
 pub returns-in-Err-clause-counts : goal.returns-in-Err-clause-counts
 returns-in-Err-clause-counts g c =
@@ -143,7 +144,7 @@ returns-in_err-tree-clause-counts g c =
     let found = c.in_ok-found.found in
     let mid = c.check_numbered.new.found.store in
     let p = err_from_is_err_and c.from_residual-in_err-tree.result c.from_residual-in_err-tree.ensures.1 in
-    rw (p.1, p.2) (counted_behind (w c.args.store) (w mid) _ _ (none_counted (w found.store) (w mid) c.in-Ok.checked c.in-Ok.ensures.counts ∙ c.in_ok-found.ensures.counts) (told_counts _ _ _ c.in_err-tree.ensures.counts))
+    rw (p.1, p.2) (counted_behind {A = Opened} (w c.args.store) (w mid) _ _ (none_counted (w found.store) (w mid) c.in-Ok.checked c.in-Ok.ensures.counts ∙ c.in_ok-found.ensures.counts) (told_counts _ _ _ c.in_err-tree.ensures.counts))
 
 pub returns-in-Err-take_log-clause-counts : goal.returns-in-Err-take_log-clause-counts
 returns-in-Err-take_log-clause-counts g c =
