@@ -1,0 +1,18 @@
+//! A logged tree under any list of calls: every acknowledged batch, whole.
+//!
+//! | Module | Holds |
+//! |-|-|
+//! | `steps` | calls as data |
+//! | `copying` | what a step hands to its call |
+//! | `runner` | a list of calls on a logged tree, with the log theorem |
+//! | `life` | a logged tree from its opening on |
+#![tactic(auto)]
+
+mod copying;
+mod life;
+mod runner;
+mod steps;
+
+pub use life::{crashed_logs_open, live_logged, opened_logs_stand};
+pub use runner::run_logged;
+pub use steps::{LogStep, TakenLogged};
