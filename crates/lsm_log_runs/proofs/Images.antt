@@ -1,6 +1,5 @@
 -- What an opening reads in an image that has a version of a tree and the log beside it is what a crash may leave of a logged tree.
 use Rattle.std.proofs.Common.{◌≡◌, ◌⊎◌, ⊎_elim, inl, inr, Bool, true, false, ℕ, ◌≤◌, eqb, eqb-true, List, [], ◌∷◌, ◌++◌, Option, Some, None, IsSome, map, option_to_list, refl, sym, ap, ◌∙◌, subst, arith}
-use Rattle.std.specs.List.{AllByRecursion}
 use Rattle.std.proofs.lemmas.Bool.{eqb-false}
 use Rattle.lsm_below.specs.Members.{IsIn, each_in}
 use Rattle.lsm_store.specs.World.{Image}
@@ -8,7 +7,7 @@ use Rattle.lsm_model.specs.Journal.{Event}
 use Rattle.lsm_model.specs.Views.{Placed}
 use Rattle.lsm_model.specs.Beginnings.{Note, Saved, Stands}
 use Rattle.lsm_versions.specs.Levels.{SeenVersion, placed_of}
-use Rattle.lsm_manifest.specs.Finding.{Finds, Named}
+use Rattle.lsm_manifest.specs.Finding.{Named}
 use Rattle.lsm_manifest.specs.Names.{current_name}
 use Rattle.lsm_manifest.specs.Standing.{StandsFor}
 use Rattle.lsm_manifest.specs.Versions.{named_levels}
@@ -23,7 +22,7 @@ use Rattle.lsm_log_model.proofs.Growth.{in_append}
 use Rattle.lsm_state.specs.Core.{Core, versions_left}
 use Rattle.lsm_logged.specs.Acting.{HoldsLog}
 use Rattle.lsm_logged.specs.Images.{RecordsAreThoseRead, VersionIsToldOnce}
-use Rattle.lsm_logged.specs.Keeping.{IsLogOf, IsLogIn, IsRecordFile, IsNoNumber}
+use Rattle.lsm_logged.specs.Keeping.{IsLogOf, IsRecordFile, IsNoNumber}
 use Rattle.lsm_logged.specs.Opening.{image_read}
 use Rattle.lsm_log_runs.specs.Images.{ReadsVersion, ReadsLog, HoldsLogged}
 

@@ -9,3 +9,4 @@ pub mod Rotations
 pub mod CommitLeads
 pub mod Runs
 pub mod Opening
+pub mod Lives

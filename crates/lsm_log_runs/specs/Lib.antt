@@ -9,3 +9,4 @@ pub mod Runs
 pub mod Leading
 pub mod Doing
 pub mod Living
+pub mod Lives

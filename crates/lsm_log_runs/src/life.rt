@@ -2,6 +2,7 @@
 ghost use Rattle.std.specs.Prelude.{◌≡◌, ◌≤◌, take, length, IfOk, IfErr, OnOk};
 ghost use Rattle.lsm_logged.specs.Opening.{RefusesLogged};
 ghost use Rattle.lsm_log_runs.specs.Images.{MayBeOpened};
+ghost use Rattle.lsm_log_runs.specs.Lives.{AnyNumberOfLoggedLives};
 ghost use Rattle.lsm_log_runs.specs.Living.{LivesLogged, OpenedLogsStand, CrashedLogsOpen};
 
 use crate::{LogStep, TakenLogged, run_logged};
@@ -37,6 +38,21 @@ pub fn crashed_logs_open<S: Store>(store: &S)
     crashes_settle(store);
     logs_can_be_settled(store);
     found_tables_show();
+}
+
+/// Over any number of lives of usual steps (no batch removes a key weakly), each ended by a crash behind its last step or with its
+/// process: the next store may be opened, and is kept of the life: it stands for a beginning of its calls between batches, which
+/// holds all that was acknowledged, flushed or cleared.
+///
+/// # Examples
+///
+/// ```text
+/// any_number_of_logged_lives(&store);
+/// ```
+pub fn any_number_of_logged_lives<S: Store>(store: &S)
+    ensures { S.tells → AnyNumberOfLoggedLives S.world }
+{
+    crashed_logs_open(store);
 }
 
 /// Opens the logged tree of a store, as `Logged::open`, and takes steps on it, as `run_logged`. It answers the tree and the steps
