@@ -1,9 +1,9 @@
 -- A batch comes in order under a number that is past all, where no key comes twice and each that it removes weakly was set once at most.
-use Rattle.std.proofs.Common.{◌≡◌, ℕ, ◌+◌, ◌≤◌, max, true, false, cond, ◌&&◌, List, [], ◌∷◌, ◌++◌, map, fold, refl, sym, ap, ◌∙◌, subst, arith}
+use Rattle.std.proofs.Common.{◌≡◌, ℕ, ◌+◌, ◌≤◌, max, false, cond, ◌&&◌, List, [], ◌∷◌, ◌++◌, map, fold, refl, sym, ap, ◌∙◌, subst, arith}
 use Rattle.std.specs.List.{AllByRecursion}
 use Rattle.std.proofs.lemmas.Grind.{fold-append}
-use Rattle.lsm_below.specs.Each.{each_both, each_weaker}
-use Rattle.lsm_below.specs.Entries.{Entry, above, stack, values, is_value, is_weak}
+use Rattle.lsm_below.specs.Each.{each_both}
+use Rattle.lsm_below.specs.Entries.{Entry, above, stack, values, is_value}
 use Rattle.lsm_below.specs.Keys.{Bytes, is_same}
 use Rattle.lsm_below.specs.Orders.{same_swap}
 use Rattle.lsm_model.specs.Journal.{Event, InOrder, InOrderFrom, MayWrite, next_number, next_number_after, next_of, next_after, floor, floor_after, sets_of, sets_after}

@@ -1,6 +1,6 @@
 -- What stands beside a logged tree that came about: which memtables are sealed by its notes, that its journal has no low reads, and from
 -- where a version of unknown outcome reads the log.
-use Rattle.std.proofs.Common.{◌≡◌, ℕ, ◌<◌, ◌≤◌, arith, ◌==◌, true, false, cond, not, ◌||◌, List, [], ◌∷◌, ◌++◌, filter, max, refl, sym, ap, ◌∙◌, subst, eq-eqb, ne_eqb, le-leb, ◌⊎◌, inl, inr, ⊎_elim}
+use Rattle.std.proofs.Common.{◌≡◌, ℕ, ◌<◌, ◌≤◌, arith, ◌==◌, true, false, cond, not, ◌||◌, List, [], ◌∷◌, ◌++◌, filter, refl, sym, ap, ◌∙◌, subst, eq-eqb, ne_eqb, le-leb, ◌⊎◌, inl, inr, ⊎_elim}
 use Rattle.std.specs.List.{AllByRecursion}
 use Rattle.std.proofs.Math.Bool.{or-true}
 use Rattle.lsm_below.specs.Each.{each_right, each_weaker}

@@ -1,11 +1,11 @@
 -- What a rotation, a flush behind it, and a compaction lead to.
-use Rattle.std.proofs.Common.{◌≡◌, ◌⊎◌, ⊎_elim, inl, inr, ℕ, true, false, List, [], ◌∷◌, ◌++◌, length, Option, Some, None, Result, Ok, Err, refl, sym, ap, ◌∙◌, subst, arith}
+use Rattle.std.proofs.Common.{◌≡◌, ⊎_elim, inl, inr, ℕ, List, [], ◌∷◌, Option, Some, None, Result, Ok, Err, refl, sym, ap, subst}
 use Rattle.lsm_below.specs.Entries.{Entry}
 use Rattle.lsm_below.specs.declared.error.Error.{Error}
-use Rattle.lsm_below.specs.declared.error.Error.TheVariants.{CommitUnknown, AfterCommit, OutOfNumbers, OutOfMemory}
+use Rattle.lsm_below.specs.declared.error.Error.TheVariants.{CommitUnknown, AfterCommit}
 use Rattle.lsm_store.specs.World.{World, LeavesOnly}
-use Rattle.lsm_model.specs.Journal.{Event, InOrder}
-use Rattle.lsm_model.specs.Steps.{Action, Wrote, Rotated, Flushed, Merged, Moved, DroppedTables, Cleared, Marked, LostDrop, Asked, Maintained}
+use Rattle.lsm_model.specs.Journal.{Event}
+use Rattle.lsm_model.specs.Steps.{Action, Rotated, DroppedTables, Marked, Maintained}
 use Rattle.lsm_model.specs.Beginnings.{Note}
 use Rattle.lsm_files.specs.Foreign.{AtRest}
 use Rattle.lsm_log_model.specs.Logs.{Act, Did, CommitLost}
@@ -14,11 +14,10 @@ use Rattle.lsm_runs.specs.declared.steps.Reply.{Reply}
 use Rattle.lsm_runs.specs.declared.steps.Reply.TheVariants.{Sealed, Flushed as FlushedReply, FlushedActive, RefusedActive, Refused}
 use Rattle.lsm_runs.specs.Compacting.{reply_of}
 use Rattle.lsm_runs.specs.Files.{StaysStored}
-use Rattle.lsm_state.specs.Calls.{Rotates}
 use Rattle.lsm_state.specs.Core.{Core}
 use Rattle.lsm_state.specs.declared.compaction.Begun.{Begun}
 use Rattle.lsm_state.specs.declared.compaction.Begun.TheVariants.{DidNothing, Declined, Installed, Job}
-use Rattle.lsm_logged.specs.Acting.{LeadsBy, LeadsByRotation, LeadsByCommit, LeadsByLost, LeadsByMark, ActsByCompaction, CompactsAct, told_by, told_installed}
+use Rattle.lsm_logged.specs.Acting.{LeadsBy, LeadsByCommit, LeadsByLost, LeadsByMark, ActsByCompaction, CompactsAct, told_by, told_installed}
 use Rattle.lsm_logged.specs.Keeping.{SeenLogged}
 use Rattle.lsm_log_runs.specs.Adds.{AddsRotation, AddsFlush, AddsFlushActive, IsDrop, AddsInstalled, AddsCompaction}
 use Rattle.lsm_log_runs.specs.Doing.{ActsRotate, ActsFlush, ActsBehind, ActsFlushActive, ActsCompaction}

@@ -1,9 +1,9 @@
 -- A logged tree that came about goes on by acts, and what a crash leaves of it and in them.
-use Rattle.std.proofs.Common.{◌≡◌, ℕ, ◌≤◌, true, List, [], ◌∷◌, ◌++◌, refl, sym, ap, ◌∙◌, subst, arith, ◌⊎◌, None, inl}
+use Rattle.std.proofs.Common.{◌≡◌, ℕ, ◌≤◌, true, List, [], ◌∷◌, ◌++◌, refl, sym, subst, arith, ◌⊎◌, None, inl}
 use Rattle.std.specs.FinMap.{get}
 use Rattle.lsm_below.specs.Entries.{Entry}
 use Rattle.lsm_below.specs.Keys.{Bytes}
-use Rattle.lsm_model.specs.Journal.{Map, InOrder}
+use Rattle.lsm_model.specs.Journal.{InOrder}
 use Rattle.lsm_model.specs.Beginnings.{beginning, is_spared}
 use Rattle.lsm_model.specs.Sound.{Holds}
 use Rattle.lsm_model.specs.Soundness.{Soundness}

@@ -1,17 +1,15 @@
 -- What is opened on a store that an opening takes stands, and the steps on it are a life.
-use Rattle.std.proofs.Common.{◌≡◌, List, [], ◌∷◌, map, refl, sym, ap, ◌∙◌, subst}
-use Rattle.lsm_below.specs.Entries.{Entry}
+use Rattle.std.proofs.Common.{◌≡◌, List, [], ◌∷◌, map, refl, ap, ◌∙◌}
 use Rattle.lsm_store.specs.World.{World}
-use Rattle.lsm_model.specs.Journal.{Map}
 use Rattle.lsm_versions.specs.declared.config.Config.{Config}
 use Rattle.lsm_log_model.specs.Records.{LogImage, LogStands, logged, opened_by}
 use Rattle.lsm_run_model.specs.Moments.{last_of}
 use Rattle.lsm_runs.specs.declared.steps.Reply.{Reply}
 use Rattle.lsm_logged.specs.Keeping.{SeenLogged}
-use Rattle.lsm_logged.specs.Opening.{OpensLogged, IsReopenedLog, image_read, version_of}
+use Rattle.lsm_logged.specs.Opening.{OpensLogged, image_read, version_of}
 use Rattle.lsm_log_runs.specs.declared.steps.LogStep.{LogStep}
 use Rattle.lsm_log_runs.specs.Images.{ReadsLog, MayBeOpened}
-use Rattle.lsm_log_runs.specs.Living.{LivesLogged, OpenedLogsStand}
+use Rattle.lsm_log_runs.specs.Living.{LivesLogged}
 use Rattle.lsm_log_runs.specs.Moments.{EachKeeps}
 use Rattle.lsm_log_runs.specs.Pasts.{LogPast, nothing}
 use Rattle.lsm_log_runs.specs.Leading.{EachLeads, RunsLogged}

@@ -1,5 +1,5 @@
 -- What a commit or a clear adds to a journal keeps its order, where its number is past all.
-use Rattle.std.proofs.Common.{◌≡◌, ℕ, ◌≤◌, List, [], ◌∷◌, ◌++◌, subst, sym, ◌∙◌}
+use Rattle.std.proofs.Common.{ℕ, ◌≤◌, List, [], ◌∷◌, ◌++◌, subst, sym, ◌∙◌}
 use Rattle.std.proofs.lemmas.Grind.{fold-append}
 use Rattle.lsm_below.specs.Entries.{Entry, above}
 use Rattle.lsm_model.specs.Journal.{Event, InOrder, next_number, next_number_after}

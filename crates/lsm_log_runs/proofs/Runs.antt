@@ -1,8 +1,7 @@
 -- From what each step does to what holds of a run.
-use Rattle.std.proofs.Common.{◌≡◌, List, [], ◌∷◌, ◌++◌, refl, sym, ap, ◌∙◌, subst}
+use Rattle.std.proofs.Common.{◌≡◌, List, [], ◌∷◌, ◌++◌, refl, sym, ap, subst}
 use Rattle.lsm_below.specs.Entries.{Entry}
 use Rattle.lsm_store.specs.World.{World}
-use Rattle.lsm_model.specs.Journal.{Event}
 use Rattle.lsm_model.specs.Beginnings.{Saved}
 use Rattle.lsm_model.specs.Sound.{Holds}
 use Rattle.lsm_model.specs.declared.question.Question.TheVariants.{Between, Prefix as AskPrefix}
@@ -28,7 +27,7 @@ use Rattle.lsm_log_runs.proofs.Beside.{beside, is_high}
 use Rattle.lsm_log_runs.proofs.CommitLeads.{rotate_leads, active_leads, compaction_leads}
 use Rattle.lsm_log_runs.proofs.Going.{holds_on}
 use Rattle.lsm_log_runs.proofs.Leading.{Reading, Stores, Led, keeps_now, opens_now, nothing_led, still_led}
-use Rattle.lsm_log_runs.proofs.StepLeads.{LeadsOn, batch_leads, flush_leads, clear_leads}
+use Rattle.lsm_log_runs.proofs.StepLeads.{batch_leads, flush_leads, clear_leads}
 
 -- ---- a step more
 

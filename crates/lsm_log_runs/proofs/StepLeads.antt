@@ -1,5 +1,5 @@
 -- What each step leads to, by its kind and its reply.
-use Rattle.std.proofs.Common.{◌≡◌, ◌⊎◌, ⊎_elim, inl, inr, ℕ, ◌+◌, ◌≤◌, Bool, true, false, cond, List, [], ◌∷◌, ◌++◌, map, length, Some, None, Result, Ok, Err, refl, sym, ap, ◌∙◌, subst, arith}
+use Rattle.std.proofs.Common.{◌≡◌, ⊎_elim, ℕ, ◌+◌, ◌≤◌, Bool, true, false, cond, List, [], ◌∷◌, ◌++◌, map, length, Some, None, Result, Ok, Err, refl, sym, ap, ◌∙◌, subst, arith}
 use Rattle.std.specs.List.{AllByRecursion, list_any}
 use Rattle.lsm_below.specs.Entries.{Entry}
 use Rattle.lsm_below.specs.Keys.{Bytes}
@@ -10,7 +10,7 @@ use Rattle.lsm_model.specs.Journal.{Event, InOrder, next_number}
 use Rattle.lsm_model.specs.Ops.{op_entries, op_value, keys_of, repeats}
 use Rattle.lsm_model.specs.Sound.{Holds}
 use Rattle.lsm_model.specs.Steps.{Action, Marked, Maintained}
-use Rattle.lsm_model.specs.Beginnings.{Note, Saved, FlushedIds}
+use Rattle.lsm_model.specs.Beginnings.{Saved, FlushedIds}
 use Rattle.lsm_model.specs.declared.op.Op.{Op}
 use Rattle.lsm_model.specs.declared.journal.JournalEntry.TheVariants.{Write as Wrote, Install, Mark}
 use Rattle.lsm_files.specs.Foreign.{AtRest}
