@@ -10,3 +10,4 @@ pub mod CommitLeads
 pub mod Runs
 pub mod Opening
 pub mod Lives
+pub mod Fresh

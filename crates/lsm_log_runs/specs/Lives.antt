@@ -1,5 +1,5 @@
 -- Life after life of a logged tree: each ends with its process or by a crash, and the next one opens what it left.
-use Rattle.std.specs.Prelude.{◌≡◌, List, [], ◌∷◌}
+use Rattle.std.specs.Prelude.{◌≡◌, List, [], ◌∷◌, None}
 use Rattle.std.specs.List.{AllByRecursion}
 use Rattle.lsm_store.specs.World.{World, Begins}
 use Rattle.lsm_model.specs.declared.op.Op.TheVariants.{Weak}
@@ -58,3 +58,7 @@ AllGoWell world was (next ∷ more) lives = GoesWell world was next lives.0 × A
 
 abbrev pub AnyNumberOfLoggedLives : {F : Type 0} → (F → World) → Type 0
 AnyNumberOfLoggedLives {F} world = (was : F) (nexts : List F) (lives : LoggedLives world was nexts) → AllGoWell world was nexts lives
+
+-- A new store may be opened, so lives may begin.
+abbrev pub NewLogsOpen : {F : Type 0} → (F → World) → Type 0
+NewLogsOpen {F} world = (store : F) → Begins (λ name. None) (world store) → MayBeOpened (world store)

@@ -13,6 +13,8 @@ mod life;
 mod runner;
 mod steps;
 
-pub use life::{any_number_of_logged_lives, crashed_logs_open, live_logged, opened_logs_stand};
+pub use life::{
+    any_number_of_logged_lives, crashed_logs_open, live_logged, new_logs_open, opened_logs_stand,
+};
 pub use runner::run_logged;
 pub use steps::{LogStep, TakenLogged};

@@ -2,11 +2,12 @@
 ghost use Rattle.std.specs.Prelude.{◌≡◌, ◌≤◌, take, length, IfOk, IfErr, OnOk};
 ghost use Rattle.lsm_logged.specs.Opening.{RefusesLogged};
 ghost use Rattle.lsm_log_runs.specs.Images.{MayBeOpened};
-ghost use Rattle.lsm_log_runs.specs.Lives.{AnyNumberOfLoggedLives};
+ghost use Rattle.lsm_log_runs.specs.Lives.{AnyNumberOfLoggedLives, NewLogsOpen};
 ghost use Rattle.lsm_log_runs.specs.Living.{LivesLogged, OpenedLogsStand, CrashedLogsOpen};
 
 use crate::{LogStep, TakenLogged, run_logged};
 use lsm_below::Error;
+use lsm_log_model::tables_alone_stand;
 use lsm_logged::{Logged, logs_can_be_settled};
 use lsm_manifest::{crashes_settle, found_tables_show};
 use lsm_parts::Config;
@@ -38,6 +39,21 @@ pub fn crashed_logs_open<S: Store>(store: &S)
     crashes_settle(store);
     logs_can_be_settled(store);
     found_tables_show();
+}
+
+/// A new store may be opened.
+///
+/// # Examples
+///
+/// ```text
+/// new_logs_open(&store);
+/// ```
+pub fn new_logs_open<S: Store>(store: &S)
+    ensures { NewLogsOpen S.world }
+{
+    crashes_settle(store);
+    logs_can_be_settled(store);
+    tables_alone_stand();
 }
 
 /// Over any number of lives of usual steps (no batch removes a key weakly), each ended by a crash behind its last step or with its
