@@ -13,7 +13,7 @@ use Rattle.lsm_runs.specs.declared.steps.Reply.{Reply}
 use Rattle.lsm_log_runs.specs.declared.steps.LogStep.{LogStep}
 use Rattle.lsm_log_runs.specs.declared.steps.LogStep.TheVariants.{Write}
 use Rattle.lsm_log_runs.specs.Images.{Keeps, MayBeOpened}
-use Rattle.lsm_log_runs.specs.Lives.{IsUsual, CalledBy, TakesUp, Ended, Crashed, LoggedLife, GoesWell, LoggedLives, AllGoWell}
+use Rattle.lsm_log_runs.specs.Lives.{IsUsual, CalledBy, before_last, TakesUp, Ended, Crashed, LoggedLife, GoesWell, LoggedLives, AllGoWell}
 use Rattle.lsm_log_runs.specs.Living.{CrashedLogsOpen}
 use Rattle.lsm_log_runs.specs.Moments.{MayBeTried, EachKeeps}
 use Rattle.lsm_log_runs.specs.Pasts.{LogPast, nothing, acknowledged}
@@ -26,23 +26,27 @@ tried opened journal x usual = tt
 
 module _ {F : Type 0} (world : F → World) (gives_one : (store : F) → IsImage (world store).may (world store).gives) (counts_now : (store : F) (t : ℕ) (image : Image) → t ≤ (world store).moment → IsImage (world store).may image → (world store).since t image) (crashes : CrashedLogsOpen world) where
   -- what stands behind usual steps
-  record Reached (start : Map) (steps : List LogStep) (replies : List Reply) (past : LogPast) (is : F) : Type 0 where
+  record Reached (start : Map) (steps : List LogStep) (replies : List Reply) (earlier past : LogPast) (before is : F) : Type 0 where
+    then : LogPast
     all : LogPast
-    called : CalledBy steps replies past all
+    called : CalledBy steps replies earlier past then all
+    later : (world before).moment ≤ (world is).moment
+    inside : (image : Image) → (world is).since (world before).moment image → Keeps start all (acknowledged then) image
     now : LeavesNow (world is) (Keeps start all (acknowledged all))
     again : MayBeOpened (world is)
 
-  reach : (opened : List Entry) (start : Map) (steps : List LogStep) (replies : List Reply) (past : LogPast) (was : F) (stores : List F) → EachKeeps world opened start steps replies past was stores → AllByRecursion IsUsual steps
-      → LeavesNow (world was) (Keeps start past (acknowledged past)) → MayBeOpened (world was) → Reached start steps replies past (last_of was stores)
-  reach opened start [] [] past was [] each usual now again = record { all = past; called = refl; now = now; again = again }
-  reach opened start (x ∷ steps) (r ∷ replies) past was (is ∷ stores) each usual now again =
+  reach : (opened : List Entry) (start : Map) (steps : List LogStep) (replies : List Reply) (earlier past : LogPast) (before was : F) (stores : List F) → EachKeeps world opened start steps replies past was stores → AllByRecursion IsUsual steps
+      → (world before).moment ≤ (world was).moment → ((image : Image) → (world was).since (world before).moment image → Keeps start past (acknowledged earlier) image) → LeavesNow (world was) (Keeps start past (acknowledged past)) → MayBeOpened (world was)
+      → Reached start steps replies earlier past (before_last before was stores) (last_of was stores)
+  reach opened start [] [] earlier past before was [] each usual later inside now again = record { then = earlier; all = past; called = (refl, refl); later = later; inside = inside; now = now; again = again }
+  reach opened start (x ∷ steps) (r ∷ replies) earlier past before was (is ∷ stores) each usual later inside now again =
       let one = each (tried opened past.journal x usual.0) in
-      let rest = reach opened start steps replies one.0 is stores one.2 usual.1 one.1.now one.1.again in
-      record { all = rest.all; called = (one.0, one.1.adds, rest.called); now = rest.now; again = rest.again }
-  reach opened start [] [] past was (is ∷ stores) each usual now again = absurd each
-  reach opened start [] (r ∷ replies) past was stores each usual now again = absurd each
-  reach opened start (x ∷ steps) [] past was stores each usual now again = absurd each
-  reach opened start (x ∷ steps) (r ∷ replies) past was [] each usual now again = absurd each
+      let rest = reach opened start steps replies past one.0 was is stores one.2 usual.1 one.1.inside.later one.1.inside.each one.1.now one.1.again in
+      record { then = rest.then; all = rest.all; called = (one.0, one.1.adds, rest.called); later = rest.later; inside = rest.inside; now = rest.now; again = rest.again }
+  reach opened start [] [] earlier past before was (is ∷ stores) each usual later inside now again = absurd each
+  reach opened start [] (r ∷ replies) earlier past before was stores each usual later inside now again = absurd each
+  reach opened start (x ∷ steps) [] earlier past before was stores each usual later inside now again = absurd each
+  reach opened start (x ∷ steps) (r ∷ replies) earlier past before was [] each usual later inside now again = absurd each
 
   goes_well : (was next : F) (l : LoggedLife world was next) → GoesWell world was next l
   goes_well was next l = by l.then
@@ -50,19 +54,25 @@ module _ {F : Type 0} (world : F → World) (gives_one : (store : F) → IsImage
       left : LogImage
       left = image_read l.life.version l.life.records
 
-      reached : Reached (logged left) l.steps l.replies nothing l.is
-      reached = subst (Reached (logged left) l.steps l.replies nothing) l.life.ends (reach (opened_by left) (logged left) l.steps l.replies nothing l.life.first l.life.stores l.life.keeps l.usual l.life.now l.life.again)
+      before : F
+      before = before_last l.life.first l.life.first l.life.stores
 
-      by : TakesUp world l.is next → GoesWell world was next l
+      reached : Reached (logged left) l.steps l.replies nothing nothing before l.is
+      reached = subst (Reached (logged left) l.steps l.replies nothing nothing before) l.life.ends
+          (reach (opened_by left) (logged left) l.steps l.replies nothing nothing l.life.first l.life.first l.life.stores l.life.keeps l.usual (omega arith) l.life.now l.life.now l.life.again)
+
+      by : TakesUp world before l.is next → GoesWell world was next l
       by (Ended same) = record {
         opens = subst (λ x. MayBeOpened (world x)) (sym same) reached.again;
+        before = reached.then;
         past = reached.all;
         called = reached.called;
-        keeps = subst (λ x. Keeps (logged left) reached.all (acknowledged reached.all) (world x).gives) (sym same) (reached.now (world l.is).gives (counts_now l.is (world l.is).moment (world l.is).gives (omega arith) (gives_one l.is)));
+        keeps = subst (λ x. Keeps (logged left) reached.all (acknowledged reached.then) (world x).gives) (sym same) (reached.inside (world l.is).gives (counts_now l.is (world before).moment (world l.is).gives reached.later (gives_one l.is)));
+        behind = reached.now (world next).gives;
       }
       by (Crashed begins since) =
-          let keeps = reached.now (world next).gives since in
-          record { opens = crashes (logged left) reached.all (acknowledged reached.all) next begins keeps; past = reached.all; called = reached.called; keeps = keeps }
+          let keeps = reached.inside (world next).gives since in
+          record { opens = crashes (logged left) reached.all (acknowledged reached.then) next begins keeps; before = reached.then; past = reached.all; called = reached.called; keeps = keeps; behind = reached.now (world next).gives }
 
   pub all_go_well : (was : F) (nexts : List F) (lives : LoggedLives world was nexts) → AllGoWell world was nexts lives
   all_go_well was [] lives = tt

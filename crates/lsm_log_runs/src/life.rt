@@ -56,9 +56,10 @@ pub fn new_logs_open<S: Store>(store: &S)
     tables_alone_stand();
 }
 
-/// Over any number of lives of usual steps (no batch removes a key weakly), each ended by a crash behind its last step or with its
-/// process: the next store may be opened, and is kept of the life: it stands for a beginning of its calls between batches, which
-/// holds all that was acknowledged, flushed or cleared.
+/// Over any number of lives of usual steps (no batch removes a key weakly), each ended by a crash in its last step or behind it, or
+/// with its process behind it: the next store may be opened, and is kept of the life: it stands for a beginning of its calls
+/// between batches, which holds all that was acknowledged, flushed or cleared before the last step, and where the end came behind
+/// that one, what it acknowledged too. Of an end inside an opening it says nothing: each life's opening was answered.
 ///
 /// # Examples
 ///
