@@ -1,0 +1,182 @@
+-- What a rotation, a flush behind it, and a compaction lead to.
+use Rattle.std.proofs.Common.{◌≡◌, ⊎_elim, inl, inr, ℕ, List, [], ◌∷◌, Option, Some, None, Result, Ok, Err, refl, sym, ap, subst}
+use Rattle.lsm_below.specs.Entries.{Entry}
+use Rattle.lsm_below.specs.declared.error.Error.{Error}
+use Rattle.lsm_below.specs.declared.error.Error.TheVariants.{CommitUnknown, AfterCommit}
+use Rattle.lsm_store.specs.World.{World, LeavesOnly}
+use Rattle.lsm_model.specs.Journal.{Event}
+use Rattle.lsm_model.specs.Steps.{Action, Rotated, DroppedTables, Marked, Maintained}
+use Rattle.lsm_model.specs.Beginnings.{Note}
+use Rattle.lsm_files.specs.Foreign.{AtRest}
+use Rattle.lsm_log_model.specs.Logs.{Act, Did, CommitLost}
+use Rattle.lsm_log_model.specs.Records.{LogImage, logged, opened_by}
+use Rattle.lsm_runs.specs.declared.steps.Reply.{Reply}
+use Rattle.lsm_runs.specs.declared.steps.Reply.TheVariants.{Sealed, Flushed as FlushedReply, FlushedActive, RefusedActive, Refused}
+use Rattle.lsm_runs.specs.Compacting.{reply_of}
+use Rattle.lsm_runs.specs.Files.{StaysStored}
+use Rattle.lsm_state.specs.Core.{Core}
+use Rattle.lsm_state.specs.declared.compaction.Begun.{Begun}
+use Rattle.lsm_state.specs.declared.compaction.Begun.TheVariants.{DidNothing, Declined, Installed, Job}
+use Rattle.lsm_logged.specs.Acting.{LeadsBy, LeadsByCommit, LeadsByLost, LeadsByMark, ActsByCompaction, CompactsAct, told_by, told_installed}
+use Rattle.lsm_logged.specs.Keeping.{SeenLogged}
+use Rattle.lsm_log_runs.specs.Adds.{AddsRotation, AddsFlush, AddsFlushActive, IsDrop, AddsInstalled, AddsCompaction}
+use Rattle.lsm_log_runs.specs.Doing.{ActsRotate, ActsFlush, ActsBehind, ActsFlushActive, ActsCompaction}
+use Rattle.lsm_log_runs.specs.Images.{Keeps}
+use Rattle.lsm_log_runs.specs.Pasts.{LogPast, acknowledged, with_commit, with_doubt, with_sealed}
+use Rattle.lsm_log_runs.specs.Runs.{TakesRotate}
+use Rattle.lsm_log_runs.specs.Standing.{StandsLogged}
+use Rattle.lsm_log_runs.proofs.Leading.{Reading, Stores, Led, nothing_stands, nothing_led, still_led}
+use Rattle.lsm_log_runs.proofs.Orders.{order_marked, order_dropping, order_lost}
+use Rattle.lsm_log_runs.proofs.Rotations.{rotates_stored}
+use Rattle.lsm_log_runs.proofs.StepLeads.{LeadsOn, answered, fresh, holds, quiet_stands, quietly, flush_leads}
+
+-- ---- a rotation
+
+module _ {S : Type 0} (world : S → World) (reading : Reading) (between : Stores world) (image : LogImage) (past : LogPast) (old new : SeenLogged S) (s : StandsLogged world image past old) where
+  abbrev opened : List Entry
+  opened = opened_by image
+
+  pub rotated_stored : (id : Option ℕ) → TakesRotate (Sealed id) old new → StaysStored (world old.store) (world new.store) old.core new.core
+  rotated_stored id takes h = rotates_stored world old new id takes h
+
+  -- over the store as it is now
+  moved : (journal : List Event) (notes : List Note) (acts : List Act) → new.store ≡ old.store → LeadsBy opened journal notes s.log acts (world old.store) (world old.store) old new → LeadsBy opened journal notes s.log acts (world old.store) (world new.store) old new
+  moved journal notes acts same l = subst (λ (x : S). LeadsBy opened journal notes s.log acts (world old.store) (world x) old new) (sym same) l
+
+  abbrev behind : LogPast
+  behind = with_sealed old.core.history.latest.active_memtable past
+
+  abbrev sealing : List Act
+  sealing = Did (Rotated old.core.next_memtable) ∷ []
+
+  -- the rotation of this memtable
+  sealed_by : (id : ℕ) → TakesRotate (Sealed (Some id)) old new → ActsRotate (Sealed (Some id)) (world old.store) old new → LeadsBy opened behind.journal behind.notes s.log sealing (world old.store) (world new.store) old new
+  sealed_by id takes acts = moved behind.journal behind.notes sealing takes.1 (acts opened (logged image) past.journal past.notes s.log s.is s.keeps s.next (holds world reading between image past old new s (rotated_stored (Some id) takes)))
+
+  -- what it leaves stands, and covers no less than before
+  pub rotation_stands : (id : Option ℕ) → TakesRotate (Sealed id) old new → ActsRotate (Sealed id) (world old.store) old new → (next : LogPast) × AddsRotation (Sealed id) past next × (acknowledged next ≡ acknowledged past) × StandsLogged world image next new
+  rotation_stands None takes acts = (
+    past,
+    refl,
+    refl,
+    nothing_stands world reading between image past old new s
+        (moved past.journal past.notes [] takes.1 (acts opened (logged image) past.journal past.notes s.log s.is s.keeps s.next (holds world reading between image past old new s (rotated_stored None takes)))) (rotated_stored None takes),
+  )
+  rotation_stands (Some id) takes acts = (
+    behind,
+    ap (λ i. with_sealed i past) (sym takes.0.1),
+    refl,
+    quiet_stands world reading between image past old new s (rotated_stored (Some id) takes) behind sealing (tt, tt) (sealed_by id takes acts) refl refl s.came.order
+        (λ known. answered opened s.log sealing (sealed_by id takes acts).log (tt, tt) (sealed_by id takes acts).done (s.came.certain known)),
+  )
+
+  module _ (rest : AtRest (world new.store)) where
+    pub rotate_leads : (reply : Reply) → TakesRotate reply old new → ActsRotate reply (world old.store) old new → (next : LogPast) × AddsRotation reply past next × Led world reading between image past next old new
+    rotate_leads (Sealed None) takes acts = (
+      past,
+      refl,
+      nothing_led world reading between image past old new s
+          (moved past.journal past.notes [] takes.1 (acts opened (logged image) past.journal past.notes s.log s.is s.keeps s.next (holds world reading between image past old new s (rotated_stored None takes)))) (rotated_stored None takes) rest,
+    )
+    rotate_leads (Sealed (Some id)) takes acts = (
+      behind,
+      ap (λ i. with_sealed i past) (sym takes.0.1),
+      quietly world reading between image past old new s (rotated_stored (Some id) takes) rest behind sealing (tt, tt) (sealed_by id takes acts) refl refl s.came.order
+          (λ known. answered opened s.log sealing (sealed_by id takes acts).log (tt, tt) (sealed_by id takes acts).done (s.came.certain known)),
+    )
+    rotate_leads (Refused x) takes acts = (past, refl, same_led takes.0)
+      where
+        same_led : new ≡ old → Led world reading between image past past old new
+        same_led is = subst (λ (t : SeenLogged S). Led world reading between image past past old t) (sym is) (still_led world reading between image past old s (subst (λ (t : SeenLogged S). AtRest (world t.store)) is rest))
+    rotate_leads reply takes acts = absurd takes
+
+-- ---- a flush behind it
+
+module _ {S : Type 0} (world : S → World) (reading : Reading) (between : Stores world) (image : LogImage) (past : LogPast) (old new : SeenLogged S) (s : StandsLogged world image past old) (stored : StaysStored (world old.store) (world new.store) old.core new.core) (rest : AtRest (world new.store)) where
+  flushed_behind : (watermark : ℕ) (id : Option ℕ) (reply : Reply) → ActsBehind watermark id reply (world old.store) (world new.store) old new
+      → (next : LogPast) × ((mid : LogPast) × AddsRotation (Sealed id) past mid × AddsFlush watermark reply mid next) × Led world reading between image past next old new
+  flushed_behind watermark id reply both =
+      let mid = both.mid in
+      let at = rotation_stands world reading between image past old mid s id both.rotates both.sealed in
+      let same : mid.store ≡ old.store = both.rotates.1 in
+      let acts = subst (λ (x : S). ActsFlush watermark reply (world x) (world new.store) mid new) (sym same) both.flushes in
+      let led = flush_leads world reading between image at.0 mid new at.3 (λ h. stored s.stored) rest watermark reply acts in (
+        led.0,
+        (at.0, at.1, led.1),
+        record {
+          stands = led.2.stands;
+          inside = subst (λ (x : S). LeavesOnly (world x) (world new.store) (Keeps (logged image) led.0 (acknowledged past))) same (subst (λ n. LeavesOnly (world mid.store) (world new.store) (Keeps (logged image) led.0 n)) at.2 led.2.inside);
+          now = led.2.now;
+          again = led.2.again;
+          whole = led.2.whole;
+        },
+      )
+
+  -- a rotation that is refused does nothing
+  refused_rotation : (watermark : ℕ) (id : Option ℕ) (x : Error) → id ≡ None → TakesRotate (Refused x) old new → (next : LogPast) × ((mid : LogPast) × AddsRotation (Sealed id) past mid × AddsFlush watermark (Refused x) mid next) × Led world reading between image past next old new
+  refused_rotation watermark id x none takes =
+      (past, (past, subst (λ i. AddsRotation (Sealed i) past past) (sym none) refl, ⊎_elim (λ e. subst (λ y. AddsFlush watermark (Refused y) past past) (sym e) refl) (λ e. subst (λ y. AddsFlush watermark (Refused y) past past) (sym e) refl) takes.1), again takes.0)
+    where
+      again : new ≡ old → Led world reading between image past past old new
+      again is = subst (λ (t : SeenLogged S). Led world reading between image past past old t) (sym is) (still_led world reading between image past old s (subst (λ (t : SeenLogged S). AtRest (world t.store)) is rest))
+
+  pub active_leads : (watermark : ℕ) (reply : Reply) → ActsFlushActive watermark reply (world old.store) (world new.store) old new → LeadsOn world reading between image past old new s stored (AddsFlushActive watermark reply past)
+  active_leads watermark (FlushedActive id a) acts = flushed_behind watermark id (FlushedReply a) acts
+  active_leads watermark (RefusedActive id x) acts = ⊎_elim (λ r. refused_rotation watermark id x r.0 r.1) (λ both. flushed_behind watermark id (Refused x) both) acts
+  active_leads watermark reply acts = absurd acts
+
+  -- ---- a compaction
+
+  abbrev opened_on : List Entry
+  opened_on = opened_by image
+
+  abbrev Leads : (LogPast → Type 0) → Type 0
+  Leads = LeadsOn world reading between image past old new s stored
+
+  is_drop : (action : Action) (c : Core) → IsDrop (told_by action c)
+  is_drop (DroppedTables ids) c = tt
+  is_drop other c = tt
+
+  stood : (watermark : ℕ) (action : Action) → LeadsByCommit watermark action (told_installed action old.core) [] opened_on past.journal past.notes s.log (world old.store) (world new.store) old new → Leads (AddsInstalled watermark past)
+  stood watermark action l =
+      let drop = told_by action old.core in
+      let acts : List Act = Did (Marked watermark) ∷ (Did action ∷ (Did (Maintained watermark) ∷ [])) in (
+        with_commit watermark (told_installed action old.core) past,
+        (drop, old.core.seqno, is_drop action old.core, refl),
+        quietly world reading between image past old new s stored rest (with_commit watermark (told_installed action old.core) past) acts (tt, (tt, (tt, tt))) l refl refl
+            (order_dropping opened_on past.journal s.came.order watermark old.core.seqno drop (is_drop action old.core) (fresh world reading between image past old new s stored))
+            (λ known. answered opened_on s.log acts l.log (tt, (tt, (tt, tt))) l.done (s.came.certain known)),
+      )
+
+  in_doubt : (watermark : ℕ) (action : Action) → LeadsByLost watermark action (told_by action old.core) opened_on past.journal past.notes s.log (world old.store) (world new.store) old new → Leads (AddsCompaction watermark (Refused CommitUnknown) past)
+  in_doubt watermark action l =
+      let drop = told_by action old.core in (
+        with_doubt watermark drop past,
+        (drop, is_drop action old.core, refl),
+        quietly world reading between image past old new s stored rest (with_doubt watermark drop past) (Did (Marked watermark) ∷ (CommitLost action l.0 ∷ [])) (tt, (tt, tt)) l.1 refl refl
+            (order_lost opened_on past.journal s.came.order watermark drop (is_drop action old.core)) (λ known. absurd (cc known)),
+      )
+
+  marked : (watermark : ℕ) → LeadsByMark watermark (world old.store) (world new.store) old new opened_on past.journal past.notes s.log → Leads (λ next. next ≡ with_commit watermark [] past)
+  marked watermark l =
+      let acts : List Act = Did (Marked watermark) ∷ [] in (
+        with_commit watermark [] past,
+        refl,
+        quietly world reading between image past old new s stored rest (with_commit watermark [] past) acts (tt, tt) l refl refl (order_marked opened_on past.journal s.came.order watermark)
+            (λ known. answered opened_on s.log acts l.log (tt, tt) l.done (s.came.certain known)),
+      )
+
+  by_begun : (watermark : ℕ) (begun : Result Begun Error) → CompactsAct watermark begun (world old.store) (world new.store) old new → Leads (AddsCompaction watermark (reply_of begun) past)
+  by_begun watermark begun acts = go begun (acts opened_on (logged image) past.journal past.notes s.log s.is s.keeps s.next (holds world reading between image past old new s stored))
+    where
+      go : (begun : Result Begun Error) → ActsByCompaction watermark begun (world old.store) (world new.store) old new opened_on past.journal past.notes s.log → Leads (AddsCompaction watermark (reply_of begun) past)
+      go (Ok Installed) a = let d = a.done (inl refl) in stood watermark d.0 d.2
+      go (Ok DidNothing) a = marked watermark (a.told (λ e. cc e))
+      go (Ok (Declined why)) a = marked watermark (a.told (λ e. cc e))
+      go (Ok (Job job)) a = marked watermark (a.told (λ e. cc e))
+      go (Err AfterCommit) a = let d = a.done (inr refl) in stood watermark d.0 d.2
+      go (Err CommitUnknown) a = let d = a.lost refl in in_doubt watermark d.0 d.2
+      go (Err x) a = marked watermark (a.refused (λ e. cc e) (λ e. cc e))
+
+  pub compaction_leads : (watermark : ℕ) (reply : Reply) → ActsCompaction watermark reply (world old.store) (world new.store) old new → Leads (AddsCompaction watermark reply past)
+  compaction_leads watermark reply acts = subst (λ r. Leads (AddsCompaction watermark r past)) (sym acts.1) (by_begun watermark acts.0 acts.2)

@@ -1,0 +1,70 @@
+-- A new store may be opened: nothing is in it, and nothing can be left of it.
+use Rattle.std.proofs.Common.{◌≡◌, ⊎_elim, ℕ, ◌≤◌, List, [], ◌∷◌, map, Option, None, IsSome, refl, sym, ap, ◌∙◌, subst, arith}
+use Rattle.std.specs.FinMap.{empty}
+use Rattle.std.specs.List.{AllByRecursion}
+use Rattle.lsm_store.specs.World.{Image, World, Begins}
+use Rattle.lsm_model.specs.Beginnings.{Stands}
+use Rattle.lsm_model.specs.Views.{Placed}
+use Rattle.lsm_versions.specs.Levels.{SeenVersion, empty_levels, placed_of}
+use Rattle.lsm_manifest.specs.Finding.{Finds, Nothing, StandsForMap}
+use Rattle.lsm_manifest.specs.Names.{current_name}
+use Rattle.lsm_manifest.specs.Ready.{IsReady}
+use Rattle.lsm_manifest.specs.Versions.{first_version}
+use Rattle.lsm_log.specs.declared.record.Record.{Record}
+use Rattle.lsm_log.specs.LogNames.{record_name}
+use Rattle.lsm_log.specs.Logs.{HasBadName, IsThere, IsNoRecordAt, IsRecordAt, IsBadLog}
+use Rattle.lsm_log_model.specs.Records.{LogImage, LogStands}
+use Rattle.lsm_log_model.specs.Replays.{TablesAloneStand}
+use Rattle.lsm_logged.specs.Opening.{CanBeSettled, batch_read, image_read}
+use Rattle.lsm_log_runs.specs.Images.{ReadsVersion, ReadsLog, MayBeOpened}
+
+abbrev pub nothing_in : Image
+nothing_in name = None
+
+finds_none : Finds nothing_in empty_levels
+finds_none = Nothing refl (record { no_version = refl; in_tables = λ name refused. refl }) refl
+
+pub stands_none : StandsForMap nothing_in empty
+stands_none = record { levels = empty_levels; found = finds_none; ordered = λ k. tt; single = λ k. tt; shows = refl }
+
+nothing_stands : Stands []
+nothing_stands = record { distinct = tt; laid = record { covers = tt; by_level = tt }; ordered = λ k. tt; single = λ k. tt }
+
+absent : {A : Type 0} (o : Option A) → o ≡ None → IsSome o → ⊥
+absent o none some = let s = subst (λ p. IsSome p) none some in absurd (cc s)
+
+module _ (tables : TablesAloneStand) (w : World) (new : Begins nothing_in w) where
+  no_records : (records : List Record) → AllByRecursion (λ r. IsRecordAt w.gives r.number r) records → records ≡ []
+  no_records [] h = refl
+  no_records (r ∷ records) h = let file = h.0.file in absurd (cc (sym (new.gives (record_name r.number)) ∙ file))
+
+  abbrev imaged : List Placed → ℕ → List Record → LogImage
+  imaged placed from records = record { tables = placed; log_from = from; records = map batch_read records }
+
+  stands : (v : SeenVersion) (passed : List ℕ) (records : List Record) → ReadsLog w.gives v passed records → LogStands (image_read v records)
+  stands v passed records reads =
+      let first = reads.version.fresh (new.gives current_name) in
+      let is : image_read v records ≡ imaged [] v.log_from [] = ap (λ (u : SeenVersion). imaged (placed_of u.levels) v.log_from records) first ∙ ap (imaged [] v.log_from) (no_records records reads.log.records_are) in
+      subst LogStands (sym is) (tables [] v.log_from nothing_stands (omega arith)).0
+
+  not_bad : (v : SeenVersion) → ReadsVersion w.gives v → IsBadLog w.gives v.log_from → ⊥
+  not_bad v reads bad = ⊎_elim
+      (λ (b : HasBadName w.gives). absent (w.gives b.name) (new.gives b.name) b.there)
+      (λ (z : (k : ℕ) × IsThere w.gives k × (v.log_from ≤ k) × IsNoRecordAt w.gives k). absent (w.gives (record_name z.0)) (new.gives (record_name z.0)) z.1.file)
+      bad
+
+  pub new_opens : IsReady w → ((from : ℕ) → CanBeSettled w from) → MayBeOpened w
+  new_opens ready settles = record {
+    ready = ready;
+    stands = record {
+      finds = record {
+        version = first_version;
+        read = record { version = λ some. absurd (absent (w.gives current_name) (new.gives current_name) some); found = λ some. absurd (absent (w.gives current_name) (new.gives current_name) some); fresh = λ none. refl };
+        found = Nothing (new.gives current_name) (record { no_version = new.gives _; in_tables = λ name refused. new.gives name }) refl;
+        stands = nothing_stands;
+      };
+      good = not_bad;
+      reads = stands;
+    };
+    settles = λ v reads. settles v.log_from;
+  }

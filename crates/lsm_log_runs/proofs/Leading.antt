@@ -1,0 +1,154 @@
+-- How a call that leads by acts goes on from what stands, and what a crash leaves in it and behind it.
+use Rattle.std.proofs.Common.{◌≡◌, ◌⊎◌, ⊎_elim, inl, inr, ℕ, ◌≤◌, true, List, [], Option, refl, sym, ap, ◌∙◌, subst, arith}
+use Rattle.lsm_below.specs.Entries.{Entry}
+use Rattle.lsm_store.specs.World.{Image, World, IsImage, LeavesOnly}
+use Rattle.lsm_store.specs.Moments.{weakened}
+use Rattle.lsm_model.specs.Journal.{Event, InOrder}
+use Rattle.lsm_model.specs.Beginnings.{Note}
+use Rattle.lsm_versions.specs.Levels.{SeenVersion}
+use Rattle.lsm_files.specs.Foreign.{AtRest}
+use Rattle.lsm_files.specs.Opening.{StoredIsReady}
+use Rattle.lsm_log_model.specs.Logs.{Logged as Log, LostBatch, Act, MayLeave, IsCertain}
+use Rattle.lsm_log_model.specs.Records.{LogImage, LogStands, logged, opened_by}
+use Rattle.lsm_log_model.specs.Recovery.{LogRecovers}
+use Rattle.lsm_run_model.specs.Moments.{LeavesNow}
+use Rattle.lsm_runs.specs.Files.{StaysStored}
+use Rattle.lsm_state.specs.Core.{versions_left, written_of}
+use Rattle.lsm_state.proofs.Upholding.{upheld_still}
+use Rattle.lsm_logged.specs.Acting.{HoldsLog, LeadsBy}
+use Rattle.lsm_logged.specs.Images.{RecordsAreThoseRead, VersionIsToldOnce}
+use Rattle.lsm_logged.specs.Keeping.{SeenLogged, IsLogOf, KeepsLog}
+use Rattle.lsm_logged.specs.Opening.{CanBeSettled}
+use Rattle.lsm_logged.proofs.NoActs.{same_not}
+use Rattle.lsm_log_runs.specs.CameAbout.{LogCameAbout}
+use Rattle.lsm_log_runs.specs.Images.{ReadsVersion, HoldsLogged, Keeps, KeepsAll, MayBeOpened}
+use Rattle.lsm_log_runs.specs.Pasts.{LogPast, acknowledged, past_of}
+use Rattle.lsm_log_runs.specs.Standing.{StandsLogged}
+use Rattle.lsm_log_runs.proofs.Beside.{IsBeside, beside}
+use Rattle.lsm_log_runs.proofs.Going.{Theory, goes_on, counter_on, log_sound, left_inside, left_now, left_whole}
+use Rattle.lsm_log_runs.proofs.Images.{held_weaker, holds_may, reads_no_lower}
+
+-- what is known of images, beside the theory
+pub record Reading : Type 0 where
+  pub theory : Theory
+  pub once : VersionIsToldOnce
+  pub those : RecordsAreThoseRead
+
+-- what is known of a store between two lives
+pub record Stores {S : Type 0} (world : S → World) : Type 0 where
+  pub ready : StoredIsReady S world
+  pub kept : (store : S) (log : Log) (from : ℕ) → KeepsLog (world store) log → log.log_from ≤ from → CanBeSettled (world store) from
+  pub gives_one : (store : S) (name : List ℕ) → (world store).may name ((world store).gives name)
+  pub counts_now : (store : S) (t : ℕ) (image : Image) → t ≤ (world store).moment → IsImage (world store).may image → (world store).since t image
+
+-- what was called is that of the tree, part by part
+pub past_eq : (t : Log) (p : LogPast) → t.tree.state.journal ≡ p.journal → t.tree.notes ≡ p.notes → t.reached ≡ p.reached → t.lost ≡ p.lost → past_of p.known t ≡ p
+past_eq t p journal notes reached lost =
+    ap (λ (j : List Event). record { journal = j; notes = t.tree.notes; reached = t.reached; lost = t.lost; known = p.known }) journal
+    ∙ ap (λ (n : List Note). record { journal = p.journal; notes = n; reached = t.reached; lost = t.lost; known = p.known }) notes
+    ∙ ap (λ (r : ℕ). record { journal = p.journal; notes = p.notes; reached = r; lost = t.lost; known = p.known }) reached
+    ∙ ap (λ (l : Option LostBatch). record { journal = p.journal; notes = p.notes; reached = p.reached; lost = l; known = p.known }) lost
+
+module _ {S : Type 0} (world : S → World) (reading : Reading) (between : Stores world) (image : LogImage) where
+  abbrev opened : List Entry
+  opened = opened_by image
+
+  beside_it : (past : LogPast) (t : Log) → LogCameAbout image past t → IsBeside opened t
+  beside_it past t came = beside opened image came.first came.acts t came.reopened came.done
+
+  -- an image with a version of the tree and its log is one that the logged tree of the theory may leave
+  held_may : (past : LogPast) (t : SeenLogged S) (log : Log) → LogCameAbout image past log → IsLogOf past.journal past.notes t.core t.doubted log → (left : Image) → HoldsLog t.core log left → HoldsLogged (MayLeave log) left
+  held_may past t log came is left holds = holds_may reading.once reading.those past.journal past.notes t.core t.doubted log is (log_sound reading.theory image past log came) (beside_it past log came).other (λ x may. (left_now reading.theory image past log x came may).stands.stands) left holds
+
+  low_read : (past : LogPast) (t : SeenLogged S) (log : Log) → LogCameAbout image past log → IsLogOf past.journal past.notes t.core t.doubted log → (left : Image) → HoldsLog t.core log left → (v : SeenVersion) → ReadsVersion left v → log.log_from ≤ v.log_from
+  low_read past t log came is left holds v reads = reads_no_lower reading.once reading.those past.journal past.notes t.core t.doubted log is (log_sound reading.theory image past log came) (beside_it past log came).other (λ x may. (left_now reading.theory image past log x came may).stands.stands) left holds v reads
+
+  -- ---- now
+
+  -- a crash leaves the log beside a version
+  leaves_log : (past : LogPast) (t : SeenLogged S) (s : StandsLogged world image past t) → AtRest (world t.store) → (left : Image) → (world t.store).since (world t.store).moment left → HoldsLog t.core s.log left
+  leaves_log past t s rest left since =
+      let w = world t.store in
+      let l = same_not w w t t refl (upheld_still w t.core t.core refl refl rest) refl opened past.journal past.notes s.log s.is s.keeps in
+      ⊎_elim (λ (h : HoldsLog t.core s.log left). h) (λ (h : HoldsLog t.core l.log left). subst (λ (x : Log). HoldsLog t.core x left) l.done h) ((l.moments s.stored).each left since)
+
+  pub keeps_now : (past : LogPast) (t : SeenLogged S) → StandsLogged world image past t → AtRest (world t.store) → LeavesNow (world t.store) (Keeps (logged image) past (acknowledged past))
+  keeps_now past t s rest left since =
+      held_weaker (MayLeave s.log) (LogRecovers (logged image) past.journal past.notes past.lost (acknowledged past)) left (λ x may. left_now reading.theory image past s.log x s.came may)
+      (held_may past t s.log s.came s.is left (leaves_log past t s rest left since))
+
+  pub keeps_all : (past : LogPast) (t : SeenLogged S) → StandsLogged world image past t → AtRest (world t.store) → past.known ≡ true → LeavesNow (world t.store) (KeepsAll (logged image) past)
+  keeps_all past t s rest known left since =
+      held_weaker (MayLeave s.log) _ left (λ x may. left_whole reading.theory image past s.log x s.came known may)
+      (held_may past t s.log s.came s.is left (leaves_log past t s rest left since))
+
+  -- and another process opens the store
+  pub opens_now : (past : LogPast) (t : SeenLogged S) → StandsLogged world image past t → AtRest (world t.store) → MayBeOpened (world t.store)
+  opens_now past t s rest =
+      let w = world t.store in
+      let since = between.counts_now t.store w.moment w.gives (omega arith) (between.gives_one t.store) in
+      let beside_versions = leaves_log past t s rest w.gives since in
+      let may = held_may past t s.log s.came s.is w.gives beside_versions in
+      record {
+        ready = between.ready t.store (versions_left t.core) (written_of t.core) s.stored;
+        stands = held_weaker (MayLeave s.log) LogStands w.gives (λ x m. (left_now reading.theory image past s.log x s.came m).stands) may;
+        settles = λ v reads. between.kept t.store s.log v.log_from s.keeps (low_read past t s.log s.came s.is w.gives beside_versions v reads);
+      }
+
+  -- ---- a call
+
+  abbrev Recovers : LogPast → LogPast → LogImage → Type 0
+  Recovers past next = LogRecovers (logged image) next.journal next.notes next.lost (acknowledged past)
+
+  -- what comes of it
+  pub record Led (past next : LogPast) (old new : SeenLogged S) : Type 0 where
+    pub stands : StandsLogged world image next new
+    pub inside : LeavesOnly (world old.store) (world new.store) (Keeps (logged image) next (acknowledged past))
+    pub now : LeavesNow (world new.store) (Keeps (logged image) next (acknowledged next))
+    pub again : MayBeOpened (world new.store)
+    pub whole : next.known ≡ true → LeavesNow (world new.store) (KeepsAll (logged image) next)
+
+  module _ (past next : LogPast) (old new : SeenLogged S) (s : StandsLogged world image past old) (acts : List Act) (l : LeadsBy opened next.journal next.notes s.log acts (world old.store) (world new.store) old new) (is : past_of next.known l.log ≡ next)
+      (order : InOrder opened next.journal) (certain : next.known ≡ true → IsCertain l.log) (stored : StaysStored (world old.store) (world new.store) old.core new.core) where
+    came_on : LogCameAbout image next l.log
+    came_on = goes_on reading.theory image past next s.log l.log acts s.came l.done order is certain
+
+    pub stands_on : StandsLogged world image next new
+    stands_on = record {
+      log = l.log;
+      came = came_on;
+      is = l.is;
+      keeps = l.keeps;
+      next = counter_on reading.theory image past next s.log l.log acts old.core.seqno new.core.seqno s.came l.done is order s.next l.counter l.drawn;
+      stored = stored s.stored;
+    }
+
+    left_in : (left : Image) → HoldsLog old.core s.log left ⊎ HoldsLog new.core l.log left → Keeps (logged image) next (acknowledged past) left
+    left_in left either = ⊎_elim
+        (λ (h : HoldsLog old.core s.log left). held_weaker (MayLeave s.log) (Recovers past next) left (λ x may. left_inside reading.theory image past next s.log l.log acts x s.came l.done is order (inl may)) (held_may past old s.log s.came s.is left h))
+        (λ (h : HoldsLog new.core l.log left). held_weaker (MayLeave l.log) (Recovers past next) left (λ x may. left_inside reading.theory image past next s.log l.log acts x s.came l.done is order (inr may)) (held_may next new l.log came_on l.is left h))
+        either
+
+    pub leads_on : AtRest (world new.store) → Led past next old new
+    leads_on rest = record {
+      stands = stands_on;
+      inside = weakened (world old.store) (world new.store) (λ left. HoldsLog old.core s.log left ⊎ HoldsLog new.core l.log left) (Keeps (logged image) next (acknowledged past)) (l.moments s.stored) left_in;
+      now = keeps_now next new stands_on rest;
+      again = opens_now next new stands_on rest;
+      whole = keeps_all next new stands_on rest;
+    }
+
+  -- where nothing is done
+  pub nothing_stands : (past : LogPast) (old new : SeenLogged S) (s : StandsLogged world image past old) → LeadsBy opened past.journal past.notes s.log [] (world old.store) (world new.store) old new → StaysStored (world old.store) (world new.store) old.core new.core → StandsLogged world image past new
+  nothing_stands past old new s l stored =
+      stands_on past past old new s [] l (ap (past_of past.known) l.done ∙ s.came.past_is) s.came.order (λ known. subst IsCertain (sym l.done) (s.came.certain known)) stored
+
+  pub nothing_led : (past : LogPast) (old new : SeenLogged S) (s : StandsLogged world image past old) → LeadsBy opened past.journal past.notes s.log [] (world old.store) (world new.store) old new → StaysStored (world old.store) (world new.store) old.core new.core → AtRest (world new.store) → Led past past old new
+  nothing_led past old new s l stored rest =
+      leads_on past past old new s [] l (ap (past_of past.known) l.done ∙ s.came.past_is) s.came.order (λ known. subst IsCertain (sym l.done) (s.came.certain known)) stored rest
+
+  -- where the tree is as it was
+  pub still_led : (past : LogPast) (old : SeenLogged S) → StandsLogged world image past old → AtRest (world old.store) → Led past past old old
+  still_led past old s rest =
+      let w = world old.store in
+      nothing_led past old old s (same_not w w old old refl (upheld_still w old.core old.core refl refl rest) refl opened past.journal past.notes s.log s.is s.keeps) (λ h. h) rest

@@ -1,0 +1,13 @@
+pub mod Beside
+pub mod Going
+pub mod Images
+pub mod Leading
+pub mod Orders
+pub mod BatchOrders
+pub mod StepLeads
+pub mod Rotations
+pub mod CommitLeads
+pub mod Runs
+pub mod Opening
+pub mod Lives
+pub mod Fresh

@@ -1,0 +1,7 @@
+use Rattle.lsm_log_runs.proofs.Opening.{lived}
+use Rattle.lsm_log_runs.proofs.life.live_logged.Goals as goal
+
+pub returns-clause-lives : goal.returns-clause-lives
+returns-clause-lives g c told may =
+    let opens = c.in-Ok.ensures.opens in
+    lived g.S.Store.world g.S.Store.tells told c.args.store c.args.config c.in-Ok.tree opens _ _ _ (c.opened_logs_stand.ensures c.args.store c.args.config c.in-Ok.tree opens told may) (c.run_logged-taken.ensures.runs told)

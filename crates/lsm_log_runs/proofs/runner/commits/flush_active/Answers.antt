@@ -1,0 +1,36 @@
+use Rattle.std.proofs.Common.{inr, subst}
+use Rattle.lsm_runs.specs.declared.steps.Reply.TheVariants.{Flushed, Refused}
+use Rattle.lsm_log_runs.specs.Doing.{ActsFlush}
+use Rattle.lsm_log_runs.proofs.Rotations.{rotates_stored}
+use Rattle.lsm_log_runs.proofs.runner.commits.flush_active.Goals as goal
+
+pub returns-in-Ok-flush-clause-acts : goal.returns-in-Ok-flush-clause-acts
+returns-in-Ok-flush-clause-acts g c tells =
+    let world = g.S.Store.world in
+    record {
+      mid = c.rotate_memtable.new.self;
+      rotates = (c.in-Ok.ensures.ok, c.rotate_memtable.ensures.store);
+      sealed = c.in-Ok.ensures.acts tells;
+      flushes = subst (λ x. ActsFlush c.args.watermark (Flushed c.in-Ok-flush.flushed) (world x) (world c.flush.new.self.store) c.rotate_memtable.new.self c.flush.new.self) c.rotate_memtable.ensures.store (c.in-Ok-flush.ensures.acts tells);
+    }
+
+pub returns-in-Ok-flush-clause-stored : goal.returns-in-Ok-flush-clause-stored
+returns-in-Ok-flush-clause-stored g c tells h =
+    (c.in-Ok-flush.ensures.upholds tells (rotates_stored g.S.Store.world c.args.tree.now c.rotate_memtable.new.self c.in-Ok.sealed (c.in-Ok.ensures.ok, c.rotate_memtable.ensures.store) h)).0
+
+pub returns-in-Err-flush-clause-takes : goal.returns-in-Err-flush-clause-takes
+returns-in-Err-flush-clause-takes g c = inr (c.rotate_memtable.new.self, (c.in-Ok.ensures.ok, c.rotate_memtable.ensures.store), c.in-Err-flush.ensures.flushes)
+
+pub returns-in-Err-flush-clause-acts : goal.returns-in-Err-flush-clause-acts
+returns-in-Err-flush-clause-acts g c tells =
+    let world = g.S.Store.world in
+    inr (record {
+      mid = c.rotate_memtable.new.self;
+      rotates = (c.in-Ok.ensures.ok, c.rotate_memtable.ensures.store);
+      sealed = c.in-Ok.ensures.acts tells;
+      flushes = subst (λ x. ActsFlush c.args.watermark (Refused c.in-Err-flush.error) (world x) (world c.flush.new.self.store) c.rotate_memtable.new.self c.flush.new.self) c.rotate_memtable.ensures.store (c.in-Err-flush.ensures.acts tells);
+    })
+
+pub returns-in-Err-flush-clause-stored : goal.returns-in-Err-flush-clause-stored
+returns-in-Err-flush-clause-stored g c tells h =
+    (c.in-Err-flush.ensures.upholds tells (rotates_stored g.S.Store.world c.args.tree.now c.rotate_memtable.new.self c.in-Ok.sealed (c.in-Ok.ensures.ok, c.rotate_memtable.ensures.store) h)).0

@@ -1,0 +1,4 @@
+use Rattle.lsm_log_runs.proofs.runner.commits.major_compact.Goals as goal
+
+pub returns-clause-acts : goal.returns-clause-acts
+returns-clause-acts g c tells = (c.major_compact.result, c.of_begun.ensures, c.major_compact.ensures.acts tells)

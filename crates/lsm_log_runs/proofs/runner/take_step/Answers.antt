@@ -1,0 +1,17 @@
+use Rattle.std.proofs.Common.{subst, sym}
+use Rattle.lsm_log_runs.specs.Doing.{Acts}
+use Rattle.lsm_log_runs.proofs.runner.take_step.Goals as goal
+
+pub returns-in-MajorCompact-clause-acts : goal.returns-in-MajorCompact-clause-acts
+returns-in-MajorCompact-clause-acts g c tells =
+    let world = g.S.Store.world in
+    let old = c.args.tree.now in
+    let new = c.major_compact.new.tree in
+    subst (λ step. Acts step c.major_compact.result (world old.store) (world new.store) old new) (sym c.in-MajorCompact.is) (c.major_compact.ensures.acts tells)
+
+pub returns-in-SetMoment-clause-acts : goal.returns-in-SetMoment-clause-acts
+returns-in-SetMoment-clause-acts g c tells =
+    let world = g.S.Store.world in
+    let old = c.args.tree.now in
+    let new = c.set_moment.new.tree in
+    subst (λ step. Acts step c.set_moment.result (world old.store) (world new.store) old new) (sym c.in-SetMoment.is) (c.set_moment.ensures.acts tells)

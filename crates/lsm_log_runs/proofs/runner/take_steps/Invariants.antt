@@ -1,0 +1,10 @@
+use Rattle.std.proofs.Common.{◌≡◌, length, take}
+use Rattle.lsm_log_runs.specs.Doing.{RanTo}
+use Rattle.lsm_log_runs.proofs.runner.take_steps.Given as goal
+
+-- the steps so far ran
+abbrev pub invariant-loop-step : goal.invariant-loop-step
+invariant-loop-step g l = record {
+  ran : RanTo g.S.Store.tells g.S.Store.world (take l.step-index l.steps) l.replies.items l.fn.tree l.tree;
+  many : length l.replies.items ≡ l.step-index;
+}

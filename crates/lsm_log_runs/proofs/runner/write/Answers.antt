@@ -1,0 +1,8 @@
+use Rattle.std.proofs.Common.{Err, subst}
+use Rattle.lsm_logged.specs.Writing.{WritesAct}
+use Rattle.lsm_log_runs.proofs.runner.write.Goals as goal
+
+pub returns-in-Err-clause-acts : goal.returns-in-Err-clause-acts
+returns-in-Err-clause-acts g c tells =
+    let world = g.S.Store.world in
+    subst (λ ops. WritesAct ops (Err c.in-Err.error) (world c.args.tree.now.store) (world c.write.new.self.store) c.args.tree.now c.write.new.self) c.in_ok-ops.ensures (c.in-Err.ensures.acts tells)

@@ -1,0 +1,77 @@
+-- What each step adds to what was called, by its kind and its reply.
+use Rattle.std.specs.Prelude.{◌≡◌, ℕ, List, [], ◌∷◌, ◌++◌, Some}
+use Rattle.lsm_below.specs.Keys.{Bytes}
+use Rattle.lsm_below.specs.declared.error.Error.TheVariants.{CommitUnknown, AfterCommit}
+use Rattle.lsm_model.specs.declared.op.Op.{Op}
+use Rattle.lsm_model.specs.Journal.{Event}
+use Rattle.lsm_model.specs.declared.journal.JournalEntry.TheVariants.{Install, Dropped}
+use Rattle.lsm_runs.specs.declared.steps.Compacted.TheVariants.{Installed}
+use Rattle.lsm_runs.specs.declared.steps.Reply.{Reply}
+use Rattle.lsm_runs.specs.declared.steps.Reply.TheVariants.{Number, Sealed, Flushed, FlushedActive, RefusedActive, Compacted, Cleared, Refused}
+use Rattle.lsm_logged.specs.Writing.{batch_of}
+use Rattle.lsm_log_runs.specs.declared.steps.LogStep.{LogStep}
+use Rattle.lsm_log_runs.specs.declared.steps.LogStep.TheVariants.{Write, RotateMemtable, Flush, FlushActiveMemtable, MajorCompact, DropRange, Clear}
+use Rattle.lsm_log_runs.specs.Pasts.{LogPast, with_batch, with_lost, with_sealed, with_flush, with_commit, with_doubt, with_clear, with_lost_clear}
+
+-- ---- by kinds
+
+-- the number of a batch is what it answers; one of unknown outcome has some
+abbrev pub AddsBatch : List (Bytes × Op) → Reply → LogPast → LogPast → Type 0
+AddsBatch ops (Number n) old new = new ≡ with_batch (batch_of n ops) old
+AddsBatch ops (Refused CommitUnknown) old new = (n : ℕ) × (new ≡ with_lost (batch_of n ops) old)
+AddsBatch ops reply old new = new ≡ old
+
+abbrev pub AddsFlush : ℕ → Reply → LogPast → LogPast → Type 0
+AddsFlush w (Flushed (Some a)) old new = (n : ℕ) × (new ≡ with_flush w n old)
+AddsFlush w (Refused CommitUnknown) old new = new ≡ with_doubt w [] old
+AddsFlush w reply old new = new ≡ old
+
+-- a rotation is noted with the memtable that it seals
+abbrev pub AddsRotation : Reply → LogPast → LogPast → Type 0
+AddsRotation (Sealed (Some id)) old new = new ≡ with_sealed id old
+AddsRotation reply old new = new ≡ old
+
+-- a flush behind it is of that memtable too, which stays sealed where the flush is refused
+abbrev pub AddsFlushActive : ℕ → Reply → LogPast → LogPast → Type 0
+AddsFlushActive w (FlushedActive id a) old new = (mid : LogPast) × AddsRotation (Sealed id) old mid × AddsFlush w (Flushed a) mid new
+AddsFlushActive w (RefusedActive id x) old new = (mid : LogPast) × AddsRotation (Sealed id) old mid × AddsFlush w (Refused x) mid new
+AddsFlushActive w reply old new = new ≡ old
+
+-- the ranges that a compaction drops, if it drops any
+abbrev pub IsDrop : List Event → Type 0
+IsDrop [] = Unit {0}
+IsDrop (Dropped ranges n ∷ []) = Unit {0}
+IsDrop events = ⊥
+
+-- one that stands: its mark, what it drops, and the install
+abbrev pub AddsInstalled : ℕ → LogPast → LogPast → Type 0
+AddsInstalled w old new = (drop : List Event) × (n : ℕ) × IsDrop drop × (new ≡ with_commit w (drop ++ Install n ∷ []) old)
+
+-- one that isn't begun tells its mark alone
+abbrev pub AddsCompaction : ℕ → Reply → LogPast → LogPast → Type 0
+AddsCompaction w (Compacted Installed) old new = AddsInstalled w old new
+AddsCompaction w (Compacted c) old new = new ≡ with_commit w [] old
+AddsCompaction w (Refused AfterCommit) old new = AddsInstalled w old new
+AddsCompaction w (Refused CommitUnknown) old new = (drop : List Event) × IsDrop drop × (new ≡ with_doubt w drop old)
+AddsCompaction w (Refused x) old new = new ≡ with_commit w [] old
+AddsCompaction w reply old new = new ≡ old
+
+-- a clear stands also where its clean-up failed
+abbrev pub AddsClear : Reply → LogPast → LogPast → Type 0
+AddsClear (Cleared n) old new = new ≡ with_clear n old
+AddsClear (Refused AfterCommit) old new = (n : ℕ) × (new ≡ with_clear n old)
+AddsClear (Refused CommitUnknown) old new = (n : ℕ) × (new ≡ with_lost_clear n old)
+AddsClear reply old new = new ≡ old
+
+-- ---- by steps
+
+-- all others add nothing
+abbrev pub Adds : LogStep → Reply → LogPast → LogPast → Type 0
+Adds (Write ops) reply old new = AddsBatch ops reply old new
+Adds (Flush w) reply old new = AddsFlush w reply old new
+Adds Clear reply old new = AddsClear reply old new
+Adds RotateMemtable reply old new = AddsRotation reply old new
+Adds (FlushActiveMemtable w) reply old new = AddsFlushActive w reply old new
+Adds (MajorCompact target w) reply old new = AddsCompaction w reply old new
+Adds (DropRange low high) reply old new = AddsCompaction 0 reply old new
+Adds step reply old new = new ≡ old

@@ -1,0 +1,30 @@
+-- What a run of steps on a logged tree keeps, after whatever was called before.
+use Rattle.std.specs.Prelude.{◌≡◌, List, [], ◌∷◌}
+use Rattle.lsm_store.specs.World.{World}
+use Rattle.lsm_log_model.specs.Records.{LogImage, logged, opened_by}
+use Rattle.lsm_run_model.specs.Moments.{LeavesNow, last_of}
+use Rattle.lsm_runs.specs.declared.steps.Reply.{Reply}
+use Rattle.lsm_logged.specs.Keeping.{SeenLogged}
+use Rattle.lsm_log_runs.specs.declared.steps.LogStep.{LogStep}
+use Rattle.lsm_log_runs.specs.Images.{Keeps, MayBeOpened}
+use Rattle.lsm_log_runs.specs.Moments.{MayBeTried, StepKeeps}
+use Rattle.lsm_log_runs.specs.Pasts.{LogPast, acknowledged}
+use Rattle.lsm_log_runs.specs.Standing.{StandsLogged}
+
+-- along steps and their replies: what each step keeps, and what stands behind it, so that calls may go on
+abbrev pub EachLeads : {S : Type 0} → (S → World) → LogImage → List LogStep → List Reply → LogPast → SeenLogged S → List (SeenLogged S) → Type 0
+EachLeads world image [] [] past was [] = Unit {0}
+EachLeads world image (x ∷ steps) (r ∷ replies) past was (is ∷ trees) =
+    MayBeTried (opened_by image) past.journal x → (next : LogPast) × StepKeeps (λ t. world t.store) (opened_by image) (logged image) x r past next was is × StandsLogged world image next is
+    × EachLeads world image steps replies next is trees
+EachLeads world image steps replies past was trees = ⊥
+
+-- A run of steps with these replies, from one tree to another, over a store that tells its content. After whatever was called before:
+-- reads equal the replay, and at each moment a crash leaves a beginning between batches that holds all that was acknowledged.
+pub record RunsLogged {S : Type 0} (world : S → World) (steps : List LogStep) (replies : List Reply) (old new : SeenLogged S) : Type 0 where
+  -- a tree behind each step
+  pub trees : List (SeenLogged S)
+  pub ends : last_of old trees ≡ new
+  -- before the first step too
+  pub now : (image : LogImage) (past : LogPast) → StandsLogged world image past old → LeavesNow (world old.store) (Keeps (logged image) past (acknowledged past)) × MayBeOpened (world old.store)
+  pub leads : (image : LogImage) (past : LogPast) → StandsLogged world image past old → EachLeads world image steps replies past old trees

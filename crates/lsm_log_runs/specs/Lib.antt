@@ -1,0 +1,12 @@
+pub mod Pasts
+pub mod Adds
+pub mod Images
+pub mod Trying
+pub mod Moments
+pub mod CameAbout
+pub mod Standing
+pub mod Runs
+pub mod Leading
+pub mod Doing
+pub mod Living
+pub mod Lives

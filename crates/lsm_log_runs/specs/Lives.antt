@@ -1,0 +1,71 @@
+-- Life after life of a logged tree: each ends with its process or by a crash, and the next one opens what it left.
+use Rattle.std.specs.Prelude.{◌≡◌, List, [], ◌∷◌, None}
+use Rattle.std.specs.List.{AllByRecursion}
+use Rattle.lsm_store.specs.World.{World, Begins}
+use Rattle.lsm_model.specs.declared.op.Op.TheVariants.{Weak}
+use Rattle.lsm_log_model.specs.Records.{logged}
+use Rattle.lsm_logged.specs.Opening.{image_read}
+use Rattle.lsm_runs.specs.declared.steps.Reply.{Reply}
+use Rattle.lsm_log_runs.specs.declared.steps.LogStep.{LogStep}
+use Rattle.lsm_log_runs.specs.declared.steps.LogStep.TheVariants.{Write}
+use Rattle.lsm_log_runs.specs.Adds.{Adds}
+use Rattle.lsm_log_runs.specs.Images.{Keeps, MayBeOpened}
+use Rattle.lsm_log_runs.specs.Living.{LivesLogged}
+use Rattle.lsm_log_runs.specs.Pasts.{LogPast, nothing, acknowledged}
+
+-- a batch that removes nothing weakly, and any other step
+abbrev pub IsUsual : LogStep → Type 0
+IsUsual (Write ops) = AllByRecursion (λ p. p.1 ≡ Weak → ⊥) ops
+IsUsual step = Unit {0}
+
+-- what stands behind these steps, and what stood before the last one of them
+abbrev pub CalledBy : List LogStep → List Reply → (earlier old before new : LogPast) → Type 0
+CalledBy [] [] earlier old before new = (before ≡ earlier) × (new ≡ old)
+CalledBy (x ∷ steps) (r ∷ replies) earlier old before new = (mid : LogPast) × Adds x r old mid × CalledBy steps replies old mid before new
+CalledBy steps replies earlier old before new = ⊥
+
+-- the store before the last step; the one that was opened, where there is none
+abbrev pub before_last : {F : Type 0} → (earlier was : F) → List F → F
+before_last earlier was [] = earlier
+before_last earlier was (is ∷ stores) = before_last was is stores
+
+-- the next life's store: the one that was left, where the process ended; behind a crash one that has just what reads of it give, which
+-- the crash could leave in the last step or behind it
+pub data TakesUp {F : Type 0} (world : F → World) (before is next : F) : Type 0 where
+  Ended : next ≡ is → TakesUp world before is next
+  Crashed : Begins (world next).gives (world next) → (world is).since (world before).moment (world next).gives → TakesUp world before is next
+
+-- a life of usual steps on one store, in the last of which a crash may have come, and what the next one takes up
+pub record LoggedLife {F : Type 0} (world : F → World) (was next : F) : Type 0 where
+  pub steps : List LogStep
+  pub replies : List Reply
+  pub is : F
+  pub life : LivesLogged world steps replies was is
+  pub usual : AllByRecursion IsUsual steps
+  pub then : TakesUp world (before_last life.first life.first life.stores) is next
+
+-- The next one may be opened, and is kept of the life: it stands for a beginning of its calls between batches, which holds all that was
+-- acknowledged before the last step; and what that acknowledged too, where the end came behind it.
+pub record GoesWell {F : Type 0} (world : F → World) (was next : F) (l : LoggedLife world was next) : Type 0 where
+  pub opens : MayBeOpened (world next)
+  pub before : LogPast
+  pub past : LogPast
+  pub called : CalledBy l.steps l.replies nothing nothing before past
+  pub keeps : Keeps (logged (image_read l.life.version l.life.records)) past (acknowledged before) (world next).gives
+  pub behind : (world l.is).since (world l.is).moment (world next).gives → Keeps (logged (image_read l.life.version l.life.records)) past (acknowledged past) (world next).gives
+
+-- one life after the other, each on what the one before left
+abbrev pub LoggedLives : {F : Type 0} → (F → World) → F → List F → Type 0
+LoggedLives world was [] = Unit {0}
+LoggedLives world was (next ∷ more) = LoggedLife world was next × LoggedLives world next more
+
+abbrev pub AllGoWell : {F : Type 0} (world : F → World) (was : F) (nexts : List F) → LoggedLives world was nexts → Type 0
+AllGoWell world was [] lives = Unit {0}
+AllGoWell world was (next ∷ more) lives = GoesWell world was next lives.0 × AllGoWell world next more lives.1
+
+abbrev pub AnyNumberOfLoggedLives : {F : Type 0} → (F → World) → Type 0
+AnyNumberOfLoggedLives {F} world = (was : F) (nexts : List F) (lives : LoggedLives world was nexts) → AllGoWell world was nexts lives
+
+-- A new store may be opened, so lives may begin.
+abbrev pub NewLogsOpen : {F : Type 0} → (F → World) → Type 0
+NewLogsOpen {F} world = (store : F) → Begins (λ name. None) (world store) → MayBeOpened (world store)

@@ -1,0 +1,60 @@
+-- What was called so far.
+use Rattle.std.specs.Prelude.{ℕ, ◌+◌, max, Bool, true, false, List, [], ◌∷◌, ◌++◌, length, Option, Some, None, map}
+use Rattle.lsm_model.specs.Journal.{Event}
+use Rattle.lsm_model.specs.Beginnings.{Note, SealedAt, FlushedIds, ClearedTo, ClearLost, covered}
+use Rattle.lsm_model.specs.declared.journal.JournalEntry.TheVariants.{Write, Clear, Install, Mark}
+use Rattle.lsm_log_model.specs.Records.{Batch, entries_of}
+use Rattle.lsm_log_model.specs.Logs.{LostBatch, Logged as Log}
+use Rattle.lsm_run_model.specs.Outcomes.{sealed_in}
+
+-- the journal of the calls so far, without reads; the notes beside it, newest first; the place behind the last acknowledged batch; a
+-- batch of unknown outcome; and whether each outcome is known
+pub record LogPast : Type 0 where
+  pub journal : List Event
+  pub notes : List Note
+  pub reached : ℕ
+  pub lost : Option LostBatch
+  pub known : Bool
+
+-- before the first call
+abbrev pub nothing : LogPast
+nothing = record { journal = []; notes = []; reached = 0; lost = None; known = true }
+
+-- the place behind all that was acknowledged, flushed or cleared
+abbrev pub acknowledged : LogPast → ℕ
+acknowledged past = max (covered past.notes) past.reached
+
+-- what was called of a logged tree of the theory, and whether each outcome is known
+abbrev pub past_of : Bool → Log → LogPast
+past_of known t = record { journal = t.tree.state.journal; notes = t.tree.notes; reached = t.reached; lost = t.lost; known = known }
+
+-- ---- what may come next
+
+-- a batch that is acknowledged, and one of unknown outcome
+abbrev pub with_batch : Batch → LogPast → LogPast
+with_batch b past = let journal = past.journal ++ map Write (entries_of b) in record past { journal = journal; reached = length journal }
+
+abbrev pub with_lost : Batch → LogPast → LogPast
+with_lost b past = record past { lost = Some (record { batch = b; place = length past.journal }); known = false }
+
+-- an installed flush of all that is sealed, at a watermark, under a sequence number
+abbrev pub with_flush : ℕ → ℕ → LogPast → LogPast
+with_flush w n past = record past { journal = past.journal ++ Mark w ∷ (Install n ∷ []); notes = FlushedIds (sealed_in past.notes) ∷ past.notes }
+
+-- a commit behind its mark, with these events; and one of unknown outcome
+abbrev pub with_commit : ℕ → List Event → LogPast → LogPast
+with_commit w events past = record past { journal = past.journal ++ Mark w ∷ events }
+
+abbrev pub with_doubt : ℕ → List Event → LogPast → LogPast
+with_doubt w events past = record past { journal = past.journal ++ Mark w ∷ events; known = false }
+
+-- a memtable that is sealed here
+abbrev pub with_sealed : ℕ → LogPast → LogPast
+with_sealed id past = record past { notes = SealedAt id (length past.journal) ∷ past.notes }
+
+-- a clear, which covers the place behind it; one of unknown outcome is noted at its place
+abbrev pub with_clear : ℕ → LogPast → LogPast
+with_clear n past = record past { journal = past.journal ++ Clear n ∷ []; notes = ClearedTo (length past.journal + 1) ∷ past.notes }
+
+abbrev pub with_lost_clear : ℕ → LogPast → LogPast
+with_lost_clear n past = record past { notes = ClearLost n (length past.journal) ∷ past.notes; known = false }

@@ -1,0 +1,94 @@
+-- What each step of a run on a logged tree may answer and do.
+use Rattle.std.specs.Prelude.{◌≡◌, ◌⊎◌, ℕ, List, [], ◌∷◌, None, Result, Ok, Err}
+use Rattle.lsm_below.specs.Keys.{Bytes}
+use Rattle.lsm_below.specs.declared.error.Error.{Error}
+use Rattle.lsm_below.specs.declared.error.Error.TheVariants.{OutOfMemory, OutOfNumbers}
+use Rattle.lsm_model.specs.declared.op.Op.{Op}
+use Rattle.lsm_model.specs.Journal.{Event}
+use Rattle.lsm_run_model.specs.Moments.{last_of}
+use Rattle.lsm_runs.specs.declared.steps.Reply.{Reply}
+use Rattle.lsm_runs.specs.declared.steps.Reply.TheVariants.{Number, Sealed, Done, Flushed, FlushedActive, RefusedActive, Cleared, Refused}
+use Rattle.lsm_runs.specs.Compacting.{reply_of}
+use Rattle.lsm_runs.specs.Told.{Told}
+use Rattle.lsm_runs.specs.ReadSteps.{TakesGet, TakesRange, TakesPrefix}
+use Rattle.lsm_state.specs.Calls.{Rotates}
+use Rattle.lsm_state.specs.WholeCompactions.{Compacts, DropsRange, options_at, only_memory, major_choice}
+use Rattle.lsm_state.specs.declared.compaction.Begun.{Begun}
+use Rattle.lsm_logged.specs.Asking.{Asks}
+use Rattle.lsm_logged.specs.Flushing.{FlushesLogged, ClearsLogged}
+use Rattle.lsm_logged.specs.Keeping.{SeenLogged}
+use Rattle.lsm_logged.specs.Writing.{WritesLogged}
+use Rattle.lsm_log_runs.specs.declared.steps.LogStep.{LogStep}
+use Rattle.lsm_log_runs.specs.declared.steps.LogStep.TheVariants.{Write, Get, Range, Prefix, RotateMemtable, Flush, FlushActiveMemtable, MajorCompact, DropRange, Clear, SetMoment}
+
+-- ---- what a step of each kind may answer and do
+
+abbrev pub TakesBatch : {S : Type 0} → List (Bytes × Op) → Reply → SeenLogged S → SeenLogged S → Type 0
+TakesBatch ops (Number n) old new = WritesLogged ops (Ok n) old new
+TakesBatch ops (Refused x) old new = WritesLogged ops (Err x) old new
+TakesBatch ops reply old new = ⊥
+
+abbrev pub TakesFlush : {S : Type 0} → ℕ → Reply → SeenLogged S → SeenLogged S → Type 0
+TakesFlush w (Flushed a) old new = FlushesLogged w (Ok a) old new
+TakesFlush w (Refused x) old new = FlushesLogged w (Err x) old new
+TakesFlush w reply old new = ⊥
+
+abbrev pub TakesClear : {S : Type 0} → Reply → SeenLogged S → SeenLogged S → Type 0
+TakesClear (Cleared n) old new = ClearsLogged (Ok n) old new
+TakesClear (Refused x) old new = ClearsLogged (Err x) old new
+TakesClear reply old new = ⊥
+
+-- a rotation
+abbrev pub TakesRotate : {S : Type 0} → Reply → SeenLogged S → SeenLogged S → Type 0
+TakesRotate (Sealed id) old new = Rotates old.core id new.core × (new.store ≡ old.store)
+TakesRotate (Refused x) old new = (new ≡ old) × ((x ≡ OutOfNumbers) ⊎ (x ≡ OutOfMemory))
+TakesRotate reply old new = ⊥
+
+-- and a flush behind it; refused, it is the rotation or the flush that is
+abbrev pub TakesFlushActive : {S : Type 0} → ℕ → Reply → SeenLogged S → SeenLogged S → Type 0
+TakesFlushActive {S} w (FlushedActive id a) old new = (mid : SeenLogged S) × TakesRotate (Sealed id) old mid × TakesFlush w (Flushed a) mid new
+TakesFlushActive {S} w (RefusedActive id x) old new = ((id ≡ None) × TakesRotate (Refused x) old new) ⊎ ((mid : SeenLogged S) × TakesRotate (Sealed id) old mid × TakesFlush w (Refused x) mid new)
+TakesFlushActive w reply old new = ⊥
+
+-- a compaction in one call
+abbrev pub TakesCompaction : {S : Type 0} → (Result Begun Error → Type 0) → Reply → SeenLogged S → SeenLogged S → Type 0
+TakesCompaction Call reply old new = (begun : Result Begun Error) × (reply ≡ reply_of begun) × Asks begun old new (Call begun)
+
+-- a moment is set
+abbrev pub TakesMoment : {S : Type 0} → ℕ → Reply → SeenLogged S → SeenLogged S → Type 0
+TakesMoment n Done old new = (new.core ≡ record (old.core) { moment = n }) × (new.store ≡ old.store)
+TakesMoment n reply old new = ⊥
+
+-- a reply with what it would add to a journal of reads
+abbrev pub told_with : Reply → List Event → Told
+told_with reply events = record { reply = reply; entries = events }
+
+-- a read changes nothing
+abbrev pub Reads : {S : Type 0} → (List Event → Type 0) → SeenLogged S → SeenLogged S → Type 0
+Reads Does old new = (new ≡ old) × ((events : List Event) × Does events)
+
+-- each is the call that it is named after
+abbrev pub Takes : {S : Type 0} → LogStep → Reply → SeenLogged S → SeenLogged S → Type 0
+Takes (Write ops) reply old new = TakesBatch ops reply old new
+Takes (Get k s) reply old new = Reads (λ events. TakesGet k s reply events old.core old.core) old new
+Takes (Flush w) reply old new = TakesFlush w reply old new
+Takes Clear reply old new = TakesClear reply old new
+Takes (Range low high s) reply old new = Reads (λ events. TakesRange low high s reply events old.core old.core) old new
+Takes (Prefix p s) reply old new = Reads (λ events. TakesPrefix p s reply events old.core old.core) old new
+Takes RotateMemtable reply old new = TakesRotate reply old new
+Takes (FlushActiveMemtable w) reply old new = TakesFlushActive w reply old new
+Takes (MajorCompact target w) reply old new = TakesCompaction (λ begun. Compacts (major_choice target) only_memory (options_at w old.core) begun old.core new.core) reply old new
+Takes (DropRange low high) reply old new = TakesCompaction (λ begun. DropsRange (record { start = low; end = high }) begun old.core new.core) reply old new
+Takes (SetMoment n) reply old new = TakesMoment n reply old new
+
+-- the steps, one after the other, lead through these trees
+abbrev pub RanThrough : {S : Type 0} → List LogStep → List Reply → SeenLogged S → List (SeenLogged S) → Type 0
+RanThrough [] [] old [] = Unit {0}
+RanThrough (x ∷ steps) (r ∷ replies) old (mid ∷ trees) = Takes x r old mid × RanThrough steps replies mid trees
+RanThrough steps replies old trees = ⊥
+
+-- They lead from one tree to another.
+pub record RanLogged {S : Type 0} (steps : List LogStep) (replies : List Reply) (old new : SeenLogged S) : Type 0 where
+  pub trees : List (SeenLogged S)
+  pub ran : RanThrough steps replies old trees
+  pub ends : last_of old trees ≡ new

@@ -1,0 +1,20 @@
+//! A logged tree under any list of calls: every acknowledged batch, whole.
+//!
+//! | Module | Holds |
+//! |-|-|
+//! | `steps` | calls as data |
+//! | `copying` | what a step hands to its call |
+//! | `runner` | a list of calls on a logged tree, with the log theorem |
+//! | `life` | a logged tree from its opening on |
+#![tactic(auto)]
+
+mod copying;
+mod life;
+mod runner;
+mod steps;
+
+pub use life::{
+    any_number_of_logged_lives, crashed_logs_open, live_logged, new_logs_open, opened_logs_stand,
+};
+pub use runner::run_logged;
+pub use steps::{LogStep, TakenLogged};

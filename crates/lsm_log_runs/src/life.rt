@@ -1,0 +1,110 @@
+// A logged tree from its opening on.
+ghost use Rattle.std.specs.Prelude.{◌≡◌, ◌≤◌, take, length, IfOk, IfErr, OnOk};
+ghost use Rattle.lsm_logged.specs.Opening.{RefusesLogged};
+ghost use Rattle.lsm_log_runs.specs.Images.{MayBeOpened};
+ghost use Rattle.lsm_log_runs.specs.Lives.{AnyNumberOfLoggedLives, NewLogsOpen};
+ghost use Rattle.lsm_log_runs.specs.Living.{LivesLogged, OpenedLogsStand, CrashedLogsOpen};
+
+use crate::{LogStep, TakenLogged, run_logged};
+use lsm_below::Error;
+use lsm_log_model::tables_alone_stand;
+use lsm_logged::{Logged, logs_can_be_settled};
+use lsm_manifest::{crashes_settle, found_tables_show};
+use lsm_parts::Config;
+use lsm_store::Store;
+use std::alloc::Global;
+
+/// What is opened on a store that an opening takes stands, as `run_logged` asks it, with nothing called so far.
+///
+/// # Examples
+///
+/// ```text
+/// opened_logs_stand(tree.store());
+/// let taken = run_logged(alloc, &mut tree, &steps);
+/// ```
+pub fn opened_logs_stand<S: Store>(_: &S)
+    ensures { OpenedLogsStand S.tells S.world }
+{}
+
+/// What a crash left of a run on a logged tree may be opened.
+///
+/// # Examples
+///
+/// ```text
+/// crashed_logs_open(&store);
+/// ```
+pub fn crashed_logs_open<S: Store>(store: &S)
+    ensures { CrashedLogsOpen S.world }
+{
+    crashes_settle(store);
+    logs_can_be_settled(store);
+    found_tables_show();
+}
+
+/// A new store may be opened.
+///
+/// # Examples
+///
+/// ```text
+/// new_logs_open(&store);
+/// ```
+pub fn new_logs_open<S: Store>(store: &S)
+    ensures { NewLogsOpen S.world }
+{
+    crashes_settle(store);
+    logs_can_be_settled(store);
+    tables_alone_stand();
+}
+
+/// Over any number of lives of usual steps (no batch removes a key weakly), each ended by a crash in its last step or behind it, or
+/// with its process behind it: the next store may be opened, and is kept of the life: it stands for a beginning of its calls
+/// between batches, which holds all that was acknowledged, flushed or cleared before the last step, and where the end came behind
+/// that one, what it acknowledged too. Of an end inside an opening it says nothing: each life's opening was answered.
+///
+/// # Examples
+///
+/// ```text
+/// any_number_of_logged_lives(&store);
+/// ```
+pub fn any_number_of_logged_lives<S: Store>(store: &S)
+    ensures { S.tells → AnyNumberOfLoggedLives S.world }
+{
+    crashed_logs_open(store);
+}
+
+/// Opens the logged tree of a store, as `Logged::open`, and takes steps on it, as `run_logged`. It answers the tree and the steps
+/// that were taken, or the refusal of the opening beside the store.
+///
+/// Where an opening takes the store (`MayBeOpened`), this is a life (`lives`): reads are the replay over the map that the store
+/// stands for, and at each moment of the steps a crash leaves an image that stands for a beginning of them between batches, which
+/// holds all that was acknowledged, flushed or cleared before the step of that moment.
+///
+/// # Errors
+///
+/// Those of `Logged::open`.
+///
+/// # Examples
+///
+/// ```text
+/// let (tree, taken) = live_logged(alloc, config, store, &steps)?;
+/// ```
+pub fn live_logged<S: Store>(
+    alloc: Global,
+    config: Config,
+    store: S,
+    steps: &[LogStep],
+) -> Result<(Logged<S>, TakenLogged), (Error, S)>
+    ensures bound { IfOk result (λ r. length r.1.replies.items ≤ length steps.now) }
+    ensures whole { IfOk result (λ r. OnOk r.1.ended (length r.1.replies.items ≡ length steps.now)) }
+    // A life, however it ends.
+    ensures lives { S.tells → MayBeOpened (S.world store) → IfOk result (λ r. LivesLogged S.world (take (length r.1.replies.items) steps.now) r.1.replies.items store r.0.store) }
+    ensures refused { S.tells → IfErr result (λ e. RefusesLogged (S.world store) (S.world e.1) e.0) }
+{
+    opened_logs_stand(&store);
+    let mut tree = match Logged::open(alloc, config, store) {
+        Ok(tree) => tree,
+        Err(refused) => return Err(refused),
+    };
+    let taken = run_logged(alloc, &mut tree, steps);
+    Ok((tree, taken))
+}

@@ -1,0 +1,160 @@
+// A list of calls on a logged tree, with the log theorem.
+ghost use Rattle.std.specs.Prelude.{◌≡◌, ◌≤◌, ◌++◌, ◌∷◌, [], take, length, IfOk, OnOk, OnErr};
+ghost use Rattle.lsm_runs.specs.declared.steps.Reply.{Reply as Replied};
+ghost use Rattle.lsm_runs.specs.Files.{StaysStored};
+ghost use Rattle.lsm_log_runs.specs.Doing.{Acts, ActsBatch, StepDoes, RanTo};
+ghost use Rattle.lsm_log_runs.specs.Runs.{Takes, TakesBatch, RanLogged};
+ghost use Rattle.lsm_log_runs.specs.Leading.{RunsLogged};
+
+use crate::copying::share_ops;
+use crate::{LogStep, TakenLogged};
+use lsm_below::UserKey;
+use lsm_files::{crashes_leave_versions, stored_files_are_ready};
+use lsm_log_model::{
+    acts_join, counter_stays_above, every_crash_keeps_batches, log_stays_sound,
+    logged_reads_are_right, whole_is_logged,
+};
+use lsm_logged::{Logged, logs_can_be_settled, records_are_those_read, versions_are_told_once};
+use lsm_model::{Op, reads_are_sound};
+use lsm_runs::Reply;
+use lsm_store::Store;
+use std::alloc::{AllocError, Global};
+
+// ---- batches
+
+fn write<S: Store>(
+    alloc: Global,
+    tree: &mut Logged<S>,
+    ops: &[(UserKey, Op)],
+) -> Result<Reply, AllocError>
+    ensures ok { IfOk result (λ reply. TakesBatch ops.now reply tree.old tree.new) }
+    ensures err { OnErr result (tree.new ≡ tree.old) }
+    ensures acts { S.tells → IfOk result (λ reply. ActsBatch ops.now reply (S.world tree.old.store) (S.world tree.new.store) tree.old tree.new) }
+    ensures stored { S.tells → StaysStored (S.world tree.old.store) (S.world tree.new.store) tree.old.core tree.new.core }
+{
+    let ops = share_ops(alloc, ops)?;
+    match tree.write(ops) {
+        Ok(number) => Ok(Reply::Number(number)),
+        Err(error) => Ok(Reply::Refused(error)),
+    }
+}
+
+// ---- runs
+
+/// Takes a step. Where there is no room for what it is to write it is an error, and the tree is as it was.
+fn take_step<S: Store>(
+    alloc: Global,
+    tree: &mut Logged<S>,
+    step: &LogStep,
+) -> Result<Reply, AllocError>
+    ensures ok { IfOk result (λ reply. Takes step.now reply tree.old tree.new) }
+    ensures err { OnErr result (tree.new ≡ tree.old) }
+    ensures acts { S.tells → IfOk result (λ reply. Acts step.now reply (S.world tree.old.store) (S.world tree.new.store) tree.old tree.new) }
+    ensures stored { S.tells → StaysStored (S.world tree.old.store) (S.world tree.new.store) tree.old.core tree.new.core }
+{
+    match step {
+        LogStep::Write(ops) => write(alloc, tree, ops.as_slice()),
+        LogStep::Get(key, snapshot) => Ok(reads::get(tree.tree(), key, *snapshot)),
+        LogStep::Range(low, high, snapshot) => {
+            reads::range(alloc, tree.tree(), low, high, *snapshot)
+        }
+        LogStep::Prefix(prefix, snapshot) => {
+            Ok(reads::prefix(alloc, tree.tree(), prefix, *snapshot))
+        }
+        LogStep::RotateMemtable => Ok(commits::rotate(tree)),
+        LogStep::Flush(watermark) => Ok(commits::flush(tree, *watermark)),
+        LogStep::FlushActiveMemtable(watermark) => Ok(commits::flush_active(tree, *watermark)),
+        LogStep::MajorCompact(target, watermark) => {
+            Ok(commits::major_compact(tree, *target, *watermark))
+        }
+        LogStep::DropRange(low, high) => commits::drop_range(tree, low, high),
+        LogStep::Clear => Ok(commits::clear(tree)),
+        LogStep::SetMoment(moment) => Ok(commits::set_moment(tree, *moment)),
+    }
+}
+
+/// Takes a step, and appends its reply to the others.
+fn add_step<S: Store>(
+    alloc: Global,
+    tree: &mut Logged<S>,
+    step: &LogStep,
+    replies: &mut Vec<Reply>,
+) -> Result<(), AllocError>
+    ensures ok { OnOk result ((reply : Replied) × (replies.new.items ≡ replies.old.items ++ reply ∷ []) × StepDoes S.tells S.world step.now reply tree.old tree.new) }
+    ensures err { OnErr result (tree.new ≡ tree.old) }
+    ensures replies_err { OnErr result (replies.new.items ≡ replies.old.items) }
+{
+    replies.try_reserve(1)?;
+    let reply = take_step(alloc, tree, step)?;
+    crashes_leave_versions(tree.store());
+    replies.push(reply)?;
+    Ok(())
+}
+
+fn take_steps<S: Store>(alloc: Global, tree: &mut Logged<S>, steps: &[LogStep]) -> TakenLogged
+    ensures bound { length result.replies.items ≤ length steps.now }
+    ensures whole { OnOk result.ended (length result.replies.items ≡ length steps.now) }
+    ensures ran { RanTo S.tells S.world (take (length result.replies.items) steps.now) result.replies.items tree.old tree.new }
+{
+    let mut replies = Vec::new(alloc);
+    for step in steps {
+        match add_step(alloc, tree, step, &mut replies) {
+            Ok(()) => (),
+            Err(error) => {
+                return TakenLogged {
+                    replies,
+                    ended: Err(error),
+                };
+            }
+        }
+    }
+    TakenLogged {
+        replies,
+        ended: Ok(()),
+    }
+}
+
+/// Takes the steps in turn on a logged tree, and returns each one's reply.
+///
+/// A step that is refused has that as its reply, and the run goes on with the next one. The run ends early only before a step
+/// for whose reply, or for whose batch, no memory is left, and says so (`whole`): the tree is as it was before that step, and
+/// the replies are those of the steps that were taken.
+///
+/// After whatever was called before (`StandsLogged`, as `Logged::open` leaves it), and as long as no batch removes a key weakly that
+/// was set more than once, reads equal the replay of the calls before them; at each moment a crash leaves an image that `Logged::open` takes,
+/// and that stands for a beginning of the calls between batches, which holds all that was acknowledged, flushed or cleared before
+/// the step of that moment: each batch is in it whole, or not at all. While every outcome is known, an image stands for all that
+/// was called. Behind each step the same holds again, so that calls may go on.
+///
+/// # Examples
+///
+/// ```text
+/// let taken = run_logged(alloc, &mut tree, &[LogStep::Write(Ops::new(ops)), LogStep::Clear]);
+/// for reply in &taken.replies { .. }
+/// ```
+pub fn run_logged<S: Store>(alloc: Global, tree: &mut Logged<S>, steps: &[LogStep]) -> TakenLogged
+    // It ends early for want of memory alone.
+    ensures bound { length result.replies.items ≤ length steps.now }
+    ensures whole { OnOk result.ended (length result.replies.items ≡ length steps.now) }
+    // Each step is the call that it is named after.
+    ensures ran { RanLogged (take (length result.replies.items) steps.now) result.replies.items tree.old tree.new }
+    // What is read, what a crash leaves at each moment, and what stands behind each step.
+    ensures runs { S.tells → RunsLogged S.world (take (length result.replies.items) steps.now) result.replies.items tree.old tree.new }
+{
+    reads_are_sound();
+    acts_join();
+    counter_stays_above();
+    log_stays_sound();
+    every_crash_keeps_batches();
+    whole_is_logged();
+    logged_reads_are_right();
+    records_are_those_read();
+    versions_are_told_once();
+    crashes_leave_versions(tree.store());
+    stored_files_are_ready(tree.store());
+    logs_can_be_settled(tree.store());
+    take_steps(alloc, tree, steps)
+}
+
+mod commits;
+mod reads;

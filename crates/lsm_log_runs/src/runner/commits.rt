@@ -1,0 +1,115 @@
+// Rotations, flushes, compactions and clears of a logged tree, as steps.
+ghost use Rattle.std.specs.Prelude.{◌≡◌, IfOk, OnErr};
+ghost use Rattle.lsm_runs.specs.Compacting.{reply_of};
+ghost use Rattle.lsm_runs.specs.Files.{StaysStored};
+ghost use Rattle.lsm_state.specs.WholeCompactions.{Compacts, DropsRange, options_at, only_memory, major_choice};
+ghost use Rattle.lsm_logged.specs.Acting.{ActsNot};
+ghost use Rattle.lsm_log_runs.specs.Doing.{ActsRotate, ActsFlush, ActsFlushActive, ActsCompaction, ActsClear};
+ghost use Rattle.lsm_log_runs.specs.Runs.{TakesRotate, TakesFlush, TakesFlushActive, TakesCompaction, TakesClear, TakesMoment};
+
+use lsm_below::{Error, SeqNo, UserKey};
+use lsm_journal::copy_bound;
+use lsm_logged::Logged;
+use lsm_pick::OwnedBounds;
+use lsm_runs::{Compacted, Reply};
+use lsm_state::Begun;
+use lsm_store::Store;
+use std::alloc::AllocError;
+use std::ops::Bound;
+
+// ---- flushes
+
+pub(super) fn rotate<S: Store>(tree: &mut Logged<S>) -> Reply
+    ensures takes { TakesRotate result tree.old tree.new }
+    ensures acts { S.tells → ActsRotate result (S.world tree.old.store) tree.old tree.new }
+{
+    match tree.rotate_memtable() {
+        Ok(sealed) => Reply::Sealed(sealed),
+        Err(error) => Reply::Refused(error),
+    }
+}
+
+pub(super) fn flush<S: Store>(tree: &mut Logged<S>, watermark: SeqNo) -> Reply
+    ensures takes { TakesFlush watermark result tree.old tree.new }
+    ensures acts { S.tells → ActsFlush watermark result (S.world tree.old.store) (S.world tree.new.store) tree.old tree.new }
+    ensures stored { S.tells → StaysStored (S.world tree.old.store) (S.world tree.new.store) tree.old.core tree.new.core }
+{
+    match tree.flush(watermark) {
+        Ok(flushed) => Reply::Flushed(flushed),
+        Err(error) => Reply::Refused(error),
+    }
+}
+
+pub(super) fn flush_active<S: Store>(tree: &mut Logged<S>, watermark: SeqNo) -> Reply
+    ensures takes { TakesFlushActive watermark result tree.old tree.new }
+    ensures acts { S.tells → ActsFlushActive watermark result (S.world tree.old.store) (S.world tree.new.store) tree.old tree.new }
+    ensures stored { S.tells → StaysStored (S.world tree.old.store) (S.world tree.new.store) tree.old.core tree.new.core }
+{
+    let sealed = match tree.rotate_memtable() {
+        Ok(sealed) => sealed,
+        Err(error) => return Reply::RefusedActive(None, error),
+    };
+    match tree.flush(watermark) {
+        Ok(flushed) => Reply::FlushedActive(sealed, flushed),
+        Err(error) => Reply::RefusedActive(sealed, error),
+    }
+}
+
+pub(super) fn clear<S: Store>(tree: &mut Logged<S>) -> Reply
+    ensures takes { TakesClear result tree.old tree.new }
+    ensures acts { S.tells → ActsClear result (S.world tree.old.store) (S.world tree.new.store) tree.old tree.new }
+    ensures stored { S.tells → StaysStored (S.world tree.old.store) (S.world tree.new.store) tree.old.core tree.new.core }
+{
+    match tree.clear() {
+        Ok(number) => Reply::Cleared(number),
+        Err(error) => Reply::Refused(error),
+    }
+}
+
+pub(super) fn set_moment<S: Store>(tree: &mut Logged<S>, moment: u64) -> Reply
+    ensures takes { TakesMoment moment result tree.old tree.new }
+    ensures acts { S.tells → ActsNot (S.world tree.old.store) (S.world tree.new.store) tree.old tree.new }
+{
+    tree.set_moment(moment);
+    Reply::Done
+}
+
+// ---- compactions
+
+/// What is replied of a compaction in one call.
+fn of_begun(begun: Result<Begun, Error>) -> Reply
+    ensures { result ≡ reply_of begun }
+{
+    match begun {
+        Ok(Begun::DidNothing) => Reply::Compacted(Compacted::DidNothing),
+        Ok(Begun::Declined(why)) => Reply::Compacted(Compacted::Declined(why)),
+        Ok(Begun::Installed) => Reply::Compacted(Compacted::Installed),
+        Ok(Begun::Job(_)) => Reply::Compacted(Compacted::Waits),
+        Err(error) => Reply::Refused(error),
+    }
+}
+
+pub(super) fn major_compact<S: Store>(tree: &mut Logged<S>, target: u64, watermark: SeqNo) -> Reply
+    ensures takes { TakesCompaction (λ begun. Compacts (major_choice target) only_memory (options_at watermark tree.old.core) begun tree.old.core tree.new.core) result tree.old tree.new }
+    ensures acts { S.tells → ActsCompaction watermark result (S.world tree.old.store) (S.world tree.new.store) tree.old tree.new }
+    ensures stored { S.tells → StaysStored (S.world tree.old.store) (S.world tree.new.store) tree.old.core tree.new.core }
+{
+    of_begun(tree.major_compact(target, watermark))
+}
+
+pub(super) fn drop_range<S: Store>(
+    tree: &mut Logged<S>,
+    low: &Bound<UserKey>,
+    high: &Bound<UserKey>,
+) -> Result<Reply, AllocError>
+    ensures ok { IfOk result (λ reply. TakesCompaction (λ begun. DropsRange (record { start = low.now; end = high.now }) begun tree.old.core tree.new.core) reply tree.old tree.new) }
+    ensures err { OnErr result (tree.new ≡ tree.old) }
+    ensures acts { S.tells → IfOk result (λ reply. ActsCompaction 0 reply (S.world tree.old.store) (S.world tree.new.store) tree.old tree.new) }
+    ensures stored { S.tells → StaysStored (S.world tree.old.store) (S.world tree.new.store) tree.old.core tree.new.core }
+{
+    let bounds = OwnedBounds {
+        start: copy_bound(low)?,
+        end: copy_bound(high)?,
+    };
+    Ok(of_begun(tree.drop_range(bounds)))
+}

@@ -1,0 +1,43 @@
+// Calls on a logged tree as data.
+use lsm_below::{SeqNo, UserKey};
+use lsm_model::Ops;
+use lsm_runs::Reply;
+use std::alloc::AllocError;
+use std::ops::Bound;
+
+/// A call on a logged tree, as data: each is the method of `Logged` that it is named after, or one of the tree that it reads. None
+/// sets or draws a counter, since a batch draws its number itself.
+#[derive(Drop, Debug)]
+pub enum LogStep {
+    /// Writes a batch under the next sequence number, behind its record.
+    Write(Ops),
+    /// Reads a key at a snapshot.
+    Get(UserKey, SeqNo),
+    /// Reads the pairs in bounds at a snapshot.
+    Range(Bound<UserKey>, Bound<UserKey>, SeqNo),
+    /// Reads the pairs of the keys that begin so, at a snapshot.
+    Prefix(UserKey, SeqNo),
+    /// Seals the active memtable.
+    RotateMemtable,
+    /// Flushes all sealed memtables in one call, at a watermark.
+    Flush(SeqNo),
+    /// Seals the active memtable, and flushes all sealed ones, at a watermark: `rotate_memtable` and `flush` in turn.
+    FlushActiveMemtable(SeqNo),
+    /// Merges all tables into the last level, cut at a target of bytes, at a watermark and at the tree's moment.
+    MajorCompact(u64, SeqNo),
+    /// Drops the tables whose whole key range lies within bounds.
+    DropRange(Bound<UserKey>, Bound<UserKey>),
+    /// Clears the tree.
+    Clear,
+    /// Sets the moment at which tables are made.
+    SetMoment(u64),
+}
+
+/// The steps that were taken.
+#[derive(Drop, Debug)]
+pub struct TakenLogged {
+    /// Each one's reply.
+    pub replies: Vec<Reply>,
+    /// Whether these are all: else no memory was left for the next one's reply, or for what it was to write.
+    pub ended: Result<(), AllocError>,
+}
