@@ -1,1 +1,3 @@
 pub mod Survival
+pub mod SoFar
+pub mod Joining

@@ -4,10 +4,12 @@
 #![tactic(auto)]
 
 mod lives;
+mod single;
 
 use anyhow::Result;
 use lives::{TwoLives, crash_between, end_between};
-use lsm_tree::{MemStore, Op, Ops, Step, UserKey, UserValue};
+use lsm_tree::{CompactionStrategy, MemStore, Op, Ops, Step, UserKey, UserValue};
+use single::single_steps_join;
 use std::alloc::{AllocError, Global};
 
 fn write(alloc: Global, key: &'static [u8], value: &'static [u8]) -> Result<Step, AllocError> {
@@ -44,6 +46,9 @@ fn main(rt: HostRuntime) -> Result<()> {
     if let Some(lives) = crash_between(alloc, MemStore::new(alloc), &first, &[], &second)? {
         print_replies(&rt, &lives)?;
     }
-    let lives = end_between(alloc, MemStore::new(alloc), &first, &second)?;
+    let store = MemStore::new(alloc);
+    let strategies: Vec<Box<dyn CompactionStrategy>> = Vec::new(alloc);
+    single_steps_join(&store, &strategies);
+    let lives = end_between(alloc, store, &first, &second)?;
     print_replies(&rt, &lives)
 }

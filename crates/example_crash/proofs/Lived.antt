@@ -1,0 +1,89 @@
+-- What was taken step by step is a life, as a run of all of it is one.
+use Rattle.std.proofs.Common.{◌≡◌, ℕ, zero, suc, ◌+◌, ◌≤◌, arith, List, [], ◌∷◌, ◌++◌, map, take, length, refl, sym, ap, ◌∙◌, subst}
+use Rattle.lsm_below.specs.Entries.{Entry, above}
+use Rattle.lsm_store.specs.World.{World}
+use Rattle.lsm_model.specs.Journal.{Map, InOrder}
+use Rattle.lsm_manifest.specs.Ready.{IsReady}
+use Rattle.lsm_state.specs.Core.{Core}
+use Rattle.lsm_run_model.specs.Lives.{LeavesReady}
+use Rattle.lsm_run_model.specs.Moments.{last_of}
+use Rattle.lsm_run_model.specs.Outcomes as out
+use Rattle.lsm_run_model.specs.Rising.{At, RisesFrom, RisingIsInOrder, OrderWithoutReads}
+use Rattle.lsm_runs.specs.declared.steps.Step.{Step}
+use Rattle.lsm_runs.specs.declared.steps.Reply.{Reply}
+use Rattle.lsm_runs.specs.Drawing.{asks_of}
+use Rattle.lsm_runs.specs.Lives.{StepsAreLives, Rise, LivesInOrder, told_of}
+use Rattle.lsm_runs.specs.Moments.{EachReady}
+use Rattle.lsm_runs.specs.Runs.{IsPlainUse, journal_of, EachAnswers}
+use Rattle.lsm_runs.specs.Told.{Told}
+use Rattle.lsm_runs.proofs.RunLives.{front_in_order}
+use Rattle.lsm_runs.proofs.Uses.{drawings}
+use Rattle.example_crash.specs.SoFar.{SoFar}
+use Rattle.example_crash.proofs.Growing.{all_of, length_map}
+
+length_front : {A : Type 0} (many : ℕ) (xs : List A) → length (take many xs) ≤ many
+length_front zero xs = omega arith
+length_front (suc many) [] = omega arith
+length_front (suc many) (x ∷ xs) = let rest = length_front many xs in omega (rest, arith)
+
+module _ {F : Type 0} (world : F → World) where
+  front_ready : (many : ℕ) (was : F) (stores : List F) → EachReady world was stores → EachReady world was (take many stores)
+  front_ready zero was [] h = h
+  front_ready zero was (is ∷ stores) h = h.0
+  front_ready (suc many) was [] h = h
+  front_ready (suc many) was (is ∷ stores) h = (h.0, h.1, front_ready many is stores h.2)
+
+  -- from before the last call on
+  last_ready : (answered : ℕ) (was : F) (stores : List F) → length stores ≤ answered + 1 → EachReady world was stores → LeavesReady IsReady world (last_of was (take answered stores)) (last_of was stores)
+  last_ready zero was [] few h = h.1
+  last_ready zero was (is ∷ []) few h = h.1
+  last_ready zero was (is ∷ (x ∷ stores)) few h = absurd (omega (few, arith))
+  last_ready (suc answered) was [] few h = h.1
+  last_ready (suc answered) was (is ∷ stores) few h = last_ready answered is stores (omega (few, arith)) h.2
+
+journal_same : (outcomes : List (out.Told Reply)) → out.journal_of outcomes ≡ journal_of (map told_of outcomes)
+journal_same [] = refl
+journal_same (o ∷ outcomes) = ap (λ es. o.entries ++ es) (journal_same outcomes)
+
+module _ {F : Type 0} (world : F → World) (m : Map) (was : F) (opened : List Entry) (counter : ℕ) (steps : List Step) (told : List Told) (is : F) (now : Core) (s : SoFar world m was opened counter steps told is now) where
+  pub are_lives : StepsAreLives world opened m steps s.outcomes s.first s.stores
+  are_lives many answered end plain order ends all =
+      let along = s.along many plain order in
+      let few = length_front many s.stores in
+      record {
+        life = record {
+          opened = opened;
+          told = take many s.outcomes;
+          known = record { starts = s.starts; steps = take many steps; plain = plain; tells = along.1; order = order };
+          first = s.first;
+          stores = take many s.stores;
+          moments = along.0;
+          answered = answered;
+          ended = ends;
+          ready = λ kill. last_ready world answered s.first (take many s.stores) (let last = all kill in omega (few, last, arith)) (front_ready world many s.first s.stores s.ready);
+        };
+        opened_with = refl;
+        took = refl;
+        told = refl;
+        answered = refl;
+      }
+
+  abbrev pub lived : RisingIsInOrder Reply → OrderWithoutReads → LivesInOrder world m steps told was is
+  lived rising without = record {
+    opened = opened;
+    outcomes = s.outcomes;
+    replies = s.replies;
+    life = record { first = s.first; stores = s.stores; ends = s.ends; opening = s.opening; lives = are_lives };
+    counter = counter;
+    above_found = s.above_found;
+    in_order = front_in_order opened rising without steps s.outcomes counter s.counters s.above_found s.uses;
+  }
+
+  -- where numbers rise, each answers what the replay does
+  pub answered : RisingIsInOrder Reply → IsPlainUse steps → Rise opened counter steps → EachAnswers opened m [] steps told
+  answered rising plain rise =
+      let numbers = subst (λ ds. RisesFrom (above opened) (At counter) ds) (drawings steps) rise.numbers in
+      let order = (rising opened [] (map asks_of steps) s.outcomes counter (above opened) (At counter) [] s.counters (record { order = tt; counted = s.above_found; used = omega arith; sets = λ k. omega arith }) refl numbers rise.weak s.uses).order in
+      let same : out.journal_of s.outcomes ≡ journal_of told = journal_same s.outcomes ∙ ap (λ ts. journal_of ts) s.replies in
+      let many : length told ≡ length steps = sym (ap (λ ts. length ts) s.replies) ∙ length_map told_of s.outcomes ∙ s.many_outcomes in
+      all_of (λ xs ts us. IsPlainUse xs → InOrder opened (journal_of ts) → EachAnswers opened m [] xs ts) steps told told many many s.answers plain (subst (InOrder opened) same order)
