@@ -148,8 +148,8 @@ fn crash_twice(
     }
 }
 
-/// Ends a life, by a crash behind so many steps or without one, and opens what is left. What comes back goes on from there: what was opened, or what
-/// the crash left.
+/// Ends a life, by a crash behind so many steps or without one, and opens what is left. The next life begins with what was
+/// opened, or with what the crash left.
 fn end(
     alloc: Global,
     store: MemStore,
