@@ -50,11 +50,11 @@ impl Tally {
         }
     }
 
-    /// Whether all of it happened often. In 2,000 scripts each happens about twice as often as is asked here.
+    /// Whether all of it happened often: in 2,000 scripts each happens about twice as often as is asked here, or more.
     pub fn is_plenty(&self) -> bool {
         let calls = self.batches > 10_000 && self.flushed > 1_500 && self.cleared > 500;
-        let lives = self.refused > 120 && self.second > 300 && self.picks > 60_000;
-        calls && lives && self.shut > 400 && self.lost > 200 && self.kept > 80
+        let lives = self.refused > 100 && self.second > 300 && self.picks > 50_000;
+        calls && lives && self.shut > 400 && self.lost > 200 && self.kept > 60
     }
 
     fn add_flush(&mut self, told: Registered) {
