@@ -1,0 +1,217 @@
+// A run, a life and their refusals, with what is expected spelled by hand.
+use lsm_below::{Error, UserKey, UserValue};
+use lsm_log_runs::{LogStep, TakenLogged, live_logged, run_logged};
+use lsm_logged::Logged;
+use lsm_model::{Op, Ops};
+use lsm_parts::Config;
+use lsm_runs::Reply;
+use lsm_store::{Fault, MemStore, Pick, Store};
+use std::alloc::{AllocError, Global};
+use std::test::Fail;
+
+fn write(alloc: Global, key: &'static str, value: &'static str) -> Result<LogStep, AllocError> {
+    let op = Op::Set(UserValue::from_static(value.as_bytes()));
+    let ops = vec![in alloc; (UserKey::from_static(key.as_bytes()), op)]?;
+    Ok(LogStep::Write(Ops::new(ops)))
+}
+
+fn get(key: &'static str) -> LogStep {
+    LogStep::Get(UserKey::from_static(key.as_bytes()), 9)
+}
+
+/// Two batches, a flush between them, a read, a clear and a read more.
+fn all_kinds(alloc: Global) -> Result<Vec<LogStep>, AllocError> {
+    let first = write(alloc, "a", "x")?;
+    let second = write(alloc, "b", "y")?;
+    let flush = LogStep::FlushActiveMemtable(0);
+    Ok(vec![in alloc; first, flush, second, get("a"), LogStep::Clear, get("a")]?)
+}
+
+const ANSWERS: [&str; 6] = [
+    "Number(0)",
+    "FlushedActive(Some(0), Some((50, Registered { installed: true, cleaned: true })))",
+    "Number(2)",
+    "Value(Some(b\"x\"))",
+    "Cleared(3)",
+    "Value(None)",
+];
+
+/// Two batches, and reads of what they set.
+fn two_batches(alloc: Global) -> Result<Vec<LogStep>, AllocError> {
+    let first = write(alloc, "a", "x")?;
+    let second = write(alloc, "b", "y")?;
+    Ok(vec![in alloc; first, second, get("a"), get("b")]?)
+}
+
+const BOTH: [&str; 4] = [
+    "Number(0)",
+    "Number(1)",
+    "Value(Some(b\"x\"))",
+    "Value(Some(b\"y\"))",
+];
+
+/// Where putting the first record has unknown outcome.
+const REFUSED: [&str; 4] = [
+    "Refused(CommitUnknown)",
+    "Refused(Unrecoverable)",
+    "Value(None)",
+    "Value(None)",
+];
+
+/// Both are there once the tree is opened again.
+const STAND: [&str; 2] = ["Value(Some(b\"x\"))", "Value(Some(b\"y\"))"];
+
+/// The first of them is there once the tree is opened again.
+const FOUND: [&str; 2] = ["Value(Some(b\"x\"))", "Value(None)"];
+
+/// Or it isn't.
+const GONE: [&str; 2] = ["Value(None)", "Value(None)"];
+
+fn is_spelled(alloc: Global, reply: &Reply, spelled: &str) -> bool {
+    match format!(in alloc; "{reply:?}") {
+        Ok(told) => told.as_str() == spelled,
+        Err(_) => false,
+    }
+}
+
+/// How many replies are spelled so, up to the first that isn't, and how many there are.
+fn count_right(alloc: Global, taken: &TakenLogged, answers: &[&str]) -> (usize, usize) {
+    let mut right: usize = 0;
+    for (reply, answer) in taken.replies.iter().zip(answers) {
+        if !is_spelled(alloc, reply, *answer) {
+            break;
+        }
+        right = right.saturating_add(1);
+    }
+    (right, taken.replies.len())
+}
+
+/// The same of a run on what a store holds.
+fn run(
+    alloc: Global,
+    store: MemStore,
+    steps: &[LogStep],
+    answers: &[&str],
+) -> Result<(usize, usize), Error> {
+    match Logged::open(alloc, Config::new(0, 0, 0), store) {
+        Ok(mut tree) => {
+            let taken = run_logged(alloc, &mut tree, steps);
+            drop(tree);
+            Ok(count_right(alloc, &taken, answers))
+        }
+        Err((error, _)) => Err(error),
+    }
+}
+
+#[test]
+fn runs_take_each_step(rt: HostRuntime) -> Result<(), Fail> {
+    let steps = all_kinds(rt.alloc())?;
+    let right = run(rt.alloc(), MemStore::new(rt.alloc()), &steps, &ANSWERS)?;
+    assert_eq!(rt; right, (6, 6));
+    Ok(())
+}
+
+/// The store of a new tree, the putting of whose first record fails, with its effect: the calls of the next opening come before.
+fn failing(alloc: Global) -> Result<MemStore, Error> {
+    match Logged::open(alloc, Config::new(0, 0, 0), MemStore::new(alloc)) {
+        Ok(tree) => {
+            let mut store = tree.into_store();
+            store.fail(6, Fault::OnceDone);
+            Ok(store)
+        }
+        Err((error, _)) => Err(error),
+    }
+}
+
+#[test]
+fn runs_are_refused_behind_an_unknown_outcome(rt: HostRuntime) -> Result<(), Fail> {
+    let steps = two_batches(rt.alloc())?;
+    let right = run(rt.alloc(), failing(rt.alloc())?, &steps, &REFUSED)?;
+    assert_eq!(rt; right, (4, 4));
+    Ok(())
+}
+
+/// The same of a life, and the store that it leaves.
+fn lived(
+    alloc: Global,
+    store: MemStore,
+    steps: &[LogStep],
+    answers: &[&str],
+) -> Result<((usize, usize), MemStore), (Error, MemStore)> {
+    let (tree, taken) = live_logged(alloc, Config::new(0, 0, 0), store, steps)?;
+    let right = count_right(alloc, &taken, answers);
+    drop(taken);
+    Ok((right, tree.into_store()))
+}
+
+/// The same of a life behind a crash.
+fn lived_behind(
+    alloc: Global,
+    store: &MemStore,
+    picks: &[(&str, Pick<'_>)],
+    answers: &[&str],
+) -> Result<(usize, usize), Error> {
+    let steps = vec![in alloc; get("a"), get("b")]?;
+    match store.crash(picks)? {
+        Some(left) => match lived(alloc, left, &steps, answers) {
+            Ok((right, _)) => Ok(right),
+            Err((error, _)) => Err(error),
+        },
+        None => Err(Error::Store),
+    }
+}
+
+/// The same of a life, of one behind a crash without picks, and of one behind a crash with these.
+fn live_twice(
+    alloc: Global,
+    store: MemStore,
+    picks: &[(&str, Pick<'_>)],
+    answers: [&[&str]; 3],
+) -> Result<[(usize, usize); 3], Error> {
+    let [first, stands, picked] = answers;
+    let steps = two_batches(alloc)?;
+    match lived(alloc, store, &steps, first) {
+        Ok((right, store)) => {
+            let stands = lived_behind(alloc, &store, &[], stands);
+            let picked = lived_behind(alloc, &store, picks, picked);
+            drop(store);
+            Ok([right, stands?, picked?])
+        }
+        Err((error, _)) => Err(error),
+    }
+}
+
+#[test]
+fn lives_are_refused_behind_an_unknown_outcome(rt: HostRuntime) -> Result<(), Fail> {
+    let alloc = rt.alloc();
+    let answers = [REFUSED.as_slice(), FOUND.as_slice(), GONE.as_slice()];
+    let right = live_twice(alloc, failing(alloc)?, &[("log/0", Pick::Before)], answers)?;
+    assert_eq!(rt; right, [(4, 4), (2, 2), (2, 2)]);
+    Ok(())
+}
+
+#[test]
+fn lives_go_on(rt: HostRuntime) -> Result<(), Fail> {
+    let alloc = rt.alloc();
+    let answers = [BOTH.as_slice(), STAND.as_slice(), STAND.as_slice()];
+    let right = live_twice(alloc, MemStore::new(alloc), &[], answers)?;
+    assert_eq!(rt; right, [(4, 4), (2, 2), (2, 2)]);
+    Ok(())
+}
+
+/// Whether a life is refused by a store that fails at once, which comes back.
+fn is_refused(alloc: Global) -> bool {
+    let mut store = MemStore::new(alloc);
+    store.fail(1, Fault::Once);
+    match lived(alloc, store, &[], &[]) {
+        Err((Error::Store, store)) => store.failures() == 1,
+        _ => false,
+    }
+}
+
+#[test]
+fn lives_are_refused_by_a_fault(rt: HostRuntime) -> Result<(), Fail> {
+    let refused = is_refused(rt.alloc());
+    assert!(rt; refused);
+    Ok(())
+}

@@ -1,0 +1,79 @@
+// How often each thing happened in the scripts.
+use crate::known::{Known, Told};
+use lsm_jobs::Registered;
+use lsm_runs::Reply;
+
+/// How often each thing happened.
+#[derive(Clone, Copy, Debug)]
+pub struct Tally {
+    /// Batches that were acknowledged.
+    pub batches: u64,
+    /// Lives in which an outcome was unknown, of a commit or of a record.
+    pub shut: u64,
+    /// Lives behind which a batch or clear of unknown outcome wasn't there.
+    pub lost: u64,
+    /// Lives behind which it was.
+    pub kept: u64,
+    /// Flushes that were installed.
+    pub flushed: u64,
+    /// Clears that were acknowledged.
+    pub cleared: u64,
+    /// Openings that a fault refused.
+    pub refused: u64,
+    /// Lives on what a life before left.
+    pub second: u64,
+    /// Picks of what a crash is to leave.
+    pub picks: u64,
+}
+
+impl Tally {
+    pub const NOTHING: Tally = Tally {
+        batches: 0,
+        shut: 0,
+        lost: 0,
+        kept: 0,
+        flushed: 0,
+        cleared: 0,
+        refused: 0,
+        second: 0,
+        picks: 0,
+    };
+
+    pub fn add_reply(&mut self, reply: &Reply) {
+        match reply {
+            Reply::Number(_) => self.batches = self.batches.saturating_add(1),
+            Reply::Cleared(_) => self.cleared = self.cleared.saturating_add(1),
+            Reply::Flushed(Some((_, told))) | Reply::FlushedActive(_, Some((_, told))) => {
+                self.add_flush(*told);
+            }
+            _ => (),
+        }
+    }
+
+    /// Whether all of it happened often: in 2,000 scripts each happens about twice as often as is asked here, or more.
+    pub fn is_plenty(&self) -> bool {
+        let calls = self.batches > 10_000 && self.flushed > 1_500 && self.cleared > 500;
+        let lives = self.refused > 100 && self.second > 300 && self.picks > 50_000;
+        calls && lives && self.shut > 400 && self.lost > 200 && self.kept > 60
+    }
+
+    fn add_flush(&mut self, told: Registered) {
+        if told.installed {
+            self.flushed = self.flushed.saturating_add(1);
+        }
+    }
+
+    pub fn add_known(&mut self, known: &Known) {
+        if known.shut {
+            self.shut = self.shut.saturating_add(1);
+        }
+    }
+
+    pub fn add_told(&mut self, told: Told) {
+        match told {
+            Told::Lost => self.lost = self.lost.saturating_add(1),
+            Told::Kept => self.kept = self.kept.saturating_add(1),
+            _ => (),
+        }
+    }
+}
