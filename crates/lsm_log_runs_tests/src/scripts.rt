@@ -1,6 +1,6 @@
 // Random scripts, each with a store call that fails and a crash that leaves of each name what it may: what was acknowledged is
 // there once the tree is opened again, whole, and of what is of unknown outcome all or nothing.
-use crate::crashes::{crash_by, draw_picks};
+use crate::crashes::{count_picks, crash_by, draw_picks};
 use crate::drawing::{Drawn, SNAPSHOT, Script, draw_script};
 use crate::known::{Known, Told};
 use crate::random::Random;
@@ -138,7 +138,7 @@ fn crash_twice(
     tally: &mut Tally,
 ) -> Result<Option<(MemStore, MemStore)>, AllocError> {
     let picks = draw_picks(alloc, store, random, steps)?;
-    tally.picks = tally.picks.saturating_add(picks.len() as u64);
+    tally.picks = tally.picks.saturating_add(count_picks(&picks));
     match (
         crash_by(alloc, store, &picks)?,
         crash_by(alloc, store, &picks)?,

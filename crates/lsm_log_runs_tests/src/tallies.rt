@@ -54,7 +54,7 @@ impl Tally {
     pub fn is_plenty(&self) -> bool {
         let calls = self.batches > 10_000 && self.flushed > 1_500 && self.cleared > 500;
         let lives = self.refused > 100 && self.second > 300 && self.picks > 50_000;
-        calls && lives && self.shut > 400 && self.lost > 200 && self.kept > 60
+        calls && lives && self.shut > 400 && self.lost > 200 && self.kept > 50
     }
 
     fn add_flush(&mut self, told: Registered) {
