@@ -105,7 +105,7 @@ fn draw_batch(
     let mut ops = Vec::new(alloc);
     let mut place = draw_place(random);
     let stride = if random.one_in(32) { 0 } else { 5 };
-    for _ in 0..1 + random.below(4) {
+    for _ in 0..random.below(4).wrapping_add(1) {
         ops.push((key_at(place), draw_op(alloc, random, drawn, place)?))?;
         place = (place % COUNT + stride) % COUNT;
     }

@@ -189,16 +189,15 @@ fn live(
     if let Some((call, fault)) = script.fault {
         store.fail(call, fault);
     }
-    match play(alloc, store, &script, Known::of(table), tally) {
-        (store, Some(known)) => {
-            tally.add_known(&known);
-            let crash = script.crashes.then_some(drawn.steps);
-            let (store, told) = end(alloc, store, crash, known, random, tally)?;
-            tally.add_told(told);
-            Ok((store, known.once(told).surely, told))
-        }
-        (store, None) => Ok((store, table, Told::Misread)),
-    }
+    let (store, played) = play(alloc, store, &script, Known::of(table), tally);
+    let Some(known) = played else {
+        return Ok((store, table, Told::Misread));
+    };
+    tally.add_known(&known);
+    let crash = script.crashes.then_some(drawn.steps);
+    let (store, told) = end(alloc, store, crash, known, random, tally)?;
+    tally.add_told(told);
+    Ok((store, known.once(told).surely, told))
 }
 
 /// The script of a number, of one life or two.
