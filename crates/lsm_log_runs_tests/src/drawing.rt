@@ -105,7 +105,7 @@ fn draw_batch(
     let mut ops = Vec::new(alloc);
     let mut place = draw_place(random);
     let stride = if random.one_in(32) { 0 } else { 5 };
-    for _ in 0..random.below(4).wrapping_add(1) {
+    for _ in 0..random.below(4).saturating_add(1) {
         ops.push((key_at(place), draw_op(alloc, random, drawn, place)?))?;
         place = (place % COUNT + stride) % COUNT;
     }
@@ -166,7 +166,7 @@ fn draw_steps(
     drawn: &mut Drawn,
 ) -> Result<Vec<LogStep>, AllocError> {
     let mut steps = Vec::new(alloc);
-    for _ in 0..FEWEST + random.below(MORE) {
+    for _ in 0..random.below(MORE).saturating_add(FEWEST) {
         steps.push(draw_step(alloc, random, drawn)?)?;
     }
     Ok(steps)
