@@ -15,7 +15,7 @@ pub enum Error {
     /// 2: a store call failed in this call; nothing was installed.
     #[error("a store call failed")]
     Store,
-    /// 3: replacing `current` failed in this call: whether the commit stands is unknown.
+    /// 3: replacing `current`, or a record of the log, failed in this call: whether it stands is unknown.
     #[error("replacing `current` failed")]
     CommitUnknown,
     /// 4: files are damaged or foreign; or a commit was asked for after one of unknown outcome.
