@@ -95,11 +95,13 @@ pub fn offer_file(
     ensures whole { OnOk result (IsWhole (held_at files.old name.now)) }
     ensures err { OnErr result (HoldSame files.old files.new) }
 {
-    make_room(alloc, files, name)?;
     if let Some(file) = files.get_mut(name) {
         file.offer(alloc, bytes, shown)?;
+        return Ok(());
     }
-    Ok(())
+    let mut file = File::new(alloc);
+    file.offer(alloc, bytes, shown)?;
+    put_file(alloc, files, name, file)
 }
 
 /// What reads give of a name is on the disk. Whether there is something.
