@@ -43,8 +43,8 @@ fn table_of(
     }
 }
 
-/// Writes the file of a table under an id, syncs it, and returns the table, which shares the bytes of the file.
-/// The cost is linear in the bytes.
+/// Writes the file of a table under an id, syncs it, and returns the table, which shares the bytes of the file; its
+/// entries take `held` bytes there. The cost is linear in the bytes.
 ///
 /// # Errors
 ///
@@ -56,6 +56,7 @@ fn write_table<S: Store>(
     id: TableId,
     made_at: u64,
     entries: &Entries<'_>,
+    held: u64,
 ) -> Result<Table, Error>
     requires { IsTable entries.now }
     ensures table { IfOk result (λ t. t ≡ record { id = id; created_at = made_at; entries = entries.now }) }
@@ -65,7 +66,7 @@ fn write_table<S: Store>(
     ensures only { IfErr result (λ e. (e ≡ Error.OutOfMemory) ⊎ (e ≡ Error.Store)) }
     ensures counts { CountsFaults (S.world store.old) (S.world store.new) result }
 {
-    let file = encode_parts(alloc, made_at, entries)?;
+    let file = encode_parts(alloc, made_at, entries, held)?;
     write_file(store, id, &file)?;
     table_of(alloc, id, made_at, entries, file)
 }
@@ -98,9 +99,9 @@ fn write_each<S: Store>(
         if id >= LIMIT {
             return Err(Error::OutOfNumbers);
         }
-        let (first, behind) = split_table(&rest, TABLE_TARGET);
+        let (first, behind, held) = split_table(&rest, TABLE_TARGET);
         *next = id + 1;
-        tables.push(write_table(alloc, store, id, made_at, &first)?)?;
+        tables.push(write_table(alloc, store, id, made_at, &first, held)?)?;
         rest = behind;
     }
     Ok(tables)

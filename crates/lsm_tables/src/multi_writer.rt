@@ -19,15 +19,15 @@ pub fn size_of_entry(entry: &InternalValue) -> u64
         .saturating_add(entry.value.len() as u64)
 }
 
-/// Where the first table of entries ends, and what comes after it: before an entry of another key, as soon as it has the
-/// target, or with the last entry.
-fn first_end<'a>(entries: &Entries<'a>, target: u64) -> (usize, Entries<'a>)
+/// Where the first table of entries ends, what comes after it, and the bytes that its entries take: before an entry of
+/// another key, as soon as it has the target, or with the last entry.
+fn first_end<'a>(entries: &Entries<'a>, target: u64) -> (usize, Entries<'a>, u64)
     requires { 0 < length entries.now }
     ensures end { IsFirstEnd target entries.now result.0 }
     ensures rest { result.1 ≡ drop result.0 entries.now }
 {
     let Some((first, behind)) = entries.split_first() else {
-        return (0, entries.copy());
+        return (0, entries.copy(), 0);
     };
     // Their number fits.
     let _ = entries.len();
@@ -37,24 +37,25 @@ fn first_end<'a>(entries: &Entries<'a>, target: u64) -> (usize, Entries<'a>)
     let mut held = size_of_entry(first);
     while let Some((entry, behind)) = rest.split_first() {
         if held >= target && !has_same_key(last, entry) {
-            return (end, rest);
+            return (end, rest, held);
         }
         held = held.saturating_add(size_of_entry(entry));
         last = entry;
         rest = behind;
         end += 1;
     }
-    (end, rest)
+    (end, rest, held)
 }
 
-/// The entries of the first of the tables into which entries are cut, as `write_tables` cuts them, and what comes
-/// after them: for callers that write one table at a time. The cost is linear in the first table.
+/// The entries of the first of the tables into which entries are cut, as `write_tables` cuts them, what comes after
+/// them, and the bytes that the first take in a file: for callers that write one table at a time. The cost is linear in
+/// the first table.
 ///
 /// ```text
-/// let (table, rest) = split_table(&entries, target);
-/// let file = encode_parts(alloc, made_at, &table)?;
+/// let (table, rest, held) = split_table(&entries, target);
+/// let file = encode_parts(alloc, made_at, &table, held)?;
 /// ```
-pub fn split_table<'a>(entries: &Entries<'a>, target: u64) -> (Entries<'a>, Entries<'a>)
+pub fn split_table<'a>(entries: &Entries<'a>, target: u64) -> (Entries<'a>, Entries<'a>, u64)
     requires some { 0 < length entries.now }
     requires writable { IsWritable entries.now }
     ensures parts { result.0 ++ result.1 ≡ entries.now }
@@ -66,8 +67,8 @@ pub fn split_table<'a>(entries: &Entries<'a>, target: u64) -> (Entries<'a>, Entr
     entries_are_ordered();
     // Their number fits.
     let _ = entries.len();
-    let (end, rest) = first_end(entries, target);
-    (entries.up_to(end), rest)
+    let (end, rest, held) = first_end(entries, target);
+    (entries.up_to(end), rest, held)
 }
 
 /// The tables into which a list is cut are a run: their keys rise, and no two share one.
@@ -112,8 +113,8 @@ pub fn write_tables(
     let mut images = Vec::new(alloc);
     let mut rest = Entries::of(entries);
     while !rest.is_empty() {
-        let (table, behind) = split_table(&rest, target);
-        images.push(encode_parts(alloc, made_at, &table)?)?;
+        let (table, behind, held) = split_table(&rest, target);
+        images.push(encode_parts(alloc, made_at, &table, held)?)?;
         rest = behind;
     }
     Ok(images)

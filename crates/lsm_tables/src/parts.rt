@@ -14,7 +14,8 @@ use std::marker::Model;
 /// for block in blocks {
 ///     parts.push(block)?;
 /// }
-/// let file = encode_parts(alloc, made_at, &parts.entries())?;
+/// let (table, rest, held) = split_table(&parts.entries(), target);
+/// let file = encode_parts(alloc, made_at, &table, held)?;
 /// ```
 #[derive(Drop)]
 pub struct Parts<'a> {

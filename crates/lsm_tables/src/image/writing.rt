@@ -60,22 +60,8 @@ pub(super) fn put_entry(out: &mut Vec<u8>, entry: &InternalValue) -> Result<(), 
     out.extend_from_slice(entry.value.as_slice())
 }
 
-/// How many bytes the content has, so that room is made once.
-fn size_of(entries: &Entries<'_>) -> usize {
-    let mut size = FRONT_LEN;
-    let mut rest = entries.copy();
-    while let Some((entry, behind)) = rest.split_first() {
-        size = size
-            .saturating_add(HEAD_LEN)
-            .saturating_add(entry.key.user_key.len())
-            .saturating_add(entry.value.len());
-        rest = behind;
-    }
-    size
-}
-
 /// The content of the file of a table of these entries, made at this moment (in nanoseconds). It is made of them where
-/// they stand.
+/// they stand. `held` is the bytes that they take, as `split_table` counts them: room for so many is made at once.
 ///
 /// The entries rise, at least one; keys have at most `MAX_KEY_LEN` bytes, values at most
 /// `MAX_VALUE_LEN`, and tombstones none. The cost is linear in the bytes.
@@ -87,11 +73,12 @@ pub fn encode_parts(
     alloc: Global,
     made_at: u64,
     entries: &Entries<'_>,
+    held: u64,
 ) -> Result<Vec<u8>, AllocError>
     requires { IsTable entries.now }
     ensures { IfOk result (λ v. v.items ≡ image made_at entries.now) }
 {
-    let mut out = Vec::with_capacity(alloc, size_of(entries))?;
+    let mut out = Vec::with_capacity(alloc, FRONT_LEN.saturating_add(held as usize))?;
     out.extend_from_slice(&front_of(made_at, entries.len() as u64))?;
     let mut rest = entries.copy();
     while let Some((entry, behind)) = rest.split_first() {
@@ -101,10 +88,10 @@ pub fn encode_parts(
     Ok(out)
 }
 
-/// `encode_parts`, of entries that stand in one slice.
+/// `encode_parts`, of entries that stand in one slice; room is made as it is needed.
 pub fn encode(alloc: Global, made_at: u64, entries: &[InternalValue]) -> Result<Vec<u8>, AllocError>
     requires { IsTable entries.now }
     ensures { IfOk result (λ v. v.items ≡ image made_at entries.now) }
 {
-    encode_parts(alloc, made_at, &Entries::of(entries))
+    encode_parts(alloc, made_at, &Entries::of(entries), 0)
 }
