@@ -6,7 +6,7 @@ use Rattle.lsm_below.specs.Entries.{Entry}
 use Rattle.lsm_store.specs.World.{World}
 use Rattle.lsm_model.specs.Counted.{OfWrite}
 use Rattle.lsm_model.specs.Journal.{Event, Map, InOrder}
-use Rattle.lsm_files.specs.Stored.{IsStored}
+use Rattle.lsm_commit.specs.Stored.{IsStored}
 use Rattle.lsm_state.specs.Core.{Core, versions_left, written_of}
 use Rattle.lsm_run_model.specs.Composing.{AreNumbered}
 use Rattle.lsm_run_model.specs.Moments.{EachMoment, last_of}

@@ -8,7 +8,7 @@ use Rattle.lsm_model.specs.Views.{held}
 use Rattle.lsm_versions.specs.Levels.{Levels, placed_of}
 use Rattle.lsm_manifest.specs.Finding.{Finds}
 use Rattle.lsm_manifest.specs.Ready.{OpeningLeaves}
-use Rattle.lsm_files.specs.Stored.{IsStored}
+use Rattle.lsm_commit.specs.Stored.{IsStored}
 use Rattle.lsm_state.specs.Core.{Core, state_of, versions_left, written_of}
 use Rattle.lsm_runs.specs.declared.steps.Step.{Step}
 use Rattle.lsm_runs.specs.After.{RunIsRight}

@@ -10,7 +10,7 @@ use Rattle.lsm_model.specs.Views.{held, view_at}
 use Rattle.lsm_versions.specs.Levels.{Levels, placed_of}
 use Rattle.lsm_manifest.specs.Finding.{Finds}
 use Rattle.lsm_manifest.specs.Ready.{OpeningLeaves}
-use Rattle.lsm_files.specs.Stored.{IsStored}
+use Rattle.lsm_commit.specs.Stored.{IsStored}
 use Rattle.lsm_state.specs.Core.{Core, state_of, versions_left, written_of}
 use Rattle.lsm_run_model.specs.Composing.{AreNumbered}
 use Rattle.lsm_run_model.specs.Moments.{EachMoment, last_of}

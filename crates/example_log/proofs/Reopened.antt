@@ -21,8 +21,8 @@ use Rattle.lsm_manifest.specs.Finding.{Finds}
 use Rattle.lsm_manifest.specs.Names.{current_name}
 use Rattle.lsm_manifest.specs.Standing.{StandsFor}
 use Rattle.lsm_manifest.specs.Versions.{named_levels}
-use Rattle.lsm_files.specs.Foreign.{AtRest}
-use Rattle.lsm_files.specs.Stored.{IsStored, HoldsOneOf}
+use Rattle.lsm_commit.specs.Foreign.{AtRest}
+use Rattle.lsm_commit.specs.Stored.{IsStored, HoldsOneOf}
 use Rattle.lsm_log.specs.declared.record.Record.{Record}
 use Rattle.lsm_log_model.specs.Joins.{LogStaysSound}
 use Rattle.lsm_log_model.specs.Logs.{Logged as Log, LostBatch, LogIsSound, IsCertain, HasRecords, MayLeave, Batched, AllActs}

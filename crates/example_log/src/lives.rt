@@ -6,7 +6,7 @@ ghost use Rattle.lsm_logged.specs.Opening.{OpensLogged};
 ghost use Rattle.example_log.specs.Kept.{HoldsBatch};
 
 use lsm_below::{Error, UserKey};
-use lsm_files::crashes_leave_versions;
+use lsm_commit::crashes_leave_versions;
 use lsm_log_model::{
     every_crash_keeps_batches, log_stays_sound, logged_reads_are_right, replays_are_in_order,
     tables_alone_stand, whole_is_logged,

@@ -1,7 +1,7 @@
 // A boxed strategy that answers anything. Nothing halts, and only a drop changes what is read.
 use crate::samples::{open_new, set};
 use lsm_below::{Error, TableId};
-use lsm_choices::{Input, Why};
+use lsm_checks::{Input, Why};
 use lsm_parts::Config;
 use lsm_pick::{Choice, ChooseError, CompactionStrategy};
 use lsm_state::{Begun, TreeState};

@@ -2,9 +2,9 @@
 use crate::careless::{all_ids, into_level, open_with_two};
 use crate::samples::{open, text};
 use lsm_below::Error;
-use lsm_choices::Why;
-use lsm_jobs::WrittenFlush;
-use lsm_merges::MergedCompaction;
+use lsm_checks::Why;
+use lsm_compaction::MergedCompaction;
+use lsm_flush::WrittenFlush;
 use lsm_model::Op;
 use lsm_pick::Choice;
 use lsm_state::{Begun, Finished, Options, TreeState};

@@ -8,7 +8,7 @@
 //! | `foreign` | jobs that end on another tree |
 //! | `samples` | holds no test: a store with one table, in both formats |
 //!
-//! Each cut, each changed byte and each doubled section of a file is tested in `lsm_manifest_tests`, as are missing files
+//! Each cut, each changed byte and each doubled section of a file is tested in `lsm_opening_tests`, as are missing files
 //! and tables out of order.
 #![tactic(auto)]
 

@@ -5,9 +5,9 @@ use Rattle.lsm_below.specs.declared.error.Error.TheVariants.{CommitUnknown, Afte
 use Rattle.lsm_model.specs.Journal.{Event}
 use Rattle.lsm_model.specs.declared.journal.JournalEntry.TheVariants.{Mark, Install}
 use Rattle.lsm_versions.specs.Levels.{SeenVersion}
-use Rattle.lsm_choices.specs.declared.choice.Why.{Why}
-use Rattle.lsm_choices.specs.declared.input.Input.{Input}
-use Rattle.lsm_merges.specs.Merges.{SeenCompaction}
+use Rattle.lsm_checks.specs.declared.choice.Why.{Why}
+use Rattle.lsm_checks.specs.declared.input.Input.{Input}
+use Rattle.lsm_compaction.specs.Merges.{SeenCompaction}
 use Rattle.lsm_pick.specs.declared.choice.Choice.{Choice}
 use Rattle.lsm_pick.specs.declared.choice.Choice.TheVariants.{DoNothing, Move, Merge, Drop}
 use Rattle.lsm_state.specs.declared.compaction.Options.{Options}

@@ -9,10 +9,10 @@ use Rattle.lsm_model.specs.Steps.{Marked, StaysAt}
 use Rattle.lsm_model.specs.Sound.{Holds}
 use Rattle.lsm_model.specs.declared.journal.JournalEntry.TheVariants.{Mark, Install, Write, Clear, Dropped, Read}
 use Rattle.lsm_versions.specs.Levels.{SeenVersion}
-use Rattle.lsm_choices.specs.declared.choice.Why.{Why}
-use Rattle.lsm_choices.specs.declared.choice.Why.TheVariants.{UnknownJob}
-use Rattle.lsm_choices.specs.declared.input.Input.{Input}
-use Rattle.lsm_merges.specs.Merges.{SeenCompaction}
+use Rattle.lsm_checks.specs.declared.choice.Why.{Why}
+use Rattle.lsm_checks.specs.declared.choice.Why.TheVariants.{UnknownJob}
+use Rattle.lsm_checks.specs.declared.input.Input.{Input}
+use Rattle.lsm_compaction.specs.Merges.{SeenCompaction}
 use Rattle.lsm_pick.specs.declared.choice.Choice.{Choice}
 use Rattle.lsm_state.specs.declared.compaction.Options.{Options}
 use Rattle.lsm_state.specs.declared.compaction.Begun.{Begun}

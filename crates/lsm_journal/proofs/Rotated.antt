@@ -7,8 +7,8 @@ use Rattle.lsm_store.specs.World.{World}
 use Rattle.lsm_model.specs.Journal.{Event}
 use Rattle.lsm_versions.specs.Levels.{SeenVersion}
 use Rattle.lsm_manifest.specs.Names.{version_name}
-use Rattle.lsm_files.specs.Causes.{HasCause, causes_less}
-use Rattle.lsm_jobs.specs.declared.jobs.Registered.{Registered}
+use Rattle.lsm_commit.specs.Causes.{HasCause, causes_less}
+use Rattle.lsm_flush.specs.declared.jobs.Registered.{Registered}
 use Rattle.lsm_parts.specs.declared.version.super_version.SuperVersion.{SuperVersion}
 use Rattle.lsm_parts.specs.History.{SeenHistory}
 use Rattle.lsm_state.specs.Calls.{Rotates}

@@ -1,7 +1,7 @@
 // How a choice begins, and what is noted of that.
 ghost use Rattle.std.specs.Prelude.{◌≡◌, ℕ, IsSome, IfOk, Ok, length, take};
 ghost use Rattle.lsm_pick.specs.declared.choice.Choice.{Choice as ChoiceOf};
-ghost use Rattle.lsm_files.specs.Causes.{HasCause, Blames};
+ghost use Rattle.lsm_commit.specs.Causes.{HasCause, Blames};
 ghost use Rattle.lsm_state.specs.Cleaning.{LeavesNoFiles};
 ghost use Rattle.lsm_state.specs.Commits.{Upholds};
 ghost use Rattle.lsm_state.specs.Compactions.{given_up};

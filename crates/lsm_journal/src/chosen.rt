@@ -1,7 +1,7 @@
 // A strategy's choice, beside what a journal notes of it if it is done.
 ghost use Rattle.std.specs.Prelude.{◌≡◌, ◌⊎◌, ◌∷◌, [], true, false, None, IsSome, IsTrue, IfOk};
 ghost use Rattle.lsm_pick.specs.Simple.{are_reversed};
-ghost use Rattle.lsm_files.specs.Causes.{Blames};
+ghost use Rattle.lsm_commit.specs.Causes.{Blames};
 ghost use Rattle.lsm_state.specs.CompactionDeeds.{dropped_by};
 ghost use Rattle.lsm_state.specs.WholeCompactions.{options_at};
 ghost use Rattle.lsm_journal.specs.Noted.{IsAnswerOf, noted_of};

@@ -1,7 +1,7 @@
 // A clear, and what is noted of it.
 ghost use Rattle.std.specs.Prelude.{◌≡◌, ◌∷◌, [], length, take, IsSome, IfOk};
 ghost use Rattle.lsm_model.specs.declared.journal.JournalEntry.TheVariants.{Clear};
-ghost use Rattle.lsm_files.specs.Causes.{HasCause, Blames};
+ghost use Rattle.lsm_commit.specs.Causes.{HasCause, Blames};
 ghost use Rattle.lsm_state.specs.Commits.{Upholds};
 ghost use Rattle.lsm_journal.specs.NotedClears.{ClearsNoted};
 

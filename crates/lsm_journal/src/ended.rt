@@ -1,7 +1,7 @@
 // How a merge ends, and what is noted of that.
 ghost use Rattle.std.specs.Prelude.{◌≡◌, ◌<◌, ℕ, ◌∷◌, [], Ok, IfOk, IfErr, IsSome, length, take};
 ghost use Rattle.lsm_model.specs.declared.journal.JournalEntry.TheVariants.{Install};
-ghost use Rattle.lsm_files.specs.Causes.{HasCause, Blames};
+ghost use Rattle.lsm_commit.specs.Causes.{HasCause, Blames};
 ghost use Rattle.lsm_state.specs.Cleaning.{LeavesNoFiles, RemovesDrawn};
 ghost use Rattle.lsm_state.specs.Commits.{Upholds};
 ghost use Rattle.lsm_state.specs.Core.{Core};
@@ -10,7 +10,7 @@ ghost use Rattle.lsm_journal.specs.Noted.{EndsNoted};
 
 use crate::lists::one_entry;
 use lsm_below::SeqNo;
-use lsm_merges::MergedCompaction;
+use lsm_compaction::MergedCompaction;
 use lsm_model::JournalEntry;
 use lsm_parts::{Error, LIMIT};
 use lsm_state::{Finished, TreeState};

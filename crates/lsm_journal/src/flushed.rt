@@ -1,7 +1,7 @@
 // Flushes, and what is noted of them.
 ghost use Rattle.std.specs.Prelude.{◌≡◌, ◌⊎◌, ◌<◌, ◌∷◌, [], ℕ, map, true, length, take, IsSome, IfOk, IfErr, IfSome, IsErrOf};
 ghost use Rattle.lsm_model.specs.declared.journal.JournalEntry.TheVariants.{Mark, Install};
-ghost use Rattle.lsm_files.specs.Causes.{HasCause};
+ghost use Rattle.lsm_commit.specs.Causes.{HasCause};
 ghost use Rattle.lsm_state.specs.Causes.{BlamesOrUnclean, BlamesOrUncleanFlush, BlamesOrUncleanBehind};
 ghost use Rattle.lsm_state.specs.Cleaning.{LeavesNoFiles, RemovesDrawn, RemovesTables};
 ghost use Rattle.lsm_state.specs.Commits.{Upholds};
@@ -11,7 +11,7 @@ ghost use Rattle.lsm_journal.specs.NotedFlushes.{RegistersNoted, FlushesNoted, F
 
 use crate::lists::{cut, one_entry};
 use lsm_below::{MemtableId, SeqNo};
-use lsm_jobs::{Registered, WrittenFlush};
+use lsm_flush::{Registered, WrittenFlush};
 use lsm_model::JournalEntry;
 use lsm_parts::{Error, LIMIT};
 use lsm_state::TreeState;

@@ -6,7 +6,7 @@ use Rattle.lsm_store.specs.Moments.{weakened}
 use Rattle.lsm_manifest.specs.declared.kinds.NameKind.TheVariants.{Other}
 use Rattle.lsm_manifest.specs.Names.{current_name}
 use Rattle.lsm_manifest.specs.Kinds.{kind_of}
-use Rattle.lsm_files.specs.Foreign.{IsForeign, KeepsOwn, ChangesForeign}
+use Rattle.lsm_commit.specs.Foreign.{IsForeign, KeepsOwn, ChangesForeign}
 use Rattle.lsm_log.specs.LogNames.{record_name}
 use Rattle.lsm_log.specs.Changes.{IsPut, ClearsRecords, AreCleared}
 

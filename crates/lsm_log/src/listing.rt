@@ -6,7 +6,7 @@ ghost use Rattle.std.specs.Option.{option_to_list};
 ghost use Rattle.std.specs.String.{string_bytes};
 ghost use Rattle.lsm_store.specs.World.{Same, Lists};
 ghost use Rattle.lsm_log.specs.LogNames.{is_refused, number_in};
-ghost use Rattle.lsm_files.specs.Stored.{CountsFaults};
+ghost use Rattle.lsm_commit.specs.Stored.{CountsFaults};
 ghost use Rattle.lsm_log.specs.Logs.{AreNumbers, HasBadName};
 
 use crate::kinds::{is_refused, number_in};

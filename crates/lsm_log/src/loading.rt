@@ -5,7 +5,7 @@ ghost use Rattle.std.specs.List.Sorted.{IsStrictlyIncreasing};
 ghost use Rattle.lsm_store.specs.World.{Same};
 ghost use Rattle.lsm_log.specs.LogNames.{record_name};
 ghost use Rattle.lsm_log.specs.Records.{Ops, IsRecordOf};
-ghost use Rattle.lsm_files.specs.Stored.{CountsFaults};
+ghost use Rattle.lsm_commit.specs.Stored.{CountsFaults};
 ghost use Rattle.lsm_log.specs.Logs.{IsRecordAt, IsNoRecordAt, HasEach, LacksOne, IsLogAt, IsBadLog};
 
 use crate::listing::record_numbers;

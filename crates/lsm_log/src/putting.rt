@@ -1,13 +1,13 @@
 // A record is put in one step.
 ghost use Rattle.std.specs.Prelude.{◌≡◌, ◌⊎◌, IfErr};
 ghost use Rattle.lsm_store.specs.World.{LeavesOnly};
-ghost use Rattle.lsm_files.specs.Stored.{CountsFaults};
-ghost use Rattle.lsm_files.specs.Foreign.{Spares};
+ghost use Rattle.lsm_commit.specs.Stored.{CountsFaults};
+ghost use Rattle.lsm_commit.specs.Foreign.{Spares};
 ghost use Rattle.lsm_log.specs.Changes.{PutsRecord, IsPut};
 
 use crate::record_name;
 use lsm_below::{Error, SeqNo};
-use lsm_files::foreign_names_spare;
+use lsm_commit::foreign_names_spare;
 use lsm_store::{Store, StoreError};
 
 /// `put_record`, told of the record alone.

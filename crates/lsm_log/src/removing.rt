@@ -3,14 +3,14 @@ ghost use Rattle.std.specs.Prelude.{◌≡◌, ◌<◌, ◌≤◌, ℕ, List, No
 ghost use Rattle.std.specs.List.Sorted.{IsStrictlyIncreasing};
 ghost use Rattle.lsm_store.specs.World.{LeavesOnly, Narrows, Same};
 ghost use Rattle.lsm_log.specs.LogNames.{record_name};
-ghost use Rattle.lsm_files.specs.Stored.{CountsFaults};
-ghost use Rattle.lsm_files.specs.Foreign.{Spares};
+ghost use Rattle.lsm_commit.specs.Stored.{CountsFaults};
+ghost use Rattle.lsm_commit.specs.Foreign.{Spares};
 ghost use Rattle.lsm_log.specs.Changes.{IsBelow, IsNoneOf, ClearsRecords, AreCleared};
 
 use crate::loading::first_from;
 use crate::record_name;
 use lsm_below::{Error, SeqNo};
-use lsm_files::foreign_names_spare;
+use lsm_commit::foreign_names_spare;
 use lsm_store::{Store, StoreError};
 
 fn remove_record<S: Store>(store: &mut S, number: SeqNo) -> Result<(), Error>

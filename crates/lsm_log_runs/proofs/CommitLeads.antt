@@ -7,7 +7,7 @@ use Rattle.lsm_store.specs.World.{World, LeavesOnly}
 use Rattle.lsm_model.specs.Journal.{Event}
 use Rattle.lsm_model.specs.Steps.{Action, Rotated, DroppedTables, Marked, Maintained}
 use Rattle.lsm_model.specs.Beginnings.{Note}
-use Rattle.lsm_files.specs.Foreign.{AtRest}
+use Rattle.lsm_commit.specs.Foreign.{AtRest}
 use Rattle.lsm_log_model.specs.Logs.{Act, Did, CommitLost}
 use Rattle.lsm_log_model.specs.Records.{LogImage, logged, opened_by}
 use Rattle.lsm_runs.specs.declared.steps.Reply.{Reply}

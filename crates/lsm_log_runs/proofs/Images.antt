@@ -11,7 +11,7 @@ use Rattle.lsm_manifest.specs.Finding.{Named}
 use Rattle.lsm_manifest.specs.Names.{current_name}
 use Rattle.lsm_manifest.specs.Standing.{StandsFor}
 use Rattle.lsm_manifest.specs.Versions.{named_levels}
-use Rattle.lsm_files.specs.Stored.{HoldsOneOf}
+use Rattle.lsm_commit.specs.Stored.{HoldsOneOf}
 use Rattle.lsm_log.specs.declared.record.Record.{Record}
 use Rattle.lsm_log.specs.LogNames.{record_name}
 use Rattle.lsm_log.specs.Records.{IsRecordOf}

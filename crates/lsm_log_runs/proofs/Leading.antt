@@ -6,8 +6,8 @@ use Rattle.lsm_store.specs.Moments.{weakened}
 use Rattle.lsm_model.specs.Journal.{Event, InOrder}
 use Rattle.lsm_model.specs.Beginnings.{Note}
 use Rattle.lsm_versions.specs.Levels.{SeenVersion}
-use Rattle.lsm_files.specs.Foreign.{AtRest}
-use Rattle.lsm_files.specs.Opening.{StoredIsReady}
+use Rattle.lsm_commit.specs.Foreign.{AtRest}
+use Rattle.lsm_commit.specs.Opening.{StoredIsReady}
 use Rattle.lsm_log_model.specs.Logs.{Logged as Log, LostBatch, Act, MayLeave, IsCertain}
 use Rattle.lsm_log_model.specs.Records.{LogImage, LogStands, logged, opened_by}
 use Rattle.lsm_log_model.specs.Recovery.{LogRecovers}

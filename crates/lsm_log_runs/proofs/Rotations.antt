@@ -1,7 +1,7 @@
 -- A rotation leaves the tree's files as they are stored.
 use Rattle.std.proofs.Common.{ℕ, Option, Some, None, sym, subst}
 use Rattle.lsm_store.specs.World.{World}
-use Rattle.lsm_files.specs.Stored.{IsStored}
+use Rattle.lsm_commit.specs.Stored.{IsStored}
 use Rattle.lsm_runs.specs.declared.steps.Reply.TheVariants.{Sealed}
 use Rattle.lsm_runs.specs.Files.{StaysStored}
 use Rattle.lsm_state.specs.Core.{Core, versions_left, written_of}

@@ -5,7 +5,7 @@ use Rattle.lsm_store.specs.World.{World}
 use Rattle.lsm_model.specs.Beginnings.{Saved}
 use Rattle.lsm_model.specs.Sound.{Holds}
 use Rattle.lsm_model.specs.declared.question.Question.TheVariants.{Between, Prefix as AskPrefix}
-use Rattle.lsm_files.specs.Foreign.{AtRest}
+use Rattle.lsm_commit.specs.Foreign.{AtRest}
 use Rattle.lsm_log_model.specs.Records.{LogImage, logged, opened_by}
 use Rattle.lsm_run_model.specs.Moments.{last_of}
 use Rattle.lsm_run_model.specs.Outcomes.{without_low_reads}

@@ -13,7 +13,7 @@ use Rattle.lsm_model.specs.Steps.{Action, Marked, Maintained}
 use Rattle.lsm_model.specs.Beginnings.{Saved, FlushedIds}
 use Rattle.lsm_model.specs.declared.op.Op.{Op}
 use Rattle.lsm_model.specs.declared.journal.JournalEntry.TheVariants.{Write as Wrote, Install, Mark}
-use Rattle.lsm_files.specs.Foreign.{AtRest}
+use Rattle.lsm_commit.specs.Foreign.{AtRest}
 use Rattle.lsm_log_model.specs.Logs.{Logged as Log, IsCertain, Act, Batched, BatchLost, Did, CommitLost, AllActs}
 use Rattle.lsm_log_model.specs.Records.{HasDistinctKeys, LogImage, logged, opened_by}
 use Rattle.lsm_log_model.proofs.Writes.{deeds_run}

@@ -1,6 +1,6 @@
 // How often each thing happened in the scripts.
 use crate::known::{Known, Told};
-use lsm_jobs::Registered;
+use lsm_flush::Registered;
 use lsm_runs::Reply;
 
 /// How often each thing happened.

@@ -19,7 +19,7 @@ use Rattle.lsm_model.specs.Ops.{op_entries, op_value, keys_of, repeats}
 use Rattle.lsm_model.specs.declared.op.Op.{Op}
 use Rattle.lsm_model.specs.declared.journal.JournalEntry.TheVariants.{Write}
 use Rattle.lsm_versions.specs.Levels.{placed_of}
-use Rattle.lsm_files.specs.Foreign.{KeepsForeign, Passes}
+use Rattle.lsm_commit.specs.Foreign.{KeepsForeign, Passes}
 use Rattle.lsm_log.specs.LogNames.{record_name}
 use Rattle.lsm_log.specs.Records.{IsRecordOf}
 use Rattle.lsm_log.specs.Changes.{IsPut}

@@ -3,8 +3,8 @@ use Rattle.std.proofs.Common.{◌≡◌, ⊎_elim, ◌+◌, ◌-◌, ◌^◌, mi
 use Rattle.lsm_below.specs.declared.error.Error.{Error}
 use Rattle.lsm_below.specs.declared.error.Error.TheVariants.{Store, CommitUnknown}
 use Rattle.lsm_store.specs.World.{Image, World}
-use Rattle.lsm_files.specs.Causes.{HasFailed}
-use Rattle.lsm_files.specs.Stored.{CountsFaults}
+use Rattle.lsm_commit.specs.Causes.{HasFailed}
+use Rattle.lsm_commit.specs.Stored.{CountsFaults}
 use Rattle.lsm_log.specs.Logs.{HasBadName, IsBadLog}
 
 -- no record is numbered so high

@@ -10,7 +10,7 @@ use Rattle.lsm_model.specs.Beginnings.{Note, Saved, Done, Lost, Deeds}
 use Rattle.lsm_model.specs.declared.journal.JournalEntry.TheVariants.{Install, Mark}
 use Rattle.lsm_model.proofs.Runs.{latest_ordered}
 use Rattle.lsm_versions.specs.Levels.{SeenVersion}
-use Rattle.lsm_files.specs.Foreign.{Passes}
+use Rattle.lsm_commit.specs.Foreign.{Passes}
 use Rattle.lsm_log_model.specs.Logs.{Logged as Log, IsCertain, MayBeDrawn, is_write, next_from, Did, CommitLost}
 use Rattle.lsm_state.specs.Core.{state_of}
 use Rattle.lsm_state.specs.Deeds.{saved_of, HasOrder, AreDone}

@@ -4,7 +4,7 @@ use Rattle.lsm_below.specs.Entries.{Entry}
 use Rattle.lsm_below.specs.Numbers.{PlainNumbersAreRead}
 use Rattle.lsm_below.specs.declared.error.Error.{Error}
 use Rattle.lsm_below.specs.declared.error.Error.TheVariants.{OutOfMemory, CommitUnknown, Unrecoverable, AfterCommit}
-use Rattle.lsm_choices.specs.declared.choice.Why.{Why}
+use Rattle.lsm_checks.specs.declared.choice.Why.{Why}
 use Rattle.lsm_pick.specs.declared.choice.ChooseError.{ChooseError}
 use Rattle.lsm_pick.specs.declared.choice.ChooseError.TheVariants.{OutOfMemory as NoMemory, NotDisjoint as Several, Busy as InUse, Refused}
 use Rattle.lsm_pick.specs.declared.choice.Choice.{Choice}

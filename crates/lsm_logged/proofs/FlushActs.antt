@@ -13,9 +13,9 @@ use Rattle.lsm_model.specs.Beginnings.{Note, FlushedIds, Saved}
 use Rattle.lsm_model.specs.declared.journal.JournalEntry.TheVariants.{Install}
 use Rattle.lsm_memtable.specs.Memtables.{highest_of}
 use Rattle.lsm_versions.specs.Levels.{SeenVersion, placed_in, placed_of}
-use Rattle.lsm_files.specs.Foreign.{Passes}
-use Rattle.lsm_jobs.specs.Jobs.{SeenJob, SeenWritten, after, passed_by}
-use Rattle.lsm_jobs.specs.declared.jobs.Registered.{Registered}
+use Rattle.lsm_commit.specs.Foreign.{Passes}
+use Rattle.lsm_flush.specs.Jobs.{SeenJob, SeenWritten, after, passed_by}
+use Rattle.lsm_flush.specs.declared.jobs.Registered.{Registered}
 use Rattle.lsm_log_model.specs.Logs.{Logged as Log, MayBeDrawn, next_from}
 use Rattle.lsm_log_model.proofs.Stacks.{above-append}
 use Rattle.lsm_log_model.proofs.Following.{mems_below}

@@ -12,7 +12,7 @@ use Rattle.lsm_model.specs.Beginnings.{Note, Saved, Done, Lost, Deeds, IsDone, I
 use Rattle.lsm_model.specs.declared.journal.JournalEntry.TheVariants.{Install, Dropped, Mark}
 use Rattle.lsm_store.specs.World.{World}
 use Rattle.lsm_versions.specs.Levels.{SeenVersion, placed_of}
-use Rattle.lsm_files.specs.Foreign.{Passes}
+use Rattle.lsm_commit.specs.Foreign.{Passes}
 use Rattle.lsm_log_model.specs.Records.{since}
 use Rattle.lsm_log_model.specs.Logs.{Logged as Log, IsCertain, MayBeDrawn, is_write, next_from, did, doubted, Act, Did, CommitLost, AllActs}
 use Rattle.lsm_log_model.proofs.Batches.{since_each, since_high}

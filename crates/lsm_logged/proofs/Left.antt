@@ -8,8 +8,8 @@ use Rattle.lsm_below.specs.Members.{IsIn}
 use Rattle.lsm_below.specs.Numbers.{PlainNumbersAreRead, plain_number}
 use Rattle.lsm_store.specs.World.{Image, World, LeavesOnly}
 use Rattle.lsm_store.specs.Moments.{weakened}
-use Rattle.lsm_files.specs.Foreign.{IsForeign, KeepsForeign, Passes}
-use Rattle.lsm_files.specs.Stored.{IsStored, HoldsOneOf}
+use Rattle.lsm_commit.specs.Foreign.{IsForeign, KeepsForeign, Passes}
+use Rattle.lsm_commit.specs.Stored.{IsStored, HoldsOneOf}
 use Rattle.lsm_versions.specs.Levels.{SeenVersion}
 use Rattle.lsm_log.specs.LogNames.{record_name}
 use Rattle.lsm_log.specs.Changes.{IsBelow, IsOneOf}

@@ -7,7 +7,7 @@ use Rattle.std.proofs.lemmas.Slice.Eq.{bytes_eq-Decides}
 use Rattle.lsm_below.specs.Numbers.{plain_number, PlainNumbersAreRead}
 use Rattle.lsm_manifest.specs.declared.kinds.NameKind.TheVariants as tree
 use Rattle.lsm_manifest.specs.Kinds.{kind_of as kind_in_tree}
-use Rattle.lsm_files.specs.Foreign.{IsForeign}
+use Rattle.lsm_commit.specs.Foreign.{IsForeign}
 use Rattle.lsm_log.specs.declared.kinds.LogName.{LogName}
 use Rattle.lsm_log.specs.declared.kinds.LogName.TheVariants.{RecordFile, Refused, Other}
 use Rattle.lsm_log.specs.LogNames.{record_name, kind_in_log, kind_of}

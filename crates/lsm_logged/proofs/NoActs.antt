@@ -5,10 +5,10 @@ use Rattle.lsm_below.specs.declared.error.Error.TheVariants.{Unrecoverable, Flus
 use Rattle.lsm_store.specs.World.{World}
 use Rattle.lsm_model.specs.Journal.{Event}
 use Rattle.lsm_model.specs.Beginnings.{Note}
-use Rattle.lsm_merges.specs.Merges.{SeenCompaction}
+use Rattle.lsm_compaction.specs.Merges.{SeenCompaction}
 use Rattle.lsm_versions.specs.Levels.{SeenVersion}
-use Rattle.lsm_files.specs.Foreign.{AtRest}
-use Rattle.lsm_jobs.specs.Jobs.{SeenJob, SeenMerged, SeenWritten, SeenOpen}
+use Rattle.lsm_commit.specs.Foreign.{AtRest}
+use Rattle.lsm_flush.specs.Jobs.{SeenJob, SeenMerged, SeenWritten, SeenOpen}
 use Rattle.lsm_state.specs.Core.{Core, versions_left, written_by, written_of}
 use Rattle.lsm_state.specs.Deeds.{saved_of}
 use Rattle.lsm_state.specs.Commits.{Upholds}

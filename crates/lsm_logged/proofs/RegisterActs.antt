@@ -11,8 +11,8 @@ use Rattle.lsm_model.specs.Journal.{Event}
 use Rattle.lsm_model.specs.Beginnings.{Note}
 use Rattle.lsm_model.specs.Views.{Memtables}
 use Rattle.lsm_versions.specs.Levels.{SeenVersion}
-use Rattle.lsm_jobs.specs.Jobs.{SeenWritten, IsWrittenFrom, passed_by}
-use Rattle.lsm_jobs.specs.declared.jobs.Registered.{Registered}
+use Rattle.lsm_flush.specs.Jobs.{SeenWritten, IsWrittenFrom, passed_by}
+use Rattle.lsm_flush.specs.declared.jobs.Registered.{Registered}
 use Rattle.lsm_log_model.specs.Logs.{Logged as Log}
 use Rattle.lsm_log_model.proofs.Stacks.{above-append}
 use Rattle.lsm_parts.specs.declared.version.super_version.SuperVersion.{SuperVersion}

@@ -6,8 +6,8 @@ use Rattle.lsm_below.specs.Members.{IsIn, each_in}
 use Rattle.lsm_below.specs.declared.error.Error.{Error}
 use Rattle.lsm_store.specs.World.{Image, World, LeavesOnly}
 use Rattle.lsm_store.specs.Moments.{weakened, joined}
-use Rattle.lsm_files.specs.Foreign.{KeepsForeign, Passes}
-use Rattle.lsm_files.specs.Stored.{IsStored, HoldsOneOf, AreAmong}
+use Rattle.lsm_commit.specs.Foreign.{KeepsForeign, Passes}
+use Rattle.lsm_commit.specs.Stored.{IsStored, HoldsOneOf, AreAmong}
 use Rattle.lsm_log.specs.Changes.{IsBelow, AreCleared}
 use Rattle.lsm_log.proofs.Loaded.{rise_drop}
 use Rattle.lsm_state.specs.Core.{Core, versions_left, written_of}

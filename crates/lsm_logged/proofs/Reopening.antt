@@ -24,7 +24,7 @@ use Rattle.lsm_manifest.specs.Names.{current_name}
 use Rattle.lsm_manifest.specs.Looking.{FindsIn, Looks, IsFoundIn}
 use Rattle.lsm_manifest.specs.Versions.{first_version}
 use Rattle.lsm_manifest.specs.Opening.{ReadsFrom}
-use Rattle.lsm_files.specs.Foreign.{IsForeign, KeepsForeign, Passes}
+use Rattle.lsm_commit.specs.Foreign.{IsForeign, KeepsForeign, Passes}
 use Rattle.lsm_log.specs.declared.record.Record.{Record}
 use Rattle.lsm_log.specs.declared.kinds.LogName.TheVariants.{Refused}
 use Rattle.lsm_log.specs.LogNames.{record_name, kind_of}

@@ -13,8 +13,8 @@ use Rattle.lsm_model.specs.Views.{HasDistinctIds}
 use Rattle.lsm_model.specs.Beginnings.{Note, Saved, SealedAt, IsDone}
 use Rattle.lsm_model.proofs.Installs.{rotate_sound}
 use Rattle.lsm_versions.specs.Levels.{SeenVersion, placed_of}
-use Rattle.lsm_files.specs.Foreign.{AtRest}
-use Rattle.lsm_jobs.specs.declared.jobs.Registered.{Registered}
+use Rattle.lsm_commit.specs.Foreign.{AtRest}
+use Rattle.lsm_flush.specs.declared.jobs.Registered.{Registered}
 use Rattle.lsm_log_model.specs.Logs.{Logged as Log, MayBeDrawn, Did, did, AllActs}
 use Rattle.lsm_log_model.proofs.Batches.{since_each}
 use Rattle.lsm_state.specs.Core.{Core, state_of, latest_of}

@@ -9,7 +9,7 @@ use Rattle.lsm_manifest.specs.Opening.{ReadsFrom}
 use Rattle.lsm_manifest.specs.Reading.{told_at}
 use Rattle.lsm_manifest.specs.Recovery.{Levels, IsNamed, IsNamedFrom}
 use Rattle.lsm_manifest.specs.Versions.{log_from_in, named_levels}
-use Rattle.lsm_files.specs.Stored.{HoldsOneOf}
+use Rattle.lsm_commit.specs.Stored.{HoldsOneOf}
 use Rattle.lsm_manifest.proofs.OpeningLemmas.{named_once}
 use Rattle.lsm_manifest.proofs.Whole.{told_again}
 

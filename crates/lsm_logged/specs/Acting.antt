@@ -10,10 +10,10 @@ use Rattle.lsm_model.specs.Steps.{State, Action, Rotated, Flushed, Merged, Moved
 use Rattle.lsm_model.specs.Views.{Placed}
 use Rattle.lsm_model.specs.Beginnings.{Note, SealedAt, FlushedIds, ClearedTo, ClearLost}
 use Rattle.lsm_model.specs.declared.journal.JournalEntry.TheVariants.{Clear, Install, Mark}
-use Rattle.lsm_files.specs.Stored.{IsStored, HoldsOneOf}
-use Rattle.lsm_jobs.specs.Jobs.{SeenWritten}
-use Rattle.lsm_jobs.specs.declared.jobs.Registered.{Registered}
-use Rattle.lsm_merges.specs.Merges.{SeenCompaction, evicts}
+use Rattle.lsm_commit.specs.Stored.{IsStored, HoldsOneOf}
+use Rattle.lsm_flush.specs.Jobs.{SeenWritten}
+use Rattle.lsm_flush.specs.declared.jobs.Registered.{Registered}
+use Rattle.lsm_compaction.specs.Merges.{SeenCompaction, evicts}
 use Rattle.lsm_log_model.specs.Logs.{Logged as Log, MayBeDrawn, Act, Did, CommitLost, AllActs}
 use Rattle.lsm_log_model.specs.Joins.{DrawsBelow}
 use Rattle.lsm_state.specs.Core.{Core, versions_left, written_of}

@@ -9,7 +9,7 @@ use Rattle.lsm_manifest.specs.Names.{current_name}
 use Rattle.lsm_manifest.specs.Opening.{ReadsFrom, Opens}
 use Rattle.lsm_manifest.specs.Recovery.{CountsStore}
 use Rattle.lsm_manifest.specs.Told.{Told, TellsOpen}
-use Rattle.lsm_files.specs.Causes.{HasFailed}
+use Rattle.lsm_commit.specs.Causes.{HasFailed}
 use Rattle.lsm_log.specs.Logs.{IsThere, HasBadName}
 
 -- where a log is read from: from `log_from` of the version that `current` leads to, and without `current` from 0 on

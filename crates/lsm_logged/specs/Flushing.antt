@@ -3,13 +3,13 @@ use Rattle.std.specs.Prelude.{◌≡◌, ◌⊎◌, ℕ, true, false, [], Option
 use Rattle.lsm_below.specs.declared.error.Error.{Error}
 use Rattle.lsm_below.specs.declared.error.Error.TheVariants.{Unrecoverable, AfterCommit}
 use Rattle.lsm_store.specs.World.{Image, World, LeavesOnly}
-use Rattle.lsm_files.specs.Foreign.{KeepsForeign}
-use Rattle.lsm_files.specs.Stored.{IsStored, HoldsOneOf}
-use Rattle.lsm_jobs.specs.declared.jobs.Registered.{Registered}
+use Rattle.lsm_commit.specs.Foreign.{KeepsForeign}
+use Rattle.lsm_commit.specs.Stored.{IsStored, HoldsOneOf}
+use Rattle.lsm_flush.specs.declared.jobs.Registered.{Registered}
 use Rattle.lsm_state.specs.Core.{Core, versions_left, written_of}
 use Rattle.lsm_state.specs.Calls.{Rotates}
 use Rattle.lsm_state.specs.Clearing.{Clears, ClearDeeds}
-use Rattle.lsm_jobs.specs.Jobs.{SeenJob, SeenMerged, SeenWritten}
+use Rattle.lsm_flush.specs.Jobs.{SeenJob, SeenMerged, SeenWritten}
 use Rattle.lsm_state.specs.Flushes.{sealed_ids, spent, Begins, WritesTables, Registers}
 use Rattle.lsm_state.specs.WholeFlushes.{Flushes}
 use Rattle.lsm_logged.specs.Keeping.{SeenLogged, is_unsure}

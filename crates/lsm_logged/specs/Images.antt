@@ -6,7 +6,7 @@ use Rattle.lsm_model.specs.Views.{Placed}
 use Rattle.lsm_versions.specs.Levels.{SeenVersion}
 use Rattle.lsm_manifest.specs.Finding.{Finds}
 use Rattle.lsm_manifest.specs.Opening.{ReadsFrom}
-use Rattle.lsm_files.specs.Stored.{HoldsOneOf}
+use Rattle.lsm_commit.specs.Stored.{HoldsOneOf}
 use Rattle.lsm_log.specs.declared.record.Record.{Record}
 use Rattle.lsm_log.specs.Logs.{IsLogFrom}
 use Rattle.lsm_log_model.specs.Logs.{Logged as Log, LogIsSound, HasRecords}

@@ -16,8 +16,8 @@ use Rattle.lsm_manifest.specs.Opening.{Opens, ReadsFrom}
 use Rattle.lsm_manifest.specs.Ready.{IsReady}
 use Rattle.lsm_manifest.specs.Told.{Told, TellsOpen}
 use Rattle.lsm_manifest.specs.Versions.{first_version}
-use Rattle.lsm_files.specs.Causes.{HasFailed}
-use Rattle.lsm_files.specs.Stored.{IsStored}
+use Rattle.lsm_commit.specs.Causes.{HasFailed}
+use Rattle.lsm_commit.specs.Stored.{IsStored}
 use Rattle.lsm_log.specs.declared.record.Record.{Record}
 use Rattle.lsm_log.specs.declared.kinds.LogName.TheVariants.{Refused}
 use Rattle.lsm_log.specs.LogNames.{record_name, kind_of}

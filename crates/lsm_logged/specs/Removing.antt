@@ -3,7 +3,7 @@ use Rattle.std.specs.Prelude.{◌≡◌, ◌⊎◌, ℕ, ◌<◌, ◌≤◌, Lis
 use Rattle.std.specs.List.{All}
 use Rattle.lsm_below.specs.declared.error.Error.{Error}
 use Rattle.lsm_store.specs.World.{Image, World, LeavesOnly}
-use Rattle.lsm_files.specs.Foreign.{IsForeign}
+use Rattle.lsm_commit.specs.Foreign.{IsForeign}
 use Rattle.lsm_log.specs.LogNames.{record_name}
 use Rattle.lsm_log.specs.Changes.{IsBelow, IsOneOf, IsNoneOf, ClearsRecords, AreCleared}
 use Rattle.lsm_state.specs.Core.{Core}

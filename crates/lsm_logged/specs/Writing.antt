@@ -12,7 +12,7 @@ use Rattle.lsm_model.specs.declared.op.Op.{Op}
 use Rattle.lsm_model.specs.declared.journal.JournalEntry.TheVariants.{Write}
 use Rattle.lsm_log_model.specs.Records.{Batch}
 use Rattle.lsm_log_model.specs.Logs.{Logged as Log, MayBeDrawn, Act, Batched, BatchLost, Acts}
-use Rattle.lsm_files.specs.Stored.{IsStored}
+use Rattle.lsm_commit.specs.Stored.{IsStored}
 use Rattle.lsm_state.specs.Core.{Core, versions_left, written_of}
 use Rattle.lsm_state.specs.Recording.{WritesBehindRecord}
 use Rattle.lsm_logged.specs.Keeping.{SeenLogged, is_unsure, IsLogOf, KeepsLog, IsLogIn}

@@ -1,7 +1,7 @@
 // Compactions of a logged tree.
 ghost use Rattle.std.specs.Prelude.{◌≡◌, ◌<◌, ◌^◌, Ok};
 ghost use Rattle.lsm_below.specs.Numbers.{PlainNumbersAreRead};
-ghost use Rattle.lsm_files.specs.Causes.{HasCause, Blames};
+ghost use Rattle.lsm_commit.specs.Causes.{HasCause, Blames};
 ghost use Rattle.lsm_state.specs.Cleaning.{LeavesNoFiles};
 ghost use Rattle.lsm_state.specs.Commits.{Upholds};
 ghost use Rattle.lsm_state.specs.CompactionDeeds.{CompactionsAreDeeds};
@@ -14,8 +14,8 @@ ghost use Rattle.lsm_logged.specs.Asking.{Asks};
 
 use crate::Logged;
 use lsm_below::{Error, SeqNo, plain_numbers_are_read};
-use lsm_files::crashes_leave_versions;
-use lsm_merges::{CompactionJob, MergedCompaction};
+use lsm_commit::crashes_leave_versions;
+use lsm_compaction::{CompactionJob, MergedCompaction};
 use lsm_pick::{Choice, CompactionStrategy, OwnedBounds};
 use lsm_state::{Begun, Finished, Options, compactions_are_deeds, flushes_are_deeds};
 use lsm_store::Store;

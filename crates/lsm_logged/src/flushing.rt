@@ -1,6 +1,6 @@
 // Flushes of a logged tree, and a clear.
 ghost use Rattle.std.specs.Prelude.{◌≡◌, ◌⊎◌, ◌<◌, ◌^◌, [], true, false, IfOk, OnOk, IfSome};
-ghost use Rattle.lsm_files.specs.Causes.{HasCause, Blames};
+ghost use Rattle.lsm_commit.specs.Causes.{HasCause, Blames};
 ghost use Rattle.lsm_state.specs.Causes.{BlamesOrUncleanFlush, BlamesOrUncleanBehind, BlamesOrUnclean, BlamesBeside};
 ghost use Rattle.lsm_state.specs.Commits.{UpholdsFiles, Upholds};
 ghost use Rattle.lsm_state.specs.Flushes.{sealed_ids, spent};
@@ -10,8 +10,8 @@ ghost use Rattle.lsm_logged.specs.Flushing.{FlushesLogged, FlushesBoth, BeginsLo
 
 use crate::Logged;
 use lsm_below::{Error, MemtableId, SeqNo, plain_numbers_are_read};
-use lsm_files::crashes_leave_versions;
-use lsm_jobs::{FlushJob, MergedFlush, Registered, WrittenFlush};
+use lsm_commit::crashes_leave_versions;
+use lsm_flush::{FlushJob, MergedFlush, Registered, WrittenFlush};
 use lsm_state::flushes_are_deeds;
 use lsm_store::Store;
 

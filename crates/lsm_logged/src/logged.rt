@@ -9,7 +9,7 @@ ghost use Rattle.lsm_logged.specs.Acting.{ActsNot, RotatesAct};
 ghost use Rattle.lsm_logged.specs.Keeping.{is_unsure, IsKeptLogged};
 
 use lsm_below::{Error, MemtableId, SeqNo, TableId};
-use lsm_files::crashes_leave_versions;
+use lsm_commit::crashes_leave_versions;
 use lsm_parts::LIMIT;
 use lsm_state::{TreeState, flushes_are_deeds};
 use lsm_store::{MemStore, Store};

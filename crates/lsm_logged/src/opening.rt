@@ -5,7 +5,7 @@ ghost use Rattle.std.specs.List.Sorted.{IsStrictlyIncreasing};
 ghost use Rattle.lsm_store.specs.World.{Same, LeavesOnly};
 ghost use Rattle.lsm_tables.specs.Image.{Fits};
 ghost use Rattle.lsm_model.specs.Ops.{op_entries};
-ghost use Rattle.lsm_files.specs.Stored.{CountsFaults};
+ghost use Rattle.lsm_commit.specs.Stored.{CountsFaults};
 ghost use Rattle.lsm_log.specs.LogNames.{record_name};
 ghost use Rattle.lsm_log.specs.Changes.{IsBelow, IsNoneOf, ClearsRecords, AreCleared};
 ghost use Rattle.lsm_log.specs.Logs.{LacksOne, IsLogAt, IsBadLog};
@@ -16,7 +16,7 @@ ghost use Rattle.lsm_logged.specs.Opening.{RefusesReading, RefusesReplay, Refuse
 
 use crate::Logged;
 use lsm_below::{Error, SeqNo, plain_numbers_are_read};
-use lsm_files::{crashes_leave_versions, openings_pass, openings_settle};
+use lsm_commit::{crashes_leave_versions, openings_pass, openings_settle};
 use lsm_log::{LogNumbers, Record};
 use lsm_log_model::{counter_stays_above, replays_reopen};
 use lsm_parts::{Config, LIMIT};

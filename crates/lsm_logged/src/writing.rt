@@ -1,6 +1,6 @@
 // Writes of a logged tree.
 ghost use Rattle.std.specs.Prelude.{◌≡◌, ℕ, false};
-ghost use Rattle.lsm_files.specs.Stored.{CountsFaults};
+ghost use Rattle.lsm_commit.specs.Stored.{CountsFaults};
 ghost use Rattle.lsm_state.specs.Commits.{UpholdsFiles};
 ghost use Rattle.lsm_state.specs.Recording.{RecordsBatch};
 ghost use Rattle.lsm_logged.specs.Keeping.{is_unsure, AreKnown};

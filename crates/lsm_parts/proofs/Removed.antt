@@ -7,8 +7,8 @@ use Rattle.lsm_store.specs.World.{World}
 use Rattle.lsm_store.specs.Synced.{KeepsOthers}
 use Rattle.lsm_store.specs.Moments.{joined, same_or_not}
 use Rattle.lsm_manifest.specs.Names.{version_name}
-use Rattle.lsm_files.specs.Stored.{HoldsOneOf}
-use Rattle.lsm_files.specs.Foreign.{AtRest, Passes}
+use Rattle.lsm_commit.specs.Stored.{HoldsOneOf}
+use Rattle.lsm_commit.specs.Foreign.{AtRest, Passes}
 use Rattle.lsm_parts.specs.declared.version.super_version.SuperVersion.{SuperVersion}
 use Rattle.lsm_parts.specs.History.{SeenHistory, NumbersFall}
 use Rattle.lsm_parts.specs.Maintenance.{KeepsNewer, KeepsVersions}

@@ -6,7 +6,7 @@ use Rattle.lsm_store.specs.World.{World}
 use Rattle.lsm_tables.specs.Tables.{SeenTable}
 use Rattle.lsm_versions.specs.Levels.{SeenVersion}
 use Rattle.lsm_manifest.specs.Names.{version_name}
-use Rattle.lsm_files.specs.Stored.{IsStored, Leaves}
+use Rattle.lsm_commit.specs.Stored.{IsStored, Leaves}
 use Rattle.lsm_parts.specs.declared.version.super_version.SuperVersion.{SuperVersion}
 use Rattle.lsm_parts.specs.History.{SeenHistory}
 

@@ -9,7 +9,7 @@ use Rattle.lsm_tables.specs.Tables.{SeenTable}
 use Rattle.lsm_model.specs.Steps.{among}
 use Rattle.lsm_versions.specs.Levels.{Levels, all_of}
 use Rattle.lsm_versions.specs.TableLaws.{or_none, among_append, put_more}
-use Rattle.lsm_choices.specs.Choices.{AreIdsOf}
+use Rattle.lsm_checks.specs.Choices.{AreIdsOf}
 use Rattle.lsm_pick.specs.Tables.{AddsIds}
 use Rattle.lsm_pick.proofs.Members.{any_has, has_any, has_map, map_has, same_by, from_eqb, to_eqb}
 

@@ -7,9 +7,9 @@ use borrow.Author.Tests.{ltb-true}
 use Rattle.lsm_below.specs.Optimizes.{tables_of}
 use Rattle.lsm_tables.specs.Tables.{SeenTable}
 use Rattle.lsm_versions.specs.Levels.{Levels, SeenVersion, range, is_busy, IsVersion, Changes}
-use Rattle.lsm_choices.specs.declared.choice.Kind.TheVariants.{Merge as ToMerge, Move as ToMove}
-use Rattle.lsm_choices.specs.declared.parted_run.Fault.TheVariants.{OutOfOrder, StandsBelow}
-use Rattle.lsm_choices.specs.Choices.{AreIdsOf, first_reason_of}
+use Rattle.lsm_checks.specs.declared.choice.Kind.TheVariants.{Merge as ToMerge, Move as ToMove}
+use Rattle.lsm_checks.specs.declared.parted_run.Fault.TheVariants.{OutOfOrder, StandsBelow}
+use Rattle.lsm_checks.specs.Choices.{AreIdsOf, first_reason_of}
 use Rattle.lsm_pick.specs.declared.choice.Choice.{Choice}
 use Rattle.lsm_pick.specs.declared.choice.Choice.TheVariants.{DoNothing, Merge, Move, Drop}
 use Rattle.lsm_pick.specs.declared.leveled.base.Base.{Base}

@@ -6,7 +6,7 @@ use Rattle.lsm_below.specs.Optimizes.{tables_of}
 use Rattle.lsm_model.specs.Steps.{among}
 use Rattle.lsm_versions.specs.Levels.{Levels, all_of}
 use Rattle.lsm_versions.specs.TableLaws.{flat_append}
-use Rattle.lsm_choices.specs.Choices.{AreIdsOf}
+use Rattle.lsm_checks.specs.Choices.{AreIdsOf}
 use Rattle.lsm_pick.proofs.Standing.{is_chosen, run_of, StandsAt, IsPlain}
 use Rattle.lsm_pick.proofs.Members.{Has, from_eqb, to_eqb, has_map, map_has, any_has, has_any, has_append, has_left, has_right, has_at, at_has, flat_has, has_flat}
 

@@ -10,10 +10,10 @@ use Rattle.lsm_tables.specs.Tables.{SeenTable}
 use Rattle.lsm_model.specs.Views.{placed_at}
 use Rattle.lsm_model.specs.Steps.{among}
 use Rattle.lsm_versions.specs.Levels.{Levels, range, shown_table, placed_of, all_of}
-use Rattle.lsm_choices.specs.declared.choice.Kind.TheVariants.{Merge, Move}
-use Rattle.lsm_choices.specs.declared.parted_run.Fault.{Fault}
-use Rattle.lsm_choices.specs.declared.parted_run.Fault.TheVariants.{OutOfOrder, StandsBelow}
-use Rattle.lsm_choices.specs.Choices.{any_pair, is_bad, any_bad, is_clash, any_clash, resumes, has_gap, any_gap, is_there, first_reason_of}
+use Rattle.lsm_checks.specs.declared.choice.Kind.TheVariants.{Merge, Move}
+use Rattle.lsm_checks.specs.declared.parted_run.Fault.{Fault}
+use Rattle.lsm_checks.specs.declared.parted_run.Fault.TheVariants.{OutOfOrder, StandsBelow}
+use Rattle.lsm_checks.specs.Choices.{any_pair, is_bad, any_bad, is_clash, any_clash, resumes, has_gap, any_gap, is_there, first_reason_of}
 use Rattle.lsm_pick.proofs.Members.{any_has, has_any, has_at, and_left, and_right, and_both, not_true, from_eqb, to_eqb, or_cases}
 use Rattle.lsm_pick.proofs.Standing.{is_chosen, run_of, StandsAt, IsPlain, Precedes, HaveNoGaps, ArePairsAllowed, AreApart}
 use Rattle.lsm_pick.proofs.Pairs.{not_so}

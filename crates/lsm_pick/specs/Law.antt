@@ -5,10 +5,10 @@ use Rattle.lsm_below.specs.Runs.{IsRun}
 use Rattle.lsm_tables.specs.Tables.{SeenTable}
 use Rattle.lsm_model.specs.Steps.{among}
 use Rattle.lsm_versions.specs.Levels.{Levels, SeenVersion, range, chosen_from, IsVersion, IsNext, Moves}
-use Rattle.lsm_choices.specs.declared.input.Input.{Input}
-use Rattle.lsm_choices.specs.declared.choice.Kind.{Kind}
-use Rattle.lsm_choices.specs.declared.choice.Kind.TheVariants.{Merge as ToMerge, Move as ToMove}
-use Rattle.lsm_choices.specs.Choices.{first_reason_of}
+use Rattle.lsm_checks.specs.declared.input.Input.{Input}
+use Rattle.lsm_checks.specs.declared.choice.Kind.{Kind}
+use Rattle.lsm_checks.specs.declared.choice.Kind.TheVariants.{Merge as ToMerge, Move as ToMove}
+use Rattle.lsm_checks.specs.Choices.{first_reason_of}
 use Rattle.lsm_pick.specs.declared.choice.Choice.{Choice}
 use Rattle.lsm_pick.specs.declared.choice.Choice.TheVariants.{DoNothing, Merge, Move, Drop}
 use Rattle.lsm_pick.specs.Tables.{is_inside}

@@ -1,8 +1,8 @@
 -- What a choice says.
 use Rattle.std.specs.Prelude.{◌≡◌, ℕ, List}
 use Rattle.lsm_tables.specs.Tables.{SeenTable}
-use Rattle.lsm_choices.specs.Choices.{AreIdsOf}
-use Rattle.lsm_choices.specs.declared.input.Input.{Input}
+use Rattle.lsm_checks.specs.Choices.{AreIdsOf}
+use Rattle.lsm_checks.specs.declared.input.Input.{Input}
 use Rattle.lsm_pick.specs.declared.choice.Choice.{Choice}
 use Rattle.lsm_pick.specs.declared.choice.Choice.TheVariants.{DoNothing, Merge, Move, Drop}
 

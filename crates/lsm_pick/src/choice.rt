@@ -1,6 +1,6 @@
 // What a strategy answers.
 use lsm_below::TableId;
-use lsm_choices::Input;
+use lsm_checks::Input;
 use std::alloc::AllocError;
 use std::collections::HashSet;
 

@@ -2,7 +2,7 @@
 ghost use Rattle.std.specs.Prelude.{◌≡◌, IfOk, OnOk, filter, codes};
 ghost use Rattle.lsm_below.specs.Optimizes.{tables_of};
 ghost use Rattle.lsm_versions.specs.Levels.{range};
-ghost use Rattle.lsm_choices.specs.Choices.{AreIdsOf};
+ghost use Rattle.lsm_checks.specs.Choices.{AreIdsOf};
 ghost use Rattle.lsm_pick.specs.Tables.{AddsIds};
 ghost use Rattle.lsm_pick.specs.Simple.{MayDropRange, holds, bounded};
 

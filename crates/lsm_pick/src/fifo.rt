@@ -1,7 +1,7 @@
 // Drops what is too old or too much.
 ghost use Rattle.std.specs.Prelude.{◌≡◌, ◌-◌, ◌*◌, ◌^◌, ◌<◌, ◌≤◌, [], cond, not, eqb, ltb, length, IfOk, IfErr, OnOk, filter, true, codes};
 ghost use Rattle.lsm_versions.specs.Levels.{bytes_of, is_busy};
-ghost use Rattle.lsm_choices.specs.Choices.{AreIdsOf};
+ghost use Rattle.lsm_checks.specs.Choices.{AreIdsOf};
 ghost use Rattle.lsm_pick.specs.Config.{fifo_config};
 ghost use Rattle.lsm_pick.specs.Tables.{runs_at, size, bytes_below, AddsIds};
 ghost use Rattle.lsm_pick.specs.Fifo.{MayFifo, MayRefuse, DropsJust, IsTurn, over_of, dropped, surplus, is_expired, is_due, fresh};

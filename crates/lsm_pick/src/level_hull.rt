@@ -4,7 +4,7 @@ ghost use Rattle.std.specs.List.{list_any};
 ghost use Rattle.lsm_below.specs.Optimizes.{tables_of};
 ghost use Rattle.lsm_below.specs.Ranges.{overlap};
 ghost use Rattle.lsm_versions.specs.Levels.{range};
-ghost use Rattle.lsm_choices.specs.Choices.{AreIdsOf};
+ghost use Rattle.lsm_checks.specs.Choices.{AreIdsOf};
 ghost use Rattle.lsm_pick.specs.Tables.{meets, spans_meet, AddsIds};
 ghost use Rattle.lsm_pick.specs.Hulls.{IsHullOf, overlap_of, is_met_of, met_of};
 

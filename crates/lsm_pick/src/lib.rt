@@ -32,6 +32,6 @@ pub use drop_range::DropRange;
 pub use fifo::{Fifo, NAME as FIFO_COMPACTION_NAME};
 pub use laws::leveled_is_lawful;
 pub use leveled::{Leveled, Leveled as Levelled, NAME as LEVELED_COMPACTION_NAME};
-pub use lsm_choices::{Input, pick_run_indexes};
+pub use lsm_checks::{Input, pick_run_indexes};
 pub use major::Major;
 pub use strategy::CompactionStrategy;

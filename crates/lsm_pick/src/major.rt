@@ -3,7 +3,7 @@ ghost use Rattle.std.specs.Prelude.{◌≡◌, IfOk, codes};
 ghost use Rattle.lsm_pick.specs.Simple.{MayMajor};
 
 use crate::{Choice, ChooseError, CompactionStrategy};
-use lsm_choices::Input;
+use lsm_checks::Input;
 use lsm_versions::{CompactionState, Config, HiddenSet, Version, ids_of_levels};
 use std::alloc::{AllocError, Global};
 

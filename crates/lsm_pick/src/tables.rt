@@ -1,7 +1,7 @@
 // What strategies ask of tables and levels.
 ghost use Rattle.std.specs.Prelude.{◌≡◌, ◌-◌, ◌*◌, ◌^◌, ◌≤◌, [], ◌∷◌, cond, length, IfOk, OnOk};
 ghost use Rattle.lsm_versions.specs.Levels.{bytes_of, is_busy};
-ghost use Rattle.lsm_choices.specs.Choices.{AreIdsOf};
+ghost use Rattle.lsm_checks.specs.Choices.{AreIdsOf};
 ghost use Rattle.lsm_pick.specs.Tables.{is_upto, is_any_hidden, AddsIds};
 
 use lsm_below::{TableId, UserKey};

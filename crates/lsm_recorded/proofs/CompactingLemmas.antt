@@ -9,7 +9,7 @@ use Rattle.lsm_model.specs.Steps.{StaysAt}
 use Rattle.lsm_model.specs.Views.{Placed}
 use Rattle.lsm_model.specs.declared.journal.JournalEntry.{JournalEntry}
 use Rattle.lsm_store.specs.World.{World}
-use Rattle.lsm_merges.specs.Merges.{SeenCompaction}
+use Rattle.lsm_compaction.specs.Merges.{SeenCompaction}
 use Rattle.lsm_pick.specs.declared.choice.Choice.{Choice}
 use Rattle.lsm_pick.specs.declared.choice.ChooseError.{ChooseError}
 use Rattle.lsm_state.specs.declared.compaction.Options.{Options}

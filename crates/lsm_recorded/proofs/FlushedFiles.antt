@@ -4,10 +4,10 @@ use Rattle.lsm_below.specs.Members.{IsIn}
 use Rattle.lsm_store.specs.World.{World}
 use Rattle.lsm_store.specs.Moments.{weakened}
 use Rattle.lsm_versions.specs.Levels.{SeenVersion}
-use Rattle.lsm_files.specs.Stored.{IsStored, HoldsOneOf}
-use Rattle.lsm_files.specs.Foreign.{AtRest}
+use Rattle.lsm_commit.specs.Stored.{IsStored, HoldsOneOf}
+use Rattle.lsm_commit.specs.Foreign.{AtRest}
 use Rattle.lsm_model.specs.Views.{SuperVersion, front, lookup, found_at}
-use Rattle.lsm_jobs.specs.Jobs.{SeenOpen}
+use Rattle.lsm_flush.specs.Jobs.{SeenOpen}
 use Rattle.lsm_state.specs.Calls.{Rotates}
 use Rattle.lsm_state.specs.Core.{Core, versions_left, written_by, written_of, latest_of, older_of, rotated_core}
 use Rattle.lsm_state.specs.Commits.{Upholds}

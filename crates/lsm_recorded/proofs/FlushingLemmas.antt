@@ -9,8 +9,8 @@ use Rattle.lsm_model.specs.Journal.{Event, floor_after}
 use Rattle.lsm_model.specs.Views.{Placed}
 use Rattle.lsm_model.specs.declared.journal.JournalEntry.{JournalEntry}
 use Rattle.lsm_model.specs.declared.journal.JournalEntry.TheVariants.{Install, Mark as Watermark}
-use Rattle.lsm_jobs.specs.Jobs.{SeenJob, SeenMerged, SeenWritten}
-use Rattle.lsm_jobs.specs.declared.jobs.Registered.{Registered}
+use Rattle.lsm_flush.specs.Jobs.{SeenJob, SeenMerged, SeenWritten}
+use Rattle.lsm_flush.specs.declared.jobs.Registered.{Registered}
 use Rattle.lsm_state.specs.Core.{Core, state_of}
 use Rattle.lsm_state.specs.CompactionReads.{SparesReads, IsAny, IsAnySnapshot}
 use Rattle.lsm_state.specs.FlushReads.{register_events, flush_events, KeepsReads, FlushesKeepReads}

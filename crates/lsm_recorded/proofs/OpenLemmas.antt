@@ -13,7 +13,7 @@ use Rattle.lsm_model.specs.Views.{Placed, held, shown, map_of, view_at}
 use Rattle.lsm_model.specs.Beginnings.{shown_by}
 use Rattle.lsm_versions.specs.Levels.{SeenVersion, placed_of}
 use Rattle.lsm_versions.specs.declared.config.Config.{Config}
-use Rattle.lsm_merges.specs.OpenMerges.{SeenMerges, SeenOpenMerge}
+use Rattle.lsm_compaction.specs.OpenMerges.{SeenMerges, SeenOpenMerge}
 use Rattle.lsm_state.specs.CompactionDeeds.{IsMarkedIn}
 use Rattle.lsm_state.specs.Core.{Core, state_of, opened_core}
 use Rattle.lsm_state.specs.Opened.{StartsFrom}

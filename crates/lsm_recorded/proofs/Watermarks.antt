@@ -5,8 +5,8 @@ use Rattle.std.proofs.lemmas.Grind.{fold-append}
 use Rattle.lsm_below.specs.Members.{each_in}
 use Rattle.lsm_model.specs.Journal.{Event, kept_after, is_kept}
 use Rattle.lsm_model.specs.declared.journal.JournalEntry.TheVariants.{Write, Clear, Install, Dropped, Mark, Read}
-use Rattle.lsm_merges.specs.Merges.{SeenCompaction}
-use Rattle.lsm_merges.specs.OpenMerges.{SeenOpenMerge, IsOpenIn, without}
+use Rattle.lsm_compaction.specs.Merges.{SeenCompaction}
+use Rattle.lsm_compaction.specs.OpenMerges.{SeenOpenMerge, IsOpenIn, without}
 use Rattle.lsm_state.specs.Core.{Core}
 use Rattle.lsm_state.specs.CompactionDeeds.{IsMarkedIn}
 use Rattle.lsm_recorded.specs.Recorded.{AreMarked}

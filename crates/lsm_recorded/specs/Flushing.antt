@@ -3,8 +3,8 @@ use Rattle.std.specs.Prelude.{◌≡◌, ◌⊎◌, ℕ, Bool, List, Option, Res
 use Rattle.lsm_below.specs.declared.error.Error.{Error}
 use Rattle.lsm_below.specs.declared.error.Error.TheVariants.{OutOfMemory}
 use Rattle.lsm_model.specs.declared.journal.JournalEntry.{JournalEntry}
-use Rattle.lsm_jobs.specs.Jobs.{SeenWritten}
-use Rattle.lsm_jobs.specs.declared.jobs.Registered.{Registered}
+use Rattle.lsm_flush.specs.Jobs.{SeenWritten}
+use Rattle.lsm_flush.specs.declared.jobs.Registered.{Registered}
 use Rattle.lsm_state.specs.Calls.{Rotates}
 use Rattle.lsm_state.specs.Core.{Core}
 use Rattle.lsm_state.specs.FlushReads.{register_events, flush_events}

@@ -12,7 +12,7 @@ ghost use Rattle.lsm_model.specs.declared.question.Question.TheVariants.{Get as 
 ghost use Rattle.lsm_model.specs.declared.question.Answer.TheVariants.{Found};
 ghost use Rattle.lsm_model.specs.declared.op.Op.TheVariants.{Set, Del, Weak};
 ghost use Rattle.lsm_versions.specs.Levels.{placed_of};
-ghost use Rattle.lsm_files.specs.Foreign.{AtRest};
+ghost use Rattle.lsm_commit.specs.Foreign.{AtRest};
 ghost use Rattle.lsm_state.specs.Held.{first_entries};
 ghost use Rattle.lsm_state.specs.Kept.{IsKeptTree};
 ghost use Rattle.lsm_state.specs.Core.{state_of};
@@ -29,7 +29,7 @@ use crate::marks::{Mark, share_marked};
 use crate::pass::{Pass, note_entry};
 use crate::writes::{append_marked, write_marked};
 use lsm_below::{InternalValue, MemtableId, SeqNo, UserKey, UserValue, ValueType};
-use lsm_files::crashes_leave_versions;
+use lsm_commit::crashes_leave_versions;
 use lsm_journal::{copy_journal, read_entry};
 use lsm_model::{Answer, JournalEntry, Op, Question, reads_are_sound};
 use lsm_parts::{Error, LIMIT, SequenceNumberCounter, Version};

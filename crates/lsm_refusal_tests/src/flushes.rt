@@ -3,7 +3,7 @@ use crate::looks::get;
 use crate::steps::{Tree, open, text, write};
 use crate::store::{Refusal, RefusingStore};
 use lsm_below::{Error, SeqNo};
-use lsm_jobs::{FlushJob, WrittenFlush};
+use lsm_flush::{FlushJob, WrittenFlush};
 use lsm_model::Op;
 use lsm_store::{Fault, Store};
 use std::alloc::Global;
@@ -96,7 +96,7 @@ type Refused = (u64, Refusal, SeqNo, Told);
 
 /// A flush writes (1) and syncs (2) its table, writes (3) and syncs (4) `v1`, replaces `current` (5), and removes `v0` (6)
 /// where the watermark lets it. Up to 2 no number is used. That a call fails once without effect is tested in
-/// `lsm_parts_tests`.
+/// `lsm_state_tests`.
 const REFUSED: [Refused; 22] = [
     (1, NO_MEMORY, 0, (1, 1, 1, 0, INSTALLED)),
     (2, NO_MEMORY, 0, (1, 1, 1, 0, INSTALLED)),

@@ -5,7 +5,7 @@ use crate::steps::Step::{
 use crate::steps::Told::{Declined, Flushed, Installed, Job, Nothing, Number, Sizes};
 use crate::steps::{Step, Told};
 use lsm_below::SeqNo;
-use lsm_choices::Why;
+use lsm_checks::Why;
 use lsm_iter::End;
 
 /// An end of an iterator, and the key and the value that it gives there: no pair where the key is empty.

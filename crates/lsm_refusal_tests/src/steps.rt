@@ -1,8 +1,8 @@
 // Calls on a tree as rows of data, and what each answers.
 use crate::store::RefusingStore;
 use lsm_below::{Error, SeqNo, TableId, UserKey};
-use lsm_choices::{Input, Why};
-use lsm_merges::CompactionJob;
+use lsm_checks::{Input, Why};
+use lsm_compaction::CompactionJob;
 use lsm_model::Op;
 use lsm_parts::Config;
 use lsm_pick::{Choice, Leveled, OwnedBounds};

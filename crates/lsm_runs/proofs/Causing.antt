@@ -13,8 +13,8 @@ use Rattle.lsm_model.specs.declared.question.Question.{Question}
 use Rattle.lsm_iter.specs.Guards.{Pair}
 use Rattle.lsm_iter.specs.declared.tree_iter.End.{End}
 use Rattle.lsm_iter.specs.declared.tree_iter.End.TheVariants.{Front, Back}
-use Rattle.lsm_files.specs.Causes.{HasCause, BlamesStore, Blames, no_fault, causes_less}
-use Rattle.lsm_jobs.specs.declared.jobs.Registered.{Registered}
+use Rattle.lsm_commit.specs.Causes.{HasCause, BlamesStore, Blames, no_fault, causes_less}
+use Rattle.lsm_flush.specs.declared.jobs.Registered.{Registered}
 use Rattle.lsm_state.specs.declared.compaction.Begun.{Begun}
 use Rattle.lsm_state.specs.declared.compaction.Begun.TheVariants.{DidNothing, Declined, Installed, Job as BegunJob}
 use Rattle.lsm_state.specs.Causes.{BlamesOrUnclean, BlamesOrUncleanBehind}

@@ -5,11 +5,11 @@ use Rattle.lsm_below.specs.declared.error.Error.{Error}
 use Rattle.lsm_below.specs.declared.error.Error.TheVariants.{OutOfMemory, Store, CommitUnknown, Unrecoverable, OutOfNumbers, TooManyRuns, AfterCommit}
 use Rattle.lsm_model.specs.Journal.{Event}
 use Rattle.lsm_model.specs.declared.journal.JournalEntry.TheVariants.{Clear as DidClear, Install, Mark}
-use Rattle.lsm_jobs.specs.Jobs.{SeenWritten}
-use Rattle.lsm_jobs.specs.declared.jobs.Registered.{Registered as Outcome}
+use Rattle.lsm_flush.specs.Jobs.{SeenWritten}
+use Rattle.lsm_flush.specs.declared.jobs.Registered.{Registered as Outcome}
 use Rattle.lsm_versions.specs.Levels.{SeenVersion}
-use Rattle.lsm_choices.specs.declared.choice.Why.{Why}
-use Rattle.lsm_merges.specs.Merges.{SeenCompaction}
+use Rattle.lsm_checks.specs.declared.choice.Why.{Why}
+use Rattle.lsm_compaction.specs.Merges.{SeenCompaction}
 use Rattle.lsm_pick.specs.declared.choice.Choice.{Choice}
 use Rattle.lsm_pick.specs.declared.choice.Choice.TheVariants.{DoNothing, Move, Merge, Drop}
 use Rattle.lsm_pick.specs.declared.choice.ChooseError.{ChooseError}
@@ -36,8 +36,8 @@ use Rattle.lsm_runs.specs.Clearing.{TakesClear}
 use Rattle.lsm_runs.specs.Compacting.{Strategies, TakesBeginCompaction, TakesFinish, CompactsFrom, TakesCompact, TakesDropRange}
 use Rattle.lsm_journal.specs.NotedFlushes.{FlushesNoted, FlushesRotated}
 use Rattle.lsm_runs.specs.Flushing.{TakesRegister, TakesFlush, TakesFlushActive}
-use Rattle.lsm_choices.specs.declared.choice.Why.TheVariants.{UnknownJob}
-use Rattle.lsm_merges.specs.OpenMerges.{IsOpenIn}
+use Rattle.lsm_checks.specs.declared.choice.Why.TheVariants.{UnknownJob}
+use Rattle.lsm_compaction.specs.OpenMerges.{IsOpenIn}
 use Rattle.lsm_runs.proofs.Drawing.{Near, seqno_of, near_same, near_next, near_either, same_or_counted, unnumbered, idle, drawn, rotated_same, spends_same}
 
 -- ---- flushes

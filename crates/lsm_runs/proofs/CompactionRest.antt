@@ -11,12 +11,12 @@ use Rattle.lsm_below.specs.declared.error.Error.{Error}
 use Rattle.lsm_below.specs.declared.error.Error.TheVariants.{OutOfMemory, Store, CommitUnknown, Unrecoverable, OutOfNumbers, TooManyRuns, AfterCommit}
 use Rattle.lsm_model.specs.Journal.{Event}
 use Rattle.lsm_versions.specs.Levels.{SeenVersion}
-use Rattle.lsm_choices.specs.declared.choice.Why.{Why}
-use Rattle.lsm_choices.specs.declared.choice.Why.TheVariants.{UnknownJob}
-use Rattle.lsm_choices.specs.declared.input.Input.{Input}
-use Rattle.lsm_merges.specs.declared.settings.MergeSettings.{MergeSettings}
-use Rattle.lsm_merges.specs.Merges.{SeenCompaction}
-use Rattle.lsm_merges.specs.OpenMerges.{SeenOpenMerge, SeenMerges, IsMergeOf, IsOpenIn, without, opened, ended}
+use Rattle.lsm_checks.specs.declared.choice.Why.{Why}
+use Rattle.lsm_checks.specs.declared.choice.Why.TheVariants.{UnknownJob}
+use Rattle.lsm_checks.specs.declared.input.Input.{Input}
+use Rattle.lsm_compaction.specs.declared.settings.MergeSettings.{MergeSettings}
+use Rattle.lsm_compaction.specs.Merges.{SeenCompaction}
+use Rattle.lsm_compaction.specs.OpenMerges.{SeenOpenMerge, SeenMerges, IsMergeOf, IsOpenIn, without, opened, ended}
 use Rattle.lsm_pick.specs.declared.choice.Choice.{Choice}
 use Rattle.lsm_pick.specs.declared.choice.Choice.TheVariants.{DoNothing, Move, Merge, Drop}
 use Rattle.lsm_state.specs.declared.compaction.Options.{Options}

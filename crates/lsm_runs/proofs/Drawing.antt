@@ -12,9 +12,9 @@ use Rattle.lsm_model.specs.declared.op.Op.{Op}
 use Rattle.lsm_model.specs.declared.op.Op.TheVariants.{Set as SetTo, Del, Weak}
 use Rattle.lsm_model.specs.declared.journal.JournalEntry.TheVariants.{Write as Wrote, Clear as DidClear, Install}
 use Rattle.lsm_model.specs.declared.question.Question.{Question}
-use Rattle.lsm_jobs.specs.Jobs.{SeenJob}
+use Rattle.lsm_flush.specs.Jobs.{SeenJob}
 use Rattle.lsm_versions.specs.TableLaws.{or_parts, none_with}
-use Rattle.lsm_merges.specs.Merges.{SeenCompaction}
+use Rattle.lsm_compaction.specs.Merges.{SeenCompaction}
 use Rattle.lsm_run_model.specs.Rising.{Silent, Own, Raises, Reserves, Draws, IsUnnumbered, UsesNumbers}
 use Rattle.lsm_state.specs.Core.{Core}
 use Rattle.lsm_state.specs.Calls.{Rotates}

@@ -8,7 +8,7 @@ use Rattle.lsm_model.specs.Views.{SuperVersion, found_at, front}
 use Rattle.lsm_model.specs.Steps.{Rotated, StaysAt}
 use Rattle.lsm_model.specs.Sound.{Holds}
 use Rattle.lsm_model.specs.declared.journal.JournalEntry.TheVariants.{Mark, Install}
-use Rattle.lsm_jobs.specs.declared.jobs.Registered.{Registered as Outcome}
+use Rattle.lsm_flush.specs.declared.jobs.Registered.{Registered as Outcome}
 use Rattle.lsm_state.specs.Core.{Core, state_of, latest_of, older_of, rotated_core}
 use Rattle.lsm_state.specs.Calls.{Rotates}
 use Rattle.lsm_state.specs.FlushReads.{KeepsReads, FlushesKeepReads, register_events, flush_events}

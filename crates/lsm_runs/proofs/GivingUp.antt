@@ -8,9 +8,9 @@ use Rattle.std.proofs.lemmas.Cmp.{nat_cmp_total}
 use Rattle.std.proofs.lemmas.Map.Entries.{btree_map_get_place, place_from_lookup}
 use Rattle.lsm_below.specs.Each.{each_weaker}
 use Rattle.lsm_below.specs.Members.{IsIn}
-use Rattle.lsm_jobs.specs.Jobs.{SeenOpen}
-use Rattle.lsm_merges.specs.Merges.{SeenCompaction}
-use Rattle.lsm_merges.specs.OpenMerges.{SeenOpenMerge, SeenMerges, IsMergeOf, without, ended}
+use Rattle.lsm_flush.specs.Jobs.{SeenOpen}
+use Rattle.lsm_compaction.specs.Merges.{SeenCompaction}
+use Rattle.lsm_compaction.specs.OpenMerges.{SeenOpenMerge, SeenMerges, IsMergeOf, without, ended}
 use Rattle.lsm_state.specs.Core.{Core}
 use Rattle.lsm_state.specs.Flushes.{spent, spent_in}
 use Rattle.lsm_state.specs.Compactions.{Spends}

@@ -3,7 +3,7 @@ use Rattle.std.proofs.Common.{◌≡◌, inl, inr, ℕ, List, [], ◌++◌, Opti
 use Rattle.std.proofs.lemmas.Bool.Decides.{eqb_tells}
 use Rattle.lsm_model.specs.Soundness.{Soundness}
 use Rattle.lsm_model.specs.Journal.{Event}
-use Rattle.lsm_jobs.specs.Jobs.{SeenJob}
+use Rattle.lsm_flush.specs.Jobs.{SeenJob}
 use Rattle.lsm_state.specs.declared.compaction.Options.{Options}
 use Rattle.lsm_state.specs.Core.{Core}
 use Rattle.lsm_journal.specs.NotedReads.{NotedCompactionsKeepReads}

@@ -4,11 +4,11 @@ use Rattle.std.specs.List.{AllByRecursion}
 use Rattle.lsm_below.specs.declared.error.Error.{Error}
 use Rattle.lsm_below.specs.declared.error.Error.TheVariants.{OutOfMemory, Store, CommitUnknown, Unrecoverable, OutOfNumbers, TooManyRuns, AfterCommit}
 use Rattle.lsm_model.specs.Journal.{Event}
-use Rattle.lsm_jobs.specs.Jobs.{SeenWritten}
-use Rattle.lsm_jobs.specs.declared.jobs.Registered.{Registered as Outcome}
+use Rattle.lsm_flush.specs.Jobs.{SeenWritten}
+use Rattle.lsm_flush.specs.declared.jobs.Registered.{Registered as Outcome}
 use Rattle.lsm_versions.specs.Levels.{SeenVersion, empty_levels}
-use Rattle.lsm_choices.specs.declared.choice.Why.{Why}
-use Rattle.lsm_merges.specs.Merges.{SeenCompaction}
+use Rattle.lsm_checks.specs.declared.choice.Why.{Why}
+use Rattle.lsm_compaction.specs.Merges.{SeenCompaction}
 use Rattle.lsm_parts.specs.declared.version.super_version.SuperVersion.{SuperVersion}
 use Rattle.lsm_pick.specs.declared.choice.Choice.{Choice}
 use Rattle.lsm_pick.specs.declared.choice.Choice.TheVariants.{DoNothing, Move, Merge, Drop}

@@ -9,7 +9,7 @@ use Rattle.lsm_model.specs.Steps.{Action, Marked, Maintained, Moved, DroppedTabl
 use Rattle.lsm_model.specs.Beginnings.{Note, Deed, Deeds, Done, Lost}
 use Rattle.lsm_model.specs.declared.journal.JournalEntry.TheVariants.{Mark, Install}
 use Rattle.lsm_versions.specs.Levels.{placed_in}
-use Rattle.lsm_merges.specs.Merges.{SeenCompaction}
+use Rattle.lsm_compaction.specs.Merges.{SeenCompaction}
 use Rattle.lsm_pick.specs.declared.bounds.OwnedBounds.{OwnedBounds}
 use Rattle.lsm_pick.specs.declared.choice.Choice.{Choice}
 use Rattle.lsm_pick.specs.declared.choice.Choice.TheVariants.{DoNothing, Move, Merge, Drop}

@@ -15,8 +15,8 @@ use Rattle.lsm_versions.specs.Levels.{SeenVersion, placed_of}
 use Rattle.lsm_manifest.specs.Finding.{Named, FoundOnce, StandsForMap, FoundTablesShow}
 use Rattle.lsm_manifest.specs.Versions.{named_levels}
 use Rattle.lsm_manifest.specs.Standing.{StandsFor}
-use Rattle.lsm_files.specs.Stored.{IsStored, HoldsOneOf}
-use Rattle.lsm_files.specs.Opening.{StoredIsReady}
+use Rattle.lsm_commit.specs.Stored.{IsStored, HoldsOneOf}
+use Rattle.lsm_commit.specs.Opening.{StoredIsReady}
 use Rattle.lsm_state.specs.Core.{Core, latest_of, state_of, versions_left, written_of}
 use Rattle.lsm_state.specs.Commits.{Upholds}
 use Rattle.lsm_state.specs.Deeds.{saved_of}

@@ -6,7 +6,7 @@ use Rattle.lsm_below.specs.declared.error.Error.{Error}
 use Rattle.lsm_below.specs.declared.error.Error.TheVariants.{CommitUnknown}
 use Rattle.lsm_store.specs.World.{World}
 use Rattle.lsm_model.specs.Journal.{Event}
-use Rattle.lsm_jobs.specs.Jobs.{SeenJob}
+use Rattle.lsm_flush.specs.Jobs.{SeenJob}
 use Rattle.lsm_state.specs.declared.compaction.Options.{Options}
 use Rattle.lsm_state.specs.declared.compaction.Begun.{Begun}
 use Rattle.lsm_state.specs.declared.compaction.Begun.TheVariants.{Job as BegunMerge}

@@ -7,9 +7,9 @@ use Rattle.lsm_below.specs.declared.error.Error.TheVariants.{OutOfMemory, Store,
 use Rattle.lsm_model.specs.Journal.{Event}
 use Rattle.lsm_tables.specs.Tables.{SeenTable}
 use Rattle.lsm_versions.specs.Levels.{SeenVersion}
-use Rattle.lsm_jobs.specs.Jobs.{SeenJob, SeenWritten, SeenOpen}
-use Rattle.lsm_jobs.specs.declared.jobs.Registered.{Registered as Outcome}
-use Rattle.lsm_merges.specs.Merges.{SeenCompaction}
+use Rattle.lsm_flush.specs.Jobs.{SeenJob, SeenWritten, SeenOpen}
+use Rattle.lsm_flush.specs.declared.jobs.Registered.{Registered as Outcome}
+use Rattle.lsm_compaction.specs.Merges.{SeenCompaction}
 use Rattle.lsm_state.specs.declared.compaction.Options.{Options}
 use Rattle.lsm_state.specs.declared.compaction.Begun.{Begun as BegunOf}
 use Rattle.lsm_state.specs.declared.compaction.Begun.TheVariants.{DidNothing, Declined, Installed, Job as BegunMerge}

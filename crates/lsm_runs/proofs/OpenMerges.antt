@@ -6,10 +6,10 @@ use Rattle.lsm_below.specs.Each.{each_append, each_weaker, each_filter}
 use Rattle.lsm_below.specs.Members.{IsIn}
 use Rattle.lsm_below.specs.declared.error.Error.{Error}
 use Rattle.lsm_model.specs.Journal.{Event}
-use Rattle.lsm_jobs.specs.Jobs.{SeenJob}
-use Rattle.lsm_jobs.specs.declared.jobs.Registered.{Registered as Outcome}
-use Rattle.lsm_merges.specs.Merges.{SeenCompaction}
-use Rattle.lsm_merges.specs.OpenMerges.{SeenOpenMerge, SeenMerges, IsMergeOf, without, AreOpen}
+use Rattle.lsm_flush.specs.Jobs.{SeenJob}
+use Rattle.lsm_flush.specs.declared.jobs.Registered.{Registered as Outcome}
+use Rattle.lsm_compaction.specs.Merges.{SeenCompaction}
+use Rattle.lsm_compaction.specs.OpenMerges.{SeenOpenMerge, SeenMerges, IsMergeOf, without, AreOpen}
 use Rattle.lsm_state.specs.declared.compaction.Options.{Options}
 use Rattle.lsm_state.specs.declared.compaction.Begun.{Begun as BegunOf}
 use Rattle.lsm_state.specs.declared.compaction.Begun.TheVariants.{DidNothing, Declined, Installed, Job as BegunMerge}

@@ -7,8 +7,8 @@ use Rattle.lsm_versions.specs.Levels.{SeenVersion}
 use Rattle.lsm_manifest.specs.Versions.{named_levels}
 use Rattle.lsm_manifest.specs.Finding.{Finds, Named, FoundOnce}
 use Rattle.lsm_manifest.specs.Ready.{IsReady}
-use Rattle.lsm_files.specs.Stored.{IsStored, HoldsOneOf}
-use Rattle.lsm_files.specs.Opening.{StoredIsReady}
+use Rattle.lsm_commit.specs.Stored.{IsStored, HoldsOneOf}
+use Rattle.lsm_commit.specs.Opening.{StoredIsReady}
 use Rattle.lsm_state.specs.Core.{Core, versions_left, written_of}
 use Rattle.lsm_state.specs.Commits.{Upholds}
 use Rattle.lsm_run_model.specs.Lives.{EndsIn, Killed, LeavesReady}

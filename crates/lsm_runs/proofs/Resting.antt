@@ -6,8 +6,8 @@ use Rattle.lsm_model.specs.Journal.{Event}
 use Rattle.lsm_model.specs.declared.op.Op.{Op}
 use Rattle.lsm_model.specs.declared.question.Question.{Question}
 use Rattle.lsm_iter.specs.Guards.{Pair}
-use Rattle.lsm_jobs.specs.Jobs.{SeenJob, SeenOpen}
-use Rattle.lsm_merges.specs.Merges.{SeenCompaction}
+use Rattle.lsm_flush.specs.Jobs.{SeenJob, SeenOpen}
+use Rattle.lsm_compaction.specs.Merges.{SeenCompaction}
 use Rattle.lsm_state.specs.Core.{Core, versions_left, written_by, written_of}
 use Rattle.lsm_state.specs.Calls.{Rotates}
 use Rattle.lsm_state.specs.Flushes.{Begins, spent_in}

@@ -1,7 +1,7 @@
 -- Which replies of a run blame the store, and that each of them has its cause.
 use Rattle.std.specs.Prelude.{◌≡◌, false, List, [], ◌∷◌}
 use Rattle.lsm_store.specs.World.{World}
-use Rattle.lsm_files.specs.Causes.{HasCause, BlamesStore}
+use Rattle.lsm_commit.specs.Causes.{HasCause, BlamesStore}
 use Rattle.lsm_state.specs.Causes.{IsUnclean}
 use Rattle.lsm_runs.specs.declared.steps.Reply.{Reply}
 use Rattle.lsm_runs.specs.declared.steps.Reply.TheVariants.{Registered, Flushed, FlushedActive, RefusedActive, Refused}

@@ -2,7 +2,7 @@
 use Rattle.std.specs.Prelude.{◌≡◌, ℕ, List, [], ◌∷◌, Option, IsSome}
 use Rattle.std.specs.BTreeMap.{BTreeMap}
 use Rattle.lsm_store.specs.World.{World}
-use Rattle.lsm_files.specs.Causes.{HasCause}
+use Rattle.lsm_commit.specs.Causes.{HasCause}
 use Rattle.lsm_state.specs.Core.{Core, Seen}
 use Rattle.lsm_state.specs.Commits.{Upholds}
 use Rattle.lsm_run_model.specs.Moments.{last_of}

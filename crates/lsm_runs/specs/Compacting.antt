@@ -3,8 +3,8 @@ use Rattle.std.specs.Prelude.{◌≡◌, ◌⊎◌, ℕ, ◌+◌, ◌<◌, ◌�
 use Rattle.lsm_below.specs.declared.error.Error.{Error}
 use Rattle.lsm_below.specs.declared.error.Error.TheVariants.{OutOfMemory, OutOfNumbers}
 use Rattle.lsm_model.specs.Journal.{Event}
-use Rattle.lsm_merges.specs.Merges.{SeenCompaction, SeenCompacted, AreFilesOf}
-use Rattle.lsm_merges.specs.OpenMerges.{hides}
+use Rattle.lsm_compaction.specs.Merges.{SeenCompaction, SeenCompacted, AreFilesOf}
+use Rattle.lsm_compaction.specs.OpenMerges.{hides}
 use Rattle.lsm_pick.specs.declared.bounds.OwnedBounds.{OwnedBounds}
 use Rattle.lsm_pick.specs.declared.choice.Choice.{Choice}
 use Rattle.lsm_pick.specs.declared.choice.ChooseError.{ChooseError}

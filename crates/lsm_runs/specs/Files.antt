@@ -1,8 +1,8 @@
 -- What a run leaves of a tree's files.
 use Rattle.std.specs.Prelude.{◌≡◌}
 use Rattle.lsm_store.specs.World.{World}
-use Rattle.lsm_files.specs.Stored.{IsStored}
-use Rattle.lsm_files.specs.Causes.{HasCause}
+use Rattle.lsm_commit.specs.Stored.{IsStored}
+use Rattle.lsm_commit.specs.Causes.{HasCause}
 use Rattle.lsm_state.specs.Core.{Core, versions_left, written_of}
 use Rattle.lsm_state.specs.Commits.{Upholds}
 use Rattle.lsm_runs.specs.declared.steps.JobStep.{JobStep}

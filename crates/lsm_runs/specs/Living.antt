@@ -5,7 +5,7 @@ use Rattle.lsm_store.specs.World.{World}
 use Rattle.lsm_model.specs.Journal.{Map, next_number}
 use Rattle.lsm_model.specs.Steps.{IsOpened}
 use Rattle.lsm_model.specs.Views.{held}
-use Rattle.lsm_files.specs.Stored.{IsStored}
+use Rattle.lsm_commit.specs.Stored.{IsStored}
 use Rattle.lsm_state.specs.Core.{Core, latest_of, state_of, versions_left, written_of}
 use Rattle.lsm_state.specs.Opened.{StartsWith}
 use Rattle.lsm_runs.specs.declared.steps.Step.{Step}

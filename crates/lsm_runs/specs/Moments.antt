@@ -12,7 +12,7 @@ use Rattle.lsm_model.specs.Steps.{IsOpened}
 use Rattle.lsm_versions.specs.Levels.{Levels, placed_of}
 use Rattle.lsm_manifest.specs.Finding.{Finds, StandsForMap}
 use Rattle.lsm_manifest.specs.Ready.{IsReady}
-use Rattle.lsm_files.specs.Stored.{IsStored}
+use Rattle.lsm_commit.specs.Stored.{IsStored}
 use Rattle.lsm_state.specs.Core.{Core, state_of, versions_left, written_of}
 use Rattle.lsm_state.specs.Deeds.{saved_of}
 use Rattle.lsm_state.specs.Flushes.{sealed_ids}

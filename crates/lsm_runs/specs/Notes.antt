@@ -2,7 +2,7 @@
 use Rattle.std.specs.Prelude.{◌≡◌, ℕ, List, [], ◌∷◌, ◌++◌, Option, Some, None, option_to_list, if◌then◌else◌, ◌==◌}
 use Rattle.lsm_below.specs.Entries.{Entry}
 use Rattle.lsm_below.specs.declared.error.Error.TheVariants.{CommitUnknown}
-use Rattle.lsm_jobs.specs.declared.jobs.Registered.{Registered as Outcome}
+use Rattle.lsm_flush.specs.declared.jobs.Registered.{Registered as Outcome}
 use Rattle.lsm_run_model.specs.declared.noted.Noted.{Noted}
 use Rattle.lsm_run_model.specs.declared.noted.Noted.TheVariants as note
 use Rattle.lsm_run_model.specs.Outcomes.{Told, Past, after, sealed_in}

@@ -3,9 +3,9 @@ use Rattle.std.specs.Prelude.{◌≡◌, ℕ, ◌<◌, ◌≤◌, ◌⊎◌, Lis
 use Rattle.std.specs.List.{AllByRecursion}
 use Rattle.std.specs.Ordering.{nat_cmp}
 use Rattle.std.specs.BTreeMap.{BTreeMap, get}
-use Rattle.lsm_jobs.specs.Jobs.{SeenJob, SeenOpen}
-use Rattle.lsm_merges.specs.Merges.{SeenCompaction}
-use Rattle.lsm_merges.specs.OpenMerges.{SeenOpenMerge, SeenMerges, IsMergeOf, ended}
+use Rattle.lsm_flush.specs.Jobs.{SeenJob, SeenOpen}
+use Rattle.lsm_compaction.specs.Merges.{SeenCompaction}
+use Rattle.lsm_compaction.specs.OpenMerges.{SeenOpenMerge, SeenMerges, IsMergeOf, ended}
 use Rattle.lsm_state.specs.Core.{Core}
 use Rattle.lsm_state.specs.Flushes.{spent}
 use Rattle.lsm_state.specs.Compactions.{Spends}

@@ -4,8 +4,8 @@ ghost use Rattle.std.specs.Ordering.{nat_cmp};
 ghost use Rattle.std.specs.BTreeMap.{get};
 ghost use Rattle.lsm_runs.specs.Slots.{SameJobs};
 
-use lsm_jobs::{FlushJob, MergedFlush, WrittenFlush};
-use lsm_merges::{CompactionJob, MergedCompaction};
+use lsm_compaction::{CompactionJob, MergedCompaction};
+use lsm_flush::{FlushJob, MergedFlush, WrittenFlush};
 use std::alloc::AllocError;
 use std::collections::BTreeMap;
 

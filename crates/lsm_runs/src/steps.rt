@@ -3,8 +3,8 @@ ghost use Rattle.std.specs.Prelude.{◌≡◌};
 
 use crate::Slot;
 use lsm_below::{InternalValue, KvPair, MemtableId, SeqNo, UserKey, UserValue};
-use lsm_choices::Why;
-use lsm_jobs::Registered;
+use lsm_checks::Why;
+use lsm_flush::Registered;
 use lsm_model::{JournalEntry, KvPairs, Ops};
 use lsm_parts::Error;
 use lsm_state::{Finished, Options};

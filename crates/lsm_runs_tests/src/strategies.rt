@@ -1,6 +1,6 @@
 // The strategies of each run, by their indexes, and a run on a new tree.
 use lsm_below::{Error, TableId};
-use lsm_choices::Input;
+use lsm_checks::Input;
 use lsm_pick::{Choice, ChooseError, CompactionStrategy, Leveled, Major};
 use lsm_runs::{Outcome, Step, run};
 use lsm_state::TreeState;

@@ -8,8 +8,8 @@ use Rattle.lsm_store.specs.Moments.{started, rests}
 use Rattle.lsm_model.specs.Ops.{op_entries}
 use Rattle.lsm_model.specs.declared.op.Op.{Op}
 use Rattle.lsm_memtable.specs.Memtables.{SeenMemtable}
-use Rattle.lsm_files.specs.Stored.{CountsFaults}
-use Rattle.lsm_files.specs.Foreign.{Spares, KeepsOwn, ChangesForeign}
+use Rattle.lsm_commit.specs.Stored.{CountsFaults}
+use Rattle.lsm_commit.specs.Foreign.{Spares, KeepsOwn, ChangesForeign}
 use Rattle.lsm_log.specs.Changes.{PutsRecord, IsPut}
 use Rattle.lsm_state.specs.Held.{put_all_first}
 use Rattle.lsm_state.specs.Core.{Core, versions_left, written_of, written_by, written_all, drawn_core}

@@ -9,8 +9,8 @@ use Rattle.lsm_state.specs.declared.compaction.Begun.TheVariants.{DidNothing, De
 use Rattle.lsm_state.specs.Core.{Core}
 use Rattle.lsm_state.specs.Causes.{BlamesEnd}
 use Rattle.lsm_state.specs.WholeCompactions.{Follows}
-use Rattle.lsm_files.specs.Stored.{CountsFaults}
-use Rattle.lsm_files.specs.Causes.{HasFailed, HasCause, BlamesStore, Blames, no_fault, one_fault, causes_then, causes_counted}
+use Rattle.lsm_commit.specs.Stored.{CountsFaults}
+use Rattle.lsm_commit.specs.Causes.{HasFailed, HasCause, BlamesStore, Blames, no_fault, one_fault, causes_then, causes_counted}
 use Rattle.lsm_model.specs.Steps.{among}
 use Rattle.lsm_state.specs.Cleaning.{AreAbsent, RemovesDrawn, RemovesTables}
 

@@ -12,17 +12,17 @@ use Rattle.lsm_model.specs.Steps.{among}
 use Rattle.lsm_versions.specs.Levels.{SeenVersion, HasOwnIds, all_of, left_in, chosen_from}
 use Rattle.lsm_versions.specs.Installs.{ChangesKeepTables}
 use Rattle.lsm_versions.specs.TableLaws.{or_parts}
-use Rattle.lsm_files.specs.Stored.{IsStored, IsTableOnDisk, AreOnDisk}
-use Rattle.lsm_files.specs.Commits.{AreOthers}
+use Rattle.lsm_commit.specs.Stored.{IsStored, IsTableOnDisk, AreOnDisk}
+use Rattle.lsm_commit.specs.Commits.{AreOthers}
 use Rattle.lsm_below.specs.declared.error.Error.{Error}
 use Rattle.lsm_below.specs.declared.error.Error.TheVariants.{OutOfMemory, Unrecoverable}
-use Rattle.lsm_choices.specs.declared.choice.Kind.{Kind}
-use Rattle.lsm_choices.specs.declared.choice.Kind.TheVariants.{Merge as AsMerge}
-use Rattle.lsm_choices.specs.declared.choice.Why.{Why}
-use Rattle.lsm_choices.specs.declared.choice.Why.TheVariants.{Hidden}
-use Rattle.lsm_choices.specs.declared.input.Input.{Input}
-use Rattle.lsm_choices.specs.Choices.{first_of, reasons_of, first_reason_of, AreThere}
-use Rattle.lsm_merges.specs.OpenMerges.{SeenOpenMerge, hides}
+use Rattle.lsm_checks.specs.declared.choice.Kind.{Kind}
+use Rattle.lsm_checks.specs.declared.choice.Kind.TheVariants.{Merge as AsMerge}
+use Rattle.lsm_checks.specs.declared.choice.Why.{Why}
+use Rattle.lsm_checks.specs.declared.choice.Why.TheVariants.{Hidden}
+use Rattle.lsm_checks.specs.declared.input.Input.{Input}
+use Rattle.lsm_checks.specs.Choices.{first_of, reasons_of, first_reason_of, AreThere}
+use Rattle.lsm_compaction.specs.OpenMerges.{SeenOpenMerge, hides}
 use Rattle.lsm_pick.specs.declared.choice.Choice.{Choice}
 use Rattle.lsm_pick.specs.declared.choice.Choice.TheVariants.{DoNothing, Move, Merge, Drop}
 use Rattle.lsm_pick.specs.declared.choice.ChooseError.{ChooseError}

@@ -8,7 +8,7 @@ use Rattle.lsm_below.specs.declared.error.Error.{Error}
 use Rattle.lsm_store.specs.World.{World}
 use Rattle.lsm_manifest.specs.Names.{version_name}
 use Rattle.lsm_memtable.specs.Memtables.{SeenMemtable}
-use Rattle.lsm_jobs.specs.Jobs.{SeenOpen}
+use Rattle.lsm_flush.specs.Jobs.{SeenOpen}
 use Rattle.lsm_parts.specs.declared.version.super_version.SuperVersion.{SuperVersion}
 use Rattle.lsm_parts.specs.History.{SeenHistory, versions_of}
 use Rattle.lsm_parts.specs.Maintenance.{Forgets, KeepsVersions}

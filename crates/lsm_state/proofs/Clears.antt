@@ -11,7 +11,7 @@ use Rattle.lsm_model.specs.Beginnings.{ClearedTo, ClearLost}
 use Rattle.lsm_model.specs.declared.journal.JournalEntry.TheVariants.{Clear}
 use Rattle.lsm_memtable.specs.Memtables.{SeenMemtable, new_memtable}
 use Rattle.lsm_versions.specs.Levels.{SeenVersion, empty_levels, all_of, HasOwnIds}
-use Rattle.lsm_jobs.specs.Jobs.{SeenOpen}
+use Rattle.lsm_flush.specs.Jobs.{SeenOpen}
 use Rattle.lsm_parts.specs.declared.version.super_version.SuperVersion.{SuperVersion}
 use Rattle.lsm_parts.specs.History.{SeenHistory, versions_of}
 use Rattle.lsm_state.specs.Held.{ids_of, FallFrom}

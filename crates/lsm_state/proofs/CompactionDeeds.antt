@@ -11,11 +11,11 @@ use Rattle.lsm_model.specs.Beginnings.{Note, Deeds, Done, Lost, IsDone, is_commi
 use Rattle.lsm_model.specs.declared.journal.JournalEntry.TheVariants.{Mark, Install}
 use Rattle.lsm_versions.specs.Levels.{SeenVersion, HasOwnIds, all_of, placed_in, placed_of}
 use Rattle.lsm_versions.specs.Installs.{MovesAreSteps, DropsAreSteps}
-use Rattle.lsm_choices.specs.declared.choice.Why.{Why}
-use Rattle.lsm_choices.specs.declared.choice.Why.TheVariants.{UnknownJob}
-use Rattle.lsm_choices.specs.declared.input.Input.{Input}
-use Rattle.lsm_choices.specs.Endings.{MergesOfInputsAreSteps}
-use Rattle.lsm_merges.specs.Merges.{SeenCompaction, evicts}
+use Rattle.lsm_checks.specs.declared.choice.Why.{Why}
+use Rattle.lsm_checks.specs.declared.choice.Why.TheVariants.{UnknownJob}
+use Rattle.lsm_checks.specs.declared.input.Input.{Input}
+use Rattle.lsm_checks.specs.Endings.{MergesOfInputsAreSteps}
+use Rattle.lsm_compaction.specs.Merges.{SeenCompaction, evicts}
 use Rattle.lsm_below.specs.Optimizes.{tables_of}
 use Rattle.lsm_pick.specs.declared.choice.Choice.{Choice}
 use Rattle.lsm_pick.specs.declared.choice.Choice.TheVariants.{DoNothing, Move, Merge, Drop}

@@ -6,7 +6,7 @@ use Rattle.lsm_memtable.specs.Memtables.{SeenMemtable}
 use Rattle.lsm_tables.specs.Tables.{SeenTable}
 use Rattle.lsm_versions.specs.Levels.{SeenVersion, IsNext, IsVersion, all_of, left_in}
 use Rattle.lsm_versions.specs.Installs.{ChangesKeepTables}
-use Rattle.lsm_jobs.specs.Jobs.{ids_in, entries_in}
+use Rattle.lsm_flush.specs.Jobs.{ids_in, entries_in}
 use Rattle.lsm_state.specs.Held.{entries_of}
 
 -- where memtables have the entries that are held under their ids, each has

@@ -12,7 +12,7 @@ use Rattle.lsm_model.specs.Beginnings.{Note, FlushedIds, IsDone, IsLost}
 use Rattle.lsm_model.specs.declared.journal.JournalEntry.TheVariants.{Write, Clear, Install, Dropped, Mark, Read}
 use Rattle.lsm_versions.specs.Levels.{all_of, placed_of}
 use Rattle.lsm_versions.specs.Installs.{FlushesAreSteps}
-use Rattle.lsm_jobs.specs.Jobs.{SeenWritten, IsWrittenFrom}
+use Rattle.lsm_flush.specs.Jobs.{SeenWritten, IsWrittenFrom}
 use Rattle.lsm_parts.specs.declared.version.super_version.SuperVersion.{SuperVersion}
 use Rattle.lsm_state.specs.Kept.{IsKeptTree}
 use Rattle.lsm_state.specs.Core.{Core, state_of, written_by}

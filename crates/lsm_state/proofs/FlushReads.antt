@@ -10,8 +10,8 @@ use Rattle.lsm_model.specs.Views.{Placed}
 use Rattle.lsm_model.specs.Beginnings.{Note, FlushedIds, Done}
 use Rattle.lsm_model.specs.declared.journal.JournalEntry.TheVariants.{Mark, Install}
 use Rattle.lsm_versions.specs.Levels.{placed_in}
-use Rattle.lsm_jobs.specs.Jobs.{SeenWritten}
-use Rattle.lsm_jobs.specs.declared.jobs.Registered.{Registered}
+use Rattle.lsm_flush.specs.Jobs.{SeenWritten}
+use Rattle.lsm_flush.specs.declared.jobs.Registered.{Registered}
 use Rattle.lsm_state.specs.Core.{Core, state_of}
 use Rattle.lsm_state.specs.Commits.{counted}
 use Rattle.lsm_state.specs.Deeds.{saved_of, AreDone}

@@ -14,7 +14,7 @@ use Rattle.lsm_model.specs.declared.journal.JournalEntry.TheVariants.{Install}
 use Rattle.lsm_versions.specs.Levels.{placed_in, placed_of}
 use Rattle.lsm_versions.specs.TableLaws.{entries_of_placed}
 use Rattle.lsm_versions.specs.Installs.{FlushesAreSteps}
-use Rattle.lsm_jobs.specs.Jobs.{SeenWritten, IsWrittenFrom}
+use Rattle.lsm_flush.specs.Jobs.{SeenWritten, IsWrittenFrom}
 use Rattle.lsm_parts.specs.declared.version.super_version.SuperVersion.{SuperVersion}
 use Rattle.lsm_parts.specs.History.{versions_of}
 use Rattle.lsm_state.specs.Held.{entries_of}

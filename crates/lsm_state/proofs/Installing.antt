@@ -11,14 +11,14 @@ use Rattle.lsm_store.specs.Moments.{joined}
 use Rattle.lsm_tables.specs.Tables.{SeenTable}
 use Rattle.lsm_memtable.specs.Memtables.{SeenMemtable}
 use Rattle.lsm_versions.specs.Levels.{SeenVersion, all_of}
-use Rattle.lsm_files.specs.Stored.{IsStored, IsTableOnDisk, AreOnDisk, HoldsOneOf, Leaves, AreAmong}
-use Rattle.lsm_jobs.specs.Jobs.{SeenWritten, SeenOpen}
+use Rattle.lsm_commit.specs.Stored.{IsStored, IsTableOnDisk, AreOnDisk, HoldsOneOf, Leaves, AreAmong}
+use Rattle.lsm_flush.specs.Jobs.{SeenWritten, SeenOpen}
 use Rattle.lsm_parts.specs.declared.version.super_version.SuperVersion.{SuperVersion}
 use Rattle.lsm_parts.specs.History.{SeenHistory, versions_of}
 use Rattle.lsm_state.specs.Held.{HasFirst, ids_of, is_among}
 use Rattle.lsm_state.specs.Kept.{NameOlder, KeepsIds, KeepsTables}
 use Rattle.lsm_state.specs.Core.{Core, versions_left, written_of}
-use Rattle.lsm_files.specs.Foreign.{passes_then}
+use Rattle.lsm_commit.specs.Foreign.{passes_then}
 use Rattle.lsm_state.specs.Commits.{UpholdsFiles, Upholds}
 use Rattle.lsm_state.specs.Flushes.{IsFlushedOf}
 use Rattle.lsm_state.proofs.FlushSteps.{names_older}

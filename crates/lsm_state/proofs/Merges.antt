@@ -16,10 +16,10 @@ use Rattle.lsm_model.specs.Steps.{among, AllCover}
 use Rattle.lsm_versions.specs.Levels.{SeenVersion, HasOwnIds, IsNext, PutBetween, all_of, left_in, placed_in, placed_of, shown_table}
 use Rattle.lsm_versions.specs.Refusals.{IsRefusedFor}
 use Rattle.lsm_versions.specs.Installs.{ChangesKeepTables}
-use Rattle.lsm_files.specs.Stored.{AreOnDisk}
-use Rattle.lsm_files.specs.Contents.{AreWritten, FilesAreTables}
-use Rattle.lsm_choices.specs.Choices.{IsAmong, AllStand}
-use Rattle.lsm_merges.specs.Merges.{SeenCompaction, IsJob, AreTablesOf}
+use Rattle.lsm_commit.specs.Stored.{AreOnDisk}
+use Rattle.lsm_commit.specs.Contents.{AreWritten, FilesAreTables}
+use Rattle.lsm_checks.specs.Choices.{IsAmong, AllStand}
+use Rattle.lsm_compaction.specs.Merges.{SeenCompaction, IsJob, AreTablesOf}
 use Rattle.lsm_state.specs.Core.{Core, written_of}
 use Rattle.lsm_state.specs.Kept.{IsKeptTree}
 use Rattle.lsm_state.specs.Commits.{Upholds, counted}

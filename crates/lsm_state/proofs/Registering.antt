@@ -8,11 +8,11 @@ use Rattle.lsm_below.specs.declared.error.Error.TheVariants.{OutOfMemory, Commit
 use Rattle.lsm_below.specs.Runs.{IsRun}
 use Rattle.lsm_store.specs.World.{World}
 use Rattle.lsm_model.specs.Steps.{among}
-use Rattle.lsm_files.specs.Commits.{AreOthers}
+use Rattle.lsm_commit.specs.Commits.{AreOthers}
 use Rattle.lsm_versions.specs.Levels.{range, all_of, HasOwnIds}
-use Rattle.lsm_files.specs.Stored.{AreOnDisk}
-use Rattle.lsm_files.specs.Foreign.{AtRest}
-use Rattle.lsm_jobs.specs.Jobs.{SeenOpen, SeenWritten}
+use Rattle.lsm_commit.specs.Stored.{AreOnDisk}
+use Rattle.lsm_commit.specs.Foreign.{AtRest}
+use Rattle.lsm_flush.specs.Jobs.{SeenOpen, SeenWritten}
 use Rattle.lsm_state.specs.Kept.{KeepsTables}
 use Rattle.lsm_state.specs.Core.{Core, versions_left, written_by, written_of}
 use Rattle.lsm_state.specs.Commits.{UpholdsFiles, Upholds, counted}

@@ -10,9 +10,9 @@ use Rattle.lsm_store.specs.World.{World}
 use Rattle.lsm_tables.specs.Tables.{SeenTable}
 use Rattle.lsm_model.specs.Steps.{among}
 use Rattle.lsm_versions.specs.Levels.{SeenVersion, all_of, HasOwnIds, left_in}
-use Rattle.lsm_files.specs.Commits.{AreOthers, SparesTables}
-use Rattle.lsm_files.specs.Writing.{KeepsStored}
-use Rattle.lsm_jobs.specs.Jobs.{SeenOpen}
+use Rattle.lsm_commit.specs.Commits.{AreOthers, SparesTables}
+use Rattle.lsm_commit.specs.Writing.{KeepsStored}
+use Rattle.lsm_flush.specs.Jobs.{SeenOpen}
 use Rattle.lsm_parts.specs.History.{SeenHistory, versions_of}
 use Rattle.lsm_state.specs.Kept.{KeepsTables}
 use Rattle.lsm_state.specs.Core.{Core, versions_left, written_by, written_of}

@@ -17,8 +17,8 @@ use Rattle.lsm_manifest.specs.Told.{Told, TellsOpen, told_weaker}
 use Rattle.lsm_manifest.specs.Finding.{Finds, StandsForMap, MapIsOne, OpeningFinds, OpensFound, RefusesFound, FoundTablesShow}
 use Rattle.lsm_state.specs.Core.{Core, Seen, opened_core, state_of}
 use Rattle.lsm_state.specs.Deeds.{saved_of, OpenedIsFresh}
-use Rattle.lsm_files.specs.Foreign.{Passes}
-use Rattle.lsm_files.specs.Opening.{OpeningsPass}
+use Rattle.lsm_commit.specs.Foreign.{Passes}
+use Rattle.lsm_commit.specs.Opening.{OpeningsPass}
 use Rattle.lsm_state.specs.Opened.{files_told, store_left, StartsWith}
 use Rattle.lsm_state.proofs.Distinct.{distinct_placed}
 

@@ -7,10 +7,10 @@ use Rattle.lsm_store.specs.World.{World}
 use Rattle.lsm_store.specs.Moments.{weakened}
 use Rattle.lsm_tables.specs.Tables.{SeenTable}
 use Rattle.lsm_versions.specs.Levels.{SeenVersion, all_of}
-use Rattle.lsm_files.specs.Stored.{IsStored, AreOnDisk, HoldsOneOf, Leaves, AreAmong}
-use Rattle.lsm_files.specs.Commits.{Stores, CommitsStored}
+use Rattle.lsm_commit.specs.Stored.{IsStored, AreOnDisk, HoldsOneOf, Leaves, AreAmong}
+use Rattle.lsm_commit.specs.Commits.{Stores, CommitsStored}
 use Rattle.lsm_state.specs.Core.{Core, versions_left, written_of}
-use Rattle.lsm_files.specs.Foreign.{AtRest}
+use Rattle.lsm_commit.specs.Foreign.{AtRest}
 use Rattle.lsm_state.specs.Commits.{UpholdsFiles, Upholds}
 
 -- ---- lists of versions

@@ -9,16 +9,16 @@ use Rattle.lsm_store.specs.World.{World}
 use Rattle.lsm_store.specs.Moments.{joined}
 use Rattle.lsm_versions.specs.Levels.{SeenVersion}
 use Rattle.lsm_versions.specs.Refusals.{IsRefusedFor}
-use Rattle.lsm_files.specs.Stored.{HoldsOneOf, Leaves, AreAmong}
-use Rattle.lsm_files.specs.Writing.{HoldEntries}
-use Rattle.lsm_jobs.specs.Jobs.{SeenJob, SeenWritten, SeenOpen, IsWrittenFrom}
-use Rattle.lsm_jobs.specs.declared.jobs.Registered.{Registered}
+use Rattle.lsm_commit.specs.Stored.{HoldsOneOf, Leaves, AreAmong}
+use Rattle.lsm_commit.specs.Writing.{HoldEntries}
+use Rattle.lsm_flush.specs.Jobs.{SeenJob, SeenWritten, SeenOpen, IsWrittenFrom}
+use Rattle.lsm_flush.specs.declared.jobs.Registered.{Registered}
 use Rattle.lsm_state.specs.Held.{entries_of}
 use Rattle.lsm_state.specs.Calls.{Rotates}
 use Rattle.lsm_state.specs.Kept.{KeepsTables}
 use Rattle.lsm_state.specs.Cleaning.{AreDrawnBelow, RemovesDrawn}
 use Rattle.lsm_state.specs.Core.{Core, versions_left, written_by, written_of}
-use Rattle.lsm_files.specs.Foreign.{AtRest, passes_then}
+use Rattle.lsm_commit.specs.Foreign.{AtRest, passes_then}
 use Rattle.lsm_state.specs.Commits.{UpholdsFiles, Upholds, counted}
 use Rattle.lsm_state.specs.Flushes.{sealed_ids, job_in, begun, Begins, wrote, spent, spent_in, IsCurrent, Registers, Installs, Doubts, IsFlushDeed, IsLostFlush}
 use Rattle.lsm_state.specs.WholeFlushes.{sealed_bytes, drawn_until, IsWhole, LeavesRest, Flushes, WritesJob}

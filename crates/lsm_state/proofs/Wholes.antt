@@ -3,8 +3,8 @@ use Rattle.std.proofs.Common.{◌≡◌, Option, None, Some, IsSome, Result, Ok,
 use Rattle.lsm_below.specs.declared.error.Error.{Error}
 use Rattle.lsm_store.specs.World.{World}
 use Rattle.lsm_versions.specs.Levels.{SeenVersion}
-use Rattle.lsm_choices.specs.declared.choice.Why.{Why}
-use Rattle.lsm_merges.specs.Merges.{SeenCompaction}
+use Rattle.lsm_checks.specs.declared.choice.Why.{Why}
+use Rattle.lsm_compaction.specs.Merges.{SeenCompaction}
 use Rattle.lsm_pick.specs.declared.choice.Choice.{Choice}
 use Rattle.lsm_pick.specs.declared.choice.Choice.TheVariants.{DoNothing, Move, Merge, Drop}
 use Rattle.lsm_pick.specs.declared.choice.ChooseError.{ChooseError}

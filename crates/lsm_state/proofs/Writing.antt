@@ -8,9 +8,9 @@ use Rattle.lsm_below.specs.Entries.{Entry}
 use Rattle.lsm_store.specs.World.{World}
 use Rattle.lsm_tables.specs.Tables.{SeenTable}
 use Rattle.lsm_versions.specs.Levels.{SeenVersion, all_of, HasOwnIds}
-use Rattle.lsm_files.specs.Stored.{IsStored, AreOnDisk}
-use Rattle.lsm_files.specs.Writing.{HoldEntries, KeepsStored}
-use Rattle.lsm_jobs.specs.Jobs.{SeenOpen}
+use Rattle.lsm_commit.specs.Stored.{IsStored, AreOnDisk}
+use Rattle.lsm_commit.specs.Writing.{HoldEntries, KeepsStored}
+use Rattle.lsm_flush.specs.Jobs.{SeenOpen}
 use Rattle.lsm_parts.specs.History.{SeenHistory}
 use Rattle.lsm_state.specs.Kept.{KeepsTables}
 use Rattle.lsm_state.specs.Core.{Core, versions_left, written_by, written_of}

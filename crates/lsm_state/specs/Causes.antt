@@ -1,8 +1,8 @@
 -- Which answers of a tree's calls blame the store.
 use Rattle.std.specs.Prelude.{◌≡◌, ℕ, false, Option, Some, None, Result, Ok, Err}
 use Rattle.lsm_below.specs.declared.error.Error.{Error}
-use Rattle.lsm_jobs.specs.declared.jobs.Registered.{Registered}
-use Rattle.lsm_files.specs.Causes.{BlamesStore, Blames}
+use Rattle.lsm_flush.specs.declared.jobs.Registered.{Registered}
+use Rattle.lsm_commit.specs.Causes.{BlamesStore, Blames}
 use Rattle.lsm_state.specs.declared.compaction.Begun.{Begun}
 use Rattle.lsm_state.specs.declared.compaction.Begun.TheVariants.{Job}
 

@@ -7,7 +7,7 @@ use Rattle.lsm_store.specs.World.{World}
 use Rattle.lsm_model.specs.Steps.{among}
 use Rattle.lsm_versions.specs.Levels.{all_of}
 use Rattle.lsm_manifest.specs.Names.{table_name, version_name}
-use Rattle.lsm_files.specs.Causes.{HasFailed}
+use Rattle.lsm_commit.specs.Causes.{HasFailed}
 use Rattle.lsm_memtable.specs.Memtables.{SeenMemtable}
 use Rattle.lsm_parts.specs.History.{SeenHistory, oldest, versions_of}
 use Rattle.lsm_parts.specs.Maintenance.{Forgets}

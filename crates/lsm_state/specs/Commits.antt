@@ -4,8 +4,8 @@ use Rattle.lsm_below.specs.declared.error.Error.{Error}
 use Rattle.lsm_below.specs.declared.error.Error.TheVariants.{OutOfMemory, Store, CommitUnknown, OutOfNumbers}
 use Rattle.lsm_store.specs.World.{World}
 use Rattle.lsm_memtable.specs.Memtables.{SeenMemtable, new_memtable}
-use Rattle.lsm_files.specs.Stored.{IsStored, Leaves}
-use Rattle.lsm_files.specs.Foreign.{Passes}
+use Rattle.lsm_commit.specs.Stored.{IsStored, Leaves}
+use Rattle.lsm_commit.specs.Foreign.{Passes}
 use Rattle.lsm_parts.specs.declared.version.super_version.SuperVersion.{SuperVersion}
 use Rattle.lsm_parts.specs.History.{versions_of}
 use Rattle.lsm_state.specs.Core.{Core, versions_left, written_of}

@@ -10,7 +10,7 @@ use Rattle.lsm_model.specs.Beginnings.{Note, Done, Lost, Deeds}
 use Rattle.lsm_model.specs.declared.journal.JournalEntry.TheVariants.{Mark, Install, Dropped}
 use Rattle.lsm_tables.specs.Tables.{SeenTable}
 use Rattle.lsm_versions.specs.Levels.{placed_in, placed_of}
-use Rattle.lsm_merges.specs.Merges.{SeenCompaction, evicts}
+use Rattle.lsm_compaction.specs.Merges.{SeenCompaction, evicts}
 use Rattle.lsm_pick.specs.declared.choice.Choice.{Choice}
 use Rattle.lsm_pick.specs.declared.choice.Choice.TheVariants.{DoNothing, Move, Merge, Drop}
 use Rattle.lsm_state.specs.declared.compaction.Options.{Options}

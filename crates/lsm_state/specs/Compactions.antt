@@ -14,14 +14,14 @@ use Rattle.lsm_below.specs.Runs.{IsRun}
 use Rattle.lsm_versions.specs.Levels.{SeenVersion, range, Levels, IsNext, IsOneRun, Moves, PutBetween, HasOwnIds, all_of, chosen_from, placed_of, placed_in}
 use Rattle.lsm_versions.specs.Refusals.{IsRefusedFor}
 use Rattle.lsm_versions.specs.Chosen.{Keeps}
-use Rattle.lsm_choices.specs.declared.choice.Kind.TheVariants.{Merge as AsMerge, Move as AsMove, Drop as AsDrop}
-use Rattle.lsm_choices.specs.declared.choice.Why.{Why}
-use Rattle.lsm_choices.specs.declared.choice.Why.TheVariants.{UnknownJob}
-use Rattle.lsm_choices.specs.declared.input.Input.{Input}
-use Rattle.lsm_choices.specs.Choices.{first_reason_of, IsLastReason, HoldSame, IsMovable, AreThere, AllStand}
-use Rattle.lsm_merges.specs.declared.settings.MergeSettings.{MergeSettings}
-use Rattle.lsm_merges.specs.Merges.{SeenCompaction, inputs_in, evicts, run_entries, AreKept, AreFilesOf}
-use Rattle.lsm_merges.specs.OpenMerges.{hides, IsOpenIn, opened, ended}
+use Rattle.lsm_checks.specs.declared.choice.Kind.TheVariants.{Merge as AsMerge, Move as AsMove, Drop as AsDrop}
+use Rattle.lsm_checks.specs.declared.choice.Why.{Why}
+use Rattle.lsm_checks.specs.declared.choice.Why.TheVariants.{UnknownJob}
+use Rattle.lsm_checks.specs.declared.input.Input.{Input}
+use Rattle.lsm_checks.specs.Choices.{first_reason_of, IsLastReason, HoldSame, IsMovable, AreThere, AllStand}
+use Rattle.lsm_compaction.specs.declared.settings.MergeSettings.{MergeSettings}
+use Rattle.lsm_compaction.specs.Merges.{SeenCompaction, inputs_in, evicts, run_entries, AreKept, AreFilesOf}
+use Rattle.lsm_compaction.specs.OpenMerges.{hides, IsOpenIn, opened, ended}
 use Rattle.lsm_pick.specs.declared.choice.Choice.{Choice}
 use Rattle.lsm_pick.specs.declared.choice.Choice.TheVariants.{DoNothing, Move, Merge, Drop}
 use Rattle.lsm_pick.specs.declared.choice.ChooseError.{ChooseError}

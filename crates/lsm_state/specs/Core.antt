@@ -8,8 +8,8 @@ use Rattle.lsm_versions.specs.declared.config.Config.{Config}
 use Rattle.lsm_parts.specs.declared.version.super_version.SuperVersion.{SuperVersion}
 use Rattle.lsm_memtable.specs.Memtables.{SeenMemtable, new_memtable}
 use Rattle.lsm_tables.specs.Tables.{SeenTable}
-use Rattle.lsm_jobs.specs.Jobs.{SeenOpen}
-use Rattle.lsm_merges.specs.OpenMerges.{SeenMerges, no_merges}
+use Rattle.lsm_flush.specs.Jobs.{SeenOpen}
+use Rattle.lsm_compaction.specs.OpenMerges.{SeenMerges, no_merges}
 use Rattle.lsm_versions.specs.Levels.{SeenVersion, empty_levels, placed_of}
 use Rattle.lsm_parts.specs.History.{SeenHistory, first_version, rotated}
 use Rattle.lsm_state.specs.Held.{entries_of, put_first, put_all_first}

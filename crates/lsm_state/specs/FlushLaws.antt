@@ -2,7 +2,7 @@
 use Rattle.std.specs.Prelude.{◌≡◌, ℕ, Bool, None, Err}
 use Rattle.lsm_below.specs.declared.error.Error.{Error}
 use Rattle.lsm_below.specs.declared.error.Error.TheVariants.{CommitUnknown}
-use Rattle.lsm_jobs.specs.Jobs.{SeenWritten, IsWrittenFrom}
+use Rattle.lsm_flush.specs.Jobs.{SeenWritten, IsWrittenFrom}
 use Rattle.lsm_state.specs.Core.{Core}
 use Rattle.lsm_state.specs.Kept.{IsKeptTree}
 use Rattle.lsm_state.specs.Deeds.{IsNoDeed, IsMarkDeed}

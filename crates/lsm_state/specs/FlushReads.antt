@@ -6,8 +6,8 @@ use Rattle.lsm_model.specs.Journal.{Event, Map, InOrder}
 use Rattle.lsm_model.specs.Steps.{StaysAt}
 use Rattle.lsm_model.specs.Sound.{Holds}
 use Rattle.lsm_model.specs.declared.journal.JournalEntry.TheVariants.{Mark, Install}
-use Rattle.lsm_jobs.specs.Jobs.{SeenWritten}
-use Rattle.lsm_jobs.specs.declared.jobs.Registered.{Registered}
+use Rattle.lsm_flush.specs.Jobs.{SeenWritten}
+use Rattle.lsm_flush.specs.declared.jobs.Registered.{Registered}
 use Rattle.lsm_state.specs.Core.{Core, state_of}
 use Rattle.lsm_state.specs.Deeds.{IsNoDeed}
 use Rattle.lsm_state.specs.Flushes.{Registers, IsFlushDeed}

@@ -11,9 +11,9 @@ use Rattle.std.specs.List.{AllByRecursion}
 use Rattle.lsm_below.specs.Runs.{IsRun}
 use Rattle.lsm_versions.specs.Levels.{range, placed_in, placed_of, IsNext, HasOwnIds, all_of}
 use Rattle.lsm_versions.specs.Refusals.{IsRefusedFor}
-use Rattle.lsm_files.specs.Writing.{HoldEntries}
-use Rattle.lsm_jobs.specs.Jobs.{SeenJob, SeenMerged, SeenWritten, SeenOpen, passed_by}
-use Rattle.lsm_jobs.specs.declared.jobs.Registered.{Registered}
+use Rattle.lsm_commit.specs.Writing.{HoldEntries}
+use Rattle.lsm_flush.specs.Jobs.{SeenJob, SeenMerged, SeenWritten, SeenOpen, passed_by}
+use Rattle.lsm_flush.specs.declared.jobs.Registered.{Registered}
 use Rattle.lsm_parts.specs.declared.version.super_version.SuperVersion.{SuperVersion}
 use Rattle.lsm_parts.specs.Versions.{IsLaid}
 use Rattle.lsm_state.specs.Held.{entries_of}

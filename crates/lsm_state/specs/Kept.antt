@@ -3,8 +3,8 @@ use Rattle.std.specs.Prelude.{◌≡◌, ℕ, ◌+◌, ◌-◌, ◌^◌, ◌<◌
 use Rattle.std.specs.List.{AllByRecursion}
 use Rattle.lsm_tables.specs.Cutting.{IsWritable}
 use Rattle.lsm_versions.specs.Levels.{all_of, HasOwnIds}
-use Rattle.lsm_jobs.specs.Jobs.{SeenOpen}
-use Rattle.lsm_merges.specs.OpenMerges.{AreOpen}
+use Rattle.lsm_flush.specs.Jobs.{SeenOpen}
+use Rattle.lsm_compaction.specs.OpenMerges.{AreOpen}
 use Rattle.lsm_memtable.specs.Memtables.{SeenMemtable}
 use Rattle.lsm_parts.specs.declared.version.super_version.SuperVersion.{SuperVersion}
 use Rattle.lsm_parts.specs.History.{SeenHistory, versions_of, AreLaid}

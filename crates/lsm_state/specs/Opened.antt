@@ -14,8 +14,8 @@ use Rattle.lsm_manifest.specs.Told.{Told, TellsOpen}
 use Rattle.lsm_manifest.specs.Opening.{Opens, LeavesStanding}
 use Rattle.lsm_manifest.specs.Finding.{StandsForMap, RefusesFound}
 use Rattle.lsm_manifest.specs.Ready.{IsReady}
-use Rattle.lsm_files.specs.Stored.{IsStored}
-use Rattle.lsm_files.specs.Foreign.{Passes}
+use Rattle.lsm_commit.specs.Stored.{IsStored}
+use Rattle.lsm_commit.specs.Foreign.{Passes}
 use Rattle.lsm_manifest.specs.declared.opening.Opened.{Opened}
 use Rattle.lsm_manifest.specs.declared.found.Found.{Found as FoundFiles}
 use Rattle.lsm_state.specs.declared.found.Found.{Found}

@@ -13,7 +13,7 @@ use Rattle.lsm_model.specs.Ops.{op_entries}
 use Rattle.lsm_model.specs.declared.op.Op.{Op}
 use Rattle.lsm_log.specs.LogNames.{record_name}
 use Rattle.lsm_log.specs.Records.{IsRecordOf}
-use Rattle.lsm_files.specs.Foreign.{Spares}
+use Rattle.lsm_commit.specs.Foreign.{Spares}
 use Rattle.lsm_log.specs.Changes.{IsPut}
 use Rattle.lsm_state.specs.Core.{Core, written_all, drawn_core}
 use Rattle.lsm_state.specs.Calls.{IsWriteRun}

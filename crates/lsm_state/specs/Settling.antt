@@ -4,8 +4,8 @@ use Rattle.lsm_below.specs.declared.error.Error.{Error}
 use Rattle.lsm_below.specs.declared.error.Error.TheVariants.{OutOfMemory, Store, CommitUnknown, OutOfNumbers, TooManyRuns, AfterCommit}
 use Rattle.lsm_versions.specs.Levels.{SeenVersion, all_of}
 use Rattle.lsm_store.specs.World.{World}
-use Rattle.lsm_files.specs.Stored.{IsStored, AreOnDisk}
-use Rattle.lsm_files.specs.Commits.{AreOthers}
+use Rattle.lsm_commit.specs.Stored.{IsStored, AreOnDisk}
+use Rattle.lsm_commit.specs.Commits.{AreOthers}
 use Rattle.lsm_parts.specs.declared.version.super_version.SuperVersion.{SuperVersion}
 use Rattle.lsm_parts.specs.History.{SeenHistory, versions_of}
 use Rattle.lsm_state.specs.Kept.{KeepsTables}

@@ -1,8 +1,8 @@
 // How a compaction begins.
 ghost use Rattle.std.specs.Prelude.{◌≡◌, ◌<◌, [], None, IsSome, IfOk, IfErr, OnOk};
-ghost use Rattle.lsm_choices.specs.Choices.{first_reason_of, AreThere, IsMovable};
+ghost use Rattle.lsm_checks.specs.Choices.{first_reason_of, AreThere, IsMovable};
 ghost use Rattle.lsm_pick.specs.declared.choice.Choice.TheVariants.{DoNothing, Move, Merge};
-ghost use Rattle.lsm_files.specs.Causes.{HasCause, Blames};
+ghost use Rattle.lsm_commit.specs.Causes.{HasCause, Blames};
 ghost use Rattle.lsm_state.specs.Cleaning.{LeavesNoFiles};
 ghost use Rattle.lsm_state.specs.Commits.{Upholds};
 ghost use Rattle.lsm_state.specs.Settling.{MaySettle, HasItsTables};
@@ -11,8 +11,8 @@ ghost use Rattle.lsm_state.specs.CompactionDeeds.{ChoiceDeeds};
 
 use crate::{Begun, Options, TreeState, compactions_are_deeds};
 use lsm_below::TableId;
-use lsm_choices::{Input, Kind, Why, first_reason};
-use lsm_merges::{CompactionJob, MergeSettings, chosen_inputs};
+use lsm_checks::{Input, Kind, Why, first_reason};
+use lsm_compaction::{CompactionJob, MergeSettings, chosen_inputs};
 use lsm_parts::{Error, LIMIT, Version};
 use lsm_pick::{Choice, ChooseError, CompactionStrategy};
 use lsm_store::Store;
@@ -216,7 +216,7 @@ impl<S: Store> TreeState<S> {
     }
 
     /// Does a choice, unless a reason declines it: a move or a drop is installed, and a merge becomes a job, whose tables are
-    /// in use from then on. The cost is linear in the tables of the tree; beside that as of `first_reason` of `lsm_choices`.
+    /// in use from then on. The cost is linear in the tables of the tree; beside that as of `first_reason` of `lsm_checks`.
     ///
     /// # Errors
     ///

@@ -1,6 +1,6 @@
 // A clear, and how unflushed entries are forgotten.
 ghost use Rattle.std.specs.Prelude.{◌≡◌, ◌⊎◌, ◌-◌, ◌<◌, ◌≤◌, ◌^◌, None, IsSome, IfOk, IfErr};
-ghost use Rattle.lsm_files.specs.Stored.{CountsFaults};
+ghost use Rattle.lsm_commit.specs.Stored.{CountsFaults};
 ghost use Rattle.lsm_state.specs.Commits.{Upholds};
 ghost use Rattle.lsm_state.specs.Clearing.{cleared_in, flushed_only, Clears, ClearDeeds, ForgetsUnflushed};
 

@@ -3,8 +3,8 @@ ghost use Rattle.std.specs.Prelude.{◌≡◌};
 
 use crate::TreeState;
 use lsm_below::SeqNo;
-use lsm_choices::Why;
-use lsm_merges::CompactionJob;
+use lsm_checks::Why;
+use lsm_compaction::CompactionJob;
 use lsm_store::Store;
 
 /// How a compaction is done.

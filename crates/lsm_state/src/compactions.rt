@@ -1,8 +1,8 @@
 // A compaction in one call.
 ghost use Rattle.std.specs.Prelude.{◌≡◌, Ok, IsSome};
-ghost use Rattle.lsm_files.specs.Causes.{HasCause, Blames};
+ghost use Rattle.lsm_commit.specs.Causes.{HasCause, Blames};
 ghost use Rattle.lsm_state.specs.Causes.{BlamesEnd};
-ghost use Rattle.lsm_merges.specs.Merges.{SeenCompaction};
+ghost use Rattle.lsm_compaction.specs.Merges.{SeenCompaction};
 ghost use Rattle.lsm_state.specs.declared.compaction.Begun.TheVariants.{Job};
 ghost use Rattle.lsm_state.specs.Cleaning.{LeavesNoFiles};
 ghost use Rattle.lsm_state.specs.Commits.{Upholds};
@@ -11,7 +11,7 @@ ghost use Rattle.lsm_state.specs.WholeCompactions.{Completes, Follows, CompactsC
 
 use crate::{Begun, Finished, Options, TreeState};
 use lsm_below::SeqNo;
-use lsm_merges::CompactionJob;
+use lsm_compaction::CompactionJob;
 use lsm_parts::Error;
 use lsm_pick::{Choice, CompactionStrategy, DropRange, Major, OwnedBounds};
 use lsm_store::Store;

@@ -2,9 +2,9 @@
 ghost use Rattle.std.specs.Prelude.{◌≡◌, ◌⊎◌, ◌+◌, ◌≤◌, ◌<◌, ◌++◌, None, length, reverse, IsSome, IfOk, IfErr, IsErrOf};
 ghost use Rattle.lsm_tables.specs.Cutting.{IsWritable};
 ghost use Rattle.lsm_versions.specs.Levels.{all_of, HasOwnIds};
-ghost use Rattle.lsm_files.specs.Stored.{AreOnDisk, CountsFaults};
-ghost use Rattle.lsm_files.specs.Writing.{HoldEntries};
-ghost use Rattle.lsm_files.specs.Causes.{HasCause};
+ghost use Rattle.lsm_commit.specs.Stored.{AreOnDisk, CountsFaults};
+ghost use Rattle.lsm_commit.specs.Writing.{HoldEntries};
+ghost use Rattle.lsm_commit.specs.Causes.{HasCause};
 ghost use Rattle.lsm_state.specs.Causes.{BlamesBeside};
 ghost use Rattle.lsm_state.specs.Cleaning.{RemovesDrawn};
 ghost use Rattle.lsm_state.specs.Commits.{Upholds};
@@ -13,8 +13,8 @@ ghost use Rattle.lsm_state.specs.Flushes.{Begins, WritesTables, with_next_table,
 
 use crate::TreeState;
 use lsm_below::MemtableId;
-use lsm_files::{crashes_leave_versions, write_tables};
-use lsm_jobs::{FlushJob, MergedFlush, OpenFlush, WrittenFlush};
+use lsm_commit::{crashes_leave_versions, write_tables};
+use lsm_flush::{FlushJob, MergedFlush, OpenFlush, WrittenFlush};
 use lsm_parts::{Error, LIMIT, SealedMemtables};
 use lsm_store::Store;
 use lsm_tables::{Entries, Table};

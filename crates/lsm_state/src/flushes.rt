@@ -1,7 +1,7 @@
 // A flush in one call.
 ghost use Rattle.std.specs.Prelude.{◌≡◌, ◌<◌, [], true, false, IfOk, IfErr, IfSome, IsSome};
-ghost use Rattle.lsm_files.specs.Foreign.{AtRest};
-ghost use Rattle.lsm_files.specs.Causes.{HasCause, Blames};
+ghost use Rattle.lsm_commit.specs.Foreign.{AtRest};
+ghost use Rattle.lsm_commit.specs.Causes.{HasCause, Blames};
 ghost use Rattle.lsm_state.specs.Cleaning.{LeavesNoFiles, RemovesDrawn};
 ghost use Rattle.lsm_state.specs.Causes.{BlamesOrUncleanFlush, BlamesOrUncleanBehind};
 ghost use Rattle.lsm_state.specs.Commits.{Upholds};
@@ -9,8 +9,8 @@ ghost use Rattle.lsm_state.specs.WholeFlushes.{sealed_bytes, WritesJob, Flushes,
 
 use crate::TreeState;
 use lsm_below::{MemtableId, SeqNo};
-use lsm_files::crashes_leave_versions;
-use lsm_jobs::{FlushJob, Registered, WrittenFlush};
+use lsm_commit::crashes_leave_versions;
+use lsm_flush::{FlushJob, Registered, WrittenFlush};
 use lsm_parts::{Error, LIMIT};
 use lsm_store::Store;
 

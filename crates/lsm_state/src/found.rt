@@ -10,15 +10,15 @@ ghost use Rattle.lsm_manifest.specs.Told.{Told, TellsOpen};
 ghost use Rattle.lsm_manifest.specs.Opening.{Opens, LeavesStanding};
 ghost use Rattle.lsm_manifest.specs.Looking.{Looks};
 ghost use Rattle.lsm_manifest.specs.Ready.{IsReady};
-ghost use Rattle.lsm_files.specs.Stored.{IsStored};
+ghost use Rattle.lsm_commit.specs.Stored.{IsStored};
 ghost use Rattle.lsm_state.specs.Core.{versions_left, written_of, opened_core};
 ghost use Rattle.lsm_state.specs.Opened.{files_told, store_left, StartsFrom};
 
 use crate::{Memtables, TreeState};
 use lsm_below::Error;
-use lsm_files::opening_stores;
+use lsm_commit::opening_stores;
+use lsm_compaction::OpenMerges;
 use lsm_manifest::{Found as FoundFiles, finish_opening};
-use lsm_merges::OpenMerges;
 use lsm_parts::{Config, SequenceNumberCounter, SuperVersions, Version};
 use lsm_store::Store;
 use std::alloc::Global;

@@ -8,7 +8,7 @@ ghost use Rattle.lsm_state.specs.FlushReads.{FlushesKeepReads};
 ghost use Rattle.lsm_state.specs.ListSteps.{ListsAreSteps};
 ghost use Rattle.lsm_state.specs.Ranges.{CountingIsOverlaid, RangesAreOverlaid, PrefixesAreOverlaid};
 
-use lsm_choices::merges_of_inputs_are_steps;
+use lsm_checks::merges_of_inputs_are_steps;
 use lsm_iter::shown_is_the_view;
 use lsm_model::{parts_are_whole, reads_are_sound};
 use lsm_versions::{drops_are_steps, flushes_are_steps, moves_are_steps};

@@ -2,7 +2,7 @@
 ghost use Rattle.std.specs.Prelude.{◌≡◌, ◌⊎◌, ◌<◌, ℕ, List, None, Contains, IfOk, IfErr, OnOk, IsErrOf};
 ghost use Rattle.std.specs.List.Sorted.{IsStrictlyIncreasing};
 ghost use Rattle.lsm_store.specs.World.{Same, LeavesOnly};
-ghost use Rattle.lsm_files.specs.Stored.{CountsFaults};
+ghost use Rattle.lsm_commit.specs.Stored.{CountsFaults};
 ghost use Rattle.lsm_log.specs.LogNames.{record_name};
 ghost use Rattle.lsm_log.specs.Changes.{IsBelow, IsNoneOf, ClearsRecords, AreCleared};
 ghost use Rattle.lsm_log.specs.Logs.{IsRecordAt, IsNoRecordAt, IsLogAt, IsBadLog};
@@ -10,7 +10,7 @@ ghost use Rattle.lsm_state.specs.Commits.{UpholdsFiles};
 
 use crate::{Found, TreeState};
 use lsm_below::{Error, SeqNo};
-use lsm_files::foreign_names_spare;
+use lsm_commit::foreign_names_spare;
 use lsm_log::{LogNumbers, Record, check_log, read_record, remove_below};
 use lsm_store::Store;
 

@@ -16,7 +16,7 @@ ghost use Rattle.lsm_state.specs.Opened.{files_told, store_left, files_found, st
 
 use crate::{Found, TreeState};
 use lsm_below::{Error, TableId};
-use lsm_files::openings_pass;
+use lsm_commit::openings_pass;
 use lsm_manifest::{
     found_tables_show, images_stand_once, look_for_files, opening_finds,
     openings_leave_what_was_read,

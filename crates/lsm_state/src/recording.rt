@@ -3,7 +3,7 @@ ghost use Rattle.std.specs.Prelude.{◌≡◌, ◌⊎◌, None, Some, IfOk, IfEr
 ghost use Rattle.std.specs.List.{AllByRecursion};
 ghost use Rattle.lsm_tables.specs.Image.{Fits};
 ghost use Rattle.lsm_model.specs.Ops.{op_entries};
-ghost use Rattle.lsm_files.specs.Stored.{CountsFaults};
+ghost use Rattle.lsm_commit.specs.Stored.{CountsFaults};
 ghost use Rattle.lsm_log.specs.Records.{IsRecordOf};
 ghost use Rattle.lsm_state.specs.Held.{put_all_first};
 ghost use Rattle.lsm_state.specs.Refusals.{batch_refusal};
@@ -13,7 +13,7 @@ ghost use Rattle.lsm_state.specs.Commits.{UpholdsFiles};
 use crate::writes::{check_batch, make_entries};
 use crate::{Memtables, TreeState};
 use lsm_below::{InternalValue, SeqNo, UserKey};
-use lsm_files::crashes_leave_versions;
+use lsm_commit::crashes_leave_versions;
 use lsm_log::{encode, put_record};
 use lsm_model::Op;
 use lsm_parts::Error;

@@ -2,7 +2,7 @@
 ghost use Rattle.std.specs.Prelude.{◌≡◌, ◌+◌, ◌≤◌, ◌∷◌, length, IfOk};
 
 use lsm_below::MemtableId;
-use lsm_jobs::SealedMemtable;
+use lsm_flush::SealedMemtable;
 use lsm_parts::Memtable;
 use std::alloc::{AllocError, Global};
 use std::collections::VecDeque;

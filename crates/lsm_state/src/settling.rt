@@ -1,19 +1,19 @@
 // How a version takes the place of the latest one, outside a flush.
 ghost use Rattle.std.specs.Prelude.{◌≡◌, ◌<◌, ℕ, None, OnOk, IfErr};
 ghost use Rattle.lsm_versions.specs.Levels.{all_of};
-ghost use Rattle.lsm_files.specs.Stored.{AreOnDisk};
-ghost use Rattle.lsm_files.specs.Commits.{AreOthers};
-ghost use Rattle.lsm_files.specs.Causes.{HasCause, Blames};
+ghost use Rattle.lsm_commit.specs.Stored.{AreOnDisk};
+ghost use Rattle.lsm_commit.specs.Commits.{AreOthers};
+ghost use Rattle.lsm_commit.specs.Causes.{HasCause, Blames};
 ghost use Rattle.lsm_manifest.specs.Names.{version_name};
 ghost use Rattle.lsm_state.specs.Core.{written_of};
 ghost use Rattle.lsm_state.specs.Cleaning.{AreAbsent, AreDrawnBelow, LeavesNoFiles, RemovesDrawn, RemovesTables};
-ghost use Rattle.lsm_files.specs.Foreign.{Passes};
+ghost use Rattle.lsm_commit.specs.Foreign.{Passes};
 ghost use Rattle.lsm_state.specs.Commits.{UpholdsFiles, Upholds};
 ghost use Rattle.lsm_state.specs.Settling.{MaySettle, Settles};
 
 use crate::TreeState;
 use lsm_below::{SeqNo, TableId};
-use lsm_files::{crashes_leave_versions, remove_tables, remove_written};
+use lsm_commit::{crashes_leave_versions, remove_tables, remove_written};
 use lsm_manifest::names_are_apart;
 use lsm_parts::{Error, LIMIT, SuperVersion, Version};
 use lsm_store::Store;

@@ -3,7 +3,7 @@ ghost use Rattle.std.specs.Prelude.{◌≡◌, ℕ, ◌+◌, ◌≤◌, ◌↔�
 ghost use Rattle.std.specs.Borrow.{sem};
 ghost use Rattle.std.specs.Option.{is_some};
 ghost use Rattle.lsm_model.specs.Steps.{among};
-ghost use Rattle.lsm_merges.specs.OpenMerges.{hides};
+ghost use Rattle.lsm_compaction.specs.OpenMerges.{hides};
 ghost use Rattle.lsm_parts.specs.History.{found_version};
 ghost use Rattle.lsm_versions.specs.declared.version.TreeType.TheVariants.{Standard};
 ghost use Rattle.lsm_state.specs.Deeds.{IsNoDeed};
@@ -12,8 +12,8 @@ ghost use Rattle.lsm_state.specs.Held.{HasFirst, first_entries};
 
 use crate::Memtables;
 use lsm_below::{MemtableId, SeqNo, TableId, TreeId};
-use lsm_jobs::OpenFlush;
-use lsm_merges::OpenMerges;
+use lsm_compaction::OpenMerges;
+use lsm_flush::OpenFlush;
 use lsm_parts::{
     Config, Error, LIMIT, Memtable, SequenceNumberCounter, SuperVersion, SuperVersions, Version,
 };

@@ -4,10 +4,10 @@ use Rattle.lsm_below.specs.declared.error.Error.{Error}
 use Rattle.lsm_below.specs.declared.error.Error.TheVariants.{OutOfMemory}
 use Rattle.lsm_store.specs.World.{World}
 use Rattle.lsm_model.specs.declared.journal.JournalEntry.{JournalEntry}
-use Rattle.lsm_merges.specs.Merges.{SeenCompaction, SeenCompacted}
+use Rattle.lsm_compaction.specs.Merges.{SeenCompaction, SeenCompacted}
 use Rattle.lsm_pick.specs.declared.choice.Choice.{Choice}
 use Rattle.lsm_pick.specs.declared.choice.ChooseError.{ChooseError}
-use Rattle.lsm_files.specs.Causes.{HasCause, BlamesStore, Blames, causes_less}
+use Rattle.lsm_commit.specs.Causes.{HasCause, BlamesStore, Blames, causes_less}
 use Rattle.lsm_state.specs.declared.compaction.Options.{Options}
 use Rattle.lsm_state.specs.declared.compaction.Begun.{Begun}
 use Rattle.lsm_state.specs.declared.compaction.Finished.{Finished}

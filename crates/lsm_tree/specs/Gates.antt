@@ -3,7 +3,7 @@ use Rattle.std.specs.Prelude.{◌≡◌, ◌⊎◌, ℕ, List, Result, Ok, Err}
 use Rattle.lsm_below.specs.declared.error.Error.{Error}
 use Rattle.lsm_below.specs.declared.error.Error.TheVariants.{OutOfMemory}
 use Rattle.lsm_model.specs.declared.journal.JournalEntry.{JournalEntry}
-use Rattle.lsm_merges.specs.Merges.{SeenCompaction}
+use Rattle.lsm_compaction.specs.Merges.{SeenCompaction}
 use Rattle.lsm_pick.specs.declared.choice.Choice.{Choice}
 use Rattle.lsm_pick.specs.declared.choice.ChooseError.{ChooseError}
 use Rattle.lsm_state.specs.declared.compaction.Begun.{Begun}

@@ -1,9 +1,9 @@
 // Who does the merge of a compaction while no lock is held.
 ghost use Rattle.std.specs.Prelude.{◌≡◌, IfOk, IfErr};
-ghost use Rattle.lsm_merges.specs.Merges.{AreFilesOf};
+ghost use Rattle.lsm_compaction.specs.Merges.{AreFilesOf};
 ghost use Rattle.lsm_state.specs.WholeCompactions.{told_end};
 
-use lsm_merges::{CompactionJob, MergedCompaction};
+use lsm_compaction::{CompactionJob, MergedCompaction};
 use lsm_parts::Error;
 use lsm_state::{Begun, Finished};
 

@@ -1,7 +1,7 @@
 //! Theorems as the contracts of functions that do nothing: each is proved of the words that the contracts of
 //! other calls are made of.
 pub use lsm_below::{entries_are_ordered, first_visible_is_top, keys_are_ordered, merges_by_key};
-pub use lsm_files::stored_files_are_ready;
+pub use lsm_commit::stored_files_are_ready;
 pub use lsm_iter::shown_is_the_view;
 pub use lsm_manifest::{
     crashes_settle, found_tables_show, images_stand_once, openings_leave_what_was_read,

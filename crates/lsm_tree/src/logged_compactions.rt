@@ -1,6 +1,6 @@
 // The calls of a compaction, of a logged tree behind the lock.
 ghost use Rattle.std.specs.Prelude.{◌≡◌, Err, IfOk, IfErr};
-ghost use Rattle.lsm_files.specs.Causes.{HasCause, Blames};
+ghost use Rattle.lsm_commit.specs.Causes.{HasCause, Blames};
 ghost use Rattle.lsm_state.specs.Compactions.{BeginsChoice, BeginsCompaction, Finishes, Spends};
 ghost use Rattle.lsm_state.specs.WholeCompactions.{CompactsChoice, Compacts, DropsRange, options_at, only_memory, major_choice};
 ghost use Rattle.lsm_logged.specs.Asking.{Asks};
@@ -10,8 +10,8 @@ ghost use Rattle.lsm_tree.specs.Gates.{IsNoJob, EndsGatedLogged, CompactsGatedLo
 use crate::gate::{Gate, told_end};
 use crate::handle::Handle;
 use lsm_below::SeqNo;
+use lsm_compaction::{CompactionJob, MergedCompaction};
 use lsm_logged::Logged;
-use lsm_merges::{CompactionJob, MergedCompaction};
 use lsm_parts::Error;
 use lsm_pick::{Choice, CompactionStrategy, OwnedBounds};
 use lsm_state::{Begun, Finished, Options};

@@ -4,7 +4,7 @@ ghost use Rattle.lsm_below.specs.Optimizes.{tables_of};
 ghost use Rattle.lsm_below.specs.Sums.{capped};
 ghost use Rattle.lsm_tables.specs.Tables.{tombstones, weak_tombstones, reclaimable};
 ghost use Rattle.lsm_memtable.specs.Memtables.{highest_of};
-ghost use Rattle.lsm_merges.specs.OpenMerges.{hides};
+ghost use Rattle.lsm_compaction.specs.OpenMerges.{hides};
 ghost use Rattle.lsm_versions.specs.Levels.{all_of, bytes_of};
 ghost use Rattle.lsm_versions.specs.declared.version.TreeType.TheVariants.{Standard};
 ghost use Rattle.lsm_parts.specs.History.{named_size};

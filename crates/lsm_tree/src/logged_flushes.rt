@@ -1,6 +1,6 @@
 // The calls of a flush, of a logged tree behind the lock.
 ghost use Rattle.std.specs.Prelude.{◌≡◌};
-ghost use Rattle.lsm_files.specs.Causes.{HasCause};
+ghost use Rattle.lsm_commit.specs.Causes.{HasCause};
 ghost use Rattle.lsm_state.specs.Causes.{BlamesBeside, BlamesOrUnclean, BlamesOrUncleanFlush, BlamesOrUncleanBehind};
 ghost use Rattle.lsm_state.specs.Flushes.{spent};
 ghost use Rattle.lsm_logged.specs.Flushing.{FlushesLogged, FlushesBoth, BeginsLogged, WritesJobLogged, RegistersLogged};
@@ -8,7 +8,7 @@ ghost use Rattle.lsm_tree.specs.Shared.{OnSomeStore, OnSomeLogged, TouchesTreeAl
 
 use crate::handle::Handle;
 use lsm_below::{MemtableId, SeqNo};
-use lsm_jobs::{FlushJob, MergedFlush, Registered, WrittenFlush};
+use lsm_flush::{FlushJob, MergedFlush, Registered, WrittenFlush};
 use lsm_logged::Logged;
 use lsm_parts::Error;
 use lsm_store::Store;

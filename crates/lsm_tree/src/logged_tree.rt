@@ -1,8 +1,8 @@
 // The calls of a logged tree behind the lock.
 ghost use Rattle.std.specs.Prelude.{◌≡◌, ◌≤◌, ◌+◌, Option, IfOk, IfErr, IsErrOf, is_some, option_map};
 ghost use Rattle.lsm_below.specs.Keys.{Bytes};
-ghost use Rattle.lsm_files.specs.Causes.{HasCause, Blames};
-ghost use Rattle.lsm_files.specs.Stored.{CountsFaults};
+ghost use Rattle.lsm_commit.specs.Causes.{HasCause, Blames};
+ghost use Rattle.lsm_commit.specs.Stored.{CountsFaults};
 ghost use Rattle.lsm_state.specs.Flushes.{with_next_table};
 ghost use Rattle.lsm_state.specs.Calls.{Gives, GivesEntry, Rotates, value_size};
 ghost use Rattle.lsm_logged.specs.Keeping.{is_unsure};

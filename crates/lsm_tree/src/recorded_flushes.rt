@@ -1,6 +1,6 @@
 // The calls of a flush, of a tree with its journal behind the lock.
 ghost use Rattle.std.specs.Prelude.{◌≡◌, ◌⊎◌};
-ghost use Rattle.lsm_files.specs.Causes.{HasCause};
+ghost use Rattle.lsm_commit.specs.Causes.{HasCause};
 ghost use Rattle.lsm_state.specs.Causes.{BlamesBeside, BlamesOrUnclean, BlamesOrUncleanFlush, BlamesOrUncleanBehind};
 ghost use Rattle.lsm_state.specs.Flushes.{Begins, WritesTables, spent};
 ghost use Rattle.lsm_state.specs.WholeFlushes.{FlushesActive};
@@ -9,7 +9,7 @@ ghost use Rattle.lsm_tree.specs.Shared.{OnSomeTree, OnSomeStore, OnSomeRecorded}
 
 use crate::handle::Handle;
 use lsm_below::{MemtableId, SeqNo};
-use lsm_jobs::{FlushJob, MergedFlush, Registered, WrittenFlush};
+use lsm_flush::{FlushJob, MergedFlush, Registered, WrittenFlush};
 use lsm_parts::Error;
 use lsm_recorded::{Pass, Recorded};
 use lsm_store::Store;

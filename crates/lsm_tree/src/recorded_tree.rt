@@ -10,7 +10,7 @@ ghost use Rattle.lsm_model.specs.declared.question.Question.TheVariants.{Get as 
 ghost use Rattle.lsm_model.specs.declared.question.Answer.TheVariants.{Found, Pairs as PairsAnswer};
 ghost use Rattle.lsm_model.specs.declared.op.Op.TheVariants.{Set, Del, Weak};
 ghost use Rattle.lsm_versions.specs.Levels.{placed_of};
-ghost use Rattle.lsm_files.specs.Causes.{HasCause, Blames};
+ghost use Rattle.lsm_commit.specs.Causes.{HasCause, Blames};
 ghost use Rattle.lsm_recorded.specs.Closing.{ListTogether};
 ghost use Rattle.lsm_recorded.specs.Order.{keeps_order, batch_keeps_order};
 ghost use Rattle.lsm_state.specs.Calls.{Appends, WritesBatch, Rotates};

@@ -1,7 +1,7 @@
 // The calls of a compaction, of a tree behind the lock.
 ghost use Rattle.std.specs.Prelude.{◌≡◌, ◌↔◌, ℕ, true, Err, IfOk, IfErr, IsTrue};
-ghost use Rattle.lsm_merges.specs.OpenMerges.{hides};
-ghost use Rattle.lsm_files.specs.Causes.{HasCause, Blames};
+ghost use Rattle.lsm_compaction.specs.OpenMerges.{hides};
+ghost use Rattle.lsm_commit.specs.Causes.{HasCause, Blames};
 ghost use Rattle.lsm_state.specs.Compactions.{BeginsChoice, BeginsCompaction, Finishes, Spends};
 ghost use Rattle.lsm_state.specs.WholeCompactions.{Compacts, DropsRange, options_at, only_memory, major_choice};
 ghost use Rattle.lsm_tree.specs.Shared.{OnSomeTree, OnSomeStore, AtSomeTree};
@@ -10,7 +10,7 @@ ghost use Rattle.lsm_tree.specs.Gates.{IsNoJob, EndsGated, CompactsGated};
 use crate::gate::{Gate, told_end};
 use crate::handle::Handle;
 use lsm_below::SeqNo;
-use lsm_merges::{CompactionJob, MergedCompaction};
+use lsm_compaction::{CompactionJob, MergedCompaction};
 use lsm_parts::Error;
 use lsm_pick::{Choice, CompactionStrategy, OwnedBounds};
 use lsm_state::{Begun, Finished, Options, TreeState, do_compaction};

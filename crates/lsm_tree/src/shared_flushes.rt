@@ -1,6 +1,6 @@
 // The calls of a flush, of a tree behind the lock.
 ghost use Rattle.std.specs.Prelude.{◌≡◌, is_some};
-ghost use Rattle.lsm_files.specs.Causes.{HasCause};
+ghost use Rattle.lsm_commit.specs.Causes.{HasCause};
 ghost use Rattle.lsm_state.specs.Causes.{BlamesBeside, BlamesOrUnclean, BlamesOrUncleanFlush, BlamesOrUncleanBehind};
 ghost use Rattle.lsm_state.specs.Flushes.{Begins, WritesTables, Registers, spent};
 ghost use Rattle.lsm_state.specs.WholeFlushes.{Flushes, FlushesActive};
@@ -8,7 +8,7 @@ ghost use Rattle.lsm_tree.specs.Shared.{OnSomeTree, OnSomeStore, AtSomeTree};
 
 use crate::handle::Handle;
 use lsm_below::{MemtableId, SeqNo};
-use lsm_jobs::{FlushJob, MergedFlush, Registered, WrittenFlush};
+use lsm_flush::{FlushJob, MergedFlush, Registered, WrittenFlush};
 use lsm_parts::Error;
 use lsm_state::TreeState;
 use lsm_store::Store;

@@ -1,7 +1,7 @@
 // Next versions: new, merged, moved and dropped tables, and when there is no next version.
 use crate::samples::{Row, THREE, hidden, ids, table, version};
 use lsm_below::{Error, TableId, is_run};
-use lsm_choices::{Kind, first_reason, pick_run_indexes};
+use lsm_checks::{Kind, first_reason, pick_run_indexes};
 use lsm_tables::Table;
 use lsm_versions::{Version, ids_are_own};
 use std::alloc::Global;

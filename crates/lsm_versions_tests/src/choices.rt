@@ -1,7 +1,7 @@
 // Why a choice of tables is declined.
 use crate::samples::{Row, hidden, ids, table, version};
 use lsm_below::TableId;
-use lsm_choices::{Kind, Why, first_reason, last_reason};
+use lsm_checks::{Kind, Why, first_reason, last_reason};
 use lsm_versions::Version;
 use std::alloc::Global;
 use std::process::Abort;

@@ -1,4 +1,4 @@
-//! Tests of `lsm_versions`, `lsm_choices` and `lsm_merges`, and nothing else: a crate with tests is proved twice, with and without them.
+//! Tests of `lsm_versions`, `lsm_checks` and `lsm_compaction`, and nothing else: a crate with tests is proved twice, with and without them.
 //!
 //! | Module | Tests |
 //! |-|-|

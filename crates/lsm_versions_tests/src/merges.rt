@@ -1,8 +1,8 @@
 // Merges outside a tree.
 use crate::samples::{THREE, hidden, ids, version};
 use lsm_below::{SeqNo, TableId};
-use lsm_choices::{Kind, first_reason};
-use lsm_merges::{CompactionJob, MergeSettings, MergedCompaction, OpenMerges, chosen_inputs};
+use lsm_checks::{Kind, first_reason};
+use lsm_compaction::{CompactionJob, MergeSettings, MergedCompaction, OpenMerges, chosen_inputs};
 use lsm_tables::Table;
 use lsm_versions::Version;
 use std::alloc::Global;

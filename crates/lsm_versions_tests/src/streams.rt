@@ -3,7 +3,7 @@ ghost use Rattle.std.specs.Iterator.{IsFinite};
 
 use crate::samples::{THREE, ids, version};
 use lsm_below::{AsEntry, Error, SeqNo, TableId};
-use lsm_merges::create_compaction_stream;
+use lsm_compaction::create_compaction_stream;
 use lsm_versions::Version;
 use std::alloc::Global;
 use std::test::Fail;

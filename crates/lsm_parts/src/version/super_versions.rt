@@ -4,12 +4,12 @@ ghost use Rattle.std.specs.List.{find, list_any};
 ghost use Rattle.lsm_parts.specs.History.{found_version, first_version, oldest, versions_of, names, named_size, rotated, AreLaid, NumbersFall};
 ghost use Rattle.lsm_parts.specs.Maintenance.{needed, needed_of, Forgets, AreGone, KeepsNewer, KeepsVersions};
 ghost use Rattle.lsm_manifest.specs.Names.{version_name};
-ghost use Rattle.lsm_files.specs.Stored.{CountsFaults};
-ghost use Rattle.lsm_files.specs.Foreign.{Passes};
+ghost use Rattle.lsm_commit.specs.Stored.{CountsFaults};
+ghost use Rattle.lsm_commit.specs.Foreign.{Passes};
 
 use crate::{Error, Memtable, SealedMemtables, SuperVersion, Version, VersionId, seqno_filter};
 use lsm_below::{MemtableId, SeqNo};
-use lsm_files::{crashes_leave_versions, remove_version};
+use lsm_commit::{crashes_leave_versions, remove_version};
 use lsm_store::Store;
 use std::alloc::Global;
 use std::collections::VecDeque;

@@ -2,7 +2,7 @@
 ghost use Rattle.std.specs.Prelude.{◌≡◌, ℕ, ◌<◌, ◌≤◌, List, length, MatchBool, IfOk};
 ghost use Rattle.lsm_below.specs.Optimizes.{tables_of};
 ghost use Rattle.lsm_tables.specs.Tables.{SeenTable};
-ghost use Rattle.lsm_choices.specs.Choices.{AreIdsOf};
+ghost use Rattle.lsm_checks.specs.Choices.{AreIdsOf};
 ghost use Rattle.lsm_pick.specs.Picks.{IsInput, IsMove, IsMerge};
 ghost use Rattle.lsm_pick.specs.Leveled.{IsBase, MayTakeFirst, MayFromFirst, MayFromLevel, MayFromRuns, MayTakeCheapest, MayByScore, MayAfterLast, MayLeveled};
 
@@ -14,7 +14,7 @@ use crate::leveled::windows::longest_free;
 use crate::tables::{ids_of, is_level_busy, push_ids};
 use crate::{Choice, Leveled};
 use lsm_below::TableId;
-use lsm_choices::Input;
+use lsm_checks::Input;
 use lsm_versions::{HiddenSet, Level, Version};
 use std::alloc::{AllocError, Global};
 use std::collections::HashSet;

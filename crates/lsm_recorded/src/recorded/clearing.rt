@@ -1,6 +1,6 @@
 // A clear, and what it adds to a journal.
 ghost use Rattle.std.specs.Prelude.{◌≡◌, ◌⊎◌, IsSome};
-ghost use Rattle.lsm_files.specs.Causes.{HasCause, Blames};
+ghost use Rattle.lsm_commit.specs.Causes.{HasCause, Blames};
 ghost use Rattle.lsm_state.specs.Commits.{Upholds};
 ghost use Rattle.lsm_recorded.specs.Flushing.{RefusesUnnoted};
 ghost use Rattle.lsm_recorded.specs.Clearing.{ClearsNoted};

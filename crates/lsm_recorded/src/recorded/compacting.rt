@@ -1,6 +1,6 @@
 // The calls of a compaction, and what they add to a journal.
 ghost use Rattle.std.specs.Prelude.{◌≡◌, ◌⊎◌, ◌<◌, IsSome, Ok, IfOk, IfErr};
-ghost use Rattle.lsm_files.specs.Causes.{HasCause, Blames};
+ghost use Rattle.lsm_commit.specs.Causes.{HasCause, Blames};
 ghost use Rattle.lsm_state.specs.Cleaning.{LeavesNoFiles, RemovesDrawn};
 ghost use Rattle.lsm_state.specs.Commits.{Upholds};
 ghost use Rattle.lsm_state.specs.Compactions.{Spends, given_up, LeavesNoneChosen};
@@ -13,11 +13,11 @@ use crate::noting::{beside_copies, make_copies, put_entries};
 use crate::pass::Pass;
 use crate::recorded::Recorded;
 use lsm_below::SeqNo;
+use lsm_compaction::{CompactionJob, MergedCompaction};
 use lsm_journal::{
     Chosen, ask, ask_with, begin_chosen, compact_chosen, drops_nothing, finish_entries,
     finish_noting, noted_compactions_keep_reads, options_at,
 };
-use lsm_merges::{CompactionJob, MergedCompaction};
 use lsm_model::reads_are_sound;
 use lsm_parts::{Error, LIMIT};
 use lsm_pick::{CompactionStrategy, DropRange, Major, OwnedBounds};

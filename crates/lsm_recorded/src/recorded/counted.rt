@@ -7,7 +7,7 @@ ghost use Rattle.lsm_tables.specs.Tables.{tombstones, weak_tombstones, reclaimab
 ghost use Rattle.lsm_memtable.specs.Memtables.{highest_of};
 ghost use Rattle.lsm_versions.specs.Levels.{bytes_of};
 ghost use Rattle.lsm_versions.specs.declared.version.TreeType.TheVariants.{Standard};
-ghost use Rattle.lsm_merges.specs.OpenMerges.{hides};
+ghost use Rattle.lsm_compaction.specs.OpenMerges.{hides};
 ghost use Rattle.lsm_parts.specs.History.{named_size};
 ghost use Rattle.lsm_state.specs.Counts.{tables_now, persisted_of, unflushed_of, counted_now};
 

@@ -1,6 +1,6 @@
 // The calls of a flush, and what they add to a journal.
 ghost use Rattle.std.specs.Prelude.{◌≡◌, ◌⊎◌, ◌<◌, [], map, true, IsSome, IfOk, IfErr, IfSome, IsErrOf};
-ghost use Rattle.lsm_files.specs.Causes.{HasCause};
+ghost use Rattle.lsm_commit.specs.Causes.{HasCause};
 ghost use Rattle.lsm_state.specs.Causes.{BlamesBeside, BlamesOrUnclean, BlamesOrUncleanFlush, BlamesOrUncleanBehind};
 ghost use Rattle.lsm_state.specs.Cleaning.{LeavesNoFiles, RemovesDrawn, RemovesTables};
 ghost use Rattle.lsm_state.specs.Commits.{Upholds};
@@ -12,7 +12,7 @@ use crate::noting::{beside_copies, put_entries};
 use crate::pass::Pass;
 use crate::recorded::Recorded;
 use lsm_below::{MemtableId, SeqNo};
-use lsm_jobs::{FlushJob, MergedFlush, Registered, WrittenFlush};
+use lsm_flush::{FlushJob, MergedFlush, Registered, WrittenFlush};
 use lsm_journal::{flush_active_noting, flush_entries, flush_noting, register_noting};
 use lsm_model::reads_are_sound;
 use lsm_parts::{Error, LIMIT};

@@ -19,7 +19,7 @@ ghost use Rattle.lsm_manifest.specs.Persist.{IsOldOrNew};
 ghost use Rattle.lsm_manifest.specs.Versions.{file_of, first_version};
 ghost use Rattle.lsm_manifest.specs.Finding.{Finds};
 ghost use Rattle.lsm_manifest.specs.Ready.{IsReady, OpeningLeaves};
-ghost use Rattle.lsm_files.specs.Stored.{IsStored};
+ghost use Rattle.lsm_commit.specs.Stored.{IsStored};
 ghost use Rattle.lsm_state.specs.Core.{opened_core, versions_left, written_of};
 ghost use Rattle.lsm_versions.specs.Configs.{raised};
 

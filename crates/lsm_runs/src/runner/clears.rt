@@ -1,7 +1,7 @@
 // A clear, and how unflushed entries are forgotten, as steps.
 ghost use Rattle.std.specs.Prelude.{◌≡◌, IfOk, OnErr, IsSome};
 ghost use Rattle.lsm_runs.specs.Clearing.{TakesClear, TakesForget, told_clear};
-ghost use Rattle.lsm_files.specs.Causes.{HasCause};
+ghost use Rattle.lsm_commit.specs.Causes.{HasCause};
 ghost use Rattle.lsm_state.specs.Commits.{Upholds};
 ghost use Rattle.lsm_runs.specs.Causes.{ReplyBlames};
 

@@ -4,7 +4,7 @@ ghost use Rattle.lsm_state.specs.WholeCompactions.{options_at};
 ghost use Rattle.lsm_journal.specs.Noted.{IsAnswerOf, noted_of};
 ghost use Rattle.lsm_runs.specs.Compacting.{strategies_of, reply_of, job_of, end_reply_of, TakesBeginCompaction, TakesRunCompaction, TakesFinish, TakesAbandonCompaction, DoesAnswer, CompactsFrom, TakesCompact, TakesMajor, TakesDropRange, TakesTableId, IsCompactingReply};
 ghost use Rattle.lsm_runs.specs.ReadSteps.{TakesSilent};
-ghost use Rattle.lsm_files.specs.Causes.{HasCause, Blames};
+ghost use Rattle.lsm_commit.specs.Causes.{HasCause, Blames};
 ghost use Rattle.lsm_state.specs.Commits.{Upholds};
 ghost use Rattle.lsm_runs.specs.Causes.{ReplyBlames};
 

@@ -1,7 +1,7 @@
 // The calls of a flush, as steps.
 ghost use Rattle.std.specs.Prelude.{◌≡◌, IfOk, OnErr, IsSome};
 ghost use Rattle.lsm_runs.specs.Flushing.{TakesBegin, TakesRun, TakesTables, TakesRegister, TakesAbandon, TakesFlush, TakesFlushActive, TakesMoment, told_registered, told_flush, told_active};
-ghost use Rattle.lsm_files.specs.Causes.{HasCause};
+ghost use Rattle.lsm_commit.specs.Causes.{HasCause};
 ghost use Rattle.lsm_state.specs.Commits.{Upholds};
 ghost use Rattle.lsm_runs.specs.Causes.{ReplyBlames};
 
@@ -9,7 +9,7 @@ use super::{refused, silent};
 use crate::slots::Job;
 use crate::{Outcome, Reply};
 use lsm_below::{MemtableId, SeqNo};
-use lsm_jobs::Registered;
+use lsm_flush::Registered;
 use lsm_journal::{flush_active_noting, flush_entries, flush_noting, register_noting};
 use lsm_model::JournalEntry;
 use lsm_parts::Error;

@@ -1,7 +1,7 @@
 // Calls on the jobs that wait in slots, and the end of a run.
 ghost use Rattle.std.specs.Prelude.{◌≡◌, Option, IsSome, IfOk, OnOk, OnErr};
-ghost use Rattle.lsm_jobs.specs.Jobs.{SeenOpen};
-ghost use Rattle.lsm_merges.specs.OpenMerges.{SeenMerges};
+ghost use Rattle.lsm_flush.specs.Jobs.{SeenOpen};
+ghost use Rattle.lsm_compaction.specs.OpenMerges.{SeenMerges};
 ghost use Rattle.lsm_runs.specs.Compacting.{strategies_of};
 ghost use Rattle.lsm_runs.specs.JobSteps.{TakesJob, TakesInSlot};
 ghost use Rattle.lsm_runs.specs.Files.{JobLeavesFiles, JobHasCause};

@@ -4,7 +4,7 @@ use Rattle.lsm_store.specs.declared.mem_store.MemStore.{MemStore}
 use Rattle.lsm_store.specs.Memory.{world_of}
 use Rattle.lsm_store.specs.Picks.{picked, Crashes}
 use Rattle.lsm_versions.specs.Levels.{SeenVersion}
-use Rattle.lsm_files.specs.Foreign.{AtRest}
+use Rattle.lsm_commit.specs.Foreign.{AtRest}
 use Rattle.lsm_logged.specs.Opening.{version_of}
 use Rattle.example_log.proofs.Acknowledged.{has_one}
 use Rattle.example_log.proofs.Reopened.{holds_batch}

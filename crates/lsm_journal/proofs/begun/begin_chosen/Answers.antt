@@ -1,5 +1,5 @@
 use Rattle.std.proofs.Common.{refl, sym, subst}
-use Rattle.lsm_files.specs.Causes.{Blames, no_fault}
+use Rattle.lsm_commit.specs.Causes.{Blames, no_fault}
 use Rattle.lsm_journal.proofs.begun.begin_chosen.Goals as goal
 
 pub returns-in-Err-clause-causes : goal.returns-in-Err-clause-causes

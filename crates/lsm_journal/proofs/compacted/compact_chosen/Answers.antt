@@ -1,6 +1,6 @@
 use Rattle.std.proofs.Common.{◌≡◌, Ok, List, length, take, refl, sym, ap, ◌∙◌, subst}
 use Rattle.lsm_model.specs.Journal.{Event}
-use Rattle.lsm_files.specs.Causes.{Blames, no_fault}
+use Rattle.lsm_commit.specs.Causes.{Blames, no_fault}
 use Rattle.lsm_journal.specs.Noted.{noted_of, kept_of, CompactsAnswer, CompactsNoted}
 use Rattle.lsm_journal.proofs.Compacting.{compacts_noted}
 use Rattle.lsm_journal.proofs.compacted.compact_chosen.Goals as goal

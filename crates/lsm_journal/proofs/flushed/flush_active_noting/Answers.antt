@@ -1,6 +1,6 @@
 use Rattle.std.proofs.Common.{◌≡◌, ◌<◌, ◌^◌, IfErr, ap, subst}
 use Rattle.lsm_below.specs.declared.error.Error.TheVariants.{CommitUnknown}
-use Rattle.lsm_files.specs.Causes.{HasCause}
+use Rattle.lsm_commit.specs.Causes.{HasCause}
 use Rattle.lsm_state.specs.Cleaning.{RemovesDrawn}
 use Rattle.lsm_state.specs.Commits.{Upholds}
 use Rattle.lsm_state.specs.Causes.{BlamesOrUncleanFlush}

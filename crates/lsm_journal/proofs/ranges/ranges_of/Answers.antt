@@ -3,7 +3,7 @@ use Rattle.lsm_below.specs.Ranges.{Range}
 use Rattle.lsm_tables.specs.Tables.{SeenTable}
 use Rattle.lsm_model.specs.Steps.{among}
 use Rattle.lsm_versions.specs.Levels.{range}
-use Rattle.lsm_merges.specs.Passing.{takes_in, leaves_out}
+use Rattle.lsm_compaction.specs.Passing.{takes_in, leaves_out}
 use Rattle.lsm_journal.proofs.DroppedRanges.{ranges_in, ranges_shown}
 use Rattle.lsm_journal.proofs.ranges.ranges_of.Goals as goal
 

@@ -1,5 +1,5 @@
 use Rattle.std.proofs.Common.{subst}
-use Rattle.lsm_files.specs.Foreign.{AtRest}
+use Rattle.lsm_commit.specs.Foreign.{AtRest}
 use Rattle.lsm_log_runs.proofs.Going.{Theory}
 use Rattle.lsm_log_runs.proofs.Leading.{Reading, Stores}
 use Rattle.lsm_log_runs.proofs.Runs.{ran_logged, runs}

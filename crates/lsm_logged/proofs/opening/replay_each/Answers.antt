@@ -9,7 +9,7 @@ use Rattle.lsm_below.specs.declared.error.Error.TheVariants.{Unrecoverable}
 use Rattle.lsm_store.specs.World.{Image, Same}
 use Rattle.lsm_store.specs.Moments.{same_none, same_then}
 use Rattle.lsm_model.specs.Ops.{op_entries}
-use Rattle.lsm_files.specs.Foreign.{AtRest}
+use Rattle.lsm_commit.specs.Foreign.{AtRest}
 use Rattle.lsm_log.specs.Logs.{IsRecordAt, IsNoRecordAt}
 use Rattle.lsm_log.proofs.Loaded.{gives_same}
 use Rattle.lsm_state.specs.Core.{written_all, versions_left}

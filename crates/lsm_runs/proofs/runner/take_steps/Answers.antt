@@ -1,6 +1,6 @@
 use Rattle.std.proofs.Common.{◌∙◌, ◌+◌, ◌++◌, ap, [], ◌∷◌, sym, length, length-append, take}
 use Rattle.std.proofs.lemmas.List.{take_more}
-use Rattle.lsm_files.specs.Foreign.{passes_then}
+use Rattle.lsm_commit.specs.Foreign.{passes_then}
 use Rattle.lsm_runs.proofs.Causing.{causes_more}
 use Rattle.lsm_runs.proofs.Chains.{ran_more as along_more}
 use Rattle.lsm_runs.proofs.Replays.{ran_more}

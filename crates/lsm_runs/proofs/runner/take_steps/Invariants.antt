@@ -1,5 +1,5 @@
 use Rattle.std.proofs.Common.{◌≡◌, length, take}
-use Rattle.lsm_files.specs.Foreign.{Passes}
+use Rattle.lsm_commit.specs.Foreign.{Passes}
 use Rattle.lsm_runs.specs.Causes.{EachHasCause}
 use Rattle.lsm_runs.specs.Chains.{point, RanTo}
 use Rattle.lsm_runs.specs.Compacting.{strategies_of}

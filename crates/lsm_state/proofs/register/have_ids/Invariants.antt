@@ -1,5 +1,5 @@
 use Rattle.std.proofs.Common.{◌≡◌, take}
-use Rattle.lsm_jobs.specs.Jobs.{ids_in}
+use Rattle.lsm_flush.specs.Jobs.{ids_in}
 use Rattle.lsm_state.proofs.register.have_ids.Given as goal
 
 -- as far as they were compared, they are the same

@@ -1,5 +1,5 @@
 use Rattle.std.proofs.Common.{◌≡◌, true, false, refl, ◌∙◌, ap, rules}
-use Rattle.lsm_merges.specs.OpenMerges.{SeenMerges, hides}
+use Rattle.lsm_compaction.specs.OpenMerges.{SeenMerges, hides}
 use Rattle.lsm_model.specs.Steps.{among}
 use Rattle.lsm_versions_tests.proofs.merges.a_merge_is_open_until_it_ends.Goals as goal
 

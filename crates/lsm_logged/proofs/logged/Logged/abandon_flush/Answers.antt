@@ -1,5 +1,5 @@
 use Rattle.std.proofs.Common.{refl, sym, subst}
-use Rattle.lsm_files.specs.Foreign.{AtRest}
+use Rattle.lsm_commit.specs.Foreign.{AtRest}
 use Rattle.lsm_logged.specs.Keeping.{SeenLogged}
 use Rattle.lsm_logged.specs.Acting.{ActsNot}
 use Rattle.lsm_logged.proofs.NoActs.{spent_not}

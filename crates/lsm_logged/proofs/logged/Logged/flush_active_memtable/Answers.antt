@@ -1,6 +1,6 @@
 use Rattle.std.proofs.Common.{◌≡◌, ℕ, true, List, None, IfSome, Ok, Err, inr, refl, sym, subst}
 use Rattle.lsm_model.specs.Views.{HasDistinctIds}
-use Rattle.lsm_files.specs.Foreign.{AtRest}
+use Rattle.lsm_commit.specs.Foreign.{AtRest}
 use Rattle.lsm_state.specs.Commits.{UpholdsFiles}
 use Rattle.lsm_state.specs.Core.{latest_of}
 use Rattle.lsm_state.proofs.Upholding.{upheld_still}

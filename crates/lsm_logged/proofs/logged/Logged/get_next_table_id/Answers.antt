@@ -1,6 +1,6 @@
 use Rattle.std.proofs.Common.{refl, sym, ap, subst}
 use Rattle.std.proofs.lemmas.Result.{on_err_weaker}
-use Rattle.lsm_files.specs.Foreign.{AtRest}
+use Rattle.lsm_commit.specs.Foreign.{AtRest}
 use Rattle.lsm_state.specs.Core.{Seen}
 use Rattle.lsm_logged.specs.Keeping.{SeenLogged}
 use Rattle.lsm_logged.specs.Acting.{ActsNot}

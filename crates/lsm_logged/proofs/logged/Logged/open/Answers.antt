@@ -11,7 +11,7 @@ use Rattle.lsm_manifest.specs.declared.found.Found.{Found}
 use Rattle.lsm_manifest.specs.declared.opening.Opened.{Opened}
 use Rattle.lsm_manifest.specs.Looking.{Looks}
 use Rattle.lsm_manifest.specs.Told.{told_counts}
-use Rattle.lsm_files.specs.Foreign.{Passes}
+use Rattle.lsm_commit.specs.Foreign.{Passes}
 use Rattle.lsm_log.specs.LogNames.{record_name}
 use Rattle.lsm_log.specs.Logs.{IsLogFrom, IsLogAt, IsBadLog}
 use Rattle.lsm_log.specs.Changes.{IsBelow, ClearsRecords, AreCleared}

@@ -2,9 +2,9 @@ use Rattle.std.proofs.Common.{◌≡◌, ◌<◌, ◌^◌, false, Result, Ok, Er
 use Rattle.std.proofs.lemmas.Result.{err_from_is_err_and}
 use Rattle.lsm_below.specs.declared.error.Error.{Error}
 use Rattle.lsm_below.specs.declared.error.Error.TheVariants.{Unrecoverable}
-use Rattle.lsm_jobs.specs.Jobs.{SeenJob}
-use Rattle.lsm_jobs.specs.declared.jobs.Registered.{Registered}
-use Rattle.lsm_files.specs.Foreign.{AtRest}
+use Rattle.lsm_flush.specs.Jobs.{SeenJob}
+use Rattle.lsm_flush.specs.declared.jobs.Registered.{Registered}
+use Rattle.lsm_commit.specs.Foreign.{AtRest}
 use Rattle.lsm_state.specs.Core.{Core}
 use Rattle.lsm_state.specs.Flushes.{spent}
 use Rattle.lsm_state.specs.Commits.{UpholdsFiles, Upholds}

@@ -1,5 +1,5 @@
 use Rattle.std.proofs.Common.{refl, subst}
-use Rattle.lsm_files.specs.Foreign.{AtRest}
+use Rattle.lsm_commit.specs.Foreign.{AtRest}
 use Rattle.lsm_logged.specs.Keeping.{SeenLogged}
 use Rattle.lsm_logged.specs.Acting.{RotatesAct}
 use Rattle.lsm_logged.proofs.Acted.{own_tables}

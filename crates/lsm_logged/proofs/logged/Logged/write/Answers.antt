@@ -1,6 +1,6 @@
 use Rattle.std.proofs.Common.{◌≡◌, ◌∙◌, false, Err, sym, subst}
 use Rattle.lsm_below.specs.declared.error.Error.TheVariants.{Unrecoverable}
-use Rattle.lsm_files.specs.Foreign.{Passes}
+use Rattle.lsm_commit.specs.Foreign.{Passes}
 use Rattle.lsm_model.specs.Views.{HasDistinctIds}
 use Rattle.lsm_state.specs.Core.{latest_of}
 use Rattle.lsm_logged.specs.Keeping.{SeenLogged, is_unsure}

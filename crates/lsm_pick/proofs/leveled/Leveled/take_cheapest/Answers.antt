@@ -2,7 +2,7 @@ use Rattle.std.proofs.Common.{◌+◌, ◌-◌, List, ◌++◌, inl, sym, subst}
 use Rattle.lsm_below.specs.Runs.{IsRun}
 use Rattle.lsm_tables.specs.Tables.{SeenTable}
 use Rattle.lsm_versions.specs.Levels.{range}
-use Rattle.lsm_choices.specs.Choices.{AreIdsOf}
+use Rattle.lsm_checks.specs.Choices.{AreIdsOf}
 use Rattle.lsm_pick.specs.Tables.{AddsIds}
 use Rattle.lsm_pick.specs.Leveled.{window, pulled}
 use Rattle.lsm_pick.proofs.Ends.{part_run}

@@ -3,7 +3,7 @@ use Rattle.lsm_versions.specs.Levels.{placed_of}
 use Rattle.lsm_state.specs.Commits.{Upholds}
 use Rattle.lsm_state.specs.Flushes.{spent}
 use Rattle.lsm_recorded.specs.Recorded.{Stays}
-use Rattle.lsm_files.specs.Foreign.{AtRest}
+use Rattle.lsm_commit.specs.Foreign.{AtRest}
 use Rattle.lsm_recorded.proofs.FlushedFiles.{spent_upholds}
 use Rattle.lsm_recorded.proofs.FlushingLemmas.{register_recorded}
 use Rattle.lsm_recorded.proofs.recorded.Recorded.register_tables.Goals as goal

@@ -1,5 +1,5 @@
 use Rattle.std.proofs.Common.{◌≡◌, map, take}
-use Rattle.lsm_jobs.specs.Jobs.{ids_in, entries_in, AreWritable}
+use Rattle.lsm_flush.specs.Jobs.{ids_in, entries_in, AreWritable}
 use Rattle.lsm_state.specs.Held.{entries_of}
 use Rattle.lsm_state.proofs.memtables.Memtables.share.Given as goal
 

@@ -1,6 +1,6 @@
 use Rattle.std.proofs.Common.{◌≡◌, Result, Ok, Err, Option, None, sym, subst, ◌∙◌}
 use Rattle.lsm_below.specs.declared.error.Error.{Error}
-use Rattle.lsm_choices.specs.declared.choice.Why.{Why}
+use Rattle.lsm_checks.specs.declared.choice.Why.{Why}
 use Rattle.lsm_pick.specs.declared.choice.Choice.TheVariants.{DoNothing}
 use Rattle.lsm_state.specs.Compactions.{BeginsChoice}
 use Rattle.lsm_state.proofs.Choices.{refused_begins, no_option}

@@ -1,4 +1,4 @@
-use Rattle.lsm_files.specs.Causes.{HasCause}
+use Rattle.lsm_commit.specs.Causes.{HasCause}
 use Rattle.lsm_state.proofs.Causing.{unclean}
 use Rattle.std.proofs.Common.{◌≡◌, ◌≤◌, None, ap, sym, subst, ◌∙◌, refl, false}
 use Rattle.lsm_state.specs.Held.{HasFirst}

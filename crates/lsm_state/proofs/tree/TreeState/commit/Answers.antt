@@ -1,4 +1,4 @@
-use Rattle.lsm_files.specs.Foreign.{Passes}
+use Rattle.lsm_commit.specs.Foreign.{Passes}
 use Rattle.std.proofs.Common.{refl, subst}
 use Rattle.lsm_state.specs.Core.{Core}
 use Rattle.lsm_state.specs.Commits.{UpholdsFiles}

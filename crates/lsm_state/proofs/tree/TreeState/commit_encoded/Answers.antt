@@ -1,11 +1,11 @@
-use Rattle.lsm_files.specs.Foreign.{Passes}
+use Rattle.lsm_commit.specs.Foreign.{Passes}
 use Rattle.std.proofs.Common.{◌≡◌, ◌<◌, ◌∷◌, [], List, ⊎_elim, None, Some, ap, sym, subst, ◌∙◌, refl, Ok, Err}
 use Rattle.lsm_below.specs.declared.error.Error.TheVariants.{OutOfMemory, Store, CommitUnknown}
 use Rattle.lsm_versions.specs.Levels.{SeenVersion, all_of}
 use Rattle.lsm_manifest.specs.Spelling.{IsFileFrom}
 use Rattle.lsm_manifest.specs.Versions.{named_levels, file_of}
-use Rattle.lsm_files.specs.Stored.{AreOnDisk}
-use Rattle.lsm_files.specs.Commits.{CommitsStored}
+use Rattle.lsm_commit.specs.Stored.{AreOnDisk}
+use Rattle.lsm_commit.specs.Commits.{CommitsStored}
 use Rattle.lsm_parts.specs.declared.version.super_version.SuperVersion.{SuperVersion}
 use Rattle.lsm_state.specs.Core.{Core, versions_left}
 use Rattle.lsm_state.specs.Commits.{UpholdsFiles}

@@ -1,7 +1,7 @@
 use Rattle.std.proofs.Common.{ap, sym, ◌∙◌}
 use Rattle.lsm_model.specs.Steps.{among}
 use Rattle.lsm_versions.specs.Levels.{SeenVersion}
-use Rattle.lsm_choices.specs.Choices.{first_reason_of}
+use Rattle.lsm_checks.specs.Choices.{first_reason_of}
 use Rattle.lsm_state.specs.Compactions.{hidden_in, levels_of}
 use Rattle.lsm_state.proofs.Choices.{hides_is, reason_same}
 use Rattle.lsm_state.proofs.tree.TreeState.first_reason.Goals as goal

@@ -1,5 +1,5 @@
 use Rattle.std.proofs.Common.{◌≡◌, ◌<◌, ◌^◌, ℕ, true, [], Option, Some, None, IfSome}
-use Rattle.lsm_jobs.specs.declared.jobs.Registered.{Registered}
+use Rattle.lsm_flush.specs.declared.jobs.Registered.{Registered}
 use Rattle.lsm_below.specs.declared.error.Error.TheVariants.{CommitUnknown}
 use Rattle.lsm_state.specs.Cleaning.{LeavesNoFiles, RemovesDrawn}
 use Rattle.lsm_state.proofs.CleaningUp.{rotated_leaves}

@@ -1,6 +1,6 @@
 use Rattle.std.proofs.Common.{◌≡◌, ◌<◌, ◌^◌, Err, IsSome, [], inl, inr, sym, ◌∙◌, rules}
 use Rattle.lsm_below.specs.declared.error.Error.TheVariants.{CommitUnknown}
-use Rattle.lsm_files.specs.Causes.{HasCause, BlamesStore, causes_then}
+use Rattle.lsm_commit.specs.Causes.{HasCause, BlamesStore, causes_then}
 use Rattle.lsm_state.specs.Kept.{KeepsTables}
 use Rattle.lsm_state.specs.Commits.{Upholds}
 use Rattle.lsm_state.specs.Cleaning.{RemovesDrawn, LeavesNoFiles}

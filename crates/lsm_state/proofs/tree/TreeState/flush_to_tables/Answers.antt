@@ -5,8 +5,8 @@ use Rattle.lsm_state.proofs.Installing.{upholds_join}
 use Rattle.lsm_state.proofs.Causing.{write_causes, removes_then}
 use Rattle.std.proofs.Common.{◌++◌, ap, sym, subst, ◌∙◌, refl}
 use Rattle.lsm_versions.specs.Levels.{all_of, HasOwnIds}
-use Rattle.lsm_files.specs.Stored.{AreOnDisk}
-use Rattle.lsm_files.specs.Writing.{HoldEntries}
+use Rattle.lsm_commit.specs.Stored.{AreOnDisk}
+use Rattle.lsm_commit.specs.Writing.{HoldEntries}
 use Rattle.lsm_state.specs.Core.{Core}
 use Rattle.lsm_state.specs.Commits.{Upholds}
 use Rattle.lsm_state.proofs.Upholding.{upheld_still}

@@ -1,4 +1,4 @@
-use Rattle.lsm_files.specs.Causes.{causes_less}
+use Rattle.lsm_commit.specs.Causes.{causes_less}
 use Rattle.lsm_state.proofs.Causing.{removes_tables}
 use Rattle.lsm_state.proofs.tree.TreeState.give_up.Goals as goal
 

@@ -3,7 +3,7 @@ use Rattle.std.specs.List.{AllByRecursion}
 use Rattle.lsm_manifest.specs.Names.{version_name}
 use Rattle.lsm_parts.specs.History.{SeenHistory}
 use Rattle.lsm_state.proofs.CleaningUp.{gone_versions}
-use Rattle.lsm_files.specs.Foreign.{Passes, passes_then}
+use Rattle.lsm_commit.specs.Foreign.{Passes, passes_then}
 use Rattle.std.proofs.Common.{◌≡◌, ◌∷◌, ◌++◌, ap, sym, subst, ◌∙◌, refl, option_to_list}
 use Rattle.std.specs.List.Sorted.{IsPermutation}
 use Rattle.lsm_versions.specs.Levels.{all_of}

@@ -1,5 +1,5 @@
 use Rattle.std.proofs.Common.{◌≡◌, ◌<◌, ◌^◌, Err, inl, ap, sym, subst, ◌∙◌}
-use Rattle.lsm_files.specs.Causes.{causes_then}
+use Rattle.lsm_commit.specs.Causes.{causes_then}
 use Rattle.lsm_state.specs.Core.{versions_left}
 use Rattle.lsm_state.specs.Cleaning.{RemovesDrawn}
 use Rattle.lsm_state.specs.Compactions.{InstallsMerge}

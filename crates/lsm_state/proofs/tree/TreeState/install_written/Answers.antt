@@ -1,6 +1,6 @@
 use Rattle.std.proofs.Common.{Err, sym, ap, ◌∙◌, subst, ◌<◌, ◌^◌, rules, arith}
 use Rattle.lsm_versions.specs.Refusals.{IsRefusedFor}
-use Rattle.lsm_files.specs.Stored.{AreOnDisk}
+use Rattle.lsm_commit.specs.Stored.{AreOnDisk}
 use Rattle.lsm_state.specs.Core.{versions_left}
 use Rattle.lsm_state.specs.Settling.{Settles}
 use Rattle.lsm_state.specs.Compactions.{IsMergedInto}

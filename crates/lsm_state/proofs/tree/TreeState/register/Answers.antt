@@ -1,9 +1,9 @@
 use Rattle.std.proofs.Common.{◌≡◌, true, ap, sym, subst, ◌∙◌}
 use Rattle.std.specs.Option.{is_some}
 use Rattle.std.proofs.lemmas.Result.{IfOk-weaker}
-use Rattle.lsm_files.specs.Stored.{AreOnDisk}
+use Rattle.lsm_commit.specs.Stored.{AreOnDisk}
 use Rattle.lsm_state.specs.Core.{Core}
-use Rattle.lsm_files.specs.Foreign.{Passes}
+use Rattle.lsm_commit.specs.Foreign.{Passes}
 use Rattle.lsm_state.specs.Commits.{UpholdsFiles, Upholds}
 use Rattle.lsm_state.specs.Flushes.{IsCurrent, Installs, Doubts, IsFlushDeed, spent, spent_in}
 use Rattle.lsm_state.proofs.Writing.{tables_spent}

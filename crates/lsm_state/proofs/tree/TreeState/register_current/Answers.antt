@@ -3,8 +3,8 @@ use Rattle.lsm_below.specs.declared.error.Error.TheVariants.{CommitUnknown}
 use Rattle.lsm_model.specs.Steps.{among}
 use Rattle.lsm_tables.specs.Tables.{SeenTable}
 use Rattle.lsm_versions.specs.Levels.{all_of}
-use Rattle.lsm_files.specs.Causes.{causes_then}
-use Rattle.lsm_files.specs.Commits.{AreOthers}
+use Rattle.lsm_commit.specs.Causes.{causes_then}
+use Rattle.lsm_commit.specs.Commits.{AreOthers}
 use Rattle.lsm_state.specs.Core.{versions_left}
 use Rattle.lsm_state.specs.Commits.{Upholds}
 use Rattle.lsm_state.specs.Flushes.{Registers, spent}

@@ -1,7 +1,7 @@
 use Rattle.lsm_manifest.specs.Names.{version_name}
 use Rattle.std.proofs.Common.{◌≡◌, None, ap, sym, subst}
 use Rattle.lsm_versions.specs.Levels.{all_of}
-use Rattle.lsm_files.specs.Commits.{AreOthers}
+use Rattle.lsm_commit.specs.Commits.{AreOthers}
 use Rattle.lsm_state.specs.Core.{Core, written_of}
 use Rattle.lsm_state.specs.Commits.{Upholds}
 use Rattle.lsm_state.proofs.Replacing.{removed_upholds}

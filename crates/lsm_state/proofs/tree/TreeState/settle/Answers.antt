@@ -5,10 +5,10 @@ use Rattle.lsm_manifest.specs.Names.{version_name}
 use Rattle.lsm_parts.specs.History.{SeenHistory, versions_of}
 use Rattle.lsm_state.specs.Cleaning.{AreAbsent, LeavesNoFiles}
 use Rattle.lsm_state.proofs.CleaningUp.{gone_versions}
-use Rattle.lsm_files.specs.Foreign.{Passes, passes_then}
+use Rattle.lsm_commit.specs.Foreign.{Passes, passes_then}
 use Rattle.std.proofs.Common.{◌≡◌, ◌∷◌, true, ap, sym, subst, ◌∙◌, refl, option_to_list}
 use Rattle.lsm_versions.specs.Levels.{all_of}
-use Rattle.lsm_files.specs.Commits.{AreOthers}
+use Rattle.lsm_commit.specs.Commits.{AreOthers}
 use Rattle.lsm_state.specs.Core.{Core, versions_left, written_of}
 use Rattle.lsm_state.specs.Commits.{UpholdsFiles, committed}
 use Rattle.lsm_state.specs.Cleaning.{Cleans}

@@ -1,7 +1,7 @@
 use Rattle.std.proofs.Common.{◌≡◌, ◌⊎◌, ap, sym, subst, ◌∙◌, refl, rules, ⊎_elim, inl, inr, Option, None, Err, IsSome}
 use Rattle.lsm_below.specs.declared.error.Error.{Error}
 use Rattle.lsm_below.specs.declared.error.Error.TheVariants.{OutOfMemory, Store, CommitUnknown}
-use Rattle.lsm_files.specs.Stored.{CountsFaults}
+use Rattle.lsm_commit.specs.Stored.{CountsFaults}
 use Rattle.lsm_state.specs.Core.{Core}
 use Rattle.lsm_state.specs.Commits.{UpholdsFiles}
 use Rattle.lsm_state.specs.Held.{put_all_first}

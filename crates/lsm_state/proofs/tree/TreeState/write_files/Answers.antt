@@ -1,5 +1,5 @@
 use Rattle.std.proofs.Common.{◌≡◌, ◌<◌, ◌-◌, ◌^◌, None, sym, subst, refl, arith, rules}
-use Rattle.lsm_files.specs.Writing.{KeepsStored}
+use Rattle.lsm_commit.specs.Writing.{KeepsStored}
 use Rattle.lsm_state.specs.Core.{Core}
 use Rattle.lsm_state.specs.Commits.{Upholds}
 use Rattle.lsm_state.proofs.Writing.{written_upholds}

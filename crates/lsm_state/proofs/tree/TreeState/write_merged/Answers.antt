@@ -3,9 +3,9 @@ use Rattle.std.specs.List.{AllByRecursion, range_with_len}
 use Rattle.std.proofs.lemmas.List.FromFn.{length-range_with_len}
 use Rattle.std.proofs.lemmas.Result.{IfOk-weaker}
 use Rattle.lsm_below.specs.Keys.{Bytes}
-use Rattle.lsm_files.specs.Stored.{AreOnDisk}
-use Rattle.lsm_files.specs.Contents.{AreWritten}
-use Rattle.lsm_merges.specs.Merges.{AreTablesOf}
+use Rattle.lsm_commit.specs.Stored.{AreOnDisk}
+use Rattle.lsm_commit.specs.Contents.{AreWritten}
+use Rattle.lsm_compaction.specs.Merges.{AreTablesOf}
 use Rattle.lsm_state.specs.Compactions.{AreMerged}
 use Rattle.lsm_state.proofs.Merges.{merged, on_disk}
 use Rattle.lsm_state.proofs.tree.TreeState.write_merged.Goals as goal

@@ -2,7 +2,7 @@ use Rattle.std.proofs.Common.{◌≡◌, ◌<◌, ◌≤◌, ◌-◌, ◌^◌, �
 use Rattle.std.specs.Prelude.{nat_eq}
 use Rattle.std.proofs.lemmas.Result.{IfOk-weaker}
 use Rattle.lsm_versions.specs.Levels.{all_of, HasOwnIds}
-use Rattle.lsm_files.specs.Writing.{HoldEntries, KeepsStored}
+use Rattle.lsm_commit.specs.Writing.{HoldEntries, KeepsStored}
 use Rattle.lsm_state.specs.Core.{Core}
 use Rattle.lsm_state.specs.Commits.{Upholds}
 use Rattle.lsm_state.proofs.Upholding.{upheld_still}

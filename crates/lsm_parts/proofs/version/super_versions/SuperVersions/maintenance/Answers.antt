@@ -6,7 +6,7 @@ use Rattle.lsm_parts.specs.History.{SeenHistory, NumbersFall}
 use Rattle.lsm_parts.specs.Versions.{IsLaid}
 use Rattle.std.specs.List.{AllByRecursion}
 use Rattle.lsm_parts.specs.Maintenance.{needed, KeepsNewer, KeepsVersions}
-use Rattle.lsm_files.specs.Foreign.{passes_then}
+use Rattle.lsm_commit.specs.Foreign.{passes_then}
 use Rattle.lsm_parts.proofs.Maintained.{needed_within}
 use Rattle.lsm_parts.proofs.Removed.{KeepsFiles, files_none, newer_then, stored_then, gone_more, shorter, each_take, fall_take}
 use Rattle.lsm_parts.proofs.version.super_versions.SuperVersions.maintenance.Goals as goal

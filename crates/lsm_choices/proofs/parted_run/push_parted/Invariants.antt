@@ -1,6 +1,0 @@
-use Rattle.std.proofs.Common.{◌≡◌, ◌++◌, map, take}
-use Rattle.lsm_choices.specs.Parted.{part_of}
-use Rattle.lsm_choices.proofs.parted_run.push_parted.Given as goal
-
-abbrev pub invariant-loop-run : goal.invariant-loop-run
-invariant-loop-run l = l.parted.items ≡ l.initial.parted.items ++ map (part_of l.ids.keys l.level) (take l.run-index l.runs)

@@ -1,0 +1,27 @@
+use Rattle.lsm_commit.proofs.Passing.{passes_beside, not_version}
+use Rattle.std.proofs.Common.{◌≡◌, ℕ, List, subst, ◌∙◌}
+use Rattle.lsm_store.specs.World.{LeavesOnly}
+use Rattle.lsm_store.specs.Synced.{IsBeside, KeepsOthers}
+use Rattle.lsm_manifest.specs.Names.{version_name}
+use Rattle.lsm_commit.proofs.Removals.{AreApart, version_spared}
+use Rattle.lsm_commit.proofs.removal.remove_version.Goals as goal
+
+pub returns-clause-stored : goal.returns-clause-stored
+returns-clause-stored g c tells =
+    let w = g.S.Store.world in
+    let old = w c.args.store.now in
+    let new = w c.remove_name.new.store in
+    let name : c.as_str.result.now ≡ version_name c.args.id = c.as_str.ensures.value ∙ c.version_name.ensures in
+    let n = c.names_are_apart.ensures in
+    let apart : AreApart = record { versions = n.versions; table_no_version = n.table_no_version; version_not_current = n.version_not_current; no_older = n.no_older; version_kind = n.version_kind } in
+    let did = c.remove_name.ensures in
+    version_spared apart old new c.args.id c.ranges.id.fits (subst (λ (m : List ℕ). KeepsOthers m old new) name (did.keeps tells)) (subst (λ (m : List ℕ). LeavesOnly old new (IsBeside m old)) name (did.any_moment tells))
+
+pub returns-clause-passes : goal.returns-clause-passes
+returns-clause-passes g c tells =
+    let w = g.S.Store.world in
+    let old = w c.args.store.now in
+    let new = w c.remove_name.new.store in
+    let name : c.as_str.result.now ≡ version_name c.args.id = c.as_str.ensures.value ∙ c.version_name.ensures in
+    let did = c.remove_name.ensures in
+    passes_beside (version_name c.args.id) old new (not_version c.names_are_apart.ensures.version_kind c.args.id c.ranges.id.fits) (subst (λ (m : List ℕ). KeepsOthers m old new) name (did.keeps tells)) (subst (λ (m : List ℕ). LeavesOnly old new (IsBeside m old)) name (did.any_moment tells))

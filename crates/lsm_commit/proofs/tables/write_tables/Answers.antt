@@ -1,0 +1,15 @@
+use Rattle.lsm_commit.proofs.Passing.{passes_tables}
+use Rattle.lsm_commit.proofs.Beside.{new_tables_spare}
+use Rattle.lsm_commit.proofs.tables.write_tables.Goals as goal
+
+pub returns-clause-stored : goal.returns-clause-stored
+returns-clause-stored g c tells =
+    let w = g.S.Store.world in
+    let n = c.names_are_apart.ensures in
+    new_tables_spare n.tables n.table_no_version n.table_not_current n.table_kind c.args.next.now (w c.args.store.now) (w c.write_each.new.store) (c.write_each.ensures.keeps tells) (c.write_each.ensures.any_moment tells)
+
+pub returns-clause-passes : goal.returns-clause-passes
+returns-clause-passes g c tells =
+    let w = g.S.Store.world in
+    let did = c.write_each.ensures in
+    passes_tables c.names_are_apart.ensures.table_kind c.args.next.now (w c.args.store.now) (w c.write_each.new.store) (did.keeps tells) (did.any_moment tells)

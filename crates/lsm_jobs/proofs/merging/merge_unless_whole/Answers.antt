@@ -1,5 +1,0 @@
-use Rattle.lsm_jobs.proofs.Sources.{first_writable}
-use Rattle.lsm_jobs.proofs.merging.merge_unless_whole.Goals as goal
-
-pub returns-then-is_whole-clause-writable : goal.returns-then-is_whole-clause-writable
-returns-then-is_whole-clause-writable c = first_writable c.args.memtables.now c.requires

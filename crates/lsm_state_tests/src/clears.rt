@@ -1,0 +1,282 @@
+// Clears of a tree, what comes too late behind one, and what is left of one that fails.
+use crate::flushes::KEPT;
+use crate::rows::Row::{Does, Has, Shows};
+use crate::rows::{Count, Row};
+use crate::scripts::Opening::{Crashed, Failing};
+use crate::scripts::Part::{FlushOver, Merge, Plays, Reopen};
+use crate::scripts::{End, Script, play_all};
+use crate::steps::Step::{Clear, Compact, Flush, Forget, Rotate, Set};
+use crate::steps::Told::{Declined, Done, Number, Refused, RefusedSealed, Sealed, Stale};
+use crate::works::{Kind, Work};
+use lsm_checks::Why;
+use lsm_store::Fault;
+
+const SNAPSHOTS: [Script; 3] = [
+    (
+        "old snapshots see what they saw, and new ones what was written behind a clear",
+        &[Plays(&[
+            Does(Set("a", "x"), Number(0)),
+            Does(Flush(0), Done),
+            Does(Set("b", "y"), Number(2)),
+            Does(Rotate, Sealed(Some(1))),
+            Does(Set("c", "z"), Number(3)),
+            Does(Clear, Number(4)),
+            Does(Set("b", "w"), Number(5)),
+            Shows("a", 1, "x"),
+            Shows("a", 4, "x"),
+            Shows("b", 3, "y"),
+            Shows("c", 4, "z"),
+            Shows("a", 5, ""),
+            Shows("b", 5, ""),
+            Shows("c", 6, ""),
+            Shows("b", 6, "w"),
+            Has(Count::Tables, 0),
+            Has(Count::Sealed, 0),
+            Has(Count::Next, 6),
+            Has(Count::Visible, 6),
+        ])],
+    ),
+    (
+        "a flush behind a clear holds what was written behind it",
+        &[Plays(&[
+            Does(Set("a", "x"), Number(0)),
+            Does(Clear, Number(1)),
+            Does(Set("b", "y"), Number(2)),
+            Does(Flush(0), Done),
+            Shows("a", 1, "x"),
+            Shows("a", 4, ""),
+            Shows("b", 4, "y"),
+        ])],
+    ),
+    (
+        "tables are gone when a strategy chooses them",
+        &[Plays(&[
+            Does(Set("a", "x"), Number(0)),
+            Does(Flush(0), Done),
+            Does(Clear, Number(2)),
+            Does(
+                Compact(Work::Choose(Kind::Move, &[0], 6)),
+                Declined(Why::Missing),
+            ),
+            Shows("a", 2, "x"),
+            Shows("a", 3, ""),
+            Has(Count::Tables, 0),
+            Has(Count::Next, 3),
+        ])],
+    ),
+];
+
+const FORGOTTEN: [Script; 3] = [
+    (
+        "what isn't flushed is forgotten",
+        &[Plays(&[
+            Does(Set("a", "x"), Number(0)),
+            Does(Flush(0), Done),
+            Does(Set("b", "y"), Number(2)),
+            Does(Rotate, Sealed(Some(1))),
+            Does(Set("c", "z"), Number(3)),
+            Does(Forget, Done),
+            Shows("a", 1, "x"),
+            Shows("a", 4, "x"),
+            Shows("b", 4, ""),
+            Shows("c", 4, ""),
+        ])],
+    ),
+    (
+        "nothing is forgotten where nothing was written",
+        &[Plays(&[
+            Does(Set("b", "y"), Number(0)),
+            Does(Rotate, Sealed(Some(0))),
+            Does(Forget, Done),
+            Shows("b", 1, "y"),
+        ])],
+    ),
+    (
+        "what is forgotten takes no memory",
+        &[Plays(&[
+            Does(Set("b", "y"), Number(0)),
+            Has(Count::Active, 0),
+            Does(Forget, Done),
+            Does(Forget, Done),
+            Has(Count::Active, 1),
+            Has(Count::Sealed, 0),
+            Has(Count::Memory, 0),
+            Has(Count::Free, 0),
+        ])],
+    ),
+];
+
+// ---- jobs that come too late
+
+/// b = y (0), sealed.
+const SEALED: [Row; 2] = [
+    Does(Set("b", "y"), Number(0)),
+    Does(Rotate, Sealed(Some(0))),
+];
+
+const LATE: [Script; 3] = [
+    (
+        "a merge over a clear is stale",
+        &[
+            Plays(&[Does(Set("a", "x"), Number(0)), Does(Flush(0), Done)]),
+            Merge(
+                &[0],
+                6,
+                End::Finished(&[], &[Does(Clear, Number(2))]),
+                Declined(Why::Stale),
+            ),
+            Plays(&[
+                Has(Count::Compacting, 0),
+                Has(Count::Tables, 0),
+                Has(Count::Next, 3),
+            ]),
+        ],
+    ),
+    (
+        "a flush over a clear is stale",
+        &[
+            Plays(&SEALED),
+            FlushOver(
+                &[],
+                &[Does(Set("c", "z"), Number(1)), Does(Clear, Number(2))],
+                Stale,
+            ),
+            Plays(&[
+                Has(Count::Tables, 0),
+                Has(Count::Next, 3),
+                Shows("b", 2, "y"),
+                Shows("b", 3, ""),
+            ]),
+        ],
+    ),
+    (
+        "a flush of what was forgotten is stale",
+        &[
+            Plays(&SEALED),
+            FlushOver(
+                &[],
+                &[Does(Set("c", "z"), Number(1)), Does(Forget, Done)],
+                Stale,
+            ),
+            Plays(&[
+                Has(Count::Tables, 0),
+                Has(Count::Next, 2),
+                Shows("b", 2, ""),
+            ]),
+        ],
+    ),
+];
+
+// ---- faults
+
+/// `Store`; the number is used, and nothing else changes.
+const REFUSED: [Row; 4] = [
+    Does(Clear, Refused(2)),
+    Has(Count::Next, 3),
+    Has(Count::Tables, 1),
+    Shows("a", 3, "x"),
+];
+
+/// `CommitUnknown`; likewise.
+const UNKNOWN: [Row; 4] = [
+    Does(Clear, Refused(3)),
+    Has(Count::Next, 3),
+    Has(Count::Tables, 1),
+    Shows("a", 3, "x"),
+];
+
+/// A clear writes `v2`, syncs it, and replaces `current`.
+const FAILING: [Script; 7] = [
+    (
+        "the version isn't written",
+        &[
+            Plays(&KEPT),
+            Reopen(Failing(1, Fault::Once), 2),
+            Plays(&REFUSED),
+            Reopen(Crashed, 10),
+            Plays(&[Shows("a", 10, "x")]),
+        ],
+    ),
+    (
+        "the version is written, and the call fails",
+        &[
+            Plays(&KEPT),
+            Reopen(Failing(1, Fault::OnceDone), 2),
+            Plays(&REFUSED),
+            Reopen(Crashed, 10),
+            Plays(&[Shows("a", 10, "x")]),
+        ],
+    ),
+    (
+        "the version isn't synced",
+        &[
+            Plays(&KEPT),
+            Reopen(Failing(2, Fault::Once), 2),
+            Plays(&REFUSED),
+            Reopen(Crashed, 10),
+            Plays(&[Shows("a", 10, "x")]),
+        ],
+    ),
+    (
+        "current isn't replaced",
+        &[
+            Plays(&KEPT),
+            Reopen(Failing(3, Fault::Once), 2),
+            Plays(&UNKNOWN),
+            Reopen(Crashed, 10),
+            Plays(&[Shows("a", 10, "x")]),
+        ],
+    ),
+    (
+        "current is known not to be replaced",
+        &[
+            Plays(&KEPT),
+            Reopen(Failing(3, Fault::OnceNothing), 2),
+            Plays(&REFUSED),
+            Plays(&[Does(Clear, Number(3))]),
+            Reopen(Crashed, 10),
+            Plays(&[Shows("a", 10, "")]),
+        ],
+    ),
+    (
+        "current is replaced, and the call fails",
+        &[
+            Plays(&KEPT),
+            Reopen(Failing(3, Fault::OnceDone), 2),
+            Plays(&UNKNOWN),
+            Reopen(Crashed, 10),
+            Plays(&[Shows("a", 10, "")]),
+        ],
+    ),
+    // `Unrecoverable` from then on.
+    (
+        "behind an unknown clear nothing is committed",
+        &[
+            Plays(&KEPT),
+            Reopen(Failing(3, Fault::OnceDone), 2),
+            Plays(&[
+                Does(Clear, Refused(3)),
+                Does(Set("b", "y"), Number(3)),
+                Does(Flush(0), RefusedSealed(4)),
+                Does(Clear, Refused(4)),
+                Shows("a", 3, "x"),
+                Shows("b", 4, "y"),
+                Has(Count::Next, 4),
+            ]),
+            Reopen(Crashed, 10),
+            Plays(&[Shows("a", 10, ""), Shows("b", 10, "")]),
+        ],
+    ),
+];
+
+#[test]
+fn snapshots_see_what_a_clear_leaves(rt: HostRuntime) {
+    play_all(&rt, rt.alloc(), &SNAPSHOTS);
+    play_all(&rt, rt.alloc(), &FORGOTTEN);
+    play_all(&rt, rt.alloc(), &LATE);
+}
+
+#[test]
+fn a_clear_that_fails_uses_its_number(rt: HostRuntime) {
+    play_all(&rt, rt.alloc(), &FAILING);
+}
