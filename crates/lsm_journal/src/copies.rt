@@ -3,7 +3,7 @@ ghost use Rattle.std.specs.Prelude.{◌≡◌, IfOk};
 ghost use Rattle.lsm_model.specs.declared.journal.JournalEntry.TheVariants.{Read, Dropped};
 ghost use Rattle.lsm_model.specs.declared.question.Question.TheVariants.{Between};
 
-use crate::entries::share_value;
+use crate::reads::share_value;
 use lsm_below::{KeyRange, SeqNo, UserKey, share};
 use lsm_model::{Answer, JournalEntry, KeyBound, KeyRanges, Question};
 use std::alloc::{AllocError, Global};

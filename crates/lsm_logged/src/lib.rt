@@ -4,24 +4,24 @@
 //! |-|-|
 //! | `logged` | the tree and its log |
 //! | `opening` | how it is opened over a store |
-//! | `writing` | its writes |
-//! | `flushing` | its flushes, and a clear |
-//! | `compacting` | its compactions |
-//! | `counting` | whether a store has records that count |
+//! | `writes` | its writes |
+//! | `flush` | its flushes, and a clear |
+//! | `compaction` | its compactions |
+//! | `has_log` | whether a store has records that count |
 //! | `removing` | how records that the version has passed are removed |
 //! | `laws` | what is known of a log between two lives, and of an image of it |
 #![tactic(auto)]
 
-mod compacting;
-mod counting;
-mod flushing;
+mod compaction;
+mod flush;
+mod has_log;
 mod laws;
 mod logged;
 mod opening;
 mod removing;
-mod writing;
+mod writes;
 
-pub use counting::has_log;
+pub use has_log::has_log;
 pub use laws::{
     images_have_logs, logs_can_be_settled, records_are_those_read, versions_are_told_once,
 };

@@ -4,11 +4,11 @@
 //! |-|-|
 //! | `recorded` | a tree with the journal of its calls |
 //! | `recorded::opening` | how it is opened over a store |
-//! | `recorded::range` | its reads of many keys |
-//! | `recorded::flushing` | the calls of a flush, and what they note |
-//! | `recorded::compacting` | the calls of a compaction, and what they note |
-//! | `recorded::clearing` | a clear, and what it notes |
-//! | `recorded::counted` | what is counted of it |
+//! | `recorded::ranges` | its reads of many keys |
+//! | `recorded::flush` | the calls of a flush, and what they note |
+//! | `recorded::compaction` | the calls of a compaction, and what they note |
+//! | `recorded::clear` | a clear, and what it notes |
+//! | `recorded::counts` | what is counted of it |
 //! | `pass` | what one caller's calls add to a journal |
 //! | `marks` | what was written to each key, by which a write in order is told |
 //! | `marked_key` | keys that are ordered by their heads first |

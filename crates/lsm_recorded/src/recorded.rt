@@ -347,9 +347,9 @@ impl<S: Store> Recorded<S> {
     }
 }
 
-mod clearing;
-mod compacting;
-mod counted;
-mod flushing;
+mod clear;
+mod compaction;
+mod counts;
+mod flush;
 mod opening;
-mod range;
+mod ranges;

@@ -4,7 +4,7 @@
 //! |-|-|
 //! | `steps` | calls as data, and what each replies |
 //! | `slots` | jobs that wait for their next call |
-//! | `telling` | what writes reply, and what they add to the journal |
+//! | `writes` | what writes reply, and what they add to the journal |
 //! | `runner` | a list of calls on a tree, with the replay theorem, and what a crash leaves |
 //! | `finding` | how the files of a tree are found, and life after life |
 //! | `life` | a tree from its opening on, and what a crash leaves of it |
@@ -15,7 +15,7 @@ mod life;
 mod runner;
 mod slots;
 mod steps;
-mod telling;
+mod writes;
 
 pub use finding::{TreeFiles, any_number_of_lives, openings_are_lives, runs_are_lives};
 pub use life::live;

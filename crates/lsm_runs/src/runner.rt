@@ -24,7 +24,7 @@ ghost use Rattle.lsm_runs.specs.After.{RunIsRight};
 
 use crate::finding::TreeFiles;
 use crate::slots::Slots;
-use crate::telling::{batch_entries, of_batch, of_entry, refused, share_ops, silent};
+use crate::writes::{batch_entries, of_batch, of_entry, refused, share_ops, silent};
 use crate::{Outcome, Reply, Step, Taken};
 use lsm_below::{InternalValue, SeqNo, UserKey, UserValue, ValueType, share};
 use lsm_commit::stored_files_are_ready;
@@ -235,25 +235,25 @@ fn take_step<S: Store>(
         Step::Set(counter, seqno) => Ok(counters::set(alloc, state, *counter, *seqno)),
         Step::FetchMax(counter, seqno) => Ok(counters::fetch_max(alloc, state, *counter, *seqno)),
         Step::AtSlot(slot, call) => jobs::at_slot(alloc, state, slots, strategies, *slot, *call),
-        Step::Flush(watermark) => flushes::flush(alloc, state, *watermark),
-        Step::FlushActiveMemtable(watermark) => flushes::flush_active(alloc, state, *watermark),
+        Step::Flush(watermark) => flush::flush(alloc, state, *watermark),
+        Step::FlushActiveMemtable(watermark) => flush::flush_active(alloc, state, *watermark),
         Step::Compact(at, watermark) => {
-            compactions::compact(alloc, state, strategies, *at, *watermark)
+            compaction::compact(alloc, state, strategies, *at, *watermark)
         }
         Step::DoCompaction(at, options) => {
-            compactions::do_compaction(alloc, state, strategies, *at, *options)
+            compaction::do_compaction(alloc, state, strategies, *at, *options)
         }
         Step::MajorCompact(target, watermark) => {
-            compactions::major_compact(alloc, state, *target, *watermark)
+            compaction::major_compact(alloc, state, *target, *watermark)
         }
-        Step::DropRange(low, high) => compactions::drop_range(alloc, state, low, high),
-        Step::Clear => clears::clear(alloc, state),
-        Step::ClearActiveMemtable => Ok(clears::clear_active_memtable(alloc, state)),
-        Step::GetNextTableId => Ok(compactions::get_next_table_id(alloc, state)),
-        Step::SetMoment(moment) => Ok(flushes::set_moment(alloc, state, *moment)),
+        Step::DropRange(low, high) => compaction::drop_range(alloc, state, low, high),
+        Step::Clear => clear::clear(alloc, state),
+        Step::ClearActiveMemtable => Ok(clear::clear_active_memtable(alloc, state)),
+        Step::GetNextTableId => Ok(compaction::get_next_table_id(alloc, state)),
+        Step::SetMoment(moment) => Ok(flush::set_moment(alloc, state, *moment)),
         Step::Count(what) => Ok(counts::count(alloc, state, *what)),
         Step::IsUncertain => Ok(counts::is_uncertain(alloc, state)),
-        Step::IsCompacting => Ok(compactions::is_compacting(alloc, state)),
+        Step::IsCompacting => Ok(compaction::is_compacting(alloc, state)),
         Step::TreeType => Ok(counts::tree_type(alloc, state)),
     }
 }
@@ -396,10 +396,10 @@ pub fn run<S: Store>(
     taken
 }
 
-mod clears;
-mod compactions;
+mod clear;
+mod compaction;
 mod counters;
 mod counts;
-mod flushes;
+mod flush;
 mod jobs;
 mod ranges;

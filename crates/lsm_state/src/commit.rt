@@ -13,7 +13,7 @@ ghost use Rattle.lsm_state.specs.Held.{HasFirst};
 ghost use Rattle.lsm_state.specs.Commits.{counted, fronted, next_id, fresh_in, Commits, UpholdsFiles, Upholds};
 ghost use Rattle.lsm_state.specs.Cleaning.{Cleans};
 
-use crate::sealed::Room;
+use crate::memtables::sealed::Room;
 use crate::{Memtables, TreeState};
 use lsm_below::{MemtableId, SeqNo};
 use lsm_commit::{commit_version, crashes_leave_versions};
@@ -155,3 +155,5 @@ impl<S: Store> TreeState<S> {
         maintained.is_ok()
     }
 }
+
+mod settling;

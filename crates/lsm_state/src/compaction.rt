@@ -2,10 +2,12 @@
 ghost use Rattle.std.specs.Prelude.{◌≡◌};
 
 use crate::TreeState;
+pub use beginning::told_as;
 use lsm_below::SeqNo;
 use lsm_checks::Why;
 use lsm_compaction::CompactionJob;
 use lsm_store::Store;
+pub use whole::do_compaction;
 
 /// How a compaction is done.
 ///
@@ -61,3 +63,7 @@ pub enum Finished {
     /// The merge was declined: the first reason that holds.
     Declined(Why),
 }
+
+mod beginning;
+mod finishing;
+mod whole;

@@ -198,3 +198,6 @@ impl<S: Store> TreeState<S> {
         self.flush = without_job(open, job.number());
     }
 }
+
+mod register;
+mod whole;

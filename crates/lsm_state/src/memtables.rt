@@ -13,12 +13,12 @@ ghost use Rattle.lsm_state.specs.Cleaning.{from_id};
 ghost use Rattle.lsm_state.specs.Recording.{TakesFirstBack};
 ghost use Rattle.lsm_memtable.specs.Memtables.{SeenMemtable};
 
-use crate::counted::greater_of;
-use crate::sealed::{Room, Sealed};
+use crate::counts::greater_of;
 use lsm_below::{InternalValue, MemtableId, SeqNo};
 use lsm_flush::SealedMemtable;
 use lsm_memtable::Revocable;
 use lsm_parts::{Error, Memtable, SuperVersions};
+use sealed::{Room, Sealed};
 use std::alloc::{AllocError, Global};
 use std::collections::VecDeque;
 use std::marker::Model;
@@ -340,3 +340,5 @@ impl Memtables {
         self.sealed.truncate(kept);
     }
 }
+
+pub(crate) mod sealed;

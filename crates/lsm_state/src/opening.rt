@@ -14,7 +14,8 @@ ghost use Rattle.lsm_manifest.specs.Looking.{Looks};
 ghost use Rattle.lsm_state.specs.Core.{opened_core};
 ghost use Rattle.lsm_state.specs.Opened.{files_told, store_left, files_found, store_held, found_entries, StartsFrom, OpensTree};
 
-use crate::{Found, TreeState};
+use crate::TreeState;
+pub use found::Found;
 use lsm_below::{Error, TableId};
 use lsm_commit::openings_pass;
 use lsm_manifest::{
@@ -168,3 +169,5 @@ impl<S: Store> TreeState<S> {
         self.next_table.get()
     }
 }
+
+mod found;

@@ -176,3 +176,5 @@ fn copy_live(entry: &InternalValue) -> Result<Option<InternalValue>, AllocError>
     }
     Ok(Some(entry.copy()?))
 }
+
+mod ranges;

@@ -182,3 +182,5 @@ impl<S: Store> TreeState<S> {
         Ok(number)
     }
 }
+
+mod recording;

@@ -3,41 +3,30 @@
 //! | Module | Holds |
 //! |-|-|
 //! | `handle` | trees that several callers share, behind one lock |
-//! | `shared_tree` | the calls of a tree behind the lock |
-//! | `shared_ranges` | its reads of many keys |
-//! | `shared_flushes` | its flushes |
-//! | `shared_compactions` | its compactions |
+//! | `shared` | the calls of a tree behind the lock |
+//! | `shared::ranges` | its reads of many keys |
+//! | `shared::flush` | its flushes |
+//! | `shared::compaction` | its compactions |
 //! | `gate` | who does the merge of a compaction while no lock is held |
-//! | `shared_counts` | what is counted and told of it |
-//! | `recorded_tree` | the calls of a tree with its journal, behind the lock |
-//! | `recorded_flushes` | its flushes |
-//! | `recorded_compactions` | its compactions |
-//! | `recorded_counts` | what is counted and told of it |
-//! | `logged_tree` | the calls of a tree with a log above it, behind the lock |
-//! | `logged_ranges` | its reads of many keys |
-//! | `logged_flushes` | its flushes |
-//! | `logged_compactions` | its compactions |
-//! | `logged_counts` | what is counted and told of it |
+//! | `shared::counts` | what is counted and told of it |
+//! | `recorded` | the calls of a tree with its journal, behind the lock |
+//! | `recorded::flush` | its flushes |
+//! | `recorded::compaction` | its compactions |
+//! | `recorded::counts` | what is counted and told of it |
+//! | `logged` | the calls of a tree with a log above it, behind the lock |
+//! | `logged::ranges` | its reads of many keys |
+//! | `logged::flush` | its flushes |
+//! | `logged::compaction` | its compactions |
+//! | `logged::counts` | what is counted and told of it |
 //! | `laws` | theorems as the contracts of functions that do nothing |
 #![tactic(auto)]
 
 mod gate;
 mod handle;
 pub mod laws;
-mod logged_compactions;
-mod logged_counts;
-mod logged_flushes;
-mod logged_ranges;
-mod logged_tree;
-mod recorded_compactions;
-mod recorded_counts;
-mod recorded_flushes;
-mod recorded_tree;
-mod shared_compactions;
-mod shared_counts;
-mod shared_flushes;
-mod shared_ranges;
-mod shared_tree;
+mod logged;
+mod recorded;
+mod shared;
 
 pub use gate::Gate;
 pub use gate::RunJob;

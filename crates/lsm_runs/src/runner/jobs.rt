@@ -7,7 +7,7 @@ ghost use Rattle.lsm_runs.specs.JobSteps.{TakesJob, TakesInSlot};
 ghost use Rattle.lsm_runs.specs.Files.{JobLeavesFiles, JobHasCause};
 ghost use Rattle.lsm_runs.specs.Slots.{beside, SameJobs, KeepsOpen, KeepsMerges, GivesUp, GivesUpAll};
 
-use super::{compactions, flushes};
+use super::{compaction, flush};
 use crate::slots::{Job, Slots, make_room};
 use crate::{JobStep, Outcome, Slot};
 use lsm_pick::CompactionStrategy;
@@ -30,17 +30,17 @@ fn take_job<S: Store>(
     ensures no_call { IsSome state.old.core.lost → state.new.store ≡ state.old.store }
 {
     match step {
-        JobStep::BeginFlush => Ok(flushes::begin_flush(alloc, state, place)),
-        JobStep::RunFlush(watermark) => Ok(flushes::run_flush(alloc, state, place, watermark)),
-        JobStep::FlushToTables => Ok(flushes::flush_to_tables(alloc, state, place)),
-        JobStep::RegisterTables => flushes::register_tables(alloc, state, place),
-        JobStep::AbandonFlush => Ok(flushes::abandon_flush(alloc, state, place)),
+        JobStep::BeginFlush => Ok(flush::begin_flush(alloc, state, place)),
+        JobStep::RunFlush(watermark) => Ok(flush::run_flush(alloc, state, place, watermark)),
+        JobStep::FlushToTables => Ok(flush::flush_to_tables(alloc, state, place)),
+        JobStep::RegisterTables => flush::register_tables(alloc, state, place),
+        JobStep::AbandonFlush => Ok(flush::abandon_flush(alloc, state, place)),
         JobStep::BeginCompaction(at, options) => {
-            compactions::begin_compaction(alloc, state, place, strategies, at, options)
+            compaction::begin_compaction(alloc, state, place, strategies, at, options)
         }
-        JobStep::RunCompaction => Ok(compactions::run_compaction(alloc, state, place)),
-        JobStep::FinishCompaction => compactions::finish_compaction(alloc, state, place),
-        JobStep::AbandonCompaction => Ok(compactions::abandon_compaction(alloc, state, place)),
+        JobStep::RunCompaction => Ok(compaction::run_compaction(alloc, state, place)),
+        JobStep::FinishCompaction => compaction::finish_compaction(alloc, state, place),
+        JobStep::AbandonCompaction => Ok(compaction::abandon_compaction(alloc, state, place)),
     }
 }
 

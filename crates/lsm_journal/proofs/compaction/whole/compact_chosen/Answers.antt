@@ -1,0 +1,22 @@
+use Rattle.std.proofs.Common.{◌≡◌, Ok, List, length, take, refl, sym, ap, ◌∙◌, subst}
+use Rattle.lsm_model.specs.Journal.{Event}
+use Rattle.lsm_commit.specs.Causes.{Blames, no_fault}
+use Rattle.lsm_journal.specs.Noted.{noted_of, kept_of, CompactsAnswer, CompactsNoted}
+use Rattle.lsm_journal.proofs.Compacting.{compacts_noted}
+use Rattle.lsm_journal.proofs.compaction.whole.compact_chosen.Goals as goal
+
+pub returns-in-Ok-clause-compacts : goal.returns-in-Ok-clause-compacts
+returns-in-Ok-clause-compacts g c =
+    let choice = c.in-Ok.choice in
+    let o = c.args.options in
+    let w = o.mvcc_gc_watermark in
+    let old = c.args.tree.now.core in
+    let new = c.compact_choice-done.new.self.core in
+    let r = c.compact_choice-done.result in
+    let entries : List Event = c.args.chosen.entries.items in
+    let noted : entries ≡ noted_of (Ok choice) w old = c.requires ∙ ap (λ a. noted_of a w old) c.in-Ok.is in
+    let events = c.told-entries.ensures.kept ∙ ap (λ (es : List Event). take (kept_of r (length es)) es) noted in
+    subst (λ a. CompactsAnswer a o r c.told-entries.result.items old new) (sym c.in-Ok.is) (subst (λ es. CompactsNoted choice o r es old new) (sym events) (compacts_noted choice o r old new c.compact_choice-done.ensures.compacts))
+
+pub returns-in-Err-clause-causes : goal.returns-in-Err-clause-causes
+returns-in-Err-clause-causes g c blameless = no_fault _ _ _ refl (λ blamed. blameless (subst Blames (sym c.in-Err.is) blamed))

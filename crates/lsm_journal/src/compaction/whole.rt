@@ -1,0 +1,50 @@
+// A compaction in one call, and what is noted of it.
+ghost use Rattle.std.specs.Prelude.{◌≡◌, IsSome, IfOk, Ok, length, take};
+ghost use Rattle.lsm_commit.specs.Causes.{HasCause, Blames};
+ghost use Rattle.lsm_state.specs.Cleaning.{LeavesNoFiles};
+ghost use Rattle.lsm_state.specs.Commits.{Upholds};
+ghost use Rattle.lsm_state.specs.Compactions.{given_up};
+ghost use Rattle.lsm_journal.specs.Noted.{noted_of, CompactsAnswer};
+
+use crate::Chosen;
+use crate::compaction::beginning::told;
+use lsm_model::JournalEntry;
+use lsm_parts::Error;
+use lsm_state::{Begun, Options, TreeState};
+use lsm_store::Store;
+
+/// Compacts as was chosen, in one call, as `TreeState::compact_choice`. It answers beside it what
+/// a journal notes of it: what `begin_chosen` answers, and behind that the install of a merge. The answer is never
+/// `Begun::Job`. The cost is that of the parts.
+///
+/// # Errors
+///
+/// Those of `TreeState::compact_choice`, and the refusal of the strategy; then nothing changes but for the mark.
+pub fn compact_chosen<S: Store>(
+    tree: &mut TreeState<S>,
+    chosen: Chosen,
+    options: Options,
+) -> (Result<Begun, Error>, Vec<JournalEntry>)
+    requires { chosen.entries.items ≡ noted_of chosen.answer options.mvcc_gc_watermark tree.old.core }
+    ensures compacts { CompactsAnswer chosen.answer options result.0 result.1.items tree.old.core tree.new.core }
+    // Copies that were made before can be cut to what is noted.
+    ensures front { result.1.items ≡ take (length result.1.items) chosen.entries.items }
+    // What a crash leaves.
+    ensures upholds { S.tells → Upholds (S.world tree.old.store) (S.world tree.new.store) tree.old.core tree.new.core }
+    // The store is blamed only where a call of it failed, or where the choice does so already.
+    ensures causes { (Blames chosen.answer → ⊥) → HasCause (Blames result.0) (S.world tree.old.store) (S.world tree.new.store) }
+    // Behind a whole clean-up no file is left of what went.
+    ensures gone { S.tells → IfOk chosen.answer (λ choice. result.0 ≡ Ok Begun.Installed → LeavesNoFiles (S.world tree.new.store) (given_up choice) tree.old.core.history tree.new.core.history) }
+    ensures no_call { IsSome tree.old.core.lost → tree.new.store ≡ tree.old.store }
+{
+    tree.is_upheld();
+    let Chosen { answer, entries } = chosen;
+    match answer {
+        Ok(choice) => {
+            let done = tree.compact_choice(choice, options);
+            let entries = told(entries, &done);
+            (done, entries)
+        }
+        Err(error) => (Err(error), entries),
+    }
+}

@@ -1,0 +1,17 @@
+use Rattle.std.proofs.Common.{◌≡◌, Some, slice_get, length, refl, rules}
+use Rattle.std.proofs.lemmas.Option.{slice_get_read}
+use Rattle.lsm_runs.specs.Compacting.{strategies_of}
+use Rattle.lsm_runs.proofs.CompactionOutcomes.{asked_at, compacted_taken}
+use Rattle.lsm_runs.proofs.runner.compaction.do_compaction.Goals as goal
+
+pub returns-clause-ok : goal.returns-clause-ok
+returns-clause-ok g c =
+    let list = c.args.strategies.now in
+    let strategy = c.in-Some.strategy.now in
+    let there : slice_get list c.args.at ≡ Some strategy = search (rules, slice_get_read list (length list) c.args.at strategy refl) in
+    let does = c.compact_noting.ensures.does in
+    compacted_taken (strategies_of (λ b. (goal.CompactionStrategy-dyn g (b.vtable, b.value)).may_choose b.value) (λ b. (goal.CompactionStrategy-dyn g (b.vtable, b.value)).may_refuse b.value) list) c.args.at c.args.options c.compact_noting.result.entries c.args.state.now.core c.compact_noting.new.state.core c.compact_noting.result.reply does.done does.told (search rules) (record {
+      answer = c.in_ok-chosen.chosen.answer;
+      answered = asked_at (λ b. (goal.CompactionStrategy-dyn g (b.vtable, b.value)).may_choose b.value) (λ b. (goal.CompactionStrategy-dyn g (b.vtable, b.value)).may_refuse b.value) list c.args.at strategy c.args.state.now.core c.in_ok-chosen.chosen.answer there c.in_ok-chosen.ensures.answer;
+      does = does;
+    })

@@ -1,0 +1,15 @@
+use Rattle.std.proofs.Common.{rules}
+use Rattle.lsm_runs.proofs.Causing.{registered_cause}
+use Rattle.lsm_runs.proofs.FlushOutcomes.{registered_taken}
+use Rattle.lsm_runs.proofs.runner.flush.register_tables.Goals as goal
+
+pub returns-in-Ok-clause-ok : goal.returns-in-Ok-clause-ok
+returns-in-Ok-clause-ok g c =
+    let registered = c.register_noting-entries in
+    rw c.of_registered.ensures
+    (registered_taken c.in-Some-Written.job registered.result.0 registered.result.1.items c.args.place.now c.take.new.self c.args.state.now.core registered.new.tree.core (search rules) (search rules) registered.ensures.registers)
+
+pub returns-in-Ok-clause-causes : goal.returns-in-Ok-clause-causes
+returns-in-Ok-clause-causes g c =
+    let registered = c.register_noting-entries in
+    rw c.of_registered.ensures (registered_cause registered.result.1.items registered.result.0 _ _ registered.ensures.causes)

@@ -1,0 +1,27 @@
+use Rattle.lsm_state.proofs.Causing.{follows_cause}
+use Rattle.std.proofs.Common.{ap}
+use Rattle.lsm_state.proofs.Wholes.{whole_upholds, follows_leave}
+use Rattle.lsm_state.proofs.compaction.whole.do_compaction.Goals as goal
+
+pub returns-clause-upholds : goal.returns-clause-upholds
+returns-clause-upholds g c tells =
+    let w = g.S.Store.world in
+    let old = c.args.tree.now in
+    let mid = c.begin_compaction-begun.new.self in
+    let new = c.follow.new.self in
+    whole_upholds (w old.store) (w mid.store) (w new.store) _ _ c.args.options c.begin_compaction-begun.result c.follow.result old.core mid.core new.core c.begin_compaction-begun.ensures.begins c.follow.ensures.follows (c.begin_compaction-begun.ensures.upholds tells) (c.follow.ensures.upholds tells)
+
+pub returns-clause-causes : goal.returns-clause-causes
+returns-clause-causes g c =
+    let w = g.S.Store.world in
+    let mid = c.begin_compaction-begun.new.self in
+    let new = c.follow.new.self in
+    follows_cause (w c.args.tree.now.store) (w mid.store) (w new.store) c.begin_compaction-begun.result c.follow.result mid.core new.core c.follow.ensures.follows c.begin_compaction-begun.ensures.causes c.follow.ensures.causes
+
+pub returns-clause-gone : goal.returns-clause-gone
+returns-clause-gone g c tells done =
+    let w = g.S.Store.world in
+    let mid = c.begin_compaction-begun.new.self in
+    let new = c.follow.new.self in
+    let begun = c.begin_compaction-begun in
+    follows_leave _ _ c.args.options (w mid.store) (w new.store) begun.result c.follow.result c.args.tree.now.core mid.core new.core begun.ensures.begins c.follow.ensures.follows (begun.ensures.gone tells) (c.follow.ensures.gone tells) (λ is. ap w (c.follow.ensures.rests is)) done

@@ -1,0 +1,7 @@
+use Rattle.lsm_tree.proofs.RecordedReads.{shared_read}
+use Rattle.lsm_tree.proofs.recorded.Handle+Recorded+S.range.Goals as goal
+
+pub returns-clause-refused : goal.returns-clause-refused
+returns-clause-refused g c =
+    let t = c.deref_mut-tree.result.now in
+    shared_read t c.args.snapshot c.range.result (record { tree = c.facts.ensures.tree; reads = c.facts.ensures.reads; in_order = c.facts.ensures.in_order; counted = c.facts.ensures.counted }) c.range.ensures.refuses

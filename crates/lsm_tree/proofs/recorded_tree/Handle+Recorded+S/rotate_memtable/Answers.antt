@@ -1,8 +1,0 @@
--- The tree that has no id left is the one that the lock guards, and it has entries to seal: else the call answers that
--- there is none.
-use Rattle.std.proofs.Common.{subst, sym, IfErr}
-use Rattle.std.proofs.lemmas.Result.{IfErr-at_err}
-use Rattle.lsm_tree.proofs.recorded_tree.Handle+Recorded+S.rotate_memtable.Goals as goal
-
-pub returns-clause-refused : goal.returns-clause-refused
-returns-clause-refused g c = record { only = c.rotate_memtable-told.ensures.only; out_of_numbers = λ h. (c.deref_mut-tree.result.now.tree.core, (c.rotate_memtable-told.ensures.out_of_numbers h, λ e. IfErr-at_err (λ _. ⊥) h (subst (λ r. IfErr r (λ _. ⊥)) (sym (c.rotate_memtable-told.ensures.empty e)) tt)), c.facts.ensures.tree) }

@@ -1,0 +1,242 @@
+// The calls of a tree with its journal, behind the lock.
+ghost use Rattle.std.specs.Prelude.{◌≡◌, [], ◌∷◌, ◌⊎◌, false, map, IfOk, IfErr, OnOk, OnErr, IsErrOf};
+ghost use Rattle.lsm_below.specs.Entries.{plain};
+ghost use Rattle.lsm_model.specs.Views.{held};
+ghost use Rattle.lsm_model.specs.Beginnings.{shown_by};
+ghost use Rattle.lsm_model.specs.Journal.{Agrees};
+ghost use Rattle.lsm_model.specs.Ops.{op_entry, op_entries};
+ghost use Rattle.lsm_model.specs.declared.journal.JournalEntry.TheVariants.{Write as WriteEntry, Read as ReadEntry};
+ghost use Rattle.lsm_model.specs.declared.question.Question.TheVariants.{Get as GetQuestion, Between, Prefix};
+ghost use Rattle.lsm_model.specs.declared.question.Answer.TheVariants.{Found, Pairs as PairsAnswer};
+ghost use Rattle.lsm_model.specs.declared.op.Op.TheVariants.{Set, Del, Weak};
+ghost use Rattle.lsm_versions.specs.Levels.{placed_of};
+ghost use Rattle.lsm_commit.specs.Causes.{HasCause, Blames};
+ghost use Rattle.lsm_recorded.specs.Closing.{ListTogether};
+ghost use Rattle.lsm_recorded.specs.Order.{keeps_order, batch_keeps_order};
+ghost use Rattle.lsm_state.specs.Calls.{Appends, WritesBatch, Rotates};
+ghost use Rattle.lsm_recorded.specs.Recorded.{OwnOr};
+ghost use Rattle.lsm_recorded.specs.Flushing.{RefusesUnnoted};
+ghost use Rattle.lsm_recorded.specs.Clearing.{ClearsNoted};
+ghost use Rattle.lsm_tree.specs.Shared.{OnSomeTree, OnSomeStore, OnSomeRecorded, AtSomeRecorded, RefusesRecordedRead, RefusesSharedRotation, Puts};
+
+use crate::handle::Handle;
+use lsm_below::{InternalValue, MemtableId, SeqNo, UserKey, UserValue};
+use lsm_model::{KvPairs, Op};
+use lsm_parts::Error;
+use lsm_recorded::{Closed, Pass, Recorded};
+use lsm_store::Store;
+use std::ops::Bound;
+use std::sync::Wait;
+
+/// Each call does, refuses and costs what the one of the same name of `Recorded` does, on the tree as the
+/// lock finds it. An answered write or read appends its entries to the pass, a refused one none.
+impl<S: Store> Handle<Recorded<S>> {
+    /// The value of a key at a snapshot, as `Recorded::get`.
+    pub fn get(
+        &self,
+        rt: &impl Wait,
+        pass: &mut Pass,
+        key: &[u8],
+        snapshot: SeqNo,
+    ) -> Result<Option<UserValue>, Error>
+        ensures refused { RefusesRecordedRead S snapshot result }
+        ensures noted { IfOk result (λ v. Puts (ReadEntry snapshot (GetQuestion key.now) (Found v) ∷ []) pass.old pass.new) }
+        ensures err { OnErr result (pass.new ≡ pass.old) }
+    {
+        let mut tree = self.shared.lock(rt);
+        let tree = &mut *tree;
+        tree.facts();
+        tree.get(pass, key, snapshot)
+    }
+
+    /// The pairs in the bounds that a snapshot shows, as `Recorded::range`.
+    pub fn range(
+        &self,
+        rt: &impl Wait,
+        pass: &mut Pass,
+        bounds: &(Bound<UserKey>, Bound<UserKey>),
+        snapshot: SeqNo,
+    ) -> Result<KvPairs, Error>
+        ensures refused { RefusesRecordedRead S snapshot result }
+        ensures noted { IfOk result (λ pairs. Puts (ReadEntry snapshot (Between bounds.now.0 bounds.now.1) (PairsAnswer pairs) ∷ []) pass.old pass.new) }
+        ensures err { OnErr result (pass.new ≡ pass.old) }
+    {
+        let mut tree = self.shared.lock(rt);
+        let tree = &mut *tree;
+        tree.facts();
+        tree.range(pass, bounds, snapshot)
+    }
+
+    /// The pairs of the keys that begin so, as `Recorded::prefix`.
+    pub fn prefix(
+        &self,
+        rt: &impl Wait,
+        pass: &mut Pass,
+        prefix: &UserKey,
+        snapshot: SeqNo,
+    ) -> Result<KvPairs, Error>
+        ensures refused { RefusesRecordedRead S snapshot result }
+        ensures noted { IfOk result (λ pairs. Puts (ReadEntry snapshot (Prefix prefix.now) (PairsAnswer pairs) ∷ []) pass.old pass.new) }
+        ensures err { OnErr result (pass.new ≡ pass.old) }
+    {
+        let mut tree = self.shared.lock(rt);
+        let tree = &mut *tree;
+        tree.facts();
+        tree.prefix(pass, prefix, snapshot)
+    }
+
+    /// Seals the active memtable, as `Recorded::rotate_memtable`.
+    pub fn rotate_memtable(
+        &self,
+        rt: &impl Wait,
+        pass: &mut Pass,
+    ) -> Result<Option<MemtableId>, Error>
+        ensures rotates { IfOk result (λ id. OnSomeTree (λ old new. Rotates old id new)) }
+        ensures refused { RefusesSharedRotation result }
+        ensures pass { pass.new ≡ pass.old }
+    {
+        let mut tree = self.shared.lock(rt);
+        let tree = &mut *tree;
+        tree.facts();
+        let told = tree.rotate_memtable(pass);
+        tree.facts();
+        told
+    }
+
+    /// Writes an entry under its own sequence number, as `Recorded::append_entry`.
+    pub fn append_entry(
+        &self,
+        rt: &impl Wait,
+        pass: &mut Pass,
+        entry: InternalValue,
+    ) -> Result<(u64, u64), Error>
+        ensures core { OwnOr result (OnSomeTree (λ old new. Appends (plain entry) result old new)) }
+        ensures out_of_order { IsErrOf result Error.OutOfOrder → AtSomeRecorded S (λ t. keeps_order (held t.opened) t.journal t.tree.core.seqno (plain entry) ≡ false) }
+        ensures noted { OnOk result (Puts (WriteEntry (plain entry) ∷ []) pass.old pass.new) }
+        ensures err { OnErr result (pass.new ≡ pass.old) }
+    {
+        let mut tree = self.shared.lock(rt);
+        let tree = &mut *tree;
+        tree.facts();
+        let told = tree.append_entry(pass, entry);
+        tree.facts();
+        told
+    }
+
+    /// Sets a key under a sequence number, as `Recorded::insert`.
+    pub fn insert(
+        &self,
+        rt: &impl Wait,
+        pass: &mut Pass,
+        key: UserKey,
+        value: UserValue,
+        seqno: SeqNo,
+    ) -> Result<(u64, u64), Error>
+        ensures core { OwnOr result (OnSomeTree (λ old new. Appends (op_entry key seqno (Set value)) result old new)) }
+        ensures out_of_order { IsErrOf result Error.OutOfOrder → AtSomeRecorded S (λ t. keeps_order (held t.opened) t.journal t.tree.core.seqno (op_entry key seqno (Set value)) ≡ false) }
+        ensures noted { OnOk result (Puts (WriteEntry (op_entry key seqno (Set value)) ∷ []) pass.old pass.new) }
+        ensures err { OnErr result (pass.new ≡ pass.old) }
+    {
+        let mut tree = self.shared.lock(rt);
+        let tree = &mut *tree;
+        tree.facts();
+        let told = tree.insert(pass, key, value, seqno);
+        tree.facts();
+        told
+    }
+
+    /// Removes a key under a sequence number, as `Recorded::remove`.
+    pub fn remove(
+        &self,
+        rt: &impl Wait,
+        pass: &mut Pass,
+        key: UserKey,
+        seqno: SeqNo,
+    ) -> Result<(u64, u64), Error>
+        ensures core { OwnOr result (OnSomeTree (λ old new. Appends (op_entry key seqno Del) result old new)) }
+        ensures out_of_order { IsErrOf result Error.OutOfOrder → AtSomeRecorded S (λ t. keeps_order (held t.opened) t.journal t.tree.core.seqno (op_entry key seqno Del) ≡ false) }
+        ensures noted { OnOk result (Puts (WriteEntry (op_entry key seqno Del) ∷ []) pass.old pass.new) }
+        ensures err { OnErr result (pass.new ≡ pass.old) }
+    {
+        let mut tree = self.shared.lock(rt);
+        let tree = &mut *tree;
+        tree.facts();
+        let told = tree.remove(pass, key, seqno);
+        tree.facts();
+        told
+    }
+
+    /// Removes a key, of which at most one value was ever written, as `Recorded::remove_weak`.
+    pub fn remove_weak(
+        &self,
+        rt: &impl Wait,
+        pass: &mut Pass,
+        key: UserKey,
+        seqno: SeqNo,
+    ) -> Result<(u64, u64), Error>
+        ensures core { OwnOr result (OnSomeTree (λ old new. Appends (op_entry key seqno Weak) result old new)) }
+        ensures out_of_order { IsErrOf result Error.OutOfOrder → AtSomeRecorded S (λ t. keeps_order (held t.opened) t.journal t.tree.core.seqno (op_entry key seqno Weak) ≡ false) }
+        ensures noted { OnOk result (Puts (WriteEntry (op_entry key seqno Weak) ∷ []) pass.old pass.new) }
+        ensures err { OnErr result (pass.new ≡ pass.old) }
+    {
+        let mut tree = self.shared.lock(rt);
+        let tree = &mut *tree;
+        tree.facts();
+        let told = tree.remove_weak(pass, key, seqno);
+        tree.facts();
+        told
+    }
+
+    /// Writes a batch under the next sequence number, which it returns, as `Recorded::write`.
+    pub fn write(
+        &self,
+        rt: &impl Wait,
+        pass: &mut Pass,
+        ops: Vec<(UserKey, Op)>,
+    ) -> Result<SeqNo, Error>
+        ensures core { OwnOr result (OnSomeTree (λ old new. WritesBatch ops.items result old new)) }
+        ensures out_of_order { IsErrOf result Error.OutOfOrder → AtSomeRecorded S (λ t. batch_keeps_order (held t.opened) t.journal t.tree.core.seqno ops.items ≡ false) }
+        ensures noted { IfOk result (λ n. Puts (map WriteEntry (op_entries n ops.items)) pass.old pass.new) }
+        ensures err { OnErr result (pass.new ≡ pass.old) }
+    {
+        let mut tree = self.shared.lock(rt);
+        let tree = &mut *tree;
+        tree.facts();
+        let told = tree.write(pass, ops);
+        tree.facts();
+        told
+    }
+
+    /// Clears the tree, as `Recorded::clear`. The lock is held while the version's file is written.
+    pub fn clear(&self, rt: &impl Wait, pass: &mut Pass) -> Result<SeqNo, Error>
+        ensures clears { OnSomeRecorded S (λ old new. RefusesUnnoted result old new pass.old pass.new ⊎ ClearsNoted result old new pass.old pass.new) }
+        // The store is blamed only where a call of it failed.
+        ensures causes { OnSomeStore S (λ old new. HasCause (Blames result) (S.world old) (S.world new)) }
+    {
+        let mut tree = self.shared.lock(rt);
+        let tree = &mut *tree;
+        tree.facts();
+        let told = tree.clear(pass);
+        tree.facts();
+        told
+    }
+
+    /// A copy of the journal and the version that was opened, where the passes together list the journal, else the passes; as
+    /// `Recorded::close`.
+    pub fn close(&self, rt: &impl Wait, passes: Vec<Pass>) -> Result<Closed, Vec<Pass>>
+        ensures listed { IfOk result (λ c. ListTogether c.journal.items passes.items) }
+        ensures agrees { IfOk result (λ c. Agrees (shown_by (placed_of c.opened.levels)) c.journal.items) }
+        // It is the journal of a tree, and these are the tables that it was opened with.
+        ensures tree { IfOk result (λ c. AtSomeRecorded S (λ t. (t.journal ≡ c.journal.items) × (t.opened ≡ placed_of c.opened.levels))) }
+        ensures back { IfErr result (λ back. back ≡ passes) }
+    {
+        let tree = self.shared.lock(rt);
+        let tree = &*tree;
+        tree.facts();
+        tree.close(passes)
+    }
+}
+
+mod compaction;
+mod counts;
+mod flush;
