@@ -35,7 +35,7 @@ use Rattle.lsm_log_model.proofs.Stacks.{above-append, above_each}
 use Rattle.lsm_state.specs.Calls.{Gives}
 use Rattle.lsm_state.specs.Core.{Core, latest_of, older_of, state_of, versions_left, written_of}
 use Rattle.lsm_state.specs.Deeds.{saved_of}
-use Rattle.lsm_state.specs.Held.{entries_of}
+use Rattle.lsm_parts.specs.Held.{entries_of}
 use Rattle.lsm_logged.specs.Images.{RecordsAreThoseRead, CountedAreRead, VersionIsToldOnce}
 use Rattle.lsm_logged.specs.Keeping.{SeenLogged, KeepsLog, IsLogIn}
 use Rattle.lsm_logged.specs.Opening.{OpensLogged, CanBeSettled, IsReopenedLog, image_read, version_of}

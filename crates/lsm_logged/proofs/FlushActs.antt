@@ -22,7 +22,7 @@ use Rattle.lsm_log_model.proofs.Following.{mems_below}
 use Rattle.lsm_log_model.proofs.High.{next_of-le}
 use Rattle.lsm_parts.specs.declared.version.super_version.SuperVersion.{SuperVersion}
 use Rattle.lsm_state.specs.Core.{Core, state_of}
-use Rattle.lsm_state.specs.Held.{entries_of}
+use Rattle.lsm_parts.specs.Held.{entries_of}
 use Rattle.lsm_state.specs.Deeds.{saved_of}
 use Rattle.lsm_state.specs.Commits.{UpholdsFiles, Upholds}
 use Rattle.lsm_state.specs.Flushes.{sealed_ids, flush_of, IsFlushDeed, IsLostFlush}

@@ -17,7 +17,7 @@ use Rattle.lsm_log_model.specs.Logs.{Logged as Log}
 use Rattle.lsm_log_model.proofs.Stacks.{above-append}
 use Rattle.lsm_parts.specs.declared.version.super_version.SuperVersion.{SuperVersion}
 use Rattle.lsm_state.specs.Core.{Core}
-use Rattle.lsm_state.specs.Held.{entries_of}
+use Rattle.lsm_parts.specs.Held.{entries_of}
 use Rattle.lsm_state.specs.Kept.{IsKeptTree}
 use Rattle.lsm_state.specs.Deeds.{saved_of}
 use Rattle.lsm_state.specs.FlushLaws.{FlushesAreDeeds}

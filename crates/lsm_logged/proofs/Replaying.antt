@@ -20,7 +20,7 @@ use Rattle.lsm_model.specs.declared.op.Op.{Op}
 use Rattle.lsm_model.specs.declared.op.Op.TheVariants.{Set, Del, Weak}
 use Rattle.lsm_memtable.specs.Memtables.{SeenMemtable, with_entry, with_entries}
 use Rattle.lsm_log.specs.declared.record.Record.{Record}
-use Rattle.lsm_state.specs.Held.{put_first, put_all_first}
+use Rattle.lsm_parts.specs.Held.{put_first, put_all_first}
 use Rattle.lsm_state.specs.Core.{Core, written_core, written_all}
 use Rattle.lsm_state.specs.Commits.{UpholdsFiles}
 use Rattle.lsm_logged.specs.Opening.{entries_read, ReplaysEach}

@@ -2,7 +2,7 @@
 ghost use Rattle.std.specs.Prelude.{◌≡◌, ◌≤◌, ◌+◌, ◌⊎◌, ◌↔◌, [], length, Ok, None, IfOk, IfErr, OnOk, OnErr, IsErrOf};
 ghost use Rattle.lsm_state.specs.Calls.{Rotates};
 ghost use Rattle.lsm_below.specs.Sums.{capped};
-ghost use Rattle.lsm_state.specs.Held.{first_entries, HasFirst};
+ghost use Rattle.lsm_parts.specs.Held.{first_entries, HasFirst};
 ghost use Rattle.lsm_state.specs.Flushes.{with_next_table};
 ghost use Rattle.lsm_state.specs.WholeFlushes.{sealed_bytes};
 ghost use Rattle.lsm_logged.specs.Acting.{ActsNot, RotatesAct};

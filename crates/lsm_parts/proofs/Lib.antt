@@ -1,3 +1,7 @@
 pub mod Histories
 pub mod Maintained
 pub mod Removed
+pub mod Finding
+pub mod Holding
+pub mod Fitting
+pub mod Counting

@@ -1,3 +1,4 @@
 pub mod Versions
 pub mod History
 pub mod Maintenance
+pub mod Held

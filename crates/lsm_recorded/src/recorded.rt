@@ -13,7 +13,7 @@ ghost use Rattle.lsm_model.specs.declared.question.Answer.TheVariants.{Found};
 ghost use Rattle.lsm_model.specs.declared.op.Op.TheVariants.{Set, Del, Weak};
 ghost use Rattle.lsm_versions.specs.Levels.{placed_of};
 ghost use Rattle.lsm_commit.specs.Foreign.{AtRest};
-ghost use Rattle.lsm_state.specs.Held.{first_entries};
+ghost use Rattle.lsm_parts.specs.Held.{first_entries};
 ghost use Rattle.lsm_state.specs.Kept.{IsKeptTree};
 ghost use Rattle.lsm_state.specs.Core.{state_of};
 ghost use Rattle.lsm_state.specs.Calls.{Appends, WritesBatch, Gives, IsGetStep, RefusesRead, Rotates};

@@ -5,7 +5,7 @@ use Rattle.lsm_below.specs.declared.error.Error.TheVariants.{OutOfMemory, Store,
 use Rattle.lsm_below.specs.Entries.{Entry}
 use Rattle.lsm_model.specs.Journal.{Event}
 use Rattle.lsm_model.specs.declared.journal.JournalEntry.TheVariants.{Clear}
-use Rattle.lsm_state.specs.Held.{first_entries}
+use Rattle.lsm_parts.specs.Held.{first_entries}
 use Rattle.lsm_state.specs.Core.{Core}
 use Rattle.lsm_state.specs.Commits.{doubted}
 use Rattle.lsm_state.specs.Clearing.{cleared, cleared_in, Clears, ClearDeeds, clear_events, ClearsKeepReads, forgotten, ForgetsUnflushed}

@@ -24,7 +24,7 @@ use Rattle.lsm_iter.specs.declared.tree_iter.End.{End}
 use Rattle.lsm_iter.specs.declared.tree_iter.End.TheVariants.{Front, Back}
 use Rattle.lsm_below.specs.declared.error.Error.{Error}
 use Rattle.lsm_below.specs.declared.error.Error.TheVariants.{OutOfMemory, SnapshotTooOld}
-use Rattle.lsm_state.specs.Held.{entries_of}
+use Rattle.lsm_parts.specs.Held.{entries_of}
 use Rattle.lsm_state.specs.Core.{Core, state_of, latest_of, older_of}
 use Rattle.lsm_state.specs.Calls.{Gives, live, value_size}
 use Rattle.lsm_state.specs.Ranges.{Ranges, EndOf, counting}

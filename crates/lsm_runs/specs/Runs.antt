@@ -15,7 +15,7 @@ use Rattle.lsm_model.specs.declared.question.Question.TheVariants.{Between, Pref
 use Rattle.lsm_iter.specs.declared.tree_iter.End.TheVariants.{Front, Back}
 use Rattle.lsm_below.specs.declared.error.Error.{Error}
 use Rattle.lsm_below.specs.declared.error.Error.TheVariants.{OutOfMemory, OutOfNumbers}
-use Rattle.lsm_state.specs.Held.{first_entries}
+use Rattle.lsm_parts.specs.Held.{first_entries}
 use Rattle.lsm_state.specs.Core.{Core, state_of}
 use Rattle.lsm_state.specs.Calls.{Appends, WritesBatch, Rotates}
 use Rattle.lsm_state.specs.WholeCompactions.{options_at}

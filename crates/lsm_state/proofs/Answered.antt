@@ -15,7 +15,7 @@ use Rattle.lsm_iter.specs.Guards.{pair_of}
 use Rattle.lsm_iter.specs.Shown.{Shows, ShowsPrefix}
 use Rattle.lsm_iter.specs.Reads.{at, all_counted}
 use Rattle.lsm_iter.specs.Answers.{ShownIsAnswer, ShownIsPrefixAnswer}
-use Rattle.lsm_state.specs.Held.{entries_of}
+use Rattle.lsm_parts.specs.Held.{entries_of}
 use Rattle.lsm_state.specs.Core.{Core, latest_of, older_of}
 use Rattle.lsm_state.specs.Ranges.{Ranges, Prefixes, IsListStep, IsRangeStep, IsPrefixStep}
 use Rattle.lsm_state.proofs.Counts.{counted_below}

@@ -12,13 +12,14 @@ use Rattle.lsm_flush.specs.Jobs.{SeenOpen}
 use Rattle.lsm_parts.specs.declared.version.super_version.SuperVersion.{SuperVersion}
 use Rattle.lsm_parts.specs.History.{SeenHistory, versions_of}
 use Rattle.lsm_parts.specs.Maintenance.{Forgets, KeepsVersions}
-use Rattle.lsm_state.specs.Held.{HasFirst, ids_of, FallFrom, is_among}
+use Rattle.lsm_parts.specs.Held.{HasFirst, ids_of, FallFrom, is_among}
 use Rattle.lsm_state.specs.Kept.{named_by, least_named, NamesHeld, NameHeld, NameOlder, KeepsIds, KeepsTables}
 use Rattle.lsm_versions.specs.Levels.{SeenVersion}
 use Rattle.lsm_state.specs.Calls.{Rotates}
 use Rattle.lsm_state.specs.Core.{Core, versions_left, written_of, rotated_core}
 use Rattle.lsm_state.specs.Commits.{UpholdsFiles}
-use Rattle.lsm_state.specs.Cleaning.{from_id, oldest_named, LeavesNoFiles}
+use Rattle.lsm_parts.specs.Held.{from_id}
+use Rattle.lsm_state.specs.Cleaning.{oldest_named, LeavesNoFiles}
 use Rattle.lsm_state.proofs.Forgetting.{least_down, all_over, older_take}
 use Rattle.lsm_state.proofs.Upholding.{upheld, among_left}
 

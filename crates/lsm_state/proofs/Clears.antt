@@ -14,7 +14,7 @@ use Rattle.lsm_versions.specs.Levels.{SeenVersion, empty_levels, all_of, HasOwnI
 use Rattle.lsm_flush.specs.Jobs.{SeenOpen}
 use Rattle.lsm_parts.specs.declared.version.super_version.SuperVersion.{SuperVersion}
 use Rattle.lsm_parts.specs.History.{SeenHistory, versions_of}
-use Rattle.lsm_state.specs.Held.{ids_of, FallFrom}
+use Rattle.lsm_parts.specs.Held.{ids_of, FallFrom}
 use Rattle.lsm_state.specs.Kept.{NameHeld, NameOlder, least_named, KeepsIds, KeepsTables, IsKeptTree}
 use Rattle.lsm_state.specs.Core.{Core, state_of, written_by}
 use Rattle.lsm_state.specs.Commits.{counted, doubted}

@@ -7,7 +7,7 @@ use Rattle.lsm_tables.specs.Tables.{SeenTable}
 use Rattle.lsm_versions.specs.Levels.{SeenVersion, IsNext, IsVersion, all_of, left_in}
 use Rattle.lsm_versions.specs.Installs.{ChangesKeepTables}
 use Rattle.lsm_flush.specs.Jobs.{ids_in, entries_in}
-use Rattle.lsm_state.specs.Held.{entries_of}
+use Rattle.lsm_parts.specs.Held.{entries_of}
 
 -- where memtables have the entries that are held under their ids, each has
 pub has_own : (held memtables : List SeenMemtable) (i : ℕ) (m : SeenMemtable) → i < length memtables → m ≡ get_or memtables i m → entries_in memtables ≡ map (entries_of held) (ids_in memtables) → m.entries ≡ entries_of held m.id

@@ -9,7 +9,7 @@ use Rattle.lsm_versions.specs.Levels.{placed_of}
 use Rattle.lsm_memtable.specs.Memtables.{SeenMemtable}
 use Rattle.lsm_iter.specs.Reads.{at, counted, all_counted, counted_at, state_of}
 use Rattle.lsm_parts.specs.declared.version.super_version.SuperVersion.{SuperVersion}
-use Rattle.lsm_state.specs.Held.{entries_of}
+use Rattle.lsm_parts.specs.Held.{entries_of}
 use Rattle.lsm_state.specs.Core.{shown_as}
 use Rattle.lsm_state.specs.Ranges.{Index, counting, index_entries}
 

@@ -74,29 +74,3 @@ pub batch_fits : (n : ℕ) (ops : List (Bytes × Op)) → batch_refusal n ops �
 batch_fits n ops h =
     let p = passes_batch (is_great n) (list_any (λ p. is_long_key p.0) ops) (list_any (λ p. is_long_value (op_value p.1)) ops) (repeats (keys_of ops)) h in
     ops_fit n ops p.0 p.1.0 p.1.1
-
--- ---- memtables
-
-each_put : (P : Entry → Type 0) (e : Entry) (es : List Entry) → P e → AllByRecursion P es → AllByRecursion P (put entry_cmp e es)
-each_put P e [] here h = (here, tt)
-each_put P e (x ∷ xs) here h = by_case (entry_cmp x e) (each_put P e xs here h.1)
-  where
-    by_case : (r : Ordering) → AllByRecursion P (put entry_cmp e xs) → AllByRecursion P (by_ordering r (x ∷ put entry_cmp e xs) (e ∷ xs) (e ∷ (x ∷ xs)))
-    by_case Less rest = (h.0, rest)
-    by_case Equal rest = (here, h.1)
-    by_case Greater rest = (here, h)
-
-pub fits_with_entry : (e : Entry) (t : SeenMemtable) → Fits e → AllByRecursion Fits t.entries → AllByRecursion Fits (with_entry e t).entries
-fits_with_entry e t here h = each_put Fits e t.entries here h
-
-pub fits_with_entries : (es : List Entry) (t : SeenMemtable) → AllByRecursion Fits es → AllByRecursion Fits t.entries → AllByRecursion Fits (with_entries es t).entries
-fits_with_entries [] t here h = h
-fits_with_entries (e ∷ es) t here h = fits_with_entries es (with_entry e t) here.1 (fits_with_entry e t here.0 h)
-
-pub put_fits : {T E : Type 0} (r : Result T E) (e : Entry) (old new : SeenMemtable) → OnOk r (new ≡ with_entry e old) → OnErr r (new ≡ old) → Fits e → IsWritable old.entries → AllByRecursion Fits new.entries
-put_fits (Ok x) e old new ok err here h = subst (λ t. AllByRecursion Fits t.entries) (sym ok) (fits_with_entry e old here h.each)
-put_fits (Err x) e old new ok err here h = subst (λ t. AllByRecursion Fits t.entries) (sym err) h.each
-
-pub put_all_fit : {T E : Type 0} (r : Result T E) (es : List Entry) (old new : SeenMemtable) → OnOk r (new ≡ with_entries es old) → OnErr r (new ≡ old) → AllByRecursion Fits es → IsWritable old.entries → AllByRecursion Fits new.entries
-put_all_fit (Ok x) es old new ok err here h = subst (λ t. AllByRecursion Fits t.entries) (sym ok) (fits_with_entries es old here h.each)
-put_all_fit (Err x) es old new ok err here h = subst (λ t. AllByRecursion Fits t.entries) (sym err) h.each

@@ -17,7 +17,7 @@ use Rattle.lsm_versions.specs.Installs.{FlushesAreSteps}
 use Rattle.lsm_flush.specs.Jobs.{SeenWritten, IsWrittenFrom}
 use Rattle.lsm_parts.specs.declared.version.super_version.SuperVersion.{SuperVersion}
 use Rattle.lsm_parts.specs.History.{versions_of}
-use Rattle.lsm_state.specs.Held.{entries_of}
+use Rattle.lsm_parts.specs.Held.{entries_of}
 use Rattle.lsm_state.specs.Kept.{RiseFrom, first_or, NameOlder}
 use Rattle.lsm_state.specs.Core.{Core, shown_as, state_of}
 use Rattle.lsm_state.specs.Commits.{committed}

@@ -13,10 +13,11 @@ use Rattle.lsm_memtable.specs.Memtables.{SeenMemtable}
 use Rattle.lsm_parts.specs.declared.version.super_version.SuperVersion.{SuperVersion}
 use Rattle.lsm_parts.specs.History.{SeenHistory, oldest, versions_of}
 use Rattle.lsm_parts.specs.Maintenance.{needed_of, needed}
-use Rattle.lsm_state.specs.Held.{entries_of}
+use Rattle.lsm_parts.specs.Held.{entries_of}
 use Rattle.lsm_state.specs.Kept.{RiseFrom, named_by, least_named, NameOlder}
 use Rattle.lsm_state.specs.Core.{Core, shown_as, state_of}
-use Rattle.lsm_state.specs.Cleaning.{from_id, oldest_named, Cleans}
+use Rattle.lsm_parts.specs.Held.{from_id}
+use Rattle.lsm_state.specs.Cleaning.{oldest_named, Cleans}
 
 -- ---- memtables
 

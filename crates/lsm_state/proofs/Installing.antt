@@ -15,7 +15,7 @@ use Rattle.lsm_commit.specs.Stored.{IsStored, IsTableOnDisk, AreOnDisk, HoldsOne
 use Rattle.lsm_flush.specs.Jobs.{SeenWritten, SeenOpen}
 use Rattle.lsm_parts.specs.declared.version.super_version.SuperVersion.{SuperVersion}
 use Rattle.lsm_parts.specs.History.{SeenHistory, versions_of}
-use Rattle.lsm_state.specs.Held.{HasFirst, ids_of, is_among}
+use Rattle.lsm_parts.specs.Held.{HasFirst, ids_of, is_among}
 use Rattle.lsm_state.specs.Kept.{NameOlder, KeepsIds, KeepsTables}
 use Rattle.lsm_state.specs.Core.{Core, versions_left, written_of}
 use Rattle.lsm_commit.specs.Foreign.{passes_then}

@@ -6,7 +6,7 @@ use Rattle.lsm_memtable.specs.Memtables.{SeenMemtable, with_entry, with_entries,
 use Rattle.lsm_parts.specs.declared.version.super_version.SuperVersion.{SuperVersion}
 use Rattle.lsm_flush.specs.Jobs.{SeenOpen}
 use Rattle.lsm_parts.specs.History.{SeenHistory, versions_of, rotated}
-use Rattle.lsm_state.specs.Held.{put_all_first, HasFirst, ids_of, FallFrom, is_among}
+use Rattle.lsm_parts.specs.Held.{put_all_first, HasFirst, ids_of, FallFrom, is_among}
 use Rattle.lsm_state.specs.Kept.{NameHeld, RiseFrom, first_or, least_named, NameOlder, KeepsIds, KeepsTables}
 
 -- ---- writes

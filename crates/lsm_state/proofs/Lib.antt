@@ -14,7 +14,6 @@ pub mod Distinct
 pub mod FlushSteps
 pub mod FlushDeeds
 pub mod FlushReads
-pub mod Finding
 pub mod Answered
 pub mod Overlaid
 pub mod Counts

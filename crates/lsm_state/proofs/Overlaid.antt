@@ -12,7 +12,7 @@ use Rattle.lsm_parts.specs.History.{AreLaid}
 use Rattle.lsm_iter.specs.Shown.{ShowsOf, lies_within, begins_with}
 use Rattle.lsm_iter.specs.Answers.{ShownIsView, ShownIsOverlaid, overlaid, pairs_of}
 use Rattle.lsm_iter.specs.Reads.{SeenState}
-use Rattle.lsm_state.specs.Held.{entries_of}
+use Rattle.lsm_parts.specs.Held.{entries_of}
 use Rattle.lsm_state.specs.Core.{Core, shown_as, latest_of, older_of}
 use Rattle.lsm_state.specs.Kept.{IsKeptTree}
 use Rattle.lsm_state.specs.Ranges.{index_entries, counting, CountingIsOverlaid, RangesAreOverlaid, PrefixesAreOverlaid}

@@ -12,7 +12,7 @@ use Rattle.lsm_model.specs.declared.op.Op.{Op}
 use Rattle.lsm_memtable.specs.Memtables.{SeenMemtable, entry_size}
 use Rattle.lsm_below.specs.declared.error.Error.{Error}
 use Rattle.lsm_below.specs.declared.error.Error.TheVariants.{OutOfMemory}
-use Rattle.lsm_state.specs.Held.{entries_of, put_first, put_all_first, HasFirst, first_size}
+use Rattle.lsm_parts.specs.Held.{entries_of, put_first, put_all_first, HasFirst, first_size}
 use Rattle.lsm_state.specs.Core.{Core, state_of, written_core, written_all, drawn_core}
 use Rattle.lsm_state.specs.Refusals.{entry_refusal, batch_refusal}
 use Rattle.lsm_state.specs.Calls.{IsWriteStep, IsWriteRun, Appends, WritesBatch}

@@ -8,7 +8,7 @@ use Rattle.lsm_below.specs.Entries.{Entry}
 use Rattle.lsm_iter.specs.Reads.{Part, at}
 use Rattle.lsm_iter.specs.Left.{copied, copies}
 use Rattle.lsm_memtable.specs.Memtables.{SeenMemtable}
-use Rattle.lsm_state.specs.Held.{entries_of}
+use Rattle.lsm_parts.specs.Held.{entries_of}
 use Rattle.lsm_state.specs.Copies.{AreThose}
 
 module _ (mems : List SeenMemtable) (f : List Entry → List Entry) (none : f [] ≡ []) where

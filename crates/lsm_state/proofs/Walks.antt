@@ -10,7 +10,7 @@ use Rattle.lsm_model.specs.Views.{Memtables, sources, walk, front, found_at, loo
 use Rattle.lsm_parts.specs.declared.version.super_version.SuperVersion.{SuperVersion}
 use Rattle.lsm_parts.specs.History.{SeenHistory, found_version, oldest, versions_of}
 use Rattle.lsm_state.specs.Core.{Core, shown_as}
-use Rattle.lsm_state.specs.Held.{entries_of}
+use Rattle.lsm_parts.specs.Held.{entries_of}
 use Rattle.lsm_state.specs.Calls.{Finds, live}
 
 -- a walk goes on where it found nothing

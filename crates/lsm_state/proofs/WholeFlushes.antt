@@ -13,7 +13,7 @@ use Rattle.lsm_commit.specs.Stored.{HoldsOneOf, Leaves, AreAmong}
 use Rattle.lsm_commit.specs.Writing.{HoldEntries}
 use Rattle.lsm_flush.specs.Jobs.{SeenJob, SeenWritten, SeenOpen, IsWrittenFrom}
 use Rattle.lsm_flush.specs.declared.jobs.Registered.{Registered}
-use Rattle.lsm_state.specs.Held.{entries_of}
+use Rattle.lsm_parts.specs.Held.{entries_of}
 use Rattle.lsm_state.specs.Calls.{Rotates}
 use Rattle.lsm_state.specs.Kept.{KeepsTables}
 use Rattle.lsm_state.specs.Cleaning.{AreDrawnBelow, RemovesDrawn}

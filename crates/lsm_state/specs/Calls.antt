@@ -13,7 +13,7 @@ use Rattle.lsm_model.specs.declared.question.Answer.TheVariants.{Found}
 use Rattle.lsm_memtable.specs.Memtables.{entry_size}
 use Rattle.lsm_below.specs.declared.error.Error.{Error}
 use Rattle.lsm_below.specs.declared.error.Error.TheVariants.{OutOfMemory, SnapshotTooOld}
-use Rattle.lsm_state.specs.Held.{entries_of, first_size, first_entries}
+use Rattle.lsm_parts.specs.Held.{entries_of, first_size, first_entries}
 use Rattle.lsm_state.specs.Core.{Core, state_of, latest_of, older_of, written_core, written_all, drawn_core, rotated_core}
 use Rattle.lsm_state.specs.Refusals.{entry_refusal, batch_refusal}
 

@@ -10,13 +10,10 @@ use Rattle.lsm_manifest.specs.Names.{table_name, version_name}
 use Rattle.lsm_commit.specs.Causes.{HasFailed}
 use Rattle.lsm_memtable.specs.Memtables.{SeenMemtable}
 use Rattle.lsm_parts.specs.History.{SeenHistory, oldest, versions_of}
+use Rattle.lsm_parts.specs.Held.{from_id}
 use Rattle.lsm_parts.specs.Maintenance.{Forgets}
 use Rattle.lsm_state.specs.Kept.{least_named}
 use Rattle.lsm_state.specs.Core.{Core, written_of}
-
--- the memtables from this id on
-abbrev pub from_id : ℕ → List SeenMemtable → List SeenMemtable
-from_id n memtables = filter (λ m. nat_le n m.id) memtables
 
 -- the id of the oldest memtable that a super version names
 abbrev pub oldest_named : SeenHistory → ℕ

@@ -11,10 +11,11 @@ use Rattle.lsm_memtable.specs.Memtables.{new_memtable}
 use Rattle.lsm_versions.specs.Levels.{empty_levels}
 use Rattle.lsm_parts.specs.declared.version.super_version.SuperVersion.{SuperVersion}
 use Rattle.lsm_parts.specs.History.{SeenHistory}
-use Rattle.lsm_state.specs.Held.{first_entries}
+use Rattle.lsm_parts.specs.Held.{first_entries}
 use Rattle.lsm_state.specs.Core.{Core, state_of}
 use Rattle.lsm_state.specs.Commits.{counted, committed, doubted, fresh_in}
-use Rattle.lsm_state.specs.Cleaning.{from_id, oldest_named}
+use Rattle.lsm_parts.specs.Held.{from_id}
+use Rattle.lsm_state.specs.Cleaning.{oldest_named}
 use Rattle.lsm_state.specs.Deeds.{saved_of, IsNoDeed}
 use Rattle.lsm_state.specs.CompactionReads.{SparesReads, IsAny, AreSparedBy}
 

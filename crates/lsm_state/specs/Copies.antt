@@ -9,7 +9,7 @@ use Rattle.lsm_memtable.specs.Memtables.{SeenMemtable}
 use Rattle.lsm_iter.specs.Prefixes.{LetsInJust}
 use Rattle.lsm_iter.specs.Reads.{at, index_of}
 use Rattle.lsm_iter.specs.Left.{copies}
-use Rattle.lsm_state.specs.Held.{entries_of}
+use Rattle.lsm_parts.specs.Held.{entries_of}
 use Rattle.lsm_state.specs.Core.{Core}
 use Rattle.lsm_state.specs.Ranges.{Index, AtVersion}
 

@@ -12,7 +12,7 @@ use Rattle.lsm_flush.specs.Jobs.{SeenOpen}
 use Rattle.lsm_compaction.specs.OpenMerges.{SeenMerges, no_merges}
 use Rattle.lsm_versions.specs.Levels.{SeenVersion, empty_levels, placed_of}
 use Rattle.lsm_parts.specs.History.{SeenHistory, first_version, rotated}
-use Rattle.lsm_state.specs.Held.{entries_of, put_first, put_all_first}
+use Rattle.lsm_parts.specs.Held.{entries_of, put_first, put_all_first}
 
 -- a tree: its configuration, its memtables, the active one first, its super versions, the ids and job numbers that it draws
 -- next, the moment at which tables are made, its counters, its open flush, the version of a commit of unknown outcome, and

@@ -4,7 +4,7 @@ use Rattle.lsm_below.specs.Entries.{Entry}
 use Rattle.lsm_below.specs.Sums.{capped}
 use Rattle.lsm_tables.specs.Tables.{SeenTable}
 use Rattle.lsm_versions.specs.Levels.{all_of}
-use Rattle.lsm_state.specs.Held.{entries_of}
+use Rattle.lsm_parts.specs.Held.{entries_of}
 use Rattle.lsm_state.specs.Kept.{named_by}
 use Rattle.lsm_state.specs.Core.{Core}
 

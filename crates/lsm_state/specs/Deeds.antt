@@ -8,7 +8,7 @@ use Rattle.lsm_model.specs.Beginnings.{Note, Saved, Done, Lost, Deeds, IsFresh}
 use Rattle.lsm_model.specs.declared.journal.JournalEntry.TheVariants.{Mark}
 use Rattle.lsm_versions.specs.declared.config.Config.{Config}
 use Rattle.lsm_versions.specs.Levels.{SeenVersion, placed_of}
-use Rattle.lsm_state.specs.Held.{entries_of}
+use Rattle.lsm_parts.specs.Held.{entries_of}
 use Rattle.lsm_state.specs.Core.{Core, state_of, latest_of, opened_core}
 
 -- the theory's state after a journal, with notes

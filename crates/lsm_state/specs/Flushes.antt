@@ -16,7 +16,7 @@ use Rattle.lsm_flush.specs.Jobs.{SeenJob, SeenMerged, SeenWritten, SeenOpen, pas
 use Rattle.lsm_flush.specs.declared.jobs.Registered.{Registered}
 use Rattle.lsm_parts.specs.declared.version.super_version.SuperVersion.{SuperVersion}
 use Rattle.lsm_parts.specs.Versions.{IsLaid}
-use Rattle.lsm_state.specs.Held.{entries_of}
+use Rattle.lsm_parts.specs.Held.{entries_of}
 use Rattle.lsm_state.specs.Core.{Core}
 use Rattle.lsm_state.specs.Commits.{counted, committed, doubted}
 use Rattle.lsm_state.specs.Cleaning.{Cleans}

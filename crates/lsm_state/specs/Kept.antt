@@ -8,7 +8,7 @@ use Rattle.lsm_compaction.specs.OpenMerges.{AreOpen}
 use Rattle.lsm_memtable.specs.Memtables.{SeenMemtable}
 use Rattle.lsm_parts.specs.declared.version.super_version.SuperVersion.{SuperVersion}
 use Rattle.lsm_parts.specs.History.{SeenHistory, versions_of, AreLaid}
-use Rattle.lsm_state.specs.Held.{HasFirst, ids_of, FallFrom, is_among}
+use Rattle.lsm_parts.specs.Held.{HasFirst, ids_of, FallFrom, is_among}
 use Rattle.lsm_state.specs.Core.{Core, written_by}
 
 -- the ids that a super version names are among those that are held

@@ -1,4 +1,3 @@
-pub mod Held
 pub mod Core
 pub mod Refusals
 pub mod Kept

@@ -19,7 +19,7 @@ use Rattle.lsm_commit.specs.Foreign.{Passes}
 use Rattle.lsm_manifest.specs.declared.opening.Opened.{Opened}
 use Rattle.lsm_manifest.specs.declared.found.Found.{Found as FoundFiles}
 use Rattle.lsm_state.specs.declared.opening.found.Found.{Found}
-use Rattle.lsm_state.specs.Held.{entries_of}
+use Rattle.lsm_parts.specs.Held.{entries_of}
 use Rattle.lsm_state.specs.Core.{Core, Seen, state_of, latest_of, versions_left, written_of}
 
 -- what is told of the files

@@ -20,7 +20,7 @@ use Rattle.lsm_iter.specs.Answers.{pairs_of, AreApart, StandOnce, IsOnTop, overl
 use Rattle.lsm_iter.specs.Ends.{EndShown}
 use Rattle.lsm_iter.specs.Guards.{Pair, Item, pair_of}
 use Rattle.lsm_iter.specs.declared.tree_iter.End.{End}
-use Rattle.lsm_state.specs.Held.{entries_of}
+use Rattle.lsm_parts.specs.Held.{entries_of}
 use Rattle.lsm_state.specs.Core.{Core, state_of, latest_of, older_of}
 use Rattle.lsm_state.specs.Kept.{IsKeptTree}
 

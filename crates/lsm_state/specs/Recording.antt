@@ -20,14 +20,6 @@ use Rattle.lsm_state.specs.Calls.{IsWriteRun}
 use Rattle.lsm_state.specs.Commits.{counted}
 use Rattle.lsm_state.specs.Refusals.{batch_refusal}
 
--- ---- memtables
-
--- what was put into the first memtable is taken back
-abbrev pub TakesFirstBack : Revocable → List SeenMemtable → List SeenMemtable → Type 0
-TakesFirstBack r [] now = ⊥
-TakesFirstBack r (b ∷ before) [] = ⊥
-TakesFirstBack r (b ∷ before) (n ∷ now) = TakesBack r b n × IsWritable b.entries × (now ≡ before)
-
 -- ---- the store
 
 -- a record was put: of its name a crash leaves what the row says, and of each other name what it could before

@@ -7,7 +7,7 @@ use Rattle.lsm_commit.specs.Writing.{HoldEntries}
 use Rattle.lsm_versions.specs.Refusals.{IsRefusedFor}
 use Rattle.lsm_flush.specs.Jobs.{SeenJob, SeenWritten, IsWrittenFrom}
 use Rattle.lsm_flush.specs.declared.jobs.Registered.{Registered}
-use Rattle.lsm_state.specs.Held.{size_at}
+use Rattle.lsm_parts.specs.Held.{size_at}
 use Rattle.lsm_state.specs.Core.{Core}
 use Rattle.lsm_state.specs.Calls.{Rotates}
 use Rattle.lsm_state.specs.Flushes.{sealed_ids, job_in, with_next_table, wrote, spent, Installs, Doubts, IsFlushDeed, IsLostFlush}

@@ -9,16 +9,17 @@ ghost use Rattle.lsm_parts.specs.History.{versions_of};
 ghost use Rattle.lsm_parts.specs.Maintenance.{AreGone};
 ghost use Rattle.lsm_commit.specs.Causes.{HasCause};
 ghost use Rattle.lsm_state.specs.Kept.{least_named, KeepsIds, KeepsTables};
-ghost use Rattle.lsm_state.specs.Held.{HasFirst};
+ghost use Rattle.lsm_parts.specs.Held.{HasFirst};
 ghost use Rattle.lsm_state.specs.Commits.{counted, fronted, next_id, fresh_in, Commits, UpholdsFiles, Upholds};
 ghost use Rattle.lsm_state.specs.Cleaning.{Cleans};
 
-use crate::memtables::sealed::Room;
-use crate::{Memtables, TreeState};
+use crate::TreeState;
 use lsm_below::{MemtableId, SeqNo};
 use lsm_commit::{commit_version, crashes_leave_versions};
 use lsm_manifest::encode_version;
-use lsm_parts::{Error, LIMIT, SequenceNumberCounter, SuperVersion, SuperVersions, Version};
+use lsm_parts::{
+    Error, LIMIT, Memtables, Room, SequenceNumberCounter, SuperVersion, SuperVersions, Version,
+};
 use lsm_store::Store;
 use std::alloc::Global;
 

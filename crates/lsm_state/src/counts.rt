@@ -8,23 +8,14 @@ ghost use Rattle.lsm_tables.specs.Tables.{tombstones, weak_tombstones, reclaimab
 ghost use Rattle.lsm_memtable.specs.Memtables.{highest_of};
 ghost use Rattle.lsm_versions.specs.Levels.{bytes_of};
 ghost use Rattle.lsm_parts.specs.History.{named_size};
-ghost use Rattle.lsm_state.specs.Held.{HasFirst};
+ghost use Rattle.lsm_parts.specs.Held.{HasFirst};
 ghost use Rattle.lsm_state.specs.WholeFlushes.{sealed_bytes};
 ghost use Rattle.lsm_state.specs.Counts.{tables_now, persisted_of, unflushed_of, counted_now};
 
 use crate::TreeState;
 use lsm_below::SeqNo;
+use lsm_parts::greater_of;
 use lsm_store::Store;
-
-/// The greater of two sequence numbers, where there is one.
-pub(crate) fn greater_of(one: Option<SeqNo>, other: Option<SeqNo>) -> Option<SeqNo>
-    ensures { (xs ys : List Entry) → one ≡ highest_of xs → other ≡ highest_of ys → result ≡ highest_of (xs ++ ys) }
-{
-    match one {
-        Some(seqno) => Some(seqno.max(other.unwrap_or(0))),
-        None => other,
-    }
-}
 
 /// Counts, sizes and greatest sequence numbers. None of these calls takes memory or calls the store, and none is
 /// refused. What is counted of tables costs constant time. A sum past 2^64 - 1 stands there.

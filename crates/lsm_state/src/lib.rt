@@ -2,8 +2,6 @@
 //!
 //! | Module | Holds |
 //! |-|-|
-//! | `memtables` | the memtables that are held, by id |
-//! | `memtables::sealed` | one that takes no more writes, and room for one more |
 //! | `tree` | the tree: its counters, rotation |
 //! | `opening` | how it is opened over a store, and what it says of its version |
 //! | `opening::found` | what a store holds of it, before anything is changed |
@@ -33,7 +31,6 @@ mod counts;
 mod flush;
 mod laws;
 mod lending;
-mod memtables;
 mod opening;
 mod reads;
 mod tree;
@@ -45,6 +42,5 @@ pub use laws::{
     flushes_keep_reads, lists_are_steps, opened_trees_are_fresh, ranges_are_overlaid,
 };
 pub use lsm_below::{MAX_KEY_LEN, MAX_VALUE_LEN};
-use memtables::Memtables;
 pub use opening::Found;
 pub use tree::TreeState;

@@ -3,13 +3,13 @@ ghost use Rattle.std.specs.Prelude.{◌≡◌, Option, None, Some, is_some, opti
 ghost use Rattle.lsm_below.specs.Entries.{value_of as value_given};
 ghost use Rattle.lsm_model.specs.Views.{found_at, sources, walk as walk_sources, shown as value_shown};
 ghost use Rattle.lsm_below.specs.Keys.{Bytes};
-ghost use Rattle.lsm_state.specs.Held.{entries_of};
+ghost use Rattle.lsm_parts.specs.Held.{entries_of};
 ghost use Rattle.lsm_state.specs.Core.{latest_of, older_of, shown_as};
 ghost use Rattle.lsm_state.specs.Calls.{Finds, Gives, GivesEntry, IsGetStep, RefusesRead, RefusesOld, live, value_size};
 
-use crate::{Memtables, TreeState};
+use crate::TreeState;
 use lsm_below::{InternalValue, MemtableId, SeqNo, UserValue, ValueType};
-use lsm_parts::{Error, SuperVersion};
+use lsm_parts::{Error, Memtables, SuperVersion};
 use lsm_store::Store;
 use std::alloc::AllocError;
 

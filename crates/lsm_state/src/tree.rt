@@ -8,14 +8,14 @@ ghost use Rattle.lsm_parts.specs.History.{found_version};
 ghost use Rattle.lsm_versions.specs.declared.version.TreeType.TheVariants.{Standard};
 ghost use Rattle.lsm_state.specs.Deeds.{IsNoDeed};
 ghost use Rattle.lsm_state.specs.Flushes.{with_next_table};
-ghost use Rattle.lsm_state.specs.Held.{HasFirst, first_entries};
+ghost use Rattle.lsm_parts.specs.Held.{HasFirst, first_entries};
 
-use crate::Memtables;
 use lsm_below::{MemtableId, SeqNo, TableId, TreeId};
 use lsm_compaction::OpenMerges;
 use lsm_flush::OpenFlush;
 use lsm_parts::{
-    Config, Error, LIMIT, Memtable, SequenceNumberCounter, SuperVersion, SuperVersions, Version,
+    Config, Error, LIMIT, Memtable, Memtables, SequenceNumberCounter, SuperVersion, SuperVersions,
+    Version,
 };
 use lsm_store::{MemStore, Store};
 use lsm_versions::{CompactionState, TreeType};

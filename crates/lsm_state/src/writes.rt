@@ -6,13 +6,13 @@ ghost use Rattle.lsm_tables.specs.Image.{Fits};
 ghost use Rattle.lsm_model.specs.Ops.{op_entry, op_entries, op_value, repeats, keys_of};
 ghost use Rattle.lsm_state.specs.Refusals.{entry_refusal, batch_refusal, is_long_key, is_long_value};
 ghost use Rattle.lsm_model.specs.declared.op.Op.TheVariants.{Set, Del, Weak};
-ghost use Rattle.lsm_state.specs.Held.{put_all_first};
+ghost use Rattle.lsm_parts.specs.Held.{put_all_first};
 ghost use Rattle.lsm_state.specs.Calls.{Appends, WritesBatch};
 
-use crate::{Memtables, TreeState};
+use crate::TreeState;
 use lsm_below::{InternalValue, MAX_KEY_LEN, MAX_VALUE_LEN, SeqNo, UserKey, UserValue};
 use lsm_model::{Op, has_repeats};
-use lsm_parts::{Error, LIMIT};
+use lsm_parts::{Error, LIMIT, Memtables};
 use lsm_store::Store;
 use std::alloc::{AllocError, Global};
 

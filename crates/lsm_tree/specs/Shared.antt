@@ -10,7 +10,7 @@ use Rattle.lsm_below.specs.declared.error.Error.{Error}
 use Rattle.lsm_below.specs.declared.error.Error.TheVariants.{OutOfMemory, OutOfNumbers, OutOfOrder, SnapshotTooOld}
 use Rattle.lsm_versions.specs.declared.config.TheConstants.{LIMIT}
 use Rattle.lsm_state.specs.Core.{Core, latest_of, older_of, state_of}
-use Rattle.lsm_state.specs.Held.{first_entries}
+use Rattle.lsm_parts.specs.Held.{first_entries}
 use Rattle.lsm_state.specs.Kept.{IsKeptTree}
 use Rattle.lsm_logged.specs.Keeping.{SeenLogged, IsKeptLogged}
 use Rattle.lsm_recorded.specs.Passes.{listed}

@@ -14,12 +14,12 @@ ghost use Rattle.lsm_commit.specs.Stored.{IsStored};
 ghost use Rattle.lsm_state.specs.Core.{versions_left, written_of, opened_core};
 ghost use Rattle.lsm_state.specs.Opened.{files_told, store_left, StartsFrom};
 
-use crate::{Memtables, TreeState};
+use crate::TreeState;
 use lsm_below::Error;
 use lsm_commit::opening_stores;
 use lsm_compaction::OpenMerges;
 use lsm_manifest::{Found as FoundFiles, finish_opening};
-use lsm_parts::{Config, SequenceNumberCounter, SuperVersions, Version};
+use lsm_parts::{Config, Memtables, SequenceNumberCounter, SuperVersions, Version};
 use lsm_store::Store;
 use std::alloc::Global;
 

@@ -10,10 +10,10 @@ ghost use Rattle.lsm_state.specs.Ranges.{counting, Ranges, Prefixes, Numbers, Pa
 ghost use Rattle.lsm_iter.specs.Shown.{Shows, ShowsPrefix};
 ghost use Rattle.lsm_iter.specs.Ends.{EndShown, NumberShown};
 
-use crate::{Memtables, TreeState, lists_are_steps};
+use crate::{TreeState, lists_are_steps};
 use lsm_below::{InternalValue, MemtableId, SeqNo, UserKey};
 use lsm_iter::{End, Guard, IterState, Pairs, TreeIter, count_shown, end_shown};
-use lsm_parts::{Error, Memtable, SuperVersion};
+use lsm_parts::{Error, Memtable, Memtables, SuperVersion};
 use lsm_store::Store;
 use std::alloc::{AllocError, Global};
 use std::ops::Bound;

@@ -5,18 +5,18 @@ ghost use Rattle.lsm_tables.specs.Image.{Fits};
 ghost use Rattle.lsm_model.specs.Ops.{op_entries};
 ghost use Rattle.lsm_commit.specs.Stored.{CountsFaults};
 ghost use Rattle.lsm_log.specs.Records.{IsRecordOf};
-ghost use Rattle.lsm_state.specs.Held.{put_all_first};
+ghost use Rattle.lsm_parts.specs.Held.{put_all_first};
 ghost use Rattle.lsm_state.specs.Refusals.{batch_refusal};
 ghost use Rattle.lsm_state.specs.Recording.{Records, RecordsBatch, WritesBehindRecord};
 ghost use Rattle.lsm_state.specs.Commits.{UpholdsFiles};
 
+use crate::TreeState;
 use crate::writes::{check_batch, make_entries};
-use crate::{Memtables, TreeState};
 use lsm_below::{InternalValue, SeqNo, UserKey};
 use lsm_commit::crashes_leave_versions;
 use lsm_log::{encode, put_record};
 use lsm_model::Op;
-use lsm_parts::Error;
+use lsm_parts::{Error, Memtables};
 use lsm_store::Store;
 use std::alloc::Global;
 

@@ -8,7 +8,7 @@ ghost use Rattle.lsm_compaction.specs.OpenMerges.{hides};
 ghost use Rattle.lsm_versions.specs.Levels.{all_of, bytes_of};
 ghost use Rattle.lsm_versions.specs.declared.version.TreeType.TheVariants.{Standard};
 ghost use Rattle.lsm_parts.specs.History.{named_size};
-ghost use Rattle.lsm_state.specs.Held.{HasFirst};
+ghost use Rattle.lsm_parts.specs.Held.{HasFirst};
 ghost use Rattle.lsm_state.specs.WholeFlushes.{sealed_bytes};
 ghost use Rattle.lsm_state.specs.Counts.{tables_now, persisted_of, unflushed_of, counted_now};
 ghost use Rattle.lsm_tree.specs.Shared.{AtSomeTree, AtSomeLogged};

@@ -1,6 +1,6 @@
 use Rattle.std.proofs.Common.{map, reverse, ap, ◌∙◌}
 use Rattle.lsm_model.specs.Views.{walk as walk_sources}
-use Rattle.lsm_state.specs.Held.{entries_of}
+use Rattle.lsm_parts.specs.Held.{entries_of}
 use Rattle.lsm_state.proofs.Walks.{stops, goes_on}
 use Rattle.lsm_state.proofs.reads.walk.Goals as goal
 

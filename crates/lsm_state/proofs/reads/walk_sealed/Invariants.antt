@@ -1,6 +1,6 @@
 use Rattle.std.proofs.Common.{◌≡◌, map, reverse, length}
 use Rattle.lsm_model.specs.Views.{walk}
-use Rattle.lsm_state.specs.Held.{entries_of}
+use Rattle.lsm_parts.specs.Held.{entries_of}
 use Rattle.lsm_state.proofs.reads.walk_sealed.Given as goal
 
 abbrev pub invariant-loop-id : goal.invariant-loop-id

@@ -1,6 +1,6 @@
 use Rattle.std.proofs.Common.{◌≡◌, map, take}
 use Rattle.lsm_flush.specs.Jobs.{ids_in, entries_in}
-use Rattle.lsm_state.specs.Held.{entries_of}
+use Rattle.lsm_parts.specs.Held.{entries_of}
 use Rattle.lsm_state.proofs.flush.register.have_entries.Given as goal
 
 -- as far as they were compared, they are the same

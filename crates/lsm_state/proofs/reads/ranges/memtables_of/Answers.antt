@@ -1,5 +1,5 @@
 use Rattle.std.proofs.Common.{◌∷◌, ◌++◌, [], flat_map, reverse, sym, subst, ap, ◌∙◌, append-nil}
-use Rattle.lsm_state.specs.Held.{entries_of}
+use Rattle.lsm_parts.specs.Held.{entries_of}
 use Rattle.lsm_state.specs.Copies.{AreThose}
 use Rattle.lsm_state.proofs.Those.{found_more}
 use Rattle.lsm_state.proofs.reads.ranges.memtables_of.Goals as goal

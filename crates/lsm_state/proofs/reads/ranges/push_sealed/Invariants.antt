@@ -1,6 +1,6 @@
 use Rattle.std.proofs.Common.{◌≡◌, ◌++◌, List, [], flat_map, reverse, length}
 use Rattle.lsm_below.specs.Entries.{Entry}
-use Rattle.lsm_state.specs.Held.{entries_of}
+use Rattle.lsm_parts.specs.Held.{entries_of}
 use Rattle.lsm_state.proofs.reads.ranges.push_sealed.Given as goal
 
 -- what is listed, and what is left to list, are all

@@ -4,7 +4,7 @@ use Rattle.lsm_versions.specs.declared.totals.Totals.{Totals}
 use Rattle.lsm_versions.specs.Levels.{all_of}
 use Rattle.lsm_versions.specs.Totals.{totals_of}
 use Rattle.lsm_parts.specs.declared.version.super_version.SuperVersion.{SuperVersion}
-use Rattle.lsm_state.specs.Held.{entries_of}
+use Rattle.lsm_parts.specs.Held.{entries_of}
 use Rattle.lsm_state.proofs.Countings.{all_counted}
 use Rattle.lsm_state.proofs.tree.TreeState.approximate_len.Goals as goal
 

@@ -1,6 +1,6 @@
 use Rattle.std.proofs.Common.{ap, ◌∙◌, subst, sym, reverse}
 use Rattle.std.specs.List.{AllByRecursion}
-use Rattle.lsm_state.specs.Held.{IsSealedIn}
+use Rattle.lsm_parts.specs.Held.{IsSealedIn}
 use Rattle.lsm_state.proofs.Holding.{sealed_are_held}
 use Rattle.lsm_state.proofs.tree.TreeState.begin_flush.Goals as goal
 

@@ -1,11 +1,11 @@
 use Rattle.lsm_commit.specs.Causes.{HasCause}
 use Rattle.lsm_state.proofs.Causing.{unclean}
 use Rattle.std.proofs.Common.{◌≡◌, ◌≤◌, None, ap, sym, subst, ◌∙◌, refl, false}
-use Rattle.lsm_state.specs.Held.{HasFirst}
+use Rattle.lsm_parts.specs.Held.{HasFirst}
 use Rattle.lsm_state.specs.Kept.{KeepsIds, least_named}
 use Rattle.lsm_state.specs.Core.{Core}
 use Rattle.lsm_state.specs.Commits.{Upholds}
-use Rattle.lsm_state.specs.Cleaning.{from_id}
+use Rattle.lsm_parts.specs.Held.{from_id}
 use Rattle.lsm_state.proofs.CleaningUp.{active_over, ids_cleaned, tables_cleaned, cleaned_upholds}
 use Rattle.lsm_state.proofs.tree.TreeState.clean_up.Goals as goal
 

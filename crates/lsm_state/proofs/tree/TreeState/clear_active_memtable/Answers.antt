@@ -1,8 +1,9 @@
 use Rattle.std.proofs.Common.{◌+◌, ◌≤◌, ◌∷◌, sym, subst, ap, ◌∙◌}
 use Rattle.lsm_memtable.specs.Memtables.{new_memtable}
-use Rattle.lsm_state.specs.Held.{HasFirst}
+use Rattle.lsm_parts.specs.Held.{HasFirst}
 use Rattle.lsm_state.specs.Kept.{least_named}
-use Rattle.lsm_state.specs.Cleaning.{from_id, oldest_named}
+use Rattle.lsm_parts.specs.Held.{from_id}
+use Rattle.lsm_state.specs.Cleaning.{oldest_named}
 use Rattle.lsm_state.specs.Clearing.{flushed_only}
 use Rattle.lsm_state.proofs.CleaningUp.{active_first, ids_named}
 use Rattle.lsm_state.proofs.Clears.{ids_forgotten, tables_forgotten}

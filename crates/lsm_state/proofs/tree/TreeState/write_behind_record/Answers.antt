@@ -4,7 +4,7 @@ use Rattle.lsm_below.specs.declared.error.Error.TheVariants.{OutOfMemory, Store,
 use Rattle.lsm_commit.specs.Stored.{CountsFaults}
 use Rattle.lsm_state.specs.Core.{Core}
 use Rattle.lsm_state.specs.Commits.{UpholdsFiles}
-use Rattle.lsm_state.specs.Held.{put_all_first}
+use Rattle.lsm_parts.specs.Held.{put_all_first}
 use Rattle.lsm_state.specs.Kept.{KeepsIds}
 use Rattle.lsm_state.specs.Refusals.{batch_refusal}
 use Rattle.lsm_state.specs.Recording.{WritesBehindRecord, RecordsBatch}
