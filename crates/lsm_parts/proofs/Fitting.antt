@@ -1,22 +1,13 @@
 -- What is put into a memtable fits a table's file, as what stood there does.
-use Rattle.std.proofs.Common.{◌≡◌, ℕ, ◌<◌, ◌^◌, Bool, true, false, cond, ◌||◌, List, [], ◌∷◌, Some, None, Result, Ok, Err, OnOk, OnErr, length, refl, arith, sym, subst}
-use Rattle.std.specs.List.{AllByRecursion, list_any}
+use Rattle.std.proofs.Common.{◌≡◌, List, [], ◌∷◌, Result, Ok, Err, OnOk, OnErr, sym, subst}
+use Rattle.std.specs.List.{AllByRecursion}
 use Rattle.std.specs.declared.cmp.Ordering.{Ordering}
 use Rattle.std.specs.declared.cmp.Ordering.TheVariants.{Less, Equal, Greater}
-use Rattle.std.proofs.lemmas.Bool.Decides.{nat_tests}
-use Rattle.lsm_below.specs.Keys.{Bytes}
-use Rattle.lsm_below.specs.Entries.{Entry, entry_cmp, kept_value, plain}
+use Rattle.lsm_below.specs.Entries.{Entry, entry_cmp}
 use Rattle.lsm_below.specs.Sorted.{put, by_ordering}
-use Rattle.lsm_below.specs.declared.value_type.ValueType.{ValueType}
-use Rattle.lsm_below.specs.declared.value_type.ValueType.TheVariants.{Value, Tombstone, WeakTombstone}
-use Rattle.lsm_below.specs.declared.error.Error.TheVariants.{OutOfNumbers, KeyTooLong, ValueTooLong, NumberTooGreat, DuplicateKey}
 use Rattle.lsm_tables.specs.Image.{Fits}
 use Rattle.lsm_tables.specs.Cutting.{IsWritable}
 use Rattle.lsm_memtable.specs.Memtables.{SeenMemtable, with_entry, with_entries}
-use Rattle.lsm_model.specs.Ops.{op_entry, op_entries, op_value, repeats, keys_of}
-use Rattle.lsm_model.specs.declared.op.Op.{Op}
-use Rattle.lsm_model.specs.declared.op.Op.TheVariants.{Set, Del, Weak}
-use Rattle.lsm_state.specs.Refusals.{is_great, is_long_key, is_long_value, entry_refusal, batch_refusal}
 
 each_put : (P : Entry → Type 0) (e : Entry) (es : List Entry) → P e → AllByRecursion P es → AllByRecursion P (put entry_cmp e es)
 each_put P e [] here h = (here, tt)

@@ -1,12 +1,11 @@
 -- Memtables that are held, by their ids.
-use Rattle.std.proofs.Common.{◌≡◌, ℕ, ◌+◌, ◌<◌, ◌≤◌, Bool, true, false, cond, ◌||◌, List, [], ◌∷◌, ◌++◌, Some, None, reverse, take, length, zero, suc, get_or, refl, sym, ap, ◌∙◌, subst, arith, eqb, leb}
+use Rattle.std.proofs.Common.{◌≡◌, ℕ, ◌<◌, ◌≤◌, Bool, true, false, cond, ◌||◌, List, [], ◌∷◌, Some, None, take, length, zero, suc, get_or, refl, sym, ap, ◌∙◌, subst, arith, eqb, leb}
 use Rattle.std.proofs.lemmas.Bool.Decides.{nat_tests}
-use Rattle.std.proofs.lemmas.List.{reverse-append}
 use Rattle.std.specs.List.{AllByRecursion, AllWithin}
 use Rattle.std.specs.List.Sorted.{IsPartitionedBy, IsPartitionPoint}
 use Rattle.lsm_tables.specs.Cutting.{IsWritable}
 use Rattle.lsm_memtable.specs.Memtables.{SeenMemtable}
-use Rattle.lsm_parts.specs.Held.{entries_of, held_at, HasFirst, ids_of, FallFrom, is_among, IsSealedIn}
+use Rattle.lsm_parts.specs.Held.{entries_of, held_at, ids_of, FallFrom, is_among, IsSealedIn}
 use Rattle.lsm_parts.specs.Held.{from_id}
 use Rattle.lsm_parts.proofs.Finding.{all_lower, entries_or, entries_at}
 

@@ -1,5 +1,5 @@
 // The memtables that are held, by id.
-ghost use Rattle.std.specs.Prelude.{◌≡◌, ℕ, ◌<◌, ◌≤◌, ◌∷◌, [], List, length, map, flat_map, sum_by, if◌then◌else◌, Some, IfOk, IfErr, OnOk, OnErr, IsTrue, IsSome, ◌↔◌, option_copied, MatchOption};
+ghost use Rattle.std.specs.Prelude.{◌≡◌, ℕ, ◌<◌, ◌≤◌, ◌∷◌, ◌++◌, [], List, length, map, flat_map, sum_by, if◌then◌else◌, Some, IfOk, IfErr, OnOk, OnErr, IsTrue, IsSome, ◌↔◌, option_copied, MatchOption};
 ghost use Rattle.std.specs.List.{AllByRecursion, list_any};
 ghost use Rattle.lsm_below.specs.Entries.{Entry, top};
 ghost use Rattle.lsm_below.specs.Sums.{capped};
@@ -43,6 +43,7 @@ impl Model for Memtables {
     ghost use Rattle.std.specs.Prelude.{List, ◌∷◌};
     ghost use Rattle.std.specs.List.{AllByRecursion};
     ghost use Rattle.lsm_tables.specs.Cutting.{IsWritable};
+    ghost use Rattle.lsm_memtable.specs.Memtables.{SeenMemtable};
     ghost use Rattle.lsm_parts.specs.Held.{FallFrom, ids_of};
 
     ghost Value = { List SeenMemtable };
