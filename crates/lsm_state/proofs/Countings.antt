@@ -1,13 +1,12 @@
 -- What is counted of entries, and of others behind them.
-use Rattle.std.proofs.Common.{◌≡◌, ℕ, ◌+◌, ◌^◌, ◌<◌, ◌≤◌, Bool, true, false, cond, List, [], ◌∷◌, ◌++◌, Option, Some, None, length, flat_map, filter, fold, sum_by, max, unwrap_or, zero, suc, refl, ap, ◌∙◌, arith}
+use Rattle.std.proofs.Common.{◌≡◌, ℕ, ◌+◌, ◌≤◌, List, [], ◌∷◌, ◌++◌, Some, None, length, flat_map, sum_by, max, unwrap_or, zero, suc, refl, ap, ◌∙◌, arith}
 use Rattle.std.proofs.lemmas.List.Concat.{flat_map-cons, length-flat_map}
 use Rattle.std.proofs.lemmas.List.{length-append}
-use Rattle.std.proofs.lemmas.List.Sums.{sum_by-cons}
 use Rattle.std.proofs.lemmas.Grind.{flat_map-append}
 use Rattle.lsm_below.specs.Entries.{Entry}
 use Rattle.lsm_below.specs.Sums.{capped}
 use Rattle.lsm_tables.specs.Tables.{SeenTable, greatest}
-use Rattle.lsm_memtable.specs.Memtables.{SeenMemtable, highest_of}
+use Rattle.lsm_memtable.specs.Memtables.{highest_of}
 use Rattle.lsm_versions.specs.Totals.{greatest_of}
 
 -- ---- sequence numbers

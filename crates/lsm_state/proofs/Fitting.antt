@@ -1,18 +1,13 @@
 -- Accepted writes fit files, and memtables keep it.
-use Rattle.std.proofs.Common.{◌≡◌, ℕ, ◌<◌, ◌^◌, Bool, true, false, cond, ◌||◌, List, [], ◌∷◌, Some, None, Result, Ok, Err, OnOk, OnErr, length, refl, arith, sym, subst}
+use Rattle.std.proofs.Common.{◌≡◌, ℕ, ◌<◌, ◌^◌, Bool, true, false, cond, ◌||◌, List, [], ◌∷◌, Some, None, length, refl, arith}
 use Rattle.std.specs.List.{AllByRecursion, list_any}
-use Rattle.std.specs.declared.cmp.Ordering.{Ordering}
-use Rattle.std.specs.declared.cmp.Ordering.TheVariants.{Less, Equal, Greater}
 use Rattle.std.proofs.lemmas.Bool.Decides.{nat_tests}
 use Rattle.lsm_below.specs.Keys.{Bytes}
-use Rattle.lsm_below.specs.Entries.{Entry, entry_cmp, kept_value, plain}
-use Rattle.lsm_below.specs.Sorted.{put, by_ordering}
+use Rattle.lsm_below.specs.Entries.{Entry, kept_value, plain}
 use Rattle.lsm_below.specs.declared.value_type.ValueType.{ValueType}
 use Rattle.lsm_below.specs.declared.value_type.ValueType.TheVariants.{Value, Tombstone, WeakTombstone}
 use Rattle.lsm_below.specs.declared.error.Error.TheVariants.{OutOfNumbers, KeyTooLong, ValueTooLong, NumberTooGreat, DuplicateKey}
 use Rattle.lsm_tables.specs.Image.{Fits}
-use Rattle.lsm_tables.specs.Cutting.{IsWritable}
-use Rattle.lsm_memtable.specs.Memtables.{SeenMemtable, with_entry, with_entries}
 use Rattle.lsm_model.specs.Ops.{op_entry, op_entries, op_value, repeats, keys_of}
 use Rattle.lsm_model.specs.declared.op.Op.{Op}
 use Rattle.lsm_model.specs.declared.op.Op.TheVariants.{Set, Del, Weak}

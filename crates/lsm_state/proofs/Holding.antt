@@ -1,16 +1,11 @@
 -- The sealed memtables of the latest super version are held.
-use Rattle.std.proofs.Common.{◌≡◌, ℕ, ◌+◌, ◌<◌, ◌≤◌, Bool, true, false, cond, ◌||◌, List, [], ◌∷◌, ◌++◌, Some, None, reverse, take, length, zero, suc, get_or, refl, sym, ap, ◌∙◌, subst, arith, eqb, leb}
-use Rattle.std.proofs.lemmas.Bool.Decides.{nat_tests}
+use Rattle.std.proofs.Common.{◌≡◌, ℕ, ◌+◌, ◌<◌, ◌≤◌, true, List, [], ◌∷◌, ◌++◌, reverse, sym, subst, arith}
 use Rattle.std.proofs.lemmas.List.{reverse-append}
-use Rattle.std.specs.List.{AllByRecursion, AllWithin}
-use Rattle.std.specs.List.Sorted.{IsPartitionedBy, IsPartitionPoint}
-use Rattle.lsm_tables.specs.Cutting.{IsWritable}
+use Rattle.std.specs.List.{AllByRecursion}
 use Rattle.lsm_memtable.specs.Memtables.{SeenMemtable}
 use Rattle.lsm_parts.specs.History.{SeenHistory}
-use Rattle.lsm_parts.specs.Held.{entries_of, held_at, HasFirst, ids_of, FallFrom, is_among, IsSealedIn}
+use Rattle.lsm_parts.specs.Held.{HasFirst, ids_of, is_among, IsSealedIn}
 use Rattle.lsm_state.specs.Kept.{RiseFrom, KeepsIds, least_named}
-use Rattle.lsm_parts.specs.Held.{from_id}
-use Rattle.lsm_parts.proofs.Finding.{all_lower, entries_or, entries_at}
 
 rise_below : (m a : ℕ) (ids : List ℕ) → RiseFrom m (ids ++ a ∷ []) → AllByRecursion (λ i. i < a) ids × (m ≤ a)
 rise_below m a [] h = (tt, h.0)

@@ -1,5 +1,5 @@
 -- What is cleaned up behind a commit: super versions that no kept snapshot reads, and memtables that none of the others names.
-use Rattle.std.specs.Prelude.{◌≡◌, ◌⊎◌, ◌≤◌, ◌<◌, ℕ, Bool, true, false, List, ◌++◌, None, filter, drop, length, nat_le, Result, Ok, Err}
+use Rattle.std.specs.Prelude.{◌≡◌, ◌⊎◌, ◌≤◌, ◌<◌, ℕ, Bool, true, false, List, ◌++◌, None, drop, length, Result, Ok, Err}
 use Rattle.std.specs.List.{AllByRecursion}
 use Rattle.lsm_below.specs.declared.error.Error.{Error}
 use Rattle.lsm_below.specs.declared.error.Error.TheVariants.{Store}
@@ -8,7 +8,6 @@ use Rattle.lsm_model.specs.Steps.{among}
 use Rattle.lsm_versions.specs.Levels.{all_of}
 use Rattle.lsm_manifest.specs.Names.{table_name, version_name}
 use Rattle.lsm_commit.specs.Causes.{HasFailed}
-use Rattle.lsm_memtable.specs.Memtables.{SeenMemtable}
 use Rattle.lsm_parts.specs.History.{SeenHistory, oldest, versions_of}
 use Rattle.lsm_parts.specs.Held.{from_id}
 use Rattle.lsm_parts.specs.Maintenance.{Forgets}

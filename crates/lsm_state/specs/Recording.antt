@@ -1,14 +1,10 @@
 -- What a write does that puts a record first: to a store, and to a tree.
-use Rattle.std.specs.Prelude.{◌≡◌, ◌⊎◌, ℕ, List, [], ◌∷◌, Option, Some, None, Result, Err, IfOk, IfErr, IfSome, OnOk, OnErr, IsErrOf}
+use Rattle.std.specs.Prelude.{◌≡◌, ◌⊎◌, ℕ, List, Some, None, Result, Err, IfOk, IfErr, IfSome, OnOk, OnErr, IsErrOf}
 use Rattle.lsm_below.specs.Keys.{Bytes}
 use Rattle.lsm_below.specs.declared.error.Error.{Error}
 use Rattle.lsm_below.specs.declared.error.Error.TheVariants.{OutOfMemory, Store, CommitUnknown}
 use Rattle.lsm_store.specs.World.{World, Row, Only, OldOr, Same, LeavesOnly}
 use Rattle.lsm_store.specs.Synced.{Leaves}
-use Rattle.lsm_memtable.specs.declared.memtable.Revocable.{Revocable}
-use Rattle.lsm_memtable.specs.Memtables.{SeenMemtable}
-use Rattle.lsm_memtable.specs.Revoking.{TakesBack}
-use Rattle.lsm_tables.specs.Cutting.{IsWritable}
 use Rattle.lsm_model.specs.Ops.{op_entries}
 use Rattle.lsm_model.specs.declared.op.Op.{Op}
 use Rattle.lsm_log.specs.LogNames.{record_name}

@@ -1,7 +1,6 @@
 // What is counted of a tree.
-ghost use Rattle.std.specs.Prelude.{◌≡◌, ◌+◌, ◌++◌, [], List, length, slice_get, slice_index_or};
+ghost use Rattle.std.specs.Prelude.{◌≡◌, ◌+◌, ◌++◌, [], length, slice_get, slice_index_or};
 ghost use Rattle.std.specs.Option.{option_map};
-ghost use Rattle.lsm_below.specs.Entries.{Entry};
 ghost use Rattle.lsm_below.specs.Optimizes.{tables_of};
 ghost use Rattle.lsm_below.specs.Sums.{capped};
 ghost use Rattle.lsm_tables.specs.Tables.{tombstones, weak_tombstones, reclaimable};
