@@ -18,7 +18,7 @@ use Rattle.lsm_iter.specs.Answers.{ShownIsAnswer, ShownIsPrefixAnswer}
 use Rattle.lsm_parts.specs.Held.{entries_of}
 use Rattle.lsm_state.specs.Core.{Core, latest_of, older_of}
 use Rattle.lsm_state.specs.Ranges.{Ranges, Prefixes, IsListStep, IsRangeStep, IsPrefixStep}
-use Rattle.lsm_state.proofs.Counts.{counted_below}
+use Rattle.lsm_state.proofs.Counted.{counted_below}
 
 -- what holds of each super version holds of the one that a snapshot finds
 pub of_found : PartsAreWhole → (P : SuperVersion → Type 0) (s : ℕ) (c : Core) (sv : SuperVersion) → found_at s (latest_of c) (older_of c) ≡ Some sv → AllByRecursion P (latest_of c ∷ older_of c) → P sv

@@ -16,7 +16,7 @@ pub mod FlushDeeds
 pub mod FlushReads
 pub mod Answered
 pub mod Overlaid
-pub mod Counts
+pub mod Counted
 pub mod Countings
 pub mod Refusals
 pub mod Standing

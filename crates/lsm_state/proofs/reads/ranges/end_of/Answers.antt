@@ -2,7 +2,7 @@ use Rattle.std.proofs.Common.{refl, subst, ap, ◌∙◌, IfOk}
 use Rattle.std.specs.declared.ops.Bound.TheVariants.{Unbounded}
 use Rattle.lsm_iter.specs.Reads.{counted_at}
 use Rattle.lsm_iter.specs.Ends.{EndShown}
-use Rattle.lsm_state.proofs.Counts.{counted_is}
+use Rattle.lsm_state.proofs.Counted.{counted_is}
 use Rattle.lsm_state.proofs.reads.ranges.end_of.Goals as goal
 
 pub returns-clause-shown : goal.returns-clause-shown

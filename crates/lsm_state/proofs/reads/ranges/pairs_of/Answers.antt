@@ -1,7 +1,7 @@
 use Rattle.std.proofs.Common.{refl, subst, ap, ◌∙◌, IfOk}
 use Rattle.lsm_iter.specs.Reads.{counted_at}
 use Rattle.lsm_iter.specs.Shown.{Shows}
-use Rattle.lsm_state.proofs.Counts.{counted_is}
+use Rattle.lsm_state.proofs.Counted.{counted_is}
 use Rattle.lsm_state.proofs.reads.ranges.pairs_of.Goals as goal
 
 pub returns-clause-shows : goal.returns-clause-shows

@@ -9,7 +9,7 @@ use Rattle.lsm_state.specs.Copies.{HoldsPrefix}
 use Rattle.lsm_state.specs.Core.{shown_as}
 use Rattle.lsm_state.proofs.Those.{copied_those}
 use Rattle.lsm_iter.specs.Shown.{ShowsPrefix}
-use Rattle.lsm_state.proofs.Counts.{counted_is}
+use Rattle.lsm_state.proofs.Counted.{counted_is}
 use Rattle.lsm_state.proofs.reads.ranges.prefix_of.Goals as goal
 
 pub returns-clause-shows : goal.returns-clause-shows

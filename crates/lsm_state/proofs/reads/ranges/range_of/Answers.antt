@@ -4,7 +4,7 @@ use Rattle.lsm_iter.specs.Left.{copied_within}
 use Rattle.lsm_state.specs.Core.{shown_as}
 use Rattle.lsm_state.proofs.Those.{copied_those}
 use Rattle.lsm_iter.specs.Shown.{Shows}
-use Rattle.lsm_state.proofs.Counts.{counted_is}
+use Rattle.lsm_state.proofs.Counted.{counted_is}
 use Rattle.lsm_state.proofs.reads.ranges.range_of.Goals as goal
 
 pub returns-clause-shows : goal.returns-clause-shows
