@@ -144,6 +144,13 @@ impl<S: Store> Recorded<S> {
         self.core.seqno()
     }
 
+    /// The tree, to be read: what is read so is noted nowhere.
+    pub fn tree(&self) -> &TreeState<S>
+        ensures { result.now ≡ self.now.tree }
+    {
+        &self.core
+    }
+
     /// The visible counter: the snapshot that sees every batch so far.
     pub fn visible_seqno(&self) -> &SequenceNumberCounter
         ensures { result.now ≡ self.now.tree.core.visible_seqno }

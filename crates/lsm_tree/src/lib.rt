@@ -4,30 +4,32 @@
 //! |-|-|
 //! | `handle` | trees that several callers share, behind one lock |
 //! | `shared` | the calls of a tree behind the lock |
-//! | `shared::ranges` | its reads of many keys |
 //! | `shared::flush` | its flushes |
 //! | `shared::compaction` | its compactions |
+//! | `lock` | how a call takes the lock |
 //! | `gate` | who does the merge of a compaction while no lock is held |
-//! | `shared::counts` | what is counted and told of it |
 //! | `recorded` | the calls of a tree with its journal, behind the lock |
 //! | `recorded::flush` | its flushes |
 //! | `recorded::compaction` | its compactions |
-//! | `recorded::counts` | what is counted and told of it |
 //! | `logged` | the calls of a tree with a log above it, behind the lock |
-//! | `logged::ranges` | its reads of many keys |
 //! | `logged::flush` | its flushes |
 //! | `logged::compaction` | its compactions |
-//! | `logged::counts` | what is counted and told of it |
+//! | `reads` | the reads of those that note none |
+//! | `counts` | what is counted and told of each of them |
 //! | `laws` | theorems as the contracts of functions that do nothing |
 #![tactic(auto)]
 
+mod counts;
 mod gate;
 mod handle;
 pub mod laws;
+mod lock;
 mod logged;
+mod reads;
 mod recorded;
 mod shared;
 
+pub use counts::HasTree;
 pub use gate::Gate;
 pub use gate::RunJob;
 pub use handle::Handle;
@@ -187,3 +189,4 @@ pub use lsm_versions::Tables;
 pub use lsm_versions::TreeType;
 pub use lsm_versions::ids_are_own;
 pub use lsm_versions::levels_fit;
+pub use reads::ReadsTree;

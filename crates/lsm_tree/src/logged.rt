@@ -1,17 +1,21 @@
 // The calls of a logged tree behind the lock.
-ghost use Rattle.std.specs.Prelude.{◌≡◌, ◌≤◌, ◌+◌, Option, IfOk, IfErr, IsErrOf, is_some, option_map};
-ghost use Rattle.lsm_below.specs.Keys.{Bytes};
+ghost use Rattle.std.specs.Prelude.{◌≡◌, ◌≤◌, ◌+◌, ◌↔◌, ℕ, true, Option, IfOk, IfErr, IsErrOf, IsTrue, length};
+ghost use Rattle.lsm_below.specs.Sums.{capped};
 ghost use Rattle.lsm_commit.specs.Causes.{HasCause, Blames};
 ghost use Rattle.lsm_commit.specs.Stored.{CountsFaults};
+ghost use Rattle.lsm_compaction.specs.OpenMerges.{hides};
+ghost use Rattle.lsm_parts.specs.Held.{HasFirst};
+ghost use Rattle.lsm_state.specs.WholeFlushes.{sealed_bytes};
 ghost use Rattle.lsm_state.specs.Flushes.{with_next_table};
-ghost use Rattle.lsm_state.specs.Calls.{Gives, GivesEntry, Rotates, value_size};
+ghost use Rattle.lsm_state.specs.Calls.{Rotates};
 ghost use Rattle.lsm_logged.specs.Keeping.{is_unsure};
 ghost use Rattle.lsm_logged.specs.Flushing.{ClearsLogged};
 ghost use Rattle.lsm_logged.specs.Writing.{WritesLogged};
-ghost use Rattle.lsm_tree.specs.Shared.{OnSomeStore, OnSomeLogged, AtSomeTree, AtSomeLogged, TouchesTreeAlone, RefusesSharedRead, RefusesSharedLook, RefusesSharedRotation};
+ghost use Rattle.lsm_tree.specs.Shared.{OnSomeStore, OnSomeLogged, AtSomeTree, AtSomeLogged, TouchesTreeAlone, RefusesSharedRotation};
 
 use crate::handle::Handle;
-use lsm_below::{InternalValue, MemtableId, SeqNo, TableId, UserKey, UserValue};
+use crate::lock::{act, read, read_tree};
+use lsm_below::{MemtableId, SeqNo, TableId, UserKey};
 use lsm_logged::Logged;
 use lsm_model::Op;
 use lsm_parts::{Error, LIMIT};
@@ -21,70 +25,6 @@ use std::sync::Wait;
 /// Each call does, refuses and costs what the one of the same name of `Logged` does, or of the `TreeState` that it lends, on the
 /// tree as the lock finds it. It holds the lock until it returns, also while a record is synced.
 impl<S: Store> Handle<Logged<S>> {
-    /// The value of a key at a snapshot, as `TreeState::get`.
-    pub fn get(
-        &self,
-        rt: &impl Wait,
-        key: &[u8],
-        snapshot: SeqNo,
-    ) -> Result<Option<UserValue>, Error>
-        ensures gives { IfOk result (λ v. AtSomeTree (λ c. Gives c key.now snapshot v)) }
-        ensures refused { RefusesSharedRead snapshot result }
-    {
-        let tree = self.shared.lock(rt);
-        let tree = tree.tree();
-        tree.facts();
-        tree.get(key, snapshot)
-    }
-
-    /// The entry that decides `get`, as `TreeState::get_internal_entry`.
-    pub fn get_internal_entry(
-        &self,
-        rt: &impl Wait,
-        key: &[u8],
-        snapshot: SeqNo,
-    ) -> Result<Option<InternalValue>, Error>
-        ensures gives { IfOk result (λ e. AtSomeTree (λ c. GivesEntry c key.now snapshot e)) }
-        ensures refused { RefusesSharedRead snapshot result }
-    {
-        let tree = self.shared.lock(rt);
-        let tree = tree.tree();
-        tree.facts();
-        tree.get_internal_entry(key, snapshot)
-    }
-
-    /// Whether a key has a value at a snapshot, as `TreeState::contains_key`.
-    pub fn contains_key(&self, rt: &impl Wait, key: &[u8], snapshot: SeqNo) -> Result<bool, Error>
-        ensures tells { IfOk result (λ b. AtSomeTree (λ c. (v : Option Bytes) × Gives c key.now snapshot v × (b ≡ is_some v))) }
-        ensures refused { RefusesSharedLook snapshot result }
-    {
-        let tree = self.shared.lock(rt);
-        let tree = tree.tree();
-        tree.facts();
-        tree.contains_key(key, snapshot)
-    }
-
-    /// The bytes of a key's value at a snapshot, as `TreeState::size_of`.
-    pub fn size_of(&self, rt: &impl Wait, key: &[u8], snapshot: SeqNo) -> Result<Option<u32>, Error>
-        ensures tells { IfOk result (λ n. AtSomeTree (λ c. (v : Option Bytes) × Gives c key.now snapshot v × (n ≡ option_map value_size v))) }
-        ensures refused { RefusesSharedLook snapshot result }
-    {
-        let tree = self.shared.lock(rt);
-        let tree = tree.tree();
-        tree.facts();
-        tree.size_of(key, snapshot)
-    }
-
-    /// The snapshot that sees every write so far that was made visible.
-    pub fn visible_number(&self, rt: &impl Wait) -> SeqNo
-        ensures { AtSomeTree (λ c. c.visible_seqno ≡ result) }
-    {
-        let tree = self.shared.lock(rt);
-        let tree = tree.tree();
-        tree.facts();
-        tree.visible_seqno().get()
-    }
-
     /// Writes a batch under the next sequence number, which it returns once the record of the batch is in the store, as
     /// `Logged::write`. The record is put and synced under the lock: a batch of many operations costs one sync, many batches
     /// cost one each.
@@ -93,12 +33,7 @@ impl<S: Store> Handle<Logged<S>> {
         // The store is blamed only where a call of it failed.
         ensures causes { OnSomeStore S (λ old new. CountsFaults (S.world old) (S.world new) result) }
     {
-        let mut tree = self.shared.lock(rt);
-        let tree = &mut *tree;
-        tree.facts();
-        let told = tree.write(ops);
-        tree.facts();
-        told
+        act!(self, rt, |tree| tree.write(ops))
     }
 
     /// Seals the active memtable, as `Logged::rotate_memtable`.
@@ -106,12 +41,7 @@ impl<S: Store> Handle<Logged<S>> {
         ensures rotates { IfOk result (λ id. OnSomeLogged S (TouchesTreeAlone (λ old new. Rotates old id new))) }
         ensures refused { RefusesSharedRotation result }
     {
-        let mut tree = self.shared.lock(rt);
-        let tree = &mut *tree;
-        tree.facts();
-        let told = tree.rotate_memtable();
-        tree.facts();
-        told
+        act!(self, rt, |tree| tree.rotate_memtable())
     }
 
     /// Clears the tree, as `Logged::clear`. The lock is held while the version's file is written and records are removed.
@@ -120,12 +50,7 @@ impl<S: Store> Handle<Logged<S>> {
         // The store is blamed only where a call of it failed.
         ensures causes { OnSomeStore S (λ old new. HasCause (Blames result) (S.world old) (S.world new)) }
     {
-        let mut tree = self.shared.lock(rt);
-        let tree = &mut *tree;
-        tree.facts();
-        let told = tree.clear();
-        tree.facts();
-        told
+        act!(self, rt, |tree| tree.clear())
     }
 
     /// Draws an id for a table, as `Logged::get_next_table_id`: no table of the tree gets it.
@@ -138,12 +63,7 @@ impl<S: Store> Handle<Logged<S>> {
         ensures only { IfErr result (λ e. e ≡ Error.OutOfNumbers) }
         ensures out_of_numbers { IsErrOf result Error.OutOfNumbers → AtSomeTree (λ c. LIMIT ≤ c.next_table) }
     {
-        let mut tree = self.shared.lock(rt);
-        let tree = &mut *tree;
-        tree.facts();
-        let told = tree.get_next_table_id();
-        tree.facts();
-        told
+        act!(self, rt, |tree| tree.get_next_table_id())
     }
 
     /// Sets the moment, in nanoseconds, at which tables are made from now on, as `Logged::set_moment`.
@@ -161,14 +81,30 @@ impl<S: Store> Handle<Logged<S>> {
     pub fn is_uncertain(&self, rt: &impl Wait) -> bool
         ensures { AtSomeLogged S (λ t. result ≡ is_unsure t) }
     {
-        let tree = self.shared.lock(rt);
-        let tree = &*tree;
-        tree.facts();
-        tree.is_uncertain()
+        read!(self, rt, |tree| tree.is_uncertain())
+    }
+
+    /// Whether an open merge works on a table, as `TreeState::is_compacting`.
+    pub fn is_compacting(&self, rt: &impl Wait) -> bool
+        ensures { AtSomeTree (λ c. IsTrue result ↔ ((i : ℕ) × (hides c.merges.underway i ≡ true))) }
+    {
+        read_tree!(self, rt, |tree| tree.is_compacting())
+    }
+
+    /// How many records may be in the store, as `Logged::log_len`.
+    pub fn log_len(&self, rt: &impl Wait) -> usize
+        ensures { AtSomeLogged S (λ t. result ≡ length t.numbers) }
+    {
+        read!(self, rt, |tree| tree.log_len())
+    }
+
+    /// The bytes that the memtables count which aren't flushed, as `Logged::log_bytes`.
+    pub fn log_bytes(&self, rt: &impl Wait) -> u64
+        ensures { AtSomeTree (λ c. HasFirst c.memtables (λ m. result ≡ capped (sealed_bytes c + m.size))) }
+    {
+        read!(self, rt, |tree| tree.log_bytes())
     }
 }
 
 mod compaction;
-mod counts;
 mod flush;
-mod ranges;

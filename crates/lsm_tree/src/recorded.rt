@@ -1,5 +1,5 @@
 // The calls of a tree with its journal, behind the lock.
-ghost use Rattle.std.specs.Prelude.{◌≡◌, [], ◌∷◌, ◌⊎◌, false, map, IfOk, IfErr, OnOk, OnErr, IsErrOf};
+ghost use Rattle.std.specs.Prelude.{◌≡◌, [], ◌∷◌, ◌⊎◌, false, map, IfOk, IfErr, OnOk, OnErr, IsErrOf, is_some};
 ghost use Rattle.lsm_below.specs.Entries.{plain};
 ghost use Rattle.lsm_model.specs.Views.{held};
 ghost use Rattle.lsm_model.specs.Beginnings.{shown_by};
@@ -17,9 +17,10 @@ ghost use Rattle.lsm_state.specs.Calls.{Appends, WritesBatch, Rotates};
 ghost use Rattle.lsm_recorded.specs.Recorded.{OwnOr};
 ghost use Rattle.lsm_recorded.specs.Flushing.{RefusesUnnoted};
 ghost use Rattle.lsm_recorded.specs.Clearing.{ClearsNoted};
-ghost use Rattle.lsm_tree.specs.Shared.{OnSomeTree, OnSomeStore, OnSomeRecorded, AtSomeRecorded, RefusesRecordedRead, RefusesSharedRotation, Puts};
+ghost use Rattle.lsm_tree.specs.Shared.{OnSomeTree, OnSomeStore, OnSomeRecorded, AtSomeTree, AtSomeRecorded, RefusesRecordedRead, RefusesSharedRotation, Puts};
 
 use crate::handle::Handle;
+use crate::lock::{act, read};
 use lsm_below::{InternalValue, MemtableId, SeqNo, UserKey, UserValue};
 use lsm_model::{KvPairs, Op};
 use lsm_parts::Error;
@@ -95,12 +96,7 @@ impl<S: Store> Handle<Recorded<S>> {
         ensures refused { RefusesSharedRotation result }
         ensures pass { pass.new ≡ pass.old }
     {
-        let mut tree = self.shared.lock(rt);
-        let tree = &mut *tree;
-        tree.facts();
-        let told = tree.rotate_memtable(pass);
-        tree.facts();
-        told
+        act!(self, rt, |tree| tree.rotate_memtable(pass))
     }
 
     /// Writes an entry under its own sequence number, as `Recorded::append_entry`.
@@ -115,12 +111,7 @@ impl<S: Store> Handle<Recorded<S>> {
         ensures noted { OnOk result (Puts (WriteEntry (plain entry) ∷ []) pass.old pass.new) }
         ensures err { OnErr result (pass.new ≡ pass.old) }
     {
-        let mut tree = self.shared.lock(rt);
-        let tree = &mut *tree;
-        tree.facts();
-        let told = tree.append_entry(pass, entry);
-        tree.facts();
-        told
+        act!(self, rt, |tree| tree.append_entry(pass, entry))
     }
 
     /// Sets a key under a sequence number, as `Recorded::insert`.
@@ -137,12 +128,7 @@ impl<S: Store> Handle<Recorded<S>> {
         ensures noted { OnOk result (Puts (WriteEntry (op_entry key seqno (Set value)) ∷ []) pass.old pass.new) }
         ensures err { OnErr result (pass.new ≡ pass.old) }
     {
-        let mut tree = self.shared.lock(rt);
-        let tree = &mut *tree;
-        tree.facts();
-        let told = tree.insert(pass, key, value, seqno);
-        tree.facts();
-        told
+        act!(self, rt, |tree| tree.insert(pass, key, value, seqno))
     }
 
     /// Removes a key under a sequence number, as `Recorded::remove`.
@@ -158,12 +144,7 @@ impl<S: Store> Handle<Recorded<S>> {
         ensures noted { OnOk result (Puts (WriteEntry (op_entry key seqno Del) ∷ []) pass.old pass.new) }
         ensures err { OnErr result (pass.new ≡ pass.old) }
     {
-        let mut tree = self.shared.lock(rt);
-        let tree = &mut *tree;
-        tree.facts();
-        let told = tree.remove(pass, key, seqno);
-        tree.facts();
-        told
+        act!(self, rt, |tree| tree.remove(pass, key, seqno))
     }
 
     /// Removes a key, of which at most one value was ever written, as `Recorded::remove_weak`.
@@ -179,12 +160,7 @@ impl<S: Store> Handle<Recorded<S>> {
         ensures noted { OnOk result (Puts (WriteEntry (op_entry key seqno Weak) ∷ []) pass.old pass.new) }
         ensures err { OnErr result (pass.new ≡ pass.old) }
     {
-        let mut tree = self.shared.lock(rt);
-        let tree = &mut *tree;
-        tree.facts();
-        let told = tree.remove_weak(pass, key, seqno);
-        tree.facts();
-        told
+        act!(self, rt, |tree| tree.remove_weak(pass, key, seqno))
     }
 
     /// Writes a batch under the next sequence number, which it returns, as `Recorded::write`.
@@ -199,12 +175,7 @@ impl<S: Store> Handle<Recorded<S>> {
         ensures noted { IfOk result (λ n. Puts (map WriteEntry (op_entries n ops.items)) pass.old pass.new) }
         ensures err { OnErr result (pass.new ≡ pass.old) }
     {
-        let mut tree = self.shared.lock(rt);
-        let tree = &mut *tree;
-        tree.facts();
-        let told = tree.write(pass, ops);
-        tree.facts();
-        told
+        act!(self, rt, |tree| tree.write(pass, ops))
     }
 
     /// Clears the tree, as `Recorded::clear`. The lock is held while the version's file is written.
@@ -213,12 +184,7 @@ impl<S: Store> Handle<Recorded<S>> {
         // The store is blamed only where a call of it failed.
         ensures causes { OnSomeStore S (λ old new. HasCause (Blames result) (S.world old) (S.world new)) }
     {
-        let mut tree = self.shared.lock(rt);
-        let tree = &mut *tree;
-        tree.facts();
-        let told = tree.clear(pass);
-        tree.facts();
-        told
+        act!(self, rt, |tree| tree.clear(pass))
     }
 
     /// A copy of the journal and the version that was opened, where the passes together list the journal, else the passes; as
@@ -230,13 +196,27 @@ impl<S: Store> Handle<Recorded<S>> {
         ensures tree { IfOk result (λ c. AtSomeRecorded S (λ t. (t.journal ≡ c.journal.items) × (t.opened ≡ placed_of c.opened.levels))) }
         ensures back { IfErr result (λ back. back ≡ passes) }
     {
-        let tree = self.shared.lock(rt);
-        let tree = &*tree;
+        read!(self, rt, |tree| tree.close(passes))
+    }
+
+    /// Sets the moment, in nanoseconds, at which tables are made from now on, as `Recorded::set_moment`.
+    pub fn set_moment(&self, rt: &impl Wait, moment: u64)
+        ensures { OnSomeTree (λ old new. new ≡ record old { moment = moment }) }
+    {
+        let mut tree = self.shared.lock(rt);
+        let tree = &mut *tree;
         tree.facts();
-        tree.close(passes)
+        tree.set_moment(moment);
+        tree.facts();
+    }
+
+    /// Whether a commit of unknown outcome came before, as `Recorded::is_uncertain`.
+    pub fn is_uncertain(&self, rt: &impl Wait) -> bool
+        ensures { AtSomeTree (λ c. result ≡ is_some c.lost) }
+    {
+        read!(self, rt, |tree| tree.is_uncertain())
     }
 }
 
 mod compaction;
-mod counts;
 mod flush;

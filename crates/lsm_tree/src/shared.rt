@@ -1,16 +1,16 @@
 // The calls of a tree behind the lock.
-ghost use Rattle.std.specs.Prelude.{◌≡◌, ◌<◌, ◌≤◌, ◌+◌, Option, IfOk, IfErr, IsErrOf, is_some, option_map};
-ghost use Rattle.lsm_below.specs.Keys.{Bytes};
+ghost use Rattle.std.specs.Prelude.{◌≡◌, ◌<◌, ◌≤◌, ◌+◌, Option, IfOk, IfErr, IsErrOf};
 ghost use Rattle.lsm_below.specs.Entries.{plain};
 ghost use Rattle.lsm_model.specs.Ops.{op_entry};
 ghost use Rattle.lsm_model.specs.declared.op.Op.TheVariants.{Set, Del, Weak};
 ghost use Rattle.lsm_commit.specs.Causes.{HasCause, Blames};
 ghost use Rattle.lsm_state.specs.Flushes.{with_next_table};
-ghost use Rattle.lsm_state.specs.Calls.{Appends, WritesBatch, Gives, GivesEntry, Rotates, value_size};
+ghost use Rattle.lsm_state.specs.Calls.{Appends, WritesBatch, Rotates};
 ghost use Rattle.lsm_state.specs.Clearing.{Clears, ForgetsUnflushed};
-ghost use Rattle.lsm_tree.specs.Shared.{OnSomeTree, OnSomeStore, AtSomeTree, RefusesSharedRead, RefusesSharedLook, RefusesSharedRotation};
+ghost use Rattle.lsm_tree.specs.Shared.{OnSomeTree, OnSomeStore, AtSomeTree, RefusesSharedRotation};
 
 use crate::handle::Handle;
+use crate::lock::act;
 use lsm_below::{InternalValue, MemtableId, SeqNo, TableId, UserKey, UserValue};
 use lsm_model::Op;
 use lsm_parts::{Error, LIMIT};
@@ -21,83 +21,19 @@ use std::sync::Wait;
 /// Each call does, refuses and costs what the one of the same name of `TreeState` does, on the tree as the
 /// lock finds it. It holds the lock until it returns.
 impl<S: Store> Handle<TreeState<S>> {
-    /// The value of a key at a snapshot, as `TreeState::get`.
-    pub fn get(
-        &self,
-        rt: &impl Wait,
-        key: &[u8],
-        snapshot: SeqNo,
-    ) -> Result<Option<UserValue>, Error>
-        ensures gives { IfOk result (λ v. AtSomeTree (λ c. Gives c key.now snapshot v)) }
-        ensures refused { RefusesSharedRead snapshot result }
-    {
-        let tree = self.shared.lock(rt);
-        let tree = &*tree;
-        tree.facts();
-        tree.get(key, snapshot)
-    }
-
-    /// The entry that decides `get`, as `TreeState::get_internal_entry`.
-    pub fn get_internal_entry(
-        &self,
-        rt: &impl Wait,
-        key: &[u8],
-        snapshot: SeqNo,
-    ) -> Result<Option<InternalValue>, Error>
-        ensures gives { IfOk result (λ e. AtSomeTree (λ c. GivesEntry c key.now snapshot e)) }
-        ensures refused { RefusesSharedRead snapshot result }
-    {
-        let tree = self.shared.lock(rt);
-        let tree = &*tree;
-        tree.facts();
-        tree.get_internal_entry(key, snapshot)
-    }
-
-    /// Whether a key has a value at a snapshot, as `TreeState::contains_key`.
-    pub fn contains_key(&self, rt: &impl Wait, key: &[u8], snapshot: SeqNo) -> Result<bool, Error>
-        ensures tells { IfOk result (λ b. AtSomeTree (λ c. (v : Option Bytes) × Gives c key.now snapshot v × (b ≡ is_some v))) }
-        ensures refused { RefusesSharedLook snapshot result }
-    {
-        let tree = self.shared.lock(rt);
-        let tree = &*tree;
-        tree.facts();
-        tree.contains_key(key, snapshot)
-    }
-
-    /// The bytes of a key's value at a snapshot, as `TreeState::size_of`.
-    pub fn size_of(&self, rt: &impl Wait, key: &[u8], snapshot: SeqNo) -> Result<Option<u32>, Error>
-        ensures tells { IfOk result (λ n. AtSomeTree (λ c. (v : Option Bytes) × Gives c key.now snapshot v × (n ≡ option_map value_size v))) }
-        ensures refused { RefusesSharedLook snapshot result }
-    {
-        let tree = self.shared.lock(rt);
-        let tree = &*tree;
-        tree.facts();
-        tree.size_of(key, snapshot)
-    }
-
     /// Seals the active memtable, as `TreeState::rotate_memtable`.
     pub fn rotate_memtable(&self, rt: &impl Wait) -> Result<Option<MemtableId>, Error>
         ensures rotates { IfOk result (λ id. OnSomeTree (λ old new. Rotates old id new)) }
         ensures refused { RefusesSharedRotation result }
     {
-        let mut tree = self.shared.lock(rt);
-        let tree = &mut *tree;
-        tree.facts();
-        let told = tree.rotate_memtable();
-        tree.facts();
-        told
+        act!(self, rt, |tree| tree.rotate_memtable())
     }
 
     /// Writes an entry under its own sequence number, as `TreeState::append_entry`.
     pub fn append_entry(&self, rt: &impl Wait, entry: InternalValue) -> Result<(u64, u64), Error>
         ensures { OnSomeTree (λ old new. Appends (plain entry) result old new) }
     {
-        let mut tree = self.shared.lock(rt);
-        let tree = &mut *tree;
-        tree.facts();
-        let told = tree.append_entry(entry);
-        tree.facts();
-        told
+        act!(self, rt, |tree| tree.append_entry(entry))
     }
 
     /// Sets a key under a sequence number, as `TreeState::insert`.
@@ -110,24 +46,14 @@ impl<S: Store> Handle<TreeState<S>> {
     ) -> Result<(u64, u64), Error>
         ensures { OnSomeTree (λ old new. Appends (op_entry key seqno (Set value)) result old new) }
     {
-        let mut tree = self.shared.lock(rt);
-        let tree = &mut *tree;
-        tree.facts();
-        let told = tree.insert(key, value, seqno);
-        tree.facts();
-        told
+        act!(self, rt, |tree| tree.insert(key, value, seqno))
     }
 
     /// Removes a key under a sequence number, as `TreeState::remove`.
     pub fn remove(&self, rt: &impl Wait, key: UserKey, seqno: SeqNo) -> Result<(u64, u64), Error>
         ensures { OnSomeTree (λ old new. Appends (op_entry key seqno Del) result old new) }
     {
-        let mut tree = self.shared.lock(rt);
-        let tree = &mut *tree;
-        tree.facts();
-        let told = tree.remove(key, seqno);
-        tree.facts();
-        told
+        act!(self, rt, |tree| tree.remove(key, seqno))
     }
 
     /// Removes a key, of which at most one value was ever written, as `TreeState::remove_weak`.
@@ -139,24 +65,14 @@ impl<S: Store> Handle<TreeState<S>> {
     ) -> Result<(u64, u64), Error>
         ensures { OnSomeTree (λ old new. Appends (op_entry key seqno Weak) result old new) }
     {
-        let mut tree = self.shared.lock(rt);
-        let tree = &mut *tree;
-        tree.facts();
-        let told = tree.remove_weak(key, seqno);
-        tree.facts();
-        told
+        act!(self, rt, |tree| tree.remove_weak(key, seqno))
     }
 
     /// Writes a batch under the next sequence number, which it returns, as `TreeState::write`.
     pub fn write(&self, rt: &impl Wait, ops: Vec<(UserKey, Op)>) -> Result<SeqNo, Error>
         ensures { OnSomeTree (λ old new. WritesBatch ops.items result old new) }
     {
-        let mut tree = self.shared.lock(rt);
-        let tree = &mut *tree;
-        tree.facts();
-        let told = tree.write(ops);
-        tree.facts();
-        told
+        act!(self, rt, |tree| tree.write(ops))
     }
 
     /// Clears the tree, as `TreeState::clear`. The lock is held while the version's file is written.
@@ -165,24 +81,14 @@ impl<S: Store> Handle<TreeState<S>> {
         // The store is blamed only where a call of it failed.
         ensures causes { OnSomeStore S (λ old new. HasCause (Blames result) (S.world old) (S.world new)) }
     {
-        let mut tree = self.shared.lock(rt);
-        let tree = &mut *tree;
-        tree.facts();
-        let told = tree.clear();
-        tree.facts();
-        told
+        act!(self, rt, |tree| tree.clear())
     }
 
     /// Forgets what isn't flushed, as `TreeState::clear_active_memtable`.
     pub fn clear_active_memtable(&self, rt: &impl Wait) -> Result<(), Error>
         ensures { OnSomeTree (λ old new. ForgetsUnflushed result old new) }
     {
-        let mut tree = self.shared.lock(rt);
-        let tree = &mut *tree;
-        tree.facts();
-        let told = tree.clear_active_memtable();
-        tree.facts();
-        told
+        act!(self, rt, |tree| tree.clear_active_memtable())
     }
 
     /// Draws the next sequence number, to write under it.
@@ -211,22 +117,7 @@ impl<S: Store> Handle<TreeState<S>> {
         ensures only { IfErr result (λ e. e ≡ Error.OutOfNumbers) }
         ensures out_of_numbers { IsErrOf result Error.OutOfNumbers → AtSomeTree (λ c. LIMIT ≤ c.next_table) }
     {
-        let mut tree = self.shared.lock(rt);
-        let tree = &mut *tree;
-        tree.facts();
-        let told = tree.get_next_table_id();
-        tree.facts();
-        told
-    }
-
-    /// The snapshot that sees every write so far that was made visible.
-    pub fn visible_number(&self, rt: &impl Wait) -> SeqNo
-        ensures { AtSomeTree (λ c. c.visible_seqno ≡ result) }
-    {
-        let tree = self.shared.lock(rt);
-        let tree = &*tree;
-        tree.facts();
-        tree.visible_seqno().get()
+        act!(self, rt, |tree| tree.get_next_table_id())
     }
 
     /// Raises the visible counter to a sequence number, unless it stands at a greater one.
@@ -236,6 +127,4 @@ impl<S: Store> Handle<TreeState<S>> {
 }
 
 mod compaction;
-mod counts;
 mod flush;
-mod ranges;

@@ -9,6 +9,7 @@ ghost use Rattle.lsm_tree.specs.Gates.{IsNoJob, EndsGatedLogged, CompactsGatedLo
 
 use crate::gate::{Gate, told_end};
 use crate::handle::Handle;
+use crate::lock::act;
 use lsm_below::SeqNo;
 use lsm_compaction::{CompactionJob, MergedCompaction};
 use lsm_logged::Logged;
@@ -32,12 +33,7 @@ impl<S: Store> Handle<Logged<S>> {
         // The store is blamed only where a call of it failed.
         ensures causes { OnSomeStore S (λ old new. HasCause (Blames result) (S.world old) (S.world new)) }
     {
-        let mut tree = self.shared.lock(rt);
-        let tree = &mut *tree;
-        tree.facts();
-        let told = tree.begin_compaction(strategy, options);
-        tree.facts();
-        told
+        act!(self, rt, |tree| tree.begin_compaction(strategy, options))
     }
 
     /// `begin_compaction` with a strategy whose type is known, as `Logged::begin_with`.
@@ -51,12 +47,7 @@ impl<S: Store> Handle<Logged<S>> {
         // The store is blamed only where a call of it failed.
         ensures causes { OnSomeStore S (λ old new. HasCause (Blames result) (S.world old) (S.world new)) }
     {
-        let mut tree = self.shared.lock(rt);
-        let tree = &mut *tree;
-        tree.facts();
-        let told = tree.begin_with(strategy, options);
-        tree.facts();
-        told
+        act!(self, rt, |tree| tree.begin_with(strategy, options))
     }
 
     /// Does a choice of the caller's own, as `Logged::begin_choice`.
@@ -70,12 +61,7 @@ impl<S: Store> Handle<Logged<S>> {
         // The store is blamed only where a call of it failed.
         ensures causes { OnSomeStore S (λ old new. HasCause (Blames result) (S.world old) (S.world new)) }
     {
-        let mut tree = self.shared.lock(rt);
-        let tree = &mut *tree;
-        tree.facts();
-        let told = tree.begin_choice(choice, options);
-        tree.facts();
-        told
+        act!(self, rt, |tree| tree.begin_choice(choice, options))
     }
 
     /// Ends a merge that was done, as `Logged::finish_compaction`. The lock is held while its files are written.
@@ -88,12 +74,7 @@ impl<S: Store> Handle<Logged<S>> {
         // The store is blamed only where a call of it failed.
         ensures causes { OnSomeStore S (λ old new. HasCause (Blames result) (S.world old) (S.world new)) }
     {
-        let mut tree = self.shared.lock(rt);
-        let tree = &mut *tree;
-        tree.facts();
-        let told = tree.finish_compaction(merged);
-        tree.facts();
-        told
+        act!(self, rt, |tree| tree.finish_compaction(merged))
     }
 
     /// Gives up a merge, as `Logged::abandon_compaction`.
@@ -119,12 +100,7 @@ impl<S: Store> Handle<Logged<S>> {
         // The store is blamed only where a call of it failed.
         ensures causes { OnSomeStore S (λ old new. HasCause (Blames result) (S.world old) (S.world new)) }
     {
-        let mut tree = self.shared.lock(rt);
-        let tree = &mut *tree;
-        tree.facts();
-        let told = tree.compact(strategy, watermark);
-        tree.facts();
-        told
+        act!(self, rt, |tree| tree.compact(strategy, watermark))
     }
 
     /// The same with a strategy whose type is known, and with options, as `Logged::compact_with`. The lock is held throughout.
@@ -138,12 +114,7 @@ impl<S: Store> Handle<Logged<S>> {
         // The store is blamed only where a call of it failed.
         ensures causes { OnSomeStore S (λ old new. HasCause (Blames result) (S.world old) (S.world new)) }
     {
-        let mut tree = self.shared.lock(rt);
-        let tree = &mut *tree;
-        tree.facts();
-        let told = tree.compact_with(strategy, options);
-        tree.facts();
-        told
+        act!(self, rt, |tree| tree.compact_with(strategy, options))
     }
 
     /// Does a choice of the caller's own, in one call, as `Logged::compact_choice`. The lock is held throughout.
@@ -157,12 +128,7 @@ impl<S: Store> Handle<Logged<S>> {
         // The store is blamed only where a call of it failed.
         ensures causes { OnSomeStore S (λ old new. HasCause (Blames result) (S.world old) (S.world new)) }
     {
-        let mut tree = self.shared.lock(rt);
-        let tree = &mut *tree;
-        tree.facts();
-        let told = tree.compact_choice(choice, options);
-        tree.facts();
-        told
+        act!(self, rt, |tree| tree.compact_choice(choice, options))
     }
 
     /// `begin_compaction` at a watermark, and at the moment of the tree.
@@ -248,12 +214,7 @@ impl<S: Store> Handle<Logged<S>> {
         // The store is blamed only where a call of it failed.
         ensures causes { OnSomeStore S (λ old new. HasCause (Blames result) (S.world old) (S.world new)) }
     {
-        let mut tree = self.shared.lock(rt);
-        let tree = &mut *tree;
-        tree.facts();
-        let told = tree.major_compact(target, watermark);
-        tree.facts();
-        told
+        act!(self, rt, |tree| tree.major_compact(target, watermark))
     }
 
     /// Drops the tables that lie within bounds, as `Logged::drop_range`.
@@ -262,11 +223,6 @@ impl<S: Store> Handle<Logged<S>> {
         // The store is blamed only where a call of it failed.
         ensures causes { OnSomeStore S (λ old new. HasCause (Blames result) (S.world old) (S.world new)) }
     {
-        let mut tree = self.shared.lock(rt);
-        let tree = &mut *tree;
-        tree.facts();
-        let told = tree.drop_range(bounds);
-        tree.facts();
-        told
+        act!(self, rt, |tree| tree.drop_range(bounds))
     }
 }

@@ -7,6 +7,7 @@ ghost use Rattle.lsm_logged.specs.Flushing.{FlushesLogged, FlushesBoth, BeginsLo
 ghost use Rattle.lsm_tree.specs.Shared.{OnSomeStore, OnSomeLogged, TouchesTreeAlone};
 
 use crate::handle::Handle;
+use crate::lock::act;
 use lsm_below::{MemtableId, SeqNo};
 use lsm_flush::{FlushJob, MergedFlush, Registered, WrittenFlush};
 use lsm_logged::Logged;
@@ -21,12 +22,7 @@ impl<S: Store> Handle<Logged<S>> {
     pub fn begin_flush(&self, rt: &impl Wait) -> Result<Option<FlushJob>, Error>
         ensures { OnSomeLogged S (λ old new. BeginsLogged result old new) }
     {
-        let mut tree = self.shared.lock(rt);
-        let tree = &mut *tree;
-        tree.facts();
-        let told = tree.begin_flush();
-        tree.facts();
-        told
+        act!(self, rt, |tree| tree.begin_flush())
     }
 
     /// Writes the tables of a merged job, as `Logged::flush_to_tables`. The lock is held while they are written.
@@ -39,12 +35,7 @@ impl<S: Store> Handle<Logged<S>> {
         // The store is blamed only where a call of it failed.
         ensures causes { OnSomeStore S (λ old new. HasCause (BlamesBeside result) (S.world old) (S.world new)) }
     {
-        let mut tree = self.shared.lock(rt);
-        let tree = &mut *tree;
-        tree.facts();
-        let told = tree.flush_to_tables(job);
-        tree.facts();
-        told
+        act!(self, rt, |tree| tree.flush_to_tables(job))
     }
 
     /// Installs the tables of a job, or finds it stale, and removes the records that it passed, as `Logged::register_tables`.
@@ -53,12 +44,7 @@ impl<S: Store> Handle<Logged<S>> {
         // The store is blamed only where a call of it failed.
         ensures causes { OnSomeStore S (λ old new. HasCause (BlamesOrUnclean result) (S.world old) (S.world new)) }
     {
-        let mut tree = self.shared.lock(rt);
-        let tree = &mut *tree;
-        tree.facts();
-        let told = tree.register_tables(job);
-        tree.facts();
-        told
+        act!(self, rt, |tree| tree.register_tables(job))
     }
 
     /// Gives up a job, as `Logged::abandon_flush`.
@@ -83,12 +69,7 @@ impl<S: Store> Handle<Logged<S>> {
         // The store is blamed only where a call of it failed.
         ensures causes { OnSomeStore S (λ old new. HasCause (BlamesOrUncleanFlush result) (S.world old) (S.world new)) }
     {
-        let mut tree = self.shared.lock(rt);
-        let tree = &mut *tree;
-        tree.facts();
-        let told = tree.flush(watermark);
-        tree.facts();
-        told
+        act!(self, rt, |tree| tree.flush(watermark))
     }
 
     /// Seals the active memtable and flushes all sealed ones, as `Logged::flush_active_memtable`. The lock is held
@@ -102,11 +83,6 @@ impl<S: Store> Handle<Logged<S>> {
         // The store is blamed only where a call of it failed.
         ensures causes { OnSomeStore S (λ old new. HasCause (BlamesOrUncleanBehind result) (S.world old) (S.world new)) }
     {
-        let mut tree = self.shared.lock(rt);
-        let tree = &mut *tree;
-        tree.facts();
-        let told = tree.flush_active_memtable(watermark);
-        tree.facts();
-        told
+        act!(self, rt, |tree| tree.flush_active_memtable(watermark))
     }
 }

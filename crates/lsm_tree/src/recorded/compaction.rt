@@ -11,6 +11,7 @@ ghost use Rattle.lsm_tree.specs.Gates.{IsNoJob, EndsGatedRecorded, CompactsGated
 
 use crate::gate::{Gate, told_end};
 use crate::handle::Handle;
+use crate::lock::{act, read};
 use lsm_below::SeqNo;
 use lsm_compaction::{CompactionJob, MergedCompaction};
 use lsm_parts::Error;
@@ -35,12 +36,11 @@ impl<S: Store> Handle<Recorded<S>> {
         // The store is blamed only where a call of it failed.
         ensures causes { OnSomeStore S (λ old new. HasCause (Blames result) (S.world old) (S.world new)) }
     {
-        let mut tree = self.shared.lock(rt);
-        let tree = &mut *tree;
-        tree.facts();
-        let told = tree.begin_compaction(pass, strategy, options);
-        tree.facts();
-        told
+        act!(
+            self,
+            rt,
+            |tree| tree.begin_compaction(pass, strategy, options)
+        )
     }
 
     /// Ends a merge that was done, as `Recorded::finish_compaction`. The lock is held while its files are written.
@@ -54,12 +54,7 @@ impl<S: Store> Handle<Recorded<S>> {
         // The store is blamed only where a call of it failed.
         ensures causes { OnSomeStore S (λ old new. HasCause (Blames result) (S.world old) (S.world new)) }
     {
-        let mut tree = self.shared.lock(rt);
-        let tree = &mut *tree;
-        tree.facts();
-        let told = tree.finish_compaction(pass, merged);
-        tree.facts();
-        told
+        act!(self, rt, |tree| tree.finish_compaction(pass, merged))
     }
 
     /// Gives up a merge, as `Recorded::abandon_compaction`.
@@ -86,12 +81,7 @@ impl<S: Store> Handle<Recorded<S>> {
         // The store is blamed only where a call of it failed.
         ensures causes { OnSomeStore S (λ old new. HasCause (Blames result) (S.world old) (S.world new)) }
     {
-        let mut tree = self.shared.lock(rt);
-        let tree = &mut *tree;
-        tree.facts();
-        let told = tree.do_compaction(pass, strategy, options);
-        tree.facts();
-        told
+        act!(self, rt, |tree| tree.do_compaction(pass, strategy, options))
     }
 
     /// The same at a watermark and at the tree's moment, as `Recorded::compact`. The lock is held throughout.
@@ -106,12 +96,7 @@ impl<S: Store> Handle<Recorded<S>> {
         // The store is blamed only where a call of it failed.
         ensures causes { OnSomeStore S (λ old new. HasCause (Blames result) (S.world old) (S.world new)) }
     {
-        let mut tree = self.shared.lock(rt);
-        let tree = &mut *tree;
-        tree.facts();
-        let told = tree.compact(pass, strategy, watermark);
-        tree.facts();
-        told
+        act!(self, rt, |tree| tree.compact(pass, strategy, watermark))
     }
 
     /// `begin_compaction` at a watermark, and at the moment of the tree.
@@ -202,12 +187,7 @@ impl<S: Store> Handle<Recorded<S>> {
         // The store is blamed only where a call of it failed.
         ensures causes { OnSomeStore S (λ old new. HasCause (Blames result) (S.world old) (S.world new)) }
     {
-        let mut tree = self.shared.lock(rt);
-        let tree = &mut *tree;
-        tree.facts();
-        let told = tree.major_compact(pass, target, watermark);
-        tree.facts();
-        told
+        act!(self, rt, |tree| tree.major_compact(pass, target, watermark))
     }
 
     /// Drops the tables that lie within bounds, as `Recorded::drop_range`.
@@ -221,21 +201,13 @@ impl<S: Store> Handle<Recorded<S>> {
         // The store is blamed only where a call of it failed.
         ensures causes { OnSomeStore S (λ old new. HasCause (Blames result) (S.world old) (S.world new)) }
     {
-        let mut tree = self.shared.lock(rt);
-        let tree = &mut *tree;
-        tree.facts();
-        let told = tree.drop_range(pass, bounds);
-        tree.facts();
-        told
+        act!(self, rt, |tree| tree.drop_range(pass, bounds))
     }
 
     /// Whether an open merge works on a table, as `Recorded::is_compacting`.
     pub fn is_compacting(&self, rt: &impl Wait) -> bool
         ensures { AtSomeTree (λ c. IsTrue result ↔ ((i : ℕ) × (hides c.merges.underway i ≡ true))) }
     {
-        let tree = self.shared.lock(rt);
-        let tree = &*tree;
-        tree.facts();
-        tree.is_compacting()
+        read!(self, rt, |tree| tree.is_compacting())
     }
 }

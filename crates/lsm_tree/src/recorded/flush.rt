@@ -8,6 +8,7 @@ ghost use Rattle.lsm_recorded.specs.Flushing.{SpendsUnnoted, IsSpentFlush, Regis
 ghost use Rattle.lsm_tree.specs.Shared.{OnSomeTree, OnSomeStore, OnSomeRecorded};
 
 use crate::handle::Handle;
+use crate::lock::act;
 use lsm_below::{MemtableId, SeqNo};
 use lsm_flush::{FlushJob, MergedFlush, Registered, WrittenFlush};
 use lsm_parts::Error;
@@ -23,12 +24,7 @@ impl<S: Store> Handle<Recorded<S>> {
         ensures begins { OnSomeTree (λ old new. Begins result old new) }
         ensures pass { pass.new ≡ pass.old }
     {
-        let mut tree = self.shared.lock(rt);
-        let tree = &mut *tree;
-        tree.facts();
-        let told = tree.begin_flush(pass);
-        tree.facts();
-        told
+        act!(self, rt, |tree| tree.begin_flush(pass))
     }
 
     /// Writes the tables of a merged job, as `Recorded::flush_to_tables`. The lock is held while they are written.
@@ -43,12 +39,7 @@ impl<S: Store> Handle<Recorded<S>> {
         ensures causes { OnSomeStore S (λ old new. HasCause (BlamesBeside result) (S.world old) (S.world new)) }
         ensures pass { pass.new ≡ pass.old }
     {
-        let mut tree = self.shared.lock(rt);
-        let tree = &mut *tree;
-        tree.facts();
-        let told = tree.flush_to_tables(pass, job);
-        tree.facts();
-        told
+        act!(self, rt, |tree| tree.flush_to_tables(pass, job))
     }
 
     /// Installs the tables of a job, or finds it stale, as `Recorded::register_tables`.
@@ -62,12 +53,7 @@ impl<S: Store> Handle<Recorded<S>> {
         // The store is blamed only where a call of it failed.
         ensures causes { OnSomeStore S (λ old new. HasCause (BlamesOrUnclean result) (S.world old) (S.world new)) }
     {
-        let mut tree = self.shared.lock(rt);
-        let tree = &mut *tree;
-        tree.facts();
-        let told = tree.register_tables(pass, job);
-        tree.facts();
-        told
+        act!(self, rt, |tree| tree.register_tables(pass, job))
     }
 
     /// Gives up a job, as `Recorded::abandon_flush`.
@@ -93,12 +79,7 @@ impl<S: Store> Handle<Recorded<S>> {
         // The store is blamed only where a call of it failed.
         ensures causes { OnSomeStore S (λ old new. HasCause (BlamesOrUncleanFlush result) (S.world old) (S.world new)) }
     {
-        let mut tree = self.shared.lock(rt);
-        let tree = &mut *tree;
-        tree.facts();
-        let told = tree.flush(pass, watermark);
-        tree.facts();
-        told
+        act!(self, rt, |tree| tree.flush(pass, watermark))
     }
 
     /// Seals the active memtable and flushes all sealed ones, as `Recorded::flush_active_memtable`. The lock is held
@@ -113,11 +94,6 @@ impl<S: Store> Handle<Recorded<S>> {
         // The store is blamed only where a call of it failed.
         ensures causes { OnSomeStore S (λ old new. HasCause (BlamesOrUncleanBehind result) (S.world old) (S.world new)) }
     {
-        let mut tree = self.shared.lock(rt);
-        let tree = &mut *tree;
-        tree.facts();
-        let told = tree.flush_active_memtable(pass, watermark);
-        tree.facts();
-        told
+        act!(self, rt, |tree| tree.flush_active_memtable(pass, watermark))
     }
 }

@@ -9,6 +9,7 @@ ghost use Rattle.lsm_tree.specs.Gates.{IsNoJob, EndsGated, CompactsGated};
 
 use crate::gate::{Gate, told_end};
 use crate::handle::Handle;
+use crate::lock::{act, read};
 use lsm_below::SeqNo;
 use lsm_compaction::{CompactionJob, MergedCompaction};
 use lsm_parts::Error;
@@ -42,12 +43,7 @@ impl<S: Store> Handle<TreeState<S>> {
         // The store is blamed only where a call of it failed.
         ensures causes { OnSomeStore S (λ old new. HasCause (Blames result) (S.world old) (S.world new)) }
     {
-        let mut tree = self.shared.lock(rt);
-        let tree = &mut *tree;
-        tree.facts();
-        let told = tree.begin_compaction(strategy, options);
-        tree.facts();
-        told
+        act!(self, rt, |tree| tree.begin_compaction(strategy, options))
     }
 
     /// Does a choice of the caller's own, as `TreeState::begin_choice`.
@@ -61,12 +57,7 @@ impl<S: Store> Handle<TreeState<S>> {
         // The store is blamed only where a call of it failed.
         ensures causes { OnSomeStore S (λ old new. HasCause (Blames result) (S.world old) (S.world new)) }
     {
-        let mut tree = self.shared.lock(rt);
-        let tree = &mut *tree;
-        tree.facts();
-        let told = tree.begin_choice(choice, options);
-        tree.facts();
-        told
+        act!(self, rt, |tree| tree.begin_choice(choice, options))
     }
 
     /// Ends a merge that was done, as `TreeState::finish_compaction`. The lock is held while its files are written.
@@ -79,12 +70,7 @@ impl<S: Store> Handle<TreeState<S>> {
         // The store is blamed only where a call of it failed.
         ensures causes { OnSomeStore S (λ old new. HasCause (Blames result) (S.world old) (S.world new)) }
     {
-        let mut tree = self.shared.lock(rt);
-        let tree = &mut *tree;
-        tree.facts();
-        let told = tree.finish_compaction(merged);
-        tree.facts();
-        told
+        act!(self, rt, |tree| tree.finish_compaction(merged))
     }
 
     /// Gives up a merge, as `TreeState::abandon_compaction`.
@@ -109,12 +95,7 @@ impl<S: Store> Handle<TreeState<S>> {
         // The store is blamed only where a call of it failed.
         ensures causes { OnSomeStore S (λ old new. HasCause (Blames result) (S.world old) (S.world new)) }
     {
-        let mut tree = self.shared.lock(rt);
-        let tree = &mut *tree;
-        tree.facts();
-        let told = do_compaction(tree, strategy, options);
-        tree.facts();
-        told
+        act!(self, rt, |tree| do_compaction(tree, strategy, options))
     }
 
     /// The same at a watermark and at the tree's moment, as `TreeState::compact`. The lock is held throughout.
@@ -128,12 +109,7 @@ impl<S: Store> Handle<TreeState<S>> {
         // The store is blamed only where a call of it failed.
         ensures causes { OnSomeStore S (λ old new. HasCause (Blames result) (S.world old) (S.world new)) }
     {
-        let mut tree = self.shared.lock(rt);
-        let tree = &mut *tree;
-        tree.facts();
-        let told = tree.compact(strategy, watermark);
-        tree.facts();
-        told
+        act!(self, rt, |tree| tree.compact(strategy, watermark))
     }
 
     /// `begin_compaction` at a watermark, and at the moment of the tree.
@@ -227,12 +203,7 @@ impl<S: Store> Handle<TreeState<S>> {
         // The store is blamed only where a call of it failed.
         ensures causes { OnSomeStore S (λ old new. HasCause (Blames result) (S.world old) (S.world new)) }
     {
-        let mut tree = self.shared.lock(rt);
-        let tree = &mut *tree;
-        tree.facts();
-        let told = tree.major_compact(target, watermark);
-        tree.facts();
-        told
+        act!(self, rt, |tree| tree.major_compact(target, watermark))
     }
 
     /// Drops the tables that lie within bounds, as `TreeState::drop_range`.
@@ -241,21 +212,13 @@ impl<S: Store> Handle<TreeState<S>> {
         // The store is blamed only where a call of it failed.
         ensures causes { OnSomeStore S (λ old new. HasCause (Blames result) (S.world old) (S.world new)) }
     {
-        let mut tree = self.shared.lock(rt);
-        let tree = &mut *tree;
-        tree.facts();
-        let told = tree.drop_range(bounds);
-        tree.facts();
-        told
+        act!(self, rt, |tree| tree.drop_range(bounds))
     }
 
     /// Whether an open merge works on a table, as `TreeState::is_compacting`.
     pub fn is_compacting(&self, rt: &impl Wait) -> bool
         ensures { AtSomeTree (λ c. IsTrue result ↔ ((i : ℕ) × (hides c.merges.underway i ≡ true))) }
     {
-        let tree = self.shared.lock(rt);
-        let tree = &*tree;
-        tree.facts();
-        tree.is_compacting()
+        read!(self, rt, |tree| tree.is_compacting())
     }
 }

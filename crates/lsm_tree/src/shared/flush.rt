@@ -7,6 +7,7 @@ ghost use Rattle.lsm_state.specs.WholeFlushes.{Flushes, FlushesActive};
 ghost use Rattle.lsm_tree.specs.Shared.{OnSomeTree, OnSomeStore, AtSomeTree};
 
 use crate::handle::Handle;
+use crate::lock::{act, read};
 use lsm_below::{MemtableId, SeqNo};
 use lsm_flush::{FlushJob, MergedFlush, Registered, WrittenFlush};
 use lsm_parts::Error;
@@ -21,12 +22,7 @@ impl<S: Store> Handle<TreeState<S>> {
     pub fn begin_flush(&self, rt: &impl Wait) -> Result<Option<FlushJob>, Error>
         ensures { OnSomeTree (λ old new. Begins result old new) }
     {
-        let mut tree = self.shared.lock(rt);
-        let tree = &mut *tree;
-        tree.facts();
-        let told = tree.begin_flush();
-        tree.facts();
-        told
+        act!(self, rt, |tree| tree.begin_flush())
     }
 
     /// Writes the tables of a merged job, as `TreeState::flush_to_tables`. The lock is held while they are written.
@@ -39,12 +35,7 @@ impl<S: Store> Handle<TreeState<S>> {
         // The store is blamed only where a call of it failed.
         ensures causes { OnSomeStore S (λ old new. HasCause (BlamesBeside result) (S.world old) (S.world new)) }
     {
-        let mut tree = self.shared.lock(rt);
-        let tree = &mut *tree;
-        tree.facts();
-        let told = tree.flush_to_tables(job);
-        tree.facts();
-        told
+        act!(self, rt, |tree| tree.flush_to_tables(job))
     }
 
     /// Installs the tables of a job, or finds it stale, as `TreeState::register_tables`.
@@ -53,12 +44,7 @@ impl<S: Store> Handle<TreeState<S>> {
         // The store is blamed only where a call of it failed.
         ensures causes { OnSomeStore S (λ old new. HasCause (BlamesOrUnclean result) (S.world old) (S.world new)) }
     {
-        let mut tree = self.shared.lock(rt);
-        let tree = &mut *tree;
-        tree.facts();
-        let told = tree.register_tables(job);
-        tree.facts();
-        told
+        act!(self, rt, |tree| tree.register_tables(job))
     }
 
     /// Gives up a job, as `TreeState::abandon_flush`.
@@ -82,12 +68,7 @@ impl<S: Store> Handle<TreeState<S>> {
         // The store is blamed only where a call of it failed.
         ensures causes { OnSomeStore S (λ old new. HasCause (BlamesOrUncleanFlush result) (S.world old) (S.world new)) }
     {
-        let mut tree = self.shared.lock(rt);
-        let tree = &mut *tree;
-        tree.facts();
-        let told = tree.flush(watermark);
-        tree.facts();
-        told
+        act!(self, rt, |tree| tree.flush(watermark))
     }
 
     /// Seals the active memtable and flushes all sealed ones, as `TreeState::flush_active_memtable`. The lock is held
@@ -101,12 +82,7 @@ impl<S: Store> Handle<TreeState<S>> {
         // The store is blamed only where a call of it failed.
         ensures causes { OnSomeStore S (λ old new. HasCause (BlamesOrUncleanBehind result) (S.world old) (S.world new)) }
     {
-        let mut tree = self.shared.lock(rt);
-        let tree = &mut *tree;
-        tree.facts();
-        let told = tree.flush_active_memtable(watermark);
-        tree.facts();
-        told
+        act!(self, rt, |tree| tree.flush_active_memtable(watermark))
     }
 
     /// Sets the moment, in nanoseconds, at which tables are made from now on, as `TreeState::set_moment`.
@@ -124,9 +100,6 @@ impl<S: Store> Handle<TreeState<S>> {
     pub fn is_uncertain(&self, rt: &impl Wait) -> bool
         ensures { AtSomeTree (λ c. result ≡ is_some c.lost) }
     {
-        let tree = self.shared.lock(rt);
-        let tree = &*tree;
-        tree.facts();
-        tree.is_uncertain()
+        read!(self, rt, |tree| tree.is_uncertain())
     }
 }

@@ -1,22 +1,91 @@
-// The reads of many keys of a logged tree behind the lock.
-ghost use Rattle.std.specs.Prelude.{IfOk};
+// The reads of a tree behind the lock, where they are noted nowhere.
+ghost use Rattle.std.specs.Prelude.{◌≡◌, Option, IfOk, is_some, option_map};
 ghost use Rattle.std.specs.declared.ops.Bound.TheVariants.{Unbounded};
 ghost use Rattle.lsm_iter.specs.declared.tree_iter.End.TheVariants.{Front, Back};
+ghost use Rattle.lsm_below.specs.Keys.{Bytes};
+ghost use Rattle.lsm_state.specs.Calls.{Gives, GivesEntry, value_size};
 ghost use Rattle.lsm_state.specs.Ranges.{Ranges, Prefixes, Numbers, PairAt, TellsEmpty};
-ghost use Rattle.lsm_tree.specs.Shared.{AtSomeTree, RefusesSharedRead};
+ghost use Rattle.lsm_tree.specs.Shared.{AtSomeTree, RefusesSharedRead, RefusesSharedLook};
 
+use crate::counts::HasTree;
 use crate::handle::Handle;
-use lsm_below::{SeqNo, UserKey};
+use crate::lock::read_tree;
+use lsm_below::{InternalValue, SeqNo, UserKey, UserValue};
 use lsm_iter::{Guard, TreeIter};
 use lsm_logged::Logged;
 use lsm_parts::{Error, Memtable};
+use lsm_state::TreeState;
 use lsm_store::Store;
 use std::ops::Bound;
 use std::sync::Wait;
 
+/// A tree whose reads are noted nowhere: the tree itself, or one with a log above it. Handles on both read alike.
+///
+/// # Examples
+///
+/// ```text
+/// fn read<C: ReadsTree>(handle: &Handle<C>, rt: &impl Wait, key: &[u8]) -> Result<Option<UserValue>, Error> {
+///     handle.get(rt, key, handle.visible_number(rt))
+/// }
+/// ```
+pub trait ReadsTree: HasTree {}
+
+impl<S: Store> ReadsTree for TreeState<S> {}
+
+impl<S: Store> ReadsTree for Logged<S> {}
+
 /// Each call returns what the one of the same name of `TreeState` does, of the tree as the lock finds it.
 /// An iterator owns its pairs, so the lock is released before it is asked for the first one.
-impl<S: Store> Handle<Logged<S>> {
+impl<C: ReadsTree> Handle<C> {
+    /// The value of a key at a snapshot, as `TreeState::get`.
+    pub fn get(
+        &self,
+        rt: &impl Wait,
+        key: &[u8],
+        snapshot: SeqNo,
+    ) -> Result<Option<UserValue>, Error>
+        ensures gives { IfOk result (λ v. AtSomeTree (λ c. Gives c key.now snapshot v)) }
+        ensures refused { RefusesSharedRead snapshot result }
+    {
+        read_tree!(self, rt, |tree| tree.get(key, snapshot))
+    }
+
+    /// The entry that decides `get`, as `TreeState::get_internal_entry`.
+    pub fn get_internal_entry(
+        &self,
+        rt: &impl Wait,
+        key: &[u8],
+        snapshot: SeqNo,
+    ) -> Result<Option<InternalValue>, Error>
+        ensures gives { IfOk result (λ e. AtSomeTree (λ c. GivesEntry c key.now snapshot e)) }
+        ensures refused { RefusesSharedRead snapshot result }
+    {
+        read_tree!(self, rt, |tree| tree.get_internal_entry(key, snapshot))
+    }
+
+    /// Whether a key has a value at a snapshot, as `TreeState::contains_key`.
+    pub fn contains_key(&self, rt: &impl Wait, key: &[u8], snapshot: SeqNo) -> Result<bool, Error>
+        ensures tells { IfOk result (λ b. AtSomeTree (λ c. (v : Option Bytes) × Gives c key.now snapshot v × (b ≡ is_some v))) }
+        ensures refused { RefusesSharedLook snapshot result }
+    {
+        read_tree!(self, rt, |tree| tree.contains_key(key, snapshot))
+    }
+
+    /// The bytes of a key's value at a snapshot, as `TreeState::size_of`.
+    pub fn size_of(&self, rt: &impl Wait, key: &[u8], snapshot: SeqNo) -> Result<Option<u32>, Error>
+        ensures tells { IfOk result (λ n. AtSomeTree (λ c. (v : Option Bytes) × Gives c key.now snapshot v × (n ≡ option_map value_size v))) }
+        ensures refused { RefusesSharedLook snapshot result }
+    {
+        read_tree!(self, rt, |tree| tree.size_of(key, snapshot))
+    }
+
+    /// The snapshot that sees every write so far that was made visible.
+    pub fn visible_number(&self, rt: &impl Wait) -> SeqNo
+        ensures { AtSomeTree (λ c. c.visible_seqno ≡ result) }
+    {
+        read_tree!(self, rt, |tree| tree.visible_seqno().get())
+    }
+
     /// What a snapshot shows in the bounds, under an index, as `TreeState::create_internal_range`.
     pub fn create_internal_range(
         &self,
@@ -28,10 +97,11 @@ impl<S: Store> Handle<Logged<S>> {
         ensures ok { IfOk result (λ iter. AtSomeTree (λ c. Ranges c index.entry bounds.now.0 bounds.now.1 snapshot iter.left)) }
         ensures refused { RefusesSharedRead snapshot result }
     {
-        let tree = self.shared.lock(rt);
-        let tree = tree.tree();
-        tree.facts();
-        tree.create_internal_range(bounds, snapshot, index)
+        read_tree!(
+            self,
+            rt,
+            |tree| tree.create_internal_range(bounds, snapshot, index)
+        )
     }
 
     /// What a snapshot shows in the bounds, as `TreeState::range`.
@@ -45,10 +115,7 @@ impl<S: Store> Handle<Logged<S>> {
         ensures ok { IfOk result (λ iter. AtSomeTree (λ c. Ranges c index.entry bounds.now.0 bounds.now.1 snapshot iter.left)) }
         ensures refused { RefusesSharedRead snapshot result }
     {
-        let tree = self.shared.lock(rt);
-        let tree = tree.tree();
-        tree.facts();
-        tree.range(bounds, snapshot, index)
+        read_tree!(self, rt, |tree| tree.range(bounds, snapshot, index))
     }
 
     /// The same, as `TreeState::create_range`.
@@ -62,10 +129,7 @@ impl<S: Store> Handle<Logged<S>> {
         ensures ok { IfOk result (λ iter. AtSomeTree (λ c. Ranges c index.entry bounds.now.0 bounds.now.1 snapshot iter.left)) }
         ensures refused { RefusesSharedRead snapshot result }
     {
-        let tree = self.shared.lock(rt);
-        let tree = tree.tree();
-        tree.facts();
-        tree.create_range(bounds, snapshot, index)
+        read_tree!(self, rt, |tree| tree.create_range(bounds, snapshot, index))
     }
 
     /// All that a snapshot shows, as `TreeState::iter`.
@@ -78,10 +142,7 @@ impl<S: Store> Handle<Logged<S>> {
         ensures ok { IfOk result (λ iter. AtSomeTree (λ c. Ranges c index.entry Unbounded Unbounded snapshot iter.left)) }
         ensures refused { RefusesSharedRead snapshot result }
     {
-        let tree = self.shared.lock(rt);
-        let tree = tree.tree();
-        tree.facts();
-        tree.iter(snapshot, index)
+        read_tree!(self, rt, |tree| tree.iter(snapshot, index))
     }
 
     /// The same, as `TreeState::create_iter`.
@@ -94,10 +155,7 @@ impl<S: Store> Handle<Logged<S>> {
         ensures ok { IfOk result (λ iter. AtSomeTree (λ c. Ranges c index.entry Unbounded Unbounded snapshot iter.left)) }
         ensures refused { RefusesSharedRead snapshot result }
     {
-        let tree = self.shared.lock(rt);
-        let tree = tree.tree();
-        tree.facts();
-        tree.create_iter(snapshot, index)
+        read_tree!(self, rt, |tree| tree.create_iter(snapshot, index))
     }
 
     /// What a snapshot shows of the keys that begin so, as `TreeState::prefix`.
@@ -111,10 +169,7 @@ impl<S: Store> Handle<Logged<S>> {
         ensures ok { IfOk result (λ iter. AtSomeTree (λ c. Prefixes c index.entry prefix.now snapshot iter.left)) }
         ensures refused { RefusesSharedRead snapshot result }
     {
-        let tree = self.shared.lock(rt);
-        let tree = tree.tree();
-        tree.facts();
-        tree.prefix(prefix, snapshot, index)
+        read_tree!(self, rt, |tree| tree.prefix(prefix, snapshot, index))
     }
 
     /// The same, as `TreeState::create_prefix`.
@@ -128,10 +183,7 @@ impl<S: Store> Handle<Logged<S>> {
         ensures ok { IfOk result (λ iter. AtSomeTree (λ c. Prefixes c index.entry prefix.now snapshot iter.left)) }
         ensures refused { RefusesSharedRead snapshot result }
     {
-        let tree = self.shared.lock(rt);
-        let tree = tree.tree();
-        tree.facts();
-        tree.create_prefix(prefix, snapshot, index)
+        read_tree!(self, rt, |tree| tree.create_prefix(prefix, snapshot, index))
     }
 
     /// How many keys a snapshot shows, as `TreeState::len`.
@@ -144,10 +196,7 @@ impl<S: Store> Handle<Logged<S>> {
         ensures ok { IfOk result (λ n. AtSomeTree (λ c. Numbers c index.entry snapshot n)) }
         ensures refused { RefusesSharedRead snapshot result }
     {
-        let tree = self.shared.lock(rt);
-        let tree = tree.tree();
-        tree.facts();
-        tree.len(snapshot, index)
+        read_tree!(self, rt, |tree| tree.len(snapshot, index))
     }
 
     /// Whether a snapshot shows nothing, as `TreeState::is_empty`.
@@ -160,10 +209,7 @@ impl<S: Store> Handle<Logged<S>> {
         ensures ok { IfOk result (λ b. AtSomeTree (λ c. TellsEmpty Front c index.entry snapshot b)) }
         ensures refused { RefusesSharedRead snapshot result }
     {
-        let tree = self.shared.lock(rt);
-        let tree = tree.tree();
-        tree.facts();
-        tree.is_empty(snapshot, index)
+        read_tree!(self, rt, |tree| tree.is_empty(snapshot, index))
     }
 
     /// The pair with the least key that a snapshot shows, as `TreeState::first_key_value`.
@@ -176,10 +222,7 @@ impl<S: Store> Handle<Logged<S>> {
         ensures ok { IfOk result (λ pair. AtSomeTree (λ c. PairAt Front c index.entry snapshot pair)) }
         ensures refused { RefusesSharedRead snapshot result }
     {
-        let tree = self.shared.lock(rt);
-        let tree = tree.tree();
-        tree.facts();
-        tree.first_key_value(snapshot, index)
+        read_tree!(self, rt, |tree| tree.first_key_value(snapshot, index))
     }
 
     /// The pair with the greatest key that a snapshot shows, as `TreeState::last_key_value`.
@@ -192,9 +235,6 @@ impl<S: Store> Handle<Logged<S>> {
         ensures ok { IfOk result (λ pair. AtSomeTree (λ c. PairAt Back c index.entry snapshot pair)) }
         ensures refused { RefusesSharedRead snapshot result }
     {
-        let tree = self.shared.lock(rt);
-        let tree = tree.tree();
-        tree.facts();
-        tree.last_key_value(snapshot, index)
+        read_tree!(self, rt, |tree| tree.last_key_value(snapshot, index))
     }
 }

@@ -1,44 +1,83 @@
-// What is counted and told of a logged tree behind the lock.
-ghost use Rattle.std.specs.Prelude.{◌≡◌, ◌+◌, ◌++◌, ◌↔◌, ℕ, [], true, IfErr, IfOk, IsTrue, length, slice_get, slice_index_or, option_map};
+// What is counted and told of a tree behind the lock, whatever stands above it.
+ghost use Rattle.std.specs.Prelude.{◌≡◌, ◌+◌, ◌++◌, [], IfErr, IfOk, length, slice_get, slice_index_or, option_map};
 ghost use Rattle.lsm_below.specs.Optimizes.{tables_of};
 ghost use Rattle.lsm_below.specs.Sums.{capped};
 ghost use Rattle.lsm_tables.specs.Tables.{tombstones, weak_tombstones, reclaimable};
 ghost use Rattle.lsm_memtable.specs.Memtables.{highest_of};
-ghost use Rattle.lsm_compaction.specs.OpenMerges.{hides};
 ghost use Rattle.lsm_versions.specs.Levels.{all_of, bytes_of};
 ghost use Rattle.lsm_versions.specs.declared.version.TreeType.TheVariants.{Standard};
 ghost use Rattle.lsm_parts.specs.History.{named_size};
-ghost use Rattle.lsm_parts.specs.Held.{HasFirst};
-ghost use Rattle.lsm_state.specs.WholeFlushes.{sealed_bytes};
 ghost use Rattle.lsm_state.specs.Counts.{tables_now, persisted_of, unflushed_of, counted_now};
-ghost use Rattle.lsm_tree.specs.Shared.{AtSomeTree, AtSomeLogged};
+ghost use Rattle.lsm_tree.specs.Shared.{AtSomeTree};
 
 use crate::handle::Handle;
+use crate::lock::read_tree;
 use lsm_below::{Error, SeqNo, TableId, TreeId};
 use lsm_logged::Logged;
+use lsm_recorded::Recorded;
+use lsm_state::TreeState;
 use lsm_store::Store;
 use lsm_versions::{TreeType, Version};
 use std::alloc::Global;
 use std::sync::Wait;
 
-/// What the calls of the same names of `TreeState` and of `Logged` count and tell, of the tree as the lock finds it. Two such
-/// calls may find two trees.
-impl<S: Store> Handle<Logged<S>> {
+/// What has a tree: the tree itself, one with a log above it, one with its call history. Handles on each of them count and tell
+/// the same of it.
+///
+/// # Examples
+///
+/// ```text
+/// fn tables<C: HasTree>(handle: &Handle<C>, rt: &impl Wait) -> usize {
+///     handle.table_count(rt)
+/// }
+/// ```
+pub trait HasTree {
+    /// The store of the tree.
+    type Store: Store;
+
+    /// The tree, to be read.
+    fn tree(&self) -> &TreeState<Self::Store>;
+}
+
+impl<S: Store> HasTree for TreeState<S> {
+    type Store = S;
+
+    fn tree(&self) -> &TreeState<S> {
+        self
+    }
+}
+
+impl<S: Store> HasTree for Logged<S> {
+    type Store = S;
+
+    fn tree(&self) -> &TreeState<S> {
+        Logged::tree(self)
+    }
+}
+
+impl<S: Store> HasTree for Recorded<S> {
+    type Store = S;
+
+    fn tree(&self) -> &TreeState<S> {
+        Recorded::tree(self)
+    }
+}
+
+/// What the calls of the same names of `TreeState` count and tell, of the tree as the lock finds it. Two such calls may find two
+/// trees.
+impl<C: HasTree> Handle<C> {
     /// The tree's id, as it was opened with.
     pub fn id(&self, rt: &impl Wait) -> TreeId
         ensures { AtSomeTree (λ c. result ≡ c.config.id) }
     {
-        let tree = self.shared.lock(rt);
-        let tree = tree.tree();
-        tree.facts();
-        tree.id()
+        read_tree!(self, rt, |tree| tree.id())
     }
 
     /// What kind of tree it is: always a standard one.
     pub fn tree_type(&self, rt: &impl Wait) -> TreeType
         ensures { result ≡ Standard }
     {
-        self.shared.lock(rt).tree().tree_type()
+        read_tree!(self, rt, |tree| tree.tree_type())
     }
 
     /// The latest version: a copy, which shares its tables. Its `log_from` is the number from which a log above the tree is
@@ -51,189 +90,111 @@ impl<S: Store> Handle<Logged<S>> {
         ensures copy { IfOk result (λ v. AtSomeTree (λ c. v ≡ c.history.latest.version)) }
         ensures memory { IfErr result (λ e. e ≡ Error.OutOfMemory) }
     {
-        let tree = self.shared.lock(rt);
-        let tree = tree.tree();
-        tree.facts();
-        Ok(tree.current_version().copy(alloc)?)
+        read_tree!(self, rt, |tree| Ok(tree.current_version().copy(alloc)?))
     }
 
     /// The id that the next table gets.
     pub fn next_table_id(&self, rt: &impl Wait) -> TableId
         ensures { AtSomeTree (λ c. result ≡ c.next_table) }
     {
-        let tree = self.shared.lock(rt);
-        let tree = tree.tree();
-        tree.facts();
-        tree.next_table_id()
+        read_tree!(self, rt, |tree| tree.next_table_id())
     }
 
     /// How many tables the latest version has.
     pub fn table_count(&self, rt: &impl Wait) -> usize
         ensures { AtSomeTree (λ c. result ≡ capped (length (all_of c.history.latest.version.levels))) }
     {
-        let tree = self.shared.lock(rt);
-        let tree = tree.tree();
-        tree.facts();
-        tree.table_count()
+        read_tree!(self, rt, |tree| tree.table_count())
     }
 
     /// How many runs the first level has.
     pub fn l0_run_count(&self, rt: &impl Wait) -> usize
         ensures { AtSomeTree (λ c. result ≡ length (slice_index_or c.history.latest.version.levels 0 [])) }
     {
-        let tree = self.shared.lock(rt);
-        let tree = tree.tree();
-        tree.facts();
-        tree.l0_run_count()
+        read_tree!(self, rt, |tree| tree.l0_run_count())
     }
 
     /// How many tables a level has, None from 7 on.
     pub fn level_table_count(&self, rt: &impl Wait, level: usize) -> Option<usize>
         ensures { AtSomeTree (λ c. result ≡ option_map (λ runs. capped (length (tables_of runs))) (slice_get c.history.latest.version.levels level)) }
     {
-        let tree = self.shared.lock(rt);
-        let tree = tree.tree();
-        tree.facts();
-        tree.level_table_count(level)
+        read_tree!(self, rt, |tree| tree.level_table_count(level))
     }
 
     /// How many memtables are sealed and not flushed.
     pub fn sealed_memtable_count(&self, rt: &impl Wait) -> usize
         ensures { AtSomeTree (λ c. result ≡ length c.history.latest.sealed_memtables) }
     {
-        let tree = self.shared.lock(rt);
-        let tree = tree.tree();
-        tree.facts();
-        tree.sealed_memtable_count()
+        read_tree!(self, rt, |tree| tree.sealed_memtable_count())
     }
 
     /// How many older super versions are kept.
     pub fn version_free_list_len(&self, rt: &impl Wait) -> usize
         ensures { AtSomeTree (λ c. result ≡ length c.history.older) }
     {
-        let tree = self.shared.lock(rt);
-        let tree = tree.tree();
-        tree.facts();
-        tree.version_free_list_len()
+        read_tree!(self, rt, |tree| tree.version_free_list_len())
     }
 
     /// How many entries memtables and tables hold.
     pub fn approximate_len(&self, rt: &impl Wait) -> usize
         ensures { AtSomeTree (λ c. result ≡ capped (length (unflushed_of c) + length (persisted_of c))) }
     {
-        let tree = self.shared.lock(rt);
-        let tree = tree.tree();
-        tree.facts();
-        tree.approximate_len()
+        read_tree!(self, rt, |tree| tree.approximate_len())
     }
 
     /// The bytes of the tables of the latest version.
     pub fn disk_space(&self, rt: &impl Wait) -> u64
         ensures { AtSomeTree (λ c. result ≡ capped (bytes_of (tables_now c))) }
     {
-        let tree = self.shared.lock(rt);
-        let tree = tree.tree();
-        tree.facts();
-        tree.disk_space()
+        read_tree!(self, rt, |tree| tree.disk_space())
     }
 
     /// How many tombstones of either kind its tables hold.
     pub fn tombstone_count(&self, rt: &impl Wait) -> u64
         ensures { AtSomeTree (λ c. result ≡ counted_now tombstones c) }
     {
-        let tree = self.shared.lock(rt);
-        let tree = tree.tree();
-        tree.facts();
-        tree.tombstone_count()
+        read_tree!(self, rt, |tree| tree.tombstone_count())
     }
 
     /// How many weak tombstones its tables hold.
     pub fn weak_tombstone_count(&self, rt: &impl Wait) -> u64
         ensures { AtSomeTree (λ c. result ≡ counted_now weak_tombstones c) }
     {
-        let tree = self.shared.lock(rt);
-        let tree = tree.tree();
-        tree.facts();
-        tree.weak_tombstone_count()
+        read_tree!(self, rt, |tree| tree.weak_tombstone_count())
     }
 
     /// How many weak tombstones stand directly above a value in one of its tables.
     pub fn weak_tombstone_reclaimable_count(&self, rt: &impl Wait) -> u64
         ensures { AtSomeTree (λ c. result ≡ counted_now reclaimable c) }
     {
-        let tree = self.shared.lock(rt);
-        let tree = tree.tree();
-        tree.facts();
-        tree.weak_tombstone_reclaimable_count()
+        read_tree!(self, rt, |tree| tree.weak_tombstone_reclaimable_count())
     }
 
     /// The bytes of the memtables that any super version names.
     pub fn version_memtable_size_sum(&self, rt: &impl Wait) -> u64
         ensures { AtSomeTree (λ c. result ≡ named_size c.history c.memtables) }
     {
-        let tree = self.shared.lock(rt);
-        let tree = tree.tree();
-        tree.facts();
-        tree.version_memtable_size_sum()
+        read_tree!(self, rt, |tree| tree.version_memtable_size_sum())
     }
 
     /// The greatest sequence number of all entries.
     pub fn get_highest_seqno(&self, rt: &impl Wait) -> Option<SeqNo>
         ensures { AtSomeTree (λ c. result ≡ highest_of (unflushed_of c ++ persisted_of c)) }
     {
-        let tree = self.shared.lock(rt);
-        let tree = tree.tree();
-        tree.facts();
-        tree.get_highest_seqno()
+        read_tree!(self, rt, |tree| tree.get_highest_seqno())
     }
 
     /// The greatest sequence number in memtables.
     pub fn get_highest_memtable_seqno(&self, rt: &impl Wait) -> Option<SeqNo>
         ensures { AtSomeTree (λ c. result ≡ highest_of (unflushed_of c)) }
     {
-        let tree = self.shared.lock(rt);
-        let tree = tree.tree();
-        tree.facts();
-        tree.get_highest_memtable_seqno()
+        read_tree!(self, rt, |tree| tree.get_highest_memtable_seqno())
     }
 
     /// The greatest sequence number in tables.
     pub fn get_highest_persisted_seqno(&self, rt: &impl Wait) -> Option<SeqNo>
         ensures { AtSomeTree (λ c. result ≡ highest_of (persisted_of c)) }
     {
-        let tree = self.shared.lock(rt);
-        let tree = tree.tree();
-        tree.facts();
-        tree.get_highest_persisted_seqno()
-    }
-
-    /// Whether an open merge works on a table, as `TreeState::is_compacting`.
-    pub fn is_compacting(&self, rt: &impl Wait) -> bool
-        ensures { AtSomeTree (λ c. IsTrue result ↔ ((i : ℕ) × (hides c.merges.underway i ≡ true))) }
-    {
-        let tree = self.shared.lock(rt);
-        let tree = tree.tree();
-        tree.facts();
-        tree.is_compacting()
-    }
-
-    /// How many records may be in the store, as `Logged::log_len`.
-    pub fn log_len(&self, rt: &impl Wait) -> usize
-        ensures { AtSomeLogged S (λ t. result ≡ length t.numbers) }
-    {
-        let tree = self.shared.lock(rt);
-        let tree = &*tree;
-        tree.facts();
-        tree.log_len()
-    }
-
-    /// The bytes that the memtables count which aren't flushed, as `Logged::log_bytes`.
-    pub fn log_bytes(&self, rt: &impl Wait) -> u64
-        ensures { AtSomeTree (λ c. HasFirst c.memtables (λ m. result ≡ capped (sealed_bytes c + m.size))) }
-    {
-        let tree = self.shared.lock(rt);
-        let tree = &*tree;
-        tree.facts();
-        tree.log_bytes()
+        read_tree!(self, rt, |tree| tree.get_highest_persisted_seqno())
     }
 }
