@@ -28,7 +28,7 @@ use Rattle.lsm_runs.specs.Clearing.{TakesClear}
 use Rattle.lsm_runs.specs.Noting.{sealed_note, alone_notes}
 use Rattle.lsm_runs.specs.ReadSteps.{TakesGet, TakesGetEntry, TakesPairs}
 use Rattle.lsm_runs.specs.Runs.{TakesEntry, TakesBatch, TakesRotate, TakesNext, TakesCounter, with_counter, without_low_reads}
-use Rattle.lsm_runs.proofs.LowReads.{writes_without}
+use Rattle.lsm_run_model.proofs.LowReads.{writes_without}
 use Rattle.lsm_runs.proofs.StepDeeds.{HasDeeds, IsRight, IsSame, idle, nothing, no_deed, does, writes}
 
 module _ (theory : Soundness) (opened : List Entry) (start : Map) (journal : List Event) (notes : List Note) (old new : Core) (right : IsRight opened start journal old) where

@@ -27,7 +27,7 @@ use Rattle.lsm_runs.specs.declared.steps.Reply.TheVariants.{Number, Done, NoStra
 use Rattle.lsm_runs.specs.Slots.{merge_in}
 use Rattle.lsm_runs.specs.Compacting.{Strategies, job_of, BeginsFrom, TakesBeginCompaction, TakesRunCompaction, EndsFrom, TakesFinish, TakesAbandonCompaction, CompactsFrom, TakesCompact, TakesMajor, TakesDropRange, TakesTableId}
 use Rattle.lsm_runs.specs.Runs.{without_low_reads}
-use Rattle.lsm_runs.proofs.LowReads.{without-append}
+use Rattle.lsm_run_model.proofs.LowReads.{without-append}
 use Rattle.lsm_runs.proofs.Keeping.{AreNoReads, KeepsAfter, keeps_any, keeps_marked}
 
 -- ---- the events of compactions

@@ -12,7 +12,7 @@ use Rattle.lsm_state.specs.CompactionReads.{SparesReads, IsAny, AreSparedBy, IsA
 use Rattle.lsm_state.specs.FlushReads.{KeepsReads, FlushesKeepReads}
 use Rattle.lsm_journal.specs.NotedReads.{IsMarkedFor, NotedCompactionsKeepReads}
 use Rattle.lsm_runs.specs.Runs.{without_low_reads, Spares}
-use Rattle.lsm_runs.proofs.LowReads.{kept_without, without-append, order_without}
+use Rattle.lsm_run_model.proofs.LowReads.{kept_without, without-append, order_without}
 use Rattle.lsm_runs.proofs.ReadReplays.{Sound}
 
 -- no event is a read

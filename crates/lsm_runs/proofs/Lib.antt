@@ -1,4 +1,3 @@
-pub mod LowReads
 pub mod Outcomes
 pub mod FlushOutcomes
 pub mod CompactionOutcomes

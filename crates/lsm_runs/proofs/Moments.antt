@@ -52,7 +52,7 @@ use Rattle.lsm_runs.proofs.RunDeeds.{step_deeds}
 use Rattle.lsm_runs.proofs.JobReplays.{AreMarked, first_marked_behind}
 use Rattle.lsm_runs.proofs.Files.{closed_stored}
 use Rattle.lsm_runs.proofs.Keeping.{KeepLaws}
-use Rattle.lsm_runs.proofs.LowReads.{without-append}
+use Rattle.lsm_run_model.proofs.LowReads.{without-append}
 use Rattle.lsm_runs.proofs.Members.{in_either, in_front}
 use Rattle.lsm_runs.proofs.Notes.{AreBegun, first_begun, each_tells, front_grows}
 use Rattle.lsm_runs.proofs.Made.{takes_one}

@@ -33,7 +33,7 @@ use Rattle.lsm_runs.specs.declared.steps.Reply.{Reply}
 use Rattle.lsm_runs.specs.declared.steps.Reply.TheVariants.{Value, Entry as EntryOf, Truth, Size, Count, Pair as EndPair, Pairs, Refused}
 use Rattle.lsm_runs.specs.ReadSteps.{IsReadRefusal, TakesGet, TakesGetEntry, IsContainsReply, IsSizeReply, TakesPairs, IsLenReply, IsEmptyReply, IsEndReply, GetAnswers, GetEntryAnswers, ContainsAnswers, SizeAnswers, PairsAnswer, OfReplay, LenAnswers, EmptyAnswers, pair_at, EndAnswers}
 use Rattle.lsm_runs.specs.Runs.{without_low_reads}
-use Rattle.lsm_runs.proofs.LowReads.{replay_without, outside_without, kept_without, without-append, order_without}
+use Rattle.lsm_run_model.proofs.LowReads.{replay_without, outside_without, kept_without, without-append, order_without}
 
 -- what holds of a tree with a journal, of which reads below what was opened don't count
 abbrev pub Sound : List Entry → Map → List Event → Core → Type 0

@@ -30,7 +30,7 @@ use Rattle.lsm_runs.specs.declared.slots.Job.{Job}
 use Rattle.lsm_runs.specs.Slots.{Stage, at_first, beside, waiting, Closes}
 use Rattle.lsm_runs.specs.Compacting.{Strategies}
 use Rattle.lsm_runs.specs.Runs.{Takes, TakesAlone, RanToEnd, TakesEntry, TakesBatch, TakesRotate, TakesNext, TakesCounter, with_counter, Ran, IsPlainUse, journal_of, StepAnswers, EachAnswers, RunEqualsReplay, without_low_reads}
-use Rattle.lsm_runs.proofs.LowReads.{without-append, writes_without, order_without}
+use Rattle.lsm_run_model.proofs.LowReads.{without-append, writes_without, order_without}
 use Rattle.lsm_runs.proofs.ReadReplays.{Sound, same, takes_get, takes_get_entry, takes_pairs, get_answers, get_entry_answers, contains_answers, size_answers, pairs_answer, len_answers, empty_answers, end_answers}
 use Rattle.lsm_runs.proofs.Keeping.{KeepLaws, kept_sound}
 use Rattle.lsm_runs.proofs.Clearing.{clear_after}

@@ -23,7 +23,7 @@ use Rattle.lsm_runs.specs.Living.{RunsAreLives}
 use Rattle.lsm_runs.specs.Moments.{outcomes_of, EachReady, Reopens, RunHasMoments}
 use Rattle.lsm_runs.specs.Runs.{journal_of}
 use Rattle.lsm_runs.specs.Told.{Told}
-use Rattle.lsm_runs.proofs.LowReads.{without-append}
+use Rattle.lsm_run_model.proofs.LowReads.{without-append}
 use Rattle.lsm_runs.proofs.Small.{IsSmall, numbered_front}
 use Rattle.lsm_runs.proofs.Uses.{drawings}
 

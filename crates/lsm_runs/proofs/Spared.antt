@@ -23,7 +23,7 @@ use Rattle.lsm_runs.specs.ReadSteps.{TakesGet, TakesGetEntry, TakesPairs}
 use Rattle.lsm_runs.specs.Slots.{Stage}
 use Rattle.lsm_runs.specs.Compacting.{Strategies}
 use Rattle.lsm_runs.specs.Runs.{Takes, TakesAlone, TakesEntry, TakesBatch, TakesRotate, TakesNext, TakesCounter, with_counter, without_low_reads, Spares}
-use Rattle.lsm_runs.proofs.LowReads.{without-append, writes_without, order_without}
+use Rattle.lsm_run_model.proofs.LowReads.{without-append, writes_without, order_without}
 use Rattle.lsm_runs.proofs.Keeping.{KeepLaws, kept_spares}
 use Rattle.lsm_runs.proofs.Clearing.{clear_after}
 use Rattle.lsm_runs.proofs.FlushReplays.{flush_keeps, active_keeps, moment_keeps}
