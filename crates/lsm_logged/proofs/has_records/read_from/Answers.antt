@@ -2,7 +2,7 @@ use Rattle.std.proofs.Common.{◌∙◌, ap}
 use Rattle.std.proofs.lemmas.Result.{err_from_is_err_and}
 use Rattle.lsm_versions.specs.Levels.{SeenVersion}
 use Rattle.lsm_logged.proofs.Reached.{looked}
-use Rattle.lsm_logged.proofs.has_log.read_from.Goals as goal
+use Rattle.lsm_logged.proofs.has_records.read_from.Goals as goal
 
 pub returns-clause-from : goal.returns-clause-from
 returns-clause-from g c tells =

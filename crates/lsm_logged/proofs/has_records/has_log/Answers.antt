@@ -5,7 +5,7 @@ use Rattle.std.proofs.lemmas.Result.{err_from_is_err_and}
 use Rattle.lsm_logged.specs.Counting.{Memory, Faulty, BadName, Files}
 use Rattle.lsm_logged.proofs.Blaming.{bad_name, none_counted, one_failed}
 use Rattle.lsm_logged.proofs.Reached.{reached, read_as}
-use Rattle.lsm_logged.proofs.has_log.has_log.Goals as goal
+use Rattle.lsm_logged.proofs.has_records.has_log.Goals as goal
 
 pub returns-clause-tells : goal.returns-clause-tells
 returns-clause-tells g c tells =
