@@ -10,7 +10,7 @@ use Rattle.lsm_store.specs.World.{Image}
 use Rattle.lsm_model.specs.Views.{Placed}
 use Rattle.lsm_log.specs.declared.record.Record.{Record}
 use Rattle.lsm_log.specs.LogNames.{record_name}
-use Rattle.lsm_log.specs.Logs.{IsRecordAt, IsLogFrom}
+use Rattle.lsm_log.specs.Logs.{IsRecordAt}
 use Rattle.lsm_log.specs.Records.{Ops, IsRecordOf}
 use Rattle.lsm_log.proofs.Loaded.{rise_drop}
 use Rattle.lsm_log_model.specs.Joins.{RecordsAreFound}
@@ -19,6 +19,7 @@ use Rattle.lsm_log_model.specs.Records.{Batch, IsRising, LogImage, counted}
 use Rattle.lsm_log_model.proofs.Batches.{since_rising}
 use Rattle.lsm_log_model.proofs.Growth.{in_append}
 use Rattle.lsm_logged.specs.Keeping.{IsRecordFile, IsNoNumber, IsLogIn}
+use Rattle.lsm_logged.specs.Meanwhile.{AreReadFrom}
 use Rattle.lsm_logged.specs.Opening.{batch_read}
 use Rattle.lsm_logged.specs.Writing.{batch_of}
 
@@ -86,7 +87,7 @@ rising (r ∷ rs) h = (above_first r.number rs h, rising rs (rise_drop 1 (number
 
 -- ---- what reading finds
 
-module _ (first : RecordsAreFirst) (image : Image) (tables : List Placed) (from : ℕ) (passed : List ℕ) (records : List Record) (log : IsLogFrom image from passed records) (t : Log) (is : IsLogIn t image) where
+module _ (first : RecordsAreFirst) (image : Image) (tables : List Placed) (from : ℕ) (records : List Record) (log : AreReadFrom image from records) (t : Log) (is : IsLogIn t image) where
   abbrev pub left : LogImage
   left = record { tables = tables; log_from = from; records = map batch_read records }
 
@@ -126,14 +127,14 @@ module _ (first : RecordsAreFirst) (image : Image) (tables : List Placed) (from 
       let z = in_filter (λ (c : Batch). nat_le from c.number) (map batch_read records) b i in
       let r = from_map batch_read records b z.0 in
       let at = each_in (λ r. IsRecordAt image r.number r) records r.0 log.records_are r.1 in
-      let where_is = (log.read_are r.0.number).0 (there records r.0 r.1) in
+      let where_is = (log.are r.0.number).0 (there records r.0 r.1) in
       subst (λ c. IsIn c all_batches) r.2 (one low r.0 at where_is.0.small where_is.1)
 
   -- the number of a record that counts is read
   pub is_read : (b : Batch) → IsIn b t.records → from ≤ b.number → Contains (numbers_of records) b.number
   is_read b i le =
       let file = file_in b i in
-      (log.read_are b.number).1 (record { small = each_in (λ b. b.number < 2 ^ 63) t.records b (each_left (λ b. b.number < 2 ^ 63) t.records (lost_of t.lost) is.small) i; file = subst (λ (c : Option (List ℕ)). IsSome c) (sym file.1) refl }, le)
+      (log.are b.number).1 (record { small = each_in (λ b. b.number < 2 ^ 63) t.records b (each_left (λ b. b.number < 2 ^ 63) t.records (lost_of t.lost) is.small) i; file = subst (λ (c : Option (List ℕ)). IsSome c) (sym file.1) refl }, le)
 
   all : (b : Batch) → IsIn b t.records → from ≤ b.number → IsIn b (counted left)
   all b i le =
@@ -142,4 +143,4 @@ module _ (first : RecordsAreFirst) (image : Image) (tables : List Placed) (from 
       filter_in (λ (c : Batch). nat_le from c.number) (map batch_read records) b (subst (λ c. IsIn c (map batch_read records)) (sym same) (in_map batch_read records r.0 r.1)) (le-leb from b.number le)
 
   pub has_records : RecordsAreFound → t.log_from ≤ from → LogIsSound t → HasRecords left t
-  has_records found low sound = found t left sound (since_rising from (map batch_read records) (rising records log.read_rise)) (only low) all
+  has_records found low sound = found t left sound (since_rising from (map batch_read records) (rising records log.rise)) (only low) all

@@ -25,3 +25,4 @@ pub mod NoActs
 pub mod Taken
 pub mod Found
 pub mod Versions
+pub mod Meanwhile

@@ -41,12 +41,24 @@ is_in : (b : Bool) (inside : LogName) → cond b inside Other ≡ Refused → b 
 is_in true inside e = refl
 is_in false inside e = absurd (cc e)
 
-refused_begins : (n : List ℕ) → kind_of n ≡ Refused → starts_with nat_eq n (codes "log/") ≡ true
+pub refused_begins : (n : List ℕ) → kind_of n ≡ Refused → starts_with nat_eq n (codes "log/") ≡ true
 unfolding kind_of
 refused_begins n e = is_in (starts_with nat_eq n (codes "log/")) (kind_in_log (drop 4 n)) e
 
--- a name that a log refuses is none of a tree's
-pub refused_is_foreign : (n : List ℕ) → kind_of n ≡ Refused → IsForeign n
-refused_is_foreign n e =
-    let front : codes "log/" ≡ take 4 n = (bytes_eq-Decides (codes "log/") (take 4 n)).0 (refused_begins n e) in
+-- a name in the folder of the log is none of a tree's
+pub folder_foreign : (n : List ℕ) → starts_with nat_eq n (codes "log/") ≡ true → IsForeign n
+folder_foreign n e =
+    let front : codes "log/" ≡ take 4 n = (bytes_eq-Decides (codes "log/") (take 4 n)).0 e in
     subst IsForeign (ap (λ a. a ++ drop 4 n) front ∙ take-append-drop 4 n) (in_folder_foreign (drop 4 n))
+
+-- so is one that a log refuses
+pub refused_is_foreign : (n : List ℕ) → kind_of n ≡ Refused → IsForeign n
+refused_is_foreign n e = folder_foreign n (refused_begins n e)
+
+-- and one that a tree refuses isn't there
+pub not_in_log : (n : List ℕ) → kind_in_tree n ≡ tree.Refused → starts_with nat_eq n (codes "log/") ≡ false
+not_in_log n bad = by_place (starts_with nat_eq n (codes "log/")) refl
+  where
+    by_place : (b : Bool) → starts_with nat_eq n (codes "log/") ≡ b → b ≡ false
+    by_place true e = let f = folder_foreign n e in let z : tree.Other ≡ tree.Refused = sym f.other ∙ bad in absurd (cc z)
+    by_place false e = refl

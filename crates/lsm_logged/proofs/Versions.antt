@@ -1,19 +1,20 @@
 -- An image tells once from which number a version reads a log.
-use Rattle.std.proofs.Common.{◌≡◌, ℕ, List, Option, Some, sym, ap, ◌∙◌}
+use Rattle.std.proofs.Common.{◌≡◌, ℕ, List, Option, Some, None, IsSome, refl, sym, ap, ◌∙◌, subst}
 use Rattle.lsm_store.specs.World.{Image}
 use Rattle.lsm_tables.specs.Spellings.{ok_is}
-use Rattle.lsm_versions.specs.Levels.{SeenVersion}
+use Rattle.lsm_versions.specs.Levels.{Levels as SeenLevels, SeenVersion}
 use Rattle.lsm_manifest.specs.Finding.{Finds, Named, FoundOnce}
-use Rattle.lsm_manifest.specs.Names.{version_name}
+use Rattle.lsm_manifest.specs.Names.{current_name, version_name}
 use Rattle.lsm_manifest.specs.Opening.{ReadsFrom}
 use Rattle.lsm_manifest.specs.Reading.{told_at}
 use Rattle.lsm_manifest.specs.Recovery.{Levels, IsNamed, IsNamedFrom}
 use Rattle.lsm_manifest.specs.Versions.{log_from_in, named_levels}
 use Rattle.lsm_commit.specs.Stored.{HoldsOneOf}
+use Rattle.lsm_logged.specs.Meanwhile.{ReadsVersion}
 use Rattle.lsm_manifest.proofs.OpeningLemmas.{named_once}
 use Rattle.lsm_manifest.proofs.Whole.{told_again}
 
-named : (image : Image) (id : ℕ) (from : Option ℕ) (ls : Levels) → IsNamedFrom image id from ls → IsNamed image id ls
+pub named : (image : Image) (id : ℕ) (from : Option ℕ) (ls : Levels) → IsNamedFrom image id from ls → IsNamed image id ls
 named image id from ls is = record { id_fits = is.id_fits; bytes = is.bytes; current = is.current; version = is.version; reads = record { from = from; file = is.reads } }
 
 pub from_once : (image : Image) (u v : SeenVersion) → ReadsFrom image u → ReadsFrom image v → u.levels ≡ v.levels → u.log_from ≡ v.log_from
@@ -30,3 +31,22 @@ pub version_once : FoundOnce → (versions : List SeenVersion) (image : Image) (
 version_once once versions image v one found reads =
     let same = once image one.0.levels v.levels (Named one.0.id (named_levels one.0.levels) one.2) found in
     (same, from_once image one.0 v one.3 reads same)
+
+abbrev made : ℕ → ℕ → SeenLevels → SeenVersion
+made id from levels = record { id = id; log_from = from; levels = levels }
+
+-- an opening reads one version in an image
+pub version_is_one : FoundOnce → (image : Image) (u v : SeenVersion) → ReadsVersion image u → ReadsVersion image v → u ≡ v
+version_is_one once image u v a b = by_current (image current_name) refl
+  where
+    named_one : ReadsFrom image u → ReadsFrom image v → u.levels ≡ v.levels → u ≡ v
+    named_one x y same =
+        let id : u.id ≡ v.id = (named_once image u.id v.id x.layout y.layout (named image u.id x.from x.layout x.named) (named image v.id y.from y.layout y.named)).0 in
+        let from : u.log_from ≡ v.log_from = from_once image u v x y same in
+        ap (λ i. made i u.log_from u.levels) id ∙ (ap (λ f. made v.id f u.levels) from ∙ ap (made v.id v.log_from) same)
+
+    by_current : (c : Option (List ℕ)) → image current_name ≡ c → u ≡ v
+    by_current None is = a.fresh is ∙ sym (b.fresh is)
+    by_current (Some bytes) is =
+        let there = subst (λ (o : Option (List ℕ)). IsSome o) (sym is) refl in
+        named_one (a.version there) (b.version there) (once image u.levels v.levels (a.found there) (b.found there))

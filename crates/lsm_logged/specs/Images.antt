@@ -8,10 +8,10 @@ use Rattle.lsm_manifest.specs.Finding.{Finds}
 use Rattle.lsm_manifest.specs.Opening.{ReadsFrom}
 use Rattle.lsm_commit.specs.Stored.{HoldsOneOf}
 use Rattle.lsm_log.specs.declared.record.Record.{Record}
-use Rattle.lsm_log.specs.Logs.{IsLogFrom}
 use Rattle.lsm_log_model.specs.Logs.{Logged as Log, LogIsSound, HasRecords}
 use Rattle.lsm_log_model.specs.Records.{Batch}
 use Rattle.lsm_logged.specs.Keeping.{KeepsLog, IsLogIn}
+use Rattle.lsm_logged.specs.Meanwhile.{AreReadFrom}
 use Rattle.lsm_logged.specs.Opening.{batch_read}
 
 -- each image that a crash may leave of a store that keeps a log has the log
@@ -20,12 +20,12 @@ ImagesHaveLogs S world = (store : S) (log : Log) (image : Image) → KeepsLog (w
 
 -- the records of a log that an image has are those that are read in it, beside whatever tables
 abbrev pub RecordsAreThoseRead : Type 0
-RecordsAreThoseRead = (image : Image) (tables : List Placed) (from : ℕ) (passed : List ℕ) (records : List Record) (log : Log) → IsLogFrom image from passed records → IsLogIn log image → log.log_from ≤ from → LogIsSound log
+RecordsAreThoseRead = (image : Image) (tables : List Placed) (from : ℕ) (records : List Record) (log : Log) → AreReadFrom image from records → IsLogIn log image → log.log_from ≤ from → LogIsSound log
     → HasRecords (record { tables = tables; log_from = from; records = map batch_read records }) log
 
 -- each of them that counts is read
 abbrev pub CountedAreRead : Type 0
-CountedAreRead = (image : Image) (from : ℕ) (passed : List ℕ) (records : List Record) (log : Log) → IsLogFrom image from passed records → IsLogIn log image
+CountedAreRead = (image : Image) (from : ℕ) (records : List Record) (log : Log) → AreReadFrom image from records → IsLogIn log image
     → (b : Batch) → IsIn b log.records → from ≤ b.number → Contains (map (λ r. r.number) records) b.number
 
 -- two versions with the same tables that an image tells read the log from the same number on

@@ -3,6 +3,7 @@ pub mod Writing
 pub mod Removing
 pub mod Flushing
 pub mod Opening
+pub mod Meanwhile
 pub mod Images
 pub mod Asking
 pub mod Counting

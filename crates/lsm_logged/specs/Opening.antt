@@ -27,8 +27,8 @@ use Rattle.lsm_log_model.specs.Logs.{Logged as Log, MayBeDrawn}
 use Rattle.lsm_log_model.specs.Replays.{IsReopened}
 use Rattle.lsm_state.specs.Core.{Core, opened_core, written_all, versions_left, written_of}
 use Rattle.lsm_state.specs.Opened.{found_entries}
-use Rattle.lsm_logged.specs.Counting.{IsReadFrom}
 use Rattle.lsm_logged.specs.Keeping.{SeenLogged, AreRecordNumbers, IsLogOf, KeepsLog, AreKnown}
+use Rattle.lsm_logged.specs.Meanwhile.{ReadsVersion}
 use Rattle.lsm_logged.specs.Removing.{Passed}
 
 -- ---- replays
@@ -127,11 +127,11 @@ abbrev pub logged_told : {S : Type 0} → Result (SeenLogged S) (Error × S) →
 logged_told (Ok t) = Ok t
 logged_told (Err e) = Err e.0
 
--- the log is bad, from the number on from which it is read; then nothing is done
+-- the log is bad, from the `log_from` on of the version that is read; then nothing is done
 pub record IsBadFrom (old new : World) : Type 0 where
-  pub from : ℕ
-  pub read : IsReadFrom old.gives from
-  pub bad : IsBadLog old.gives from
+  pub version : SeenVersion
+  pub read : ReadsVersion old.gives version
+  pub bad : IsBadLog old.gives version.log_from
   pub same : Same old new
 
 -- as an opening of the tree's files is refused; or for want of memory, or by a fault of the store, which then failed; or for the log

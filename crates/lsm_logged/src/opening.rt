@@ -5,6 +5,7 @@ ghost use Rattle.std.specs.List.Sorted.{IsStrictlyIncreasing};
 ghost use Rattle.lsm_store.specs.World.{Same, LeavesOnly};
 ghost use Rattle.lsm_tables.specs.Image.{Fits};
 ghost use Rattle.lsm_model.specs.Ops.{op_entries};
+ghost use Rattle.lsm_manifest.specs.Ready.{IsReady};
 ghost use Rattle.lsm_commit.specs.Stored.{CountsFaults};
 ghost use Rattle.lsm_log.specs.LogNames.{record_name};
 ghost use Rattle.lsm_log.specs.Changes.{IsBelow, IsNoneOf, ClearsRecords, AreCleared};
@@ -12,13 +13,21 @@ ghost use Rattle.lsm_log.specs.Logs.{LacksOne, IsLogAt, IsBadLog};
 ghost use Rattle.lsm_state.specs.Core.{written_all};
 ghost use Rattle.lsm_state.specs.Commits.{UpholdsFiles};
 ghost use Rattle.lsm_logged.specs.Keeping.{AreRecordNumbers};
+ghost use Rattle.lsm_logged.specs.Meanwhile.{LeavesAsBefore};
 ghost use Rattle.lsm_logged.specs.Opening.{RefusesReading, RefusesReplay, RefusesReplays, ReplaysEach, OpensLogged, RefusesLogged, logged_left, logged_told};
 
 use crate::Logged;
 use lsm_below::{Error, SeqNo, plain_numbers_are_read};
-use lsm_commit::{crashes_leave_versions, openings_pass, openings_settle};
+use lsm_commit::{
+    crashes_leave_versions, foreign_names_spare, openings_pass, openings_settle,
+    stored_files_are_ready,
+};
 use lsm_log::{LogNumbers, Record};
 use lsm_log_model::{counter_stays_above, replays_reopen};
+use lsm_manifest::{
+    images_stand_once, openings_leave_what_was_read, ready_stores_keep_what_is_named,
+    unread_names_dont_matter,
+};
 use lsm_parts::{Config, LIMIT};
 use lsm_state::{Found, TreeState, opened_trees_are_fresh};
 use lsm_store::Store;
@@ -141,10 +150,19 @@ impl<S: Store> Logged<S> {
     pub fn open(alloc: Global, config: Config, store: S) -> Result<Logged<S>, (Error, S)>
         ensures opens { IfOk result (OpensLogged S.tells S.world store config) }
         ensures refused { S.tells → IfErr result (λ e. RefusesLogged (S.world store) (S.world e.1) e.0) }
+        // What a crash leaves at each moment of it reads as what it could leave before: the same version, and the same records from its
+        // `log_from` on; and the store may be opened again.
+        ensures leaves { S.tells → IsReady (S.world store) → LeavesAsBefore (S.world store) (S.world (logged_left result)) }
         // One call of the store failed where the error says so, and none where it doesn't.
         ensures counts { CountsFaults (S.world store) (S.world (logged_left result)) (logged_told result) }
     {
         plain_numbers_are_read();
+        images_stand_once();
+        unread_names_dont_matter();
+        ready_stores_keep_what_is_named(&store);
+        openings_leave_what_was_read(&store);
+        foreign_names_spare(&store);
+        stored_files_are_ready(&store);
         openings_pass(&store);
         openings_settle(&store);
         opened_trees_are_fresh();

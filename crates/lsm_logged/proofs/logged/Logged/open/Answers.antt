@@ -16,12 +16,13 @@ use Rattle.lsm_log.specs.LogNames.{record_name}
 use Rattle.lsm_log.specs.Logs.{IsLogFrom, IsLogAt, IsBadLog}
 use Rattle.lsm_log.specs.Changes.{IsBelow, ClearsRecords, AreCleared}
 use Rattle.lsm_log.proofs.Loaded.{gives_same}
+use Rattle.lsm_state.specs.Core.{versions_left, written_of}
 use Rattle.lsm_log_model.specs.Records.{LogStands}
 use Rattle.lsm_logged.specs.Keeping.{AreRecordNumbers}
 use Rattle.lsm_logged.specs.Opening.{Files, Memory, Faulty, BadLog, image_read, TakesLog, CanBeSettled, IsReopenedLog}
 use Rattle.lsm_logged.proofs.Blaming.{none_counted, one_failed, counted_behind, none_behind}
 use Rattle.lsm_logged.proofs.LogNames.{record_is_foreign}
-use Rattle.lsm_logged.proofs.Reached.{looked as looked_from}
+use Rattle.lsm_logged.proofs.Meanwhile.{nothing_moment, looks_read, files_left, records_left}
 use Rattle.lsm_logged.proofs.Replaying.{log_read, none_lacks, small_numbers}
 use Rattle.lsm_logged.proofs.Reopening.{looks_on, fresh_in, found_in, is_read_in, numbered_more, whole, version, high, replays, takes, reopens}
 use Rattle.lsm_logged.proofs.logged.Logged.open.Goals as goal
@@ -39,11 +40,12 @@ returns-in-Err-clause-refused g c tells =
     let mid = c.check_numbered.new.found.store in
     let looked = c.in_ok-found.ensures.same tells in
     let from = c.log_from-from.result in
+    let from_is : from ≡ found.files.opened.version.log_from = c.log_from-from.ensures ∙ ap (λ (u : SeenVersion). u.log_from) c.version.ensures in
     ⊎_elim (λ few. ⊎_elim (λ e. Memory e) (λ e. Faulty e (rw (c.into_store.ensures) (one_failed (w store) (w found.store) (w mid) c.in_ok-found.ensures.counts (c.in-Err.ensures.counts.store (ap Err e))))) few)
     (λ e. BadLog e (record {
-      from = from;
-      read = looked_from (w store) (w found.store) found.files from (c.in_ok-found.ensures.found tells) (c.log_from-from.ensures ∙ ap (λ (u : SeenVersion). u.log_from) c.version.ensures);
-      bad = subst (λ (image : Image). IsBadLog image from) (gives_same (w store) (w found.store) looked) (c.in-Err.ensures.bad tells (ap Err e));
+      version = found.files.opened.version;
+      read = looks_read (w store) (w found.store) found.files (c.in_ok-found.ensures.found tells);
+      bad = subst (IsBadLog (w store).gives) from_is (subst (λ (image : Image). IsBadLog image from) (gives_same (w store) (w found.store) looked) (c.in-Err.ensures.bad tells (ap Err e)));
       same = rw (c.into_store.ensures) (same_then (w store) (w found.store) (w mid) looked (c.in-Err.ensures.same tells));
     }))
     c.in-Err.ensures.only
@@ -165,3 +167,72 @@ returns-in-Ok-take_log-clause-counts g c =
     none_counted (w c.in_ok-tree.tree.store) (w new) tt c.in-Ok-take_log.ensures.counts
     ∙ c.in_ok-tree.ensures.counts ∙ none_counted (w found.store) (w mid) c.in-Ok.checked c.in-Ok.ensures.counts ∙ c.in_ok-found.ensures.counts in
     none_behind (w store) (w new) _ same
+
+-- ---- what a crash leaves meanwhile
+
+pub returns-in_err-found-clause-leaves : goal.returns-in_err-found-clause-leaves
+returns-in_err-found-clause-leaves g c tells ready =
+    let w = g.S.Store.world in
+    let p = err_from_is_err_and c.from_residual.result c.from_residual.ensures.1 in
+    rw (p.1, p.2) (nothing_moment (w c.args.store) (w c.in_err-found.field-0.0.1) (g.met.S.Store.only_now tells c.args.store) (c.in_err-found.ensures.same tells) ready)
+
+pub returns-in-Err-clause-leaves : goal.returns-in-Err-clause-leaves
+returns-in-Err-clause-leaves g c tells ready =
+    let w = g.S.Store.world in
+    let store = c.args.store in
+    let found = c.in_ok-found.found in
+    let mid = c.check_numbered.new.found.store in
+    rw (c.into_store.ensures) (nothing_moment (w store) (w mid) (g.met.S.Store.only_now tells store) (same_then (w store) (w found.store) (w mid) (c.in_ok-found.ensures.same tells) (c.in-Err.ensures.same tells)) ready)
+
+pub returns-in_err-tree-clause-leaves : goal.returns-in_err-tree-clause-leaves
+returns-in_err-tree-clause-leaves g c tells ready =
+    let w = g.S.Store.world in
+    let store = c.args.store in
+    let found = c.in_ok-found.found in
+    let found' = c.check_numbered.new.found in
+    let left = c.in_err-tree.field-0.0.1 in
+    let looks = looks_on (w store) (w found.store) (w found'.store) found.files found'.files (c.in_ok-found.ensures.found tells) (c.in-Ok.ensures.same tells) c.in-Ok.ensures.files in
+    let read = subst (λ (image : Image). IsLogAt image c.log_from-from.result c.in-Ok.checked.log.passed.items c.in-Ok.checked.log.numbers.items) (gives_same (w store) (w found.store) (c.in_ok-found.ensures.same tells)) (c.in-Ok.ensures.read tells) in
+    let p = err_from_is_err_and c.from_residual-in_err-tree.result c.from_residual-in_err-tree.ensures.1 in
+    rw (p.1, p.2)
+    (files_left w c.images_stand_once.ensures.found c.unread_names_dont_matter.ensures c.plain_numbers_are_read.ensures (c.ready_stores_keep_what_is_named.ensures.named tells) (c.openings_leave_what_was_read.ensures.meanwhile tells) c.foreign_names_spare.ensures c.stored_files_are_ready.ensures
+    store (g.met.S.Store.gives_one tells store) ready found'.files (looks_read (w store) (w found'.store) found'.files looks) read.log.are.good left (c.in_err-tree.ensures.leaves tells store looks))
+
+pub returns-in-Err-take_log-clause-leaves : goal.returns-in-Err-take_log-clause-leaves
+returns-in-Err-take_log-clause-leaves g c tells ready =
+    let w = g.S.Store.world in
+    let store = c.args.store in
+    let found = c.in_ok-found.found in
+    let found' = c.check_numbered.new.found in
+    let v : SeenVersion = found'.files.opened.version in
+    let mid = c.in_ok-tree.tree.store in
+    let new = c.take_log.new.tree.store in
+    let core = c.in_ok-tree.tree.core in
+    let looks = looks_on (w store) (w found.store) (w found'.store) found.files found'.files (c.in_ok-found.ensures.found tells) (c.in-Ok.ensures.same tells) c.in-Ok.ensures.files in
+    let read = subst (λ (image : Image). IsLogAt image c.log_from-from.result c.in-Ok.checked.log.passed.items c.in-Ok.checked.log.numbers.items) (gives_same (w store) (w found.store) (c.in_ok-found.ensures.same tells)) (c.in-Ok.ensures.read tells) in
+    let leaves = c.in_ok-tree.ensures.leaves tells store looks in
+    let from : c.log_from-from.result ≡ v.log_from = c.log_from-from.ensures ∙ (ap (λ (u : SeenVersion). u.log_from) c.version.ensures ∙ ap (λ (f : Found). f.opened.version.log_from) (sym c.in-Ok.ensures.files)) in
+    rw (c.into_store-in-Err-take_log.ensures)
+    (records_left w c.images_stand_once.ensures.found c.unread_names_dont_matter.ensures c.plain_numbers_are_read.ensures (c.ready_stores_keep_what_is_named.ensures.named tells) (c.openings_leave_what_was_read.ensures.meanwhile tells) c.foreign_names_spare.ensures c.stored_files_are_ready.ensures
+    store (g.met.S.Store.gives_one tells store) ready found'.files (looks_read (w store) (w found'.store) found'.files looks) read.log.are.good mid new (versions_left core) (written_of core) (ap versions_left c.in_ok-tree.ensures.core) leaves
+    (c.openings_pass.ensures store mid _ (c.in_ok-tree.ensures.opens tells store looks) leaves) (c.in_ok-tree.ensures.stored tells store looks ready)
+    (subst (λ n. ClearsRecords (IsBelow n) (w mid) (w new)) from (c.in-Err-take_log.ensures.clears tells)) (subst (λ n. LeavesOnly (w mid) (w new) (AreCleared (IsBelow n) (w mid))) from (c.in-Err-take_log.ensures.any_moment tells)))
+
+pub returns-in-Ok-take_log-clause-leaves : goal.returns-in-Ok-take_log-clause-leaves
+returns-in-Ok-take_log-clause-leaves g c tells ready =
+    let w = g.S.Store.world in
+    let store = c.args.store in
+    let found = c.in_ok-found.found in
+    let found' = c.check_numbered.new.found in
+    let v : SeenVersion = found'.files.opened.version in
+    let mid = c.in_ok-tree.tree.store in
+    let new = c.take_log.new.tree.store in
+    let core = c.in_ok-tree.tree.core in
+    let looks = looks_on (w store) (w found.store) (w found'.store) found.files found'.files (c.in_ok-found.ensures.found tells) (c.in-Ok.ensures.same tells) c.in-Ok.ensures.files in
+    let read = subst (λ (image : Image). IsLogAt image c.log_from-from.result c.in-Ok.checked.log.passed.items c.in-Ok.checked.log.numbers.items) (gives_same (w store) (w found.store) (c.in_ok-found.ensures.same tells)) (c.in-Ok.ensures.read tells) in
+    let leaves = c.in_ok-tree.ensures.leaves tells store looks in
+    let from : c.log_from-from.result ≡ v.log_from = c.log_from-from.ensures ∙ (ap (λ (u : SeenVersion). u.log_from) c.version.ensures ∙ ap (λ (f : Found). f.opened.version.log_from) (sym c.in-Ok.ensures.files)) in
+    records_left w c.images_stand_once.ensures.found c.unread_names_dont_matter.ensures c.plain_numbers_are_read.ensures (c.ready_stores_keep_what_is_named.ensures.named tells) (c.openings_leave_what_was_read.ensures.meanwhile tells) c.foreign_names_spare.ensures c.stored_files_are_ready.ensures
+    store (g.met.S.Store.gives_one tells store) ready found'.files (looks_read (w store) (w found'.store) found'.files looks) read.log.are.good mid new (versions_left core) (written_of core) (ap versions_left c.in_ok-tree.ensures.core) leaves
+    (c.openings_pass.ensures store mid _ (c.in_ok-tree.ensures.opens tells store looks) leaves) (c.in_ok-tree.ensures.stored tells store looks ready)
+    (subst (λ n. ClearsRecords (IsBelow n) (w mid) (w new)) from (c.in-Ok-take_log.ensures.clears tells)) (subst (λ n. LeavesOnly (w mid) (w new) (AreCleared (IsBelow n) (w mid))) from (c.in-Ok-take_log.ensures.any_moment tells))
