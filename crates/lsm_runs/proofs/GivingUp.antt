@@ -53,7 +53,7 @@ ended_append [] ys ms = refl
 ended_append (x ∷ xs) ys ms = ended_append xs ys (ended x ms)
 
 -- some are given up, and then others
-closes_both : (old mid new : Core) → Closes old mid → Closes mid new → Closes old new
+pub closes_both : (old mid new : Core) → Closes old mid → Closes mid new → Closes old new
 closes_both old mid new a b = record {
   rest = b.rest ∙ ap (λ (c : Core). record c { flush = new.flush; merges = new.merges }) a.rest;
   flush = go b.flush a.flush;
