@@ -38,6 +38,7 @@ use Rattle.lsm_state.specs.Deeds.{saved_of}
 use Rattle.lsm_parts.specs.Held.{entries_of}
 use Rattle.lsm_logged.specs.Images.{RecordsAreThoseRead, CountedAreRead, VersionIsToldOnce}
 use Rattle.lsm_logged.specs.Keeping.{SeenLogged, KeepsLog, IsLogIn}
+use Rattle.lsm_logged.specs.Meanwhile.{log_is_read}
 use Rattle.lsm_logged.specs.Opening.{OpensLogged, CanBeSettled, IsReopenedLog, image_read, version_of}
 use Rattle.lsm_logged.specs.Writing.{batch_of}
 use Rattle.example_log.specs.Kept.{HoldsBatch}
@@ -128,7 +129,7 @@ module _ {S : Type 0} (world : S → World) (ops : List (Bytes × Op)) (c : Core
   low = let e = log_from in omega (arith, e)
 
   has : HasRecords image2 log
-  has = those_read image (placed_of v.levels) v.log_from opens.passed opens.records log (opens.takes tt).log kept low sound
+  has = those_read image (placed_of v.levels) v.log_from opens.records log (log_is_read image v.log_from opens.passed opens.records (opens.takes tt).log) kept low sound
 
   is_left : MayLeave log image2
   is_left = record {
@@ -183,7 +184,7 @@ module _ {S : Type 0} (world : S → World) (ops : List (Bytes × Op)) (c : Core
             let low_first : one.first.log_from ≤ one.number = one.act.drawn.above_version in
             let same = ap (λ (l : Log). l.log_from) one.act.rest in
             let e = log_from in
-            let has_number = are_read image v.log_from opens.passed opens.records log (opens.takes tt).log kept b (subst (IsIn b) (sym records) (inl refl)) (omega (arith, low_first, same, e)) in
+            let has_number = are_read image v.log_from opens.records log (log_is_read image v.log_from opens.passed opens.records (opens.takes tt).log) kept b (subst (IsIn b) (sym records) (inl refl)) (omega (arith, low_first, same, e)) in
             let lt = All-contains (λ k. k < opens.replays.least) (map (λ (r : Record). r.number) opens.records) one.number opens.replays.above_records.below has_number in
             let is = ap (λ (x : Core). x.visible_seqno) opens.replays.core in
             omega (arith, lt, is)

@@ -15,8 +15,9 @@ use Rattle.lsm_log.specs.LogNames.{record_name}
 use Rattle.lsm_log.specs.Logs.{HasBadName, IsThere, IsNoRecordAt, IsRecordAt, IsBadLog}
 use Rattle.lsm_log_model.specs.Records.{LogImage, LogStands}
 use Rattle.lsm_log_model.specs.Replays.{TablesAloneStand}
+use Rattle.lsm_logged.specs.Meanwhile.{ReadsVersion}
 use Rattle.lsm_logged.specs.Opening.{CanBeSettled, batch_read, image_read}
-use Rattle.lsm_log_runs.specs.Images.{ReadsVersion, ReadsLog, MayBeOpened}
+use Rattle.lsm_log_runs.specs.Images.{ReadsLog, HoldsLogged, MayBeOpened}
 
 abbrev pub nothing_in : Image
 nothing_in name = None
@@ -33,38 +34,42 @@ nothing_stands = record { distinct = tt; laid = record { covers = tt; by_level =
 absent : {A : Type 0} (o : Option A) → o ≡ None → IsSome o → ⊥
 absent o none some = let s = subst (λ p. IsSome p) none some in absurd (cc s)
 
-module _ (tables : TablesAloneStand) (w : World) (new : Begins nothing_in w) where
-  no_records : (records : List Record) → AllByRecursion (λ r. IsRecordAt w.gives r.number r) records → records ≡ []
+abbrev imaged : List Placed → ℕ → List Record → LogImage
+imaged placed from records = record { tables = placed; log_from = from; records = map batch_read records }
+
+-- an image without any name
+module _ (tables : TablesAloneStand) (image : Image) (none : (n : List ℕ) → image n ≡ None) where
+  no_records : (records : List Record) → AllByRecursion (λ r. IsRecordAt image r.number r) records → records ≡ []
   no_records [] h = refl
-  no_records (r ∷ records) h = let file = h.0.file in absurd (cc (sym (new.gives (record_name r.number)) ∙ file))
+  no_records (r ∷ records) h = let file = h.0.file in absurd (cc (sym (none (record_name r.number)) ∙ file))
 
-  abbrev imaged : List Placed → ℕ → List Record → LogImage
-  imaged placed from records = record { tables = placed; log_from = from; records = map batch_read records }
-
-  stands : (v : SeenVersion) (passed : List ℕ) (records : List Record) → ReadsLog w.gives v passed records → LogStands (image_read v records)
-  stands v passed records reads =
-      let first = reads.version.fresh (new.gives current_name) in
+  stands : (v : SeenVersion) (records : List Record) → ReadsLog image v records → LogStands (image_read v records)
+  stands v records reads =
+      let first = reads.version.fresh (none current_name) in
       let is : image_read v records ≡ imaged [] v.log_from [] = ap (λ (u : SeenVersion). imaged (placed_of u.levels) v.log_from records) first ∙ ap (imaged [] v.log_from) (no_records records reads.log.records_are) in
       subst LogStands (sym is) (tables [] v.log_from nothing_stands (omega arith)).0
 
-  not_bad : (v : SeenVersion) → ReadsVersion w.gives v → IsBadLog w.gives v.log_from → ⊥
+  not_bad : (v : SeenVersion) → ReadsVersion image v → IsBadLog image v.log_from → ⊥
   not_bad v reads bad = ⊎_elim
-      (λ (b : HasBadName w.gives). absent (w.gives b.name) (new.gives b.name) b.there)
-      (λ (z : (k : ℕ) × IsThere w.gives k × (v.log_from ≤ k) × IsNoRecordAt w.gives k). absent (w.gives (record_name z.0)) (new.gives (record_name z.0)) z.1.file)
+      (λ (b : HasBadName image). absent (image b.name) (none b.name) b.there)
+      (λ (z : (k : ℕ) × IsThere image k × (v.log_from ≤ k) × IsNoRecordAt image k). absent (image (record_name z.0)) (none (record_name z.0)) z.1.file)
       bad
 
-  pub new_opens : IsReady w → ((from : ℕ) → CanBeSettled w from) → MayBeOpened w
-  new_opens ready settles = record {
-    ready = ready;
-    stands = record {
-      finds = record {
-        version = first_version;
-        read = record { version = λ some. absurd (absent (w.gives current_name) (new.gives current_name) some); found = λ some. absurd (absent (w.gives current_name) (new.gives current_name) some); fresh = λ none. refl };
-        found = Nothing (new.gives current_name) (record { no_version = new.gives _; in_tables = λ name refused. new.gives name }) refl;
-        stands = nothing_stands;
-      };
-      good = not_bad;
-      reads = stands;
+  empty_holds : HoldsLogged LogStands image
+  empty_holds = record {
+    finds = record {
+      version = first_version;
+      read = record { version = λ some. absurd (absent (image current_name) (none current_name) some); found = λ some. absurd (absent (image current_name) (none current_name) some); fresh = λ n. refl };
+      found = Nothing (none current_name) (record { no_version = none _; in_tables = λ name refused. none name }) refl;
+      stands = nothing_stands;
     };
-    settles = λ v reads. settles v.log_from;
+    good = not_bad;
+    reads = stands;
   }
+
+pub new_opens : TablesAloneStand → (w : World) → Begins nothing_in w → IsReady w → ((from : ℕ) → CanBeSettled w from) → MayBeOpened w
+new_opens tables w new ready settles = record {
+  ready = ready;
+  stands = λ image may. empty_holds tables image (λ n. (new.may n (image n)).0 (may n));
+  settles = λ image v may reads. settles v.log_from;
+}

@@ -23,11 +23,12 @@ use Rattle.lsm_state.specs.Core.{Core, versions_left}
 use Rattle.lsm_logged.specs.Acting.{HoldsLog}
 use Rattle.lsm_logged.specs.Images.{RecordsAreThoseRead, VersionIsToldOnce}
 use Rattle.lsm_logged.specs.Keeping.{IsLogOf, IsRecordFile, IsNoNumber}
+use Rattle.lsm_logged.specs.Meanwhile.{ReadsVersion}
 use Rattle.lsm_logged.specs.Opening.{image_read}
-use Rattle.lsm_log_runs.specs.Images.{ReadsVersion, ReadsLog, HoldsLogged}
+use Rattle.lsm_log_runs.specs.Images.{ReadsLog, HoldsLogged}
 
 pub held_weaker : (P Q : LogImage → Type 0) (image : Image) → ((left : LogImage) → P left → Q left) → HoldsLogged P image → HoldsLogged Q image
-held_weaker P Q image f h = record { finds = h.finds; good = h.good; reads = λ v passed records r. f (image_read v records) (h.reads v passed records r) }
+held_weaker P Q image f h = record { finds = h.finds; good = h.good; reads = λ v records r. f (image_read v records) (h.reads v records r) }
 
 in_one : {A : Type 0} (x : A) (o : Option A) → IsIn x (option_to_list o) → o ≡ Some x
 in_one x None i = absurd i
@@ -93,10 +94,10 @@ module _ (once : VersionIsToldOnce) (those : RecordsAreThoseRead) (journal : Lis
     is_read : IsOf v.log_from (placed_of v.levels)
     is_read = subst (λ n. IsOf n (placed_of v.levels)) same.1 (subst (λ ls. IsOf u.log_from (placed_of ls)) same.0 is_of)
 
-    pub may_leave : (passed : List ℕ) (records : List Record) → ReadsLog image v passed records → MayLeave t (image_read v records)
-    may_leave passed records r = record {
+    pub may_leave : (records : List Record) → ReadsLog image v records → MayLeave t (image_read v records)
+    may_leave records r = record {
       version = version_of (image_read v records) is_read;
-      records = those image (placed_of v.levels) v.log_from passed records t r.log holds.1 (low_of v.log_from (placed_of v.levels) is_read) sound;
+      records = those image (placed_of v.levels) v.log_from records t r.log holds.1 (low_of v.log_from (placed_of v.levels) is_read) sound;
     }
 
     pub reads_no_lower : t.log_from ≤ v.log_from
@@ -149,4 +150,4 @@ module _ (once : VersionIsToldOnce) (those : RecordsAreThoseRead) (journal : Lis
 
   -- an opening takes the image, and what it reads there is what a crash may leave
   pub holds_may : HoldsLogged (MayLeave t) image
-  holds_may = record { finds = record { version = u; read = finds_one; found = Named u.id (named_levels u.levels) stands; stands = u_stands }; good = not_bad; reads = λ v passed records r. may_leave v r.version passed records r }
+  holds_may = record { finds = record { version = u; read = finds_one; found = Named u.id (named_levels u.levels) stands; stands = u_stands }; good = not_bad; reads = λ v records r. may_leave v r.version records r }

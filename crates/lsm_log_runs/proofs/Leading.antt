@@ -18,10 +18,11 @@ use Rattle.lsm_state.proofs.Upholding.{upheld_still}
 use Rattle.lsm_logged.specs.Acting.{HoldsLog, LeadsBy}
 use Rattle.lsm_logged.specs.Images.{RecordsAreThoseRead, VersionIsToldOnce}
 use Rattle.lsm_logged.specs.Keeping.{SeenLogged, IsLogOf, KeepsLog}
+use Rattle.lsm_logged.specs.Meanwhile.{ReadsVersion}
 use Rattle.lsm_logged.specs.Opening.{CanBeSettled}
 use Rattle.lsm_logged.proofs.NoActs.{same_not}
 use Rattle.lsm_log_runs.specs.CameAbout.{LogCameAbout}
-use Rattle.lsm_log_runs.specs.Images.{ReadsVersion, HoldsLogged, Keeps, KeepsAll, MayBeOpened}
+use Rattle.lsm_log_runs.specs.Images.{HoldsLogged, Keeps, KeepsAll, MayBeOpened}
 use Rattle.lsm_log_runs.specs.Pasts.{LogPast, acknowledged, past_of}
 use Rattle.lsm_log_runs.specs.Standing.{StandsLogged}
 use Rattle.lsm_log_runs.proofs.Beside.{IsBeside, beside}
@@ -86,13 +87,11 @@ module _ {S : Type 0} (world : S → World) (reading : Reading) (between : Store
   pub opens_now : (past : LogPast) (t : SeenLogged S) → StandsLogged world image past t → AtRest (world t.store) → MayBeOpened (world t.store)
   opens_now past t s rest =
       let w = world t.store in
-      let since = between.counts_now t.store w.moment w.gives (omega arith) (between.gives_one t.store) in
-      let beside_versions = leaves_log past t s rest w.gives since in
-      let may = held_may past t s.log s.came s.is w.gives beside_versions in
+      let beside_versions : (left : Image) → IsImage w.may left → HoldsLog t.core s.log left = λ left may. leaves_log past t s rest left (between.counts_now t.store w.moment left (omega arith) may) in
       record {
         ready = between.ready t.store (versions_left t.core) (written_of t.core) s.stored;
-        stands = held_weaker (MayLeave s.log) LogStands w.gives (λ x m. (left_now reading.theory image past s.log x s.came m).stands) may;
-        settles = λ v reads. between.kept t.store s.log v.log_from s.keeps (low_read past t s.log s.came s.is w.gives beside_versions v reads);
+        stands = λ left may. held_weaker (MayLeave s.log) LogStands left (λ x m. (left_now reading.theory image past s.log x s.came m).stands) (held_may past t s.log s.came s.is left (beside_versions left may));
+        settles = λ left v may reads. between.kept t.store s.log v.log_from s.keeps (low_read past t s.log s.came s.is left (beside_versions left may) v reads);
       }
 
   -- ---- a call

@@ -9,5 +9,8 @@ pub mod Rotations
 pub mod CommitLeads
 pub mod Runs
 pub mod Opening
+pub mod Crashed
+pub mod Taken
+pub mod Openings
 pub mod Lives
 pub mod Fresh

@@ -1,5 +1,5 @@
 -- What each life leaves begins the next one.
-use Rattle.std.proofs.Common.{◌≡◌, ℕ, ◌≤◌, List, [], ◌∷◌, refl, sym, subst, arith}
+use Rattle.std.proofs.Common.{◌≡◌, ◌⊎◌, inl, inr, ℕ, ◌≤◌, List, [], ◌∷◌, refl, sym, subst, arith}
 use Rattle.std.specs.List.{AllByRecursion}
 use Rattle.lsm_below.specs.Each.{each_weaker}
 use Rattle.lsm_below.specs.Entries.{Entry}
@@ -13,11 +13,12 @@ use Rattle.lsm_runs.specs.declared.steps.Reply.{Reply}
 use Rattle.lsm_log_runs.specs.declared.steps.LogStep.{LogStep}
 use Rattle.lsm_log_runs.specs.declared.steps.LogStep.TheVariants.{Write}
 use Rattle.lsm_log_runs.specs.Images.{Keeps, MayBeOpened}
-use Rattle.lsm_log_runs.specs.Lives.{IsUsual, CalledBy, before_last, TakesUp, Ended, Crashed, LoggedLife, GoesWell, LoggedLives, AllGoWell}
+use Rattle.lsm_log_runs.specs.Lives.{IsUsual, CalledBy, before_last, TakesUp, Ended, Crashed, StillKept, LoggedLife, GoesWell, OpeningLife, OpeningsAreLoggedLives, LoggedLives, LeavesWell, AllGoWell}
 use Rattle.lsm_log_runs.specs.Living.{CrashedLogsOpen}
 use Rattle.lsm_log_runs.specs.Moments.{MayBeTried, EachKeeps}
 use Rattle.lsm_log_runs.specs.Pasts.{LogPast, nothing, acknowledged}
 use Rattle.lsm_log_runs.specs.Trying.{IsOverOne}
+use Rattle.lsm_log_runs.proofs.Crashed.{still_kept}
 
 -- a usual step may be tried
 tried : (opened : List Entry) (journal : List Event) (x : LogStep) → IsUsual x → MayBeTried opened journal x
@@ -67,13 +68,17 @@ module _ {F : Type 0} (world : F → World) (gives_one : (store : F) → IsImage
         before = reached.then;
         past = reached.all;
         called = reached.called;
-        keeps = subst (λ x. Keeps (logged left) reached.all (acknowledged reached.then) (world x).gives) (sym same) (reached.inside (world l.is).gives (counts_now l.is (world before).moment (world l.is).gives reached.later (gives_one l.is)));
-        behind = reached.now (world next).gives;
+        keeps = subst (λ x. StillKept (logged left) reached.all (acknowledged reached.then) (world x)) (sym same) (λ image may. reached.inside image (counts_now l.is (world before).moment image reached.later may));
+        behind = λ image may. reached.now image;
       }
       by (Crashed begins since) =
           let keeps = reached.inside (world next).gives since in
-          record { opens = crashes (logged left) reached.all (acknowledged reached.then) next begins keeps; before = reached.then; past = reached.all; called = reached.called; keeps = keeps; behind = reached.now (world next).gives }
+          record { opens = crashes (logged left) reached.all (acknowledged reached.then) next begins keeps; before = reached.then; past = reached.all; called = reached.called; keeps = still_kept (logged left) reached.all (acknowledged reached.then) (world next) begins keeps; behind = λ image may. reached.now image }
 
-  pub all_go_well : (was : F) (nexts : List F) (lives : LoggedLives world was nexts) → AllGoWell world was nexts lives
-  all_go_well was [] lives = tt
-  all_go_well was (next ∷ more) lives = (goes_well was next lives.0, all_go_well next more lives.1)
+  pub all_go_well : OpeningsAreLoggedLives world → (was : F) (nexts : List F) (lives : LoggedLives world was nexts) → AllGoWell world was nexts lives
+  all_go_well openings was [] lives = tt
+  all_go_well openings was (next ∷ more) lives = (by_life lives.0, all_go_well openings next more lives.1)
+    where
+      by_life : (one : LoggedLife world was next ⊎ OpeningLife world was next) → LeavesWell world was next one
+      by_life (inl life) = goes_well was next life
+      by_life (inr opening) = openings was next opening

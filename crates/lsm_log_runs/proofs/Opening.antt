@@ -1,11 +1,14 @@
 -- What is opened on a store that an opening takes stands, and the steps on it are a life.
-use Rattle.std.proofs.Common.{◌≡◌, List, [], ◌∷◌, map, refl, ap, ◌∙◌}
-use Rattle.lsm_store.specs.World.{World}
+use Rattle.std.proofs.Common.{◌≡◌, ◌<◌, ◌≤◌, ◌^◌, List, [], ◌∷◌, map, refl, ap, ◌∙◌, subst, arith}
+use Rattle.lsm_below.specs.Entries.{above}
+use Rattle.lsm_store.specs.World.{World, IsImage}
+use Rattle.lsm_model.specs.Journal.{next_number}
 use Rattle.lsm_versions.specs.declared.config.Config.{Config}
 use Rattle.lsm_log_model.specs.Records.{LogImage, LogStands, logged, opened_by}
 use Rattle.lsm_run_model.specs.Moments.{last_of}
 use Rattle.lsm_runs.specs.declared.steps.Reply.{Reply}
 use Rattle.lsm_logged.specs.Keeping.{SeenLogged}
+use Rattle.lsm_logged.specs.Meanwhile.{log_is_read, LeavesAsBefore}
 use Rattle.lsm_logged.specs.Opening.{OpensLogged, image_read, version_of}
 use Rattle.lsm_log_runs.specs.declared.steps.LogStep.{LogStep}
 use Rattle.lsm_log_runs.specs.Images.{ReadsLog, MayBeOpened}
@@ -17,13 +20,14 @@ use Rattle.lsm_log_runs.specs.Standing.{StandsLogged}
 use Rattle.lsm_log_runs.proofs.Leading.{past_eq}
 
 module _ {S : Type 0} (tells : Type 0) (world : S → World) (store : S) (config : Config) (t : SeenLogged S) (opens : OpensLogged tells world store config t) (told : tells) where
-  pub reads : ReadsLog (world store).gives (version_of t) opens.passed opens.records
-  reads = let takes = opens.takes told in record { version = record { version = takes.version; found = takes.found; fresh = takes.fresh }; log = takes.log }
+  pub reads : ReadsLog (world store).gives (version_of t) opens.records
+  reads = let takes = opens.takes told in record { version = record { version = takes.version; found = takes.found; fresh = takes.fresh }; log = log_is_read (world store).gives (version_of t).log_from opens.passed opens.records takes.log }
 
-  pub opened_stands : MayBeOpened (world store) → StandsLogged world (image_read (version_of t) opens.records) nothing t
-  opened_stands may =
-      let stands : LogStands (image_read (version_of t) opens.records) = may.stands.reads (version_of t) opens.passed opens.records reads in
-      let again = opens.reopens told stands (may.settles (version_of t) reads.version) in
+  pub opened_stands : IsImage (world store).may (world store).gives → MayBeOpened (world store) → StandsLogged world (image_read (version_of t) opens.records) nothing t
+  opened_stands one may =
+      let gives = (world store).gives in
+      let stands : LogStands (image_read (version_of t) opens.records) = (may.stands gives one).reads (version_of t) opens.records reads in
+      let again = opens.reopens told stands (may.settles gives (version_of t) one reads.version) in
       let r = again.reopened in
       record {
         log = again.first;
@@ -62,14 +66,17 @@ module _ {S : Type 0} (world : S → World) where
   each_keeps image (x ∷ steps) (r ∷ replies) past old [] each = absurd each
 
   pub lived : (tells : Type 0) (told : tells) (store : S) (config : Config) (t : SeenLogged S) (opens : OpensLogged tells world store config t) (steps : List LogStep) (replies : List Reply) (new : SeenLogged S)
-      → StandsLogged world (image_read (version_of t) opens.records) nothing t → RunsLogged world steps replies t new → LivesLogged world steps replies store new.store
-  lived tells told store config t opens steps replies new stands run =
+      → LeavesAsBefore (world store) (world t.store) → t.core.seqno < 2 ^ 64 → StandsLogged world (image_read (version_of t) opens.records) nothing t → RunsLogged world steps replies t new → LivesLogged world steps replies store new.store
+  lived tells told store config t opens steps replies new opening fits stands run =
       let image = image_read (version_of t) opens.records in
+      let journal = ap (λ (p : LogPast). p.journal) stands.came.past_is in
+      let low : above (opened_by image) ≤ t.core.seqno = subst (λ j. next_number (opened_by image) j ≤ t.core.seqno) journal stands.next.above_journal in
       record {
         version = version_of t;
-        passed = opens.passed;
         records = opens.records;
         read = reads tells world store config t opens told;
+        above_found = omega (arith, low, fits);
+        opening = opening;
         first = t.store;
         stores = map (λ u. u.store) run.trees;
         ends = last_store t run.trees ∙ ap (λ (u : SeenLogged S). u.store) run.ends;

@@ -1,33 +1,25 @@
 -- What an image is to an opening: a version, and the records beside it.
-use Rattle.std.specs.Prelude.{◌≡◌, ℕ, true, List, [], None, IsSome}
+use Rattle.std.specs.Prelude.{◌≡◌, ℕ, true, List, []}
 use Rattle.std.specs.FinMap.{get}
 use Rattle.lsm_below.specs.Keys.{Bytes}
-use Rattle.lsm_store.specs.World.{Image, World}
+use Rattle.lsm_store.specs.World.{Image, World, IsImage}
 use Rattle.lsm_model.specs.Journal.{Map}
 use Rattle.lsm_model.specs.Beginnings.{Stands, beginning, is_spared}
 use Rattle.lsm_versions.specs.Levels.{SeenVersion, placed_of}
 use Rattle.lsm_manifest.specs.Finding.{Finds}
-use Rattle.lsm_manifest.specs.Names.{current_name}
-use Rattle.lsm_manifest.specs.Opening.{ReadsFrom}
 use Rattle.lsm_manifest.specs.Ready.{IsReady}
-use Rattle.lsm_manifest.specs.Versions.{first_version}
 use Rattle.lsm_log.specs.declared.record.Record.{Record}
-use Rattle.lsm_log.specs.Logs.{IsLogFrom, IsBadLog}
+use Rattle.lsm_log.specs.Logs.{IsBadLog}
 use Rattle.lsm_log_model.specs.Records.{LogImage, LogStands, logged}
 use Rattle.lsm_log_model.specs.Recovery.{LogRecovers}
+use Rattle.lsm_logged.specs.Meanwhile.{ReadsVersion, AreReadFrom}
 use Rattle.lsm_logged.specs.Opening.{CanBeSettled, image_read}
 use Rattle.lsm_log_runs.specs.Pasts.{LogPast}
 
--- an opening reads this version in the image: the first one where there is no `current`
-pub record ReadsVersion (image : Image) (v : SeenVersion) : Type 0 where
-  pub version : IsSome (image current_name) → ReadsFrom image v
-  pub found : IsSome (image current_name) → Finds image v.levels
-  pub fresh : image current_name ≡ None → v ≡ first_version
-
--- and from that version's `log_from` on these records
-pub record ReadsLog (image : Image) (v : SeenVersion) (passed : List ℕ) (records : List Record) : Type 0 where
+-- an opening reads this version in the image, and from its `log_from` on these records
+pub record ReadsLog (image : Image) (v : SeenVersion) (records : List Record) : Type 0 where
   pub version : ReadsVersion image v
-  pub log : IsLogFrom image v.log_from passed records
+  pub log : AreReadFrom image v.log_from records
 
 -- an opening finds a version in the image, whose tables stand
 pub record FindsVersion (image : Image) : Type 0 where
@@ -40,7 +32,7 @@ pub record FindsVersion (image : Image) : Type 0 where
 pub record HoldsLogged (P : LogImage → Type 0) (image : Image) : Type 0 where
   pub finds : FindsVersion image
   pub good : (v : SeenVersion) → ReadsVersion image v → IsBadLog image v.log_from → ⊥
-  pub reads : (v : SeenVersion) (passed : List ℕ) (records : List Record) → ReadsLog image v passed records → P (image_read v records)
+  pub reads : (v : SeenVersion) (records : List Record) → ReadsLog image v records → P (image_read v records)
 
 -- an image that an opening takes, and that stands for a beginning between batches, at this place or behind it, to which the batch or a
 -- clear of unknown outcome at that very place may be added
@@ -53,8 +45,9 @@ KeepsAll start past image = HoldsLogged (λ left. (k : Bytes) → is_spared k pa
 
 -- ---- stores
 
--- a store that an opening takes: it is ready to be opened, what reads give stands, and the log can be put on the disk as it is read
+-- a store that an opening takes: it is ready to be opened, whatever a crash may leave of it stands, and the log can be put on the disk as
+-- it is read
 pub record MayBeOpened (w : World) : Type 0 where
   pub ready : IsReady w
-  pub stands : HoldsLogged LogStands w.gives
-  pub settles : (v : SeenVersion) → ReadsVersion w.gives v → CanBeSettled w v.log_from
+  pub stands : (image : Image) → IsImage w.may image → HoldsLogged LogStands image
+  pub settles : (image : Image) (v : SeenVersion) → IsImage w.may image → ReadsVersion image v → CanBeSettled w v.log_from

@@ -1,15 +1,19 @@
 -- A logged tree from its opening on.
-use Rattle.std.specs.Prelude.{◌≡◌, ℕ, List}
+use Rattle.std.specs.Prelude.{◌≡◌, ℕ, ◌<◌, ◌^◌, List}
+use Rattle.lsm_below.specs.Entries.{above}
+use Rattle.lsm_below.specs.declared.error.Error.{Error}
 use Rattle.lsm_store.specs.World.{World, Begins}
 use Rattle.lsm_model.specs.Journal.{Map}
 use Rattle.lsm_versions.specs.declared.config.Config.{Config}
 use Rattle.lsm_versions.specs.Levels.{SeenVersion}
+use Rattle.lsm_manifest.specs.Finding.{RefusesFound}
 use Rattle.lsm_log.specs.declared.record.Record.{Record}
 use Rattle.lsm_log_model.specs.Records.{logged, opened_by}
 use Rattle.lsm_run_model.specs.Moments.{LeavesNow, last_of}
 use Rattle.lsm_runs.specs.declared.steps.Reply.{Reply}
 use Rattle.lsm_logged.specs.Keeping.{SeenLogged}
-use Rattle.lsm_logged.specs.Opening.{OpensLogged, image_read, version_of}
+use Rattle.lsm_logged.specs.Meanwhile.{LeavesAsBefore}
+use Rattle.lsm_logged.specs.Opening.{OpensLogged, RefusesLogged, image_read, version_of}
 use Rattle.lsm_log_runs.specs.declared.steps.LogStep.{LogStep}
 use Rattle.lsm_log_runs.specs.Images.{ReadsLog, Keeps, MayBeOpened}
 use Rattle.lsm_log_runs.specs.Moments.{EachKeeps}
@@ -18,12 +22,15 @@ use Rattle.lsm_log_runs.specs.Standing.{StandsLogged}
 
 -- A logged tree was opened on a store, and took steps with these replies. The calls began with the map that what it read stands for.
 pub record LivesLogged {F : Type 0} (world : F → World) (steps : List LogStep) (replies : List Reply) (was is : F) : Type 0 where
-  pub version : SeenVersion
-  pub passed : List ℕ
-  pub records : List Record
-  pub read : ReadsLog (world was).gives version passed records
-  -- the stores behind opening, and behind each step
   pub first : F
+  pub version : SeenVersion
+  pub records : List Record
+  pub read : ReadsLog (world was).gives version records
+  -- a snapshot of 2^64 - 1 sees all of it
+  pub above_found : above (opened_by (image_read version records)) < 2 ^ 64
+  -- while it was opened a crash left what reads as before, so the life may have ended there (`OpeningLife`)
+  pub opening : LeavesAsBefore (world was) (world first)
+  -- the stores behind opening, and behind each step
   pub stores : List F
   pub ends : last_of first stores ≡ is
   -- the process may end behind opening
@@ -38,3 +45,7 @@ OpenedLogsStand {S} tells world = (store : S) (config : Config) (t : SeenLogged 
 -- What a crash left may be opened: a store that has just what reads of it give, where that is kept of some calls.
 abbrev pub CrashedLogsOpen : {F : Type 0} → (F → World) → Type 0
 CrashedLogsOpen {F} world = (start : Map) (past : LogPast) (least : ℕ) (next : F) → Begins (world next).gives (world next) → Keeps start past least (world next).gives → MayBeOpened (world next)
+
+-- An opening of such a store is refused only for want of memory, a fault of the store, or a sequence number of 2^63 or more.
+abbrev pub StandingLogsAreTaken : {F : Type 0} → (F → World) → Type 0
+StandingLogsAreTaken {F} world = (old new : F) (e : Error) → MayBeOpened (world old) → RefusesLogged (world old) (world new) e → RefusesFound (world old).gives e

@@ -15,6 +15,7 @@ mod steps;
 
 pub use life::{
     any_number_of_logged_lives, crashed_logs_open, live_logged, new_logs_open, opened_logs_stand,
+    openings_are_logged_lives, standing_logs_are_taken,
 };
 pub use runner::run_logged;
 pub use steps::{LogStep, TakenLogged};

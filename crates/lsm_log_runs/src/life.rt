@@ -1,15 +1,19 @@
 // A logged tree from its opening on.
-ghost use Rattle.std.specs.Prelude.{◌≡◌, ◌≤◌, take, length, IfOk, IfErr, OnOk};
+ghost use Rattle.std.specs.Prelude.{◌≡◌, ◌<◌, ◌≤◌, ◌^◌, take, length, IfOk, IfErr, OnOk};
+ghost use Rattle.lsm_manifest.specs.Finding.{RefusesFound};
+ghost use Rattle.lsm_logged.specs.Meanwhile.{LeavesAsBefore};
 ghost use Rattle.lsm_logged.specs.Opening.{RefusesLogged};
 ghost use Rattle.lsm_log_runs.specs.Images.{MayBeOpened};
-ghost use Rattle.lsm_log_runs.specs.Lives.{AnyNumberOfLoggedLives, NewLogsOpen};
-ghost use Rattle.lsm_log_runs.specs.Living.{LivesLogged, OpenedLogsStand, CrashedLogsOpen};
+ghost use Rattle.lsm_log_runs.specs.Lives.{AnyNumberOfLoggedLives, OpeningsAreLoggedLives, NewLogsOpen};
+ghost use Rattle.lsm_log_runs.specs.Living.{LivesLogged, OpenedLogsStand, CrashedLogsOpen, StandingLogsAreTaken};
 
 use crate::{LogStep, TakenLogged, run_logged};
 use lsm_below::Error;
 use lsm_log_model::tables_alone_stand;
 use lsm_logged::{Logged, logs_can_be_settled};
-use lsm_manifest::{crashes_settle, found_tables_show};
+use lsm_manifest::{
+    crashes_settle, found_tables_show, images_stand_once, opening_finds, unread_names_dont_matter,
+};
 use lsm_parts::Config;
 use lsm_store::Store;
 use std::alloc::Global;
@@ -56,10 +60,42 @@ pub fn new_logs_open<S: Store>(store: &S)
     tables_alone_stand();
 }
 
+/// A crash in the opening of a logged tree ends a life that is only this opening; so does an opening that gives back its store.
+/// The next store may be opened, and of the calls before all is kept that was: whatever stood for a beginning of them between batches
+/// that holds what was acknowledged still does. `Logged::open` says so much of each moment of it, by `leaves`, whatever it answers.
+///
+/// # Examples
+///
+/// ```text
+/// openings_are_logged_lives(&store);
+/// ```
+pub fn openings_are_logged_lives<S: Store>(store: &S)
+    ensures { S.tells → OpeningsAreLoggedLives S.world }
+{
+    images_stand_once();
+    unread_names_dont_matter();
+    crashes_settle(store);
+    logs_can_be_settled(store);
+    found_tables_show();
+}
+
+/// A store that an opening takes is refused only for want of memory, a fault of the store, or a sequence number of 2^63 or more.
+///
+/// # Examples
+///
+/// ```text
+/// standing_logs_are_taken(&store);
+/// ```
+pub fn standing_logs_are_taken<S: Store>(store: &S)
+    ensures { S.tells → StandingLogsAreTaken S.world }
+{
+    opening_finds(store);
+}
+
 /// Over any number of lives of usual steps (no batch removes a key weakly), each ended by a crash in its last step or behind it, or
 /// with its process behind it: the next store may be opened, and is kept of the life: it stands for a beginning of its calls
 /// between batches, which holds all that was acknowledged, flushed or cleared before the last step, and where the end came behind
-/// that one, what it acknowledged too. Of an end inside an opening it says nothing: each life's opening was answered.
+/// that one, what it acknowledged too. A life may also end in its opening: then all is kept that was.
 ///
 /// # Examples
 ///
@@ -70,6 +106,14 @@ pub fn any_number_of_logged_lives<S: Store>(store: &S)
     ensures { S.tells → AnyNumberOfLoggedLives S.world }
 {
     crashed_logs_open(store);
+    openings_are_logged_lives(store);
+}
+
+/// The counter is below 2^64.
+fn counter_fits<S: Store>(tree: &Logged<S>)
+    ensures { tree.now.core.seqno < 2 ^ 64 }
+{
+    let _ = tree.tree().seqno().get();
 }
 
 /// Opens the logged tree of a store, as `Logged::open`, and takes steps on it, as `run_logged`. It answers the tree and the steps
@@ -99,12 +143,18 @@ pub fn live_logged<S: Store>(
     // A life, however it ends.
     ensures lives { S.tells → MayBeOpened (S.world store) → IfOk result (λ r. LivesLogged S.world (take (length r.1.replies.items) steps.now) r.1.replies.items store r.0.store) }
     ensures refused { S.tells → IfErr result (λ e. RefusesLogged (S.world store) (S.world e.1) e.0) }
+    // Such a store is refused only for want of memory, a fault of the store, or a sequence number of 2^63 or more.
+    ensures only { S.tells → MayBeOpened (S.world store) → IfErr result (λ e. RefusesFound (S.world store).gives e.0) }
+    // Refused it is a life that ended in its opening.
+    ensures opening { S.tells → MayBeOpened (S.world store) → IfErr result (λ e. LeavesAsBefore (S.world store) (S.world e.1)) }
 {
     opened_logs_stand(&store);
+    standing_logs_are_taken(&store);
     let mut tree = match Logged::open(alloc, config, store) {
         Ok(tree) => tree,
         Err(refused) => return Err(refused),
     };
+    counter_fits(&tree);
     let taken = run_logged(alloc, &mut tree, steps);
     Ok((tree, taken))
 }
