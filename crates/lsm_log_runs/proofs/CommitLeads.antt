@@ -11,7 +11,7 @@ use Rattle.lsm_commit.specs.Foreign.{AtRest}
 use Rattle.lsm_log_model.specs.Logs.{Act, Did, CommitLost}
 use Rattle.lsm_log_model.specs.Records.{LogImage, logged, opened_by}
 use Rattle.lsm_runs.specs.declared.steps.Reply.{Reply}
-use Rattle.lsm_runs.specs.declared.steps.Reply.TheVariants.{Sealed, Flushed as FlushedReply, FlushedActive, RefusedActive, Refused}
+use Rattle.lsm_runs.specs.declared.steps.Reply.TheVariants.{Sealed, Flushed as FlushedReply, FlushedActive, RefusedActive, NoStrategy, Refused}
 use Rattle.lsm_runs.specs.Compacting.{reply_of}
 use Rattle.lsm_runs.specs.Files.{StaysStored}
 use Rattle.lsm_state.specs.Core.{Core}
@@ -20,12 +20,12 @@ use Rattle.lsm_state.specs.declared.compaction.Begun.TheVariants.{DidNothing, De
 use Rattle.lsm_logged.specs.Acting.{LeadsBy, LeadsByCommit, LeadsByLost, LeadsByMark, ActsByCompaction, CompactsAct, told_by, told_installed}
 use Rattle.lsm_logged.specs.Keeping.{SeenLogged}
 use Rattle.lsm_log_runs.specs.Adds.{AddsRotation, AddsFlush, AddsFlushActive, IsDrop, AddsInstalled, AddsCompaction}
-use Rattle.lsm_log_runs.specs.Doing.{ActsRotate, ActsFlush, ActsBehind, ActsFlushActive, ActsCompaction}
+use Rattle.lsm_log_runs.specs.Doing.{ActsRotate, ActsFlush, ActsBehind, ActsFlushActive, ActsCompaction, ActsCompact}
 use Rattle.lsm_log_runs.specs.Images.{Keeps}
 use Rattle.lsm_log_runs.specs.Pasts.{LogPast, acknowledged, with_commit, with_doubt, with_sealed}
 use Rattle.lsm_log_runs.specs.Runs.{TakesRotate}
 use Rattle.lsm_log_runs.specs.Standing.{StandsLogged}
-use Rattle.lsm_log_runs.proofs.Leading.{Reading, Stores, Led, nothing_stands, nothing_led, still_led}
+use Rattle.lsm_log_runs.proofs.Leading.{Reading, Stores, Led, nothing_stands, nothing_led, same_led}
 use Rattle.lsm_log_runs.proofs.Orders.{order_marked, order_dropping, order_lost}
 use Rattle.lsm_log_runs.proofs.Rotations.{rotates_stored}
 use Rattle.lsm_log_runs.proofs.StepLeads.{LeadsOn, answered, fresh, holds, quiet_stands, quietly, flush_leads}
@@ -84,10 +84,7 @@ module _ {S : Type 0} (world : S → World) (reading : Reading) (between : Store
       quietly world reading between image past old new s (rotated_stored (Some id) takes) rest behind sealing (tt, tt) (sealed_by id takes acts) refl refl s.came.order
           (λ known. answered opened s.log sealing (sealed_by id takes acts).log (tt, tt) (sealed_by id takes acts).done (s.came.certain known)),
     )
-    rotate_leads (Refused x) takes acts = (past, refl, same_led takes.0)
-      where
-        same_led : new ≡ old → Led world reading between image past past old new
-        same_led is = subst (λ (t : SeenLogged S). Led world reading between image past past old t) (sym is) (still_led world reading between image past old s (subst (λ (t : SeenLogged S). AtRest (world t.store)) is rest))
+    rotate_leads (Refused x) takes acts = (past, refl, same_led world reading between image past old new s rest takes.0)
     rotate_leads reply takes acts = absurd takes
 
 -- ---- a flush behind it
@@ -115,10 +112,7 @@ module _ {S : Type 0} (world : S → World) (reading : Reading) (between : Store
   -- a rotation that is refused does nothing
   refused_rotation : (watermark : ℕ) (id : Option ℕ) (x : Error) → id ≡ None → TakesRotate (Refused x) old new → (next : LogPast) × ((mid : LogPast) × AddsRotation (Sealed id) past mid × AddsFlush watermark (Refused x) mid next) × Led world reading between image past next old new
   refused_rotation watermark id x none takes =
-      (past, (past, subst (λ i. AddsRotation (Sealed i) past past) (sym none) refl, ⊎_elim (λ e. subst (λ y. AddsFlush watermark (Refused y) past past) (sym e) refl) (λ e. subst (λ y. AddsFlush watermark (Refused y) past past) (sym e) refl) takes.1), again takes.0)
-    where
-      again : new ≡ old → Led world reading between image past past old new
-      again is = subst (λ (t : SeenLogged S). Led world reading between image past past old t) (sym is) (still_led world reading between image past old s (subst (λ (t : SeenLogged S). AtRest (world t.store)) is rest))
+      (past, (past, subst (λ i. AddsRotation (Sealed i) past past) (sym none) refl, ⊎_elim (λ e. subst (λ y. AddsFlush watermark (Refused y) past past) (sym e) refl) (λ e. subst (λ y. AddsFlush watermark (Refused y) past past) (sym e) refl) takes.1), same_led world reading between image past old new s rest takes.0)
 
   pub active_leads : (watermark : ℕ) (reply : Reply) → ActsFlushActive watermark reply (world old.store) (world new.store) old new → LeadsOn world reading between image past old new s stored (AddsFlushActive watermark reply past)
   active_leads watermark (FlushedActive id a) acts = flushed_behind watermark id (FlushedReply a) acts
@@ -180,3 +174,7 @@ module _ {S : Type 0} (world : S → World) (reading : Reading) (between : Store
 
   pub compaction_leads : (watermark : ℕ) (reply : Reply) → ActsCompaction watermark reply (world old.store) (world new.store) old new → Leads (AddsCompaction watermark reply past)
   compaction_leads watermark reply acts = subst (λ r. Leads (AddsCompaction watermark r past)) (sym acts.1) (by_begun watermark acts.0 acts.2)
+
+  pub compact_leads : (watermark : ℕ) (reply : Reply) → ActsCompact watermark reply (world old.store) (world new.store) old new → Leads (AddsCompaction watermark reply past)
+  compact_leads watermark NoStrategy acts = (past, refl, same_led world reading between image past old new s rest acts)
+  compact_leads watermark reply acts = compaction_leads watermark reply acts

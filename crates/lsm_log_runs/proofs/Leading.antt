@@ -151,3 +151,6 @@ module _ {S : Type 0} (world : S → World) (reading : Reading) (between : Store
   still_led past old s rest =
       let w = world old.store in
       nothing_led past old old s (same_not w w old old refl (upheld_still w old.core old.core refl refl rest) refl opened past.journal past.notes s.log s.is s.keeps) (λ h. h) rest
+
+  pub same_led : (past : LogPast) (old new : SeenLogged S) → StandsLogged world image past old → AtRest (world new.store) → new ≡ old → Led past past old new
+  same_led past old new s rest is = subst (λ (t : SeenLogged S). Led past past old t) (sym is) (still_led past old s (subst (λ (t : SeenLogged S). AtRest (world t.store)) is rest))

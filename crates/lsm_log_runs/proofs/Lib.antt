@@ -7,6 +7,7 @@ pub mod BatchOrders
 pub mod StepLeads
 pub mod Rotations
 pub mod CommitLeads
+pub mod Compacting
 pub mod Runs
 pub mod Opening
 pub mod Crashed

@@ -10,12 +10,13 @@ use Rattle.lsm_log_model.specs.Records.{LogImage, logged, opened_by}
 use Rattle.lsm_run_model.specs.Moments.{last_of}
 use Rattle.lsm_run_model.specs.Outcomes.{without_low_reads}
 use Rattle.lsm_runs.specs.declared.steps.Reply.{Reply}
+use Rattle.lsm_runs.specs.Compacting.{Strategies}
 use Rattle.lsm_runs.proofs.ReadReplays.{Sound, get_answers, pairs_answer}
 use Rattle.lsm_state.specs.Core.{state_of}
 use Rattle.lsm_state.specs.Listing.{Lists, ListsPrefix}
 use Rattle.lsm_logged.specs.Keeping.{SeenLogged}
 use Rattle.lsm_log_runs.specs.declared.steps.LogStep.{LogStep}
-use Rattle.lsm_log_runs.specs.declared.steps.LogStep.TheVariants.{Write, Get, Range, Prefix, RotateMemtable, Flush, FlushActiveMemtable, MajorCompact, DropRange, Clear, SetMoment}
+use Rattle.lsm_log_runs.specs.declared.steps.LogStep.TheVariants.{Write, Get, Range, Prefix, RotateMemtable, Flush, FlushActiveMemtable, Compact, MajorCompact, DropRange, Clear, SetMoment}
 use Rattle.lsm_log_runs.specs.Adds.{Adds}
 use Rattle.lsm_log_runs.specs.Doing.{StepDoes, AllDoes, RanTo}
 use Rattle.lsm_log_runs.specs.Moments.{Answers, MayBeTried, StepKeeps}
@@ -24,41 +25,41 @@ use Rattle.lsm_log_runs.specs.Leading.{EachLeads, RunsLogged}
 use Rattle.lsm_log_runs.specs.Runs.{RanThrough, RanLogged}
 use Rattle.lsm_log_runs.specs.Standing.{StandsLogged}
 use Rattle.lsm_log_runs.proofs.Beside.{beside, is_high}
-use Rattle.lsm_log_runs.proofs.CommitLeads.{rotate_leads, active_leads, compaction_leads}
+use Rattle.lsm_log_runs.proofs.CommitLeads.{rotate_leads, active_leads, compact_leads, compaction_leads}
 use Rattle.lsm_log_runs.proofs.Going.{holds_on}
 use Rattle.lsm_log_runs.proofs.Leading.{Reading, Stores, Led, keeps_now, opens_now, nothing_led, still_led}
 use Rattle.lsm_log_runs.proofs.StepLeads.{batch_leads, flush_leads, clear_leads}
 
 -- ---- a step more
 
-does_more : {S : Type 0} (tells : Type 0) (world : S → World) (steps : List LogStep) (replies : List Reply) (old : SeenLogged S) (trees : List (SeenLogged S)) (x : LogStep) (r : Reply) (new : SeenLogged S)
-    → AllDoes tells world steps replies old trees → StepDoes tells world x r (last_of old trees) new → AllDoes tells world (steps ++ x ∷ []) (replies ++ r ∷ []) old (trees ++ new ∷ [])
-does_more tells world [] [] old [] x r new does one = (one, tt)
-does_more tells world (y ∷ steps) (q ∷ replies) old (mid ∷ trees) x r new does one = (does.0, does_more tells world steps replies mid trees x r new does.1 one)
-does_more tells world [] [] old (mid ∷ trees) x r new does one = absurd does
-does_more tells world [] (q ∷ replies) old trees x r new does one = absurd does
-does_more tells world (y ∷ steps) [] old trees x r new does one = absurd does
-does_more tells world (y ∷ steps) (q ∷ replies) old [] x r new does one = absurd does
+does_more : {S : Type 0} (strategies : Strategies) (tells : Type 0) (world : S → World) (steps : List LogStep) (replies : List Reply) (old : SeenLogged S) (trees : List (SeenLogged S)) (x : LogStep) (r : Reply) (new : SeenLogged S)
+    → AllDoes strategies tells world steps replies old trees → StepDoes strategies tells world x r (last_of old trees) new → AllDoes strategies tells world (steps ++ x ∷ []) (replies ++ r ∷ []) old (trees ++ new ∷ [])
+does_more strategies tells world [] [] old [] x r new does one = (one, tt)
+does_more strategies tells world (y ∷ steps) (q ∷ replies) old (mid ∷ trees) x r new does one = (does.0, does_more strategies tells world steps replies mid trees x r new does.1 one)
+does_more strategies tells world [] [] old (mid ∷ trees) x r new does one = absurd does
+does_more strategies tells world [] (q ∷ replies) old trees x r new does one = absurd does
+does_more strategies tells world (y ∷ steps) [] old trees x r new does one = absurd does
+does_more strategies tells world (y ∷ steps) (q ∷ replies) old [] x r new does one = absurd does
 
 last_more : {A : Type 0} (old : A) (xs : List A) (new : A) → last_of old (xs ++ new ∷ []) ≡ new
 last_more old [] new = refl
 last_more old (x ∷ xs) new = last_more x xs new
 
-pub ran_more : {S : Type 0} (tells : Type 0) (world : S → World) (steps : List LogStep) (replies : List Reply) (old mid : SeenLogged S) (x : LogStep) (r : Reply) (new : SeenLogged S)
-    → RanTo tells world steps replies old mid → StepDoes tells world x r mid new → RanTo tells world (steps ++ x ∷ []) (replies ++ r ∷ []) old new
-ran_more tells world steps replies old mid x r new ran one = record {
+pub ran_more : {S : Type 0} (strategies : Strategies) (tells : Type 0) (world : S → World) (steps : List LogStep) (replies : List Reply) (old mid : SeenLogged S) (x : LogStep) (r : Reply) (new : SeenLogged S)
+    → RanTo strategies tells world steps replies old mid → StepDoes strategies tells world x r mid new → RanTo strategies tells world (steps ++ x ∷ []) (replies ++ r ∷ []) old new
+ran_more strategies tells world steps replies old mid x r new ran one = record {
   trees = ran.trees ++ new ∷ [];
-  does = does_more tells world steps replies old ran.trees x r new ran.does (subst (λ t. StepDoes tells world x r t new) (sym ran.ends) one);
+  does = does_more strategies tells world steps replies old ran.trees x r new ran.does (subst (λ t. StepDoes strategies tells world x r t new) (sym ran.ends) one);
   ends = last_more old ran.trees new;
 }
 
-pub ran_none : {S : Type 0} (tells : Type 0) (world : S → World) (old : SeenLogged S) → RanTo tells world [] [] old old
-ran_none tells world old = record { trees = []; does = tt; ends = refl }
+pub ran_none : {S : Type 0} (strategies : Strategies) (tells : Type 0) (world : S → World) (old : SeenLogged S) → RanTo strategies tells world [] [] old old
+ran_none strategies tells world old = record { trees = []; does = tt; ends = refl }
 
 -- ---- what follows
 
-module _ {S : Type 0} (tells : Type 0) (world : S → World) where
-  through : (steps : List LogStep) (replies : List Reply) (old : SeenLogged S) (trees : List (SeenLogged S)) → AllDoes tells world steps replies old trees → RanThrough steps replies old trees
+module _ {S : Type 0} (strategies : Strategies) (tells : Type 0) (world : S → World) where
+  through : (steps : List LogStep) (replies : List Reply) (old : SeenLogged S) (trees : List (SeenLogged S)) → AllDoes strategies tells world steps replies old trees → RanThrough strategies steps replies old trees
   through [] [] old [] does = tt
   through (x ∷ steps) (r ∷ replies) old (mid ∷ trees) does = (does.0.takes, through steps replies mid trees does.1)
   through [] [] old (mid ∷ trees) does = absurd does
@@ -82,14 +83,14 @@ module _ {S : Type 0} (tells : Type 0) (world : S → World) where
     keeps past next x r old new adds answers led = record { adds = adds; answers = answers; inside = led.inside; now = led.now; again = led.again; whole = led.whole }
 
     -- a read
-    reads : (past : LogPast) (x : LogStep) (r : Reply) (old new : SeenLogged S) → StandsLogged world image past old → StepDoes tells world x r old new → Answers opened (logged image) past.journal x r → new ≡ old → Adds x r past past
+    reads : (past : LogPast) (x : LogStep) (r : Reply) (old new : SeenLogged S) → StandsLogged world image past old → StepDoes strategies tells world x r old new → Answers opened (logged image) past.journal x r → new ≡ old → Adds x r past past
         → (next : LogPast) × StepKeeps (λ t. world t.store) opened (logged image) x r past next old new × StandsLogged world image next new
     reads past x r old new s does answers is adds =
         let led = still_led world reading between image past old s (subst (λ (t : SeenLogged S). AtRest (world t.store)) is (does.rest told)) in
         subst (λ t. (next : LogPast) × StepKeeps (λ u. world u.store) opened (logged image) x r past next old t × StandsLogged world image next t) (sym is) (past, keeps past past x r old old adds answers led, led.stands)
 
     -- a step that is taken from what stands
-    step_leads : (past : LogPast) (x : LogStep) (r : Reply) (old new : SeenLogged S) → StandsLogged world image past old → StepDoes tells world x r old new → MayBeTried opened past.journal x
+    step_leads : (past : LogPast) (x : LogStep) (r : Reply) (old new : SeenLogged S) → StandsLogged world image past old → StepDoes strategies tells world x r old new → MayBeTried opened past.journal x
         → (next : LogPast) × StepKeeps (λ t. world t.store) opened (logged image) x r past next old new × StandsLogged world image next new
     step_leads past (Write ops) r old new s does tried =
         let led = batch_leads world reading between image past old new s (does.stored told) (does.rest told) ops tried r does.takes (does.acts told) in
@@ -112,6 +113,9 @@ module _ {S : Type 0} (tells : Type 0) (world : S → World) where
     step_leads past (FlushActiveMemtable n) r old new s does tried =
         let led = active_leads world reading between image past old new s (does.stored told) (does.rest told) n r (does.acts told) in
         (led.0, keeps past led.0 (FlushActiveMemtable n) r old new led.1 tt led.2, led.2.stands)
+    step_leads past (Compact at n) r old new s does tried =
+        let led = compact_leads world reading between image past old new s (does.stored told) (does.rest told) n r (does.acts told) in
+        (led.0, keeps past led.0 (Compact at n) r old new led.1 tt led.2, led.2.stands)
     step_leads past (MajorCompact target n) r old new s does tried =
         let led = compaction_leads world reading between image past old new s (does.stored told) (does.rest told) n r (does.acts told) in
         (led.0, keeps past led.0 (MajorCompact target n) r old new led.1 tt led.2, led.2.stands)
@@ -122,7 +126,7 @@ module _ {S : Type 0} (tells : Type 0) (world : S → World) where
         let led = nothing_led world reading between image past old new s (does.acts told opened past.journal past.notes s.log s.is s.keeps) (does.stored told) (does.rest told) in
         (past, keeps past past (SetMoment n) r old new refl tt led, led.stands)
 
-    each : (steps : List LogStep) (replies : List Reply) (past : LogPast) (old : SeenLogged S) (trees : List (SeenLogged S)) → AllDoes tells world steps replies old trees → StandsLogged world image past old → EachLeads world image steps replies past old trees
+    each : (steps : List LogStep) (replies : List Reply) (past : LogPast) (old : SeenLogged S) (trees : List (SeenLogged S)) → AllDoes strategies tells world steps replies old trees → StandsLogged world image past old → EachLeads world image steps replies past old trees
     each [] [] past old [] does s = tt
     each (x ∷ steps) (r ∷ replies) past old (mid ∷ trees) does s = λ tried.
         let one = step_leads past x r old mid s does.0 tried in
@@ -132,10 +136,10 @@ module _ {S : Type 0} (tells : Type 0) (world : S → World) where
     each (x ∷ steps) [] past old trees does s = absurd does
     each (x ∷ steps) (r ∷ replies) past old [] does s = absurd does
 
-  pub ran_logged : (steps : List LogStep) (replies : List Reply) (old new : SeenLogged S) → RanTo tells world steps replies old new → RanLogged steps replies old new
+  pub ran_logged : (steps : List LogStep) (replies : List Reply) (old new : SeenLogged S) → RanTo strategies tells world steps replies old new → RanLogged strategies steps replies old new
   ran_logged steps replies old new ran = record { trees = ran.trees; ran = through steps replies old ran.trees ran.does; ends = ran.ends }
 
-  pub runs : (reading : Reading) (between : Stores world) (told : tells) (steps : List LogStep) (replies : List Reply) (old new : SeenLogged S) → AtRest (world old.store) → RanTo tells world steps replies old new → RunsLogged world steps replies old new
+  pub runs : (reading : Reading) (between : Stores world) (told : tells) (steps : List LogStep) (replies : List Reply) (old new : SeenLogged S) → AtRest (world old.store) → RanTo strategies tells world steps replies old new → RunsLogged world steps replies old new
   runs reading between told steps replies old new rest ran = record {
     trees = ran.trees;
     ends = ran.ends;

@@ -10,7 +10,7 @@ use Rattle.lsm_runs.specs.declared.steps.Reply.{Reply}
 use Rattle.lsm_runs.specs.declared.steps.Reply.TheVariants.{Number, Sealed, Flushed, FlushedActive, RefusedActive, Compacted, Cleared, Refused}
 use Rattle.lsm_logged.specs.Writing.{batch_of}
 use Rattle.lsm_log_runs.specs.declared.steps.LogStep.{LogStep}
-use Rattle.lsm_log_runs.specs.declared.steps.LogStep.TheVariants.{Write, RotateMemtable, Flush, FlushActiveMemtable, MajorCompact, DropRange, Clear}
+use Rattle.lsm_log_runs.specs.declared.steps.LogStep.TheVariants.{Write, RotateMemtable, Flush, FlushActiveMemtable, Compact, MajorCompact, DropRange, Clear}
 use Rattle.lsm_log_runs.specs.Pasts.{LogPast, with_batch, with_lost, with_sealed, with_flush, with_commit, with_doubt, with_clear, with_lost_clear}
 
 -- ---- by kinds
@@ -72,6 +72,7 @@ Adds (Flush w) reply old new = AddsFlush w reply old new
 Adds Clear reply old new = AddsClear reply old new
 Adds RotateMemtable reply old new = AddsRotation reply old new
 Adds (FlushActiveMemtable w) reply old new = AddsFlushActive w reply old new
+Adds (Compact at w) reply old new = AddsCompaction w reply old new
 Adds (MajorCompact target w) reply old new = AddsCompaction w reply old new
 Adds (DropRange low high) reply old new = AddsCompaction 0 reply old new
 Adds step reply old new = new ≡ old

@@ -1,5 +1,5 @@
 -- What each step of a run on a logged tree may answer and do.
-use Rattle.std.specs.Prelude.{◌≡◌, ◌⊎◌, ℕ, List, [], ◌∷◌, None, Result, Ok, Err}
+use Rattle.std.specs.Prelude.{◌≡◌, ◌⊎◌, ℕ, ◌<◌, ◌≤◌, List, [], ◌∷◌, None, Result, Ok, Err}
 use Rattle.lsm_below.specs.Keys.{Bytes}
 use Rattle.lsm_below.specs.declared.error.Error.{Error}
 use Rattle.lsm_below.specs.declared.error.Error.TheVariants.{OutOfMemory, OutOfNumbers}
@@ -7,8 +7,8 @@ use Rattle.lsm_model.specs.declared.op.Op.{Op}
 use Rattle.lsm_model.specs.Journal.{Event}
 use Rattle.lsm_run_model.specs.Moments.{last_of}
 use Rattle.lsm_runs.specs.declared.steps.Reply.{Reply}
-use Rattle.lsm_runs.specs.declared.steps.Reply.TheVariants.{Number, Sealed, Done, Flushed, FlushedActive, RefusedActive, Cleared, Refused}
-use Rattle.lsm_runs.specs.Compacting.{reply_of}
+use Rattle.lsm_runs.specs.declared.steps.Reply.TheVariants.{Number, Sealed, Done, Flushed, FlushedActive, RefusedActive, Cleared, NoStrategy, Refused}
+use Rattle.lsm_runs.specs.Compacting.{Strategies, reply_of}
 use Rattle.lsm_runs.specs.Told.{Told}
 use Rattle.lsm_runs.specs.ReadSteps.{TakesGet, TakesRange, TakesPrefix}
 use Rattle.lsm_state.specs.Calls.{Rotates}
@@ -19,7 +19,7 @@ use Rattle.lsm_logged.specs.Flushing.{FlushesLogged, ClearsLogged}
 use Rattle.lsm_logged.specs.Keeping.{SeenLogged}
 use Rattle.lsm_logged.specs.Writing.{WritesLogged}
 use Rattle.lsm_log_runs.specs.declared.steps.LogStep.{LogStep}
-use Rattle.lsm_log_runs.specs.declared.steps.LogStep.TheVariants.{Write, Get, Range, Prefix, RotateMemtable, Flush, FlushActiveMemtable, MajorCompact, DropRange, Clear, SetMoment}
+use Rattle.lsm_log_runs.specs.declared.steps.LogStep.TheVariants.{Write, Get, Range, Prefix, RotateMemtable, Flush, FlushActiveMemtable, Compact, MajorCompact, DropRange, Clear, SetMoment}
 
 -- ---- what a step of each kind may answer and do
 
@@ -54,6 +54,11 @@ TakesFlushActive w reply old new = ⊥
 abbrev pub TakesCompaction : {S : Type 0} → (Result Begun Error → Type 0) → Reply → SeenLogged S → SeenLogged S → Type 0
 TakesCompaction Call reply old new = (begun : Result Begun Error) × (reply ≡ reply_of begun) × Asks begun old new (Call begun)
 
+-- one as the strategy at an index chooses
+abbrev pub TakesCompact : {S : Type 0} → Strategies → ℕ → ℕ → Reply → SeenLogged S → SeenLogged S → Type 0
+TakesCompact strategies at w NoStrategy old new = (new ≡ old) × (strategies.count ≤ at)
+TakesCompact strategies at w reply old new = (at < strategies.count) × TakesCompaction (λ begun. Compacts (strategies.may_choose at) (strategies.may_refuse at) (options_at w old.core) begun old.core new.core) reply old new
+
 -- a moment is set
 abbrev pub TakesMoment : {S : Type 0} → ℕ → Reply → SeenLogged S → SeenLogged S → Type 0
 TakesMoment n Done old new = (new.core ≡ record (old.core) { moment = n }) × (new.store ≡ old.store)
@@ -68,27 +73,28 @@ abbrev pub Reads : {S : Type 0} → (List Event → Type 0) → SeenLogged S →
 Reads Does old new = (new ≡ old) × ((events : List Event) × Does events)
 
 -- each is the call that it is named after
-abbrev pub Takes : {S : Type 0} → LogStep → Reply → SeenLogged S → SeenLogged S → Type 0
-Takes (Write ops) reply old new = TakesBatch ops reply old new
-Takes (Get k s) reply old new = Reads (λ events. TakesGet k s reply events old.core old.core) old new
-Takes (Flush w) reply old new = TakesFlush w reply old new
-Takes Clear reply old new = TakesClear reply old new
-Takes (Range low high s) reply old new = Reads (λ events. TakesRange low high s reply events old.core old.core) old new
-Takes (Prefix p s) reply old new = Reads (λ events. TakesPrefix p s reply events old.core old.core) old new
-Takes RotateMemtable reply old new = TakesRotate reply old new
-Takes (FlushActiveMemtable w) reply old new = TakesFlushActive w reply old new
-Takes (MajorCompact target w) reply old new = TakesCompaction (λ begun. Compacts (major_choice target) only_memory (options_at w old.core) begun old.core new.core) reply old new
-Takes (DropRange low high) reply old new = TakesCompaction (λ begun. DropsRange (record { start = low; end = high }) begun old.core new.core) reply old new
-Takes (SetMoment n) reply old new = TakesMoment n reply old new
+abbrev pub Takes : {S : Type 0} → Strategies → LogStep → Reply → SeenLogged S → SeenLogged S → Type 0
+Takes strategies (Write ops) reply old new = TakesBatch ops reply old new
+Takes strategies (Get k s) reply old new = Reads (λ events. TakesGet k s reply events old.core old.core) old new
+Takes strategies (Flush w) reply old new = TakesFlush w reply old new
+Takes strategies Clear reply old new = TakesClear reply old new
+Takes strategies (Range low high s) reply old new = Reads (λ events. TakesRange low high s reply events old.core old.core) old new
+Takes strategies (Prefix p s) reply old new = Reads (λ events. TakesPrefix p s reply events old.core old.core) old new
+Takes strategies RotateMemtable reply old new = TakesRotate reply old new
+Takes strategies (FlushActiveMemtable w) reply old new = TakesFlushActive w reply old new
+Takes strategies (Compact at w) reply old new = TakesCompact strategies at w reply old new
+Takes strategies (MajorCompact target w) reply old new = TakesCompaction (λ begun. Compacts (major_choice target) only_memory (options_at w old.core) begun old.core new.core) reply old new
+Takes strategies (DropRange low high) reply old new = TakesCompaction (λ begun. DropsRange (record { start = low; end = high }) begun old.core new.core) reply old new
+Takes strategies (SetMoment n) reply old new = TakesMoment n reply old new
 
 -- the steps, one after the other, lead through these trees
-abbrev pub RanThrough : {S : Type 0} → List LogStep → List Reply → SeenLogged S → List (SeenLogged S) → Type 0
-RanThrough [] [] old [] = Unit {0}
-RanThrough (x ∷ steps) (r ∷ replies) old (mid ∷ trees) = Takes x r old mid × RanThrough steps replies mid trees
-RanThrough steps replies old trees = ⊥
+abbrev pub RanThrough : {S : Type 0} → Strategies → List LogStep → List Reply → SeenLogged S → List (SeenLogged S) → Type 0
+RanThrough strategies [] [] old [] = Unit {0}
+RanThrough strategies (x ∷ steps) (r ∷ replies) old (mid ∷ trees) = Takes strategies x r old mid × RanThrough strategies steps replies mid trees
+RanThrough strategies steps replies old trees = ⊥
 
 -- They lead from one tree to another.
-pub record RanLogged {S : Type 0} (steps : List LogStep) (replies : List Reply) (old new : SeenLogged S) : Type 0 where
+pub record RanLogged {S : Type 0} (strategies : Strategies) (steps : List LogStep) (replies : List Reply) (old new : SeenLogged S) : Type 0 where
   pub trees : List (SeenLogged S)
-  pub ran : RanThrough steps replies old trees
+  pub ran : RanThrough strategies steps replies old trees
   pub ends : last_of old trees ≡ new

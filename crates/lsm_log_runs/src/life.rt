@@ -15,6 +15,7 @@ use lsm_manifest::{
     crashes_settle, found_tables_show, images_stand_once, opening_finds, unread_names_dont_matter,
 };
 use lsm_parts::Config;
+use lsm_pick::CompactionStrategy;
 use lsm_store::Store;
 use std::alloc::Global;
 
@@ -24,7 +25,7 @@ use std::alloc::Global;
 ///
 /// ```text
 /// opened_logs_stand(tree.store());
-/// let taken = run_logged(alloc, &mut tree, &steps);
+/// let taken = run_logged(alloc, &mut tree, &strategies, &steps);
 /// ```
 pub fn opened_logs_stand<S: Store>(_: &S)
     ensures { OpenedLogsStand S.tells S.world }
@@ -130,12 +131,13 @@ fn counter_fits<S: Store>(tree: &Logged<S>)
 /// # Examples
 ///
 /// ```text
-/// let (tree, taken) = live_logged(alloc, config, store, &steps)?;
+/// let (tree, taken) = live_logged(alloc, config, store, &strategies, &steps)?;
 /// ```
 pub fn live_logged<S: Store>(
     alloc: Global,
     config: Config,
     store: S,
+    strategies: &[Box<dyn CompactionStrategy>],
     steps: &[LogStep],
 ) -> Result<(Logged<S>, TakenLogged), (Error, S)>
     ensures bound { IfOk result (λ r. length r.1.replies.items ≤ length steps.now) }
@@ -155,6 +157,6 @@ pub fn live_logged<S: Store>(
         Err(refused) => return Err(refused),
     };
     counter_fits(&tree);
-    let taken = run_logged(alloc, &mut tree, steps);
+    let taken = run_logged(alloc, &mut tree, strategies, steps);
     Ok((tree, taken))
 }

@@ -1,6 +1,7 @@
 // A list of calls on a logged tree, with the log theorem.
 ghost use Rattle.std.specs.Prelude.{◌≡◌, ◌≤◌, ◌++◌, ◌∷◌, [], take, length, IfOk, OnOk, OnErr};
 ghost use Rattle.lsm_runs.specs.declared.steps.Reply.{Reply as Replied};
+ghost use Rattle.lsm_runs.specs.Compacting.{strategies_of};
 ghost use Rattle.lsm_runs.specs.Files.{StaysStored};
 ghost use Rattle.lsm_log_runs.specs.Doing.{Acts, ActsBatch, StepDoes, RanTo};
 ghost use Rattle.lsm_log_runs.specs.Runs.{Takes, TakesBatch, RanLogged};
@@ -16,6 +17,7 @@ use lsm_log_model::{
 };
 use lsm_logged::{Logged, logs_can_be_settled, records_are_those_read, versions_are_told_once};
 use lsm_model::{Op, reads_are_sound};
+use lsm_pick::CompactionStrategy;
 use lsm_runs::Reply;
 use lsm_store::Store;
 use std::alloc::{AllocError, Global};
@@ -45,9 +47,10 @@ fn write<S: Store>(
 fn take_step<S: Store>(
     alloc: Global,
     tree: &mut Logged<S>,
+    strategies: &[Box<dyn CompactionStrategy>],
     step: &LogStep,
 ) -> Result<Reply, AllocError>
-    ensures ok { IfOk result (λ reply. Takes step.now reply tree.old tree.new) }
+    ensures ok { IfOk result (λ reply. Takes (strategies_of (λ b. may_choose b) (λ b. may_refuse b) strategies.now) step.now reply tree.old tree.new) }
     ensures err { OnErr result (tree.new ≡ tree.old) }
     ensures acts { S.tells → IfOk result (λ reply. Acts step.now reply (S.world tree.old.store) (S.world tree.new.store) tree.old tree.new) }
     ensures stored { S.tells → StaysStored (S.world tree.old.store) (S.world tree.new.store) tree.old.core tree.new.core }
@@ -64,6 +67,9 @@ fn take_step<S: Store>(
         LogStep::RotateMemtable => Ok(commits::rotate(tree)),
         LogStep::Flush(watermark) => Ok(commits::flush(tree, *watermark)),
         LogStep::FlushActiveMemtable(watermark) => Ok(commits::flush_active(tree, *watermark)),
+        LogStep::Compact(at, watermark) => {
+            Ok(commits::compact(tree, strategies, *at, *watermark))
+        }
         LogStep::MajorCompact(target, watermark) => {
             Ok(commits::major_compact(tree, *target, *watermark))
         }
@@ -77,28 +83,34 @@ fn take_step<S: Store>(
 fn add_step<S: Store>(
     alloc: Global,
     tree: &mut Logged<S>,
+    strategies: &[Box<dyn CompactionStrategy>],
     step: &LogStep,
     replies: &mut Vec<Reply>,
 ) -> Result<(), AllocError>
-    ensures ok { OnOk result ((reply : Replied) × (replies.new.items ≡ replies.old.items ++ reply ∷ []) × StepDoes S.tells S.world step.now reply tree.old tree.new) }
+    ensures ok { OnOk result ((reply : Replied) × (replies.new.items ≡ replies.old.items ++ reply ∷ []) × StepDoes (strategies_of (λ b. may_choose b) (λ b. may_refuse b) strategies.now) S.tells S.world step.now reply tree.old tree.new) }
     ensures err { OnErr result (tree.new ≡ tree.old) }
     ensures replies_err { OnErr result (replies.new.items ≡ replies.old.items) }
 {
     replies.try_reserve(1)?;
-    let reply = take_step(alloc, tree, step)?;
+    let reply = take_step(alloc, tree, strategies, step)?;
     crashes_leave_versions(tree.store());
     replies.push(reply)?;
     Ok(())
 }
 
-fn take_steps<S: Store>(alloc: Global, tree: &mut Logged<S>, steps: &[LogStep]) -> TakenLogged
+fn take_steps<S: Store>(
+    alloc: Global,
+    tree: &mut Logged<S>,
+    strategies: &[Box<dyn CompactionStrategy>],
+    steps: &[LogStep],
+) -> TakenLogged
     ensures bound { length result.replies.items ≤ length steps.now }
     ensures whole { OnOk result.ended (length result.replies.items ≡ length steps.now) }
-    ensures ran { RanTo S.tells S.world (take (length result.replies.items) steps.now) result.replies.items tree.old tree.new }
+    ensures ran { RanTo (strategies_of (λ b. may_choose b) (λ b. may_refuse b) strategies.now) S.tells S.world (take (length result.replies.items) steps.now) result.replies.items tree.old tree.new }
 {
     let mut replies = Vec::new(alloc);
     for step in steps {
-        match add_step(alloc, tree, step, &mut replies) {
+        match add_step(alloc, tree, strategies, step, &mut replies) {
             Ok(()) => (),
             Err(error) => {
                 return TakenLogged {
@@ -114,7 +126,8 @@ fn take_steps<S: Store>(alloc: Global, tree: &mut Logged<S>, steps: &[LogStep]) 
     }
 }
 
-/// Takes the steps in turn on a logged tree, and returns each one's reply.
+/// Takes the steps in turn on a logged tree, and returns each one's reply. A step names a strategy by its index; where there is none
+/// it changes nothing.
 ///
 /// A step that is refused has that as its reply, and the run goes on with the next one. The run ends early only before a step
 /// for whose reply, or for whose batch, no memory is left, and says so (`whole`): the tree is as it was before that step, and
@@ -129,15 +142,20 @@ fn take_steps<S: Store>(alloc: Global, tree: &mut Logged<S>, steps: &[LogStep]) 
 /// # Examples
 ///
 /// ```text
-/// let taken = run_logged(alloc, &mut tree, &[LogStep::Write(Ops::new(ops)), LogStep::Clear]);
+/// let taken = run_logged(alloc, &mut tree, &strategies, &[LogStep::Write(Ops::new(ops)), LogStep::Compact(0, 1)]);
 /// for reply in &taken.replies { .. }
 /// ```
-pub fn run_logged<S: Store>(alloc: Global, tree: &mut Logged<S>, steps: &[LogStep]) -> TakenLogged
+pub fn run_logged<S: Store>(
+    alloc: Global,
+    tree: &mut Logged<S>,
+    strategies: &[Box<dyn CompactionStrategy>],
+    steps: &[LogStep],
+) -> TakenLogged
     // It ends early for want of memory alone.
     ensures bound { length result.replies.items ≤ length steps.now }
     ensures whole { OnOk result.ended (length result.replies.items ≡ length steps.now) }
     // Each step is the call that it is named after.
-    ensures ran { RanLogged (take (length result.replies.items) steps.now) result.replies.items tree.old tree.new }
+    ensures ran { RanLogged (strategies_of (λ b. may_choose b) (λ b. may_refuse b) strategies.now) (take (length result.replies.items) steps.now) result.replies.items tree.old tree.new }
     // What is read, what a crash leaves at each moment, and what stands behind each step.
     ensures runs { S.tells → RunsLogged S.world (take (length result.replies.items) steps.now) result.replies.items tree.old tree.new }
 {
@@ -153,7 +171,7 @@ pub fn run_logged<S: Store>(alloc: Global, tree: &mut Logged<S>, steps: &[LogSte
     crashes_leave_versions(tree.store());
     stored_files_are_ready(tree.store());
     logs_can_be_settled(tree.store());
-    take_steps(alloc, tree, steps)
+    take_steps(alloc, tree, strategies, steps)
 }
 
 mod commits;

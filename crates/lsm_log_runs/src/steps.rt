@@ -23,6 +23,8 @@ pub enum LogStep {
     Flush(SeqNo),
     /// Seals the active memtable, and flushes all sealed ones, at a watermark: `rotate_memtable` and `flush` in turn.
     FlushActiveMemtable(SeqNo),
+    /// Compacts in one call as the strategy of this index chooses, at a watermark and at the tree's moment.
+    Compact(usize, SeqNo),
     /// Merges all tables into the last level, cut at a target of bytes, at a watermark and at the tree's moment.
     MajorCompact(u64, SeqNo),
     /// Drops the tables whose whole key range lies within bounds.

@@ -95,7 +95,7 @@ fn run(
 ) -> Result<(usize, usize), Error> {
     match Logged::open(alloc, Config::new(0, 0, 0), store) {
         Ok(mut tree) => {
-            let taken = run_logged(alloc, &mut tree, steps);
+            let taken = run_logged(alloc, &mut tree, &[], steps);
             drop(tree);
             Ok(count_right(alloc, &taken, answers))
         }
@@ -138,7 +138,7 @@ fn lived(
     steps: &[LogStep],
     answers: &[&str],
 ) -> Result<((usize, usize), MemStore), (Error, MemStore)> {
-    let (tree, taken) = live_logged(alloc, Config::new(0, 0, 0), store, steps)?;
+    let (tree, taken) = live_logged(alloc, Config::new(0, 0, 0), store, &[], steps)?;
     let right = count_right(alloc, &taken, answers);
     drop(taken);
     Ok((right, tree.into_store()))

@@ -46,7 +46,7 @@ fn take_all(
     known: Known,
     tally: &mut Tally,
 ) -> Option<Known> {
-    let taken = run_logged(alloc, tree, steps);
+    let taken = run_logged(alloc, tree, &[], steps);
     behind(steps, &taken, known, tally)
 }
 
@@ -122,7 +122,7 @@ fn compare(steps: &[LogStep], taken: &TakenLogged, known: Known) -> Told {
 fn reopen(alloc: Global, store: MemStore, reads: &[LogStep], known: Known) -> (MemStore, Told) {
     match Logged::open(alloc, Config::new(0, 0, 0), store) {
         Ok(mut tree) => {
-            let taken = run_logged(alloc, &mut tree, reads);
+            let taken = run_logged(alloc, &mut tree, &[], reads);
             (tree.into_store(), compare(reads, &taken, known))
         }
         Err((_, store)) => (store, Told::Refused),

@@ -1,16 +1,17 @@
 // Rotations, flushes, compactions and clears of a logged tree, as steps.
 ghost use Rattle.std.specs.Prelude.{◌≡◌, IfOk, OnErr};
-ghost use Rattle.lsm_runs.specs.Compacting.{reply_of};
+ghost use Rattle.lsm_runs.specs.Compacting.{reply_of, strategies_of};
 ghost use Rattle.lsm_runs.specs.Files.{StaysStored};
 ghost use Rattle.lsm_state.specs.WholeCompactions.{Compacts, DropsRange, options_at, only_memory, major_choice};
-ghost use Rattle.lsm_logged.specs.Acting.{ActsNot};
-ghost use Rattle.lsm_log_runs.specs.Doing.{ActsRotate, ActsFlush, ActsFlushActive, ActsCompaction, ActsClear};
-ghost use Rattle.lsm_log_runs.specs.Runs.{TakesRotate, TakesFlush, TakesFlushActive, TakesCompaction, TakesClear, TakesMoment};
+ghost use Rattle.lsm_logged.specs.Acting.{ActsNot, CompactsAct};
+ghost use Rattle.lsm_logged.specs.Asking.{Asks};
+ghost use Rattle.lsm_log_runs.specs.Doing.{ActsRotate, ActsFlush, ActsFlushActive, ActsCompaction, ActsCompact, ActsClear};
+ghost use Rattle.lsm_log_runs.specs.Runs.{TakesRotate, TakesFlush, TakesFlushActive, TakesCompaction, TakesCompact, TakesClear, TakesMoment};
 
 use lsm_below::{Error, SeqNo, UserKey};
 use lsm_journal::copy_bound;
 use lsm_logged::Logged;
-use lsm_pick::OwnedBounds;
+use lsm_pick::{CompactionStrategy, OwnedBounds};
 use lsm_runs::{Compacted, Reply};
 use lsm_state::Begun;
 use lsm_store::Store;
@@ -87,6 +88,35 @@ fn of_begun(begun: Result<Begun, Error>) -> Reply
         Ok(Begun::Job(_)) => Reply::Compacted(Compacted::Waits),
         Err(error) => Reply::Refused(error),
     }
+}
+
+/// Compacts as a strategy in a box chooses.
+fn compact_boxed<S: Store>(
+    tree: &mut Logged<S>,
+    strategy: &Box<dyn CompactionStrategy>,
+    watermark: SeqNo,
+) -> Result<Begun, Error>
+    ensures asks { Asks result tree.old tree.new (Compacts (may_choose strategy.now) (may_refuse strategy.now) (options_at watermark tree.old.core) result tree.old.core tree.new.core) }
+    ensures acts { S.tells → CompactsAct watermark result (S.world tree.old.store) (S.world tree.new.store) tree.old tree.new }
+    ensures stored { S.tells → StaysStored (S.world tree.old.store) (S.world tree.new.store) tree.old.core tree.new.core }
+{
+    tree.compact(&**strategy, watermark)
+}
+
+pub(super) fn compact<S: Store>(
+    tree: &mut Logged<S>,
+    strategies: &[Box<dyn CompactionStrategy>],
+    at: usize,
+    watermark: SeqNo,
+) -> Reply
+    ensures takes { TakesCompact (strategies_of (λ b. may_choose b) (λ b. may_refuse b) strategies.now) at watermark result tree.old tree.new }
+    ensures acts { S.tells → ActsCompact watermark result (S.world tree.old.store) (S.world tree.new.store) tree.old tree.new }
+    ensures stored { S.tells → StaysStored (S.world tree.old.store) (S.world tree.new.store) tree.old.core tree.new.core }
+{
+    let Some(strategy) = strategies.get(at) else {
+        return Reply::NoStrategy;
+    };
+    of_begun(compact_boxed(tree, strategy, watermark))
 }
 
 pub(super) fn major_compact<S: Store>(tree: &mut Logged<S>, target: u64, watermark: SeqNo) -> Reply

@@ -15,3 +15,13 @@ returns-in-SetMoment-clause-acts g c tells =
     let old = c.args.tree.now in
     let new = c.set_moment.new.tree in
     subst (λ step. Acts step c.set_moment.result (world old.store) (world new.store) old new) (sym c.in-SetMoment.is) (c.set_moment.ensures.acts tells)
+
+pub returns-in-Compact-clause-ok : goal.returns-in-Compact-clause-ok
+returns-in-Compact-clause-ok g c = rw c.in-Compact.is c.compact.ensures.takes
+
+pub returns-in-Compact-clause-acts : goal.returns-in-Compact-clause-acts
+returns-in-Compact-clause-acts g c tells =
+    let world = g.S.Store.world in
+    let old = c.args.tree.now in
+    let new = c.compact.new.tree in
+    subst (λ step. Acts step c.compact.result (world old.store) (world new.store) old new) (sym c.in-Compact.is) (c.compact.ensures.acts tells)

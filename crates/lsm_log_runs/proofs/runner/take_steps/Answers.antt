@@ -9,6 +9,6 @@ loop-step-preserved g c =
     let x = c.step-item.result in
     let more = take_more c.args.steps.now c.loop-step.step-index x c.loop-step-test.true ∙ ap (λ y. take c.loop-step.step-index c.args.steps.now ++ y ∷ []) (sym c.step-item.is) in
     record {
-      ran = rw (h.1, more) (ran_more _ _ _ _ _ _ x h.0 _ c.loop-step.invariant.ran h.2);
+      ran = rw (h.1, more) (ran_more _ _ _ _ _ _ _ x h.0 _ c.loop-step.invariant.ran h.2);
       many = ap (λ l. length l) h.1 ∙ length-append _ _ ∙ ap (λ n. n + 1) c.loop-step.invariant.many;
     }
