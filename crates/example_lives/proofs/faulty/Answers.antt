@@ -1,0 +1,8 @@
+use Rattle.std.proofs.Common.{None, sym, subst}
+use Rattle.lsm_store.specs.declared.mem_store.MemStore.{MemStore}
+use Rattle.lsm_store.specs.Memory.{world_of}
+use Rattle.lsm_store.specs.World.{Begins}
+use Rattle.example_lives.proofs.faulty.Goals as goal
+
+pub returns : goal.returns
+returns c = subst (λ (s : MemStore). Begins (λ n. None) (world_of s)) (sym c.fail.ensures) c.new-store.ensures.world
