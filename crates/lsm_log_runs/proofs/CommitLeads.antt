@@ -11,7 +11,7 @@ use Rattle.lsm_commit.specs.Foreign.{AtRest}
 use Rattle.lsm_log_model.specs.Logs.{Act, Did, CommitLost}
 use Rattle.lsm_log_model.specs.Records.{LogImage, logged, opened_by}
 use Rattle.lsm_runs.specs.declared.steps.Reply.{Reply}
-use Rattle.lsm_runs.specs.declared.steps.Reply.TheVariants.{Sealed, Flushed as FlushedReply, FlushedActive, RefusedActive, NoStrategy, Refused}
+use Rattle.lsm_runs.specs.declared.steps.Reply.TheVariants.{Sealed, Flushed as FlushedReply, FlushedActive, RefusedActive, NoStrategy, SlotInUse, Refused}
 use Rattle.lsm_runs.specs.Compacting.{reply_of}
 use Rattle.lsm_runs.specs.Files.{StaysStored}
 use Rattle.lsm_state.specs.Core.{Core}
@@ -177,4 +177,5 @@ module _ {S : Type 0} (world : S → World) (reading : Reading) (between : Store
 
   pub compact_leads : (watermark : ℕ) (reply : Reply) → ActsCompact watermark reply (world old.store) (world new.store) old new → Leads (AddsCompaction watermark reply past)
   compact_leads watermark NoStrategy acts = (past, refl, same_led world reading between image past old new s rest acts)
+  compact_leads watermark SlotInUse acts = (past, refl, same_led world reading between image past old new s rest acts)
   compact_leads watermark reply acts = compaction_leads watermark reply acts

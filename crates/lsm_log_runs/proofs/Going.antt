@@ -32,7 +32,7 @@ module _ (theory : Theory) (image : LogImage) where
   opened = opened_by image
 
   -- the journal of what was called is that of the tree
-  pub tree_order : (past : LogPast) (t : Log) → past_of past.known t ≡ past → InOrder opened past.journal → InOrder opened t.tree.state.journal
+  pub tree_order : (past : LogPast) (t : Log) → past_of past.known past.begun t ≡ past → InOrder opened past.journal → InOrder opened t.tree.state.journal
   tree_order past t is order = subst (λ (p : LogPast). InOrder opened p.journal) (sym is) order
 
   pub came_order : (past : LogPast) (t : Log) → LogCameAbout image past t → InOrder opened t.tree.state.journal
@@ -40,7 +40,7 @@ module _ (theory : Theory) (image : LogImage) where
 
   -- ---- after acts
 
-  pub goes_on : (past next : LogPast) (t new : Log) (acts : List Act) → LogCameAbout image past t → AllActs opened t acts new → InOrder opened next.journal → past_of next.known new ≡ next → (next.known ≡ true → (new.tree.others ≡ []) × (new.lost ≡ None))
+  pub goes_on : (past next : LogPast) (t new : Log) (acts : List Act) → LogCameAbout image past t → AllActs opened t acts new → InOrder opened next.journal → past_of next.known next.begun new ≡ next → (next.known ≡ true → (new.tree.others ≡ []) × (new.lost ≡ None))
       → LogCameAbout image next new
   goes_on past next t new acts came done order is certain = record {
     stands = came.stands;
@@ -62,7 +62,7 @@ module _ (theory : Theory) (image : LogImage) where
       let one = theory.counter.act image first t mid earlier act c d stands reopened ran done.1 (acts_order theory.sound opened mid acts new done.2 order) next le drawn.0 in
       stays_above first mid new (earlier ++ act ∷ []) acts d d stands reopened (theory.joins.both opened first t mid earlier (act ∷ []) ran (mid, done.1, refl)).0 done.2 order one (omega arith) drawn.1
 
-  pub counter_on : (past next : LogPast) (t new : Log) (acts : List Act) (c d : ℕ) → LogCameAbout image past t → (done : AllActs opened t acts new) → past_of next.known new ≡ next → InOrder opened next.journal → MayBeDrawn opened t c → c ≤ d → DrawBelow d opened t acts new done → MayBeDrawn opened new d
+  pub counter_on : (past next : LogPast) (t new : Log) (acts : List Act) (c d : ℕ) → LogCameAbout image past t → (done : AllActs opened t acts new) → past_of next.known next.begun new ≡ next → InOrder opened next.journal → MayBeDrawn opened t c → c ≤ d → DrawBelow d opened t acts new done → MayBeDrawn opened new d
   counter_on past next t new acts c d came done is order next_number le drawn = stays_above came.first t new came.acts acts c d came.stands came.reopened came.done done (tree_order next new is order) next_number le drawn
 
   -- ---- what is left
@@ -71,12 +71,12 @@ module _ (theory : Theory) (image : LogImage) where
   log_sound past t came = theory.stays image came.first t came.acts came.stands came.reopened came.done (came_order past t came)
 
   -- in acts a crash leaves a beginning that holds what was acknowledged before them
-  pub left_inside : (past next : LogPast) (t new : Log) (acts : List Act) (left : LogImage) → LogCameAbout image past t → AllActs opened t acts new → past_of next.known new ≡ next → InOrder opened next.journal → MayLeave t left ⊎ MayLeave new left
+  pub left_inside : (past next : LogPast) (t new : Log) (acts : List Act) (left : LogImage) → LogCameAbout image past t → AllActs opened t acts new → past_of next.known next.begun new ≡ next → InOrder opened next.journal → MayLeave t left ⊎ MayLeave new left
       → LogRecovers (logged image) next.journal next.notes next.lost (acknowledged past) left
   left_inside past next t new acts left came done is order may =
       let recovers = theory.crashes image came.first t new came.acts acts came.stands came.reopened came.done done (tree_order next new is order) left (theory.joins.ends left opened t new acts done may) in
       subst (λ (p : LogPast). LogRecovers (logged image) next.journal next.notes next.lost (acknowledged p) left) came.past_is
-      (subst (λ (p : LogPast). LogRecovers (logged image) p.journal p.notes p.lost (acknowledged (past_of past.known t)) left) is recovers)
+      (subst (λ (p : LogPast). LogRecovers (logged image) p.journal p.notes p.lost (acknowledged (past_of past.known past.begun t)) left) is recovers)
 
   -- and behind them all that is acknowledged then
   pub left_now : (past : LogPast) (t : Log) (left : LogImage) → LogCameAbout image past t → MayLeave t left → LogRecovers (logged image) past.journal past.notes past.lost (acknowledged past) left

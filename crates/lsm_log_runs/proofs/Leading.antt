@@ -43,12 +43,12 @@ pub record Stores {S : Type 0} (world : S → World) : Type 0 where
   pub counts_now : (store : S) (t : ℕ) (image : Image) → t ≤ (world store).moment → IsImage (world store).may image → (world store).since t image
 
 -- what was called is that of the tree, part by part
-pub past_eq : (t : Log) (p : LogPast) → t.tree.state.journal ≡ p.journal → t.tree.notes ≡ p.notes → t.reached ≡ p.reached → t.lost ≡ p.lost → past_of p.known t ≡ p
+pub past_eq : (t : Log) (p : LogPast) → t.tree.state.journal ≡ p.journal → t.tree.notes ≡ p.notes → t.reached ≡ p.reached → t.lost ≡ p.lost → past_of p.known p.begun t ≡ p
 past_eq t p journal notes reached lost =
-    ap (λ (j : List Event). record { journal = j; notes = t.tree.notes; reached = t.reached; lost = t.lost; known = p.known }) journal
-    ∙ ap (λ (n : List Note). record { journal = p.journal; notes = n; reached = t.reached; lost = t.lost; known = p.known }) notes
-    ∙ ap (λ (r : ℕ). record { journal = p.journal; notes = p.notes; reached = r; lost = t.lost; known = p.known }) reached
-    ∙ ap (λ (l : Option LostBatch). record { journal = p.journal; notes = p.notes; reached = p.reached; lost = l; known = p.known }) lost
+    ap (λ (j : List Event). record { journal = j; notes = t.tree.notes; reached = t.reached; lost = t.lost; known = p.known; begun = p.begun }) journal
+    ∙ ap (λ (n : List Note). record { journal = p.journal; notes = n; reached = t.reached; lost = t.lost; known = p.known; begun = p.begun }) notes
+    ∙ ap (λ (r : ℕ). record { journal = p.journal; notes = p.notes; reached = r; lost = t.lost; known = p.known; begun = p.begun }) reached
+    ∙ ap (λ (l : Option LostBatch). record { journal = p.journal; notes = p.notes; reached = p.reached; lost = l; known = p.known; begun = p.begun }) lost
 
 module _ {S : Type 0} (world : S → World) (reading : Reading) (between : Stores world) (image : LogImage) where
   abbrev opened : List Entry
@@ -107,7 +107,7 @@ module _ {S : Type 0} (world : S → World) (reading : Reading) (between : Store
     pub again : MayBeOpened (world new.store)
     pub whole : next.known ≡ true → LeavesNow (world new.store) (KeepsAll (logged image) next)
 
-  module _ (past next : LogPast) (old new : SeenLogged S) (s : StandsLogged world image past old) (acts : List Act) (l : LeadsBy opened next.journal next.notes s.log acts (world old.store) (world new.store) old new) (is : past_of next.known l.log ≡ next)
+  module _ (past next : LogPast) (old new : SeenLogged S) (s : StandsLogged world image past old) (acts : List Act) (l : LeadsBy opened next.journal next.notes s.log acts (world old.store) (world new.store) old new) (is : past_of next.known next.begun l.log ≡ next)
       (order : InOrder opened next.journal) (certain : next.known ≡ true → IsCertain l.log) (stored : StaysStored (world old.store) (world new.store) old.core new.core) where
     came_on : LogCameAbout image next l.log
     came_on = goes_on reading.theory image past next s.log l.log acts s.came l.done order is certain
@@ -140,11 +140,11 @@ module _ {S : Type 0} (world : S → World) (reading : Reading) (between : Store
   -- where nothing is done
   pub nothing_stands : (past : LogPast) (old new : SeenLogged S) (s : StandsLogged world image past old) → LeadsBy opened past.journal past.notes s.log [] (world old.store) (world new.store) old new → StaysStored (world old.store) (world new.store) old.core new.core → StandsLogged world image past new
   nothing_stands past old new s l stored =
-      stands_on past past old new s [] l (ap (past_of past.known) l.done ∙ s.came.past_is) s.came.order (λ known. subst IsCertain (sym l.done) (s.came.certain known)) stored
+      stands_on past past old new s [] l (ap (past_of past.known past.begun) l.done ∙ s.came.past_is) s.came.order (λ known. subst IsCertain (sym l.done) (s.came.certain known)) stored
 
   pub nothing_led : (past : LogPast) (old new : SeenLogged S) (s : StandsLogged world image past old) → LeadsBy opened past.journal past.notes s.log [] (world old.store) (world new.store) old new → StaysStored (world old.store) (world new.store) old.core new.core → AtRest (world new.store) → Led past past old new
   nothing_led past old new s l stored rest =
-      leads_on past past old new s [] l (ap (past_of past.known) l.done ∙ s.came.past_is) s.came.order (λ known. subst IsCertain (sym l.done) (s.came.certain known)) stored rest
+      leads_on past past old new s [] l (ap (past_of past.known past.begun) l.done ∙ s.came.past_is) s.came.order (λ known. subst IsCertain (sym l.done) (s.came.certain known)) stored rest
 
   -- where the tree is as it was
   pub still_led : (past : LogPast) (old : SeenLogged S) → StandsLogged world image past old → AtRest (world old.store) → Led past past old old

@@ -6,8 +6,12 @@ pub mod Orders
 pub mod BatchOrders
 pub mod StepLeads
 pub mod Rotations
+pub mod Growing
+pub mod Waiting
+pub mod Closing
 pub mod CommitLeads
 pub mod Compacting
+pub mod JobLeads
 pub mod Runs
 pub mod Opening
 pub mod Crashed

@@ -79,7 +79,7 @@ module _ {S : Type 0} (world : S → World) where
         opening = opening;
         first = t.store;
         stores = map (λ u. u.store) run.trees;
-        ends = last_store t run.trees ∙ ap (λ (u : SeenLogged S). u.store) run.ends;
+        ends = last_store t run.trees ∙ run.ends;
         again = (run.now image nothing stands).1;
         now = (run.now image nothing stands).0;
         keeps = each_keeps image steps replies nothing t run.trees (run.leads image nothing stands);

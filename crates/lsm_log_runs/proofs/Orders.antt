@@ -19,6 +19,9 @@ module _ (opened : List Entry) (journal : List Event) (order : InOrder opened jo
       let is = fold-append next_number_after (above opened) journal (Mark w ∷ []) in
       order_join opened [] journal (Mark w ∷ (Install n ∷ [])) order (tt, (subst (λ k. k ≤ n) (sym is) le, tt))
 
+  pub order_merged : (n : ℕ) → next_number opened journal ≤ n → InOrder opened (journal ++ Install n ∷ [])
+  order_merged n le = order_join opened [] journal (Install n ∷ []) order (le, tt)
+
   -- a compaction, which may drop
   pub order_dropping : (w n : ℕ) (drop : List Event) → IsDrop drop → next_number opened journal ≤ n → InOrder opened (journal ++ Mark w ∷ (drop ++ Install n ∷ []))
   order_dropping w n [] is le = order_installed w n le

@@ -1,73 +1,94 @@
 -- From what each step does to what holds of a run.
-use Rattle.std.proofs.Common.{◌≡◌, List, [], ◌∷◌, ◌++◌, refl, sym, ap, subst}
+use Rattle.std.proofs.Common.{◌≡◌, ℕ, List, [], ◌∷◌, ◌++◌, map, Option, refl, sym, ap, ◌∙◌, subst}
+use Rattle.std.specs.BTreeMap.{BTreeMap}
 use Rattle.lsm_below.specs.Entries.{Entry}
 use Rattle.lsm_store.specs.World.{World}
 use Rattle.lsm_model.specs.Beginnings.{Saved}
 use Rattle.lsm_model.specs.Sound.{Holds}
 use Rattle.lsm_model.specs.declared.question.Question.TheVariants.{Between, Prefix as AskPrefix}
 use Rattle.lsm_commit.specs.Foreign.{AtRest}
+use Rattle.lsm_journal.specs.NotedReads.{NotedCompactionsKeepReads}
 use Rattle.lsm_log_model.specs.Records.{LogImage, logged, opened_by}
 use Rattle.lsm_run_model.specs.Moments.{last_of}
 use Rattle.lsm_run_model.specs.Outcomes.{without_low_reads}
+use Rattle.lsm_runs.specs.declared.slots.Job.{Job}
 use Rattle.lsm_runs.specs.declared.steps.Reply.{Reply}
 use Rattle.lsm_runs.specs.Compacting.{Strategies}
+use Rattle.lsm_runs.specs.Files.{StaysStored}
+use Rattle.lsm_runs.specs.Slots.{Stage}
+use Rattle.lsm_runs.proofs.Replays.{free_slots}
 use Rattle.lsm_runs.proofs.ReadReplays.{Sound, get_answers, pairs_answer}
 use Rattle.lsm_state.specs.Core.{state_of}
 use Rattle.lsm_state.specs.Listing.{Lists, ListsPrefix}
 use Rattle.lsm_logged.specs.Keeping.{SeenLogged}
 use Rattle.lsm_log_runs.specs.declared.steps.LogStep.{LogStep}
-use Rattle.lsm_log_runs.specs.declared.steps.LogStep.TheVariants.{Write, Get, Range, Prefix, RotateMemtable, Flush, FlushActiveMemtable, Compact, MajorCompact, DropRange, Clear, SetMoment}
+use Rattle.lsm_log_runs.specs.declared.steps.LogStep.TheVariants.{Write, Get, Range, Prefix, RotateMemtable, AtSlot, Flush, FlushActiveMemtable, Compact, MajorCompact, DropRange, Clear, SetMoment}
 use Rattle.lsm_log_runs.specs.Adds.{Adds}
-use Rattle.lsm_log_runs.specs.Doing.{StepDoes, AllDoes, RanTo}
+use Rattle.lsm_log_runs.specs.Doing.{ActsAlone, StepDoes, AllDoes, RanTo}
 use Rattle.lsm_log_runs.specs.Moments.{Answers, MayBeTried, StepKeeps}
 use Rattle.lsm_log_runs.specs.Pasts.{LogPast}
 use Rattle.lsm_log_runs.specs.Leading.{EachLeads, RunsLogged}
-use Rattle.lsm_log_runs.specs.Runs.{RanThrough, RanLogged}
+use Rattle.lsm_log_runs.specs.Runs.{TakesAlone, RanThrough, RanLogged}
+use Rattle.lsm_log_runs.specs.Slots.{LogStage, at_first, beside as stage_beside, ClosesLogged}
 use Rattle.lsm_log_runs.specs.Standing.{StandsLogged}
 use Rattle.lsm_log_runs.proofs.Beside.{beside, is_high}
+use Rattle.lsm_log_runs.proofs.Closing.{closed_stands}
 use Rattle.lsm_log_runs.proofs.CommitLeads.{rotate_leads, active_leads, compact_leads, compaction_leads}
 use Rattle.lsm_log_runs.proofs.Going.{holds_on}
-use Rattle.lsm_log_runs.proofs.Leading.{Reading, Stores, Led, keeps_now, opens_now, nothing_led, still_led}
-use Rattle.lsm_log_runs.proofs.StepLeads.{batch_leads, flush_leads, clear_leads}
+use Rattle.lsm_log_runs.proofs.Growing.{step_grows}
+use Rattle.lsm_log_runs.proofs.JobLeads.{job_leads}
+use Rattle.lsm_log_runs.proofs.Leading.{Reading, Stores, Led, keeps_now, opens_now, nothing_led, same_led}
+use Rattle.lsm_log_runs.proofs.StepLeads.{sealed_are, batch_leads, flush_leads, clear_leads}
+use Rattle.lsm_log_runs.proofs.Waiting.{AreWaiting, first_waiting, job_waits, still_waiting, slot_waiting}
 
 -- ---- a step more
 
-does_more : {S : Type 0} (strategies : Strategies) (tells : Type 0) (world : S → World) (steps : List LogStep) (replies : List Reply) (old : SeenLogged S) (trees : List (SeenLogged S)) (x : LogStep) (r : Reply) (new : SeenLogged S)
-    → AllDoes strategies tells world steps replies old trees → StepDoes strategies tells world x r (last_of old trees) new → AllDoes strategies tells world (steps ++ x ∷ []) (replies ++ r ∷ []) old (trees ++ new ∷ [])
+does_more : {S : Type 0} (strategies : Strategies) (tells : Type 0) (world : S → World) (steps : List LogStep) (replies : List Reply) (old : LogStage S) (stages : List (LogStage S)) (x : LogStep) (r : Reply) (new : LogStage S)
+    → AllDoes strategies tells world steps replies old stages → StepDoes strategies tells world x r (last_of old stages) new → AllDoes strategies tells world (steps ++ x ∷ []) (replies ++ r ∷ []) old (stages ++ new ∷ [])
 does_more strategies tells world [] [] old [] x r new does one = (one, tt)
-does_more strategies tells world (y ∷ steps) (q ∷ replies) old (mid ∷ trees) x r new does one = (does.0, does_more strategies tells world steps replies mid trees x r new does.1 one)
-does_more strategies tells world [] [] old (mid ∷ trees) x r new does one = absurd does
-does_more strategies tells world [] (q ∷ replies) old trees x r new does one = absurd does
-does_more strategies tells world (y ∷ steps) [] old trees x r new does one = absurd does
+does_more strategies tells world (y ∷ steps) (q ∷ replies) old (mid ∷ stages) x r new does one = (does.0, does_more strategies tells world steps replies mid stages x r new does.1 one)
+does_more strategies tells world [] [] old (mid ∷ stages) x r new does one = absurd does
+does_more strategies tells world [] (q ∷ replies) old stages x r new does one = absurd does
+does_more strategies tells world (y ∷ steps) [] old stages x r new does one = absurd does
 does_more strategies tells world (y ∷ steps) (q ∷ replies) old [] x r new does one = absurd does
 
 last_more : {A : Type 0} (old : A) (xs : List A) (new : A) → last_of old (xs ++ new ∷ []) ≡ new
 last_more old [] new = refl
 last_more old (x ∷ xs) new = last_more x xs new
 
-pub ran_more : {S : Type 0} (strategies : Strategies) (tells : Type 0) (world : S → World) (steps : List LogStep) (replies : List Reply) (old mid : SeenLogged S) (x : LogStep) (r : Reply) (new : SeenLogged S)
+pub ran_more : {S : Type 0} (strategies : Strategies) (tells : Type 0) (world : S → World) (steps : List LogStep) (replies : List Reply) (old mid : LogStage S) (x : LogStep) (r : Reply) (new : LogStage S)
     → RanTo strategies tells world steps replies old mid → StepDoes strategies tells world x r mid new → RanTo strategies tells world (steps ++ x ∷ []) (replies ++ r ∷ []) old new
 ran_more strategies tells world steps replies old mid x r new ran one = record {
-  trees = ran.trees ++ new ∷ [];
-  does = does_more strategies tells world steps replies old ran.trees x r new ran.does (subst (λ t. StepDoes strategies tells world x r t new) (sym ran.ends) one);
-  ends = last_more old ran.trees new;
+  stages = ran.stages ++ new ∷ [];
+  does = does_more strategies tells world steps replies old ran.stages x r new ran.does (subst (λ st. StepDoes strategies tells world x r st new) (sym ran.ends) one);
+  ends = last_more old ran.stages new;
 }
 
-pub ran_none : {S : Type 0} (strategies : Strategies) (tells : Type 0) (world : S → World) (old : SeenLogged S) → RanTo strategies tells world [] [] old old
-ran_none strategies tells world old = record { trees = []; does = tt; ends = refl }
+pub ran_none : {S : Type 0} (strategies : Strategies) (tells : Type 0) (world : S → World) (old : LogStage S) → RanTo strategies tells world [] [] old old
+ran_none strategies tells world old = record { stages = []; does = tt; ends = refl }
+
+last_tree : {S : Type 0} (old : LogStage S) (stages : List (LogStage S)) → last_of old.tree (map (λ st. st.tree) stages) ≡ (last_of old stages).tree
+last_tree old [] = refl
+last_tree old (st ∷ stages) = last_tree st stages
+
+-- slots of which none was used are free
+pub from_free : {S : Type 0} (strategies : Strategies) (tells : Type 0) (world : S → World) (steps : List LogStep) (replies : List Reply) (old : SeenLogged S) (slots : BTreeMap ℕ (Option Job)) (last : LogStage S) → slots.entries ≡ []
+    → RanTo strategies tells world steps replies (stage_beside old slots) last → RanTo strategies tells world steps replies (at_first old) last
+from_free {S} strategies tells world steps replies old slots last empty ran =
+    subst (λ st. RanTo strategies tells world steps replies st last) (ap (λ (st : Stage). let it : LogStage S = record { tree = old; jobs = st.jobs } in it) (free_slots slots old.core empty)) ran
 
 -- ---- what follows
 
 module _ {S : Type 0} (strategies : Strategies) (tells : Type 0) (world : S → World) where
-  through : (steps : List LogStep) (replies : List Reply) (old : SeenLogged S) (trees : List (SeenLogged S)) → AllDoes strategies tells world steps replies old trees → RanThrough strategies steps replies old trees
+  through : (steps : List LogStep) (replies : List Reply) (old : LogStage S) (stages : List (LogStage S)) → AllDoes strategies tells world steps replies old stages → RanThrough strategies steps replies old stages
   through [] [] old [] does = tt
-  through (x ∷ steps) (r ∷ replies) old (mid ∷ trees) does = (does.0.takes, through steps replies mid trees does.1)
-  through [] [] old (mid ∷ trees) does = absurd does
-  through [] (r ∷ replies) old trees does = absurd does
-  through (x ∷ steps) [] old trees does = absurd does
+  through (x ∷ steps) (r ∷ replies) old (mid ∷ stages) does = (does.0.takes, through steps replies mid stages does.1)
+  through [] [] old (mid ∷ stages) does = absurd does
+  through [] (r ∷ replies) old stages does = absurd does
+  through (x ∷ steps) [] old stages does = absurd does
   through (x ∷ steps) (r ∷ replies) old [] does = absurd does
 
-  module _ (reading : Reading) (between : Stores world) (told : tells) (image : LogImage) where
+  module _ (reading : Reading) (marks : NotedCompactionsKeepReads) (between : Stores world) (told : tells) (image : LogImage) where
     abbrev opened : List Entry
     opened = opened_by image
 
@@ -79,70 +100,78 @@ module _ {S : Type 0} (strategies : Strategies) (tells : Type 0) (world : S → 
         let same : without_low_reads opened past.journal ≡ past.journal = subst (λ (p : LogPast). without_low_reads opened p.journal ≡ p.journal) s.came.past_is high in
         subst (λ j. Holds opened (logged image) (state_of j t.core)) (sym same) (subst (λ (tree : Saved). Holds opened (logged image) tree.state) s.is.tree (holds_on reading.theory image past s.log s.came))
 
+    alone_answers : (past : LogPast) (x : LogStep) (r : Reply) (old new : SeenLogged S) → StandsLogged world image past old → TakesAlone strategies x r old new → Answers opened (logged image) past.journal x r
+    alone_answers past (Get k n) r old new s takes = get_answers reading.theory.sound opened (logged image) k n r past.journal takes.1.0 old.core old.core takes.1.1 (sound past old s)
+    alone_answers past (Range low high n) r old new s takes = pairs_answer reading.theory.sound opened (logged image) (Between low high) (Lists old.core low high n) n r past.journal takes.1.0 old.core old.core takes.1.1 (sound past old s)
+    alone_answers past (Prefix p n) r old new s takes = pairs_answer reading.theory.sound opened (logged image) (AskPrefix p) (ListsPrefix old.core p n) n r past.journal takes.1.0 old.core old.core takes.1.1 (sound past old s)
+    alone_answers past x r old new s takes = tt
+
+    -- what a step is known to add, and what comes of it
+    abbrev LeadsTo : LogStep → Reply → LogPast → SeenLogged S → SeenLogged S → Type 0
+    LeadsTo x r past old new = (next : LogPast) × Adds x r past next × Led world reading between image past next old new
+
+    -- one that needs no slot
+    module _ (past : LogPast) (old new : SeenLogged S) (s : StandsLogged world image past old) (stored : StaysStored (world old.store) (world new.store) old.core new.core) (rest : AtRest (world new.store)) where
+      alone_leads : (x : LogStep) (r : Reply) → TakesAlone strategies x r old new → ActsAlone x r (world old.store) (world new.store) old new → MayBeTried opened past.journal x → LeadsTo x r past old new
+      alone_leads (Write ops) r takes acts tried = batch_leads world reading between image past old new s stored rest ops tried r takes acts
+      alone_leads (Get k n) r takes acts tried = (past, refl, same_led world reading between image past old new s rest acts)
+      alone_leads (Range low high n) r takes acts tried = (past, refl, same_led world reading between image past old new s rest acts)
+      alone_leads (Prefix p n) r takes acts tried = (past, refl, same_led world reading between image past old new s rest acts)
+      alone_leads (Flush n) r takes acts tried = flush_leads world reading between image past old new s stored rest n r acts
+      alone_leads Clear r takes acts tried = clear_leads world reading between image past old new s stored rest r takes acts
+      alone_leads RotateMemtable r takes acts tried = rotate_leads world reading between image past old new s rest r takes acts
+      alone_leads (FlushActiveMemtable n) r takes acts tried = active_leads world reading between image past old new s stored rest n r acts
+      alone_leads (Compact at n) r takes acts tried = compact_leads world reading between image past old new s stored rest n r acts
+      alone_leads (MajorCompact target n) r takes acts tried = compaction_leads world reading between image past old new s stored rest n r acts
+      alone_leads (DropRange low high) r takes acts tried = compaction_leads world reading between image past old new s stored rest 0 r acts
+      alone_leads (SetMoment n) r takes acts tried = (past, refl, nothing_led world reading between image past old new s (acts opened past.journal past.notes s.log s.is s.keeps) stored rest)
+      alone_leads (AtSlot slot step) r takes acts tried = absurd takes
+
     keeps : (past next : LogPast) (x : LogStep) (r : Reply) (old new : SeenLogged S) → Adds x r past next → Answers opened (logged image) past.journal x r → Led world reading between image past next old new → StepKeeps (λ t. world t.store) opened (logged image) x r past next old new
     keeps past next x r old new adds answers led = record { adds = adds; answers = answers; inside = led.inside; now = led.now; again = led.again; whole = led.whole }
 
-    -- a read
-    reads : (past : LogPast) (x : LogStep) (r : Reply) (old new : SeenLogged S) → StandsLogged world image past old → StepDoes strategies tells world x r old new → Answers opened (logged image) past.journal x r → new ≡ old → Adds x r past past
-        → (next : LogPast) × StepKeeps (λ t. world t.store) opened (logged image) x r past next old new × StandsLogged world image next new
-    reads past x r old new s does answers is adds =
-        let led = still_led world reading between image past old s (subst (λ (t : SeenLogged S). AtRest (world t.store)) is (does.rest told)) in
-        subst (λ t. (next : LogPast) × StepKeeps (λ u. world u.store) opened (logged image) x r past next old t × StandsLogged world image next t) (sym is) (past, keeps past past x r old old adds answers led, led.stands)
+    -- what a step keeps, what stands behind it, and what waits then
+    abbrev Goes : LogStep → Reply → LogPast → LogStage S → LogStage S → Type 0
+    Goes x r past old new = (next : LogPast) × StepKeeps (λ t. world t.store) opened (logged image) x r past next old.tree new.tree × StandsLogged world image next new.tree × AreWaiting next new.jobs
 
     -- a step that is taken from what stands
-    step_leads : (past : LogPast) (x : LogStep) (r : Reply) (old new : SeenLogged S) → StandsLogged world image past old → StepDoes strategies tells world x r old new → MayBeTried opened past.journal x
-        → (next : LogPast) × StepKeeps (λ t. world t.store) opened (logged image) x r past next old new × StandsLogged world image next new
-    step_leads past (Write ops) r old new s does tried =
-        let led = batch_leads world reading between image past old new s (does.stored told) (does.rest told) ops tried r does.takes (does.acts told) in
-        (led.0, keeps past led.0 (Write ops) r old new led.1 tt led.2, led.2.stands)
-    step_leads past (Get k n) r old new s does tried = reads past (Get k n) r old new s does
-        (get_answers reading.theory.sound opened (logged image) k n r past.journal does.takes.1.0 old.core old.core does.takes.1.1 (sound past old s)) does.takes.0 refl
-    step_leads past (Flush n) r old new s does tried =
-        let led = flush_leads world reading between image past old new s (does.stored told) (does.rest told) n r (does.acts told) in
-        (led.0, keeps past led.0 (Flush n) r old new led.1 tt led.2, led.2.stands)
-    step_leads past Clear r old new s does tried =
-        let led = clear_leads world reading between image past old new s (does.stored told) (does.rest told) r does.takes (does.acts told) in
-        (led.0, keeps past led.0 Clear r old new led.1 tt led.2, led.2.stands)
-    step_leads past (Range low high n) r old new s does tried = reads past (Range low high n) r old new s does
-        (pairs_answer reading.theory.sound opened (logged image) (Between low high) (Lists old.core low high n) n r past.journal does.takes.1.0 old.core old.core does.takes.1.1 (sound past old s)) does.takes.0 refl
-    step_leads past (Prefix p n) r old new s does tried = reads past (Prefix p n) r old new s does
-        (pairs_answer reading.theory.sound opened (logged image) (AskPrefix p) (ListsPrefix old.core p n) n r past.journal does.takes.1.0 old.core old.core does.takes.1.1 (sound past old s)) does.takes.0 refl
-    step_leads past RotateMemtable r old new s does tried =
-        let led = rotate_leads world reading between image past old new s (does.rest told) r does.takes (does.acts told) in
-        (led.0, keeps past led.0 RotateMemtable r old new led.1 tt led.2, led.2.stands)
-    step_leads past (FlushActiveMemtable n) r old new s does tried =
-        let led = active_leads world reading between image past old new s (does.stored told) (does.rest told) n r (does.acts told) in
-        (led.0, keeps past led.0 (FlushActiveMemtable n) r old new led.1 tt led.2, led.2.stands)
-    step_leads past (Compact at n) r old new s does tried =
-        let led = compact_leads world reading between image past old new s (does.stored told) (does.rest told) n r (does.acts told) in
-        (led.0, keeps past led.0 (Compact at n) r old new led.1 tt led.2, led.2.stands)
-    step_leads past (MajorCompact target n) r old new s does tried =
-        let led = compaction_leads world reading between image past old new s (does.stored told) (does.rest told) n r (does.acts told) in
-        (led.0, keeps past led.0 (MajorCompact target n) r old new led.1 tt led.2, led.2.stands)
-    step_leads past (DropRange low high) r old new s does tried =
-        let led = compaction_leads world reading between image past old new s (does.stored told) (does.rest told) 0 r (does.acts told) in
-        (led.0, keeps past led.0 (DropRange low high) r old new led.1 tt led.2, led.2.stands)
-    step_leads past (SetMoment n) r old new s does tried =
-        let led = nothing_led world reading between image past old new s (does.acts told opened past.journal past.notes s.log s.is s.keeps) (does.stored told) (does.rest told) in
-        (past, keeps past past (SetMoment n) r old new refl tt led, led.stands)
+    step_leads : (past : LogPast) (x : LogStep) (r : Reply) (old new : LogStage S) → StandsLogged world image past old.tree → AreWaiting past old.jobs → StepDoes strategies tells world x r old new → MayBeTried opened past.journal x → Goes x r past old new
+    step_leads past (AtSlot slot step) r old new s waits does tried =
+        let stored = does.stored told in
+        let led = job_leads world reading between image past old.tree new.tree s stored (does.rest told) slot step r (old.jobs slot) (waits slot) (does.acts told) in
+        let here = job_waits marks slot past led.0 (old.jobs slot) (new.jobs slot) (waits slot) old.tree new.tree (sealed_are world reading between image past old.tree new.tree s stored) strategies step r does.takes.0 led.1 in
+        (led.0, keeps past led.0 (AtSlot slot step) r old.tree new.tree led.1 tt led.2, led.2.stands, slot_waiting marks slot past led.0 old.jobs new.jobs (step_grows (AtSlot slot step) r past led.0 led.1) does.takes.1 here waits)
+    step_leads past x r old new s waits does tried =
+        let led = alone_leads past old.tree new.tree s (does.stored told) (does.rest told) x r does.takes.0 (does.acts told) tried in
+        (led.0, keeps past led.0 x r old.tree new.tree led.1 (alone_answers past x r old.tree new.tree s does.takes.0) led.2, led.2.stands, still_waiting marks past led.0 old.jobs new.jobs (step_grows x r past led.0 led.1) does.takes.1 waits)
 
-    each : (steps : List LogStep) (replies : List Reply) (past : LogPast) (old : SeenLogged S) (trees : List (SeenLogged S)) → AllDoes strategies tells world steps replies old trees → StandsLogged world image past old → EachLeads world image steps replies past old trees
-    each [] [] past old [] does s = tt
-    each (x ∷ steps) (r ∷ replies) past old (mid ∷ trees) does s = λ tried.
-        let one = step_leads past x r old mid s does.0 tried in
-        (one.0, one.1, one.2, each steps replies one.0 mid trees does.1 one.2)
-    each [] [] past old (mid ∷ trees) does s = absurd does
-    each [] (r ∷ replies) past old trees does s = absurd does
-    each (x ∷ steps) [] past old trees does s = absurd does
-    each (x ∷ steps) (r ∷ replies) past old [] does s = absurd does
+    each : (steps : List LogStep) (replies : List Reply) (past : LogPast) (old : LogStage S) (stages : List (LogStage S)) → AllDoes strategies tells world steps replies old stages → StandsLogged world image past old.tree → AreWaiting past old.jobs
+        → EachLeads world image steps replies past old.tree (map (λ st. st.tree) stages)
+    each [] [] past old [] does s waits = tt
+    each (x ∷ steps) (r ∷ replies) past old (mid ∷ stages) does s waits = λ tried.
+        let one = step_leads past x r old mid s waits does.0 tried in
+        (one.0, one.1, one.2, each steps replies one.0 mid stages does.1 one.2 one.3)
+    each [] [] past old (mid ∷ stages) does s waits = absurd does
+    each [] (r ∷ replies) past old stages does s waits = absurd does
+    each (x ∷ steps) [] past old stages does s waits = absurd does
+    each (x ∷ steps) (r ∷ replies) past old [] does s waits = absurd does
 
-  pub ran_logged : (steps : List LogStep) (replies : List Reply) (old new : SeenLogged S) → RanTo strategies tells world steps replies old new → RanLogged strategies steps replies old new
-  ran_logged steps replies old new ran = record { trees = ran.trees; ran = through steps replies old ran.trees ran.does; ends = ran.ends }
+  module _ (steps : List LogStep) (replies : List Reply) (old : SeenLogged S) (last : LogStage S) (new : SeenLogged S) (ran : RanTo strategies tells world steps replies (at_first old) last) (closes : ClosesLogged last.tree new) where
+    pub ran_logged : RanLogged strategies steps replies old new
+    ran_logged = record {
+      stages = ran.stages;
+      ran = through steps replies (at_first old) ran.stages ran.does;
+      closes = subst (λ (st : LogStage S). ClosesLogged st.tree new) (sym ran.ends) closes;
+    }
 
-  pub runs : (reading : Reading) (between : Stores world) (told : tells) (steps : List LogStep) (replies : List Reply) (old new : SeenLogged S) → AtRest (world old.store) → RanTo strategies tells world steps replies old new → RunsLogged world steps replies old new
-  runs reading between told steps replies old new rest ran = record {
-    trees = ran.trees;
-    ends = ran.ends;
-    now = λ image past s. (keeps_now world reading between image past old s rest, opens_now world reading between image past old s rest);
-    leads = λ image past s. each reading between told image steps replies past old ran.trees ran.does s;
-  }
+    ends_at : last_of old (map (λ st. st.tree) ran.stages) ≡ last.tree
+    ends_at = last_tree (at_first old) ran.stages ∙ ap (λ (st : LogStage S). st.tree) ran.ends
+
+    pub runs : (reading : Reading) (marks : NotedCompactionsKeepReads) (between : Stores world) (told : tells) → AtRest (world old.store) → RunsLogged world steps replies old new
+    runs reading marks between told rest = record {
+      trees = map (λ st. st.tree) ran.stages;
+      ends = ap (λ (t : SeenLogged S). t.store) ends_at ∙ sym closes.rest.store;
+      now = λ image past s. (keeps_now world reading between image past old s rest, opens_now world reading between image past old s rest);
+      leads = λ image past s. each reading marks between told image steps replies past (at_first old) ran.stages ran.does s (first_waiting past);
+      goes_on = λ image past s. closed_stands world image past last.tree new closes (subst (StandsLogged world image past) ends_at s);
+    }

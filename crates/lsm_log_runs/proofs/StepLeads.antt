@@ -12,7 +12,7 @@ use Rattle.lsm_model.specs.Sound.{Holds}
 use Rattle.lsm_model.specs.Steps.{Action, Marked, Maintained}
 use Rattle.lsm_model.specs.Beginnings.{Saved, FlushedIds}
 use Rattle.lsm_model.specs.declared.op.Op.{Op}
-use Rattle.lsm_model.specs.declared.journal.JournalEntry.TheVariants.{Write as Wrote, Install, Mark}
+use Rattle.lsm_model.specs.declared.journal.JournalEntry.TheVariants.{Write as Wrote, Install}
 use Rattle.lsm_commit.specs.Foreign.{AtRest}
 use Rattle.lsm_log_model.specs.Logs.{Logged as Log, IsCertain, Act, Batched, BatchLost, Did, CommitLost, AllActs}
 use Rattle.lsm_log_model.specs.Records.{HasDistinctKeys, LogImage, logged, opened_by}
@@ -31,7 +31,7 @@ use Rattle.lsm_logged.specs.Writing.{WritesLogged, WritesAct, Leads, batch_of}
 use Rattle.lsm_logged.proofs.Acted.{distinct_keys}
 use Rattle.lsm_log_runs.specs.Adds.{AddsBatch, AddsFlush, AddsClear}
 use Rattle.lsm_log_runs.specs.Doing.{ActsBatch, ActsFlush, ActsClear}
-use Rattle.lsm_log_runs.specs.Pasts.{LogPast, past_of, with_batch, with_lost, with_flush, with_doubt, with_clear, with_lost_clear}
+use Rattle.lsm_log_runs.specs.Pasts.{LogPast, past_of, with_batch, with_lost, with_flushed, with_flush, with_doubt, with_clear, with_lost_clear}
 use Rattle.lsm_log_runs.specs.Runs.{TakesBatch, TakesClear}
 use Rattle.lsm_log_runs.specs.Standing.{StandsLogged}
 use Rattle.lsm_log_runs.specs.Trying.{IsOverOne}
@@ -120,7 +120,7 @@ module _ {S : Type 0} (world : S → World) (reading : Reading) (between : Store
   -- what leads by acts that write nothing
   module _ (next : LogPast) (acts : List Act) (q : AllByRecursion IsQuiet acts) (l : LeadsBy opened next.journal next.notes s.log acts w w' old new) (reached : next.reached ≡ past.reached) (lost : next.lost ≡ past.lost) (order : InOrder opened next.journal)
       (certain : next.known ≡ true → IsCertain l.log) where
-    quiet_past : past_of next.known l.log ≡ next
+    quiet_past : past_of next.known next.begun l.log ≡ next
     quiet_past =
         let same = quiet opened s.log acts l.log q l.done in
         past_eq l.log next (ap (λ (t : Saved). t.state.journal) l.is.tree) (ap (λ (t : Saved). t.notes) l.is.tree) (same.0 ∙ reached_is ∙ sym reached) (same.1 ∙ lost_is ∙ sym lost)
@@ -132,7 +132,7 @@ module _ {S : Type 0} (world : S → World) (reading : Reading) (between : Store
     by_quiet rest = leads_on world reading between image past next old new s acts l quiet_past order certain stored rest
 
   -- the notes tell what is sealed
-  sealed_are : sealed_ids old.core ≡ sealed_in past.notes
+  pub sealed_are : sealed_ids old.core ≡ sealed_in past.notes
   sealed_are =
       sym (ap (λ (t : Saved). t.state.latest.sealed) s.is.tree)
       ∙ sym (is_sealed opened s.log (beside opened image s.came.first s.came.acts s.log s.came.reopened s.came.done))
@@ -215,17 +215,23 @@ module _ {S : Type 0} (world : S → World) (reading : Reading) (between : Store
     abbrev flush_acts : ℕ → Action → List Act
     flush_acts watermark action = Did (Marked watermark) ∷ (Did action ∷ (Did (Maintained watermark) ∷ []))
 
-    installed : (watermark : ℕ) (action : Action) → LeadsByCommit watermark action (Install old.core.seqno ∷ []) (FlushedIds (sealed_ids old.core) ∷ []) opened past.journal past.notes s.log w w' old new
-        → LeadsOn (λ next. (n : ℕ) × (next ≡ with_flush watermark n past))
-    installed watermark action l =
-        let next : LogPast = record past { journal = past.journal ++ Mark watermark ∷ (Install old.core.seqno ∷ []); notes = FlushedIds (sealed_ids old.core) ∷ past.notes } in (
+    pub flushed : (ids : List ℕ) (watermark : ℕ) (action : Action) → LeadsByCommit watermark action (Install old.core.seqno ∷ []) (FlushedIds ids ∷ []) opened past.journal past.notes s.log w w' old new
+        → LeadsOn (λ next. next ≡ with_flushed ids watermark old.core.seqno past)
+    flushed ids watermark action l =
+        let next = with_flushed ids watermark old.core.seqno past in (
           next,
-          (old.core.seqno, ap (λ ids. record past { journal = past.journal ++ Mark watermark ∷ (Install old.core.seqno ∷ []); notes = FlushedIds ids ∷ past.notes }) sealed_are),
+          refl,
           quietly next (flush_acts watermark action) (tt, (tt, (tt, tt))) l refl refl (order_installed opened past.journal s.came.order watermark old.core.seqno fresh)
               (λ known. answered opened s.log (flush_acts watermark action) l.log (tt, (tt, (tt, tt))) l.done (s.came.certain known)),
         )
 
-    unknown : (watermark : ℕ) (action : Action) → LeadsByLost watermark action [] opened past.journal past.notes s.log w w' old new → LeadsOn (λ next. next ≡ with_doubt watermark [] past)
+    installed : (watermark : ℕ) (action : Action) → LeadsByCommit watermark action (Install old.core.seqno ∷ []) (FlushedIds (sealed_ids old.core) ∷ []) opened past.journal past.notes s.log w w' old new
+        → LeadsOn (λ next. (n : ℕ) × (next ≡ with_flush watermark n past))
+    installed watermark action l =
+        let f = flushed (sealed_ids old.core) watermark action l in
+        (f.0, (old.core.seqno, f.1 ∙ ap (λ ids. with_flushed ids watermark old.core.seqno past) sealed_are), f.2)
+
+    pub unknown : (watermark : ℕ) (action : Action) → LeadsByLost watermark action [] opened past.journal past.notes s.log w w' old new → LeadsOn (λ next. next ≡ with_doubt watermark [] past)
     unknown watermark action l =
         let next = with_doubt watermark [] past in (
           next,

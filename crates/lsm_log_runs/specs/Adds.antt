@@ -1,17 +1,20 @@
 -- What each step adds to what was called, by its kind and its reply.
-use Rattle.std.specs.Prelude.{◌≡◌, ℕ, List, [], ◌∷◌, ◌++◌, Some}
+use Rattle.std.specs.Prelude.{◌≡◌, ℕ, Bool, true, false, List, [], ◌∷◌, ◌++◌, Some}
 use Rattle.lsm_below.specs.Keys.{Bytes}
 use Rattle.lsm_below.specs.declared.error.Error.TheVariants.{CommitUnknown, AfterCommit}
 use Rattle.lsm_model.specs.declared.op.Op.{Op}
 use Rattle.lsm_model.specs.Journal.{Event}
 use Rattle.lsm_model.specs.declared.journal.JournalEntry.TheVariants.{Install, Dropped}
 use Rattle.lsm_runs.specs.declared.steps.Compacted.TheVariants.{Installed}
+use Rattle.lsm_runs.specs.declared.steps.JobStep.{JobStep}
+use Rattle.lsm_runs.specs.declared.steps.JobStep.TheVariants.{BeginFlush, RegisterTables, BeginCompaction, FinishCompaction}
 use Rattle.lsm_runs.specs.declared.steps.Reply.{Reply}
-use Rattle.lsm_runs.specs.declared.steps.Reply.TheVariants.{Number, Sealed, Flushed, FlushedActive, RefusedActive, Compacted, Cleared, Refused}
+use Rattle.lsm_runs.specs.declared.steps.Reply.TheVariants.{Number, Sealed, Begun, Registered, Flushed, FlushedActive, RefusedActive, Compacted, Finished, Cleared, Refused}
+use Rattle.lsm_state.specs.declared.compaction.Finished.TheVariants.{Installed as IsFinished}
 use Rattle.lsm_logged.specs.Writing.{batch_of}
 use Rattle.lsm_log_runs.specs.declared.steps.LogStep.{LogStep}
-use Rattle.lsm_log_runs.specs.declared.steps.LogStep.TheVariants.{Write, RotateMemtable, Flush, FlushActiveMemtable, Compact, MajorCompact, DropRange, Clear}
-use Rattle.lsm_log_runs.specs.Pasts.{LogPast, with_batch, with_lost, with_sealed, with_flush, with_commit, with_doubt, with_clear, with_lost_clear}
+use Rattle.lsm_log_runs.specs.declared.steps.LogStep.TheVariants.{Write, RotateMemtable, AtSlot, Flush, FlushActiveMemtable, Compact, MajorCompact, DropRange, Clear}
+use Rattle.lsm_log_runs.specs.Pasts.{LogPast, with_batch, with_lost, with_sealed, with_flush, with_registry, with_begun, with_commit, with_doubt, with_install, with_unknown, with_clear, with_lost_clear}
 
 -- ---- by kinds
 
@@ -63,6 +66,37 @@ AddsClear (Refused AfterCommit) old new = (n : ℕ) × (new ≡ with_clear n old
 AddsClear (Refused CommitUnknown) old new = (n : ℕ) × (new ≡ with_lost_clear n old)
 AddsClear reply old new = new ≡ old
 
+-- ---- by calls on the job in a slot
+
+-- a flush that is begun is of all that is sealed
+abbrev pub AddsBegun : ℕ → Reply → LogPast → LogPast → Type 0
+AddsBegun slot (Begun true) old new = new ≡ with_begun slot old
+AddsBegun slot reply old new = new ≡ old
+
+-- one that is registered, where it is installed, is of the memtables of its beginning, at the watermark of its merge
+abbrev pub AddsRegistry : ℕ → Bool → LogPast → LogPast → Type 0
+AddsRegistry slot true old new = (w n : ℕ) × (new ≡ with_registry slot w n old)
+AddsRegistry slot false old new = new ≡ old
+
+abbrev pub AddsRegister : ℕ → Reply → LogPast → LogPast → Type 0
+AddsRegister slot (Registered a) old new = AddsRegistry slot a.installed old new
+AddsRegister slot (Refused CommitUnknown) old new = (w : ℕ) × (new ≡ with_doubt w [] old)
+AddsRegister slot reply old new = new ≡ old
+
+-- the end of a merge adds its install alone: the mark came when it was begun
+abbrev pub AddsMerge : Reply → LogPast → LogPast → Type 0
+AddsMerge (Finished IsFinished) old new = (n : ℕ) × (new ≡ with_install n old)
+AddsMerge (Refused AfterCommit) old new = (n : ℕ) × (new ≡ with_install n old)
+AddsMerge (Refused CommitUnknown) old new = new ≡ with_unknown old
+AddsMerge reply old new = new ≡ old
+
+abbrev pub AddsJob : ℕ → JobStep → Reply → LogPast → LogPast → Type 0
+AddsJob slot BeginFlush reply old new = AddsBegun slot reply old new
+AddsJob slot RegisterTables reply old new = AddsRegister slot reply old new
+AddsJob slot (BeginCompaction at o) reply old new = AddsCompaction o.mvcc_gc_watermark reply old new
+AddsJob slot FinishCompaction reply old new = AddsMerge reply old new
+AddsJob slot step reply old new = new ≡ old
+
 -- ---- by steps
 
 -- all others add nothing
@@ -75,4 +109,5 @@ Adds (FlushActiveMemtable w) reply old new = AddsFlushActive w reply old new
 Adds (Compact at w) reply old new = AddsCompaction w reply old new
 Adds (MajorCompact target w) reply old new = AddsCompaction w reply old new
 Adds (DropRange low high) reply old new = AddsCompaction 0 reply old new
+Adds (AtSlot slot step) reply old new = AddsJob slot step reply old new
 Adds step reply old new = new ≡ old

@@ -14,5 +14,5 @@ pub record LogCameAbout (image : LogImage) (past : LogPast) (t : Log) : Type 0 w
   pub acts : List Act
   pub done : AllActs (opened_by image) first acts t
   pub order : InOrder (opened_by image) past.journal
-  pub past_is : past_of past.known t ≡ past
+  pub past_is : past_of past.known past.begun t ≡ past
   pub certain : past.known ≡ true → IsCertain t

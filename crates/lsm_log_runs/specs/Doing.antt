@@ -1,22 +1,30 @@
 -- What each step of a run does, as its call says it.
-use Rattle.std.specs.Prelude.{◌≡◌, ◌⊎◌, ℕ, List, [], ◌∷◌, Option, None, Result, Ok, Err}
+use Rattle.std.specs.Prelude.{◌≡◌, ◌⊎◌, ℕ, List, [], ◌∷◌, Option, Some, None, Result, Ok, Err}
 use Rattle.lsm_below.specs.Keys.{Bytes}
 use Rattle.lsm_below.specs.declared.error.Error.{Error}
 use Rattle.lsm_store.specs.World.{World}
 use Rattle.lsm_model.specs.declared.op.Op.{Op}
 use Rattle.lsm_commit.specs.Foreign.{AtRest}
+use Rattle.lsm_flush.specs.Jobs.{SeenWritten}
+use Rattle.lsm_compaction.specs.Merges.{SeenCompacted}
 use Rattle.lsm_run_model.specs.Moments.{last_of}
+use Rattle.lsm_runs.specs.declared.slots.Job.{Job}
+use Rattle.lsm_runs.specs.declared.slots.Job.TheVariants.{Written, Compacted as CompactedJob}
+use Rattle.lsm_runs.specs.declared.steps.JobStep.{JobStep}
+use Rattle.lsm_runs.specs.declared.steps.JobStep.TheVariants.{RegisterTables, BeginCompaction, FinishCompaction}
 use Rattle.lsm_runs.specs.declared.steps.Reply.{Reply}
-use Rattle.lsm_runs.specs.declared.steps.Reply.TheVariants.{Number, Sealed, Flushed, FlushedActive, RefusedActive, Cleared, NoStrategy, Refused}
-use Rattle.lsm_runs.specs.Compacting.{Strategies, reply_of}
+use Rattle.lsm_runs.specs.declared.steps.Reply.TheVariants.{Number, Sealed, Flushed, FlushedActive, RefusedActive, Cleared, Registered, NoStrategy, NoJob, SlotInUse, Refused}
+use Rattle.lsm_runs.specs.Compacting.{Strategies, reply_of, end_reply_of}
 use Rattle.lsm_runs.specs.Files.{StaysStored}
 use Rattle.lsm_state.specs.declared.compaction.Begun.{Begun}
-use Rattle.lsm_logged.specs.Acting.{ActsNot, FlushesAct, RotatesAct, ClearsAct, CompactsAct}
+use Rattle.lsm_state.specs.declared.compaction.Finished.{Finished}
+use Rattle.lsm_logged.specs.Acting.{ActsNot, FlushesAct, RotatesAct, ClearsAct, CompactsAct, RegistersAct, MergesAct}
 use Rattle.lsm_logged.specs.Keeping.{SeenLogged}
 use Rattle.lsm_logged.specs.Writing.{WritesAct}
 use Rattle.lsm_log_runs.specs.declared.steps.LogStep.{LogStep}
-use Rattle.lsm_log_runs.specs.declared.steps.LogStep.TheVariants.{Write, RotateMemtable, Flush, FlushActiveMemtable, Compact, MajorCompact, DropRange, Clear, SetMoment}
+use Rattle.lsm_log_runs.specs.declared.steps.LogStep.TheVariants.{Write, RotateMemtable, AtSlot, Flush, FlushActiveMemtable, Compact, MajorCompact, DropRange, Clear, SetMoment}
 use Rattle.lsm_log_runs.specs.Runs.{TakesRotate, Takes}
+use Rattle.lsm_log_runs.specs.Slots.{LogStage}
 
 -- ---- as the theory sees it
 
@@ -55,42 +63,73 @@ ActsFlushActive watermark reply w w' old new = ⊥
 abbrev pub ActsCompaction : {S : Type 0} → ℕ → Reply → World → World → SeenLogged S → SeenLogged S → Type 0
 ActsCompaction watermark reply w w' old new = (begun : Result Begun Error) × (reply ≡ reply_of begun) × CompactsAct watermark begun w w' old new
 
--- one by a strategy, where there is one of that index
+-- one by a strategy, where there is one of that index, and the slot for its job is free
 abbrev pub ActsCompact : {S : Type 0} → ℕ → Reply → World → World → SeenLogged S → SeenLogged S → Type 0
 ActsCompact watermark NoStrategy w w' old new = new ≡ old
+ActsCompact watermark SlotInUse w w' old new = new ≡ old
 ActsCompact watermark reply w w' old new = ActsCompaction watermark reply w w' old new
 
+-- ---- calls on the job in a slot, as the theory sees them
+
+abbrev pub ActsNothing : {S : Type 0} → World → World → SeenLogged S → SeenLogged S → Type 0
+ActsNothing w w' old new = (new ≡ old) ⊎ ActsNot w w' old new
+
+-- the job whose tables are written is registered, if one waits
+abbrev pub ActsRegister : {S : Type 0} → Reply → Option Job → World → World → SeenLogged S → SeenLogged S → Type 0
+ActsRegister (Registered a) was w w' old new = (job : SeenWritten) × (was ≡ Some (Written job)) × RegistersAct job (Ok a) w w' old new
+ActsRegister (Refused x) was w w' old new = (job : SeenWritten) × (was ≡ Some (Written job)) × RegistersAct job (Err x) w w' old new
+ActsRegister reply was w w' old new = new ≡ old
+
+-- the merge that was done ends, if one waits
+abbrev pub ActsMerge : {S : Type 0} → Reply → Option Job → World → World → SeenLogged S → SeenLogged S → Type 0
+ActsMerge NoJob was w w' old new = new ≡ old
+ActsMerge reply was w w' old new = (job : SeenCompacted) × (was ≡ Some (CompactedJob job)) × ((end : Result Finished Error) × (reply ≡ end_reply_of end) × MergesAct job.job end w w' old new)
+
+-- with what waits in the slot before
+abbrev pub ActsJob : {S : Type 0} → JobStep → Reply → Option Job → World → World → SeenLogged S → SeenLogged S → Type 0
+ActsJob RegisterTables reply was w w' old new = ActsRegister reply was w w' old new
+ActsJob (BeginCompaction at o) reply was w w' old new = ActsCompact o.mvcc_gc_watermark reply w w' old new
+ActsJob FinishCompaction reply was w w' old new = ActsMerge reply was w w' old new
+ActsJob step reply was w w' old new = ActsNothing w w' old new
+
+-- ---- by steps
+
 -- a read is nothing
-abbrev pub Acts : {S : Type 0} → LogStep → Reply → World → World → SeenLogged S → SeenLogged S → Type 0
-Acts (Write ops) reply w w' old new = ActsBatch ops reply w w' old new
-Acts (Flush watermark) reply w w' old new = ActsFlush watermark reply w w' old new
-Acts Clear reply w w' old new = ActsClear reply w w' old new
-Acts RotateMemtable reply w w' old new = ActsRotate reply w old new
-Acts (FlushActiveMemtable watermark) reply w w' old new = ActsFlushActive watermark reply w w' old new
-Acts (Compact at watermark) reply w w' old new = ActsCompact watermark reply w w' old new
-Acts (MajorCompact target watermark) reply w w' old new = ActsCompaction watermark reply w w' old new
-Acts (DropRange low high) reply w w' old new = ActsCompaction 0 reply w w' old new
-Acts (SetMoment n) reply w w' old new = ActsNot w w' old new
-Acts step reply w w' old new = new ≡ old
+abbrev pub ActsAlone : {S : Type 0} → LogStep → Reply → World → World → SeenLogged S → SeenLogged S → Type 0
+ActsAlone (Write ops) reply w w' old new = ActsBatch ops reply w w' old new
+ActsAlone (Flush watermark) reply w w' old new = ActsFlush watermark reply w w' old new
+ActsAlone Clear reply w w' old new = ActsClear reply w w' old new
+ActsAlone RotateMemtable reply w w' old new = ActsRotate reply w old new
+ActsAlone (FlushActiveMemtable watermark) reply w w' old new = ActsFlushActive watermark reply w w' old new
+ActsAlone (Compact at watermark) reply w w' old new = ActsCompact watermark reply w w' old new
+ActsAlone (MajorCompact target watermark) reply w w' old new = ActsCompaction watermark reply w w' old new
+ActsAlone (DropRange low high) reply w w' old new = ActsCompaction 0 reply w w' old new
+ActsAlone (SetMoment n) reply w w' old new = ActsNot w w' old new
+ActsAlone (AtSlot slot step) reply w w' old new = ⊥
+ActsAlone step reply w w' old new = new ≡ old
+
+abbrev pub Acts : {S : Type 0} → LogStep → Reply → World → World → LogStage S → LogStage S → Type 0
+Acts (AtSlot slot step) reply w w' old new = ActsJob step reply (old.jobs slot) w w' old.tree new.tree
+Acts step reply w w' old new = ActsAlone step reply w w' old.tree new.tree
 
 -- ---- all of it
 
 -- what a step answers and does; and where the store tells its content: its acts, that the tree's files stay stored, and what a crash
 -- leaves of them then
-pub record StepDoes {S : Type 0} (strategies : Strategies) (tells : Type 0) (world : S → World) (step : LogStep) (reply : Reply) (old new : SeenLogged S) : Type 0 where
+pub record StepDoes {S : Type 0} (strategies : Strategies) (tells : Type 0) (world : S → World) (step : LogStep) (reply : Reply) (old new : LogStage S) : Type 0 where
   pub takes : Takes strategies step reply old new
-  pub acts : tells → Acts step reply (world old.store) (world new.store) old new
-  pub stored : tells → StaysStored (world old.store) (world new.store) old.core new.core
-  pub rest : tells → AtRest (world new.store)
+  pub acts : tells → Acts step reply (world old.tree.store) (world new.tree.store) old new
+  pub stored : tells → StaysStored (world old.tree.store) (world new.tree.store) old.tree.core new.tree.core
+  pub rest : tells → AtRest (world new.tree.store)
 
--- each of the steps, one after the other, through these trees
-abbrev pub AllDoes : {S : Type 0} → Strategies → Type 0 → (S → World) → List LogStep → List Reply → SeenLogged S → List (SeenLogged S) → Type 0
+-- each of the steps, one after the other, through these stages
+abbrev pub AllDoes : {S : Type 0} → Strategies → Type 0 → (S → World) → List LogStep → List Reply → LogStage S → List (LogStage S) → Type 0
 AllDoes strategies tells world [] [] old [] = Unit {0}
-AllDoes strategies tells world (x ∷ steps) (r ∷ replies) old (mid ∷ trees) = StepDoes strategies tells world x r old mid × AllDoes strategies tells world steps replies mid trees
-AllDoes strategies tells world steps replies old trees = ⊥
+AllDoes strategies tells world (x ∷ steps) (r ∷ replies) old (mid ∷ stages) = StepDoes strategies tells world x r old mid × AllDoes strategies tells world steps replies mid stages
+AllDoes strategies tells world steps replies old stages = ⊥
 
--- from one tree to another
-pub record RanTo {S : Type 0} (strategies : Strategies) (tells : Type 0) (world : S → World) (steps : List LogStep) (replies : List Reply) (old new : SeenLogged S) : Type 0 where
-  pub trees : List (SeenLogged S)
-  pub does : AllDoes strategies tells world steps replies old trees
-  pub ends : last_of old trees ≡ new
+-- from one stage to another
+pub record RanTo {S : Type 0} (strategies : Strategies) (tells : Type 0) (world : S → World) (steps : List LogStep) (replies : List Reply) (old new : LogStage S) : Type 0 where
+  pub stages : List (LogStage S)
+  pub does : AllDoes strategies tells world steps replies old stages
+  pub ends : last_of old stages ≡ new

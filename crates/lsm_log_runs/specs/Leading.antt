@@ -24,7 +24,10 @@ EachLeads world image steps replies past was trees = ⊥
 pub record RunsLogged {S : Type 0} (world : S → World) (steps : List LogStep) (replies : List Reply) (old new : SeenLogged S) : Type 0 where
   -- a tree behind each step
   pub trees : List (SeenLogged S)
-  pub ends : last_of old trees ≡ new
+  -- jobs that wait in the end are given up, and that calls no store
+  pub ends : (last_of old trees).store ≡ new.store
   -- before the first step too
   pub now : (image : LogImage) (past : LogPast) → StandsLogged world image past old → LeavesNow (world old.store) (Keeps (logged image) past (acknowledged past)) × MayBeOpened (world old.store)
   pub leads : (image : LogImage) (past : LogPast) → StandsLogged world image past old → EachLeads world image steps replies past old trees
+  -- what stands behind the last step stands in the end
+  pub goes_on : (image : LogImage) (past : LogPast) → StandsLogged world image past (last_of old trees) → StandsLogged world image past new

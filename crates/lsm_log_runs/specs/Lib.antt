@@ -5,6 +5,8 @@ pub mod Trying
 pub mod Moments
 pub mod CameAbout
 pub mod Standing
+pub mod Slots
+pub mod JobSteps
 pub mod Runs
 pub mod Leading
 pub mod Doing

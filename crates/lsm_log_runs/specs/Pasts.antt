@@ -1,5 +1,5 @@
 -- What was called so far.
-use Rattle.std.specs.Prelude.{ℕ, ◌+◌, max, Bool, true, false, List, [], ◌∷◌, ◌++◌, length, Option, Some, None, map}
+use Rattle.std.specs.Prelude.{ℕ, ◌+◌, max, Bool, true, false, List, [], ◌∷◌, ◌++◌, length, Option, Some, None, map, if◌then◌else◌, ◌==◌}
 use Rattle.lsm_model.specs.Journal.{Event}
 use Rattle.lsm_model.specs.Beginnings.{Note, SealedAt, FlushedIds, ClearedTo, ClearLost, covered}
 use Rattle.lsm_model.specs.declared.journal.JournalEntry.TheVariants.{Write, Clear, Install, Mark}
@@ -8,25 +8,26 @@ use Rattle.lsm_log_model.specs.Logs.{LostBatch, Logged as Log}
 use Rattle.lsm_run_model.specs.Outcomes.{sealed_in}
 
 -- the journal of the calls so far, without reads; the notes beside it, newest first; the place behind the last acknowledged batch; a
--- batch of unknown outcome; and whether each outcome is known
+-- batch of unknown outcome; whether each outcome is known; and of each slot the memtables of the flush that was begun there last
 pub record LogPast : Type 0 where
   pub journal : List Event
   pub notes : List Note
   pub reached : ℕ
   pub lost : Option LostBatch
   pub known : Bool
+  pub begun : ℕ → List ℕ
 
 -- before the first call
 abbrev pub nothing : LogPast
-nothing = record { journal = []; notes = []; reached = 0; lost = None; known = true }
+nothing = record { journal = []; notes = []; reached = 0; lost = None; known = true; begun = λ n. [] }
 
 -- the place behind all that was acknowledged, flushed or cleared
 abbrev pub acknowledged : LogPast → ℕ
 acknowledged past = max (covered past.notes) past.reached
 
--- what was called of a logged tree of the theory, and whether each outcome is known
-abbrev pub past_of : Bool → Log → LogPast
-past_of known t = record { journal = t.tree.state.journal; notes = t.tree.notes; reached = t.reached; lost = t.lost; known = known }
+-- what was called of a logged tree of the theory, whether each outcome is known, and which flushes were begun
+abbrev pub past_of : Bool → (ℕ → List ℕ) → Log → LogPast
+past_of known begun t = record { journal = t.tree.state.journal; notes = t.tree.notes; reached = t.reached; lost = t.lost; known = known; begun = begun }
 
 -- ---- what may come next
 
@@ -37,9 +38,20 @@ with_batch b past = let journal = past.journal ++ map Write (entries_of b) in re
 abbrev pub with_lost : Batch → LogPast → LogPast
 with_lost b past = record past { lost = Some (record { batch = b; place = length past.journal }); known = false }
 
--- an installed flush of all that is sealed, at a watermark, under a sequence number
+-- an installed flush of these memtables, at a watermark, under a sequence number; of all that are sealed; and of those of the flush that
+-- was begun in a slot
+abbrev pub with_flushed : List ℕ → ℕ → ℕ → LogPast → LogPast
+with_flushed ids w n past = record past { journal = past.journal ++ Mark w ∷ (Install n ∷ []); notes = FlushedIds ids ∷ past.notes }
+
 abbrev pub with_flush : ℕ → ℕ → LogPast → LogPast
-with_flush w n past = record past { journal = past.journal ++ Mark w ∷ (Install n ∷ []); notes = FlushedIds (sealed_in past.notes) ∷ past.notes }
+with_flush w n past = with_flushed (sealed_in past.notes) w n past
+
+abbrev pub with_registry : ℕ → ℕ → ℕ → LogPast → LogPast
+with_registry slot w n past = with_flushed (past.begun slot) w n past
+
+-- a flush of all that is sealed is begun in a slot
+abbrev pub with_begun : ℕ → LogPast → LogPast
+with_begun slot past = record past { begun = λ n. if n == slot then sealed_in past.notes else past.begun n }
 
 -- a commit behind its mark, with these events; and one of unknown outcome
 abbrev pub with_commit : ℕ → List Event → LogPast → LogPast
@@ -47,6 +59,13 @@ with_commit w events past = record past { journal = past.journal ++ Mark w ∷ e
 
 abbrev pub with_doubt : ℕ → List Event → LogPast → LogPast
 with_doubt w events past = record past { journal = past.journal ++ Mark w ∷ events; known = false }
+
+-- the end of a merge that was marked before, under a sequence number; and one of unknown outcome
+abbrev pub with_install : ℕ → LogPast → LogPast
+with_install n past = record past { journal = past.journal ++ Install n ∷ [] }
+
+abbrev pub with_unknown : LogPast → LogPast
+with_unknown past = record past { known = false }
 
 -- a memtable that is sealed here
 abbrev pub with_sealed : ℕ → LogPast → LogPast

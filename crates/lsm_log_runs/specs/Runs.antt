@@ -19,7 +19,9 @@ use Rattle.lsm_logged.specs.Flushing.{FlushesLogged, ClearsLogged}
 use Rattle.lsm_logged.specs.Keeping.{SeenLogged}
 use Rattle.lsm_logged.specs.Writing.{WritesLogged}
 use Rattle.lsm_log_runs.specs.declared.steps.LogStep.{LogStep}
-use Rattle.lsm_log_runs.specs.declared.steps.LogStep.TheVariants.{Write, Get, Range, Prefix, RotateMemtable, Flush, FlushActiveMemtable, Compact, MajorCompact, DropRange, Clear, SetMoment}
+use Rattle.lsm_log_runs.specs.declared.steps.LogStep.TheVariants.{Write, Get, Range, Prefix, RotateMemtable, AtSlot, Flush, FlushActiveMemtable, Compact, MajorCompact, DropRange, Clear, SetMoment}
+use Rattle.lsm_log_runs.specs.JobSteps.{TakesInSlot}
+use Rattle.lsm_log_runs.specs.Slots.{LogStage, at_first, ClosesLogged}
 
 -- ---- what a step of each kind may answer and do
 
@@ -72,29 +74,35 @@ told_with reply events = record { reply = reply; entries = events }
 abbrev pub Reads : {S : Type 0} → (List Event → Type 0) → SeenLogged S → SeenLogged S → Type 0
 Reads Does old new = (new ≡ old) × ((events : List Event) × Does events)
 
--- each is the call that it is named after
-abbrev pub Takes : {S : Type 0} → Strategies → LogStep → Reply → SeenLogged S → SeenLogged S → Type 0
-Takes strategies (Write ops) reply old new = TakesBatch ops reply old new
-Takes strategies (Get k s) reply old new = Reads (λ events. TakesGet k s reply events old.core old.core) old new
-Takes strategies (Flush w) reply old new = TakesFlush w reply old new
-Takes strategies Clear reply old new = TakesClear reply old new
-Takes strategies (Range low high s) reply old new = Reads (λ events. TakesRange low high s reply events old.core old.core) old new
-Takes strategies (Prefix p s) reply old new = Reads (λ events. TakesPrefix p s reply events old.core old.core) old new
-Takes strategies RotateMemtable reply old new = TakesRotate reply old new
-Takes strategies (FlushActiveMemtable w) reply old new = TakesFlushActive w reply old new
-Takes strategies (Compact at w) reply old new = TakesCompact strategies at w reply old new
-Takes strategies (MajorCompact target w) reply old new = TakesCompaction (λ begun. Compacts (major_choice target) only_memory (options_at w old.core) begun old.core new.core) reply old new
-Takes strategies (DropRange low high) reply old new = TakesCompaction (λ begun. DropsRange (record { start = low; end = high }) begun old.core new.core) reply old new
-Takes strategies (SetMoment n) reply old new = TakesMoment n reply old new
+-- each is the call that it is named after; one that needs no slot
+abbrev pub TakesAlone : {S : Type 0} → Strategies → LogStep → Reply → SeenLogged S → SeenLogged S → Type 0
+TakesAlone strategies (Write ops) reply old new = TakesBatch ops reply old new
+TakesAlone strategies (Get k s) reply old new = Reads (λ events. TakesGet k s reply events old.core old.core) old new
+TakesAlone strategies (Flush w) reply old new = TakesFlush w reply old new
+TakesAlone strategies Clear reply old new = TakesClear reply old new
+TakesAlone strategies (Range low high s) reply old new = Reads (λ events. TakesRange low high s reply events old.core old.core) old new
+TakesAlone strategies (Prefix p s) reply old new = Reads (λ events. TakesPrefix p s reply events old.core old.core) old new
+TakesAlone strategies RotateMemtable reply old new = TakesRotate reply old new
+TakesAlone strategies (FlushActiveMemtable w) reply old new = TakesFlushActive w reply old new
+TakesAlone strategies (Compact at w) reply old new = TakesCompact strategies at w reply old new
+TakesAlone strategies (MajorCompact target w) reply old new = TakesCompaction (λ begun. Compacts (major_choice target) only_memory (options_at w old.core) begun old.core new.core) reply old new
+TakesAlone strategies (DropRange low high) reply old new = TakesCompaction (λ begun. DropsRange (record { start = low; end = high }) begun old.core new.core) reply old new
+TakesAlone strategies (SetMoment n) reply old new = TakesMoment n reply old new
+TakesAlone strategies (AtSlot slot step) reply old new = ⊥
 
--- the steps, one after the other, lead through these trees
-abbrev pub RanThrough : {S : Type 0} → Strategies → List LogStep → List Reply → SeenLogged S → List (SeenLogged S) → Type 0
+-- and that leaves all of them, or a call on the job in a slot
+abbrev pub Takes : {S : Type 0} → Strategies → LogStep → Reply → LogStage S → LogStage S → Type 0
+Takes strategies (AtSlot slot step) reply old new = TakesInSlot strategies slot step reply old new
+Takes strategies step reply old new = TakesAlone strategies step reply old.tree new.tree × (new.jobs ≡ old.jobs)
+
+-- the steps, one after the other, lead through these stages
+abbrev pub RanThrough : {S : Type 0} → Strategies → List LogStep → List Reply → LogStage S → List (LogStage S) → Type 0
 RanThrough strategies [] [] old [] = Unit {0}
-RanThrough strategies (x ∷ steps) (r ∷ replies) old (mid ∷ trees) = Takes strategies x r old mid × RanThrough strategies steps replies mid trees
-RanThrough strategies steps replies old trees = ⊥
+RanThrough strategies (x ∷ steps) (r ∷ replies) old (mid ∷ stages) = Takes strategies x r old mid × RanThrough strategies steps replies mid stages
+RanThrough strategies steps replies old stages = ⊥
 
--- They lead from one tree to another.
+-- They lead so from a tree beside free slots, and what is open behind them is given up.
 pub record RanLogged {S : Type 0} (strategies : Strategies) (steps : List LogStep) (replies : List Reply) (old new : SeenLogged S) : Type 0 where
-  pub trees : List (SeenLogged S)
-  pub ran : RanThrough strategies steps replies old trees
-  pub ends : last_of old trees ≡ new
+  pub stages : List (LogStage S)
+  pub ran : RanThrough strategies steps replies (at_first old) stages
+  pub closes : ClosesLogged (last_of (at_first old) stages).tree new

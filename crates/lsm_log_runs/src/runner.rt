@@ -3,14 +3,17 @@ ghost use Rattle.std.specs.Prelude.{◌≡◌, ◌≤◌, ◌++◌, ◌∷◌, [
 ghost use Rattle.lsm_runs.specs.declared.steps.Reply.{Reply as Replied};
 ghost use Rattle.lsm_runs.specs.Compacting.{strategies_of};
 ghost use Rattle.lsm_runs.specs.Files.{StaysStored};
+ghost use Rattle.lsm_runs.specs.Slots.{SameJobs};
 ghost use Rattle.lsm_log_runs.specs.Doing.{Acts, ActsBatch, StepDoes, RanTo};
 ghost use Rattle.lsm_log_runs.specs.Runs.{Takes, TakesBatch, RanLogged};
 ghost use Rattle.lsm_log_runs.specs.Leading.{RunsLogged};
+ghost use Rattle.lsm_log_runs.specs.Slots.{beside};
 
 use crate::copying::share_ops;
 use crate::{LogStep, TakenLogged};
 use lsm_below::UserKey;
 use lsm_commit::{crashes_leave_versions, stored_files_are_ready};
+use lsm_journal::noted_compactions_keep_reads;
 use lsm_log_model::{
     acts_join, counter_stays_above, every_crash_keeps_batches, log_stays_sound,
     logged_reads_are_right, whole_is_logged,
@@ -18,7 +21,7 @@ use lsm_log_model::{
 use lsm_logged::{Logged, logs_can_be_settled, records_are_those_read, versions_are_told_once};
 use lsm_model::{Op, reads_are_sound};
 use lsm_pick::CompactionStrategy;
-use lsm_runs::Reply;
+use lsm_runs::{Reply, Slots};
 use lsm_store::Store;
 use std::alloc::{AllocError, Global};
 
@@ -47,12 +50,14 @@ fn write<S: Store>(
 fn take_step<S: Store>(
     alloc: Global,
     tree: &mut Logged<S>,
+    slots: &mut Slots,
     strategies: &[Box<dyn CompactionStrategy>],
     step: &LogStep,
 ) -> Result<Reply, AllocError>
-    ensures ok { IfOk result (λ reply. Takes (strategies_of (λ b. may_choose b) (λ b. may_refuse b) strategies.now) step.now reply tree.old tree.new) }
+    ensures ok { IfOk result (λ reply. Takes (strategies_of (λ b. may_choose b) (λ b. may_refuse b) strategies.now) step.now reply (beside tree.old slots.old) (beside tree.new slots.new)) }
     ensures err { OnErr result (tree.new ≡ tree.old) }
-    ensures acts { S.tells → IfOk result (λ reply. Acts step.now reply (S.world tree.old.store) (S.world tree.new.store) tree.old tree.new) }
+    ensures slots_err { OnErr result (SameJobs slots.old slots.new) }
+    ensures acts { S.tells → IfOk result (λ reply. Acts step.now reply (S.world tree.old.store) (S.world tree.new.store) (beside tree.old slots.old) (beside tree.new slots.new)) }
     ensures stored { S.tells → StaysStored (S.world tree.old.store) (S.world tree.new.store) tree.old.core tree.new.core }
 {
     match step {
@@ -65,6 +70,7 @@ fn take_step<S: Store>(
             Ok(reads::prefix(alloc, tree.tree(), prefix, *snapshot))
         }
         LogStep::RotateMemtable => Ok(commits::rotate(tree)),
+        LogStep::AtSlot(slot, call) => jobs::at_slot(tree, slots, strategies, *slot, *call),
         LogStep::Flush(watermark) => Ok(commits::flush(tree, *watermark)),
         LogStep::FlushActiveMemtable(watermark) => Ok(commits::flush_active(tree, *watermark)),
         LogStep::Compact(at, watermark) => {
@@ -83,16 +89,18 @@ fn take_step<S: Store>(
 fn add_step<S: Store>(
     alloc: Global,
     tree: &mut Logged<S>,
+    slots: &mut Slots,
     strategies: &[Box<dyn CompactionStrategy>],
     step: &LogStep,
     replies: &mut Vec<Reply>,
 ) -> Result<(), AllocError>
-    ensures ok { OnOk result ((reply : Replied) × (replies.new.items ≡ replies.old.items ++ reply ∷ []) × StepDoes (strategies_of (λ b. may_choose b) (λ b. may_refuse b) strategies.now) S.tells S.world step.now reply tree.old tree.new) }
+    ensures ok { OnOk result ((reply : Replied) × (replies.new.items ≡ replies.old.items ++ reply ∷ []) × StepDoes (strategies_of (λ b. may_choose b) (λ b. may_refuse b) strategies.now) S.tells S.world step.now reply (beside tree.old slots.old) (beside tree.new slots.new)) }
     ensures err { OnErr result (tree.new ≡ tree.old) }
+    ensures slots_err { OnErr result (SameJobs slots.old slots.new) }
     ensures replies_err { OnErr result (replies.new.items ≡ replies.old.items) }
 {
     replies.try_reserve(1)?;
-    let reply = take_step(alloc, tree, strategies, step)?;
+    let reply = take_step(alloc, tree, slots, strategies, step)?;
     crashes_leave_versions(tree.store());
     replies.push(reply)?;
     Ok(())
@@ -101,16 +109,17 @@ fn add_step<S: Store>(
 fn take_steps<S: Store>(
     alloc: Global,
     tree: &mut Logged<S>,
+    slots: &mut Slots,
     strategies: &[Box<dyn CompactionStrategy>],
     steps: &[LogStep],
 ) -> TakenLogged
     ensures bound { length result.replies.items ≤ length steps.now }
     ensures whole { OnOk result.ended (length result.replies.items ≡ length steps.now) }
-    ensures ran { RanTo (strategies_of (λ b. may_choose b) (λ b. may_refuse b) strategies.now) S.tells S.world (take (length result.replies.items) steps.now) result.replies.items tree.old tree.new }
+    ensures ran { RanTo (strategies_of (λ b. may_choose b) (λ b. may_refuse b) strategies.now) S.tells S.world (take (length result.replies.items) steps.now) result.replies.items (beside tree.old slots.old) (beside tree.new slots.new) }
 {
     let mut replies = Vec::new(alloc);
     for step in steps {
-        match add_step(alloc, tree, strategies, step, &mut replies) {
+        match add_step(alloc, tree, slots, strategies, step, &mut replies) {
             Ok(()) => (),
             Err(error) => {
                 return TakenLogged {
@@ -127,7 +136,7 @@ fn take_steps<S: Store>(
 }
 
 /// Takes the steps in turn on a logged tree, and returns each one's reply. A step names a strategy by its index; where there is none
-/// it changes nothing.
+/// it changes nothing. A job waits in its slot from one step to the next, and one that waits when the run ends is given up.
 ///
 /// A step that is refused has that as its reply, and the run goes on with the next one. The run ends early only before a step
 /// for whose reply, or for whose batch, no memory is left, and says so (`whole`): the tree is as it was before that step, and
@@ -166,13 +175,20 @@ pub fn run_logged<S: Store>(
     every_crash_keeps_batches();
     whole_is_logged();
     logged_reads_are_right();
+    noted_compactions_keep_reads();
     records_are_those_read();
     versions_are_told_once();
     crashes_leave_versions(tree.store());
     stored_files_are_ready(tree.store());
     logs_can_be_settled(tree.store());
-    take_steps(alloc, tree, strategies, steps)
+    let mut slots = Slots::new(alloc);
+    let taken = take_steps(alloc, tree, &mut slots, strategies, steps);
+    jobs::give_up_all(tree, slots);
+    taken
 }
 
 mod commits;
+mod flush_jobs;
+mod jobs;
+mod merge_jobs;
 mod reads;

@@ -1,7 +1,7 @@
 // Calls on a logged tree as data.
 use lsm_below::{SeqNo, UserKey};
 use lsm_model::Ops;
-use lsm_runs::Reply;
+use lsm_runs::{JobStep, Reply, Slot};
 use std::alloc::AllocError;
 use std::ops::Bound;
 
@@ -19,6 +19,8 @@ pub enum LogStep {
     Prefix(UserKey, SeqNo),
     /// Seals the active memtable.
     RotateMemtable,
+    /// A call on the job that waits in a slot.
+    AtSlot(Slot, JobStep),
     /// Flushes all sealed memtables in one call, at a watermark.
     Flush(SeqNo),
     /// Seals the active memtable, and flushes all sealed ones, at a watermark: `rotate_memtable` and `flush` in turn.

@@ -8,11 +8,12 @@ ghost use Rattle.lsm_logged.specs.Asking.{Asks};
 ghost use Rattle.lsm_log_runs.specs.Doing.{ActsRotate, ActsFlush, ActsFlushActive, ActsCompaction, ActsCompact, ActsClear};
 ghost use Rattle.lsm_log_runs.specs.Runs.{TakesRotate, TakesFlush, TakesFlushActive, TakesCompaction, TakesCompact, TakesClear, TakesMoment};
 
+use super::merge_jobs;
 use lsm_below::{Error, SeqNo, UserKey};
 use lsm_journal::copy_bound;
 use lsm_logged::Logged;
 use lsm_pick::{CompactionStrategy, OwnedBounds};
-use lsm_runs::{Compacted, Reply};
+use lsm_runs::Reply;
 use lsm_state::Begun;
 use lsm_store::Store;
 use std::alloc::AllocError;
@@ -81,13 +82,8 @@ pub(super) fn set_moment<S: Store>(tree: &mut Logged<S>, moment: u64) -> Reply
 fn of_begun(begun: Result<Begun, Error>) -> Reply
     ensures { result ≡ reply_of begun }
 {
-    match begun {
-        Ok(Begun::DidNothing) => Reply::Compacted(Compacted::DidNothing),
-        Ok(Begun::Declined(why)) => Reply::Compacted(Compacted::Declined(why)),
-        Ok(Begun::Installed) => Reply::Compacted(Compacted::Installed),
-        Ok(Begun::Job(_)) => Reply::Compacted(Compacted::Waits),
-        Err(error) => Reply::Refused(error),
-    }
+    let (reply, _) = merge_jobs::of_begun(begun);
+    reply
 }
 
 /// Compacts as a strategy in a box chooses.

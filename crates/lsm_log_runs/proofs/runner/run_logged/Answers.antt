@@ -2,11 +2,12 @@ use Rattle.std.proofs.Common.{subst}
 use Rattle.lsm_commit.specs.Foreign.{AtRest}
 use Rattle.lsm_log_runs.proofs.Going.{Theory}
 use Rattle.lsm_log_runs.proofs.Leading.{Reading, Stores}
-use Rattle.lsm_log_runs.proofs.Runs.{ran_logged, runs}
+use Rattle.lsm_log_runs.proofs.Runs.{from_free, ran_logged, runs}
 use Rattle.lsm_log_runs.proofs.runner.run_logged.Goals as goal
 
 pub returns-clause-ran : goal.returns-clause-ran
-returns-clause-ran g c = ran_logged _ g.S.Store.tells g.S.Store.world _ _ c.args.tree.now _ c.take_steps.ensures.ran
+returns-clause-ran g c =
+    ran_logged _ g.S.Store.tells g.S.Store.world _ _ c.args.tree.now _ _ (from_free _ g.S.Store.tells g.S.Store.world _ _ c.args.tree.now c.new-slots.result _ c.new-slots.ensures.empty c.take_steps-taken.ensures.ran) c.give_up_all.ensures
 
 pub returns-clause-runs : goal.returns-clause-runs
 returns-clause-runs g c told =
@@ -15,4 +16,4 @@ returns-clause-runs g c told =
     let theory : Theory = record { sound = c.reads_are_sound.ensures; joins = c.acts_join.ensures; counter = c.counter_stays_above.ensures; stays = c.log_stays_sound.ensures; crashes = c.every_crash_keeps_batches.ensures; whole = c.whole_is_logged.ensures; reads = c.logged_reads_are_right.ensures } in
     let reading : Reading = record { theory = theory; once = c.versions_are_told_once.ensures.version; those = c.records_are_those_read.ensures.found } in
     let between : Stores world = record { ready = c.stored_files_are_ready.ensures; kept = c.logs_can_be_settled.ensures.kept; gives_one = g.met.S.Store.gives_one told; counts_now = g.met.S.Store.counts_now told } in
-    runs _ g.S.Store.tells world reading between told _ _ c.args.tree.now _ rest c.take_steps.ensures.ran
+    runs _ g.S.Store.tells world _ _ c.args.tree.now _ _ (from_free _ g.S.Store.tells world _ _ c.args.tree.now c.new-slots.result _ c.new-slots.ensures.empty c.take_steps-taken.ensures.ran) c.give_up_all.ensures reading c.noted_compactions_keep_reads.ensures between told rest

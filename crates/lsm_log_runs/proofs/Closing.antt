@@ -1,0 +1,125 @@
+-- Jobs that are given up are no part of what the theory sees, and leave the tree's files as they are stored.
+use Rattle.std.proofs.Common.{◌≡◌, ◌⊎◌, inl, inr, ℕ, ◌==◌, Bool, true, false, cond, List, [], ◌∷◌, ◌++◌, Option, Some, None, Result, Ok, Err, refl, sym, ap, ◌∙◌, subst}
+use Rattle.lsm_below.specs.declared.error.Error.{Error}
+use Rattle.lsm_store.specs.World.{World}
+use Rattle.lsm_model.specs.Journal.{Event}
+use Rattle.lsm_model.specs.Beginnings.{Note}
+use Rattle.lsm_commit.specs.Stored.{IsStored}
+use Rattle.lsm_flush.specs.Jobs.{SeenJob, SeenOpen}
+use Rattle.lsm_compaction.specs.Merges.{SeenCompaction}
+use Rattle.lsm_compaction.specs.OpenMerges.{SeenMerges, ended}
+use Rattle.lsm_log_model.specs.Logs.{Logged as Log, MayBeDrawn}
+use Rattle.lsm_log_model.specs.Records.{LogImage, opened_by}
+use Rattle.lsm_runs.specs.declared.slots.Job.{Job}
+use Rattle.lsm_runs.specs.Files.{StaysStored}
+use Rattle.lsm_runs.specs.declared.slots.Job.TheVariants.{Begun, Merged, Written, Compaction, Compacted}
+use Rattle.lsm_runs.specs.Slots.{GivesUp, all_ended, Closes}
+use Rattle.lsm_runs.proofs.Files.{closed_stored}
+use Rattle.lsm_state.specs.Core.{Core, versions_left, written_of}
+use Rattle.lsm_state.specs.Compactions.{Spends}
+use Rattle.lsm_state.specs.Flushes.{sealed_ids, spent, spent_in}
+use Rattle.lsm_logged.specs.Flushing.{BeginsLogged}
+use Rattle.lsm_logged.specs.Keeping.{SeenLogged, IsLogOf, KeepsLog}
+use Rattle.lsm_log_runs.specs.Pasts.{LogPast}
+use Rattle.lsm_log_runs.specs.Slots.{StaysBeside, ClosesLogged}
+use Rattle.lsm_log_runs.specs.Standing.{StandsLogged}
+use Rattle.lsm_log_runs.proofs.Waiting.{begins_of}
+
+-- ---- a tree without its log
+
+none_closes : (old new : Core) → new ≡ old → Closes old new
+none_closes old new e = subst (Closes old) (sym e) (record { rest = refl; flush = inl refl; numbers = []; merges = refl })
+
+spent_closes : (n : ℕ) (old new : Core) → new ≡ spent n old → Closes old new
+spent_closes n old new e = subst (Closes old) (sym e) (record { rest = refl; flush = go old.flush; numbers = []; merges = refl })
+  where
+    closed : (f : SeenOpen) (b : Bool) → (cond b None (Some f) ≡ Some f) ⊎ (cond b None (Some f) ≡ None)
+    closed f true = inr refl
+    closed f false = inl refl
+
+    go : (o : Option SeenOpen) → (spent_in n o ≡ o) ⊎ (spent_in n o ≡ None)
+    go None = inl refl
+    go (Some f) = closed f (f.number == n)
+
+spends_closes : (job : SeenCompaction) (old new : Core) → Spends job old new → Closes old new
+spends_closes job old new (inl s) = subst (Closes old) (sym s.1) (record { rest = refl; flush = inl refl; numbers = job.number ∷ []; merges = refl })
+spends_closes job old new (inr s) = none_closes old new s.1
+
+place_closes : (place : Option Job) (old new : Core) → GivesUp place old new → Closes old new
+place_closes None old new g = none_closes old new g
+place_closes (Some (Begun job)) old new g = spent_closes job.number old new g
+place_closes (Some (Merged job)) old new g = spent_closes job.job.number old new g
+place_closes (Some (Written job)) old new g = spent_closes job.job.number old new g
+place_closes (Some (Compaction job)) old new g = spends_closes job old new g
+place_closes (Some (Compacted job)) old new g = spends_closes job.job old new g
+
+ended_append : (xs ys : List ℕ) (ms : SeenMerges) → all_ended (xs ++ ys) ms ≡ all_ended ys (all_ended xs ms)
+ended_append [] ys ms = refl
+ended_append (x ∷ xs) ys ms = ended_append xs ys (ended x ms)
+
+-- some are given up, and then others
+both_close : (old mid new : Core) → Closes old mid → Closes mid new → Closes old new
+both_close old mid new a b = record {
+  rest = b.rest ∙ ap (λ (c : Core). record c { flush = new.flush; merges = new.merges }) a.rest;
+  flush = go b.flush a.flush;
+  numbers = a.numbers ++ b.numbers;
+  merges = b.merges ∙ ap (all_ended b.numbers) a.merges ∙ sym (ended_append a.numbers b.numbers old.merges);
+}
+  where
+    go : (new.flush ≡ mid.flush) ⊎ (new.flush ≡ None) → (mid.flush ≡ old.flush) ⊎ (mid.flush ≡ None) → (new.flush ≡ old.flush) ⊎ (new.flush ≡ None)
+    go (inl e) (inl f) = inl (e ∙ f)
+    go (inl e) (inr f) = inr (e ∙ f)
+    go (inr e) f = inr e
+
+-- ---- one job and all
+
+pub closes_none : {S : Type 0} (t : SeenLogged S) → ClosesLogged t t
+closes_none t = record { core = none_closes t.core t.core refl; rest = record { store = refl; numbers = refl; doubt = refl } }
+
+pub given_closes : {S : Type 0} (place : Option Job) (old new : SeenLogged S) → GivesUp place old.core new.core → StaysBeside old new → ClosesLogged old new
+given_closes place old new gives rest = record { core = place_closes place old.core new.core gives; rest = rest }
+
+-- some are given up, and then others
+pub closes_both : {S : Type 0} (old mid new : SeenLogged S) → ClosesLogged old mid → ClosesLogged mid new → ClosesLogged old new
+closes_both old mid new a b = record {
+  core = both_close old.core mid.core new.core a.core b.core;
+  rest = record { store = b.rest.store ∙ a.rest.store; numbers = b.rest.numbers ∙ a.rest.numbers; doubt = b.rest.doubt ∙ a.rest.doubt };
+}
+
+-- ---- what stands
+
+closed_is : (journal : List Event) (notes : List Note) (old new : Core) (log : Log) → Closes old new → (doubted : Bool) → IsLogOf journal notes old doubted log → IsLogOf journal notes new doubted log
+closed_is journal notes old new log c doubted is = subst (λ (x : Core). IsLogOf journal notes x doubted log) (sym c.rest) (record { tree = is.tree; from = is.from; other = is.other; doubt = is.doubt })
+
+pub closed_stands : {S : Type 0} (world : S → World) (image : LogImage) (past : LogPast) (old new : SeenLogged S) → ClosesLogged old new → StandsLogged world image past old → StandsLogged world image past new
+closed_stands {S} world image past old new c s = record {
+  log = s.log;
+  came = s.came;
+  is = subst (λ b. IsLogOf past.journal past.notes new.core b s.log) (sym c.rest.doubt) (closed_is past.journal past.notes old.core new.core s.log c.core old.doubted s.is);
+  keeps = subst (λ (x : S). KeepsLog (world x) s.log) (sym c.rest.store) s.keeps;
+  next = subst (λ (x : Core). MayBeDrawn (opened_by image) s.log x.seqno) (sym c.core.rest) s.next;
+  stored = closed_stored world old.store new.store old.core new.core c.core c.rest.store s.stored;
+}
+
+-- ---- what stays stored
+
+pub spent_stored : {S : Type 0} (world : S → World) (old new : SeenLogged S) (n : ℕ) → new.core ≡ spent n old.core → new.store ≡ old.store → StaysStored (world old.store) (world new.store) old.core new.core
+spent_stored world old new n is same = closed_stored world old.store new.store old.core new.core (spent_closes n old.core new.core is) same
+
+-- where the tree stays
+same_stored : {S : Type 0} (world : S → World) (old new : SeenLogged S) → new.core ≡ old.core → new.store ≡ old.store → StaysStored (world old.store) (world new.store) old.core new.core
+same_stored {S} world old new core store h = subst (λ (x : S). IsStored (world x) (versions_left new.core) (written_of new.core)) (sym store) (subst (λ (x : Core). IsStored (world old.store) (versions_left x) (written_of x)) (sym core) h)
+
+-- where a flush is begun: no tables are written for it yet
+pub begun_stored : {S : Type 0} (world : S → World) (old new : SeenLogged S) (r : Result (Option SeenJob) Error) → BeginsLogged r old new → StaysStored (world old.store) (world new.store) old.core new.core
+begun_stored {S} world old new (Ok None) b = same_stored world old new ((begins_of None old new b).some refl).1 b.store
+begun_stored {S} world old new (Ok (Some job)) b = λ h.
+    let less : IsStored (world old.store) (versions_left old.core) [] = record { current = h.current; whole = h.whole; written = tt; no_version = h.no_version; in_tables = h.in_tables } in
+    let begins = begins_of (Some job) old new b in
+    subst (λ (x : S). IsStored (world x) (versions_left new.core) (written_of new.core)) (sym b.store) (subst (λ (x : Core). IsStored (world old.store) (versions_left x) (written_of x)) (sym begins.begins.1) less)
+begun_stored {S} world old new (Err x) b = same_stored world old new (by_doubt old.doubted refl (sealed_ids old.core) refl) b.store
+  where
+    by_doubt : (d : Bool) → old.doubted ≡ d → (ids : List ℕ) → sealed_ids old.core ≡ ids → new.core ≡ old.core
+    by_doubt false is ids at = (b.begins (inl is)).err
+    by_doubt true is [] at = (b.begins (inr at)).err
+    by_doubt true is (i ∷ ids) at = ap (λ (t : SeenLogged S). t.core) (b.doubted is (λ e. let y : ◌≡◌ {A = List ℕ} (i ∷ ids) [] = sym at ∙ e in cc y)).1

@@ -1,0 +1,140 @@
+-- What a call on the job in a slot leads to.
+use Rattle.std.proofs.Common.{◌≡◌, inl, inr, ℕ, Bool, true, false, List, [], ◌∷◌, ◌++◌, Option, Result, Ok, Err, refl, sym, ap, ◌∙◌, subst}
+use Rattle.lsm_below.specs.Entries.{Entry}
+use Rattle.lsm_below.specs.declared.error.Error.{Error}
+use Rattle.lsm_below.specs.declared.error.Error.TheVariants.{CommitUnknown, AfterCommit}
+use Rattle.lsm_store.specs.World.{World}
+use Rattle.lsm_model.specs.Steps.{Maintained}
+use Rattle.lsm_model.specs.Views.{Placed}
+use Rattle.lsm_model.specs.declared.journal.JournalEntry.TheVariants.{Install}
+use Rattle.lsm_commit.specs.Foreign.{AtRest}
+use Rattle.lsm_flush.specs.Jobs.{SeenWritten}
+use Rattle.lsm_flush.specs.declared.jobs.Registered.{Registered as Registry}
+use Rattle.lsm_compaction.specs.Merges.{SeenCompaction}
+use Rattle.lsm_log_model.specs.Logs.{IsCertain, Act, Did, CommitLost}
+use Rattle.lsm_log_model.specs.Records.{LogImage, logged, opened_by}
+use Rattle.lsm_runs.specs.declared.slots.Job.{Job}
+use Rattle.lsm_runs.specs.declared.steps.JobStep.{JobStep}
+use Rattle.lsm_runs.specs.declared.steps.JobStep.TheVariants.{BeginFlush, RunFlush, FlushToTables, RegisterTables, AbandonFlush, BeginCompaction, RunCompaction, FinishCompaction, AbandonCompaction}
+use Rattle.lsm_runs.specs.declared.steps.Reply.{Reply}
+use Rattle.lsm_runs.specs.declared.steps.Reply.TheVariants.{Begun, Registered, NoJob, Refused}
+use Rattle.lsm_runs.specs.Compacting.{end_reply_of}
+use Rattle.lsm_runs.specs.Files.{StaysStored}
+use Rattle.lsm_runs.specs.Slots.{flush_in, merge_in}
+use Rattle.lsm_state.specs.CompactionDeeds.{IsMarkedIn}
+use Rattle.lsm_state.specs.Flushes.{flush_of}
+use Rattle.lsm_state.specs.declared.compaction.Finished.{Finished}
+use Rattle.lsm_state.specs.declared.compaction.Finished.TheVariants.{Installed as IsFinished, Declined as Over}
+use Rattle.lsm_state.proofs.Upholding.{upheld_still}
+use Rattle.lsm_logged.specs.Acting.{LeadsBy, ActsByRegister, ActsByMerge, merging}
+use Rattle.lsm_logged.specs.Keeping.{SeenLogged}
+use Rattle.lsm_logged.proofs.NoActs.{same_not}
+use Rattle.lsm_log_runs.specs.Adds.{AddsBegun, AddsRegistry, AddsRegister, AddsMerge, AddsJob}
+use Rattle.lsm_log_runs.specs.Doing.{ActsNothing, ActsRegister, ActsMerge, ActsJob}
+use Rattle.lsm_log_runs.specs.Pasts.{LogPast, with_flushed, with_begun, with_install, with_unknown}
+use Rattle.lsm_log_runs.specs.Standing.{StandsLogged}
+use Rattle.lsm_log_runs.proofs.CommitLeads.{compact_leads}
+use Rattle.lsm_log_runs.proofs.Leading.{Reading, Stores, same_led}
+use Rattle.lsm_log_runs.proofs.Orders.{order_merged}
+use Rattle.lsm_log_runs.proofs.StepLeads.{LeadsOn, answered, fresh, holds, none_done, quietly, flushed, unknown}
+use Rattle.lsm_log_runs.proofs.Waiting.{WaitsAt}
+
+module _ {S : Type 0} (world : S → World) (reading : Reading) (between : Stores world) (image : LogImage) (past : LogPast) (old new : SeenLogged S) (s : StandsLogged world image past old) (stored : StaysStored (world old.store) (world new.store) old.core new.core) (rest : AtRest (world new.store)) where
+  abbrev opened : List Entry
+  opened = opened_by image
+
+  abbrev w : World
+  w = world old.store
+
+  abbrev w' : World
+  w' = world new.store
+
+  abbrev Leads : (LogPast → Type 0) → Type 0
+  Leads = LeadsOn world reading between image past old new s stored
+
+  -- ---- nothing
+
+  abbrev Nowhere : Type 0
+  Nowhere = LeadsBy opened past.journal past.notes s.log [] w w' old new
+
+  nowhere : ActsNothing w w' old new → Nowhere
+  nowhere (inl same) = subst (λ (t : SeenLogged S). LeadsBy opened past.journal past.notes s.log [] w (world t.store) old t) (sym same)
+      (same_not w w old old refl (upheld_still w old.core old.core refl refl (subst (λ (t : SeenLogged S). AtRest (world t.store)) same rest)) refl opened past.journal past.notes s.log s.is s.keeps)
+  nowhere (inr not) = not opened past.journal past.notes s.log s.is s.keeps
+
+  still : (Added : LogPast → Type 0) → Added past → Nowhere → Leads Added
+  still Added added l = none_done world reading between image past old new s stored rest Added added l
+
+  -- ---- a flush
+
+  begin_leads : (slot : ℕ) (reply : Reply) → Nowhere → Leads (AddsBegun slot reply past)
+  begin_leads slot (Begun true) l = (
+    with_begun slot past,
+    refl,
+    quietly world reading between image past old new s stored rest (with_begun slot past) [] tt l refl refl s.came.order (λ known. subst IsCertain (sym l.done) (s.came.certain known)),
+  )
+  begin_leads slot (Begun false) l = still (AddsBegun slot (Begun false) past) refl l
+  begin_leads slot reply l = still (AddsBegun slot reply past) refl l
+
+  module _ (slot : ℕ) (job : SeenWritten) (ids : job.job.ids ≡ past.begun slot) where
+    installed : (a : Registry) (b : Bool) → a.installed ≡ b → ActsByRegister job (Ok a) w w' old new opened past.journal past.notes s.log → Leads (AddsRegistry slot b past)
+    installed a true is acts =
+        let f = flushed world reading between image past old new s stored rest job.job.ids job.watermark (flush_of job) (acts.installed is) in
+        (f.0, (job.watermark, old.core.seqno, f.1 ∙ ap (λ i. with_flushed i job.watermark old.core.seqno past) ids), f.2)
+    installed a false is acts = still (AddsRegistry slot false past) refl (acts.stale is)
+
+    refused : (x : Error) → ActsByRegister job (Err x) w w' old new opened past.journal past.notes s.log → Leads (AddsRegister slot (Refused x) past)
+    refused CommitUnknown acts = let u = unknown world reading between image past old new s stored rest job.watermark (flush_of job) (acts.unknown refl) in (u.0, (job.watermark, u.1), u.2)
+    refused x acts = still (AddsRegister slot (Refused x) past) refl (acts.refused (λ e. cc e))
+
+  register_leads : (slot : ℕ) (reply : Reply) (was : Option Job) → WaitsAt (past.begun slot) past.journal was → ActsRegister reply was w w' old new → Leads (AddsRegister slot reply past)
+  register_leads slot (Registered a) was waits acts =
+      installed slot acts.0 (waits.begun acts.0.job (ap flush_in acts.1)) a a.installed refl (acts.2 opened (logged image) past.journal past.notes s.log s.is s.keeps s.next (holds world reading between image past old new s stored))
+  register_leads slot (Refused x) was waits acts =
+      refused slot acts.0 (waits.begun acts.0.job (ap flush_in acts.1)) x (acts.2 opened (logged image) past.journal past.notes s.log s.is s.keeps s.next (holds world reading between image past old new s stored))
+  register_leads slot reply was waits acts = (past, refl, same_led world reading between image past old new s rest acts)
+
+  -- ---- the end of a merge
+
+  merged : (job : SeenCompaction) → ((made : List Placed) × LeadsBy opened (past.journal ++ Install old.core.seqno ∷ []) past.notes s.log (Did (merging job made) ∷ (Did (Maintained job.settings.watermark) ∷ [])) w w' old new)
+      → Leads (λ next. (n : ℕ) × (next ≡ with_install n past))
+  merged job l =
+      let next = with_install old.core.seqno past in
+      let acts : List Act = Did (merging job l.0) ∷ (Did (Maintained job.settings.watermark) ∷ []) in (
+        next,
+        (old.core.seqno, refl),
+        quietly world reading between image past old new s stored rest next acts (tt, (tt, tt)) l.1 refl refl (order_merged opened past.journal s.came.order old.core.seqno (fresh world reading between image past old new s stored))
+            (λ known. answered opened s.log acts l.1.log (tt, (tt, tt)) l.1.done (s.came.certain known)),
+      )
+
+  ends : (job : SeenCompaction) → IsMarkedIn job.settings.watermark past.journal → (end : Result Finished Error) → ActsByMerge job end w w' old new opened past.journal past.notes s.log → Leads (AddsMerge (end_reply_of end) past)
+  ends job marked (Ok IsFinished) a = merged job (a.done (inl refl) marked)
+  ends job marked (Ok (Over why)) a = still (AddsMerge (end_reply_of (Ok (Over why))) past) refl (a.told (λ e. cc e))
+  ends job marked (Err AfterCommit) a = merged job (a.done (inr refl) marked)
+  ends job marked (Err CommitUnknown) a =
+      let l = a.lost refl in (
+        with_unknown past,
+        refl,
+        quietly world reading between image past old new s stored rest (with_unknown past) (CommitLost (merging job l.0) l.1 ∷ []) (tt, tt) l.2 refl refl s.came.order (λ known. absurd (cc known)),
+      )
+  ends job marked (Err x) a = still (AddsMerge (end_reply_of (Err x)) past) refl (a.refused (λ e. cc e) (λ e. cc e))
+
+  merge_leads : (slot : ℕ) (reply : Reply) (was : Option Job) → WaitsAt (past.begun slot) past.journal was → ActsMerge reply was w w' old new → Leads (AddsMerge reply past)
+  merge_leads slot NoJob was waits acts = (past, refl, same_led world reading between image past old new s rest acts)
+  merge_leads slot reply was waits acts =
+      let end = acts.2 in
+      subst (λ r. Leads (AddsMerge r past)) (sym end.1)
+      (ends acts.0.job (waits.marked acts.0.job (ap merge_in acts.1)) end.0 (end.2 opened (logged image) past.journal past.notes s.log s.is s.keeps s.next (holds world reading between image past old new s stored)))
+
+  -- ---- by calls
+
+  pub job_leads : (slot : ℕ) (step : JobStep) (reply : Reply) (was : Option Job) → WaitsAt (past.begun slot) past.journal was → ActsJob step reply was w w' old new → Leads (AddsJob slot step reply past)
+  job_leads slot BeginFlush reply was waits acts = begin_leads slot reply (nowhere acts)
+  job_leads slot (RunFlush n) reply was waits acts = still (AddsJob slot (RunFlush n) reply past) refl (nowhere acts)
+  job_leads slot FlushToTables reply was waits acts = still (AddsJob slot FlushToTables reply past) refl (nowhere acts)
+  job_leads slot RegisterTables reply was waits acts = register_leads slot reply was waits acts
+  job_leads slot AbandonFlush reply was waits acts = still (AddsJob slot AbandonFlush reply past) refl (nowhere acts)
+  job_leads slot (BeginCompaction at o) reply was waits acts = compact_leads world reading between image past old new s stored rest o.mvcc_gc_watermark reply acts
+  job_leads slot RunCompaction reply was waits acts = still (AddsJob slot RunCompaction reply past) refl (nowhere acts)
+  job_leads slot FinishCompaction reply was waits acts = merge_leads slot reply was waits acts
+  job_leads slot AbandonCompaction reply was waits acts = still (AddsJob slot AbandonCompaction reply past) refl (nowhere acts)

@@ -1,0 +1,10 @@
+use Rattle.std.proofs.Common.{rules}
+use Rattle.lsm_log_runs.proofs.Compacting.{merge_acts}
+use Rattle.lsm_log_runs.proofs.runner.merge_jobs.finish_compaction.Goals as goal
+
+pub returns-clause-acts : goal.returns-clause-acts
+returns-clause-acts g c tells =
+    let world = g.S.Store.world in
+    let old = c.args.tree.now in
+    let new = c.finish_compaction.new.self in
+    merge_acts old new c.of_finished.result c.finish_compaction.result c.of_finished.ensures c.args.place.now (world old.store) (world new.store) c.in-Some-Compacted.merged (search rules) (c.finish_compaction.ensures.acts tells)

@@ -1,0 +1,139 @@
+// The calls of a merge whose job waits in a slot.
+ghost use Rattle.std.specs.Prelude.{◌≡◌, []};
+ghost use Rattle.lsm_runs.specs.Compacting.{strategies_of, reply_of, job_of, end_reply_of, TakesRunCompaction};
+ghost use Rattle.lsm_runs.specs.Files.{StaysStored};
+ghost use Rattle.lsm_state.specs.Compactions.{BeginsCompaction};
+ghost use Rattle.lsm_logged.specs.Acting.{CompactsAct};
+ghost use Rattle.lsm_logged.specs.Asking.{Asks};
+ghost use Rattle.lsm_log_runs.specs.Doing.{ActsNothing, ActsCompact, ActsMerge};
+ghost use Rattle.lsm_log_runs.specs.JobSteps.{TakesBeginCompaction, TakesFinish, TakesAbandonCompaction};
+
+use lsm_below::Error;
+use lsm_logged::Logged;
+use lsm_pick::CompactionStrategy;
+use lsm_runs::{Compacted, Job, Reply};
+use lsm_state::{Begun, Finished, Options};
+use lsm_store::Store;
+
+// ---- replies
+
+/// What is replied of a compaction, and the job that waits then.
+pub(super) fn of_begun(begun: Result<Begun, Error>) -> (Reply, Option<Job>)
+    ensures reply { result.0 ≡ reply_of begun }
+    ensures job { result.1 ≡ job_of begun }
+{
+    let compacted = match begun {
+        Ok(Begun::DidNothing) => Compacted::DidNothing,
+        Ok(Begun::Declined(why)) => Compacted::Declined(why),
+        Ok(Begun::Installed) => Compacted::Installed,
+        Ok(Begun::Job(job)) => {
+            return (
+                Reply::Compacted(Compacted::Waits),
+                Some(Job::Compaction(job)),
+            );
+        }
+        Err(error) => return (Reply::Refused(error), None),
+    };
+    (Reply::Compacted(compacted), None)
+}
+
+/// What is replied of the end of a merge.
+fn of_finished(finished: Result<Finished, Error>) -> Reply
+    ensures { result ≡ end_reply_of finished }
+{
+    match finished {
+        Ok(finished) => Reply::Finished(finished),
+        Err(error) => Reply::Refused(error),
+    }
+}
+
+// ---- calls
+
+/// Begins what a strategy in a box chooses.
+fn begin_boxed<S: Store>(
+    tree: &mut Logged<S>,
+    strategy: &Box<dyn CompactionStrategy>,
+    options: Options,
+) -> Result<Begun, Error>
+    ensures asks { Asks result tree.old tree.new (BeginsCompaction (may_choose strategy.now) (may_refuse strategy.now) options result tree.old.core tree.new.core) }
+    ensures acts { S.tells → CompactsAct options.mvcc_gc_watermark result (S.world tree.old.store) (S.world tree.new.store) tree.old tree.new }
+    ensures stored { S.tells → StaysStored (S.world tree.old.store) (S.world tree.new.store) tree.old.core tree.new.core }
+{
+    tree.begin_compaction(&**strategy, options)
+}
+
+pub(super) fn begin_compaction<S: Store>(
+    tree: &mut Logged<S>,
+    place: &mut Option<Job>,
+    strategies: &[Box<dyn CompactionStrategy>],
+    at: usize,
+    options: Options,
+) -> Reply
+    ensures takes { TakesBeginCompaction (strategies_of (λ b. may_choose b) (λ b. may_refuse b) strategies.now) at options result place.old place.new tree.old tree.new }
+    ensures acts { S.tells → ActsCompact options.mvcc_gc_watermark result (S.world tree.old.store) (S.world tree.new.store) tree.old tree.new }
+    ensures stored { S.tells → StaysStored (S.world tree.old.store) (S.world tree.new.store) tree.old.core tree.new.core }
+{
+    if place.is_some() {
+        return Reply::SlotInUse;
+    }
+    let Some(strategy) = strategies.get(at) else {
+        return Reply::NoStrategy;
+    };
+    let (reply, job) = of_begun(begin_boxed(tree, strategy, options));
+    *place = job;
+    reply
+}
+
+pub(super) fn run_compaction<S: Store>(tree: &Logged<S>, place: &mut Option<Job>) -> Reply
+    ensures { TakesRunCompaction result [] place.old place.new tree.now.core tree.now.core }
+{
+    let job = match place.take() {
+        Some(Job::Compaction(job)) => job,
+        other => {
+            *place = other;
+            return Reply::NoJob;
+        }
+    };
+    match job.run() {
+        Ok(merged) => {
+            *place = Some(Job::Compacted(merged));
+            Reply::Done
+        }
+        Err((error, job)) => {
+            *place = Some(Job::Compaction(job));
+            Reply::Refused(error)
+        }
+    }
+}
+
+pub(super) fn finish_compaction<S: Store>(tree: &mut Logged<S>, place: &mut Option<Job>) -> Reply
+    ensures takes { TakesFinish result place.old place.new tree.old tree.new }
+    ensures acts { S.tells → ActsMerge result place.old (S.world tree.old.store) (S.world tree.new.store) tree.old tree.new }
+    ensures stored { S.tells → StaysStored (S.world tree.old.store) (S.world tree.new.store) tree.old.core tree.new.core }
+{
+    let merged = match place.take() {
+        Some(Job::Compacted(merged)) => merged,
+        other => {
+            *place = other;
+            return Reply::NoJob;
+        }
+    };
+    of_finished(tree.finish_compaction(merged))
+}
+
+pub(super) fn abandon_compaction<S: Store>(tree: &mut Logged<S>, place: &mut Option<Job>) -> Reply
+    ensures takes { TakesAbandonCompaction result place.old place.new tree.old tree.new }
+    ensures acts { S.tells → ActsNothing (S.world tree.old.store) (S.world tree.new.store) tree.old tree.new }
+    ensures stored { S.tells → StaysStored (S.world tree.old.store) (S.world tree.new.store) tree.old.core tree.new.core }
+{
+    let job = match place.take() {
+        Some(Job::Compaction(job)) => job,
+        Some(Job::Compacted(merged)) => merged.into_job(),
+        other => {
+            *place = other;
+            return Reply::NoJob;
+        }
+    };
+    tree.abandon_compaction(job);
+    Reply::Done
+}
