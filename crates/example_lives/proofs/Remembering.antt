@@ -1,5 +1,5 @@
 -- From life to life.
-use Rattle.std.proofs.Common.{◌≡◌, inl, inr, ℕ, zero, suc, ◌≤◌, List, [], ◌∷◌, ◌++◌, length, take, append_assoc, append-nil, Option, None, refl, sym, ap, ◌∙◌, subst, arith}
+use Rattle.std.proofs.Common.{◌≡◌, inl, ℕ, zero, suc, List, [], ◌∷◌, ◌++◌, length, take, append_assoc, append-nil, None, refl, sym, ap, ◌∙◌, subst, arith}
 use Rattle.std.specs.FinMap.{empty}
 use Rattle.std.specs.List.{AllByRecursion}
 use Rattle.lsm_below.specs.Each.{each_weaker}
@@ -23,7 +23,7 @@ use Rattle.lsm_logged.specs.Opening.{image_read}
 use Rattle.lsm_runs.specs.declared.steps.Reply.{Reply}
 use Rattle.lsm_log_runs.specs.declared.steps.LogStep.{LogStep}
 use Rattle.lsm_log_runs.specs.declared.steps.LogStep.TheVariants.{Write}
-use Rattle.lsm_log_runs.specs.Images.{ReadsLog, Keeps, MayBeOpened}
+use Rattle.lsm_log_runs.specs.Images.{ReadsLog, MayBeOpened}
 use Rattle.lsm_log_runs.specs.Lives.{IsUsual, LoggedLife, Crashed, StillKept, OpeningLife, AnyNumberOfLoggedLives, OpeningsAreLoggedLives}
 use Rattle.lsm_log_runs.specs.Living.{LivesLogged}
 use Rattle.lsm_log_runs.specs.Moments.{MayBeTried, EachKeeps}
