@@ -1,5 +1,7 @@
 -- Lists that grow by one, beside each other.
-use Rattle.std.proofs.Common.{◌≡◌, ⊎_elim, inl, inr, ℕ, zero, suc, ◌+◌, arith, List, [], ◌∷◌, ◌++◌, map, take, length, refl, ap}
+use Rattle.std.proofs.Common.{◌≡◌, ⊎_elim, inl, inr, ℕ, zero, suc, ◌+◌, ◌-◌, ◌≤◌, arith, List, [], ◌∷◌, ◌++◌, map, take, drop, length, refl, sym, ap, ◌∙◌, append_assoc}
+use Rattle.std.proofs.Math.Seq.{take-add}
+use Rattle.std.specs.List.{slice_range}
 use Rattle.lsm_below.specs.Members.{IsIn}
 use Rattle.lsm_run_model.specs.Moments.{last_of}
 
@@ -55,3 +57,13 @@ in_front x (z ∷ xs) ys i = ⊎_elim (λ (e : z ≡ x). inl e) (λ (j : IsIn x 
 pub in_back : {A : Type 0} (x : A) (xs ys : List A) → IsIn x ys → IsIn x (xs ++ ys)
 in_back x [] ys i = i
 in_back x (z ∷ xs) ys i = inr (in_back x xs ys i)
+
+-- behind others, the first ones and one more
+pub more_behind : {A : Type 0} (before xs : List A) (at : ℕ) → (before ++ take at xs) ++ slice_range xs at (at + 1) ≡ before ++ take (at + 1) xs
+more_behind before xs at =
+    let one : at + 1 - at ≡ 1 = omega arith in
+    append_assoc before (take at xs) (slice_range xs at (at + 1)) ∙ ap (λ n. before ++ (take at xs ++ take n (drop at xs))) one ∙ ap (λ ys. before ++ ys) (sym (take-add at 1 xs))
+
+pub none_in : {A : Type 0} (xs : List A) → length xs ≤ 0 → xs ≡ []
+none_in [] few = refl
+none_in (x ∷ xs) few = absurd (omega (few, arith))

@@ -1,8 +1,9 @@
 -- One step more, behind those so far.
-use Rattle.std.proofs.Common.{◌≡◌, ℕ, ◌+◌, ◌≤◌, ◌^◌, arith, List, [], ◌∷◌, ◌++◌, None, map, length, refl, sym, ap, ◌∙◌, subst, append-nil, append_assoc}
-use Rattle.lsm_below.specs.Each.{each_append, each_filter}
+use Rattle.std.proofs.Common.{◌≡◌, ℕ, ◌+◌, ◌<◌, ◌≤◌, ◌^◌, arith, List, [], ◌∷◌, ◌++◌, None, map, length, refl, sym, ap, ◌∙◌, subst, append-nil, append_assoc}
+use Rattle.lsm_below.specs.Each.{each_append, each_left, each_filter}
 use Rattle.lsm_below.specs.Entries.{Entry, above}
 use Rattle.lsm_store.specs.World.{World}
+use Rattle.lsm_model.specs.Counted.{OfWrite}
 use Rattle.lsm_model.specs.Journal.{Event, Map, InOrder}
 use Rattle.lsm_model.specs.Sound.{Holds}
 use Rattle.lsm_model.specs.Soundness.{HoldsIsKept}
@@ -71,7 +72,7 @@ answers_more opened start before (y ∷ steps) (u ∷ told) x t e h k =
 answers_more opened start before [] (u ∷ told) x t e h k = absurd (omega (e, arith))
 answers_more opened start before (y ∷ steps) [] x t e h k = absurd (omega (e, arith))
 
-module _ {F : Type 0} (world : F → World) (join : MomentsJoin Reply (Reopens (2 ^ 63)) world) (kept : HoldsIsKept) where
+module _ {F : Type 0} (world : F → World) (join : (n : ℕ) → MomentsJoin Reply (Reopens n) world) (kept : HoldsIsKept) where
   -- ---- one step more
 
   module _ (m : Map) (was : F) (opened : List Entry) (counter : ℕ) (steps : List Step) (told : List Told) (is : F) (now : Core) (s : SoFar world m was opened counter steps told is now) (x : Step) (t : Told) (next : F) (new : Core) (one : TookOne world x t is next now new) where
@@ -99,6 +100,9 @@ module _ {F : Type 0} (world : F → World) (join : MomentsJoin Reply (Reopens (
     numbered : AreNumbered (2 ^ 63) opened (after opened past o).journal
     numbered = record { before = s.numbered.before; written = each_append IsSmall past.journal (without_low_reads opened t.entries) s.numbered.written (each_filter IsSmall (is_no_low_read opened) t.entries one.small) }
 
+    numbered_before : (n : ℕ) → AreNumbered n opened (after opened past o).journal → AreNumbered n opened past.journal
+    numbered_before n low = record { before = low.before; written = each_left (λ y. OfWrite (λ e. e.key.seqno < n) y) past.journal (without_low_reads opened t.entries) low.written }
+
     many_told : length told ≡ length steps
     many_told = sym (ap (λ ts. length ts) s.replies) ∙ length_map told_of s.outcomes ∙ s.many_outcomes
 
@@ -107,8 +111,11 @@ module _ {F : Type 0} (world : F → World) (join : MomentsJoin Reply (Reopens (
         let order' = in_order order in
         let there = s.stands (plain_before plain) (before order') in
         let old = all_of Along steps s.outcomes s.stores s.many_outcomes s.many_stores s.along (plain_before plain) (before order') in
-        let moments = one.moments opened m past (plain_one plain) there order' numbered in (
-          join.join opened m nothing s.outcomes (o ∷ []) s.first s.stores (next ∷ []) old.0 (subst (λ (f : F). EachMoment (Reopens (2 ^ 63)) world opened m past (o ∷ []) f (next ∷ [])) (sym s.ends) moments),
+        let e = after_more opened s.outcomes nothing o in (
+          (λ n low.
+              let low' : AreNumbered n opened (after opened past o).journal = subst (λ (p : Past). AreNumbered n opened p.journal) e low in
+              let moments = one.moments opened m past (plain_one plain) there order' n low' in
+              (join n).join opened m nothing s.outcomes (o ∷ []) s.first s.stores (next ∷ []) (old.0 n (numbered_before n low')) (subst (λ (f : F). EachMoment (Reopens n) world opened m past (o ∷ []) f (next ∷ [])) (sym s.ends) moments)),
           tells_more opened nothing none_begun steps s.outcomes x o old.1 (one.tells opened m past (plain_one plain) there order'),
         )
 
@@ -176,7 +183,7 @@ module _ {F : Type 0} (world : F → World) (join : MomentsJoin Reply (Reopens (
     numbered = record { before = low; written = tt };
     ready = ready stored;
     stored = stays stored;
-    along = none_of (λ xs os ss. LivesAlong world opened m xs os first ss) (λ plain order. ((moments nothing 0 plain there order).0 (2 ^ 63) (record { before = low; written = tt }), tt));
+    along = none_of (λ xs os ss. LivesAlong world opened m xs os first ss) (λ plain order. ((λ n numbered. (moments nothing 0 plain there order).0 n numbered), tt));
     answers = none_of (λ xs ts (us : List Told). AnswersSo opened m xs ts) (λ plain order. tt);
     stands = λ plain order. goes_on nothing plain there order;
     holds = λ plain order. (right.goes_on opened m [] plain (kept.opened opened m (state_of [] old) opens) order).1;

@@ -1,6 +1,11 @@
 pub mod Usual
+pub mod Wants
 pub mod Surviving
 pub mod Growing
 pub mod Taking
 pub mod Joining
 pub mod Lived
+pub mod Orders
+pub mod Carried
+pub mod Beginning
+pub mod Again

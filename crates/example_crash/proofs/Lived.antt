@@ -1,12 +1,16 @@
 -- What was taken step by step is a life, as a run of all of it is one.
-use Rattle.std.proofs.Common.{◌≡◌, ℕ, zero, suc, ◌+◌, ◌≤◌, arith, List, [], ◌∷◌, ◌++◌, map, take, length, refl, sym, ap, ◌∙◌, subst}
+use Rattle.std.proofs.Common.{◌≡◌, ℕ, zero, suc, ◌+◌, ◌≤◌, ◌^◌, arith, List, [], ◌∷◌, ◌++◌, map, take, length, refl, sym, ap, ◌∙◌, subst}
+use Rattle.std.specs.List.{AllByRecursion}
+use Rattle.lsm_below.specs.Each.{each_left}
 use Rattle.lsm_below.specs.Entries.{Entry, above}
 use Rattle.lsm_store.specs.World.{World}
-use Rattle.lsm_model.specs.Journal.{Map, InOrder}
+use Rattle.lsm_model.specs.Journal.{Event, Map, InOrder}
 use Rattle.lsm_manifest.specs.Ready.{IsReady}
 use Rattle.lsm_state.specs.Core.{Core}
 use Rattle.lsm_run_model.specs.Lives.{LeavesReady}
 use Rattle.lsm_run_model.specs.Moments.{last_of}
+use Rattle.lsm_run_model.specs.Composing.{AreNumbered}
+use Rattle.lsm_run_model.specs.Outcomes.{Past, nothing, after, after_all, without_low_reads}
 use Rattle.lsm_run_model.specs.Outcomes as out
 use Rattle.lsm_run_model.specs.Rising.{At, RisesFrom, RisingIsInOrder, OrderWithoutReads}
 use Rattle.lsm_runs.specs.declared.steps.Step.{Step}
@@ -20,6 +24,7 @@ use Rattle.lsm_runs.proofs.RunLives.{front_in_order}
 use Rattle.lsm_runs.proofs.Uses.{drawings}
 use Rattle.example_crash.specs.SoFar.{SoFar}
 use Rattle.example_crash.proofs.Growing.{all_of, length_map}
+use Rattle.example_crash.proofs.Taking.{IsSmall}
 
 length_front : {A : Type 0} (many : ℕ) (xs : List A) → length (take many xs) ≤ many
 length_front zero xs = omega arith
@@ -41,11 +46,25 @@ module _ {F : Type 0} (world : F → World) where
   last_ready (suc answered) was [] few h = h.1
   last_ready (suc answered) was (is ∷ stores) few h = last_ready answered is stores (omega (few, arith)) h.2
 
+-- ---- what holds of all that was written
+
+before_all : (opened : List Entry) (P : Event → Type 0) (outcomes : List (out.Told Reply)) (past : Past) → AllByRecursion P (after_all opened past outcomes).journal → AllByRecursion P past.journal
+before_all opened P [] past h = h
+before_all opened P (o ∷ outcomes) past h = each_left P past.journal (without_low_reads opened o.entries) (before_all opened P outcomes (after opened past o) h)
+
+all_front : (opened : List Entry) (P : Event → Type 0) (many : ℕ) (outcomes : List (out.Told Reply)) (past : Past) → AllByRecursion P (after_all opened past outcomes).journal → AllByRecursion P (after_all opened past (take many outcomes)).journal
+all_front opened P zero outcomes past h = before_all opened P outcomes past h
+all_front opened P (suc many) [] past h = h
+all_front opened P (suc many) (o ∷ outcomes) past h = all_front opened P many outcomes (after opened past o) h
+
 journal_same : (outcomes : List (out.Told Reply)) → out.journal_of outcomes ≡ journal_of (map told_of outcomes)
 journal_same [] = refl
 journal_same (o ∷ outcomes) = ap (λ es. o.entries ++ es) (journal_same outcomes)
 
 module _ {F : Type 0} (world : F → World) (m : Map) (was : F) (opened : List Entry) (counter : ℕ) (steps : List Step) (told : List Told) (is : F) (now : Core) (s : SoFar world m was opened counter steps told is now) where
+  numbered_front : (many : ℕ) → AreNumbered (2 ^ 63) opened (after_all opened nothing (take many s.outcomes)).journal
+  numbered_front many = record { before = s.numbered.before; written = all_front opened IsSmall many s.outcomes nothing s.numbered.written }
+
   pub are_lives : StepsAreLives world opened m steps s.outcomes s.first s.stores
   are_lives many answered end plain order ends all =
       let along = s.along many plain order in
@@ -57,7 +76,7 @@ module _ {F : Type 0} (world : F → World) (m : Map) (was : F) (opened : List E
           known = record { starts = s.starts; steps = take many steps; plain = plain; tells = along.1; order = order };
           first = s.first;
           stores = take many s.stores;
-          moments = along.0;
+          moments = along.0 (2 ^ 63) (numbered_front many);
           answered = answered;
           ended = ends;
           ready = λ kill. last_ready world answered s.first (take many s.stores) (let last = all kill in omega (few, last, arith)) (front_ready world many s.first s.stores s.ready);

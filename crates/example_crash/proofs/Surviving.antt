@@ -1,8 +1,9 @@
 -- From a life and its crash to the map that the next life starts from.
-use Rattle.std.proofs.Common.{◌≡◌, ⊎_elim, inl, ℕ, ◌+◌, ◌≤◌, ◌^◌, arith, List, [], ◌∷◌, None, map, take, length, refl, sym, ap, ◌∙◌, subst}
+use Rattle.std.proofs.Common.{◌≡◌, ⊎_elim, inl, ℕ, ◌+◌, ◌≤◌, ◌^◌, arith, List, [], ◌∷◌, None, codes, map, take, length, refl, sym, ap, ◌∙◌, subst}
 use Rattle.std.specs.FinMap.{empty}
 use Rattle.std.specs.List.{AllByRecursion}
 use Rattle.lsm_below.specs.Entries.{above}
+use Rattle.lsm_below.specs.declared.error.Error.{Error}
 use Rattle.lsm_store.specs.declared.mem_store.MemStore.{MemStore}
 use Rattle.lsm_store.specs.Files.{held_at}
 use Rattle.lsm_store.specs.Memory.{world_of, gives_one}
@@ -11,7 +12,8 @@ use Rattle.lsm_model.specs.Journal.{Map}
 use Rattle.lsm_model.specs.Beginnings.{IsBeginning, covered}
 use Rattle.lsm_model.specs.Views.{held}
 use Rattle.lsm_versions.specs.Levels.{empty_levels, placed_of}
-use Rattle.lsm_manifest.specs.Finding.{Finds, Nothing, StandsForMap, FoundOnce}
+use Rattle.lsm_manifest.specs.Finding.{Finds, Nothing, StandsForMap, RefusesFound, FoundOnce}
+use Rattle.lsm_manifest.specs.Names.{current_name}
 use Rattle.lsm_manifest.specs.Ready.{IsReady}
 use Rattle.lsm_run_model.specs.Lives.{End, Crashed, Killed, EndsIn, MayBe, GivesOne, IsKill, Running, LifeAfterLife}
 use Rattle.lsm_run_model.specs.Moments.{last_of}
@@ -24,8 +26,9 @@ use Rattle.lsm_runs.specs.Moments.{Reopens}
 use Rattle.lsm_runs.specs.Notes.{none_begun, EachTells}
 use Rattle.lsm_runs.specs.Runs.{IsPlainUse}
 use Rattle.lsm_runs.specs.Told.{Told}
-use Rattle.example_crash.specs.Survival.{IsUsual, IsLeftOf}
+use Rattle.example_crash.specs.Survival.{IsUsual, IsWant, IsLeftOf}
 use Rattle.example_crash.proofs.Usual.{usual_plain, usual_rises, usual_weak, whole, twice}
+use Rattle.example_crash.proofs.Wants.{wants}
 
 -- ---- a new store
 
@@ -42,6 +45,27 @@ reopens_none : FoundOnce → Reopens (2 ^ 63) none empty
 reopens_none once = record {
   stands = stands_none;
   below = λ levels finds. subst (λ ls. above (held (placed_of ls)) ≤ 2 ^ 63) (once none empty_levels levels finds_none finds) (omega arith);
+}
+
+-- on a store that has nothing
+pub finds_new : (was : MemStore) → Begins none (world_of was) → Finds (world_of was).gives empty_levels
+finds_new was new = Nothing (new.gives current_name) (record { no_version = new.gives (codes "version"); in_tables = λ name refused. new.gives name }) refl
+
+pub refused_new : FoundOnce → (was : MemStore) → Begins none (world_of was) → (e : Error) → RefusesFound (world_of was).gives e → IsWant e
+refused_new once was new e refuses = wants (world_of was).gives e (λ levels f. subst (λ ls. above (held (placed_of ls)) ≤ 2 ^ 63) (once (world_of was).gives empty_levels levels (finds_new was new) f) (omega arith)) refuses
+
+-- ---- a store that a crash left
+
+-- what reads of it give was left
+pub gives_left : (is left : MemStore) (image : Image) → IsImage (world_of is).may image → Begins image (world_of left) → IsImage (world_of is).may (world_of left).gives
+gives_left is left image may begins = λ n. subst ((world_of is).may n) (sym (begins.gives n)) (may n)
+
+pub begins_itself : (image : Image) (left : MemStore) → Begins image (world_of left) → Begins (world_of left).gives (world_of left)
+begins_itself image left begins = record {
+  gives = λ n. refl;
+  may = λ n c. (λ h. (begins.may n c).0 h ∙ sym (begins.gives n), λ e. (begins.may n c).1 (e ∙ begins.gives n));
+  moment = begins.moment;
+  failures = begins.failures;
 }
 
 -- ---- the first life
@@ -73,7 +97,7 @@ module _ (once : FoundOnce) (many : AnyNumberOfLives world_of) (was is : MemStor
   lives = (record { store = was; takes = begins; life = λ m ready shows each. Running (one (lived m shows.stands)).life }, tt)
 
   -- the map that an image shows which may be left
-  pub survives : (image : Image) → MayBe world_of end image → (left : Map) × StandsForMap image left × IsLeftOf steps told left
+  pub survives : (image : Image) → MayBe world_of end image → (left : Map) × Reopens (2 ^ 63) image left × IsLeftOf steps told left
   survives image may =
       let well = many (Crashed none) (empty ∷ []) tt tt (λ i same. (empty, subst (λ j. Reopens (2 ^ 63) j empty) (sym same) (reopens_none once), inl refl)) (end ∷ []) lives in
       let m = well.0 in
@@ -85,7 +109,7 @@ module _ (once : FoundOnce) (many : AnyNumberOfLives world_of) (was is : MemStor
       let answered : take life.answered life.told ≡ life.told = ap (λ n. take n life.told) so.answered ∙ subst (λ ts. take (size l) ts ≡ ts) (sym so.told) (twice (size l) l.outcomes) in
       let held_all = subst (λ ts. IsBeginning m (after_all life.opened nothing life.told).journal (after_all life.opened nothing life.told).notes (covered (after_all life.opened nothing ts).notes) shown.0) answered shown.2 in (
         shown.0,
-        shown.1.stands,
+        shown.1,
         record {
           opened = life.opened;
           outcomes = life.told;
@@ -119,3 +143,11 @@ ended_now store = record { each = λ i may. inl may; gives = gives_now store }
 
 pub given_now : (store : MemStore) → MayBe world_of (Killed store) (world_of store).gives
 given_now store = gives_now store
+
+-- ---- what a crash left of a first life
+
+pub crash_leaves : FoundOnce → AnyNumberOfLives world_of → (was is left : MemStore) (image : Image) → IsImage (world_of is).may image → Begins image (world_of left) → Begins none (world_of was) → (steps : List Step) (told : List Told) → AllByRecursion IsUsual steps → ((m : Map) → StandsForMap (world_of was).gives m → LivesInOrder world_of m steps told was is)
+    → (m : Map) × Reopens (2 ^ 63) (world_of left).gives m × IsLeftOf steps told m
+crash_leaves once many was is left image may begins new steps told usual lived =
+    let gives = (world_of left).gives in
+    survives once many was is (Crashed gives) new (crashed_now is gives (gives_left is left image may begins)) steps told usual lived gives refl

@@ -59,8 +59,8 @@ module _ {F : Type 0} (world : F → World) where
     pub small : AllByRecursion IsSmall t.entries
     pub stored : StaysStored (world was) (world is) old new
     pub ready : IsStored (world was) (versions_left old) (written_of old) → EachReady world was (is ∷ [])
-    pub moments : (opened : List Entry) (start : Map) (past : Past) → IsPlainUse (x ∷ []) → StandsAfter world opened start past was old → InOrder opened (after opened past (outcome x t old)).journal → AreNumbered (2 ^ 63) opened (after opened past (outcome x t old)).journal
-        → EachMoment (Reopens (2 ^ 63)) world opened start past (outcome x t old ∷ []) was (is ∷ [])
+    pub moments : (opened : List Entry) (start : Map) (past : Past) → IsPlainUse (x ∷ []) → StandsAfter world opened start past was old → InOrder opened (after opened past (outcome x t old)).journal → (n : ℕ) → AreNumbered n opened (after opened past (outcome x t old)).journal
+        → EachMoment (Reopens n) world opened start past (outcome x t old ∷ []) was (is ∷ [])
     pub tells : (opened : List Entry) (start : Map) (past : Past) → IsPlainUse (x ∷ []) → StandsAfter world opened start past was old → InOrder opened (after opened past (outcome x t old)).journal → (begun : ℕ → List ℕ) → EachTells opened past begun (x ∷ []) (outcome x t old ∷ [])
     pub stands : (opened : List Entry) (start : Map) (past : Past) → IsPlainUse (x ∷ []) → StandsAfter world opened start past was old → InOrder opened (after opened past (outcome x t old)).journal → StandsAfter world opened start (after opened past (outcome x t old)) is new
     pub goes_on : (opened : List Entry) (start : Map) (journal : List Event) → AnswersAfter opened start journal (x ∷ []) (t ∷ []) old new
@@ -79,7 +79,7 @@ module _ {F : Type 0} (world : F → World) where
       small = small;
       stored = stored;
       ready = λ still. subst (λ (f : F). EachReady world was (f ∷ [])) ends (ready still);
-      moments = λ opened start past plain there order numbered. subst (λ (f : F). EachMoment (Reopens (2 ^ 63)) world opened start past (outcome x t old ∷ []) was (f ∷ [])) ends ((moments opened start past 1 plain there order).0 (2 ^ 63) numbered);
+      moments = λ opened start past plain there order n numbered. subst (λ (f : F). EachMoment (Reopens n) world opened start past (outcome x t old ∷ []) was (f ∷ [])) ends ((moments opened start past 1 plain there order).0 n numbered);
       tells = λ opened start past plain there order begun. let h = tells opened start past 1 plain there order in (h.0, notes_any strategies _ begun x t.reply t.entries _ old p.stage ran.0 h.1, tt);
       stands = λ opened start past plain there order. stands opened start past plain there order;
       goes_on = goes_on;

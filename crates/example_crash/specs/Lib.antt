@@ -1,3 +1,4 @@
 pub mod Survival
 pub mod SoFar
 pub mod Joining
+pub mod Single

@@ -30,7 +30,9 @@ use Rattle.lsm_runs.specs.Told.{Told}
 -- far, which holds what they covered; and what each adds and notes follows from its kind and its reply
 abbrev pub LivesAlong : {F : Type 0} → (F → World) → (opened : List Entry) (start : Map) → List Step → List (out.Told Reply) → F → List F → Type 0
 LivesAlong world opened start steps outcomes first stores =
-    IsPlainUse steps → InOrder opened (after_all opened nothing outcomes).journal → EachMoment (Reopens (2 ^ 63)) world opened start nothing outcomes first stores × EachTells opened nothing none_begun steps outcomes
+    let all = after_all opened nothing outcomes in
+    IsPlainUse steps → InOrder opened all.journal
+    → ((n : ℕ) → AreNumbered n opened all.journal → EachMoment (Reopens n) world opened start nothing outcomes first stores) × EachTells opened nothing none_begun steps outcomes
 
 -- and each answers what the replay does
 abbrev pub AnswersSo : (opened : List Entry) (start : Map) → List Step → List Told → Type 0

@@ -1,7 +1,13 @@
 -- What outlives a process, as a user asks it: derived from the contracts of public calls.
-use Rattle.std.specs.Prelude.{◌≡◌, List, [], map}
+use Rattle.std.specs.Prelude.{◌≡◌, List, [], map, take, length}
 use Rattle.std.specs.FinMap.{empty}
 use Rattle.lsm_below.specs.Entries.{Entry}
+use Rattle.lsm_below.specs.declared.error.Error.{Error}
+use Rattle.lsm_below.specs.declared.error.Error.TheVariants.{OutOfMemory, Store, CommitUnknown}
+use Rattle.lsm_store.specs.declared.mem_store.MemStore.{MemStore}
+use Rattle.lsm_store.specs.Memory.{may_of, world_of}
+use Rattle.lsm_store.specs.Picks.{Picks, picked}
+use Rattle.lsm_store.specs.World.{IsImage}
 use Rattle.lsm_model.specs.Journal.{Map}
 use Rattle.lsm_model.specs.Beginnings.{IsBeginning, covered}
 use Rattle.lsm_run_model.specs.Outcomes.{nothing, after_all}
@@ -10,7 +16,7 @@ use Rattle.lsm_runs.specs.declared.steps.Step.{Step}
 use Rattle.lsm_runs.specs.declared.steps.Step.TheVariants.{Insert, Remove, RemoveWeak, AppendEntry, Write, Next, Set, FetchMax, ClearActiveMemtable}
 use Rattle.lsm_runs.specs.declared.steps.Reply.{Reply}
 use Rattle.lsm_runs.specs.Drawing.{weaks_in}
-use Rattle.lsm_runs.specs.Lives.{told_of}
+use Rattle.lsm_runs.specs.Lives.{told_of, LivesInOrder}
 use Rattle.lsm_runs.specs.Notes.{none_begun, EachTells}
 use Rattle.lsm_runs.specs.Runs.{EachAnswers}
 use Rattle.lsm_runs.specs.Told.{Told}
@@ -33,14 +39,18 @@ pub record AnswersReplay (start : Map) (steps : List Step) (told : List Told) : 
   pub opened : List Entry
   pub answers : EachAnswers opened start [] steps told
 
--- The map is, outside dropped ranges, a beginning of the calls that these steps made on a new tree, and holds each flush that was installed and
--- each clear that was answered. What each call adds to the journal and covers follows from its kind and its reply.
-pub record IsLeftOf (steps : List Step) (told : List Told) (left : Map) : Type 0 where
+-- The map is, outside dropped ranges, a beginning of the calls that these steps made on a tree that showed the starting map, and holds each
+-- flush that was installed and each clear that was answered. What each call adds to the journal and covers follows from its kind and its reply.
+pub record IsLeftFrom (start : Map) (steps : List Step) (told : List Told) (left : Map) : Type 0 where
   pub opened : List Entry
   pub outcomes : List (out.Told Reply)
   pub replies : map told_of outcomes ≡ told
   pub tells : EachTells opened nothing none_begun steps outcomes
-  pub holds : let all = after_all opened nothing outcomes in IsBeginning empty all.journal all.notes (covered all.notes) left
+  pub holds : let all = after_all opened nothing outcomes in IsBeginning start all.journal all.notes (covered all.notes) left
+
+-- the same of a new tree
+abbrev pub IsLeftOf : List Step → List Told → Map → Type 0
+IsLeftOf steps told left = IsLeftFrom empty steps told left
 
 -- a first life on a new tree, and a second one on what a crash or the end of the process left of it
 pub record Survives (first : List Step) (told : List Told) (second : List Step) (more : List Told) : Type 0 where
@@ -48,3 +58,22 @@ pub record Survives (first : List Step) (told : List Told) (second : List Step) 
   pub left : Map
   pub kept : IsLeftOf first told left
   pub after : AnswersReplay left second more
+
+-- why lives are refused: for want of memory, or where a call of the store failed
+abbrev pub IsWant : Error → Type 0
+IsWant OutOfMemory = Unit {0}
+IsWant Store = Unit {0}
+IsWant CommitUnknown = Unit {0}
+IsWant _ = ⊥
+
+-- ---- whether what is picked can be left
+
+-- a crash may leave of the store what is picked
+abbrev pub CanBeLeft : Picks → MemStore → Type 0
+CanBeLeft picks store = IsImage (may_of store.files) (picked store.files picks)
+
+-- the first so many of these steps on a new tree are a life with these outcomes, which ended with a store that has P
+pub record EndsWith (P : MemStore → Type 0) (was : MemStore) (steps : List Step) (told : List Told) : Type 0 where
+  pub is : MemStore
+  pub lives : LivesInOrder world_of empty (take (length told) steps) told was is
+  pub has : P is

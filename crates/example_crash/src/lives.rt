@@ -1,13 +1,14 @@
 // Two lives of a tree over a store in memory.
-ghost use Rattle.std.specs.Prelude.{None, take, length, IfOk, IfSome};
+ghost use Rattle.std.specs.Prelude.{List, None, take, length, IfOk, IfErr, IfSome, MatchOption, MatchResult};
 ghost use Rattle.std.specs.List.{AllByRecursion};
 ghost use Rattle.lsm_model.specs.Journal.{Map};
 ghost use Rattle.lsm_store.specs.Memory.{world_of};
 ghost use Rattle.lsm_store.specs.World.{Begins};
-ghost use Rattle.lsm_manifest.specs.Finding.{StandsForMap};
+ghost use Rattle.lsm_manifest.specs.Finding.{StandsForMap, RefusesFound};
 ghost use Rattle.lsm_manifest.specs.Ready.{IsReady};
 ghost use Rattle.lsm_runs.specs.Lives.{LivesInOrder};
-ghost use Rattle.example_crash.specs.Survival.{IsUsual, AnswersReplay, Survives};
+ghost use Rattle.lsm_runs.specs.Told.{Told};
+ghost use Rattle.example_crash.specs.Survival.{IsUsual, IsWant, AnswersReplay, Survives, CanBeLeft, EndsWith};
 
 use lsm_tree::laws::{any_number_of_lives, crashes_settle, images_stand_once};
 use lsm_tree::{CompactionStrategy, Config, Error, MemStore, Pick, Step, Taken, live};
@@ -23,6 +24,7 @@ pub struct TwoLives {
 /// Opens the tree of a store, takes steps on it, and gives the store back: what stands in memtables alone is gone.
 fn life(alloc: Global, store: MemStore, steps: &[Step]) -> Result<(MemStore, Taken), Error>
     ensures lives { IsReady (world_of store) → (m : Map) → StandsForMap (world_of store).gives m → IfOk result (λ r. LivesInOrder world_of m (take (length r.1.outcomes.items) steps.now) r.1.outcomes.items store r.0) }
+    ensures refused { (m : Map) → StandsForMap (world_of store).gives m → IfErr result (RefusesFound (world_of store).gives) }
     ensures answers { IsReady (world_of store) → (m : Map) → StandsForMap (world_of store).gives m → AllByRecursion IsUsual steps.now → IfOk result (λ r. AnswersReplay m (take (length r.1.outcomes.items) steps.now) r.1.outcomes.items) }
 {
     let strategies: Vec<Box<dyn CompactionStrategy>> = Vec::new(alloc);
@@ -36,7 +38,8 @@ fn life(alloc: Global, store: MemStore, steps: &[Step]) -> Result<(MemStore, Tak
 /// None where that can't be left. Faults may be planned in the store.
 ///
 /// Of usual steps nothing else is asked (`IsUsual`): each read answers what the replay of the calls before it does; and the second life
-/// starts from a beginning of the first one's calls, which holds each flush that was installed and each clear that was answered.
+/// starts from a beginning of the first one's calls, which holds each flush that was installed and each clear that was answered. It is refused
+/// only for want of memory, or where a call of the store failed.
 pub fn crash_between(
     alloc: Global,
     store: MemStore,
@@ -45,7 +48,9 @@ pub fn crash_between(
     second: &[Step],
 ) -> Result<Option<TwoLives>, Error>
     requires new { Begins (λ _. None) (world_of store) }
-    ensures { AllByRecursion IsUsual first.now → AllByRecursion IsUsual second.now → IfOk result (λ r. IfSome r (λ l. Survives (take (length l.before.outcomes.items) first.now) l.before.outcomes.items (take (length l.after.outcomes.items) second.now) l.after.outcomes.items)) }
+    ensures survives { AllByRecursion IsUsual first.now → AllByRecursion IsUsual second.now → MatchResult result (λ r. IfSome r (λ l. Survives (take (length l.before.outcomes.items) first.now) l.before.outcomes.items (take (length l.after.outcomes.items) second.now) l.after.outcomes.items)) IsWant }
+    // None just where a crash can't leave what is picked of the store behind the first life.
+    ensures crashed { IfOk result (λ r. MatchOption r ((told : List Told) × EndsWith (λ s. ¬ CanBeLeft picks.now s) store first.now told) (λ l. EndsWith (CanBeLeft picks.now) store first.now l.before.outcomes.items)) }
 {
     crashes_settle(&store);
     images_stand_once();
@@ -66,7 +71,7 @@ pub fn end_between(
     second: &[Step],
 ) -> Result<TwoLives, Error>
     requires new { Begins (λ _. None) (world_of store) }
-    ensures { AllByRecursion IsUsual first.now → AllByRecursion IsUsual second.now → IfOk result (λ l. Survives (take (length l.before.outcomes.items) first.now) l.before.outcomes.items (take (length l.after.outcomes.items) second.now) l.after.outcomes.items) }
+    ensures { AllByRecursion IsUsual first.now → AllByRecursion IsUsual second.now → MatchResult result (λ l. Survives (take (length l.before.outcomes.items) first.now) l.before.outcomes.items (take (length l.after.outcomes.items) second.now) l.after.outcomes.items) IsWant }
 {
     crashes_settle(&store);
     images_stand_once();

@@ -1,24 +1,169 @@
-// What is known of steps that are taken one by one, as the contract of a function that does nothing.
+// A tree over a store in memory that takes steps one by one, so that its caller looks at each reply before he takes the next.
+ghost use Rattle.std.specs.Prelude.{◌≡◌, ◌≤◌, ◌++◌, ◌∷◌, ℕ, [], List, None, take, length, IfOk, IfErr, OnOk, OnErr, IfSome, MatchOption, MatchResult};
+ghost use Rattle.std.specs.List.{AllByRecursion};
+ghost use Rattle.lsm_model.specs.Journal.{Map};
+ghost use Rattle.lsm_manifest.specs.Finding.{RefusesFound};
 ghost use Rattle.lsm_store.specs.Memory.{world_of};
-ghost use Rattle.lsm_runs.specs.Compacting.{strategies_of};
-ghost use Rattle.example_crash.specs.Joining.{SoFarBegins, SoFarGrows, SoFarLives, SoFarAnswers};
+ghost use Rattle.lsm_store.specs.World.{Begins};
+ghost use Rattle.lsm_runs.specs.declared.steps.Step.{Step};
+ghost use Rattle.lsm_runs.specs.Told.{Told};
+ghost use Rattle.example_crash.specs.Single.{MayBeOpened, HasLived, HasTaken};
+ghost use Rattle.example_crash.specs.Survival.{IsUsual, IsWant, Survives, CanBeLeft, EndsWith};
 
-use lsm_run_model::{moments_join, order_without_reads, rising_is_in_order};
+use crate::by_hand::crash_by_hand;
+use crate::lives::TwoLives;
+use lsm_manifest::opening_finds;
+use lsm_run_model::{moments_join, numbers_are_bounded, order_without_reads, rising_is_in_order};
 use lsm_runs::TreeFiles;
-use lsm_tree::laws::reads_are_sound;
-use lsm_tree::{CompactionStrategy, MemStore, Reply};
+use lsm_tree::laws::{openings_leave_what_was_read, reads_are_sound};
+use lsm_tree::{
+    CompactionStrategy, Config, Error, MemStore, Outcome, Pick, Reply, SeqNo, Step, Taken,
+    TreeState, run,
+};
+use std::alloc::{AllocError, Global};
 
-/// A tree is opened, and takes steps one by one, each by a `run` of its own, so that its caller acts between any two: all of them are a
-/// life as one run of them would be. What a crash leaves at any moment, in a step or between two, is a beginning of the steps so far,
-/// which holds all that the answered ones covered; and each read answers what the replay of the steps before it does.
-pub fn single_steps_join(store: &MemStore, strategies: &[Box<dyn CompactionStrategy>])
-    ensures begins { SoFarBegins world_of (strategies_of (λ b. may_choose b) (λ b. may_refuse b) strategies.now) }
-    ensures grows { SoFarGrows world_of (strategies_of (λ b. may_choose b) (λ b. may_refuse b) strategies.now) }
-    ensures lives { SoFarLives world_of }
-    ensures answers { SoFarAnswers world_of }
+/// Opens the tree of a store, with its counter at a number, or above what is found, if that is higher.
+pub fn open(
+    alloc: Global,
+    store: MemStore,
+    strategies: &[Box<dyn CompactionStrategy>],
+    from: SeqNo,
+) -> Result<TreeState<MemStore>, Error>
+    ensures opens { (m : Map) → MayBeOpened store m → IfOk result (λ t. HasTaken m store from [] [] t) }
+    ensures refused { (m : Map) → MayBeOpened store m → IfErr result (RefusesFound (world_of store).gives) }
 {
+    opening_finds(&store);
+    openings_leave_what_was_read(&store);
     reads_are_sound();
-    moments_join(store, &TreeFiles, &Reply::Done);
+    moments_join(&store, &TreeFiles, &Reply::Done);
     rising_is_in_order(&Reply::Done);
     order_without_reads();
+    numbers_are_bounded();
+    let mut tree = match TreeState::open_raised(alloc, Config::new(0, from, from), store) {
+        Ok(tree) => tree,
+        Err((error, _)) => return Err(error),
+    };
+    let taken = run(alloc, &mut tree, strategies, &[]);
+    drop(taken);
+    Ok(tree)
+}
+
+/// Takes the one step of a list.
+fn take_it(
+    alloc: Global,
+    tree: &mut TreeState<MemStore>,
+    strategies: &[Box<dyn CompactionStrategy>],
+    list: &[Step],
+) -> Result<Outcome, AllocError>
+    requires { length list.now ≡ 1 }
+    ensures ok { (m : Map) (was : MemStore) (from : ℕ) (steps : List Step) (told : List Told) → HasTaken m was from steps told tree.old → IfOk result (λ o. HasTaken m was from (steps ++ list.now) (told ++ o ∷ []) tree.new) }
+    ensures err { (m : Map) (was : MemStore) (from : ℕ) (steps : List Step) (told : List Told) → HasTaken m was from steps told tree.old → OnErr result (HasTaken m was from steps told tree.new) }
+{
+    reads_are_sound();
+    moments_join(tree.store(), &TreeFiles, &Reply::Done);
+    rising_is_in_order(&Reply::Done);
+    order_without_reads();
+    numbers_are_bounded();
+    let mut taken = run(alloc, tree, strategies, list);
+    match taken.outcomes.pop() {
+        Some(outcome) => Ok(outcome),
+        None => Err(AllocError),
+    }
+}
+
+/// Takes a step by a run of its own, whatever it is. What its caller has taken of the tree so far is a life, and with this step it is one
+/// (`HasTaken`): so he looks at each reply before he takes the next. Where there is no memory for the outcome, the step isn't taken.
+pub fn take_one(
+    alloc: Global,
+    tree: &mut TreeState<MemStore>,
+    strategies: &[Box<dyn CompactionStrategy>],
+    step: Step,
+) -> Result<Outcome, AllocError>
+    ensures ok { (m : Map) (was : MemStore) (from : ℕ) (steps : List Step) (told : List Told) → HasTaken m was from steps told tree.old → IfOk result (λ o. HasTaken m was from (steps ++ step ∷ []) (told ++ o ∷ []) tree.new) }
+    ensures err { (m : Map) (was : MemStore) (from : ℕ) (steps : List Step) (told : List Told) → HasTaken m was from steps told tree.old → OnErr result (HasTaken m was from steps told tree.new) }
+{
+    take_it(alloc, tree, strategies, &[step])
+}
+
+/// Takes the one step of a list, and appends its outcome to the others.
+fn add_it(
+    alloc: Global,
+    tree: &mut TreeState<MemStore>,
+    strategies: &[Box<dyn CompactionStrategy>],
+    list: &[Step],
+    outcomes: &mut Vec<Outcome>,
+) -> Result<(), AllocError>
+    requires { length list.now ≡ 1 }
+    ensures ok { OnOk result ((o : Told) × (outcomes.new.items ≡ outcomes.old.items ++ o ∷ []) × ((m : Map) (was : MemStore) (from : ℕ) (steps : List Step) (told : List Told) → HasTaken m was from steps told tree.old → HasTaken m was from (steps ++ list.now) (told ++ o ∷ []) tree.new)) }
+    ensures err { (m : Map) (was : MemStore) (from : ℕ) (steps : List Step) (told : List Told) → HasTaken m was from steps told tree.old → OnErr result (HasTaken m was from steps told tree.new) }
+    ensures outcomes_err { OnErr result (outcomes.new.items ≡ outcomes.old.items) }
+{
+    outcomes.try_reserve(1)?;
+    let outcome = take_it(alloc, tree, strategies, list)?;
+    outcomes.push(outcome)?;
+    Ok(())
+}
+
+/// Takes steps one by one, each by a run of its own, until there is no memory for the outcome of the next one.
+pub fn take_each(
+    alloc: Global,
+    tree: &mut TreeState<MemStore>,
+    strategies: &[Box<dyn CompactionStrategy>],
+    steps: &[Step],
+) -> Taken
+    ensures bound { length result.outcomes.items ≤ length steps.now }
+    ensures whole { OnOk result.ended (length result.outcomes.items ≡ length steps.now) }
+    ensures taken { (m : Map) (was : MemStore) (from : ℕ) (before : List Step) (told : List Told) → HasTaken m was from before told tree.old → HasTaken m was from (before ++ take (length result.outcomes.items) steps.now) (told ++ result.outcomes.items) tree.new }
+{
+    let mut outcomes = Vec::new(alloc);
+    for at in 0..steps.len() {
+        let list = &steps[at..at + 1];
+        match add_it(alloc, tree, strategies, list, &mut outcomes) {
+            Ok(()) => (),
+            Err(error) => {
+                return Taken {
+                    outcomes,
+                    ended: Err(error),
+                };
+            }
+        }
+    }
+    Taken {
+        outcomes,
+        ended: Ok(()),
+    }
+}
+
+/// Opens the tree of a store, takes steps on it one by one, and gives the store back: it lived as `live` would have made it, with one run of
+/// them all (`HasLived`).
+pub fn live_singly(
+    alloc: Global,
+    store: MemStore,
+    strategies: &[Box<dyn CompactionStrategy>],
+    from: SeqNo,
+    steps: &[Step],
+) -> Result<(MemStore, Taken), Error>
+    ensures bound { IfOk result (λ r. length r.1.outcomes.items ≤ length steps.now) }
+    ensures whole { IfOk result (λ r. OnOk r.1.ended (length r.1.outcomes.items ≡ length steps.now)) }
+    ensures refused { (m : Map) → MayBeOpened store m → IfErr result (RefusesFound (world_of store).gives) }
+    ensures lives { (m : Map) → MayBeOpened store m → IfOk result (λ r. HasLived m store from (take (length r.1.outcomes.items) steps.now) r.1.outcomes.items r.0) }
+{
+    let mut tree = open(alloc, store, strategies, from)?;
+    let taken = take_each(alloc, &mut tree, strategies, steps);
+    Ok((tree.into_store(), taken))
+}
+
+/// As `crash_between`, where each step is taken by a run of its own.
+pub fn crash_between_single_steps(
+    alloc: Global,
+    store: MemStore,
+    first: &[Step],
+    picks: &[(&str, Pick<'_>)],
+    second: &[Step],
+) -> Result<Option<TwoLives>, Error>
+    requires new { Begins (λ _. None) (world_of store) }
+    ensures survives { AllByRecursion IsUsual first.now → AllByRecursion IsUsual second.now → MatchResult result (λ r. IfSome r (λ l. Survives (take (length l.before.outcomes.items) first.now) l.before.outcomes.items (take (length l.after.outcomes.items) second.now) l.after.outcomes.items)) IsWant }
+    ensures crashed { IfOk result (λ r. MatchOption r ((told : List Told) × EndsWith (λ s. ¬ CanBeLeft picks.now s) store first.now told) (λ l. EndsWith (CanBeLeft picks.now) store first.now l.before.outcomes.items)) }
+{
+    crash_by_hand(alloc, store, 0, first, picks, 0, second)
 }

@@ -13,3 +13,6 @@ returns-in-Ok-clause-answers c ready m stands usual =
     let first = first_usual n c.args.steps.now usual in
     let opened = opened_in lived.old in
     record { opened = opened; answers = (lived.replays (usual_plain taken first) lived.starts.starts (lived.rises opened (above opened) (omega arith) lived.counted (usual_rises taken first (above opened) (At lived.old.seqno)) (usual_weak opened [] taken first))).0 }
+
+pub returns-clause-refused : goal.returns-clause-refused
+returns-clause-refused c m stands = c.in-Err.ensures.refused tt m stands

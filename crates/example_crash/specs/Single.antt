@@ -1,0 +1,72 @@
+-- What a caller has who takes steps one by one, each by a run of its own: what he has taken so far is a life, as one run of it is.
+use Rattle.std.specs.Prelude.{◌≡◌, ℕ, ◌≤◌, ◌^◌, max, List, [], map}
+use Rattle.std.specs.List.{AllByRecursion}
+use Rattle.lsm_below.specs.Entries.{Entry, above}
+use Rattle.lsm_store.specs.declared.mem_store.MemStore.{MemStore}
+use Rattle.lsm_store.specs.Memory.{may_of, world_of}
+use Rattle.lsm_store.specs.World.{Image, IsImage}
+use Rattle.lsm_model.specs.Journal.{Map}
+use Rattle.lsm_model.specs.Views.{held}
+use Rattle.lsm_versions.specs.Levels.{Levels, placed_of}
+use Rattle.lsm_manifest.specs.Finding.{Finds, StandsForMap}
+use Rattle.lsm_manifest.specs.Ready.{IsReady}
+use Rattle.lsm_state.specs.Core.{Seen}
+use Rattle.lsm_run_model.specs.Rising.{At, RisesFrom, highest}
+use Rattle.lsm_runs.specs.declared.steps.Step.{Step}
+use Rattle.lsm_runs.specs.Drawing.{drawing_of, keys_weak}
+use Rattle.lsm_runs.specs.Lives.{Rise, LivesInOrder}
+use Rattle.lsm_runs.specs.Moments.{Reopens}
+use Rattle.lsm_runs.specs.Runs.{IsPlainUse, EachAnswers}
+use Rattle.lsm_runs.specs.Told.{Told}
+use Rattle.example_crash.specs.SoFar.{SoFar}
+use Rattle.example_crash.specs.Survival.{IsLeftFrom}
+
+-- On a tree that was opened with these entries, and whose counter stood here, the steps forget nothing that isn't flushed, their numbers rise,
+-- and a key that one of them removes weakly was set once at most. Usual steps do so on any tree (`IsUsual`); on a new one no entries are opened.
+pub record KeepsOrder (opened : List Entry) (counter : ℕ) (steps : List Step) : Type 0 where
+  pub plain : IsPlainUse steps
+  pub rise : Rise opened counter steps
+
+-- The same of steps without weak removals, on any tree that was opened with entries numbered below this, and whose counter was put above them.
+pub record KeepsOrderAbove (low from : ℕ) (steps : List Step) : Type 0 where
+  pub plain : IsPlainUse steps
+  pub above_low : low ≤ from
+  pub numbers : RisesFrom low (At from) (map drawing_of steps)
+  pub weak : AllByRecursion (λ x. keys_weak x ≡ []) steps
+
+-- opening takes the store, and it stands for the map
+pub record MayBeOpened (store : MemStore) (m : Map) : Type 0 where
+  pub ready : IsReady (world_of store)
+  pub stands : StandsForMap (world_of store).gives m
+
+-- A store that stood for the map was opened, with its counter at a number at least, and these steps were taken on it, which had these outcomes.
+pub record HasLived (m : Map) (was : MemStore) (from : ℕ) (steps : List Step) (told : List Told) (is : MemStore) : Type 0 where
+  -- the entries that were found, and where the counter stood
+  pub opened : List Entry
+  pub found : (levels : Levels) → Finds (world_of was).gives levels → opened ≡ held (placed_of levels)
+  pub counter : ℕ
+  pub starts : counter ≡ max from (above opened)
+  -- it is a life, as one run of all these steps is one: so a crash at any moment, also in a step, leaves a beginning
+  pub lives : LivesInOrder world_of m steps told was is
+  -- where they keep the order, each read answers the replay of the calls before it, and whatever a crash leaves now is opened again as a
+  -- beginning of the calls, with each flush that was installed and each clear that was answered
+  pub reads : KeepsOrder opened counter steps → EachAnswers opened m [] steps told
+  pub leaves : KeepsOrder opened counter steps → (image : Image) → IsImage (may_of is.files) image → (left : Map) × Reopens (2 ^ 63) image left × IsLeftFrom m steps told left
+  -- of which all numbers are below the one at which the counter stands at most
+  pub below : KeepsOrder opened counter steps → (image : Image) → IsImage (may_of is.files) image → (levels : Levels) → Finds image levels → above (held (placed_of levels)) ≤ highest (At counter) (map drawing_of steps)
+  -- and where the process ends now, the next one may open the store as it is
+  pub ready : IsReady (world_of is)
+
+-- a store that may be opened stands for what these steps leave
+pub record ComesAfter (start : Map) (steps : List Step) (told : List Told) (store : MemStore) : Type 0 where
+  pub left : Map
+  pub opens : MayBeOpened store left
+  pub kept : IsLeftFrom start steps told left
+
+-- A tree has taken these steps one by one on such a store, each by a run of its own: so far it has lived, and may take more.
+pub record HasTaken (m : Map) (was : MemStore) (from : ℕ) (steps : List Step) (told : List Told) (tree : Seen MemStore) : Type 0 where
+  pub lived : HasLived m was from steps told tree.store
+  pub opened : List Entry
+  pub counter : ℕ
+  pub starts : counter ≡ max from (above opened)
+  pub so_far : SoFar world_of m was opened counter steps told tree.store tree.core
