@@ -1,5 +1,5 @@
 -- A life on a new store in memory, a crash, and a life on what it left.
-use Rattle.std.proofs.Common.{◌≡◌, ℕ, ◌≤◌, ◌^◌, arith, List, map, ap}
+use Rattle.std.proofs.Common.{ℕ, ◌≤◌, ◌^◌, arith, List, map, ap}
 use Rattle.std.specs.FinMap.{empty}
 use Rattle.lsm_below.specs.Entries.{above}
 use Rattle.lsm_below.specs.declared.error.Error.{Error}

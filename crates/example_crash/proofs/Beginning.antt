@@ -1,11 +1,10 @@
 -- A store in memory that is opened, before the first step.
-use Rattle.std.proofs.Common.{◌≡◌, ℕ, ◌≤◌, ◌^◌, max, arith, List, [], None, Result, Ok, take, length, refl, sym, ap, subst}
+use Rattle.std.proofs.Common.{◌≡◌, ℕ, ◌≤◌, ◌^◌, max, arith, List, [], Ok, take, length, sym, ap, subst}
 use Rattle.lsm_below.specs.Entries.{Entry, above}
 use Rattle.lsm_below.specs.Sums.{capped}
-use Rattle.lsm_below.specs.declared.error.Error.{Error}
 use Rattle.lsm_store.specs.declared.mem_store.MemStore.{MemStore}
 use Rattle.lsm_store.specs.Memory.{world_of}
-use Rattle.lsm_store.specs.World.{Image, Begins}
+use Rattle.lsm_store.specs.World.{Begins}
 use Rattle.lsm_model.specs.Journal.{Map, next_number}
 use Rattle.lsm_model.specs.Views.{held}
 use Rattle.lsm_versions.specs.Configs.{raised}
@@ -14,7 +13,7 @@ use Rattle.lsm_versions.specs.declared.config.Config.{Config}
 use Rattle.lsm_manifest.specs.Finding.{Finds, OpeningFinds}
 use Rattle.lsm_manifest.specs.Ready.{OpeningLeavesRead}
 use Rattle.lsm_manifest.specs.Standing.{HasSmallNumbers}
-use Rattle.lsm_state.specs.Core.{Core, Seen, opened_core}
+use Rattle.lsm_state.specs.Core.{Core, opened_core}
 use Rattle.lsm_state.specs.Opened.{found_entries, OpensTree}
 use Rattle.lsm_runs.specs.declared.steps.Step.{Step}
 use Rattle.lsm_runs.specs.After.{RunIsRight}

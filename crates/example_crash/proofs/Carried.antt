@@ -29,7 +29,7 @@ use Rattle.lsm_runs.specs.Moments.{Reopens, StaysReady, EachReady, RunHasMoments
 use Rattle.lsm_runs.specs.Notes.{none_begun, EachTells}
 use Rattle.lsm_runs.specs.Told.{Told}
 use Rattle.lsm_runs.proofs.Uses.{drawings}
-use Rattle.example_crash.specs.Single.{KeepsOrder, HasLived, HasTaken}
+use Rattle.example_crash.specs.Single.{KeepsOrder, HasTaken}
 use Rattle.example_crash.specs.SoFar.{LivesAlong, SoFar}
 use Rattle.example_crash.specs.Survival.{IsLeftFrom}
 use Rattle.example_crash.proofs.Growing.{all_of}

@@ -1,5 +1,5 @@
 -- Steps that keep the order: usual ones do, and so do the first so many.
-use Rattle.std.proofs.Common.{◌≡◌, ⊎_elim, inl, inr, ℕ, zero, suc, ◌+◌, ◌≤◌, max, arith, List, [], ◌∷◌, ◌++◌, map, take, subst, sym, ap, ◌∙◌}
+use Rattle.std.proofs.Common.{◌≡◌, ⊎_elim, inl, inr, ℕ, zero, suc, ◌+◌, ◌≤◌, max, arith, List, [], ◌∷◌, ◌++◌, map, take, subst, sym}
 use Rattle.std.specs.List.{AllByRecursion}
 use Rattle.lsm_below.specs.Entries.{Entry, above}
 use Rattle.lsm_below.specs.Keys.{Bytes}
@@ -8,7 +8,6 @@ use Rattle.lsm_run_model.specs.Rising.{Drawing, Silent, Own, Raises, Reserves, D
 use Rattle.lsm_runs.specs.declared.steps.Step.{Step}
 use Rattle.lsm_runs.specs.declared.steps.Step.TheVariants.{ClearActiveMemtable}
 use Rattle.lsm_runs.specs.Drawing.{drawing_of, keys_set, keys_weak, asks_of}
-use Rattle.lsm_runs.specs.Lives.{Rise}
 use Rattle.example_crash.specs.Single.{KeepsOrder, KeepsOrderAbove}
 use Rattle.example_crash.specs.Survival.{IsUsual}
 use Rattle.example_crash.proofs.Usual.{usual_plain, usual_rises, usual_weak}

@@ -1,4 +1,4 @@
-use Rattle.std.proofs.Common.{◌≡◌, ℕ, ◌≤◌, arith, length, take, map, refl, subst, ap}
+use Rattle.std.proofs.Common.{arith, length, take, map, subst, ap}
 use Rattle.std.proofs.lemmas.Result.{err_from_is_err_and}
 use Rattle.std.specs.FinMap.{empty}
 use Rattle.lsm_store.specs.declared.mem_store.MemStore.{MemStore}

@@ -1,4 +1,4 @@
-use Rattle.std.proofs.Common.{[], ap, subst, length}
+use Rattle.std.proofs.Common.{[], ap, subst}
 use Rattle.lsm_versions.specs.declared.config.Config.{Config}
 use Rattle.example_crash.specs.Single.{HasTaken}
 use Rattle.example_crash.proofs.Beginning.{has_opened}

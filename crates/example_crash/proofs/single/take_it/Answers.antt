@@ -1,4 +1,4 @@
-use Rattle.std.proofs.Common.{arith, length}
+use Rattle.std.proofs.Common.{arith}
 use Rattle.example_crash.proofs.Carried.{Laws, took_it, took_none}
 use Rattle.example_crash.proofs.Growing.{none_in}
 use Rattle.example_crash.proofs.Taking.{only_one}
