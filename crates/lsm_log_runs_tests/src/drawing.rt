@@ -1,6 +1,8 @@
 // How a script is drawn.
+use crate::jobs::{SLOTS, Waits, draw_job};
 use crate::random::Random;
 use crate::shown::{COUNT, KEYS};
+use crate::strategies::draw_strategy;
 use lsm_below::{SeqNo, UserKey, UserValue};
 use lsm_log_runs::LogStep;
 use lsm_model::{Op, Ops};
@@ -17,17 +19,18 @@ const HIGH: SeqNo = 1 << 20;
 /// The fewest steps, and how many more there may be.
 const FEWEST: u64 = 5;
 
-const MORE: u64 = 36;
+const MORE: u64 = 48;
 
 /// How many calls of the store an opening makes, or some more.
 const OPENING: u64 = 8;
 
-/// What was drawn before: how many steps, how often each key was set, and the value of the last set.
+/// What was drawn before: how many steps, how often each key was set, the value of the last set, and what may wait in each slot.
 #[derive(Clone, Copy, Debug)]
 pub struct Drawn {
     pub steps: u64,
     sets: [u64; COUNT],
     value: u64,
+    slots: [Waits; SLOTS],
 }
 
 impl Drawn {
@@ -35,6 +38,7 @@ impl Drawn {
         steps: 0,
         sets: [0; COUNT],
         value: 0,
+        slots: [Waits::Nothing; SLOTS],
     };
 
     /// Whether the key was set once, so that it may be removed weakly.
@@ -76,7 +80,7 @@ fn draw_place(random: &mut Random) -> usize {
     random.below(COUNT as u64) as usize
 }
 
-fn draw_watermark(random: &mut Random) -> SeqNo {
+pub fn draw_watermark(random: &mut Random) -> SeqNo {
     if random.one_in(2) { 0 } else { HIGH }
 }
 
@@ -135,16 +139,17 @@ fn draw_read(random: &mut Random) -> LogStep {
 
 /// A step that makes no batch and reads nothing.
 fn draw_change(random: &mut Random) -> LogStep {
-    match random.below(22) {
+    match random.below(24) {
         0..=3 => LogStep::RotateMemtable,
-        4..=7 => LogStep::Flush(draw_watermark(random)),
-        8..=14 => LogStep::FlushActiveMemtable(draw_watermark(random)),
-        15..=17 => {
+        4..=6 => LogStep::Flush(draw_watermark(random)),
+        7..=13 => LogStep::FlushActiveMemtable(draw_watermark(random)),
+        14..=15 => {
             let target = if random.one_in(2) { 64 } else { u64::MAX };
             LogStep::MajorCompact(target, draw_watermark(random))
         }
-        18 => LogStep::SetMoment(random.below(1_000)),
-        19 => {
+        16..=19 => LogStep::Compact(draw_strategy(random), draw_watermark(random)),
+        20 => LogStep::SetMoment(random.below(1_000)),
+        21 => {
             let (low, high) = draw_bounds(random);
             LogStep::DropRange(low, high)
         }
@@ -153,9 +158,15 @@ fn draw_change(random: &mut Random) -> LogStep {
 }
 
 fn draw_step(alloc: Global, random: &mut Random, drawn: &mut Drawn) -> Result<LogStep, AllocError> {
+    let only_waiting = !random.one_in(3);
+    if random.one_in(2) {
+        if let Some(step) = draw_job(random, &mut drawn.slots, only_waiting) {
+            return Ok(step);
+        }
+    }
     match random.below(64) {
-        0..=33 => draw_batch(alloc, random, drawn),
-        34..=42 => Ok(draw_read(random)),
+        0..=37 => draw_batch(alloc, random, drawn),
+        38..=44 => Ok(draw_read(random)),
         _ => Ok(draw_change(random)),
     }
 }
@@ -166,6 +177,7 @@ fn draw_steps(
     drawn: &mut Drawn,
 ) -> Result<Vec<LogStep>, AllocError> {
     let mut steps = Vec::new(alloc);
+    drawn.slots = [Waits::Nothing; SLOTS];
     for _ in 0..random.below(MORE).saturating_add(FEWEST) {
         steps.push(draw_step(alloc, random, drawn)?)?;
     }
@@ -196,7 +208,7 @@ pub fn draw_script(
     Ok(Script {
         steps,
         fault: draw_fault(random, calls),
-        goes_on: random.one_in(2),
+        goes_on: !random.one_in(3),
         crashes: !random.one_in(8),
     })
 }

@@ -1,8 +1,9 @@
 // What is known of a tree by what its calls replied.
 use crate::shown::{ALL, Part, Table};
+use crate::strategies::FIFO;
 use lsm_below::Error;
 use lsm_log_runs::LogStep;
-use lsm_runs::{Compacted, Reply};
+use lsm_runs::{Compacted, JobStep, Reply};
 
 /// What is known of a tree by what its calls replied.
 #[derive(Clone, Copy, Debug)]
@@ -141,6 +142,10 @@ impl Known {
             LogStep::Write(ops) => self.committed(self.surely.with(ops.as_slice()), step, reply),
             LogStep::Clear => self.committed(Table::EMPTY, step, reply),
             LogStep::DropRange(low, high) => Some(self.dropped(&Part::Between(low, high), reply)),
+            // Which tables are dropped isn't told.
+            LogStep::Compact(FIFO, _) | LogStep::AtSlot(_, JobStep::BeginCompaction(FIFO, _)) => {
+                Some(self.dropped(&ALL, reply))
+            }
             LogStep::Get(key, _) => self.gotten(key.as_slice(), reply),
             LogStep::Range(low, high, _) => self.listed(&Part::Between(low, high), reply),
             LogStep::Prefix(start, _) => self.listed(&Part::Beginning(start.as_slice()), reply),

@@ -6,6 +6,8 @@
 //! | `runs` | a run, a life and their refusals, with what is expected spelled by hand |
 //! | `random` | the numbers that scripts are drawn by |
 //! | `drawing` | holds no test: how a script is drawn |
+//! | `jobs` | holds no test: how calls on jobs in slots are drawn |
+//! | `strategies` | holds no test: the strategies of the scripts |
 //! | `shown` | holds no test: what each key is to show |
 //! | `known` | holds no test: what is known of a tree by what its calls replied |
 //! | `crashes` | holds no test: how it is drawn what a crash leaves |
@@ -17,6 +19,8 @@ mod crashes;
 #[cfg(test)]
 mod drawing;
 #[cfg(test)]
+mod jobs;
+#[cfg(test)]
 mod known;
 #[cfg(test)]
 mod random;
@@ -26,5 +30,7 @@ mod runs;
 mod scripts;
 #[cfg(test)]
 mod shown;
+#[cfg(test)]
+mod strategies;
 #[cfg(test)]
 mod tallies;

@@ -1,10 +1,13 @@
 // A run, a life and their refusals, with what is expected spelled by hand.
+use crate::strategies::{MAJOR, NONE, add_strategies};
 use lsm_below::{Error, UserKey, UserValue};
 use lsm_log_runs::{LogStep, TakenLogged, live_logged, run_logged};
 use lsm_logged::Logged;
 use lsm_model::{Op, Ops};
 use lsm_parts::Config;
-use lsm_runs::Reply;
+use lsm_pick::CompactionStrategy;
+use lsm_runs::{JobStep, Reply, Slot};
+use lsm_state::Options;
 use lsm_store::{Fault, MemStore, Pick, Store};
 use std::alloc::{AllocError, Global};
 use std::test::Fail;
@@ -34,6 +37,91 @@ const ANSWERS: [&str; 6] = [
     "Value(Some(b\"x\"))",
     "Cleared(3)",
     "Value(None)",
+];
+
+fn at_slot(slot: Slot, step: JobStep) -> LogStep {
+    LogStep::AtSlot(slot, step)
+}
+
+/// A flush as a job in slot 7, while a batch comes, and one that is given up.
+fn flush_jobs(alloc: Global) -> Result<Vec<LogStep>, AllocError> {
+    let mut steps = Vec::new(alloc);
+    steps.push(write(alloc, "a", "x")?)?;
+    steps.push(at_slot(7, JobStep::BeginFlush))?;
+    steps.push(LogStep::RotateMemtable)?;
+    steps.push(at_slot(7, JobStep::BeginFlush))?;
+    steps.push(at_slot(7, JobStep::BeginFlush))?;
+    steps.push(write(alloc, "b", "y")?)?;
+    steps.push(at_slot(7, JobStep::FlushToTables))?;
+    steps.push(at_slot(7, JobStep::RunFlush(0)))?;
+    steps.push(at_slot(7, JobStep::FlushToTables))?;
+    steps.push(at_slot(6, JobStep::RegisterTables))?;
+    steps.push(at_slot(7, JobStep::RegisterTables))?;
+    steps.push(LogStep::RotateMemtable)?;
+    steps.push(at_slot(7, JobStep::BeginFlush))?;
+    steps.push(at_slot(7, JobStep::AbandonFlush))?;
+    steps.push(get("a"))?;
+    steps.push(get("b"))?;
+    Ok(steps)
+}
+
+const FLUSHES: [&str; 16] = [
+    "Number(0)",
+    "Begun(false)",
+    "Sealed(Some(0))",
+    "Begun(true)",
+    "SlotInUse",
+    "Number(1)",
+    "NoJob",
+    "Done",
+    "Done",
+    "NoJob",
+    "Registered(Registered { installed: true, cleaned: true })",
+    "Sealed(Some(1))",
+    "Begun(true)",
+    "Done",
+    "Value(Some(b\"x\"))",
+    "Value(Some(b\"y\"))",
+];
+
+/// A merge as a job in slot 3, one that is given up, and compactions in one call.
+fn merge_jobs(alloc: Global) -> Result<Vec<LogStep>, AllocError> {
+    let options = Options {
+        mvcc_gc_watermark: 0,
+        moment: 0,
+    };
+    let begin = JobStep::BeginCompaction(MAJOR, options);
+    let mut steps = Vec::new(alloc);
+    steps.push(write(alloc, "a", "x")?)?;
+    steps.push(LogStep::FlushActiveMemtable(0))?;
+    steps.push(at_slot(3, begin))?;
+    steps.push(at_slot(3, begin))?;
+    steps.push(at_slot(3, JobStep::FinishCompaction))?;
+    steps.push(at_slot(3, JobStep::RunCompaction))?;
+    steps.push(at_slot(3, JobStep::FinishCompaction))?;
+    steps.push(at_slot(3, begin))?;
+    steps.push(at_slot(3, JobStep::AbandonCompaction))?;
+    steps.push(at_slot(3, JobStep::BeginCompaction(NONE, options)))?;
+    steps.push(LogStep::Compact(NONE, 0))?;
+    steps.push(LogStep::Compact(MAJOR, 0))?;
+    steps.push(get("a"))?;
+    Ok(steps)
+}
+
+const MERGES: [&str; 13] = [
+    "Number(0)",
+    "FlushedActive(Some(0), Some((50, Registered { installed: true, cleaned: true })))",
+    "Compacted(Waits)",
+    "SlotInUse",
+    "NoJob",
+    "Done",
+    "Finished(Installed)",
+    "Compacted(Waits)",
+    "Done",
+    "NoStrategy",
+    "NoStrategy",
+    "Compacted(Installed)",
+    "Value(Some(b\"x\"))",
 ];
 
 /// Two batches, and reads of what they set.
@@ -86,17 +174,20 @@ fn count_right(alloc: Global, taken: &TakenLogged, answers: &[&str]) -> (usize, 
     (right, taken.replies.len())
 }
 
-/// The same of a run on what a store holds.
+/// The same of a run on what a store holds, with the strategies of the scripts.
 fn run(
     alloc: Global,
     store: MemStore,
     steps: &[LogStep],
     answers: &[&str],
 ) -> Result<(usize, usize), Error> {
+    let mut strategies: Vec<Box<dyn CompactionStrategy>> = Vec::new(alloc);
+    add_strategies(alloc, &mut strategies)?;
     match Logged::open(alloc, Config::new(0, 0, 0), store) {
         Ok(mut tree) => {
-            let taken = run_logged(alloc, &mut tree, &[], steps);
+            let taken = run_logged(alloc, &mut tree, &strategies, steps);
             drop(tree);
+            drop(strategies);
             Ok(count_right(alloc, &taken, answers))
         }
         Err((error, _)) => Err(error),
@@ -108,6 +199,22 @@ fn runs_take_each_step(rt: HostRuntime) -> Result<(), Fail> {
     let steps = all_kinds(rt.alloc())?;
     let right = run(rt.alloc(), MemStore::new(rt.alloc()), &steps, &ANSWERS)?;
     assert_eq!(rt; right, (6, 6));
+    Ok(())
+}
+
+#[test]
+fn runs_take_flushes_as_jobs(rt: HostRuntime) -> Result<(), Fail> {
+    let steps = flush_jobs(rt.alloc())?;
+    let right = run(rt.alloc(), MemStore::new(rt.alloc()), &steps, &FLUSHES)?;
+    assert_eq!(rt; right, (16, 16));
+    Ok(())
+}
+
+#[test]
+fn runs_take_merges_as_jobs(rt: HostRuntime) -> Result<(), Fail> {
+    let steps = merge_jobs(rt.alloc())?;
+    let right = run(rt.alloc(), MemStore::new(rt.alloc()), &steps, &MERGES)?;
+    assert_eq!(rt; right, (13, 13));
     Ok(())
 }
 
@@ -138,7 +245,9 @@ fn lived(
     steps: &[LogStep],
     answers: &[&str],
 ) -> Result<((usize, usize), MemStore), (Error, MemStore)> {
-    let (tree, taken) = live_logged(alloc, Config::new(0, 0, 0), store, &[], steps)?;
+    let strategies: Vec<Box<dyn CompactionStrategy>> = Vec::new(alloc);
+    let (tree, taken) = live_logged(alloc, Config::new(0, 0, 0), store, &strategies, steps)?;
+    drop(strategies);
     let right = count_right(alloc, &taken, answers);
     drop(taken);
     Ok((right, tree.into_store()))

@@ -5,11 +5,13 @@ use crate::drawing::{Drawn, SNAPSHOT, Script, draw_script};
 use crate::known::{Known, Told};
 use crate::random::Random;
 use crate::shown::{KEYS, Table};
+use crate::strategies::add_strategies;
 use crate::tallies::Tally;
 use lsm_below::UserKey;
 use lsm_log_runs::{LogStep, TakenLogged, run_logged};
 use lsm_logged::Logged;
 use lsm_parts::Config;
+use lsm_pick::CompactionStrategy;
 use lsm_store::{Fault, MemStore, Store};
 use std::alloc::{AllocError, Global};
 use std::ops::Bound;
@@ -42,11 +44,12 @@ fn behind(
 fn take_all(
     alloc: Global,
     tree: &mut Logged,
+    strategies: &[Box<dyn CompactionStrategy>],
     steps: &[LogStep],
     known: Known,
     tally: &mut Tally,
 ) -> Option<Known> {
-    let taken = run_logged(alloc, tree, &[], steps);
+    let taken = run_logged(alloc, tree, strategies, steps);
     behind(steps, &taken, known, tally)
 }
 
@@ -54,6 +57,7 @@ fn take_all(
 fn take_up_to_fault(
     alloc: Global,
     tree: &mut Logged,
+    strategies: &[Box<dyn CompactionStrategy>],
     steps: &[LogStep],
     known: Known,
     tally: &mut Tally,
@@ -61,7 +65,7 @@ fn take_up_to_fault(
     let failed = tree.store().failures();
     let mut known = known;
     for step in steps.chunks(1) {
-        known = take_all(alloc, tree, step, known, tally)?;
+        known = take_all(alloc, tree, strategies, step, known, tally)?;
         if tree.store().failures() > failed {
             break;
         }
@@ -73,6 +77,7 @@ fn take_up_to_fault(
 fn play(
     alloc: Global,
     store: MemStore,
+    strategies: &[Box<dyn CompactionStrategy>],
     script: &Script,
     known: Known,
     tally: &mut Tally,
@@ -82,9 +87,9 @@ fn play(
         Ok(mut tree) => {
             let steps = script.steps.as_slice();
             let known = if script.goes_on {
-                take_all(alloc, &mut tree, steps, known, tally)
+                take_all(alloc, &mut tree, strategies, steps, known, tally)
             } else {
-                take_up_to_fault(alloc, &mut tree, steps, known, tally)
+                take_up_to_fault(alloc, &mut tree, strategies, steps, known, tally)
             };
             (tree.into_store(), known)
         }
@@ -179,6 +184,7 @@ fn end(
 fn live(
     alloc: Global,
     store: MemStore,
+    strategies: &[Box<dyn CompactionStrategy>],
     table: Table,
     drawn: &mut Drawn,
     random: &mut Random,
@@ -189,7 +195,7 @@ fn live(
     if let Some((call, fault)) = script.fault {
         store.fail(call, fault);
     }
-    let (store, played) = play(alloc, store, &script, Known::of(table), tally);
+    let (store, played) = play(alloc, store, strategies, &script, Known::of(table), tally);
     let Some(known) = played else {
         return Ok((store, table, Told::Misread));
     };
@@ -201,24 +207,47 @@ fn live(
 }
 
 /// The script of a number, of one life or two.
-fn run_script(alloc: Global, number: u64, tally: &mut Tally) -> Result<Told, AllocError> {
+fn run_script(
+    alloc: Global,
+    strategies: &[Box<dyn CompactionStrategy>],
+    number: u64,
+    tally: &mut Tally,
+) -> Result<Told, AllocError> {
     let mut random = Random::new(SEED.wrapping_add(number));
     let mut drawn = Drawn::NOTHING;
     let new = MemStore::new(alloc);
-    let (store, table, told) = live(alloc, new, Table::EMPTY, &mut drawn, &mut random, tally)?;
+    let (store, table, told) = live(
+        alloc,
+        new,
+        strategies,
+        Table::EMPTY,
+        &mut drawn,
+        &mut random,
+        tally,
+    )?;
     if !told.is_well() || !random.one_in(SECOND) {
         return Ok(told);
     }
     tally.second = tally.second.saturating_add(1);
-    let (_, _, told) = live(alloc, store, table, &mut drawn, &mut random, tally)?;
+    let (_, _, told) = live(
+        alloc,
+        store,
+        strategies,
+        table,
+        &mut drawn,
+        &mut random,
+        tally,
+    )?;
     Ok(told)
 }
 
 #[test]
 fn scripts_keep_what_is_acknowledged(rt: HostRuntime) -> Result<(), Fail> {
     let mut tally = Tally::NOTHING;
+    let mut strategies: Vec<Box<dyn CompactionStrategy>> = Vec::new(rt.alloc());
+    add_strategies(rt.alloc(), &mut strategies)?;
     for number in 0..SCRIPTS {
-        let told = run_script(rt.alloc(), number, &mut tally)?;
+        let told = run_script(rt.alloc(), &strategies, number, &mut tally)?;
         assert!(rt; told.is_well(), "script {number}: {told:?}");
     }
     assert!(rt; tally.is_plenty(), "{tally:?}");

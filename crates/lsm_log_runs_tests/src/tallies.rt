@@ -1,7 +1,8 @@
 // How often each thing happened in the scripts.
 use crate::known::{Known, Told};
 use lsm_flush::Registered;
-use lsm_runs::Reply;
+use lsm_runs::{Compacted, Reply};
+use lsm_state::Finished;
 
 /// How often each thing happened.
 #[derive(Clone, Copy, Debug)]
@@ -14,8 +15,16 @@ pub struct Tally {
     pub lost: u64,
     /// Lives behind which it was.
     pub kept: u64,
-    /// Flushes that were installed.
+    /// Flushes that were installed in one call.
     pub flushed: u64,
+    /// Flushes whose job was registered, and installed.
+    pub registered: u64,
+    /// Compactions that were installed in one call, or as they began.
+    pub compacted: u64,
+    /// Merges that were done as jobs, and installed.
+    pub merged: u64,
+    /// Jobs that a step didn't find, or whose slot was in use.
+    pub missed: u64,
     /// Clears that were acknowledged.
     pub cleared: u64,
     /// Openings that a fault refused.
@@ -33,6 +42,10 @@ impl Tally {
         lost: 0,
         kept: 0,
         flushed: 0,
+        registered: 0,
+        compacted: 0,
+        merged: 0,
+        missed: 0,
         cleared: 0,
         refused: 0,
         second: 0,
@@ -46,15 +59,25 @@ impl Tally {
             Reply::Flushed(Some((_, told))) | Reply::FlushedActive(_, Some((_, told))) => {
                 self.add_flush(*told);
             }
+            Reply::Registered(told) if told.installed => {
+                self.registered = self.registered.saturating_add(1);
+            }
+            Reply::Compacted(Compacted::Installed) => {
+                self.compacted = self.compacted.saturating_add(1);
+            }
+            Reply::Finished(Finished::Installed) => self.merged = self.merged.saturating_add(1),
+            Reply::NoJob | Reply::SlotInUse => self.missed = self.missed.saturating_add(1),
             _ => (),
         }
     }
 
     /// Whether all of it happened often: in 2,000 scripts each happens about twice as often as is asked here, or more.
     pub fn is_plenty(&self) -> bool {
-        let calls = self.batches > 10_000 && self.flushed > 1_500 && self.cleared > 500;
+        let calls = self.batches > 10_000 && self.flushed > 1_200 && self.cleared > 300;
+        let jobs = self.registered > 200 && self.merged > 150 && self.missed > 2_000;
         let lives = self.refused > 100 && self.second > 300 && self.picks > 50_000;
-        calls && lives && self.shut > 400 && self.lost > 200 && self.kept > 50
+        let ends = self.shut > 300 && self.lost > 200 && self.kept > 15;
+        calls && self.compacted > 1_000 && jobs && lives && ends
     }
 
     fn add_flush(&mut self, told: Registered) {
