@@ -20,11 +20,12 @@ use Rattle.lsm_log_model.specs.Records.{logged, opened_by}
 use Rattle.lsm_log_model.specs.Recovery.{HoldsBatches}
 use Rattle.lsm_logged.specs.Meanwhile.{LeavesAsBefore}
 use Rattle.lsm_logged.specs.Opening.{image_read}
+use Rattle.lsm_run_model.specs.Lives.{Crashed}
 use Rattle.lsm_runs.specs.declared.steps.Reply.{Reply}
 use Rattle.lsm_log_runs.specs.declared.steps.LogStep.{LogStep}
 use Rattle.lsm_log_runs.specs.declared.steps.LogStep.TheVariants.{Write}
 use Rattle.lsm_log_runs.specs.Images.{ReadsLog, MayBeOpened}
-use Rattle.lsm_log_runs.specs.Lives.{IsUsual, LoggedLife, Crashed, StillKept, OpeningLife, AnyNumberOfLoggedLives, OpeningsAreLoggedLives}
+use Rattle.lsm_log_runs.specs.Lives.{IsUsual, LoggedLife, StillKept, OpeningLife, AnyNumberOfLoggedLives, OpeningsAreLoggedLives}
 use Rattle.lsm_log_runs.specs.Living.{LivesLogged}
 use Rattle.lsm_log_runs.specs.Moments.{MayBeTried, EachKeeps}
 use Rattle.lsm_log_runs.specs.Pasts.{LogPast, nothing}
@@ -59,18 +60,7 @@ module _ {F : Type 0} (world : F → World) where
 
 -- ---- a life and its crash
 
-given : (image : Image) (w : World) → Begins image w → Begins w.gives w
-given image w begins = record {
-  gives = λ n. refl;
-  may = λ n c. (λ may. (begins.may n c).0 may ∙ sym (begins.gives n), λ is. (begins.may n c).1 (is ∙ begins.gives n));
-  moment = begins.moment;
-  failures = begins.failures;
-}
-
 module _ (was is next : MemStore) (image : Image) (may : IsImage (world_of is).may image) (begins : Begins image (world_of next)) where
-  left : IsImage (world_of is).may (world_of next).gives
-  left n = subst ((world_of is).may n) (sym (begins.gives n)) (may n)
-
   -- what a crash may leave of the next store could be left of the one before
   left_of : (x : Image) → IsImage (world_of next).may x → IsImage (world_of is).may x
   left_of x at n = subst ((world_of is).may n) (sym ((begins.may n (x n)).0 (at n))) (may n)
@@ -78,7 +68,7 @@ module _ (was is next : MemStore) (image : Image) (may : IsImage (world_of is).m
   pub leads : AnyNumberOfLoggedLives world_of → (steps : List LogStep) (replies : List Reply) → IsImage (world_of was).may (world_of was).gives → LivesLogged world_of steps replies was is → AllByRecursion IsUsual steps → LeadsBy (world_of was) steps replies (world_of next)
   leads any steps replies one life usual =
       let read = image_read life.version life.records in
-      let lived : LoggedLife world_of was next = record { steps = steps; replies = replies; is = is; life = life; usual = usual; then = Crashed (given image (world_of next) begins) (inl left) } in
+      let lived : LoggedLife world_of was next = record { steps = steps; replies = replies; is = is; life = life; usual = usual; then = record { end = Crashed image; ends = record { each = λ x same. inl (subst (IsImage (world_of is).may) (sym same) may); gives = tt }; takes = begins } } in
       let well = (any was (next ∷ []) (inl lived, tt)).0 in
       record {
         start = logged read;
@@ -90,7 +80,7 @@ module _ (was is next : MemStore) (image : Image) (may : IsImage (world_of is).m
 
   pub keeps_all : OpeningsAreLoggedLives world_of → MayBeOpened (world_of was) → LeavesAsBefore (world_of was) (world_of is) → KeepsAll (world_of was) (world_of next)
   keeps_all openings may_be leaves =
-      let opening : OpeningLife world_of was next = record { is = is; may = may_be; leaves = leaves; then = Crashed (given image (world_of next) begins) (inl left) } in
+      let opening : OpeningLife world_of was next = record { is = is; may = may_be; leaves = leaves; then = record { end = Crashed image; ends = record { each = λ x same. inl (subst (IsImage (world_of is).may) (sym same) may); gives = tt }; takes = begins } } in
       let on = openings was next opening in
       record { opens = on.opens; keeps = on.keeps }
 

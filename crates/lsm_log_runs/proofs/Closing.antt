@@ -11,7 +11,7 @@ use Rattle.lsm_compaction.specs.OpenMerges.{SeenMerges, ended}
 use Rattle.lsm_log_model.specs.Logs.{Logged as Log, MayBeDrawn}
 use Rattle.lsm_log_model.specs.Records.{LogImage, opened_by}
 use Rattle.lsm_runs.specs.declared.slots.Job.{Job}
-use Rattle.lsm_runs.specs.Files.{StaysStored}
+use Rattle.lsm_runs.specs.Files.{AreApart, StaysStored}
 use Rattle.lsm_runs.specs.declared.slots.Job.TheVariants.{Begun, Merged, Written, Compaction, Compacted}
 use Rattle.lsm_runs.specs.Slots.{GivesUp, all_ended, Closes}
 use Rattle.lsm_runs.proofs.Files.{closed_stored}
@@ -99,6 +99,7 @@ closed_stands {S} world image past old new c s = record {
   keeps = subst (λ (x : S). KeepsLog (world x) s.log) (sym c.rest.store) s.keeps;
   next = subst (λ (x : Core). MayBeDrawn (opened_by image) s.log x.seqno) (sym c.core.rest) s.next;
   stored = closed_stored world old.store new.store old.core new.core c.core c.rest.store s.stored;
+  apart = subst (λ (x : Core). AreApart (versions_left x)) (sym c.core.rest) s.apart;
 }
 
 -- ---- what stays stored

@@ -1,34 +1,39 @@
 -- What a rotation, a flush behind it, and a compaction lead to.
-use Rattle.std.proofs.Common.{◌≡◌, ⊎_elim, inl, inr, ℕ, List, [], ◌∷◌, Option, Some, None, Result, Ok, Err, refl, sym, ap, subst}
+use Rattle.std.proofs.Common.{◌≡◌, ⊎_elim, inl, inr, ℕ, true, List, [], ◌∷◌, ◌++◌, append-nil, Option, Some, None, Result, Ok, Err, refl, sym, ap, subst}
 use Rattle.lsm_below.specs.Entries.{Entry}
 use Rattle.lsm_below.specs.declared.error.Error.{Error}
 use Rattle.lsm_below.specs.declared.error.Error.TheVariants.{CommitUnknown, AfterCommit}
 use Rattle.lsm_store.specs.World.{World, LeavesOnly}
 use Rattle.lsm_model.specs.Journal.{Event}
-use Rattle.lsm_model.specs.Steps.{Action, Rotated, DroppedTables, Marked, Maintained}
+use Rattle.lsm_model.specs.Steps.{Action, Rotated, Merged, Moved, DroppedTables, Marked, Maintained, StaysAt}
 use Rattle.lsm_model.specs.Beginnings.{Note}
+use Rattle.lsm_versions.specs.Levels.{SeenVersion}
 use Rattle.lsm_commit.specs.Foreign.{AtRest}
-use Rattle.lsm_log_model.specs.Logs.{Act, Did, CommitLost}
+use Rattle.lsm_commit.specs.Stored.{HoldsOneOf}
+use Rattle.lsm_log_model.specs.Logs.{IsCertain, Act, Did, CommitLost}
 use Rattle.lsm_log_model.specs.Records.{LogImage, logged, opened_by}
 use Rattle.lsm_runs.specs.declared.steps.Reply.{Reply}
 use Rattle.lsm_runs.specs.declared.steps.Reply.TheVariants.{Sealed, Flushed as FlushedReply, FlushedActive, RefusedActive, NoStrategy, SlotInUse, Refused}
 use Rattle.lsm_runs.specs.Compacting.{reply_of}
-use Rattle.lsm_runs.specs.Files.{StaysStored}
-use Rattle.lsm_state.specs.Core.{Core}
+use Rattle.lsm_runs.proofs.Resting.{Rests, rotated}
+use Rattle.lsm_state.specs.Core.{Core, state_of, versions_left}
 use Rattle.lsm_state.specs.declared.compaction.Begun.{Begun}
 use Rattle.lsm_state.specs.declared.compaction.Begun.TheVariants.{DidNothing, Declined, Installed, Job}
-use Rattle.lsm_logged.specs.Acting.{LeadsBy, LeadsByCommit, LeadsByLost, LeadsByMark, ActsByCompaction, CompactsAct, told_by, told_installed}
+use Rattle.lsm_logged.specs.Acting.{LeadsBy, LeadsByCommit, LeadsByLost, LeadsByMark, ActsByCompaction, CompactsAct, IsCompaction, told_by, told_installed}
 use Rattle.lsm_logged.specs.Keeping.{SeenLogged}
 use Rattle.lsm_log_runs.specs.Adds.{AddsRotation, AddsFlush, AddsFlushActive, IsDrop, AddsInstalled, AddsCompaction}
 use Rattle.lsm_log_runs.specs.Doing.{ActsRotate, ActsFlush, ActsBehind, ActsFlushActive, ActsCompaction, ActsCompact}
 use Rattle.lsm_log_runs.specs.Images.{Keeps}
+use Rattle.lsm_log_runs.specs.Leading.{SparesAnswers}
 use Rattle.lsm_log_runs.specs.Pasts.{LogPast, acknowledged, with_commit, with_doubt, with_sealed}
 use Rattle.lsm_log_runs.specs.Runs.{TakesRotate}
 use Rattle.lsm_log_runs.specs.Standing.{StandsLogged}
-use Rattle.lsm_log_runs.proofs.Leading.{Reading, Stores, Led, nothing_stands, nothing_led, same_led}
+use Rattle.lsm_log_runs.proofs.Advancing.{from_rest}
+use Rattle.lsm_log_runs.proofs.Leading.{Reading, Stores, StepFiles, Led, nothing_stands, nothing_led, same_led}
 use Rattle.lsm_log_runs.proofs.Orders.{order_marked, order_dropping, order_lost}
 use Rattle.lsm_log_runs.proofs.Rotations.{rotates_stored}
-use Rattle.lsm_log_runs.proofs.StepLeads.{LeadsOn, answered, fresh, holds, quiet_stands, quietly, flush_leads}
+use Rattle.lsm_log_runs.proofs.Sparing.{is_steady, FindsOn, found_on, spares_then}
+use Rattle.lsm_log_runs.proofs.StepLeads.{LeadsOn, answered, fresh, holds, quiet_stands, quiet_spared, quietly, flush_leads}
 
 -- ---- a rotation
 
@@ -36,8 +41,8 @@ module _ {S : Type 0} (world : S → World) (reading : Reading) (between : Store
   abbrev opened : List Entry
   opened = opened_by image
 
-  pub rotated_stored : (id : Option ℕ) → TakesRotate (Sealed id) old new → StaysStored (world old.store) (world new.store) old.core new.core
-  rotated_stored id takes h = rotates_stored world old new id takes h
+  pub rotated_stored : (id : Option ℕ) → TakesRotate (Sealed id) old new → StepFiles world old new
+  rotated_stored id takes = record { stays = rotates_stored world old new id takes; makes = inl (rotated old.core id new.core takes.0).versions }
 
   -- over the store as it is now
   moved : (journal : List Event) (notes : List Note) (acts : List Act) → new.store ≡ old.store → LeadsBy opened journal notes s.log acts (world old.store) (world old.store) old new → LeadsBy opened journal notes s.log acts (world old.store) (world new.store) old new
@@ -53,21 +58,36 @@ module _ {S : Type 0} (world : S → World) (reading : Reading) (between : Store
   sealed_by : (id : ℕ) → TakesRotate (Sealed (Some id)) old new → ActsRotate (Sealed (Some id)) (world old.store) old new → LeadsBy opened behind.journal behind.notes s.log sealing (world old.store) (world new.store) old new
   sealed_by id takes acts = moved behind.journal behind.notes sealing takes.1 (acts opened (logged image) past.journal past.notes s.log s.is s.keeps s.next (holds world reading between image past old new s (rotated_stored (Some id) takes)))
 
+  sealed_certain : (id : ℕ) (takes : TakesRotate (Sealed (Some id)) old new) (acts : ActsRotate (Sealed (Some id)) (world old.store) old new) → behind.known ≡ true → IsCertain (sealed_by id takes acts).log
+  sealed_certain id takes acts known = answered opened s.log sealing (sealed_by id takes acts).log (tt, tt) (sealed_by id takes acts).done (s.came.certain known)
+
+  -- each snapshot finds a super version where it found one
+  rotation_finds : (id : Option ℕ) → TakesRotate (Sealed id) old new → FindsOn (state_of [] old.core) (state_of [] new.core)
+  rotation_finds None takes = subst (λ (c : Core). FindsOn (state_of [] old.core) (state_of [] c)) (sym takes.0.1) (λ s sv f. (sv, f))
+  rotation_finds (Some id) takes = found_on opened (state_of [] old.core) (Rotated old.core.next_memtable) (state_of [] new.core) refl (takes.0.3 opened [])
+
+  same_spared : new.core ≡ old.core → SparesAnswers past past old.core new.core
+  same_spared is = ([], sym (append-nil past.journal), λ n each. subst (λ (c : Core). StaysAt n (state_of [] old.core) (state_of [] c)) (sym is) (reading.theory.sound.spares.same n (state_of [] old.core) (state_of [] old.core) refl refl refl))
+
   -- what it leaves stands, and covers no less than before
-  pub rotation_stands : (id : Option ℕ) → TakesRotate (Sealed id) old new → ActsRotate (Sealed id) (world old.store) old new → (next : LogPast) × AddsRotation (Sealed id) past next × (acknowledged next ≡ acknowledged past) × StandsLogged world image next new
+  pub rotation_stands : (id : Option ℕ) → TakesRotate (Sealed id) old new → ActsRotate (Sealed id) (world old.store) old new
+      → (next : LogPast) × AddsRotation (Sealed id) past next × (acknowledged next ≡ acknowledged past) × StandsLogged world image next new × SparesAnswers past next old.core new.core × FindsOn (state_of [] old.core) (state_of [] new.core)
   rotation_stands None takes acts = (
     past,
     refl,
     refl,
     nothing_stands world reading between image past old new s
         (moved past.journal past.notes [] takes.1 (acts opened (logged image) past.journal past.notes s.log s.is s.keeps s.next (holds world reading between image past old new s (rotated_stored None takes)))) (rotated_stored None takes),
+    same_spared takes.0.1,
+    rotation_finds None takes,
   )
   rotation_stands (Some id) takes acts = (
     behind,
     ap (λ i. with_sealed i past) (sym takes.0.1),
     refl,
-    quiet_stands world reading between image past old new s (rotated_stored (Some id) takes) behind sealing (tt, tt) (sealed_by id takes acts) refl refl s.came.order
-        (λ known. answered opened s.log sealing (sealed_by id takes acts).log (tt, tt) (sealed_by id takes acts).done (s.came.certain known)),
+    quiet_stands world reading between image past old new s (rotated_stored (Some id) takes) behind sealing (tt, tt) (sealed_by id takes acts) refl refl s.came.order (sealed_certain id takes acts),
+    quiet_spared world reading between image past old new s (rotated_stored (Some id) takes) behind sealing (tt, tt) (sealed_by id takes acts) refl refl s.came.order (sealed_certain id takes acts) tt,
+    rotation_finds (Some id) takes,
   )
 
   module _ (rest : AtRest (world new.store)) where
@@ -81,15 +101,14 @@ module _ {S : Type 0} (world : S → World) (reading : Reading) (between : Store
     rotate_leads (Sealed (Some id)) takes acts = (
       behind,
       ap (λ i. with_sealed i past) (sym takes.0.1),
-      quietly world reading between image past old new s (rotated_stored (Some id) takes) rest behind sealing (tt, tt) (sealed_by id takes acts) refl refl s.came.order
-          (λ known. answered opened s.log sealing (sealed_by id takes acts).log (tt, tt) (sealed_by id takes acts).done (s.came.certain known)),
+      quietly world reading between image past old new s (rotated_stored (Some id) takes) rest behind sealing (tt, tt) tt (sealed_by id takes acts) refl refl s.came.order (sealed_certain id takes acts),
     )
     rotate_leads (Refused x) takes acts = (past, refl, same_led world reading between image past old new s rest takes.0)
     rotate_leads reply takes acts = absurd takes
 
 -- ---- a flush behind it
 
-module _ {S : Type 0} (world : S → World) (reading : Reading) (between : Stores world) (image : LogImage) (past : LogPast) (old new : SeenLogged S) (s : StandsLogged world image past old) (stored : StaysStored (world old.store) (world new.store) old.core new.core) (rest : AtRest (world new.store)) where
+module _ {S : Type 0} (world : S → World) (reading : Reading) (between : Stores world) (image : LogImage) (past : LogPast) (old new : SeenLogged S) (s : StandsLogged world image past old) (stored : StepFiles world old new) (rest : AtRest (world new.store)) where
   flushed_behind : (watermark : ℕ) (id : Option ℕ) (reply : Reply) → ActsBehind watermark id reply (world old.store) (world new.store) old new
       → (next : LogPast) × ((mid : LogPast) × AddsRotation (Sealed id) past mid × AddsFlush watermark reply mid next) × Led world reading between image past next old new
   flushed_behind watermark id reply both =
@@ -97,7 +116,9 @@ module _ {S : Type 0} (world : S → World) (reading : Reading) (between : Store
       let at = rotation_stands world reading between image past old mid s id both.rotates both.sealed in
       let same : mid.store ≡ old.store = both.rotates.1 in
       let acts = subst (λ (x : S). ActsFlush watermark reply (world x) (world new.store) mid new) (sym same) both.flushes in
-      let led = flush_leads world reading between image at.0 mid new at.3 (λ h. stored s.stored) rest watermark reply acts in (
+      let rests : Rests old.core mid.core = rotated old.core id mid.core both.rotates.0 in
+      let files : StepFiles world mid new = record { stays = λ h. stored.stays s.stored; makes = from_rest old.core mid.core new.core rests stored.makes } in
+      let led = flush_leads world reading between image at.0 mid new at.3 files rest watermark reply acts in (
         led.0,
         (at.0, at.1, led.1),
         record {
@@ -106,6 +127,8 @@ module _ {S : Type 0} (world : S → World) (reading : Reading) (between : Store
           now = led.2.now;
           again = led.2.again;
           whole = led.2.whole;
+          versions = subst (λ (x : S). LeavesOnly (world x) (world new.store) (HoldsOneOf (versions_left old.core ++ versions_left new.core))) same (subst (λ (vs : List SeenVersion). LeavesOnly (world mid.store) (world new.store) (HoldsOneOf (vs ++ versions_left new.core))) rests.versions led.2.versions);
+          spares = spares_then past at.0 led.0 old.core mid.core new.core at.4 at.5 led.2.spares;
         },
       )
 
@@ -131,13 +154,19 @@ module _ {S : Type 0} (world : S → World) (reading : Reading) (between : Store
   is_drop (DroppedTables ids) c = tt
   is_drop other c = tt
 
-  stood : (watermark : ℕ) (action : Action) → LeadsByCommit watermark action (told_installed action old.core) [] opened_on past.journal past.notes s.log (world old.store) (world new.store) old new → Leads (AddsInstalled watermark past)
-  stood watermark action l =
+  steady : (watermark : ℕ) (action : Action) → IsCompaction watermark action → is_steady action ≡ true
+  steady watermark (Merged w d ids evict made) is = refl
+  steady watermark (Moved d ids moved) is = refl
+  steady watermark (DroppedTables ids) is = refl
+  steady watermark other is = absurd is
+
+  stood : (watermark : ℕ) (action : Action) → IsCompaction watermark action → LeadsByCommit watermark action (told_installed action old.core) [] opened_on past.journal past.notes s.log (world old.store) (world new.store) old new → Leads (AddsInstalled watermark past)
+  stood watermark action is l =
       let drop = told_by action old.core in
       let acts : List Act = Did (Marked watermark) ∷ (Did action ∷ (Did (Maintained watermark) ∷ [])) in (
         with_commit watermark (told_installed action old.core) past,
         (drop, old.core.seqno, is_drop action old.core, refl),
-        quietly world reading between image past old new s stored rest (with_commit watermark (told_installed action old.core) past) acts (tt, (tt, (tt, tt))) l refl refl
+        quietly world reading between image past old new s stored rest (with_commit watermark (told_installed action old.core) past) acts (tt, (tt, (tt, tt))) (refl, (steady watermark action is, tt)) l refl refl
             (order_dropping opened_on past.journal s.came.order watermark old.core.seqno drop (is_drop action old.core) (fresh world reading between image past old new s stored))
             (λ known. answered opened_on s.log acts l.log (tt, (tt, (tt, tt))) l.done (s.came.certain known)),
       )
@@ -147,7 +176,7 @@ module _ {S : Type 0} (world : S → World) (reading : Reading) (between : Store
       let drop = told_by action old.core in (
         with_doubt watermark drop past,
         (drop, is_drop action old.core, refl),
-        quietly world reading between image past old new s stored rest (with_doubt watermark drop past) (Did (Marked watermark) ∷ (CommitLost action l.0 ∷ [])) (tt, (tt, tt)) l.1 refl refl
+        quietly world reading between image past old new s stored rest (with_doubt watermark drop past) (Did (Marked watermark) ∷ (CommitLost action l.0 ∷ [])) (tt, (tt, tt)) (refl, tt) l.1 refl refl
             (order_lost opened_on past.journal s.came.order watermark drop (is_drop action old.core)) (λ known. absurd (cc known)),
       )
 
@@ -156,7 +185,7 @@ module _ {S : Type 0} (world : S → World) (reading : Reading) (between : Store
       let acts : List Act = Did (Marked watermark) ∷ [] in (
         with_commit watermark [] past,
         refl,
-        quietly world reading between image past old new s stored rest (with_commit watermark [] past) acts (tt, tt) l refl refl (order_marked opened_on past.journal s.came.order watermark)
+        quietly world reading between image past old new s stored rest (with_commit watermark [] past) acts (tt, tt) tt l refl refl (order_marked opened_on past.journal s.came.order watermark)
             (λ known. answered opened_on s.log acts l.log (tt, tt) l.done (s.came.certain known)),
       )
 
@@ -164,11 +193,11 @@ module _ {S : Type 0} (world : S → World) (reading : Reading) (between : Store
   by_begun watermark begun acts = go begun (acts opened_on (logged image) past.journal past.notes s.log s.is s.keeps s.next (holds world reading between image past old new s stored))
     where
       go : (begun : Result Begun Error) → ActsByCompaction watermark begun (world old.store) (world new.store) old new opened_on past.journal past.notes s.log → Leads (AddsCompaction watermark (reply_of begun) past)
-      go (Ok Installed) a = let d = a.done (inl refl) in stood watermark d.0 d.2
+      go (Ok Installed) a = let d = a.done (inl refl) in stood watermark d.0 d.1 d.2
       go (Ok DidNothing) a = marked watermark (a.told (λ e. cc e))
       go (Ok (Declined why)) a = marked watermark (a.told (λ e. cc e))
       go (Ok (Job job)) a = marked watermark (a.told (λ e. cc e))
-      go (Err AfterCommit) a = let d = a.done (inr refl) in stood watermark d.0 d.2
+      go (Err AfterCommit) a = let d = a.done (inr refl) in stood watermark d.0 d.1 d.2
       go (Err CommitUnknown) a = let d = a.lost refl in in_doubt watermark d.0 d.2
       go (Err x) a = marked watermark (a.refused (λ e. cc e) (λ e. cc e))
 

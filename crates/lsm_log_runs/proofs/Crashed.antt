@@ -13,6 +13,13 @@ use Rattle.lsm_log_runs.specs.Images.{HoldsLogged, Keeps, MayBeOpened}
 use Rattle.lsm_log_runs.specs.Lives.{StillKept}
 use Rattle.lsm_log_runs.specs.Pasts.{LogPast}
 
+-- reads give what was left
+pub given_is : (w : World) (left : Image) → Begins left w → w.gives ≡ left
+given_is w left begins = image_same left w.gives begins.gives
+
+pub begins_given : (w : World) (left : Image) → Begins left w → Begins w.gives w
+begins_given w left begins = subst (λ (image : Image). Begins image w) (sym (given_is w left begins)) begins
+
 -- so each image that may be left is the one that reads give
 pub only_given : (w : World) → Begins w.gives w → (image : Image) → IsImage w.may image → w.gives ≡ image
 only_given w begins image may = sym (image_same w.gives image (λ n. (begins.may n (image n)).0 (may n)))

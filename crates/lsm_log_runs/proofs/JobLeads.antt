@@ -19,7 +19,6 @@ use Rattle.lsm_runs.specs.declared.steps.JobStep.TheVariants.{BeginFlush, RunFlu
 use Rattle.lsm_runs.specs.declared.steps.Reply.{Reply}
 use Rattle.lsm_runs.specs.declared.steps.Reply.TheVariants.{Begun, Registered, NoJob, Refused}
 use Rattle.lsm_runs.specs.Compacting.{end_reply_of}
-use Rattle.lsm_runs.specs.Files.{StaysStored}
 use Rattle.lsm_runs.specs.Slots.{flush_in, merge_in}
 use Rattle.lsm_state.specs.CompactionDeeds.{IsMarkedIn}
 use Rattle.lsm_state.specs.Flushes.{flush_of}
@@ -34,12 +33,12 @@ use Rattle.lsm_log_runs.specs.Doing.{ActsNothing, ActsRegister, ActsMerge, ActsJ
 use Rattle.lsm_log_runs.specs.Pasts.{LogPast, with_flushed, with_begun, with_install, with_unknown}
 use Rattle.lsm_log_runs.specs.Standing.{StandsLogged}
 use Rattle.lsm_log_runs.proofs.CommitLeads.{compact_leads}
-use Rattle.lsm_log_runs.proofs.Leading.{Reading, Stores, same_led}
+use Rattle.lsm_log_runs.proofs.Leading.{Reading, Stores, StepFiles, same_led}
 use Rattle.lsm_log_runs.proofs.Orders.{order_merged}
 use Rattle.lsm_log_runs.proofs.StepLeads.{LeadsOn, answered, fresh, holds, none_done, quietly, flushed, unknown}
 use Rattle.lsm_log_runs.proofs.Waiting.{WaitsAt}
 
-module _ {S : Type 0} (world : S → World) (reading : Reading) (between : Stores world) (image : LogImage) (past : LogPast) (old new : SeenLogged S) (s : StandsLogged world image past old) (stored : StaysStored (world old.store) (world new.store) old.core new.core) (rest : AtRest (world new.store)) where
+module _ {S : Type 0} (world : S → World) (reading : Reading) (between : Stores world) (image : LogImage) (past : LogPast) (old new : SeenLogged S) (s : StandsLogged world image past old) (stored : StepFiles world old new) (rest : AtRest (world new.store)) where
   abbrev opened : List Entry
   opened = opened_by image
 
@@ -71,7 +70,7 @@ module _ {S : Type 0} (world : S → World) (reading : Reading) (between : Store
   begin_leads slot (Begun true) l = (
     with_begun slot past,
     refl,
-    quietly world reading between image past old new s stored rest (with_begun slot past) [] tt l refl refl s.came.order (λ known. subst IsCertain (sym l.done) (s.came.certain known)),
+    quietly world reading between image past old new s stored rest (with_begun slot past) [] tt tt l refl refl s.came.order (λ known. subst IsCertain (sym l.done) (s.came.certain known)),
   )
   begin_leads slot (Begun false) l = still (AddsBegun slot (Begun false) past) refl l
   begin_leads slot reply l = still (AddsBegun slot reply past) refl l
@@ -79,7 +78,7 @@ module _ {S : Type 0} (world : S → World) (reading : Reading) (between : Store
   module _ (slot : ℕ) (job : SeenWritten) (ids : job.job.ids ≡ past.begun slot) where
     installed : (a : Registry) (b : Bool) → a.installed ≡ b → ActsByRegister job (Ok a) w w' old new opened past.journal past.notes s.log → Leads (AddsRegistry slot b past)
     installed a true is acts =
-        let f = flushed world reading between image past old new s stored rest job.job.ids job.watermark (flush_of job) (acts.installed is) in
+        let f = flushed world reading between image past old new s stored rest job.job.ids job.watermark (flush_of job) refl (acts.installed is) in
         (f.0, (job.watermark, old.core.seqno, f.1 ∙ ap (λ i. with_flushed i job.watermark old.core.seqno past) ids), f.2)
     installed a false is acts = still (AddsRegistry slot false past) refl (acts.stale is)
 
@@ -103,7 +102,7 @@ module _ {S : Type 0} (world : S → World) (reading : Reading) (between : Store
       let acts : List Act = Did (merging job l.0) ∷ (Did (Maintained job.settings.watermark) ∷ []) in (
         next,
         (old.core.seqno, refl),
-        quietly world reading between image past old new s stored rest next acts (tt, (tt, tt)) l.1 refl refl (order_merged opened past.journal s.came.order old.core.seqno (fresh world reading between image past old new s stored))
+        quietly world reading between image past old new s stored rest next acts (tt, (tt, tt)) (refl, tt) l.1 refl refl (order_merged opened past.journal s.came.order old.core.seqno (fresh world reading between image past old new s stored))
             (λ known. answered opened s.log acts l.1.log (tt, (tt, tt)) l.1.done (s.came.certain known)),
       )
 
@@ -115,7 +114,7 @@ module _ {S : Type 0} (world : S → World) (reading : Reading) (between : Store
       let l = a.lost refl in (
         with_unknown past,
         refl,
-        quietly world reading between image past old new s stored rest (with_unknown past) (CommitLost (merging job l.0) l.1 ∷ []) (tt, tt) l.2 refl refl s.came.order (λ known. absurd (cc known)),
+        quietly world reading between image past old new s stored rest (with_unknown past) (CommitLost (merging job l.0) l.1 ∷ []) (tt, tt) tt l.2 refl refl s.came.order (λ known. absurd (cc known)),
       )
   ends job marked (Err x) a = still (AddsMerge (end_reply_of (Err x)) past) refl (a.refused (λ e. cc e) (λ e. cc e))
 

@@ -1,19 +1,26 @@
 -- How a call that leads by acts goes on from what stands, and what a crash leaves in it and behind it.
-use Rattle.std.proofs.Common.{◌≡◌, ◌⊎◌, ⊎_elim, inl, inr, ℕ, ◌≤◌, true, List, [], Option, refl, sym, ap, ◌∙◌, subst, arith}
+use Rattle.std.proofs.Common.{◌≡◌, ◌⊎◌, ⊎_elim, inl, inr, ℕ, ◌≤◌, true, List, [], ◌++◌, Option, refl, sym, ap, ◌∙◌, subst, arith}
 use Rattle.lsm_below.specs.Entries.{Entry}
+use Rattle.lsm_below.specs.Members.{IsIn}
 use Rattle.lsm_store.specs.World.{Image, World, IsImage, LeavesOnly}
 use Rattle.lsm_store.specs.Moments.{weakened}
 use Rattle.lsm_model.specs.Journal.{Event, InOrder}
-use Rattle.lsm_model.specs.Beginnings.{Note}
+use Rattle.lsm_model.specs.Beginnings.{Note, Saved}
 use Rattle.lsm_versions.specs.Levels.{SeenVersion}
+use Rattle.lsm_manifest.specs.Finding.{FoundOnce, UnreadNamesDontMatter}
 use Rattle.lsm_commit.specs.Foreign.{AtRest}
 use Rattle.lsm_commit.specs.Opening.{StoredIsReady}
+use Rattle.lsm_commit.specs.Stored.{HoldsOneOf}
 use Rattle.lsm_log_model.specs.Logs.{Logged as Log, LostBatch, Act, MayLeave, IsCertain}
 use Rattle.lsm_log_model.specs.Records.{LogImage, LogStands, logged, opened_by}
 use Rattle.lsm_log_model.specs.Recovery.{LogRecovers}
+use Rattle.lsm_log_model.proofs.Growth.{is_in_behind}
+use Rattle.lsm_run_model.specs.Lives.{LeavesReady}
 use Rattle.lsm_run_model.specs.Moments.{LeavesNow}
 use Rattle.lsm_runs.specs.Files.{StaysStored}
-use Rattle.lsm_state.specs.Core.{versions_left, written_of}
+use Rattle.lsm_runs.proofs.Members.{in_first}
+use Rattle.lsm_runs.proofs.Readiness.{holding_ready}
+use Rattle.lsm_state.specs.Core.{Core, versions_left, written_of}
 use Rattle.lsm_state.proofs.Upholding.{upheld_still}
 use Rattle.lsm_logged.specs.Acting.{HoldsLog, LeadsBy}
 use Rattle.lsm_logged.specs.Images.{RecordsAreThoseRead, VersionIsToldOnce}
@@ -23,17 +30,23 @@ use Rattle.lsm_logged.specs.Opening.{CanBeSettled}
 use Rattle.lsm_logged.proofs.NoActs.{same_not}
 use Rattle.lsm_log_runs.specs.CameAbout.{LogCameAbout}
 use Rattle.lsm_log_runs.specs.Images.{HoldsLogged, Keeps, KeepsAll, MayBeOpened}
+use Rattle.lsm_log_runs.specs.Leading.{SparesAnswers}
 use Rattle.lsm_log_runs.specs.Pasts.{LogPast, acknowledged, past_of}
 use Rattle.lsm_log_runs.specs.Standing.{StandsLogged}
+use Rattle.lsm_log_runs.proofs.Advancing.{Advances, advances_apart}
 use Rattle.lsm_log_runs.proofs.Beside.{IsBeside, beside}
-use Rattle.lsm_log_runs.proofs.Going.{Theory, goes_on, counter_on, log_sound, left_inside, left_now, left_whole}
+use Rattle.lsm_log_runs.proofs.Going.{Theory, tree_order, goes_on, counter_on, log_sound, left_inside, left_now, left_whole, holds_on}
 use Rattle.lsm_log_runs.proofs.Images.{held_weaker, holds_may, reads_no_lower}
+use Rattle.lsm_log_runs.proofs.Settling.{stands_opens}
+use Rattle.lsm_log_runs.proofs.Sparing.{ForgetLast, acts_spared, spares_by}
 
 -- what is known of images, beside the theory
 pub record Reading : Type 0 where
   pub theory : Theory
   pub once : VersionIsToldOnce
   pub those : RecordsAreThoseRead
+  pub found : FoundOnce
+  pub unread : UnreadNamesDontMatter
 
 -- what is known of a store between two lives
 pub record Stores {S : Type 0} (world : S → World) : Type 0 where
@@ -41,6 +54,16 @@ pub record Stores {S : Type 0} (world : S → World) : Type 0 where
   pub kept : (store : S) (log : Log) (from : ℕ) → KeepsLog (world store) log → log.log_from ≤ from → CanBeSettled (world store) from
   pub gives_one : (store : S) (name : List ℕ) → (world store).may name ((world store).gives name)
   pub counts_now : (store : S) (t : ℕ) (image : Image) → t ≤ (world store).moment → IsImage (world store).may image → (world store).since t image
+
+-- what is known of a step's files: they stay stored, and it makes at most one version
+pub record StepFiles {S : Type 0} (world : S → World) (old new : SeenLogged S) : Type 0 where
+  pub stays : StaysStored (world old.store) (world new.store) old.core new.core
+  pub makes : Advances old.core new.core
+
+-- of a version from before or behind
+pub either_holds : (xs ys : List SeenVersion) (image : Image) → HoldsOneOf xs image ⊎ HoldsOneOf ys image → HoldsOneOf (xs ++ ys) image
+either_holds xs ys image (inl h) = (h.0, in_first h.0 xs ys h.1, h.2, h.3)
+either_holds xs ys image (inr h) = (h.0, is_in_behind h.0 xs ys h.1, h.2, h.3)
 
 -- what was called is that of the tree, part by part
 pub past_eq : (t : Log) (p : LogPast) → t.tree.state.journal ≡ p.journal → t.tree.notes ≡ p.notes → t.reached ≡ p.reached → t.lost ≡ p.lost → past_of p.known p.begun t ≡ p
@@ -106,9 +129,18 @@ module _ {S : Type 0} (world : S → World) (reading : Reading) (between : Store
     pub now : LeavesNow (world new.store) (Keeps (logged image) next (acknowledged next))
     pub again : MayBeOpened (world new.store)
     pub whole : next.known ≡ true → LeavesNow (world new.store) (KeepsAll (logged image) next)
+    pub versions : LeavesOnly (world old.store) (world new.store) (HoldsOneOf (versions_left old.core ++ versions_left new.core))
+    pub spares : SparesAnswers past next old.core new.core
+
+  -- so a process may be killed in it
+  pub killed : (past next : LogPast) (old new : SeenLogged S) → StandsLogged world image past old → Advances old.core new.core → Led past next old new → LeavesReady MayBeOpened (λ (t : SeenLogged S). world t.store) old new
+  killed past next old new s makes led cut ends =
+      stands_opens reading.found reading.unread (world cut.store)
+      (holding_ready reading.found (versions_left old.core ++ versions_left new.core) (advances_apart old.core new.core makes s.apart) (world cut.store) (λ left may. led.versions.each left (ends.each left may)))
+      (λ left may. held_weaker _ LogStands left (λ x recovers. recovers.stands) (led.inside.each left (ends.each left may)))
 
   module _ (past next : LogPast) (old new : SeenLogged S) (s : StandsLogged world image past old) (acts : List Act) (l : LeadsBy opened next.journal next.notes s.log acts (world old.store) (world new.store) old new) (is : past_of next.known next.begun l.log ≡ next)
-      (order : InOrder opened next.journal) (certain : next.known ≡ true → IsCertain l.log) (stored : StaysStored (world old.store) (world new.store) old.core new.core) where
+      (order : InOrder opened next.journal) (certain : next.known ≡ true → IsCertain l.log) (stored : StepFiles world old new) where
     came_on : LogCameAbout image next l.log
     came_on = goes_on reading.theory image past next s.log l.log acts s.came l.done order is certain
 
@@ -119,7 +151,8 @@ module _ {S : Type 0} (world : S → World) (reading : Reading) (between : Store
       is = l.is;
       keeps = l.keeps;
       next = counter_on reading.theory image past next s.log l.log acts old.core.seqno new.core.seqno s.came l.done is order s.next l.counter l.drawn;
-      stored = stored s.stored;
+      stored = stored.stays s.stored;
+      apart = λ v w i j. advances_apart old.core new.core stored.makes s.apart v w (is_in_behind v (versions_left old.core) (versions_left new.core) i) (is_in_behind w (versions_left old.core) (versions_left new.core) j);
     }
 
     left_in : (left : Image) → HoldsLog old.core s.log left ⊎ HoldsLog new.core l.log left → Keeps (logged image) next (acknowledged past) left
@@ -128,29 +161,37 @@ module _ {S : Type 0} (world : S → World) (reading : Reading) (between : Store
         (λ (h : HoldsLog new.core l.log left). held_weaker (MayLeave l.log) (Recovers past next) left (λ x may. left_inside reading.theory image past next s.log l.log acts x s.came l.done is order (inr may)) (held_may next new l.log came_on l.is left h))
         either
 
-    pub leads_on : AtRest (world new.store) → Led past next old new
-    leads_on rest = record {
+    spared : ForgetLast acts → SparesAnswers past next old.core new.core
+    spared last =
+        spares_by past next old.core new.core s.log.tree.state l.log.tree.state (ap (λ (t : Saved). t.state) s.is.tree) (ap (λ (t : Saved). t.state) l.is.tree)
+        (acts_spared reading.theory.sound opened (logged image) acts last s.log l.log l.done (tree_order reading.theory image next l.log is order) (holds_on reading.theory image past s.log s.came))
+
+    pub leads_on : ForgetLast acts → AtRest (world new.store) → Led past next old new
+    leads_on last rest = record {
       stands = stands_on;
       inside = weakened (world old.store) (world new.store) (λ left. HoldsLog old.core s.log left ⊎ HoldsLog new.core l.log left) (Keeps (logged image) next (acknowledged past)) (l.moments s.stored) left_in;
       now = keeps_now next new stands_on rest;
       again = opens_now next new stands_on rest;
       whole = keeps_all next new stands_on rest;
+      versions = weakened (world old.store) (world new.store) (λ left. HoldsLog old.core s.log left ⊎ HoldsLog new.core l.log left) (HoldsOneOf (versions_left old.core ++ versions_left new.core)) (l.moments s.stored)
+          (λ left either. either_holds (versions_left old.core) (versions_left new.core) left (⊎_elim (λ (h : HoldsLog old.core s.log left). inl h.0) (λ (h : HoldsLog new.core l.log left). inr h.0) either));
+      spares = spared last;
     }
 
   -- where nothing is done
-  pub nothing_stands : (past : LogPast) (old new : SeenLogged S) (s : StandsLogged world image past old) → LeadsBy opened past.journal past.notes s.log [] (world old.store) (world new.store) old new → StaysStored (world old.store) (world new.store) old.core new.core → StandsLogged world image past new
+  pub nothing_stands : (past : LogPast) (old new : SeenLogged S) (s : StandsLogged world image past old) → LeadsBy opened past.journal past.notes s.log [] (world old.store) (world new.store) old new → StepFiles world old new → StandsLogged world image past new
   nothing_stands past old new s l stored =
       stands_on past past old new s [] l (ap (past_of past.known past.begun) l.done ∙ s.came.past_is) s.came.order (λ known. subst IsCertain (sym l.done) (s.came.certain known)) stored
 
-  pub nothing_led : (past : LogPast) (old new : SeenLogged S) (s : StandsLogged world image past old) → LeadsBy opened past.journal past.notes s.log [] (world old.store) (world new.store) old new → StaysStored (world old.store) (world new.store) old.core new.core → AtRest (world new.store) → Led past past old new
+  pub nothing_led : (past : LogPast) (old new : SeenLogged S) (s : StandsLogged world image past old) → LeadsBy opened past.journal past.notes s.log [] (world old.store) (world new.store) old new → StepFiles world old new → AtRest (world new.store) → Led past past old new
   nothing_led past old new s l stored rest =
-      leads_on past past old new s [] l (ap (past_of past.known past.begun) l.done ∙ s.came.past_is) s.came.order (λ known. subst IsCertain (sym l.done) (s.came.certain known)) stored rest
+      leads_on past past old new s [] l (ap (past_of past.known past.begun) l.done ∙ s.came.past_is) s.came.order (λ known. subst IsCertain (sym l.done) (s.came.certain known)) stored tt rest
 
   -- where the tree is as it was
   pub still_led : (past : LogPast) (old : SeenLogged S) → StandsLogged world image past old → AtRest (world old.store) → Led past past old old
   still_led past old s rest =
       let w = world old.store in
-      nothing_led past old old s (same_not w w old old refl (upheld_still w old.core old.core refl refl rest) refl opened past.journal past.notes s.log s.is s.keeps) (λ h. h) rest
+      nothing_led past old old s (same_not w w old old refl (upheld_still w old.core old.core refl refl rest) refl opened past.journal past.notes s.log s.is s.keeps) (record { stays = λ h. h; makes = inl refl }) rest
 
   pub same_led : (past : LogPast) (old new : SeenLogged S) → StandsLogged world image past old → AtRest (world new.store) → new ≡ old → Led past past old new
   same_led past old new s rest is = subst (λ (t : SeenLogged S). Led past past old t) (sym is) (still_led past old s (subst (λ (t : SeenLogged S). AtRest (world t.store)) is rest))

@@ -1,6 +1,9 @@
 pub mod Beside
+pub mod Advancing
 pub mod Going
 pub mod Images
+pub mod Settling
+pub mod Sparing
 pub mod Leading
 pub mod Orders
 pub mod BatchOrders

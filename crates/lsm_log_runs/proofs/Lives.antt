@@ -8,24 +8,27 @@ use Rattle.lsm_model.specs.Journal.{Event, Map}
 use Rattle.lsm_model.specs.declared.op.Op.TheVariants.{Weak}
 use Rattle.lsm_log_model.specs.Records.{LogImage, logged, opened_by}
 use Rattle.lsm_logged.specs.Opening.{image_read}
+use Rattle.lsm_manifest.specs.Finding.{FoundOnce, UnreadNamesDontMatter}
+use Rattle.lsm_run_model.specs.Lives.{End, Crashed, Killed, EndsIn, TakesUp, LeavesReady}
 use Rattle.lsm_run_model.specs.Moments.{LeavesNow, last_of}
 use Rattle.lsm_runs.specs.declared.steps.Reply.{Reply}
 use Rattle.lsm_log_runs.specs.declared.steps.LogStep.{LogStep}
 use Rattle.lsm_log_runs.specs.declared.steps.LogStep.TheVariants.{Write}
 use Rattle.lsm_log_runs.specs.Images.{Keeps, MayBeOpened}
-use Rattle.lsm_log_runs.specs.Lives.{IsUsual, CalledBy, before_last, TakesUp, Ended, Crashed, StillKept, LoggedLife, GoesWell, OpeningLife, OpeningsAreLoggedLives, LoggedLives, LeavesWell, AllGoWell}
+use Rattle.lsm_log_runs.specs.Lives.{IsUsual, CalledBy, before_last, StillKept, LoggedLife, GoesWell, OpeningLife, OpeningsAreLoggedLives, LoggedLives, LeavesWell, AllGoWell}
 use Rattle.lsm_log_runs.specs.Living.{CrashedLogsOpen}
 use Rattle.lsm_log_runs.specs.Moments.{MayBeTried, EachKeeps}
 use Rattle.lsm_log_runs.specs.Pasts.{LogPast, nothing, acknowledged}
 use Rattle.lsm_log_runs.specs.Trying.{IsOverOne}
-use Rattle.lsm_log_runs.proofs.Crashed.{still_kept}
+use Rattle.lsm_log_runs.proofs.Crashed.{given_is, begins_given, still_kept}
+use Rattle.lsm_log_runs.proofs.Settling.{less_opens}
 
 -- a usual step may be tried
 tried : (opened : List Entry) (journal : List Event) (x : LogStep) → IsUsual x → MayBeTried opened journal x
 tried opened journal (Write ops) usual = each_weaker (λ p. p.1 ≡ Weak → ⊥) (IsOverOne opened journal) (λ p none weak. absurd (none weak)) ops usual
 tried opened journal x usual = tt
 
-module _ {F : Type 0} (world : F → World) (gives_one : (store : F) → IsImage (world store).may (world store).gives) (counts_now : (store : F) (t : ℕ) (image : Image) → t ≤ (world store).moment → IsImage (world store).may image → (world store).since t image) (crashes : CrashedLogsOpen world) where
+module _ {F : Type 0} (world : F → World) (only_now : (store : F) (image : Image) → (world store).since (world store).moment image → IsImage (world store).may image) (once : FoundOnce) (unread : UnreadNamesDontMatter) (crashes : CrashedLogsOpen world) where
   -- what stands behind usual steps
   record Reached (start : Map) (steps : List LogStep) (replies : List Reply) (earlier past : LogPast) (before is : F) : Type 0 where
     then : LogPast
@@ -34,23 +37,27 @@ module _ {F : Type 0} (world : F → World) (gives_one : (store : F) → IsImage
     later : (world before).moment ≤ (world is).moment
     inside : (image : Image) → (world is).since (world before).moment image → Keeps start all (acknowledged then) image
     now : LeavesNow (world is) (Keeps start all (acknowledged all))
-    again : MayBeOpened (world is)
+    kills : LeavesReady MayBeOpened world before is
 
   reach : (opened : List Entry) (start : Map) (steps : List LogStep) (replies : List Reply) (earlier past : LogPast) (before was : F) (stores : List F) → EachKeeps world opened start steps replies past was stores → AllByRecursion IsUsual steps
-      → (world before).moment ≤ (world was).moment → ((image : Image) → (world was).since (world before).moment image → Keeps start past (acknowledged earlier) image) → LeavesNow (world was) (Keeps start past (acknowledged past)) → MayBeOpened (world was)
+      → (world before).moment ≤ (world was).moment → ((image : Image) → (world was).since (world before).moment image → Keeps start past (acknowledged earlier) image) → LeavesNow (world was) (Keeps start past (acknowledged past)) → LeavesReady MayBeOpened world before was
       → Reached start steps replies earlier past (before_last before was stores) (last_of was stores)
-  reach opened start [] [] earlier past before was [] each usual later inside now again = record { then = earlier; all = past; called = (refl, refl); later = later; inside = inside; now = now; again = again }
-  reach opened start (x ∷ steps) (r ∷ replies) earlier past before was (is ∷ stores) each usual later inside now again =
+  reach opened start [] [] earlier past before was [] each usual later inside now kills = record { then = earlier; all = past; called = (refl, refl); later = later; inside = inside; now = now; kills = kills }
+  reach opened start (x ∷ steps) (r ∷ replies) earlier past before was (is ∷ stores) each usual later inside now kills =
       let one = each (tried opened past.journal x usual.0) in
-      let rest = reach opened start steps replies past one.0 was is stores one.2 usual.1 one.1.inside.later one.1.inside.each one.1.now one.1.again in
-      record { then = rest.then; all = rest.all; called = (one.0, one.1.adds, rest.called); later = rest.later; inside = rest.inside; now = rest.now; again = rest.again }
-  reach opened start [] [] earlier past before was (is ∷ stores) each usual later inside now again = absurd each
-  reach opened start [] (r ∷ replies) earlier past before was stores each usual later inside now again = absurd each
-  reach opened start (x ∷ steps) [] earlier past before was stores each usual later inside now again = absurd each
-  reach opened start (x ∷ steps) (r ∷ replies) earlier past before was [] each usual later inside now again = absurd each
+      let rest = reach opened start steps replies past one.0 was is stores one.2 usual.1 one.1.inside.later one.1.inside.each one.1.now one.1.kills in
+      record { then = rest.then; all = rest.all; called = (one.0, one.1.adds, rest.called); later = rest.later; inside = rest.inside; now = rest.now; kills = rest.kills }
+  reach opened start [] [] earlier past before was (is ∷ stores) each usual later inside now kills = absurd each
+  reach opened start [] (r ∷ replies) earlier past before was stores each usual later inside now kills = absurd each
+  reach opened start (x ∷ steps) [] earlier past before was stores each usual later inside now kills = absurd each
+  reach opened start (x ∷ steps) (r ∷ replies) earlier past before was [] each usual later inside now kills = absurd each
+
+  -- what a kill leaves where nothing is done
+  still_kills : (store : F) → MayBeOpened (world store) → LeavesReady MayBeOpened world store store
+  still_kills store may cut ends = less_opens once unread (world store) (world cut) (λ image at. only_now store image (ends.each image at)) may
 
   goes_well : (was next : F) (l : LoggedLife world was next) → GoesWell world was next l
-  goes_well was next l = by l.then
+  goes_well was next l = by l.then.end l.then.ends l.then.takes
     where
       left : LogImage
       left = image_read l.life.version l.life.records
@@ -60,20 +67,30 @@ module _ {F : Type 0} (world : F → World) (gives_one : (store : F) → IsImage
 
       reached : Reached (logged left) l.steps l.replies nothing nothing before l.is
       reached = subst (Reached (logged left) l.steps l.replies nothing nothing before) l.life.ends
-          (reach (opened_by left) (logged left) l.steps l.replies nothing nothing l.life.first l.life.first l.life.stores l.life.keeps l.usual (omega arith) l.life.now l.life.now l.life.again)
+          (reach (opened_by left) (logged left) l.steps l.replies nothing nothing l.life.first l.life.first l.life.stores l.life.keeps l.usual (omega arith) l.life.now l.life.now (still_kills l.life.first l.life.again))
 
-      by : TakesUp world before l.is next → GoesWell world was next l
-      by (Ended same) = record {
-        opens = subst (λ x. MayBeOpened (world x)) (sym same) reached.again;
-        before = reached.then;
-        past = reached.all;
-        called = reached.called;
-        keeps = subst (λ x. StillKept (logged left) reached.all (acknowledged reached.then) (world x)) (sym same) (λ image may. reached.inside image (counts_now l.is (world before).moment image reached.later may));
-        behind = λ image may. reached.now image;
-      }
-      by (Crashed begins since) =
-          let keeps = reached.inside (world next).gives since in
-          record { opens = crashes (logged left) reached.all (acknowledged reached.then) next begins keeps; before = reached.then; past = reached.all; called = reached.called; keeps = still_kept (logged left) reached.all (acknowledged reached.then) (world next) begins keeps; behind = λ image may. reached.now image }
+      by : (end : End F) → EndsIn world (world before) (world l.is) end → TakesUp world end next → GoesWell world was next l
+      by (Crashed at) ends begins =
+          let keeps = subst (Keeps (logged left) reached.all (acknowledged reached.then)) (sym (given_is (world next) at begins)) (reached.inside at (ends.each at refl)) in
+          let given = begins_given (world next) at begins in
+          record {
+            opens = crashes (logged left) reached.all (acknowledged reached.then) next given keeps;
+            before = reached.then;
+            past = reached.all;
+            called = reached.called;
+            keeps = still_kept (logged left) reached.all (acknowledged reached.then) (world next) given keeps;
+            behind = λ image may. reached.now image;
+          }
+      by (Killed cut) ends same =
+          let less = λ (image : Image) (may : IsImage (world next).may image) (n : List ℕ). (same.may n (image n)).0 (may n) in
+          record {
+            opens = less_opens once unread (world cut) (world next) less (reached.kills cut ends);
+            before = reached.then;
+            past = reached.all;
+            called = reached.called;
+            keeps = λ image may. reached.inside image (ends.each image (less image may));
+            behind = λ image may. reached.now image;
+          }
 
   pub all_go_well : OpeningsAreLoggedLives world → (was : F) (nexts : List F) (lives : LoggedLives world was nexts) → AllGoWell world was nexts lives
   all_go_well openings was [] lives = tt

@@ -1,12 +1,16 @@
 -- What is opened on a store that an opening takes stands, and the steps on it are a life.
-use Rattle.std.proofs.Common.{◌≡◌, ◌<◌, ◌≤◌, ◌^◌, List, [], ◌∷◌, map, refl, ap, ◌∙◌, subst, arith}
+use Rattle.std.proofs.Common.{◌≡◌, ⊎_elim, ◌<◌, ◌≤◌, ◌^◌, List, [], ◌∷◌, map, refl, sym, ap, ◌∙◌, subst, arith}
 use Rattle.lsm_below.specs.Entries.{above}
 use Rattle.lsm_store.specs.World.{World, IsImage}
 use Rattle.lsm_model.specs.Journal.{next_number}
 use Rattle.lsm_versions.specs.declared.config.Config.{Config}
+use Rattle.lsm_versions.specs.Levels.{SeenVersion}
 use Rattle.lsm_log_model.specs.Records.{LogImage, LogStands, logged, opened_by}
 use Rattle.lsm_run_model.specs.Moments.{last_of}
+use Rattle.lsm_run_model.specs.Lives.{Killed, EndsIn, LeavesReady}
 use Rattle.lsm_runs.specs.declared.steps.Reply.{Reply}
+use Rattle.lsm_runs.specs.Files.{AreApart}
+use Rattle.lsm_state.specs.Core.{versions_left}
 use Rattle.lsm_logged.specs.Keeping.{SeenLogged}
 use Rattle.lsm_logged.specs.Meanwhile.{log_is_read, LeavesAsBefore}
 use Rattle.lsm_logged.specs.Opening.{OpensLogged, image_read, version_of}
@@ -18,6 +22,9 @@ use Rattle.lsm_log_runs.specs.Pasts.{LogPast, nothing}
 use Rattle.lsm_log_runs.specs.Leading.{EachLeads, RunsLogged}
 use Rattle.lsm_log_runs.specs.Standing.{StandsLogged}
 use Rattle.lsm_log_runs.proofs.Leading.{past_eq}
+
+one_apart : (x : SeenVersion) → AreApart (x ∷ [])
+one_apart x v w i j same = ⊎_elim (λ (e : x ≡ v). ⊎_elim (λ (f : x ≡ w). sym f ∙ e) (λ (no : ⊥). absurd no) j) (λ (no : ⊥). absurd no) i
 
 module _ {S : Type 0} (tells : Type 0) (world : S → World) (store : S) (config : Config) (t : SeenLogged S) (opens : OpensLogged tells world store config t) (told : tells) where
   pub reads : ReadsLog (world store).gives (version_of t) opens.records
@@ -45,6 +52,7 @@ module _ {S : Type 0} (tells : Type 0) (world : S → World) (store : S) (config
         keeps = again.keeps;
         next = again.next;
         stored = opens.stored told may.ready;
+        apart = subst AreApart (sym (ap versions_left opens.replays.core)) (one_apart (version_of t));
       }
 
 -- ---- a life
@@ -54,12 +62,16 @@ module _ {S : Type 0} (world : S → World) where
   last_store old [] = refl
   last_store old (t ∷ trees) = last_store t trees
 
+  -- of stores what is so of trees on them
+  kills_of : (old new : SeenLogged S) → LeavesReady MayBeOpened (λ (t : SeenLogged S). world t.store) old new → LeavesReady MayBeOpened world old.store new.store
+  kills_of old new kills cut ends = kills (record { store = cut; core = old.core; numbers = old.numbers; doubted = old.doubted }) (record { each = ends.each; gives = ends.gives })
+
   each_keeps : (image : LogImage) (steps : List LogStep) (replies : List Reply) (past : LogPast) (old : SeenLogged S) (trees : List (SeenLogged S)) → EachLeads world image steps replies past old trees → EachKeeps world (opened_by image) (logged image) steps replies past old.store (map (λ t. t.store) trees)
   each_keeps image [] [] past old [] each = tt
   each_keeps image (x ∷ steps) (r ∷ replies) past old (t ∷ trees) each = λ tried.
       let one = each tried in
       let k = one.1 in
-      (one.0, record { adds = k.adds; answers = k.answers; inside = k.inside; now = k.now; again = k.again; whole = k.whole }, each_keeps image steps replies one.0 t trees one.3)
+      (one.0, record { adds = k.adds; answers = k.answers; inside = k.inside; now = k.now; again = k.again; kills = kills_of old t k.kills; whole = k.whole }, each_keeps image steps replies one.0 t trees one.4)
   each_keeps image [] [] past old (t ∷ trees) each = absurd each
   each_keeps image [] (r ∷ replies) past old trees each = absurd each
   each_keeps image (x ∷ steps) [] past old trees each = absurd each

@@ -1,31 +1,27 @@
 -- A life that ends in its opening.
-use Rattle.std.proofs.Common.{◌≡◌, ◌≢◌, ⊎_elim, inl, inr, ℕ, ◌<◌, ◌≤◌, ◌^◌, Bool, true, false, cond, List, [], ◌∷◌, map, Contains, Option, IsSome, refl, sym, ap, ◌∙◌, subst, codes, arith}
-use Rattle.std.specs.Prelude.{bytes_eq, nat_eq}
-use Rattle.std.specs.List.{AllByRecursion, starts_with}
-use Rattle.std.proofs.lemmas.Bool.{both_ways}
+use Rattle.std.proofs.Common.{◌≡◌, ⊎_elim, inl, inr, ℕ, ◌<◌, ◌≤◌, ◌^◌, List, [], ◌∷◌, map, Contains, Option, None, IsSome, refl, sym, ◌∙◌, subst, arith}
+use Rattle.std.specs.List.{AllByRecursion}
 use Rattle.std.proofs.lemmas.List.Elements.{Contains-append_right}
-use Rattle.std.proofs.lemmas.Slice.Eq.{bytes_eq-Decides}
 use Rattle.lsm_store.specs.World.{Image, World, IsImage, Begins}
-use Rattle.lsm_store.specs.Moments.{same_or_not}
 use Rattle.lsm_model.specs.Journal.{Map}
-use Rattle.lsm_versions.specs.Levels.{SeenVersion}
-use Rattle.lsm_manifest.specs.Finding.{FoundOnce, FoundTablesShow, AgreesInRead, UnreadNamesDontMatter, StandsForMap}
-use Rattle.lsm_manifest.specs.Names.{current_name, version_name, table_name}
+use Rattle.lsm_versions.specs.Levels.{Levels as SeenLevels, SeenVersion, empty_levels}
+use Rattle.lsm_manifest.specs.Finding.{Finds, FoundOnce, FoundTablesShow, UnreadNamesDontMatter, StandsForMap}
+use Rattle.lsm_manifest.specs.Names.{current_name}
 use Rattle.lsm_manifest.specs.Ready.{IsReady}
 use Rattle.lsm_log.specs.declared.record.Record.{Record}
 use Rattle.lsm_log.specs.LogNames.{record_name}
 use Rattle.lsm_log.specs.Logs.{HasBadName, IsThere, IsRecordAt, IsNoRecordAt, IsBadLog}
 use Rattle.lsm_log_model.specs.Records.{LogImage, LogStands}
 use Rattle.lsm_log_model.specs.Recovery.{LogRecovers}
-use Rattle.lsm_logged.specs.Meanwhile.{ReadsVersion, AreReadFrom, ReadsSame, ReadsAsBefore, LeavesAsBefore}
+use Rattle.lsm_logged.specs.Meanwhile.{ReadsVersion, AreReadFrom, ReadsSame, ReadsAsBefore}
 use Rattle.lsm_logged.specs.Opening.{CanBeSettled, image_read}
-use Rattle.lsm_logged.proofs.LogNames.{not_in_log, refused_begins}
-use Rattle.lsm_logged.proofs.Meanwhile.{each_of, reads_by}
 use Rattle.lsm_logged.proofs.Versions.{version_is_one}
+use Rattle.lsm_run_model.specs.Lives.{End, Crashed, Killed, EndsIn, TakesUp}
 use Rattle.lsm_log_runs.specs.Images.{ReadsLog, HoldsLogged, Keeps, MayBeOpened}
-use Rattle.lsm_log_runs.specs.Lives.{TakesUp, Ended, Crashed, StillKept, OpeningLife, GoesOn}
+use Rattle.lsm_log_runs.specs.Lives.{StillKept, OpeningLife, GoesOn}
 use Rattle.lsm_log_runs.specs.Pasts.{LogPast}
-use Rattle.lsm_log_runs.proofs.Crashed.{only_given, crashed_opens}
+use Rattle.lsm_log_runs.proofs.Crashed.{given_is, begins_given, only_given, crashed_opens}
+use Rattle.lsm_log_runs.proofs.Settling.{stands_opens}
 
 -- ---- an image that reads as another one
 
@@ -81,103 +77,69 @@ module _ (once : FoundOnce) (P : LogImage → Type 0) (was image : Image) (same 
     reads = reads_there;
   }
 
--- ---- another content of a name in the folder of the log
+-- ---- behind an opening, and in it
 
-module _ (once : FoundOnce) (unread : UnreadNamesDontMatter) (image : Image) (m : List ℕ) (c : Option (List ℕ)) (inside : starts_with nat_eq m (codes "log/") ≡ true) where
-  abbrev pub changed : Image
-  changed n = cond (bytes_eq n m) c (image n)
+-- a store of which a crash leaves only what reads as something that could be left before
+module _ (once : FoundOnce) (unread : UnreadNamesDontMatter) (old cut : World) (may : MayBeOpened old) (before : (image : Image) → IsImage cut.may image → ReadsAsBefore old image) where
+  -- finds the tables that were found before
+  finds : (image : Image) → IsImage cut.may image → (ts : SeenLevels) × Finds image ts
+  finds image at = let b = before image at in let f = may.ready.found b.0 b.1 in (f.0, b.2.tables f.0 f.1)
 
-  pub changed_here : changed m ≡ c
-  changed_here = ap (λ b. cond b c (image m)) ((bytes_eq-Decides m m).1 refl)
-
-  by_test : (n : List ℕ) (b : Bool) → bytes_eq n m ≡ b → n ≢ m → cond b c (image n) ≡ image n
-  by_test n true is other = absurd (other ((bytes_eq-Decides n m).0 is))
-  by_test n false is other = refl
-
-  changed_else : (n : List ℕ) → n ≢ m → changed n ≡ image n
-  changed_else n other = by_test n (bytes_eq n m) refl other
-
-  pub changed_may : (w : World) → IsImage w.may image → w.may m c → IsImage w.may changed
-  changed_may w at may n =
-      ⊎_elim (λ (same : n ≡ m). subst (λ (k : List ℕ). w.may k (changed k)) (sym same) (subst (λ (o : Option (List ℕ)). w.may m o) (sym changed_here) may))
-      (λ (other : n ≢ m). subst (λ (o : Option (List ℕ)). w.may n o) (sym (changed_else n other)) (at n)) (same_or_not n m)
-
-  outside : (n : List ℕ) → starts_with nat_eq n (codes "log/") ≡ false → changed n ≡ image n
-  outside n out = changed_else n (λ e. both_ways (starts_with nat_eq n (codes "log/")) out (ap (λ (l : List ℕ). starts_with nat_eq l (codes "log/")) e ∙ inside))
-
-  agrees : AgreesInRead image changed
-  agrees = record {
-    current = outside current_name refl;
-    version = λ id ls named. outside (version_name id) refl;
-    tables = λ id ls named. each_of _ (each_of _ (each_of _ (λ t. outside (table_name t.id) refl))) ls;
-    no_version = outside (codes "version") refl;
-    in_tables = λ n bad. outside n (not_in_log n bad);
-  }
-
-  -- is none of the version's
-  pub reads_still : (v : SeenVersion) → ReadsVersion image v → ReadsVersion changed v
-  reads_still v reads =
-      let current = outside current_name refl in
-      record {
-        version = λ there. reads_by image changed v current (outside (version_name v.id) refl) (reads.version (subst (λ (o : Option (List ℕ)). IsSome o) current there));
-        found = λ there. (unread image changed agrees).0 v.levels (reads.found (subst (λ (o : Option (List ℕ)). IsSome o) current there));
-        fresh = λ none. reads.fresh (sym current ∙ none);
-      }
-
--- ---- behind an opening
-
-module _ (once : FoundOnce) (unread : UnreadNamesDontMatter) (old new : World) (may : MayBeOpened old) (leaves : LeavesAsBefore old new) (counts : (image : Image) → IsImage new.may image → new.since old.moment image) where
-  before : (image : Image) → IsImage new.may image → ReadsAsBefore old image
-  before image at = leaves.meanwhile.each image (counts image at)
-
-  -- what could be left of a name that the log reads could be left before
-  left_before : (image : Image) (v : SeenVersion) → IsImage new.may image → ReadsVersion image v → (m : List ℕ) (c : Option (List ℕ)) → starts_with nat_eq m (codes "log/") ≡ true → new.may m c
-      → ((x : Image) (was : Image) → ReadsSame was x → ReadsVersion was v → x m ≡ was m) → old.may m c
-  left_before image v at reads m c inside is same =
-      let x = changed once unread image m c inside in
-      let b = before x (changed_may once unread image m c inside new at is) in
-      let f = (may.stands b.0 b.1).finds in
-      let e : f.version ≡ v = version_is_one once x f.version v (b.2.version f.version f.read) (reads_still once unread image m c inside v reads) in
-      let there : x m ≡ b.0 m = same x b.0 b.2 (subst (ReadsVersion b.0) e f.read) in
-      subst (λ (o : Option (List ℕ)). old.may m o) (sym there ∙ changed_here once unread image m c inside) (b.1 m)
-
-  settles : (image : Image) (v : SeenVersion) → IsImage new.may image → ReadsVersion image v → CanBeSettled new v.log_from
-  settles image v at reads =
+  found_before : (image : Image) (at : IsImage cut.may image) (ts : SeenLevels) → Finds image ts → Finds (before image at).0 ts
+  found_before image at ts found =
       let b = before image at in
-      let f = (may.stands b.0 b.1).finds in
-      let e : f.version ≡ v = version_is_one once image f.version v (b.2.version f.version f.read) reads in
-      let can : CanBeSettled old v.log_from = subst (λ (x : SeenVersion). CanBeSettled old x.log_from) e (may.settles b.0 f.version b.1 f.read) in
-      record {
-        records = λ k small le. let p = can.records k small le in (p.0, λ is. p.1 (left_before image v at reads (record_name k) p.0 refl is (λ x was same r. same.records v k r small le)));
-        refused = λ n bad. let p = can.refused n bad in (p.0, λ is. p.1 (left_before image v at reads n p.0 (refused_begins n bad) is (λ x was same r. same.names n bad)));
-      }
+      let f = may.ready.found b.0 b.1 in
+      subst (Finds b.0) (once image f.0 ts (b.2.tables f.0 f.1) found) f.1
 
-  pub opens_again : MayBeOpened new
-  opens_again = record {
-    ready = leaves.again;
-    stands = λ image at. let b = before image at in held_same once LogStands b.0 image b.2 (may.stands b.0 b.1);
-    settles = settles;
-  }
+  -- none, where there may have been no `current`
+  empty_by : (x : Image) (at_x : IsImage cut.may x) → (before x at_x).0 current_name ≡ None → (image : Image) → IsImage cut.may image → (ts : SeenLevels) → Finds image ts → ts ≡ empty_levels
+  empty_by x at_x none image at ts found = may.ready.none (before image at).0 (before x at_x).0 ts (before image at).1 (before x at_x).1 none (found_before image at ts found)
+
+  all_empty : (x : Image) (at_x : IsImage cut.may x) → (before x at_x).0 current_name ≡ None → (a b : Image) (ts : SeenLevels) → IsImage cut.may a → IsImage cut.may b → Finds a ts → Finds b ts
+  all_empty x at_x none a b ts at_a at_b found =
+      let f = finds b at_b in
+      subst (Finds b) (empty_by x at_x none b at_b f.0 f.1 ∙ sym (empty_by x at_x none a at_a ts found)) f.1
+
+  same_found : (a b : Image) (ts : SeenLevels) → IsImage cut.may a → IsImage cut.may b → b current_name ≡ a current_name → Finds a ts → Finds b ts
+  same_found a b ts at_a at_b same found =
+      let p = before a at_a in
+      let q = before b at_b in
+      ⊎_elim
+      (λ (e : a current_name ≡ p.0 current_name). ⊎_elim
+      (λ (f : b current_name ≡ q.0 current_name). q.2.tables ts (may.ready.once p.0 q.0 ts p.1 q.1 (sym f ∙ same ∙ e) (found_before a at_a ts found)))
+      (λ (none : q.0 current_name ≡ None). all_empty b at_b none a b ts at_a at_b found)
+      q.2.current)
+      (λ (none : p.0 current_name ≡ None). all_empty a at_a none a b ts at_a at_b found)
+      p.2.current
+
+  none_found : (a b : Image) (ts : SeenLevels) → IsImage cut.may a → IsImage cut.may b → b current_name ≡ None → Finds a ts → ts ≡ empty_levels
+  none_found a b ts at_a at_b gone found =
+      let q = before b at_b in
+      ⊎_elim (λ (f : b current_name ≡ q.0 current_name). empty_by b at_b (sym f ∙ gone) a at_a ts found) (λ (none : q.0 current_name ≡ None). empty_by b at_b none a at_a ts found) q.2.current
+
+  -- so it can be opened again
+  pub opens_again : MayBeOpened cut
+  opens_again = stands_opens once unread cut (λ image at. let b = before image at in held_same once LogStands b.0 image b.2 (may.stands b.0 b.1)) (record { found = finds; once = same_found; none = none_found })
 
 -- whatever it leaves is kept as before
 pub kept_on : FoundOnce → (start : Map) (past : LogPast) (least : ℕ) (old : World) (image : Image) → StillKept start past least old → ReadsAsBefore old image → Keeps start past least image
 kept_on once start past least old image kept b = held_same once (LogRecovers start past.journal past.notes past.lost least) b.0 image b.2 (kept b.0 b.1)
 
-module _ {F : Type 0} (world : F → World) (once : FoundOnce) (unread : UnreadNamesDontMatter) (shows : FoundTablesShow) (ready : (store : F) (image : Image) (m : Map) → StandsForMap image m → Begins image (world store) → IsReady (world store)) (settles : (store : F) (image : Image) (from : ℕ) → Begins image (world store) → CanBeSettled (world store) from)
-    (counts_now : (store : F) (t : ℕ) (image : Image) → t ≤ (world store).moment → IsImage (world store).may image → (world store).since t image) where
+module _ {F : Type 0} (world : F → World) (once : FoundOnce) (unread : UnreadNamesDontMatter) (shows : FoundTablesShow) (ready : (store : F) (image : Image) (m : Map) → StandsForMap image m → Begins image (world store) → IsReady (world store)) (settles : (store : F) (image : Image) (from : ℕ) → Begins image (world store) → CanBeSettled (world store) from) where
   pub goes_on : (was next : F) → OpeningLife world was next → GoesOn world was next
-  goes_on was next o = by o.then
+  goes_on was next o = by o.then.end o.then.ends o.then.takes
     where
-      by : TakesUp world was o.is next → GoesOn world was next
-      by (Ended same) =
-          let counts = λ (image : Image) (at : IsImage (world o.is).may image). counts_now o.is (world was).moment image o.leaves.meanwhile.later at in
-          subst (GoesOn world was) (sym same) (record {
-            opens = opens_again once unread (world was) (world o.is) o.may o.leaves counts;
-            keeps = λ start past least kept image at. kept_on once start past least (world was) image kept (o.leaves.meanwhile.each image (counts image at));
-          })
-      by (Crashed begins since) =
-          let b = o.leaves.meanwhile.each (world next).gives since in
+      by : (end : End F) → EndsIn world (world was) (world o.is) end → TakesUp world end next → GoesOn world was next
+      by (Crashed left) ends begins =
+          let b = subst (ReadsAsBefore (world was)) (sym (given_is (world next) left begins)) (o.leaves.meanwhile.each left (ends.each left refl)) in
+          let given = begins_given (world next) left begins in
           record {
-            opens = crashed_opens shows (world next) (ready next) (settles next) begins (held_same once LogStands b.0 (world next).gives b.2 (o.may.stands b.0 b.1));
-            keeps = λ start past least kept image at. subst (Keeps start past least) (only_given (world next) begins image at) (kept_on once start past least (world was) (world next).gives kept b);
+            opens = crashed_opens shows (world next) (ready next) (settles next) given (held_same once LogStands b.0 (world next).gives b.2 (o.may.stands b.0 b.1));
+            keeps = λ start past least kept image at. subst (Keeps start past least) (only_given (world next) given image at) (kept_on once start past least (world was) (world next).gives kept b);
+          }
+      by (Killed cut) ends same =
+          let before = λ (image : Image) (at : IsImage (world next).may image). o.leaves.meanwhile.each image (ends.each image (λ n. (same.may n (image n)).0 (at n))) in
+          record {
+            opens = opens_again once unread (world was) (world next) o.may before;
+            keeps = λ start past least kept image at. kept_on once start past least (world was) image kept (before image at);
           }

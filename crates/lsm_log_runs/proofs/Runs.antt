@@ -14,7 +14,6 @@ use Rattle.lsm_run_model.specs.Outcomes.{without_low_reads}
 use Rattle.lsm_runs.specs.declared.slots.Job.{Job}
 use Rattle.lsm_runs.specs.declared.steps.Reply.{Reply}
 use Rattle.lsm_runs.specs.Compacting.{Strategies}
-use Rattle.lsm_runs.specs.Files.{StaysStored}
 use Rattle.lsm_runs.specs.Slots.{Stage}
 use Rattle.lsm_runs.proofs.Replays.{free_slots}
 use Rattle.lsm_runs.proofs.ReadReplays.{Sound, get_answers, pairs_answer}
@@ -27,17 +26,18 @@ use Rattle.lsm_log_runs.specs.Adds.{Adds}
 use Rattle.lsm_log_runs.specs.Doing.{ActsAlone, StepDoes, AllDoes, RanTo}
 use Rattle.lsm_log_runs.specs.Moments.{Answers, MayBeTried, StepKeeps}
 use Rattle.lsm_log_runs.specs.Pasts.{LogPast}
-use Rattle.lsm_log_runs.specs.Leading.{EachLeads, RunsLogged}
+use Rattle.lsm_log_runs.specs.Leading.{SparesAnswers, EachLeads, RunsLogged}
 use Rattle.lsm_log_runs.specs.Runs.{TakesAlone, RanThrough, RanLogged}
 use Rattle.lsm_log_runs.specs.Slots.{LogStage, at_first, beside as stage_beside, ClosesLogged}
 use Rattle.lsm_log_runs.specs.Standing.{StandsLogged}
+use Rattle.lsm_log_runs.proofs.Advancing.{Advances, step_advances}
 use Rattle.lsm_log_runs.proofs.Beside.{beside, is_high}
 use Rattle.lsm_log_runs.proofs.Closing.{closed_stands}
 use Rattle.lsm_log_runs.proofs.CommitLeads.{rotate_leads, active_leads, compact_leads, compaction_leads}
 use Rattle.lsm_log_runs.proofs.Going.{holds_on}
 use Rattle.lsm_log_runs.proofs.Growing.{step_grows}
 use Rattle.lsm_log_runs.proofs.JobLeads.{job_leads}
-use Rattle.lsm_log_runs.proofs.Leading.{Reading, Stores, Led, keeps_now, opens_now, nothing_led, same_led}
+use Rattle.lsm_log_runs.proofs.Leading.{Reading, Stores, StepFiles, Led, killed, keeps_now, opens_now, nothing_led, same_led}
 use Rattle.lsm_log_runs.proofs.StepLeads.{sealed_are, batch_leads, flush_leads, clear_leads}
 use Rattle.lsm_log_runs.proofs.Waiting.{AreWaiting, first_waiting, job_waits, still_waiting, slot_waiting}
 
@@ -111,7 +111,7 @@ module _ {S : Type 0} (strategies : Strategies) (tells : Type 0) (world : S → 
     LeadsTo x r past old new = (next : LogPast) × Adds x r past next × Led world reading between image past next old new
 
     -- one that needs no slot
-    module _ (past : LogPast) (old new : SeenLogged S) (s : StandsLogged world image past old) (stored : StaysStored (world old.store) (world new.store) old.core new.core) (rest : AtRest (world new.store)) where
+    module _ (past : LogPast) (old new : SeenLogged S) (s : StandsLogged world image past old) (stored : StepFiles world old new) (rest : AtRest (world new.store)) where
       alone_leads : (x : LogStep) (r : Reply) → TakesAlone strategies x r old new → ActsAlone x r (world old.store) (world new.store) old new → MayBeTried opened past.journal x → LeadsTo x r past old new
       alone_leads (Write ops) r takes acts tried = batch_leads world reading between image past old new s stored rest ops tried r takes acts
       alone_leads (Get k n) r takes acts tried = (past, refl, same_led world reading between image past old new s rest acts)
@@ -127,30 +127,51 @@ module _ {S : Type 0} (strategies : Strategies) (tells : Type 0) (world : S → 
       alone_leads (SetMoment n) r takes acts tried = (past, refl, nothing_led world reading between image past old new s (acts opened past.journal past.notes s.log s.is s.keeps) stored rest)
       alone_leads (AtSlot slot step) r takes acts tried = absurd takes
 
-    keeps : (past next : LogPast) (x : LogStep) (r : Reply) (old new : SeenLogged S) → Adds x r past next → Answers opened (logged image) past.journal x r → Led world reading between image past next old new → StepKeeps (λ t. world t.store) opened (logged image) x r past next old new
-    keeps past next x r old new adds answers led = record { adds = adds; answers = answers; inside = led.inside; now = led.now; again = led.again; whole = led.whole }
+    keeps : (past next : LogPast) (x : LogStep) (r : Reply) (old new : SeenLogged S) → StandsLogged world image past old → Advances old.core new.core → Adds x r past next → Answers opened (logged image) past.journal x r → Led world reading between image past next old new
+        → StepKeeps (λ t. world t.store) opened (logged image) x r past next old new
+    keeps past next x r old new s makes adds answers led = record {
+      adds = adds;
+      answers = answers;
+      inside = led.inside;
+      now = led.now;
+      again = led.again;
+      kills = killed world reading between image past next old new s makes led;
+      whole = led.whole;
+    }
 
     -- what a step keeps, what stands behind it, and what waits then
     abbrev Goes : LogStep → Reply → LogPast → LogStage S → LogStage S → Type 0
-    Goes x r past old new = (next : LogPast) × StepKeeps (λ t. world t.store) opened (logged image) x r past next old.tree new.tree × StandsLogged world image next new.tree × AreWaiting next new.jobs
+    Goes x r past old new = (next : LogPast) × StepKeeps (λ t. world t.store) opened (logged image) x r past next old.tree new.tree × SparesAnswers past next old.tree.core new.tree.core × StandsLogged world image next new.tree × AreWaiting next new.jobs
 
     -- a step that is taken from what stands
     step_leads : (past : LogPast) (x : LogStep) (r : Reply) (old new : LogStage S) → StandsLogged world image past old.tree → AreWaiting past old.jobs → StepDoes strategies tells world x r old new → MayBeTried opened past.journal x → Goes x r past old new
     step_leads past (AtSlot slot step) r old new s waits does tried =
-        let stored = does.stored told in
-        let led = job_leads world reading between image past old.tree new.tree s stored (does.rest told) slot step r (old.jobs slot) (waits slot) (does.acts told) in
-        let here = job_waits marks slot past led.0 (old.jobs slot) (new.jobs slot) (waits slot) old.tree new.tree (sealed_are world reading between image past old.tree new.tree s stored) strategies step r does.takes.0 led.1 in
-        (led.0, keeps past led.0 (AtSlot slot step) r old.tree new.tree led.1 tt led.2, led.2.stands, slot_waiting marks slot past led.0 old.jobs new.jobs (step_grows (AtSlot slot step) r past led.0 led.1) does.takes.1 here waits)
+        let makes = step_advances strategies (AtSlot slot step) r old new does.takes in
+        let files : StepFiles world old.tree new.tree = record { stays = does.stored told; makes = makes } in
+        let led = job_leads world reading between image past old.tree new.tree s files (does.rest told) slot step r (old.jobs slot) (waits slot) (does.acts told) in
+        let here = job_waits marks slot past led.0 (old.jobs slot) (new.jobs slot) (waits slot) old.tree new.tree (sealed_are world reading between image past old.tree new.tree s files) strategies step r does.takes.0 led.1 in (
+          led.0,
+          keeps past led.0 (AtSlot slot step) r old.tree new.tree s makes led.1 tt led.2,
+          led.2.spares,
+          led.2.stands,
+          slot_waiting marks slot past led.0 old.jobs new.jobs (step_grows (AtSlot slot step) r past led.0 led.1) does.takes.1 here waits,
+        )
     step_leads past x r old new s waits does tried =
-        let led = alone_leads past old.tree new.tree s (does.stored told) (does.rest told) x r does.takes.0 (does.acts told) tried in
-        (led.0, keeps past led.0 x r old.tree new.tree led.1 (alone_answers past x r old.tree new.tree s does.takes.0) led.2, led.2.stands, still_waiting marks past led.0 old.jobs new.jobs (step_grows x r past led.0 led.1) does.takes.1 waits)
+        let makes = step_advances strategies x r old new does.takes in
+        let led = alone_leads past old.tree new.tree s (record { stays = does.stored told; makes = makes }) (does.rest told) x r does.takes.0 (does.acts told) tried in (
+          led.0,
+          keeps past led.0 x r old.tree new.tree s makes led.1 (alone_answers past x r old.tree new.tree s does.takes.0) led.2,
+          led.2.spares,
+          led.2.stands,
+          still_waiting marks past led.0 old.jobs new.jobs (step_grows x r past led.0 led.1) does.takes.1 waits,
+        )
 
     each : (steps : List LogStep) (replies : List Reply) (past : LogPast) (old : LogStage S) (stages : List (LogStage S)) → AllDoes strategies tells world steps replies old stages → StandsLogged world image past old.tree → AreWaiting past old.jobs
         → EachLeads world image steps replies past old.tree (map (λ st. st.tree) stages)
     each [] [] past old [] does s waits = tt
     each (x ∷ steps) (r ∷ replies) past old (mid ∷ stages) does s waits = λ tried.
         let one = step_leads past x r old mid s waits does.0 tried in
-        (one.0, one.1, one.2, each steps replies one.0 mid stages does.1 one.2 one.3)
+        (one.0, one.1, one.2, one.3, each steps replies one.0 mid stages does.1 one.3 one.4)
     each [] [] past old (mid ∷ stages) does s waits = absurd does
     each [] (r ∷ replies) past old stages does s waits = absurd does
     each (x ∷ steps) [] past old stages does s waits = absurd does

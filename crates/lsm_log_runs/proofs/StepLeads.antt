@@ -20,7 +20,6 @@ use Rattle.lsm_log_model.proofs.Writes.{deeds_run}
 use Rattle.lsm_run_model.specs.Outcomes.{sealed_in}
 use Rattle.lsm_runs.specs.declared.steps.Reply.{Reply}
 use Rattle.lsm_runs.specs.declared.steps.Reply.TheVariants.{Number, Flushed, Cleared, Refused}
-use Rattle.lsm_runs.specs.Files.{StaysStored}
 use Rattle.lsm_state.specs.Clearing.{Clears}
 use Rattle.lsm_state.specs.Flushes.{sealed_ids}
 use Rattle.lsm_state.specs.Refusals.{is_great, is_long_key, is_long_value, batch_refusal}
@@ -31,6 +30,7 @@ use Rattle.lsm_logged.specs.Writing.{WritesLogged, WritesAct, Leads, batch_of}
 use Rattle.lsm_logged.proofs.Acted.{distinct_keys}
 use Rattle.lsm_log_runs.specs.Adds.{AddsBatch, AddsFlush, AddsClear}
 use Rattle.lsm_log_runs.specs.Doing.{ActsBatch, ActsFlush, ActsClear}
+use Rattle.lsm_log_runs.specs.Leading.{SparesAnswers}
 use Rattle.lsm_log_runs.specs.Pasts.{LogPast, past_of, with_batch, with_lost, with_flushed, with_flush, with_doubt, with_clear, with_lost_clear}
 use Rattle.lsm_log_runs.specs.Runs.{TakesBatch, TakesClear}
 use Rattle.lsm_log_runs.specs.Standing.{StandsLogged}
@@ -38,8 +38,9 @@ use Rattle.lsm_log_runs.specs.Trying.{IsOverOne}
 use Rattle.lsm_log_runs.proofs.BatchOrders.{batch_order}
 use Rattle.lsm_log_runs.proofs.Beside.{beside, is_sealed}
 use Rattle.lsm_log_runs.proofs.Going.{holds_on}
-use Rattle.lsm_log_runs.proofs.Leading.{Reading, Stores, Led, past_eq, stands_on, leads_on, nothing_led}
+use Rattle.lsm_log_runs.proofs.Leading.{Reading, Stores, StepFiles, Led, past_eq, stands_on, spared, leads_on, nothing_led}
 use Rattle.lsm_log_runs.proofs.Orders.{order_marked, order_cleared, order_installed}
+use Rattle.lsm_log_runs.proofs.Sparing.{is_steady, ForgetLast}
 
 -- ---- acts that write nothing
 
@@ -90,7 +91,7 @@ lost_distinct ops old new writes = by_sure (is_unsure old) refl
     by_sure true is = let z = (writes.unsure is).0 in absurd (cc z)
     by_sure false is = distinct_keys ops (free ((writes.tree is).doubted refl))
 
-module _ {S : Type 0} (world : S → World) (reading : Reading) (between : Stores world) (image : LogImage) (past : LogPast) (old new : SeenLogged S) (s : StandsLogged world image past old) (stored : StaysStored (world old.store) (world new.store) old.core new.core) where
+module _ {S : Type 0} (world : S → World) (reading : Reading) (between : Stores world) (image : LogImage) (past : LogPast) (old new : SeenLogged S) (s : StandsLogged world image past old) (stored : StepFiles world old new) where
   abbrev opened : List Entry
   opened = opened_by image
 
@@ -128,8 +129,11 @@ module _ {S : Type 0} (world : S → World) (reading : Reading) (between : Store
     pub quiet_stands : StandsLogged world image next new
     quiet_stands = stands_on world reading between image past next old new s acts l quiet_past order certain stored
 
-    pub by_quiet : AtRest w' → Led world reading between image past next old new
-    by_quiet rest = leads_on world reading between image past next old new s acts l quiet_past order certain stored rest
+    pub quiet_spared : ForgetLast acts → SparesAnswers past next old.core new.core
+    quiet_spared last = spared world reading between image past next old new s acts l quiet_past order certain stored last
+
+    pub by_quiet : ForgetLast acts → AtRest w' → Led world reading between image past next old new
+    by_quiet last rest = leads_on world reading between image past next old new s acts l quiet_past order certain stored last rest
 
   -- the notes tell what is sealed
   pub sealed_are : sealed_ids old.core ≡ sealed_in past.notes
@@ -142,9 +146,9 @@ module _ {S : Type 0} (world : S → World) (reading : Reading) (between : Store
     pub none_done : (Added : LogPast → Type 0) → Added past → LeadsBy opened past.journal past.notes s.log [] w w' old new → LeadsOn Added
     none_done Added added l = (past, added, nothing_led world reading between image past old new s l stored rest)
 
-    pub quietly : (next : LogPast) (acts : List Act) → AllByRecursion IsQuiet acts → (l : LeadsBy opened next.journal next.notes s.log acts w w' old new) → next.reached ≡ past.reached → next.lost ≡ past.lost → InOrder opened next.journal → (next.known ≡ true → IsCertain l.log)
+    pub quietly : (next : LogPast) (acts : List Act) → AllByRecursion IsQuiet acts → ForgetLast acts → (l : LeadsBy opened next.journal next.notes s.log acts w w' old new) → next.reached ≡ past.reached → next.lost ≡ past.lost → InOrder opened next.journal → (next.known ≡ true → IsCertain l.log)
         → Led world reading between image past next old new
-    quietly next acts q l reached lost order certain = by_quiet next acts q l reached lost order certain rest
+    quietly next acts q last l reached lost order certain = by_quiet next acts q l reached lost order certain last rest
 
     -- ---- a batch
 
@@ -173,7 +177,7 @@ module _ {S : Type 0} (world : S → World) (reading : Reading) (between : Store
             ap (λ m. with_batch (batch_of m ops) past) (sym is),
             leads_on world reading between image past next old new s (act ∷ []) l
                 (past_eq leads.log next journal (ap (λ (t : Saved). t.notes) leads.is.tree) (ap (λ (t : Log). t.reached) leads.acts.rest ∙ ap (λ (j : List Event). length j) journal) (ap (λ (t : Log). t.lost) leads.acts.rest ∙ lost_is))
-                (order leads.acts.distinct) (λ known. (written.others ∙ leads.acts.certain.0, ap (λ (t : Log). t.lost) leads.acts.rest ∙ leads.acts.certain.1)) stored rest,
+                (order leads.acts.distinct) (λ known. (written.others ∙ leads.acts.certain.0, ap (λ (t : Log). t.lost) leads.acts.rest ∙ leads.acts.certain.1)) stored tt rest,
           )
 
       -- its outcome is unknown
@@ -196,7 +200,7 @@ module _ {S : Type 0} (world : S → World) (reading : Reading) (between : Store
             leads_on world reading between image past next old new s (act ∷ []) l
                 (past_eq leads.log next (ap (λ (t : Saved). t.state.journal) leads.is.tree) (ap (λ (t : Saved). t.notes) leads.is.tree) (ap (λ (t : Log). t.reached) leads.acts.rest ∙ reached_is)
                 (ap (λ (t : Log). t.lost) leads.acts.rest ∙ ap (λ k. Some (record { batch = batch_of old.core.seqno ops; place = k })) before))
-                s.came.order (λ known. absurd (cc known)) stored rest,
+                s.came.order (λ known. absurd (cc known)) stored tt rest,
           )
 
       refused_batch : (x : Error) → WritesLogged ops (Err x) old new → WritesAct ops (Err x) w w' old new → LeadsOn (AddsBatch ops (Refused x) past)
@@ -215,20 +219,20 @@ module _ {S : Type 0} (world : S → World) (reading : Reading) (between : Store
     abbrev flush_acts : ℕ → Action → List Act
     flush_acts watermark action = Did (Marked watermark) ∷ (Did action ∷ (Did (Maintained watermark) ∷ []))
 
-    pub flushed : (ids : List ℕ) (watermark : ℕ) (action : Action) → LeadsByCommit watermark action (Install old.core.seqno ∷ []) (FlushedIds ids ∷ []) opened past.journal past.notes s.log w w' old new
+    pub flushed : (ids : List ℕ) (watermark : ℕ) (action : Action) → is_steady action ≡ true → LeadsByCommit watermark action (Install old.core.seqno ∷ []) (FlushedIds ids ∷ []) opened past.journal past.notes s.log w w' old new
         → LeadsOn (λ next. next ≡ with_flushed ids watermark old.core.seqno past)
-    flushed ids watermark action l =
+    flushed ids watermark action steady l =
         let next = with_flushed ids watermark old.core.seqno past in (
           next,
           refl,
-          quietly next (flush_acts watermark action) (tt, (tt, (tt, tt))) l refl refl (order_installed opened past.journal s.came.order watermark old.core.seqno fresh)
+          quietly next (flush_acts watermark action) (tt, (tt, (tt, tt))) (refl, (steady, tt)) l refl refl (order_installed opened past.journal s.came.order watermark old.core.seqno fresh)
               (λ known. answered opened s.log (flush_acts watermark action) l.log (tt, (tt, (tt, tt))) l.done (s.came.certain known)),
         )
 
-    installed : (watermark : ℕ) (action : Action) → LeadsByCommit watermark action (Install old.core.seqno ∷ []) (FlushedIds (sealed_ids old.core) ∷ []) opened past.journal past.notes s.log w w' old new
+    installed : (watermark : ℕ) (action : Action) → is_steady action ≡ true → LeadsByCommit watermark action (Install old.core.seqno ∷ []) (FlushedIds (sealed_ids old.core) ∷ []) opened past.journal past.notes s.log w w' old new
         → LeadsOn (λ next. (n : ℕ) × (next ≡ with_flush watermark n past))
-    installed watermark action l =
-        let f = flushed (sealed_ids old.core) watermark action l in
+    installed watermark action steady l =
+        let f = flushed (sealed_ids old.core) watermark action steady l in
         (f.0, (old.core.seqno, f.1 ∙ ap (λ ids. with_flushed ids watermark old.core.seqno past) sealed_are), f.2)
 
     pub unknown : (watermark : ℕ) (action : Action) → LeadsByLost watermark action [] opened past.journal past.notes s.log w w' old new → LeadsOn (λ next. next ≡ with_doubt watermark [] past)
@@ -236,7 +240,7 @@ module _ {S : Type 0} (world : S → World) (reading : Reading) (between : Store
         let next = with_doubt watermark [] past in (
           next,
           refl,
-          quietly next (Did (Marked watermark) ∷ (CommitLost action l.0 ∷ [])) (tt, (tt, tt)) l.1 refl refl (order_marked opened past.journal s.came.order watermark) (λ known. absurd (cc known)),
+          quietly next (Did (Marked watermark) ∷ (CommitLost action l.0 ∷ [])) (tt, (tt, tt)) (refl, tt) l.1 refl refl (order_marked opened past.journal s.came.order watermark) (λ known. absurd (cc known)),
         )
 
     refused_flush : (watermark : ℕ) (x : Error) → ActsFlush watermark (Refused x) w w' old new → LeadsOn (AddsFlush watermark (Refused x) past)
@@ -245,7 +249,7 @@ module _ {S : Type 0} (world : S → World) (reading : Reading) (between : Store
 
     pub flush_leads : (watermark : ℕ) (reply : Reply) → ActsFlush watermark reply w w' old new → LeadsOn (AddsFlush watermark reply past)
     flush_leads watermark (Flushed None) acts = none_done (AddsFlush watermark (Flushed None) past) refl (acts opened (logged image) past.journal past.notes s.log s.is s.keeps s.next holds)
-    flush_leads watermark (Flushed (Some p)) acts = let a = acts opened (logged image) past.journal past.notes s.log s.is s.keeps s.next holds in installed watermark _ a.1
+    flush_leads watermark (Flushed (Some p)) acts = let a = acts opened (logged image) past.journal past.notes s.log s.is s.keeps s.next holds in installed watermark _ refl a.1
     flush_leads watermark (Refused x) acts = refused_flush watermark x acts
     flush_leads watermark reply acts = absurd acts
 
@@ -256,7 +260,7 @@ module _ {S : Type 0} (world : S → World) (reading : Reading) (between : Store
         let next = with_clear old.core.seqno past in (
           next,
           refl,
-          quietly next (Did (clear_of old) ∷ []) (tt, tt) l refl refl (order_cleared opened past.journal s.came.order old.core.seqno fresh)
+          quietly next (Did (clear_of old) ∷ []) (tt, tt) tt l refl refl (order_cleared opened past.journal s.came.order old.core.seqno fresh)
               (λ known. answered opened s.log (Did (clear_of old) ∷ []) l.log (tt, tt) l.done (s.came.certain known)),
         )
 
@@ -267,7 +271,7 @@ module _ {S : Type 0} (world : S → World) (reading : Reading) (between : Store
         let next = with_lost_clear old.core.seqno past in (
           next,
           (old.core.seqno, refl),
-          quietly next (CommitLost (clear_of old) a.0 ∷ []) (tt, tt) a.1 refl refl s.came.order (λ known. absurd (cc known)),
+          quietly next (CommitLost (clear_of old) a.0 ∷ []) (tt, tt) tt a.1 refl refl s.came.order (λ known. absurd (cc known)),
         )
     refused_clear x acts = none_done (AddsClear (Refused x) past) refl (acts opened past.journal past.notes s.log s.is s.keeps s.next)
 

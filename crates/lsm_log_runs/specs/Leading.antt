@@ -1,9 +1,12 @@
 -- What a run of steps on a logged tree keeps, after whatever was called before.
-use Rattle.std.specs.Prelude.{◌≡◌, List, [], ◌∷◌}
+use Rattle.std.specs.Prelude.{◌≡◌, List, [], ◌∷◌, ◌++◌}
 use Rattle.lsm_store.specs.World.{World}
+use Rattle.lsm_model.specs.Journal.{Event}
 use Rattle.lsm_log_model.specs.Records.{LogImage, logged, opened_by}
 use Rattle.lsm_run_model.specs.Moments.{LeavesNow, last_of}
 use Rattle.lsm_runs.specs.declared.steps.Reply.{Reply}
+use Rattle.lsm_runs.specs.Runs.{Spares}
+use Rattle.lsm_state.specs.Core.{Core}
 use Rattle.lsm_logged.specs.Keeping.{SeenLogged}
 use Rattle.lsm_log_runs.specs.declared.steps.LogStep.{LogStep}
 use Rattle.lsm_log_runs.specs.Images.{Keeps, MayBeOpened}
@@ -11,11 +14,15 @@ use Rattle.lsm_log_runs.specs.Moments.{MayBeTried, StepKeeps}
 use Rattle.lsm_log_runs.specs.Pasts.{LogPast, acknowledged}
 use Rattle.lsm_log_runs.specs.Standing.{StandsLogged}
 
--- along steps and their replies: what each step keeps, and what stands behind it, so that calls may go on
+-- what a snapshot sees that is answered before a step and behind it stays, but where the step wrote, cleared or dropped below it
+abbrev pub SparesAnswers : LogPast → LogPast → Core → Core → Type 0
+SparesAnswers past next old new = (events : List Event) × (next.journal ≡ past.journal ++ events) × Spares events old new
+
+-- along steps and their replies: what each step keeps and spares, and what stands behind it, so that calls may go on
 abbrev pub EachLeads : {S : Type 0} → (S → World) → LogImage → List LogStep → List Reply → LogPast → SeenLogged S → List (SeenLogged S) → Type 0
 EachLeads world image [] [] past was [] = Unit {0}
 EachLeads world image (x ∷ steps) (r ∷ replies) past was (is ∷ trees) =
-    MayBeTried (opened_by image) past.journal x → (next : LogPast) × StepKeeps (λ t. world t.store) (opened_by image) (logged image) x r past next was is × StandsLogged world image next is
+    MayBeTried (opened_by image) past.journal x → (next : LogPast) × StepKeeps (λ t. world t.store) (opened_by image) (logged image) x r past next was is × SparesAnswers past next was.core is.core × StandsLogged world image next is
     × EachLeads world image steps replies next is trees
 EachLeads world image steps replies past was trees = ⊥
 

@@ -1,4 +1,4 @@
--- Life after life of a logged tree: each ends with its process or by a crash, and the next one opens what it left.
+-- Life after life of a logged tree: each ends by a crash, or as its process ends or is killed, and the next one opens what it left.
 use Rattle.std.specs.Prelude.{◌≡◌, ◌⊎◌, ℕ, List, [], ◌∷◌, None}
 use mathlib.Core.Logic.{inl, inr}
 use Rattle.std.specs.List.{AllByRecursion}
@@ -8,6 +8,7 @@ use Rattle.lsm_model.specs.declared.op.Op.TheVariants.{Weak}
 use Rattle.lsm_log_model.specs.Records.{logged}
 use Rattle.lsm_logged.specs.Meanwhile.{LeavesAsBefore}
 use Rattle.lsm_logged.specs.Opening.{image_read}
+use Rattle.lsm_run_model.specs.Lives.{End, EndsIn, TakesUp}
 use Rattle.lsm_runs.specs.declared.steps.Reply.{Reply}
 use Rattle.lsm_log_runs.specs.declared.steps.LogStep.{LogStep}
 use Rattle.lsm_log_runs.specs.declared.steps.LogStep.TheVariants.{Write}
@@ -32,20 +33,20 @@ abbrev pub before_last : {F : Type 0} → (earlier was : F) → List F → F
 before_last earlier was [] = earlier
 before_last earlier was (is ∷ stores) = before_last was is stores
 
--- the next life's store: the one that was left, where the process ended; behind a crash one that has just what reads of it give, which
--- the crash could leave in the last step or behind it
-pub data TakesUp {F : Type 0} (world : F → World) (before is next : F) : Type 0 where
-  Ended : next ≡ is → TakesUp world before is next
-  Crashed : Begins (world next).gives (world next) → (world is).since (world before).moment (world next).gives → TakesUp world before is next
+-- a life ended in what led from one store to another, or behind it, and the next one takes up what it left
+pub record PassesOn {F : Type 0} (world : F → World) (before is next : F) : Type 0 where
+  pub end : End F
+  pub ends : EndsIn world (world before) (world is) end
+  pub takes : TakesUp world end next
 
--- a life of usual steps on one store, in the last of which a crash may have come, and what the next one takes up
+-- a life of usual steps on one store, in the last of which, or behind it, it ended, and what the next one takes up
 pub record LoggedLife {F : Type 0} (world : F → World) (was next : F) : Type 0 where
   pub steps : List LogStep
   pub replies : List Reply
   pub is : F
   pub life : LivesLogged world steps replies was is
   pub usual : AllByRecursion IsUsual steps
-  pub then : TakesUp world (before_last life.first life.first life.stores) is next
+  pub then : PassesOn world (before_last life.first life.first life.stores) is next
 
 -- that much is kept of some calls, whatever a crash may leave of the store
 abbrev pub StillKept : Map → LogPast → ℕ → World → Type 0
@@ -61,12 +62,12 @@ pub record GoesWell {F : Type 0} (world : F → World) (was next : F) (l : Logge
   pub keeps : StillKept (logged (image_read l.life.version l.life.records)) past (acknowledged before) (world next)
   pub behind : (image : Image) → IsImage (world next).may image → (world l.is).since (world l.is).moment image → Keeps (logged (image_read l.life.version l.life.records)) past (acknowledged past) image
 
--- a life that ends in its opening, whatever that was to answer: by a crash at any moment of it, or where it gave back its store
+-- a life that ends in its opening, whatever that was to answer: by a crash or a kill at any moment of it, or where it gave back its store
 pub record OpeningLife {F : Type 0} (world : F → World) (was next : F) : Type 0 where
   pub is : F
   pub may : MayBeOpened (world was)
   pub leaves : LeavesAsBefore (world was) (world is)
-  pub then : TakesUp world was is next
+  pub then : PassesOn world was is next
 
 -- The next one may be opened, and of the calls before all is kept that was.
 pub record GoesOn {F : Type 0} (world : F → World) (was next : F) : Type 0 where

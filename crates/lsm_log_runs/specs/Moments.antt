@@ -5,6 +5,7 @@ use Rattle.lsm_below.specs.Entries.{Entry}
 use Rattle.lsm_store.specs.World.{World, LeavesOnly}
 use Rattle.lsm_model.specs.Journal.{Event, Map}
 use Rattle.lsm_model.specs.declared.question.Question.TheVariants.{Between, Prefix as AskPrefix}
+use Rattle.lsm_run_model.specs.Lives.{LeavesReady}
 use Rattle.lsm_run_model.specs.Moments.{LeavesNow}
 use Rattle.lsm_runs.specs.declared.steps.Reply.{Reply}
 use Rattle.lsm_runs.specs.ReadSteps.{GetAnswers, PairsAnswer}
@@ -36,8 +37,9 @@ pub record StepKeeps {F : Type 0} (world : F → World) (opened : List Entry) (s
   -- in it a crash leaves a beginning that holds all that was acknowledged before it, and behind it all that is acknowledged then
   pub inside : LeavesOnly (world was) (world is) (Keeps start next (acknowledged past))
   pub now : LeavesNow (world is) (Keeps start next (acknowledged next))
-  -- its process may end there, and another one opens the store
+  -- its process may end there, or be killed in the step, and another one opens the store
   pub again : MayBeOpened (world is)
+  pub kills : LeavesReady MayBeOpened world was is
   -- while every outcome is known, that is all that was called
   pub whole : next.known ≡ true → LeavesNow (world is) (KeepsAll start next)
 

@@ -3,6 +3,7 @@ use Rattle.lsm_store.specs.World.{World}
 use Rattle.lsm_commit.specs.Stored.{IsStored}
 use Rattle.lsm_log_model.specs.Records.{LogImage, opened_by}
 use Rattle.lsm_log_model.specs.Logs.{Logged as Log, MayBeDrawn}
+use Rattle.lsm_runs.specs.Files.{AreApart}
 use Rattle.lsm_state.specs.Core.{versions_left, written_of}
 use Rattle.lsm_logged.specs.Keeping.{SeenLogged, IsLogOf, KeepsLog}
 use Rattle.lsm_log_runs.specs.CameAbout.{LogCameAbout}
@@ -16,3 +17,4 @@ pub record StandsLogged {S : Type 0} (world : S → World) (image : LogImage) (p
   pub keeps : KeepsLog (world t.store) log
   pub next : MayBeDrawn (opened_by image) log t.core.seqno
   pub stored : IsStored (world t.store) (versions_left t.core) (written_of t.core)
+  pub apart : AreApart (versions_left t.core)

@@ -19,6 +19,7 @@ use lsm_log_model::{
     logged_reads_are_right, whole_is_logged,
 };
 use lsm_logged::{Logged, logs_can_be_settled, records_are_those_read, versions_are_told_once};
+use lsm_manifest::{images_stand_once, unread_names_dont_matter};
 use lsm_model::{Op, reads_are_sound};
 use lsm_pick::CompactionStrategy;
 use lsm_runs::{Reply, Slots};
@@ -143,10 +144,11 @@ fn take_steps<S: Store>(
 /// the replies are those of the steps that were taken.
 ///
 /// After whatever was called before (`StandsLogged`, as `Logged::open` leaves it), and as long as no batch removes a key weakly that
-/// was set more than once, reads equal the replay of the calls before them; at each moment a crash leaves an image that `Logged::open` takes,
-/// and that stands for a beginning of the calls between batches, which holds all that was acknowledged, flushed or cleared before
+/// was set more than once, reads equal the replay of the calls before them, and no step changes what a snapshot sees but a write, a clear
+/// or a drop numbered below it; at each moment a crash leaves an image that `Logged::open` takes, and that stands for a beginning of the calls between batches, which holds all that was acknowledged, flushed or cleared before
 /// the step of that moment: each batch is in it whole, or not at all. While every outcome is known, an image stands for all that
-/// was called. Behind each step the same holds again, so that calls may go on.
+/// was called. A process that is killed in a step leaves what `Logged::open` takes, too. Behind each step the same holds again, so that
+/// calls may go on.
 ///
 /// # Examples
 ///
@@ -165,7 +167,7 @@ pub fn run_logged<S: Store>(
     ensures whole { OnOk result.ended (length result.replies.items ≡ length steps.now) }
     // Each step is the call that it is named after.
     ensures ran { RanLogged (strategies_of (λ b. may_choose b) (λ b. may_refuse b) strategies.now) (take (length result.replies.items) steps.now) result.replies.items tree.old tree.new }
-    // What is read, what a crash leaves at each moment, and what stands behind each step.
+    // What is read and spared, what a crash or a kill leaves at each moment, and what stands behind each step.
     ensures runs { S.tells → RunsLogged S.world (take (length result.replies.items) steps.now) result.replies.items tree.old tree.new }
 {
     reads_are_sound();
@@ -178,6 +180,8 @@ pub fn run_logged<S: Store>(
     noted_compactions_keep_reads();
     records_are_those_read();
     versions_are_told_once();
+    images_stand_once();
+    unread_names_dont_matter();
     crashes_leave_versions(tree.store());
     stored_files_are_ready(tree.store());
     logs_can_be_settled(tree.store());

@@ -30,11 +30,11 @@ use Rattle.lsm_commit.specs.Stored.{IsStored, HoldsOneOf}
 use Rattle.lsm_log.specs.declared.kinds.LogName.TheVariants.{Refused}
 use Rattle.lsm_log.specs.LogNames.{record_name, kind_of}
 use Rattle.lsm_log.specs.Logs.{HasGoodNames}
-use Rattle.lsm_log.specs.Changes.{IsBelow, ClearsRecords, AreCleared}
+use Rattle.lsm_log.specs.Changes.{IsBelow, IsOneOf, IsNoneOf, ClearsRecords, AreCleared}
 use Rattle.lsm_log.proofs.BesideTree.{clears_change}
 use Rattle.lsm_logged.specs.Meanwhile.{ReadsVersion, ReadsSame, ReadsAsBefore, LeavesAsBefore}
 use Rattle.lsm_logged.specs.Removing.{IsOldOrPassed, HasOldOrPassed}
-use Rattle.lsm_logged.proofs.LogNames.{none_below, folder_foreign, refused_begins, not_in_log}
+use Rattle.lsm_logged.proofs.LogNames.{none_below, folder_foreign, refused_begins, refused_is_foreign, not_in_log}
 use Rattle.lsm_logged.proofs.Removals.{both_leave}
 use Rattle.lsm_logged.proofs.Reopening.{fresh_in, found_in}
 use Rattle.lsm_logged.proofs.Versions.{named, version_is_one}
@@ -45,7 +45,7 @@ each_of P f (x ∷ xs) = (f x, each_of P f xs)
 
 -- an image reads as itself
 pub same_itself : (image : Image) → ReadsSame image image
-same_itself image = record { version = λ v r. r; tables = λ ts f. f; records = λ v k r small le. refl; names = λ n bad. refl }
+same_itself image = record { current = inl refl; version = λ v r. r; tables = λ ts f. f; records = λ v k r small le. refl; names = λ n bad. refl }
 
 -- images that agree in `current` and in the file of a version tell it alike
 pub reads_by : (a b : Image) (v : SeenVersion) → b current_name ≡ a current_name → b (version_name v.id) ≡ a (version_name v.id) → ReadsFrom a v → ReadsFrom b v
@@ -67,7 +67,7 @@ some_there c there none = let z = subst (λ (o : Option (List ℕ)). IsSome o) n
 -- ---- one that reads as what reads gave, but for the folder of the log
 
 module _ (once : FoundOnce) (unread : UnreadNamesDontMatter) (plain : PlainNumbersAreRead) (old : World) (one : IsImage old.may old.gives) (v : SeenVersion) (reads : ReadsVersion old.gives v) (finds : Finds old.gives v.levels) (good : HasGoodNames old.gives)
-    (image : Image) (now : ReadsVersion image v) (found : Finds image v.levels) (left : HasOldOrPassed old v.log_from image) where
+    (image : Image) (now : ReadsVersion image v) (found : Finds image v.levels) (left : HasOldOrPassed old v.log_from image) (current : (image current_name ≡ old.gives current_name) ⊎ (old.gives current_name ≡ None)) where
   -- what is removed is put back
   abbrev put_back : (n : List ℕ) → IsOldOrPassed old v.log_from n (image n) → Option (List ℕ)
   put_back n (inl may) = image n
@@ -137,6 +137,7 @@ module _ (once : FoundOnce) (unread : UnreadNamesDontMatter) (plain : PlainNumbe
     was,
     (λ n. chosen_may n (starts_with nat_eq n (codes "log/")) refl),
     record {
+      current = ⊎_elim (λ same. inl (same ∙ outside current_name refl)) (λ none. inr (sym (outside current_name refl) ∙ none)) current;
       version = λ u r. subst (ReadsVersion image) (version_one u r) now;
       tables = λ ts f. subst (Finds image) (levels_one ts f) found;
       records = λ u k r small le. record_same k small (subst (λ (x : SeenVersion). x.log_from ≤ k) (sym (version_one u r)) le) (starts_with nat_eq (record_name k) (codes "log/")) refl;
@@ -192,7 +193,7 @@ module _ (once : FoundOnce) (unread : UnreadNamesDontMatter) (plain : PlainNumbe
           let empty : f.0 ≡ v.levels = none_found old.gives f.0 is f.1 ∙ sym (ap (λ (u : SeenVersion). u.levels) (reads.fresh is)) in
           subst (Finds old.gives) empty f.1
 
-  abbrev alike : (image : Image) → ReadsVersion image v → Finds image v.levels → HasOldOrPassed old v.log_from image → ReadsAsBefore old image
+  abbrev alike : (image : Image) → ReadsVersion image v → Finds image v.levels → HasOldOrPassed old v.log_from image → (image current_name ≡ old.gives current_name) ⊎ (old.gives current_name ≡ None) → ReadsAsBefore old image
   alike = as_before once unread plain old one v reads read_finds good
 
   pub itself : (image : Image) → IsImage old.may image → ReadsAsBefore old image
@@ -218,25 +219,27 @@ module _ (once : FoundOnce) (unread : UnreadNamesDontMatter) (plain : PlainNumbe
         }
 
     pub begun_alike : ReadsAsBefore old image
-    begun_alike = alike image begun_reads found (λ n foreign. inl (begun.elsewhere n (no_first n foreign) foreign.not_current))
+    begun_alike = alike image begun_reads found (λ n foreign. inl (begun.elsewhere n (no_first n foreign) foreign.not_current)) (inr none)
 
   -- what was read is settled, and orphans are removed
   module _ (there : IsSome (old.gives current_name)) (image : Image) (keeps : (from : ReadsFrom old.gives v) → KeepsNamed old v.id from.layout) (cleared : IsCleared (is_orphan v.id (ids_of (reads.version there).layout)) old image)
       (fixed : (n : List ℕ) (impossible : Option (List ℕ)) → is_orphan v.id (ids_of (reads.version there).layout) n ≡ false → ¬ old.may n impossible → image n ≡ old.gives n) (found : Finds image v.levels) where
+    current_same : image current_name ≡ old.gives current_name
+    current_same = let from = reads.version there in fixed current_name (Some []) (current_stays v.id (ids_of from.layout)) (keeps from).current
+
     settled_reads : ReadsVersion image v
     settled_reads =
         let from = reads.version there in
         let ids = ids_of from.layout in
         let kept = keeps from in
-        let current = fixed current_name (Some []) (current_stays v.id ids) kept.current in
         record {
-          version = λ _. reads_by old.gives image v current (fixed (version_name v.id) None (version_stays v.id ids) kept.version) from;
+          version = λ _. reads_by old.gives image v current_same (fixed (version_name v.id) None (version_stays v.id ids) kept.version) from;
           found = λ _. found;
-          fresh = λ none. absurd (some_there (old.gives current_name) there (sym current ∙ none));
+          fresh = λ none. absurd (some_there (old.gives current_name) there (sym current_same ∙ none));
         }
 
     pub settled_alike : ReadsAsBefore old image
-    settled_alike = alike image settled_reads found (λ n foreign. inl (⊎_elim (λ was. was) (λ gone. absurd (both_ways _ (no_orphan v.id (ids_of (reads.version there).layout) n foreign) gone.1)) (cleared n)))
+    settled_alike = alike image settled_reads found (λ n foreign. inl (⊎_elim (λ was. was) (λ gone. absurd (both_ways _ (no_orphan v.id (ids_of (reads.version there).layout) n foreign) gone.1)) (cleared n))) (inl current_same)
 
   -- at each moment of it
   module _ (new : World) (keeps : (from : ReadsFrom old.gives v) → KeepsNamed old v.id from.layout) (leaves : LeavesStanding old new) (reading : LeavesOnly old new (IsOldOrRead old v.levels)) where
@@ -265,21 +268,86 @@ module _ (once : FoundOnce) (unread : UnreadNamesDontMatter) (plain : PlainNumbe
 
   -- ---- while records are removed
 
-  module _ (mid new : World) (before : LeavesOnly old mid (ReadsAsBefore old)) (passes : Passes old mid) (versions : LeavesOnly mid new (HoldsOneOf (v ∷ []))) (records : LeavesOnly mid new (AreCleared (IsBelow v.log_from) mid)) where
-    holds_alike : (image : Image) → HoldsOneOf (v ∷ []) image → AreCleared (IsBelow v.log_from) mid image → ReadsAsBefore old image
-    holds_alike image holds cleared =
-        let is : v ≡ holds.0 = ⊎_elim (λ (e : v ≡ holds.0). e) (λ (no : ⊥). absurd no) holds.1 in
-        let stands = holds.2 in
-        let found : Finds image v.levels = subst (λ (u : SeenVersion). Finds image u.levels) (sym is) (Named holds.0.id (named_levels holds.0.levels) stands) in
-        let named = stands.named in
-        alike image
-        (record {
-          version = λ _. subst (ReadsFrom image) (sym is) holds.3;
-          found = λ _. found;
-          fresh = λ none. absurd (some_none (image current_name) _ named.current none);
-        })
-        found
-        (λ n foreign. ⊎_elim (λ may. inl (passes.may n (image n) foreign may)) (λ gone. inr gone) (cleared n))
+  module _ (mid new : World) (before : LeavesOnly old mid (ReadsAsBefore old)) (passes : Passes old mid) (one_mid : IsImage mid.may mid.gives) (counts : (image : Image) → IsImage mid.may image → mid.since old.moment image)
+      (versions : LeavesOnly mid new (HoldsOneOf (v ∷ []))) (records : LeavesOnly mid new (AreCleared (IsBelow v.log_from) mid)) where
+    module _ (image : Image) (holds : HoldsOneOf (v ∷ []) image) (cleared : AreCleared (IsBelow v.log_from) mid image) where
+      -- what is removed is put back
+      abbrev fill : (n : List ℕ) → mid.may n (image n) ⊎ ((image n ≡ None) × IsOneOf (IsBelow v.log_from) n) → Option (List ℕ)
+      fill n (inl may) = image n
+      fill n (inr gone) = mid.gives n
+
+      abbrev filled : Image
+      filled n = fill n (cleared n)
+
+      fill_may : (n : List ℕ) (d : mid.may n (image n) ⊎ ((image n ≡ None) × IsOneOf (IsBelow v.log_from) n)) → mid.may n (fill n d)
+      fill_may n (inl may) = may
+      fill_may n (inr gone) = one_mid n
+
+      fill_else : (n : List ℕ) → IsNoneOf (IsBelow v.log_from) n → (d : mid.may n (image n) ⊎ ((image n ≡ None) × IsOneOf (IsBelow v.log_from) n)) → image n ≡ fill n d
+      fill_else n none (inl may) = refl
+      fill_else n none (inr gone) = absurd (none gone.1.0 gone.1.1 gone.1.2)
+
+      fill_refused : (n : List ℕ) → kind_of n ≡ Refused → (d : mid.may n (image n) ⊎ ((image n ≡ None) × IsOneOf (IsBelow v.log_from) n)) → image n ≡ fill n d
+      fill_refused n bad (inl may) = refl
+      fill_refused n bad (inr gone) = gone.0 ∙ sym (passes.gives n (refused_is_foreign n bad) ∙ good n bad)
+
+      -- so that a crash could leave it before
+      was : ReadsAsBefore old filled
+      was = before.each filled (counts filled (λ n. fill_may n (cleared n)))
+
+      beside : (n : List ℕ) → starts_with nat_eq n (codes "log/") ≡ false → image n ≡ filled n
+      beside n out = fill_else n (λ k lt e. both_ways (starts_with nat_eq n (codes "log/")) out (ap (λ (l : List ℕ). starts_with nat_eq l (codes "log/")) e)) (cleared n)
+
+      agrees : AgreesInRead filled image
+      agrees = record {
+        current = beside current_name refl;
+        version = λ id ls named. beside (version_name id) refl;
+        tables = λ id ls named. each_of _ (each_of _ (each_of _ (λ t. beside (table_name t.id) refl))) ls;
+        no_version = beside (codes "version") refl;
+        in_tables = λ n bad. beside n (not_in_log n bad);
+      }
+
+      found_on : (ts : SeenLevels) → Finds filled ts → Finds image ts
+      found_on ts f = (unread filled image agrees).0 ts f
+
+      version_on : (u : SeenVersion) → ReadsVersion filled u → ReadsVersion image u
+      version_on u r =
+          let current = beside current_name refl in
+          record {
+            version = λ there. reads_by filled image u current (beside (version_name u.id) refl) (r.version (subst (λ (c : Option (List ℕ)). IsSome c) current there));
+            found = λ there. found_on u.levels (r.found (subst (λ (c : Option (List ℕ)). IsSome c) current there));
+            fresh = λ none. r.fresh (sym current ∙ none);
+          }
+
+      now : ReadsVersion image v
+      now =
+          let is : v ≡ holds.0 = ⊎_elim (λ (e : v ≡ holds.0). e) (λ (no : ⊥). absurd no) holds.1 in
+          let stands = holds.2 in
+          let named = stands.named in
+          record {
+            version = λ _. subst (ReadsFrom image) (sym is) holds.3;
+            found = λ _. subst (λ (u : SeenVersion). Finds image u.levels) (sym is) (Named holds.0.id (named_levels holds.0.levels) stands);
+            fresh = λ none. absurd (some_none (image current_name) _ named.current none);
+          }
+
+      record_on : (u : SeenVersion) (k : ℕ) → ReadsVersion was.0 u → k < 2 ^ 63 → u.log_from ≤ k → image (record_name k) ≡ filled (record_name k)
+      record_on u k r small le =
+          let is : v ≡ u = version_is_one once image v u now (version_on u (was.2.version u r)) in
+          let high : v.log_from ≤ k = subst (λ (x : SeenVersion). x.log_from ≤ k) (sym is) le in
+          fill_else (record_name k) (none_below plain v.log_from k high small) (cleared (record_name k))
+
+      holds_alike : ReadsAsBefore old image
+      holds_alike = (
+        was.0,
+        was.1,
+        record {
+          current = ⊎_elim (λ same. inl (beside current_name refl ∙ same)) inr was.2.current;
+          version = λ u r. version_on u (was.2.version u r);
+          tables = λ ts f. found_on ts (was.2.tables ts f);
+          records = λ u k r small le. record_on u k r small le ∙ was.2.records u k r small le;
+          names = λ n bad. fill_refused n bad (cleared n) ∙ was.2.names n bad;
+        },
+      )
 
     pub records_moment : LeavesOnly old new (ReadsAsBefore old)
     records_moment =
@@ -325,11 +393,12 @@ module _ {S : Type 0} (world : S → World) (once : FoundOnce) (unread : UnreadN
   files_left left leaves = record { meanwhile = moment left leaves; again = (opening left leaves).again }
 
   -- and records are removed behind that
-  pub records_left : (mid new : S) (versions : List SeenVersion) (written : List SeenTable) → versions ≡ v ∷ [] → LeavesStanding (world store) (world mid) → Passes (world store) (world mid) → IsStored (world mid) versions written
+  pub records_left : (mid new : S) → IsImage (world mid).may (world mid).gives → ((image : Image) → (world store).moment ≤ (world mid).moment → IsImage (world mid).may image → (world mid).since (world store).moment image)
+      → (versions : List SeenVersion) (written : List SeenTable) → versions ≡ v ∷ [] → LeavesStanding (world store) (world mid) → Passes (world store) (world mid) → IsStored (world mid) versions written
       → ClearsRecords (IsBelow v.log_from) (world mid) (world new) → LeavesOnly (world mid) (world new) (AreCleared (IsBelow v.log_from) (world mid)) → LeavesAsBefore (world store) (world new)
-  records_left mid new versions written is leaves passes stored clears cleared =
+  records_left mid new one_mid counts versions written is leaves passes stored clears cleared =
       let behind = spares mid new (clears_change (IsBelow v.log_from) (world mid) (world new) clears cleared) versions written stored in
       record {
-        meanwhile = records_moment once unread plain (world store) one ready v reads good (world mid) (world new) (moment mid leaves) passes (subst (λ vs. LeavesOnly (world mid) (world new) (HoldsOneOf vs)) is behind.1) cleared;
+        meanwhile = records_moment once unread plain (world store) one ready v reads good (world mid) (world new) (moment mid leaves) passes one_mid (λ image may. counts image (moment mid leaves).later may) (subst (λ vs. LeavesOnly (world mid) (world new) (HoldsOneOf vs)) is behind.1) cleared;
         again = ready_again new versions written behind.0;
       }

@@ -1,5 +1,5 @@
 -- What an opening reads in an image, and what a crash leaves while it runs.
-use Rattle.std.specs.Prelude.{◌≡◌, ◌↔◌, ◌<◌, ◌≤◌, ◌^◌, ℕ, List, map, None, IsSome, Contains}
+use Rattle.std.specs.Prelude.{◌≡◌, ◌⊎◌, ◌↔◌, ◌<◌, ◌≤◌, ◌^◌, ℕ, List, map, None, IsSome, Contains}
 use Rattle.std.specs.List.{AllByRecursion}
 use Rattle.std.specs.List.Sorted.{IsStrictlyIncreasing}
 use Rattle.lsm_store.specs.World.{Image, World, IsImage, LeavesOnly}
@@ -38,6 +38,8 @@ log_is_read image from passed records log = record { good = log.are.good; are = 
 -- in the image stands what an opening reads in another one: the same version with its tables, and from its `log_from` on the same
 -- records; those below may be gone
 pub record ReadsSame (was image : Image) : Type 0 where
+  -- by the same `current`, or there was none, and the first version was read
+  pub current : (image current_name ≡ was current_name) ⊎ (was current_name ≡ None)
   pub version : (v : SeenVersion) → ReadsVersion was v → ReadsVersion image v
   pub tables : (ts : Levels) → Finds was ts → Finds image ts
   pub records : (v : SeenVersion) (k : ℕ) → ReadsVersion was v → k < 2 ^ 63 → v.log_from ≤ k → image (record_name k) ≡ was (record_name k)

@@ -122,7 +122,7 @@ module _ (old new : Core) (certain : old.lost ≡ None) where
   unsure_one : (job : SeenWritten) → Doubts job old new → MakesOne latest new
   unsure_one job d = doubted_one d.next d.flushed.version.id d.is
 
-registers_one : (job : SeenWritten) (r : Result Outcome Error) (old new : Core) → old.lost ≡ None → Registers job r old new → MakesOne old.history.latest.version new
+pub registers_one : (job : SeenWritten) (r : Result Outcome Error) (old new : Core) → old.lost ≡ None → Registers job r old new → MakesOne old.history.latest.version new
 registers_one job (Ok a) old new certain g = by a.installed refl
   where
     by : (b : Bool) → a.installed ≡ b → MakesOne old.history.latest.version new
@@ -153,7 +153,7 @@ tables_stay (reply.Refused x) events was is old new certain t = stays_by old new
 tables_stay reply.NoJob events was is old new certain t = idle old new certain t.0.2
 tables_stay r events was is old new certain t = absurd t
 
-whole_one : (w : ℕ) (r : Result (Option (ℕ × Outcome)) Error) (old new : Core) → old.lost ≡ None → Flushes w r old new → MakesOne old.history.latest.version new
+pub whole_one : (w : ℕ) (r : Result (Option (ℕ × Outcome)) Error) (old new : Core) → old.lost ≡ None → Flushes w r old new → MakesOne old.history.latest.version new
 whole_one w (Ok None) old new certain f = stays_one old.history.latest.version new (idle old new certain (f.some refl).1)
 whole_one w (Ok (Some a)) old new certain f = let i = f.installs in installs_one (drawn_until new.next_table old) new certain i.job a.1.cleaned i.installs
 whole_one w (Err CommitUnknown) old new certain f = let u = f.unknown refl in unsure_one (drawn_until new.next_table old) new certain u.job u.doubts
@@ -177,7 +177,7 @@ active_one w r events old new certain t = absurd t
 
 -- ---- clears
 
-clears_one : (r : Result ℕ Error) (old new : Core) → old.lost ≡ None → Clears r old new → MakesOne old.history.latest.version new
+pub clears_one : (r : Result ℕ Error) (old new : Core) → old.lost ≡ None → Clears r old new → MakesOne old.history.latest.version new
 clears_one (Ok n) old new certain c = commits_one old.history.latest.version (cleared_in old).version new refl (ap (λ (t : Core). t.history.latest.version) c.ok.1) (ap (λ (t : Core). t.lost) c.ok.1 ∙ certain)
 clears_one (Err x) old new certain c = go c.only
   where
@@ -202,7 +202,7 @@ does_one (Merge input) o (Ok b) old new certain d = stays_one old.history.latest
 does_one (Merge input) o (Err e) old new certain d = stays_one old.history.latest.version new (idle old new certain d.err)
 does_one (Drop ids) o r old new certain d = settled_one old new certain _ o.mvcc_gc_watermark r (λ v made. made.next.id) d.settles d.only
 
-choice_one : (choice : Choice) (o : Options) (r : Result Begun Error) (old new : Core) → old.lost ≡ None → BeginsChoice choice o r old new → MakesOne old.history.latest.version new
+pub choice_one : (choice : Choice) (o : Options) (r : Result Begun Error) (old new : Core) → old.lost ≡ None → BeginsChoice choice o r old new → MakesOne old.history.latest.version new
 choice_one choice o r old new certain b = by (reason_of choice old) refl
   where
     by : (why : Option Why) → reason_of choice old ≡ why → MakesOne old.history.latest.version new
@@ -221,7 +221,7 @@ ends_one : (job : SeenCompaction) (r : Result Finished Error) (old new : Core) �
 ends_one job r old new certain (inl e) = stays_one old.history.latest.version new (idle old new certain e.1)
 ends_one job r old new certain (inr e) = ends_for_one job e.0 r old new certain e.2
 
-finishes_one : (job : SeenCompaction) (r : Result Finished Error) (old new : Core) → old.lost ≡ None → Finishes job r old new → MakesOne old.history.latest.version new
+pub finishes_one : (job : SeenCompaction) (r : Result Finished Error) (old new : Core) → old.lost ≡ None → Finishes job r old new → MakesOne old.history.latest.version new
 finishes_one job r old new certain f = elim (f.ends certain) [
   | inl e ↦ stays_one old.history.latest.version new (idle old new certain e.1.1)
   | inr e ↦ ends_one job r (closed job.number old) new certain e.1
@@ -248,7 +248,7 @@ waits_so choice o job old new certain b = by (reason_of choice old) refl
     by (Some why) is = idle old new certain (b.declines why certain is).1
     by None is = opens choice (b.does certain is)
 
-follows_one : (choice : Choice) (o : Options) (begun r : Result Begun Error) (old mid new : Core) → old.lost ≡ None → BeginsChoice choice o begun old mid → Follows begun r mid new → MakesOne old.history.latest.version new
+pub follows_one : (choice : Choice) (o : Options) (begun r : Result Begun Error) (old mid new : Core) → old.lost ≡ None → BeginsChoice choice o begun old mid → Follows begun r mid new → MakesOne old.history.latest.version new
 follows_one choice o (Ok (BegunMerge job)) r old mid new certain b f =
     let s = waits_so choice o job old mid certain b in
     subst (λ v. MakesOne v new) s.same (completes_one job r mid new s.certain f)

@@ -1,5 +1,5 @@
 -- Stores that opening takes, in a step and between two.
-use Rattle.std.proofs.Common.{◌≡◌, ◌⊎◌, ⊎_elim, inl, inr, arith, ◌++◌, Option, Some, None, option_to_list, is_some, refl, sym, ap, ◌∙◌, subst}
+use Rattle.std.proofs.Common.{◌≡◌, ◌⊎◌, ⊎_elim, inl, inr, arith, List, ◌++◌, Option, Some, None, option_to_list, is_some, refl, sym, ap, ◌∙◌, subst}
 use Rattle.std.specs.List.{AllByRecursion}
 use Rattle.lsm_below.specs.Members.{IsIn, each_in}
 use Rattle.lsm_store.specs.World.{Image, World, IsImage}
@@ -10,11 +10,11 @@ use Rattle.lsm_manifest.specs.Ready.{IsReady}
 use Rattle.lsm_commit.specs.Stored.{IsStored, HoldsOneOf}
 use Rattle.lsm_commit.specs.Opening.{StoredIsReady}
 use Rattle.lsm_state.specs.Core.{Core, versions_left, written_of}
-use Rattle.lsm_state.specs.Commits.{Upholds}
 use Rattle.lsm_run_model.specs.Lives.{EndsIn, Killed, LeavesReady}
 use Rattle.lsm_runs.specs.declared.steps.Step.{Step as Call}
 use Rattle.lsm_runs.specs.declared.steps.Reply.{Reply}
 use Rattle.lsm_runs.specs.Chains.{KeepsFiles}
+use Rattle.lsm_runs.specs.Files.{AreApart}
 use Rattle.lsm_runs.specs.Moments.{StaysReady}
 use Rattle.lsm_runs.proofs.Made.{MakesOne}
 use Rattle.lsm_runs.proofs.Members.{in_either}
@@ -37,10 +37,27 @@ stored_stays_ready world ready only store c stored =
     let here = ready store (versions_left c) (written_of c) stored in
     (here, λ cut ends. less_ready (world store) (world cut) (λ image may. only store image (ends.each image may)) here)
 
+-- ---- versions with ids of their own
+
+-- a store is ready of which a crash leaves one of them
+pub holding_ready : FoundOnce → (versions : List SeenVersion) → AreApart versions → (w : World) → ((image : Image) → IsImage w.may image → HoldsOneOf versions image) → IsReady w
+holding_ready once versions apart w holds = record {
+  found = λ image may. ((holds image may).0.levels, found image may);
+  once = λ a b ts in_a in_b same finds.
+      let x = holds a in_a in
+      let y = holds b in_b in
+      let ids = names_one a b x.0.id y.0.id (named_levels x.0.levels) (named_levels y.0.levels) same x.2.named y.2.named in
+      let one = apart x.0 y.0 x.1 y.1 ids in
+      subst (Finds b) (ap (λ (v : SeenVersion). v.levels) one ∙ once a x.0.levels ts (found a in_a) finds) (found b in_b);
+  none = λ a b ts in_a in_b gone finds. let y = holds b in_b in absurd (names_some b y.0.id (named_levels y.0.levels) y.2.named gone);
+}
+  where
+    found : (image : Image) (may : IsImage w.may image) → Finds image (holds image may).0.levels
+    found image may = let h = holds image may in Named h.0.id (named_levels h.0.levels) h.2
+
 -- ---- in a step
 
-module _ {F : Type 0} (world : F → World) (once : FoundOnce) (was is : F) (old new : Core) (certain : old.lost ≡ None) (makes : MakesOne old.history.latest.version new)
-    (stored : IsStored (world was) (versions_left old) (written_of old)) (up : Upholds (world was) (world is) old new) where
+module _ (old new : Core) (certain : old.lost ≡ None) (makes : MakesOne old.history.latest.version new) where
   abbrev IsOne : SeenVersion → Type 0
   IsOne v = (v ≡ old.history.latest.version) ⊎ (v ≡ makes.made)
 
@@ -63,25 +80,9 @@ module _ {F : Type 0} (world : F → World) (once : FoundOnce) (was is : F) (old
   same_version v w (inr a) (inl b) same = absurd (apart w v b a (sym same))
   same_version v w (inr a) (inr b) same = b ∙ sym a
 
-  -- a process that ends then leaves one of the versions
-  module _ (cut : F) (ends : EndsIn world (world was) (world is) (Killed cut)) where
-    holds : (image : Image) → IsImage (world cut).may image → HoldsOneOf (versions_left old ++ versions_left new) image
-    holds image may = (up.files stored).1.each image (ends.each image may)
-
-    found : (image : Image) (may : IsImage (world cut).may image) → Finds image (holds image may).0.levels
-    found image may = let h = holds image may in Named h.0.id (named_levels h.0.levels) h.2
-
-    cut_ready : IsReady (world cut)
-    cut_ready = record {
-      found = λ image may. ((holds image may).0.levels, found image may);
-      once = λ a b ts in_a in_b same finds.
-          let x = holds a in_a in
-          let y = holds b in_b in
-          let ids = names_one a b x.0.id y.0.id (named_levels x.0.levels) (named_levels y.0.levels) same x.2.named y.2.named in
-          let versions = same_version x.0 y.0 (is_one x.0 x.1) (is_one y.0 y.1) ids in
-          subst (Finds b) (ap (λ (v : SeenVersion). v.levels) versions ∙ once a x.0.levels ts (found a in_a) finds) (found b in_b);
-      none = λ a b ts in_a in_b gone finds. let y = holds b in_b in absurd (names_some b y.0.id (named_levels y.0.levels) y.2.named gone);
-    }
+  -- those before the step and behind it
+  pub made_apart : AreApart (versions_left old ++ versions_left new)
+  made_apart v w i j same = same_version v w (is_one v i) (is_one w j) same
 
 -- of a step that makes at most one version: where the outcome of a commit was unknown before it, it doesn't call the store
 pub step_ready : {F : Type 0} (world : F → World) → StoredIsReady F world → OnlyNow world → FoundOnce → (x : Call) (reply : Reply) (was is : F) (old new : Core) → (old.lost ≡ None → MakesOne old.history.latest.version new)
@@ -89,5 +90,5 @@ pub step_ready : {F : Type 0} (world : F → World) → StoredIsReady F world �
 step_ready {F} world ready only once x reply was is old new makes keeps stored = by old.lost refl
   where
     by : (lost : Option SeenVersion) → old.lost ≡ lost → LeavesReady IsReady world was is
-    by None certain = λ cut ends. cut_ready world once was is old new certain (makes certain) stored keeps.upholds cut ends
+    by None certain = λ cut ends. holding_ready once (versions_left old ++ versions_left new) (made_apart old new certain (makes certain)) (world cut) (λ image may. (keeps.upholds.files stored).1.each image (ends.each image may))
     by (Some v) unsure = subst (λ (s : F). LeavesReady IsReady world was s) (sym (keeps.no_call (ap is_some unsure))) (stored_stays_ready world ready only was old stored).1

@@ -1,6 +1,8 @@
 -- What a run leaves of a tree's files.
-use Rattle.std.specs.Prelude.{◌≡◌}
+use Rattle.std.specs.Prelude.{◌≡◌, List}
+use Rattle.lsm_below.specs.Members.{IsIn}
 use Rattle.lsm_store.specs.World.{World}
+use Rattle.lsm_versions.specs.Levels.{SeenVersion}
 use Rattle.lsm_commit.specs.Stored.{IsStored}
 use Rattle.lsm_commit.specs.Causes.{HasCause}
 use Rattle.lsm_state.specs.Core.{Core, versions_left, written_of}
@@ -11,6 +13,10 @@ use Rattle.lsm_runs.specs.declared.steps.Reply.{Reply}
 use Rattle.lsm_runs.specs.declared.steps.Step.{Step}
 use Rattle.lsm_runs.specs.declared.steps.Step.TheVariants.{AtSlot, Flush, FlushActiveMemtable, Compact, DoCompaction, MajorCompact, DropRange, Clear}
 use Rattle.lsm_runs.specs.Causes.{ReplyBlames}
+
+-- of these versions no two have the same id
+abbrev pub AreApart : List SeenVersion → Type 0
+AreApart versions = (v w : SeenVersion) → IsIn v versions → IsIn w versions → v.id ≡ w.id → w ≡ v
 
 -- where the files of a tree are stored before, they are so after
 abbrev pub StaysStored : World → World → Core → Core → Type 0

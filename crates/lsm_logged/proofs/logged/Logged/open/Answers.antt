@@ -214,7 +214,7 @@ returns-in-Err-take_log-clause-leaves g c tells ready =
     let from : c.log_from-from.result ≡ v.log_from = c.log_from-from.ensures ∙ (ap (λ (u : SeenVersion). u.log_from) c.version.ensures ∙ ap (λ (f : Found). f.opened.version.log_from) (sym c.in-Ok.ensures.files)) in
     rw (c.into_store-in-Err-take_log.ensures)
     (records_left w c.images_stand_once.ensures.found c.unread_names_dont_matter.ensures c.plain_numbers_are_read.ensures (c.ready_stores_keep_what_is_named.ensures.named tells) (c.openings_leave_what_was_read.ensures.meanwhile tells) c.foreign_names_spare.ensures c.stored_files_are_ready.ensures
-    store (g.met.S.Store.gives_one tells store) ready found'.files (looks_read (w store) (w found'.store) found'.files looks) read.log.are.good mid new (versions_left core) (written_of core) (ap versions_left c.in_ok-tree.ensures.core) leaves
+    store (g.met.S.Store.gives_one tells store) ready found'.files (looks_read (w store) (w found'.store) found'.files looks) read.log.are.good mid new (g.met.S.Store.gives_one tells mid) (λ image le may. g.met.S.Store.counts_now tells mid (w store).moment image le may) (versions_left core) (written_of core) (ap versions_left c.in_ok-tree.ensures.core) leaves
     (c.openings_pass.ensures store mid _ (c.in_ok-tree.ensures.opens tells store looks) leaves) (c.in_ok-tree.ensures.stored tells store looks ready)
     (subst (λ n. ClearsRecords (IsBelow n) (w mid) (w new)) from (c.in-Err-take_log.ensures.clears tells)) (subst (λ n. LeavesOnly (w mid) (w new) (AreCleared (IsBelow n) (w mid))) from (c.in-Err-take_log.ensures.any_moment tells)))
 
@@ -233,6 +233,6 @@ returns-in-Ok-take_log-clause-leaves g c tells ready =
     let leaves = c.in_ok-tree.ensures.leaves tells store looks in
     let from : c.log_from-from.result ≡ v.log_from = c.log_from-from.ensures ∙ (ap (λ (u : SeenVersion). u.log_from) c.version.ensures ∙ ap (λ (f : Found). f.opened.version.log_from) (sym c.in-Ok.ensures.files)) in
     records_left w c.images_stand_once.ensures.found c.unread_names_dont_matter.ensures c.plain_numbers_are_read.ensures (c.ready_stores_keep_what_is_named.ensures.named tells) (c.openings_leave_what_was_read.ensures.meanwhile tells) c.foreign_names_spare.ensures c.stored_files_are_ready.ensures
-    store (g.met.S.Store.gives_one tells store) ready found'.files (looks_read (w store) (w found'.store) found'.files looks) read.log.are.good mid new (versions_left core) (written_of core) (ap versions_left c.in_ok-tree.ensures.core) leaves
+    store (g.met.S.Store.gives_one tells store) ready found'.files (looks_read (w store) (w found'.store) found'.files looks) read.log.are.good mid new (g.met.S.Store.gives_one tells mid) (λ image le may. g.met.S.Store.counts_now tells mid (w store).moment image le may) (versions_left core) (written_of core) (ap versions_left c.in_ok-tree.ensures.core) leaves
     (c.openings_pass.ensures store mid _ (c.in_ok-tree.ensures.opens tells store looks) leaves) (c.in_ok-tree.ensures.stored tells store looks ready)
     (subst (λ n. ClearsRecords (IsBelow n) (w mid) (w new)) from (c.in-Ok-take_log.ensures.clears tells)) (subst (λ n. LeavesOnly (w mid) (w new) (AreCleared (IsBelow n) (w mid))) from (c.in-Ok-take_log.ensures.any_moment tells))

@@ -1,0 +1,108 @@
+-- A store of which each image that a crash may leave stands, and whose log isn't bad in any, can be opened: what its log reads can be put on
+-- the disk.
+use Rattle.std.proofs.Common.{◌≡◌, ◌≢◌, ⊎_elim, inl, inr, ℕ, ◌<◌, ◌≤◌, ◌^◌, Bool, true, false, cond, List, [], Option, Some, None, IsSome, refl, sym, ap, ◌∙◌, subst, codes}
+use Rattle.std.specs.Prelude.{bytes_eq, nat_eq, unwrap_or}
+use Rattle.std.specs.List.{starts_with}
+use Rattle.std.proofs.lemmas.Bool.{both_ways}
+use Rattle.std.proofs.lemmas.Slice.Eq.{bytes_eq-Decides}
+use Rattle.lsm_store.specs.World.{Image, World, IsImage}
+use Rattle.lsm_store.specs.Moments.{same_or_not}
+use Rattle.lsm_versions.specs.Levels.{SeenVersion}
+use Rattle.lsm_manifest.specs.Finding.{FoundOnce, AgreesInRead, UnreadNamesDontMatter}
+use Rattle.lsm_manifest.specs.Names.{current_name, version_name, table_name}
+use Rattle.lsm_manifest.specs.Ready.{IsReady}
+use Rattle.lsm_log.specs.LogNames.{record_name}
+use Rattle.lsm_log.specs.Logs.{IsBadLog}
+use Rattle.lsm_log.specs.Records.{Ops, IsRecordOf, front}
+use Rattle.lsm_log_model.specs.Records.{LogStands}
+use Rattle.lsm_logged.specs.Meanwhile.{ReadsVersion}
+use Rattle.lsm_logged.specs.Opening.{CanBeSettled}
+use Rattle.lsm_logged.proofs.LogNames.{not_in_log, refused_begins}
+use Rattle.lsm_logged.proofs.Meanwhile.{each_of, reads_by}
+use Rattle.lsm_runs.proofs.Readiness.{less_ready}
+use Rattle.lsm_log_runs.specs.Images.{HoldsLogged, MayBeOpened}
+
+-- ---- another content of a name in the folder of the log
+
+module _ (once : FoundOnce) (unread : UnreadNamesDontMatter) (image : Image) (m : List ℕ) (c : Option (List ℕ)) (inside : starts_with nat_eq m (codes "log/") ≡ true) where
+  abbrev pub changed : Image
+  changed n = cond (bytes_eq n m) c (image n)
+
+  pub changed_here : changed m ≡ c
+  changed_here = ap (λ b. cond b c (image m)) ((bytes_eq-Decides m m).1 refl)
+
+  by_test : (n : List ℕ) (b : Bool) → bytes_eq n m ≡ b → n ≢ m → cond b c (image n) ≡ image n
+  by_test n true is other = absurd (other ((bytes_eq-Decides n m).0 is))
+  by_test n false is other = refl
+
+  changed_else : (n : List ℕ) → n ≢ m → changed n ≡ image n
+  changed_else n other = by_test n (bytes_eq n m) refl other
+
+  pub changed_may : (w : World) → IsImage w.may image → w.may m c → IsImage w.may changed
+  changed_may w at may n =
+      ⊎_elim (λ (same : n ≡ m). subst (λ (k : List ℕ). w.may k (changed k)) (sym same) (subst (λ (o : Option (List ℕ)). w.may m o) (sym changed_here) may))
+      (λ (other : n ≢ m). subst (λ (o : Option (List ℕ)). w.may n o) (sym (changed_else n other)) (at n)) (same_or_not n m)
+
+  outside : (n : List ℕ) → starts_with nat_eq n (codes "log/") ≡ false → changed n ≡ image n
+  outside n out = changed_else n (λ e. both_ways (starts_with nat_eq n (codes "log/")) out (ap (λ (l : List ℕ). starts_with nat_eq l (codes "log/")) e ∙ inside))
+
+  agrees : AgreesInRead image changed
+  agrees = record {
+    current = outside current_name refl;
+    version = λ id ls named. outside (version_name id) refl;
+    tables = λ id ls named. each_of _ (each_of _ (each_of _ (λ t. outside (table_name t.id) refl))) ls;
+    no_version = outside (codes "version") refl;
+    in_tables = λ n bad. outside n (not_in_log n bad);
+  }
+
+  -- is none of the version's
+  pub reads_still : (v : SeenVersion) → ReadsVersion image v → ReadsVersion changed v
+  reads_still v reads =
+      let current = outside current_name refl in
+      record {
+        version = λ there. reads_by image changed v current (outside (version_name v.id) refl) (reads.version (subst (λ (o : Option (List ℕ)). IsSome o) current there));
+        found = λ there. (unread image changed agrees).0 v.levels (reads.found (subst (λ (o : Option (List ℕ)). IsSome o) current there));
+        fresh = λ none. reads.fresh (sym current ∙ none);
+      }
+
+-- ---- what its log reads
+
+-- an empty file is no record
+empty_is_none : (k : ℕ) (ops : Ops) → IsRecordOf k ops [] → ⊥
+unfolding front
+empty_is_none k ops r = let e = r.written in absurd (cc e)
+
+module _ (once : FoundOnce) (unread : UnreadNamesDontMatter) (w : World) (stands : (image : Image) → IsImage w.may image → HoldsLogged LogStands image) where
+  -- so no name in the folder of the log can have a content that makes the log bad
+  never : (image : Image) (v : SeenVersion) → IsImage w.may image → ReadsVersion image v → (m : List ℕ) (c : Option (List ℕ)) (inside : starts_with nat_eq m (codes "log/") ≡ true) → IsBadLog (changed once unread image m c inside) v.log_from → ¬ w.may m c
+  never image v at reads m c inside bad may =
+      (stands (changed once unread image m c inside) (changed_may once unread image m c inside w at may)).good v (reads_still once unread image m c inside v reads) bad
+
+  there : (image : Image) (m : List ℕ) (inside : starts_with nat_eq m (codes "log/") ≡ true) → IsSome (changed once unread image m (Some []) inside m)
+  there image m inside = subst (λ (o : Option (List ℕ)). IsSome o) (sym (changed_here once unread image m (Some []) inside)) refl
+
+  settles : (image : Image) (v : SeenVersion) → IsImage w.may image → ReadsVersion image v → CanBeSettled w v.log_from
+  settles image v at reads = record {
+    records = λ k small le. (
+      Some [],
+      never image v at reads (record_name k) (Some []) refl (inr (
+        k,
+        record { small = small; file = there image (record_name k) refl },
+        le,
+        λ bytes ops file r.
+            let e : [] ≡ bytes = ap (λ (o : Option (List ℕ)). unwrap_or o []) (sym (changed_here once unread image (record_name k) (Some []) refl) ∙ file) in
+            empty_is_none k ops (subst (IsRecordOf k ops) (sym e) r),
+      )),
+    );
+    refused = λ n bad. (
+      Some [],
+      never image v at reads n (Some []) (refused_begins n bad) (inl (record { name = n; refused = bad; there = there image n (refused_begins n bad) })),
+    );
+  }
+
+  pub stands_opens : IsReady w → MayBeOpened w
+  stands_opens ready = record { ready = ready; stands = stands; settles = settles }
+
+-- and so does one of which a crash leaves less
+pub less_opens : FoundOnce → UnreadNamesDontMatter → (old new : World) → ((image : Image) → IsImage new.may image → IsImage old.may image) → MayBeOpened old → MayBeOpened new
+less_opens once unread old new less may = stands_opens once unread new (λ image at. may.stands image (less image at)) (less_ready old new less may.ready)
