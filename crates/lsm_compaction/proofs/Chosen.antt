@@ -31,7 +31,7 @@ tables_front [] runs = refl
 tables_front (x ∷ xs) runs = refl
 
 -- they are the chosen tables, run by run
-inputs_tables : (ids : List ℕ) (runs : List (List SeenTable)) → tables_of (inputs_in ids runs) ≡ chosen_in ids (tables_of runs)
+pub inputs_tables : (ids : List ℕ) (runs : List (List SeenTable)) → tables_of (inputs_in ids runs) ≡ chosen_in ids (tables_of runs)
 inputs_tables ids [] = refl
 inputs_tables ids (run ∷ runs) =
     tables_front (chosen_in ids run) (inputs_in ids runs)

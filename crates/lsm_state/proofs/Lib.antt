@@ -29,6 +29,7 @@ pub mod Choices
 pub mod Merges
 pub mod Outcomes
 pub mod CompactionReads
+pub mod OwnInputs
 pub mod Wholes
 pub mod Clears
 pub mod ClearReads

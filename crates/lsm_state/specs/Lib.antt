@@ -20,6 +20,7 @@ pub mod FlushReads
 pub mod Settling
 pub mod Compactions
 pub mod CompactionDeeds
+pub mod OwnInputs
 pub mod WholeCompactions
 pub mod CompactionReads
 pub mod Clearing

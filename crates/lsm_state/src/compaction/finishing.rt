@@ -15,11 +15,12 @@ ghost use Rattle.lsm_state.specs.Deeds.{IsNoDeed};
 ghost use Rattle.lsm_state.specs.Settling.{MaySettle, HasItsTables};
 ghost use Rattle.lsm_state.specs.Compactions.{levels_of, closed, AreMerged, MayMerge, IsMergedInto, DrawsFor, InstallsMerge, Ends, Spends, Finishes};
 ghost use Rattle.lsm_state.specs.CompactionDeeds.{MergeDeeds};
+ghost use Rattle.lsm_state.specs.OwnInputs.{HasOwnInputs};
 
 use crate::{Finished, TreeState, compactions_are_deeds};
 use bytes::Bytes;
 use lsm_below::TableId;
-use lsm_checks::{Why, last_reason};
+use lsm_checks::{Why, last_reason, last_reason_by_ids};
 use lsm_commit::{files_are_tables, write_contents};
 use lsm_compaction::{CompactionJob, MergedCompaction};
 use lsm_parts::{Error, LIMIT, Version};
@@ -184,20 +185,31 @@ impl<S: Store> TreeState<S> {
         }
     }
 
-    /// The first reason to decline a merge at its end.
-    fn reason_at_end(&self, job: &CompactionJob) -> Result<Option<Why>, Error>
+    /// The first reason to decline a merge at its end. Where its inputs are known to be tables of this tree, ids are compared alone.
+    fn reason_at_end(&self, job: &CompactionJob, own: bool) -> Result<Option<Why>, Error>
+        requires own { own ≡ true → HasOwnInputs job.now self.now.core }
         ensures ends { IfOk result (EndsAs (tables_of job.now.inputs) job.now.ids job.now.settings.dest_level (levels_of self.now.core)) }
         ensures memory { IfErr result (λ e. e ≡ Error.OutOfMemory) }
     {
         let inputs = job.input_tables()?;
         let to = usize::from(job.settings().dest_level);
         let latest = self.current_version();
+        if own {
+            return Ok(last_reason_by_ids(
+                self.alloc,
+                &inputs,
+                job.ids(),
+                to,
+                latest,
+            )?);
+        }
         Ok(last_reason(self.alloc, &inputs, job.ids(), to, latest)?)
     }
 
     /// Ends a merge that is closed.
-    fn finish_closed(&mut self, merged: &MergedCompaction) -> Result<Finished, Error>
+    fn finish_closed(&mut self, merged: &MergedCompaction, own: bool) -> Result<Finished, Error>
         requires certain { self.old.core.lost ≡ None }
+        requires own { own ≡ true → HasOwnInputs merged.now.job self.old.core }
         ensures ends { Ends merged.now.job result self.old.core self.new.core }
         ensures upholds { S.tells → Upholds (S.world self.old.store) (S.world self.new.store) self.old.core self.new.core }
         ensures causes { HasCause (Blames result) (S.world self.old.store) (S.world self.new.store) }
@@ -207,7 +219,7 @@ impl<S: Store> TreeState<S> {
         self.is_upheld();
         let job = merged.job();
         job.facts();
-        match self.reason_at_end(job) {
+        match self.reason_at_end(job, own) {
             Ok(None) => self.install_merge(merged),
             Ok(Some(why)) => Ok(Finished::Declined(why)),
             Err(error) => Err(error),
@@ -215,7 +227,8 @@ impl<S: Store> TreeState<S> {
     }
 
     /// Spends a job, and ends it.
-    fn finish_spent(&mut self, merged: MergedCompaction) -> Result<Finished, Error>
+    fn finish_spent(&mut self, merged: MergedCompaction, own: bool) -> Result<Finished, Error>
+        requires own { own ≡ true → HasOwnInputs merged.job self.old.core }
         ensures finishes { Finishes merged.job result self.old.core self.new.core }
         ensures upholds { S.tells → Upholds (S.world self.old.store) (S.world self.new.store) self.old.core self.new.core }
         ensures causes { HasCause (Blames result) (S.world self.old.store) (S.world self.new.store) }
@@ -231,7 +244,7 @@ impl<S: Store> TreeState<S> {
         if !open {
             return Ok(Finished::Declined(Why::UnknownJob));
         }
-        self.finish_closed(&merged)
+        self.finish_closed(&merged, own)
     }
 
     /// Ends a merge that was done, and is spent whatever is answered: its tables aren't in use any more. Where it is open, and
@@ -263,6 +276,21 @@ impl<S: Store> TreeState<S> {
     {
         compactions_are_deeds();
         self.facts();
-        self.finish_spent(merged)
+        self.finish_spent(merged, false)
+    }
+
+    /// As `finish_compaction`, of a merge whose inputs are known to be tables of this tree: no entries are compared.
+    pub(crate) fn finish_own(&mut self, merged: MergedCompaction) -> Result<Finished, Error>
+        requires { HasOwnInputs merged.job self.old.core }
+        ensures finishes { Finishes merged.job result self.old.core self.new.core }
+        ensures upholds { S.tells → Upholds (S.world self.old.store) (S.world self.new.store) self.old.core self.new.core }
+        ensures causes { HasCause (Blames result) (S.world self.old.store) (S.world self.new.store) }
+        ensures gone { S.tells → result ≡ Ok Finished.Installed → LeavesNoFiles (S.world self.new.store) merged.job.ids self.old.core.history self.new.core.history }
+        ensures no_call { IsSome self.old.core.lost → self.new.store ≡ self.old.store }
+        ensures deeds { MergeDeeds merged.job result self.old.core self.new.core }
+    {
+        compactions_are_deeds();
+        self.facts();
+        self.finish_spent(merged, true)
     }
 }

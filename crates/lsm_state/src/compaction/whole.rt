@@ -7,6 +7,7 @@ ghost use Rattle.lsm_state.specs.declared.compaction.Begun.TheVariants.{Job};
 ghost use Rattle.lsm_state.specs.Cleaning.{LeavesNoFiles};
 ghost use Rattle.lsm_state.specs.Commits.{Upholds};
 ghost use Rattle.lsm_state.specs.Compactions.{given_up, LeavesNoneChosen};
+ghost use Rattle.lsm_state.specs.OwnInputs.{HasOwnInputs, BeganHere};
 ghost use Rattle.lsm_state.specs.WholeCompactions.{Completes, Follows, CompactsChoice, Compacts, DropsRange, options_at, only_memory, major_choice, drop_choice};
 
 use crate::{Begun, Finished, Options, TreeState};
@@ -17,8 +18,9 @@ use lsm_pick::{Choice, CompactionStrategy, DropRange, Major, OwnedBounds};
 use lsm_store::Store;
 
 impl<S: Store> TreeState<S> {
-    /// Does the merge of a job, and finishes it. Where there was no memory to do it, it is given up.
+    /// Does the merge of a job that was begun here just now, and finishes it. Where there was no memory to do it, it is given up.
     fn complete(&mut self, job: CompactionJob) -> Result<Begun, Error>
+        requires { HasOwnInputs job self.old.core }
         ensures completes { Completes job result self.old.core self.new.core }
         ensures upholds { S.tells → Upholds (S.world self.old.store) (S.world self.new.store) self.old.core self.new.core }
         ensures causes { HasCause (Blames result) (S.world self.old.store) (S.world self.new.store) }
@@ -32,7 +34,7 @@ impl<S: Store> TreeState<S> {
                 return Err(error);
             }
         };
-        match self.finish_compaction(merged) {
+        match self.finish_own(merged) {
             Ok(Finished::Installed) => Ok(Begun::Installed),
             Ok(Finished::Declined(why)) => Ok(Begun::Declined(why)),
             Err(error) => Err(error),
@@ -41,6 +43,7 @@ impl<S: Store> TreeState<S> {
 
     /// What follows of how a compaction began.
     fn follow(&mut self, begun: Result<Begun, Error>) -> Result<Begun, Error>
+        requires { BeganHere begun self.old.core }
         ensures follows { Follows begun result self.old.core self.new.core }
         ensures upholds { S.tells → Upholds (S.world self.old.store) (S.world self.new.store) self.old.core self.new.core }
         ensures causes { HasCause (BlamesEnd begun result) (S.world self.old.store) (S.world self.new.store) }
@@ -59,7 +62,7 @@ impl<S: Store> TreeState<S> {
     }
 
     /// Does a choice in one call: begins it as `begin_choice` does, and where it is a merge does and finishes it. Nothing comes
-    /// in between. The answer is never `Begun::Job`. The cost is that of the parts.
+    /// in between, so the end compares no entries. The answer is never `Begun::Job`. The cost is that of the other parts.
     ///
     /// # Errors
     ///
@@ -75,6 +78,7 @@ impl<S: Store> TreeState<S> {
         ensures gone { S.tells → result ≡ Ok Begun.Installed → LeavesNoFiles (S.world self.new.store) (given_up choice) self.old.core.history self.new.core.history }
         ensures no_call { IsSome self.old.core.lost → self.new.store ≡ self.old.store }
     {
+        self.facts();
         let begun = self.begin_choice(choice, options);
         self.follow(begun)
     }
@@ -94,6 +98,7 @@ impl<S: Store> TreeState<S> {
         ensures gone { S.tells → result ≡ Ok Begun.Installed → LeavesNoneChosen (S.world self.new.store) (C.may_choose strategy.now) self.old.core self.new.core }
         ensures no_call { IsSome self.old.core.lost → self.new.store ≡ self.old.store }
     {
+        self.facts();
         let begun = self.begin_with(strategy, options);
         self.follow(begun)
     }
@@ -181,7 +186,7 @@ impl<S: Store> TreeState<S> {
 }
 
 /// Compacts as a strategy chooses, in one call: begins, and where the choice is a merge does and finishes it. Nothing comes in
-/// between. The answer is never `Begun::Job`. The cost is that of the parts; where other callers wait for the tree, begin,
+/// between, so the end compares no entries. The answer is never `Begun::Job`. The cost is that of the other parts; where other callers wait for the tree, begin,
 /// merge outside and finish instead.
 ///
 /// # Errors
@@ -202,6 +207,7 @@ pub fn do_compaction<S: Store>(
     ensures gone { S.tells → result ≡ Ok Begun.Installed → LeavesNoneChosen (S.world tree.new.store) (may_choose strategy.now) tree.old.core tree.new.core }
     ensures no_call { IsSome tree.old.core.lost → tree.new.store ≡ tree.old.store }
 {
+    tree.facts();
     let begun = tree.begin_compaction(strategy, options);
     tree.follow(begun)
 }

@@ -1,3 +1,4 @@
+use Rattle.lsm_state.proofs.OwnInputs.{choice_here}
 use Rattle.lsm_state.proofs.Causing.{follows_cause}
 use Rattle.lsm_state.proofs.Wholes.{choice_upholds}
 use Rattle.lsm_state.proofs.tree.TreeState.compact_choice.Goals as goal
@@ -16,3 +17,6 @@ returns-clause-causes g c =
     let mid = c.begin_choice-begun.new.self in
     let new = c.follow.new.self in
     follows_cause (w c.args.self.now.store) (w mid.store) (w new.store) c.begin_choice-begun.result c.follow.result mid.core new.core c.follow.ensures.follows c.begin_choice-begun.ensures.causes c.follow.ensures.causes
+
+pub follow-requires : goal.follow-requires
+follow-requires g c = choice_here c.args.choice c.args.options c.begin_choice-begun.result c.args.self.now.core c.begin_choice-begun.new.self.core c.facts.ensures c.begin_choice-begun.ensures.begins

@@ -1,3 +1,4 @@
+use Rattle.lsm_state.proofs.OwnInputs.{compaction_here}
 use Rattle.lsm_state.proofs.Causing.{follows_cause}
 use Rattle.std.proofs.Common.{ap}
 use Rattle.lsm_state.proofs.Wholes.{whole_upholds, follows_leave}
@@ -25,3 +26,6 @@ returns-clause-gone g c tells done =
     let new = c.follow.new.self in
     let begun = c.begin_with-begun in
     follows_leave _ _ c.args.options (w mid.store) (w new.store) begun.result c.follow.result c.args.self.now.core mid.core new.core begun.ensures.begins c.follow.ensures.follows (begun.ensures.gone tells) (c.follow.ensures.gone tells) (λ is. ap w (c.follow.ensures.rests is)) done
+
+pub follow-requires : goal.follow-requires
+follow-requires g c = compaction_here _ _ c.args.options c.begin_with-begun.result c.args.self.now.core c.begin_with-begun.new.self.core c.facts.ensures c.begin_with-begun.ensures.begins
