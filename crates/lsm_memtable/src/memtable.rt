@@ -1,5 +1,5 @@
 // A sorted table of entries in memory.
-ghost use Rattle.std.specs.Prelude.{◌≡◌, ◌+◌, ◌<◌, ◌≤◌, ◌↔◌, [], List, length, IsTrue, IfOk, IfErr, OnOk, OnErr, IfSome, IfNone, option_copied, vec_len, vec_capacity, true, MatchOption};
+ghost use Rattle.std.specs.Prelude.{◌≡◌, ◌+◌, ◌<◌, ◌≤◌, ◌↔◌, [], ◌∷◌, List, length, IsTrue, IfOk, IfErr, OnOk, OnErr, IfSome, IfNone, option_copied, vec_len, vec_capacity, true, MatchOption};
 ghost use Rattle.std.specs.Bool.{OnTrue};
 ghost use Rattle.lsm_below.specs.declared.value.InternalValue.{InternalValue};
 ghost use Rattle.lsm_below.specs.Entries.{Entry, entry_cmp, top};
@@ -199,6 +199,7 @@ fn add_noted(
     requires sound { IsContent content.old }
     requires room { vec_len log.old < vec_capacity log.old }
     ensures ok { OnOk result (content_of content.new ≡ added entry (content_of content.old)) }
+    ensures err { OnErr result (content_of content.new ≡ content_of content.old) }
     ensures sound { IsContent content.new }
     ensures noted { (before : List InternalValue) → AreUndone log.old.items before (entries_of content.old) → AreUndone log.new.items before (entries_of content.new) }
     ensures len { vec_len log.new ≤ vec_len log.old + 1 }
@@ -270,6 +271,32 @@ fn add_revocably(
     content.size = size;
     content.highest = highest;
     Err(error)
+}
+
+/// `add_revocably`, of one entry, which needs no list.
+fn add_one_revocably(
+    content: &mut Content,
+    alloc: Global,
+    entry: InternalValue,
+) -> Result<Revocable, AllocError>
+    requires { IsContent content.old }
+    ensures ok { OnOk result (content_of content.new ≡ all_added (entry ∷ []) (content_of content.old)) }
+    ensures puts { IfOk result (λ r. AreUndone r.log.items (entries_of content.old) (entries_of content.new)) }
+    ensures count { IfOk result (λ r. r.count ≡ content.old.count) }
+    ensures size { IfOk result (λ r. r.size ≡ content.old.size) }
+    ensures highest { IfOk result (λ r. r.highest ≡ content.old.highest) }
+    ensures err { OnErr result (content_of content.new ≡ content_of content.old) }
+    ensures sound { IsContent content.new }
+{
+    let (count, size, highest) = (content.count, content.size, content.highest);
+    let mut log = Vec::with_capacity(alloc, 1)?;
+    add_noted(content, alloc, entry, &mut log)?;
+    Ok(Revocable {
+        log,
+        count,
+        size,
+        highest,
+    })
 }
 
 impl Memtable {
@@ -453,6 +480,17 @@ impl Memtable {
         ensures memory { IfErr result (λ e. e ≡ Error.OutOfMemory) }
     {
         Ok(add_revocably(&mut self.content, self.alloc, batch)?)
+    }
+
+    /// `insert_all_revocably`, of one entry, which needs no list.
+    pub fn insert_revocably(&mut self, item: InternalValue) -> Result<Revocable, Error>
+        ensures ok { OnOk result (self.new ≡ with_entries (item ∷ []) self.old) }
+        ensures revocable { IfOk result (λ r. TakesBack r self.old self.new) }
+        ensures id { self.new.id ≡ self.old.id }
+        ensures err { OnErr result (self.new ≡ self.old) }
+        ensures memory { IfErr result (λ e. e ≡ Error.OutOfMemory) }
+    {
+        Ok(add_one_revocably(&mut self.content, self.alloc, item)?)
     }
 
     /// Takes a batch back: the memtable is as it was. It takes no memory.

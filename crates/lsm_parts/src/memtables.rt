@@ -244,6 +244,19 @@ impl Memtables {
         done
     }
 
+    /// `insert_all_revocably`, of one entry, which needs no list.
+    pub fn insert_revocably(&mut self, entry: InternalValue) -> Result<Revocable, Error>
+        requires { Fits entry }
+        ensures ok { OnOk result (self.new ≡ put_all_first (entry ∷ []) self.old) }
+        ensures revocable { IfOk result (λ r. TakesFirstBack r self.old self.new) }
+        ensures err { OnErr result (self.new ≡ self.old) }
+        ensures memory { IfErr result (λ e. e ≡ Error.OutOfMemory) }
+    {
+        let done = self.active.insert_revocably(entry);
+        self.active.facts();
+        done
+    }
+
     /// Takes a batch back: the memtables are as they were. It takes no memory.
     pub fn take_back(&mut self, batch: Revocable)
         requires { (before : List SeenMemtable) × TakesFirstBack batch before self.old }

@@ -13,7 +13,7 @@ use Rattle.lsm_commit.specs.Foreign.{Spares, KeepsOwn, ChangesForeign}
 use Rattle.lsm_log.specs.Changes.{PutsRecord, IsPut}
 use Rattle.lsm_parts.specs.Held.{put_all_first}
 use Rattle.lsm_state.specs.Core.{Core, versions_left, written_of, written_by, written_all, drawn_core}
-use Rattle.lsm_state.specs.Commits.{UpholdsFiles, counted}
+use Rattle.lsm_state.specs.Commits.{UpholdsFiles}
 use Rattle.lsm_state.specs.Calls.{IsWriteRun}
 use Rattle.lsm_state.specs.Refusals.{batch_refusal}
 use Rattle.lsm_state.specs.Recording.{Records, RecordsBatch, WritesBehindRecord}

@@ -5,7 +5,6 @@ use Rattle.lsm_below.specs.declared.error.Error.{Error}
 use Rattle.lsm_store.specs.World.{Image, World, IsImage, LeavesOnly}
 use Rattle.lsm_store.specs.Moments.{weakened}
 use Rattle.lsm_model.specs.Journal.{Map}
-use Rattle.lsm_versions.specs.Levels.{Levels as SeenLevels}
 use Rattle.lsm_manifest.specs.Told.{Told, TellsOpen}
 use Rattle.lsm_manifest.specs.Opening.{Opens, LeavesStanding}
 use Rattle.lsm_manifest.specs.Finding.{Finds, StandsForMap}

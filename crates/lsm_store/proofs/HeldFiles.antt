@@ -1,12 +1,10 @@
 -- One name's record among the others.
 use Rattle.std.proofs.lemmas.Bool.{true≢false}
 use Rattle.std.proofs.Common.{◌≡◌, ◌≢◌, ◌⊎◌, ℕ, Bool, true, false, cond, List, Option, Some, None, is_some, unwrap_or, inl, inr, refl, sym, ap, ◌∙◌, subst}
-use Rattle.std.specs.BTreeMap.{UpdatesBy, get_by_text}
-use Rattle.std.specs.Cmp.Lexicographic.{slice_cmp}
-use Rattle.std.specs.Ordering.{nat_cmp}
+use Rattle.std.specs.HashMap.{UpdatesBy, get_by_text}
 use Rattle.std.specs.Str.{bytes_eq}
-use Rattle.std.specs.String.{string_bytes, string_cmp}
-use Rattle.std.proofs.lemmas.Map.Text.{btree_map_updates_text}
+use Rattle.std.specs.String.{string_bytes, string_eq}
+use Rattle.std.proofs.lemmas.Map.Text.{hash_map_updates_text}
 use Rattle.std.proofs.lemmas.Slice.Eq.{bytes_eq-Decides}
 use Rattle.lsm_store.specs.Held.{Held, nothing}
 use Rattle.lsm_store.specs.Files.{Files, held_at, HoldSame, Alters}
@@ -45,12 +43,12 @@ missed_by files name b is not_found = go (get_by_text files name) (sym is ∙ no
     go None e = refl
     go (Some h) e = cc
 
-module _ (name : List ℕ) (old new : Files) (h : Held) (by : UpdatesBy string_cmp (λ k. slice_cmp nat_cmp name (string_bytes k)) old new (Some h)) where
+module _ (name : List ℕ) (old new : Files) (h : Held) (by : UpdatesBy string_eq (λ k. bytes_eq name (string_bytes k)) old new (Some h)) where
   pub set_here : held_at new name ≡ h
-  set_here = ap (λ o. unwrap_or o nothing) (btree_map_updates_text name old new (Some h) by name ∙ ap (λ b. cond b (Some h) (get_by_text old name)) (same_bytes name))
+  set_here = ap (λ o. unwrap_or o nothing) (hash_map_updates_text name old new (Some h) by name ∙ ap (λ b. cond b (Some h) (get_by_text old name)) (same_bytes name))
 
   pub set_elsewhere : (n : List ℕ) → n ≢ name → held_at new n ≡ held_at old n
-  set_elsewhere n ne = ap (λ o. unwrap_or o nothing) (btree_map_updates_text name old new (Some h) by n ∙ ap (λ b. cond b (Some h) (get_by_text old n)) (other_bytes name n (λ e. ne (sym e))))
+  set_elsewhere n ne = ap (λ o. unwrap_or o nothing) (hash_map_updates_text name old new (Some h) by n ∙ ap (λ b. cond b (Some h) (get_by_text old n)) (other_bytes name n (λ e. ne (sym e))))
 
   -- the same record again
   pub set_same : h ≡ held_at old name → HoldSame old new

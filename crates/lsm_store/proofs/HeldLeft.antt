@@ -1,14 +1,10 @@
 -- What a crash leaves, record by record.
 use Rattle.std.proofs.lemmas.Bool.{true≢false}
 use Rattle.std.proofs.Common.{◌≡◌, ◌≢◌, inl, inr, ℕ, Bool, true, false, cond, ◌||◌, List, [], ◌∷◌, ◌++◌, Some, None, refl, sym, ◌∙◌, ap, subst}
-use Rattle.std.specs.Cmp.Lexicographic.{slice_cmp}
-use Rattle.std.specs.BTreeMap.{is_at}
 use Rattle.std.specs.List.{list_any}
 use Rattle.std.specs.Map.{lookup}
-use Rattle.std.specs.Ordering.{nat_cmp}
 use Rattle.std.specs.Str.{bytes_eq}
 use Rattle.std.specs.String.{string_bytes}
-use Rattle.std.proofs.lemmas.Map.Text.{is_eq-slice_cmp}
 use Rattle.lsm_store.specs.World.{Image, IsImage}
 use Rattle.lsm_store.specs.Held.{Held, MayHold, nothing, fresh}
 use Rattle.lsm_store.specs.Files.{Files, held_at}
@@ -51,11 +47,11 @@ module _ (image : Image) (es : List Entry) (e : Entry) (old : Files) (so_far : (
       go true = refl
       go false = sym (ap fresh none)
 
-unseen : (n : List ℕ) (es : List Entry) → seen n es ≡ false → lookup (is_at (λ k. slice_cmp nat_cmp n (string_bytes k))) es ≡ None
+unseen : (n : List ℕ) (es : List Entry) → seen n es ≡ false → lookup (λ k. bytes_eq n (string_bytes k)) es ≡ None
 unseen n [] out = refl
 unseen n (e ∷ es) out = elim (split (bytes_eq n (string_bytes e.0))) [
   | inl same ↦ absurd (true≢false (sym (ap (λ b. b || seen n es) same) ∙ out))
-  | inr differ ↦ ap (λ b. cond b (Some e.1) (lookup (is_at (λ k. slice_cmp nat_cmp n (string_bytes k))) es)) (is_eq-slice_cmp n (string_bytes e.0) ∙ differ) ∙ unseen n es (sym (ap (λ b. b || seen n es) differ) ∙ out)
+  | inr differ ↦ ap (λ b. cond b (Some e.1) (lookup (λ k. bytes_eq n (string_bytes k)) es)) differ ∙ unseen n es (sym (ap (λ b. b || seen n es) differ) ∙ out)
 ]
 
 -- all records are done

@@ -2,19 +2,14 @@
 use Rattle.std.proofs.lemmas.Bool.{true≢false}
 use Rattle.std.proofs.Common.{◌≡◌, ◌↔◌, ◌<◌, inl, inr, ⊎_elim, ℕ, zero, suc, Bool, true, false, cond, List, [], ◌∷◌, ◌++◌, length, map, get_or, Option, Some, is_some, IsSome, unwrap_or, Contains, refl, sym, ◌∙◌, ap, subst, arith}
 use Rattle.std.specs.declared.alloc.Global.{Global}
-use Rattle.std.specs.declared.cmp.Ordering.TheVariants.{Less}
 use Rattle.std.specs.declared.string.String.{String}
-use Rattle.std.specs.BTreeMap.{IsOrdered, is_at}
-use Rattle.std.specs.Cmp.Lexicographic.{slice_cmp}
+use Rattle.std.specs.HashMap.{IsUnique}
 use Rattle.std.specs.List.{AllByRecursion, IsDistinct}
-use Rattle.std.specs.List.Sorted.{IsStrictlySortedBy}
 use Rattle.std.specs.Map.{keys_of, lookup}
-use Rattle.std.specs.Ordering.{is_eq, nat_cmp}
 use Rattle.std.specs.Str.{bytes_eq}
-use Rattle.std.specs.String.{string_bytes, string_cmp}
+use Rattle.std.specs.String.{string_bytes, string_eq}
 use Rattle.std.proofs.lemmas.List.Elements.{Contains-append_right, Contains-append_cases}
-use Rattle.std.proofs.lemmas.Map.Keys.{sorted_head, sorted_tail, IsDistinct-cons}
-use Rattle.std.proofs.lemmas.Map.Text.{is_eq-slice_cmp}
+use Rattle.std.proofs.lemmas.Map.Keys.{IsDistinct-head, IsDistinct-tail, IsDistinct-cons}
 use Rattle.std.proofs.lemmas.Slice.Eq.{bytes_eq-Decides}
 use Rattle.lsm_store.specs.World.{Lists}
 use Rattle.lsm_store.specs.Held.{Held, nothing}
@@ -43,13 +38,10 @@ pairs_push f (y ∷ xs) x = ap (λ l. f y ∷ l) (pairs_push f xs x)
 
 -- ---- names differ
 
-apart : (k y : String Global) → string_cmp k y ≡ Less → bytes_eq (string_bytes k) (string_bytes y) ≡ false
-apart k y less = sym (is_eq-slice_cmp (string_bytes k) (string_bytes y)) ∙ ap is_eq less
-
-all_apart : (k : String Global) (es : List Entry) → AllByRecursion (λ y. string_cmp k y ≡ Less) (keys_of es) → AllByRecursion (λ y. bytes_eq (string_bytes k) y ≡ false) (present es)
+all_apart : (k : String Global) (es : List Entry) → AllByRecursion (λ y. string_eq k y ≡ false) (keys_of es) → AllByRecursion (λ y. bytes_eq (string_bytes k) y ≡ false) (present es)
 all_apart k [] all = tt
 all_apart k (e ∷ es) all = elim (is_some e.1.gives) as (λ s. AllByRecursion (λ y. bytes_eq (string_bytes k) y ≡ false) (cond s (string_bytes e.0 ∷ present es) (present es))) [
-  | true ↦ (apart k e.0 all.0, all_apart k es all.1)
+  | true ↦ (all.0, all_apart k es all.1)
   | false ↦ all_apart k es all.1
 ]
 
@@ -57,11 +49,11 @@ none_distinct : IsDistinct bytes_eq []
 unfolding IsDistinct
 none_distinct = tt
 
-once : (es : List Entry) → IsStrictlySortedBy string_cmp (keys_of es) → IsDistinct bytes_eq (present es)
-once [] sorted = none_distinct
-once (e ∷ es) sorted = elim (is_some e.1.gives) as (λ s. IsDistinct bytes_eq (cond s (string_bytes e.0 ∷ present es) (present es))) [
-  | true ↦ IsDistinct-cons bytes_eq (string_bytes e.0) (present es) (all_apart e.0 es (sorted_head string_cmp e.0 (keys_of es) sorted)) (once es (sorted_tail string_cmp e.0 (keys_of es) sorted))
-  | false ↦ once es (sorted_tail string_cmp e.0 (keys_of es) sorted)
+once : (es : List Entry) → IsDistinct string_eq (keys_of es) → IsDistinct bytes_eq (present es)
+once [] distinct = none_distinct
+once (e ∷ es) distinct = elim (is_some e.1.gives) as (λ s. IsDistinct bytes_eq (cond s (string_bytes e.0 ∷ present es) (present es))) [
+  | true ↦ IsDistinct-cons bytes_eq (string_bytes e.0) (present es) (all_apart e.0 es (IsDistinct-head string_eq e.0 (keys_of es) distinct)) (once es (IsDistinct-tail string_eq e.0 (keys_of es) distinct))
+  | false ↦ once es (IsDistinct-tail string_eq e.0 (keys_of es) distinct)
 ]
 
 -- ---- each of them, and no other
@@ -90,21 +82,21 @@ behind n k xs true differ = ((λ has. ⊎_elim (λ head. absurd (true≢false (s
 behind n k xs false differ = ((λ has. has), (λ has. has))
 
 abbrev pub given_in : List Entry → List ℕ → Option (List ℕ)
-given_in es n = (unwrap_or (lookup (is_at (λ k. slice_cmp nat_cmp n (string_bytes k))) es) nothing).gives
+given_in es n = (unwrap_or (lookup (λ k. bytes_eq n (string_bytes k)) es) nothing).gives
 
-each : (es : List Entry) (n : List ℕ) → IsStrictlySortedBy string_cmp (keys_of es) → Contains (present es) n ↔ IsSome (given_in es n)
-each [] n sorted = ((λ has. absurd (none has)), (λ e. cc))
+each : (es : List Entry) (n : List ℕ) → IsDistinct string_eq (keys_of es) → Contains (present es) n ↔ IsSome (given_in es n)
+each [] n distinct = ((λ has. absurd (none has)), (λ e. cc))
   where
     none : Contains [] n → ⊥
     none (k, lt, is) = omega arith
-each (e ∷ es) n sorted =
-    let rest = each es n (sorted_tail string_cmp e.0 (keys_of es) sorted) in
+each (e ∷ es) n distinct =
+    let rest = each es n (IsDistinct-tail string_eq e.0 (keys_of es) distinct) in
     elim (split (bytes_eq n (string_bytes e.0))) [
-      | inl same ↦ subst (λ b. Contains (present (e ∷ es)) n ↔ IsSome (unwrap_or (cond b (Some e.1) (lookup (is_at (λ k. slice_cmp nat_cmp n (string_bytes k))) es)) nothing).gives) (sym (is_eq-slice_cmp n (string_bytes e.0) ∙ same))
-          (there n (string_bytes e.0) (present es) (is_some e.1.gives) same (not_among n (string_bytes e.0) (present es) (all_apart e.0 es (sorted_head string_cmp e.0 (keys_of es) sorted)) same))
-      | inr differ ↦ subst (λ b. Contains (present (e ∷ es)) n ↔ IsSome (unwrap_or (cond b (Some e.1) (lookup (is_at (λ k. slice_cmp nat_cmp n (string_bytes k))) es)) nothing).gives) (sym (is_eq-slice_cmp n (string_bytes e.0) ∙ differ))
+      | inl same ↦ subst (λ b. Contains (present (e ∷ es)) n ↔ IsSome (unwrap_or (cond b (Some e.1) (lookup (λ k. bytes_eq n (string_bytes k)) es)) nothing).gives) (sym same)
+          (there n (string_bytes e.0) (present es) (is_some e.1.gives) same (not_among n (string_bytes e.0) (present es) (all_apart e.0 es (IsDistinct-head string_eq e.0 (keys_of es) distinct)) same))
+      | inr differ ↦ subst (λ b. Contains (present (e ∷ es)) n ↔ IsSome (unwrap_or (cond b (Some e.1) (lookup (λ k. bytes_eq n (string_bytes k)) es)) nothing).gives) (sym differ)
           (let b = behind n (string_bytes e.0) (present es) (is_some e.1.gives) differ in ((λ has. rest.0 (b.0 has)), (λ some. b.1 (rest.1 some))))
     ]
 
-pub lists_present : (files : Files) → IsOrdered string_cmp files → Lists (gives_of files) (present files.entries)
-lists_present files ordered = record { each = λ n. each files.entries n ordered; once = once files.entries ordered }
+pub lists_present : (files : Files) → IsUnique string_eq files → Lists (gives_of files) (present files.entries)
+lists_present files unique = record { each = λ n. each files.entries n unique; once = once files.entries unique }

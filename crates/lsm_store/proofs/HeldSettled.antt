@@ -1,17 +1,14 @@
 -- Of names that settled, those that are gone for good are let go.
 use Rattle.std.proofs.Common.{◌≡◌, ℕ, Bool, true, false, cond, List, [], ◌∷◌, Some, None, unwrap_or, refl, sym, ap, ◌∙◌, subst}
-use Rattle.std.specs.BTreeMap.{is_at}
-use Rattle.std.specs.Cmp.Lexicographic.{slice_cmp, bytes_decides, texts_ties}
-use Rattle.std.specs.List.{AllByRecursion}
-use Rattle.std.specs.List.Sorted.{IsStrictlySortedBy}
+use Rattle.std.specs.Cmp.Lexicographic.{bytes_decides}
+use Rattle.std.specs.List.{AllByRecursion, IsDistinct}
 use Rattle.std.specs.Map.{keys_of, lookup}
 use Rattle.std.specs.Map.Calls.{RetainsPairs}
-use Rattle.std.specs.Ordering.{is_eq, nat_cmp}
 use Rattle.std.specs.declared.alloc.Global.{Global}
-use Rattle.std.specs.declared.cmp.Ordering.TheVariants.{Less}
 use Rattle.std.specs.declared.string.String.{String}
-use Rattle.std.specs.String.{string_bytes, string_cmp}
-use Rattle.std.proofs.lemmas.Map.Keys.{sorted_head, sorted_tail}
+use Rattle.std.specs.Str.{bytes_eq}
+use Rattle.std.specs.String.{string_bytes, string_eq}
+use Rattle.std.proofs.lemmas.Map.Keys.{IsDistinct-head, IsDistinct-tail}
 use Rattle.lsm_store.specs.Held.{Held, nothing, settled}
 
 abbrev Entries : Type 0
@@ -19,18 +16,18 @@ Entries = List (String Global × Held)
 
 module _ (n : List ℕ) where
   abbrev at : String Global → Bool
-  at = is_at (λ k. slice_cmp nat_cmp n (string_bytes k))
+  at k = bytes_eq n (string_bytes k)
 
   -- what is found of a name, as it is held
   abbrev shown : Entries → Held
   shown es = unwrap_or (lookup at es) nothing
 
   -- a name stands at one place
-  none_later : (k : String Global) (es : Entries) → AllByRecursion (λ y. string_cmp k y ≡ Less) (keys_of es) → at k ≡ true → lookup at es ≡ None
+  none_later : (k : String Global) (es : Entries) → AllByRecursion (λ y. string_eq k y ≡ false) (keys_of es) → at k ≡ true → lookup at es ≡ None
   none_later k [] later here = refl
   none_later k (e ∷ es) later here =
-      let same : n ≡ string_bytes k = (bytes_decides n (string_bytes k)).0 (texts_ties n (string_bytes k) ∙ here) in
-      let differs : at e.0 ≡ false = ap (λ m. is_eq (slice_cmp nat_cmp m (string_bytes e.0))) same ∙ ap is_eq later.0 in
+      let same : n ≡ string_bytes k = (bytes_decides n (string_bytes k)).0 here in
+      let differs : at e.0 ≡ false = ap (λ m. bytes_eq m (string_bytes e.0)) same ∙ later.0 in
       ap (λ b. cond b (Some e.1) (lookup at es)) differs ∙ none_later k es later.1 here
 
   module _ {F : Type 0} (T : F → String Global → Held → Bool → Held → F → Type 0) (f : F)
@@ -53,10 +50,10 @@ module _ (n : List ℕ) where
       found false here true kept = ap (λ h. unwrap_or (cond h (Some w) (lookup at rest)) nothing) here ∙ others ∙ sym (ap (λ h. settled (unwrap_or (cond h (Some e.1) (lookup at es)) nothing)) here)
       found false here false kept = others ∙ sym (ap (λ h. settled (unwrap_or (cond h (Some e.1) (lookup at es)) nothing)) here)
 
-    pub settles : (es kept : Entries) → IsStrictlySortedBy string_cmp (keys_of es) → RetainsPairs T f es kept → shown kept ≡ settled (shown es)
-    settles [] kept sorted r = ap shown r
-    settles (e ∷ es) kept sorted r =
+    pub settles : (es kept : Entries) → IsDistinct string_eq (keys_of es) → RetainsPairs T f es kept → shown kept ≡ settled (shown es)
+    settles [] kept distinct r = ap shown r
+    settles (e ∷ es) kept distinct r =
         let a = step e.0 e.1 r.0 r.1 r.2 r.4 in
         let ran = subst (λ g. RetainsPairs T g es r.3) a.2 r.5 in
-        let none : at e.0 ≡ true → lookup at r.3 ≡ None = λ here. none_kept f es r.3 ran (none_later e.0 es (sorted_head string_cmp e.0 (keys_of es) sorted) here) in
-        ap shown r.6 ∙ found e es r.3 r.0 r.1 a.0 a.1 none (settles es r.3 (sorted_tail string_cmp e.0 (keys_of es) sorted) ran) (at e.0) refl r.0 refl
+        let none : at e.0 ≡ true → lookup at r.3 ≡ None = λ here. none_kept f es r.3 ran (none_later e.0 es (IsDistinct-head string_eq e.0 (keys_of es) distinct) here) in
+        ap shown r.6 ∙ found e es r.3 r.0 r.1 a.0 a.1 none (settles es r.3 (IsDistinct-tail string_eq e.0 (keys_of es) distinct) ran) (at e.0) refl r.0 refl

@@ -1,13 +1,15 @@
 -- What a store in memory holds of each name.
 use Rattle.std.specs.Prelude.{◌≡◌, ◌≢◌, List, [], ◌∷◌, ℕ, unwrap_or, is_some, if◌then◌else◌}
-use Rattle.std.specs.BTreeMap.{BTreeMap, get_by_text}
+use Rattle.std.specs.HashMap.{HashMap, get_by_text}
 use Rattle.std.specs.declared.alloc.Global.{Global}
+use Rattle.std.specs.declared.hash.BuildHasherDefault.{BuildHasherDefault}
+use Rattle.std.specs.declared.hash.FoldHasher.{FoldHasher}
 use Rattle.std.specs.declared.string.String.{String}
 use Rattle.std.specs.String.{string_bytes}
 use Rattle.lsm_store.specs.Held.{Held, nothing}
 
 abbrev pub Files : Type 0
-Files = BTreeMap (String Global) Held
+Files = HashMap (String Global) Held (BuildHasherDefault FoldHasher)
 
 -- what is held of a name
 abbrev pub held_at : Files → List ℕ → Held

@@ -23,7 +23,7 @@ use picks::{are_possible, files_left};
 pub use plan::Fault;
 use plan::{Outcome, Plan};
 use std::alloc::{AllocError, Global};
-use std::collections::BTreeMap;
+use std::collections::HashMap;
 use std::snapshot::Snapshot;
 
 /// A store in memory that tells its content. Its calls fail where that is planned.
@@ -51,7 +51,7 @@ impl MemStore {
     {
         MemStore {
             alloc,
-            files: BTreeMap::new(alloc),
+            files: HashMap::new(alloc),
             past: Vec::new(alloc),
             failures: 0,
             plan: Plan::NONE,

@@ -5,36 +5,53 @@ ghost use Rattle.lsm_tables.specs.Image.{Fits};
 ghost use Rattle.lsm_model.specs.Ops.{op_entries};
 ghost use Rattle.lsm_commit.specs.Stored.{CountsFaults};
 ghost use Rattle.lsm_log.specs.Records.{IsRecordOf};
-ghost use Rattle.lsm_parts.specs.Held.{put_all_first};
+ghost use Rattle.lsm_parts.specs.Held.{put_all_first, TakesFirstBack};
 ghost use Rattle.lsm_state.specs.Refusals.{batch_refusal};
 ghost use Rattle.lsm_state.specs.Recording.{Records, RecordsBatch, WritesBehindRecord};
 ghost use Rattle.lsm_state.specs.Commits.{UpholdsFiles};
 
 use crate::TreeState;
 use crate::writes::{check_batch, make_entries};
-use lsm_below::{InternalValue, SeqNo, UserKey};
+use lsm_below::{SeqNo, UserKey};
 use lsm_commit::crashes_leave_versions;
 use lsm_log::{encode, put_record};
+use lsm_memtable::Revocable;
 use lsm_model::Op;
 use lsm_parts::{Error, Memtables};
 use lsm_store::Store;
 use std::alloc::Global;
 
-/// The record of a batch, and its entries: all that a write needs beside the memtable.
-fn prepare(
+/// The record of a batch.
+fn prepare(alloc: Global, number: SeqNo, ops: &[(UserKey, Op)]) -> Result<Vec<u8>, Error>
+    ensures record_of { IfOk result (λ content. IsRecordOf number ops.now content.items) }
+    ensures accepted { OnOk result (batch_refusal number ops.now ≡ None) }
+    ensures err { IfErr result (λ e. (batch_refusal number ops.now ≡ Some e) ⊎ (e ≡ Error.OutOfMemory)) }
+{
+    check_batch(alloc, number, ops)?;
+    Ok(encode(alloc, number, ops)?)
+}
+
+/// Puts the entries of a batch, which fit files, into the active memtable, and answers what takes them back. One alone
+/// needs no list of them. Refused only for want of memory, and then nothing changes.
+fn put_revocably(
+    memtables: &mut Memtables,
     alloc: Global,
     number: SeqNo,
-    ops: Vec<(UserKey, Op)>,
-) -> Result<(Vec<u8>, Vec<InternalValue>), Error>
-    ensures record_of { IfOk result (λ p. IsRecordOf number ops.items p.0.items) }
-    ensures entries { IfOk result (λ p. p.1.items ≡ op_entries number ops.items) }
-    ensures accepted { OnOk result (batch_refusal number ops.items ≡ None) }
-    ensures err { IfErr result (λ e. (batch_refusal number ops.items ≡ Some e) ⊎ (e ≡ Error.OutOfMemory)) }
+    mut ops: Vec<(UserKey, Op)>,
+) -> Result<Revocable, Error>
+    requires { AllByRecursion Fits (op_entries number ops.items) }
+    ensures ok { OnOk result (memtables.new ≡ put_all_first (op_entries number ops.items) memtables.old) }
+    ensures revocable { IfOk result (λ r. TakesFirstBack r memtables.old memtables.new) }
+    ensures err { OnErr result (memtables.new ≡ memtables.old) }
+    ensures memory { IfErr result (λ e. e ≡ Error.OutOfMemory) }
 {
-    check_batch(alloc, number, &ops)?;
-    let content = encode(alloc, number, &ops)?;
-    let entries = make_entries(alloc, number, ops)?;
-    Ok((content, entries))
+    if ops.len() != 1 {
+        return memtables.insert_all_revocably(make_entries(alloc, number, ops)?);
+    }
+    let Some((key, op)) = ops.pop() else {
+        unreachable!()
+    };
+    memtables.insert_revocably(op.into_entry(key, number))
 }
 
 /// Puts entries into the active memtable, once this record is put. They stand there before, so that no growth is refused
@@ -42,19 +59,20 @@ fn prepare(
 fn put_behind_record<S: Store>(
     memtables: &mut Memtables,
     store: &mut S,
+    alloc: Global,
     number: SeqNo,
     content: &[u8],
-    entries: Vec<InternalValue>,
+    ops: Vec<(UserKey, Op)>,
 ) -> Result<(), Error>
-    requires { AllByRecursion Fits entries.items }
-    ensures ok { OnOk result (memtables.new ≡ put_all_first entries.items memtables.old) }
+    requires { AllByRecursion Fits (op_entries number ops.items) }
+    ensures ok { OnOk result (memtables.new ≡ put_all_first (op_entries number ops.items) memtables.old) }
     ensures err { OnErr result (memtables.new ≡ memtables.old) }
     ensures records { S.tells → Records number content.now (S.world store.old) (S.world store.new) result }
     ensures only { IfErr result (λ e. (e ≡ Error.OutOfMemory) ⊎ (e ≡ Error.Store) ⊎ (e ≡ Error.CommitUnknown)) }
     ensures counts { CountsFaults (S.world store.old) (S.world store.new) result }
 {
     crashes_leave_versions(store);
-    let batch = memtables.insert_all_revocably(entries)?;
+    let batch = put_revocably(memtables, alloc, number, ops)?;
     if let Err(error) = put_record(store, number, content) {
         memtables.take_back(batch);
         return Err(error);
@@ -89,13 +107,14 @@ impl<S: Store> TreeState<S> {
     {
         crashes_leave_versions(&self.store);
         let number = self.seqno.get();
-        let (content, entries) = prepare(self.alloc, number, ops)?;
+        let content = prepare(self.alloc, number, &ops)?;
         let put = put_behind_record(
             &mut self.memtables,
             &mut self.store,
+            self.alloc,
             number,
             &content,
-            entries,
+            ops,
         );
         match put {
             Ok(()) => {

@@ -86,13 +86,24 @@ impl File {
     pub fn synced(alloc: Global, bytes: &[u8]) -> Result<File, AllocError>
         ensures { IfOk result (λ file. file ≡ fresh (Some bytes.now)) }
     {
-        let mut contents = Vec::new(alloc);
-        contents.push(bytes.to_vec(alloc)?)?;
         Ok(File {
-            contents,
+            contents: vec![in alloc; bytes.to_vec(alloc)?]?,
             given: Some(0),
             before: None,
             absence: Absence::Never,
+            torn: false,
+        })
+    }
+
+    /// While a name that was never used is replaced, or after that failed.
+    pub fn offered(alloc: Global, bytes: &[u8], shown: bool) -> Result<File, AllocError>
+        ensures { IfOk result (λ file. file ≡ offered shown bytes.now nothing) }
+    {
+        Ok(File {
+            contents: vec![in alloc; bytes.to_vec(alloc)?]?,
+            given: if shown { Some(0) } else { None },
+            before: None,
+            absence: Absence::Possible,
             torn: false,
         })
     }

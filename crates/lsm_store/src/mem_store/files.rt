@@ -1,6 +1,6 @@
 // What a store in memory holds of each name, and what a call makes of it.
 ghost use Rattle.std.specs.Prelude.{◌≡◌, OnOk, OnErr, IsSome, IsTrue, IfOk, ◌↔◌, true, false, map, option_map};
-ghost use Rattle.std.specs.BTreeMap.{get_by_text};
+ghost use Rattle.std.specs.HashMap.{get_by_text};
 ghost use Rattle.lsm_store.specs.Held.{fresh, written, doubted, removed, offered, settled, IsWhole};
 ghost use Rattle.lsm_store.specs.World.{Lists};
 ghost use Rattle.lsm_store.specs.Files.{held_at, HoldSame, Alters, AltersEach};
@@ -10,9 +10,9 @@ ghost use Rattle.std.specs.String.{string_bytes};
 use super::file::File;
 use super::plan::Outcome;
 use std::alloc::{AllocError, Global};
-use std::collections::BTreeMap;
+use std::collections::HashMap;
 
-pub type Files = BTreeMap<String, File>;
+pub type Files = HashMap<String, File>;
 
 /// Puts a record in the place of what is held of a name.
 pub fn put_file(alloc: Global, files: &mut Files, name: &str, file: File) -> Result<(), AllocError>
@@ -99,9 +99,7 @@ pub fn offer_file(
         file.offer(alloc, bytes, shown)?;
         return Ok(());
     }
-    let mut file = File::new(alloc);
-    file.offer(alloc, bytes, shown)?;
-    put_file(alloc, files, name, file)
+    put_file(alloc, files, name, File::offered(alloc, bytes, shown)?)
 }
 
 /// What reads give of a name is on the disk. Whether there is something.

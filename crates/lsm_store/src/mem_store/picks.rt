@@ -9,7 +9,7 @@ ghost use Rattle.lsm_store.specs.Picks.{pick_for, left_at, picked};
 use super::file::{Absence, File};
 use super::files::{Files, put_file};
 use std::alloc::{AllocError, Global};
-use std::collections::BTreeMap;
+use std::collections::HashMap;
 
 /// What a crash is to leave of a name.
 #[derive(Clone, Copy, Debug)]
@@ -79,7 +79,7 @@ pub fn files_left(
     requires { IsImage (may_of files.now) (picked files.now picks.now) }
     ensures { IfOk result (λ left. (n : List ℕ) → held_at left n ≡ fresh (picked files.now picks.now n)) }
 {
-    let mut left = BTreeMap::new(alloc);
+    let mut left = HashMap::new(alloc);
     for (name, file) in files {
         let pick = pick_for(picks, name.as_str());
         if let Some(bytes) = left_of(file, pick) {

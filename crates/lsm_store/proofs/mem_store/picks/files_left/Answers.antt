@@ -1,7 +1,7 @@
 use Rattle.std.proofs.Common.{◌≡◌, List, ℕ, None, map, sym, ◌∙◌, ap, subst, rules}
 use Rattle.std.specs.Map.Iter.{deref_pair}
-use Rattle.std.specs.String.{string_bytes, string_cmp_total}
-use Rattle.std.proofs.lemmas.Map.Iter.{iter_end, btree_map_turn}
+use Rattle.std.specs.String.{string_bytes, string_eq_equiv}
+use Rattle.std.proofs.lemmas.Map.Iter.{iter_end, hash_map_turn}
 use Rattle.lsm_store.specs.World.{Image}
 use Rattle.lsm_store.specs.Held.{Held, fresh}
 use Rattle.lsm_store.specs.Files.{Files, held_at, Alters}
@@ -19,7 +19,7 @@ loop-name-preserved-in_ok-put_file c n =
     let file : Held = c.in-Some.file.now in
     let k : List ℕ = string_bytes c.in-Some.name.now in
     let so_far = c.loop-name.yielded in
-    let turn = btree_map_turn deref_pair so_far c.into_iter-name-iterator.result c.loop-name.name-iterator c.next.new.self c.next.result (c.in-Some.name, c.in-Some.file) c.loop-name.yielded_by c.in-Some.is c.next.ensures.steps string_cmp_total files (search rules) (search rules) in
+    let turn = hash_map_turn deref_pair so_far c.into_iter-name-iterator.result c.loop-name.name-iterator c.next.new.self c.next.result (c.in-Some.name, c.in-Some.file) c.loop-name.yielded_by c.in-Some.is c.next.ensures.steps string_eq_equiv files (search rules) (search rules) in
     let held : file ≡ held_at files k = found files k file (sym turn.1) in
     let pick : c.pick_for-pick.result ≡ pick_for picks k = c.pick_for-pick.ensures ∙ ap (pick_for picks) c.as_str.ensures.value in
     let is : left_at file c.pick_for-pick.result ≡ image k = ap (λ q. left_at file q) pick ∙ ap (λ h. left_at h (pick_for picks k)) held in
@@ -37,7 +37,7 @@ loop-name-preserved c n =
     let file : Held = c.in-Some.file.now in
     let k : List ℕ = string_bytes c.in-Some.name.now in
     let so_far = c.loop-name.yielded in
-    let turn = btree_map_turn deref_pair so_far c.into_iter-name-iterator.result c.loop-name.name-iterator c.next.new.self c.next.result (c.in-Some.name, c.in-Some.file) c.loop-name.yielded_by c.in-Some.is c.next.ensures.steps string_cmp_total files (search rules) (search rules) in
+    let turn = hash_map_turn deref_pair so_far c.into_iter-name-iterator.result c.loop-name.name-iterator c.next.new.self c.next.result (c.in-Some.name, c.in-Some.file) c.loop-name.yielded_by c.in-Some.is c.next.ensures.steps string_eq_equiv files (search rules) (search rules) in
     let held : file ≡ held_at files k = found files k file (sym turn.1) in
     let pick : c.pick_for-pick.result ≡ pick_for picks k = c.pick_for-pick.ensures ∙ ap (pick_for picks) c.as_str.ensures.value in
     let is : left_at file c.pick_for-pick.result ≡ image k = ap (λ q. left_at file q) pick ∙ ap (λ h. left_at h (pick_for picks k)) held in
