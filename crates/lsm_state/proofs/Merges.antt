@@ -178,6 +178,10 @@ pub spent_table : (old new : Core) (n : ℕ) (found : Bool) → (found ≡ true 
 spent_table old new n true closes other = ap (λ c. c.next_table) (closes refl)
 spent_table old new n false closes other = ap (λ c. c.next_table) (other refl)
 
+pub spent_levels : (old new : Core) (n : ℕ) (found : Bool) → (found ≡ true → new ≡ closed n old) → (found ≡ false → new ≡ old) → levels_of new ≡ levels_of old
+spent_levels old new n true closes other = ap levels_of (closes refl)
+spent_levels old new n false closes other = ap levels_of (other refl)
+
 -- the counter has no number
 pub unnumbered : {T : Type 0} (job : SeenCompaction) (old : Core) → DrawsFor job old.next_table old.next_table → 2 ^ 63 ≤ old.seqno → InstallsMerge {T = T} job (Err OutOfNumbers) old old
 unnumbered job old draws great = record {

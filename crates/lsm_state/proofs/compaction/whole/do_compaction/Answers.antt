@@ -28,4 +28,4 @@ returns-clause-gone g c tells done =
     follows_leave _ _ c.args.options (w mid.store) (w new.store) begun.result c.follow.result c.args.tree.now.core mid.core new.core begun.ensures.begins c.follow.ensures.follows (begun.ensures.gone tells) (c.follow.ensures.gone tells) (λ is. ap w (c.follow.ensures.rests is)) done
 
 pub follow-requires : goal.follow-requires
-follow-requires g c = compaction_here _ _ c.args.options c.begin_compaction-begun.result c.args.tree.now.core c.begin_compaction-begun.new.tree.core c.facts.ensures c.begin_compaction-begun.ensures.begins
+follow-requires g c = compaction_here _ _ c.args.options c.begin_compaction-begun.result c.args.tree.now.core c.begin_compaction-begun.new.self.core c.facts.ensures c.begin_compaction-begun.ensures.begins
