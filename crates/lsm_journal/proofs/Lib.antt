@@ -3,3 +3,4 @@ mod Telling
 mod Compacting
 mod KeptReads
 mod Rotated
+mod Putting

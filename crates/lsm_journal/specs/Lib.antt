@@ -2,3 +2,4 @@ pub mod Noted
 pub mod NotedReads
 pub mod NotedFlushes
 pub mod NotedClears
+pub mod NotedWrites

@@ -6,6 +6,7 @@
 //! | `lists` | lists of entries |
 //! | `reads` | entries of point reads |
 //! | `reads::ranges` | the pairs that reads of many keys answer, and their entries |
+//! | `writes` | writes of entries and of batches, and what is noted of them |
 //! | `flush` | flushes, and what is noted of them |
 //! | `clear` | a clear, and what is noted of it |
 //! | `compaction` | a strategy's choice, beside what a journal notes of it if it is done |
@@ -26,6 +27,7 @@ mod laws;
 mod lists;
 mod reads;
 mod same;
+mod writes;
 
 pub use clear::{clear_entries, clear_noting};
 pub use compaction::{
@@ -38,3 +40,4 @@ pub use laws::noted_compactions_keep_reads;
 pub use lists::one_entry;
 pub use reads::{pairs_entry, read_entry, share_pairs, take_pairs};
 pub use same::same_entry;
+pub use writes::{append_noting, batch_entries, put_noting, write_entry, write_noting};

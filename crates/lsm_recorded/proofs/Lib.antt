@@ -1,6 +1,7 @@
 pub mod BatchLemmas
 pub mod ClosingLemmas
 pub mod MarksLemmas
+pub mod RaisingLemmas
 pub mod WritesLemmas
 pub mod Watermarks
 pub mod RecordedLemmas

@@ -1,5 +1,5 @@
 -- Writes on their way into a tree, the marks and a journal.
-use Rattle.std.proofs.Common.{cond, ◌≡◌, ℕ, ◌<◌, ◌≤◌, Bool, true, false, ◌&&◌, nat_le, List, [], ◌∷◌, length, get_or, Result, Err, IsErrOf, OnErr, Ok, ◌↔◌, inl, inr, refl, sym, ap, ◌∙◌, arith}
+use Rattle.std.proofs.Common.{cond, ◌≡◌, ℕ, ◌<◌, ◌≤◌, Bool, true, false, ◌&&◌, nat_le, List, [], ◌∷◌, ◌++◌, suc, ◌+◌, length, length-append, get_or, Result, Err, IsErrOf, OnErr, Ok, ◌↔◌, inl, inr, refl, sym, ap, ◌∙◌, arith}
 use Rattle.std.specs.List.{list_all}
 use Rattle.std.proofs.lemmas.Bool.Decides.{nat_tests}
 use Rattle.lsm_below.specs.Keys.{Bytes}
@@ -33,6 +33,14 @@ pub one_op : (ops : List (Bytes × Op)) (p : Bytes × Op) → length ops ≡ 1 �
 one_op [] p one is = absurd (omega arith)
 one_op (x ∷ []) p one is = ap (λ y. y ∷ []) (sym is)
 one_op (x ∷ (y ∷ ops)) p one is = absurd (omega arith)
+
+-- the last of a batch of one is all of it
+pub popped_one : (ops rest : List (Bytes × Op)) (p : Bytes × Op) → ops ≡ rest ++ p ∷ [] → length ops ≡ 1 → ops ≡ p ∷ []
+popped_one ops [] p is one = is
+popped_one ops (x ∷ rest) p is one =
+    let long : length ops ≡ suc (length (rest ++ p ∷ [])) = ap (λ l. length l) is in
+    let more = length-append rest (p ∷ []) in
+    absurd (omega arith)
 
 and_true : (b : Bool) → (b && true) ≡ b
 and_true true = refl

@@ -4,8 +4,8 @@ pub mod Ticks
 pub mod Order
 pub mod Headed
 pub mod Marks
+pub mod Raising
 pub mod MarkedTables
-pub mod Notes
 pub mod Recorded
 pub mod Opened
 pub mod Flushing

@@ -11,9 +11,9 @@
 //! | `recorded::counts` | what is counted of it |
 //! | `pass` | what one caller's calls add to a journal |
 //! | `marks` | what was written to each key, by which a write in order is told |
+//! | `raising` | marks of a batch, raised before the tree's call and taken back where that is refused |
 //! | `marked_key` | keys that are ordered by their heads first |
 //! | `opened` | what opened tables hold of each key, and whether they are in order |
-//! | `notes` | copies of the entries of a write, for the journal and a pass |
 //! | `writes` | writes to a tree that are noted |
 //! | `noting` | what a call came to, on its way into a journal and a pass |
 //! | `closing` | whether passes list a journal |
@@ -24,10 +24,10 @@ mod closed;
 mod closing;
 mod marked_key;
 mod marks;
-mod notes;
 mod noting;
 mod opened;
 mod pass;
+mod raising;
 mod recorded;
 mod writes;
 

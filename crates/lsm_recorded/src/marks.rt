@@ -1,14 +1,11 @@
 // What was written to each key so far, by which a write in order is told without the journal.
-ghost use Rattle.std.specs.Prelude.{◌≡◌, ◌+◌, ◌^◌, ◌<◌, ◌↔◌, ◌⊎◌, false, OnOk, OnErr, IfOk, IfErr, IsErrOf, IsSome, ◌&&◌, if◌then◌else◌};
-ghost use Rattle.std.specs.BTreeMap as tree;
+ghost use Rattle.std.specs.Prelude.{◌≡◌, ◌+◌, ◌^◌, ◌<◌, ◌↔◌, ◌⊎◌, false, OnOk, IfOk, IfErr, IsErrOf, ◌&&◌, if◌then◌else◌};
 ghost use Rattle.lsm_below.specs.Keys.{Bytes};
 ghost use Rattle.std.specs.List.{list_all};
-ghost use Rattle.lsm_recorded.specs.Headed.{headed_cmp};
-ghost use Rattle.lsm_recorded.specs.Marks.{mark_of, marked, marked_by, mark_allows, next_mark, op_type, op_allowed};
-ghost use Rattle.lsm_recorded.specs.Notes.{HaveMarks};
+ghost use Rattle.lsm_recorded.specs.Marks.{mark_of, marked, mark_allows, next_mark, op_type, op_allowed};
 
 use crate::marked_key::MarkedKey;
-use lsm_below::{Error, InternalKey, InternalValue, SeqNo, UserKey, ValueType, share};
+use lsm_below::{Error, SeqNo, UserKey, ValueType, share};
 use lsm_model::Op;
 use std::alloc::AllocError;
 use std::collections::BTreeMap;
@@ -145,45 +142,38 @@ pub(crate) fn type_of(op: &Op) -> ValueType
     }
 }
 
-/// Makes room for the mark of the key of a write, which stays what it is. `OutOfOrder`, before all else, exactly where the
-/// write breaks the order of its key, or of installs and clears.
-pub(crate) fn admit(
-    marks: &mut BTreeMap<MarkedKey, Mark>,
+/// `OutOfOrder`, before all else, exactly where a write breaks the order of its key, or of installs and clears. `OutOfMemory` where
+/// there is no memory for another handle on its key.
+fn admit(
+    marks: &BTreeMap<MarkedKey, Mark>,
     floor: SeqNo,
     number: SeqNo,
     key: &UserKey,
     op: &Op,
 ) -> Result<(), Error>
-    ensures out_of_order { IsErrOf result Error.OutOfOrder ↔ (op_allowed (mark_of marks.old) floor number (key.now, op.now) ≡ false) }
+    ensures out_of_order { IsErrOf result Error.OutOfOrder ↔ (op_allowed (mark_of marks.now) floor number (key.now, op.now) ≡ false) }
     ensures only { IfErr result (λ e. (e ≡ Error.OutOfOrder) ⊎ (e ≡ Error.OutOfMemory)) }
-    ensures same { (q : Bytes) → mark_of marks.new q ≡ mark_of marks.old q }
-    ensures there { OnOk result (IsSome (tree.get headed_cmp marks.new key.now)) }
-    ensures kept { (q : Bytes) → IsSome (tree.get headed_cmp marks.old q) → IsSome (tree.get headed_cmp marks.new q) }
 {
     if number < floor {
         return Err(Error::OutOfOrder);
     }
     let kind = type_of(op);
     let shared = share_key(marks, key, number, kind)?;
-    let mark = marks.entry(shared)?.or_insert(NOTHING);
-    if !is_allowed(*mark, number, kind) {
+    if !is_allowed(read_mark(marks, &shared), number, kind) {
         return Err(Error::OutOfOrder);
     }
     Ok(())
 }
 
-/// Makes room for the marks of the keys of a batch, which stay what they are. `OutOfOrder`, before all else, exactly where one
-/// of its writes breaks the order.
+/// `OutOfOrder`, before all else, exactly where one of the writes of a batch breaks the order.
 pub(crate) fn admit_all(
-    marks: &mut BTreeMap<MarkedKey, Mark>,
+    marks: &BTreeMap<MarkedKey, Mark>,
     floor: SeqNo,
     number: SeqNo,
     ops: &[(UserKey, Op)],
 ) -> Result<(), Error>
-    ensures out_of_order { IsErrOf result Error.OutOfOrder ↔ (list_all (op_allowed (mark_of marks.old) floor number) ops.now ≡ false) }
+    ensures out_of_order { IsErrOf result Error.OutOfOrder ↔ (list_all (op_allowed (mark_of marks.now) floor number) ops.now ≡ false) }
     ensures only { IfErr result (λ e. (e ≡ Error.OutOfOrder) ⊎ (e ≡ Error.OutOfMemory)) }
-    ensures same { (q : Bytes) → mark_of marks.new q ≡ mark_of marks.old q }
-    ensures there { OnOk result (HaveMarks marks.new ops.now) }
 {
     let mut is_short = false;
     for (key, op) in ops {
@@ -197,51 +187,4 @@ pub(crate) fn admit_all(
         return Err(Error::OutOfMemory);
     }
     Ok(())
-}
-
-/// Notes a write in the mark of its key, for which there is room.
-fn raise_mark(
-    marks: &mut BTreeMap<MarkedKey, Mark>,
-    key: &MarkedKey,
-    number: SeqNo,
-    kind: ValueType,
-)
-    requires there { IsSome (tree.get headed_cmp marks.old key.now) }
-    requires fits { number + 1 < 2 ^ 64 }
-    ensures is { (q : Bytes) → mark_of marks.new q ≡ marked (mark_of marks.old) key.now (next_mark (mark_of marks.old key.now) number kind) q }
-    ensures kept { (q : Bytes) → IsSome (tree.get headed_cmp marks.old q) → IsSome (tree.get headed_cmp marks.new q) }
-{
-    if let Some(mark) = marks.get_mut(key) {
-        *mark = mark_after(*mark, number, kind);
-    }
-}
-
-/// Notes a write in the mark of its key, for which there is room. The entry is given back, so that its key serves for the
-/// look-up and no other handle on it is made, which could be refused.
-pub(crate) fn mark_write(
-    marks: &mut BTreeMap<MarkedKey, Mark>,
-    entry: InternalValue,
-) -> InternalValue
-    requires there { IsSome (tree.get headed_cmp marks.old entry.key.user_key) }
-    requires fits { entry.key.seqno + 1 < 2 ^ 64 }
-    ensures same { result ≡ entry }
-    ensures is { (q : Bytes) → mark_of marks.new q ≡ marked_by entry (mark_of marks.old) q }
-    ensures kept { (q : Bytes) → IsSome (tree.get headed_cmp marks.old q) → IsSome (tree.get headed_cmp marks.new q) }
-{
-    let InternalKey {
-        user_key,
-        seqno,
-        value_type,
-    } = entry.key;
-    let marked = MarkedKey::new(user_key);
-    raise_mark(marks, &marked, seqno, value_type);
-    let key = InternalKey {
-        user_key: marked.into_key(),
-        seqno,
-        value_type,
-    };
-    InternalValue {
-        key,
-        value: entry.value,
-    }
 }

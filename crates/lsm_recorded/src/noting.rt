@@ -60,7 +60,23 @@ fn floor_behind(floor: SeqNo, entries: &[JournalEntry]) -> SeqNo
 }
 
 /// Appends entries to a journal, and copies of them, of which there may be more, with their places to a pass. There is room.
-/// The floor follows each install.
+pub(crate) fn put_all(
+    journal: &mut Vec<JournalEntry>,
+    pass: &mut Vec<(u64, JournalEntry)>,
+    entries: Vec<JournalEntry>,
+    copies: Vec<JournalEntry>,
+)
+    requires front { entries.items ≡ take (length entries.items) copies.items }
+    requires journal_room { vec_len journal.old + vec_len copies ≤ vec_capacity journal.old }
+    requires pass_room { vec_len pass.old + vec_len copies ≤ vec_capacity pass.old }
+    ensures { Notes entries.items journal.old.items journal.new.items pass.old.items pass.new.items }
+{
+    for (entry, copy) in entries.into_iter().zip(copies) {
+        put_entry(journal, pass, entry, copy);
+    }
+}
+
+/// As `put_all`, and the floor follows each install.
 pub(crate) fn put_entries(
     journal: &mut Vec<JournalEntry>,
     pass: &mut Vec<(u64, JournalEntry)>,
@@ -75,7 +91,5 @@ pub(crate) fn put_entries(
     ensures floor { floor.new ≡ fold floor_after floor.old entries.items }
 {
     *floor = floor_behind(*floor, &entries);
-    for (entry, copy) in entries.into_iter().zip(copies) {
-        put_entry(journal, pass, entry, copy);
-    }
+    put_all(journal, pass, entries, copies);
 }

@@ -67,6 +67,16 @@ pub(crate) fn make_room(
     pass.try_reserve(count)
 }
 
+/// Appends a copy of an entry with its place in a journal to a pass. There is room.
+pub(crate) fn put_copy(pass: &mut Vec<(u64, JournalEntry)>, place: u64, copy: JournalEntry)
+    requires { vec_len pass.old < vec_capacity pass.old }
+    ensures { pass.new.items ≡ pass.old.items ++ (place, copy) ∷ [] }
+{
+    let Ok(()) = pass.push((place, copy)) else {
+        unreachable!()
+    };
+}
+
 /// Appends an entry to a journal, and a copy with its place to a pass. There is room.
 pub(crate) fn put_entry(
     journal: &mut Vec<JournalEntry>,

@@ -45,7 +45,7 @@ use std::marker::Model;
 /// The journal grows with every write and every answered read and is never cut: by some 120 bytes for each, and for a
 /// range by a list of its pairs. Keys and values share their bytes with the tree, also the key of a `get`, if it was ever
 /// written. A write costs what the tree's own costs and a look-up in the marks of all keys written so far, which is logarithmic
-/// in their number; a batch of several takes two for each of its writes, a `get` one where it finds no value, a range none.
+/// in their number; a batch takes one for each of its writes, a `get` one where it finds no value, a range none.
 ///
 /// # Examples
 ///

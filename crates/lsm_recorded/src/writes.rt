@@ -1,5 +1,5 @@
 // Writes to a tree that are noted: in the marks of their keys, in a journal and in a pass.
-ghost use Rattle.std.specs.Prelude.{◌≡◌, ◌⊎◌, ◌↔◌, ◌∷◌, [], false, Err, map, length, OnOk, OnErr, IsErrOf};
+ghost use Rattle.std.specs.Prelude.{◌≡◌, ◌⊎◌, ◌↔◌, ◌+◌, ◌≤◌, ◌∷◌, [], false, Err, map, length, vec_len, vec_capacity, OnOk, OnErr, IfOk, IsErrOf};
 ghost use Rattle.std.specs.List.{list_all};
 ghost use Rattle.lsm_below.specs.Keys.{Bytes};
 ghost use Rattle.lsm_below.specs.Entries.{plain};
@@ -12,14 +12,16 @@ ghost use Rattle.lsm_recorded.specs.Recorded.{OwnOr};
 
 use crate::marked_key::MarkedKey;
 use crate::marks::{Mark, NOTHING, admit_all, is_allowed, mark_after, share_key, type_of};
-use crate::notes::{make_note, make_notes, note_of, put_notes};
-use crate::pass::{make_room, put_entry};
+use crate::noting::{beside_copies, put_all};
+use crate::pass::{make_room, put_copy};
+use crate::raising::{raise_batch, take_back};
 use lsm_below::{InternalValue, SeqNo, UserKey};
+use lsm_journal::{append_noting, batch_entries, put_noting, write_entry, write_noting};
 use lsm_model::{JournalEntry, Op};
 use lsm_parts::Error;
 use lsm_state::TreeState;
 use lsm_store::Store;
-use std::alloc::Global;
+use std::alloc::{AllocError, Global};
 use std::collections::BTreeMap;
 
 /// Writes an entry, as `TreeState::append_entry`, and appends it to a journal and a pass. Refused, it changes nothing.
@@ -31,18 +33,15 @@ fn append_noted<S: Store>(
 ) -> Result<(u64, u64), Error>
     ensures in_order { IsErrOf result Error.OutOfOrder → ⊥ }
     ensures core { (result ≡ Err Error.OutOfMemory) ⊎ Appends (plain entry) result core.old.core core.new.core }
-    ensures noted { OnOk result (Notes (WriteEntry entry ∷ []) journal.old.items journal.new.items pass.old.items pass.new.items) }
+    ensures noted { OnOk result (Notes (WriteEntry (plain entry) ∷ []) journal.old.items journal.new.items pass.old.items pass.new.items) }
     ensures err { OnErr result ((core.new ≡ core.old) × (journal.new.items ≡ journal.old.items) × (pass.new.items ≡ pass.old.items)) }
 {
-    let note = make_note(&entry)?;
+    let note = write_entry(&entry)?;
+    let copy = write_entry(&entry)?;
     make_room(journal, pass, 1)?;
-    let sizes = core.append_entry(entry)?;
-    put_entry(
-        journal,
-        pass,
-        JournalEntry::Write(note.entry),
-        JournalEntry::Write(note.copy),
-    );
+    let place = journal.len() as u64;
+    let sizes = append_noting(core, entry, note, journal)?;
+    put_copy(pass, place, copy);
     Ok(sizes)
 }
 
@@ -60,7 +59,7 @@ pub(crate) fn append_marked<S: Store>(
     ensures out_of_order { IsErrOf result Error.OutOfOrder ↔ (entry_allowed (mark_of marks.old) floor core.old.core.seqno entry ≡ false) }
     ensures core { OwnOr result (Appends (plain entry) result core.old.core core.new.core) }
     ensures marks { OnOk result ((q : Bytes) → mark_of marks.new q ≡ marked_by entry (mark_of marks.old) q) }
-    ensures noted { OnOk result (Notes (WriteEntry entry ∷ []) journal.old.items journal.new.items pass.old.items pass.new.items) }
+    ensures noted { OnOk result (Notes (WriteEntry (plain entry) ∷ []) journal.old.items journal.new.items pass.old.items pass.new.items) }
     ensures unmarked { OnErr result ((q : Bytes) → mark_of marks.new q ≡ mark_of marks.old q) }
     ensures err { OnErr result ((core.new ≡ core.old) × (journal.new.items ≡ journal.old.items) × (pass.new.items ≡ pass.old.items)) }
 {
@@ -79,12 +78,13 @@ pub(crate) fn append_marked<S: Store>(
     Ok(sizes)
 }
 
-/// Writes a batch of one, as `TreeState::write`, and appends its entry to a journal and a pass. Refused, it changes nothing.
+/// Writes a batch of one, as `TreeState::write`, and appends its entry to a journal and a pass. The entry is made once, and shared with
+/// both. Refused, it changes nothing.
 fn write_noted<S: Store>(
     core: &mut TreeState<S>,
     journal: &mut Vec<JournalEntry>,
     pass: &mut Vec<(u64, JournalEntry)>,
-    ops: Vec<(UserKey, Op)>,
+    mut ops: Vec<(UserKey, Op)>,
 ) -> Result<SeqNo, Error>
     requires { length ops.items ≡ 1 }
     ensures in_order { IsErrOf result Error.OutOfOrder → ⊥ }
@@ -92,17 +92,16 @@ fn write_noted<S: Store>(
     ensures noted { OnOk result (Notes (map WriteEntry (op_entries core.old.core.seqno ops.items)) journal.old.items journal.new.items pass.old.items pass.new.items) }
     ensures err { OnErr result ((core.new ≡ core.old) × (journal.new.items ≡ journal.old.items) × (pass.new.items ≡ pass.old.items)) }
 {
-    let number = core.seqno().get();
-    let (key, op) = &ops[0];
-    let note = note_of(key, number, op)?;
+    let Some((key, op)) = ops.pop() else {
+        unreachable!()
+    };
+    let entry = op.into_entry(key, core.seqno().get());
+    let note = JournalEntry::Write(entry.copy()?);
+    let copy = JournalEntry::Write(entry.copy()?);
     make_room(journal, pass, 1)?;
-    let number = core.write(ops)?;
-    put_entry(
-        journal,
-        pass,
-        JournalEntry::Write(note.entry),
-        JournalEntry::Write(note.copy),
-    );
+    let place = journal.len() as u64;
+    let number = put_noting(core, entry, note, journal)?;
+    put_copy(pass, place, copy);
     Ok(number)
 }
 
@@ -139,6 +138,87 @@ fn write_one<S: Store>(
     Ok(written)
 }
 
+/// What a batch of several needs beside the tree.
+#[derive(Drop)]
+struct Prepared {
+    /// Its entries, and copies of them.
+    entries: Vec<JournalEntry>,
+    copies: Vec<JournalEntry>,
+    /// Room for what its marks are before they are raised.
+    raised: Vec<(MarkedKey, Mark)>,
+}
+
+/// What a batch of several needs beside the tree, with room for it in a journal and a pass.
+fn prepare(
+    alloc: Global,
+    journal: &mut Vec<JournalEntry>,
+    pass: &mut Vec<(u64, JournalEntry)>,
+    number: SeqNo,
+    ops: &[(UserKey, Op)],
+) -> Result<Prepared, AllocError>
+    ensures entries { IfOk result (λ p. p.entries.items ≡ map WriteEntry (op_entries number ops.now)) }
+    ensures copies { IfOk result (λ p. p.copies.items ≡ p.entries.items) }
+    ensures none { IfOk result (λ p. p.raised.items ≡ []) }
+    ensures room { IfOk result (λ p. vec_len p.raised + length ops.now ≤ vec_capacity p.raised) }
+    ensures journal { journal.new.items ≡ journal.old.items }
+    ensures pass { pass.new.items ≡ pass.old.items }
+    ensures journal_room { IfOk result (λ p. vec_len journal.new + vec_len p.copies ≤ vec_capacity journal.new) }
+    ensures pass_room { IfOk result (λ p. vec_len pass.new + vec_len p.copies ≤ vec_capacity pass.new) }
+{
+    let raised = Vec::with_capacity(alloc, ops.len())?;
+    let made = batch_entries(alloc, number, ops);
+    let (entries, copies) = beside_copies(alloc, journal, pass, made)?;
+    Ok(Prepared {
+        entries,
+        copies,
+        raised,
+    })
+}
+
+/// Writes a batch of several, as `write_marked`, for which each mark is looked up once.
+fn write_several<S: Store>(
+    core: &mut TreeState<S>,
+    marks: &mut BTreeMap<MarkedKey, Mark>,
+    floor: SeqNo,
+    journal: &mut Vec<JournalEntry>,
+    pass: &mut Vec<(u64, JournalEntry)>,
+    ops: Vec<(UserKey, Op)>,
+    prepared: Prepared,
+) -> Result<SeqNo, Error>
+    requires entries { prepared.entries.items ≡ map WriteEntry (op_entries core.old.core.seqno ops.items) }
+    requires copies { prepared.copies.items ≡ prepared.entries.items }
+    requires none { prepared.raised.items ≡ [] }
+    requires room { vec_len prepared.raised + length ops.items ≤ vec_capacity prepared.raised }
+    requires journal_room { vec_len journal.old + vec_len prepared.copies ≤ vec_capacity journal.old }
+    requires pass_room { vec_len pass.old + vec_len prepared.copies ≤ vec_capacity pass.old }
+    ensures out_of_order { IsErrOf result Error.OutOfOrder ↔ (list_all (op_allowed (mark_of marks.old) floor core.old.core.seqno) ops.items ≡ false) }
+    ensures core { OwnOr result (WritesBatch ops.items result core.old.core core.new.core) }
+    ensures marks { OnOk result ((q : Bytes) → mark_of marks.new q ≡ marked_all (op_entries core.old.core.seqno ops.items) (mark_of marks.old) q) }
+    ensures noted { OnOk result (Notes (map WriteEntry (op_entries core.old.core.seqno ops.items)) journal.old.items journal.new.items pass.old.items pass.new.items) }
+    ensures unmarked { OnErr result ((q : Bytes) → mark_of marks.new q ≡ mark_of marks.old q) }
+    ensures err { OnErr result ((core.new ≡ core.old) × (journal.new.items ≡ journal.old.items) × (pass.new.items ≡ pass.old.items)) }
+{
+    let number = core.seqno().get();
+    let Prepared {
+        entries,
+        copies,
+        mut raised,
+    } = prepared;
+    // Where none is raised, the tree refuses the batch.
+    let _ = raise_batch(marks, floor, number, &ops, &mut raised)?;
+    let (written, entries) = write_noting(core, ops, entries);
+    match written {
+        Ok(number) => {
+            put_all(journal, pass, entries, copies);
+            Ok(number)
+        }
+        Err(error) => {
+            take_back(marks, &mut raised);
+            Err(error)
+        }
+    }
+}
+
 /// Writes a batch under the next sequence number, and notes it in the marks of its keys, in a journal and in a pass.
 /// `OutOfOrder`, before all else, exactly where a mark or the floor tells that one of its writes breaks the order. Refused, it
 /// changes nothing but the room that there is.
@@ -162,10 +242,9 @@ pub(crate) fn write_marked<S: Store>(
         return write_one(core, marks, floor, journal, pass, ops);
     }
     let number = core.seqno().get();
-    admit_all(marks, floor, number, &ops)?;
-    let notes = make_notes(alloc, number, &ops)?;
-    make_room(journal, pass, notes.len())?;
-    let written = core.write(ops)?;
-    put_notes(marks, journal, pass, number, notes);
-    Ok(written)
+    let Ok(prepared) = prepare(alloc, journal, pass, number, &ops) else {
+        admit_all(marks, floor, number, &ops)?;
+        return Err(Error::OutOfMemory);
+    };
+    write_several(core, marks, floor, journal, pass, ops, prepared)
 }

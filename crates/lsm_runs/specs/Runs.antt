@@ -121,15 +121,14 @@ Takes strategies step reply events old new = TakesAlone strategies step reply ev
 
 -- ---- outcomes
 
--- the outcome of a write of one entry, where these events are noted if it is accepted
+-- the outcome of a write of one entry, and of a batch, beside which these events were told
 abbrev pub told_entry : List Event → Result (ℕ × ℕ) Error → Told
 told_entry events (Ok sizes) = record { reply = Sizes sizes.0 sizes.1; entries = events }
-told_entry events (Err x) = record { reply = Refused x; entries = [] }
+told_entry events (Err x) = record { reply = Refused x; entries = events }
 
--- the same of a batch
 abbrev pub told_batch : List Event → Result ℕ Error → Told
 told_batch events (Ok n) = record { reply = Number n; entries = events }
-told_batch events (Err x) = record { reply = Refused x; entries = [] }
+told_batch events (Err x) = record { reply = Refused x; entries = events }
 
 -- ---- runs
 

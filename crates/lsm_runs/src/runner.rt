@@ -24,13 +24,16 @@ ghost use Rattle.lsm_runs.specs.After.{RunIsRight};
 
 use crate::finding::TreeFiles;
 use crate::slots::Slots;
-use crate::writes::{batch_entries, of_batch, of_entry, refused, share_ops, silent};
+use crate::writes::{of_batch, of_entry, refused, share_ops, silent};
 use crate::{Outcome, Reply, Step, Taken};
 use lsm_below::{InternalValue, SeqNo, UserKey, UserValue, ValueType, share};
 use lsm_commit::stored_files_are_ready;
-use lsm_journal::{noted_compactions_keep_reads, one_entry, read_entry};
+use lsm_journal::{
+    append_noting, batch_entries, noted_compactions_keep_reads, one_entry, read_entry, write_entry,
+    write_noting,
+};
 use lsm_manifest::{found_tables_show, images_stand_once};
-use lsm_model::{Answer, JournalEntry, Op, Question, counted_is_in_order, reads_are_sound};
+use lsm_model::{Op, counted_is_in_order, reads_are_sound};
 use lsm_parts::Error;
 use lsm_pick::CompactionStrategy;
 use lsm_run_model::{
@@ -44,6 +47,22 @@ use std::alloc::{AllocError, Global};
 
 // ---- writes of one entry
 
+/// Writes an entry, which is noted if it was accepted.
+fn append<S: Store>(
+    alloc: Global,
+    state: &mut TreeState<S>,
+    entry: InternalValue,
+) -> Result<Outcome, AllocError>
+    ensures ok { IfOk result (λ told. TakesEntry (plain entry) told.reply told.entries state.old.core state.new.core) }
+    ensures err { OnErr result (state.new ≡ state.old) }
+    ensures store { state.new.store ≡ state.old.store }
+{
+    let note = write_entry(&entry)?;
+    let mut entries = Vec::with_capacity(alloc, 1)?;
+    let written = append_noting(state, entry, note, &mut entries);
+    Ok(of_entry(entries, written))
+}
+
 fn insert<S: Store>(
     alloc: Global,
     state: &mut TreeState<S>,
@@ -56,9 +75,7 @@ fn insert<S: Store>(
     ensures store { state.new.store ≡ state.old.store }
 {
     let entry = InternalValue::from_components(share(key)?, share(value)?, seqno, ValueType::Value);
-    let entries = one_entry(alloc, JournalEntry::Write(entry))?;
-    let written = state.insert(share(key)?, share(value)?, seqno);
-    Ok(of_entry(alloc, entries, written))
+    append(alloc, state, entry)
 }
 
 fn remove<S: Store>(
@@ -72,9 +89,7 @@ fn remove<S: Store>(
     ensures store { state.new.store ≡ state.old.store }
 {
     let entry = InternalValue::new_tombstone(share(key)?, seqno);
-    let entries = one_entry(alloc, JournalEntry::Write(entry))?;
-    let written = state.remove(share(key)?, seqno);
-    Ok(of_entry(alloc, entries, written))
+    append(alloc, state, entry)
 }
 
 fn remove_weak<S: Store>(
@@ -88,9 +103,7 @@ fn remove_weak<S: Store>(
     ensures store { state.new.store ≡ state.old.store }
 {
     let entry = InternalValue::new_weak_tombstone(share(key)?, seqno);
-    let entries = one_entry(alloc, JournalEntry::Write(entry))?;
-    let written = state.remove_weak(share(key)?, seqno);
-    Ok(of_entry(alloc, entries, written))
+    append(alloc, state, entry)
 }
 
 fn append_entry<S: Store>(
@@ -102,10 +115,8 @@ fn append_entry<S: Store>(
     ensures err { OnErr result (state.new ≡ state.old) }
     ensures store { state.new.store ≡ state.old.store }
 {
-    let noted = entry.copy()?.into_plain();
-    let entries = one_entry(alloc, JournalEntry::Write(noted))?;
-    let written = state.append_entry(entry.copy()?);
-    Ok(of_entry(alloc, entries, written))
+    let entry = entry.copy()?;
+    append(alloc, state, entry)
 }
 
 // ---- batches
@@ -120,8 +131,9 @@ fn write<S: Store>(
     ensures store { state.new.store ≡ state.old.store }
 {
     let entries = batch_entries(alloc, state.seqno().get(), ops)?;
-    let written = state.write(share_ops(alloc, ops)?);
-    Ok(of_batch(alloc, entries, written))
+    let ops = share_ops(alloc, ops)?;
+    let (written, entries) = write_noting(state, ops, entries);
+    Ok(of_batch(entries, written))
 }
 
 // ---- reads

@@ -1,7 +1,5 @@
 // The outcomes of calls that write: what they reply, and what they add to the journal.
-ghost use Rattle.std.specs.Prelude.{◌≡◌, [], map, IfOk};
-ghost use Rattle.lsm_model.specs.Ops.{op_entries};
-ghost use Rattle.lsm_model.specs.declared.journal.JournalEntry.TheVariants.{Write as Wrote};
+ghost use Rattle.std.specs.Prelude.{◌≡◌, [], IfOk};
 ghost use Rattle.lsm_runs.specs.Runs.{told_entry, told_batch};
 
 use crate::{Outcome, Reply};
@@ -26,21 +24,15 @@ pub(crate) fn silent(alloc: Global, reply: Reply) -> Outcome
     }
 }
 
-/// The outcome of a write of one entry, which is noted if it was accepted.
-pub(crate) fn of_entry(
-    alloc: Global,
-    entries: Vec<JournalEntry>,
-    written: Result<(u64, u64), Error>,
-) -> Outcome
+/// The outcome of a write of one entry, beside which this is noted.
+pub(crate) fn of_entry(entries: Vec<JournalEntry>, written: Result<(u64, u64), Error>) -> Outcome
     ensures { result ≡ told_entry entries.items written }
 {
-    match written {
-        Ok((size, total)) => Outcome {
-            reply: Reply::Sizes(size, total),
-            entries,
-        },
-        Err(error) => refused(alloc, error),
-    }
+    let reply = match written {
+        Ok((size, total)) => Reply::Sizes(size, total),
+        Err(error) => Reply::Refused(error),
+    };
+    Outcome { reply, entries }
 }
 
 // ---- batches
@@ -68,34 +60,13 @@ pub(crate) fn share_ops(
     Ok(copy)
 }
 
-/// The entries of a batch, as the journal notes them.
-pub(crate) fn batch_entries(
-    alloc: Global,
-    seqno: SeqNo,
-    ops: &[(UserKey, Op)],
-) -> Result<Vec<JournalEntry>, AllocError>
-    ensures { IfOk result (λ list. list.items ≡ map Wrote (op_entries seqno ops.now)) }
-{
-    let mut list = Vec::with_capacity(alloc, ops.len())?;
-    for (key, op) in ops {
-        list.push(JournalEntry::Write(op.entry(key, seqno)?))?;
-    }
-    Ok(list)
-}
-
-/// The outcome of a batch, whose entries are noted if it was accepted.
-pub(crate) fn of_batch(
-    alloc: Global,
-    entries: Vec<JournalEntry>,
-    written: Result<SeqNo, Error>,
-) -> Outcome
+/// The outcome of a batch, beside which this is noted.
+pub(crate) fn of_batch(entries: Vec<JournalEntry>, written: Result<SeqNo, Error>) -> Outcome
     ensures { result ≡ told_batch entries.items written }
 {
-    match written {
-        Ok(number) => Outcome {
-            reply: Reply::Number(number),
-            entries,
-        },
-        Err(error) => refused(alloc, error),
-    }
+    let reply = match written {
+        Ok(number) => Reply::Number(number),
+        Err(error) => Reply::Refused(error),
+    };
+    Outcome { reply, entries }
 }

@@ -18,7 +18,8 @@ invariant_of-self g c =
     let i = c.self.inside in
     let a = c.append_marked.ensures in
     let is = ap plain c.into_plain.ensures ∙ plain-plain c.args.entry ∙ sym c.into_plain.ensures in
-    append_any (placed_of i.opened.levels) i.least c.reads_are_sound.ensures c.append_marked.result i.core c.append_marked.new.core i.marks c.append_marked.new.marks i.floor i.journal.items c.append_marked.new.journal.items c.pass.inside.entries.items c.append_marked.new.pass.items c.into_plain.result is c.self.invariant a.out_of_order a.core a.marks a.unmarked a.noted a.err
+    let noted = subst (λ e. OnOk c.append_marked.result (Notes (Write e ∷ []) i.journal.items c.append_marked.new.journal.items c.pass.inside.entries.items c.append_marked.new.pass.items)) is a.noted in
+    append_any (placed_of i.opened.levels) i.least c.reads_are_sound.ensures c.append_marked.result i.core c.append_marked.new.core i.marks c.append_marked.new.marks i.floor i.journal.items c.append_marked.new.journal.items c.pass.inside.entries.items c.append_marked.new.pass.items c.into_plain.result is c.self.invariant a.out_of_order a.core a.marks a.unmarked noted a.err
 
 pub returns-clause-out_of_order : goal.returns-clause-out_of_order
 returns-clause-out_of_order g c =
@@ -37,8 +38,9 @@ returns-clause-core g c =
 
 pub returns-clause-noted : goal.returns-clause-noted
 returns-clause-noted g c =
+    let is = ap plain c.into_plain.ensures ∙ plain-plain c.args.entry in
     rw (← c.self.view_is, ← c.pass.view_is)
-    (subst (λ e. OnOk c.append_marked.result (Notes (Write e ∷ []) c.self.inside.journal.items c.append_marked.new.journal.items c.pass.inside.entries.items c.append_marked.new.pass.items)) c.into_plain.ensures c.append_marked.ensures.noted)
+    (subst (λ e. OnOk c.append_marked.result (Notes (Write e ∷ []) c.self.inside.journal.items c.append_marked.new.journal.items c.pass.inside.entries.items c.append_marked.new.pass.items)) is c.append_marked.ensures.noted)
 
 pub returns-clause-views : goal.returns-clause-views
 returns-clause-views g c =
