@@ -13,8 +13,6 @@ use Rattle.lsm_pick.specs.declared.choice.Choice.{Choice}
 use Rattle.lsm_pick.specs.declared.choice.ChooseError.{ChooseError}
 use Rattle.lsm_pick.specs.Simple.{are_reversed}
 use Rattle.lsm_versions.specs.Levels.{SeenVersion}
-use Rattle.lsm_state.specs.Calls.{Rotates}
-use Rattle.lsm_state.specs.Clearing.{Clears}
 use Rattle.lsm_state.specs.Compactions.{Relation, BeginsCompaction, Finishes}
 use Rattle.lsm_state.specs.Core.{Core, versions_left}
 use Rattle.lsm_state.specs.Flushes.{sealed_ids, Begins, Registers}
@@ -25,7 +23,7 @@ use Rattle.lsm_state.specs.declared.compaction.Begun.{Begun}
 use Rattle.lsm_state.specs.declared.compaction.Finished.{Finished}
 use Rattle.lsm_state.specs.declared.compaction.Options.{Options}
 use Rattle.lsm_logged.specs.Asking.{Asks}
-use Rattle.lsm_logged.specs.Flushing.{FlushesLogged, ClearsLogged, ClearsTree, BeginsLogged, WritesJobLogged, RegistersLogged}
+use Rattle.lsm_logged.specs.Flushing.{FlushesLogged, ClearsLogged, BeginsLogged, WritesJobLogged, RegistersLogged}
 use Rattle.lsm_logged.specs.Keeping.{SeenLogged, is_unsure}
 use Rattle.lsm_logged.specs.Writing.{WritesLogged}
 use Rattle.lsm_runs.specs.declared.slots.Job.{Job}
@@ -42,7 +40,7 @@ use Rattle.lsm_runs.proofs.Resting.{Rests, rotated, spends_rests}
 use Rattle.lsm_log_runs.specs.declared.steps.LogStep.{LogStep}
 use Rattle.lsm_log_runs.specs.declared.steps.LogStep.TheVariants.{Write, Get, Range, Prefix, RotateMemtable, AtSlot, Flush, FlushActiveMemtable, Compact, MajorCompact, DropRange, Clear, SetMoment}
 use Rattle.lsm_log_runs.specs.JobSteps.{TakesBegin, TakesTables, TakesRegister, TakesAbandon, TakesBeginCompaction, TakesFinish, TakesAbandonCompaction, TakesJob}
-use Rattle.lsm_log_runs.specs.Runs.{TakesBatch, TakesFlush, TakesClear, TakesRotate, TakesFlushActive, TakesCompaction, TakesCompact, TakesMoment, TakesAlone, Takes}
+use Rattle.lsm_log_runs.specs.Runs.{TakesBatch, TakesFlush, TakesClear, TakesRotate, TakesFlushActive, TakesCompact, TakesMoment, TakesAlone, Takes}
 use Rattle.lsm_log_runs.specs.Slots.{LogStage}
 
 -- the versions that a crash may leave stay, or no outcome was unknown and at most one is made
@@ -51,7 +49,7 @@ Advances old new = (versions_left new ≡ versions_left old) ⊎ ((old.lost ≡ 
 
 -- so no two have the same id, where none had before
 pub advances_apart : (old new : Core) → Advances old new → AreApart (versions_left old) → AreApart (versions_left old ++ versions_left new)
-advances_apart old new (inl same) apart v w i j ids = apart v w (of v i) (of w j) ids
+advances_apart old new (inl same) apart = λ v w i j ids. apart v w (of v i) (of w j) ids
   where
     of : (v : SeenVersion) → IsIn v (versions_left old ++ versions_left new) → IsIn v (versions_left old)
     of v i = ⊎_elim (λ (k : IsIn v (versions_left old)). k) (λ (k : IsIn v (versions_left new)). subst (IsIn v) same k) (in_either v (versions_left old) (versions_left new) i)

@@ -1,7 +1,6 @@
 -- How a call that leads by acts goes on from what stands, and what a crash leaves in it and behind it.
 use Rattle.std.proofs.Common.{◌≡◌, ◌⊎◌, ⊎_elim, inl, inr, ℕ, ◌≤◌, true, List, [], ◌++◌, Option, refl, sym, ap, ◌∙◌, subst, arith}
 use Rattle.lsm_below.specs.Entries.{Entry}
-use Rattle.lsm_below.specs.Members.{IsIn}
 use Rattle.lsm_store.specs.World.{Image, World, IsImage, LeavesOnly}
 use Rattle.lsm_store.specs.Moments.{weakened}
 use Rattle.lsm_model.specs.Journal.{Event, InOrder}
@@ -20,7 +19,7 @@ use Rattle.lsm_run_model.specs.Moments.{LeavesNow}
 use Rattle.lsm_runs.specs.Files.{StaysStored}
 use Rattle.lsm_runs.proofs.Members.{in_first}
 use Rattle.lsm_runs.proofs.Readiness.{holding_ready}
-use Rattle.lsm_state.specs.Core.{Core, versions_left, written_of}
+use Rattle.lsm_state.specs.Core.{versions_left, written_of}
 use Rattle.lsm_state.proofs.Upholding.{upheld_still}
 use Rattle.lsm_logged.specs.Acting.{HoldsLog, LeadsBy}
 use Rattle.lsm_logged.specs.Images.{RecordsAreThoseRead, VersionIsToldOnce}
@@ -136,8 +135,8 @@ module _ {S : Type 0} (world : S → World) (reading : Reading) (between : Store
   pub killed : (past next : LogPast) (old new : SeenLogged S) → StandsLogged world image past old → Advances old.core new.core → Led past next old new → LeavesReady MayBeOpened (λ (t : SeenLogged S). world t.store) old new
   killed past next old new s makes led cut ends =
       stands_opens reading.found reading.unread (world cut.store)
-      (holding_ready reading.found (versions_left old.core ++ versions_left new.core) (advances_apart old.core new.core makes s.apart) (world cut.store) (λ left may. led.versions.each left (ends.each left may)))
       (λ left may. held_weaker _ LogStands left (λ x recovers. recovers.stands) (led.inside.each left (ends.each left may)))
+      (holding_ready reading.found (versions_left old.core ++ versions_left new.core) (advances_apart old.core new.core makes s.apart) (world cut.store) (λ left may. led.versions.each left (ends.each left may)))
 
   module _ (past next : LogPast) (old new : SeenLogged S) (s : StandsLogged world image past old) (acts : List Act) (l : LeadsBy opened next.journal next.notes s.log acts (world old.store) (world new.store) old new) (is : past_of next.known next.begun l.log ≡ next)
       (order : InOrder opened next.journal) (certain : next.known ≡ true → IsCertain l.log) (stored : StepFiles world old new) where
@@ -161,7 +160,7 @@ module _ {S : Type 0} (world : S → World) (reading : Reading) (between : Store
         (λ (h : HoldsLog new.core l.log left). held_weaker (MayLeave l.log) (Recovers past next) left (λ x may. left_inside reading.theory image past next s.log l.log acts x s.came l.done is order (inr may)) (held_may next new l.log came_on l.is left h))
         either
 
-    spared : ForgetLast acts → SparesAnswers past next old.core new.core
+    pub spared : ForgetLast acts → SparesAnswers past next old.core new.core
     spared last =
         spares_by past next old.core new.core s.log.tree.state l.log.tree.state (ap (λ (t : Saved). t.state) s.is.tree) (ap (λ (t : Saved). t.state) l.is.tree)
         (acts_spared reading.theory.sound opened (logged image) acts last s.log l.log l.done (tree_order reading.theory image next l.log is order) (holds_on reading.theory image past s.log s.came))

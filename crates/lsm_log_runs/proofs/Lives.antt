@@ -15,7 +15,7 @@ use Rattle.lsm_runs.specs.declared.steps.Reply.{Reply}
 use Rattle.lsm_log_runs.specs.declared.steps.LogStep.{LogStep}
 use Rattle.lsm_log_runs.specs.declared.steps.LogStep.TheVariants.{Write}
 use Rattle.lsm_log_runs.specs.Images.{Keeps, MayBeOpened}
-use Rattle.lsm_log_runs.specs.Lives.{IsUsual, CalledBy, before_last, StillKept, LoggedLife, GoesWell, OpeningLife, OpeningsAreLoggedLives, LoggedLives, LeavesWell, AllGoWell}
+use Rattle.lsm_log_runs.specs.Lives.{IsUsual, CalledBy, before_last, LoggedLife, GoesWell, OpeningLife, OpeningsAreLoggedLives, LoggedLives, LeavesWell, AllGoWell}
 use Rattle.lsm_log_runs.specs.Living.{CrashedLogsOpen}
 use Rattle.lsm_log_runs.specs.Moments.{MayBeTried, EachKeeps}
 use Rattle.lsm_log_runs.specs.Pasts.{LogPast, nothing, acknowledged}

@@ -7,7 +7,7 @@ use Rattle.lsm_versions.specs.declared.config.Config.{Config}
 use Rattle.lsm_versions.specs.Levels.{SeenVersion}
 use Rattle.lsm_log_model.specs.Records.{LogImage, LogStands, logged, opened_by}
 use Rattle.lsm_run_model.specs.Moments.{last_of}
-use Rattle.lsm_run_model.specs.Lives.{Killed, EndsIn, LeavesReady}
+use Rattle.lsm_run_model.specs.Lives.{LeavesReady}
 use Rattle.lsm_runs.specs.declared.steps.Reply.{Reply}
 use Rattle.lsm_runs.specs.Files.{AreApart}
 use Rattle.lsm_state.specs.Core.{versions_left}

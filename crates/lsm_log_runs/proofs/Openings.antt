@@ -9,7 +9,6 @@ use Rattle.lsm_manifest.specs.Finding.{Finds, FoundOnce, FoundTablesShow, Unread
 use Rattle.lsm_manifest.specs.Names.{current_name}
 use Rattle.lsm_manifest.specs.Ready.{IsReady}
 use Rattle.lsm_log.specs.declared.record.Record.{Record}
-use Rattle.lsm_log.specs.LogNames.{record_name}
 use Rattle.lsm_log.specs.Logs.{HasBadName, IsThere, IsRecordAt, IsNoRecordAt, IsBadLog}
 use Rattle.lsm_log_model.specs.Records.{LogImage, LogStands}
 use Rattle.lsm_log_model.specs.Recovery.{LogRecovers}

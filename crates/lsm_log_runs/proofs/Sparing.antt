@@ -1,5 +1,5 @@
 -- Acts leave what a snapshot sees, but for what they write, clear or drop below it.
-use Rattle.std.proofs.Common.{◌≡◌, ℕ, ◌≤◌, Bool, true, false, cond, List, [], ◌∷◌, ◌++◌, map, Option, Some, append-nil, append_assoc, refl, sym, ap, ap₂, ◌∙◌, subst, ltb, eqb}
+use Rattle.std.proofs.Common.{◌≡◌, ℕ, ◌≤◌, Bool, true, false, cond, List, [], ◌∷◌, ◌++◌, map, Some, append-nil, append_assoc, refl, sym, ap, ap₂, ◌∙◌, subst, ltb, eqb}
 use Rattle.std.specs.List.{AllByRecursion}
 use Rattle.lsm_below.specs.Each.{each_left, each_right}
 use Rattle.lsm_below.specs.Entries.{Entry}
@@ -57,7 +57,10 @@ renewed : (s : ℕ) (latest again : SuperVersion) (older : List SuperVersion) (s
 renewed s latest again older sv same f =
     elim (eqb s 0) as (λ b. cond b (Some (front latest older)) (lookup s (latest ∷ older)) ≡ Some sv → (there : SuperVersion) × (cond b (Some (front again older)) (lookup s (again ∷ older)) ≡ Some there)) [
       | true ↦ λ q. (front again older, refl)
-      | false ↦ λ q. rw same (elim (ltb latest.number s) as (λ c. cond c (Some latest) (lookup s older) ≡ Some sv → (there : SuperVersion) × (cond c (Some again) (lookup s older) ≡ Some there)) [ true ↦ λ r. (again, refl) | false ↦ λ r. (sv, r) ] q)
+      | false ↦ λ q. elim (ltb latest.number s) as (λ c. ltb again.number s ≡ c → cond c (Some latest) (lookup s older) ≡ Some sv → (there : SuperVersion) × (cond (ltb again.number s) (Some again) (lookup s older) ≡ Some there)) [
+        | true ↦ λ h r. (again, ap (λ c. cond c (Some again) (lookup s older)) h)
+        | false ↦ λ h r. (sv, ap (λ c. cond c (Some again) (lookup s older)) h ∙ r)
+      ] (ap (λ n. ltb n s) same) q
     ] f
 
 put_first : (old new : State) → new.older ≡ history old → FindsOn old new

@@ -1,5 +1,5 @@
 -- What a crash leaves while a logged tree is opened reads as something that it could leave before.
-use Rattle.std.proofs.Common.{◌≡◌, ◌≢◌, ◌⊎◌, ⊎_elim, inl, inr, ℕ, ◌<◌, ◌≤◌, ◌^◌, ◌||◌, Bool, true, false, List, [], ◌∷◌, Option, Some, None, IsSome, refl, sym, ap, ◌∙◌, subst, codes, lit<, arith}
+use Rattle.std.proofs.Common.{◌≡◌, ◌≢◌, ◌⊎◌, ⊎_elim, inl, inr, ℕ, ◌<◌, ◌≤◌, ◌^◌, ◌||◌, Bool, true, false, List, [], ◌∷◌, Option, Some, None, IsSome, refl, sym, ap, ◌∙◌, subst, codes, lit<}
 use Rattle.std.specs.Prelude.{nat_eq}
 use Rattle.std.specs.List.{AllByRecursion, IsDistinct, starts_with}
 use Rattle.std.proofs.lemmas.Bool.{both_ways}
@@ -292,14 +292,14 @@ module _ (once : FoundOnce) (unread : UnreadNamesDontMatter) (plain : PlainNumbe
       fill_refused n bad (inr gone) = gone.0 ∙ sym (passes.gives n (refused_is_foreign n bad) ∙ good n bad)
 
       -- so that a crash could leave it before
-      was : ReadsAsBefore old filled
-      was = before.each filled (counts filled (λ n. fill_may n (cleared n)))
+      left_before : ReadsAsBefore old filled
+      left_before = before.each filled (counts filled (λ n. fill_may n (cleared n)))
 
       beside : (n : List ℕ) → starts_with nat_eq n (codes "log/") ≡ false → image n ≡ filled n
       beside n out = fill_else n (λ k lt e. both_ways (starts_with nat_eq n (codes "log/")) out (ap (λ (l : List ℕ). starts_with nat_eq l (codes "log/")) e)) (cleared n)
 
-      agrees : AgreesInRead filled image
-      agrees = record {
+      agrees_on : AgreesInRead filled image
+      agrees_on = record {
         current = beside current_name refl;
         version = λ id ls named. beside (version_name id) refl;
         tables = λ id ls named. each_of _ (each_of _ (each_of _ (λ t. beside (table_name t.id) refl))) ls;
@@ -308,7 +308,7 @@ module _ (once : FoundOnce) (unread : UnreadNamesDontMatter) (plain : PlainNumbe
       }
 
       found_on : (ts : SeenLevels) → Finds filled ts → Finds image ts
-      found_on ts f = (unread filled image agrees).0 ts f
+      found_on ts f = (unread filled image agrees_on).0 ts f
 
       version_on : (u : SeenVersion) → ReadsVersion filled u → ReadsVersion image u
       version_on u r =
@@ -330,22 +330,22 @@ module _ (once : FoundOnce) (unread : UnreadNamesDontMatter) (plain : PlainNumbe
             fresh = λ none. absurd (some_none (image current_name) _ named.current none);
           }
 
-      record_on : (u : SeenVersion) (k : ℕ) → ReadsVersion was.0 u → k < 2 ^ 63 → u.log_from ≤ k → image (record_name k) ≡ filled (record_name k)
+      record_on : (u : SeenVersion) (k : ℕ) → ReadsVersion left_before.0 u → k < 2 ^ 63 → u.log_from ≤ k → image (record_name k) ≡ filled (record_name k)
       record_on u k r small le =
-          let is : v ≡ u = version_is_one once image v u now (version_on u (was.2.version u r)) in
+          let is : v ≡ u = version_is_one once image v u now (version_on u (left_before.2.version u r)) in
           let high : v.log_from ≤ k = subst (λ (x : SeenVersion). x.log_from ≤ k) (sym is) le in
           fill_else (record_name k) (none_below plain v.log_from k high small) (cleared (record_name k))
 
       holds_alike : ReadsAsBefore old image
       holds_alike = (
-        was.0,
-        was.1,
+        left_before.0,
+        left_before.1,
         record {
-          current = ⊎_elim (λ same. inl (beside current_name refl ∙ same)) inr was.2.current;
-          version = λ u r. version_on u (was.2.version u r);
-          tables = λ ts f. found_on ts (was.2.tables ts f);
-          records = λ u k r small le. record_on u k r small le ∙ was.2.records u k r small le;
-          names = λ n bad. fill_refused n bad (cleared n) ∙ was.2.names n bad;
+          current = ⊎_elim (λ same. inl (beside current_name refl ∙ same)) inr left_before.2.current;
+          version = λ u r. version_on u (left_before.2.version u r);
+          tables = λ ts f. found_on ts (left_before.2.tables ts f);
+          records = λ u k r small le. record_on u k r small le ∙ left_before.2.records u k r small le;
+          names = λ n bad. fill_refused n bad (cleared n) ∙ left_before.2.names n bad;
         },
       )
 
