@@ -15,7 +15,9 @@ use Rattle.lsm_model.specs.Sound.{Holds}
 use Rattle.lsm_model.specs.Steps.{State, Action, Wrote, Rotated, Flushed, Merged, Moved, DroppedTables, Cleared, Marked, LostDrop, Asked, Maintained}
 use Rattle.lsm_model.specs.Beginnings.{Note, Saved, Done, Deeds}
 use Rattle.lsm_model.specs.declared.journal.JournalEntry.TheVariants.{Mark}
+use Rattle.lsm_tables.specs.Tables.{SeenTable}
 use Rattle.lsm_versions.specs.Levels.{SeenVersion, placed_in}
+use Rattle.lsm_compaction.specs.Merges.{SeenCompaction}
 use Rattle.lsm_parts.specs.declared.version.super_version.SuperVersion.{SuperVersion}
 use Rattle.lsm_log_model.specs.Logs.{Logged as Log, MayBeDrawn, is_write, next_from, Did, did}
 use Rattle.lsm_state.specs.declared.compaction.Options.{Options}
@@ -27,11 +29,11 @@ use Rattle.lsm_state.specs.FlushLaws.{FlushesAreDeeds}
 use Rattle.lsm_state.specs.Commits.{Upholds, counted}
 use Rattle.lsm_state.specs.Deeds.{saved_of, IsMarkDeed, AreDone}
 use Rattle.lsm_state.specs.Settling.{SettlesSome, IsInstalled, IsDoubted}
-use Rattle.lsm_state.specs.Compactions.{Relation, Does, BeginsChoice, BeginsCompaction, InstallsChoice, reason_of, error_of}
-use Rattle.lsm_state.specs.CompactionDeeds.{AreLostTelling, IsChoiceDeed, IsLostChoice, ChoiceDeeds, CompactionsAreDeeds}
+use Rattle.lsm_state.specs.Compactions.{Relation, MayAnswer, Does, BeginsChoice, BeginsCompaction, InstallsChoice, reason_of, error_of}
+use Rattle.lsm_state.specs.CompactionDeeds.{AreLostTelling, merge_of, IsChoiceDeed, IsLostChoice, ChoiceDeeds, CompactionsAreDeeds}
 use Rattle.lsm_logged.specs.Keeping.{SeenLogged, IsLogOf, KeepsLog}
 use Rattle.lsm_logged.specs.Removing.{log_from_of}
-use Rattle.lsm_logged.specs.Acting.{IsCompaction, told_by, told_installed, LeadsByCommit, LeadsByLost, LeadsByMark, ActsByCompaction, CompactsAct}
+use Rattle.lsm_logged.specs.Acting.{IsCompaction, told_by, told_installed, LeadsByCommit, LeadsByLost, LeadsByMark, ActsByCompaction, CompactsBy, CompactsAct}
 use Rattle.lsm_logged.proofs.Led.{is_install, first, stop, leads_passing}
 use Rattle.lsm_logged.proofs.CommitActs.{commit_leads, lost_leads}
 use Rattle.lsm_logged.proofs.Removals.{passes_on, none_behind}
@@ -43,18 +45,19 @@ use Rattle.lsm_logged.proofs.Rising.{begins_choice}
 abbrev pub StaysMarked : ℕ → Core → Core → Type 0
 StaysMarked w old new = IsMarkDeed w old new × (old.seqno ≤ new.seqno) × (log_from_of new ≡ log_from_of old) × (new.lost ≡ old.lost)
 
-pub record Installs (w : ℕ) (old new : Core) : Type 0 where
+-- an action that may be, installed
+pub record Installs (May : Action → Type 0) (w : ℕ) (old new : Core) : Type 0 where
   pub action : Action
-  pub is : IsCompaction w action
+  pub may : May action
   pub certain : old.lost ≡ None
   pub deeds : AreDone w action (told_installed action old) [] old new
   pub counter : new.seqno ≡ old.seqno + 1
   pub lost : new.lost ≡ None
   pub from : log_from_of new ≡ log_from_of old
 
-pub record Doubts (w : ℕ) (old new : Core) : Type 0 where
+pub record Doubts (May : Action → Type 0) (w : ℕ) (old new : Core) : Type 0 where
   pub action : Action
-  pub is : IsCompaction w action
+  pub may : May action
   pub certain : old.lost ≡ None
   pub would : Core
   pub v : SeenVersion
@@ -64,11 +67,24 @@ pub record Doubts (w : ℕ) (old new : Core) : Type 0 where
   pub version : v.log_from ≡ log_from_of old
   pub from : log_from_of new ≡ log_from_of old
 
-pub record Outcome (w : ℕ) (r : Result Begun Error) (old new : Core) : Type 0 where
-  pub done : (r ≡ Ok Installed) ⊎ IsErrOf r AfterCommit → Installs w old new
-  pub lost : IsErrOf r CommitUnknown → Doubts w old new
+pub record Outcome (May : Action → Type 0) (w : ℕ) (r : Result Begun Error) (old new : Core) : Type 0 where
+  pub done : (r ≡ Ok Installed) ⊎ IsErrOf r AfterCommit → Installs May w old new
+  pub lost : IsErrOf r CommitUnknown → Doubts May w old new
   pub told : IfOk r (λ b. (b ≡ Installed → ⊥) → StaysMarked w old new)
   pub refused : IfErr r (λ e. (e ≡ AfterCommit → ⊥) → (e ≡ CommitUnknown → ⊥) → StaysMarked w old new)
+
+-- what a choice leads to may be
+abbrev pub Allows : (Action → Type 0) → ℕ → Choice → Type 0
+Allows May w DoNothing = Unit {0}
+Allows May w (Move input) = (run : List SeenTable) → May (Moved input.dest_level input.table_ids.keys (placed_in input.dest_level run))
+Allows May w (Merge input) = (job : SeenCompaction) (run : List SeenTable) → job.settings.watermark ≡ w → May (merge_of job run)
+Allows May w (Drop ids) = May (DroppedTables ids.keys)
+
+pub any_allowed : (w : ℕ) (choice : Choice) → Allows (IsCompaction w) w choice
+any_allowed w DoNothing = tt
+any_allowed w (Move input) = λ run. tt
+any_allowed w (Merge input) = λ job run at. at
+any_allowed w (Drop ids) = tt
 
 -- ---- as acts
 
@@ -96,36 +112,36 @@ module _ {S : Type 0} (watermark : ℕ) (w w' : World) (old new : SeenLogged S) 
       let l = first opened t (Marked watermark) d.0 [] tree t.log_from t.other_from new.core.seqno ⊥ refl (λ q. absurd (cc q)) d.1 (omega arith) (stop opened (did t (Marked watermark) d.0) tree new.core.seqno ⊥ (sym d.2) (λ no. absurd no)) in
       leads_passing opened journal notes t w w' old new is keeps commits.files doubt commits.passes journal' notes (Did (Marked watermark) ∷ []) t.log_from t.other_from ⊥ l (omega arith) (is.from ∙ sym m.2) (λ v h. is.other v (sym m.3 ∙ h)) m.1
 
-  module _ (sure : old.doubted ≡ false) (small : old.core.seqno < 2 ^ 64) (read : PlainNumbersAreRead) where
-    install_leads : (i : Installs watermark old.core new.core) → LeadsByCommit watermark i.action (told_installed i.action old.core) [] opened journal notes t w w' old new
+  module _ (May : Action → Type 0) (only : (action : Action) → May action → IsCompaction watermark action) (sure : old.doubted ≡ false) (small : old.core.seqno < 2 ^ 64) (read : PlainNumbersAreRead) where
+    install_leads : (i : Installs May watermark old.core new.core) → LeadsByCommit watermark i.action (told_installed i.action old.core) [] opened journal notes t w w' old new
     install_leads i =
-        let facts = compaction_facts watermark i.action i.is in
+        let facts = compaction_facts watermark i.action (only i.action i.may) in
         commit_leads w w' old new sure i.certain doubt i.counter commits.files opened start journal notes t is keeps next holds watermark i.action (told_installed i.action old.core) (told_by i.action old.core) facts.0 facts.1 refl t.log_from (λ x same. facts.2 x t.log_from)
         [] (is.from ∙ sym i.from) (omega arith) i.lost i.deeds read small (passes_on (log_from_of new.core) w w' commits.passes) (none_behind w w' old.core new.core commits.passes)
 
-    doubt_leads : (i : Doubts watermark old.core new.core) → LeadsByLost watermark i.action (told_by i.action old.core) opened journal notes t w w' old new
+    doubt_leads : (i : Doubts May watermark old.core new.core) → LeadsByLost watermark i.action (told_by i.action old.core) opened journal notes t w w' old new
     doubt_leads i =
-        let facts = compaction_facts watermark i.action i.is in
+        let facts = compaction_facts watermark i.action (only i.action i.may) in
         lost_leads w w' old new sure i.certain doubt i.counter commits.files opened start journal notes t is keeps next holds watermark i.action (told_installed i.action old.core) (told_by i.action old.core) facts.0 facts.1 refl t.log_from (λ x same. facts.2 x t.log_from)
         (told_by i.action old.core) i.would i.v i.deeds i.lost (is.from ∙ sym i.version) (omega arith) i.from commits.passes
 
-    pub outcome_acts : (r : Result Begun Error) → Outcome watermark r old.core new.core → ActsByCompaction watermark r w w' old new opened journal notes t
+    pub outcome_acts : (r : Result Begun Error) → Outcome May watermark r old.core new.core → ActsByCompaction May watermark r w w' old new opened journal notes t
     outcome_acts (Ok b) o = record {
-      done = λ h. let i = o.done h in (i.action, i.is, install_leads i);
-      lost = λ h. let i = o.lost h in (i.action, i.is, doubt_leads i);
+      done = λ h. let i = o.done h in (i.action, i.may, install_leads i);
+      lost = λ h. let i = o.lost h in (i.action, i.may, doubt_leads i);
       told = λ isnt. mark_leads (o.told isnt);
       refused = tt;
     }
     outcome_acts (Err e) o = record {
-      done = λ h. let i = o.done h in (i.action, i.is, install_leads i);
-      lost = λ h. let i = o.lost h in (i.action, i.is, doubt_leads i);
+      done = λ h. let i = o.done h in (i.action, i.may, install_leads i);
+      lost = λ h. let i = o.lost h in (i.action, i.may, doubt_leads i);
       told = tt;
       refused = λ a b. mark_leads (o.refused a b);
     }
 
   -- a record has unknown outcome: the mark alone
-  pub unsure_compaction : StaysMarked watermark old.core new.core → ActsByCompaction watermark (Err Unrecoverable) w w' old new opened journal notes t
-  unsure_compaction m = record { done = λ h. ⊎_elim (λ z. absurd (cc z)) (λ z. absurd (cc z)) h; lost = λ h. absurd (cc h); told = tt; refused = λ a b. mark_leads m }
+  pub unsure_compaction : (May : Action → Type 0) → StaysMarked watermark old.core new.core → ActsByCompaction May watermark (Err Unrecoverable) w w' old new opened journal notes t
+  unsure_compaction May m = record { done = λ h. ⊎_elim (λ z. absurd (cc z)) (λ z. absurd (cc z)) h; lost = λ h. absurd (cc h); told = tt; refused = λ a b. mark_leads m }
 
 -- ---- how it began
 
@@ -210,10 +226,10 @@ module _ (choice : Choice) (o : Options) (r : Result Begun Error) (old new : Cor
             k),
       )
 
-installed_as : (w : ℕ) (action : Action) (old new : Core) → IsCompaction w action → old.lost ≡ None → AreDone w action (told_installed action old) [] old new → (v : SeenVersion) → v.log_from ≡ max (log_from_of old) 0 → (whole : _) → IsInstalled v w whole old new → Installs w old new
-installed_as w action old new is certain deeds v version whole i = record {
+installed_as : {May : Action → Type 0} (w : ℕ) (action : Action) (old new : Core) → May action → old.lost ≡ None → AreDone w action (told_installed action old) [] old new → (v : SeenVersion) → v.log_from ≡ max (log_from_of old) 0 → (whole : _) → IsInstalled v w whole old new → Installs May w old new
+installed_as w action old new may certain deeds v version whole i = record {
   action = action;
-  is = is;
+  may = may;
   certain = certain;
   deeds = deeds;
   counter = ap (λ (c : Core). c.seqno) i.rest;
@@ -221,10 +237,10 @@ installed_as w action old new is certain deeds v version whole i = record {
   from = let e = ap (λ (sv : SuperVersion). sv.version.log_from) i.history.latest in omega (arith, e, version);
 }
 
-doubted_as : (w : ℕ) (action : Action) (old new would : Core) → IsCompaction w action → old.lost ≡ None → AreLostTelling w action (told_by action old) (told_installed action old) old would new → (v : SeenVersion) → v.log_from ≡ max (log_from_of old) 0 → IsDoubted v old new → Doubts w old new
-doubted_as w action old new would is certain deeds v version i = record {
+doubted_as : {May : Action → Type 0} (w : ℕ) (action : Action) (old new would : Core) → May action → old.lost ≡ None → AreLostTelling w action (told_by action old) (told_installed action old) old would new → (v : SeenVersion) → v.log_from ≡ max (log_from_of old) 0 → IsDoubted v old new → Doubts May w old new
+doubted_as w action old new would may certain deeds v version i = record {
   action = action;
-  is = is;
+  may = may;
   certain = certain;
   would = would;
   v = v;
@@ -235,25 +251,26 @@ doubted_as w action old new would is certain deeds v version i = record {
   from = ap log_from_of i;
 }
 
-choice_done : (choice : Choice) (o : Options) (r : Result Begun Error) (old new : Core) → old.lost ≡ None → Does choice o r old new → IsChoiceDeed choice o.mvcc_gc_watermark old new → (r ≡ Ok Installed) ⊎ IsErrOf r AfterCommit → Installs o.mvcc_gc_watermark old new
-choice_done DoNothing o r old new certain d deed h = absurd deed
-choice_done (Move input) o r old new certain d deed h =
-    let s = settled o.mvcc_gc_watermark r old new d.settles h in
-    installed_as o.mvcc_gc_watermark (Moved input.dest_level input.table_ids.keys (placed_in input.dest_level deed.0)) old new tt certain deed.1 s.0 s.1.moves.next.log_from s.2 s.3
-choice_done (Merge input) o r old new certain d deed h = absurd deed
-choice_done (Drop ids) o r old new certain d deed h =
-    let s = settled o.mvcc_gc_watermark r old new d.settles h in
-    installed_as o.mvcc_gc_watermark (DroppedTables ids.keys) old new tt certain deed s.0 s.1.next.log_from s.2 s.3
+module _ (May : Action → Type 0) where
+  choice_done : (choice : Choice) (o : Options) (r : Result Begun Error) (old new : Core) → Allows May o.mvcc_gc_watermark choice → old.lost ≡ None → Does choice o r old new → IsChoiceDeed choice o.mvcc_gc_watermark old new → (r ≡ Ok Installed) ⊎ IsErrOf r AfterCommit → Installs May o.mvcc_gc_watermark old new
+  choice_done DoNothing o r old new may certain d deed h = absurd deed
+  choice_done (Move input) o r old new may certain d deed h =
+      let s = settled o.mvcc_gc_watermark r old new d.settles h in
+      installed_as o.mvcc_gc_watermark (Moved input.dest_level input.table_ids.keys (placed_in input.dest_level deed.0)) old new (may deed.0) certain deed.1 s.0 s.1.moves.next.log_from s.2 s.3
+  choice_done (Merge input) o r old new may certain d deed h = absurd deed
+  choice_done (Drop ids) o r old new may certain d deed h =
+      let s = settled o.mvcc_gc_watermark r old new d.settles h in
+      installed_as o.mvcc_gc_watermark (DroppedTables ids.keys) old new may certain deed s.0 s.1.next.log_from s.2 s.3
 
-choice_lost : (choice : Choice) (o : Options) (r : Result Begun Error) (old new : Core) → old.lost ≡ None → Does choice o r old new → IsLostChoice choice o.mvcc_gc_watermark old new → IsErrOf r CommitUnknown → Doubts o.mvcc_gc_watermark old new
-choice_lost DoNothing o r old new certain d deed u = absurd deed
-choice_lost (Move input) o r old new certain d deed u =
-    let s = d.settles.unknown u in
-    doubted_as o.mvcc_gc_watermark (Moved input.dest_level input.table_ids.keys (placed_in input.dest_level deed.0)) old new deed.1 tt certain deed.2 s.0 s.1.moves.next.log_from s.2
-choice_lost (Merge input) o r old new certain d deed u = absurd deed
-choice_lost (Drop ids) o r old new certain d deed u =
-    let s = d.settles.unknown u in
-    doubted_as o.mvcc_gc_watermark (DroppedTables ids.keys) old new deed.0 tt certain deed.1 s.0 s.1.next.log_from s.2
+  choice_lost : (choice : Choice) (o : Options) (r : Result Begun Error) (old new : Core) → Allows May o.mvcc_gc_watermark choice → old.lost ≡ None → Does choice o r old new → IsLostChoice choice o.mvcc_gc_watermark old new → IsErrOf r CommitUnknown → Doubts May o.mvcc_gc_watermark old new
+  choice_lost DoNothing o r old new may certain d deed u = absurd deed
+  choice_lost (Move input) o r old new may certain d deed u =
+      let s = d.settles.unknown u in
+      doubted_as o.mvcc_gc_watermark (Moved input.dest_level input.table_ids.keys (placed_in input.dest_level deed.0)) old new deed.1 (may deed.0) certain deed.2 s.0 s.1.moves.next.log_from s.2
+  choice_lost (Merge input) o r old new may certain d deed u = absurd deed
+  choice_lost (Drop ids) o r old new may certain d deed u =
+      let s = d.settles.unknown u in
+      doubted_as o.mvcc_gc_watermark (DroppedTables ids.keys) old new deed.0 may certain deed.1 s.0 s.1.next.log_from s.2
 
 abbrev pub ok_of : Begun → Result Begun Error
 ok_of x = Ok x
@@ -264,23 +281,24 @@ ok_is x y e = cc e
 err_is : (x y : Error) → IsErrOf {T = Begun} (Err x) y → x ≡ y
 err_is x y e = cc e
 
-pub choice_outcome : (choice : Choice) (o : Options) (r : Result Begun Error) (old new : Core) → BeginsChoice choice o r old new → ChoiceDeeds choice o.mvcc_gc_watermark r old new → Outcome o.mvcc_gc_watermark r old new
-choice_outcome choice o (Ok b) old new begins deeds = record {
-  done = λ h. let d = does_it choice o (Ok b) old new begins deeds (⊎_elim (λ e. inl e) (λ e. inr (inl e)) h) in choice_done choice o (Ok b) old new d.0 d.1 (deeds.done h) h;
-  lost = λ h. absurd (cc h);
-  told = λ isnt. marks choice o (Ok b) old new begins deeds ((λ e. isnt (ok_is b Installed e)), (λ z. cc z), (λ z. cc z)) (deeds.told isnt);
-  refused = tt;
-}
-choice_outcome choice o (Err e) old new begins deeds = record {
-  done = λ h. let d = does_it choice o (Err e) old new begins deeds (⊎_elim (λ e. inl e) (λ e. inr (inl e)) h) in choice_done choice o (Err e) old new d.0 d.1 (deeds.done h) h;
-  lost = λ h. let d = does_it choice o (Err e) old new begins deeds (inr (inr h)) in choice_lost choice o (Err e) old new d.0 d.1 (deeds.lost h) h;
-  told = tt;
-  refused = λ a u. marks choice o (Err e) old new begins deeds ((λ z. cc z), (λ z. a (err_is e AfterCommit z)), (λ z. u (err_is e CommitUnknown z))) (deeds.refused a u);
-}
+module _ (May : Action → Type 0) (choice : Choice) (o : Options) (may : Allows May o.mvcc_gc_watermark choice) where
+  pub choice_outcome : (r : Result Begun Error) (old new : Core) → BeginsChoice choice o r old new → ChoiceDeeds choice o.mvcc_gc_watermark r old new → Outcome May o.mvcc_gc_watermark r old new
+  choice_outcome (Ok b) old new begins deeds = record {
+    done = λ h. let d = does_it choice o (Ok b) old new begins deeds (⊎_elim (λ e. inl e) (λ e. inr (inl e)) h) in choice_done May choice o (Ok b) old new may d.0 d.1 (deeds.done h) h;
+    lost = λ h. absurd (cc h);
+    told = λ isnt. marks choice o (Ok b) old new begins deeds ((λ e. isnt (ok_is b Installed e)), (λ z. cc z), (λ z. cc z)) (deeds.told isnt);
+    refused = tt;
+  }
+  choice_outcome (Err e) old new begins deeds = record {
+    done = λ h. let d = does_it choice o (Err e) old new begins deeds (⊎_elim (λ e. inl e) (λ e. inr (inl e)) h) in choice_done May choice o (Err e) old new may d.0 d.1 (deeds.done h) h;
+    lost = λ h. let d = does_it choice o (Err e) old new begins deeds (inr (inr h)) in choice_lost May choice o (Err e) old new may d.0 d.1 (deeds.lost h) h;
+    told = tt;
+    refused = λ a u. marks choice o (Err e) old new begins deeds ((λ z. cc z), (λ z. a (err_is e AfterCommit z)), (λ z. u (err_is e CommitUnknown z))) (deeds.refused a u);
+  }
 
 -- ---- where nothing is installed
 
-pub quiet_outcome : (w : ℕ) (r : Result Begun Error) (old new : Core) → IsFree r → StaysMarked w old new → Outcome w r old new
+pub quiet_outcome : {May : Action → Type 0} (w : ℕ) (r : Result Begun Error) (old new : Core) → IsFree r → StaysMarked w old new → Outcome May w r old new
 quiet_outcome w (Ok b) old new free m = record { done = λ h. absurd (⊎_elim free.0 free.1 h); lost = λ h. absurd (free.2 h); told = λ isnt. m; refused = tt }
 quiet_outcome w (Err e) old new free m = record { done = λ h. absurd (⊎_elim free.0 free.1 h); lost = λ h. absurd (free.2 h); told = tt; refused = λ a u. m }
 
@@ -296,15 +314,16 @@ strategy_free Several = ((λ z. cc z), (λ z. cc z), (λ z. cc z))
 strategy_free InUse = ((λ z. cc z), (λ z. cc z), (λ z. cc z))
 strategy_free Refused = ((λ z. cc z), (λ z. cc z), (λ z. cc z))
 
-pub begun_outcome : (may_choose : Relation Choice) (may_refuse : Relation ChooseError) (o : Options) (r : Result Begun Error) (old new : Core) → CompactionsAreDeeds → IsKeptTree old → IsMarkDeed o.mvcc_gc_watermark old old → BeginsCompaction may_choose may_refuse o r old new → Outcome o.mvcc_gc_watermark r old new
-begun_outcome may_choose may_refuse o r old new law kept deed b = by_lost old.lost refl
+pub begun_outcome : (May : Action → Type 0) (may_choose : Relation Choice) (may_refuse : Relation ChooseError) (o : Options) (r : Result Begun Error) (old new : Core) → ((choice : Choice) → MayAnswer may_choose old choice → Allows May o.mvcc_gc_watermark choice)
+    → CompactionsAreDeeds → IsKeptTree old → IsMarkDeed o.mvcc_gc_watermark old old → BeginsCompaction may_choose may_refuse o r old new → Outcome May o.mvcc_gc_watermark r old new
+begun_outcome May may_choose may_refuse o r old new may law kept deed b = by_lost old.lost refl
   where
     free_of : (e : Error) → r ≡ Err e → IsFree (Err e) → IsFree r
     free_of e is free = subst IsFree (sym is) free
 
-    by_lost : (l : Option SeenVersion) → old.lost ≡ l → Outcome o.mvcc_gc_watermark r old new
+    by_lost : (l : Option SeenVersion) → old.lost ≡ l → Outcome May o.mvcc_gc_watermark r old new
     by_lost None is = ⊎_elim
-        (λ c. choice_outcome c.0 o r old new c.2 (law.choices c.0 o r old new kept c.2))
+        (λ c. choice_outcome May c.0 o (may c.0 c.1) r old new c.2 (law.choices c.0 o r old new kept c.2))
         (λ e. quiet_outcome o.mvcc_gc_watermark r old new (free_of (error_of e.0) e.2 (strategy_free e.0)) (same_marked o.mvcc_gc_watermark old new deed e.3))
         (b.chosen is)
     by_lost (Some v) is =
@@ -314,17 +333,23 @@ begun_outcome may_choose may_refuse o r old new law kept deed b = by_lost old.lo
 -- ---- a call
 
 -- a record has unknown outcome: the mark alone
-pub unsure_acts : {S : Type 0} (watermark : ℕ) (world : S → World) (old now : SeenLogged S) → old ≡ now → IsKeptTree now.core → FlushesAreDeeds → Upholds (world old.store) (world old.store) old.core old.core → CompactsAct watermark (Err Unrecoverable) (world now.store) (world now.store) now now
-unsure_acts {S} watermark world old now same kept law still =
+pub unsure_acts : {S : Type 0} {May : Action → Type 0} (watermark : ℕ) (world : S → World) (old now : SeenLogged S) → old ≡ now → IsKeptTree now.core → FlushesAreDeeds → Upholds (world old.store) (world old.store) old.core old.core → CompactsBy May watermark (Err Unrecoverable) (world now.store) (world now.store) now now
+unsure_acts {S} {May} watermark world old now same kept law still =
     let there : Upholds (world now.store) (world now.store) now.core now.core = subst (λ (t : SeenLogged S). Upholds (world t.store) (world t.store) t.core t.core) same still in
     let deed : IsMarkDeed watermark now.core now.core = law.spends watermark 0 now.core kept in
-    λ opened start journal notes t is keeps next holds. unsure_compaction watermark (world now.store) (world now.store) now now refl there opened start journal notes t is keeps next holds (same_marked watermark now.core now.core deed refl)
+    λ opened start journal notes t is keeps next holds. unsure_compaction watermark (world now.store) (world now.store) now now refl there opened start journal notes t is keeps next holds May (same_marked watermark now.core now.core deed refl)
 
--- no record has: what the tree's call did
-pub answered_acts : {S : Type 0} (watermark : ℕ) (world : S → World) (old now new : SeenLogged S) → old ≡ now → IsKeptTree now.core → now.core.seqno < 2 ^ 64 → PlainNumbersAreRead → old.doubted ≡ false → new.doubted ≡ old.doubted → Upholds (world old.store) (world new.store) old.core new.core
-    → (r : Result Begun Error) → (IsKeptTree old.core → Outcome watermark r old.core new.core) → CompactsAct watermark r (world now.store) (world new.store) now new
-answered_acts {S} watermark world old now new same kept small read sure doubt commits r outcome =
+-- no record has: what the tree's call did, of the actions that may be of a tree as it was
+pub answers_act : {S : Type 0} (May : Core → Action → Type 0) (watermark : ℕ) → ((c : Core) (action : Action) → May c action → IsCompaction watermark action)
+    → (world : S → World) (old now new : SeenLogged S) → old ≡ now → IsKeptTree now.core → now.core.seqno < 2 ^ 64 → PlainNumbersAreRead → old.doubted ≡ false → new.doubted ≡ old.doubted → Upholds (world old.store) (world new.store) old.core new.core
+    → (r : Result Begun Error) → (IsKeptTree old.core → Outcome (May old.core) watermark r old.core new.core) → CompactsBy (May now.core) watermark r (world now.store) (world new.store) now new
+answers_act {S} May watermark only world old now new same kept small read sure doubt commits r outcome =
     let there = subst (λ (t : SeenLogged S). IsKeptTree t.core) (sym same) kept in
     let fits = subst (λ (t : SeenLogged S). t.core.seqno < 2 ^ 64) (sym same) small in
-    subst (λ (t : SeenLogged S). CompactsAct watermark r (world t.store) (world new.store) t new) same
-    (λ opened start journal notes t is keeps next holds. outcome_acts watermark (world old.store) (world new.store) old new doubt commits opened start journal notes t is keeps next holds sure fits read r (outcome there))
+    subst (λ (t : SeenLogged S). CompactsBy (May t.core) watermark r (world t.store) (world new.store) t new) same
+    (λ opened start journal notes t is keeps next holds. outcome_acts watermark (world old.store) (world new.store) old new doubt commits opened start journal notes t is keeps next holds (May old.core) (only old.core) sure fits read r (outcome there))
+
+-- any compaction
+pub answered_acts : {S : Type 0} (watermark : ℕ) (world : S → World) (old now new : SeenLogged S) → old ≡ now → IsKeptTree now.core → now.core.seqno < 2 ^ 64 → PlainNumbersAreRead → old.doubted ≡ false → new.doubted ≡ old.doubted → Upholds (world old.store) (world new.store) old.core new.core
+    → (r : Result Begun Error) → (IsKeptTree old.core → Outcome (IsCompaction watermark) watermark r old.core new.core) → CompactsAct watermark r (world now.store) (world new.store) now new
+answered_acts watermark world old now new = answers_act (λ c. IsCompaction watermark) watermark (λ c action is. is) world old now new

@@ -10,6 +10,10 @@ use Rattle.lsm_model.specs.Steps.{State, Action, Rotated, Flushed, Merged, Moved
 use Rattle.lsm_model.specs.Views.{Placed}
 use Rattle.lsm_model.specs.Beginnings.{Note, SealedAt, FlushedIds, ClearedTo, ClearLost}
 use Rattle.lsm_model.specs.declared.journal.JournalEntry.TheVariants.{Clear, Install, Mark}
+use Rattle.lsm_versions.specs.Chosen.{AreIdsOf}
+use Rattle.lsm_versions.specs.Levels.{HasOwnIds, all_of}
+use Rattle.lsm_pick.specs.declared.bounds.OwnedBounds.{OwnedBounds}
+use Rattle.lsm_pick.specs.Simple.{bounded}
 use Rattle.lsm_commit.specs.Stored.{IsStored, HoldsOneOf}
 use Rattle.lsm_flush.specs.Jobs.{SeenWritten}
 use Rattle.lsm_flush.specs.declared.jobs.Registered.{Registered}
@@ -18,6 +22,7 @@ use Rattle.lsm_log_model.specs.Logs.{Logged as Log, MayBeDrawn, Act, Did, Commit
 use Rattle.lsm_log_model.specs.Joins.{DrawsBelow}
 use Rattle.lsm_state.specs.Core.{Core, versions_left, written_of}
 use Rattle.lsm_state.specs.CompactionDeeds.{dropped_by, IsMarkedIn}
+use Rattle.lsm_state.specs.Compactions.{levels_of}
 use Rattle.lsm_state.specs.Flushes.{sealed_ids, flush_of}
 use Rattle.lsm_state.specs.declared.compaction.Begun.{Begun}
 use Rattle.lsm_state.specs.declared.compaction.Finished.{Finished}
@@ -153,6 +158,16 @@ IsCompaction watermark (Moved d ids moved) = Unit {0}
 IsCompaction watermark (DroppedTables ids) = Unit {0}
 IsCompaction watermark other = ⊥
 
+-- a merge at this watermark alone
+abbrev pub IsMerging : ℕ → Action → Type 0
+IsMerging watermark (Merged w d ids evict made) = w ≡ watermark
+IsMerging watermark other = ⊥
+
+-- a drop alone, of just the tables whose whole range lies within bounds, where no id stands twice
+abbrev pub DropsWithin : OwnedBounds → Core → Action → Type 0
+DropsWithin bounds c (DroppedTables ids) = AreIdsOf ids (bounded bounds (levels_of c)) × HasOwnIds (all_of (levels_of c))
+DropsWithin bounds c other = ⊥
+
 -- what it tells before it is known whether it stands: a drop its ranges
 abbrev pub told_by : Action → Core → List Event
 told_by (DroppedTables ids) c = dropped_by ids c
@@ -165,16 +180,20 @@ told_installed action c = told_by action c ++ Install c.seqno ∷ []
 abbrev pub LeadsByMark : {S : Type 0} → ℕ → (w w' : World) (old new : SeenLogged S) (opened : List Entry) (journal : List Event) (notes : List Note) (t : Log) → Type 0
 LeadsByMark watermark w w' old new opened journal notes t = LeadsBy opened (journal ++ Mark watermark ∷ []) notes t (Did (Marked watermark) ∷ []) w w' old new
 
--- an installed compaction is an act; so is one of unknown outcome; where nothing is installed, and refused otherwise, it is the mark
--- of its watermark
-pub record ActsByCompaction {S : Type 0} (watermark : ℕ) (r : Result Begun Error) (w w' : World) (old new : SeenLogged S) (opened : List Entry) (journal : List Event) (notes : List Note) (t : Log) : Type 0 where
-  pub done : (r ≡ Ok IsInstalled) ⊎ IsErrOf r AfterCommit → (action : Action) × IsCompaction watermark action × LeadsByCommit watermark action (told_installed action old.core) [] opened journal notes t w w' old new
-  pub lost : IsErrOf r CommitUnknown → (action : Action) × IsCompaction watermark action × LeadsByLost watermark action (told_by action old.core) opened journal notes t w w' old new
+-- an installed compaction is an act, one that may be; so is one of unknown outcome; where nothing is installed, and refused otherwise, it is
+-- the mark of its watermark
+pub record ActsByCompaction {S : Type 0} (May : Action → Type 0) (watermark : ℕ) (r : Result Begun Error) (w w' : World) (old new : SeenLogged S) (opened : List Entry) (journal : List Event) (notes : List Note) (t : Log) : Type 0 where
+  pub done : (r ≡ Ok IsInstalled) ⊎ IsErrOf r AfterCommit → (action : Action) × May action × LeadsByCommit watermark action (told_installed action old.core) [] opened journal notes t w w' old new
+  pub lost : IsErrOf r CommitUnknown → (action : Action) × May action × LeadsByLost watermark action (told_by action old.core) opened journal notes t w w' old new
   pub told : IfOk r (λ b. (b ≡ IsInstalled → ⊥) → LeadsByMark watermark w w' old new opened journal notes t)
   pub refused : IfErr r (λ e. (e ≡ AfterCommit → ⊥) → (e ≡ CommitUnknown → ⊥) → LeadsByMark watermark w w' old new opened journal notes t)
 
+abbrev pub CompactsBy : {S : Type 0} → (Action → Type 0) → ℕ → Result Begun Error → World → World → SeenLogged S → SeenLogged S → Type 0
+CompactsBy May watermark r w w' old new = ForEachLog w old (ActsByCompaction May watermark r w w' old new)
+
+-- any compaction at the watermark
 abbrev pub CompactsAct : {S : Type 0} → ℕ → Result Begun Error → World → World → SeenLogged S → SeenLogged S → Type 0
-CompactsAct watermark r w w' old new = ForEachLog w old (ActsByCompaction watermark r w w' old new)
+CompactsAct watermark r w w' old new = CompactsBy (IsCompaction watermark) watermark r w w' old new
 
 -- ---- the end of a merge
 

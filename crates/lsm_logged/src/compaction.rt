@@ -9,7 +9,7 @@ ghost use Rattle.lsm_state.specs.Compactions.{given_up, LeavesNoneChosen, Begins
 ghost use Rattle.lsm_state.specs.FlushLaws.{FlushesAreDeeds};
 ghost use Rattle.lsm_state.specs.Kept.{IsKeptTree};
 ghost use Rattle.lsm_state.specs.WholeCompactions.{CompactsChoice, Compacts, DropsRange, options_at, only_memory, major_choice, drop_choice};
-ghost use Rattle.lsm_logged.specs.Acting.{ActsNot, CompactsAct, MergesAct};
+ghost use Rattle.lsm_logged.specs.Acting.{ActsNot, IsMerging, DropsWithin, CompactsBy, CompactsAct, MergesAct};
 ghost use Rattle.lsm_logged.specs.Asking.{Asks};
 
 use crate::Logged;
@@ -239,8 +239,8 @@ impl<S: Store> Logged<S> {
     /// As that call, and `Unrecoverable` also where a record has unknown outcome.
     pub fn major_compact(&mut self, target: u64, watermark: SeqNo) -> Result<Begun, Error>
         ensures asks { Asks result self.old self.new (Compacts (major_choice target) only_memory (options_at watermark self.old.core) result self.old.core self.new.core) }
-        // As the theory sees it: an installed compaction, or one of unknown outcome, else the mark of its watermark.
-        ensures acts { S.tells → CompactsAct watermark result (S.world self.old.store) (S.world self.new.store) self.old self.new }
+        // As the theory sees it: an installed merge, or one of unknown outcome, else the mark of its watermark. Nothing is dropped.
+        ensures acts { S.tells → CompactsBy (IsMerging watermark) watermark result (S.world self.old.store) (S.world self.new.store) self.old self.new }
         // What a crash leaves, of the tree's files and of names that are none of its own.
         ensures upholds { S.tells → Upholds (S.world self.old.store) (S.world self.new.store) self.old.core self.new.core }
         // The store is blamed only where a call of it failed.
@@ -263,8 +263,8 @@ impl<S: Store> Logged<S> {
     /// As that call, and `Unrecoverable` also where a record has unknown outcome.
     pub fn drop_range(&mut self, bounds: OwnedBounds) -> Result<Begun, Error>
         ensures asks { Asks result self.old self.new (DropsRange bounds result self.old.core self.new.core) }
-        // As the theory sees it: an installed compaction, or one of unknown outcome, else the mark of its watermark.
-        ensures acts { S.tells → CompactsAct 0 result (S.world self.old.store) (S.world self.new.store) self.old self.new }
+        // As the theory sees it: an installed drop of the tables within the bounds, or one of unknown outcome, else the mark of its watermark.
+        ensures acts { S.tells → CompactsBy (DropsWithin bounds self.old.core) 0 result (S.world self.old.store) (S.world self.new.store) self.old self.new }
         // What a crash leaves, of the tree's files and of names that are none of its own.
         ensures upholds { S.tells → Upholds (S.world self.old.store) (S.world self.new.store) self.old.core self.new.core }
         // The store is blamed only where a call of it failed.

@@ -1,29 +1,39 @@
 -- What the steps of a run add to the journal, by their kinds and replies.
-use Rattle.std.proofs.Common.{◌≡◌, inl, inr, ℕ, Bool, true, false, cond, List, [], ◌∷◌, ◌++◌, Option, Result, Ok, Err, refl, sym, subst}
+use Rattle.std.proofs.Common.{◌≡◌, inl, inr, ℕ, Bool, true, false, cond, List, [], ◌∷◌, ◌++◌, Option, Result, Ok, Err, IfOk, refl, sym, subst}
+use Rattle.std.specs.Bool.{MatchBool}
 use Rattle.std.specs.List.{AllByRecursion}
 use Rattle.lsm_below.specs.Each.{each_append}
 use Rattle.lsm_below.specs.Entries.{Entry}
 use Rattle.lsm_below.specs.Keys.{Bytes}
+use Rattle.lsm_below.specs.Ranges.{Range}
 use Rattle.lsm_below.specs.declared.error.Error.{Error}
 use Rattle.lsm_below.specs.declared.error.Error.TheVariants.{CommitUnknown, AfterCommit}
 use Rattle.lsm_flush.specs.declared.jobs.Registered.{Registered as Outcome}
 use Rattle.lsm_model.specs.Journal.{Event}
 use Rattle.lsm_model.specs.declared.op.Op.{Op}
-use Rattle.lsm_model.specs.declared.journal.JournalEntry.TheVariants.{Mark, Install}
+use Rattle.lsm_model.specs.declared.journal.JournalEntry.TheVariants.{Install, Mark}
 use Rattle.lsm_model.specs.declared.question.Question.{Question}
+use Rattle.lsm_pick.specs.declared.bounds.OwnedBounds.{OwnedBounds}
 use Rattle.lsm_pick.specs.declared.choice.Choice.{Choice}
 use Rattle.lsm_pick.specs.declared.choice.Choice.TheVariants.{DoNothing, Move, Merge, Drop}
 use Rattle.lsm_pick.specs.declared.choice.ChooseError.{ChooseError}
+use Rattle.lsm_pick.specs.Picks.{IsNothing, IsMerge, IsDrop}
+use Rattle.lsm_pick.specs.Simple.{bounded}
+use Rattle.lsm_pick.specs.Tables.{is_any_hidden}
+use Rattle.lsm_versions.specs.Chosen.{AreIdsOf}
+use Rattle.lsm_versions.specs.Levels.{HasOwnIds}
+use Rattle.lsm_versions.specs.Levels as lists
 use Rattle.lsm_state.specs.declared.compaction.Options.{Options}
 use Rattle.lsm_state.specs.declared.compaction.Begun.{Begun}
 use Rattle.lsm_state.specs.declared.compaction.Begun.TheVariants.{DidNothing, Declined, Installed, Job as BegunJob}
 use Rattle.lsm_state.specs.declared.compaction.Finished.{Finished}
 use Rattle.lsm_state.specs.declared.compaction.Finished.TheVariants.{Installed as IsFinished, Declined as Over}
 use Rattle.lsm_state.specs.Core.{Core}
-use Rattle.lsm_state.specs.Compactions.{Relation}
+use Rattle.lsm_state.specs.Compactions.{Relation, MayAnswer, levels_of}
 use Rattle.lsm_state.specs.CompactionReads.{ranges_told, TellsChoice, TellsMerge}
 use Rattle.lsm_state.specs.FlushReads.{register_events, flush_events}
-use Rattle.lsm_journal.specs.Noted.{BeginsAnswer, TellsBehind, CompactsAnswer}
+use Rattle.lsm_state.specs.WholeCompactions.{options_at, only_memory, major_choice, drop_choice}
+use Rattle.lsm_journal.specs.Noted.{IsAnswerOf, BeginsAnswer, TellsBehind, CompactsAnswer}
 use Rattle.lsm_runs.specs.declared.slots.Job.{Job}
 use Rattle.lsm_runs.specs.declared.steps.Counter.{Counter}
 use Rattle.lsm_runs.specs.declared.steps.JobStep.{JobStep}
@@ -32,15 +42,16 @@ use Rattle.lsm_runs.specs.declared.steps.Reply.{Reply}
 use Rattle.lsm_runs.specs.declared.steps.Reply.TheVariants as reply
 use Rattle.lsm_runs.specs.declared.steps.Step.{Step as Call}
 use Rattle.lsm_runs.specs.declared.steps.Step.TheVariants as step
-use Rattle.lsm_runs.specs.Adds.{AddsEntry, AddsBatch, AddsGet, AddsPairs, AddsClear, IsUpkeep, IsUpkeepOrDrop, JobAdds, Adds, EachAdds}
+use Rattle.lsm_runs.specs.Adds.{AddsEntry, AddsBatch, AddsGet, AddsPairs, AddsClear, AnyRanges, NoRanges, RangesWithin, IsUpkeep, IsUpkeepOrDrop, JobAdds, Adds, EachAdds}
 use Rattle.lsm_runs.specs.Clearing.{TakesClear, TakesForget}
-use Rattle.lsm_runs.specs.Compacting.{Strategies, TakesBeginCompaction, TakesRunCompaction, TakesFinish, TakesAbandonCompaction, CompactsFrom, TakesCompact, TakesDropRange, TakesTableId}
+use Rattle.lsm_runs.specs.Compacting.{Strategies, TakesBeginCompaction, TakesRunCompaction, TakesFinish, TakesAbandonCompaction, CompactsFrom, TakesCompact, TakesMajor, TakesDropRange, TakesTableId}
 use Rattle.lsm_runs.specs.Flushing.{TakesBegin, TakesRun, TakesTables, TakesRegister, TakesAbandon, TakesFlush, TakesFlushActive, TakesMoment}
 use Rattle.lsm_runs.specs.JobSteps.{TakesJob}
 use Rattle.lsm_runs.specs.ReadSteps.{TakesGet, TakesGetEntry, TakesPairs}
 use Rattle.lsm_runs.specs.Runs.{Takes, TakesAlone, TakesEntry, TakesBatch, TakesRotate, TakesNext, TakesCounter, Ran, RanToEnd}
 use Rattle.lsm_runs.specs.Slots.{Stage}
 use Rattle.lsm_runs.specs.Told.{Told}
+use Rattle.lsm_runs.proofs.Dropping.{drop_within}
 
 -- ---- writes, reads and counters
 
@@ -158,26 +169,102 @@ abandon_adds r events was is old new t = absurd t
 
 -- ---- compactions
 
-whole : (choice : Choice) (w n : ℕ) (c : Core) → AllByRecursion IsUpkeepOrDrop (Mark w ∷ (ranges_told choice c ++ Install n ∷ []))
-whole DoNothing w n c = (tt, (tt, tt))
-whole (Move input) w n c = (tt, (tt, tt))
-whole (Merge input) w n c = (tt, (tt, tt))
-whole (Drop ids) w n c = (tt, (tt, (tt, tt)))
+-- where what a choice tells as dropped may be dropped
+module _ (May : List Range → Type 0) where
+  abbrev IsTold : Event → Type 0
+  IsTold = IsUpkeepOrDrop May
 
-lost : (choice : Choice) (w : ℕ) (c : Core) → AllByRecursion IsUpkeepOrDrop (Mark w ∷ ranges_told choice c)
-lost DoNothing w c = (tt, tt)
-lost (Move input) w c = (tt, tt)
-lost (Merge input) w c = (tt, tt)
-lost (Drop ids) w c = (tt, (tt, tt))
+  abbrev MayTell : Core → Choice → Type 0
+  MayTell c choice = AllByRecursion IsTold (ranges_told choice c)
 
-choice_adds : (choice : Choice) (w : ℕ) (r : Result Begun Error) (c : Core) (events : List Event) → TellsChoice choice w r c events → AllByRecursion IsUpkeepOrDrop events
-choice_adds choice w (Ok Installed) c events t = all_of IsUpkeepOrDrop events _ (t.done (inl refl)) (whole choice w c.seqno c)
-choice_adds choice w (Ok DidNothing) c events t = all_of IsUpkeepOrDrop events (Mark w ∷ []) (t.told (λ h. cc h)) (tt, tt)
-choice_adds choice w (Ok (Declined why)) c events t = all_of IsUpkeepOrDrop events (Mark w ∷ []) (t.told (λ h. cc h)) (tt, tt)
-choice_adds choice w (Ok (BegunJob job)) c events t = all_of IsUpkeepOrDrop events (Mark w ∷ []) (t.told (λ h. cc h)) (tt, tt)
-choice_adds choice w (Err AfterCommit) c events t = all_of IsUpkeepOrDrop events _ (t.done (inr refl)) (whole choice w c.seqno c)
-choice_adds choice w (Err CommitUnknown) c events t = all_of IsUpkeepOrDrop events _ (t.lost refl) (lost choice w c)
-choice_adds choice w (Err e) c events t = all_of IsUpkeepOrDrop events (Mark w ∷ []) (t.refused (λ h. cc h) (λ h. cc h)) (tt, tt)
+  choice_adds : (choice : Choice) (w : ℕ) (r : Result Begun Error) (c : Core) (events : List Event) → MayTell c choice → TellsChoice choice w r c events → AllByRecursion IsTold events
+  choice_adds choice w (Ok Installed) c events may t = all_of IsTold events _ (t.done (inl refl)) (tt, each_append IsTold (ranges_told choice c) (Install c.seqno ∷ []) may (tt, tt))
+  choice_adds choice w (Ok DidNothing) c events may t = all_of IsTold events (Mark w ∷ []) (t.told (λ h. cc h)) (tt, tt)
+  choice_adds choice w (Ok (Declined why)) c events may t = all_of IsTold events (Mark w ∷ []) (t.told (λ h. cc h)) (tt, tt)
+  choice_adds choice w (Ok (BegunJob job)) c events may t = all_of IsTold events (Mark w ∷ []) (t.told (λ h. cc h)) (tt, tt)
+  choice_adds choice w (Err AfterCommit) c events may t = all_of IsTold events _ (t.done (inr refl)) (tt, each_append IsTold (ranges_told choice c) (Install c.seqno ∷ []) may (tt, tt))
+  choice_adds choice w (Err CommitUnknown) c events may t = all_of IsTold events _ (t.lost refl) (tt, may)
+  choice_adds choice w (Err e) c events may t = all_of IsTold events (Mark w ∷ []) (t.refused (λ h. cc h) (λ h. cc h)) (tt, tt)
+
+  behind_adds : (begun r : Result Begun Error) (c : Core) (events : List Event) → TellsBehind begun r c events → AllByRecursion IsTold events
+  behind_adds (Ok (BegunJob job)) r c events (inl t) = all_of IsTold events (Install c.seqno ∷ []) t.1 (tt, tt)
+  behind_adds (Ok (BegunJob job)) r c events (inr t) = all_of IsTold events [] t.2 tt
+  behind_adds (Ok DidNothing) r c events t = all_of IsTold events [] t tt
+  behind_adds (Ok (Declined why)) r c events t = all_of IsTold events [] t tt
+  behind_adds (Ok Installed) r c events t = all_of IsTold events [] t tt
+  behind_adds (Err e) r c events t = all_of IsTold events [] t tt
+
+  begun_adds : (answer : Result Choice Error) (o : Options) (r : Result Begun Error) (events : List Event) (old new : Core) → IfOk answer (MayTell old) → BeginsAnswer answer o r events old new → AllByRecursion IsTold events
+  begun_adds (Ok choice) o r events old new may b = choice_adds choice o.mvcc_gc_watermark r old events may b.2
+  begun_adds (Err e) o r events old new may b = all_of IsTold events (Mark o.mvcc_gc_watermark ∷ []) b.1 (tt, tt)
+
+  compacted_adds : (answer : Result Choice Error) (o : Options) (r : Result Begun Error) (events : List Event) (old new : Core) → IfOk answer (MayTell old) → CompactsAnswer answer o r events old new → AllByRecursion IsTold events
+  compacted_adds (Ok choice) o r events old new may c =
+      all_of IsTold events (c.front ++ c.behind) c.told (each_append IsTold c.front c.behind (choice_adds choice o.mvcc_gc_watermark c.compacts.begun old c.front may c.begins) (behind_adds c.compacts.begun r c.compacts.mid c.behind c.follows))
+  compacted_adds (Err e) o r events old new may b = all_of IsTold events (Mark o.mvcc_gc_watermark ∷ []) b.1 (tt, tt)
+
+  module _ (may_choose : Relation Choice) (may_refuse : Relation ChooseError) where
+    answer_may : (c : Core) → ((choice : Choice) → MayAnswer may_choose c choice → MayTell c choice) → (answer : Result Choice Error) → IsAnswerOf may_choose may_refuse c answer → IfOk answer (MayTell c)
+    answer_may c may (Ok choice) is = may choice is.1
+    answer_may c may (Err e) is = tt
+
+    from_adds : (o : Options) (r : Reply) (events : List Event) (old new : Core) → ((choice : Choice) → MayAnswer may_choose old choice → MayTell old choice) → CompactsFrom may_choose may_refuse o r events old new → AllByRecursion IsTold events
+    from_adds o r events old new may c = compacted_adds c.answer o c.does.done events old new (answer_may old may c.answer c.answered) c.does.compacts
+
+-- a strategy of the caller's may drop any tables
+any_told : (c : Core) (choice : Choice) → MayTell AnyRanges c choice
+any_told c DoNothing = tt
+any_told c (Move input) = tt
+any_told c (Merge input) = tt
+any_told c (Drop ids) = (tt, tt)
+
+any_begun : (c : Core) (answer : Result Choice Error) → IfOk answer (MayTell AnyRanges c)
+any_begun c (Ok choice) = any_told c choice
+any_begun c (Err e) = tt
+
+compact_adds : (strategies : Strategies) (at : ℕ) (o : Options) (r : Reply) (events : List Event) (old new : Core) → TakesCompact strategies at o r events old new → AllByRecursion (IsUpkeepOrDrop AnyRanges) events
+compact_adds strategies at o reply.NoStrategy events old new t = all_of (IsUpkeepOrDrop AnyRanges) events [] t.0 tt
+compact_adds strategies at o r events old new t = from_adds AnyRanges (strategies.may_choose at) (strategies.may_refuse at) o r events old new (λ choice may. any_told old choice) t.1
+
+-- a merge of all tables drops none
+none_told : (target : ℕ) (c : Core) (choice : Choice) → MayAnswer (major_choice target) c choice → MayTell NoRanges c choice
+none_told target c DoNothing may = tt
+none_told target c (Move input) may = tt
+none_told target c (Merge input) may = tt
+none_told target c (Drop ids) may = absurd (no_ids (is_any_hidden may.0 (lists.all_of (levels_of c))) may.2)
+  where
+    no_ids : (hidden : Bool) → MatchBool hidden (IsNothing (Drop ids)) (IsMerge (Drop ids) (lists.all_of (levels_of c)) 6 6 target) → ⊥
+    no_ids true h = h
+    no_ids false h = h
+
+major_adds : (target w : ℕ) (r : Reply) (events : List Event) (old new : Core) → TakesMajor target w r events old new → AllByRecursion IsUpkeep events
+major_adds target w r events old new t = from_adds NoRanges (major_choice target) only_memory (options_at w old) r events old new (none_told target old) t
+
+-- a drop of a range only those within it
+within_told : (bounds : OwnedBounds) (c : Core) → HasOwnIds (lists.all_of (levels_of c)) → (choice : Choice) → MayAnswer (drop_choice bounds) c choice → MayTell (RangesWithin bounds.start bounds.end) c choice
+within_told bounds c own DoNothing may = tt
+within_told bounds c own (Move input) may = tt
+within_told bounds c own (Merge input) may = tt
+within_told bounds c own (Drop ids) may = (drop_within bounds ids.keys (levels_of c) own (chosen (is_any_hidden may.0 (bounded bounds (levels_of c))) may.2), tt)
+  where
+    chosen : (hidden : Bool) → MatchBool hidden (IsNothing (Drop ids)) (IsDrop (Drop ids) (bounded bounds (levels_of c))) → AreIdsOf ids.keys (bounded bounds (levels_of c))
+    chosen true h = absurd h
+    chosen false h = h
+
+range_adds : (bounds : OwnedBounds) (r : Reply) (events : List Event) (old new : Core) → TakesDropRange bounds r events old new → AllByRecursion (IsUpkeepOrDrop (RangesWithin bounds.start bounds.end)) events
+range_adds bounds r events old new (inl t) = all_of (IsUpkeepOrDrop (RangesWithin bounds.start bounds.end)) events [] t.3 tt
+range_adds bounds r events old new (inr t) = from_adds (RangesWithin bounds.start bounds.end) (drop_choice bounds) only_memory (options_at 0 old) r events old new (within_told bounds old t.2) t.1
+
+begin_compaction_adds : (strategies : Strategies) (at : ℕ) (o : Options) (r : Reply) (events : List Event) (was is : Option Job) (old new : Core) → TakesBeginCompaction strategies at o r events was is old new → AllByRecursion (IsUpkeepOrDrop AnyRanges) events
+begin_compaction_adds strategies at o reply.SlotInUse events was is old new t = all_of (IsUpkeepOrDrop AnyRanges) events [] t.0.0 tt
+begin_compaction_adds strategies at o reply.NoStrategy events was is old new t = all_of (IsUpkeepOrDrop AnyRanges) events [] t.0.0 tt
+begin_compaction_adds strategies at o r events was is old new t = begun_adds AnyRanges t.answer o t.begun events old new (any_begun old t.answer) t.begins
+
+run_compaction_adds : (r : Reply) (events : List Event) (was is : Option Job) (old new : Core) → TakesRunCompaction r events was is old new → events ≡ []
+run_compaction_adds reply.Done events was is old new t = t.0
+run_compaction_adds (reply.Refused x) events was is old new t = t.0.0
+run_compaction_adds reply.NoJob events was is old new t = t.0.0
+run_compaction_adds r events was is old new t = absurd t
 
 merge_adds : (r : Result Finished Error) (c : Core) (events : List Event) → TellsMerge r c events → AllByRecursion IsUpkeep events
 merge_adds (Ok IsFinished) c events t = all_of IsUpkeep events (Install c.seqno ∷ []) (t.done (inl refl)) (tt, tt)
@@ -185,45 +272,6 @@ merge_adds (Ok (Over why)) c events t = all_of IsUpkeep events [] (t.told (λ h.
 merge_adds (Err AfterCommit) c events t = all_of IsUpkeep events (Install c.seqno ∷ []) (t.done (inr refl)) (tt, tt)
 merge_adds (Err CommitUnknown) c events t = all_of IsUpkeep events [] (t.lost refl) tt
 merge_adds (Err e) c events t = all_of IsUpkeep events [] (t.refused (λ h. cc h) (λ h. cc h)) tt
-
-behind_adds : (begun r : Result Begun Error) (c : Core) (events : List Event) → TellsBehind begun r c events → AllByRecursion IsUpkeepOrDrop events
-behind_adds (Ok (BegunJob job)) r c events (inl t) = all_of IsUpkeepOrDrop events (Install c.seqno ∷ []) t.1 (tt, tt)
-behind_adds (Ok (BegunJob job)) r c events (inr t) = all_of IsUpkeepOrDrop events [] t.2 tt
-behind_adds (Ok DidNothing) r c events t = all_of IsUpkeepOrDrop events [] t tt
-behind_adds (Ok (Declined why)) r c events t = all_of IsUpkeepOrDrop events [] t tt
-behind_adds (Ok Installed) r c events t = all_of IsUpkeepOrDrop events [] t tt
-behind_adds (Err e) r c events t = all_of IsUpkeepOrDrop events [] t tt
-
-begun_adds : (answer : Result Choice Error) (o : Options) (r : Result Begun Error) (events : List Event) (old new : Core) → BeginsAnswer answer o r events old new → AllByRecursion IsUpkeepOrDrop events
-begun_adds (Ok choice) o r events old new b = choice_adds choice o.mvcc_gc_watermark r old events b.2
-begun_adds (Err e) o r events old new b = all_of IsUpkeepOrDrop events (Mark o.mvcc_gc_watermark ∷ []) b.1 (tt, tt)
-
-compacted_adds : (answer : Result Choice Error) (o : Options) (r : Result Begun Error) (events : List Event) (old new : Core) → CompactsAnswer answer o r events old new → AllByRecursion IsUpkeepOrDrop events
-compacted_adds (Ok choice) o r events old new c =
-    all_of IsUpkeepOrDrop events (c.front ++ c.behind) c.told (each_append IsUpkeepOrDrop c.front c.behind (choice_adds choice o.mvcc_gc_watermark c.compacts.begun old c.front c.begins) (behind_adds c.compacts.begun r c.compacts.mid c.behind c.follows))
-compacted_adds (Err e) o r events old new b = all_of IsUpkeepOrDrop events (Mark o.mvcc_gc_watermark ∷ []) b.1 (tt, tt)
-
-from_adds : (may_choose : Relation Choice) (may_refuse : Relation ChooseError) (o : Options) (r : Reply) (events : List Event) (old new : Core) → CompactsFrom may_choose may_refuse o r events old new → AllByRecursion IsUpkeepOrDrop events
-from_adds may_choose may_refuse o r events old new c = compacted_adds c.answer o c.does.done events old new c.does.compacts
-
-compact_adds : (strategies : Strategies) (at : ℕ) (o : Options) (r : Reply) (events : List Event) (old new : Core) → TakesCompact strategies at o r events old new → AllByRecursion IsUpkeepOrDrop events
-compact_adds strategies at o reply.NoStrategy events old new t = all_of IsUpkeepOrDrop events [] t.0 tt
-compact_adds strategies at o r events old new t = from_adds (strategies.may_choose at) (strategies.may_refuse at) o r events old new t.1
-
-range_adds : (bounds : _) (r : Reply) (events : List Event) (old new : Core) → TakesDropRange bounds r events old new → AllByRecursion IsUpkeepOrDrop events
-range_adds bounds r events old new (inl t) = all_of IsUpkeepOrDrop events [] t.3 tt
-range_adds bounds r events old new (inr t) = from_adds _ _ _ r events old new t.1
-
-begin_compaction_adds : (strategies : Strategies) (at : ℕ) (o : Options) (r : Reply) (events : List Event) (was is : Option Job) (old new : Core) → TakesBeginCompaction strategies at o r events was is old new → AllByRecursion IsUpkeepOrDrop events
-begin_compaction_adds strategies at o reply.SlotInUse events was is old new t = all_of IsUpkeepOrDrop events [] t.0.0 tt
-begin_compaction_adds strategies at o reply.NoStrategy events was is old new t = all_of IsUpkeepOrDrop events [] t.0.0 tt
-begin_compaction_adds strategies at o r events was is old new t = begun_adds t.answer o t.begun events old new t.begins
-
-run_compaction_adds : (r : Reply) (events : List Event) (was is : Option Job) (old new : Core) → TakesRunCompaction r events was is old new → events ≡ []
-run_compaction_adds reply.Done events was is old new t = t.0
-run_compaction_adds (reply.Refused x) events was is old new t = t.0.0
-run_compaction_adds reply.NoJob events was is old new t = t.0.0
-run_compaction_adds r events was is old new t = absurd t
 
 finish_adds : (r : Reply) (events : List Event) (was is : Option Job) (old new : Core) → TakesFinish r events was is old new → AllByRecursion IsUpkeep events
 finish_adds reply.NoJob events was is old new t = all_of IsUpkeep events [] t.0.0 tt
@@ -272,7 +320,7 @@ alone_adds strategies (step.Flush w) r events old new t = flush_adds w r events 
 alone_adds strategies (step.FlushActiveMemtable w) r events old new t = active_adds w r events old new t
 alone_adds strategies (step.Compact at w) r events old new t = compact_adds strategies at _ r events old new t
 alone_adds strategies (step.DoCompaction at o) r events old new t = compact_adds strategies at o r events old new t
-alone_adds strategies (step.MajorCompact target w) r events old new t = from_adds _ _ _ r events old new t
+alone_adds strategies (step.MajorCompact target w) r events old new t = major_adds target w r events old new t
 alone_adds strategies (step.DropRange low high) r events old new t = range_adds _ r events old new t
 alone_adds strategies step.Clear r events old new t = clear_adds r events old new t
 alone_adds strategies step.ClearActiveMemtable r events old new t = forget_adds r events old new t

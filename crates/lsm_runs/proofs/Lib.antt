@@ -16,6 +16,7 @@ pub mod Replays
 pub mod Unknown
 pub mod Spared
 pub mod After
+pub mod Dropping
 pub mod Adds
 pub mod Small
 mod Counting

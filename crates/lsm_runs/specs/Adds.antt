@@ -1,10 +1,13 @@
 -- What a step may add to the journal, by its kind and its reply alone.
-use Rattle.std.specs.Prelude.{◌≡◌, ℕ, List, [], ◌∷◌, map}
+use Rattle.std.specs.Prelude.{◌≡◌, ℕ, true, ◌&&◌, List, [], ◌∷◌, map}
 use Rattle.std.specs.List.{AllByRecursion}
+use Rattle.std.specs.declared.ops.Bound.{Bound}
 use Rattle.std.specs.declared.ops.Bound.TheVariants.{Unbounded}
 use Rattle.lsm_below.specs.Keys.{Bytes}
+use Rattle.lsm_below.specs.Ranges.{Range as Keys}
 use Rattle.lsm_below.specs.Entries.{Entry, plain}
-use Rattle.lsm_model.specs.Journal.{Event}
+use Rattle.lsm_below.specs.Lookups.{is_from, is_to}
+use Rattle.lsm_model.specs.Journal.{Event, in_any}
 use Rattle.lsm_model.specs.Ops.{op_entry, op_entries}
 use Rattle.lsm_model.specs.declared.op.Op.{Op}
 use Rattle.lsm_model.specs.declared.op.Op.TheVariants.{Set as SetTo, Del, Weak}
@@ -46,32 +49,39 @@ abbrev pub AddsClear : Reply → List Event → Type 0
 AddsClear (Cleared n) events = events ≡ DidClear n ∷ []
 AddsClear reply events = events ≡ []
 
--- a mark or an install, and beside them the ranges of a drop
-abbrev pub IsUpkeep : Event → Type 0
-IsUpkeep (Mark w) = Unit {0}
-IsUpkeep (Install n) = Unit {0}
-IsUpkeep (Wrote e) = ⊥
-IsUpkeep (DidClear n) = ⊥
-IsUpkeep (Dropped ranges n) = ⊥
-IsUpkeep (Read s question told) = ⊥
+-- which ranges may be dropped: any, none, or those of which each key is at or after the start of bounds, and at or before their end
+abbrev pub AnyRanges : List Keys → Type 0
+AnyRanges ranges = Unit {0}
 
-abbrev pub IsUpkeepOrDrop : Event → Type 0
-IsUpkeepOrDrop (Mark w) = Unit {0}
-IsUpkeepOrDrop (Install n) = Unit {0}
-IsUpkeepOrDrop (Dropped ranges n) = Unit {0}
-IsUpkeepOrDrop (Wrote e) = ⊥
-IsUpkeepOrDrop (DidClear n) = ⊥
-IsUpkeepOrDrop (Read s question told) = ⊥
+abbrev pub NoRanges : List Keys → Type 0
+NoRanges ranges = ⊥
+
+abbrev pub RangesWithin : Bound Bytes → Bound Bytes → List Keys → Type 0
+RangesWithin low high ranges = (k : Bytes) → in_any k ranges ≡ true → is_from low k && is_to high k ≡ true
+
+-- a mark or an install, and beside them a drop of ranges that may be dropped
+abbrev pub IsUpkeepOrDrop : (List Keys → Type 0) → Event → Type 0
+IsUpkeepOrDrop May (Mark w) = Unit {0}
+IsUpkeepOrDrop May (Install n) = Unit {0}
+IsUpkeepOrDrop May (Dropped ranges n) = May ranges
+IsUpkeepOrDrop May (Wrote e) = ⊥
+IsUpkeepOrDrop May (DidClear n) = ⊥
+IsUpkeepOrDrop May (Read s question told) = ⊥
+
+-- nothing is dropped
+abbrev pub IsUpkeep : Event → Type 0
+IsUpkeep = IsUpkeepOrDrop NoRanges
 
 -- ---- by steps
 
 abbrev pub JobAdds : JobStep → List Event → Type 0
 JobAdds RegisterTables events = AllByRecursion IsUpkeep events
-JobAdds (BeginCompaction at o) events = AllByRecursion IsUpkeepOrDrop events
+JobAdds (BeginCompaction at o) events = AllByRecursion (IsUpkeepOrDrop AnyRanges) events
 JobAdds FinishCompaction events = AllByRecursion IsUpkeep events
 JobAdds step events = events ≡ []
 
--- all other steps add nothing
+-- a strategy of the caller's may drop any tables, a merge of all tables drops none, and a drop of a range only tables within it; all
+-- steps that aren't named add nothing
 abbrev pub Adds : Step → Reply → List Event → Type 0
 Adds (Insert k v n) reply events = AddsEntry (op_entry k n (SetTo v)) reply events
 Adds (Remove k n) reply events = AddsEntry (op_entry k n Del) reply events
@@ -85,10 +95,10 @@ Adds (Prefix p s) reply events = AddsPairs (AskPrefix p) s reply events
 Adds Clear reply events = AddsClear reply events
 Adds (Flush w) reply events = AllByRecursion IsUpkeep events
 Adds (FlushActiveMemtable w) reply events = AllByRecursion IsUpkeep events
-Adds (Compact at w) reply events = AllByRecursion IsUpkeepOrDrop events
-Adds (DoCompaction at o) reply events = AllByRecursion IsUpkeepOrDrop events
-Adds (MajorCompact target w) reply events = AllByRecursion IsUpkeepOrDrop events
-Adds (DropRange low high) reply events = AllByRecursion IsUpkeepOrDrop events
+Adds (Compact at w) reply events = AllByRecursion (IsUpkeepOrDrop AnyRanges) events
+Adds (DoCompaction at o) reply events = AllByRecursion (IsUpkeepOrDrop AnyRanges) events
+Adds (MajorCompact target w) reply events = AllByRecursion IsUpkeep events
+Adds (DropRange low high) reply events = AllByRecursion (IsUpkeepOrDrop (RangesWithin low high)) events
 Adds (AtSlot slot step) reply events = JobAdds step events
 Adds step reply events = events ≡ []
 

@@ -5,6 +5,7 @@ use Rattle.lsm_below.specs.declared.error.Error.TheVariants.{OutOfMemory, OutOfN
 use Rattle.lsm_model.specs.Journal.{Event}
 use Rattle.lsm_compaction.specs.Merges.{SeenCompaction, SeenCompacted, AreFilesOf}
 use Rattle.lsm_compaction.specs.OpenMerges.{hides}
+use Rattle.lsm_versions.specs.Levels.{all_of, HasOwnIds}
 use Rattle.lsm_pick.specs.declared.bounds.OwnedBounds.{OwnedBounds}
 use Rattle.lsm_pick.specs.declared.choice.Choice.{Choice}
 use Rattle.lsm_pick.specs.declared.choice.ChooseError.{ChooseError}
@@ -16,7 +17,7 @@ use Rattle.lsm_state.specs.declared.compaction.Finished.{Finished}
 use Rattle.lsm_state.specs.Core.{Core}
 use Rattle.lsm_state.specs.Deeds.{IsNoDeed}
 use Rattle.lsm_state.specs.Flushes.{with_next_table}
-use Rattle.lsm_state.specs.Compactions.{Relation, Spends}
+use Rattle.lsm_state.specs.Compactions.{Relation, Spends, levels_of}
 use Rattle.lsm_state.specs.WholeCompactions.{options_at, only_memory, major_choice, drop_choice}
 use Rattle.lsm_journal.specs.Noted.{IsAnswerOf, BeginsAnswer, EndsNoted, CompactsAnswer}
 use Rattle.lsm_runs.specs.declared.slots.Job.{Job}
@@ -144,11 +145,12 @@ TakesCompact strategies at o reply events old new = (at < strategies.count) × C
 abbrev pub TakesMajor : ℕ → ℕ → Reply → List Event → Core → Core → Type 0
 TakesMajor target w reply events old new = CompactsFrom (major_choice target) only_memory (options_at w old) reply events old new
 
--- tables within bounds are dropped: nothing is done where these are reversed, unless a commit of unknown outcome came before
+-- tables within bounds are dropped, where no id stands twice: nothing is done where the bounds are reversed, unless a commit of unknown
+-- outcome came before
 abbrev pub TakesDropRange : OwnedBounds → Reply → List Event → Core → Core → Type 0
 TakesDropRange bounds reply events old new =
     ((old.lost ≡ None) × (are_reversed bounds ≡ true) × (reply ≡ Compacted NothingDone) × (events ≡ []) × (new ≡ old))
-    ⊎ ((IsSome old.lost ⊎ (are_reversed bounds ≡ false)) × CompactsFrom (drop_choice bounds) only_memory (options_at 0 old) reply events old new)
+    ⊎ ((IsSome old.lost ⊎ (are_reversed bounds ≡ false)) × CompactsFrom (drop_choice bounds) only_memory (options_at 0 old) reply events old new × HasOwnIds (all_of (levels_of old)))
 
 -- an id for a table is drawn: refused exactly where the next one is 2^63 or more
 abbrev pub TakesTableId : Reply → List Event → Core → Core → Type 0

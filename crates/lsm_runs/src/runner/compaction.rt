@@ -1,5 +1,7 @@
 // The calls of a compaction, as steps.
 ghost use Rattle.std.specs.Prelude.{◌≡◌, IfOk, OnErr, IsSome};
+ghost use Rattle.lsm_versions.specs.Levels.{all_of, HasOwnIds};
+ghost use Rattle.lsm_state.specs.Compactions.{levels_of};
 ghost use Rattle.lsm_state.specs.WholeCompactions.{options_at};
 ghost use Rattle.lsm_journal.specs.Noted.{IsAnswerOf, noted_of};
 ghost use Rattle.lsm_runs.specs.Compacting.{strategies_of, reply_of, job_of, end_reply_of, TakesBeginCompaction, TakesRunCompaction, TakesFinish, TakesAbandonCompaction, DoesAnswer, CompactsFrom, TakesCompact, TakesMajor, TakesDropRange, TakesTableId, IsCompactingReply};
@@ -259,6 +261,13 @@ pub(super) fn major_compact<S: Store>(
     compact_with(alloc, state, &Major::new(target), watermark)
 }
 
+/// In the latest version of a tree no id stands twice.
+fn tables_have_own_ids<S: Store>(state: &TreeState<S>)
+    ensures { HasOwnIds (all_of (levels_of state.now.core)) }
+{
+    state.facts();
+}
+
 pub(super) fn drop_range<S: Store>(
     alloc: Global,
     state: &mut TreeState<S>,
@@ -276,6 +285,7 @@ pub(super) fn drop_range<S: Store>(
         start: copy_bound(low)?,
         end: copy_bound(high)?,
     };
+    tables_have_own_ids(state);
     if drops_nothing(state, &bounds) {
         return Ok(silent(alloc, Reply::Compacted(Compacted::DidNothing)));
     }

@@ -1,5 +1,6 @@
 use Rattle.std.proofs.Common.{refl}
-use Rattle.lsm_logged.proofs.Compacted.{choice_outcome, answered_acts, unsure_acts}
+use Rattle.lsm_logged.specs.Acting.{IsCompaction}
+use Rattle.lsm_logged.proofs.Compacted.{any_allowed, choice_outcome, answered_acts, unsure_acts}
 use Rattle.lsm_logged.proofs.Reopening.{numbered_more}
 use Rattle.lsm_logged.proofs.Rising.{begins_choice}
 use Rattle.lsm_logged.proofs.Seen.{logged_with}
@@ -26,4 +27,4 @@ returns-clause-acts g c tells =
     let old = logged_with i.tree i.numbers.items i.doubted in
     let new = logged_with mid i.numbers.items i.doubted in
     answered_acts c.args.options.mvcc_gc_watermark g.S.Store.world old c.args.self.now new c.self.view_is known.tree known.counter known.numbers c.if-self.false refl (c.begin_choice.ensures.upholds tells) c.begin_choice.result
-    (λ kept. choice_outcome c.args.choice c.args.options c.begin_choice.result old.core mid.core c.begin_choice.ensures.begins (known.compactions.choices c.args.choice c.args.options c.begin_choice.result old.core mid.core kept c.begin_choice.ensures.begins))
+    (λ kept. choice_outcome (IsCompaction c.args.options.mvcc_gc_watermark) c.args.choice c.args.options (any_allowed c.args.options.mvcc_gc_watermark c.args.choice) c.begin_choice.result old.core mid.core c.begin_choice.ensures.begins (known.compactions.choices c.args.choice c.args.options c.begin_choice.result old.core mid.core kept c.begin_choice.ensures.begins))

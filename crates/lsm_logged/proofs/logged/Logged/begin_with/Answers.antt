@@ -1,5 +1,6 @@
 use Rattle.std.proofs.Common.{refl}
-use Rattle.lsm_logged.proofs.Compacted.{begun_outcome, answered_acts, unsure_acts}
+use Rattle.lsm_logged.specs.Acting.{IsCompaction}
+use Rattle.lsm_logged.proofs.Compacted.{any_allowed, begun_outcome, answered_acts, unsure_acts}
 use Rattle.lsm_logged.proofs.Reopening.{numbered_more}
 use Rattle.lsm_logged.proofs.Seen.{logged_with, leaves_seen}
 use Rattle.lsm_logged.proofs.Rising.{begins_compaction}
@@ -31,4 +32,4 @@ returns-clause-acts g c tells =
     let old = logged_with i.tree i.numbers.items i.doubted in
     let new = logged_with mid i.numbers.items i.doubted in
     answered_acts c.args.options.mvcc_gc_watermark g.S.Store.world old c.args.self.now new c.self.view_is known.tree known.counter known.numbers c.if-self.false refl (c.begin_with.ensures.upholds tells) c.begin_with.result
-    (λ kept. begun_outcome _ _ c.args.options c.begin_with.result old.core mid.core known.compactions kept (known.flushes.spends c.args.options.mvcc_gc_watermark 0 old.core kept) c.begin_with.ensures.begins)
+    (λ kept. begun_outcome (IsCompaction c.args.options.mvcc_gc_watermark) _ _ c.args.options c.begin_with.result old.core mid.core (λ choice may. any_allowed c.args.options.mvcc_gc_watermark choice) known.compactions kept (known.flushes.spends c.args.options.mvcc_gc_watermark 0 old.core kept) c.begin_with.ensures.begins)

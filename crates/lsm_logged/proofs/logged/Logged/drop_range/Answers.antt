@@ -2,9 +2,10 @@ use Rattle.std.proofs.Common.{◌≡◌, Ok, subst, refl}
 use Rattle.lsm_state.specs.declared.compaction.Begun.TheVariants.{Installed}
 use Rattle.lsm_state.specs.Compactions.{LeavesNoneChosen}
 use Rattle.lsm_state.specs.WholeCompactions.{drop_choice}
+use Rattle.lsm_logged.specs.Acting.{DropsWithin}
 use Rattle.lsm_logged.specs.Keeping.{SeenLogged}
-use Rattle.lsm_logged.proofs.Compacted.{answered_acts, unsure_acts}
-use Rattle.lsm_logged.proofs.WholeActs.{drops_outcome}
+use Rattle.lsm_logged.proofs.Compacted.{answers_act, unsure_acts}
+use Rattle.lsm_logged.proofs.WholeActs.{dropping_only, drops_outcome}
 use Rattle.lsm_logged.proofs.Reopening.{numbered_more}
 use Rattle.lsm_logged.proofs.Rising.{drops_range}
 use Rattle.lsm_logged.proofs.Seen.{logged_with}
@@ -36,5 +37,5 @@ returns-clause-acts g c tells =
     let known = c.acts_are_known.ensures in
     let old = logged_with i.tree i.numbers.items i.doubted in
     let new = logged_with mid i.numbers.items i.doubted in
-    answered_acts 0 g.S.Store.world old c.args.self.now new c.self.view_is known.tree known.counter known.numbers c.if-self.false refl (c.drop_range.ensures.upholds tells) c.drop_range.result
+    answers_act (DropsWithin c.args.bounds) 0 (dropping_only c.args.bounds) g.S.Store.world old c.args.self.now new c.self.view_is known.tree known.counter known.numbers c.if-self.false refl (c.drop_range.ensures.upholds tells) c.drop_range.result
     (λ kept. drops_outcome c.args.bounds c.drop_range.result old.core mid.core known.compactions kept (known.flushes.spends 0 0 old.core kept) c.drop_range.ensures.drops)

@@ -2,9 +2,10 @@ use Rattle.std.proofs.Common.{◌≡◌, Ok, subst, refl}
 use Rattle.lsm_state.specs.declared.compaction.Begun.TheVariants.{Installed}
 use Rattle.lsm_state.specs.Compactions.{LeavesNoneChosen}
 use Rattle.lsm_state.specs.WholeCompactions.{major_choice, only_memory, options_at}
+use Rattle.lsm_logged.specs.Acting.{IsMerging}
 use Rattle.lsm_logged.specs.Keeping.{SeenLogged}
-use Rattle.lsm_logged.proofs.Compacted.{answered_acts, unsure_acts}
-use Rattle.lsm_logged.proofs.WholeActs.{compacts_outcome}
+use Rattle.lsm_logged.proofs.Compacted.{answers_act, unsure_acts}
+use Rattle.lsm_logged.proofs.WholeActs.{merging_only, major_outcome}
 use Rattle.lsm_logged.proofs.Reopening.{numbered_more}
 use Rattle.lsm_logged.proofs.Rising.{compacts}
 use Rattle.lsm_logged.proofs.Seen.{logged_with}
@@ -36,5 +37,5 @@ returns-clause-acts g c tells =
     let known = c.acts_are_known.ensures in
     let old = logged_with i.tree i.numbers.items i.doubted in
     let new = logged_with mid i.numbers.items i.doubted in
-    answered_acts c.args.watermark g.S.Store.world old c.args.self.now new c.self.view_is known.tree known.counter known.numbers c.if-self.false refl (c.major_compact.ensures.upholds tells) c.major_compact.result
-    (λ kept. compacts_outcome _ _ (options_at c.args.watermark old.core) c.major_compact.result old.core mid.core known.compactions kept (known.flushes.spends c.args.watermark 0 old.core kept) c.major_compact.ensures.compacts)
+    answers_act (λ core. IsMerging c.args.watermark) c.args.watermark (λ core. merging_only c.args.watermark) g.S.Store.world old c.args.self.now new c.self.view_is known.tree known.counter known.numbers c.if-self.false refl (c.major_compact.ensures.upholds tells) c.major_compact.result
+    (λ kept. major_outcome c.args.target c.args.watermark c.major_compact.result old.core mid.core known.compactions kept (known.flushes.spends c.args.watermark 0 old.core kept) c.major_compact.ensures.compacts)
