@@ -1,6 +1,9 @@
 -- What a rotation, a flush behind it, and a compaction lead to.
 use Rattle.std.proofs.Common.{◌≡◌, ⊎_elim, inl, inr, ℕ, true, List, [], ◌∷◌, ◌++◌, append-nil, Option, Some, None, Result, Ok, Err, refl, sym, ap, subst}
+use Rattle.std.specs.declared.ops.Bound.{Bound}
 use Rattle.lsm_below.specs.Entries.{Entry}
+use Rattle.lsm_below.specs.Keys.{Bytes}
+use Rattle.lsm_below.specs.Ranges.{Range}
 use Rattle.lsm_below.specs.declared.error.Error.{Error}
 use Rattle.lsm_below.specs.declared.error.Error.TheVariants.{CommitUnknown, AfterCommit}
 use Rattle.lsm_store.specs.World.{World, LeavesOnly}
@@ -14,12 +17,16 @@ use Rattle.lsm_log_model.specs.Logs.{IsCertain, Act, Did, CommitLost}
 use Rattle.lsm_log_model.specs.Records.{LogImage, logged, opened_by}
 use Rattle.lsm_runs.specs.declared.steps.Reply.{Reply}
 use Rattle.lsm_runs.specs.declared.steps.Reply.TheVariants.{Sealed, Flushed as FlushedReply, FlushedActive, RefusedActive, NoStrategy, SlotInUse, Refused}
+use Rattle.lsm_pick.specs.declared.bounds.OwnedBounds.{OwnedBounds}
+use Rattle.lsm_runs.specs.Adds.{AnyRanges, NoRanges, RangesWithin}
 use Rattle.lsm_runs.specs.Compacting.{reply_of}
+use Rattle.lsm_runs.proofs.Dropping.{drop_within}
 use Rattle.lsm_runs.proofs.Resting.{Rests, rotated}
+use Rattle.lsm_state.specs.Compactions.{levels_of}
 use Rattle.lsm_state.specs.Core.{Core, state_of, versions_left}
 use Rattle.lsm_state.specs.declared.compaction.Begun.{Begun}
 use Rattle.lsm_state.specs.declared.compaction.Begun.TheVariants.{DidNothing, Declined, Installed, Job}
-use Rattle.lsm_logged.specs.Acting.{LeadsBy, LeadsByCommit, LeadsByLost, LeadsByMark, ActsByCompaction, CompactsAct, IsCompaction, told_by, told_installed}
+use Rattle.lsm_logged.specs.Acting.{LeadsBy, LeadsByCommit, LeadsByLost, LeadsByMark, IsCompaction, IsMerging, DropsWithin, told_by, told_installed, ActsByCompaction, CompactsBy}
 use Rattle.lsm_logged.specs.Keeping.{SeenLogged}
 use Rattle.lsm_log_runs.specs.Adds.{AddsRotation, AddsFlush, AddsFlushActive, IsDrop, AddsInstalled, AddsCompaction}
 use Rattle.lsm_log_runs.specs.Doing.{ActsRotate, ActsFlush, ActsBehind, ActsFlushActive, ActsCompaction, ActsCompact}
@@ -150,35 +157,35 @@ module _ {S : Type 0} (world : S → World) (reading : Reading) (between : Store
   abbrev Leads : (LogPast → Type 0) → Type 0
   Leads = LeadsOn world reading between image past old new s stored
 
-  is_drop : (action : Action) (c : Core) → IsDrop (told_by action c)
-  is_drop (DroppedTables ids) c = tt
-  is_drop other c = tt
-
   steady : (watermark : ℕ) (action : Action) → IsCompaction watermark action → is_steady action ≡ true
   steady watermark (Merged w d ids evict made) is = refl
   steady watermark (Moved d ids moved) is = refl
   steady watermark (DroppedTables ids) is = refl
   steady watermark other is = absurd is
 
-  stood : (watermark : ℕ) (action : Action) → IsCompaction watermark action → LeadsByCommit watermark action (told_installed action old.core) [] opened_on past.journal past.notes s.log (world old.store) (world new.store) old new → Leads (AddsInstalled watermark past)
-  stood watermark action is l =
-      let drop = told_by action old.core in
-      let acts : List Act = Did (Marked watermark) ∷ (Did action ∷ (Did (Maintained watermark) ∷ [])) in (
-        with_commit watermark (told_installed action old.core) past,
-        (drop, old.core.seqno, is_drop action old.core, refl),
-        quietly world reading between image past old new s stored rest (with_commit watermark (told_installed action old.core) past) acts (tt, (tt, (tt, tt))) (refl, (steady watermark action is, tt)) l refl refl
-            (order_dropping opened_on past.journal s.came.order watermark old.core.seqno drop (is_drop action old.core) (fresh world reading between image past old new s stored))
-            (λ known. answered opened_on s.log acts l.log (tt, (tt, (tt, tt))) l.done (s.came.certain known)),
-      )
+  -- an action that is a compaction, and tells ranges that may be dropped
+  module _ (Ranges : List Range → Type 0) where
+    stood : (watermark : ℕ) (action : Action) → IsCompaction watermark action → IsDrop Ranges (told_by action old.core) → LeadsByCommit watermark action (told_installed action old.core) [] opened_on past.journal past.notes s.log (world old.store) (world new.store) old new
+        → Leads (AddsInstalled Ranges watermark past)
+    stood watermark action is tells l =
+        let drop = told_by action old.core in
+        let acts : List Act = Did (Marked watermark) ∷ (Did action ∷ (Did (Maintained watermark) ∷ [])) in (
+          with_commit watermark (told_installed action old.core) past,
+          (drop, old.core.seqno, tells, refl),
+          quietly world reading between image past old new s stored rest (with_commit watermark (told_installed action old.core) past) acts (tt, (tt, (tt, tt))) (refl, (steady watermark action is, tt)) l refl refl
+              (order_dropping opened_on past.journal s.came.order Ranges watermark old.core.seqno drop tells (fresh world reading between image past old new s stored))
+              (λ known. answered opened_on s.log acts l.log (tt, (tt, (tt, tt))) l.done (s.came.certain known)),
+        )
 
-  in_doubt : (watermark : ℕ) (action : Action) → LeadsByLost watermark action (told_by action old.core) opened_on past.journal past.notes s.log (world old.store) (world new.store) old new → Leads (AddsCompaction watermark (Refused CommitUnknown) past)
-  in_doubt watermark action l =
-      let drop = told_by action old.core in (
-        with_doubt watermark drop past,
-        (drop, is_drop action old.core, refl),
-        quietly world reading between image past old new s stored rest (with_doubt watermark drop past) (Did (Marked watermark) ∷ (CommitLost action l.0 ∷ [])) (tt, (tt, tt)) (refl, tt) l.1 refl refl
-            (order_lost opened_on past.journal s.came.order watermark drop (is_drop action old.core)) (λ known. absurd (cc known)),
-      )
+    in_doubt : (watermark : ℕ) (action : Action) → IsDrop Ranges (told_by action old.core) → LeadsByLost watermark action (told_by action old.core) opened_on past.journal past.notes s.log (world old.store) (world new.store) old new
+        → Leads (AddsCompaction Ranges watermark (Refused CommitUnknown) past)
+    in_doubt watermark action tells l =
+        let drop = told_by action old.core in (
+          with_doubt watermark drop past,
+          (drop, tells, refl),
+          quietly world reading between image past old new s stored rest (with_doubt watermark drop past) (Did (Marked watermark) ∷ (CommitLost action l.0 ∷ [])) (tt, (tt, tt)) (refl, tt) l.1 refl refl
+              (order_lost opened_on past.journal s.came.order Ranges watermark drop tells) (λ known. absurd (cc known)),
+        )
 
   marked : (watermark : ℕ) → LeadsByMark watermark (world old.store) (world new.store) old new opened_on past.journal past.notes s.log → Leads (λ next. next ≡ with_commit watermark [] past)
   marked watermark l =
@@ -189,22 +196,46 @@ module _ {S : Type 0} (world : S → World) (reading : Reading) (between : Store
             (λ known. answered opened_on s.log acts l.log (tt, tt) l.done (s.came.certain known)),
       )
 
-  by_begun : (watermark : ℕ) (begun : Result Begun Error) → CompactsAct watermark begun (world old.store) (world new.store) old new → Leads (AddsCompaction watermark (reply_of begun) past)
-  by_begun watermark begun acts = go begun (acts opened_on (logged image) past.journal past.notes s.log s.is s.keeps s.next (holds world reading between image past old new s stored))
-    where
-      go : (begun : Result Begun Error) → ActsByCompaction watermark begun (world old.store) (world new.store) old new opened_on past.journal past.notes s.log → Leads (AddsCompaction watermark (reply_of begun) past)
-      go (Ok Installed) a = let d = a.done (inl refl) in stood watermark d.0 d.1 d.2
-      go (Ok DidNothing) a = marked watermark (a.told (λ e. cc e))
-      go (Ok (Declined why)) a = marked watermark (a.told (λ e. cc e))
-      go (Ok (Job job)) a = marked watermark (a.told (λ e. cc e))
-      go (Err AfterCommit) a = let d = a.done (inr refl) in stood watermark d.0 d.1 d.2
-      go (Err CommitUnknown) a = let d = a.lost refl in in_doubt watermark d.0 d.2
-      go (Err x) a = marked watermark (a.refused (λ e. cc e) (λ e. cc e))
+  -- one whose actions are such
+  module _ (May : Action → Type 0) (Ranges : List Range → Type 0) (watermark : ℕ) (are : (action : Action) → May action → IsCompaction watermark action × IsDrop Ranges (told_by action old.core)) where
+    by_begun : (begun : Result Begun Error) → CompactsBy May watermark begun (world old.store) (world new.store) old new → Leads (AddsCompaction Ranges watermark (reply_of begun) past)
+    by_begun begun acts = go begun (acts opened_on (logged image) past.journal past.notes s.log s.is s.keeps s.next (holds world reading between image past old new s stored))
+      where
+        go : (begun : Result Begun Error) → ActsByCompaction May watermark begun (world old.store) (world new.store) old new opened_on past.journal past.notes s.log → Leads (AddsCompaction Ranges watermark (reply_of begun) past)
+        go (Ok Installed) a = let d = a.done (inl refl) in let is = are d.0 d.1 in stood Ranges watermark d.0 is.0 is.1 d.2
+        go (Ok DidNothing) a = marked watermark (a.told (λ e. cc e))
+        go (Ok (Declined why)) a = marked watermark (a.told (λ e. cc e))
+        go (Ok (Job job)) a = marked watermark (a.told (λ e. cc e))
+        go (Err AfterCommit) a = let d = a.done (inr refl) in let is = are d.0 d.1 in stood Ranges watermark d.0 is.0 is.1 d.2
+        go (Err CommitUnknown) a = let d = a.lost refl in in_doubt Ranges watermark d.0 (are d.0 d.1).1 d.2
+        go (Err x) a = marked watermark (a.refused (λ e. cc e) (λ e. cc e))
 
-  pub compaction_leads : (watermark : ℕ) (reply : Reply) → ActsCompaction watermark reply (world old.store) (world new.store) old new → Leads (AddsCompaction watermark reply past)
-  compaction_leads watermark reply acts = subst (λ r. Leads (AddsCompaction watermark r past)) (sym acts.1) (by_begun watermark acts.0 acts.2)
+    compaction_leads : (reply : Reply) → ActsCompaction May watermark reply (world old.store) (world new.store) old new → Leads (AddsCompaction Ranges watermark reply past)
+    compaction_leads reply acts = subst (λ r. Leads (AddsCompaction Ranges watermark r past)) (sym acts.1) (by_begun acts.0 acts.2)
 
-  pub compact_leads : (watermark : ℕ) (reply : Reply) → ActsCompact watermark reply (world old.store) (world new.store) old new → Leads (AddsCompaction watermark reply past)
+  any_are : (watermark : ℕ) (action : Action) → IsCompaction watermark action → IsCompaction watermark action × IsDrop AnyRanges (told_by action old.core)
+  any_are watermark (Merged w d ids evict made) is = (is, tt)
+  any_are watermark (Moved d ids moved) is = (is, tt)
+  any_are watermark (DroppedTables ids) is = (is, tt)
+  any_are watermark other is = absurd is
+
+  pub compact_leads : (watermark : ℕ) (reply : Reply) → ActsCompact watermark reply (world old.store) (world new.store) old new → Leads (AddsCompaction AnyRanges watermark reply past)
   compact_leads watermark NoStrategy acts = (past, refl, same_led world reading between image past old new s rest acts)
   compact_leads watermark SlotInUse acts = (past, refl, same_led world reading between image past old new s rest acts)
-  compact_leads watermark reply acts = compaction_leads watermark reply acts
+  compact_leads watermark reply acts = compaction_leads (IsCompaction watermark) AnyRanges watermark (any_are watermark) reply acts
+
+  merges_are : (watermark : ℕ) (action : Action) → IsMerging watermark action → IsCompaction watermark action × IsDrop NoRanges (told_by action old.core)
+  merges_are watermark (Merged w d ids evict made) is = (is, tt)
+  merges_are watermark other is = absurd is
+
+  pub major_leads : (watermark : ℕ) (reply : Reply) → ActsCompaction (IsMerging watermark) watermark reply (world old.store) (world new.store) old new → Leads (AddsCompaction NoRanges watermark reply past)
+  major_leads watermark reply acts = compaction_leads (IsMerging watermark) NoRanges watermark (merges_are watermark) reply acts
+
+  drops_are : (bounds : OwnedBounds) (action : Action) → DropsWithin bounds old.core action → IsCompaction 0 action × IsDrop (RangesWithin bounds.start bounds.end) (told_by action old.core)
+  drops_are bounds (DroppedTables ids) is = (tt, drop_within bounds ids (levels_of old.core) is.1 is.0)
+  drops_are bounds other is = absurd is
+
+  pub drop_leads : (low high : Bound Bytes) (reply : Reply) → ActsCompaction (DropsWithin (record { start = low; end = high }) old.core) 0 reply (world old.store) (world new.store) old new → Leads (AddsCompaction (RangesWithin low high) 0 reply past)
+  drop_leads low high reply acts =
+      let bounds : OwnedBounds = record { start = low; end = high } in
+      compaction_leads (DropsWithin bounds old.core) (RangesWithin low high) 0 (drops_are bounds) reply acts

@@ -1,6 +1,7 @@
 -- What a step adds stands behind what was called before, and it leaves which flushes were begun in other slots.
 use Rattle.std.proofs.Common.{◌≡◌, ℕ, Bool, true, false, List, [], ◌∷◌, ◌++◌, map, Some, None, refl, sym, ap, ◌∙◌, append-nil, append_assoc, ne_eqb, cond}
 use Rattle.lsm_below.specs.Keys.{Bytes}
+use Rattle.lsm_below.specs.Ranges.{Range}
 use Rattle.lsm_below.specs.declared.error.Error.TheVariants.{CommitUnknown, AfterCommit}
 use Rattle.lsm_model.specs.Journal.{Event}
 use Rattle.lsm_model.specs.declared.op.Op.{Op}
@@ -12,6 +13,7 @@ use Rattle.lsm_runs.specs.declared.steps.JobStep.{JobStep}
 use Rattle.lsm_runs.specs.declared.steps.JobStep.TheVariants.{BeginFlush, RegisterTables, BeginCompaction, FinishCompaction}
 use Rattle.lsm_runs.specs.declared.steps.Reply.{Reply}
 use Rattle.lsm_runs.specs.declared.steps.Reply.TheVariants.{Number, Sealed, Begun, Registered, Flushed, FlushedActive, RefusedActive, Compacted, Finished, Cleared, Refused}
+use Rattle.lsm_runs.specs.Adds.{AnyRanges, NoRanges, RangesWithin}
 use Rattle.lsm_state.specs.declared.compaction.Finished.TheVariants.{Installed as IsFinished}
 use Rattle.lsm_logged.specs.Writing.{batch_of}
 use Rattle.lsm_log_runs.specs.declared.steps.LogStep.{LogStep}
@@ -71,16 +73,16 @@ module _ (Others : ℕ → Type 0) where
     rotation_grows (Sealed None) h = same h
     rotation_grows reply h = same h
 
-    installed_grows : (w : ℕ) → AddsInstalled w old new → Grows Others old new
-    installed_grows w h = more (Mark w ∷ (h.0 ++ Install h.1 ∷ [])) old _ new h.3 refl (λ m other. refl)
+    installed_grows : (May : List Range → Type 0) (w : ℕ) → AddsInstalled May w old new → Grows Others old new
+    installed_grows May w h = more (Mark w ∷ (h.0 ++ Install h.1 ∷ [])) old _ new h.3 refl (λ m other. refl)
 
-    compaction_grows : (w : ℕ) (reply : Reply) → AddsCompaction w reply old new → Grows Others old new
-    compaction_grows w (Compacted Installed) h = installed_grows w h
-    compaction_grows w (Compacted c) h = more (Mark w ∷ []) old _ new h refl (λ m other. refl)
-    compaction_grows w (Refused AfterCommit) h = installed_grows w h
-    compaction_grows w (Refused CommitUnknown) h = more (Mark w ∷ h.0) old _ new h.2 refl (λ m other. refl)
-    compaction_grows w (Refused x) h = more (Mark w ∷ []) old _ new h refl (λ m other. refl)
-    compaction_grows w reply h = same h
+    compaction_grows : (May : List Range → Type 0) (w : ℕ) (reply : Reply) → AddsCompaction May w reply old new → Grows Others old new
+    compaction_grows May w (Compacted Installed) h = installed_grows May w h
+    compaction_grows May w (Compacted c) h = more (Mark w ∷ []) old _ new h refl (λ m other. refl)
+    compaction_grows May w (Refused AfterCommit) h = installed_grows May w h
+    compaction_grows May w (Refused CommitUnknown) h = more (Mark w ∷ h.0) old _ new h.2 refl (λ m other. refl)
+    compaction_grows May w (Refused x) h = more (Mark w ∷ []) old _ new h refl (λ m other. refl)
+    compaction_grows May w reply h = same h
 
     clear_grows : (reply : Reply) → AddsClear reply old new → Grows Others old new
     clear_grows (Cleared n) h = more (DidClear n ∷ []) old _ new h refl (λ m other. refl)
@@ -124,7 +126,7 @@ module _ (slot : ℕ) (old new : LogPast) where
   job_grows : (step : JobStep) (reply : Reply) → AddsJob slot step reply old new → Grows Apart old new
   job_grows BeginFlush reply h = begun_grows reply h
   job_grows RegisterTables reply h = register_grows Apart old new slot reply h
-  job_grows (BeginCompaction at o) reply h = compaction_grows Apart old new o.mvcc_gc_watermark reply h
+  job_grows (BeginCompaction at o) reply h = compaction_grows Apart old new AnyRanges o.mvcc_gc_watermark reply h
   job_grows FinishCompaction reply h = merge_grows Apart old new reply h
   job_grows step reply h = same Apart old new h
 
@@ -134,8 +136,8 @@ step_grows (Flush w) reply old new h = flush_grows _ old new w reply h
 step_grows Clear reply old new h = clear_grows _ old new reply h
 step_grows RotateMemtable reply old new h = rotation_grows _ old new reply h
 step_grows (FlushActiveMemtable w) reply old new h = active_grows _ old new w reply h
-step_grows (Compact at w) reply old new h = compaction_grows _ old new w reply h
-step_grows (MajorCompact target w) reply old new h = compaction_grows _ old new w reply h
-step_grows (DropRange low high) reply old new h = compaction_grows _ old new 0 reply h
+step_grows (Compact at w) reply old new h = compaction_grows _ old new AnyRanges w reply h
+step_grows (MajorCompact target w) reply old new h = compaction_grows _ old new NoRanges w reply h
+step_grows (DropRange low high) reply old new h = compaction_grows _ old new (RangesWithin low high) 0 reply h
 step_grows (AtSlot slot step) reply old new h = job_grows slot old new step reply h
 step_grows x reply old new h = same _ old new h

@@ -2,6 +2,7 @@
 use Rattle.std.proofs.Common.{ℕ, ◌≤◌, List, [], ◌∷◌, ◌++◌, subst, sym, ◌∙◌}
 use Rattle.std.proofs.lemmas.Grind.{fold-append}
 use Rattle.lsm_below.specs.Entries.{Entry, above}
+use Rattle.lsm_below.specs.Ranges.{Range}
 use Rattle.lsm_model.specs.Journal.{Event, InOrder, next_number, next_number_after}
 use Rattle.lsm_model.specs.declared.journal.JournalEntry.TheVariants.{Clear, Install, Dropped, Mark}
 use Rattle.lsm_log_model.proofs.Orders.{order_join}
@@ -23,18 +24,18 @@ module _ (opened : List Entry) (journal : List Event) (order : InOrder opened jo
   order_merged n le = order_join opened [] journal (Install n ∷ []) order (le, tt)
 
   -- a compaction, which may drop
-  pub order_dropping : (w n : ℕ) (drop : List Event) → IsDrop drop → next_number opened journal ≤ n → InOrder opened (journal ++ Mark w ∷ (drop ++ Install n ∷ []))
-  order_dropping w n [] is le = order_installed w n le
-  order_dropping w n (Dropped ranges m ∷ []) is le =
+  pub order_dropping : (May : List Range → Type 0) (w n : ℕ) (drop : List Event) → IsDrop May drop → next_number opened journal ≤ n → InOrder opened (journal ++ Mark w ∷ (drop ++ Install n ∷ []))
+  order_dropping May w n [] is le = order_installed w n le
+  order_dropping May w n (Dropped ranges m ∷ []) is le =
       let before = journal ++ Mark w ∷ [] in
       let one = fold-append next_number_after (above opened) journal (Mark w ∷ []) in
       let two = fold-append next_number_after (above opened) before (Dropped ranges m ∷ []) in
       order_join opened [] journal (Mark w ∷ (Dropped ranges m ∷ (Install n ∷ []))) order (tt, (tt, (subst (λ k. k ≤ n) (sym (two ∙ one)) le, tt)))
-  order_dropping w n (Dropped ranges m ∷ (x ∷ drop)) is le = absurd is
-  order_dropping w n (x ∷ drop) is le = absurd is
+  order_dropping May w n (Dropped ranges m ∷ (x ∷ drop)) is le = absurd is
+  order_dropping May w n (x ∷ drop) is le = absurd is
 
-  pub order_lost : (w : ℕ) (drop : List Event) → IsDrop drop → InOrder opened (journal ++ Mark w ∷ drop)
-  order_lost w [] is = order_marked w
-  order_lost w (Dropped ranges m ∷ []) is = order_join opened [] journal (Mark w ∷ (Dropped ranges m ∷ [])) order (tt, (tt, tt))
-  order_lost w (Dropped ranges m ∷ (x ∷ drop)) is = absurd is
-  order_lost w (x ∷ drop) is = absurd is
+  pub order_lost : (May : List Range → Type 0) (w : ℕ) (drop : List Event) → IsDrop May drop → InOrder opened (journal ++ Mark w ∷ drop)
+  order_lost May w [] is = order_marked w
+  order_lost May w (Dropped ranges m ∷ []) is = order_join opened [] journal (Mark w ∷ (Dropped ranges m ∷ [])) order (tt, (tt, tt))
+  order_lost May w (Dropped ranges m ∷ (x ∷ drop)) is = absurd is
+  order_lost May w (x ∷ drop) is = absurd is

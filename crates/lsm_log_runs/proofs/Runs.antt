@@ -33,7 +33,7 @@ use Rattle.lsm_log_runs.specs.Standing.{StandsLogged}
 use Rattle.lsm_log_runs.proofs.Advancing.{Advances, step_advances}
 use Rattle.lsm_log_runs.proofs.Beside.{beside, is_high}
 use Rattle.lsm_log_runs.proofs.Closing.{closed_stands}
-use Rattle.lsm_log_runs.proofs.CommitLeads.{rotate_leads, active_leads, compact_leads, compaction_leads}
+use Rattle.lsm_log_runs.proofs.CommitLeads.{rotate_leads, active_leads, compact_leads, major_leads, drop_leads}
 use Rattle.lsm_log_runs.proofs.Going.{holds_on}
 use Rattle.lsm_log_runs.proofs.Growing.{step_grows}
 use Rattle.lsm_log_runs.proofs.JobLeads.{job_leads}
@@ -122,8 +122,8 @@ module _ {S : Type 0} (strategies : Strategies) (tells : Type 0) (world : S → 
       alone_leads RotateMemtable r takes acts tried = rotate_leads world reading between image past old new s rest r takes acts
       alone_leads (FlushActiveMemtable n) r takes acts tried = active_leads world reading between image past old new s stored rest n r acts
       alone_leads (Compact at n) r takes acts tried = compact_leads world reading between image past old new s stored rest n r acts
-      alone_leads (MajorCompact target n) r takes acts tried = compaction_leads world reading between image past old new s stored rest n r acts
-      alone_leads (DropRange low high) r takes acts tried = compaction_leads world reading between image past old new s stored rest 0 r acts
+      alone_leads (MajorCompact target n) r takes acts tried = major_leads world reading between image past old new s stored rest n r acts
+      alone_leads (DropRange low high) r takes acts tried = drop_leads world reading between image past old new s stored rest low high r acts
       alone_leads (SetMoment n) r takes acts tried = (past, refl, nothing_led world reading between image past old new s (acts opened past.journal past.notes s.log s.is s.keeps) stored rest)
       alone_leads (AtSlot slot step) r takes acts tried = absurd takes
 

@@ -33,6 +33,7 @@ use Rattle.lsm_runs.specs.Slots.{flush_in, merge_in}
 use Rattle.lsm_logged.specs.Asking.{Asks}
 use Rattle.lsm_logged.specs.Flushing.{BeginsLogged, WritesJobLogged}
 use Rattle.lsm_logged.specs.Keeping.{SeenLogged}
+use Rattle.lsm_runs.specs.Adds.{AnyRanges}
 use Rattle.lsm_log_runs.specs.Adds.{AddsBegun, AddsCompaction, AddsRegister, AddsMerge, AddsJob}
 use Rattle.lsm_log_runs.specs.JobSteps.{IsIdle, TakesBegin, TakesTables, TakesRegister, TakesAbandon, TakesBeginCompaction, TakesFinish, TakesAbandonCompaction, TakesJob}
 use Rattle.lsm_log_runs.specs.Pasts.{LogPast, with_begun}
@@ -200,12 +201,12 @@ module _ {S : Type 0} (laws : NotedCompactionsKeepReads) (slot : ℕ) (past next
   abandon_waits NoJob t same = idle same t.0
   abandon_waits reply t same = absurd t
 
-  compaction_waits : (strategies : Strategies) (at : ℕ) (o : Options) (reply : Reply) → TakesBeginCompaction strategies at o reply was is old new → AddsCompaction o.mvcc_gc_watermark reply past next → Goal
+  compaction_waits : (strategies : Strategies) (at : ℕ) (o : Options) (reply : Reply) → TakesBeginCompaction strategies at o reply was is old new → AddsCompaction AnyRanges o.mvcc_gc_watermark reply past next → Goal
   compaction_waits strategies at o SlotInUse t adds = idle adds t.0
   compaction_waits strategies at o NoStrategy t adds = idle adds t.0
-  compaction_waits strategies at o reply t adds = go t.begun t.waits t.begins (subst (λ r. AddsCompaction o.mvcc_gc_watermark r past next) t.told adds)
+  compaction_waits strategies at o reply t adds = go t.begun t.waits t.begins (subst (λ r. AddsCompaction AnyRanges o.mvcc_gc_watermark r past next) t.told adds)
     where
-      go : (begun : Result HowBegun Error) → is ≡ job_of begun → Asks begun old new (BeginsCompaction (strategies.may_choose at) (strategies.may_refuse at) o begun old.core new.core) → AddsCompaction o.mvcc_gc_watermark (reply_of begun) past next → Goal
+      go : (begun : Result HowBegun Error) → is ≡ job_of begun → Asks begun old new (BeginsCompaction (strategies.may_choose at) (strategies.may_refuse at) o begun old.core new.core) → AddsCompaction AnyRanges o.mvcc_gc_watermark (reply_of begun) past next → Goal
       go (Ok (MergeJob job)) there asks adds =
           subst (λ (p : LogPast). WaitsAt (p.begun slot) p.journal is) (sym adds) (merge_waits (past.begun slot) (past.journal ++ Mark o.mvcc_gc_watermark ∷ []) is job (ap flush_in there) (ap merge_in there)
           (subst (λ n. IsMarkedIn n (past.journal ++ Mark o.mvcc_gc_watermark ∷ [])) (sym (merge_mark (strategies.may_choose at) (strategies.may_refuse at) o job old new asks)) (laws.marked o.mvcc_gc_watermark past.journal [])))

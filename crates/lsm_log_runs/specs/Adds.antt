@@ -1,6 +1,7 @@
 -- What each step adds to what was called, by its kind and its reply.
 use Rattle.std.specs.Prelude.{◌≡◌, ℕ, Bool, true, false, List, [], ◌∷◌, ◌++◌, Some}
 use Rattle.lsm_below.specs.Keys.{Bytes}
+use Rattle.lsm_below.specs.Ranges.{Range}
 use Rattle.lsm_below.specs.declared.error.Error.TheVariants.{CommitUnknown, AfterCommit}
 use Rattle.lsm_model.specs.declared.op.Op.{Op}
 use Rattle.lsm_model.specs.Journal.{Event}
@@ -10,6 +11,7 @@ use Rattle.lsm_runs.specs.declared.steps.JobStep.{JobStep}
 use Rattle.lsm_runs.specs.declared.steps.JobStep.TheVariants.{BeginFlush, RegisterTables, BeginCompaction, FinishCompaction}
 use Rattle.lsm_runs.specs.declared.steps.Reply.{Reply}
 use Rattle.lsm_runs.specs.declared.steps.Reply.TheVariants.{Number, Sealed, Begun, Registered, Flushed, FlushedActive, RefusedActive, Compacted, Finished, Cleared, Refused}
+use Rattle.lsm_runs.specs.Adds.{AnyRanges, NoRanges, RangesWithin}
 use Rattle.lsm_state.specs.declared.compaction.Finished.TheVariants.{Installed as IsFinished}
 use Rattle.lsm_logged.specs.Writing.{batch_of}
 use Rattle.lsm_log_runs.specs.declared.steps.LogStep.{LogStep}
@@ -40,24 +42,24 @@ AddsFlushActive w (FlushedActive id a) old new = (mid : LogPast) × AddsRotation
 AddsFlushActive w (RefusedActive id x) old new = (mid : LogPast) × AddsRotation (Sealed id) old mid × AddsFlush w (Refused x) mid new
 AddsFlushActive w reply old new = new ≡ old
 
--- the ranges that a compaction drops, if it drops any
-abbrev pub IsDrop : List Event → Type 0
-IsDrop [] = Unit {0}
-IsDrop (Dropped ranges n ∷ []) = Unit {0}
-IsDrop events = ⊥
+-- the ranges that a compaction drops, if it drops any, which may be dropped
+abbrev pub IsDrop : (List Range → Type 0) → List Event → Type 0
+IsDrop May [] = Unit {0}
+IsDrop May (Dropped ranges n ∷ []) = May ranges
+IsDrop May events = ⊥
 
 -- one that stands: its mark, what it drops, and the install
-abbrev pub AddsInstalled : ℕ → LogPast → LogPast → Type 0
-AddsInstalled w old new = (drop : List Event) × (n : ℕ) × IsDrop drop × (new ≡ with_commit w (drop ++ Install n ∷ []) old)
+abbrev pub AddsInstalled : (List Range → Type 0) → ℕ → LogPast → LogPast → Type 0
+AddsInstalled May w old new = (drop : List Event) × (n : ℕ) × IsDrop May drop × (new ≡ with_commit w (drop ++ Install n ∷ []) old)
 
 -- one that isn't begun tells its mark alone
-abbrev pub AddsCompaction : ℕ → Reply → LogPast → LogPast → Type 0
-AddsCompaction w (Compacted Installed) old new = AddsInstalled w old new
-AddsCompaction w (Compacted c) old new = new ≡ with_commit w [] old
-AddsCompaction w (Refused AfterCommit) old new = AddsInstalled w old new
-AddsCompaction w (Refused CommitUnknown) old new = (drop : List Event) × IsDrop drop × (new ≡ with_doubt w drop old)
-AddsCompaction w (Refused x) old new = new ≡ with_commit w [] old
-AddsCompaction w reply old new = new ≡ old
+abbrev pub AddsCompaction : (List Range → Type 0) → ℕ → Reply → LogPast → LogPast → Type 0
+AddsCompaction May w (Compacted Installed) old new = AddsInstalled May w old new
+AddsCompaction May w (Compacted c) old new = new ≡ with_commit w [] old
+AddsCompaction May w (Refused AfterCommit) old new = AddsInstalled May w old new
+AddsCompaction May w (Refused CommitUnknown) old new = (drop : List Event) × IsDrop May drop × (new ≡ with_doubt w drop old)
+AddsCompaction May w (Refused x) old new = new ≡ with_commit w [] old
+AddsCompaction May w reply old new = new ≡ old
 
 -- a clear stands also where its clean-up failed
 abbrev pub AddsClear : Reply → LogPast → LogPast → Type 0
@@ -93,21 +95,22 @@ AddsMerge reply old new = new ≡ old
 abbrev pub AddsJob : ℕ → JobStep → Reply → LogPast → LogPast → Type 0
 AddsJob slot BeginFlush reply old new = AddsBegun slot reply old new
 AddsJob slot RegisterTables reply old new = AddsRegister slot reply old new
-AddsJob slot (BeginCompaction at o) reply old new = AddsCompaction o.mvcc_gc_watermark reply old new
+AddsJob slot (BeginCompaction at o) reply old new = AddsCompaction AnyRanges o.mvcc_gc_watermark reply old new
 AddsJob slot FinishCompaction reply old new = AddsMerge reply old new
 AddsJob slot step reply old new = new ≡ old
 
 -- ---- by steps
 
--- all others add nothing
+-- a strategy of the caller's may drop any tables, a merge of all tables drops none, and a drop of a range only tables within it; all
+-- others add nothing
 abbrev pub Adds : LogStep → Reply → LogPast → LogPast → Type 0
 Adds (Write ops) reply old new = AddsBatch ops reply old new
 Adds (Flush w) reply old new = AddsFlush w reply old new
 Adds Clear reply old new = AddsClear reply old new
 Adds RotateMemtable reply old new = AddsRotation reply old new
 Adds (FlushActiveMemtable w) reply old new = AddsFlushActive w reply old new
-Adds (Compact at w) reply old new = AddsCompaction w reply old new
-Adds (MajorCompact target w) reply old new = AddsCompaction w reply old new
-Adds (DropRange low high) reply old new = AddsCompaction 0 reply old new
+Adds (Compact at w) reply old new = AddsCompaction AnyRanges w reply old new
+Adds (MajorCompact target w) reply old new = AddsCompaction NoRanges w reply old new
+Adds (DropRange low high) reply old new = AddsCompaction (RangesWithin low high) 0 reply old new
 Adds (AtSlot slot step) reply old new = AddsJob slot step reply old new
 Adds step reply old new = new ≡ old

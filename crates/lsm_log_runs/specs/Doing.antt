@@ -4,6 +4,7 @@ use Rattle.lsm_below.specs.Keys.{Bytes}
 use Rattle.lsm_below.specs.declared.error.Error.{Error}
 use Rattle.lsm_store.specs.World.{World}
 use Rattle.lsm_model.specs.declared.op.Op.{Op}
+use Rattle.lsm_model.specs.Steps.{Action}
 use Rattle.lsm_commit.specs.Foreign.{AtRest}
 use Rattle.lsm_flush.specs.Jobs.{SeenWritten}
 use Rattle.lsm_compaction.specs.Merges.{SeenCompacted}
@@ -18,7 +19,7 @@ use Rattle.lsm_runs.specs.Compacting.{Strategies, reply_of, end_reply_of}
 use Rattle.lsm_runs.specs.Files.{StaysStored}
 use Rattle.lsm_state.specs.declared.compaction.Begun.{Begun}
 use Rattle.lsm_state.specs.declared.compaction.Finished.{Finished}
-use Rattle.lsm_logged.specs.Acting.{ActsNot, FlushesAct, RotatesAct, ClearsAct, CompactsAct, RegistersAct, MergesAct}
+use Rattle.lsm_logged.specs.Acting.{ActsNot, FlushesAct, RotatesAct, ClearsAct, IsCompaction, IsMerging, DropsWithin, CompactsBy, RegistersAct, MergesAct}
 use Rattle.lsm_logged.specs.Keeping.{SeenLogged}
 use Rattle.lsm_logged.specs.Writing.{WritesAct}
 use Rattle.lsm_log_runs.specs.declared.steps.LogStep.{LogStep}
@@ -60,14 +61,15 @@ ActsFlushActive watermark (FlushedActive id a) w w' old new = ActsBehind waterma
 ActsFlushActive watermark (RefusedActive id x) w w' old new = ((id ≡ None) × TakesRotate (Refused x) old new) ⊎ ActsBehind watermark id (Refused x) w w' old new
 ActsFlushActive watermark reply w w' old new = ⊥
 
-abbrev pub ActsCompaction : {S : Type 0} → ℕ → Reply → World → World → SeenLogged S → SeenLogged S → Type 0
-ActsCompaction watermark reply w w' old new = (begun : Result Begun Error) × (reply ≡ reply_of begun) × CompactsAct watermark begun w w' old new
+-- a compaction that does actions that may be
+abbrev pub ActsCompaction : {S : Type 0} → (Action → Type 0) → ℕ → Reply → World → World → SeenLogged S → SeenLogged S → Type 0
+ActsCompaction May watermark reply w w' old new = (begun : Result Begun Error) × (reply ≡ reply_of begun) × CompactsBy May watermark begun w w' old new
 
 -- one by a strategy, where there is one of that index, and the slot for its job is free
 abbrev pub ActsCompact : {S : Type 0} → ℕ → Reply → World → World → SeenLogged S → SeenLogged S → Type 0
 ActsCompact watermark NoStrategy w w' old new = new ≡ old
 ActsCompact watermark SlotInUse w w' old new = new ≡ old
-ActsCompact watermark reply w w' old new = ActsCompaction watermark reply w w' old new
+ActsCompact watermark reply w w' old new = ActsCompaction (IsCompaction watermark) watermark reply w w' old new
 
 -- ---- calls on the job in a slot, as the theory sees them
 
@@ -102,8 +104,8 @@ ActsAlone Clear reply w w' old new = ActsClear reply w w' old new
 ActsAlone RotateMemtable reply w w' old new = ActsRotate reply w old new
 ActsAlone (FlushActiveMemtable watermark) reply w w' old new = ActsFlushActive watermark reply w w' old new
 ActsAlone (Compact at watermark) reply w w' old new = ActsCompact watermark reply w w' old new
-ActsAlone (MajorCompact target watermark) reply w w' old new = ActsCompaction watermark reply w w' old new
-ActsAlone (DropRange low high) reply w w' old new = ActsCompaction 0 reply w w' old new
+ActsAlone (MajorCompact target watermark) reply w w' old new = ActsCompaction (IsMerging watermark) watermark reply w w' old new
+ActsAlone (DropRange low high) reply w w' old new = ActsCompaction (DropsWithin (record { start = low; end = high }) old.core) 0 reply w w' old new
 ActsAlone (SetMoment n) reply w w' old new = ActsNot w w' old new
 ActsAlone (AtSlot slot step) reply w w' old new = ⊥
 ActsAlone step reply w w' old new = new ≡ old

@@ -3,7 +3,7 @@ ghost use Rattle.std.specs.Prelude.{◌≡◌, IfOk, OnErr};
 ghost use Rattle.lsm_runs.specs.Compacting.{reply_of, strategies_of};
 ghost use Rattle.lsm_runs.specs.Files.{StaysStored};
 ghost use Rattle.lsm_state.specs.WholeCompactions.{Compacts, DropsRange, options_at, only_memory, major_choice};
-ghost use Rattle.lsm_logged.specs.Acting.{ActsNot, CompactsAct};
+ghost use Rattle.lsm_logged.specs.Acting.{ActsNot, IsMerging, DropsWithin, CompactsAct};
 ghost use Rattle.lsm_logged.specs.Asking.{Asks};
 ghost use Rattle.lsm_log_runs.specs.Doing.{ActsRotate, ActsFlush, ActsFlushActive, ActsCompaction, ActsCompact, ActsClear};
 ghost use Rattle.lsm_log_runs.specs.Runs.{TakesRotate, TakesFlush, TakesFlushActive, TakesCompaction, TakesCompact, TakesClear, TakesMoment};
@@ -117,7 +117,7 @@ pub(super) fn compact<S: Store>(
 
 pub(super) fn major_compact<S: Store>(tree: &mut Logged<S>, target: u64, watermark: SeqNo) -> Reply
     ensures takes { TakesCompaction (λ begun. Compacts (major_choice target) only_memory (options_at watermark tree.old.core) begun tree.old.core tree.new.core) result tree.old tree.new }
-    ensures acts { S.tells → ActsCompaction watermark result (S.world tree.old.store) (S.world tree.new.store) tree.old tree.new }
+    ensures acts { S.tells → ActsCompaction (IsMerging watermark) watermark result (S.world tree.old.store) (S.world tree.new.store) tree.old tree.new }
     ensures stored { S.tells → StaysStored (S.world tree.old.store) (S.world tree.new.store) tree.old.core tree.new.core }
 {
     of_begun(tree.major_compact(target, watermark))
@@ -130,7 +130,7 @@ pub(super) fn drop_range<S: Store>(
 ) -> Result<Reply, AllocError>
     ensures ok { IfOk result (λ reply. TakesCompaction (λ begun. DropsRange (record { start = low.now; end = high.now }) begun tree.old.core tree.new.core) reply tree.old tree.new) }
     ensures err { OnErr result (tree.new ≡ tree.old) }
-    ensures acts { S.tells → IfOk result (λ reply. ActsCompaction 0 reply (S.world tree.old.store) (S.world tree.new.store) tree.old tree.new) }
+    ensures acts { S.tells → IfOk result (λ reply. ActsCompaction (DropsWithin (record { start = low.now; end = high.now }) tree.old.core) 0 reply (S.world tree.old.store) (S.world tree.new.store) tree.old tree.new) }
     ensures stored { S.tells → StaysStored (S.world tree.old.store) (S.world tree.new.store) tree.old.core tree.new.core }
 {
     let bounds = OwnedBounds {
