@@ -195,13 +195,7 @@ impl<S: Store> TreeState<S> {
         let to = usize::from(job.settings().dest_level);
         let latest = self.current_version();
         if own {
-            return Ok(last_reason_by_ids(
-                self.alloc,
-                &inputs,
-                job.ids(),
-                to,
-                latest,
-            )?);
+            return Ok(last_reason_by_ids(self.alloc, &inputs, job.ids(), to, latest)?);
         }
         Ok(last_reason(self.alloc, &inputs, job.ids(), to, latest)?)
     }
