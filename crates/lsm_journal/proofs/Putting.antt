@@ -1,19 +1,16 @@
 -- A batch of one, whose entry is made already.
-use Rattle.std.proofs.Common.{◌≡◌, ◌⊎◌, inl, ℕ, ◌+◌, max, ◌≤◌, ◌<◌, Bool, true, false, cond, ◌||◌, List, [], ◌∷◌, ◌++◌, Option, Some, None, Result, Ok, Err, IfSome, refl, sym, ap, ◌∙◌, subst, arith}
-use Rattle.std.specs.List.{list_any}
+use Rattle.std.proofs.Common.{◌≡◌, ◌⊎◌, inl, ℕ, ◌+◌, max, ◌<◌, Bool, true, false, cond, ◌||◌, [], ◌∷◌, ◌++◌, Option, Some, None, Result, Ok, Err, IfSome, refl, sym, ap, ◌∙◌, subst, arith}
 use Rattle.std.proofs.lemmas.Bool.Decides.{nat_tests}
 use Rattle.lsm_below.specs.Keys.{Bytes}
 use Rattle.lsm_below.specs.Entries.{Entry, plain}
 use Rattle.lsm_below.specs.declared.error.Error.{Error}
 use Rattle.lsm_below.specs.declared.error.Error.TheVariants.{OutOfMemory, OutOfNumbers, KeyTooLong, ValueTooLong, NumberTooGreat}
-use Rattle.lsm_model.specs.Journal.{Event}
-use Rattle.lsm_model.specs.Steps.{Step, Wrote}
-use Rattle.lsm_model.specs.Ops.{op_entry, op_value, repeats, keys_of}
+use Rattle.lsm_model.specs.Ops.{op_entry}
 use Rattle.lsm_model.specs.declared.op.Op.{Op}
 use Rattle.lsm_model.specs.declared.op.Op.TheVariants.{Set, Del, Weak}
 use Rattle.lsm_model.specs.declared.journal.JournalEntry.TheVariants.{Write}
 use Rattle.lsm_parts.specs.Held.{put_first, put_all_first}
-use Rattle.lsm_state.specs.Core.{Core, state_of, written_core, drawn_core}
+use Rattle.lsm_state.specs.Core.{Core, state_of, drawn_core}
 use Rattle.lsm_state.specs.Calls.{Appends, WritesBatch}
 use Rattle.lsm_state.specs.Refusals.{is_great, is_long_key, is_long_value, entry_refusal, batch_refusal}
 

@@ -10,7 +10,7 @@ use Rattle.lsm_manifest.specs.Ready.{IsReady}
 use Rattle.lsm_commit.specs.Stored.{IsStored, HoldsOneOf}
 use Rattle.lsm_commit.specs.Opening.{StoredIsReady}
 use Rattle.lsm_state.specs.Core.{Core, versions_left, written_of}
-use Rattle.lsm_run_model.specs.Lives.{EndsIn, Killed, LeavesReady}
+use Rattle.lsm_run_model.specs.Lives.{LeavesReady}
 use Rattle.lsm_runs.specs.declared.steps.Step.{Step as Call}
 use Rattle.lsm_runs.specs.declared.steps.Reply.{Reply}
 use Rattle.lsm_runs.specs.Chains.{KeepsFiles}

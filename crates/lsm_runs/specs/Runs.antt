@@ -19,7 +19,7 @@ use Rattle.lsm_parts.specs.Held.{first_entries}
 use Rattle.lsm_state.specs.Core.{Core, state_of}
 use Rattle.lsm_state.specs.Calls.{Appends, WritesBatch, Rotates}
 use Rattle.lsm_state.specs.WholeCompactions.{options_at}
-pub use Rattle.lsm_run_model.specs.Outcomes.{is_no_low_read, without_low_reads}
+pub use Rattle.lsm_run_model.specs.Outcomes.{without_low_reads}
 use Rattle.lsm_runs.specs.declared.steps.Counter.{Counter}
 use Rattle.lsm_runs.specs.declared.steps.Counter.TheVariants.{Seqno, Visible}
 use Rattle.lsm_runs.specs.declared.steps.Step.{Step}

@@ -1,5 +1,5 @@
 -- The inputs of a merge that is begun are tables of the latest version, in which an id stands once.
-use Rattle.std.proofs.Common.{◌≡◌, ◌⊎◌, ⊎_elim, inl, inr, ℕ, true, false, eqb, eq-eqb, List, [], ◌∷◌, Option, Some, None, IsSome, Result, Ok, Err, map, refl, sym, ap, ◌∙◌, subst}
+use Rattle.std.proofs.Common.{◌≡◌, ◌⊎◌, ⊎_elim, ℕ, true, false, eqb, eq-eqb, List, [], ◌∷◌, Option, Some, None, IsSome, Result, Ok, Err, map, refl, sym, ap, ◌∙◌, subst}
 use Rattle.std.specs.List.{AllByRecursion, IsDistinct}
 use Rattle.lsm_below.specs.Members.{IsIn, in_filter}
 use Rattle.lsm_below.specs.Optimizes.{tables_of}
@@ -20,7 +20,7 @@ use Rattle.lsm_state.specs.Compactions.{Relation, levels_of, reason_of, job_for,
 use Rattle.lsm_state.specs.Kept.{IsKeptTree}
 use Rattle.lsm_state.specs.OwnInputs.{BeganHere}
 use Rattle.lsm_state.specs.declared.compaction.Begun.{Begun}
-use Rattle.lsm_state.specs.declared.compaction.Begun.TheVariants.{DidNothing, Declined, Installed, Job}
+use Rattle.lsm_state.specs.declared.compaction.Begun.TheVariants.{Declined, Installed, Job}
 use Rattle.lsm_state.specs.declared.compaction.Options.{Options}
 use Rattle.lsm_state.proofs.Distinct.{own_behind}
 
