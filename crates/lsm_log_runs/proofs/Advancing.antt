@@ -189,7 +189,6 @@ compact_step strategies at w r old new t = asked t.1.0 old new _ t.1.2 (λ c. wh
 
 -- ---- calls on the job in a slot
 
-
 begin_core : (r : Result (Option SeenJob) Error) (old new : Core) → Begins r old new → Advances old new
 begin_core (Ok None) old new b = same_core old new (b.some refl).1
 begin_core (Ok (Some job)) old new b = inl (ap versions_left b.begins.1)
