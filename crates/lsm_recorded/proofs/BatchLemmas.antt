@@ -1,22 +1,18 @@
 -- A batch on its way into a journal.
-use Rattle.std.proofs.Common.{◌≡◌, ℕ, zero, suc, ◌+◌, ◌<◌, Bool, true, false, ◌&&◌, List, [], ◌∷◌, map, length, get_or, nat_lt, nat_le, refl, sym, ap, ◌∙◌, arith, lt-ltb, subst, IsSome, Result, Ok, Err, IsErrOf, ◌↔◌}
+use Rattle.std.proofs.Common.{◌≡◌, ℕ, ◌+◌, Bool, true, false, ◌&&◌, List, [], ◌∷◌, nat_lt, nat_le, refl, sym, ap, ◌∙◌, arith, lt-ltb, Result, Ok, Err, IsErrOf, ◌↔◌}
 use Rattle.std.specs.List.{list_all}
-use Rattle.std.specs.BTreeMap as tree
-use Rattle.std.specs.BTreeMap.{BTreeMap}
 use Rattle.lsm_below.specs.Keys.{Bytes}
 use Rattle.lsm_below.specs.Entries.{Entry}
 use Rattle.lsm_below.specs.declared.error.Error.{Error}
 use Rattle.lsm_below.specs.declared.error.Error.TheVariants.{OutOfMemory, OutOfOrder}
 use Rattle.lsm_model.specs.Journal.{Event, floor}
-use Rattle.lsm_model.specs.Ops.{op_entry, op_entries}
+use Rattle.lsm_model.specs.Ops.{op_entry}
 use Rattle.lsm_model.specs.declared.op.Op.{Op}
 use Rattle.lsm_model.specs.declared.op.Op.TheVariants.{Set, Del, Weak}
-use Rattle.lsm_model.specs.declared.journal.JournalEntry.TheVariants.{Write}
 use Rattle.lsm_recorded.specs.declared.marks.Mark.{Mark}
-use Rattle.lsm_recorded.specs.Headed.{headed_cmp}
-use Rattle.lsm_recorded.specs.Marks.{mark_in, mark_allows, marked_by, marked_all, mark_tells_order, op_type, op_allowed}
+use Rattle.lsm_recorded.specs.Marks.{mark_in, mark_allows, mark_tells_order, op_type, op_allowed}
 use Rattle.lsm_recorded.specs.Order.{keeps_order, batch_keeps_order}
-use Rattle.lsm_recorded.proofs.MarksLemmas.{order_told, marked_all_same}
+use Rattle.lsm_recorded.proofs.MarksLemmas.{order_told}
 
 -- ---- the test of order
 

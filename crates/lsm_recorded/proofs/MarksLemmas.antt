@@ -119,10 +119,6 @@ pub floor-writes : (es : List Entry) (journal : List Event) → floor (journal +
 floor-writes [] journal = ap floor (append-nil journal)
 floor-writes (e ∷ es) journal = ap floor (sym (append_assoc journal (Write e ∷ []) (map Write es))) ∙ floor-writes es (journal ++ Write e ∷ []) ∙ floor-write journal e
 
--- the mark that is there is the key's
-pub mark_there : (marks : BTreeMap Bytes Mark) (k : Bytes) (m : Mark) → Some m ≡ tree.get headed_cmp marks k → m ≡ mark_of marks k
-mark_there marks k m is = ap (λ o. unwrap_or o no_mark) is
-
 -- a mark that is entered as it was changes none
 pub mark_entered : (old new : BTreeMap Bytes Mark) (k : Bytes) (m : Mark) → m ≡ mark_of old k → ((q : Bytes) → tree.get headed_cmp new q ≡ cond (eq_by_cmp headed_cmp k q) (Some m) (tree.get headed_cmp old q)) → (q : Bytes) → mark_of new q ≡ mark_of old q
 mark_entered old new k m is written q = marked_same old new k k m refl is q (mark_set old new k m q (written q))
