@@ -1,10 +1,10 @@
 -- What becomes of a store in memory, as its callers see it.
 use Rattle.std.proofs.Common.{◌≡◌, ◌≢◌, ◌⊎◌, ◌↔◌, ◌≤◌, inl, inr, ⊎_elim, ℕ, zero, suc, List, [], ◌∷◌, ◌++◌, length, drop, Option, refl, sym, ap, subst, arith, length-append}
-use Rattle.std.specs.declared.snapshot.Snapshot.{Snapshot}
 use Rattle.lsm_store.specs.World.{Image, Row, IsImage, At, Same, Becomes}
 use Rattle.lsm_store.specs.Held.{Held, MayHold}
 use Rattle.lsm_store.specs.Files.{Files, held_at, HoldSame, Alters}
-use Rattle.lsm_store.specs.Memory.{Past, may_of, gives_of, HadBeen, memory_world}
+use Rattle.lsm_store.specs.Memory.{Past, may_of, gives_of, between, HadBeen, KeepsMoment, memory_world}
+use Rattle.lsm_store.specs.declared.mem_store.Moment.{Moment}
 use Rattle.lsm_store.proofs.HeldFiles.{by_name}
 
 -- the row of the one name, from that of its record
@@ -23,28 +23,53 @@ at_row name f row old new alters is n c = (to, back n)
         (λ at. subst (λ h. MayHold h c) (sym alters.here) ((is c).1 (at.here refl)))
         (λ m ne at. subst (λ h. MayHold h c) (sym (alters.elsewhere m ne)) (at.elsewhere ne))
 
+-- the same of a call that changes it
+pub at_between : (name : List ℕ) (f : Held → Held) (row : Row) (old new : Files) → Alters name f old new → ((c : Option (List ℕ)) → (MayHold (held_at old name) c ⊎ MayHold (f (held_at old name)) c) ↔ row c)
+    → (n : List ℕ) (c : Option (List ℕ)) → between old new n c ↔ At name row (may_of old) n c
+at_between name f row old new alters is n c = (to, back n)
+  where
+    to : between old new n c → At name row (may_of old) n c
+    to (inl was) = record { here = λ same. (is c).0 (inl (subst (λ m. may_of old m c) same was)); elsewhere = λ _. was }
+    to (inr may) = record {
+      here = λ same. (is c).0 (inr (subst (λ h. MayHold h c) alters.here (subst (λ m. may_of new m c) same may)));
+      elsewhere = λ ne. subst (λ h. MayHold h c) (alters.elsewhere n ne) may;
+    }
+
+    back : (m : List ℕ) → At name row (may_of old) m c → between old new m c
+    back = by_name (λ m. At name row (may_of old) m c → between old new m c) name
+        (λ at. ⊎_elim (λ was. inl was) (λ may. inr (subst (λ h. MayHold h c) (sym alters.here) may)) ((is c).1 (at.here refl)))
+        (λ m ne at. inl (at.elsewhere ne))
+
 pub gives_elsewhere : (name : List ℕ) (f : Held → Held) (old new : Files) → Alters name f old new → (n : List ℕ) → n ≢ name → gives_of new n ≡ gives_of old n
 gives_elsewhere name f old new alters n ne = ap (λ h. h.gives) (alters.elsewhere n ne)
 
-pub still : (past : Past) (s : Snapshot Files) (image : Image) → HadBeen past image → HadBeen (past ++ s ∷ []) image
+pub still : (past : Past) (s : Moment) (image : Image) → HadBeen past image → HadBeen (past ++ s ∷ []) image
 still [] s image had = absurd had
 still (p ∷ past) s image (inl here) = inl here
 still (p ∷ past) s image (inr there) = inr (still past s image there)
 
-pub newest : (past : Past) (s : Snapshot Files) (image : Image) → IsImage (may_of s.value) image → HadBeen (past ++ s ∷ []) image
+pub newest : (past : Past) (s : Moment) (image : Image) → IsImage (between s.before.value s.after.value) image → HadBeen (past ++ s ∷ []) image
 newest [] s image is = inl is
 newest (p ∷ past) s image is = inr (newest past s image is)
 
-pub either : (past : Past) (s : Snapshot Files) (image : Image) → HadBeen (past ++ s ∷ []) image → HadBeen past image ⊎ IsImage (may_of s.value) image
+pub either : (past : Past) (s : Moment) (image : Image) → HadBeen (past ++ s ∷ []) image → HadBeen past image ⊎ IsImage (between s.before.value s.after.value) image
 either [] s image (inl here) = inr here
 either [] s image (inr none) = absurd none
 either (p ∷ past) s image (inl here) = inl (inl here)
 either (p ∷ past) s image (inr there) = ⊎_elim (λ had. inl (inr had)) (λ new. inr new) (either past s image there)
 
-pub drop_push : (t : ℕ) (past : Past) (s : Snapshot Files) → t ≤ length past → drop t (past ++ s ∷ []) ≡ drop t past ++ s ∷ []
+pub drop_push : (t : ℕ) (past : Past) (s : Moment) → t ≤ length past → drop t (past ++ s ∷ []) ≡ drop t past ++ s ∷ []
 drop_push zero past s le = refl
 drop_push (suc t) [] s le = absurd (omega arith)
 drop_push (suc t) (p ∷ past) s le = drop_push t past s (omega arith)
+
+-- the images of a moment that is kept are those of its call
+module _ (before after : Files) (past later : Past) (kept : KeepsMoment before after past later) (image : Image) where
+  pub kept_between : IsImage (between before after) image → IsImage (between kept.moment.before.value kept.moment.after.value) image
+  kept_between is = subst (λ (fs : Files). IsImage (between fs kept.moment.after.value) image) (sym kept.is_before) (subst (λ (fs : Files). IsImage (between before fs) image) (sym kept.is_after) is)
+
+  pub between_kept : IsImage (between kept.moment.before.value kept.moment.after.value) image → IsImage (between before after) image
+  between_kept is = subst (λ (fs : Files). IsImage (between before fs) image) kept.is_after (subst (λ (fs : Files). IsImage (between fs kept.moment.after.value) image) kept.is_before is)
 
 module _ (name : List ℕ) (old : Files) (past : Past) (f g : ℕ) where
   -- no moment is added: each image of before is one still
@@ -65,26 +90,29 @@ module _ (name : List ℕ) (old : Files) (past : Past) (f g : ℕ) where
   }
 
   -- the moment of the call is kept
-  pub pushed : (during after : Row) (mid new : Files) (later : Past) (s : Snapshot Files)
-      → s.value ≡ mid → later ≡ past ++ s ∷ []
-      → ((n : List ℕ) (c : Option (List ℕ)) → may_of mid n c ↔ At name during (may_of old) n c)
+  pub pushed : (during after : Row) (before mid new : Files) (later : Past)
+      → KeepsMoment before mid past later
+      → ((n : List ℕ) (c : Option (List ℕ)) → between before mid n c ↔ At name during (may_of old) n c)
       → ((n : List ℕ) (c : Option (List ℕ)) → may_of new n c ↔ At name after (may_of old) n c)
       → ((c : Option (List ℕ)) → may_of old name c → during c)
       → ((c : Option (List ℕ)) → after c → during c)
       → ((n : List ℕ) → n ≢ name → gives_of new n ≡ gives_of old n)
       → Becomes name during after (memory_world old past f) (memory_world new later g)
-  pushed during after mid new later s was is in_call may keeps narrows elsewhere = subst (λ (l : Past). Becomes name during after (memory_world old past f) (memory_world new l g)) (sym is) (record {
+  pushed during after before mid new later kept in_call may keeps narrows elsewhere = subst (λ (l : Past). Becomes name during after (memory_world old past f) (memory_world new l g)) (sym kept.pushed) (record {
     may = may;
     elsewhere = elsewhere;
     later = omega (arith, length-append past (s ∷ []));
     since = λ t image le. (to t image le, back t image le);
   })
     where
-      seen : (image : Image) → IsImage (At name during (may_of old)) image → IsImage (may_of s.value) image
-      seen image of = subst (λ (fs : Files). IsImage (may_of fs) image) (sym was) (λ n. (in_call n (image n)).1 (of n))
+      s : Moment
+      s = kept.moment
 
-      unseen : (image : Image) → IsImage (may_of s.value) image → IsImage (At name during (may_of old)) image
-      unseen image is = λ n. (in_call n (image n)).0 (subst (λ (fs : Files). IsImage (may_of fs) image) was is n)
+      seen : (image : Image) → IsImage (At name during (may_of old)) image → IsImage (between s.before.value s.after.value) image
+      seen image of = kept_between before mid past later kept image (λ n. (in_call n (image n)).1 (of n))
+
+      unseen : (image : Image) → IsImage (between s.before.value s.after.value) image → IsImage (At name during (may_of old)) image
+      unseen image is = λ n. (in_call n (image n)).0 (between_kept before mid past later kept image is n)
 
       wider : (image : Image) → IsImage (may_of old) image → IsImage (At name during (may_of old)) image
       wider image was n = record { here = λ same. keeps (image n) (subst (λ m. may_of old m (image n)) same (was n)); elsewhere = λ _. was n }

@@ -1,6 +1,6 @@
 -- Each call of a store in memory is what its contract says, whatever its outcome.
-use Rattle.std.proofs.Common.{◌≡◌, ◌≢◌, ◌↔◌, inl, inr, ℕ, true, false, List, Option, Some, None, Result, OnOk, IsSome, refl, sym, ◌∙◌, ap, subst}
-use Rattle.lsm_store.specs.World.{Anything, Only, OldOr, At, Changes}
+use Rattle.std.proofs.Common.{◌≡◌, ◌≢◌, ◌↔◌, inl, inr, ⊎_elim, ℕ, Bool, true, false, List, Option, Some, None, Result, OnOk, IsSome, refl, sym, ◌∙◌, ap, subst}
+use Rattle.lsm_store.specs.World.{Anything, Only, OldOr, At, Becomes, Changes}
 use Rattle.lsm_store.specs.declared.store.StoreError.{StoreError}
 use Rattle.lsm_store.specs.declared.mem_store.plan.Outcome.{Outcome}
 use Rattle.lsm_store.specs.declared.mem_store.plan.Outcome.TheVariants.{Done, Fails, FailsDone, NothingDone}
@@ -8,9 +8,9 @@ use Rattle.lsm_store.specs.Plans.{answer_of, has_effect, MovesOn, AsPlanned}
 use Rattle.lsm_store.specs.declared.mem_store.plan.Plan.{Plan}
 use Rattle.lsm_store.specs.Held.{Held, MayHold, IsWhole, fresh, written, doubted, offered, removed}
 use Rattle.lsm_store.specs.Files.{Files, held_at, Alters, AltersEach}
-use Rattle.lsm_store.specs.Memory.{Past, may_of, gives_of, KeepsMoment, memory_world, written_by, synced_by, replaced_by, ended_by, sync_outcome, HeldAs, EachHeldAs}
+use Rattle.lsm_store.specs.Memory.{Past, may_of, gives_of, between, KeepsMoment, memory_world, written_by, synced_by, replaced_by, ended_by, sync_outcome, HeldAs, EachHeldAs}
 use Rattle.lsm_store.proofs.HeldRows.{row_fresh, row_removed, row_offered}
-use Rattle.lsm_store.proofs.Memories.{at_row, gives_elsewhere, grown, pushed}
+use Rattle.lsm_store.proofs.Memories.{at_row, at_between, gives_elsewhere, grown, pushed}
 
 -- one change after another
 pub alters_then : (name : List ℕ) (f g : Held → Held) (old mid new : Files) → Alters name f old mid → Alters name g mid new → Alters name (λ h. g (f h)) old new
@@ -44,20 +44,21 @@ module _ (name : List ℕ) (old new : Files) (past : Past) (f g : ℕ) where
   took_away FailsDone does whole alters = grown name old past f g (OldOr (may_of old name) None) new (at_row name (removed true) (OldOr (may_of old name) None) old new alters (λ c. row_removed true (held_at old name) c whole)) (λ c may. inl may) (gives_elsewhere name (removed true) old new alters)
   took_away NothingDone does whole alters = absurd (does refl)
 
-module _ (name : List ℕ) (old mid new : Files) (past later : Past) (f g : ℕ) (kept : KeepsMoment mid past later) where
+-- a sync keeps the moment between what was held and what it doubts
+module _ (name : List ℕ) (old mid new : Files) (past later : Past) (f g : ℕ) (kept : KeepsMoment old mid past later) where
   pub made_durable : (o : Outcome) → o ≢ NothingDone → Alters name doubted old mid → Alters name (synced_by o) old new
       → Changes {T = Unit {0}} name Anything (Only (gives_of old name)) (gives_of old name) (memory_world old past f) (memory_world new later g) (answer_of o)
   made_durable o does in_call alters = go o does alters
     where
-      during : (n : List ℕ) (c : Option (List ℕ)) → may_of mid n c ↔ At name Anything (may_of old) n c
-      during = at_row name doubted Anything old mid in_call (any_row (doubted (held_at old name)) refl)
+      during : (n : List ℕ) (c : Option (List ℕ)) → between old mid n c ↔ At name Anything (may_of old) n c
+      during = at_between name doubted Anything old mid in_call (λ c. (λ _. tt, λ _. inr ((any_row (doubted (held_at old name)) refl c).1 tt)))
 
       failed : Alters name doubted old new → Changes {T = Unit {0}} name Anything (Only (gives_of old name)) (gives_of old name) (memory_world old past f) (memory_world new later g) (answer_of Fails)
-      failed alters = pushed name old past f g Anything Anything mid new later kept.0 kept.1 kept.2 during (at_row name doubted Anything old new alters (any_row (doubted (held_at old name)) refl)) (λ c _. tt) (λ c _. tt) (gives_elsewhere name doubted old new alters)
+      failed alters = pushed name old past f g Anything Anything old mid new later kept during (at_row name doubted Anything old new alters (any_row (doubted (held_at old name)) refl)) (λ c _. tt) (λ c _. tt) (gives_elsewhere name doubted old new alters)
 
       go : (o : Outcome) → o ≢ NothingDone → Alters name (synced_by o) old new → Changes {T = Unit {0}} name Anything (Only (gives_of old name)) (gives_of old name) (memory_world old past f) (memory_world new later g) (answer_of o)
       go Done does alters = (
-        pushed name old past f g Anything (Only (gives_of old name)) mid new later kept.0 kept.1 kept.2 during
+        pushed name old past f g Anything (Only (gives_of old name)) old mid new later kept during
             (at_row name (λ h. fresh h.gives) (Only (gives_of old name)) old new alters (row_fresh (gives_of old name))) (λ c _. tt) (λ c _. tt) (gives_elsewhere name (λ h. fresh h.gives) old new alters),
         ap (λ h. h.gives) alters.here ∙ fresh_gives (gives_of old name),
       )
@@ -65,26 +66,30 @@ module _ (name : List ℕ) (old mid new : Files) (past later : Past) (f g : ℕ)
       go FailsDone does alters = failed alters
       go NothingDone does alters = absurd (does refl)
 
-  pub put_in_place : (b : List ℕ) (o : Outcome) → o ≢ NothingDone → IsWhole (held_at old name) → Alters name (offered (has_effect o) b) old mid → Alters name (replaced_by o b) old new
+-- a replacement keeps the moment between what was held and what is held now
+module _ (name : List ℕ) (old new : Files) (past later : Past) (f g : ℕ) (kept : KeepsMoment old new past later) where
+  pub put_in_place : (b : List ℕ) (o : Outcome) → o ≢ NothingDone → (o ≢ Done → IsWhole (held_at old name)) → Alters name (replaced_by o b) old new
       → Changes {T = Unit {0}} name (OldOr (may_of old name) (Some b)) (Only (Some b)) (Some b) (memory_world old past f) (memory_world new later g) (answer_of o)
-  put_in_place b o does whole in_call alters = go o does in_call alters
+  put_in_place b o does whole alters = go o does whole alters
     where
-      go : (o : Outcome) → o ≢ NothingDone → Alters name (offered (has_effect o) b) old mid → Alters name (replaced_by o b) old new → Changes {T = Unit {0}} name (OldOr (may_of old name) (Some b)) (Only (Some b)) (Some b) (memory_world old past f) (memory_world new later g) (answer_of o)
-      go Done does in_call alters = (
-        pushed name old past f g (OldOr (may_of old name) (Some b)) (Only (Some b)) mid new later kept.0 kept.1 kept.2
-            (at_row name (offered true b) (OldOr (may_of old name) (Some b)) old mid in_call (λ c. row_offered true b (held_at old name) c whole))
+      failed : (shown : Bool) → IsWhole (held_at old name) → Alters name (offered shown b) old new → Becomes name (OldOr (may_of old name) (Some b)) (OldOr (may_of old name) (Some b)) (memory_world old past f) (memory_world new later g)
+      failed shown whole alters = let row = row_offered shown b (held_at old name) in
+          pushed name old past f g (OldOr (may_of old name) (Some b)) (OldOr (may_of old name) (Some b)) old new new later kept
+          (at_between name (offered shown b) (OldOr (may_of old name) (Some b)) old new alters (λ c. (⊎_elim (λ was. inl was) (row c whole).0, λ may. inr ((row c whole).1 may))))
+          (at_row name (offered shown b) (OldOr (may_of old name) (Some b)) old new alters (λ c. row c whole)) (λ c may. inl may) (λ c may. may) (gives_elsewhere name (offered shown b) old new alters)
+
+      go : (o : Outcome) → o ≢ NothingDone → (o ≢ Done → IsWhole (held_at old name)) → Alters name (replaced_by o b) old new → Changes {T = Unit {0}} name (OldOr (may_of old name) (Some b)) (Only (Some b)) (Some b) (memory_world old past f) (memory_world new later g) (answer_of o)
+      go Done does whole alters = (
+        pushed name old past f g (OldOr (may_of old name) (Some b)) (Only (Some b)) old new new later kept
+            (at_between name (λ _. fresh (Some b)) (OldOr (may_of old name) (Some b)) old new alters (λ c. (⊎_elim (λ was. inl was) (λ may. inr ((row_fresh (Some b) c).0 may)), ⊎_elim (λ was. inl was) (λ is. inr ((row_fresh (Some b) c).1 is)))))
             (at_row name (λ _. fresh (Some b)) (Only (Some b)) old new alters (row_fresh (Some b))) (λ c may. inl may) (λ c is. inr is) (gives_elsewhere name (λ _. fresh (Some b)) old new alters),
         ap (λ h. h.gives) alters.here,
       )
-      go Fails does in_call alters = pushed name old past f g (OldOr (may_of old name) (Some b)) (OldOr (may_of old name) (Some b)) mid new later kept.0 kept.1 kept.2
-          (at_row name (offered false b) (OldOr (may_of old name) (Some b)) old mid in_call (λ c. row_offered false b (held_at old name) c whole))
-          (at_row name (offered false b) (OldOr (may_of old name) (Some b)) old new alters (λ c. row_offered false b (held_at old name) c whole)) (λ c may. inl may) (λ c may. may) (gives_elsewhere name (offered false b) old new alters)
-      go FailsDone does in_call alters = pushed name old past f g (OldOr (may_of old name) (Some b)) (OldOr (may_of old name) (Some b)) mid new later kept.0 kept.1 kept.2
-          (at_row name (offered true b) (OldOr (may_of old name) (Some b)) old mid in_call (λ c. row_offered true b (held_at old name) c whole))
-          (at_row name (offered true b) (OldOr (may_of old name) (Some b)) old new alters (λ c. row_offered true b (held_at old name) c whole)) (λ c may. inl may) (λ c may. may) (gives_elsewhere name (offered true b) old new alters)
-      go NothingDone does in_call alters = absurd (does refl)
+      go Fails does whole alters = failed false (whole (λ e. cc)) alters
+      go FailsDone does whole alters = failed true (whole (λ e. cc)) alters
+      go NothingDone does whole alters = absurd (does refl)
 
--- ---- the two steps of a sync and of a replacement
+-- ---- the two steps of a sync
 
 pub sync_ends : (name : List ℕ) (old mid new : Files) (e : Outcome) → e ≢ NothingDone → Alters name doubted old mid → Alters name (ended_by e) mid new → Alters name (synced_by e) old new
 sync_ends name old mid new Done does first second = alters_then name doubted (λ h. fresh h.gives) old mid new first second
@@ -102,18 +107,6 @@ sync_does NothingDone c does e = does refl
 
 pub sync_comes : (name : List ℕ) (old mid : Files) (o e : Outcome) → Alters name doubted old mid → e ≡ sync_outcome o (gives_of mid name) → e ≡ sync_outcome o (gives_of old name)
 sync_comes name old mid o e first is = is ∙ ap (λ h. sync_outcome o h.gives) first.here
-
-pub replacement_ends : (name b : List ℕ) (old mid new : Files) (o : Outcome) → o ≢ NothingDone → Alters name (offered (has_effect o) b) old mid → Alters name (ended_by o) mid new → Alters name (replaced_by o b) old new
-replacement_ends name b old mid new Done does first second = alters_then name (offered true b) (λ h. fresh h.gives) old mid new first second
-replacement_ends name b old mid new Fails does first second = alters_then name (offered false b) (λ h. h) old mid new first second
-replacement_ends name b old mid new FailsDone does first second = alters_then name (offered true b) (λ h. h) old mid new first second
-replacement_ends name b old mid new NothingDone does first second = absurd (does refl)
-
-pub replacement_comes : (name b : List ℕ) (old mid : Files) (o e : Outcome) → Alters name (offered (has_effect o) b) old mid → e ≡ sync_outcome o (gives_of mid name) → e ≡ o
-replacement_comes name b old mid Done e first is = is ∙ ap (λ h. sync_outcome Done h.gives) first.here
-replacement_comes name b old mid Fails e first is = is
-replacement_comes name b old mid FailsDone e first is = is
-replacement_comes name b old mid NothingDone e first is = is
 
 -- ---- what a call answers, by its outcome
 

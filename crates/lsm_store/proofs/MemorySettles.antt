@@ -8,7 +8,7 @@ use Rattle.lsm_store.specs.Held.{Held, MayHold, fresh, settled}
 use Rattle.lsm_store.specs.Files.{Files, held_at, AltersEach}
 use Rattle.lsm_store.specs.Memory.{Past, may_of, gives_of, HadBeen, KeepsMoment, memory_world, settled_by}
 use Rattle.lsm_store.proofs.HeldRows.{row_fresh}
-use Rattle.lsm_store.proofs.Memories.{still, newest, either, drop_push}
+use Rattle.lsm_store.proofs.Memories.{still, newest, either, drop_push, kept_between, between_kept}
 use Rattle.lsm_store.proofs.MemoryCalls.{fresh_gives}
 
 -- ---- one name
@@ -35,26 +35,29 @@ only_settled h c impossible never may = go h.torn refl
 
 -- ---- all names
 
-module _ (old new : Files) (past later : Past) (f g : ℕ) (kept : KeepsMoment old past later) where
+once : {P : Type 0} → P ⊎ P → P
+once twice = ⊎_elim (λ p. p) (λ p. p) twice
+
+module _ (old new : Files) (past later : Past) (f g : ℕ) (kept : KeepsMoment old old past later) where
   -- the moment of the call is kept, and no image is added
   narrowed : ((n : List ℕ) → gives_of new n ≡ gives_of old n) → ((n : List ℕ) (c : Option (List ℕ)) → may_of new n c → may_of old n c) → Narrows (memory_world old past f) (memory_world new later g)
-  narrowed gives may = subst (λ (l : Past). Narrows (memory_world old past f) (memory_world new l g)) (sym kept.2) (record {
+  narrowed gives may = subst (λ (l : Past). Narrows (memory_world old past f) (memory_world new l g)) (sym kept.pushed) (record {
     gives = gives;
     may = may;
-    later = omega (arith, length-append past (kept.0 ∷ []));
+    later = omega (arith, length-append past (kept.moment ∷ []));
     since = λ t image le. (to t image le, back t image le);
   })
     where
-      to : (t : ℕ) (image : Image) → t ≤ length past → IsImage (may_of new) image ⊎ HadBeen (drop t (past ++ kept.0 ∷ [])) image → IsImage (may_of old) image ⊎ HadBeen (drop t past) image
+      to : (t : ℕ) (image : Image) → t ≤ length past → IsImage (may_of new) image ⊎ HadBeen (drop t (past ++ kept.moment ∷ [])) image → IsImage (may_of old) image ⊎ HadBeen (drop t past) image
       to t image le left = ⊎_elim (λ now. inl (λ n. may n (image n) (now n)))
-          (λ had. ⊎_elim (λ before. inr before) (λ call. inl (subst (λ (fs : Files). IsImage (may_of fs) image) kept.1 call)) (either (drop t past) kept.0 image (subst (λ (l : Past). HadBeen l image) (drop_push t past kept.0 le) had))) left
+          (λ had. ⊎_elim (λ before. inr before) (λ call. inl (λ n. once (between_kept old old past later kept image call n))) (either (drop t past) kept.moment image (subst (λ (l : Past). HadBeen l image) (drop_push t past kept.moment le) had))) left
 
-      put : (t : ℕ) (image : Image) → t ≤ length past → HadBeen (drop t past ++ kept.0 ∷ []) image → IsImage (may_of new) image ⊎ HadBeen (drop t (past ++ kept.0 ∷ [])) image
-      put t image le had = inr (subst (λ (l : Past). HadBeen l image) (sym (drop_push t past kept.0 le)) had)
+      put : (t : ℕ) (image : Image) → t ≤ length past → HadBeen (drop t past ++ kept.moment ∷ []) image → IsImage (may_of new) image ⊎ HadBeen (drop t (past ++ kept.moment ∷ [])) image
+      put t image le had = inr (subst (λ (l : Past). HadBeen l image) (sym (drop_push t past kept.moment le)) had)
 
-      back : (t : ℕ) (image : Image) → t ≤ length past → IsImage (may_of old) image ⊎ HadBeen (drop t past) image → IsImage (may_of new) image ⊎ HadBeen (drop t (past ++ kept.0 ∷ [])) image
-      back t image le left = ⊎_elim (λ now. put t image le (newest (drop t past) kept.0 image (subst (λ (fs : Files). IsImage (may_of fs) image) (sym kept.1) now)))
-          (λ had. put t image le (still (drop t past) kept.0 image had)) left
+      back : (t : ℕ) (image : Image) → t ≤ length past → IsImage (may_of old) image ⊎ HadBeen (drop t past) image → IsImage (may_of new) image ⊎ HadBeen (drop t (past ++ kept.moment ∷ [])) image
+      back t image le left = ⊎_elim (λ now. put t image le (newest (drop t past) kept.moment image (kept_between old old past later kept image (λ n. inl (now n)))))
+          (λ had. put t image le (still (drop t past) kept.moment image had)) left
 
   narrowed_settled : AltersEach settled old new → Narrows (memory_world old past f) (memory_world new later g)
   narrowed_settled each = narrowed (λ n. ap (λ h. h.gives) (each n) ∙ gives_settled (held_at old n)) (λ n c may. may_settled (held_at old n) c (subst (λ h. MayHold h c) (each n) may))

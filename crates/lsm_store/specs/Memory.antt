@@ -1,19 +1,19 @@
 -- What a store in memory is to its callers.
 use Rattle.std.specs.Prelude.{◌≡◌, ◌⊎◌, ℕ, true, false, List, [], ◌∷◌, ◌++◌, Option, None, Some, Result, Ok, Err, length, drop, refl}
 use mathlib.Core.Logic.{inl, inr}
-use Rattle.std.specs.declared.snapshot.Snapshot.{Snapshot}
 use Rattle.lsm_store.specs.World.{Image, Outcomes, World, IsImage}
 use Rattle.lsm_store.specs.declared.store.StoreError.{StoreError}
 use Rattle.lsm_store.specs.declared.store.StoreError.TheVariants.{OutOfMemory, Fault, NothingDone as Refused}
 use Rattle.lsm_store.specs.declared.mem_store.MemStore.{MemStore}
+use Rattle.lsm_store.specs.declared.mem_store.Moment.{Moment}
 use Rattle.lsm_store.specs.declared.mem_store.plan.Outcome.{Outcome}
 use Rattle.lsm_store.specs.declared.mem_store.plan.Outcome.TheVariants.{Done, Fails, FailsDone, NothingDone}
 use Rattle.lsm_store.specs.Held.{Held, MayHold, fresh, written, doubted, offered, settled}
 use Rattle.lsm_store.specs.Files.{Files, held_at, HoldSame, Alters, AltersEach}
 
--- what was held at moments that have gone by
+-- the calls within which a crash may have come
 abbrev pub Past : Type 0
-Past = List (Snapshot Files)
+Past = List Moment
 
 abbrev pub gives_of : Files → Image
 gives_of files name = (held_at files name).gives
@@ -21,14 +21,21 @@ gives_of files name = (held_at files name).gives
 abbrev pub may_of : Files → Outcomes
 may_of files name = MayHold (held_at files name)
 
+-- what a crash within a call may leave: of each name what it could before the call, or after it
+abbrev pub between : Files → Files → Outcomes
+between before after name c = may_of before name c ⊎ may_of after name c
+
 -- an image of one of these moments
 abbrev pub HadBeen : Past → Image → Type 0
 HadBeen [] image = ⊥
-HadBeen (s ∷ past) image = IsImage (may_of s.value) image ⊎ HadBeen past image
+HadBeen (s ∷ past) image = IsImage (between s.before.value s.after.value) image ⊎ HadBeen past image
 
--- one moment more is kept: what is held now
-abbrev pub KeepsMoment : Files → Past → Past → Type 0
-KeepsMoment now old new = (s : Snapshot Files) × (s.value ≡ now) × (new ≡ old ++ s ∷ [])
+-- one moment more is kept: that of a call between these
+pub record KeepsMoment (before after : Files) (old new : Past) : Type 0 where
+  pub moment : Moment
+  pub is_before : moment.before.value ≡ before
+  pub is_after : moment.after.value ≡ after
+  pub pushed : new ≡ old ++ moment ∷ []
 
 abbrev pub memory_world : Files → Past → ℕ → World
 memory_world files past failures = record {

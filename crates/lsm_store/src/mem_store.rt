@@ -16,7 +16,7 @@ mod plan;
 
 use crate::{Store, StoreError};
 use files::{
-    Files, content_of, doubt_file, end_by, names_of, offer_file, remove_file, settle_by, write_by,
+    Files, content_of, doubt_file, end_by, names_of, remove_file, replace_by, settle_by, write_by,
 };
 pub use picks::Pick;
 use picks::{are_possible, files_left};
@@ -25,6 +25,13 @@ use plan::{Outcome, Plan};
 use std::alloc::{AllocError, Global};
 use std::collections::HashMap;
 use std::snapshot::Snapshot;
+
+/// A call that went by: what was held before it, and after the change that a crash may cut. It takes no bytes.
+#[derive(Drop)]
+struct Moment {
+    before: Snapshot<Files>,
+    after: Snapshot<Files>,
+}
 
 /// A store in memory that tells its content. Its calls fail where that is planned.
 ///
@@ -38,8 +45,8 @@ use std::snapshot::Snapshot;
 pub struct MemStore {
     alloc: Global,
     files: Files,
-    // What was held at moments that have gone by. It takes no bytes.
-    past: Vec<Snapshot<Files>>,
+    // The calls within which a crash may have come.
+    past: Vec<Moment>,
     failures: u64,
     plan: Plan,
 }
@@ -85,13 +92,14 @@ impl MemStore {
         }))
     }
 
-    /// Keeps what is held at this moment. There is room.
-    fn keep_moment(&mut self)
+    /// Keeps the moment of a call, before which this was held. There is room.
+    fn keep_moment(&mut self, before: Snapshot<Files>)
         requires { vec_len self.old.past < vec_capacity self.old.past }
-        ensures past { KeepsMoment self.old.files self.old.past.items self.new.past.items }
+        ensures past { KeepsMoment before.value self.old.files self.old.past.items self.new.past.items }
         ensures rest { self.new ≡ record self.old { past = self.new.past } }
     {
-        let Ok(()) = self.past.push(Snapshot::of(&self.files)) else {
+        let after = Snapshot::of(&self.files);
+        let Ok(()) = self.past.push(Moment { before, after }) else {
             unreachable!()
         };
     }
@@ -189,8 +197,9 @@ impl Store for MemStore {
     {
         let outcome = self.begin()?;
         self.past.try_reserve(1)?;
+        let before = Snapshot::of(&self.files);
         doubt_file(self.alloc, &mut self.files, name)?;
-        self.keep_moment();
+        self.keep_moment(before);
         let ended = end_by(&mut self.files, name, outcome);
         self.answer(ended)
     }
@@ -203,16 +212,10 @@ impl Store for MemStore {
     {
         let outcome = self.begin()?;
         self.past.try_reserve(1)?;
-        offer_file(
-            self.alloc,
-            &mut self.files,
-            name,
-            bytes,
-            outcome.has_effect(),
-        )?;
-        self.keep_moment();
-        let ended = end_by(&mut self.files, name, outcome);
-        self.answer(ended)
+        let before = Snapshot::of(&self.files);
+        replace_by(self.alloc, &mut self.files, name, bytes, outcome)?;
+        self.keep_moment(before);
+        self.answer(outcome)
     }
 
     fn remove(&mut self, name: &str) -> Result<(), StoreError>
@@ -235,7 +238,8 @@ impl Store for MemStore {
     {
         let outcome = self.begin()?;
         self.past.try_reserve(1)?;
-        self.keep_moment();
+        let before = Snapshot::of(&self.files);
+        self.keep_moment(before);
         settle_by(&mut self.files, outcome);
         self.answer(outcome)
     }

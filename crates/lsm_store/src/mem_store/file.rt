@@ -95,7 +95,7 @@ impl File {
         })
     }
 
-    /// While a name that was never used is replaced, or after that failed.
+    /// After a replacement of a name that was never used failed.
     pub fn offered(alloc: Global, bytes: &[u8], shown: bool) -> Result<File, AllocError>
         ensures { IfOk result (λ file. file ≡ offered shown bytes.now nothing) }
     {
@@ -176,7 +176,7 @@ impl File {
         self.torn = true;
     }
 
-    /// While a replacement goes on, or after it failed; its bytes may be what reads give.
+    /// After a replacement that failed; its bytes may be what reads give.
     /// Where it is refused for memory, nothing changes.
     pub fn offer(&mut self, alloc: Global, bytes: &[u8], shown: bool) -> Result<(), AllocError>
         ensures ok { OnOk result (self.new ≡ offered shown bytes.now self.old) }

@@ -1,10 +1,10 @@
 // What a store in memory holds of each name, and what a call makes of it.
-ghost use Rattle.std.specs.Prelude.{◌≡◌, OnOk, OnErr, IsSome, IsTrue, IfOk, ◌↔◌, true, false, map, option_map};
+ghost use Rattle.std.specs.Prelude.{◌≡◌, ◌≢◌, OnOk, OnErr, IsSome, IsTrue, IfOk, ◌↔◌, true, false, map, option_map};
 ghost use Rattle.std.specs.HashMap.{get_by_text};
 ghost use Rattle.lsm_store.specs.Held.{fresh, written, doubted, removed, offered, settled, IsWhole};
 ghost use Rattle.lsm_store.specs.World.{Lists};
 ghost use Rattle.lsm_store.specs.Files.{held_at, HoldSame, Alters, AltersEach};
-ghost use Rattle.lsm_store.specs.Memory.{gives_of, written_by, ended_by, settled_by, sync_outcome};
+ghost use Rattle.lsm_store.specs.Memory.{gives_of, written_by, replaced_by, ended_by, settled_by, sync_outcome};
 ghost use Rattle.std.specs.String.{string_bytes};
 
 use super::file::File;
@@ -83,8 +83,8 @@ pub fn write_by(
     }
 }
 
-/// While a name is replaced, or after that failed; the new bytes may be what reads give.
-pub fn offer_file(
+/// After a replacement that failed; the new bytes may be what reads give.
+fn offer_file(
     alloc: Global,
     files: &mut Files,
     name: &str,
@@ -102,6 +102,27 @@ pub fn offer_file(
     put_file(alloc, files, name, File::offered(alloc, bytes, shown)?)
 }
 
+/// What a replacement with this outcome makes of a name, once it has begun.
+pub fn replace_by(
+    alloc: Global,
+    files: &mut Files,
+    name: &str,
+    bytes: &[u8],
+    outcome: Outcome,
+) -> Result<(), AllocError>
+    requires { outcome ≢ Outcome.NothingDone }
+    ensures ok { OnOk result (Alters name.now (replaced_by outcome bytes.now) files.old files.new) }
+    ensures whole { OnOk result (outcome ≢ Outcome.Done → IsWhole (held_at files.old name.now)) }
+    ensures err { OnErr result (HoldSame files.old files.new) }
+{
+    match outcome {
+        Outcome::Done => put_file(alloc, files, name, File::synced(alloc, bytes)?),
+        Outcome::Fails => offer_file(alloc, files, name, bytes, false),
+        Outcome::FailsDone => offer_file(alloc, files, name, bytes, true),
+        Outcome::NothingDone => unreachable!(),
+    }
+}
+
 /// What reads give of a name is on the disk. Whether there is something.
 pub fn settle_file(files: &mut Files, name: &str) -> bool
     ensures answer { IsTrue result ↔ IsSome (held_at files.old name.now).gives }
@@ -114,7 +135,7 @@ pub fn settle_file(files: &mut Files, name: &str) -> bool
     }
 }
 
-/// Ends a sync or a replacement: where it is done, what reads give is on the disk. It isn't done for an absent name.
+/// Ends a sync: where it is done, what reads give is on the disk. It isn't done for an absent name.
 pub fn end_by(files: &mut Files, name: &str, outcome: Outcome) -> Outcome
     ensures outcome { result ≡ sync_outcome outcome (gives_of files.old name.now) }
     ensures is { Alters name.now (ended_by result) files.old files.new }

@@ -18,7 +18,7 @@ returns-clause-settles c =
     let o = c.in_ok-outcome.outcome in
     let at_end : kept.files ≡ was.files = ap (λ m. m.files) c.keep_moment.ensures.rest in
     let each : AltersEach (settled_by o) was.files end = subst (λ (fs : Files). AltersEach (settled_by o) fs end) at_end c.settle_by.ensures in
-    let moment : KeepsMoment was.files was.past.items kept.past.items = subst (λ (p : Past). KeepsMoment was.files p kept.past.items) c.in_ok-try_reserve.ensures.items c.keep_moment.ensures.past in
+    let moment : KeepsMoment was.files was.files was.past.items kept.past.items = subst (λ (fs : Files). KeepsMoment fs was.files was.past.items kept.past.items) c.of-before.ensures (subst (λ (p : Past). KeepsMoment c.of-before.result.value was.files p kept.past.items) c.in_ok-try_reserve.ensures.items c.keep_moment.ensures.past) in
     subst (λ (m : MemStore). SettlesNames (world_of m) (world_of new) c.answer.result) begun (
     brought (λ fs ps r. SettlesNames (memory_world was.files was.past.items was.failures) (memory_world fs ps new.failures) r) new.files end new.past.items kept.past.items c.answer.result (answer_of o)
     c.answer.ensures.files (ap (λ v. v.items) c.answer.ensures.past) c.answer.ensures.result

@@ -26,7 +26,7 @@ returns-clause-changes c =
     let does : e ≢ NothingDone = λ is. sync_does o (gives_of was.files name) c.in_ok-outcome.ensures.ok.1 (sym comes ∙ is) in
     let second : Alters name (ended_by e) mid end = subst (λ (fs : Files). Alters name (ended_by e) fs end) at_end c.end_by-ended.ensures.is in
     let alters : Alters name (synced_by e) was.files end = sync_ends name was.files mid end e does in_call second in
-    let moment : KeepsMoment mid was.past.items kept.past.items = subst (λ (p : Past). KeepsMoment mid p kept.past.items) c.in_ok-try_reserve.ensures.items c.keep_moment.ensures.past in
+    let moment : KeepsMoment was.files mid was.past.items kept.past.items = subst (λ (fs : Files). KeepsMoment fs mid was.past.items kept.past.items) c.of-before.ensures (subst (λ (p : Past). KeepsMoment c.of-before.result.value mid p kept.past.items) c.in_ok-try_reserve.ensures.items c.keep_moment.ensures.past) in
     subst (λ (m : MemStore). Changes name Anything (Only (gives_of m.files name)) (gives_of m.files name) (world_of m) (world_of new) c.answer.result) begun (
     brought (λ fs ps r. Changes name Anything (Only (gives_of was.files name)) (gives_of was.files name) (memory_world was.files was.past.items was.failures) (memory_world fs ps new.failures) r) new.files end new.past.items kept.past.items c.answer.result (answer_of e)
     c.answer.ensures.files (ap (λ v. v.items) c.answer.ensures.past) c.answer.ensures.result
