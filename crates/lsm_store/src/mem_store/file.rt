@@ -1,9 +1,10 @@
 // What a store in memory holds of one name.
-ghost use Rattle.std.specs.Prelude.{◌≡◌, Some, OnOk, OnErr, IfOk, option_copied, true, false, IsTrue, ◌↔◌, IsSome};
+ghost use Rattle.std.specs.Prelude.{◌≡◌, [], ◌∷◌, Some, OnOk, OnErr, IfOk, option_copied, true, false, IsTrue, ◌↔◌, IsSome};
 ghost use Rattle.std.specs.List.{list_any};
 ghost use Rattle.std.specs.Str.{bytes_eq};
 ghost use Rattle.lsm_store.specs.Held.{MayHold, MayLack, fresh, nothing, written, doubted, removed, offered, settled, softened, IsWhole};
 
+use smallvec::SmallVec;
 use std::alloc::{AllocError, Global};
 use std::marker::Model;
 
@@ -41,7 +42,7 @@ impl Absence {
 /// The contents that a name may have, and which of them reads give.
 #[derive(Drop)]
 pub struct File {
-    contents: Vec<Vec<u8>>,
+    contents: SmallVec<Vec<u8>, 1>,
     /// The place of what reads give. None where the name is absent.
     given: Option<usize>,
     /// The place of what they gave before the last call. None where it was absent, or is no choice any more.
@@ -68,13 +69,22 @@ fn is_among(contents: &[Vec<u8>], bytes: &[u8]) -> bool
     contents.iter().any(|content| content.as_slice() == bytes)
 }
 
+/// One content, which takes no memory of its own.
+fn alone(alloc: Global, content: Vec<u8>) -> SmallVec<Vec<u8>, 1>
+    ensures { result.items ≡ content ∷ [] }
+{
+    let mut contents = SmallVec::new(alloc);
+    contents.push_reserved(content);
+    contents
+}
+
 impl File {
     /// Nothing, as of a name that was never used.
     pub fn new(alloc: Global) -> File
         ensures { result ≡ nothing }
     {
         File {
-            contents: Vec::new(alloc),
+            contents: SmallVec::new(alloc),
             given: None,
             before: None,
             absence: Absence::Usual,
@@ -87,7 +97,7 @@ impl File {
         ensures { IfOk result (λ file. file ≡ fresh (Some bytes.now)) }
     {
         Ok(File {
-            contents: vec![in alloc; bytes.to_vec(alloc)?]?,
+            contents: alone(alloc, bytes.to_vec(alloc)?),
             given: Some(0),
             before: None,
             absence: Absence::Never,
@@ -100,7 +110,7 @@ impl File {
         ensures { IfOk result (λ file. file ≡ offered shown bytes.now nothing) }
     {
         Ok(File {
-            contents: vec![in alloc; bytes.to_vec(alloc)?]?,
+            contents: alone(alloc, bytes.to_vec(alloc)?),
             given: if shown { Some(0) } else { None },
             before: None,
             absence: Absence::Possible,
@@ -113,7 +123,7 @@ impl File {
         ensures { option_copied result ≡ self.now.gives }
     {
         let at = self.given?;
-        Some(&self.contents[at])
+        Some(&self.contents.as_slice()[at])
     }
 
     /// What reads gave before the last call, where that left a choice.
@@ -121,7 +131,7 @@ impl File {
         ensures { option_copied result ≡ self.now.before }
     {
         let at = self.before?;
-        Some(&self.contents[at])
+        Some(&self.contents.as_slice()[at])
     }
 
     /// Whether a crash leaves nothing, unless something else is picked.
@@ -140,7 +150,7 @@ impl File {
         }
         match content {
             None => self.absence.may_lack(),
-            Some(bytes) => is_among(&self.contents, bytes),
+            Some(bytes) => is_among(self.contents.as_slice(), bytes),
         }
     }
 
@@ -149,7 +159,7 @@ impl File {
         ensures ok { OnOk result (self.new ≡ written bytes.now self.old) }
         ensures err { OnErr result (self.new ≡ self.old) }
     {
-        let mut contents = Vec::with_capacity(alloc, 2)?;
+        let mut contents = SmallVec::with_capacity(alloc, 2)?;
         let Ok(()) = contents.push(bytes.to_vec(alloc)?) else {
             unreachable!()
         };
@@ -200,7 +210,7 @@ impl File {
         ensures no { result ≡ false → self.new ≡ self.old }
     {
         let Some(at) = self.given else { return false };
-        self.contents.swap(0, at);
+        self.contents.as_mut_slice().swap(0, at);
         self.contents.truncate(1);
         self.given = Some(0);
         self.before = None;

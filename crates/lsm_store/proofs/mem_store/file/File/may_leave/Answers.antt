@@ -25,7 +25,7 @@ returns-in-Some c =
     let left : IsOneOf h.contents (Some b) ↔ MayHold h (Some b) = some_left h b whole torn in
     let same : byte_lists c.self.inside.contents.items ≡ h.contents = ap (λ x. x.contents) c.self.view_is in
     let some : option_copied c.args.content ≡ Some b = ap option_copied c.in-Some.is in
-    let found : c.is_among.result ≡ list_any (λ v. bytes_eq v.items b) c.self.inside.contents.items = c.is_among.ensures ∙ ap (list_any (λ v. bytes_eq v.items b)) c.deref.ensures.value in
+    let found : c.is_among.result ≡ list_any (λ v. bytes_eq v.items b) c.self.inside.contents.items = c.is_among.ensures ∙ ap (list_any (λ v. bytes_eq v.items b)) c.as_slice.ensures in
     let one = among c.self.inside.contents.items b in (
       (λ yes_. subst (MayHold h) (sym some) (left.0 (subst (λ cs. IsOneOf cs (Some b)) same (one.0 (sym found ∙ yes_))))),
       (λ may. found ∙ one.1 (subst (λ cs. IsOneOf cs (Some b)) (sym same) (left.1 (subst (MayHold h) some may)))),
