@@ -7,27 +7,17 @@ ghost use Rattle.lsm_compaction.specs.Merges.{inputs_in};
 
 use lsm_below::{Run, TableId};
 use lsm_tables::Table;
-use lsm_versions::{Level, copies_chosen, push_run};
+use lsm_versions::{Level, copies_chosen, push_run, tables_in_runs};
 use std::alloc::{AllocError, Global};
 use std::collections::HashSet;
-
-/// Appends copies of tables, which share their entries.
-fn push_copies(copies: &mut Vec<Table>, tables: &[Table]) -> Result<(), AllocError>
-    ensures { OnOk result (copies.new.items ≡ copies.old.items ++ tables.now) }
-{
-    for table in tables {
-        copies.push(table.copy()?)?;
-    }
-    Ok(())
-}
 
 /// Copies of the tables of runs, run by run.
 pub(crate) fn tables_of_runs(alloc: Global, runs: &[Run<Table>]) -> Result<Vec<Table>, AllocError>
     ensures { IfOk result (λ v. v.items ≡ tables_of runs.now) }
 {
     let mut copies = Vec::new(alloc);
-    for run in runs {
-        push_copies(&mut copies, run.as_slice())?;
+    for table in tables_in_runs(runs) {
+        copies.push(table.copy()?)?;
     }
     Ok(copies)
 }

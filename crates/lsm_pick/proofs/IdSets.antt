@@ -1,13 +1,10 @@
--- Ids of tables that are added to others, one table, run or level after the other.
-use Rattle.std.proofs.Common.{◌≡◌, ℕ, ◌+◌, ◌<◌, Bool, true, false, cond, ◌||◌, eqb, List, [], ◌∷◌, ◌++◌, length, get_or, take, map, filter, refl, sym, ap, ◌∙◌, append-nil, subst}
+-- Ids of tables that are added to others, one table after the other.
+use Rattle.std.proofs.Common.{◌≡◌, ℕ, ◌+◌, ◌<◌, Bool, true, false, cond, ◌||◌, eqb, List, [], ◌∷◌, ◌++◌, length, get_or, take, map, filter, refl, sym, ap, ◌∙◌, subst}
 use Rattle.std.specs.List.{list_any}
-use Rattle.std.proofs.lemmas.Grind.{flat_map-append}
 use Rattle.std.proofs.lemmas.List.{take_more}
 use Rattle.std.proofs.lemmas.List.Elements.{filter-append, filter_more}
-use Rattle.lsm_below.specs.Optimizes.{tables_of}
 use Rattle.lsm_tables.specs.Tables.{SeenTable}
 use Rattle.lsm_model.specs.Steps.{among}
-use Rattle.lsm_versions.specs.Levels.{Levels, all_of}
 use Rattle.lsm_versions.specs.TableLaws.{or_none, among_append, put_more}
 use Rattle.lsm_checks.specs.Choices.{AreIdsOf}
 use Rattle.lsm_pick.specs.Tables.{AddsIds}
@@ -35,6 +32,12 @@ adds_all ts us x y f g i =
     let ids = λ (t : SeenTable). t.id in
     g i ∙ ap (λ b. b || among (map ids us) i) (f i) ∙ sym (among_append ids ts us i)
 
+-- those of one more table, where it passes a test
+pub adds_passing : (p : SeenTable → Bool) (ts : List SeenTable) (t : SeenTable) (b : Bool) (x y : List ℕ) → b ≡ p t → AreIdsOf x (filter p ts) → AddsIds (cond b (t ∷ []) []) x y → AreIdsOf y (filter p (ts ++ t ∷ []))
+adds_passing p ts t b x y is f g =
+    let e : filter p ts ++ cond b (t ∷ []) [] ≡ filter p (ts ++ t ∷ []) = ap (λ c. filter p ts ++ cond c (t ∷ []) []) is ∙ sym (filter-append p ts (t ∷ [])) in
+    subst (AreIdsOf y) e (adds_all (filter p ts) (cond b (t ∷ []) []) x y f g)
+
 -- ---- walks
 
 kept_or_not : (p : SeenTable → Bool) (ts : List SeenTable) (n : ℕ) (t : SeenTable) → n < length ts → t ≡ get_or ts n t → filter p (take (n + 1) ts) ≡ filter p (take n ts) ++ cond (p t) (t ∷ []) []
@@ -55,28 +58,6 @@ pub adds_if :
 adds_if p ts n t b x y z lt read is f g =
     let e : filter p (take n ts) ++ cond b (t ∷ []) [] ≡ filter p (take (n + 1) ts) = ap (λ c. filter p (take n ts) ++ cond c (t ∷ []) []) is ∙ sym (kept_or_not p ts n t lt read) in
     subst (λ us. AddsIds us x z) e (adds_both (filter p (take n ts)) (cond b (t ∷ []) []) x y z f g)
-
-pub flat_more : {A : Type 0} (xss : List (List A)) (n : ℕ) (xs : List A) → n < length xss → xs ≡ get_or xss n xs → tables_of (take (n + 1) xss) ≡ tables_of (take n xss) ++ xs
-flat_more xss n xs lt read =
-    ap tables_of (take_more xss n xs lt ∙ ap (λ x. take n xss ++ x ∷ []) (sym read))
-    ∙ (flat_map-append (λ r. r) (take n xss) (xs ∷ []) ∙ ap (λ l. tables_of (take n xss) ++ l) (append-nil xs))
-
-pub adds_run :
-    (p : SeenTable → Bool) (runs : List (List SeenTable)) (n : ℕ) (run : List SeenTable) (x y z : List ℕ) → n < length runs → run ≡ get_or runs n run →
-    AddsIds (filter p (tables_of (take n runs))) x y → AddsIds (filter p run) y z → AddsIds (filter p (tables_of (take (n + 1) runs))) x z
-adds_run p runs n run x y z lt read f g =
-    let so_far = tables_of (take n runs) in
-    let e : filter p so_far ++ filter p run ≡ filter p (tables_of (take (n + 1) runs)) = sym (filter-append p so_far run) ∙ ap (filter p) (sym (flat_more runs n run lt read)) in
-    subst (λ us. AddsIds us x z) e (adds_both (filter p so_far) (filter p run) x y z f g)
-
-pub adds_level :
-    (p : SeenTable → Bool) (levels : Levels) (n : ℕ) (level : List (List SeenTable)) (x y z : List ℕ) → n < length levels → level ≡ get_or levels n level →
-    AddsIds (filter p (all_of (take n levels))) x y → AddsIds (filter p (tables_of level)) y z → AddsIds (filter p (all_of (take (n + 1) levels))) x z
-adds_level p levels n level x y z lt read f g =
-    let so_far = all_of (take n levels) in
-    let whole : all_of (take (n + 1) levels) ≡ so_far ++ tables_of level = ap tables_of (flat_more levels n level lt read) ∙ flat_map-append (λ r. r) (tables_of (take n levels)) level in
-    let e : filter p so_far ++ filter p (tables_of level) ≡ filter p (all_of (take (n + 1) levels)) = sym (filter-append p so_far (tables_of level)) ∙ ap (filter p) (sym whole) in
-    subst (λ us. AddsIds us x z) e (adds_both (filter p so_far) (filter p (tables_of level)) x y z f g)
 
 -- ---- sets
 

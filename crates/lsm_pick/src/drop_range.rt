@@ -1,16 +1,12 @@
 // Drops what lies within bounds.
-ghost use Rattle.std.specs.Prelude.{◌≡◌, IfOk, OnOk, filter, codes};
-ghost use Rattle.lsm_below.specs.Optimizes.{tables_of};
-ghost use Rattle.lsm_versions.specs.Levels.{range};
+ghost use Rattle.std.specs.Prelude.{◌≡◌, IfOk, codes};
 ghost use Rattle.lsm_checks.specs.Choices.{AreIdsOf};
-ghost use Rattle.lsm_pick.specs.Tables.{AddsIds};
-ghost use Rattle.lsm_pick.specs.Simple.{MayDropRange, holds, bounded};
+ghost use Rattle.lsm_pick.specs.Simple.{MayDropRange, bounded};
 
 use crate::tables::push_if;
 use crate::{Choice, ChooseError, CompactionStrategy, OwnedBounds};
-use lsm_below::{Ranged, Run, TableId};
-use lsm_tables::Table;
-use lsm_versions::{CompactionState, Config, HiddenSet, Level, Version};
+use lsm_below::{Ranged, TableId};
+use lsm_versions::{CompactionState, Config, HiddenSet, Level, Version, tables_in};
 use std::alloc::{AllocError, Global};
 use std::collections::HashSet;
 use std::marker::Model;
@@ -35,48 +31,6 @@ impl Model for DropRange {
     ghost view = { λ d. d.bounds };
 }
 
-/// Adds the ids of a run's tables within bounds to others.
-fn push_run(
-    ids: &mut HashSet<TableId>,
-    bounds: &OwnedBounds,
-    tables: &[Table],
-) -> Result<(), AllocError>
-    ensures { OnOk result (AddsIds (filter (λ t. holds bounds.now (range t)) tables.now) ids.old.keys ids.new.keys) }
-{
-    for table in tables {
-        push_if(ids, table, bounds.contains(table.key_range()))?;
-    }
-    Ok(())
-}
-
-/// Adds those of several runs.
-fn push_runs(
-    ids: &mut HashSet<TableId>,
-    bounds: &OwnedBounds,
-    runs: &[Run<Table>],
-) -> Result<(), AllocError>
-    ensures { OnOk result (AddsIds (filter (λ t. holds bounds.now (range t)) (tables_of runs.now)) ids.old.keys ids.new.keys) }
-{
-    for run in runs {
-        push_run(ids, bounds, run.as_slice())?;
-    }
-    Ok(())
-}
-
-/// Adds those of all levels.
-fn push_levels(
-    ids: &mut HashSet<TableId>,
-    bounds: &OwnedBounds,
-    levels: &[Level],
-) -> Result<(), AllocError>
-    ensures { OnOk result (AddsIds (bounded bounds.now levels.now) ids.old.keys ids.new.keys) }
-{
-    for level in levels {
-        push_runs(ids, bounds, level.as_slice())?;
-    }
-    Ok(())
-}
-
 /// The ids of the tables within bounds.
 fn ids_within(
     alloc: Global,
@@ -86,7 +40,9 @@ fn ids_within(
     ensures { IfOk result (λ ids. AreIdsOf ids.keys (bounded bounds.now levels.now)) }
 {
     let mut ids = HashSet::new(alloc);
-    push_levels(&mut ids, bounds, levels)?;
+    for table in tables_in(levels) {
+        push_if(&mut ids, table, bounds.contains(table.key_range()))?;
+    }
     Ok(ids)
 }
 

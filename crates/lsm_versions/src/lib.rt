@@ -6,7 +6,7 @@
 //! | `hidden_set`, `compaction_state` | the tables that open jobs work on; what strategies are told of them |
 //! | `level` | a level: runs of tables, the newest first |
 //! | `version` | seven levels with an id, and the four ways to make a next version |
-//! | `tables` | the tables of a version, one after the other |
+//! | `tables` | the tables of levels or of runs, one after the other |
 //! | `totals` | what is counted of tables together |
 //! | `lookup` | look-ups of a version's tables by their ids |
 //! | `walk` | look-ups of a key in a version's tables |
@@ -35,6 +35,6 @@ pub use level::{
     GenericLevel, Level, copies, copies_chosen, copies_left, has_id, push_run, run_has,
 };
 pub use lookup::{all_tables, ids_are_own, ids_of_levels};
-pub use tables::Tables;
+pub use tables::{Tables, tables_in, tables_in_runs};
 pub use totals::Totals;
 pub use version::{DEFAULT_LEVEL_COUNT, TreeType, Version, VersionId, chosen_runs, levels_fit};

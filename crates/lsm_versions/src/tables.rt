@@ -1,4 +1,4 @@
-// The tables of a version, one after the other.
+// The tables of levels or of runs, one after the other.
 ghost use Rattle.std.specs.Prelude.{◌≡◌, [], ◌∷◌, ◌++◌, length, MatchOption};
 ghost use Rattle.std.specs.Iterator.{at_most};
 ghost use Rattle.lsm_below.specs.Optimizes.{tables_of};
@@ -9,7 +9,7 @@ use lsm_below::Run;
 use lsm_tables::Table;
 use std::marker::Model;
 
-/// The tables of a version, level by level and run by run.
+/// Tables, level by level and run by run: those of a version, of levels (`tables_in`) or of runs (`tables_in_runs`).
 ///
 /// ```text
 /// for table in version.iter_tables() { .. }
@@ -91,12 +91,34 @@ fn split_front<'a>(
     Some((table, rest))
 }
 
-/// All tables of levels.
-pub(crate) fn tables_in(levels: &[Level]) -> Tables<'_>
+/// All tables of levels, one after the other.
+pub fn tables_in(levels: &[Level]) -> Tables<'_>
     ensures { result ≡ all_of levels.now }
 {
     Tables {
         tables: &[],
+        runs: &[],
+        levels,
+    }
+}
+
+/// All tables of runs, one after the other.
+pub fn tables_in_runs(runs: &[Run<Table>]) -> Tables<'_>
+    ensures { result ≡ tables_of runs.now }
+{
+    Tables {
+        tables: &[],
+        runs,
+        levels: &[],
+    }
+}
+
+/// Tables, and behind them all of levels.
+pub(crate) fn tables_before<'a>(tables: &'a [Table], levels: &'a [Level]) -> Tables<'a>
+    ensures { result ≡ tables.now ++ all_of levels.now }
+{
+    Tables {
+        tables,
         runs: &[],
         levels,
     }

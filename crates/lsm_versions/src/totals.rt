@@ -1,12 +1,11 @@
 // What is counted of tables together.
 ghost use Rattle.std.specs.Prelude.{◌≡◌, List, ◌∷◌, ◌++◌, []};
-ghost use Rattle.lsm_below.specs.Optimizes.{tables_of};
 ghost use Rattle.lsm_tables.specs.Tables.{SeenTable};
 ghost use Rattle.lsm_versions.specs.Levels.{all_of};
 ghost use Rattle.lsm_versions.specs.Totals.{totals_of};
 
-use crate::Level;
-use lsm_below::{Run, SeqNo};
+use crate::{Level, tables_in};
+use lsm_below::SeqNo;
 use lsm_tables::Table;
 
 /// What is counted of tables together. A sum past 2^64 - 1 stands there.
@@ -77,33 +76,13 @@ impl Totals {
     }
 }
 
-fn totals_in_run(run: &[Table]) -> Totals
-    ensures { result ≡ totals_of run.now }
-{
-    let mut totals = Totals::none();
-    for table in run {
-        totals = totals.plus(Totals::of(table));
-    }
-    totals
-}
-
-fn totals_in_runs(runs: &[Run<Table>]) -> Totals
-    ensures { result ≡ totals_of (tables_of runs.now) }
-{
-    let mut totals = Totals::none();
-    for run in runs {
-        totals = totals.plus(totals_in_run(run.as_slice()));
-    }
-    totals
-}
-
 /// What is counted of all tables of levels.
 pub(crate) fn totals_in(levels: &[Level]) -> Totals
     ensures { result ≡ totals_of (all_of levels.now) }
 {
     let mut totals = Totals::none();
-    for level in levels {
-        totals = totals.plus(totals_in_runs(level.as_slice()));
+    for table in tables_in(levels) {
+        totals = totals.plus(Totals::of(table));
     }
     totals
 }

@@ -20,7 +20,7 @@ ghost use Rattle.lsm_below.specs.declared.error.Error.TheVariants.{OutOfMemory};
 use crate::level::see_run;
 use crate::tables::tables_in;
 use crate::totals::totals_in;
-use crate::{Level, Tables, Totals};
+use crate::{Level, Tables, Totals, has_id};
 use lsm_below::{Error, Run, SeqNo, TableId, optimize_runs};
 use lsm_model::{levels_rise, tables_are_placed};
 use lsm_tables::Table;
@@ -103,8 +103,10 @@ pub fn chosen_runs(
     ensures { IfOk result (λ v. tables_of v.items ≡ chosen_from ids.now.keys levels.now) }
 {
     let mut runs = Vec::new(alloc);
-    for level in levels {
-        level.push_chosen(alloc, ids, &mut runs)?;
+    for table in tables_in(levels) {
+        if has_id(ids, table.id()) {
+            runs.push(Run::single(alloc, table.copy()?)?)?;
+        }
     }
     Ok(runs)
 }

@@ -7,7 +7,7 @@ ghost use Rattle.lsm_pick.specs.Leveled.{shown_size, unhidden_bytes, GoesLast, I
 use crate::level_hull::are_apart;
 use lsm_below::Run;
 use lsm_tables::Table;
-use lsm_versions::{HiddenSet, Level};
+use lsm_versions::{HiddenSet, Level, tables_in_runs};
 use std::alloc::{AllocError, Global};
 
 /// The bytes of a table's file, 0 where it is hidden.
@@ -20,26 +20,13 @@ fn shown_size(hidden: &HiddenSet, table: &Table) -> u64
     table.file_size()
 }
 
-/// The bytes of a run's unhidden tables.
-#[tactic(auto, using(crate::proofs::ShownSteps::shown_more))]
-fn unhidden_in_run(hidden: &HiddenSet, tables: &[Table]) -> u64
-    ensures { result ≡ unhidden_bytes hidden.now tables.now }
-{
-    let mut total: u64 = 0;
-    for table in tables {
-        total = total.saturating_add(shown_size(hidden, table));
-    }
-    total
-}
-
 /// The bytes of the unhidden tables of several runs; a sum past 2^64 - 1 stands there.
-#[tactic(auto, using(crate::proofs::ShownSteps::run_more))]
 pub(crate) fn unhidden_bytes(hidden: &HiddenSet, runs: &[Run<Table>]) -> u64
     ensures { result ≡ unhidden_bytes hidden.now (tables_of runs.now) }
 {
     let mut total: u64 = 0;
-    for run in runs {
-        total = total.saturating_add(unhidden_in_run(hidden, run.as_slice()));
+    for table in tables_in_runs(runs) {
+        total = total.saturating_add(shown_size(hidden, table));
     }
     total
 }

@@ -1,4 +1,4 @@
-use Rattle.std.proofs.Common.{◌≡◌, ◌+◌, ℕ, ap, ◌∙◌, arith}
+use Rattle.std.proofs.Common.{◌+◌, ap, ◌∙◌, arith}
 use Rattle.lsm_below.specs.Sums.{capped}
 use Rattle.lsm_versions.specs.declared.totals.Totals.{Totals}
 use Rattle.lsm_versions.proofs.Numbers.{above_none, above_some}
