@@ -1,7 +1,7 @@
 -- What is left of the tables of a run, one behind the other, rises.
-use Rattle.std.proofs.Common.{◌≡◌, ℕ, ◌+◌, ◌<◌, true, ◌&&◌, List, [], ◌∷◌, ◌++◌, length, get_or, take, flat_map, refl, sym, ap, ◌∙◌, append-nil}
+use Rattle.std.proofs.Common.{◌≡◌, ℕ, ◌+◌, ◌<◌, ◌≤◌, true, ◌&&◌, List, [], ◌∷◌, ◌++◌, length, get_or, take, flat_map, refl, sym, ap, ◌∙◌, append-nil}
 use Rattle.std.proofs.lemmas.Grind.{flat_map-append}
-use Rattle.std.proofs.lemmas.List.{take_more}
+use Rattle.std.proofs.lemmas.List.{take_all, take_more}
 use Rattle.std.specs.List.{All, AllByRecursion}
 use Rattle.std.specs.declared.cmp.Ordering.{Ordering}
 use Rattle.std.specs.declared.cmp.Ordering.TheVariants.{Less, Equal, Greater}
@@ -105,3 +105,11 @@ module _ (low high : Bound Bytes) (s : ℕ) where
   pub left_more : (ts : List SeenTable) (i : ℕ) (t : SeenTable) → i < length ts → t ≡ get_or ts i t → flat_map left_in (take (i + 1) ts) ≡ flat_map left_in (take i ts) ++ left_in t
   left_more ts i t lt is =
       ap (flat_map left_in) (take_more ts i t lt ∙ ap (λ u. take i ts ++ u ∷ []) (sym is)) ∙ flat_map-append left_in (take i ts) (t ∷ []) ∙ ap (λ l. flat_map left_in (take i ts) ++ l) (append-nil (left_in t))
+
+  -- of which what is left stands behind what is left of those before it
+  pub left_kept : (ts : List SeenTable) (i : ℕ) (t : SeenTable) (old part new : List Entry) → i < length ts → t ≡ get_or ts i t → new ≡ old ++ part → part ≡ left_in t → old ≡ flat_map left_in (take i ts) → new ≡ flat_map left_in (take (i + 1) ts)
+  left_kept ts i t old part new lt is pushed left before = pushed ∙ ap (λ l. old ++ l) left ∙ ap (λ l. l ++ left_in t) before ∙ sym (left_more ts i t lt is)
+
+  -- and of all of them
+  pub left_whole : (ts : List SeenTable) (i : ℕ) (all : List Entry) → length ts ≤ i → all ≡ flat_map left_in (take i ts) → all ≡ flat_map left_in ts
+  left_whole ts i all le is = is ∙ ap (flat_map left_in) (take_all i ts le)

@@ -1,12 +1,14 @@
 -- Lists that are one behind the other, from both ends.
-use Rattle.std.proofs.Common.{◌≡◌, ◌≢◌, ℕ, ◌+◌, false, is_some, option_copied, List, [], ◌∷◌, ◌++◌, length, get_or, set, take, Option, Some, None, refl, sym, ap, ◌∙◌, subst, arith, append-nil, append_assoc}
+use Rattle.std.proofs.Common.{◌≡◌, ◌≢◌, ℕ, ◌+◌, ◌-◌, ◌<◌, eqb, false, is_some, option_copied, List, [], ◌∷◌, ◌++◌, length, get_or, set, take, Option, Some, None, refl, sym, ap, ◌∙◌, subst, arith, append-nil, append_assoc}
 use Rattle.std.specs.Borrow.{Bor}
+use Rattle.std.proofs.lemmas.Bool.{eqb-false}
 use Rattle.std.proofs.lemmas.Grind.{flat_map-append}
-use Rattle.std.proofs.lemmas.List.{take_all, take_more, take_more_set, take-set-le, length-set}
+use Rattle.std.proofs.lemmas.List.{take_all, take_more, take_more_set, take-set-le, length-set, get_or-set_same}
 use Rattle.std.proofs.lemmas.List.Elements.{All-take}
 use Rattle.lsm_below.specs.Entries.{Entry}
-use Rattle.lsm_iter.specs.Left.{last_item, Takes}
+use Rattle.lsm_iter.specs.Left.{last_item, end_item, Takes}
 use Rattle.lsm_iter.specs.Shared.{joined, AreFull}
+use Rattle.lsm_iter.specs.declared.tree_iter.End.{End}
 use Rattle.lsm_iter.specs.declared.tree_iter.End.TheVariants.{Back}
 use Rattle.lsm_iter.proofs.Tops.{last_append, no_last}
 use Rattle.lsm_iter.proofs.Trims.{takes_back}
@@ -22,6 +24,10 @@ last_with front (x ∷ xs) some = last_append front x xs
 last_taken : (p q : List Entry) (o : Option Entry) → p ≢ [] → Takes Back p o q → (x : Entry) × (p ≡ q ++ x ∷ [])
 last_taken p q None some h = absurd (some h.0)
 last_taken p q (Some x) some h = (x, h)
+
+-- where the last one stands
+pub last_place : (lists : List (List Entry)) (n len : ℕ) → len ≡ length lists → n ≡ len → eqb len 0 ≡ false → n - 1 + 1 ≡ length lists
+last_place lists n len is found some = let more = eqb-false len 0 some in omega (arith, is, found, more)
 
 -- the last list is p, at the place n
 module _ (lists : List (List Entry)) (n : ℕ) (p : List Entry) (one : n + 1 ≡ length lists) (read : p ≡ get_or lists n p) (full : AreFull lists) where
@@ -45,12 +51,19 @@ module _ (lists : List (List Entry)) (n : ℕ) (p : List Entry) (one : n + 1 ≡
       (ap joined split_last ∙ joined_push (take n lists) p ∙ ap (λ l. front ++ l) taken.1 ∙ sym (append_assoc front q (taken.0 ∷ [])) ∙ ap (λ l. l ++ taken.0 ∷ []) (sym (ap joined (set_last q) ∙ joined_push (take n lists) q)))
 
   -- where nothing of it is left, it goes
-  pub back_popped : (q : List Entry) (rest : List (List Entry)) → q ≡ [] → rest ≡ take n (set lists n q) → (joined (set lists n q) ≡ joined rest) × AreFull rest
+  back_popped : (q : List Entry) (rest : List (List Entry)) → q ≡ [] → rest ≡ take n (set lists n q) → (joined (set lists n q) ≡ joined rest) × AreFull rest
   back_popped q rest none is =
       let same : rest ≡ take n lists = is ∙ take-set-le n lists n q (omega arith) in (
         ap joined (set_last q) ∙ joined_push (take n lists) q ∙ ap (λ l. joined (take n lists) ++ l) none ∙ append-nil (joined (take n lists)) ∙ sym (ap joined same),
         subst AreFull (sym same) (All-take (λ l. l ≢ []) n lists full),
       )
+
+  -- it loses its entry, after which it is read once more, has none, and goes
+  pub back_gone : (q seen : List Entry) (rest : List (List Entry)) → Takes Back p (last_item p) q → seen ≡ get_or (set lists n q) n seen → seen ≡ [] → rest ≡ take n (set lists n q)
+      → Takes Back (joined lists) (last_item (joined lists)) (joined rest) × AreFull rest
+  back_gone q seen rest takes read_again none is =
+      let popped = back_popped q rest (sym (read_again ∙ get_or-set_same lists n q seen (omega arith)) ∙ none) is in
+      (subst (Takes Back (joined lists) (last_item (joined lists))) popped.0 (back_skipped q takes), popped.1)
 
   -- it grows
   pub back_pushed : (e : Entry) (q : List Entry) → q ≡ p ++ e ∷ [] → joined (set lists n q) ≡ joined lists ++ e ∷ []
@@ -59,6 +72,10 @@ module _ (lists : List (List Entry)) (n : ℕ) (p : List Entry) (one : n + 1 ≡
       ap joined (set_last q) ∙ joined_push (take n lists) q ∙ ap (λ l. front ++ l) is ∙ sym (append_assoc front p (e ∷ [])) ∙ ap (λ l. l ++ e ∷ []) (sym (ap joined split_last ∙ joined_push (take n lists) p))
 
 -- ---- as the code goes
+
+pub back_seen : (lists : List (List Entry)) (len : ℕ) (p : List Entry) (end : End) → len ≡ length lists → 0 < len → p ≡ get_or lists (len - 1) p → AreFull lists → end ≡ Back → end_item end p ≡ end_item end (joined lists)
+back_seen lists len p end is some read full at_back =
+    ap (λ x. end_item x p) at_back ∙ sym (ap (λ x. end_item x (joined lists)) at_back ∙ back_peeked lists (len - 1) p (omega (arith, is, some)) read full)
 
 pub none_left : (r : Option (Bor Entry)) (p : List Entry) → is_some r ≡ false → option_copied r ≡ last_item p → p ≡ []
 none_left None p none is = no_last p (sym is)

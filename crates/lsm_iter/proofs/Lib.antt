@@ -8,6 +8,7 @@ pub mod Firsts
 pub mod Puts
 pub mod Shows
 pub mod Alone
+pub mod Compared
 pub mod Steps
 pub mod Tops
 pub mod Trims

@@ -134,20 +134,30 @@ puts_run low high s run old new c pushed is held rise bytes = record {
 }
 
 -- one run more, of a level or of all
-pub puts_more : (low high : Bound Bytes) (s : ℕ) (ts more all : List SeenTable) (a b c : List SeenCursor) → all ≡ ts ++ more → PutsCursors low high (map (part_at s) ts) 0 a b → PutsCursors low high (map (part_at s) more) 0 b c → PutsCursors low high (map (part_at s) all) 0 a c
+puts_more : (low high : Bound Bytes) (s : ℕ) (ts more all : List SeenTable) (a b c : List SeenCursor) → all ≡ ts ++ more → PutsCursors low high (map (part_at s) ts) 0 a b → PutsCursors low high (map (part_at s) more) 0 b c → PutsCursors low high (map (part_at s) all) 0 a c
 puts_more low high s ts more all a b c is h k =
     subst (λ l. PutsCursors low high (map (part_at s) l) 0 a c) (sym is)
     (subst (λ parts. PutsCursors low high parts 0 a c) (sym (map-append (part_at s) ts more)) (puts_then low high (map (part_at s) ts) (map (part_at s) more) 0 0 a b c h k))
 
-pub runs_more : (runs : List (List SeenTable)) (i : ℕ) (run : List SeenTable) → i < length runs → run ≡ get_or runs i run → tables_of (take (i + 1) runs) ≡ tables_of (take i runs) ++ run
+runs_more : (runs : List (List SeenTable)) (i : ℕ) (run : List SeenTable) → i < length runs → run ≡ get_or runs i run → tables_of (take (i + 1) runs) ≡ tables_of (take i runs) ++ run
 runs_more runs i run lt is =
     ap tables_of (take_more runs i run lt ∙ ap (λ x. take i runs ++ x ∷ []) (sym is)) ∙ flat_map-append (λ r. r) (take i runs) (run ∷ []) ∙ ap (λ l. tables_of (take i runs) ++ l) (append-nil run)
 
-pub levels_more : (levels : Levels) (i : ℕ) (level : List (List SeenTable)) → i < length levels → level ≡ get_or levels i level → all_of (take (i + 1) levels) ≡ all_of (take i levels) ++ tables_of level
+levels_more : (levels : Levels) (i : ℕ) (level : List (List SeenTable)) → i < length levels → level ≡ get_or levels i level → all_of (take (i + 1) levels) ≡ all_of (take i levels) ++ tables_of level
 levels_more levels i level lt is =
     ap all_of (take_more levels i level lt ∙ ap (λ x. take i levels ++ x ∷ []) (sym is))
     ∙ ap tables_of (flat_map-append (λ r. r) (take i levels) (level ∷ []) ∙ ap (λ l. tables_of (take i levels) ++ l) (append-nil level))
     ∙ flat_map-append (λ r. r) (tables_of (take i levels)) level
+
+module _ (low high : Bound Bytes) (s : ℕ) (i : ℕ) (a b c : List SeenCursor) where
+  pub run_put : (runs : List (List SeenTable)) (run : List SeenTable) → i < length runs → run ≡ get_or runs i run → PutsCursors low high (map (part_at s) (tables_of (take i runs))) 0 a b → PutsCursors low high (map (part_at s) run) 0 b c
+      → PutsCursors low high (map (part_at s) (tables_of (take (i + 1) runs))) 0 a c
+  run_put runs run lt is h k = puts_more low high s (tables_of (take i runs)) run (tables_of (take (i + 1) runs)) a b c (runs_more runs i run lt is) h k
+
+  pub level_put : (levels : Levels) (level runs : List (List SeenTable)) → i < length levels → level ≡ get_or levels i level → runs ≡ level → PutsCursors low high (map (part_at s) (all_of (take i levels))) 0 a b → PutsCursors low high (map (part_at s) (tables_of runs)) 0 b c
+      → PutsCursors low high (map (part_at s) (all_of (take (i + 1) levels))) 0 a c
+  level_put levels level runs lt is same h k =
+      puts_more low high s (all_of (take i levels)) (tables_of runs) (all_of (take (i + 1) levels)) a b c (levels_more levels i level lt is ∙ ap (λ l. all_of (take i levels) ++ tables_of l) (sym same)) h k
 
 -- ---- what holds of all tables holds of those of a run, and of a level
 

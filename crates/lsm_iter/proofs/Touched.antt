@@ -30,24 +30,19 @@ back a b h = nat_list_cmp_total.antisymm b a ∙ ap ordering_reverse h
 no_less : (a b : Bytes) → bytes_cmp a b ≡ Less → is_le (bytes_cmp b a) ≡ false
 no_less a b h = ap is_le (back a b h)
 
--- not below from here
+-- not less, where something would be that isn't
+not_less : (r : Ordering) (b : Bool) → (r ≡ Less → b ≡ true) → b ≡ false → is_lt r ≡ false
+not_less Less b then other = absurd (let bad : true ≡ false = sym (then refl) ∙ other in cc bad)
+not_less Equal b then other = refl
+not_less Greater b then other = refl
+
 not_below : (a b c : Bytes) → is_below a b ≡ false → is_le (bytes_cmp c b) ≡ true → is_lt (bytes_cmp a c) ≡ false
 unfolding is_below
-not_below a b c h le = go (bytes_cmp a c) refl
-  where
-    go : (r : Ordering) → bytes_cmp a c ≡ r → is_lt r ≡ false
-    go Less is = absurd (let bad : true ≡ false = sym (ap is_lt (less_le a c b is le)) ∙ h in cc bad)
-    go Equal is = refl
-    go Greater is = refl
+not_below a b c h le = not_less (bytes_cmp a c) (is_below a b) (λ less. ap is_lt (less_le a c b less le)) h
 
 not_above : (a b c : Bytes) → is_below b a ≡ false → is_le (bytes_cmp b c) ≡ true → is_lt (bytes_cmp c a) ≡ false
 unfolding is_below
-not_above a b c h le = go (bytes_cmp c a) refl
-  where
-    go : (r : Ordering) → bytes_cmp c a ≡ r → is_lt r ≡ false
-    go Less is = absurd (let bad : true ≡ false = sym (ap is_lt (le_less b c a le is)) ∙ h in cc bad)
-    go Equal is = refl
-    go Greater is = refl
+not_above a b c h le = not_less (bytes_cmp c a) (is_below b a) (λ less. ap is_lt (le_less b c a le less)) h
 
 short_outside : (low : Bound Bytes) (r : Range) (k : Bytes) → is_le (bytes_cmp k r.max) ≡ true → is_short_of low r ≡ true → is_from low k ≡ false
 short_outside (Included b) r k le h = no_less k b (le_less k r.max b le (below_less r.max b h))

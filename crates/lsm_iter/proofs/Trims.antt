@@ -229,7 +229,7 @@ range_take es low high n le =
     let size : n ≡ low + n - low = omega arith in
     take-take n (high - low) (drop low es) (omega arith) ∙ ap (λ m. take m (drop low es)) size
 
-pub length_range : (es : List Entry) (low high : ℕ) → high ≤ length es → length (slice_range es low high) ≡ high - low
+length_range : (es : List Entry) (low high : ℕ) → high ≤ length es → length (slice_range es low high) ≡ high - low
 length_range es low high le = length-take-le (high - low) (drop low es) (omega (arith, length-drop low es))
 
 -- the lower place goes up
@@ -246,7 +246,7 @@ low_moved s es seen low high n is le inside short takes trimmed =
     )
 
 -- a part of a table, trimmed at the front and then at the back
-pub trimmed_part : (s : ℕ) (es : List Entry) (low end h r : ℕ) → low + h + r ≤ end → Trims Front s (slice_range es low end) (drop h (slice_range es low end)) → Trims Back s (slice_range es (low + h) end) (take r (slice_range es (low + h) end))
+trimmed_part : (s : ℕ) (es : List Entry) (low end h r : ℕ) → low + h + r ≤ end → Trims Front s (slice_range es low end) (drop h (slice_range es low end)) → Trims Back s (slice_range es (low + h) end) (take r (slice_range es (low + h) end))
     → (tops (at s (slice_range es (low + h) (low + h + r))) ≡ tops (at s (slice_range es low end))) × IsTrimmed s (slice_range es (low + h) (low + h + r))
 trimmed_part s es low end h r le front back =
     let first : drop h (slice_range es low end) ≡ slice_range es (low + h) end = range_drop es low end h (omega arith) in
@@ -258,3 +258,20 @@ trimmed_part s es low end h r le front back =
       trimmed_back s mid (drop r mid) out [] (sym (take-append-drop r mid) ∙ ap (λ l. l ++ drop r mid) part) (sym same ∙ sym (append-nil (tops (at s out))))
           (subst (λ l. end_item Front (tops (at s l)) ≡ end_item Front l) first front.ends) (subst (λ l. end_item Back (tops (at s l)) ≡ end_item Back l) part back.ends),
     )
+
+-- the part of a table that was found for bounds: h entries at its front don't count, and r are left of the others
+module _ (s : ℕ) (es all part : List Entry) (low end h r : ℕ) (is : es ≡ all) (in_order : low ≤ end) (ends_in : end ≤ length all) (within : slice_range all low end ≡ part) (hidden : h ≤ length (slice_range es low end)) (left : r ≤ length (slice_range es (low + h) end)) (front : Trims Front s (slice_range es low end) (drop h (slice_range es low end))) (back : Trims Back s (slice_range es (low + h) end) (take r (slice_range es (low + h) end))) where
+  inside : end ≤ length es
+  inside = omega (arith, ap length is, ends_in)
+
+  fits : low + h + r ≤ end
+  fits = omega (arith, in_order, hidden, left, length_range es low end inside, length_range es (low + h) end inside)
+
+  pub found_inside : low + h + r ≤ length all
+  found_inside = omega (arith, fits, ends_in)
+
+  pub found_trimmed : IsTrimmed s (slice_range es (low + h) (low + h + r))
+  found_trimmed = (trimmed_part s es low end h r fits front back).1
+
+  pub found_tops : tops (at s (slice_range es (low + h) (low + h + r))) ≡ tops (at s part)
+  found_tops = (trimmed_part s es low end h r fits front back).0 ∙ ap (λ l. tops (at s l)) (ap (λ l. slice_range l low end) is ∙ within)

@@ -5,7 +5,8 @@ use Rattle.std.proofs.lemmas.List.{length-map, map-set}
 use Rattle.std.proofs.lemmas.List.Elements.{All-append, All-take, All-drop, All-cons, All-set}
 use Rattle.lsm_memtable.proofs.Dealt.{same_lower, same_upper, all_lower, all_upper}
 use Rattle.lsm_below.specs.Entries.{Entry, HasBytes}
-use Rattle.lsm_below.specs.Heads.{entry_head, AreHeads}
+use Rattle.lsm_below.specs.Heads.{key_head, entry_head, AreHeads}
+use Rattle.lsm_below.specs.Keys.{AreBytes}
 
 module _ {X Y : Type 0} (f : X → Y) where
   map_insert : (xs : List X) (i : ℕ) (x : X) → map f (insert xs i x) ≡ insert (map f xs) i (f x)
@@ -52,11 +53,27 @@ module _ (heads : List ℕ) (entries : List Entry) (place head : ℕ) (e : Entry
     both_lens : length lower_heads ≡ length lower
     both_lens = heads_len ∙ (ap (λ n. min keep (n + 1)) (ap (λ (l : List ℕ). length l) are.same ∙ length-map entries entry_head) ∙ sym len)
 
-    pub heads_lower : AreHeads lower_heads lower
+    heads_lower : AreHeads lower_heads lower
     heads_lower = record { same = same_lower entry_head lower_heads upper_heads lower upper both_parts both_lens; bytes = all_lower HasBytes lower upper both_bytes }
 
-    pub heads_upper : AreHeads upper_heads upper
+    heads_upper : AreHeads upper_heads upper
     heads_upper = record { same = same_upper entry_head lower_heads upper_heads lower upper both_parts both_lens; bytes = all_upper HasBytes lower upper both_bytes }
+
+-- dealt alike, where they were taken out first
+pub heads_dealt : (heads : List ℕ) (entries : List Entry) (place keep head : ℕ) (e : Entry) (key : List ℕ) → AreHeads heads entries → head ≡ key_head key → key ≡ e.key.user_key → AreBytes key
+    → (old_heads : List ℕ) (old : List Entry) → old_heads ≡ heads → old ≡ entries → (lower_heads upper_heads : List ℕ) (lower upper : List Entry)
+    → lower_heads ++ upper_heads ≡ insert old_heads place head → lower ++ upper ≡ insert old place e → length lower_heads ≡ min keep (length old_heads + 1) → length lower ≡ min keep (length old + 1)
+    → AreHeads lower_heads lower × AreHeads upper_heads upper
+heads_dealt heads entries place keep head e key are is same bytes old_heads old taken_heads taken lower_heads upper_heads lower upper dealt_heads dealt heads_len len =
+    let own = subst (λ k. AreBytes k) same bytes in
+    let head_is = is ∙ ap (λ k. key_head k) same in
+    let part_heads = dealt_heads ∙ ap (λ l. insert l place head) taken_heads in
+    let part = dealt ∙ ap (λ l. insert l place e) taken in
+    let few_heads = heads_len ∙ ap (λ l. min keep (length l + 1)) taken_heads in
+    let few = len ∙ ap (λ l. min keep (length l + 1)) taken in (
+      heads_lower heads entries place head e are head_is own keep lower_heads upper_heads lower upper part_heads part few_heads few,
+      heads_upper heads entries place head e are head_is own keep lower_heads upper_heads lower upper part_heads part few_heads few,
+    )
 
 -- without those at a place
 pub heads_removed : (heads : List ℕ) (entries : List Entry) (place : ℕ) → AreHeads heads entries → AreHeads (remove heads place) (remove entries place)

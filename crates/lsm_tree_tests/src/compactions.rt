@@ -1,8 +1,11 @@
 // Compactions of shared trees, with a journal and without, and of a recorded tree with one owner.
-use crate::samples::{open_recorded, open_state, text};
+use crate::samples::{
+    did_nothing, is_installed, open_recorded, open_shared, record, record_in_table, set,
+    set_in_table, share_recorded, shows, text,
+};
 use lsm_tree::{
-    Begun, Choice, CompactionJob, Config, Error, Finished, Handle, JournalEntry, Leveled, Major,
-    Op, Options, OwnedBounds, Pass, Recorded, RecordedTree, Tree, Why,
+    Begun, Choice, CompactionJob, Config, Error, Finished, JournalEntry, Leveled, Major, Op,
+    Options, OwnedBounds, Pass, Recorded, RecordedTree, Tree, Why,
 };
 use std::alloc::Global;
 use std::collections::HashSet;
@@ -33,44 +36,7 @@ fn job_of(begun: Begun) -> Result<CompactionJob, Error> {
     }
 }
 
-fn is_installed(begun: &Result<Begun, Error>) -> bool {
-    matches!(begun, Ok(Begun::Installed))
-}
-
-fn did_nothing(begun: &Result<Begun, Error>) -> bool {
-    matches!(begun, Ok(Begun::DidNothing))
-}
-
 // ---- a shared tree
-
-fn open_tree(alloc: Global) -> Result<Tree, Error> {
-    Ok(Handle::new(alloc, open_state(alloc)?)?)
-}
-
-fn set(
-    rt: &impl Wait,
-    alloc: Global,
-    tree: &Tree,
-    key: &'static str,
-    value: &'static str,
-) -> Result<u64, Error> {
-    tree.write(rt, vec![in alloc; (text(key), Op::Set(text(value)))]?)
-}
-
-/// Sets a key, and flushes it into a table.
-fn set_in_table(
-    rt: &impl Wait,
-    alloc: Global,
-    tree: &Tree,
-    key: &'static str,
-    value: &'static str,
-) -> Result<(), Error> {
-    set(rt, alloc, tree, key, value)?;
-    match tree.flush_active_memtable(rt, 0) {
-        Ok(_) => Ok(()),
-        Err((error, _)) => Err(error),
-    }
-}
 
 /// Two tables are merged with no lock held, while a = z is written.
 fn merge_in_parts(rt: &impl Wait, alloc: Global, tree: &Tree) -> Result<Finished, Error> {
@@ -88,16 +54,9 @@ fn merge_in_parts(rt: &impl Wait, alloc: Global, tree: &Tree) -> Result<Finished
     }
 }
 
-fn shows(rt: &impl Wait, tree: &Tree, snapshot: u64, value: &'static str) -> bool {
-    match tree.get(rt, b"a", snapshot) {
-        Ok(found) => found == Some(text(value)),
-        Err(_) => false,
-    }
-}
-
 #[test]
 fn a_shared_tree_is_merged_in_parts(rt: HostRuntime) -> Result<(), Fail> {
-    let tree = open_tree(rt.alloc())?;
+    let tree = open_shared(rt.alloc())?;
     let done = merge_in_parts(&rt, rt.alloc(), &tree);
     assert!(rt; matches!(done, Ok(Finished::Installed)));
     assert!(rt; !tree.is_compacting(&rt));
@@ -132,7 +91,7 @@ fn compacts(rt: &impl Wait, alloc: Global, tree: &Tree) -> Result<bool, Error> {
 
 #[test]
 fn a_shared_tree_compacts_in_one_call(rt: HostRuntime) -> Result<(), Fail> {
-    let tree = open_tree(rt.alloc())?;
+    let tree = open_shared(rt.alloc())?;
     let done = compacts(&rt, rt.alloc(), &tree);
     assert!(rt; matches!(done, Ok(true)));
     drop(tree);
@@ -159,7 +118,7 @@ fn does_choices(rt: &impl Wait, alloc: Global, tree: &Tree) -> Result<bool, Erro
 
 #[test]
 fn a_shared_tree_does_a_choice(rt: HostRuntime) -> Result<(), Fail> {
-    let tree = open_tree(rt.alloc())?;
+    let tree = open_shared(rt.alloc())?;
     let done = does_choices(&rt, rt.alloc(), &tree);
     assert!(rt; matches!(done, Ok(true)));
     drop(tree);
@@ -167,35 +126,6 @@ fn a_shared_tree_does_a_choice(rt: HostRuntime) -> Result<(), Fail> {
 }
 
 // ---- with a journal
-
-fn open(alloc: Global) -> Result<RecordedTree, Error> {
-    let core = open_recorded(alloc, Config::new(0, 0, 0))?;
-    Ok(Handle::new(alloc, core)?)
-}
-
-fn record(
-    rt: &impl Wait,
-    alloc: Global,
-    tree: &RecordedTree,
-    pass: &mut Pass,
-    value: &'static str,
-) -> Result<u64, Error> {
-    tree.write(rt, pass, vec![in alloc; (text("a"), Op::Set(text(value)))]?)
-}
-
-fn record_in_table(
-    rt: &impl Wait,
-    alloc: Global,
-    tree: &RecordedTree,
-    pass: &mut Pass,
-    value: &'static str,
-) -> Result<(), Error> {
-    record(rt, alloc, tree, pass, value)?;
-    match tree.flush_active_memtable(rt, pass, 0) {
-        Ok(_) => Ok(()),
-        Err((error, _)) => Err(error),
-    }
-}
 
 /// Two tables are merged in parts, with a write in between.
 fn record_merge(
@@ -270,7 +200,7 @@ fn closes(rt: &impl Wait, alloc: Global, tree: &RecordedTree, pass: Pass, count:
 #[test]
 fn compactions_are_noted(rt: HostRuntime) -> Result<(), Fail> {
     let alloc = rt.alloc();
-    let tree = open(alloc)?;
+    let tree = share_recorded(alloc)?;
     let mut pass = Pass::new(alloc);
     let merged = record_merge(&rt, alloc, &tree, &mut pass);
     assert!(rt; matches!(merged, Ok(true)));
@@ -302,7 +232,7 @@ fn record_in_one_call(
 #[test]
 fn a_recorded_tree_compacts_in_one_call(rt: HostRuntime) -> Result<(), Fail> {
     let alloc = rt.alloc();
-    let tree = open(alloc)?;
+    let tree = share_recorded(alloc)?;
     let mut pass = Pass::new(alloc);
     let done = record_in_one_call(&rt, alloc, &tree, &mut pass);
     assert!(rt; matches!(done, Ok(true)));

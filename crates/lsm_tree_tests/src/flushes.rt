@@ -1,8 +1,8 @@
 // Flushes of shared trees, with a journal and without, and of a tree under a list of calls.
-use crate::samples::{open_recorded, open_state, text};
+use crate::samples::{open_shared, open_state, record, set, share_recorded, shows, text};
 use lsm_tree::{
-    Config, Count, Error, FlushJob, Handle, JobStep, JournalEntry, Op, Ops, Outcome, Pass,
-    RecordedTree, Registered, Reply, Step, Tree, TreeType, WrittenFlush, run,
+    Count, Error, FlushJob, JobStep, JournalEntry, Op, Ops, Outcome, Pass, RecordedTree,
+    Registered, Reply, Step, Tree, TreeType, WrittenFlush, run,
 };
 use std::alloc::{AllocError, Global};
 use std::sync::Wait;
@@ -13,20 +13,6 @@ fn is_installed(registered: &Registered) -> bool {
 }
 
 // ---- a shared tree
-
-fn open_tree(alloc: Global) -> Result<Tree, Error> {
-    Ok(Handle::new(alloc, open_state(alloc)?)?)
-}
-
-fn set(
-    rt: &impl Wait,
-    alloc: Global,
-    tree: &Tree,
-    key: &'static str,
-    value: &'static str,
-) -> Result<u64, Error> {
-    tree.write(rt, vec![in alloc; (text(key), Op::Set(text(value)))]?)
-}
 
 /// Seals what is written, and begins a flush of it.
 fn begin(rt: &impl Wait, tree: &Tree) -> Result<FlushJob, Error> {
@@ -56,16 +42,9 @@ fn flush_in_parts(rt: &impl Wait, alloc: Global, tree: &Tree) -> Result<Register
     tree.register_tables(rt, written)
 }
 
-fn shows(rt: &impl Wait, tree: &Tree, snapshot: u64, value: &'static str) -> bool {
-    match tree.get(rt, b"a", snapshot) {
-        Ok(found) => found == Some(text(value)),
-        Err(_) => false,
-    }
-}
-
 #[test]
 fn a_shared_tree_is_flushed_in_parts(rt: HostRuntime) -> Result<(), Fail> {
-    let tree = open_tree(rt.alloc())?;
+    let tree = open_shared(rt.alloc())?;
     let done = flush_in_parts(&rt, rt.alloc(), &tree);
     assert!(rt; matches!(done, Ok(registered) if is_installed(&registered)));
     assert!(rt; shows(&rt, &tree, 1, "x"));
@@ -97,7 +76,7 @@ fn give_up_and_flush(
 
 #[test]
 fn a_job_that_was_given_up_is_begun_again(rt: HostRuntime) -> Result<(), Fail> {
-    let tree = open_tree(rt.alloc())?;
+    let tree = open_shared(rt.alloc())?;
     let done = give_up_and_flush(&rt, rt.alloc(), &tree);
     assert!(rt; matches!(done, Ok(Some((50, registered))) if is_installed(&registered)));
     assert!(rt; matches!(tree.flush(&rt, 0), Ok(None)));
@@ -137,7 +116,7 @@ fn flush_active(rt: &impl Wait, alloc: Global, tree: &Tree) -> bool {
 
 #[test]
 fn a_shared_tree_tells_what_it_counts(rt: HostRuntime) -> Result<(), Fail> {
-    let tree = open_tree(rt.alloc())?;
+    let tree = open_shared(rt.alloc())?;
     assert!(rt; flush_active(&rt, rt.alloc(), &tree));
     assert!(rt; tells_of_its_table(&rt, &tree));
     assert!(rt; tells_of_its_history(&rt, &tree));
@@ -146,21 +125,6 @@ fn a_shared_tree_tells_what_it_counts(rt: HostRuntime) -> Result<(), Fail> {
 }
 
 // ---- with a journal
-
-fn open(alloc: Global) -> Result<RecordedTree, Error> {
-    let core = open_recorded(alloc, Config::new(0, 0, 0))?;
-    Ok(Handle::new(alloc, core)?)
-}
-
-fn record(
-    rt: &impl Wait,
-    alloc: Global,
-    tree: &RecordedTree,
-    pass: &mut Pass,
-    value: &'static str,
-) -> Result<u64, Error> {
-    tree.write(rt, pass, vec![in alloc; (text("a"), Op::Set(text(value)))]?)
-}
 
 /// a = x is flushed at watermark 0 in parts, a = y in one call at watermark 2.
 fn record_flushes(
@@ -201,7 +165,7 @@ fn tells_of_flushes(pass: &Pass) -> bool {
 #[test]
 fn flushes_are_noted(rt: HostRuntime) -> Result<(), Fail> {
     let alloc = rt.alloc();
-    let tree = open(alloc)?;
+    let tree = share_recorded(alloc)?;
     let mut pass = Pass::new(alloc);
     let flushed = record_flushes(&rt, alloc, &tree, &mut pass);
     assert!(rt; matches!(flushed, Ok(true)));

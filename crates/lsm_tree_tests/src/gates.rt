@@ -1,21 +1,15 @@
 // Compactions whose merge a gate does: no lock is held meanwhile, and a job that comes back is given up.
-use crate::samples::{open_shared, share_recorded, text};
+use crate::samples::{
+    did_nothing, is_installed, open_shared, record_in_table, set_in_table, share_recorded, shows,
+};
 use lsm_tree::{
-    Begun, CompactionJob, Error, Gate, JournalEntry, Leveled, Major, MergedCompaction, Op, Pass,
+    Begun, CompactionJob, Error, Gate, JournalEntry, Leveled, Major, MergedCompaction, Pass,
     RecordedTree, RunJob, Tree,
 };
 use std::alloc::{AllocError, Global};
 use std::sync::{Arc, Mutex, Wait};
 use std::test::Fail;
 use std::thread;
-
-fn is_installed(begun: &Result<Begun, Error>) -> bool {
-    matches!(begun, Ok(Begun::Installed))
-}
-
-fn did_nothing(begun: &Result<Begun, Error>) -> bool {
-    matches!(begun, Ok(Begun::DidNothing))
-}
 
 /// Gives each job back.
 #[derive(Drop)]
@@ -33,28 +27,12 @@ fn is_given_back(begun: &Result<Begun, Error>) -> bool {
 
 // ---- a shared tree
 
-/// a = x, in a table.
-fn set_in_table(rt: &impl Wait, alloc: Global, tree: &Tree) -> Result<(), Error> {
-    tree.write(rt, vec![in alloc; (text("a"), Op::Set(text("x")))]?)?;
-    match tree.flush_active_memtable(rt, 0) {
-        Ok(_) => Ok(()),
-        Err((error, _)) => Err(error),
-    }
-}
-
-fn shows(rt: &impl Wait, tree: &Tree, snapshot: u64) -> bool {
-    match tree.get(rt, b"a", snapshot) {
-        Ok(found) => found == Some(text("x")),
-        Err(_) => false,
-    }
-}
-
 /// The strategy of levels finds nothing to do, and so nothing comes to the gate; a table is merged, by the second gate.
 fn compacts(rt: &impl Wait, alloc: Global, tree: &Tree) -> Result<bool, Error> {
     let major = Major::new(u64::MAX);
     let leveled = Leveled::new(alloc)?;
     let waits = did_nothing(&tree.compact_gated(rt, &leveled, 0, &Closed));
-    set_in_table(rt, alloc, tree)?;
+    set_in_table(rt, alloc, tree, "a", "x")?;
     let is_refused = is_given_back(&tree.compact_gated(rt, &major, 0, &Closed));
     let is_free = !tree.is_compacting(rt) && tree.level_table_count(rt, 0) == Some(1);
     let merges = is_installed(&tree.compact_gated(rt, &major, 0, &RunJob));
@@ -67,25 +45,12 @@ fn a_gate_does_the_merge(rt: HostRuntime) -> Result<(), Fail> {
     let done = compacts(&rt, rt.alloc(), &tree);
     assert!(rt; matches!(done, Ok(true)));
     assert!(rt; !tree.is_compacting(&rt) && tree.level_table_count(&rt, 6) == Some(1));
-    assert!(rt; shows(&rt, &tree, 3));
+    assert!(rt; shows(&rt, &tree, 3, "x"));
     drop(tree);
     Ok(())
 }
 
 // ---- with a journal
-
-fn record_in_table(
-    rt: &impl Wait,
-    alloc: Global,
-    tree: &RecordedTree,
-    pass: &mut Pass,
-) -> Result<(), Error> {
-    tree.write(rt, pass, vec![in alloc; (text("a"), Op::Set(text("x")))]?)?;
-    match tree.flush_active_memtable(rt, pass, 0) {
-        Ok(_) => Ok(()),
-        Err((error, _)) => Err(error),
-    }
-}
 
 /// A table is merged, by the second gate.
 fn record_merge(
@@ -95,7 +60,7 @@ fn record_merge(
     pass: &mut Pass,
 ) -> Result<bool, Error> {
     let major = Major::new(u64::MAX);
-    record_in_table(rt, alloc, tree, pass)?;
+    record_in_table(rt, alloc, tree, pass, "x")?;
     let is_refused = is_given_back(&tree.compact_gated(rt, pass, &major, 0, &Closed));
     let is_free = !tree.is_compacting(rt) && tree.level_table_count(rt, 0) == Some(1);
     let merges = is_installed(&tree.compact_gated(rt, pass, &major, 2, &RunJob));
@@ -188,7 +153,7 @@ fn merges_behind_get<R: Wait>(rt: &R, tree: &Tree, flags: &Flags) -> bool {
 /// Whether a = x is read while the gate has the job.
 fn reads_meanwhile(rt: &impl Wait, tree: &Tree, flags: &Flags) -> bool {
     let is_begun = is_raised(rt, &flags.begun);
-    let is_found = shows(rt, tree, 2);
+    let is_found = shows(rt, tree, 2, "x");
     raise(rt, &flags.answered);
     is_begun && is_found
 }
@@ -197,7 +162,7 @@ fn reads_meanwhile(rt: &impl Wait, tree: &Tree, flags: &Flags) -> bool {
 fn no_lock_is_held_while_a_gate_has_the_job(rt: HostRuntime) -> Result<(), Fail> {
     let alloc = rt.alloc();
     let tree = open_shared(alloc)?;
-    let filled = set_in_table(&rt, alloc, &tree);
+    let filled = set_in_table(&rt, alloc, &tree, "a", "x");
     assert!(rt; matches!(filled, Ok(())));
     let flags = lower_flags(alloc)?;
     let (one, ones) = (tree.clone()?, Arc::try_clone(&flags)?);

@@ -2,7 +2,7 @@
 // guards; and that a journal is returned.
 //
 // Helpers borrow the tree, and each test drops it by a call: see the tests of `recorded`.
-use crate::samples::{open_recorded, open_state, text};
+use crate::samples::{open_recorded, open_shared, share_recorded, shows, text};
 use lsm_tree::{
     Config, Error, Guard, Handle, InternalValue, IterGuard, MemStore, Op, Pass, RecordedTree, Tree,
     TreeIter, TreeState, TreeType, Version,
@@ -12,10 +12,6 @@ use std::ops::Bound;
 use std::sync::Wait;
 use std::test::Fail;
 use std::thread;
-
-fn open(alloc: Global) -> Result<RecordedTree, Error> {
-    open_from(alloc, 0)
-}
 
 /// A tree whose counters start at this number.
 fn open_from(alloc: Global, number: u64) -> Result<RecordedTree, Error> {
@@ -97,7 +93,7 @@ fn given_back(rt: &impl Wait, tree: &RecordedTree, passes: Vec<Pass>) -> Option<
 #[test]
 fn two_threads_share_a_tree(rt: HostRuntime) -> Result<(), Fail> {
     let alloc = rt.alloc();
-    let tree = open(alloc)?;
+    let tree = share_recorded(alloc)?;
     let one = tree.clone()?;
     let two = tree.clone()?;
     let first = thread::spawn(&rt, move || pass_of(&rt, alloc, &one, "a"))?;
@@ -111,7 +107,7 @@ fn two_threads_share_a_tree(rt: HostRuntime) -> Result<(), Fail> {
 #[test]
 fn each_reads_its_own_write(rt: HostRuntime) -> Result<(), Fail> {
     let alloc = rt.alloc();
-    let tree = open(alloc)?;
+    let tree = share_recorded(alloc)?;
     let mut pass = Pass::new(alloc);
     assert!(rt; calls(&rt, alloc, &tree, &mut pass, "a"));
     assert_eq!(rt; closed(&rt, &tree, one_pass(alloc, pass)), Some(2));
@@ -121,7 +117,7 @@ fn each_reads_its_own_write(rt: HostRuntime) -> Result<(), Fail> {
 
 /// A pass with the entries of `pass_of`, at the same places, but of calls on another tree.
 fn pass_elsewhere(rt: &impl Wait, alloc: Global) -> Pass {
-    match open(alloc) {
+    match share_recorded(alloc) {
         Ok(tree) => {
             let pass = pass_of(rt, alloc, &tree, "a");
             drop(tree);
@@ -140,7 +136,7 @@ fn put_altered(rt: &impl Wait, alloc: Global, tree: &RecordedTree, pass: &mut Pa
 /// A pass with the entries of `pass_of`, of which one is another.
 fn altered_pass(rt: &impl Wait, alloc: Global) -> Pass {
     let mut pass = Pass::new(alloc);
-    if let Ok(tree) = open(alloc) {
+    if let Ok(tree) = share_recorded(alloc) {
         let _ = put_altered(rt, alloc, &tree, &mut pass);
         drop(tree);
     }
@@ -158,11 +154,11 @@ fn put_read(rt: &impl Wait, alloc: Global, tree: &RecordedTree, pass: &mut Pass)
 /// A pass with the entries of `pass_of`, the read before the write: of calls on two other trees.
 fn reversed_pass(rt: &impl Wait, alloc: Global) -> Pass {
     let mut pass = Pass::new(alloc);
-    if let Ok(tree) = open(alloc) {
+    if let Ok(tree) = share_recorded(alloc) {
         let _ = put_read(rt, alloc, &tree, &mut pass);
         drop(tree);
     }
-    if let Ok(tree) = open(alloc) {
+    if let Ok(tree) = share_recorded(alloc) {
         let _ = set(rt, alloc, &tree, &mut pass, "a");
         drop(tree);
     }
@@ -177,7 +173,7 @@ fn has_places(pass: &Pass, places: [u64; 2]) -> bool {
 #[test]
 fn passes_that_list_something_else_are_given_back(rt: HostRuntime) -> Result<(), Fail> {
     let alloc = rt.alloc();
-    let tree = open(alloc)?;
+    let tree = share_recorded(alloc)?;
     let pass = pass_of(&rt, alloc, &tree, "a");
 
     let altered = altered_pass(&rt, alloc);
@@ -243,16 +239,12 @@ fn count_recorded(rt: &impl Wait, tree: &RecordedTree, pass: &mut Pass) -> Resul
 #[test]
 fn ranges_behind_the_lock_are_listed(rt: HostRuntime) -> Result<(), Fail> {
     let alloc = rt.alloc();
-    let tree = open(alloc)?;
+    let tree = share_recorded(alloc)?;
     let mut pass = pass_of(&rt, alloc, &tree, "a");
     assert!(rt; matches!(count_recorded(&rt, &tree, &mut pass), Ok(2)));
     assert_eq!(rt; closed(&rt, &tree, one_pass(alloc, pass)), Some(4));
     drop(tree);
     Ok(())
-}
-
-fn open_tree(alloc: Global) -> Result<Tree, Error> {
-    Ok(Handle::new(alloc, open_state(alloc)?)?)
 }
 
 /// A value under a drawn sequence number, made visible.
@@ -267,13 +259,6 @@ fn sets_next(rt: &impl Wait, tree: &Tree) -> bool {
     matches!(set_next(rt, tree), Ok(()))
 }
 
-fn finds(rt: &impl Wait, tree: &Tree) -> bool {
-    match tree.get(rt, b"a", 1) {
-        Ok(value) => value == Some(text("x")),
-        Err(_) => false,
-    }
-}
-
 /// Whether the tree is as `set_next` left it, by its counters and what its active memtable counts.
 fn is_left(rt: &impl Wait, tree: &Tree) -> bool {
     tree.visible_number(rt) == 1
@@ -283,7 +268,7 @@ fn is_left(rt: &impl Wait, tree: &Tree) -> bool {
 
 #[test]
 fn counters_are_those_of_the_tree(rt: HostRuntime) -> Result<(), Fail> {
-    let tree = open_tree(rt.alloc())?;
+    let tree = open_shared(rt.alloc())?;
     assert!(rt; matches!(tree.next_seqno(&rt), Ok(0)));
     assert!(rt; matches!(tree.next_seqno(&rt), Ok(1)));
     tree.raise_visible(&rt, 2);
@@ -295,10 +280,10 @@ fn counters_are_those_of_the_tree(rt: HostRuntime) -> Result<(), Fail> {
 
 #[test]
 fn numbers_are_drawn_and_made_visible(rt: HostRuntime) -> Result<(), Fail> {
-    let tree = open_tree(rt.alloc())?;
+    let tree = open_shared(rt.alloc())?;
     assert!(rt; sets_next(&rt, &tree));
     assert_eq!(rt; tree.visible_number(&rt), 1);
-    assert!(rt; finds(&rt, &tree));
+    assert!(rt; shows(&rt, &tree, 1, "x"));
     assert!(rt; matches!(tree.get_internal_entry(&rt, b"a", 0), Ok(None)));
     assert!(rt; matches!(tree.rotate_memtable(&rt), Ok(Some(0))));
     drop(tree);
@@ -315,7 +300,7 @@ fn write_all(rt: &impl Wait, alloc: Global, tree: &Tree) -> Result<u64, Error> {
 
 #[test]
 fn a_tree_is_written_in_each_way(rt: HostRuntime) -> Result<(), Fail> {
-    let tree = open_tree(rt.alloc())?;
+    let tree = open_shared(rt.alloc())?;
     assert!(rt; matches!(write_all(&rt, rt.alloc(), &tree), Ok(0)));
     assert_eq!(rt; tree.visible_number(&rt), 1);
     drop(tree);
@@ -359,7 +344,7 @@ fn others_give_a(rt: &impl Wait, tree: &Tree) -> bool {
 
 #[test]
 fn a_shared_tree_lists_its_pairs(rt: HostRuntime) -> Result<(), Fail> {
-    let tree = open_tree(rt.alloc())?;
+    let tree = open_shared(rt.alloc())?;
     assert!(rt; sets_next(&rt, &tree));
     assert!(rt; ranges_give_a(&rt, &tree));
     assert!(rt; others_give_a(&rt, &tree));
@@ -375,14 +360,14 @@ fn has_ends(rt: &impl Wait, tree: &Tree) -> bool {
 
 #[test]
 fn a_shared_tree_tells_of_its_pairs(rt: HostRuntime) -> Result<(), Fail> {
-    let tree = open_tree(rt.alloc())?;
+    let tree = open_shared(rt.alloc())?;
     assert!(rt; sets_next(&rt, &tree));
     assert!(rt; matches!(tree.len(&rt, 1, None), Ok(1)));
     assert!(rt; matches!(tree.is_empty(&rt, 1, None), Ok(false)));
     assert!(rt; has_ends(&rt, &tree));
     assert!(rt; matches!(tree.contains_key(&rt, b"a", 1), Ok(true)));
     assert!(rt; matches!(tree.size_of(&rt, b"a", 1), Ok(Some(1))));
-    assert!(rt; finds(&rt, &tree));
+    assert!(rt; shows(&rt, &tree, 1, "x"));
     assert!(rt; matches!(tree.get_internal_entry(&rt, b"a", 1), Ok(Some(_))));
     assert!(rt; is_left(&rt, &tree));
     drop(tree);

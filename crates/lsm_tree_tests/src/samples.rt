@@ -1,6 +1,10 @@
 // What several tests write, and the trees that they begin with.
-use lsm_tree::{Config, Error, Handle, MemStore, Recorded, RecordedTree, Tree, TreeState, UserKey};
+use lsm_tree::{
+    Begun, Config, Error, Handle, MemStore, Op, Pass, Recorded, RecordedTree, Tree, TreeState,
+    UserKey,
+};
 use std::alloc::Global;
+use std::sync::Wait;
 
 /// A key or a value of these letters.
 pub(crate) fn text(spelled: &'static str) -> UserKey {
@@ -32,4 +36,75 @@ pub(crate) fn open_shared(alloc: Global) -> Result<Tree, Error> {
 pub(crate) fn share_recorded(alloc: Global) -> Result<RecordedTree, Error> {
     let core = open_recorded(alloc, Config::new(0, 0, 0))?;
     Ok(Handle::new(alloc, core)?)
+}
+
+// ---- what is done to one that is shared
+
+pub(crate) fn set(
+    rt: &impl Wait,
+    alloc: Global,
+    tree: &Tree,
+    key: &'static str,
+    value: &'static str,
+) -> Result<u64, Error> {
+    tree.write(rt, vec![in alloc; (text(key), Op::Set(text(value)))]?)
+}
+
+/// Sets a key, and flushes it into a table.
+pub(crate) fn set_in_table(
+    rt: &impl Wait,
+    alloc: Global,
+    tree: &Tree,
+    key: &'static str,
+    value: &'static str,
+) -> Result<(), Error> {
+    set(rt, alloc, tree, key, value)?;
+    match tree.flush_active_memtable(rt, 0) {
+        Ok(_) => Ok(()),
+        Err((error, _)) => Err(error),
+    }
+}
+
+/// Whether a snapshot shows this value of the key a.
+pub(crate) fn shows(rt: &impl Wait, tree: &Tree, snapshot: u64, value: &'static str) -> bool {
+    match tree.get(rt, b"a", snapshot) {
+        Ok(found) => found == Some(text(value)),
+        Err(_) => false,
+    }
+}
+
+pub(crate) fn is_installed(begun: &Result<Begun, Error>) -> bool {
+    matches!(begun, Ok(Begun::Installed))
+}
+
+pub(crate) fn did_nothing(begun: &Result<Begun, Error>) -> bool {
+    matches!(begun, Ok(Begun::DidNothing))
+}
+
+// ---- and to one with its journal
+
+/// Sets the key a.
+pub(crate) fn record(
+    rt: &impl Wait,
+    alloc: Global,
+    tree: &RecordedTree,
+    pass: &mut Pass,
+    value: &'static str,
+) -> Result<u64, Error> {
+    tree.write(rt, pass, vec![in alloc; (text("a"), Op::Set(text(value)))]?)
+}
+
+/// Sets the key a, and flushes it into a table.
+pub(crate) fn record_in_table(
+    rt: &impl Wait,
+    alloc: Global,
+    tree: &RecordedTree,
+    pass: &mut Pass,
+    value: &'static str,
+) -> Result<(), Error> {
+    record(rt, alloc, tree, pass, value)?;
+    match tree.flush_active_memtable(rt, pass, 0) {
+        Ok(_) => Ok(()),
+        Err((error, _)) => Err(error),
+    }
 }

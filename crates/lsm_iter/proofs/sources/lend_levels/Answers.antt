@@ -1,4 +1,4 @@
-use Rattle.std.proofs.Common.{◌+◌, ◌++◌, map, take, sym, ◌∙◌, ap, subst, arith}
+use Rattle.std.proofs.Common.{map, sym, subst, arith}
 use Rattle.std.specs.List.{All}
 use Rattle.std.proofs.lemmas.List.{take_all}
 use Rattle.lsm_below.specs.Optimizes.{tables_of}
@@ -6,7 +6,7 @@ use Rattle.lsm_versions.specs.Levels.{all_of}
 use Rattle.lsm_iter.specs.Reads.{at}
 use Rattle.lsm_iter.specs.Puts.{PutsCursors}
 use Rattle.lsm_iter.specs.Shared.{IsSound}
-use Rattle.lsm_iter.proofs.Puts.{puts_more, levels_more, level_sound}
+use Rattle.lsm_iter.proofs.Puts.{level_put, level_sound}
 use Rattle.lsm_iter.proofs.sources.lend_levels.Goals as goal
 
 pub lend_runs-requires : goal.lend_runs-requires
@@ -15,11 +15,8 @@ lend_runs-requires c =
 
 pub loop-level-preserved : goal.loop-level-preserved
 loop-level-preserved c =
-    let levels = c.args.levels.now in
-    let i = c.loop-level.level-index in
-    let runs = c.as_slice.result.now in
-    puts_more c.args.bounds.now.0 c.args.bounds.now.1 c.args.below (all_of (take i levels)) (tables_of runs) (all_of (take (i + 1) levels)) c.args.lenders.now.items c.loop-level.lenders.items c.lend_runs.new.lenders.items
-    (levels_more levels i c.level-item.result c.loop-level-test.true c.level-item.is ∙ ap (λ l. all_of (take i levels) ++ tables_of l) (sym c.as_slice.ensures)) c.loop-level.invariant c.in_ok-lend_runs.ensures
+    level_put c.args.bounds.now.0 c.args.bounds.now.1 c.args.below c.loop-level.level-index c.args.lenders.now.items c.loop-level.lenders.items c.lend_runs.new.lenders.items c.args.levels.now c.level-item.result c.as_slice.result.now
+    c.loop-level-test.true c.level-item.is c.as_slice.ensures c.loop-level.invariant c.in_ok-lend_runs.ensures
 
 pub returns : goal.returns
 returns c =

@@ -1,9 +1,9 @@
-use Rattle.std.proofs.Common.{◌+◌, map, take, subst, arith}
+use Rattle.std.proofs.Common.{map, subst, arith}
 use Rattle.std.proofs.lemmas.List.{take_all}
 use Rattle.lsm_below.specs.Optimizes.{tables_of}
 use Rattle.lsm_iter.specs.Reads.{at}
 use Rattle.lsm_iter.specs.Puts.{PutsCursors}
-use Rattle.lsm_iter.proofs.Puts.{puts_more, runs_more, run_sound}
+use Rattle.lsm_iter.proofs.Puts.{run_put, run_sound}
 use Rattle.lsm_iter.proofs.sources.lend_runs.Goals as goal
 
 pub lend_run-requires : goal.lend_run-requires
@@ -11,10 +11,8 @@ lend_run-requires c = run_sound c.args.runs.now c.loop-run.run-index c.run-item.
 
 pub loop-run-preserved : goal.loop-run-preserved
 loop-run-preserved c =
-    let runs = c.args.runs.now in
-    let i = c.loop-run.run-index in
-    puts_more c.args.bounds.now.0 c.args.bounds.now.1 c.args.below (tables_of (take i runs)) c.run-item.result (tables_of (take (i + 1) runs)) c.args.lenders.now.items c.loop-run.lenders.items c.lend_run.new.lenders.items
-    (runs_more runs i c.run-item.result c.loop-run-test.true c.run-item.is) c.loop-run.invariant c.in_ok-lend_run.ensures
+    run_put c.args.bounds.now.0 c.args.bounds.now.1 c.args.below c.loop-run.run-index c.args.lenders.now.items c.loop-run.lenders.items c.lend_run.new.lenders.items c.args.runs.now c.run-item.result
+    c.loop-run-test.true c.run-item.is c.loop-run.invariant c.in_ok-lend_run.ensures
 
 pub returns : goal.returns
 returns c =

@@ -1,6 +1,7 @@
-use Rattle.std.proofs.Common.{◌≡◌, ◌+◌, ◌-◌, ◌≤◌, ◌∙◌, List, length, take, drop, slice_range, sym, ap, subst, arith}
+use Rattle.std.proofs.Common.{◌≡◌, ◌+◌, ◌∙◌, List, slice_range, length, sym, ap, subst, arith}
 use Rattle.std.specs.List.{All}
 use Rattle.lsm_below.specs.Entries.{Entry, entry_cmp, HasBytes}
+use Rattle.lsm_below.specs.Lookups.{within}
 use Rattle.lsm_below.specs.Sorted.{Rises}
 use Rattle.lsm_tables.specs.Tables.{SeenTable}
 use Rattle.lsm_iter.specs.Reads.{at}
@@ -8,7 +9,7 @@ use Rattle.lsm_iter.specs.Left.{tops}
 use Rattle.lsm_iter.specs.Trims.{IsTrimmed}
 use Rattle.lsm_iter.proofs.Firsts.{copied_all}
 use Rattle.lsm_iter.proofs.Rises.{rises_range}
-use Rattle.lsm_iter.proofs.Trims.{length_range, trimmed_part}
+use Rattle.lsm_iter.proofs.Trims.{found_inside, found_trimmed, found_tops}
 use Rattle.lsm_iter.proofs.trim.Trim.new.Goals as goal
 
 pub left_len-requires : goal.left_len-requires
@@ -16,36 +17,23 @@ left_len-requires c = rises_range entry_cmp c.entries-entries.result.now (c.plac
 
 pub invariant_of-result : goal.invariant_of-result
 invariant_of-result c =
-    let es = c.entries-entries.result.now in
-    let start = c.places-start.result.0 in
-    let end = c.places-start.result.1 in
-    let h = c.hidden_len.result in
-    let r = c.left_len.result in
-    let inside : end ≤ length es = omega (arith, ap (λ (l : List Entry). length l) c.entries-entries.ensures, c.places-start.ensures.inside) in
-    let a = length_range es start end inside in
-    let b = length_range es (start + h) end inside in
-    let fits : start + h + r ≤ end = omega (arith, c.places-start.ensures.in_order, c.hidden_len.ensures.inside, c.left_len.ensures.inside) in
-    let is : es ≡ c.in_ok-table.table.entries = c.entries-entries.ensures ∙ sym (ap (λ (t : SeenTable). t.entries) c.in_ok-table.ensures) in (
+    let kept : c.args.table.now.entries ≡ c.in_ok-table.table.entries = sym (ap (λ (t : SeenTable). t.entries) c.in_ok-table.ensures) in
+    let inside =
+    found_inside c.args.below c.entries-entries.result.now c.args.table.now.entries (within c.args.bounds.now.0 c.args.bounds.now.1 c.args.table.now.entries) c.places-start.result.0 c.places-start.result.1 c.hidden_len.result c.left_len.result
+    c.entries-entries.ensures c.places-start.ensures.in_order c.places-start.ensures.inside c.places-start.ensures.within c.hidden_len.ensures.inside c.left_len.ensures.inside c.hidden_len.ensures.trims c.left_len.ensures.trims in (
       omega arith,
-      omega (arith, ap length is, inside),
-      subst (λ (l : List Entry). IsTrimmed c.args.below (slice_range l (start + h) (start + h + r))) is (trimmed_part c.args.below es start end h r fits c.hidden_len.ensures.trims c.left_len.ensures.trims).1,
+      omega (arith, ap length kept, inside),
+      subst (λ (l : List Entry). IsTrimmed c.args.below (slice_range l (c.places-start.result.0 + c.hidden_len.result) (c.places-start.result.0 + c.hidden_len.result + c.left_len.result))) (c.entries-entries.ensures ∙ kept)
+          (found_trimmed c.args.below c.entries-entries.result.now c.args.table.now.entries (within c.args.bounds.now.0 c.args.bounds.now.1 c.args.table.now.entries) c.places-start.result.0 c.places-start.result.1 c.hidden_len.result c.left_len.result
+          c.entries-entries.ensures c.places-start.ensures.in_order c.places-start.ensures.inside c.places-start.ensures.within c.hidden_len.ensures.inside c.left_len.ensures.inside c.hidden_len.ensures.trims c.left_len.ensures.trims),
     )
 
 pub returns-clause-is : goal.returns-clause-is
 returns-clause-is c =
-    let es = c.entries-entries.result.now in
-    let start = c.places-start.result.0 in
-    let end = c.places-start.result.1 in
-    let h = c.hidden_len.result in
-    let r = c.left_len.result in
-    let s = c.args.below in
-    let inside : end ≤ length es = omega (arith, ap (λ (l : List Entry). length l) c.entries-entries.ensures, c.places-start.ensures.inside) in
-    let a = length_range es start end inside in
-    let b = length_range es (start + h) end inside in
-    let fits : start + h + r ≤ end = omega (arith, c.places-start.ensures.in_order, c.hidden_len.ensures.inside, c.left_len.ensures.inside) in
-    let is : es ≡ c.in_ok-table.table.entries = c.entries-entries.ensures ∙ sym (ap (λ (t : SeenTable). t.entries) c.in_ok-table.ensures) in
-    ap (λ (l : List Entry). tops (at s (slice_range l (start + h) (start + h + r)))) (sym is) ∙ (trimmed_part s es start end h r fits c.hidden_len.ensures.trims c.left_len.ensures.trims).0
-    ∙ ap (λ (l : List Entry). tops (at s l)) (ap (λ (l : List Entry). take (end - start) (drop start l)) c.entries-entries.ensures ∙ c.places-start.ensures.within)
+    let kept : c.entries-entries.result.now ≡ c.in_ok-table.table.entries = c.entries-entries.ensures ∙ sym (ap (λ (t : SeenTable). t.entries) c.in_ok-table.ensures) in
+    ap (λ (l : List Entry). tops (at c.args.below (slice_range l (c.places-start.result.0 + c.hidden_len.result) (c.places-start.result.0 + c.hidden_len.result + c.left_len.result)))) (sym kept)
+    ∙ found_tops c.args.below c.entries-entries.result.now c.args.table.now.entries (within c.args.bounds.now.0 c.args.bounds.now.1 c.args.table.now.entries) c.places-start.result.0 c.places-start.result.1 c.hidden_len.result c.left_len.result
+    c.entries-entries.ensures c.places-start.ensures.in_order c.places-start.ensures.inside c.places-start.ensures.within c.hidden_len.ensures.inside c.left_len.ensures.inside c.hidden_len.ensures.trims c.left_len.ensures.trims
 
 pub returns-clause-bytes : goal.returns-clause-bytes
 returns-clause-bytes c = subst (All HasBytes) (sym (returns-clause-is c)) (copied_all HasBytes c.args.bounds.now.0 c.args.bounds.now.1 c.args.below c.args.table.now.entries c.facts.ensures.bytes)
