@@ -26,7 +26,7 @@ removed_row : (number : ℕ) (old : World) (n : List ℕ) (c : Option (List ℕ)
 removed_row number old n c at =
     ⊎_elim (λ same. ⊎_elim (λ was. inl (subst (λ (m : List ℕ). old.may m c) (sym same) was)) (λ none. inr (none, (number, refl, same))) (at.here same)) (λ other. inl (at.elsewhere other)) (same_or_not n (record_name number))
 
-pub remove_leaves : {T : Type 0} (number : ℕ) (old new : World) (r : Result T StoreError) → ((image : Image) → old.since old.moment image → IsImage old.may image)
+remove_leaves : {T : Type 0} (number : ℕ) (old new : World) (r : Result T StoreError) → ((image : Image) → old.since old.moment image → IsImage old.may image)
     → Changes (record_name number) (OldOr (old.may (record_name number)) None) (OldOr (old.may (record_name number)) None) None old new r → LeavesOnly old new (AreCleared (λ (k : ℕ). k ≡ number) old)
 remove_leaves {T} number old new r only call =
     let name = record_name number in
@@ -43,11 +43,22 @@ record_becomes number old new call = record {
 record_same : (number : ℕ) (old new : World) → Same old new → ClearsRecords (λ (k : ℕ). k ≡ number) old new
 record_same number old new same = record { may = λ n c may. inl ((same.may n c).0 may); gives = λ n out. same.gives n }
 
-pub record_clears : {T : Type 0} (number : ℕ) (old new : World) (r : Result T StoreError) → Changes (record_name number) (OldOr (old.may (record_name number)) None) (OldOr (old.may (record_name number)) None) None old new r → ClearsRecords (λ (k : ℕ). k ≡ number) old new
+record_clears : {T : Type 0} (number : ℕ) (old new : World) (r : Result T StoreError) → Changes (record_name number) (OldOr (old.may (record_name number)) None) (OldOr (old.may (record_name number)) None) None old new r → ClearsRecords (λ (k : ℕ). k ≡ number) old new
 record_clears number old new (Ok x) call = record_becomes number old new call.0
 record_clears number old new (Err store.Fault) call = record_becomes number old new call
 record_clears number old new (Err store.NothingDone) call = record_same number old new call
 record_clears number old new (Err store.OutOfMemory) call = record_same number old new call
+
+-- the same of a removal under a name that was found to be the record's
+module _ {T : Type 0} (number : ℕ) (name spelled : List ℕ) (said : name ≡ spelled) (spells : spelled ≡ record_name number) (old new : World) (r : Result T StoreError) (call : Changes name (OldOr (old.may name) None) (OldOr (old.may name) None) None old new r) where
+  named : Changes (record_name number) (OldOr (old.may (record_name number)) None) (OldOr (old.may (record_name number)) None) None old new r
+  named = subst (λ n. Changes n (OldOr (old.may n) None) (OldOr (old.may n) None) None old new r) (said ∙ spells) call
+
+  pub removal_leaves : ((image : Image) → old.since old.moment image → IsImage old.may image) → LeavesOnly old new (AreCleared (λ (k : ℕ). k ≡ number) old)
+  removal_leaves only = remove_leaves number old new r only named
+
+  pub removal_clears : ClearsRecords (λ (k : ℕ). k ≡ number) old new
+  removal_clears = record_clears number old new r named
 
 -- ---- records one after the other
 

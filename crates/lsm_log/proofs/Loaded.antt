@@ -61,13 +61,13 @@ module _ (image : Image) (from at : ℕ) (ns : List ℕ) (are : AreNumbers image
     λ h. ⊎_elim (λ front. front) (λ back. let le : from ≤ k = All-contains (λ x. from ≤ x) (drop at ns) k behind back in absurd (omega (arith, le, h.1))) (either k h.0),
   )
 
-  pub read_are : (k : ℕ) → Contains (drop at ns) k ↔ (IsThere image k × (from ≤ k))
+  read_are : (k : ℕ) → Contains (drop at ns) k ↔ (IsThere image k × (from ≤ k))
   read_are k = (
     λ h. ((are.each k).0 (of_back k h), All-contains (λ x. from ≤ x) (drop at ns) k behind h),
     λ h. ⊎_elim (λ front. let lt : k < from = All-contains (λ x. x < from) (take at ns) k before front in absurd (omega (arith, lt, h.1))) (λ back. back) (either k h.0),
   )
 
-  pub log_is : (passed numbers : List ℕ) → passed ≡ take at ns → numbers ≡ drop at ns → HasEach image numbers → IsLogAt image from passed numbers
+  log_is : (passed numbers : List ℕ) → passed ≡ take at ns → numbers ≡ drop at ns → HasEach image numbers → IsLogAt image from passed numbers
   log_is passed numbers front back each =
       let named = each.named ∙ back in
       record {
@@ -83,6 +83,20 @@ module _ (image : Image) (from at : ℕ) (ns : List ℕ) (are : AreNumbers image
           records_are = each.records_are;
         };
       }
+
+-- the same of numbers that were read as they stand
+module _ (image : Image) (from at : ℕ) (ns seen : List ℕ) (are : AreNumbers image ns) (value : seen ≡ ns) (before : All (λ k. k < from) (take at seen)) (behind : All (λ k. from ≤ k) (drop at seen)) where
+  front_of : All (λ k. k < from) (take at ns)
+  front_of = subst (λ l. All (λ k. k < from) (take at l)) value before
+
+  back_of : All (λ k. from ≤ k) (drop at ns)
+  back_of = subst (λ l. All (λ k. from ≤ k) (drop at l)) value behind
+
+  pub seen_read : (k : ℕ) → Contains (drop at ns) k → IsThere image k × (from ≤ k)
+  seen_read k has = (read_are image from at ns are front_of back_of k).0 has
+
+  pub seen_log : (passed numbers : List ℕ) → passed ≡ take at ns → numbers ≡ drop at ns → HasEach image numbers → IsLogAt image from passed numbers
+  seen_log passed numbers front back each = log_is image from at ns are front_of back_of passed numbers front back each
 
 -- ---- reads one after the other
 

@@ -1,5 +1,5 @@
 -- A clear of a logged tree is an act of the theory.
-use Rattle.std.proofs.Common.{◌≡◌, ◌⊎◌, ⊎_elim, inl, inr, ℕ, ◌+◌, ◌<◌, ◌^◌, false, List, [], ◌∷◌, ◌++◌, length, Some, None, Ok, Err, IsErrOf, refl, sym, ap, ◌∙◌, subst, arith}
+use Rattle.std.proofs.Common.{◌≡◌, ◌⊎◌, ⊎_elim, inl, inr, ℕ, ◌+◌, ◌<◌, ◌^◌, Bool, false, List, [], ◌∷◌, ◌++◌, length, Some, None, Ok, Err, IsErrOf, refl, sym, ap, ◌∙◌, subst, arith}
 use Rattle.std.specs.Option.{is_some}
 use Rattle.lsm_below.specs.Entries.{Entry}
 use Rattle.lsm_below.specs.Numbers.{PlainNumbersAreRead}
@@ -13,7 +13,7 @@ use Rattle.lsm_model.specs.declared.journal.JournalEntry.TheVariants.{Clear}
 use Rattle.lsm_versions.specs.Levels.{SeenVersion}
 use Rattle.lsm_log_model.specs.Logs.{Logged as Log, MayBeDrawn, Did, CommitLost, did}
 use Rattle.lsm_log_model.proofs.Batches.{since_high}
-use Rattle.lsm_state.specs.Core.{Core, state_of}
+use Rattle.lsm_state.specs.Core.{Core, Seen, state_of}
 use Rattle.lsm_state.specs.Deeds.{saved_of}
 use Rattle.lsm_state.specs.Commits.{UpholdsFiles, Upholds, counted}
 use Rattle.lsm_state.specs.Clearing.{Clears, ClearDeeds, cleared, cleared_in}
@@ -23,6 +23,8 @@ use Rattle.lsm_logged.specs.Flushing.{RemovesBehind}
 use Rattle.lsm_logged.specs.Acting.{LeadsBy, clear_of, LeadsByClear, ActsByClear, ClearsAct}
 use Rattle.lsm_logged.proofs.Acted.{neither}
 use Rattle.lsm_logged.proofs.Left.{removed_stay}
+use Rattle.lsm_logged.proofs.Known.{LeavesLogged}
+use Rattle.lsm_logged.proofs.Seen.{logged_with}
 use Rattle.lsm_logged.proofs.Led.{first, stop, unknown, none_left, is_certain, leads, leads_passing, leads_nowhere, Lifted}
 
 abbrev not_unknown : Error → Type 0
@@ -99,6 +101,13 @@ module _ {S : Type 0} (w w' : World) (old new : SeenLogged S) where
       let deed = subst (λ k. Deeds opened (saved_of journal notes old.core) (Done (Cleared k old.core.next_memtable) ∷ []) (saved_of (journal ++ Clear k ∷ []) (ClearedTo (length journal + 1) ∷ notes) mid)) clears.ok.0 (deeds.done opened journal notes) in
       let there = subst (λ c. Deeds opened (saved_of journal notes old.core) (Done (clear_of old) ∷ []) (saved_of (journal ++ Clear old.core.seqno ∷ []) (ClearedTo (length journal + 1) ∷ notes) c)) (sym same) deed in
       cleared_leads read w w' old new sure doubt small opened journal notes t is keeps next (same ∙ clears.ok.1) there files passed behind
+
+-- the same of a tree's clear, and a removal of records behind it
+pub cleared_acts : {S : Type 0} (world : S → World) (tree mid : Seen S) (numbers : List ℕ) (doubted : Bool) (new seen : SeenLogged S) → logged_with tree numbers doubted ≡ seen → PlainNumbersAreRead → is_unsure seen ≡ false → new.doubted ≡ doubted → seen.core.seqno < 2 ^ 64
+    → (n : ℕ) → Clears (Ok n) tree.core mid.core → ClearDeeds (Ok n) tree.core mid.core → new.core ≡ mid.core → LeavesLogged world seen new → ClearsAct (Ok n) (world seen.store) (world new.store) seen new
+cleared_acts world tree mid numbers doubted new seen view read sure doubt small n clears deeds same left =
+    subst (λ t. is_unsure t ≡ false → t.core.seqno < 2 ^ 64 → LeavesLogged world t new → ClearsAct (Ok n) (world t.store) (world new.store) t new) view
+    (λ sure small left. stands_acts (world tree.store) (world new.store) (logged_with tree numbers doubted) new read sure doubt small n mid.core clears deeds same left.left.files left.left.passed left.left.either) sure small left
 
 -- an outcome is unknown, and nothing is done
 pub unsure_acts : {S : Type 0} (w : World) (old : SeenLogged S) → Upholds w w old.core old.core → ClearsAct (Err Unrecoverable) w w old old

@@ -1,5 +1,5 @@
 -- What a compaction did to a tree, as acts of the theory.
-use Rattle.std.proofs.Common.{◌≡◌, ◌⊎◌, ⊎_elim, inl, inr, ℕ, ◌+◌, ◌<◌, ◌≤◌, ◌^◌, max, true, false, List, [], ◌∷◌, ◌++◌, Option, Some, None, IsSome, Result, Ok, Err, IfOk, IfErr, IsErrOf, refl, sym, ap, ◌∙◌, subst, arith}
+use Rattle.std.proofs.Common.{◌≡◌, ◌⊎◌, ⊎_elim, inl, inr, ℕ, ◌+◌, ◌<◌, ◌≤◌, ◌^◌, max, Bool, true, false, List, [], ◌∷◌, ◌++◌, Option, Some, None, IsSome, Result, Ok, Err, IfOk, IfErr, IsErrOf, refl, sym, ap, ◌∙◌, subst, arith}
 use Rattle.lsm_below.specs.Entries.{Entry}
 use Rattle.lsm_below.specs.Numbers.{PlainNumbersAreRead}
 use Rattle.lsm_below.specs.declared.error.Error.{Error}
@@ -23,7 +23,7 @@ use Rattle.lsm_log_model.specs.Logs.{Logged as Log, MayBeDrawn, is_write, next_f
 use Rattle.lsm_state.specs.declared.compaction.Options.{Options}
 use Rattle.lsm_state.specs.declared.compaction.Begun.{Begun}
 use Rattle.lsm_state.specs.declared.compaction.Begun.TheVariants.{Declined, Installed}
-use Rattle.lsm_state.specs.Core.{Core}
+use Rattle.lsm_state.specs.Core.{Core, Seen}
 use Rattle.lsm_state.specs.Kept.{IsKeptTree}
 use Rattle.lsm_state.specs.FlushLaws.{FlushesAreDeeds}
 use Rattle.lsm_state.specs.Commits.{Upholds, counted}
@@ -38,6 +38,7 @@ use Rattle.lsm_logged.proofs.Led.{is_install, first, stop, leads_passing}
 use Rattle.lsm_logged.proofs.CommitActs.{commit_leads, lost_leads}
 use Rattle.lsm_logged.proofs.Removals.{passes_on, none_behind}
 use Rattle.lsm_logged.proofs.Rising.{begins_choice}
+use Rattle.lsm_logged.proofs.Seen.{logged_with}
 
 -- ---- what it did
 
@@ -333,23 +334,26 @@ begun_outcome May may_choose may_refuse o r old new may law kept deed b = by_los
 -- ---- a call
 
 -- a record has unknown outcome: the mark alone
-pub unsure_acts : {S : Type 0} {May : Action → Type 0} (watermark : ℕ) (world : S → World) (old now : SeenLogged S) → old ≡ now → IsKeptTree now.core → FlushesAreDeeds → Upholds (world old.store) (world old.store) old.core old.core → CompactsBy May watermark (Err Unrecoverable) (world now.store) (world now.store) now now
-unsure_acts {S} {May} watermark world old now same kept law still =
+pub unsure_acts : {S : Type 0} {May : Action → Type 0} (watermark : ℕ) (world : S → World) (tree : Seen S) (numbers : List ℕ) (doubted : Bool) (now : SeenLogged S) → logged_with tree numbers doubted ≡ now → IsKeptTree now.core → FlushesAreDeeds → Upholds (world tree.store) (world tree.store) tree.core tree.core
+    → CompactsBy May watermark (Err Unrecoverable) (world now.store) (world now.store) now now
+unsure_acts {S} {May} watermark world tree numbers doubted now same kept law still =
     let there : Upholds (world now.store) (world now.store) now.core now.core = subst (λ (t : SeenLogged S). Upholds (world t.store) (world t.store) t.core t.core) same still in
     let deed : IsMarkDeed watermark now.core now.core = law.spends watermark 0 now.core kept in
     λ opened start journal notes t is keeps next holds. unsure_compaction watermark (world now.store) (world now.store) now now refl there opened start journal notes t is keeps next holds May (same_marked watermark now.core now.core deed refl)
 
 -- no record has: what the tree's call did, of the actions that may be of a tree as it was
 pub answers_act : {S : Type 0} (May : Core → Action → Type 0) (watermark : ℕ) → ((c : Core) (action : Action) → May c action → IsCompaction watermark action)
-    → (world : S → World) (old now new : SeenLogged S) → old ≡ now → IsKeptTree now.core → now.core.seqno < 2 ^ 64 → PlainNumbersAreRead → old.doubted ≡ false → new.doubted ≡ old.doubted → Upholds (world old.store) (world new.store) old.core new.core
-    → (r : Result Begun Error) → (IsKeptTree old.core → Outcome (May old.core) watermark r old.core new.core) → CompactsBy (May now.core) watermark r (world now.store) (world new.store) now new
-answers_act {S} May watermark only world old now new same kept small read sure doubt commits r outcome =
+    → (world : S → World) (tree mid : Seen S) (numbers : List ℕ) (doubted : Bool) (now : SeenLogged S) → logged_with tree numbers doubted ≡ now → IsKeptTree now.core → now.core.seqno < 2 ^ 64 → PlainNumbersAreRead → doubted ≡ false → Upholds (world tree.store) (world mid.store) tree.core mid.core
+    → (r : Result Begun Error) → (IsKeptTree tree.core → Outcome (May tree.core) watermark r tree.core mid.core) → CompactsBy (May now.core) watermark r (world now.store) (world mid.store) now (logged_with mid numbers doubted)
+answers_act {S} May watermark only world tree mid numbers doubted now same kept small read sure commits r outcome =
+    let old = logged_with tree numbers doubted in
+    let new = logged_with mid numbers doubted in
     let there = subst (λ (t : SeenLogged S). IsKeptTree t.core) (sym same) kept in
     let fits = subst (λ (t : SeenLogged S). t.core.seqno < 2 ^ 64) (sym same) small in
     subst (λ (t : SeenLogged S). CompactsBy (May t.core) watermark r (world t.store) (world new.store) t new) same
-    (λ opened start journal notes t is keeps next holds. outcome_acts watermark (world old.store) (world new.store) old new doubt commits opened start journal notes t is keeps next holds (May old.core) (only old.core) sure fits read r (outcome there))
+    (λ opened start journal notes t is keeps next holds. outcome_acts watermark (world old.store) (world new.store) old new refl commits opened start journal notes t is keeps next holds (May old.core) (only old.core) sure fits read r (outcome there))
 
--- any compaction
-pub answered_acts : {S : Type 0} (watermark : ℕ) (world : S → World) (old now new : SeenLogged S) → old ≡ now → IsKeptTree now.core → now.core.seqno < 2 ^ 64 → PlainNumbersAreRead → old.doubted ≡ false → new.doubted ≡ old.doubted → Upholds (world old.store) (world new.store) old.core new.core
-    → (r : Result Begun Error) → (IsKeptTree old.core → Outcome (IsCompaction watermark) watermark r old.core new.core) → CompactsAct watermark r (world now.store) (world new.store) now new
-answered_acts watermark world old now new = answers_act (λ c. IsCompaction watermark) watermark (λ c action is. is) world old now new
+-- the same of any compaction
+pub answered_acts : {S : Type 0} (watermark : ℕ) (world : S → World) (tree mid : Seen S) (numbers : List ℕ) (doubted : Bool) (now : SeenLogged S) → logged_with tree numbers doubted ≡ now → IsKeptTree now.core → now.core.seqno < 2 ^ 64 → PlainNumbersAreRead → doubted ≡ false → Upholds (world tree.store) (world mid.store) tree.core mid.core
+    → (r : Result Begun Error) → (IsKeptTree tree.core → Outcome (IsCompaction watermark) watermark r tree.core mid.core) → CompactsAct watermark r (world now.store) (world mid.store) now (logged_with mid numbers doubted)
+answered_acts watermark world tree mid numbers doubted now = answers_act (λ c. IsCompaction watermark) watermark (λ c action is. is) world tree mid numbers doubted now

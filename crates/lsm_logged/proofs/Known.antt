@@ -16,7 +16,7 @@ use Rattle.lsm_logged.specs.Keeping.{SeenLogged, AreKnown}
 use Rattle.lsm_logged.specs.Removing.{log_from_of, Forgets, AreGone, KeepsKnown, RemovesPassed, Passed}
 use Rattle.lsm_logged.proofs.LogNames.{names_apart, record_is_foreign}
 use Rattle.lsm_logged.proofs.Seen.{logged_with}
-use Rattle.lsm_logged.proofs.Removals.{LeavesBehind, leaves_behind}
+use Rattle.lsm_logged.proofs.Removals.{LeavesBehind, removed_on, leaves_behind}
 
 -- a number is forgotten only where no record of it is left
 abbrev pub ForgetsGone : World → List ℕ → List ℕ → Type 0
@@ -43,6 +43,10 @@ passes_known old new numbers passes known k small there = known k small (subst (
 -- so no number is forgotten
 keeps_all : (old new : World) (numbers : List ℕ) → Passes old new → KeepsKnown old new numbers numbers
 keeps_all old new numbers passes = record { forgotten = λ k has. inl has; known = passes_known old new numbers passes }
+
+-- what a call behind another one keeps known, where that changed neither the store nor the numbers
+pub known_behind : {S : Type 0} (world : S → World) (old mid new : SeenLogged S) → mid.store ≡ old.store → mid.numbers ≡ old.numbers → KeepsKnown (world mid.store) (world new.store) mid.numbers new.numbers → KeepsKnown (world old.store) (world new.store) old.numbers new.numbers
+known_behind world old mid new store numbers known = subst (λ l. KeepsKnown (world old.store) (world new.store) l new.numbers) numbers (subst (λ s. KeepsKnown (world s) (world new.store) mid.numbers new.numbers) store known)
 
 -- is the number among these?
 pub is_known_or_not : (k : ℕ) (ns : List ℕ) → Contains ns k ⊎ AllByRecursion (λ j. j ≢ k) ns
@@ -93,6 +97,12 @@ leaves_logged world tree mid numbers doubted new seen view commits same files pa
       left = left;
       known = record { forgotten = known.forgotten; known = λ was. known.known (passes_known (world tree.store) (world mid.store) numbers commits.passes was) };
     })
+
+-- of a removal of records that the version has passed
+pub leaves_removed : {S T : Type 0} (world : S → World) (tree mid : Seen S) (numbers : List ℕ) (doubted : Bool) (new seen : SeenLogged S) → logged_with tree numbers doubted ≡ seen → Upholds (world tree.store) (world mid.store) tree.core mid.core → new.core ≡ mid.core
+    → UpholdsFiles (world mid.store) (world new.store) mid.core new.core → (r : Result T Error) → RemovesPassed (log_from_of mid.core) numbers (world mid.store) (world new.store) r → KeepsKnown (world mid.store) (world new.store) numbers new.numbers → LeavesLogged world seen new
+leaves_removed world tree mid numbers doubted new seen view commits same files r removes known =
+    leaves_logged world tree mid numbers doubted new seen view commits same files (removed_on (log_from_of mid.core) numbers (world mid.store) (world new.store) r removes) known
 
 -- no record is left of these numbers below `log_from`
 pub gone_left : {S : Type 0} (world : S → World) (tree : Seen S) (core : Core) (numbers : List ℕ) (doubted : Bool) (new seen : SeenLogged S) → logged_with tree numbers doubted ≡ seen → new.core ≡ core → AreGone (world new.store) (log_from_of core) numbers → AreGone (world new.store) (log_from_of new.core) seen.numbers

@@ -1,5 +1,5 @@
 -- Records that the version has passed are removed, behind a commit or not.
-use Rattle.std.proofs.Common.{◌≡◌, ⊎_elim, inl, inr, ℕ, ◌<◌, ◌≤◌, List, [], ◌++◌, Option, Some, None, Result, sym, ap, ◌∙◌, subst, arith}
+use Rattle.std.proofs.Common.{◌≡◌, ⊎_elim, inl, inr, ℕ, ◌<◌, ◌≤◌, Bool, List, [], ◌++◌, Option, Some, None, Result, sym, ap, ◌∙◌, subst, arith}
 use Rattle.std.proofs.lemmas.List.Elements.{All-drop, All-weaker}
 use Rattle.lsm_below.specs.Each.{each_append}
 use Rattle.lsm_below.specs.Members.{IsIn, each_in}
@@ -10,13 +10,14 @@ use Rattle.lsm_commit.specs.Foreign.{KeepsForeign, Passes}
 use Rattle.lsm_commit.specs.Stored.{IsStored, HoldsOneOf, AreAmong}
 use Rattle.lsm_log.specs.Changes.{IsBelow, AreCleared}
 use Rattle.lsm_log.proofs.Loaded.{rise_drop}
-use Rattle.lsm_state.specs.Core.{Core, versions_left, written_of}
+use Rattle.lsm_state.specs.Core.{Core, Seen, versions_left, written_of}
 use Rattle.lsm_state.specs.Commits.{UpholdsFiles, Upholds}
 use Rattle.lsm_state.specs.Calls.{Rotates}
 use Rattle.lsm_state.proofs.Upholding.{among_right, leaves_more}
-use Rattle.lsm_logged.specs.Keeping.{AreRecordNumbers}
+use Rattle.lsm_logged.specs.Keeping.{SeenLogged, AreRecordNumbers}
 use Rattle.lsm_logged.specs.Removing.{log_from_of, Forgets, RemovesPassed, HasOldOrPassed, Passed}
 use Rattle.lsm_logged.specs.Flushing.{IsEither, RemovesBehind}
+use Rattle.lsm_logged.proofs.Seen.{logged_with}
 
 -- ---- numbers
 
@@ -102,6 +103,14 @@ leaves_behind w mid new old core after commits same files passed = subst (Leaves
               (λ image one. (one.0, each_in (λ v. IsIn v (versions_left old ++ vs)) (vs ++ vs) one.0 (each_append (λ v. IsIn v (versions_left old ++ vs)) vs vs (among_right (versions_left old) vs) (among_right (versions_left old) vs)) one.1, one.2, one.3)),
         )
 
+-- the same of a call alone that commits
+module _ {S : Type 0} (world : S → World) (tree mid : Seen S) (numbers : List ℕ) (doubted : Bool) (seen : SeenLogged S) (view : logged_with tree numbers doubted ≡ seen) (passes : Passes (world tree.store) (world mid.store)) where
+  pub passes_alone : Passed (log_from_of mid.core) (world seen.store) (world mid.store)
+  passes_alone = subst (λ t. Passed (log_from_of mid.core) (world t.store) (world mid.store)) view (passes_on (log_from_of mid.core) (world tree.store) (world mid.store) passes)
+
+  pub none_alone : RemovesBehind (world seen.store) (world mid.store) seen.core mid.core
+  none_alone = subst (λ t. RemovesBehind (world t.store) (world mid.store) t.core mid.core) view (none_behind (world tree.store) (world mid.store) tree.core mid.core passes)
+
 -- ---- behind a rotation
 
 pub rotation_keeps : (id : Option ℕ) (old mid : Core) → Rotates old id mid → (versions_left mid ≡ versions_left old) × (written_of mid ≡ written_of old)
@@ -114,10 +123,18 @@ module _ (w new : World) (id : Option ℕ) (old mid core : Core) (rotates : Rota
       let same = rotation_keeps id old mid rotates in
       subst (λ vs. IsStored w vs (written_of mid)) (sym same.0) (subst (λ ts. IsStored w (versions_left old) ts) (sym same.1) stored)
 
-  pub behind_rotation : RemovesBehind w new mid core → RemovesBehind w new old core
+  behind_rotation : RemovesBehind w new mid core → RemovesBehind w new old core
   behind_rotation behind stored = behind (stays stored)
 
-  pub upheld_rotation : UpholdsFiles w new mid core → UpholdsFiles w new old core
+  upheld_rotation : UpholdsFiles w new mid core → UpholdsFiles w new old core
   upheld_rotation files stored =
       let then = files (stays stored) in
       (then.0, subst (λ vs. LeavesOnly w new (HoldsOneOf (vs ++ versions_left core))) (rotation_keeps id old mid rotates).0 then.1)
+
+-- the same of the trees before and behind it
+module _ {S : Type 0} (world : S → World) (old mid new : SeenLogged S) (id : Option ℕ) (rotates : Rotates old.core id mid.core) (store : mid.store ≡ old.store) where
+  pub behind_rotated : RemovesBehind (world mid.store) (world new.store) mid.core new.core → RemovesBehind (world old.store) (world new.store) old.core new.core
+  behind_rotated behind = behind_rotation (world old.store) (world new.store) id old.core mid.core new.core rotates (subst (λ s. RemovesBehind (world s) (world new.store) mid.core new.core) store behind)
+
+  pub upheld_rotated : UpholdsFiles (world mid.store) (world new.store) mid.core new.core → UpholdsFiles (world old.store) (world new.store) old.core new.core
+  upheld_rotated files = upheld_rotation (world old.store) (world new.store) id old.core mid.core new.core rotates (subst (λ s. UpholdsFiles (world s) (world new.store) mid.core new.core) store files)

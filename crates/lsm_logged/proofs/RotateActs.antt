@@ -1,5 +1,5 @@
 -- A rotation of a logged tree is an act of the theory, and a flush behind it acts on.
-use Rattle.std.proofs.Common.{◌≡◌, ◌⊎◌, ⊎_elim, ℕ, ◌<◌, ◌≤◌, List, [], ◌∷◌, ◌++◌, length, map, Option, Some, None, option_to_list, Result, Ok, Err, IfOk, refl, sym, ap, ◌∙◌, subst, arith}
+use Rattle.std.proofs.Common.{◌≡◌, ◌⊎◌, ⊎_elim, ℕ, ◌<◌, ◌≤◌, Bool, List, [], ◌∷◌, ◌++◌, length, map, Option, Some, None, option_to_list, Result, Ok, Err, IfOk, refl, sym, ap, ◌∙◌, subst, arith}
 use Rattle.std.specs.FinMap.{get}
 use Rattle.std.specs.List.{AllByRecursion}
 use Rattle.lsm_below.specs.Entries.{Entry}
@@ -17,7 +17,9 @@ use Rattle.lsm_commit.specs.Foreign.{AtRest}
 use Rattle.lsm_flush.specs.declared.jobs.Registered.{Registered}
 use Rattle.lsm_log_model.specs.Logs.{Logged as Log, MayBeDrawn, Did, did, AllActs}
 use Rattle.lsm_log_model.proofs.Batches.{since_each}
-use Rattle.lsm_state.specs.Core.{Core, state_of, latest_of}
+use Rattle.lsm_state.specs.Core.{Core, Seen, state_of, latest_of}
+use Rattle.lsm_state.specs.FlushLaws.{FlushesAreDeeds}
+use Rattle.lsm_state.specs.Kept.{IsKeptTree}
 use Rattle.lsm_state.specs.Calls.{Rotates}
 use Rattle.lsm_state.specs.Deeds.{saved_of}
 use Rattle.lsm_state.specs.Commits.{Upholds}
@@ -25,7 +27,9 @@ use Rattle.lsm_state.proofs.Upholding.{upheld_still}
 use Rattle.lsm_logged.specs.Keeping.{SeenLogged, IsLogOf, KeepsLog}
 use Rattle.lsm_logged.specs.Removing.{log_from_of}
 use Rattle.lsm_logged.specs.Acting.{rotation_of, sealed_notes, LeadsByRotation, ActsByFlush, ActsBehind, FlushesAct, RotatesAct}
+use Rattle.lsm_logged.proofs.Acted.{own_tables}
 use Rattle.lsm_logged.proofs.Led.{first, stop, leads_passing, leads_nowhere}
+use Rattle.lsm_logged.proofs.Seen.{logged_with}
 use Rattle.lsm_logged.proofs.Removals.{rotation_keeps}
 
 -- a rotation keeps what holds of reads
@@ -72,7 +76,7 @@ module _ {S : Type 0} (w : World) (old mid : SeenLogged S) (doubt : mid.doubted 
   version_stays (Some id) r = ap log_from_of r.2
 
   -- what a flush does from there
-  pub acts_behind : (watermark : ℕ) (id : Option ℕ) (r : Result (Option (ℕ × Registered)) Error) (w' : World) (new : SeenLogged S) → Rotates old.core id mid.core → FlushesAct watermark r w w' mid new → ActsBehind watermark id r w w' old new opened journal notes t
+  acts_behind : (watermark : ℕ) (id : Option ℕ) (r : Result (Option (ℕ × Registered)) Error) (w' : World) (new : SeenLogged S) → Rotates old.core id mid.core → FlushesAct watermark r w w' mid new → ActsBehind watermark id r w w' old new opened journal notes t
   acts_behind watermark id r w' new rotates acts =
       let one = rotation_leads id rotates in
       let q = counter id rotates in
@@ -88,6 +92,14 @@ module _ {S : Type 0} (w : World) (old mid : SeenLogged S) (doubt : mid.doubted 
       } in
       (mid, one, acts opened start journal (sealed_notes id journal old.core ++ notes) one.log one.is one.keeps drawn (subst (λ (s : Saved). Holds opened start s.state) (sym one.is.tree) (holds_on id rotates)))
 
+-- the same of the trees before and behind, of which the first one is known from inside
+pub flushed_behind : {S : Type 0} (world : S → World) (tree : Seen S) (numbers : List ℕ) (doubted : Bool) (old mid new : SeenLogged S) → logged_with tree numbers doubted ≡ old → AtRest (world old.store) → FlushesAreDeeds → IsKeptTree tree.core → mid.store ≡ old.store → mid.doubted ≡ old.doubted
+    → (watermark : ℕ) (id : Option ℕ) (r : Result (Option (ℕ × Registered)) Error) → Rotates old.core id mid.core → FlushesAct watermark r (world mid.store) (world new.store) mid new
+    → (opened : List Entry) (start : Map) (journal : List Event) (notes : List Note) (t : Log) → IsLogOf journal notes old.core old.doubted t → KeepsLog (world old.store) t → MayBeDrawn opened t old.core.seqno → Holds opened start t.tree.state → ActsBehind watermark id r (world old.store) (world new.store) old new opened journal notes t
+flushed_behind world tree numbers doubted old mid new view rest law kept store doubt watermark id r rotates acts opened start journal notes t is keeps next holds =
+    let distinct = subst (λ t. HasDistinctIds (latest_of t.core).tables) view (own_tables law.spends tree.core kept) in
+    acts_behind (world old.store) old mid doubt rest distinct opened start journal notes t is keeps next holds watermark id r (world new.store) new rotates (subst (λ s. FlushesAct watermark r (world s) (world new.store) mid new) store acts)
+
 -- a refused rotation does nothing
 pub refused_rotation : {S : Type 0} (watermark : ℕ) (e : Error) (w : World) (old : SeenLogged S) → AtRest w → (e ≡ OutOfNumbers) ⊎ (e ≡ OutOfMemory) → (opened : List Entry) (journal : List Event) (notes : List Note) (t : Log) → IsLogOf journal notes old.core old.doubted t → KeepsLog w t
     → ActsBehind watermark None (Err e) w w old old opened journal notes t
@@ -99,6 +111,13 @@ refused_rotation watermark e w old rest only opened journal notes t is keeps =
 
 -- ---- a rotation alone
 
-pub rotate_acts : {S : Type 0} (w : World) (old new : SeenLogged S) → new.doubted ≡ old.doubted → AtRest w → HasDistinctIds (latest_of old.core).tables → (r : Result (Option ℕ) Error) → IfOk r (λ id. Rotates old.core id new.core) → RotatesAct r w old new
+rotate_acts : {S : Type 0} (w : World) (old new : SeenLogged S) → new.doubted ≡ old.doubted → AtRest w → HasDistinctIds (latest_of old.core).tables → (r : Result (Option ℕ) Error) → IfOk r (λ id. Rotates old.core id new.core) → RotatesAct r w old new
 rotate_acts w old new doubt rest distinct (Ok id) rotates opened start journal notes t is keeps next holds = rotation_leads w old new doubt rest distinct opened start journal notes t is keeps next holds id rotates
 rotate_acts w old new doubt rest distinct (Err e) rotates opened start journal notes t is keeps next holds = tt
+
+-- the same of the tree as it is seen
+pub rotated_acts : {S : Type 0} (world : S → World) (tree mid : Seen S) (numbers : List ℕ) (doubted : Bool) (seen : SeenLogged S) → logged_with tree numbers doubted ≡ seen → (store : S) → store ≡ tree.store → AtRest (world store) → FlushesAreDeeds → IsKeptTree tree.core
+    → (r : Result (Option ℕ) Error) → IfOk r (λ id. Rotates tree.core id mid.core) → RotatesAct r (world seen.store) seen (logged_with mid numbers doubted)
+rotated_acts world tree mid numbers doubted seen view store read rest law kept r rotates =
+    subst (λ t. RotatesAct r (world t.store) t (logged_with mid numbers doubted)) view
+    (rotate_acts (world tree.store) (logged_with tree numbers doubted) (logged_with mid numbers doubted) refl (subst (λ s. AtRest (world s)) read rest) (own_tables law.spends tree.core kept) r rotates)

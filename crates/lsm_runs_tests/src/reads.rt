@@ -20,8 +20,8 @@ const B: &str = "Pairs(KvPairs { list: [(b\"b\", b\"yy\")] })";
 const C: &str = "Pairs(KvPairs { list: [(b\"c\", b\"zzz\")] })";
 
 /// a and b are written under 0, c under 1 after a rotation, and b is removed under 2. Then each read of many keys, which
-/// notes the pairs that it answers.
-const LISTS: [Row; 14] = [
+/// notes the pairs that it answers, and the other reads.
+const READS: [Row; 29] = [
     (
         Call::Set(&[("a", "x"), ("b", "yy")]),
         "Number(0)",
@@ -56,22 +56,7 @@ const LISTS: [Row; 14] = [
         &[Note::Listed(3, NO_PAIRS)],
     ),
     (Call::Key(Key::Prefix, "", 3), A_C, &[Note::Listed(3, A_C)]),
-];
-
-/// The same tree, and what is told of a key, of how many there are, and of both ends. Nothing of it is noted.
-const QUESTIONS: [Row; 19] = [
-    (
-        Call::Set(&[("a", "x"), ("b", "yy")]),
-        "Number(0)",
-        &[Note::Write(0), Note::Write(0)],
-    ),
-    (Call::Bare(Bare::Rotate), "Sealed(Some(0))", &[]),
-    (Call::Set(&[("c", "zzz")]), "Number(1)", &[Note::Write(1)]),
-    (
-        Call::Key(Key::Remove, "b", 2),
-        "Sizes(49, 101)",
-        &[Note::Write(2)],
-    ),
+    // What is told of a key, of how many there are, and of both ends: nothing of it is noted.
     (Call::Key(Key::Contains, "b", 1), "Truth(true)", &[]),
     (Call::Key(Key::Contains, "b", 3), "Truth(false)", &[]),
     (Call::Key(Key::Contains, "c", 1), "Truth(false)", &[]),
@@ -91,8 +76,7 @@ const QUESTIONS: [Row; 19] = [
 
 #[test]
 fn reads_are_steps(rt: HostRuntime) -> Result<(), Fail> {
-    assert_eq!(rt; run_rows(rt.alloc(), &LISTS)?, 14);
-    assert_eq!(rt; run_rows(rt.alloc(), &QUESTIONS)?, 19);
+    assert_eq!(rt; run_rows(rt.alloc(), &READS)?, 29);
     Ok(())
 }
 

@@ -1,57 +1,38 @@
-use Rattle.std.proofs.Common.{◌≡◌, ℕ, ◌<◌, ◌^◌, false, Result, Ok, Err, refl, sym, ap, ◌∙◌, subst}
+use Rattle.std.proofs.Common.{◌≡◌, ℕ, ◌<◌, ◌^◌, false, Result, Err, refl, sym, ap, ◌∙◌, subst}
 use Rattle.std.proofs.lemmas.Result.{err_from_is_err_and}
 use Rattle.lsm_below.specs.declared.error.Error.{Error}
-use Rattle.lsm_below.specs.declared.error.Error.TheVariants.{Unrecoverable, AfterCommit}
+use Rattle.lsm_below.specs.declared.error.Error.TheVariants.{Unrecoverable}
 use Rattle.lsm_logged.specs.Keeping.{SeenLogged, is_unsure}
-use Rattle.lsm_logged.specs.Removing.{log_from_of, KeepsKnown}
+use Rattle.lsm_logged.specs.Removing.{KeepsKnown}
 use Rattle.lsm_logged.specs.Acting.{ClearsAct}
-use Rattle.lsm_logged.proofs.ClearActs.{refused_acts, stands_acts, unsure_acts}
-use Rattle.lsm_logged.proofs.Known.{known_still, leaves_logged, all_left, gone_left}
-use Rattle.lsm_logged.proofs.Removals.{removed_on, leaves_behind}
+use Rattle.lsm_logged.proofs.ClearActs.{refused_acts, cleared_acts, unsure_acts}
+use Rattle.lsm_logged.proofs.Known.{known_still, leaves_removed, all_left, gone_left}
 use Rattle.lsm_logged.proofs.Seen.{logged_with}
 use Rattle.lsm_logged.proofs.logged.Logged.clear.Goals as goal
 
 pub returns-in-Ok-clause-passes : goal.returns-in-Ok-clause-passes
 returns-in-Ok-clause-passes g c tells =
-    let i = c.self.inside in
-    let passed = removed_on (log_from_of c.clear.new.self.core) i.numbers.items (g.S.Store.world c.clear.new.self.store) (g.S.Store.world c.remove_passed.new.self.store) c.remove_passed.result (c.remove_passed.ensures.removes tells) in
-    let new = c.remove_passed.new.self in
-    (leaves_logged g.S.Store.world i.tree c.clear.new.self i.numbers.items i.doubted new c.args.self.now c.self.view_is (c.clear.ensures.upholds tells) c.remove_passed.ensures.core (c.remove_passed.ensures.upholds tells) passed (c.remove_passed.ensures.known tells)).left.passed
+    (leaves_removed g.S.Store.world c.self.inside.tree c.clear.new.self c.self.inside.numbers.items c.self.inside.doubted c.remove_passed.new.self c.args.self.now c.self.view_is (c.clear.ensures.upholds tells) c.remove_passed.ensures.core (c.remove_passed.ensures.upholds tells) c.remove_passed.result (c.remove_passed.ensures.removes tells) (c.remove_passed.ensures.known tells)).left.passed
 
 pub returns-in-Ok-clause-behind : goal.returns-in-Ok-clause-behind
 returns-in-Ok-clause-behind g c tells =
-    let i = c.self.inside in
-    let passed = removed_on (log_from_of c.clear.new.self.core) i.numbers.items (g.S.Store.world c.clear.new.self.store) (g.S.Store.world c.remove_passed.new.self.store) c.remove_passed.result (c.remove_passed.ensures.removes tells) in
-    let new = c.remove_passed.new.self in
-    (leaves_logged g.S.Store.world i.tree c.clear.new.self i.numbers.items i.doubted new c.args.self.now c.self.view_is (c.clear.ensures.upholds tells) c.remove_passed.ensures.core (c.remove_passed.ensures.upholds tells) passed (c.remove_passed.ensures.known tells)).left.either
+    (leaves_removed g.S.Store.world c.self.inside.tree c.clear.new.self c.self.inside.numbers.items c.self.inside.doubted c.remove_passed.new.self c.args.self.now c.self.view_is (c.clear.ensures.upholds tells) c.remove_passed.ensures.core (c.remove_passed.ensures.upholds tells) c.remove_passed.result (c.remove_passed.ensures.removes tells) (c.remove_passed.ensures.known tells)).left.either
 
 pub returns-in-Ok-clause-upholds : goal.returns-in-Ok-clause-upholds
 returns-in-Ok-clause-upholds g c tells =
-    let i = c.self.inside in
-    let passed = removed_on (log_from_of c.clear.new.self.core) i.numbers.items (g.S.Store.world c.clear.new.self.store) (g.S.Store.world c.remove_passed.new.self.store) c.remove_passed.result (c.remove_passed.ensures.removes tells) in
-    let new = c.remove_passed.new.self in
-    (leaves_logged g.S.Store.world i.tree c.clear.new.self i.numbers.items i.doubted new c.args.self.now c.self.view_is (c.clear.ensures.upholds tells) c.remove_passed.ensures.core (c.remove_passed.ensures.upholds tells) passed (c.remove_passed.ensures.known tells)).left.files
+    (leaves_removed g.S.Store.world c.self.inside.tree c.clear.new.self c.self.inside.numbers.items c.self.inside.doubted c.remove_passed.new.self c.args.self.now c.self.view_is (c.clear.ensures.upholds tells) c.remove_passed.ensures.core (c.remove_passed.ensures.upholds tells) c.remove_passed.result (c.remove_passed.ensures.removes tells) (c.remove_passed.ensures.known tells)).left.files
 
 pub returns-in-Err-clause-passes : goal.returns-in-Err-clause-passes
 returns-in-Err-clause-passes g c tells =
-    let i = c.self.inside in
-    let passed = removed_on (log_from_of c.clear.new.self.core) i.numbers.items (g.S.Store.world c.clear.new.self.store) (g.S.Store.world c.remove_passed.new.self.store) c.remove_passed.result (c.remove_passed.ensures.removes tells) in
-    let new = c.remove_passed.new.self in
-    (leaves_logged g.S.Store.world i.tree c.clear.new.self i.numbers.items i.doubted new c.args.self.now c.self.view_is (c.clear.ensures.upholds tells) c.remove_passed.ensures.core (c.remove_passed.ensures.upholds tells) passed (c.remove_passed.ensures.known tells)).left.passed
+    (leaves_removed g.S.Store.world c.self.inside.tree c.clear.new.self c.self.inside.numbers.items c.self.inside.doubted c.remove_passed.new.self c.args.self.now c.self.view_is (c.clear.ensures.upholds tells) c.remove_passed.ensures.core (c.remove_passed.ensures.upholds tells) c.remove_passed.result (c.remove_passed.ensures.removes tells) (c.remove_passed.ensures.known tells)).left.passed
 
 pub returns-in-Err-clause-behind : goal.returns-in-Err-clause-behind
 returns-in-Err-clause-behind g c tells =
-    let i = c.self.inside in
-    let passed = removed_on (log_from_of c.clear.new.self.core) i.numbers.items (g.S.Store.world c.clear.new.self.store) (g.S.Store.world c.remove_passed.new.self.store) c.remove_passed.result (c.remove_passed.ensures.removes tells) in
-    let new = c.remove_passed.new.self in
-    (leaves_logged g.S.Store.world i.tree c.clear.new.self i.numbers.items i.doubted new c.args.self.now c.self.view_is (c.clear.ensures.upholds tells) c.remove_passed.ensures.core (c.remove_passed.ensures.upholds tells) passed (c.remove_passed.ensures.known tells)).left.either
+    (leaves_removed g.S.Store.world c.self.inside.tree c.clear.new.self c.self.inside.numbers.items c.self.inside.doubted c.remove_passed.new.self c.args.self.now c.self.view_is (c.clear.ensures.upholds tells) c.remove_passed.ensures.core (c.remove_passed.ensures.upholds tells) c.remove_passed.result (c.remove_passed.ensures.removes tells) (c.remove_passed.ensures.known tells)).left.either
 
 pub returns-in-Err-clause-upholds : goal.returns-in-Err-clause-upholds
 returns-in-Err-clause-upholds g c tells =
-    let i = c.self.inside in
-    let passed = removed_on (log_from_of c.clear.new.self.core) i.numbers.items (g.S.Store.world c.clear.new.self.store) (g.S.Store.world c.remove_passed.new.self.store) c.remove_passed.result (c.remove_passed.ensures.removes tells) in
-    let new = c.remove_passed.new.self in
-    (leaves_logged g.S.Store.world i.tree c.clear.new.self i.numbers.items i.doubted new c.args.self.now c.self.view_is (c.clear.ensures.upholds tells) c.remove_passed.ensures.core (c.remove_passed.ensures.upholds tells) passed (c.remove_passed.ensures.known tells)).left.files
+    (leaves_removed g.S.Store.world c.self.inside.tree c.clear.new.self c.self.inside.numbers.items c.self.inside.doubted c.remove_passed.new.self c.args.self.now c.self.view_is (c.clear.ensures.upholds tells) c.remove_passed.ensures.core (c.remove_passed.ensures.upholds tells) c.remove_passed.result (c.remove_passed.ensures.removes tells) (c.remove_passed.ensures.known tells)).left.files
 
 pub returns-then-is_uncertain-clause-acts : goal.returns-then-is_uncertain-clause-acts
 returns-then-is_uncertain-clause-acts g c tells =
@@ -77,57 +58,31 @@ returns-in_err-number-clause-acts g c tells =
 
 pub returns-in-Ok-clause-acts : goal.returns-in-Ok-clause-acts
 returns-in-Ok-clause-acts g c tells =
-    let w = g.S.Store.world in
-    let i = c.self.inside in
-    let mid = c.clear.new.self in
-    let new = c.remove_passed.new.self in
-    let old = logged_with i.tree i.numbers.items i.doubted in
-    let sure : is_unsure old ≡ false = ap is_unsure c.self.view_is ∙ (sym c.is_uncertain.ensures ∙ c.if-is_uncertain.false) in
-    let small = subst (λ (t : SeenLogged g.row.S.Denot). t.core.seqno < 2 ^ 64) (sym c.self.view_is) c.counter_fits.ensures in
-    let passed = removed_on (log_from_of mid.core) i.numbers.items (w mid.store) (w new.store) c.remove_passed.result (c.remove_passed.ensures.removes tells) in
-    let same = c.remove_passed.ensures.core in
-    let left = leaves_behind (w old.store) (w mid.store) (w new.store) old.core mid.core new.core (c.clear.ensures.upholds tells) same (c.remove_passed.ensures.upholds tells) passed in
-    subst (λ (t : SeenLogged g.row.S.Denot). ClearsAct (Ok c.in_ok-number.number) (w t.store) (w new.store) t new) c.self.view_is
-    (stands_acts (w old.store) (w new.store) old new c.plain_numbers_are_read.ensures sure c.remove_passed.ensures.doubted small c.in_ok-number.number mid.core c.in_ok-number.ensures.clears c.in_ok-number.ensures.deeds same left.files left.passed left.either)
+    cleared_acts g.S.Store.world c.self.inside.tree c.clear.new.self c.self.inside.numbers.items c.self.inside.doubted c.remove_passed.new.self c.args.self.now c.self.view_is c.plain_numbers_are_read.ensures (sym c.is_uncertain.ensures ∙ c.if-is_uncertain.false) c.remove_passed.ensures.doubted c.counter_fits.ensures
+    c.in_ok-number.number c.in_ok-number.ensures.clears c.in_ok-number.ensures.deeds c.remove_passed.ensures.core
+    (leaves_removed g.S.Store.world c.self.inside.tree c.clear.new.self c.self.inside.numbers.items c.self.inside.doubted c.remove_passed.new.self c.args.self.now c.self.view_is (c.clear.ensures.upholds tells) c.remove_passed.ensures.core (c.remove_passed.ensures.upholds tells) c.remove_passed.result (c.remove_passed.ensures.removes tells) (c.remove_passed.ensures.known tells))
 
 pub returns-in-Err-clause-acts : goal.returns-in-Err-clause-acts
 returns-in-Err-clause-acts g c tells =
-    let w = g.S.Store.world in
-    let i = c.self.inside in
-    let mid = c.clear.new.self in
-    let new = c.remove_passed.new.self in
-    let old = logged_with i.tree i.numbers.items i.doubted in
-    let sure : is_unsure old ≡ false = ap is_unsure c.self.view_is ∙ (sym c.is_uncertain.ensures ∙ c.if-is_uncertain.false) in
-    let small = subst (λ (t : SeenLogged g.row.S.Denot). t.core.seqno < 2 ^ 64) (sym c.self.view_is) c.counter_fits.ensures in
-    let passed = removed_on (log_from_of mid.core) i.numbers.items (w mid.store) (w new.store) c.remove_passed.result (c.remove_passed.ensures.removes tells) in
-    let same = c.remove_passed.ensures.core in
-    let left = leaves_behind (w old.store) (w mid.store) (w new.store) old.core mid.core new.core (c.clear.ensures.upholds tells) same (c.remove_passed.ensures.upholds tells) passed in
-    subst (λ (t : SeenLogged g.row.S.Denot). ClearsAct (Err AfterCommit) (w t.store) (w new.store) t new) c.self.view_is
-    (stands_acts (w old.store) (w new.store) old new c.plain_numbers_are_read.ensures sure c.remove_passed.ensures.doubted small c.in_ok-number.number mid.core c.in_ok-number.ensures.clears c.in_ok-number.ensures.deeds same left.files left.passed left.either)
+    cleared_acts g.S.Store.world c.self.inside.tree c.clear.new.self c.self.inside.numbers.items c.self.inside.doubted c.remove_passed.new.self c.args.self.now c.self.view_is c.plain_numbers_are_read.ensures (sym c.is_uncertain.ensures ∙ c.if-is_uncertain.false) c.remove_passed.ensures.doubted c.counter_fits.ensures
+    c.in_ok-number.number c.in_ok-number.ensures.clears c.in_ok-number.ensures.deeds c.remove_passed.ensures.core
+    (leaves_removed g.S.Store.world c.self.inside.tree c.clear.new.self c.self.inside.numbers.items c.self.inside.doubted c.remove_passed.new.self c.args.self.now c.self.view_is (c.clear.ensures.upholds tells) c.remove_passed.ensures.core (c.remove_passed.ensures.upholds tells) c.remove_passed.result (c.remove_passed.ensures.removes tells) (c.remove_passed.ensures.known tells))
 
 pub returns-in-Ok-clause-known : goal.returns-in-Ok-clause-known
 returns-in-Ok-clause-known g c tells =
-    let i = c.self.inside in
-    let passed = removed_on (log_from_of c.clear.new.self.core) i.numbers.items (g.S.Store.world c.clear.new.self.store) (g.S.Store.world c.remove_passed.new.self.store) c.remove_passed.result (c.remove_passed.ensures.removes tells) in
-    let new = c.remove_passed.new.self in
-    (leaves_logged g.S.Store.world i.tree c.clear.new.self i.numbers.items i.doubted new c.args.self.now c.self.view_is (c.clear.ensures.upholds tells) c.remove_passed.ensures.core (c.remove_passed.ensures.upholds tells) passed (c.remove_passed.ensures.known tells)).known
+    (leaves_removed g.S.Store.world c.self.inside.tree c.clear.new.self c.self.inside.numbers.items c.self.inside.doubted c.remove_passed.new.self c.args.self.now c.self.view_is (c.clear.ensures.upholds tells) c.remove_passed.ensures.core (c.remove_passed.ensures.upholds tells) c.remove_passed.result (c.remove_passed.ensures.removes tells) (c.remove_passed.ensures.known tells)).known
 
 pub returns-in-Err-clause-known : goal.returns-in-Err-clause-known
 returns-in-Err-clause-known g c tells =
-    let i = c.self.inside in
-    let passed = removed_on (log_from_of c.clear.new.self.core) i.numbers.items (g.S.Store.world c.clear.new.self.store) (g.S.Store.world c.remove_passed.new.self.store) c.remove_passed.result (c.remove_passed.ensures.removes tells) in
-    let new = c.remove_passed.new.self in
-    (leaves_logged g.S.Store.world i.tree c.clear.new.self i.numbers.items i.doubted new c.args.self.now c.self.view_is (c.clear.ensures.upholds tells) c.remove_passed.ensures.core (c.remove_passed.ensures.upholds tells) passed (c.remove_passed.ensures.known tells)).known
+    (leaves_removed g.S.Store.world c.self.inside.tree c.clear.new.self c.self.inside.numbers.items c.self.inside.doubted c.remove_passed.new.self c.args.self.now c.self.view_is (c.clear.ensures.upholds tells) c.remove_passed.ensures.core (c.remove_passed.ensures.upholds tells) c.remove_passed.result (c.remove_passed.ensures.removes tells) (c.remove_passed.ensures.known tells)).known
 
 pub returns-in-Ok-clause-passed_are_gone : goal.returns-in-Ok-clause-passed_are_gone
 returns-in-Ok-clause-passed_are_gone g c tells =
-    let i = c.self.inside in
-    gone_left g.S.Store.world i.tree c.clear.new.self.core i.numbers.items i.doubted c.remove_passed.new.self c.args.self.now c.self.view_is c.remove_passed.ensures.core (c.in-Ok.ensures.removes tells).gone
+    gone_left g.S.Store.world c.self.inside.tree c.clear.new.self.core c.self.inside.numbers.items c.self.inside.doubted c.remove_passed.new.self c.args.self.now c.self.view_is c.remove_passed.ensures.core (c.in-Ok.ensures.removes tells).gone
 
 pub returns-in_err-number-clause-known : goal.returns-in_err-number-clause-known
 returns-in_err-number-clause-known g c tells =
-    let i = c.self.inside in
-    all_left g.S.Store.world i.tree c.clear.new.self i.numbers.items i.doubted c.args.self.now c.self.view_is (c.clear.ensures.upholds tells).passes
+    all_left g.S.Store.world c.self.inside.tree c.clear.new.self c.self.inside.numbers.items c.self.inside.doubted c.args.self.now c.self.view_is (c.clear.ensures.upholds tells).passes
 
 pub returns-then-is_uncertain-clause-known : goal.returns-then-is_uncertain-clause-known
 returns-then-is_uncertain-clause-known g c tells =

@@ -1,37 +1,24 @@
-use Rattle.std.proofs.Common.{refl}
 use Rattle.lsm_state.specs.WholeCompactions.{options_at}
 use Rattle.lsm_logged.proofs.Compacted.{answered_acts, unsure_acts}
 use Rattle.lsm_logged.proofs.WholeActs.{compacts_outcome}
 use Rattle.lsm_logged.proofs.Reopening.{numbered_more}
-use Rattle.lsm_logged.proofs.Seen.{logged_with, leaves_seen}
+use Rattle.lsm_logged.proofs.Seen.{leaves_seen}
 use Rattle.lsm_logged.proofs.Rising.{compacts}
 use Rattle.lsm_logged.proofs.logged.Logged.compact.Goals as goal
 
 pub invariant_of-self : goal.invariant_of-self
 invariant_of-self g c =
-    let old = c.self.inside.tree.core in
-    let new = c.compact.new.self.core in
-    numbered_more old.seqno new.seqno c.self.inside.numbers.items (compacts _ _ (options_at c.args.watermark old) c.compact.result old new c.compact.ensures.compacts) c.self.invariant
+    numbered_more c.self.inside.tree.core.seqno c.compact.new.self.core.seqno c.self.inside.numbers.items (compacts _ _ (options_at c.args.watermark c.self.inside.tree.core) c.compact.result c.self.inside.tree.core c.compact.new.self.core c.compact.ensures.compacts) c.self.invariant
 
 pub returns-clause-gone : goal.returns-clause-gone
 returns-clause-gone g c tells =
-    let new = c.compact.new.self in
-    let strategy = c.args.strategy.now in
-    leaves_seen ((goal.CompactionStrategy-dyn g strategy).may_choose strategy.1) c.compact.result (g.S.Store.world new.store) _ _ new.core c.self.view_is (c.compact.ensures.gone tells)
+    leaves_seen ((goal.CompactionStrategy-dyn g c.args.strategy.now).may_choose c.args.strategy.now.1) c.compact.result (g.S.Store.world c.compact.new.self.store) _ _ c.compact.new.self.core c.self.view_is (c.compact.ensures.gone tells)
 
 pub returns-then-self-clause-acts : goal.returns-then-self-clause-acts
 returns-then-self-clause-acts g c tells =
-    let i = c.self.inside in
-    let known = c.acts_are_known.ensures in
-    let old = logged_with i.tree i.numbers.items i.doubted in
-    unsure_acts c.args.watermark g.S.Store.world old c.args.self.now c.self.view_is known.tree known.flushes (c.is_upheld.ensures tells)
+    unsure_acts c.args.watermark g.S.Store.world c.self.inside.tree c.self.inside.numbers.items c.self.inside.doubted c.args.self.now c.self.view_is c.acts_are_known.ensures.tree c.acts_are_known.ensures.flushes (c.is_upheld.ensures tells)
 
 pub returns-clause-acts : goal.returns-clause-acts
 returns-clause-acts g c tells =
-    let i = c.self.inside in
-    let mid = c.compact.new.self in
-    let known = c.acts_are_known.ensures in
-    let old = logged_with i.tree i.numbers.items i.doubted in
-    let new = logged_with mid i.numbers.items i.doubted in
-    answered_acts c.args.watermark g.S.Store.world old c.args.self.now new c.self.view_is known.tree known.counter known.numbers c.if-self.false refl (c.compact.ensures.upholds tells) c.compact.result
-    (λ kept. compacts_outcome _ _ (options_at c.args.watermark old.core) c.compact.result old.core mid.core known.compactions kept (known.flushes.spends c.args.watermark 0 old.core kept) c.compact.ensures.compacts)
+    answered_acts c.args.watermark g.S.Store.world c.self.inside.tree c.compact.new.self c.self.inside.numbers.items c.self.inside.doubted c.args.self.now c.self.view_is c.acts_are_known.ensures.tree c.acts_are_known.ensures.counter c.acts_are_known.ensures.numbers c.if-self.false (c.compact.ensures.upholds tells) c.compact.result
+    (λ kept. compacts_outcome _ _ (options_at c.args.watermark c.self.inside.tree.core) c.compact.result c.self.inside.tree.core c.compact.new.self.core c.acts_are_known.ensures.compactions kept (c.acts_are_known.ensures.flushes.spends c.args.watermark 0 c.self.inside.tree.core kept) c.compact.ensures.compacts)

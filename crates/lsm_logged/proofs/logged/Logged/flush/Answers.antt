@@ -6,53 +6,37 @@ use Rattle.lsm_flush.specs.declared.jobs.Registered.{Registered}
 use Rattle.lsm_state.specs.Flushes.{sealed_ids}
 use Rattle.lsm_state.specs.WholeFlushes.{Flushes}
 use Rattle.lsm_logged.specs.Keeping.{SeenLogged}
-use Rattle.lsm_logged.specs.Removing.{log_from_of, KeepsKnown, Passed}
-use Rattle.lsm_logged.specs.Flushing.{RemovesBehind}
+use Rattle.lsm_logged.specs.Removing.{KeepsKnown}
 use Rattle.lsm_logged.specs.Acting.{FlushesAct}
 use Rattle.lsm_logged.proofs.FlushActs.{unsure_flush, refused_flush, installed_flush, none_flush}
 use Rattle.lsm_logged.proofs.Known.{known_still, leaves_logged, all_left, gone_left}
-use Rattle.lsm_logged.proofs.Removals.{passes_on, none_behind, leaves_behind}
+use Rattle.lsm_logged.proofs.Removals.{passes_alone, none_alone, leaves_behind}
 use Rattle.lsm_logged.proofs.Seen.{logged_with}
 use Rattle.lsm_logged.proofs.logged.Logged.flush.Goals as goal
 
 pub returns-in_err-flushed-clause-passes : goal.returns-in_err-flushed-clause-passes
 returns-in_err-flushed-clause-passes g c tells =
-    let w = g.S.Store.world in
-    let i = c.self.inside in
-    let mid = c.flush.new.self in
-    subst (λ (t : SeenLogged g.row.S.Denot). Passed (log_from_of mid.core) (w t.store) (w mid.store)) c.self.view_is (passes_on (log_from_of mid.core) (w i.tree.store) (w mid.store) (c.flush.ensures.upholds tells).passes)
+    passes_alone g.S.Store.world c.self.inside.tree c.flush.new.self c.self.inside.numbers.items c.self.inside.doubted c.args.self.now c.self.view_is (c.flush.ensures.upholds tells).passes
 
 pub returns-in_err-flushed-clause-behind : goal.returns-in_err-flushed-clause-behind
 returns-in_err-flushed-clause-behind g c tells =
-    let w = g.S.Store.world in
-    let i = c.self.inside in
-    let mid = c.flush.new.self in
-    subst (λ (t : SeenLogged g.row.S.Denot). RemovesBehind (w t.store) (w mid.store) t.core mid.core) c.self.view_is (none_behind (w i.tree.store) (w mid.store) i.tree.core mid.core (c.flush.ensures.upholds tells).passes)
+    none_alone g.S.Store.world c.self.inside.tree c.flush.new.self c.self.inside.numbers.items c.self.inside.doubted c.args.self.now c.self.view_is (c.flush.ensures.upholds tells).passes
 
 pub returns-in-Some-clause-passes : goal.returns-in-Some-clause-passes
 returns-in-Some-clause-passes g c tells =
-    let i = c.self.inside in
-    let new = c.clean_log.new.self in
-    (leaves_logged g.S.Store.world i.tree c.flush.new.self i.numbers.items i.doubted new c.args.self.now c.self.view_is (c.flush.ensures.upholds tells) c.clean_log.ensures.cleans.core (c.clean_log.ensures.upholds tells) (c.clean_log.ensures.passes tells) (c.clean_log.ensures.known tells)).left.passed
+    (leaves_logged g.S.Store.world c.self.inside.tree c.flush.new.self c.self.inside.numbers.items c.self.inside.doubted c.clean_log.new.self c.args.self.now c.self.view_is (c.flush.ensures.upholds tells) c.clean_log.ensures.cleans.core (c.clean_log.ensures.upholds tells) (c.clean_log.ensures.passes tells) (c.clean_log.ensures.known tells)).left.passed
 
 pub returns-in-Some-clause-behind : goal.returns-in-Some-clause-behind
 returns-in-Some-clause-behind g c tells =
-    let i = c.self.inside in
-    let new = c.clean_log.new.self in
-    (leaves_logged g.S.Store.world i.tree c.flush.new.self i.numbers.items i.doubted new c.args.self.now c.self.view_is (c.flush.ensures.upholds tells) c.clean_log.ensures.cleans.core (c.clean_log.ensures.upholds tells) (c.clean_log.ensures.passes tells) (c.clean_log.ensures.known tells)).left.either
+    (leaves_logged g.S.Store.world c.self.inside.tree c.flush.new.self c.self.inside.numbers.items c.self.inside.doubted c.clean_log.new.self c.args.self.now c.self.view_is (c.flush.ensures.upholds tells) c.clean_log.ensures.cleans.core (c.clean_log.ensures.upholds tells) (c.clean_log.ensures.passes tells) (c.clean_log.ensures.known tells)).left.either
 
 pub returns-in-Some-clause-upholds : goal.returns-in-Some-clause-upholds
 returns-in-Some-clause-upholds g c tells =
-    let i = c.self.inside in
-    let new = c.clean_log.new.self in
-    (leaves_logged g.S.Store.world i.tree c.flush.new.self i.numbers.items i.doubted new c.args.self.now c.self.view_is (c.flush.ensures.upholds tells) c.clean_log.ensures.cleans.core (c.clean_log.ensures.upholds tells) (c.clean_log.ensures.passes tells) (c.clean_log.ensures.known tells)).left.files
+    (leaves_logged g.S.Store.world c.self.inside.tree c.flush.new.self c.self.inside.numbers.items c.self.inside.doubted c.clean_log.new.self c.args.self.now c.self.view_is (c.flush.ensures.upholds tells) c.clean_log.ensures.cleans.core (c.clean_log.ensures.upholds tells) (c.clean_log.ensures.passes tells) (c.clean_log.ensures.known tells)).left.files
 
 pub returns-in-None-clause-behind : goal.returns-in-None-clause-behind
 returns-in-None-clause-behind g c tells =
-    let w = g.S.Store.world in
-    let i = c.self.inside in
-    let mid = c.flush.new.self in
-    subst (λ (t : SeenLogged g.row.S.Denot). RemovesBehind (w t.store) (w mid.store) t.core mid.core) c.self.view_is (none_behind (w i.tree.store) (w mid.store) i.tree.core mid.core (c.flush.ensures.upholds tells).passes)
+    none_alone g.S.Store.world c.self.inside.tree c.flush.new.self c.self.inside.numbers.items c.self.inside.doubted c.args.self.now c.self.view_is (c.flush.ensures.upholds tells).passes
 
 pub returns-then-is_flush_unsure-clause-acts : goal.returns-then-is_flush_unsure-clause-acts
 returns-then-is_flush_unsure-clause-acts g c tells =
@@ -109,13 +93,11 @@ returns-in-None-clause-acts g c tells =
 
 pub returns-in_err-flushed-clause-known : goal.returns-in_err-flushed-clause-known
 returns-in_err-flushed-clause-known g c tells =
-    let i = c.self.inside in
-    all_left g.S.Store.world i.tree c.flush.new.self i.numbers.items i.doubted c.args.self.now c.self.view_is (c.flush.ensures.upholds tells).passes
+    all_left g.S.Store.world c.self.inside.tree c.flush.new.self c.self.inside.numbers.items c.self.inside.doubted c.args.self.now c.self.view_is (c.flush.ensures.upholds tells).passes
 
 pub returns-in-None-clause-known : goal.returns-in-None-clause-known
 returns-in-None-clause-known g c tells =
-    let i = c.self.inside in
-    all_left g.S.Store.world i.tree c.flush.new.self i.numbers.items i.doubted c.args.self.now c.self.view_is (c.flush.ensures.upholds tells).passes
+    all_left g.S.Store.world c.self.inside.tree c.flush.new.self c.self.inside.numbers.items c.self.inside.doubted c.args.self.now c.self.view_is (c.flush.ensures.upholds tells).passes
 
 pub returns-then-is_flush_unsure-clause-known : goal.returns-then-is_flush_unsure-clause-known
 returns-then-is_flush_unsure-clause-known g c tells =
@@ -125,9 +107,7 @@ returns-then-is_flush_unsure-clause-known g c tells =
 
 pub returns-in-Some-clause-known : goal.returns-in-Some-clause-known
 returns-in-Some-clause-known g c tells =
-    let i = c.self.inside in
-    let new = c.clean_log.new.self in
-    (leaves_logged g.S.Store.world i.tree c.flush.new.self i.numbers.items i.doubted new c.args.self.now c.self.view_is (c.flush.ensures.upholds tells) c.clean_log.ensures.cleans.core (c.clean_log.ensures.upholds tells) (c.clean_log.ensures.passes tells) (c.clean_log.ensures.known tells)).known
+    (leaves_logged g.S.Store.world c.self.inside.tree c.flush.new.self c.self.inside.numbers.items c.self.inside.doubted c.clean_log.new.self c.args.self.now c.self.view_is (c.flush.ensures.upholds tells) c.clean_log.ensures.cleans.core (c.clean_log.ensures.upholds tells) (c.clean_log.ensures.passes tells) (c.clean_log.ensures.known tells)).known
 
 pub returns-in-Some-clause-passed_are_gone : goal.returns-in-Some-clause-passed_are_gone
 returns-in-Some-clause-passed_are_gone g c tells cleaned =

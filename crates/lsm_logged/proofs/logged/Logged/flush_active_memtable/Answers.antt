@@ -1,17 +1,13 @@
 use Rattle.std.proofs.Common.{◌≡◌, ℕ, true, List, None, IfSome, Ok, Err, inr, refl, sym, subst}
-use Rattle.lsm_model.specs.Views.{HasDistinctIds}
 use Rattle.lsm_commit.specs.Foreign.{AtRest}
 use Rattle.lsm_state.specs.Commits.{UpholdsFiles}
-use Rattle.lsm_state.specs.Core.{latest_of}
 use Rattle.lsm_state.proofs.Upholding.{upheld_still}
 use Rattle.lsm_logged.specs.Keeping.{SeenLogged}
 use Rattle.lsm_logged.specs.Removing.{log_from_of, AreGone, KeepsKnown}
-use Rattle.lsm_logged.specs.Flushing.{RemovesBehind}
-use Rattle.lsm_logged.specs.Acting.{FlushesAct, ActsBehind}
-use Rattle.lsm_logged.proofs.Acted.{own_tables}
-use Rattle.lsm_logged.proofs.Known.{known_still}
-use Rattle.lsm_logged.proofs.Removals.{behind_rotation, upheld_rotation}
-use Rattle.lsm_logged.proofs.RotateActs.{refused_rotation, acts_behind}
+use Rattle.lsm_logged.specs.Acting.{ActsBehind}
+use Rattle.lsm_logged.proofs.Known.{known_still, known_behind}
+use Rattle.lsm_logged.proofs.Removals.{behind_rotated, upheld_rotated}
+use Rattle.lsm_logged.proofs.RotateActs.{refused_rotation, flushed_behind}
 use Rattle.lsm_logged.proofs.logged.Logged.flush_active_memtable.Goals as goal
 
 pub returns-in-Err-clause-upholds : goal.returns-in-Err-clause-upholds
@@ -24,12 +20,7 @@ returns-in-Err-clause-upholds g c tells =
 
 pub returns-in-Ok-flush-clause-behind : goal.returns-in-Ok-flush-clause-behind
 returns-in-Ok-flush-clause-behind g c tells =
-    let w = g.S.Store.world in
-    let old = c.args.self.now in
-    let mid = c.rotate_memtable.new.self in
-    let new = c.flush.new.self in
-    let behind = subst (λ (s : g.row.S.Denot). RemovesBehind (w s) (w new.store) mid.core new.core) c.in-Ok.ensures.store (c.flush.ensures.behind tells) in
-    behind_rotation (w old.store) (w new.store) c.in-Ok.sealed old.core mid.core new.core c.in-Ok.ensures.ok behind
+    behind_rotated g.S.Store.world c.args.self.now c.rotate_memtable.new.self c.flush.new.self c.in-Ok.sealed c.in-Ok.ensures.ok c.in-Ok.ensures.store (c.flush.ensures.behind tells)
 
 pub returns-in-Err-flush-clause-flushes : goal.returns-in-Err-flush-clause-flushes
 returns-in-Err-flush-clause-flushes g c = record {
@@ -39,21 +30,11 @@ returns-in-Err-flush-clause-flushes g c = record {
 
 pub returns-in-Err-flush-clause-behind : goal.returns-in-Err-flush-clause-behind
 returns-in-Err-flush-clause-behind g c tells =
-    let w = g.S.Store.world in
-    let old = c.args.self.now in
-    let mid = c.rotate_memtable.new.self in
-    let new = c.flush.new.self in
-    let behind = subst (λ (s : g.row.S.Denot). RemovesBehind (w s) (w new.store) mid.core new.core) c.in-Ok.ensures.store (c.flush.ensures.behind tells) in
-    behind_rotation (w old.store) (w new.store) c.in-Ok.sealed old.core mid.core new.core c.in-Ok.ensures.ok behind
+    behind_rotated g.S.Store.world c.args.self.now c.rotate_memtable.new.self c.flush.new.self c.in-Ok.sealed c.in-Ok.ensures.ok c.in-Ok.ensures.store (c.flush.ensures.behind tells)
 
 pub returns-in-Err-flush-clause-upholds : goal.returns-in-Err-flush-clause-upholds
 returns-in-Err-flush-clause-upholds g c tells =
-    let w = g.S.Store.world in
-    let old = c.args.self.now in
-    let mid = c.rotate_memtable.new.self in
-    let new = c.flush.new.self in
-    let files = subst (λ (s : g.row.S.Denot). UpholdsFiles (w s) (w new.store) mid.core new.core) c.in-Ok.ensures.store (c.flush.ensures.upholds tells) in
-    upheld_rotation (w old.store) (w new.store) c.in-Ok.sealed old.core mid.core new.core c.in-Ok.ensures.ok files
+    upheld_rotated g.S.Store.world c.args.self.now c.rotate_memtable.new.self c.flush.new.self c.in-Ok.sealed c.in-Ok.ensures.ok c.in-Ok.ensures.store (c.flush.ensures.upholds tells)
 
 pub returns-in-Err-clause-acts : goal.returns-in-Err-clause-acts
 returns-in-Err-clause-acts g c tells opened start journal notes t is keeps next holds =
@@ -66,25 +47,19 @@ returns-in-Err-clause-acts g c tells opened start journal notes t is keeps next 
 
 pub returns-in-Ok-flush-clause-acts : goal.returns-in-Ok-flush-clause-acts
 returns-in-Ok-flush-clause-acts g c tells opened start journal notes t is keeps next holds =
-    let w = g.S.Store.world in
-    let old = c.args.self.now in
-    let mid = c.rotate_memtable.new.self in
-    let new = c.flush.new.self in
-    let rest : AtRest (w old.store) = subst (λ (t : SeenLogged g.row.S.Denot). AtRest (w t.store)) c.self.view_is (subst (λ (s : g.row.S.Denot). AtRest (w s)) c.store.ensures (c.crashes_leave_versions.ensures tells)) in
-    let distinct = subst (λ (t : SeenLogged g.row.S.Denot). HasDistinctIds (latest_of t.core).tables) c.self.view_is (own_tables c.flushes_are_deeds.ensures.spends c.self.inside.tree.core c.facts.ensures) in
-    let acts = subst (λ (s : g.row.S.Denot). FlushesAct c.args.watermark (Ok c.in-Ok-flush.flushed) (w s) (w new.store) mid new) c.in-Ok.ensures.store (c.in-Ok-flush.ensures.acts tells) in
-    record { ok = acts_behind (w old.store) old mid c.in-Ok.ensures.log.1 rest distinct opened start journal notes t is keeps next holds c.args.watermark c.in-Ok.sealed (Ok c.in-Ok-flush.flushed) (w new.store) new c.in-Ok.ensures.ok acts; err = tt }
+    let rest = subst (λ (t : SeenLogged g.row.S.Denot). AtRest (g.S.Store.world t.store)) c.self.view_is (subst (λ (s : g.row.S.Denot). AtRest (g.S.Store.world s)) c.store.ensures (c.crashes_leave_versions.ensures tells)) in
+    let acts =
+    flushed_behind g.S.Store.world c.self.inside.tree c.self.inside.numbers.items c.self.inside.doubted c.args.self.now c.rotate_memtable.new.self c.flush.new.self c.self.view_is rest c.flushes_are_deeds.ensures c.facts.ensures c.in-Ok.ensures.store c.in-Ok.ensures.log.1
+    c.args.watermark c.in-Ok.sealed (Ok c.in-Ok-flush.flushed) c.in-Ok.ensures.ok (c.in-Ok-flush.ensures.acts tells) opened start journal notes t is keeps next holds in
+    record { ok = acts; err = tt }
 
 pub returns-in-Err-flush-clause-acts : goal.returns-in-Err-flush-clause-acts
 returns-in-Err-flush-clause-acts g c tells opened start journal notes t is keeps next holds =
-    let w = g.S.Store.world in
-    let old = c.args.self.now in
-    let mid = c.rotate_memtable.new.self in
-    let new = c.flush.new.self in
-    let rest : AtRest (w old.store) = subst (λ (t : SeenLogged g.row.S.Denot). AtRest (w t.store)) c.self.view_is (subst (λ (s : g.row.S.Denot). AtRest (w s)) c.store.ensures (c.crashes_leave_versions.ensures tells)) in
-    let distinct = subst (λ (t : SeenLogged g.row.S.Denot). HasDistinctIds (latest_of t.core).tables) c.self.view_is (own_tables c.flushes_are_deeds.ensures.spends c.self.inside.tree.core c.facts.ensures) in
-    let acts = subst (λ (s : g.row.S.Denot). FlushesAct c.args.watermark (Err c.in-Err-flush.error) (w s) (w new.store) mid new) c.in-Ok.ensures.store (c.in-Err-flush.ensures.acts tells) in
-    record { ok = tt; err = acts_behind (w old.store) old mid c.in-Ok.ensures.log.1 rest distinct opened start journal notes t is keeps next holds c.args.watermark c.in-Ok.sealed (Err c.in-Err-flush.error) (w new.store) new c.in-Ok.ensures.ok acts }
+    let rest = subst (λ (t : SeenLogged g.row.S.Denot). AtRest (g.S.Store.world t.store)) c.self.view_is (subst (λ (s : g.row.S.Denot). AtRest (g.S.Store.world s)) c.store.ensures (c.crashes_leave_versions.ensures tells)) in
+    let acts =
+    flushed_behind g.S.Store.world c.self.inside.tree c.self.inside.numbers.items c.self.inside.doubted c.args.self.now c.rotate_memtable.new.self c.flush.new.self c.self.view_is rest c.flushes_are_deeds.ensures c.facts.ensures c.in-Ok.ensures.store c.in-Ok.ensures.log.1
+    c.args.watermark c.in-Ok.sealed (Err c.in-Err-flush.error) c.in-Ok.ensures.ok (c.in-Err-flush.ensures.acts tells) opened start journal notes t is keeps next holds in
+    record { ok = tt; err = acts }
 
 pub returns-in-Err-clause-known : goal.returns-in-Err-clause-known
 returns-in-Err-clause-known g c tells =
@@ -94,17 +69,11 @@ returns-in-Err-clause-known g c tells =
 
 pub returns-in-Ok-flush-clause-known : goal.returns-in-Ok-flush-clause-known
 returns-in-Ok-flush-clause-known g c tells =
-    let w = g.S.Store.world in
-    let old = c.args.self.now in
-    let new = c.flush.new.self in
-    subst (λ l. KeepsKnown (w old.store) (w new.store) l new.numbers) c.in-Ok.ensures.log.0 (subst (λ (s : g.row.S.Denot). KeepsKnown (w s) (w new.store) c.rotate_memtable.new.self.numbers new.numbers) c.in-Ok.ensures.store (c.flush.ensures.known tells))
+    known_behind g.S.Store.world c.args.self.now c.rotate_memtable.new.self c.flush.new.self c.in-Ok.ensures.store c.in-Ok.ensures.log.0 (c.flush.ensures.known tells)
 
 pub returns-in-Err-flush-clause-known : goal.returns-in-Err-flush-clause-known
 returns-in-Err-flush-clause-known g c tells =
-    let w = g.S.Store.world in
-    let old = c.args.self.now in
-    let new = c.flush.new.self in
-    subst (λ l. KeepsKnown (w old.store) (w new.store) l new.numbers) c.in-Ok.ensures.log.0 (subst (λ (s : g.row.S.Denot). KeepsKnown (w s) (w new.store) c.rotate_memtable.new.self.numbers new.numbers) c.in-Ok.ensures.store (c.flush.ensures.known tells))
+    known_behind g.S.Store.world c.args.self.now c.rotate_memtable.new.self c.flush.new.self c.in-Ok.ensures.store c.in-Ok.ensures.log.0 (c.flush.ensures.known tells)
 
 pub returns-in-Ok-flush-clause-passed_are_gone : goal.returns-in-Ok-flush-clause-passed_are_gone
 returns-in-Ok-flush-clause-passed_are_gone g c tells =

@@ -10,39 +10,30 @@ use Rattle.lsm_state.specs.Flushes.{spent}
 use Rattle.lsm_state.specs.Commits.{UpholdsFiles, Upholds}
 use Rattle.lsm_state.proofs.Registering.{spent_upholds}
 use Rattle.lsm_logged.specs.Keeping.{SeenLogged}
-use Rattle.lsm_logged.specs.Removing.{log_from_of, KeepsKnown, Passed}
+use Rattle.lsm_logged.specs.Removing.{KeepsKnown}
 use Rattle.lsm_logged.specs.Flushing.{RemovesBehind}
 use Rattle.lsm_logged.specs.Acting.{RegistersAct}
 use Rattle.lsm_logged.proofs.RegisterActs.{spent_acts, refused_acts, registered_acts}
 use Rattle.lsm_logged.proofs.Known.{known_still, leaves_logged, all_left, gone_left}
-use Rattle.lsm_logged.proofs.Removals.{passes_on, none_behind, leaves_behind}
+use Rattle.lsm_logged.proofs.Removals.{none_behind, passes_alone, none_alone, leaves_behind}
 use Rattle.lsm_logged.proofs.Seen.{logged_with}
 use Rattle.lsm_logged.proofs.logged.Logged.register_tables.Goals as goal
 
 pub returns-in_err-registered-clause-passes : goal.returns-in_err-registered-clause-passes
 returns-in_err-registered-clause-passes g c tells =
-    let w = g.S.Store.world in
-    let i = c.self.inside in
-    let mid = c.register_tables.new.self in
-    subst (λ (t : SeenLogged g.row.S.Denot). Passed (log_from_of mid.core) (w t.store) (w mid.store)) c.self.view_is (passes_on (log_from_of mid.core) (w i.tree.store) (w mid.store) (c.register_tables.ensures.upholds tells).passes)
+    passes_alone g.S.Store.world c.self.inside.tree c.register_tables.new.self c.self.inside.numbers.items c.self.inside.doubted c.args.self.now c.self.view_is (c.register_tables.ensures.upholds tells).passes
 
 pub returns-clause-passes : goal.returns-clause-passes
 returns-clause-passes g c tells =
-    let i = c.self.inside in
-    let new = c.clean_log.new.self in
-    (leaves_logged g.S.Store.world i.tree c.register_tables.new.self i.numbers.items i.doubted new c.args.self.now c.self.view_is (c.register_tables.ensures.upholds tells) c.clean_log.ensures.cleans.core (c.clean_log.ensures.upholds tells) (c.clean_log.ensures.passes tells) (c.clean_log.ensures.known tells)).left.passed
+    (leaves_logged g.S.Store.world c.self.inside.tree c.register_tables.new.self c.self.inside.numbers.items c.self.inside.doubted c.clean_log.new.self c.args.self.now c.self.view_is (c.register_tables.ensures.upholds tells) c.clean_log.ensures.cleans.core (c.clean_log.ensures.upholds tells) (c.clean_log.ensures.passes tells) (c.clean_log.ensures.known tells)).left.passed
 
 pub returns-clause-behind : goal.returns-clause-behind
 returns-clause-behind g c tells =
-    let i = c.self.inside in
-    let new = c.clean_log.new.self in
-    (leaves_logged g.S.Store.world i.tree c.register_tables.new.self i.numbers.items i.doubted new c.args.self.now c.self.view_is (c.register_tables.ensures.upholds tells) c.clean_log.ensures.cleans.core (c.clean_log.ensures.upholds tells) (c.clean_log.ensures.passes tells) (c.clean_log.ensures.known tells)).left.either
+    (leaves_logged g.S.Store.world c.self.inside.tree c.register_tables.new.self c.self.inside.numbers.items c.self.inside.doubted c.clean_log.new.self c.args.self.now c.self.view_is (c.register_tables.ensures.upholds tells) c.clean_log.ensures.cleans.core (c.clean_log.ensures.upholds tells) (c.clean_log.ensures.passes tells) (c.clean_log.ensures.known tells)).left.either
 
 pub returns-clause-upholds : goal.returns-clause-upholds
 returns-clause-upholds g c tells =
-    let i = c.self.inside in
-    let new = c.clean_log.new.self in
-    (leaves_logged g.S.Store.world i.tree c.register_tables.new.self i.numbers.items i.doubted new c.args.self.now c.self.view_is (c.register_tables.ensures.upholds tells) c.clean_log.ensures.cleans.core (c.clean_log.ensures.upholds tells) (c.clean_log.ensures.passes tells) (c.clean_log.ensures.known tells)).left.files
+    (leaves_logged g.S.Store.world c.self.inside.tree c.register_tables.new.self c.self.inside.numbers.items c.self.inside.doubted c.clean_log.new.self c.args.self.now c.self.view_is (c.register_tables.ensures.upholds tells) c.clean_log.ensures.cleans.core (c.clean_log.ensures.upholds tells) (c.clean_log.ensures.passes tells) (c.clean_log.ensures.known tells)).left.files
 
 pub returns-then-self-clause-upholds : goal.returns-then-self-clause-upholds
 returns-then-self-clause-upholds g c tells =
@@ -68,10 +59,7 @@ returns-then-self-clause-behind g c tells =
 
 pub returns-in_err-registered-clause-behind : goal.returns-in_err-registered-clause-behind
 returns-in_err-registered-clause-behind g c tells =
-    let w = g.S.Store.world in
-    let i = c.self.inside in
-    let mid = c.register_tables.new.self in
-    subst (λ (t : SeenLogged g.row.S.Denot). RemovesBehind (w t.store) (w mid.store) t.core mid.core) c.self.view_is (none_behind (w i.tree.store) (w mid.store) i.tree.core mid.core (c.register_tables.ensures.upholds tells).passes)
+    none_alone g.S.Store.world c.self.inside.tree c.register_tables.new.self c.self.inside.numbers.items c.self.inside.doubted c.args.self.now c.self.view_is (c.register_tables.ensures.upholds tells).passes
 
 pub returns-then-self-clause-acts : goal.returns-then-self-clause-acts
 returns-then-self-clause-acts g c tells =
@@ -131,14 +119,11 @@ returns-then-self-clause-known g c tells =
 
 pub returns-in_err-registered-clause-known : goal.returns-in_err-registered-clause-known
 returns-in_err-registered-clause-known g c tells =
-    let i = c.self.inside in
-    all_left g.S.Store.world i.tree c.register_tables.new.self i.numbers.items i.doubted c.args.self.now c.self.view_is (c.register_tables.ensures.upholds tells).passes
+    all_left g.S.Store.world c.self.inside.tree c.register_tables.new.self c.self.inside.numbers.items c.self.inside.doubted c.args.self.now c.self.view_is (c.register_tables.ensures.upholds tells).passes
 
 pub returns-clause-known : goal.returns-clause-known
 returns-clause-known g c tells =
-    let i = c.self.inside in
-    let new = c.clean_log.new.self in
-    (leaves_logged g.S.Store.world i.tree c.register_tables.new.self i.numbers.items i.doubted new c.args.self.now c.self.view_is (c.register_tables.ensures.upholds tells) c.clean_log.ensures.cleans.core (c.clean_log.ensures.upholds tells) (c.clean_log.ensures.passes tells) (c.clean_log.ensures.known tells)).known
+    (leaves_logged g.S.Store.world c.self.inside.tree c.register_tables.new.self c.self.inside.numbers.items c.self.inside.doubted c.clean_log.new.self c.args.self.now c.self.view_is (c.register_tables.ensures.upholds tells) c.clean_log.ensures.cleans.core (c.clean_log.ensures.upholds tells) (c.clean_log.ensures.passes tells) (c.clean_log.ensures.known tells)).known
 
 pub returns-clause-passed_are_gone : goal.returns-clause-passed_are_gone
 returns-clause-passed_are_gone g c tells installed cleaned =
