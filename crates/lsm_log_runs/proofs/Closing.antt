@@ -1,5 +1,10 @@
 -- Jobs that are given up are no part of what the theory sees, and leave the tree's files as they are stored.
-use Rattle.std.proofs.Common.{◌≡◌, ◌⊎◌, inl, inr, ℕ, ◌==◌, Bool, true, false, cond, List, [], ◌∷◌, ◌++◌, Option, Some, None, Result, Ok, Err, refl, sym, ap, ◌∙◌, subst}
+use Rattle.std.proofs.Common.{◌≡◌, ◌⊎◌, inl, inr, ℕ, ◌==◌, Bool, true, false, cond, List, [], ◌∷◌, ◌++◌, Option, Some, None, Result, Ok, Err, refl, sym, ap, ◌∙◌, subst, Contains}
+use Rattle.std.specs.BTreeMap.{BTreeMap, IsOrdered, get}
+use Rattle.std.specs.Ordering.{nat_cmp}
+use Rattle.std.proofs.lemmas.Cmp.{nat_cmp_total}
+use Rattle.std.proofs.lemmas.Map.Lookups.{exact_unsigned}
+use Rattle.std.proofs.lemmas.Map.Views.{btree_map_get_iff}
 use Rattle.lsm_below.specs.declared.error.Error.{Error}
 use Rattle.lsm_store.specs.World.{World}
 use Rattle.lsm_model.specs.Journal.{Event}
@@ -13,7 +18,7 @@ use Rattle.lsm_log_model.specs.Records.{LogImage, opened_by}
 use Rattle.lsm_runs.specs.declared.slots.Job.{Job}
 use Rattle.lsm_runs.specs.Files.{AreApart, StaysStored}
 use Rattle.lsm_runs.specs.declared.slots.Job.TheVariants.{Begun, Merged, Written, Compaction, Compacted}
-use Rattle.lsm_runs.specs.Slots.{GivesUp, all_ended, Closes}
+use Rattle.lsm_runs.specs.Slots.{waiting, job_in, GivesUp, GivesUpAll, all_ended, Closes}
 use Rattle.lsm_runs.proofs.Files.{closed_stored}
 use Rattle.lsm_state.specs.Core.{Core, versions_left, written_of}
 use Rattle.lsm_state.specs.Compactions.{Spends}
@@ -21,7 +26,7 @@ use Rattle.lsm_state.specs.Flushes.{sealed_ids, spent, spent_in}
 use Rattle.lsm_logged.specs.Flushing.{BeginsLogged}
 use Rattle.lsm_logged.specs.Keeping.{SeenLogged, IsLogOf, KeepsLog}
 use Rattle.lsm_log_runs.specs.Pasts.{LogPast}
-use Rattle.lsm_log_runs.specs.Slots.{StaysBeside, ClosesLogged}
+use Rattle.lsm_log_runs.specs.Slots.{LogStage, StaysBeside, AreAllThatWait, EndsLogged, ClosesLogged}
 use Rattle.lsm_log_runs.specs.Standing.{StandsLogged}
 use Rattle.lsm_log_runs.proofs.Waiting.{begins_of}
 
@@ -71,20 +76,28 @@ both_close old mid new a b = record {
     go (inl e) (inr f) = inr (e ∙ f)
     go (inr e) f = inr e
 
--- ---- one job and all
+-- ---- all jobs
 
-pub closes_none : {S : Type 0} (t : SeenLogged S) → ClosesLogged t t
-closes_none t = record { core = none_closes t.core t.core refl; rest = record { store = refl; numbers = refl; doubt = refl } }
+all_close : (xs : List (ℕ × Option Job)) (old new : Core) → GivesUpAll xs old new → Closes old new
+all_close [] old new g = none_closes old new g
+all_close (x ∷ xs) old new g = both_close old g.0 new (place_closes x.1 old g.0 g.1) (all_close xs g.0 new g.2)
 
-pub given_closes : {S : Type 0} (place : Option Job) (old new : SeenLogged S) → GivesUp place old.core new.core → StaysBeside old new → ClosesLogged old new
-given_closes place old new gives rest = record { core = place_closes place old.core new.core gives; rest = rest }
+pub beside_then : {S : Type 0} (old mid new : SeenLogged S) → StaysBeside old mid → StaysBeside mid new → StaysBeside old new
+beside_then old mid new a b = record { store = b.store ∙ a.store; numbers = b.numbers ∙ a.numbers; doubt = b.doubt ∙ a.doubt }
 
--- some are given up, and then others
-pub closes_both : {S : Type 0} (old mid new : SeenLogged S) → ClosesLogged old mid → ClosesLogged mid new → ClosesLogged old new
-closes_both old mid new a b = record {
-  core = both_close old.core mid.core new.core a.core b.core;
-  rest = record { store = b.rest.store ∙ a.rest.store; numbers = b.rest.numbers ∙ a.rest.numbers; doubt = b.rest.doubt ∙ a.rest.doubt };
-}
+-- those in slots are all that wait
+pub all_waiting : (slots : BTreeMap ℕ (Option Job)) → IsOrdered nat_cmp slots → AreAllThatWait (job_in slots) slots.entries
+all_waiting slots ordered n job = (λ waits. there (get nat_cmp slots n) refl waits, λ has. ap waiting ((btree_map_get_iff nat_cmp_total exact_unsigned slots ordered n (Some job)).1 has))
+  where
+    there : (o : Option (Option Job)) → get nat_cmp slots n ≡ o → job_in slots n ≡ Some job → Contains slots.entries (n, Some job)
+    there None found waits = absurd (none_waits (sym (ap waiting found) ∙ waits))
+      where
+        none_waits : ◌≡◌ {A = Option Job} None (Some job) → ⊥
+        none_waits e = cc
+    there (Some place) found waits = (btree_map_get_iff nat_cmp_total exact_unsigned slots ordered n (Some job)).0 (found ∙ ap (λ (p : Option Job). Some p) (sym (ap waiting found) ∙ waits))
+
+pub ends_closes : {S : Type 0} (last : LogStage S) (new : SeenLogged S) → EndsLogged last new → ClosesLogged last.tree new
+ends_closes last new e = record { core = all_close e.places last.tree.core new.core e.given_up; rest = e.rest }
 
 -- ---- what stands
 

@@ -63,7 +63,7 @@ module _ {S : Type 0} (world : S → World) (reading : Reading) (between : Store
 
   -- the rotation of this memtable
   sealed_by : (id : ℕ) → TakesRotate (Sealed (Some id)) old new → ActsRotate (Sealed (Some id)) (world old.store) old new → LeadsBy opened behind.journal behind.notes s.log sealing (world old.store) (world new.store) old new
-  sealed_by id takes acts = moved behind.journal behind.notes sealing takes.1 (acts opened (logged image) past.journal past.notes s.log s.is s.keeps s.next (holds world reading between image past old new s (rotated_stored (Some id) takes)))
+  sealed_by id takes acts = moved behind.journal behind.notes sealing takes.1.store (acts opened (logged image) past.journal past.notes s.log s.is s.keeps s.next (holds world reading between image past old new s (rotated_stored (Some id) takes)))
 
   sealed_certain : (id : ℕ) (takes : TakesRotate (Sealed (Some id)) old new) (acts : ActsRotate (Sealed (Some id)) (world old.store) old new) → behind.known ≡ true → IsCertain (sealed_by id takes acts).log
   sealed_certain id takes acts known = answered opened s.log sealing (sealed_by id takes acts).log (tt, tt) (sealed_by id takes acts).done (s.came.certain known)
@@ -84,7 +84,7 @@ module _ {S : Type 0} (world : S → World) (reading : Reading) (between : Store
     refl,
     refl,
     nothing_stands world reading between image past old new s
-        (moved past.journal past.notes [] takes.1 (acts opened (logged image) past.journal past.notes s.log s.is s.keeps s.next (holds world reading between image past old new s (rotated_stored None takes)))) (rotated_stored None takes),
+        (moved past.journal past.notes [] takes.1.store (acts opened (logged image) past.journal past.notes s.log s.is s.keeps s.next (holds world reading between image past old new s (rotated_stored None takes)))) (rotated_stored None takes),
     same_spared takes.0.1,
     rotation_finds None takes,
   )
@@ -103,7 +103,7 @@ module _ {S : Type 0} (world : S → World) (reading : Reading) (between : Store
       past,
       refl,
       nothing_led world reading between image past old new s
-          (moved past.journal past.notes [] takes.1 (acts opened (logged image) past.journal past.notes s.log s.is s.keeps s.next (holds world reading between image past old new s (rotated_stored None takes)))) (rotated_stored None takes) rest,
+          (moved past.journal past.notes [] takes.1.store (acts opened (logged image) past.journal past.notes s.log s.is s.keeps s.next (holds world reading between image past old new s (rotated_stored None takes)))) (rotated_stored None takes) rest,
     )
     rotate_leads (Sealed (Some id)) takes acts = (
       behind,
@@ -121,7 +121,7 @@ module _ {S : Type 0} (world : S → World) (reading : Reading) (between : Store
   flushed_behind watermark id reply both =
       let mid = both.mid in
       let at = rotation_stands world reading between image past old mid s id both.rotates both.sealed in
-      let same : mid.store ≡ old.store = both.rotates.1 in
+      let same : mid.store ≡ old.store = both.rotates.1.store in
       let acts = subst (λ (x : S). ActsFlush watermark reply (world x) (world new.store) mid new) (sym same) both.flushes in
       let rests : Rests old.core mid.core = rotated old.core id mid.core both.rotates.0 in
       let files : StepFiles world mid new = record { stays = λ h. stored.stays s.stored; makes = from_rest old.core mid.core new.core rests stored.makes } in
@@ -165,7 +165,7 @@ module _ {S : Type 0} (world : S → World) (reading : Reading) (between : Store
 
   -- an action that is a compaction, and tells ranges that may be dropped
   module _ (Ranges : List Range → Type 0) where
-    stood : (watermark : ℕ) (action : Action) → IsCompaction watermark action → IsDrop Ranges (told_by action old.core) → LeadsByCommit watermark action (told_installed action old.core) [] opened_on past.journal past.notes s.log (world old.store) (world new.store) old new
+    stood : (watermark : ℕ) (action : Action) → IsCompaction watermark action → IsDrop Ranges old.core.seqno (told_by action old.core) → LeadsByCommit watermark action (told_installed action old.core) [] opened_on past.journal past.notes s.log (world old.store) (world new.store) old new
         → Leads (AddsInstalled Ranges watermark past)
     stood watermark action is tells l =
         let drop = told_by action old.core in
@@ -177,14 +177,14 @@ module _ {S : Type 0} (world : S → World) (reading : Reading) (between : Store
               (λ known. answered opened_on s.log acts l.log (tt, (tt, (tt, tt))) l.done (s.came.certain known)),
         )
 
-    in_doubt : (watermark : ℕ) (action : Action) → IsDrop Ranges (told_by action old.core) → LeadsByLost watermark action (told_by action old.core) opened_on past.journal past.notes s.log (world old.store) (world new.store) old new
+    in_doubt : (watermark : ℕ) (action : Action) → IsDrop Ranges old.core.seqno (told_by action old.core) → LeadsByLost watermark action (told_by action old.core) opened_on past.journal past.notes s.log (world old.store) (world new.store) old new
         → Leads (AddsCompaction Ranges watermark (Refused CommitUnknown) past)
     in_doubt watermark action tells l =
         let drop = told_by action old.core in (
           with_doubt watermark drop past,
-          (drop, tells, refl),
+          (drop, old.core.seqno, tells, refl),
           quietly world reading between image past old new s stored rest (with_doubt watermark drop past) (Did (Marked watermark) ∷ (CommitLost action l.0 ∷ [])) (tt, (tt, tt)) (refl, tt) l.1 refl refl
-              (order_lost opened_on past.journal s.came.order Ranges watermark drop tells) (λ known. absurd (cc known)),
+              (order_lost opened_on past.journal s.came.order Ranges watermark old.core.seqno drop tells) (λ known. absurd (cc known)),
         )
 
   marked : (watermark : ℕ) → LeadsByMark watermark (world old.store) (world new.store) old new opened_on past.journal past.notes s.log → Leads (λ next. next ≡ with_commit watermark [] past)
@@ -197,7 +197,7 @@ module _ {S : Type 0} (world : S → World) (reading : Reading) (between : Store
       )
 
   -- one whose actions are such
-  module _ (May : Action → Type 0) (Ranges : List Range → Type 0) (watermark : ℕ) (are : (action : Action) → May action → IsCompaction watermark action × IsDrop Ranges (told_by action old.core)) where
+  module _ (May : Action → Type 0) (Ranges : List Range → Type 0) (watermark : ℕ) (are : (action : Action) → May action → IsCompaction watermark action × IsDrop Ranges old.core.seqno (told_by action old.core)) where
     by_begun : (begun : Result Begun Error) → CompactsBy May watermark begun (world old.store) (world new.store) old new → Leads (AddsCompaction Ranges watermark (reply_of begun) past)
     by_begun begun acts = go begun (acts opened_on (logged image) past.journal past.notes s.log s.is s.keeps s.next (holds world reading between image past old new s stored))
       where
@@ -213,10 +213,10 @@ module _ {S : Type 0} (world : S → World) (reading : Reading) (between : Store
     compaction_leads : (reply : Reply) → ActsCompaction May watermark reply (world old.store) (world new.store) old new → Leads (AddsCompaction Ranges watermark reply past)
     compaction_leads reply acts = subst (λ r. Leads (AddsCompaction Ranges watermark r past)) (sym acts.1) (by_begun acts.0 acts.2)
 
-  any_are : (watermark : ℕ) (action : Action) → IsCompaction watermark action → IsCompaction watermark action × IsDrop AnyRanges (told_by action old.core)
+  any_are : (watermark : ℕ) (action : Action) → IsCompaction watermark action → IsCompaction watermark action × IsDrop AnyRanges old.core.seqno (told_by action old.core)
   any_are watermark (Merged w d ids evict made) is = (is, tt)
   any_are watermark (Moved d ids moved) is = (is, tt)
-  any_are watermark (DroppedTables ids) is = (is, tt)
+  any_are watermark (DroppedTables ids) is = (is, (refl, tt))
   any_are watermark other is = absurd is
 
   pub compact_leads : (watermark : ℕ) (reply : Reply) → ActsCompact watermark reply (world old.store) (world new.store) old new → Leads (AddsCompaction AnyRanges watermark reply past)
@@ -224,15 +224,15 @@ module _ {S : Type 0} (world : S → World) (reading : Reading) (between : Store
   compact_leads watermark SlotInUse acts = (past, refl, same_led world reading between image past old new s rest acts)
   compact_leads watermark reply acts = compaction_leads (IsCompaction watermark) AnyRanges watermark (any_are watermark) reply acts
 
-  merges_are : (watermark : ℕ) (action : Action) → IsMerging watermark action → IsCompaction watermark action × IsDrop NoRanges (told_by action old.core)
+  merges_are : (watermark : ℕ) (action : Action) → IsMerging watermark action → IsCompaction watermark action × IsDrop NoRanges old.core.seqno (told_by action old.core)
   merges_are watermark (Merged w d ids evict made) is = (is, tt)
   merges_are watermark other is = absurd is
 
   pub major_leads : (watermark : ℕ) (reply : Reply) → ActsCompaction (IsMerging watermark) watermark reply (world old.store) (world new.store) old new → Leads (AddsCompaction NoRanges watermark reply past)
   major_leads watermark reply acts = compaction_leads (IsMerging watermark) NoRanges watermark (merges_are watermark) reply acts
 
-  drops_are : (bounds : OwnedBounds) (action : Action) → DropsWithin bounds old.core action → IsCompaction 0 action × IsDrop (RangesWithin bounds.start bounds.end) (told_by action old.core)
-  drops_are bounds (DroppedTables ids) is = (tt, drop_within bounds ids (levels_of old.core) is.1 is.0)
+  drops_are : (bounds : OwnedBounds) (action : Action) → DropsWithin bounds old.core action → IsCompaction 0 action × IsDrop (RangesWithin bounds.start bounds.end) old.core.seqno (told_by action old.core)
+  drops_are bounds (DroppedTables ids) is = (tt, (refl, drop_within bounds ids (levels_of old.core) is.1 is.0))
   drops_are bounds other is = absurd is
 
   pub drop_leads : (low high : Bound Bytes) (reply : Reply) → ActsCompaction (DropsWithin (record { start = low; end = high }) old.core) 0 reply (world old.store) (world new.store) old new → Leads (AddsCompaction (RangesWithin low high) 0 reply past)

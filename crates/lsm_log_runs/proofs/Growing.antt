@@ -80,7 +80,7 @@ module _ (Others : ℕ → Type 0) where
     compaction_grows May w (Compacted Installed) h = installed_grows May w h
     compaction_grows May w (Compacted c) h = more (Mark w ∷ []) old _ new h refl (λ m other. refl)
     compaction_grows May w (Refused AfterCommit) h = installed_grows May w h
-    compaction_grows May w (Refused CommitUnknown) h = more (Mark w ∷ h.0) old _ new h.2 refl (λ m other. refl)
+    compaction_grows May w (Refused CommitUnknown) h = more (Mark w ∷ h.0) old _ new h.3 refl (λ m other. refl)
     compaction_grows May w (Refused x) h = more (Mark w ∷ []) old _ new h refl (λ m other. refl)
     compaction_grows May w reply h = same h
 

@@ -15,6 +15,7 @@ pub mod Closing
 pub mod CommitLeads
 pub mod Compacting
 pub mod JobLeads
+pub mod Causing
 pub mod Runs
 pub mod Opening
 pub mod Crashed

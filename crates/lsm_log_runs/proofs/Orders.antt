@@ -24,7 +24,7 @@ module _ (opened : List Entry) (journal : List Event) (order : InOrder opened jo
   order_merged n le = order_join opened [] journal (Install n ∷ []) order (le, tt)
 
   -- a compaction, which may drop
-  pub order_dropping : (May : List Range → Type 0) (w n : ℕ) (drop : List Event) → IsDrop May drop → next_number opened journal ≤ n → InOrder opened (journal ++ Mark w ∷ (drop ++ Install n ∷ []))
+  pub order_dropping : (May : List Range → Type 0) (w n : ℕ) (drop : List Event) → IsDrop May n drop → next_number opened journal ≤ n → InOrder opened (journal ++ Mark w ∷ (drop ++ Install n ∷ []))
   order_dropping May w n [] is le = order_installed w n le
   order_dropping May w n (Dropped ranges m ∷ []) is le =
       let before = journal ++ Mark w ∷ [] in
@@ -34,8 +34,8 @@ module _ (opened : List Entry) (journal : List Event) (order : InOrder opened jo
   order_dropping May w n (Dropped ranges m ∷ (x ∷ drop)) is le = absurd is
   order_dropping May w n (x ∷ drop) is le = absurd is
 
-  pub order_lost : (May : List Range → Type 0) (w : ℕ) (drop : List Event) → IsDrop May drop → InOrder opened (journal ++ Mark w ∷ drop)
-  order_lost May w [] is = order_marked w
-  order_lost May w (Dropped ranges m ∷ []) is = order_join opened [] journal (Mark w ∷ (Dropped ranges m ∷ [])) order (tt, (tt, tt))
-  order_lost May w (Dropped ranges m ∷ (x ∷ drop)) is = absurd is
-  order_lost May w (x ∷ drop) is = absurd is
+  pub order_lost : (May : List Range → Type 0) (w n : ℕ) (drop : List Event) → IsDrop May n drop → InOrder opened (journal ++ Mark w ∷ drop)
+  order_lost May w n [] is = order_marked w
+  order_lost May w n (Dropped ranges m ∷ []) is = order_join opened [] journal (Mark w ∷ (Dropped ranges m ∷ [])) order (tt, (tt, tt))
+  order_lost May w n (Dropped ranges m ∷ (x ∷ drop)) is = absurd is
+  order_lost May w n (x ∷ drop) is = absurd is

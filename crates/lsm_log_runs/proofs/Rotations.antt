@@ -12,5 +12,5 @@ abbrev IsStoredIn : World → Core → Type 0
 IsStoredIn w c = IsStored w (versions_left c) (written_of c)
 
 pub rotates_stored : {S : Type 0} (world : S → World) (old new : SeenLogged S) (id : Option ℕ) → TakesRotate (Sealed id) old new → StaysStored (world old.store) (world new.store) old.core new.core
-rotates_stored {S} world old new None takes h = subst (λ (x : S). IsStoredIn (world x) new.core) (sym takes.1) (subst (IsStoredIn (world old.store)) (sym takes.0.1) h)
-rotates_stored {S} world old new (Some id) takes h = subst (λ (x : S). IsStoredIn (world x) new.core) (sym takes.1) (subst (IsStoredIn (world old.store)) (sym takes.0.2) h)
+rotates_stored {S} world old new None takes h = subst (λ (x : S). IsStoredIn (world x) new.core) (sym takes.1.store) (subst (IsStoredIn (world old.store)) (sym takes.0.1) h)
+rotates_stored {S} world old new (Some id) takes h = subst (λ (x : S). IsStoredIn (world x) new.core) (sym takes.1.store) (subst (IsStoredIn (world old.store)) (sym takes.0.2) h)

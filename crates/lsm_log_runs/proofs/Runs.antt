@@ -28,11 +28,11 @@ use Rattle.lsm_log_runs.specs.Moments.{Answers, MayBeTried, StepKeeps}
 use Rattle.lsm_log_runs.specs.Pasts.{LogPast}
 use Rattle.lsm_log_runs.specs.Leading.{SparesAnswers, EachLeads, RunsLogged}
 use Rattle.lsm_log_runs.specs.Runs.{TakesAlone, RanThrough, RanLogged}
-use Rattle.lsm_log_runs.specs.Slots.{LogStage, at_first, beside as stage_beside, ClosesLogged}
+use Rattle.lsm_log_runs.specs.Slots.{LogStage, at_first, beside as stage_beside, EndsLogged}
 use Rattle.lsm_log_runs.specs.Standing.{StandsLogged}
 use Rattle.lsm_log_runs.proofs.Advancing.{Advances, step_advances}
 use Rattle.lsm_log_runs.proofs.Beside.{beside, is_high}
-use Rattle.lsm_log_runs.proofs.Closing.{closed_stands}
+use Rattle.lsm_log_runs.proofs.Closing.{closed_stands, ends_closes}
 use Rattle.lsm_log_runs.proofs.CommitLeads.{rotate_leads, active_leads, compact_leads, major_leads, drop_leads}
 use Rattle.lsm_log_runs.proofs.Going.{holds_on}
 use Rattle.lsm_log_runs.proofs.Growing.{step_grows}
@@ -177,12 +177,12 @@ module _ {S : Type 0} (strategies : Strategies) (tells : Type 0) (world : S → 
     each (x ∷ steps) [] past old stages does s waits = absurd does
     each (x ∷ steps) (r ∷ replies) past old [] does s waits = absurd does
 
-  module _ (steps : List LogStep) (replies : List Reply) (old : SeenLogged S) (last : LogStage S) (new : SeenLogged S) (ran : RanTo strategies tells world steps replies (at_first old) last) (closes : ClosesLogged last.tree new) where
+  module _ (steps : List LogStep) (replies : List Reply) (old : SeenLogged S) (last : LogStage S) (new : SeenLogged S) (ran : RanTo strategies tells world steps replies (at_first old) last) (ends : EndsLogged last new) where
     pub ran_logged : RanLogged strategies steps replies old new
     ran_logged = record {
       stages = ran.stages;
       ran = through steps replies (at_first old) ran.stages ran.does;
-      closes = subst (λ (st : LogStage S). ClosesLogged st.tree new) (sym ran.ends) closes;
+      ends = subst (λ (st : LogStage S). EndsLogged st new) (sym ran.ends) ends;
     }
 
     ends_at : last_of old (map (λ st. st.tree) ran.stages) ≡ last.tree
@@ -191,8 +191,8 @@ module _ {S : Type 0} (strategies : Strategies) (tells : Type 0) (world : S → 
     pub runs : (reading : Reading) (marks : NotedCompactionsKeepReads) (between : Stores world) (told : tells) → AtRest (world old.store) → RunsLogged world steps replies old new
     runs reading marks between told rest = record {
       trees = map (λ st. st.tree) ran.stages;
-      ends = ap (λ (t : SeenLogged S). t.store) ends_at ∙ sym closes.rest.store;
+      ends = ap (λ (t : SeenLogged S). t.store) ends_at ∙ sym ends.rest.store;
       now = λ image past s. (keeps_now world reading between image past old s rest, opens_now world reading between image past old s rest);
       leads = λ image past s. each reading marks between told image steps replies past (at_first old) ran.stages ran.does s (first_waiting past);
-      goes_on = λ image past s. closed_stands world image past last.tree new closes (subst (StandsLogged world image past) ends_at s);
+      goes_on = λ image past s. closed_stands world image past last.tree new (ends_closes last new ends) (subst (StandsLogged world image past) ends_at s);
     }

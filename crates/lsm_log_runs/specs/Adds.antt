@@ -42,22 +42,22 @@ AddsFlushActive w (FlushedActive id a) old new = (mid : LogPast) × AddsRotation
 AddsFlushActive w (RefusedActive id x) old new = (mid : LogPast) × AddsRotation (Sealed id) old mid × AddsFlush w (Refused x) mid new
 AddsFlushActive w reply old new = new ≡ old
 
--- the ranges that a compaction drops, if it drops any, which may be dropped
-abbrev pub IsDrop : (List Range → Type 0) → List Event → Type 0
-IsDrop May [] = Unit {0}
-IsDrop May (Dropped ranges n ∷ []) = May ranges
-IsDrop May events = ⊥
+-- the ranges that a compaction under this number drops, if it drops any, which may be dropped
+abbrev pub IsDrop : (List Range → Type 0) → ℕ → List Event → Type 0
+IsDrop May n [] = Unit {0}
+IsDrop May n (Dropped ranges m ∷ []) = (m ≡ n) × May ranges
+IsDrop May n events = ⊥
 
--- one that stands: its mark, what it drops, and the install
+-- one that stands: its mark, what it drops, and the install, under one number
 abbrev pub AddsInstalled : (List Range → Type 0) → ℕ → LogPast → LogPast → Type 0
-AddsInstalled May w old new = (drop : List Event) × (n : ℕ) × IsDrop May drop × (new ≡ with_commit w (drop ++ Install n ∷ []) old)
+AddsInstalled May w old new = (drop : List Event) × (n : ℕ) × IsDrop May n drop × (new ≡ with_commit w (drop ++ Install n ∷ []) old)
 
 -- one that isn't begun tells its mark alone
 abbrev pub AddsCompaction : (List Range → Type 0) → ℕ → Reply → LogPast → LogPast → Type 0
 AddsCompaction May w (Compacted Installed) old new = AddsInstalled May w old new
 AddsCompaction May w (Compacted c) old new = new ≡ with_commit w [] old
 AddsCompaction May w (Refused AfterCommit) old new = AddsInstalled May w old new
-AddsCompaction May w (Refused CommitUnknown) old new = (drop : List Event) × IsDrop May drop × (new ≡ with_doubt w drop old)
+AddsCompaction May w (Refused CommitUnknown) old new = (drop : List Event) × (n : ℕ) × IsDrop May n drop × (new ≡ with_doubt w drop old)
 AddsCompaction May w (Refused x) old new = new ≡ with_commit w [] old
 AddsCompaction May w reply old new = new ≡ old
 

@@ -9,6 +9,7 @@ pub mod Slots
 pub mod JobSteps
 pub mod Runs
 pub mod Leading
+pub mod Causes
 pub mod Doing
 pub mod Living
 pub mod Lives

@@ -10,14 +10,17 @@ use Rattle.lsm_manifest.specs.Finding.{RefusesFound}
 use Rattle.lsm_log.specs.declared.record.Record.{Record}
 use Rattle.lsm_log_model.specs.Records.{logged, opened_by}
 use Rattle.lsm_run_model.specs.Moments.{LeavesNow, last_of}
+use Rattle.lsm_runs.specs.Compacting.{Strategies}
 use Rattle.lsm_runs.specs.declared.steps.Reply.{Reply}
 use Rattle.lsm_logged.specs.Keeping.{SeenLogged}
 use Rattle.lsm_logged.specs.Meanwhile.{LeavesAsBefore}
 use Rattle.lsm_logged.specs.Opening.{OpensLogged, RefusesLogged, image_read, version_of}
 use Rattle.lsm_log_runs.specs.declared.steps.LogStep.{LogStep}
 use Rattle.lsm_log_runs.specs.Images.{ReadsLog, Keeps, MayBeOpened}
+use Rattle.lsm_log_runs.specs.Leading.{RunsLogged}
 use Rattle.lsm_log_runs.specs.Moments.{EachKeeps}
 use Rattle.lsm_log_runs.specs.Pasts.{LogPast, nothing}
+use Rattle.lsm_log_runs.specs.Runs.{RanLogged}
 use Rattle.lsm_log_runs.specs.Standing.{StandsLogged}
 
 -- A logged tree was opened on a store, and took steps with these replies. The calls began with the map that what it read stands for.
@@ -37,6 +40,14 @@ pub record LivesLogged {F : Type 0} (world : F → World) (steps : List LogStep)
   pub again : MayBeOpened (world first)
   pub now : let left = image_read version records in LeavesNow (world first) (Keeps (logged left) nothing 0)
   pub keeps : let left = image_read version records in EachKeeps world (opened_by left) (logged left) steps replies nothing first stores
+
+-- What `Logged::open` makes of a store takes steps with these replies, each of them the call that it is named after, and is this tree then.
+-- Over a store that tells, all holds of them that `run_logged` says.
+pub record OpensAndRuns {S : Type 0} (tells : Type 0) (world : S → World) (strategies : Strategies) (config : Config) (steps : List LogStep) (replies : List Reply) (store : S) (new : SeenLogged S) : Type 0 where
+  pub first : SeenLogged S
+  pub opens : OpensLogged tells world store config first
+  pub ran : RanLogged strategies steps replies first new
+  pub runs : tells → RunsLogged world steps replies first new
 
 -- What is opened on such a store stands, with nothing called so far: calls go on from it.
 abbrev pub OpenedLogsStand : {S : Type 0} → Type 0 → (S → World) → Type 0

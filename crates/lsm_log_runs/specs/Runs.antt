@@ -1,10 +1,11 @@
 -- What each step of a run on a logged tree may answer and do.
-use Rattle.std.specs.Prelude.{◌≡◌, ◌⊎◌, ℕ, ◌<◌, ◌≤◌, List, [], ◌∷◌, None, Result, Ok, Err}
+use Rattle.std.specs.Prelude.{◌≡◌, ◌⊎◌, ℕ, ◌<◌, ◌≤◌, ◌^◌, List, [], ◌∷◌, None, Result, Ok, Err}
 use Rattle.lsm_below.specs.Keys.{Bytes}
 use Rattle.lsm_below.specs.declared.error.Error.{Error}
 use Rattle.lsm_below.specs.declared.error.Error.TheVariants.{OutOfMemory, OutOfNumbers}
 use Rattle.lsm_model.specs.declared.op.Op.{Op}
 use Rattle.lsm_model.specs.Journal.{Event}
+use Rattle.lsm_parts.specs.Held.{first_entries}
 use Rattle.lsm_run_model.specs.Moments.{last_of}
 use Rattle.lsm_runs.specs.declared.steps.Reply.{Reply}
 use Rattle.lsm_runs.specs.declared.steps.Reply.TheVariants.{Number, Sealed, Done, Flushed, FlushedActive, RefusedActive, Cleared, NoStrategy, Refused}
@@ -21,7 +22,7 @@ use Rattle.lsm_logged.specs.Writing.{WritesLogged}
 use Rattle.lsm_log_runs.specs.declared.steps.LogStep.{LogStep}
 use Rattle.lsm_log_runs.specs.declared.steps.LogStep.TheVariants.{Write, Get, Range, Prefix, RotateMemtable, AtSlot, Flush, FlushActiveMemtable, Compact, MajorCompact, DropRange, Clear, SetMoment}
 use Rattle.lsm_log_runs.specs.JobSteps.{TakesInSlot}
-use Rattle.lsm_log_runs.specs.Slots.{LogStage, at_first, ClosesLogged}
+use Rattle.lsm_log_runs.specs.Slots.{LogStage, at_first, StaysBeside, EndsLogged}
 
 -- ---- what a step of each kind may answer and do
 
@@ -40,10 +41,10 @@ TakesClear (Cleared n) old new = ClearsLogged (Ok n) old new
 TakesClear (Refused x) old new = ClearsLogged (Err x) old new
 TakesClear reply old new = ⊥
 
--- a rotation
+-- a rotation: where there is nothing to seal it is never refused, and where no id is left it is refused as that, or for want of memory
 abbrev pub TakesRotate : {S : Type 0} → Reply → SeenLogged S → SeenLogged S → Type 0
-TakesRotate (Sealed id) old new = Rotates old.core id new.core × (new.store ≡ old.store)
-TakesRotate (Refused x) old new = (new ≡ old) × ((x ≡ OutOfNumbers) ⊎ (x ≡ OutOfMemory))
+TakesRotate (Sealed id) old new = Rotates old.core id new.core × StaysBeside old new × (2 ^ 63 ≤ old.core.next_memtable → first_entries old.core.memtables ≡ [])
+TakesRotate (Refused x) old new = (new ≡ old) × ((x ≡ OutOfNumbers) ⊎ (x ≡ OutOfMemory)) × (x ≡ OutOfNumbers → 2 ^ 63 ≤ old.core.next_memtable) × (first_entries old.core.memtables ≡ [] → ⊥)
 TakesRotate reply old new = ⊥
 
 -- and a flush behind it; refused, it is the rotation or the flush that is
@@ -63,7 +64,7 @@ TakesCompact strategies at w reply old new = (at < strategies.count) × TakesCom
 
 -- a moment is set
 abbrev pub TakesMoment : {S : Type 0} → ℕ → Reply → SeenLogged S → SeenLogged S → Type 0
-TakesMoment n Done old new = (new.core ≡ record (old.core) { moment = n }) × (new.store ≡ old.store)
+TakesMoment n Done old new = (new.core ≡ record (old.core) { moment = n }) × StaysBeside old new
 TakesMoment n reply old new = ⊥
 
 -- a reply with what it would add to a journal of reads
@@ -101,8 +102,8 @@ RanThrough strategies [] [] old [] = Unit {0}
 RanThrough strategies (x ∷ steps) (r ∷ replies) old (mid ∷ stages) = Takes strategies x r old mid × RanThrough strategies steps replies mid stages
 RanThrough strategies steps replies old stages = ⊥
 
--- They lead so from a tree beside free slots, and what is open behind them is given up.
+-- They lead so from a tree beside free slots, and each job that waits behind them is given up.
 pub record RanLogged {S : Type 0} (strategies : Strategies) (steps : List LogStep) (replies : List Reply) (old new : SeenLogged S) : Type 0 where
   pub stages : List (LogStage S)
   pub ran : RanThrough strategies steps replies (at_first old) stages
-  pub closes : ClosesLogged (last_of (at_first old) stages).tree new
+  pub ends : EndsLogged (last_of (at_first old) stages) new

@@ -1,11 +1,13 @@
 // A logged tree from its opening on.
 ghost use Rattle.std.specs.Prelude.{◌≡◌, ◌<◌, ◌≤◌, ◌^◌, take, length, IfOk, IfErr, OnOk};
 ghost use Rattle.lsm_manifest.specs.Finding.{RefusesFound};
+ghost use Rattle.lsm_runs.specs.Compacting.{strategies_of};
 ghost use Rattle.lsm_logged.specs.Meanwhile.{LeavesAsBefore};
 ghost use Rattle.lsm_logged.specs.Opening.{RefusesLogged};
+ghost use Rattle.lsm_log_runs.specs.Causes.{EachHasCause};
 ghost use Rattle.lsm_log_runs.specs.Images.{MayBeOpened};
 ghost use Rattle.lsm_log_runs.specs.Lives.{AnyNumberOfLoggedLives, OpeningsAreLoggedLives, NewLogsOpen};
-ghost use Rattle.lsm_log_runs.specs.Living.{LivesLogged, OpenedLogsStand, CrashedLogsOpen, StandingLogsAreTaken};
+ghost use Rattle.lsm_log_runs.specs.Living.{LivesLogged, OpensAndRuns, OpenedLogsStand, CrashedLogsOpen, StandingLogsAreTaken};
 
 use crate::{LogStep, TakenLogged, run_logged};
 use lsm_below::Error;
@@ -144,8 +146,12 @@ pub fn live_logged<S: Store>(
 ) -> Result<(Logged<S>, TakenLogged), (Error, S)>
     ensures bound { IfOk result (λ r. length r.1.replies.items ≤ length steps.now) }
     ensures whole { IfOk result (λ r. OnOk r.1.ended (length r.1.replies.items ≡ length steps.now)) }
+    // It is what `Logged::open` makes of the store, with a run on it: calls may go on from there.
+    ensures runs { IfOk result (λ r. OpensAndRuns S.tells S.world (strategies_of (λ b. may_choose b) (λ b. may_refuse b) strategies.now) config (take (length r.1.replies.items) steps.now) r.1.replies.items store r.0) }
     // A life, however it ends.
     ensures lives { S.tells → MayBeOpened (S.world store) → IfOk result (λ r. LivesLogged S.world (take (length r.1.replies.items) steps.now) r.1.replies.items store r.0.store) }
+    // The store is blamed only where a call of it failed.
+    ensures causes { IfOk result (λ r. EachHasCause S.world r.1.replies.items store r.0.store) }
     ensures refused { S.tells → IfErr result (λ e. RefusesLogged (S.world store) (S.world e.1) e.0) }
     // Such a store is refused only for want of memory, a fault of the store, or a sequence number of 2^63 or more.
     ensures only { S.tells → MayBeOpened (S.world store) → IfErr result (λ e. RefusesFound (S.world store).gives e.0) }

@@ -1,9 +1,12 @@
 // A list of calls on a logged tree, with the log theorem.
 ghost use Rattle.std.specs.Prelude.{◌≡◌, ◌≤◌, ◌++◌, ◌∷◌, [], take, length, IfOk, OnOk, OnErr};
+ghost use Rattle.lsm_commit.specs.Causes.{HasCause};
 ghost use Rattle.lsm_runs.specs.declared.steps.Reply.{Reply as Replied};
+ghost use Rattle.lsm_runs.specs.Causes.{ReplyBlames};
 ghost use Rattle.lsm_runs.specs.Compacting.{strategies_of};
 ghost use Rattle.lsm_runs.specs.Files.{StaysStored};
 ghost use Rattle.lsm_runs.specs.Slots.{SameJobs};
+ghost use Rattle.lsm_log_runs.specs.Causes.{EachHasCause};
 ghost use Rattle.lsm_log_runs.specs.Doing.{Acts, ActsBatch, StepDoes, RanTo};
 ghost use Rattle.lsm_log_runs.specs.Runs.{Takes, TakesBatch, RanLogged};
 ghost use Rattle.lsm_log_runs.specs.Leading.{RunsLogged};
@@ -37,6 +40,7 @@ fn write<S: Store>(
     ensures err { OnErr result (tree.new ≡ tree.old) }
     ensures acts { S.tells → IfOk result (λ reply. ActsBatch ops.now reply (S.world tree.old.store) (S.world tree.new.store) tree.old tree.new) }
     ensures stored { S.tells → StaysStored (S.world tree.old.store) (S.world tree.new.store) tree.old.core tree.new.core }
+    ensures causes { IfOk result (λ reply. HasCause (ReplyBlames reply) (S.world tree.old.store) (S.world tree.new.store)) }
 {
     let ops = share_ops(alloc, ops)?;
     match tree.write(ops) {
@@ -60,6 +64,7 @@ fn take_step<S: Store>(
     ensures slots_err { OnErr result (SameJobs slots.old slots.new) }
     ensures acts { S.tells → IfOk result (λ reply. Acts step.now reply (S.world tree.old.store) (S.world tree.new.store) (beside tree.old slots.old) (beside tree.new slots.new)) }
     ensures stored { S.tells → StaysStored (S.world tree.old.store) (S.world tree.new.store) tree.old.core tree.new.core }
+    ensures causes { IfOk result (λ reply. HasCause (ReplyBlames reply) (S.world tree.old.store) (S.world tree.new.store)) }
 {
     match step {
         LogStep::Write(ops) => write(alloc, tree, ops.as_slice()),
@@ -95,7 +100,7 @@ fn add_step<S: Store>(
     step: &LogStep,
     replies: &mut Vec<Reply>,
 ) -> Result<(), AllocError>
-    ensures ok { OnOk result ((reply : Replied) × (replies.new.items ≡ replies.old.items ++ reply ∷ []) × StepDoes (strategies_of (λ b. may_choose b) (λ b. may_refuse b) strategies.now) S.tells S.world step.now reply (beside tree.old slots.old) (beside tree.new slots.new)) }
+    ensures ok { OnOk result ((reply : Replied) × (replies.new.items ≡ replies.old.items ++ reply ∷ []) × StepDoes (strategies_of (λ b. may_choose b) (λ b. may_refuse b) strategies.now) S.tells S.world step.now reply (beside tree.old slots.old) (beside tree.new slots.new) × HasCause (ReplyBlames reply) (S.world tree.old.store) (S.world tree.new.store)) }
     ensures err { OnErr result (tree.new ≡ tree.old) }
     ensures slots_err { OnErr result (SameJobs slots.old slots.new) }
     ensures replies_err { OnErr result (replies.new.items ≡ replies.old.items) }
@@ -117,6 +122,7 @@ fn take_steps<S: Store>(
     ensures bound { length result.replies.items ≤ length steps.now }
     ensures whole { OnOk result.ended (length result.replies.items ≡ length steps.now) }
     ensures ran { RanTo (strategies_of (λ b. may_choose b) (λ b. may_refuse b) strategies.now) S.tells S.world (take (length result.replies.items) steps.now) result.replies.items (beside tree.old slots.old) (beside tree.new slots.new) }
+    ensures causes { EachHasCause S.world result.replies.items tree.old.store tree.new.store }
 {
     let mut replies = Vec::new(alloc);
     for step in steps {
@@ -169,6 +175,8 @@ pub fn run_logged<S: Store>(
     ensures ran { RanLogged (strategies_of (λ b. may_choose b) (λ b. may_refuse b) strategies.now) (take (length result.replies.items) steps.now) result.replies.items tree.old tree.new }
     // What is read and spared, what a crash or a kill leaves at each moment, and what stands behind each step.
     ensures runs { S.tells → RunsLogged S.world (take (length result.replies.items) steps.now) result.replies.items tree.old tree.new }
+    // The store is blamed only where a call of it failed.
+    ensures causes { EachHasCause S.world result.replies.items tree.old.store tree.new.store }
 {
     reads_are_sound();
     acts_join();

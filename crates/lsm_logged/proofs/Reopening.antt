@@ -23,7 +23,7 @@ use Rattle.lsm_manifest.specs.Finding.{Finds, Named}
 use Rattle.lsm_manifest.specs.Names.{current_name}
 use Rattle.lsm_manifest.specs.Looking.{FindsIn, Looks, IsFoundIn}
 use Rattle.lsm_manifest.specs.Versions.{first_version}
-use Rattle.lsm_manifest.specs.Opening.{ReadsFrom}
+use Rattle.lsm_manifest.specs.Opening.{IsFound, ReadsFrom}
 use Rattle.lsm_commit.specs.Foreign.{IsForeign, KeepsForeign, Passes}
 use Rattle.lsm_log.specs.declared.record.Record.{Record}
 use Rattle.lsm_log.specs.declared.kinds.LogName.TheVariants.{Refused}
@@ -42,12 +42,15 @@ use Rattle.lsm_state.specs.Deeds.{saved_of, OpenedIsFresh}
 use Rattle.lsm_state.proofs.Steps.{write_run}
 use Rattle.lsm_logged.specs.Keeping.{AreRecordNumbers, IsLogOf, IsRecordFile, IsNoNumber}
 use Rattle.lsm_logged.specs.Removing.{IsOldOrPassed, HasOldOrPassed}
-use Rattle.lsm_logged.specs.Opening.{entries_read, batch_read, image_read, Replays, TakesLog, CanBeSettled, IsReopenedLog}
+use Rattle.lsm_logged.specs.Opening.{entries_read, batch_read, image_read, IsJustAbove, IsNextTable, Replays, TakesLog, CanBeSettled, IsReopenedLog}
 use Rattle.lsm_logged.proofs.Known.{is_known_or_not}
 use Rattle.lsm_logged.proofs.LogNames.{apart, none_below, record_is_foreign, refused_is_foreign}
 use Rattle.lsm_logged.proofs.Replaying.{small_each}
 
 -- ---- what was found
+
+reaches_or_not : (from k : ℕ) → (from ≤ k) ⊎ (k < from)
+reaches_or_not from k = elim (nat_lt k from) as (λ t. nat_lt k from ≡ t → (from ≤ k) ⊎ (k < from)) [ true ↦ λ e. inr (grind (arith, nat_tests)) | false ↦ λ e. inl (grind (arith, nat_tests)) ] refl
 
 -- what was found, where nothing has changed since
 pub looks_on : (first mid new : World) (f g : Found) → Looks first mid f → Same mid new → g ≡ f → Looks first new g
@@ -72,6 +75,31 @@ found_in image f is there = by_kind f.is_new is.finds
     by_kind true finds = let no = subst (λ (c : Option (List ℕ)). IsSome c) finds.0 there in absurd (cc no)
     by_kind false finds = Named f.opened.version.id finds.layout (record { named = finds.named; tables = finds.tables; runs = finds.runs; names = record { no_version = is.no_version; in_tables = finds.good } })
 
+-- the id of its next table is that of the files
+pub next_in : (image : Image) (f : Found) → IsFoundIn image f → IsNextTable image f.opened.version f.opened.next_table_id
+next_in image f is = record { found = found; fresh = fresh }
+  where
+    found : IsSome (image current_name) → (ids : List ℕ) × IsFound image f.opened.version.id f.opened.version.levels f.opened.next_table_id ids
+    found there = by_kind f.is_new is.finds
+      where
+        by_kind : (is_new : Bool) → FindsIn is_new image f → (ids : List ℕ) × IsFound image f.opened.version.id f.opened.version.levels f.opened.next_table_id ids
+        by_kind true finds = let no = subst (λ (c : Option (List ℕ)). IsSome c) finds.0 there in absurd (cc no)
+        by_kind false finds = (f.ids.items, finds)
+
+    fresh : image current_name ≡ None → f.opened.next_table_id ≡ 0
+    fresh none = by_kind f.is_new is.finds
+      where
+        by_kind : (is_new : Bool) → FindsIn is_new image f → f.opened.next_table_id ≡ 0
+        by_kind true finds = ap (λ (o : Opened). o.next_table_id) finds.1
+        by_kind false finds = let named = finds.named in absurd (cc (sym none ∙ named.current))
+
+-- the greater of two numbers is just above what one of them is
+pub just_higher : (a b : ℕ) (xs ys : List ℕ) → IsJustAbove a xs → IsJustAbove b ys → IsJustAbove (max a b) xs ⊎ IsJustAbove (max a b) ys
+just_higher a b xs ys first second = elim (reaches_or_not a b) [
+  | inl le ↦ let is : b ≡ max a b = omega (arith, le) in inr (subst (λ n. IsJustAbove n ys) is second)
+  | inr lt ↦ let is : a ≡ max a b = omega (arith, lt) in inl (subst (λ n. IsJustAbove n xs) is first)
+]
+
 pub numbered_more : (n m : ℕ) (xs : List ℕ) → n ≤ m → AreRecordNumbers n xs → AreRecordNumbers m xs
 numbered_more n m xs le are = record { rise = are.rise; below = All-weaker (λ k. k < n) (λ k. k < m) (λ k lt. omega (arith, lt, le)) xs are.below }
 
@@ -89,7 +117,7 @@ module _ (config cfg : Config) (v : SeenVersion) (next_table next : ℕ) (passed
   pub version : core.history.latest.version ≡ v
   version = ap (λ (c : Core). c.history.latest.version) whole
 
-  table : core.next_table ≡ next_table
+  pub table : core.next_table ≡ next_table
   table = ap (λ (c : Core). c.next_table) whole
 
   pub seqno : core.seqno ≡ cfg.seqno
@@ -101,13 +129,18 @@ module _ (config cfg : Config) (v : SeenVersion) (next_table next : ℕ) (passed
   pub high : max v.log_from next ≤ core.seqno
   high = let a = seqno in let b = ap (λ (k : Config). k.seqno) is in omega (arith, a, b)
 
-  pub replays : {S : Type 0} (store : S) → numbers ≡ map (λ r. r.number) records → AreRecordNumbers next numbers → AreRecordNumbers next passed → Replays config passed records (record { store = store; core = core; numbers = numbers; doubted = false })
-  replays store same after below = record {
+  pub replays : {S : Type 0} (store : S) → numbers ≡ map (λ r. r.number) records → AreRecordNumbers next numbers → AreRecordNumbers next passed → IsJustAbove next passed ⊎ IsJustAbove next numbers → Replays config passed records (record { store = store; core = core; numbers = numbers; doubted = false })
+  replays store same after below just = record {
     least = max v.log_from next;
     core = is_made;
     above_version = subst (λ (u : SeenVersion). u.log_from ≤ max v.log_from next) (sym version) (omega arith);
     above_passed = numbered_more next (max v.log_from next) passed (omega arith) below;
     above_records = subst (AreRecordNumbers (max v.log_from next)) same (numbered_more next (max v.log_from next) numbers (omega arith) after);
+    least_is = elim (reaches_or_not next v.log_from) [
+      | inl le ↦ inl (let e = ap (λ (u : SeenVersion). u.log_from) version in omega (arith, e, le))
+      | inr lt ↦ let is : next ≡ max v.log_from next = omega (arith, lt) in
+          inr (subst (λ n. IsJustAbove n passed ⊎ IsJustAbove n (map (λ (r : Record). r.number) records)) is (subst (λ xs. IsJustAbove next passed ⊎ IsJustAbove next xs) same just))
+    ];
     numbers = same;
     sure = refl;
   }
@@ -125,9 +158,6 @@ is_read_in old mid from settles can = record {
   records = λ k small le c m. let p = can.records k small le in settles (record_name k) (record_is_foreign k) p.0 c p.1 m;
   refused = λ n refused c m. let p = can.refused n refused in settles n (refused_is_foreign n refused) p.0 c p.1 m;
 }
-
-reaches_or_not : (from k : ℕ) → (from ≤ k) ⊎ (k < from)
-reaches_or_not from k = elim (nat_lt k from) as (λ t. nat_lt k from ≡ t → (from ≤ k) ⊎ (k < from)) [ true ↦ λ e. inr (grind (arith, nat_tests)) | false ↦ λ e. inl (grind (arith, nat_tests)) ] refl
 
 module _ (old mid new : World) (v : SeenVersion) (passed : List ℕ) (records : List Record) (log : IsLogFrom old.gives v.log_from passed records) (passes : Passes old mid) (clears : ClearsRecords (IsBelow v.log_from) mid new) where
   may_be : (n : List ℕ) (c : Option (List ℕ)) → IsForeign n → new.may n c → IsOldOrPassed old v.log_from n c

@@ -1,5 +1,5 @@
 -- What opening makes of a store, and of the log in it.
-use Rattle.std.specs.Prelude.{◌≡◌, ◌⊎◌, ◌<◌, ◌≤◌, ◌^◌, ℕ, false, List, [], map, Option, None, Result, Ok, Err, IsSome, Contains}
+use Rattle.std.specs.Prelude.{◌≡◌, ◌⊎◌, ◌+◌, ◌<◌, ◌≤◌, ◌^◌, ℕ, false, List, [], map, Option, None, Result, Ok, Err, IsSome, Contains}
 use Rattle.std.specs.List.{flat_map, AllByRecursion}
 use Rattle.lsm_below.specs.Entries.{Entry, above}
 use Rattle.lsm_below.specs.Sums.{capped}
@@ -12,7 +12,7 @@ use Rattle.lsm_versions.specs.Configs.{raised}
 use Rattle.lsm_versions.specs.Levels.{SeenVersion, placed_of}
 use Rattle.lsm_manifest.specs.Finding.{Finds}
 use Rattle.lsm_manifest.specs.Names.{current_name}
-use Rattle.lsm_manifest.specs.Opening.{Opens, ReadsFrom}
+use Rattle.lsm_manifest.specs.Opening.{Opens, IsFound, ReadsFrom}
 use Rattle.lsm_manifest.specs.Ready.{IsReady}
 use Rattle.lsm_manifest.specs.Told.{Told, TellsOpen}
 use Rattle.lsm_manifest.specs.Versions.{first_version}
@@ -69,14 +69,19 @@ image_read v records = record { tables = placed_of v.levels; log_from = v.log_fr
 abbrev pub version_of : {S : Type 0} → SeenLogged S → SeenVersion
 version_of t = t.core.history.latest.version
 
+-- it is just above one of these numbers, or 0
+abbrev pub IsJustAbove : ℕ → List ℕ → Type 0
+IsJustAbove n numbers = (n ≡ 0) ⊎ ((k : ℕ) × Contains numbers k × (n ≡ k + 1))
+
 -- the tree of the version, to which these records are written; its counters start above all numbers that were met, and at `log_from`
--- at least
+-- at least, and no higher
 pub record Replays {S : Type 0} (config : Config) (passed : List ℕ) (records : List Record) (t : SeenLogged S) : Type 0 where
   pub least : ℕ
   pub core : t.core ≡ written_all (entries_read records) (opened_core (raised least (raised (capped (above (found_entries t.core))) config)) (version_of t) t.core.next_table)
   pub above_version : (version_of t).log_from ≤ least
   pub above_passed : AreRecordNumbers least passed
   pub above_records : AreRecordNumbers least (map (λ r. r.number) records)
+  pub least_is : (least ≡ (version_of t).log_from) ⊎ (IsJustAbove least passed ⊎ IsJustAbove least (map (λ r. r.number) records))
   pub numbers : t.numbers ≡ map (λ r. r.number) records
   pub sure : t.doubted ≡ false
 
@@ -91,6 +96,11 @@ pub record TakesLog (old new : World) (v : SeenVersion) (passed : List ℕ) (rec
   -- no other record is there: none below `log_from`
   pub known : AreKnown new (map (λ r. r.number) records)
   pub passed_on : Passed v.log_from old new
+
+-- the id of the next table is just above those of the tables that the version names, and 0 in a new tree
+pub record IsNextTable (image : Image) (v : SeenVersion) (next : ℕ) : Type 0 where
+  pub found : IsSome (image current_name) → (ids : List ℕ) × IsFound image v.id v.levels next ids
+  pub fresh : image current_name ≡ None → next ≡ 0
 
 -- of each record from here on, and of each name that a log refuses, not any bytes can be left: so opening can put on the disk what it
 -- reads of them. It is so behind a crash, and where a process that kept its log was killed (`logs_can_be_settled`)
@@ -112,6 +122,7 @@ pub record OpensLogged {S : Type 0} (tells : Type 0) (world : S → World) (stor
   pub records : List Record
   pub replays : Replays config passed records t
   pub takes : tells → TakesLog (world store) (world t.store) (version_of t) passed records
+  pub next : tells → IsNextTable (world store).gives (version_of t) t.core.next_table
   pub reopens : tells → LogStands (image_read (version_of t) records) → CanBeSettled (world store) (version_of t).log_from → IsReopenedLog (image_read (version_of t) records) t (world t.store)
   pub stored : tells → IsReady (world store) → IsStored (world t.store) (versions_left t.core) (written_of t.core)
 

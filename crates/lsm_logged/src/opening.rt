@@ -14,7 +14,7 @@ ghost use Rattle.lsm_state.specs.Core.{written_all};
 ghost use Rattle.lsm_state.specs.Commits.{UpholdsFiles};
 ghost use Rattle.lsm_logged.specs.Keeping.{AreRecordNumbers};
 ghost use Rattle.lsm_logged.specs.Meanwhile.{LeavesAsBefore};
-ghost use Rattle.lsm_logged.specs.Opening.{RefusesReading, RefusesReplay, RefusesReplays, ReplaysEach, OpensLogged, RefusesLogged, logged_left, logged_told};
+ghost use Rattle.lsm_logged.specs.Opening.{IsJustAbove, RefusesReading, RefusesReplay, RefusesReplays, ReplaysEach, OpensLogged, RefusesLogged, logged_left, logged_told};
 
 use crate::Logged;
 use lsm_below::{Error, SeqNo, plain_numbers_are_read};
@@ -36,6 +36,7 @@ use std::alloc::Global;
 /// The number after these. None where they don't rise, or are 2^63 or more.
 fn number_after(numbers: &[SeqNo]) -> Option<SeqNo>
     ensures after { IfSome result (λ n. AreRecordNumbers n numbers.now) }
+    ensures just { IfSome result (λ n. IsJustAbove n numbers.now) }
     ensures none { IfNone result (IsStrictlyIncreasing numbers.now → All (λ k. k < 2 ^ 63) numbers.now → ⊥) }
 {
     let mut next = 0;
@@ -94,6 +95,7 @@ fn check_numbered<S: Store>(found: &mut Found<S>, from: SeqNo) -> Result<Checked
     ensures read { S.tells → IfOk result (λ r. IsLogAt (S.world found.old.store).gives from r.log.passed.items r.log.numbers.items) }
     ensures after { IfOk result (λ r. AreRecordNumbers r.next r.log.numbers.items) }
     ensures below { IfOk result (λ r. AreRecordNumbers r.next r.log.passed.items) }
+    ensures just { IfOk result (λ r. IsJustAbove r.next r.log.passed.items ⊎ IsJustAbove r.next r.log.numbers.items) }
     ensures bad { S.tells → IsErrOf result Error.Unrecoverable → IsBadLog (S.world found.old.store).gives from }
     ensures only { IfErr result RefusesReading }
     ensures same { S.tells → Same (S.world found.old.store) (S.world found.new.store) }
@@ -134,7 +136,7 @@ fn take_log<S: Store>(tree: &mut TreeState<S>, from: SeqNo, log: &LogNumbers) ->
 impl<S: Store> Logged<S> {
     /// The logged tree that a store holds, or a new one where there is no `current`. All of the log is read and checked before
     /// anything is changed. Then the records from the version's `log_from` on are read again and written to the active memtable,
-    /// by rising number, each batch under its own number; those below are removed unread. Both counters start above all numbers
+    /// by rising number, each batch under its own number; those below are removed unread. Both counters start just above all numbers
     /// that were met, and at `log_from` at least, or where the configuration says, if that is higher. The memtable must fit in
     /// memory, beside one record at a time.
     ///

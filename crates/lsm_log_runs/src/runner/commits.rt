@@ -1,5 +1,7 @@
 // Rotations, flushes, compactions and clears of a logged tree, as steps.
 ghost use Rattle.std.specs.Prelude.{◌≡◌, IfOk, OnErr};
+ghost use Rattle.lsm_commit.specs.Causes.{HasCause, Blames};
+ghost use Rattle.lsm_runs.specs.Causes.{ReplyBlames};
 ghost use Rattle.lsm_runs.specs.Compacting.{reply_of, strategies_of};
 ghost use Rattle.lsm_runs.specs.Files.{StaysStored};
 ghost use Rattle.lsm_state.specs.WholeCompactions.{Compacts, DropsRange, options_at, only_memory, major_choice};
@@ -35,6 +37,7 @@ pub(super) fn flush<S: Store>(tree: &mut Logged<S>, watermark: SeqNo) -> Reply
     ensures takes { TakesFlush watermark result tree.old tree.new }
     ensures acts { S.tells → ActsFlush watermark result (S.world tree.old.store) (S.world tree.new.store) tree.old tree.new }
     ensures stored { S.tells → StaysStored (S.world tree.old.store) (S.world tree.new.store) tree.old.core tree.new.core }
+    ensures causes { HasCause (ReplyBlames result) (S.world tree.old.store) (S.world tree.new.store) }
 {
     match tree.flush(watermark) {
         Ok(flushed) => Reply::Flushed(flushed),
@@ -46,6 +49,7 @@ pub(super) fn flush_active<S: Store>(tree: &mut Logged<S>, watermark: SeqNo) -> 
     ensures takes { TakesFlushActive watermark result tree.old tree.new }
     ensures acts { S.tells → ActsFlushActive watermark result (S.world tree.old.store) (S.world tree.new.store) tree.old tree.new }
     ensures stored { S.tells → StaysStored (S.world tree.old.store) (S.world tree.new.store) tree.old.core tree.new.core }
+    ensures causes { HasCause (ReplyBlames result) (S.world tree.old.store) (S.world tree.new.store) }
 {
     let sealed = match tree.rotate_memtable() {
         Ok(sealed) => sealed,
@@ -61,6 +65,7 @@ pub(super) fn clear<S: Store>(tree: &mut Logged<S>) -> Reply
     ensures takes { TakesClear result tree.old tree.new }
     ensures acts { S.tells → ActsClear result (S.world tree.old.store) (S.world tree.new.store) tree.old tree.new }
     ensures stored { S.tells → StaysStored (S.world tree.old.store) (S.world tree.new.store) tree.old.core tree.new.core }
+    ensures causes { HasCause (ReplyBlames result) (S.world tree.old.store) (S.world tree.new.store) }
 {
     match tree.clear() {
         Ok(number) => Reply::Cleared(number),
@@ -95,6 +100,7 @@ fn compact_boxed<S: Store>(
     ensures asks { Asks result tree.old tree.new (Compacts (may_choose strategy.now) (may_refuse strategy.now) (options_at watermark tree.old.core) result tree.old.core tree.new.core) }
     ensures acts { S.tells → CompactsAct watermark result (S.world tree.old.store) (S.world tree.new.store) tree.old tree.new }
     ensures stored { S.tells → StaysStored (S.world tree.old.store) (S.world tree.new.store) tree.old.core tree.new.core }
+    ensures causes { HasCause (Blames result) (S.world tree.old.store) (S.world tree.new.store) }
 {
     tree.compact(&**strategy, watermark)
 }
@@ -108,6 +114,7 @@ pub(super) fn compact<S: Store>(
     ensures takes { TakesCompact (strategies_of (λ b. may_choose b) (λ b. may_refuse b) strategies.now) at watermark result tree.old tree.new }
     ensures acts { S.tells → ActsCompact watermark result (S.world tree.old.store) (S.world tree.new.store) tree.old tree.new }
     ensures stored { S.tells → StaysStored (S.world tree.old.store) (S.world tree.new.store) tree.old.core tree.new.core }
+    ensures causes { HasCause (ReplyBlames result) (S.world tree.old.store) (S.world tree.new.store) }
 {
     let Some(strategy) = strategies.get(at) else {
         return Reply::NoStrategy;
@@ -119,6 +126,7 @@ pub(super) fn major_compact<S: Store>(tree: &mut Logged<S>, target: u64, waterma
     ensures takes { TakesCompaction (λ begun. Compacts (major_choice target) only_memory (options_at watermark tree.old.core) begun tree.old.core tree.new.core) result tree.old tree.new }
     ensures acts { S.tells → ActsCompaction (IsMerging watermark) watermark result (S.world tree.old.store) (S.world tree.new.store) tree.old tree.new }
     ensures stored { S.tells → StaysStored (S.world tree.old.store) (S.world tree.new.store) tree.old.core tree.new.core }
+    ensures causes { HasCause (ReplyBlames result) (S.world tree.old.store) (S.world tree.new.store) }
 {
     of_begun(tree.major_compact(target, watermark))
 }
@@ -132,6 +140,7 @@ pub(super) fn drop_range<S: Store>(
     ensures err { OnErr result (tree.new ≡ tree.old) }
     ensures acts { S.tells → IfOk result (λ reply. ActsCompaction (DropsWithin (record { start = low.now; end = high.now }) tree.old.core) 0 reply (S.world tree.old.store) (S.world tree.new.store) tree.old tree.new) }
     ensures stored { S.tells → StaysStored (S.world tree.old.store) (S.world tree.new.store) tree.old.core tree.new.core }
+    ensures causes { IfOk result (λ reply. HasCause (ReplyBlames reply) (S.world tree.old.store) (S.world tree.new.store)) }
 {
     let bounds = OwnedBounds {
         start: copy_bound(low)?,

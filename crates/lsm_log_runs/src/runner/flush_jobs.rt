@@ -1,5 +1,7 @@
 // The calls of a flush whose job waits in a slot.
 ghost use Rattle.std.specs.Prelude.{[]};
+ghost use Rattle.lsm_commit.specs.Causes.{HasCause};
+ghost use Rattle.lsm_runs.specs.Causes.{ReplyBlames};
 ghost use Rattle.lsm_runs.specs.Files.{StaysStored};
 ghost use Rattle.lsm_runs.specs.Flushing.{TakesRun};
 ghost use Rattle.lsm_log_runs.specs.Doing.{ActsNothing, ActsRegister};
@@ -58,6 +60,7 @@ pub(super) fn flush_to_tables<S: Store>(tree: &mut Logged<S>, place: &mut Option
     ensures takes { TakesTables result place.old place.new tree.old tree.new }
     ensures acts { S.tells → ActsNothing (S.world tree.old.store) (S.world tree.new.store) tree.old tree.new }
     ensures stored { S.tells → StaysStored (S.world tree.old.store) (S.world tree.new.store) tree.old.core tree.new.core }
+    ensures causes { HasCause (ReplyBlames result) (S.world tree.old.store) (S.world tree.new.store) }
 {
     let job = match place.take() {
         Some(Job::Merged(job)) => job,
@@ -82,6 +85,7 @@ pub(super) fn register_tables<S: Store>(tree: &mut Logged<S>, place: &mut Option
     ensures takes { TakesRegister result place.old place.new tree.old tree.new }
     ensures acts { S.tells → ActsRegister result place.old (S.world tree.old.store) (S.world tree.new.store) tree.old tree.new }
     ensures stored { S.tells → StaysStored (S.world tree.old.store) (S.world tree.new.store) tree.old.core tree.new.core }
+    ensures causes { HasCause (ReplyBlames result) (S.world tree.old.store) (S.world tree.new.store) }
 {
     let job = match place.take() {
         Some(Job::Written(job)) => job,

@@ -1,11 +1,13 @@
 // Calls on the jobs that wait in slots, and the end of a run.
 ghost use Rattle.std.specs.Prelude.{◌≡◌, IfOk, OnErr};
+ghost use Rattle.lsm_commit.specs.Causes.{HasCause};
+ghost use Rattle.lsm_runs.specs.Causes.{ReplyBlames};
 ghost use Rattle.lsm_runs.specs.Compacting.{strategies_of};
 ghost use Rattle.lsm_runs.specs.Files.{StaysStored};
 ghost use Rattle.lsm_runs.specs.Slots.{job_in, SameJobs, GivesUp};
 ghost use Rattle.lsm_log_runs.specs.Doing.{ActsJob};
 ghost use Rattle.lsm_log_runs.specs.JobSteps.{TakesJob, TakesInSlot};
-ghost use Rattle.lsm_log_runs.specs.Slots.{beside, StaysBeside, ClosesLogged};
+ghost use Rattle.lsm_log_runs.specs.Slots.{beside, StaysBeside, EndsLogged};
 
 use super::{flush_jobs, merge_jobs};
 use lsm_logged::Logged;
@@ -24,6 +26,7 @@ fn take_job<S: Store>(
     ensures takes { TakesJob (strategies_of (λ b. may_choose b) (λ b. may_refuse b) strategies.now) step result place.old place.new tree.old tree.new }
     ensures acts { S.tells → ActsJob step result place.old (S.world tree.old.store) (S.world tree.new.store) tree.old tree.new }
     ensures stored { S.tells → StaysStored (S.world tree.old.store) (S.world tree.new.store) tree.old.core tree.new.core }
+    ensures causes { HasCause (ReplyBlames result) (S.world tree.old.store) (S.world tree.new.store) }
 {
     match step {
         JobStep::BeginFlush => flush_jobs::begin_flush(tree, place),
@@ -53,6 +56,7 @@ pub(super) fn at_slot<S: Store>(
     ensures slots_err { OnErr result (SameJobs slots.old slots.new) }
     ensures acts { S.tells → IfOk result (λ reply. ActsJob step reply (job_in slots.old slot) (S.world tree.old.store) (S.world tree.new.store) tree.old tree.new) }
     ensures stored { S.tells → StaysStored (S.world tree.old.store) (S.world tree.new.store) tree.old.core tree.new.core }
+    ensures causes { IfOk result (λ reply. HasCause (ReplyBlames reply) (S.world tree.old.store) (S.world tree.new.store)) }
 {
     make_room(slots, slot)?;
     let Some(place) = slots.get_mut(&slot) else {
@@ -80,7 +84,7 @@ fn give_up<S: Store>(tree: &mut Logged<S>, place: Option<Job>)
 
 /// Gives up all jobs that wait.
 pub(super) fn give_up_all<S: Store>(tree: &mut Logged<S>, slots: Slots)
-    ensures { ClosesLogged tree.old tree.new }
+    ensures { EndsLogged (beside tree.old slots) tree.new }
 {
     for (_, place) in slots {
         give_up(tree, place);

@@ -1,5 +1,7 @@
 // The calls of a merge whose job waits in a slot.
 ghost use Rattle.std.specs.Prelude.{◌≡◌, []};
+ghost use Rattle.lsm_commit.specs.Causes.{HasCause, Blames};
+ghost use Rattle.lsm_runs.specs.Causes.{ReplyBlames};
 ghost use Rattle.lsm_runs.specs.Compacting.{strategies_of, reply_of, job_of, end_reply_of, TakesRunCompaction};
 ghost use Rattle.lsm_runs.specs.Files.{StaysStored};
 ghost use Rattle.lsm_state.specs.Compactions.{BeginsCompaction};
@@ -58,6 +60,7 @@ fn begin_boxed<S: Store>(
     ensures asks { Asks result tree.old tree.new (BeginsCompaction (may_choose strategy.now) (may_refuse strategy.now) options result tree.old.core tree.new.core) }
     ensures acts { S.tells → CompactsAct options.mvcc_gc_watermark result (S.world tree.old.store) (S.world tree.new.store) tree.old tree.new }
     ensures stored { S.tells → StaysStored (S.world tree.old.store) (S.world tree.new.store) tree.old.core tree.new.core }
+    ensures causes { HasCause (Blames result) (S.world tree.old.store) (S.world tree.new.store) }
 {
     tree.begin_compaction(&**strategy, options)
 }
@@ -72,6 +75,7 @@ pub(super) fn begin_compaction<S: Store>(
     ensures takes { TakesBeginCompaction (strategies_of (λ b. may_choose b) (λ b. may_refuse b) strategies.now) at options result place.old place.new tree.old tree.new }
     ensures acts { S.tells → ActsCompact options.mvcc_gc_watermark result (S.world tree.old.store) (S.world tree.new.store) tree.old tree.new }
     ensures stored { S.tells → StaysStored (S.world tree.old.store) (S.world tree.new.store) tree.old.core tree.new.core }
+    ensures causes { HasCause (ReplyBlames result) (S.world tree.old.store) (S.world tree.new.store) }
 {
     if place.is_some() {
         return Reply::SlotInUse;
@@ -110,6 +114,7 @@ pub(super) fn finish_compaction<S: Store>(tree: &mut Logged<S>, place: &mut Opti
     ensures takes { TakesFinish result place.old place.new tree.old tree.new }
     ensures acts { S.tells → ActsMerge result place.old (S.world tree.old.store) (S.world tree.new.store) tree.old tree.new }
     ensures stored { S.tells → StaysStored (S.world tree.old.store) (S.world tree.new.store) tree.old.core tree.new.core }
+    ensures causes { HasCause (ReplyBlames result) (S.world tree.old.store) (S.world tree.new.store) }
 {
     let merged = match place.take() {
         Some(Job::Compacted(merged)) => merged,

@@ -1,3 +1,4 @@
+use Rattle.lsm_log_runs.proofs.Causing.{causes_behind}
 use Rattle.lsm_log_runs.proofs.Opening.{lived}
 use Rattle.lsm_log_runs.proofs.life.live_logged.Goals as goal
 
@@ -8,3 +9,7 @@ returns-clause-lives g c told may =
 
 pub returns-in-Err-clause-only : goal.returns-in-Err-clause-only
 returns-in-Err-clause-only g c told may = c.standing_logs_are_taken.ensures told c.args.store c.in-Err.refused.1 c.in-Err.refused.0 may (c.in-Err.ensures.refused told)
+
+pub returns-clause-causes : goal.returns-clause-causes
+returns-clause-causes g c =
+    causes_behind g.S.Store.world _ c.args.store c.in-Ok.tree.store _ (c.in-Ok.ensures.counts.none (λ h. cc h) (λ h. cc h)) c.run_logged-taken.ensures.causes

@@ -1,5 +1,6 @@
-use Rattle.std.proofs.Common.{subst}
+use Rattle.std.proofs.Common.{sym, subst}
 use Rattle.lsm_commit.specs.Foreign.{AtRest}
+use Rattle.lsm_log_runs.specs.Causes.{EachHasCause}
 use Rattle.lsm_log_runs.proofs.Going.{Theory}
 use Rattle.lsm_log_runs.proofs.Leading.{Reading, Stores}
 use Rattle.lsm_log_runs.proofs.Runs.{from_free, ran_logged, runs}
@@ -17,3 +18,7 @@ returns-clause-runs g c told =
     let reading : Reading = record { theory = theory; once = c.versions_are_told_once.ensures.version; those = c.records_are_those_read.ensures.found; found = c.images_stand_once.ensures.found; unread = c.unread_names_dont_matter.ensures } in
     let between : Stores world = record { ready = c.stored_files_are_ready.ensures; kept = c.logs_can_be_settled.ensures.kept; gives_one = g.met.S.Store.gives_one told; counts_now = g.met.S.Store.counts_now told } in
     runs _ g.S.Store.tells world _ _ c.args.tree.now _ _ (from_free _ g.S.Store.tells world _ _ c.args.tree.now c.new-slots.result _ c.new-slots.ensures.empty c.take_steps-taken.ensures.ran) c.give_up_all.ensures reading c.noted_compactions_keep_reads.ensures between told rest
+
+pub returns-clause-causes : goal.returns-clause-causes
+returns-clause-causes g c =
+    subst (λ (s : g.row.S.Denot). EachHasCause g.S.Store.world c.take_steps-taken.result.replies.items c.args.tree.now.store s) (sym c.give_up_all.ensures.rest.store) c.take_steps-taken.ensures.causes

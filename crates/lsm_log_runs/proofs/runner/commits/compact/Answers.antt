@@ -3,6 +3,7 @@ use Rattle.std.proofs.lemmas.Option.{slice_get_read}
 use Rattle.lsm_runs.specs.Compacting.{strategies_of}
 use Rattle.lsm_state.specs.WholeCompactions.{Compacts, options_at}
 use Rattle.lsm_log_runs.proofs.Compacting.{asked_at, compact_taken, compact_acts}
+use Rattle.lsm_runs.proofs.Causing.{begun_cause}
 use Rattle.lsm_log_runs.proofs.runner.commits.compact.Goals as goal
 
 pub returns-clause-takes : goal.returns-clause-takes
@@ -21,3 +22,6 @@ pub returns-clause-acts : goal.returns-clause-acts
 returns-clause-acts g c tells =
     let world = g.S.Store.world in
     compact_acts c.args.tree.now c.compact_boxed.new.tree c.of_begun.result c.compact_boxed.result c.of_begun.ensures (world c.args.tree.now.store) (world c.compact_boxed.new.tree.store) c.args.watermark (c.compact_boxed.ensures.acts tells)
+
+pub returns-clause-causes : goal.returns-clause-causes
+returns-clause-causes g c = begun_cause c.compact_boxed.result c.of_begun.result _ _ c.of_begun.ensures c.compact_boxed.ensures.causes

@@ -2,6 +2,7 @@ use Rattle.std.proofs.Common.{◌≡◌, Some, slice_get, length, refl, rules}
 use Rattle.std.proofs.lemmas.Option.{slice_get_read}
 use Rattle.lsm_runs.specs.Compacting.{strategies_of}
 use Rattle.lsm_state.specs.Compactions.{BeginsCompaction}
+use Rattle.lsm_runs.proofs.Causing.{begun_cause}
 use Rattle.lsm_log_runs.proofs.Compacting.{asked_at, begun_taken, compact_acts}
 use Rattle.lsm_log_runs.proofs.runner.merge_jobs.begin_compaction.Goals as goal
 
@@ -29,3 +30,8 @@ returns-clause-acts g c tells =
     let world = g.S.Store.world in
     let told = c.of_begun-reply in
     compact_acts c.args.tree.now c.begin_boxed.new.tree told.result.0 c.begin_boxed.result told.ensures.reply (world c.args.tree.now.store) (world c.begin_boxed.new.tree.store) c.args.options.mvcc_gc_watermark (c.begin_boxed.ensures.acts tells)
+
+pub returns-clause-causes : goal.returns-clause-causes
+returns-clause-causes g c =
+    let told = c.of_begun-reply in
+    begun_cause c.begin_boxed.result told.result.0 _ _ told.ensures.reply c.begin_boxed.ensures.causes

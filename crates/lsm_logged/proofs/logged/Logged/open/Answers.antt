@@ -19,12 +19,12 @@ use Rattle.lsm_log.proofs.Loaded.{gives_same}
 use Rattle.lsm_state.specs.Core.{versions_left, written_of}
 use Rattle.lsm_log_model.specs.Records.{LogStands}
 use Rattle.lsm_logged.specs.Keeping.{AreRecordNumbers}
-use Rattle.lsm_logged.specs.Opening.{Files, Memory, Faulty, BadLog, image_read, TakesLog, CanBeSettled, IsReopenedLog}
+use Rattle.lsm_logged.specs.Opening.{Files, Memory, Faulty, BadLog, image_read, TakesLog, IsNextTable, CanBeSettled, IsReopenedLog}
 use Rattle.lsm_logged.proofs.Blaming.{none_counted, one_failed, counted_behind, none_behind}
 use Rattle.lsm_logged.proofs.LogNames.{record_is_foreign}
 use Rattle.lsm_logged.proofs.Meanwhile.{nothing_moment, looks_read, files_left, records_left}
 use Rattle.lsm_logged.proofs.Replaying.{log_read, none_lacks, small_numbers}
-use Rattle.lsm_logged.proofs.Reopening.{looks_on, fresh_in, found_in, is_read_in, numbered_more, whole, version, high, replays, takes, reopens}
+use Rattle.lsm_logged.proofs.Reopening.{looks_on, fresh_in, found_in, next_in, is_read_in, numbered_more, whole, version, table, high, replays, takes, reopens}
 use Rattle.lsm_logged.proofs.logged.Logged.open.Goals as goal
 
 pub returns-in_err-found-clause-refused : goal.returns-in_err-found-clause-refused
@@ -116,7 +116,8 @@ returns-in-Ok-take_log-clause-opens g c =
     record {
       passed = passed;
       records = records;
-      replays = replays c.args.config cfg v id next passed numbers records before core made is take new (sym replayed.named) c.in-Ok.ensures.after c.in-Ok.ensures.below;
+      replays = replays c.args.config cfg v id next passed numbers records before core made is take new (sym replayed.named) c.in-Ok.ensures.after c.in-Ok.ensures.below c.in-Ok.ensures.just;
+      next = λ tells. subst (λ u. IsNextTable (w store).gives u core.next_table) (sym ver) (subst (IsNextTable (w store).gives v) (sym (table c.args.config cfg v id next passed numbers records before core made is take)) (next_in (w store).gives found'.files (looks tells).found));
       takes = λ tells. subst (λ u. TakesLog (w store) (w new) u passed records) (sym ver) (takes (w store) (w mid) (w new) v passed records (log tells) (passes tells) (clears tells) c.plain_numbers_are_read.ensures (looks tells).from (fresh_in (w store).gives found'.files (looks tells).found) (found_in (w store).gives found'.files (looks tells).found)
           (subst (λ n. (k : ℕ) → Contains passed k → k < n → (w new).gives (record_name k) ≡ None) from (c.in-Ok-take_log.ensures.gone tells))
           (c.in-Ok-take_log.ensures.others tells) (subst (λ n. LeavesOnly (w mid) (w new) (AreCleared (IsBelow n) (w mid))) from (c.in-Ok-take_log.ensures.any_moment tells)));

@@ -1,0 +1,188 @@
+-- Where the reply of a step blames the store, a call of it failed in that step.
+use Rattle.std.proofs.Common.{◌≡◌, ◌⊎◌, ⊎_elim, inl, inr, ℕ, Bool, true, false, if◌then◌else◌, List, [], ◌∷◌, ◌++◌, Option, Some, None, IfSome, Result, Ok, Err, refl, sym, ap, ◌∙◌, subst, arith}
+use Rattle.std.specs.List.{list_any}
+use Rattle.lsm_below.specs.Keys.{Bytes}
+use Rattle.lsm_below.specs.declared.error.Error.{Error}
+use Rattle.lsm_below.specs.declared.error.Error.TheVariants.{OutOfMemory, Store, CommitUnknown, AfterCommit, OutOfNumbers, Unrecoverable, FlushOpen, SnapshotTooOld, KeyTooLong, ValueTooLong, DuplicateKey}
+use Rattle.lsm_store.specs.World.{World}
+use Rattle.lsm_model.specs.Journal.{Event}
+use Rattle.lsm_model.specs.Ops.{op_value, repeats, keys_of}
+use Rattle.lsm_model.specs.declared.op.Op.{Op}
+use Rattle.lsm_model.specs.declared.question.Question.{Question}
+use Rattle.lsm_iter.specs.Guards.{Pair}
+use Rattle.lsm_commit.specs.Causes.{HasCause, BlamesStore, Blames, no_fault, causes_counted}
+use Rattle.lsm_commit.specs.Stored.{CountsFaults}
+use Rattle.lsm_runs.specs.Causes.{ReplyBlames}
+use Rattle.lsm_runs.specs.Compacting.{TakesRunCompaction, end_reply_of}
+use Rattle.lsm_runs.specs.Flushing.{TakesRun}
+use Rattle.lsm_runs.specs.ReadSteps.{IsReadRefusal, TakesGet, TakesPairs}
+use Rattle.lsm_runs.specs.declared.slots.Job.{Job}
+use Rattle.lsm_runs.specs.declared.steps.Reply.{Reply}
+use Rattle.lsm_runs.specs.declared.steps.Reply.TheVariants.{Begun as BegunReply, Done, NoJob, SlotInUse, Sealed, Value, Pairs, Refused}
+use Rattle.lsm_state.specs.Core.{Core}
+use Rattle.lsm_state.specs.Refusals.{batch_refusal, is_long_key, is_long_value, is_great}
+use Rattle.lsm_state.specs.Flushes.{sealed_ids}
+use Rattle.lsm_state.specs.declared.compaction.Finished.{Finished}
+use Rattle.lsm_logged.specs.Flushing.{BeginsLogged}
+use Rattle.lsm_logged.specs.Keeping.{SeenLogged, is_unsure}
+use Rattle.lsm_logged.specs.Writing.{WritesLogged}
+use Rattle.lsm_log_runs.specs.Causes.{EachHasCause}
+use Rattle.lsm_log_runs.specs.JobSteps.{TakesBegin, TakesAbandon, TakesAbandonCompaction}
+use Rattle.lsm_log_runs.specs.Runs.{TakesRotate, TakesMoment}
+
+-- ---- errors that don't blame it
+
+abbrev blames : Error → Bool
+blames Store = true
+blames CommitUnknown = true
+blames AfterCommit = true
+blames e = false
+
+abbrev Blameless : Error → Type 0
+Blameless e = BlamesStore e → ⊥
+
+-- an error of this name
+named : (x e : Error) → blames x ≡ false → e ≡ x → Blameless e
+named x e free same blamed = cc (sym (subst (λ y. blames y ≡ false) (sym same) free) ∙ known)
+  where
+    known : blames e ≡ true
+    known = ⊎_elim (λ h. ap blames h) (λ later. ⊎_elim (λ h. ap blames h) (λ h. ap blames h) later) blamed
+
+read_refusal : (s : ℕ) (c : Core) (x : Error) → IsReadRefusal s c x → Blameless x
+read_refusal s c x r = ⊎_elim (λ h. named SnapshotTooOld x refl h) (λ h. named OutOfMemory x refl h) r.0
+
+-- a reply that doesn't blame it, of a call that leaves the store
+module _ {S : Type 0} (world : S → World) (was is : S) (same : is ≡ was) where
+  quiet : (reply : Reply) → (ReplyBlames reply → ⊥) → HasCause (ReplyBlames reply) (world was) (world is)
+  quiet reply spares = no_fault (ReplyBlames reply) (world was) (world is) (ap (λ (s : S). (world s).failures) same) spares
+
+  refused_as : (x e : Error) → blames x ≡ false → e ≡ x → HasCause (ReplyBlames (Refused e)) (world was) (world is)
+  refused_as x e free this = quiet (Refused e) (named x e free this)
+
+-- ---- reads
+
+pub get_cause : {S : Type 0} (world : S → World) (was : S) (k : Bytes) (s : ℕ) (reply : Reply) (events : List Event) (c : Core) → TakesGet k s reply events c c → HasCause (ReplyBlames reply) (world was) (world was)
+get_cause world was k s (Value v) events c t = quiet world was was refl (Value v) (λ blamed. blamed)
+get_cause world was k s (Refused x) events c t = quiet world was was refl (Refused x) (read_refusal s c x t.2)
+get_cause world was k s reply events c t = absurd t
+
+pub pairs_cause : {S : Type 0} (world : S → World) (was : S) (question : Question) (Right : List Pair → Type 0) (s : ℕ) (reply : Reply) (events : List Event) (c : Core) → TakesPairs question Right s reply events c c → HasCause (ReplyBlames reply) (world was) (world was)
+pairs_cause world was question Right s (Pairs pairs) events c t = quiet world was was refl (Pairs pairs) (λ blamed. blamed)
+pairs_cause world was question Right s (Refused x) events c t = quiet world was was refl (Refused x) (read_refusal s c x t.2)
+pairs_cause world was question Right s reply events c t = absurd t
+
+-- ---- a batch
+
+batch_reason : (n : ℕ) (ops : List (Bytes × Op)) → IfSome (batch_refusal n ops) (λ y. blames y ≡ false)
+batch_reason n ops = go (is_great n) (list_any (λ p. is_long_key p.0) ops) (list_any (λ p. is_long_value (op_value p.1)) ops) (repeats (keys_of ops))
+  where
+    go : (a b c d : Bool) → IfSome (if a then Some OutOfNumbers else (if b then Some KeyTooLong else (if c then Some ValueTooLong else (if d then Some DuplicateKey else None)))) (λ y. blames y ≡ false)
+    go true b c d = refl
+    go false true c d = refl
+    go false false true d = refl
+    go false false false true = refl
+    go false false false false = tt
+
+abbrev Told : Error → Type 0
+Told y = (◌≡◌ {A = Result ℕ Error} (Err AfterCommit) (Err y)) ⊎ (◌≡◌ {A = Result ℕ Error} (Err AfterCommit) (Err OutOfMemory))
+
+after_isnt : (o : Option Error) → IfSome o (λ y. blames y ≡ false) → IfSome o Told → (o ≡ None → (AfterCommit ≡ OutOfMemory) ⊎ ((AfterCommit ≡ Store) ⊎ (AfterCommit ≡ CommitUnknown))) → ⊥
+after_isnt None free told memory = ⊎_elim (λ h. cc h) (λ later. ⊎_elim (λ h. cc h) (λ h. cc h) later) (memory refl)
+after_isnt (Some y) free told memory = ⊎_elim first (λ h. cc h) told
+  where
+    first : ◌≡◌ {A = Result ℕ Error} (Err AfterCommit) (Err y) → ⊥
+    first h =
+        let same : AfterCommit ≡ y = cc h in
+        let no : true ≡ false = ap blames same ∙ free in
+        cc no
+
+not_after : {S : Type 0} (ops : List (Bytes × Op)) (old new : SeenLogged S) → WritesLogged ops (Err AfterCommit) old new → ⊥
+not_after ops old new w = by_doubt (is_unsure old) refl
+  where
+    by_doubt : (d : Bool) → is_unsure old ≡ d → ⊥
+    by_doubt true is = cc ((w.unsure is).0)
+    by_doubt false is = after_isnt (batch_refusal old.core.seqno ops) (batch_reason old.core.seqno ops) (w.tree is).told (w.tree is).memory
+
+pub write_cause : {S : Type 0} (ops : List (Bytes × Op)) (r : Result ℕ Error) (old new : SeenLogged S) (w w' : World) → WritesLogged ops r old new → CountsFaults w w' r → HasCause (Blames r) w w'
+write_cause ops r old new w w' writes counts = causes_counted w w' r (λ e. not_after ops old new (subst (λ (x : Result ℕ Error). WritesLogged ops x old new) e writes)) counts
+
+-- ---- other calls that leave the store
+
+pub rotate_cause : {S : Type 0} (world : S → World) (reply : Reply) (old new : SeenLogged S) → TakesRotate reply old new → HasCause (ReplyBlames reply) (world old.store) (world new.store)
+rotate_cause world (Sealed id) old new t = quiet world old.store new.store t.1.store (Sealed id) (λ blamed. blamed)
+rotate_cause world (Refused x) old new t =
+    let same = ap (λ (s : SeenLogged _). s.store) t.0 in
+    ⊎_elim (λ h. refused_as world old.store new.store same OutOfNumbers x refl h) (λ h. refused_as world old.store new.store same OutOfMemory x refl h) t.1
+rotate_cause world reply old new t = absurd t
+
+pub refused_rotation_cause : {S : Type 0} (world : S → World) (old new : SeenLogged S) (x : Error) → new.store ≡ old.store → (x ≡ OutOfNumbers) ⊎ (x ≡ OutOfMemory) → HasCause (BlamesStore x) (world old.store) (world new.store)
+refused_rotation_cause world old new x same only = ⊎_elim (λ h. refused_as world old.store new.store same OutOfNumbers x refl h) (λ h. refused_as world old.store new.store same OutOfMemory x refl h) only
+
+pub moment_cause : {S : Type 0} (world : S → World) (n : ℕ) (reply : Reply) (old new : SeenLogged S) → TakesMoment n reply old new → HasCause (ReplyBlames reply) (world old.store) (world new.store)
+moment_cause world n Done old new t = quiet world old.store new.store t.1.store Done (λ blamed. blamed)
+moment_cause world n reply old new t = absurd t
+
+-- ---- calls on jobs
+
+begin_refusal : {S : Type 0} (old new : SeenLogged S) (x : Error) → BeginsLogged (Err x) old new → Blameless x
+begin_refusal old new x b = by_doubt old.doubted refl (sealed_ids old.core) refl
+  where
+    one : ((x ≡ OutOfMemory) ⊎ (x ≡ Unrecoverable)) ⊎ ((x ≡ FlushOpen) ⊎ (x ≡ OutOfNumbers)) → Blameless x
+    one only = ⊎_elim (λ a. ⊎_elim (λ h. named OutOfMemory x refl h) (λ h. named Unrecoverable x refl h) a) (λ a. ⊎_elim (λ h. named FlushOpen x refl h) (λ h. named OutOfNumbers x refl h) a) only
+
+    by_doubt : (d : Bool) → old.doubted ≡ d → (ids : List ℕ) → sealed_ids old.core ≡ ids → Blameless x
+    by_doubt false is ids at = one (b.begins (inl is)).only
+    by_doubt true is [] at = one (b.begins (inr at)).only
+    by_doubt true is (i ∷ ids) at = named Unrecoverable x refl (let e = (b.doubted is (λ e. let y : ◌≡◌ {A = List ℕ} (i ∷ ids) [] = sym at ∙ e in cc y)).0 in cc e)
+
+pub begin_cause : {S : Type 0} (world : S → World) (reply : Reply) (was is : Option Job) (old new : SeenLogged S) → TakesBegin reply was is old new → HasCause (ReplyBlames reply) (world old.store) (world new.store)
+begin_cause world (BegunReply b) was is old new t = quiet world old.store new.store t.1.3.store (BegunReply b) (λ blamed. blamed)
+begin_cause world (Refused x) was is old new t = quiet world old.store new.store t.2.store (Refused x) (begin_refusal old new x t.2)
+begin_cause world SlotInUse was is old new t = quiet world old.store new.store (ap (λ (s : SeenLogged _). s.store) t.0.1) SlotInUse (λ blamed. blamed)
+begin_cause world reply was is old new t = absurd t
+
+pub run_cause : {S : Type 0} (world : S → World) (was : S) (n : ℕ) (reply : Reply) (events : List Event) (before after : Option Job) (old new : Core) → TakesRun n reply events before after old new → HasCause (ReplyBlames reply) (world was) (world was)
+run_cause world was n Done events before after old new t = quiet world was was refl Done (λ blamed. blamed)
+run_cause world was n (Refused x) events before after old new t = refused_as world was was refl OutOfMemory x refl t.1
+run_cause world was n NoJob events before after old new t = quiet world was was refl NoJob (λ blamed. blamed)
+run_cause world was n reply events before after old new t = absurd t
+
+pub abandon_cause : {S : Type 0} (world : S → World) (reply : Reply) (was is : Option Job) (old new : SeenLogged S) → TakesAbandon reply was is old new → HasCause (ReplyBlames reply) (world old.store) (world new.store)
+abandon_cause world Done was is old new t = quiet world old.store new.store t.4.store Done (λ blamed. blamed)
+abandon_cause world NoJob was is old new t = quiet world old.store new.store (ap (λ (s : SeenLogged _). s.store) t.0.1) NoJob (λ blamed. blamed)
+abandon_cause world reply was is old new t = absurd t
+
+pub run_compaction_cause : {S : Type 0} (world : S → World) (was : S) (reply : Reply) (events : List Event) (before after : Option Job) (old new : Core) → TakesRunCompaction reply events before after old new → HasCause (ReplyBlames reply) (world was) (world was)
+run_compaction_cause world was Done events before after old new t = quiet world was was refl Done (λ blamed. blamed)
+run_compaction_cause world was (Refused x) events before after old new t = refused_as world was was refl OutOfMemory x refl t.1
+run_compaction_cause world was NoJob events before after old new t = quiet world was was refl NoJob (λ blamed. blamed)
+run_compaction_cause world was reply events before after old new t = absurd t
+
+pub given_cause : {S : Type 0} (world : S → World) (reply : Reply) (was is : Option Job) (old new : SeenLogged S) → TakesAbandonCompaction reply was is old new → HasCause (ReplyBlames reply) (world old.store) (world new.store)
+given_cause world Done was is old new t = quiet world old.store new.store t.4.store Done (λ blamed. blamed)
+given_cause world NoJob was is old new t = quiet world old.store new.store (ap (λ (s : SeenLogged _). s.store) t.0.1) NoJob (λ blamed. blamed)
+given_cause world reply was is old new t = absurd t
+
+-- the end of a merge
+pub finished_cause : (r : Result Finished Error) (reply : Reply) (w w' : World) → reply ≡ end_reply_of r → HasCause (Blames r) w w' → HasCause (ReplyBlames reply) w w'
+finished_cause (Ok f) reply w w' is c = rw is c
+finished_cause (Err e) reply w w' is c = rw is c
+
+-- ---- runs
+
+-- what is the same of a store here is how many of its calls failed
+from_same : (Blamed : Type 0) (old mid new : World) → mid.failures ≡ old.failures → HasCause Blamed mid new → HasCause Blamed old new
+from_same Blamed old mid new same c =
+    let up = c.rises in
+    record { rises = omega (arith, up, same); cause = λ blamed. let failed = c.cause blamed in omega (arith, failed, same) }
+
+module _ {F : Type 0} (world : F → World) where
+  -- one more step
+  pub causes_more : (rs : List Reply) (r : Reply) (was mid is : F) → EachHasCause world rs was mid → HasCause (ReplyBlames r) (world mid) (world is) → EachHasCause world (rs ++ r ∷ []) was is
+  causes_more [] r was mid is same c = (is, from_same (ReplyBlames r) (world was) (world mid) (world is) same c, refl)
+  causes_more (x ∷ rs) r was mid is each c = (each.0, each.1, causes_more rs r each.0 mid is each.2 c)
+
+  -- before them no call failed
+  pub causes_behind : (rs : List Reply) (was first is : F) → (world first).failures ≡ (world was).failures → EachHasCause world rs first is → EachHasCause world rs was is
+  causes_behind [] was first is before same = same ∙ before
+  causes_behind (r ∷ rs) was first is before each = (each.0, from_same (ReplyBlames r) (world was) (world first) (world each.0) before each.1, each.2)
