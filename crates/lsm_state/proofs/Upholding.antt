@@ -9,7 +9,7 @@ use Rattle.lsm_tables.specs.Tables.{SeenTable}
 use Rattle.lsm_versions.specs.Levels.{SeenVersion, all_of}
 use Rattle.lsm_commit.specs.Stored.{IsStored, AreOnDisk, HoldsOneOf, Leaves, AreAmong}
 use Rattle.lsm_commit.specs.Commits.{Stores, CommitsStored}
-use Rattle.lsm_state.specs.Core.{Core, versions_left, written_of}
+use Rattle.lsm_state.specs.Core.{Core, Seen, versions_left, written_of}
 use Rattle.lsm_commit.specs.Foreign.{AtRest}
 use Rattle.lsm_state.specs.Commits.{UpholdsFiles, Upholds}
 
@@ -50,6 +50,10 @@ upheld_still w old new vs ts stays = record {
   files = λ stored. upheld w w old new (versions_left old) (written_of old) (versions_left old) vs ts stored (stays.leaves (versions_left old) (written_of old) stored) (among_left (versions_left old) (versions_left old));
   passes = stays.passes;
 }
+
+-- the same of a tree, whose store was read
+pub upheld_at : {S : Type 0} (world : S → World) (now : Seen S) (store : S) → store ≡ now.store → AtRest (world store) → Upholds (world now.store) (world now.store) now.core now.core
+upheld_at world now store read rest = upheld_still (world now.store) now.core now.core refl refl (subst (λ s. AtRest (world s)) read rest)
 
 -- a commit
 module _ (w w' : World) (old new : Core) (v : SeenVersion) (certain : old.lost ≡ None) (later : old.history.latest.version.id < v.id) (disk : AreOnDisk w (all_of v.levels)) (same : new.flush ≡ old.flush) where

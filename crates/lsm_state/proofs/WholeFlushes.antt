@@ -17,7 +17,7 @@ use Rattle.lsm_parts.specs.Held.{entries_of}
 use Rattle.lsm_state.specs.Calls.{Rotates}
 use Rattle.lsm_state.specs.Kept.{KeepsTables}
 use Rattle.lsm_state.specs.Cleaning.{AreDrawnBelow, RemovesDrawn}
-use Rattle.lsm_state.specs.Core.{Core, versions_left, written_by, written_of}
+use Rattle.lsm_state.specs.Core.{Core, Seen, versions_left, written_by, written_of}
 use Rattle.lsm_commit.specs.Foreign.{AtRest, passes_then}
 use Rattle.lsm_state.specs.Commits.{UpholdsFiles, Upholds, counted}
 use Rattle.lsm_state.specs.Flushes.{sealed_ids, job_in, begun, Begins, wrote, spent, spent_in, IsCurrent, Registers, Installs, Doubts, IsFlushDeed, IsLostFlush}
@@ -53,6 +53,10 @@ upholds_behind w v u old mid new same first second = record { files = files_behi
 -- nothing is done to the files, and the tree has the same of them
 pub upholds_same : (w v : World) (old new : Core) → v ≡ w → versions_left new ≡ versions_left old → written_of new ≡ written_of old → AtRest w → Upholds w v old new
 upholds_same w v old new same versions written stays = subst (λ u. Upholds w u old new) (sym same) (upheld_still w old new versions written stays)
+
+-- the same of a tree that is as it was
+pub upholds_as_it_was : {S : Type 0} (world : S → World) (old new : Seen S) → new.store ≡ old.store → new.core ≡ old.core → AtRest (world old.store) → Upholds (world old.store) (world new.store) old.core new.core
+upholds_as_it_was world old new store core rest = upholds_same (world old.store) (world new.store) old.core new.core (ap world store) (ap versions_left core) (ap written_of core) rest
 
 pub rotated_lost : (old : Core) (id : Option ℕ) (mid : Core) → Rotates old id mid → mid.lost ≡ old.lost
 rotated_lost old None mid rotates = ap (λ (c : Core). c.lost) rotates.1
@@ -97,6 +101,10 @@ module _ (old mid : Core) (job : SeenJob) (begins : Begins (Ok (Some job)) old m
 
   pub begun_written : written_of mid ≡ written_of old
   begun_written = ap written_of begun_is.1 ∙ ap written_by (sym closed)
+
+  -- a call behind it
+  pub upholds_begun : (a b d : World) (made : Core) → b ≡ a → AtRest a → Upholds b d mid made → Upholds a d old made
+  upholds_begun a b d made same rest then = upholds_behind a b d old mid made begun_versions (upholds_same a b old mid same begun_versions begun_written rest) then
 
 -- what a refused flush leaves has no tables but those of before
 pub left_below : (first : ℕ) (old new : Core) → LeavesRest old new → AreDrawnBelow first old → AreDrawnBelow first new
@@ -164,6 +172,10 @@ module _ (w : ℕ) (old mid made : Core) (job : SeenJob) (x : SeenWritten) (begi
 
   pub made_versions : versions_left made ≡ versions_left old
   made_versions = ap versions_left made_is
+
+  -- it is begun, its tables are written, and they are registered
+  pub upholds_whole : (a b d e : World) (new : Core) → b ≡ a → AtRest a → Upholds b d mid made → Upholds d e made new → Upholds a e old new
+  upholds_whole a b d e new same rest write register = upholds_behind a d e old made new made_versions (upholds_begun old mid job begins a b d made same rest write) register
 
   rises : old.next_table ≤ next
   rises = subst (λ (c : Core). c.next_table ≤ next) is_mid writes.rises

@@ -194,8 +194,16 @@ impl<S: Store> TreeState<S> {
         ensures store { self.new.store ≡ self.old.store }
         ensures deeds { IsNoDeed self.old.core self.new.core }
     {
+        self.close_flush(job.number());
+    }
+
+    /// The flush of the job with this number is no longer open.
+    pub(crate) fn close_flush(&mut self, number: u64)
+        ensures core { self.new.core ≡ spent number self.old.core }
+        ensures store { self.new.store ≡ self.old.store }
+    {
         let open = self.flush.take();
-        self.flush = without_job(open, job.number());
+        self.flush = without_job(open, number);
     }
 }
 

@@ -16,7 +16,6 @@ ghost use Rattle.lsm_state.specs.Commits.{UpholdsFiles, Upholds};
 ghost use Rattle.lsm_state.specs.Deeds.{IsMarkDeed};
 ghost use Rattle.lsm_state.specs.Flushes.{IsCurrent, IsFlushedOf, MayInstall, InstallsSpent, Registers, IsFlushDeed, IsLostFlush, spent};
 
-use crate::flush::without_job;
 use crate::{TreeState, flushes_are_deeds};
 use lsm_below::{MemtableId, SeqNo, TableId};
 use lsm_commit::crashes_leave_versions;
@@ -184,8 +183,7 @@ impl<S: Store> TreeState<S> {
         self.facts();
         job.facts();
         crashes_leave_versions(&self.store);
-        let open = self.flush.take();
-        self.flush = without_job(open, job.job().number());
+        self.close_flush(job.job().number());
         if self.lost.is_some() {
             return Err(Error::Unrecoverable);
         }

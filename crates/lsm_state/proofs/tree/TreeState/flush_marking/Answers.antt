@@ -2,44 +2,29 @@ use Rattle.std.proofs.Common.{◌≡◌, ◌<◌, ◌^◌, Err, IsSome, [], inl,
 use Rattle.lsm_below.specs.declared.error.Error.TheVariants.{CommitUnknown}
 use Rattle.lsm_commit.specs.Causes.{HasCause, BlamesStore, causes_then}
 use Rattle.lsm_state.specs.Kept.{KeepsTables}
-use Rattle.lsm_state.specs.Commits.{Upholds}
 use Rattle.lsm_state.specs.Cleaning.{RemovesDrawn, LeavesNoFiles}
 use Rattle.lsm_state.specs.WholeFlushes.{Flushes}
 use Rattle.lsm_state.proofs.Installing.{upholds_join}
 use Rattle.lsm_state.proofs.Causing.{removes_then}
 use Rattle.std.proofs.Common.{ap, subst, Ok}
 use Rattle.std.proofs.lemmas.Result.{err_from_is_err_and}
-use Rattle.lsm_state.specs.Core.{versions_left, written_of}
+use Rattle.lsm_state.specs.Core.{versions_left}
 use Rattle.lsm_state.specs.Flushes.{Begins}
-use Rattle.lsm_state.proofs.WholeFlushes.{upholds_same, upholds_behind, begun_versions, begun_written, begun_core, made_history, made_versions, flushed, refused, certain, left_below, drawn_below}
+use Rattle.lsm_state.proofs.WholeFlushes.{upholds_as_it_was, upholds_begun, upholds_whole, begun_core, made_history, flushed, refused, certain, left_below, drawn_below}
 use Rattle.lsm_state.proofs.tree.TreeState.flush_marking.Goals as goal
 
 pub returns-in_err-job-clause-upholds : goal.returns-in_err-job-clause-upholds
 returns-in_err-job-clause-upholds g c tells =
-    let w = g.S.Store.world in
-    let old = c.args.self.now in
-    let mid = c.begin_flush.new.self in
-    let same = c.in_err-job.ensures.begins.err in
-    upholds_same (w old.store) (w mid.store) old.core mid.core (ap w c.begin_flush.ensures.store) (ap versions_left same) (ap written_of same) (c.stays_stored.ensures tells)
+    upholds_as_it_was g.S.Store.world c.args.self.now c.begin_flush.new.self c.begin_flush.ensures.store c.in_err-job.ensures.begins.err (c.stays_stored.ensures tells)
 
 pub returns-in_default-clause-upholds : goal.returns-in_default-clause-upholds
 returns-in_default-clause-upholds g c tells =
-    let w = g.S.Store.world in
-    let old = c.args.self.now in
-    let mid = c.begin_flush.new.self in
-    let same = (c.in_ok-job.ensures.begins.some c.in_default.is).1 in
-    upholds_same (w old.store) (w mid.store) old.core mid.core (ap w c.begin_flush.ensures.store) (ap versions_left same) (ap written_of same) (c.stays_stored.ensures tells)
+    upholds_as_it_was g.S.Store.world c.args.self.now c.begin_flush.new.self c.begin_flush.ensures.store (c.in_ok-job.ensures.begins.some c.in_default.is).1 (c.stays_stored.ensures tells)
 
 pub returns-in_err-written-clause-upholds : goal.returns-in_err-written-clause-upholds
 returns-in_err-written-clause-upholds g c tells =
-    let w = g.S.Store.world in
-    let old = c.args.self.now in
-    let mid = c.begin_flush.new.self in
-    let made = c.write_job.new.self in
-    let begins = subst (λ o. Begins (Ok o) old.core mid.core) c.in-Some.is c.in_ok-job.ensures.begins in
-    let versions = begun_versions old.core mid.core c.in-Some.job begins in
-    let first = upholds_same (w old.store) (w mid.store) old.core mid.core (ap w c.begin_flush.ensures.store) versions (begun_written old.core mid.core c.in-Some.job begins) (c.stays_stored.ensures tells) in
-    upholds_behind (w old.store) (w mid.store) (w made.store) old.core mid.core made.core versions first (c.write_job.ensures.upholds tells)
+    let begins = subst (λ o. Begins (Ok o) c.args.self.now.core c.begin_flush.new.self.core) c.in-Some.is c.in_ok-job.ensures.begins in
+    upholds_begun c.args.self.now.core c.begin_flush.new.self.core c.in-Some.job begins (g.S.Store.world c.args.self.now.store) (g.S.Store.world c.begin_flush.new.self.store) (g.S.Store.world c.write_job.new.self.store) c.write_job.new.self.core (ap g.S.Store.world c.begin_flush.ensures.store) (c.stays_stored.ensures tells) (c.write_job.ensures.upholds tells)
 
 pub returns-in_err-written-clause-refused : goal.returns-in_err-written-clause-refused
 returns-in_err-written-clause-refused g c tells small =
@@ -55,125 +40,64 @@ returns-in_err-written-clause-refused g c tells small =
 
 pub remove_drawn-requires : goal.remove_drawn-requires
 remove_drawn-requires g c =
-    let w = g.S.Store.world in
-    let old = c.args.self.now in
-    let mid = c.begin_flush.new.self in
-    let made = c.write_job.new.self in
-    let reg = c.register.new.self in
-    let begins = subst (λ o. Begins (Ok o) old.core mid.core) c.in-Some.is c.in_ok-job.ensures.begins in
-    let x = c.in_ok-written.written in
+    let begins = subst (λ o. Begins (Ok o) c.args.self.now.core c.begin_flush.new.self.core) c.in-Some.is c.in_ok-job.ensures.begins in
     let isnt : c.in-Err.error ≡ CommitUnknown → ⊥ = search rules in
-    let left = refused c.args.watermark old.core mid.core made.core c.in-Some.job x begins c.in_ok-written.ensures.writes reg.core c.in-Err.error c.in-Err.ensures.registers c.in-Err.ensures.lost in
-    let first : c.get-first.result ≡ old.core.next_table = c.get-first.ensures ∙ ap (λ t. t.core.next_table) c.self.view_is in
+    let left = refused c.args.watermark c.args.self.now.core c.begin_flush.new.self.core c.write_job.new.self.core c.in-Some.job c.in_ok-written.written begins c.in_ok-written.ensures.writes c.register.new.self.core c.in-Err.error c.in-Err.ensures.registers c.in-Err.ensures.lost in
+    let first : c.get-first.result ≡ c.args.self.now.core.next_table = c.get-first.ensures ∙ ap (λ t. t.core.next_table) c.self.view_is in
     let kept = subst (λ t. KeepsTables t.core.flush t.core.history t.core.next_table) c.self.view_is c.self.invariant.1 in
     record {
-      certain = left.known isnt ∙ certain old.core mid.core c.in-Some.job begins;
-      fresh = λ small. left_below c.get-first.result old.core reg.core left.err (drawn_below c.get-first.result old.core kept first small);
+      certain = left.known isnt ∙ certain c.args.self.now.core c.begin_flush.new.self.core c.in-Some.job begins;
+      fresh = λ small. left_below c.get-first.result c.args.self.now.core c.register.new.self.core left.err (drawn_below c.get-first.result c.args.self.now.core kept first small);
     }
 
 pub returns-in-Ok-clause-flushes : goal.returns-in-Ok-clause-flushes
 returns-in-Ok-clause-flushes g c =
-    let w = g.S.Store.world in
-    let old = c.args.self.now in
-    let mid = c.begin_flush.new.self in
-    let made = c.write_job.new.self in
-    let reg = c.register.new.self in
-    let begins = subst (λ o. Begins (Ok o) old.core mid.core) c.in-Some.is c.in_ok-job.ensures.begins in
-    let x = c.in_ok-written.written in
-    flushed c.args.watermark old.core mid.core made.core c.in-Some.job x begins c.in_ok-written.ensures.writes reg.core c.in-Ok.registered c.in-Ok.ensures.registers c.sealed_size-size.result c.sealed_size-size.ensures c.in-Ok.ensures.deeds
+    let begins = subst (λ o. Begins (Ok o) c.args.self.now.core c.begin_flush.new.self.core) c.in-Some.is c.in_ok-job.ensures.begins in
+    flushed c.args.watermark c.args.self.now.core c.begin_flush.new.self.core c.write_job.new.self.core c.in-Some.job c.in_ok-written.written begins c.in_ok-written.ensures.writes c.register.new.self.core c.in-Ok.registered c.in-Ok.ensures.registers c.sealed_size-size.result c.sealed_size-size.ensures c.in-Ok.ensures.deeds
 
 pub returns-in-Ok-clause-upholds : goal.returns-in-Ok-clause-upholds
 returns-in-Ok-clause-upholds g c tells =
-    let w = g.S.Store.world in
-    let old = c.args.self.now in
-    let mid = c.begin_flush.new.self in
-    let made = c.write_job.new.self in
-    let reg = c.register.new.self in
-    let begins = subst (λ o. Begins (Ok o) old.core mid.core) c.in-Some.is c.in_ok-job.ensures.begins in
-    let x = c.in_ok-written.written in
-    let versions = begun_versions old.core mid.core c.in-Some.job begins in
-    let first = upholds_same (w old.store) (w mid.store) old.core mid.core (ap w c.begin_flush.ensures.store) versions (begun_written old.core mid.core c.in-Some.job begins) (c.stays_stored.ensures tells) in
-    let second = upholds_behind (w old.store) (w mid.store) (w made.store) old.core mid.core made.core versions first (c.write_job.ensures.upholds tells) in
-    upholds_behind (w old.store) (w made.store) (w reg.store) old.core made.core reg.core (made_versions c.args.watermark old.core mid.core made.core c.in-Some.job x begins c.in_ok-written.ensures.writes) second (c.register.ensures.upholds tells)
+    let begins = subst (λ o. Begins (Ok o) c.args.self.now.core c.begin_flush.new.self.core) c.in-Some.is c.in_ok-job.ensures.begins in
+    upholds_whole c.args.watermark c.args.self.now.core c.begin_flush.new.self.core c.write_job.new.self.core c.in-Some.job c.in_ok-written.written begins c.in_ok-written.ensures.writes (g.S.Store.world c.args.self.now.store) (g.S.Store.world c.begin_flush.new.self.store) (g.S.Store.world c.write_job.new.self.store) (g.S.Store.world c.register.new.self.store) c.register.new.self.core (ap g.S.Store.world c.begin_flush.ensures.store) (c.stays_stored.ensures tells) (c.write_job.ensures.upholds tells) (c.register.ensures.upholds tells)
 
 pub returns-in-Ok-clause-gone : goal.returns-in-Ok-clause-gone
 returns-in-Ok-clause-gone g c tells whole =
-    let w = g.S.Store.world in
-    let old = c.args.self.now in
-    let mid = c.begin_flush.new.self in
-    let made = c.write_job.new.self in
-    let reg = c.register.new.self in
-    let begins = subst (λ o. Begins (Ok o) old.core mid.core) c.in-Some.is c.in_ok-job.ensures.begins in
-    let x = c.in_ok-written.written in
-    let done = flushed c.args.watermark old.core mid.core made.core c.in-Some.job x begins c.in_ok-written.ensures.writes reg.core c.in-Ok.registered c.in-Ok.ensures.registers c.sealed_size-size.result c.sealed_size-size.ensures c.in-Ok.ensures.deeds in
-    let same = made_history c.args.watermark old.core mid.core made.core c.in-Some.job x begins c.in_ok-written.ensures.writes in
-    subst (λ h. LeavesNoFiles (w reg.store) [] h reg.core.history) same (c.in-Ok.ensures.gone tells done.installs.installed whole)
+    let begins = subst (λ o. Begins (Ok o) c.args.self.now.core c.begin_flush.new.self.core) c.in-Some.is c.in_ok-job.ensures.begins in
+    let done = flushed c.args.watermark c.args.self.now.core c.begin_flush.new.self.core c.write_job.new.self.core c.in-Some.job c.in_ok-written.written begins c.in_ok-written.ensures.writes c.register.new.self.core c.in-Ok.registered c.in-Ok.ensures.registers c.sealed_size-size.result c.sealed_size-size.ensures c.in-Ok.ensures.deeds in
+    subst (λ h. LeavesNoFiles (g.S.Store.world c.register.new.self.store) [] h c.register.new.self.core.history) (made_history c.args.watermark c.args.self.now.core c.begin_flush.new.self.core c.write_job.new.self.core c.in-Some.job c.in_ok-written.written begins c.in_ok-written.ensures.writes) (c.in-Ok.ensures.gone tells done.installs.installed whole)
 
 pub returns-in-Err-CommitUnknown-clause-flushes : goal.returns-in-Err-CommitUnknown-clause-flushes
 returns-in-Err-CommitUnknown-clause-flushes g c =
-    let w = g.S.Store.world in
-    let old = c.args.self.now in
-    let mid = c.begin_flush.new.self in
-    let made = c.write_job.new.self in
-    let reg = c.register.new.self in
-    let begins = subst (λ o. Begins (Ok o) old.core mid.core) c.in-Some.is c.in_ok-job.ensures.begins in
-    let x = c.in_ok-written.written in
-    subst (λ e. Flushes c.args.watermark (Err e) old.core reg.core) c.in-Err-CommitUnknown.field-0-is
-    (refused c.args.watermark old.core mid.core made.core c.in-Some.job x begins c.in_ok-written.ensures.writes reg.core c.in-Err-CommitUnknown.field-0 c.in-Err-CommitUnknown.ensures.registers c.in-Err-CommitUnknown.ensures.lost)
+    let begins = subst (λ o. Begins (Ok o) c.args.self.now.core c.begin_flush.new.self.core) c.in-Some.is c.in_ok-job.ensures.begins in
+    subst (λ e. Flushes c.args.watermark (Err e) c.args.self.now.core c.register.new.self.core) c.in-Err-CommitUnknown.field-0-is
+    (refused c.args.watermark c.args.self.now.core c.begin_flush.new.self.core c.write_job.new.self.core c.in-Some.job c.in_ok-written.written begins c.in_ok-written.ensures.writes c.register.new.self.core c.in-Err-CommitUnknown.field-0 c.in-Err-CommitUnknown.ensures.registers c.in-Err-CommitUnknown.ensures.lost)
 
 pub returns-in-Err-CommitUnknown-clause-upholds : goal.returns-in-Err-CommitUnknown-clause-upholds
 returns-in-Err-CommitUnknown-clause-upholds g c tells =
-    let w = g.S.Store.world in
-    let old = c.args.self.now in
-    let mid = c.begin_flush.new.self in
-    let made = c.write_job.new.self in
-    let reg = c.register.new.self in
-    let begins = subst (λ o. Begins (Ok o) old.core mid.core) c.in-Some.is c.in_ok-job.ensures.begins in
-    let x = c.in_ok-written.written in
-    let versions = begun_versions old.core mid.core c.in-Some.job begins in
-    let first = upholds_same (w old.store) (w mid.store) old.core mid.core (ap w c.begin_flush.ensures.store) versions (begun_written old.core mid.core c.in-Some.job begins) (c.stays_stored.ensures tells) in
-    let second = upholds_behind (w old.store) (w mid.store) (w made.store) old.core mid.core made.core versions first (c.write_job.ensures.upholds tells) in
-    upholds_behind (w old.store) (w made.store) (w reg.store) old.core made.core reg.core (made_versions c.args.watermark old.core mid.core made.core c.in-Some.job x begins c.in_ok-written.ensures.writes) second (c.register.ensures.upholds tells)
+    let begins = subst (λ o. Begins (Ok o) c.args.self.now.core c.begin_flush.new.self.core) c.in-Some.is c.in_ok-job.ensures.begins in
+    upholds_whole c.args.watermark c.args.self.now.core c.begin_flush.new.self.core c.write_job.new.self.core c.in-Some.job c.in_ok-written.written begins c.in_ok-written.ensures.writes (g.S.Store.world c.args.self.now.store) (g.S.Store.world c.begin_flush.new.self.store) (g.S.Store.world c.write_job.new.self.store) (g.S.Store.world c.register.new.self.store) c.register.new.self.core (ap g.S.Store.world c.begin_flush.ensures.store) (c.stays_stored.ensures tells) (c.write_job.ensures.upholds tells) (c.register.ensures.upholds tells)
 
 pub returns-in-Err : goal.returns-in-Err
 returns-in-Err g c =
     let w = g.S.Store.world in
     let old = c.args.self.now in
-    let mid = c.begin_flush.new.self in
-    let made = c.write_job.new.self in
     let reg = c.register.new.self in
-    let begins = subst (λ o. Begins (Ok o) old.core mid.core) c.in-Some.is c.in_ok-job.ensures.begins in
-    let x = c.in_ok-written.written in
     let new = c.remove_drawn.new.self in
+    let begins = subst (λ o. Begins (Ok o) c.args.self.now.core c.begin_flush.new.self.core) c.in-Some.is c.in_ok-job.ensures.begins in
     let behind = c.remove_drawn.ensures in
-    let left = refused c.args.watermark old.core mid.core made.core c.in-Some.job x begins c.in_ok-written.ensures.writes reg.core c.in-Err.error c.in-Err.ensures.registers c.in-Err.ensures.lost in
-    let first : c.get-first.result ≡ old.core.next_table = c.get-first.ensures ∙ ap (λ t. t.core.next_table) c.self.view_is in
+    let first : c.get-first.result ≡ c.args.self.now.core.next_table = c.get-first.ensures ∙ ap (λ t. t.core.next_table) c.self.view_is in
     let next : reg.core.next_table ≡ new.core.next_table = sym (ap (λ k. k.next_table) behind.core) in
-    let both = causes_then _ _ (BlamesStore c.in-Err.error) (w mid.store) (w made.store) (w reg.store) c.write_job.ensures.causes c.in-Err.ensures.causes (λ blamed. inr blamed) in
+    let both = causes_then _ _ (BlamesStore c.in-Err.error) (w c.begin_flush.new.self.store) (w c.write_job.new.self.store) (w reg.store) c.write_job.ensures.causes c.in-Err.ensures.causes (λ blamed. inr blamed) in
     let all = subst (λ z. HasCause (BlamesStore c.in-Err.error) (w z) (w reg.store)) c.begin_flush.ensures.store both in
     record {
-      flushes = subst (Flushes c.args.watermark (Err c.in-Err.error) old.core) (sym behind.core) left;
+      flushes = subst (Flushes c.args.watermark (Err c.in-Err.error) old.core) (sym behind.core) (refused c.args.watermark c.args.self.now.core c.begin_flush.new.self.core c.write_job.new.self.core c.in-Some.job c.in_ok-written.written begins c.in_ok-written.ensures.writes c.register.new.self.core c.in-Err.error c.in-Err.ensures.registers c.in-Err.ensures.lost);
       marks = search rules;
       unmarked = λ h. absurd (cc h);
-      upholds = λ tells. upholds_join (w old.store) (w reg.store) (w new.store) old.core reg.core new.core (ap versions_left behind.core) (registered_upholds tells) (behind.upholds tells);
+      upholds = λ tells. upholds_join (w old.store) (w reg.store) (w new.store) old.core reg.core new.core (ap versions_left behind.core) (upholds_whole c.args.watermark c.args.self.now.core c.begin_flush.new.self.core c.write_job.new.self.core c.in-Some.job c.in_ok-written.written begins c.in_ok-written.ensures.writes (g.S.Store.world c.args.self.now.store) (g.S.Store.world c.begin_flush.new.self.store) (g.S.Store.world c.write_job.new.self.store) (g.S.Store.world c.register.new.self.store) c.register.new.self.core (ap g.S.Store.world c.begin_flush.ensures.store) (c.stays_stored.ensures tells) (c.write_job.ensures.upholds tells) (c.register.ensures.upholds tells)) (behind.upholds tells);
       causes = causes_then _ ⊥ _ (w old.store) (w reg.store) (w new.store) all behind.causes (λ blamed. inl blamed);
       gone = λ tells. tt;
       refused = λ tells small isnt.
           let gone = subst (λ n. n < 2 ^ 63 → RemovesDrawn n reg.core.next_table (w reg.store) (w new.store)) first (behind.gone tells) small in
           removes_then old.core.next_table new.core.next_table (w old.store) (w reg.store) (w new.store) all.rises (subst (λ n. RemovesDrawn old.core.next_table n (w reg.store) (w new.store)) next gone);
-      no_call = λ some. let z = subst IsSome (certain old.core mid.core c.in-Some.job begins) some in absurd (cc z);
+      no_call = λ some. let z = subst IsSome (certain old.core c.begin_flush.new.self.core c.in-Some.job begins) some in absurd (cc z);
     }
-  where
-    registered_upholds : g.S.Store.tells → Upholds (g.S.Store.world c.args.self.now.store) (g.S.Store.world c.register.new.self.store) c.args.self.now.core c.register.new.self.core
-    registered_upholds tells =
-        let w = g.S.Store.world in
-        let old = c.args.self.now in
-        let mid = c.begin_flush.new.self in
-        let made = c.write_job.new.self in
-        let reg = c.register.new.self in
-        let begins = subst (λ o. Begins (Ok o) old.core mid.core) c.in-Some.is c.in_ok-job.ensures.begins in
-        let x = c.in_ok-written.written in
-        let versions = begun_versions old.core mid.core c.in-Some.job begins in
-        let first = upholds_same (w old.store) (w mid.store) old.core mid.core (ap w c.begin_flush.ensures.store) versions (begun_written old.core mid.core c.in-Some.job begins) (c.stays_stored.ensures tells) in
-        let second = upholds_behind (w old.store) (w mid.store) (w made.store) old.core mid.core made.core versions first (c.write_job.ensures.upholds tells) in
-        upholds_behind (w old.store) (w made.store) (w reg.store) old.core made.core reg.core (made_versions c.args.watermark old.core mid.core made.core c.in-Some.job x begins c.in_ok-written.ensures.writes) second (c.register.ensures.upholds tells)

@@ -3,22 +3,19 @@ use Rattle.lsm_state.specs.Core.{versions_left}
 use Rattle.lsm_state.specs.Cleaning.{RemovesDrawn}
 use Rattle.lsm_state.proofs.Installing.{upholds_join}
 use Rattle.lsm_state.proofs.Causing.{write_causes, removes_then}
-use Rattle.std.proofs.Common.{◌++◌, ap, sym, subst, ◌∙◌, refl}
+use Rattle.std.proofs.Common.{◌++◌, ap, sym, subst, ◌∙◌}
 use Rattle.lsm_versions.specs.Levels.{all_of, HasOwnIds}
 use Rattle.lsm_commit.specs.Stored.{AreOnDisk}
 use Rattle.lsm_commit.specs.Writing.{HoldEntries}
 use Rattle.lsm_state.specs.Core.{Core}
 use Rattle.lsm_state.specs.Commits.{Upholds}
-use Rattle.lsm_state.proofs.Upholding.{upheld_still}
+use Rattle.lsm_state.proofs.Upholding.{upheld_at}
 use Rattle.lsm_state.proofs.Writing.{tables_noted, noted_upholds}
 use Rattle.lsm_state.proofs.tree.TreeState.flush_to_tables.Goals as goal
 
 pub returns-then-is_some-clause-upholds : goal.returns-then-is_some-clause-upholds
 returns-then-is_some-clause-upholds g c tells =
-    let w = g.S.Store.world in
-    let i = c.self.inside in
-    let old : Core = record { config = i.config; memtables = i.memtables; history = i.history; next_memtable = i.next_memtable; next_table = i.next_table; next_job = i.next_job; moment = i.moment; seqno = i.seqno; visible_seqno = i.visible_seqno; flush = i.flush; lost = i.lost; merges = i.merges } in
-    subst (λ t. Upholds (w t.store) (w t.store) t.core t.core) c.self.view_is (upheld_still (w i.store) old old refl refl (c.crashes_leave_versions.ensures tells))
+    upheld_at g.S.Store.world c.args.self.now c.self.inside.store (ap (λ t. t.store) c.self.view_is) (c.crashes_leave_versions.ensures tells)
 
 pub invariant_of-self : goal.invariant_of-self
 invariant_of-self g c =

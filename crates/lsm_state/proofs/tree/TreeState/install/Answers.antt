@@ -9,26 +9,19 @@ use Rattle.std.specs.List.Sorted.{IsPermutation}
 use Rattle.lsm_versions.specs.Levels.{all_of}
 use Rattle.lsm_parts.specs.History.{versions_of}
 use Rattle.lsm_state.specs.Kept.{KeepsIds, KeepsTables}
-use Rattle.lsm_state.specs.Core.{Core, versions_left}
-use Rattle.lsm_state.specs.Commits.{UpholdsFiles}
+use Rattle.lsm_state.specs.Core.{versions_left}
 use Rattle.lsm_state.specs.Flushes.{IsFlushedOf, MayInstall}
-use Rattle.lsm_state.proofs.Upholding.{upheld_still}
+use Rattle.lsm_state.proofs.Upholding.{upheld_at}
 use Rattle.lsm_state.proofs.Installing.{ids_flushed, tables_flushed, flushed_on_disk, files_join}
 use Rattle.lsm_state.proofs.tree.TreeState.install.Goals as goal
 
 pub returns-then-number-ge-LIMIT-clause-upholds : goal.returns-then-number-ge-LIMIT-clause-upholds
 returns-then-number-ge-LIMIT-clause-upholds g c tells disk =
-    let w = g.S.Store.world in
-    let i = c.self.inside in
-    let old : Core = record { config = i.config; memtables = i.memtables; history = i.history; next_memtable = i.next_memtable; next_table = i.next_table; next_job = i.next_job; moment = i.moment; seqno = i.seqno; visible_seqno = i.visible_seqno; flush = i.flush; lost = i.lost; merges = i.merges } in
-    subst (λ t. UpholdsFiles (w t.store) (w t.store) t.core t.core) c.self.view_is (upheld_still (w i.store) old old refl refl (c.crashes_leave_versions.ensures tells)).files
+    (upheld_at g.S.Store.world c.args.self.now c.self.inside.store (ap (λ t. t.store) c.self.view_is) (c.crashes_leave_versions.ensures tells)).files
 
 pub returns-in_err-next-clause-upholds : goal.returns-in_err-next-clause-upholds
 returns-in_err-next-clause-upholds g c tells disk =
-    let w = g.S.Store.world in
-    let i = c.self.inside in
-    let old : Core = record { config = i.config; memtables = i.memtables; history = i.history; next_memtable = i.next_memtable; next_table = i.next_table; next_job = i.next_job; moment = i.moment; seqno = i.seqno; visible_seqno = i.visible_seqno; flush = i.flush; lost = i.lost; merges = i.merges } in
-    subst (λ t. UpholdsFiles (w t.store) (w t.store) t.core t.core) c.self.view_is (upheld_still (w i.store) old old refl refl (c.crashes_leave_versions.ensures tells)).files
+    (upheld_at g.S.Store.world c.args.self.now c.self.inside.store (ap (λ t. t.store) c.self.view_is) (c.crashes_leave_versions.ensures tells)).files
 
 pub commit-requires-clause-ids : goal.commit-requires-clause-ids
 commit-requires-clause-ids g c =

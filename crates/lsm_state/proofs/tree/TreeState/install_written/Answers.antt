@@ -27,13 +27,8 @@ returns-in-Err-version_merged-clause-installs g c =
 
 pub returns-in-Ok-settle-clause-upholds : goal.returns-in-Ok-settle-clause-upholds
 returns-in-Ok-settle-clause-upholds g c tells =
-    let w = g.S.Store.world in
-    let old = c.args.self.now in
-    let mid = c.write_merged.new.self in
-    let new = c.settle.new.self in
-    let disk = subst (AreOnDisk (w mid.store)) (sym c.deref.ensures.value) (c.in-Ok.ensures.on_disk tells) in
-    upholds_behind (w old.store) (w mid.store) (w new.store) old.core mid.core new.core (ap versions_left c.write_merged.ensures.core) (c.write_merged.ensures.upholds tells)
-    (record { files = λ stored. c.settle.ensures.upholds tells (c.in-Ok-version_merged.ensures.on_disk tells disk stored) stored; passes = c.settle.ensures.passes tells })
+    upholds_behind (g.S.Store.world c.args.self.now.store) (g.S.Store.world c.write_merged.new.self.store) (g.S.Store.world c.settle.new.self.store) c.args.self.now.core c.write_merged.new.self.core c.settle.new.self.core (ap versions_left c.write_merged.ensures.core) (c.write_merged.ensures.upholds tells)
+    (record { files = λ stored. c.settle.ensures.upholds tells (c.in-Ok-version_merged.ensures.on_disk tells (subst (AreOnDisk (g.S.Store.world c.write_merged.new.self.store)) (sym c.deref.ensures.value) (c.in-Ok.ensures.on_disk tells)) stored) stored; passes = c.settle.ensures.passes tells })
 
 pub returns-clause-installs : goal.returns-clause-installs
 returns-clause-installs g c =
@@ -48,10 +43,5 @@ returns-clause-installs g c =
 
 pub returns-clause-upholds : goal.returns-clause-upholds
 returns-clause-upholds g c tells =
-    let w = g.S.Store.world in
-    let old = c.args.self.now in
-    let mid = c.write_merged.new.self in
-    let new = c.settle.new.self in
-    let disk = subst (AreOnDisk (w mid.store)) (sym c.deref.ensures.value) (c.in-Ok.ensures.on_disk tells) in
-    upholds_behind (w old.store) (w mid.store) (w new.store) old.core mid.core new.core (ap versions_left c.write_merged.ensures.core) (c.write_merged.ensures.upholds tells)
-    (record { files = λ stored. c.settle.ensures.upholds tells (c.in-Ok-version_merged.ensures.on_disk tells disk stored) stored; passes = c.settle.ensures.passes tells })
+    upholds_behind (g.S.Store.world c.args.self.now.store) (g.S.Store.world c.write_merged.new.self.store) (g.S.Store.world c.settle.new.self.store) c.args.self.now.core c.write_merged.new.self.core c.settle.new.self.core (ap versions_left c.write_merged.ensures.core) (c.write_merged.ensures.upholds tells)
+    (record { files = λ stored. c.settle.ensures.upholds tells (c.in-Ok-version_merged.ensures.on_disk tells (subst (AreOnDisk (g.S.Store.world c.write_merged.new.self.store)) (sym c.deref.ensures.value) (c.in-Ok.ensures.on_disk tells)) stored) stored; passes = c.settle.ensures.passes tells })

@@ -9,21 +9,18 @@ use Rattle.lsm_commit.specs.Foreign.{Passes, passes_then}
 use Rattle.std.proofs.Common.{◌≡◌, ◌∷◌, true, ap, sym, subst, ◌∙◌, refl, option_to_list}
 use Rattle.lsm_versions.specs.Levels.{all_of}
 use Rattle.lsm_commit.specs.Commits.{AreOthers}
-use Rattle.lsm_state.specs.Core.{Core, versions_left, written_of}
-use Rattle.lsm_state.specs.Commits.{UpholdsFiles, committed}
+use Rattle.lsm_state.specs.Core.{versions_left, written_of}
+use Rattle.lsm_state.specs.Commits.{committed}
 use Rattle.lsm_state.specs.Cleaning.{Cleans}
 use Rattle.lsm_state.specs.Settling.{with_version}
-use Rattle.lsm_state.proofs.Upholding.{upheld_still}
+use Rattle.lsm_state.proofs.Upholding.{upheld_at}
 use Rattle.lsm_state.proofs.Installing.{files_join}
 use Rattle.lsm_state.proofs.Replacing.{settled}
 use Rattle.lsm_state.proofs.tree.TreeState.settle.Goals as goal
 
 pub returns-in_err-copy-clause-upholds : goal.returns-in_err-copy-clause-upholds
 returns-in_err-copy-clause-upholds g c tells disk =
-    let w = g.S.Store.world in
-    let i = c.self.inside in
-    let old : Core = record { config = i.config; memtables = i.memtables; history = i.history; next_memtable = i.next_memtable; next_table = i.next_table; next_job = i.next_job; moment = i.moment; seqno = i.seqno; visible_seqno = i.visible_seqno; flush = i.flush; lost = i.lost; merges = i.merges } in
-    subst (λ t. UpholdsFiles (w t.store) (w t.store) t.core t.core) c.self.view_is (upheld_still (w i.store) old old refl refl (c.crashes_leave_versions.ensures tells)).files
+    (upheld_at g.S.Store.world c.args.self.now c.self.inside.store (ap (λ t. t.store) c.self.view_is) (c.crashes_leave_versions.ensures tells)).files
 
 pub returns-then-not-clean_up-clause-upholds : goal.returns-then-not-clean_up-clause-upholds
 returns-then-not-clean_up-clause-upholds g c tells disk =

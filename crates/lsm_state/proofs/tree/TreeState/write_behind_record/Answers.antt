@@ -9,16 +9,13 @@ use Rattle.lsm_state.specs.Kept.{KeepsIds}
 use Rattle.lsm_state.specs.Refusals.{batch_refusal}
 use Rattle.lsm_state.specs.Recording.{WritesBehindRecord, RecordsBatch}
 use Rattle.lsm_state.proofs.Kept.{kept_put_all}
-use Rattle.lsm_state.proofs.Upholding.{upheld_still}
+use Rattle.lsm_state.proofs.Upholding.{upheld_at}
 use Rattle.lsm_state.proofs.BehindRecords.{Why, put_upholds, recorded, refused, counts_err, batch_refused}
 use Rattle.lsm_state.proofs.tree.TreeState.write_behind_record.Goals as goal
 
 pub returns-in_err-content-clause-upholds : goal.returns-in_err-content-clause-upholds
 returns-in_err-content-clause-upholds g c tells =
-    let w = g.S.Store.world in
-    let i = c.self.inside in
-    let old : Core = record { config = i.config; memtables = i.memtables; history = i.history; next_memtable = i.next_memtable; next_table = i.next_table; next_job = i.next_job; moment = i.moment; seqno = i.seqno; visible_seqno = i.visible_seqno; flush = i.flush; lost = i.lost; merges = i.merges } in
-    subst (λ t. UpholdsFiles (w t.store) (w t.store) t.core t.core) c.self.view_is (upheld_still (w i.store) old old refl refl (c.crashes_leave_versions.ensures tells)).files
+    (upheld_at g.S.Store.world c.args.self.now c.self.inside.store (ap (λ t. t.store) c.self.view_is) (c.crashes_leave_versions.ensures tells)).files
 
 pub invariant_of-self : goal.invariant_of-self
 invariant_of-self g c =
