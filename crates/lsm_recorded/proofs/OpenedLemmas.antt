@@ -1,5 +1,5 @@
 -- Marks of opened entries, noted from the last entry to the first.
-use Rattle.std.proofs.Common.{◌≡◌, ℕ, suc, ◌+◌, ◌<◌, ◌≤◌, max, min, Bool, true, false, cond, ◌&&◌, nat_lt, nat_le, List, [], ◌∷◌, ◌++◌, length, get_or, take, drop, flat_map, refl, sym, ap, ◌∙◌, subst, arith, append-nil, append_assoc}
+use Rattle.std.proofs.Common.{◌≡◌, ℕ, suc, ◌+◌, ◌-◌, ◌<◌, ◌≤◌, max, min, Bool, true, false, cond, ◌&&◌, nat_lt, nat_le, List, [], ◌∷◌, ◌++◌, length, get_or, take, drop, flat_map, refl, sym, ap, ◌∙◌, subst, arith, append-nil, append_assoc}
 use Rattle.std.specs.List.{AllByRecursion}
 use Rattle.std.specs.BTreeMap.{BTreeMap}
 use Rattle.std.proofs.lemmas.Bool.Decides.{nat_tests}
@@ -172,7 +172,7 @@ module _ {A : Type 0} (f : A → List Entry) (xs : List A) (at : ℕ) (x : A) (l
       ap (flat_map f) (drop-cons xs at x lt ∙ ap (λ n. get_or xs at x ∷ drop n xs) one ∙ ap (λ y. y ∷ drop (at + 1) xs) (sym is)) ∙ flat_map-cons f x (drop (at + 1) xs)
 
   -- an item that breaks the order breaks that of all
-  pub item_breaks : (old mid new : OpenedMarks) → MarksMore old true (flat_map f (drop (at + 1) xs)) mid → MarksMore mid false (f x) new → MarksMore old false (flat_map f xs) new
+  item_breaks : (old mid new : OpenedMarks) → MarksMore old true (flat_map f (drop (at + 1) xs)) mid → MarksMore mid false (f x) new → MarksMore old false (flat_map f xs) new
   item_breaks old mid new first second =
       let all : flat_map f xs ≡ flat_map f (take at xs) ++ flat_map f (drop at xs) = ap (flat_map f) (sym (take-append-drop at xs)) ∙ flat_map-append f (take at xs) (drop at xs) in
       subst (λ l. MarksMore old false l new) (sym all)
@@ -188,7 +188,18 @@ module _ (xs : List Entry) (at : ℕ) (x : Entry) (lt : at < length xs) (is : x 
   pub one_more : (old mid new : OpenedMarks) → MarksMore old true (drop (at + 1) xs) mid → MarksMore mid true (x ∷ []) new → MarksMore old true (drop at xs) new
   one_more old mid new first second = subst (λ l. MarksMore old true l new) (sym split_one) (more_on old mid new true (drop (at + 1) xs) (x ∷ []) first second)
 
-  pub one_breaks : (old mid new : OpenedMarks) → MarksMore old true (drop (at + 1) xs) mid → MarksMore mid false (x ∷ []) new → MarksMore old false xs new
+  one_breaks : (old mid new : OpenedMarks) → MarksMore old true (drop (at + 1) xs) mid → MarksMore mid false (x ∷ []) new → MarksMore old false xs new
   one_breaks old mid new first second =
       subst (λ l. MarksMore old false l new) (take-append-drop at xs)
       (breaks_behind old new (take at xs) (drop at xs) (subst (λ l. MarksMore old false l new) (sym split_one) (more_on old mid new false (drop (at + 1) xs) (x ∷ []) first second)))
+
+-- both as a loop comes down to the item
+pub item_breaks_at : {A : Type 0} (f : A → List Entry) (xs : List A) (n : ℕ) (x : A) → 0 < n → n ≤ length xs → x ≡ get_or xs (n - 1) x → (old mid new : OpenedMarks) → MarksMore old true (flat_map f (drop n xs)) mid → (told : Bool) → MarksMore mid told (f x) new → told ≡ false → MarksMore old false (flat_map f xs) new
+item_breaks_at f xs n x some le is old mid new first told second bad =
+    let back : n ≡ n - 1 + 1 = omega (arith, some) in
+    item_breaks f xs (n - 1) x (omega (arith, some, le)) is old mid new (subst (λ m. MarksMore old true (flat_map f (drop m xs)) mid) back first) (subst (λ b. MarksMore mid b (f x) new) bad second)
+
+pub one_breaks_at : (xs : List Entry) (n : ℕ) (x : Entry) → 0 < n → n ≤ length xs → x ≡ get_or xs (n - 1) x → (old mid new : OpenedMarks) → MarksMore old true (drop n xs) mid → (told : Bool) → MarksMore mid told (x ∷ []) new → told ≡ false → MarksMore old false xs new
+one_breaks_at xs n x some le is old mid new first told second bad =
+    let back : n ≡ n - 1 + 1 = omega (arith, some) in
+    one_breaks xs (n - 1) x (omega (arith, some, le)) is old mid new (subst (λ m. MarksMore old true (drop m xs) mid) back first) (subst (λ b. MarksMore mid b (x ∷ []) new) bad second)

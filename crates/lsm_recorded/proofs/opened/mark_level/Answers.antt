@@ -1,16 +1,10 @@
-use Rattle.std.proofs.Common.{◌≡◌, ◌+◌, ◌-◌, true, drop, flat_map, arith, subst}
+use Rattle.std.proofs.Common.{subst}
 use Rattle.lsm_recorded.specs.MarkedTables.{run_entries}
 use Rattle.lsm_recorded.specs.Marks.{MarksMore}
-use Rattle.lsm_recorded.proofs.OpenedLemmas.{item_breaks}
+use Rattle.lsm_recorded.proofs.OpenedLemmas.{item_breaks_at}
 use Rattle.lsm_recorded.proofs.opened.mark_level.Goals as goal
 
 pub returns-then-not-branch : goal.returns-then-not-branch
 returns-then-not-branch c =
-    let xs = c.args.runs.now in
-    let at = c.loop-at.at - 1 in
-    let x = c.index-runs-at.result in
-    let positive = c.loop-at-test.true in
-    let small = c.loop-at.invariant.0 in
-    let back : c.loop-at.at ≡ at + 1 = omega arith in
-    item_breaks run_entries xs at x (omega arith) c.index-runs-at.is c.args.opened.now c.loop-at.opened c.mark_run.new.opened (subst (λ n. MarksMore c.args.opened.now true (flat_map run_entries (drop n xs)) c.loop-at.opened) back c.loop-at.invariant.1)
-    (subst (λ b. MarksMore c.loop-at.opened b (run_entries x) c.mark_run.new.opened) c.if-not-branch.true (subst (λ es. MarksMore c.loop-at.opened c.in_ok-mark_run.field-0 (run_entries es) c.mark_run.new.opened) c.as_slice.ensures c.in_ok-mark_run.ensures))
+    item_breaks_at run_entries c.args.runs.now c.loop-at.at c.index-runs-at.result c.loop-at-test.true c.loop-at.invariant.0 c.index-runs-at.is c.args.opened.now c.loop-at.opened c.mark_run.new.opened c.loop-at.invariant.1 c.in_ok-mark_run.field-0
+    (subst (λ es. MarksMore c.loop-at.opened c.in_ok-mark_run.field-0 (run_entries es) c.mark_run.new.opened) c.as_slice.ensures c.in_ok-mark_run.ensures) c.if-not-branch.true

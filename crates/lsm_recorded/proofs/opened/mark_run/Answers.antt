@@ -1,16 +1,10 @@
-use Rattle.std.proofs.Common.{◌≡◌, ◌+◌, ◌-◌, true, drop, flat_map, arith, subst}
+use Rattle.std.proofs.Common.{subst}
 use Rattle.lsm_tables.specs.Tables.{SeenTable}
 use Rattle.lsm_recorded.specs.Marks.{MarksMore}
-use Rattle.lsm_recorded.proofs.OpenedLemmas.{item_breaks}
+use Rattle.lsm_recorded.proofs.OpenedLemmas.{item_breaks_at}
 use Rattle.lsm_recorded.proofs.opened.mark_run.Goals as goal
 
 pub returns-then-not-branch : goal.returns-then-not-branch
 returns-then-not-branch c =
-    let xs = c.args.tables.now in
-    let at = c.loop-at.at - 1 in
-    let x = c.index-tables-at.result in
-    let positive = c.loop-at-test.true in
-    let small = c.loop-at.invariant.0 in
-    let back : c.loop-at.at ≡ at + 1 = omega arith in
-    item_breaks (λ (t : SeenTable). t.entries) xs at x (omega arith) c.index-tables-at.is c.args.opened.now c.loop-at.opened c.mark_entries.new.opened (subst (λ n. MarksMore c.args.opened.now true (flat_map (λ (t : SeenTable). t.entries) (drop n xs)) c.loop-at.opened) back c.loop-at.invariant.1)
-    (subst (λ b. MarksMore c.loop-at.opened b ((λ (t : SeenTable). t.entries) x) c.mark_entries.new.opened) c.if-not-branch.true (subst (λ es. MarksMore c.loop-at.opened c.in_ok-mark_entries.field-0 es c.mark_entries.new.opened) c.entries.ensures c.in_ok-mark_entries.ensures))
+    item_breaks_at (λ (t : SeenTable). t.entries) c.args.tables.now c.loop-at.at c.index-tables-at.result c.loop-at-test.true c.loop-at.invariant.0 c.index-tables-at.is c.args.opened.now c.loop-at.opened c.mark_entries.new.opened c.loop-at.invariant.1 c.in_ok-mark_entries.field-0
+    (subst (λ es. MarksMore c.loop-at.opened c.in_ok-mark_entries.field-0 es c.mark_entries.new.opened) c.entries.ensures c.in_ok-mark_entries.ensures) c.if-not-branch.true
