@@ -120,7 +120,7 @@ floor-writes [] journal = ap floor (append-nil journal)
 floor-writes (e ∷ es) journal = ap floor (sym (append_assoc journal (Write e ∷ []) (map Write es))) ∙ floor-writes es (journal ++ Write e ∷ []) ∙ floor-write journal e
 
 -- a mark that is entered as it was changes none
-pub mark_entered : (old new : BTreeMap Bytes Mark) (k : Bytes) (m : Mark) → m ≡ mark_of old k → ((q : Bytes) → tree.get headed_cmp new q ≡ cond (eq_by_cmp headed_cmp k q) (Some m) (tree.get headed_cmp old q)) → (q : Bytes) → mark_of new q ≡ mark_of old q
+mark_entered : (old new : BTreeMap Bytes Mark) (k : Bytes) (m : Mark) → m ≡ mark_of old k → ((q : Bytes) → tree.get headed_cmp new q ≡ cond (eq_by_cmp headed_cmp k q) (Some m) (tree.get headed_cmp old q)) → (q : Bytes) → mark_of new q ≡ mark_of old q
 mark_entered old new k m is written q = marked_same old new k k m refl is q (mark_set old new k m q (written q))
 
 -- a mark that is entered as a write leaves it
@@ -131,6 +131,10 @@ mark_written old new k key m w n kind at is after written q =
 -- where nothing stands, what is entered is no mark
 pub mark_found : (marks : BTreeMap Bytes Mark) (k : Bytes) (m : Mark) (o : Option Mark) → m ≡ unwrap_or o no_mark → o ≡ tree.get headed_cmp marks k → m ≡ mark_of marks k
 mark_found marks k m o is found = is ∙ ap (λ x. unwrap_or x no_mark) found
+
+-- a mark that was found, or is none, is entered as it is
+pub mark_kept : (old new : BTreeMap Bytes Mark) (k : Bytes) (m : Mark) (o : Option Mark) → m ≡ unwrap_or o no_mark → o ≡ tree.get headed_cmp old k → ((q : Bytes) → tree.get headed_cmp new q ≡ cond (eq_by_cmp headed_cmp k q) (Some m) (tree.get headed_cmp old q)) → (q : Bytes) → mark_of new q ≡ mark_of old q
+mark_kept old new k m o is found written q = mark_entered old new k m (mark_found old k m o is found) written q
 
 -- ---- beside a journal, of a tree with these entries
 

@@ -2,7 +2,7 @@ use Rattle.std.proofs.Common.{◌≡◌, ap, ◌∙◌, arith}
 use Rattle.std.proofs.lemmas.Grind.{common_steps}
 use Rattle.std.specs.BTreeMap.Entry.{map_with_value}
 use Rattle.lsm_recorded.specs.Marks.{mark_of, marked, next_mark, op_type}
-use Rattle.lsm_recorded.proofs.MarksLemmas.{mark_entered, mark_found, mark_written}
+use Rattle.lsm_recorded.proofs.MarksLemmas.{mark_found, mark_kept, mark_written}
 use Rattle.lsm_recorded.proofs.raising.raise.Goals as goal
 
 pub returns-then-not-is_allowed-clause-unmarked : goal.returns-then-not-is_allowed-clause-unmarked
@@ -10,8 +10,8 @@ returns-then-not-is_allowed-clause-unmarked c refused q =
     let e = c.in_ok-marks.ensures in
     let m = c.or_insert-mark.result.now in
     let k = c.new-own.result in
-    let found = mark_found c.args.marks.now k m _ c.or_insert-mark.ensures.value e.value in
-    let same : mark_of (map_with_value c.in_ok-marks.field-0 m) q ≡ mark_of c.args.marks.now q = mark_entered c.args.marks.now (map_with_value c.in_ok-marks.field-0 m) k m found (e.update.0 m).0 q in
+    let same : mark_of (map_with_value c.in_ok-marks.field-0 m) q ≡ mark_of c.args.marks.now q =
+    mark_kept c.args.marks.now (map_with_value c.in_ok-marks.field-0 m) k m _ c.or_insert-mark.ensures.value e.value (e.update.0 m).0 q in
     grind (arith, common_steps, same)
 
 pub returns-clause-marks : goal.returns-clause-marks

@@ -6,11 +6,8 @@ use Rattle.lsm_recorded.proofs.recorded.Recorded.begin_compaction.Goals as goal
 
 pub returns-in-Ok-clause-gone : goal.returns-in-Ok-clause-gone
 returns-in-Ok-clause-gone g c tells done =
-    let strategy = c.args.strategy.now in
-    let asked = goal.CompactionStrategy-dyn g strategy in
-    let answer = c.in-Ok.chosen.answer in
+    let asked = goal.CompactionStrategy-dyn g c.args.strategy.now in
     let old = c.args.self.now in
     let did = c.begin_noted in
-    let new = did.new.self in
-    let is = subst (λ t. IsAnswerOf (asked.may_choose strategy.1) (asked.may_refuse strategy.1) t.tree.core answer) c.self.view_is c.in-Ok.ensures.answer in
-    leaves_chosen (asked.may_choose strategy.1) (asked.may_refuse strategy.1) (λ a events. BeginsAnswer a c.args.options did.result events old.tree.core new.tree.core) (g.S.Store.world new.tree.store) answer did.result old new c.args.pass.now did.new.pass (λ e es told. told.0) is did.ensures.begins (did.ensures.gone tells) done
+    let is = subst (λ t. IsAnswerOf (asked.may_choose c.args.strategy.now.1) (asked.may_refuse c.args.strategy.now.1) t.tree.core c.in-Ok.chosen.answer) c.self.view_is c.in-Ok.ensures.answer in
+    leaves_chosen (asked.may_choose c.args.strategy.now.1) (asked.may_refuse c.args.strategy.now.1) (λ a events. BeginsAnswer a c.args.options did.result events old.tree.core did.new.self.tree.core) (g.S.Store.world did.new.self.tree.store) c.in-Ok.chosen.answer did.result old did.new.self c.args.pass.now did.new.pass (λ e es told. told.0) is did.ensures.begins (did.ensures.gone tells) done

@@ -11,18 +11,13 @@ pub invariant_of-self-2 : goal.invariant_of-self-2
 invariant_of-self-2 g c =
     let i = c.self.inside in
     let begun = c.begin_chosen-begun in
-    let es = begun.result.1.items in
-    let told = c.put_entries.ensures.noted.behind ∙ ap (λ j. j ++ es) c.make_copies-made.ensures.journal in
-    (begin_recorded (placed_of i.opened.levels) i.least i.marks c.reads_are_sound.ensures i.floor c.put_entries.new.floor i.core.core begun.new.tree.core i.journal.items c.put_entries.new.journal.items c.noted_compactions_keep_reads.ensures c.args.chosen.answer c.args.options begun.result.0 es begun.ensures.begins told c.put_entries.ensures.floor c.self.invariant).0
+    (begin_recorded (placed_of i.opened.levels) i.least i.marks c.reads_are_sound.ensures i.floor c.put_entries.new.floor i.core.core begun.new.tree.core i.journal.items c.put_entries.new.journal.items c.noted_compactions_keep_reads.ensures c.args.chosen.answer c.args.options begun.result.0 begun.result.1.items begun.ensures.begins (c.put_entries.ensures.noted.behind ∙ ap (λ j. j ++ begun.result.1.items) c.make_copies-made.ensures.journal) c.put_entries.ensures.floor c.self.invariant).0
 
 pub returns-clause-views : goal.returns-clause-views
 returns-clause-views g c =
     let i = c.self.inside in
     let begun = c.begin_chosen-begun in
-    let es = begun.result.1.items in
-    let told = c.put_entries.ensures.noted.behind ∙ ap (λ j. j ++ es) c.make_copies-made.ensures.journal in
-    let all = (begin_recorded (placed_of i.opened.levels) i.least i.marks c.reads_are_sound.ensures i.floor c.put_entries.new.floor i.core.core begun.new.tree.core i.journal.items c.put_entries.new.journal.items c.noted_compactions_keep_reads.ensures c.args.chosen.answer c.args.options begun.result.0 es begun.ensures.begins told c.put_entries.ensures.floor c.self.invariant).1 in
-    subst (λ t. StaysBehind t.journal c.put_entries.new.journal.items t.tree.core begun.new.tree.core) c.self.view_is all
+    subst (λ t. StaysBehind t.journal c.put_entries.new.journal.items t.tree.core begun.new.tree.core) c.self.view_is ((begin_recorded (placed_of i.opened.levels) i.least i.marks c.reads_are_sound.ensures i.floor c.put_entries.new.floor i.core.core begun.new.tree.core i.journal.items c.put_entries.new.journal.items c.noted_compactions_keep_reads.ensures c.args.chosen.answer c.args.options begun.result.0 begun.result.1.items begun.ensures.begins (c.put_entries.ensures.noted.behind ∙ ap (λ j. j ++ begun.result.1.items) c.make_copies-made.ensures.journal) c.put_entries.ensures.floor c.self.invariant).1)
 
 pub returns-in_default-clause-gone : goal.returns-in_default-clause-gone
 returns-in_default-clause-gone g c tells = any_ok _ c.args.chosen.answer (λ choice done. absurd (cc done))
@@ -30,5 +25,4 @@ returns-in_default-clause-gone g c tells = any_ok _ c.args.chosen.answer (λ cho
 pub returns-clause-gone : goal.returns-clause-gone
 returns-clause-gone g c tells =
     let w = g.S.Store.world in
-    let begun = c.begin_chosen-begun in
-    subst (λ t. IfOk c.args.chosen.answer (λ choice. begun.result.0 ≡ Ok Installed → LeavesNoFiles (w begun.new.tree.store) (given_up choice) t.tree.core.history begun.new.tree.core.history)) c.self.view_is (begun.ensures.gone tells)
+    subst (λ t. IfOk c.args.chosen.answer (λ choice. c.begin_chosen-begun.result.0 ≡ Ok Installed → LeavesNoFiles (w c.begin_chosen-begun.new.tree.store) (given_up choice) t.tree.core.history c.begin_chosen-begun.new.tree.core.history)) c.self.view_is (c.begin_chosen-begun.ensures.gone tells)

@@ -19,11 +19,7 @@ returns-clause-step g c =
 pub returns-clause-replay : goal.returns-clause-replay
 returns-clause-replay g c =
     let i = c.self.inside in
-    let opened = placed_of i.opened.levels in
     let s = c.args.snapshot in
-    let question = Between c.args.bounds.now.0 c.args.bounds.now.1 in
-    let not_below = c.if-snapshot-self.false in
-    let is = c.self.invariant.least_is in
-    let up : above (held opened) ≤ s = omega arith in
-    subst (λ t. IfOk c.range.result (λ iter. ReadAgrees (shown_by t.opened) t.journal (Read s question (Pairs (map pair_of iter.left))))) c.self.view_is
-    (lists_agree opened i.least (λ iter. map pair_of iter.left) c.reads_are_sound.ensures i.marks i.floor i.core.core i.journal.items question s c.range.result c.self.invariant up (c.range.ensures.step refl))
+    let up : above (held (placed_of i.opened.levels)) ≤ s = let not_below = c.if-snapshot-self.false in let is = c.self.invariant.least_is in omega arith in
+    subst (λ t. IfOk c.range.result (λ iter. ReadAgrees (shown_by t.opened) t.journal (Read s (Between c.args.bounds.now.0 c.args.bounds.now.1) (Pairs (map pair_of iter.left))))) c.self.view_is
+    (lists_agree (placed_of i.opened.levels) i.least (λ iter. map pair_of iter.left) c.reads_are_sound.ensures i.marks i.floor i.core.core i.journal.items (Between c.args.bounds.now.0 c.args.bounds.now.1) s c.range.result c.self.invariant up (c.range.ensures.step refl))

@@ -9,27 +9,18 @@ pub invariant_of-self-2 : goal.invariant_of-self-2
 invariant_of-self-2 g c =
     let i = c.self.inside in
     let flushed = c.flush_noting-entries in
-    let put = c.put_entries in
-    let es = flushed.result.1.items in
-    let told = put.ensures.noted.behind ∙ ap (λ j. j ++ es) c.beside_copies-both.ensures.journal in
-    (flush_recorded (placed_of i.opened.levels) i.least i.marks c.reads_are_sound.ensures c.flushes_keep_reads.ensures i.floor put.new.floor i.journal.items put.new.journal.items es told put.ensures.floor c.args.watermark flushed.result.0 i.core.core flushed.new.tree.core flushed.ensures.flushes c.self.invariant).0
+    (flush_recorded (placed_of i.opened.levels) i.least i.marks c.reads_are_sound.ensures c.flushes_keep_reads.ensures i.floor c.put_entries.new.floor i.journal.items c.put_entries.new.journal.items flushed.result.1.items (c.put_entries.ensures.noted.behind ∙ ap (λ j. j ++ flushed.result.1.items) c.beside_copies-both.ensures.journal) c.put_entries.ensures.floor c.args.watermark flushed.result.0 i.core.core flushed.new.tree.core flushed.ensures.flushes c.self.invariant).0
 
 pub returns-clause-flushes : goal.returns-clause-flushes
 returns-clause-flushes g c =
     let i = c.self.inside in
     let flushed = c.flush_noting-entries in
-    let put = c.put_entries in
-    let es = flushed.result.1.items in
     let both = c.beside_copies-both in
-    let notes = subst (λ j. Notes es j put.new.journal.items c.pass.inside.entries.items put.new.pass.items) both.ensures.journal (subst (λ p. Notes es both.new.journal.items put.new.journal.items p put.new.pass.items) both.ensures.pass put.ensures.noted) in
-    rw (← c.self.view_is, ← c.pass.view_is) (inr (flush_notes c.args.watermark flushed.result.0 es i.core.core flushed.new.tree.core i.journal.items put.new.journal.items c.pass.inside.entries.items put.new.pass.items flushed.ensures.flushes notes))
+    let notes = subst (λ j. Notes flushed.result.1.items j c.put_entries.new.journal.items c.pass.inside.entries.items c.put_entries.new.pass.items) both.ensures.journal (subst (λ p. Notes flushed.result.1.items both.new.journal.items c.put_entries.new.journal.items p c.put_entries.new.pass.items) both.ensures.pass c.put_entries.ensures.noted) in
+    rw (← c.self.view_is, ← c.pass.view_is) (inr (flush_notes c.args.watermark flushed.result.0 flushed.result.1.items i.core.core flushed.new.tree.core i.journal.items c.put_entries.new.journal.items c.pass.inside.entries.items c.put_entries.new.pass.items flushed.ensures.flushes notes))
 
 pub returns-clause-views : goal.returns-clause-views
 returns-clause-views g c =
     let i = c.self.inside in
     let flushed = c.flush_noting-entries in
-    let put = c.put_entries in
-    let es = flushed.result.1.items in
-    let told = put.ensures.noted.behind ∙ ap (λ j. j ++ es) c.beside_copies-both.ensures.journal in
-    let all = (flush_recorded (placed_of i.opened.levels) i.least i.marks c.reads_are_sound.ensures c.flushes_keep_reads.ensures i.floor put.new.floor i.journal.items put.new.journal.items es told put.ensures.floor c.args.watermark flushed.result.0 i.core.core flushed.new.tree.core flushed.ensures.flushes c.self.invariant).1 in
-    subst (λ t. Stays t.tree.core flushed.new.tree.core) c.self.view_is all
+    subst (λ t. Stays t.tree.core flushed.new.tree.core) c.self.view_is ((flush_recorded (placed_of i.opened.levels) i.least i.marks c.reads_are_sound.ensures c.flushes_keep_reads.ensures i.floor c.put_entries.new.floor i.journal.items c.put_entries.new.journal.items flushed.result.1.items (c.put_entries.ensures.noted.behind ∙ ap (λ j. j ++ flushed.result.1.items) c.beside_copies-both.ensures.journal) c.put_entries.ensures.floor c.args.watermark flushed.result.0 i.core.core flushed.new.tree.core flushed.ensures.flushes c.self.invariant).1)

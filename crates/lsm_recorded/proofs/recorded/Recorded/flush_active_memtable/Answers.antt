@@ -12,10 +12,7 @@ pub invariant_of-self-2 : goal.invariant_of-self-2
 invariant_of-self-2 g c =
     let i = c.self.inside in
     let flushed = c.flush_active_noting-entries in
-    let put = c.put_entries in
-    let es = flushed.result.1.items in
-    let told = put.ensures.noted.behind ∙ ap (λ j. j ++ es) c.beside_copies-both.ensures.journal in
-    (active_recorded (placed_of i.opened.levels) i.least i.marks c.reads_are_sound.ensures c.flushes_keep_reads.ensures i.floor put.new.floor i.journal.items put.new.journal.items es told put.ensures.floor c.args.watermark flushed.result.0 i.core.core flushed.new.tree.core flushed.ensures.flushes c.self.invariant).0
+    (active_recorded (placed_of i.opened.levels) i.least i.marks c.reads_are_sound.ensures c.flushes_keep_reads.ensures i.floor c.put_entries.new.floor i.journal.items c.put_entries.new.journal.items flushed.result.1.items (c.put_entries.ensures.noted.behind ∙ ap (λ j. j ++ flushed.result.1.items) c.beside_copies-both.ensures.journal) c.put_entries.ensures.floor c.args.watermark flushed.result.0 i.core.core flushed.new.tree.core flushed.ensures.flushes c.self.invariant).0
 
 pub returns-clause-core : goal.returns-clause-core
 returns-clause-core g c =
@@ -27,21 +24,15 @@ pub returns-clause-noted : goal.returns-clause-noted
 returns-clause-noted g c =
     let i = c.self.inside in
     let flushed = c.flush_active_noting-entries in
-    let put = c.put_entries in
-    let es = flushed.result.1.items in
     let both = c.beside_copies-both in
-    let notes = subst (λ j. Notes es j put.new.journal.items c.pass.inside.entries.items put.new.pass.items) both.ensures.journal (subst (λ p. Notes es both.new.journal.items put.new.journal.items p put.new.pass.items) both.ensures.pass put.ensures.noted) in
-    rw (← c.self.view_is, ← c.pass.view_is) (active_notes c.args.watermark es i.core.core flushed.new.tree.core i.journal.items put.new.journal.items c.pass.inside.entries.items put.new.pass.items notes flushed.result.0 flushed.ensures.flushes)
+    let notes = subst (λ j. Notes flushed.result.1.items j c.put_entries.new.journal.items c.pass.inside.entries.items c.put_entries.new.pass.items) both.ensures.journal (subst (λ p. Notes flushed.result.1.items both.new.journal.items c.put_entries.new.journal.items p c.put_entries.new.pass.items) both.ensures.pass c.put_entries.ensures.noted) in
+    rw (← c.self.view_is, ← c.pass.view_is) (active_notes c.args.watermark flushed.result.1.items i.core.core flushed.new.tree.core i.journal.items c.put_entries.new.journal.items c.pass.inside.entries.items c.put_entries.new.pass.items notes flushed.result.0 flushed.ensures.flushes)
 
 pub returns-clause-views : goal.returns-clause-views
 returns-clause-views g c =
     let i = c.self.inside in
     let flushed = c.flush_active_noting-entries in
-    let put = c.put_entries in
-    let es = flushed.result.1.items in
-    let told = put.ensures.noted.behind ∙ ap (λ j. j ++ es) c.beside_copies-both.ensures.journal in
-    let all = (active_recorded (placed_of i.opened.levels) i.least i.marks c.reads_are_sound.ensures c.flushes_keep_reads.ensures i.floor put.new.floor i.journal.items put.new.journal.items es told put.ensures.floor c.args.watermark flushed.result.0 i.core.core flushed.new.tree.core flushed.ensures.flushes c.self.invariant).1 in
-    subst (λ t. Stays t.tree.core flushed.new.tree.core) c.self.view_is all
+    subst (λ t. Stays t.tree.core flushed.new.tree.core) c.self.view_is ((active_recorded (placed_of i.opened.levels) i.least i.marks c.reads_are_sound.ensures c.flushes_keep_reads.ensures i.floor c.put_entries.new.floor i.journal.items c.put_entries.new.journal.items flushed.result.1.items (c.put_entries.ensures.noted.behind ∙ ap (λ j. j ++ flushed.result.1.items) c.beside_copies-both.ensures.journal) c.put_entries.ensures.floor c.args.watermark flushed.result.0 i.core.core flushed.new.tree.core flushed.ensures.flushes c.self.invariant).1)
 
 pub returns-clause-refused : goal.returns-clause-refused
 returns-clause-refused g c tells =

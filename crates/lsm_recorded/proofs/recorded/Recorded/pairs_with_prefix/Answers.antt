@@ -20,12 +20,7 @@ returns-clause-step g c =
 pub returns-clause-replay : goal.returns-clause-replay
 returns-clause-replay g c =
     let i = c.self.inside in
-    let opened = placed_of i.opened.levels in
     let s = c.args.snapshot in
-    let question = Prefix c.args.prefix.now in
-    let not_below = c.if-snapshot-self.false in
-    let is = c.self.invariant.least_is in
-    let up : above (held opened) ≤ s = omega arith in
-    let step = subst (λ p. IfOk c.pairs_with_prefix.result (λ pairs. IsPrefixStep i.core.core p s pairs)) c.as_slice.ensures (c.pairs_with_prefix.ensures.step refl) in
-    subst (λ t. IfOk c.pairs_with_prefix.result (λ pairs. ReadAgrees (shown_by t.opened) t.journal (Read s question (Pairs (map pair_of pairs))))) c.self.view_is
-    (lists_agree opened i.least (λ pairs. map pair_of pairs) c.reads_are_sound.ensures i.marks i.floor i.core.core i.journal.items question s c.pairs_with_prefix.result c.self.invariant up step)
+    let up : above (held (placed_of i.opened.levels)) ≤ s = let not_below = c.if-snapshot-self.false in let is = c.self.invariant.least_is in omega arith in
+    subst (λ t. IfOk c.pairs_with_prefix.result (λ pairs. ReadAgrees (shown_by t.opened) t.journal (Read s (Prefix c.args.prefix.now) (Pairs (map pair_of pairs))))) c.self.view_is
+    (lists_agree (placed_of i.opened.levels) i.least (λ pairs. map pair_of pairs) c.reads_are_sound.ensures i.marks i.floor i.core.core i.journal.items (Prefix c.args.prefix.now) s c.pairs_with_prefix.result c.self.invariant up (subst (λ p. IfOk c.pairs_with_prefix.result (λ pairs. IsPrefixStep i.core.core p s pairs)) c.as_slice.ensures (c.pairs_with_prefix.ensures.step refl)))

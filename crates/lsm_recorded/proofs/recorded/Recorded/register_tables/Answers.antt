@@ -21,17 +21,10 @@ pub invariant_of-self-2 : goal.invariant_of-self-2
 invariant_of-self-2 g c =
     let i = c.self.inside in
     let registered = c.register_noting-entries in
-    let put = c.put_entries in
-    let es = registered.result.1.items in
-    let told = put.ensures.noted.behind ∙ ap (λ j. j ++ es) c.beside_copies-both.ensures.journal in
-    (register_recorded (placed_of i.opened.levels) i.least i.marks c.reads_are_sound.ensures c.flushes_keep_reads.ensures i.floor put.new.floor i.journal.items put.new.journal.items es told put.ensures.floor c.args.job registered.result.0 i.core.core registered.new.tree.core registered.ensures.registers c.self.invariant).0
+    (register_recorded (placed_of i.opened.levels) i.least i.marks c.reads_are_sound.ensures c.flushes_keep_reads.ensures i.floor c.put_entries.new.floor i.journal.items c.put_entries.new.journal.items registered.result.1.items (c.put_entries.ensures.noted.behind ∙ ap (λ j. j ++ registered.result.1.items) c.beside_copies-both.ensures.journal) c.put_entries.ensures.floor c.args.job registered.result.0 i.core.core registered.new.tree.core registered.ensures.registers c.self.invariant).0
 
 pub returns-clause-views : goal.returns-clause-views
 returns-clause-views g c =
     let i = c.self.inside in
     let registered = c.register_noting-entries in
-    let put = c.put_entries in
-    let es = registered.result.1.items in
-    let told = put.ensures.noted.behind ∙ ap (λ j. j ++ es) c.beside_copies-both.ensures.journal in
-    let all = (register_recorded (placed_of i.opened.levels) i.least i.marks c.reads_are_sound.ensures c.flushes_keep_reads.ensures i.floor put.new.floor i.journal.items put.new.journal.items es told put.ensures.floor c.args.job registered.result.0 i.core.core registered.new.tree.core registered.ensures.registers c.self.invariant).1 in
-    subst (λ t. Stays t.tree.core registered.new.tree.core) c.self.view_is all
+    subst (λ t. Stays t.tree.core registered.new.tree.core) c.self.view_is ((register_recorded (placed_of i.opened.levels) i.least i.marks c.reads_are_sound.ensures c.flushes_keep_reads.ensures i.floor c.put_entries.new.floor i.journal.items c.put_entries.new.journal.items registered.result.1.items (c.put_entries.ensures.noted.behind ∙ ap (λ j. j ++ registered.result.1.items) c.beside_copies-both.ensures.journal) c.put_entries.ensures.floor c.args.job registered.result.0 i.core.core registered.new.tree.core registered.ensures.registers c.self.invariant).1)
