@@ -27,7 +27,7 @@ use Rattle.lsm_state.specs.declared.compaction.Finished.TheVariants.{Installed a
 use Rattle.lsm_state.proofs.Upholding.{upheld_still}
 use Rattle.lsm_logged.specs.Acting.{LeadsBy, ActsByRegister, ActsByMerge, merging}
 use Rattle.lsm_logged.specs.Keeping.{SeenLogged}
-use Rattle.lsm_logged.proofs.NoActs.{same_not}
+use Rattle.lsm_logged.proofs.NoActs.{unsure_not}
 use Rattle.lsm_log_runs.specs.Adds.{AddsBegun, AddsRegistry, AddsRegister, AddsMerge, AddsJob}
 use Rattle.lsm_log_runs.specs.Doing.{ActsNothing, ActsRegister, ActsMerge, ActsJob}
 use Rattle.lsm_log_runs.specs.Pasts.{LogPast, with_flushed, with_begun, with_install, with_unknown}
@@ -58,7 +58,7 @@ module _ {S : Type 0} (world : S → World) (reading : Reading) (between : Store
 
   nowhere : ActsNothing w w' old new → Nowhere
   nowhere (inl same) = subst (λ (t : SeenLogged S). LeadsBy opened past.journal past.notes s.log [] w (world t.store) old t) (sym same)
-      (same_not w w old old refl (upheld_still w old.core old.core refl refl (subst (λ (t : SeenLogged S). AtRest (world t.store)) same rest)) refl opened past.journal past.notes s.log s.is s.keeps)
+      (unsure_not world (record { store = old.store; core = old.core }) old.numbers old.doubted old refl (upheld_still w old.core old.core refl refl (subst (λ (t : SeenLogged S). AtRest (world t.store)) same rest)) opened past.journal past.notes s.log s.is s.keeps)
   nowhere (inr not) = not opened past.journal past.notes s.log s.is s.keeps
 
   still : (Added : LogPast → Type 0) → Added past → Nowhere → Leads Added

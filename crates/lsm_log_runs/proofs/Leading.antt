@@ -26,7 +26,7 @@ use Rattle.lsm_logged.specs.Images.{RecordsAreThoseRead, VersionIsToldOnce}
 use Rattle.lsm_logged.specs.Keeping.{SeenLogged, IsLogOf, KeepsLog}
 use Rattle.lsm_logged.specs.Meanwhile.{ReadsVersion}
 use Rattle.lsm_logged.specs.Opening.{CanBeSettled}
-use Rattle.lsm_logged.proofs.NoActs.{same_not}
+use Rattle.lsm_logged.proofs.NoActs.{unsure_not}
 use Rattle.lsm_log_runs.specs.CameAbout.{LogCameAbout}
 use Rattle.lsm_log_runs.specs.Images.{HoldsLogged, Keeps, KeepsAll, MayBeOpened}
 use Rattle.lsm_log_runs.specs.Leading.{SparesAnswers}
@@ -92,7 +92,7 @@ module _ {S : Type 0} (world : S → World) (reading : Reading) (between : Store
   leaves_log : (past : LogPast) (t : SeenLogged S) (s : StandsLogged world image past t) → AtRest (world t.store) → (left : Image) → (world t.store).since (world t.store).moment left → HoldsLog t.core s.log left
   leaves_log past t s rest left since =
       let w = world t.store in
-      let l = same_not w w t t refl (upheld_still w t.core t.core refl refl rest) refl opened past.journal past.notes s.log s.is s.keeps in
+      let l = unsure_not world (record { store = t.store; core = t.core }) t.numbers t.doubted t refl (upheld_still w t.core t.core refl refl rest) opened past.journal past.notes s.log s.is s.keeps in
       ⊎_elim (λ (h : HoldsLog t.core s.log left). h) (λ (h : HoldsLog t.core l.log left). subst (λ (x : Log). HoldsLog t.core x left) l.done h) ((l.moments s.stored).each left since)
 
   pub keeps_now : (past : LogPast) (t : SeenLogged S) → StandsLogged world image past t → AtRest (world t.store) → LeavesNow (world t.store) (Keeps (logged image) past (acknowledged past))
@@ -190,7 +190,7 @@ module _ {S : Type 0} (world : S → World) (reading : Reading) (between : Store
   pub still_led : (past : LogPast) (old : SeenLogged S) → StandsLogged world image past old → AtRest (world old.store) → Led past past old old
   still_led past old s rest =
       let w = world old.store in
-      nothing_led past old old s (same_not w w old old refl (upheld_still w old.core old.core refl refl rest) refl opened past.journal past.notes s.log s.is s.keeps) (record { stays = λ h. h; makes = inl refl }) rest
+      nothing_led past old old s (unsure_not world (record { store = old.store; core = old.core }) old.numbers old.doubted old refl (upheld_still w old.core old.core refl refl rest) opened past.journal past.notes s.log s.is s.keeps) (record { stays = λ h. h; makes = inl refl }) rest
 
   pub same_led : (past : LogPast) (old new : SeenLogged S) → StandsLogged world image past old → AtRest (world new.store) → new ≡ old → Led past past old new
   same_led past old new s rest is = subst (λ (t : SeenLogged S). Led past past old t) (sym is) (still_led past old s (subst (λ (t : SeenLogged S). AtRest (world t.store)) is rest))
