@@ -1,13 +1,16 @@
 -- A tree from its opening on, and how it goes on.
 use Rattle.std.specs.Prelude.{◌≡◌, ◌≤◌, ◌^◌, List, [], None, map}
 use Rattle.lsm_below.specs.Entries.{Entry, above}
+use Rattle.lsm_below.specs.Sums.{capped}
 use Rattle.lsm_store.specs.World.{World}
 use Rattle.lsm_model.specs.Journal.{Map, next_number}
 use Rattle.lsm_model.specs.Steps.{IsOpened}
 use Rattle.lsm_model.specs.Views.{held}
+use Rattle.lsm_versions.specs.declared.config.Config.{Config}
+use Rattle.lsm_versions.specs.Configs.{raised}
 use Rattle.lsm_commit.specs.Stored.{IsStored}
-use Rattle.lsm_state.specs.Core.{Core, latest_of, state_of, versions_left, written_of}
-use Rattle.lsm_state.specs.Opened.{StartsWith}
+use Rattle.lsm_state.specs.Core.{Core, latest_of, state_of, opened_core, versions_left, written_of}
+use Rattle.lsm_state.specs.Opened.{StartsWith, found_entries}
 use Rattle.lsm_runs.specs.declared.steps.Step.{Step}
 use Rattle.lsm_runs.specs.After.{RunIsRight}
 use Rattle.lsm_runs.specs.Chains.{Point}
@@ -24,6 +27,13 @@ use Rattle.lsm_runs.specs.Unknown.{RunStops}
 -- the entries that a tree was opened with
 abbrev pub opened_in : Core → List Entry
 opened_in c = held (latest_of c).tables
+
+-- A tree was opened with this configuration, its counters just above what was found, or where the configuration says; and it took steps with
+-- these outcomes, behind which it is this one.
+pub record OpensAndRuns (strategies : Strategies) (config : Config) (steps : List Step) (told : List Told) (new : Core) : Type 0 where
+  pub first : Core
+  pub opened : first ≡ opened_core (raised (capped (above (found_entries first))) config) first.history.latest.version first.next_table
+  pub ran : RanToEnd strategies steps told first new
 
 -- A tree was opened on a ready store that stands for the map, and took steps, after which it goes on.
 pub record LivesOn {F : Type 0} (world : F → World) (strategies : Strategies) (m : Map) (steps : List Step) (told : List Told) (is : F) (new : Core) : Type 0 where

@@ -11,7 +11,7 @@ ghost use Rattle.lsm_versions.specs.Levels.{Levels};
 ghost use Rattle.lsm_runs.specs.Causes.{EachHasCause};
 ghost use Rattle.lsm_runs.specs.Compacting.{strategies_of};
 ghost use Rattle.lsm_runs.specs.Lives.{LivesInOrder};
-ghost use Rattle.lsm_runs.specs.Living.{LivesOn};
+ghost use Rattle.lsm_runs.specs.Living.{LivesOn, OpensAndRuns};
 
 use crate::{Reply, Step, Taken, run};
 use lsm_below::Error;
@@ -51,6 +51,8 @@ pub fn live<S: Store>(
 ) -> Result<(TreeState<S>, Taken), (Error, S)>
     ensures bound { IfOk result (λ r. length r.1.outcomes.items ≤ length steps.now) }
     ensures whole { IfOk result (λ r. OnOk r.1.ended (length r.1.outcomes.items ≡ length steps.now)) }
+    // The steps ran on the tree that `TreeState::open_raised` makes of the store with this configuration.
+    ensures ran { IfOk result (λ r. OpensAndRuns (strategies_of (λ b. may_choose b) (λ b. may_refuse b) strategies.now) config (take (length r.1.outcomes.items) steps.now) r.1.outcomes.items r.0.core) }
     // A life, however it ends.
     ensures lives { S.tells → IsReady (S.world store) → (m : Map) → StandsForMap (S.world store).gives m → IfOk result (λ r. LivesInOrder S.world m (take (length r.1.outcomes.items) steps.now) r.1.outcomes.items store r.0.store) }
     // The whole of what `run` says, behind what opening left.
