@@ -1,5 +1,5 @@
 // The checks of a choice of tables.
-ghost use Rattle.std.specs.Prelude.{◌≡◌, ◌==◌, ◌&&◌, nat_le, ◌<◌, ◌∷◌, [], None, Some, true, false, not, IfOk, IsTrue, ◌↔◌};
+ghost use Rattle.std.specs.Prelude.{◌≡◌, ◌==◌, ◌&&◌, nat_le, ◌<◌, None, Some, true, false, not, IfOk, IsTrue, ◌↔◌};
 ghost use Rattle.std.specs.List.{list_any};
 ghost use Rattle.lsm_model.specs.Views.{IsAllowed};
 ghost use Rattle.lsm_model.specs.Steps.{among};

@@ -1,5 +1,5 @@
 // The tables of a choice, run by run.
-ghost use Rattle.std.specs.Prelude.{◌≡◌, ◌++◌, [], IfOk, OnOk};
+ghost use Rattle.std.specs.Prelude.{◌≡◌, ◌++◌, IfOk, OnOk};
 ghost use Rattle.lsm_below.specs.Optimizes.{tables_of};
 ghost use Rattle.lsm_versions.specs.Levels.{all_of, chosen_from, HasOwnIds};
 ghost use Rattle.lsm_versions.specs.Chosen.{AreThere, AreIdsOf};

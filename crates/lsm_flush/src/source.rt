@@ -1,5 +1,4 @@
 // The entries of a memtable as a source of a merge.
-ghost use Rattle.std.specs.Prelude.{◌≡◌};
 ghost use Rattle.lsm_below.specs.Slots.{rest_of};
 
 use lsm_below::{Error, Headed, Source};

@@ -1,10 +1,8 @@
 // What is left of a run of tables, which are lent.
-ghost use Rattle.std.specs.Prelude.{◌≡◌, ℕ, ◌<◌, flat_map, option_copied, IfOk, OnOk, Some, ◌++◌};
+ghost use Rattle.std.specs.Prelude.{◌≡◌, ◌<◌, flat_map, option_copied, IfOk, OnOk, ◌++◌};
 ghost use Rattle.std.specs.List.{All};
 ghost use Rattle.lsm_below.specs.Entries.{Entry, HasBytes};
-ghost use Rattle.lsm_below.specs.Runs.{IsRun};
 ghost use Rattle.lsm_below.specs.Sorted.{Rises};
-ghost use Rattle.lsm_tables.specs.Tables.{range_of};
 ghost use Rattle.lsm_iter.specs.Reads.{at};
 ghost use Rattle.lsm_iter.specs.Shown.{by_key};
 ghost use Rattle.lsm_iter.specs.Left.{end_item, copied, Takes};

@@ -1,5 +1,5 @@
 // The entries of a table between two places, at both of which one stands that counts.
-ghost use Rattle.std.specs.Prelude.{◌≡◌, ℕ, ◌-◌, ◌+◌, ◌<◌, ◌≤◌, true, ◌&&◌, length, take, drop, [], ◌∷◌, List, filter, slice_index_or, option_copied, IfOk};
+ghost use Rattle.std.specs.Prelude.{◌≡◌, ◌-◌, ◌+◌, ◌<◌, ◌≤◌, true, ◌&&◌, length, take, drop, ◌∷◌, List, filter, slice_index_or, option_copied, IfOk};
 ghost use Rattle.std.specs.List.{All};
 ghost use Rattle.lsm_below.specs.Entries.{Entry, entry_cmp, HasBytes};
 ghost use Rattle.lsm_below.specs.Runs.{IsCut};

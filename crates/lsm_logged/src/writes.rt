@@ -1,5 +1,5 @@
 // Writes of a logged tree.
-ghost use Rattle.std.specs.Prelude.{◌≡◌, ℕ, false};
+ghost use Rattle.std.specs.Prelude.{◌≡◌, false};
 ghost use Rattle.lsm_commit.specs.Stored.{CountsFaults};
 ghost use Rattle.lsm_state.specs.Commits.{UpholdsFiles};
 ghost use Rattle.lsm_state.specs.Recording.{RecordsBatch};

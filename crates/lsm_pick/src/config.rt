@@ -1,5 +1,5 @@
 // How strategies are written down: names and values, as bytes.
-ghost use Rattle.std.specs.Prelude.{◌≡◌, ◌<◌, ◌++◌, ◌∷◌, [], length, IfOk, OnOk, Option};
+ghost use Rattle.std.specs.Prelude.{◌≡◌, ◌<◌, ◌++◌, length, IfOk, OnOk, Option};
 ghost use Rattle.std.specs.Int.{to_le_bytes};
 ghost use Rattle.std.specs.List.{flat_map};
 ghost use Rattle.lsm_pick.specs.Config.{ratio_bytes, ratios_bytes, leveled_config, fifo_config, flag_of};

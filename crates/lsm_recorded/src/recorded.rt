@@ -1,5 +1,5 @@
 // A tree with the journal of its calls.
-ghost use Rattle.std.specs.Prelude.{◌≡◌, ◌+◌, ◌<◌, ◌≤◌, ◌^◌, ◌∷◌, [], true, false, None, Ok, IfOk, IfErr, IfSome, OnOk, OnErr, IsErrOf, IsTrue, ◌↔◌, ◌⊎◌, map};
+ghost use Rattle.std.specs.Prelude.{◌≡◌, ◌+◌, ◌<◌, ◌≤◌, ◌∷◌, [], true, false, None, Ok, IfOk, IfErr, IfSome, OnOk, OnErr, IsErrOf, ◌↔◌, ◌⊎◌, map};
 ghost use Rattle.std.specs.FinMap.{get as value_in};
 ghost use Rattle.lsm_below.specs.Entries.{plain, above};
 ghost use Rattle.lsm_model.specs.Views.{held};

@@ -3,7 +3,7 @@ ghost use Rattle.std.specs.Prelude.{◌≡◌, ◌<◌, ◌⊎◌, Some, None, I
 ghost use Rattle.std.specs.List.{AllByRecursion, list_any};
 ghost use Rattle.lsm_below.specs.Entries.{plain};
 ghost use Rattle.lsm_tables.specs.Image.{Fits};
-ghost use Rattle.lsm_model.specs.Ops.{op_entry, op_entries, op_value, repeats, keys_of};
+ghost use Rattle.lsm_model.specs.Ops.{op_entry, op_entries, op_value};
 ghost use Rattle.lsm_state.specs.Refusals.{entry_refusal, batch_refusal, is_long_key, is_long_value};
 ghost use Rattle.lsm_model.specs.declared.op.Op.TheVariants.{Set, Del, Weak};
 ghost use Rattle.lsm_parts.specs.Held.{put_all_first};

@@ -1,5 +1,5 @@
 // How a merge ends, and what is noted of that.
-ghost use Rattle.std.specs.Prelude.{◌≡◌, ◌<◌, ℕ, ◌∷◌, [], Ok, IfOk, IfErr, IsSome, length, take};
+ghost use Rattle.std.specs.Prelude.{◌≡◌, ◌<◌, ◌∷◌, [], Ok, IfOk, IfErr, IsSome, length, take};
 ghost use Rattle.lsm_model.specs.declared.journal.JournalEntry.TheVariants.{Install};
 ghost use Rattle.lsm_commit.specs.Causes.{HasCause, Blames};
 ghost use Rattle.lsm_state.specs.Cleaning.{LeavesNoFiles, RemovesDrawn};
