@@ -21,7 +21,7 @@ pub record RegistersNoted (job : SeenWritten) (r : Result Registered Error) (eve
 
 -- a flush in one call, whatever it answers: its watermark counts where it came to register a job
 abbrev pub FlushesNoted : ℕ → Result (Option (ℕ × Registered)) Error → List Event → Core → Core → Type 0
-FlushesNoted w r events old new = (marked : Bool) × (events ≡ flush_events w old.seqno marked r) × Flushes w r old new × MarksFlush marked r
+FlushesNoted w r events old new = (marked : Bool) × (events ≡ flush_events w old.seqno marked r) × Flushes w r old new × MarksFlush w marked r old new
 
 -- a rotation, and then a flush
 abbrev pub FlushesRotated : ℕ → Option ℕ → Result (Option (ℕ × Registered)) Error → List Event → Core → Core → Type 0

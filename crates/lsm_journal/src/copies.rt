@@ -1,13 +1,34 @@
-// Copies of the entries of a journal, which share their bytes and their lists of pairs.
+// Copies of the entries of a journal and of operations, which share their bytes and their lists of pairs.
 ghost use Rattle.std.specs.Prelude.{◌≡◌, IfOk};
 ghost use Rattle.lsm_model.specs.declared.journal.JournalEntry.TheVariants.{Read, Dropped};
 ghost use Rattle.lsm_model.specs.declared.question.Question.TheVariants.{Between};
 
 use crate::reads::share_value;
 use lsm_below::{KeyRange, SeqNo, UserKey, share};
-use lsm_model::{Answer, JournalEntry, KeyBound, KeyRanges, Question};
+use lsm_model::{Answer, JournalEntry, KeyBound, KeyRanges, Op, Question};
 use std::alloc::{AllocError, Global};
 use std::ops::Bound;
+
+/// The operations of a batch, which share the bytes of these. Refused only for want of memory.
+pub fn share_ops(alloc: Global, ops: &[(UserKey, Op)]) -> Result<Vec<(UserKey, Op)>, AllocError>
+    ensures { IfOk result (λ copy. copy.items ≡ ops.now) }
+{
+    let mut copy = Vec::with_capacity(alloc, ops.len())?;
+    for (key, op) in ops {
+        copy.push((share(key)?, share_op(op)?))?;
+    }
+    Ok(copy)
+}
+
+fn share_op(op: &Op) -> Result<Op, AllocError>
+    ensures { IfOk result (λ copy. copy ≡ op.now) }
+{
+    match op {
+        Op::Set(value) => Ok(Op::Set(share(value)?)),
+        Op::Del => Ok(Op::Del),
+        Op::Weak => Ok(Op::Weak),
+    }
+}
 
 /// A copy of a bound.
 pub fn copy_bound(bound: &Bound<UserKey>) -> Result<Bound<UserKey>, AllocError>

@@ -15,7 +15,7 @@
 //! | `compaction::finishing` | how a merge ends, and what is noted of that |
 //! | `compaction::whole` | a compaction in one call, and what is noted of it |
 //! | `laws` | what compactions leave of reads, as the contract of a function |
-//! | `copies` | copies of entries |
+//! | `copies` | copies of entries and of operations |
 //! | `same` | whether two entries are the same |
 #![tactic(auto)]
 
@@ -34,7 +34,7 @@ pub use compaction::{
     Chosen, ask, ask_with, begin_chosen, compact_chosen, drops_nothing, finish_entries,
     finish_noting, options_at,
 };
-pub use copies::{copy_bound, copy_entry, copy_journal, question_between};
+pub use copies::{copy_bound, copy_entry, copy_journal, question_between, share_ops};
 pub use flush::{flush_active_noting, flush_entries, flush_noting, register_noting};
 pub use laws::noted_compactions_keep_reads;
 pub use lists::one_entry;

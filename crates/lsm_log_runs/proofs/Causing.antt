@@ -16,6 +16,7 @@ use Rattle.lsm_runs.specs.Causes.{ReplyBlames}
 use Rattle.lsm_runs.specs.Compacting.{TakesRunCompaction, end_reply_of}
 use Rattle.lsm_runs.specs.Flushing.{TakesRun}
 use Rattle.lsm_runs.specs.ReadSteps.{IsReadRefusal, TakesGet, TakesPairs}
+use Rattle.lsm_runs.proofs.Causing.{blames, named, batch_reason, read_refusal}
 use Rattle.lsm_runs.specs.declared.slots.Job.{Job}
 use Rattle.lsm_runs.specs.declared.steps.Reply.{Reply}
 use Rattle.lsm_runs.specs.declared.steps.Reply.TheVariants.{Begun as BegunReply, Done, NoJob, SlotInUse, Sealed, Value, Pairs, Refused}
@@ -29,27 +30,6 @@ use Rattle.lsm_logged.specs.Writing.{WritesLogged}
 use Rattle.lsm_log_runs.specs.Causes.{EachHasCause}
 use Rattle.lsm_log_runs.specs.JobSteps.{TakesBegin, TakesAbandon, TakesAbandonCompaction}
 use Rattle.lsm_log_runs.specs.Runs.{TakesRotate, TakesMoment}
-
--- ---- errors that don't blame it
-
-abbrev blames : Error → Bool
-blames Store = true
-blames CommitUnknown = true
-blames AfterCommit = true
-blames e = false
-
-abbrev Blameless : Error → Type 0
-Blameless e = BlamesStore e → ⊥
-
--- an error of this name
-named : (x e : Error) → blames x ≡ false → e ≡ x → Blameless e
-named x e free same blamed = cc (sym (subst (λ y. blames y ≡ false) (sym same) free) ∙ known)
-  where
-    known : blames e ≡ true
-    known = ⊎_elim (λ h. ap blames h) (λ later. ⊎_elim (λ h. ap blames h) (λ h. ap blames h) later) blamed
-
-read_refusal : (s : ℕ) (c : Core) (x : Error) → IsReadRefusal s c x → Blameless x
-read_refusal s c x r = ⊎_elim (λ h. named SnapshotTooOld x refl h) (λ h. named OutOfMemory x refl h) r.0
 
 -- a reply that doesn't blame it, of a call that leaves the store
 module _ {S : Type 0} (world : S → World) (was is : S) (same : is ≡ was) where
@@ -72,16 +52,6 @@ pairs_cause world was question Right s (Refused x) events c t = quiet world was 
 pairs_cause world was question Right s reply events c t = absurd t
 
 -- ---- a batch
-
-batch_reason : (n : ℕ) (ops : List (Bytes × Op)) → IfSome (batch_refusal n ops) (λ y. blames y ≡ false)
-batch_reason n ops = go (is_great n) (list_any (λ p. is_long_key p.0) ops) (list_any (λ p. is_long_value (op_value p.1)) ops) (repeats (keys_of ops))
-  where
-    go : (a b c d : Bool) → IfSome (if a then Some OutOfNumbers else (if b then Some KeyTooLong else (if c then Some ValueTooLong else (if d then Some DuplicateKey else None)))) (λ y. blames y ≡ false)
-    go true b c d = refl
-    go false true c d = refl
-    go false false true d = refl
-    go false false false true = refl
-    go false false false false = tt
 
 abbrev Told : Error → Type 0
 Told y = (◌≡◌ {A = Result ℕ Error} (Err AfterCommit) (Err y)) ⊎ (◌≡◌ {A = Result ℕ Error} (Err AfterCommit) (Err OutOfMemory))

@@ -3,12 +3,10 @@
 //! | Module | Holds |
 //! |-|-|
 //! | `steps` | calls as data |
-//! | `copying` | what a step hands to its call |
 //! | `runner` | a list of calls on a logged tree, with the log theorem |
 //! | `life` | a logged tree from its opening on |
 #![tactic(auto)]
 
-mod copying;
 mod life;
 mod runner;
 mod steps;

@@ -12,11 +12,10 @@ ghost use Rattle.lsm_log_runs.specs.Runs.{Takes, TakesBatch, RanLogged};
 ghost use Rattle.lsm_log_runs.specs.Leading.{RunsLogged};
 ghost use Rattle.lsm_log_runs.specs.Slots.{beside};
 
-use crate::copying::share_ops;
 use crate::{LogStep, TakenLogged};
 use lsm_below::UserKey;
 use lsm_commit::{crashes_leave_versions, stored_files_are_ready};
-use lsm_journal::noted_compactions_keep_reads;
+use lsm_journal::{noted_compactions_keep_reads, share_ops};
 use lsm_log_model::{
     acts_join, counter_stays_above, every_crash_keeps_batches, log_stays_sound,
     logged_reads_are_right, whole_is_logged,

@@ -102,7 +102,7 @@ registers_go job (Err e) old new r =
     more h = let q : new.seqno ≡ old.seqno + 1 = ap (λ (c : Core). c.seqno) h in (omega (arith, q), ap (λ (c : Core). c.merges) h)
 
 -- the same of a flush in one call
-by_mark : (w : ℕ) (marked : Bool) (r : Result (Option (ℕ × Registered)) Error) (old new : Core) → Flushes w r old new → MarksFlush marked r → GoesOn (flush_events w old.seqno marked r) old new
+by_mark : (w : ℕ) (marked : Bool) (r : Result (Option (ℕ × Registered)) Error) (old new : Core) → Flushes w r old new → MarksFlush w marked r old new → GoesOn (flush_events w old.seqno marked r) old new
 by_mark w false (Ok None) old new f m = let is = (f.some refl).1 in nothing_goes old new (still_goes old new (ap (λ (c : Core). c.seqno) is) (ap (λ (c : Core). c.merges) is))
 by_mark w false (Ok (Some p)) old new f m = absurd (cc (m.ok.0 refl))
 by_mark w false (Err e) old new f m = nothing_goes old new (refused_goes w e old new f)

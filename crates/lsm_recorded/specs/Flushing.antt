@@ -44,7 +44,7 @@ pub record FlushesNoted (w : ℕ) (r : Result (Option (ℕ × Registered)) Error
   pub flushes : Flushes w r old new
   -- did it come to register a job?
   pub marked : Bool
-  pub marks : MarksFlush marked r
+  pub marks : MarksFlush w marked r old new
   pub noted : Notes (flush_events w old.seqno marked r) journal journal' pass pass'
 
 -- ---- a flush behind a rotation

@@ -42,7 +42,7 @@ use Rattle.lsm_runs.specs.declared.steps.Reply.{Reply}
 use Rattle.lsm_runs.specs.declared.steps.Reply.TheVariants as reply
 use Rattle.lsm_runs.specs.declared.steps.Step.{Step as Call}
 use Rattle.lsm_runs.specs.declared.steps.Step.TheVariants as step
-use Rattle.lsm_runs.specs.Adds.{AddsEntry, AddsBatch, AddsGet, AddsPairs, AddsClear, AnyRanges, NoRanges, RangesWithin, IsUpkeep, IsUpkeepOrDrop, JobAdds, Adds, EachAdds}
+use Rattle.lsm_runs.specs.Adds.{AddsEntry, AddsBatch, AddsGet, AddsPairs, AddsClear, IsMark, AnyMark, NoMark, AnyRanges, NoRanges, RangesWithin, IsUpkeep, IsUpkeepOrDrop, JobAdds, Adds, EachAdds}
 use Rattle.lsm_runs.specs.Clearing.{TakesClear, TakesForget}
 use Rattle.lsm_runs.specs.Compacting.{Strategies, TakesBeginCompaction, TakesRunCompaction, TakesFinish, TakesAbandonCompaction, CompactsFrom, TakesCompact, TakesMajor, TakesDropRange, TakesTableId}
 use Rattle.lsm_runs.specs.Flushing.{TakesBegin, TakesRun, TakesTables, TakesRegister, TakesAbandon, TakesFlush, TakesFlushActive, TakesMoment}
@@ -118,30 +118,30 @@ forget_adds r events old new t = absurd t
 all_of : (P : Event → Type 0) (events told : List Event) → events ≡ told → AllByRecursion P told → AllByRecursion P events
 all_of P events told is h = subst (AllByRecursion P) (sym is) h
 
-registered : (w n : ℕ) (r : Result Outcome Error) → AllByRecursion IsUpkeep (register_events w n r)
-registered w n (Ok a) = elim a.installed as (λ b. AllByRecursion IsUpkeep (cond b (Mark w ∷ (Install n ∷ [])) (Mark w ∷ []))) [ true ↦ (tt, (tt, tt)) | false ↦ (tt, tt) ]
+registered : (w n : ℕ) (r : Result Outcome Error) → AllByRecursion (IsUpkeep AnyMark) (register_events w n r)
+registered w n (Ok a) = elim a.installed as (λ b. AllByRecursion (IsUpkeep AnyMark) (cond b (Mark w ∷ (Install n ∷ [])) (Mark w ∷ []))) [ true ↦ (tt, (tt, tt)) | false ↦ (tt, tt) ]
 registered w n (Err e) = (tt, tt)
 
-flushed : (w n : ℕ) (marked : Bool) (r : Result (Option (ℕ × Outcome)) Error) → AllByRecursion IsUpkeep (flush_events w n marked r)
+flushed : (w n : ℕ) (marked : Bool) (r : Result (Option (ℕ × Outcome)) Error) → AllByRecursion (IsUpkeep (IsMark w)) (flush_events w n marked r)
 flushed w n false r = tt
-flushed w n true (Ok a) = (tt, (tt, tt))
-flushed w n true (Err e) = (tt, tt)
+flushed w n true (Ok a) = (refl, (tt, tt))
+flushed w n true (Err e) = (refl, tt)
 
-flush_adds : (w : ℕ) (r : Reply) (events : List Event) (old new : Core) → TakesFlush w r events old new → AllByRecursion IsUpkeep events
-flush_adds w (reply.Flushed a) events old new t = all_of IsUpkeep events _ t.1 (flushed w old.seqno t.0 (Ok a))
-flush_adds w (reply.Refused x) events old new t = all_of IsUpkeep events _ t.1 (flushed w old.seqno t.0 (Err x))
+flush_adds : (w : ℕ) (r : Reply) (events : List Event) (old new : Core) → TakesFlush w r events old new → AllByRecursion (IsUpkeep (IsMark w)) events
+flush_adds w (reply.Flushed a) events old new t = all_of (IsUpkeep (IsMark w)) events _ t.1 (flushed w old.seqno t.0 (Ok a))
+flush_adds w (reply.Refused x) events old new t = all_of (IsUpkeep (IsMark w)) events _ t.1 (flushed w old.seqno t.0 (Err x))
 flush_adds w r events old new t = absurd t
 
-active_adds : (w : ℕ) (r : Reply) (events : List Event) (old new : Core) → TakesFlushActive w r events old new → AllByRecursion IsUpkeep events
-active_adds w (reply.FlushedActive id a) events old new t = all_of IsUpkeep events _ t.2.1 (flushed w t.0.seqno t.2.0 (Ok a))
-active_adds w (reply.RefusedActive id x) events old new (inl t) = all_of IsUpkeep events [] t.0 tt
-active_adds w (reply.RefusedActive id x) events old new (inr t) = all_of IsUpkeep events _ t.2.1 (flushed w t.0.seqno t.2.0 (Err x))
+active_adds : (w : ℕ) (r : Reply) (events : List Event) (old new : Core) → TakesFlushActive w r events old new → AllByRecursion (IsUpkeep (IsMark w)) events
+active_adds w (reply.FlushedActive id a) events old new t = all_of (IsUpkeep (IsMark w)) events _ t.2.1 (flushed w t.0.seqno t.2.0 (Ok a))
+active_adds w (reply.RefusedActive id x) events old new (inl t) = all_of (IsUpkeep (IsMark w)) events [] t.0 tt
+active_adds w (reply.RefusedActive id x) events old new (inr t) = all_of (IsUpkeep (IsMark w)) events _ t.2.1 (flushed w t.0.seqno t.2.0 (Err x))
 active_adds w r events old new t = absurd t
 
-register_adds : (r : Reply) (events : List Event) (was is : Option Job) (old new : Core) → TakesRegister r events was is old new → AllByRecursion IsUpkeep events
-register_adds (reply.Registered a) events was is old new t = all_of IsUpkeep events _ t.3 (registered t.0.watermark old.seqno (Ok a))
-register_adds (reply.Refused x) events was is old new t = all_of IsUpkeep events _ t.3 (registered t.0.watermark old.seqno (Err x))
-register_adds reply.NoJob events was is old new t = all_of IsUpkeep events [] t.0.0 tt
+register_adds : (r : Reply) (events : List Event) (was is : Option Job) (old new : Core) → TakesRegister r events was is old new → AllByRecursion (IsUpkeep AnyMark) events
+register_adds (reply.Registered a) events was is old new t = all_of (IsUpkeep AnyMark) events _ t.3 (registered t.0.watermark old.seqno (Ok a))
+register_adds (reply.Refused x) events was is old new t = all_of (IsUpkeep AnyMark) events _ t.3 (registered t.0.watermark old.seqno (Err x))
+register_adds reply.NoJob events was is old new t = all_of (IsUpkeep AnyMark) events [] t.0.0 tt
 register_adds r events was is old new t = absurd t
 
 begin_adds : (r : Reply) (events : List Event) (was is : Option Job) (old new : Core) → TakesBegin r events was is old new → events ≡ []
@@ -169,22 +169,22 @@ abandon_adds r events was is old new t = absurd t
 
 -- ---- compactions
 
--- where what a choice tells as dropped may be dropped
-module _ (May : List Range → Type 0) where
+-- where the watermark may be marked, and what a choice tells as dropped may be dropped
+module _ (Of : ℕ → Type 0) (May : List Range → Type 0) where
   abbrev IsTold : Event → Type 0
-  IsTold = IsUpkeepOrDrop May
+  IsTold = IsUpkeepOrDrop Of May
 
   abbrev MayTell : Core → Choice → Type 0
   MayTell c choice = AllByRecursion IsTold (ranges_told choice c)
 
-  choice_adds : (choice : Choice) (w : ℕ) (r : Result Begun Error) (c : Core) (events : List Event) → MayTell c choice → TellsChoice choice w r c events → AllByRecursion IsTold events
-  choice_adds choice w (Ok Installed) c events may t = all_of IsTold events _ (t.done (inl refl)) (tt, each_append IsTold (ranges_told choice c) (Install c.seqno ∷ []) may (tt, tt))
-  choice_adds choice w (Ok DidNothing) c events may t = all_of IsTold events (Mark w ∷ []) (t.told (λ h. cc h)) (tt, tt)
-  choice_adds choice w (Ok (Declined why)) c events may t = all_of IsTold events (Mark w ∷ []) (t.told (λ h. cc h)) (tt, tt)
-  choice_adds choice w (Ok (BegunJob job)) c events may t = all_of IsTold events (Mark w ∷ []) (t.told (λ h. cc h)) (tt, tt)
-  choice_adds choice w (Err AfterCommit) c events may t = all_of IsTold events _ (t.done (inr refl)) (tt, each_append IsTold (ranges_told choice c) (Install c.seqno ∷ []) may (tt, tt))
-  choice_adds choice w (Err CommitUnknown) c events may t = all_of IsTold events _ (t.lost refl) (tt, may)
-  choice_adds choice w (Err e) c events may t = all_of IsTold events (Mark w ∷ []) (t.refused (λ h. cc h) (λ h. cc h)) (tt, tt)
+  choice_adds : (choice : Choice) (w : ℕ) → Of w → (r : Result Begun Error) (c : Core) (events : List Event) → MayTell c choice → TellsChoice choice w r c events → AllByRecursion IsTold events
+  choice_adds choice w own (Ok Installed) c events may t = all_of IsTold events _ (t.done (inl refl)) (own, each_append IsTold (ranges_told choice c) (Install c.seqno ∷ []) may (tt, tt))
+  choice_adds choice w own (Ok DidNothing) c events may t = all_of IsTold events (Mark w ∷ []) (t.told (λ h. cc h)) (own, tt)
+  choice_adds choice w own (Ok (Declined why)) c events may t = all_of IsTold events (Mark w ∷ []) (t.told (λ h. cc h)) (own, tt)
+  choice_adds choice w own (Ok (BegunJob job)) c events may t = all_of IsTold events (Mark w ∷ []) (t.told (λ h. cc h)) (own, tt)
+  choice_adds choice w own (Err AfterCommit) c events may t = all_of IsTold events _ (t.done (inr refl)) (own, each_append IsTold (ranges_told choice c) (Install c.seqno ∷ []) may (tt, tt))
+  choice_adds choice w own (Err CommitUnknown) c events may t = all_of IsTold events _ (t.lost refl) (own, may)
+  choice_adds choice w own (Err e) c events may t = all_of IsTold events (Mark w ∷ []) (t.refused (λ h. cc h) (λ h. cc h)) (own, tt)
 
   behind_adds : (begun r : Result Begun Error) (c : Core) (events : List Event) → TellsBehind begun r c events → AllByRecursion IsTold events
   behind_adds (Ok (BegunJob job)) r c events (inl t) = all_of IsTold events (Install c.seqno ∷ []) t.1 (tt, tt)
@@ -194,54 +194,54 @@ module _ (May : List Range → Type 0) where
   behind_adds (Ok Installed) r c events t = all_of IsTold events [] t tt
   behind_adds (Err e) r c events t = all_of IsTold events [] t tt
 
-  begun_adds : (answer : Result Choice Error) (o : Options) (r : Result Begun Error) (events : List Event) (old new : Core) → IfOk answer (MayTell old) → BeginsAnswer answer o r events old new → AllByRecursion IsTold events
-  begun_adds (Ok choice) o r events old new may b = choice_adds choice o.mvcc_gc_watermark r old events may b.2
-  begun_adds (Err e) o r events old new may b = all_of IsTold events (Mark o.mvcc_gc_watermark ∷ []) b.1 (tt, tt)
+  begun_adds : (answer : Result Choice Error) (o : Options) → Of o.mvcc_gc_watermark → (r : Result Begun Error) (events : List Event) (old new : Core) → IfOk answer (MayTell old) → BeginsAnswer answer o r events old new → AllByRecursion IsTold events
+  begun_adds (Ok choice) o own r events old new may b = choice_adds choice o.mvcc_gc_watermark own r old events may b.2
+  begun_adds (Err e) o own r events old new may b = all_of IsTold events (Mark o.mvcc_gc_watermark ∷ []) b.1 (own, tt)
 
-  compacted_adds : (answer : Result Choice Error) (o : Options) (r : Result Begun Error) (events : List Event) (old new : Core) → IfOk answer (MayTell old) → CompactsAnswer answer o r events old new → AllByRecursion IsTold events
-  compacted_adds (Ok choice) o r events old new may c =
-      all_of IsTold events (c.front ++ c.behind) c.told (each_append IsTold c.front c.behind (choice_adds choice o.mvcc_gc_watermark c.compacts.begun old c.front may c.begins) (behind_adds c.compacts.begun r c.compacts.mid c.behind c.follows))
-  compacted_adds (Err e) o r events old new may b = all_of IsTold events (Mark o.mvcc_gc_watermark ∷ []) b.1 (tt, tt)
+  compacted_adds : (answer : Result Choice Error) (o : Options) → Of o.mvcc_gc_watermark → (r : Result Begun Error) (events : List Event) (old new : Core) → IfOk answer (MayTell old) → CompactsAnswer answer o r events old new → AllByRecursion IsTold events
+  compacted_adds (Ok choice) o own r events old new may c =
+      all_of IsTold events (c.front ++ c.behind) c.told (each_append IsTold c.front c.behind (choice_adds choice o.mvcc_gc_watermark own c.compacts.begun old c.front may c.begins) (behind_adds c.compacts.begun r c.compacts.mid c.behind c.follows))
+  compacted_adds (Err e) o own r events old new may b = all_of IsTold events (Mark o.mvcc_gc_watermark ∷ []) b.1 (own, tt)
 
   module _ (may_choose : Relation Choice) (may_refuse : Relation ChooseError) where
     answer_may : (c : Core) → ((choice : Choice) → MayAnswer may_choose c choice → MayTell c choice) → (answer : Result Choice Error) → IsAnswerOf may_choose may_refuse c answer → IfOk answer (MayTell c)
     answer_may c may (Ok choice) is = may choice is.1
     answer_may c may (Err e) is = tt
 
-    from_adds : (o : Options) (r : Reply) (events : List Event) (old new : Core) → ((choice : Choice) → MayAnswer may_choose old choice → MayTell old choice) → CompactsFrom may_choose may_refuse o r events old new → AllByRecursion IsTold events
-    from_adds o r events old new may c = compacted_adds c.answer o c.does.done events old new (answer_may old may c.answer c.answered) c.does.compacts
+    from_adds : (o : Options) → Of o.mvcc_gc_watermark → (r : Reply) (events : List Event) (old new : Core) → ((choice : Choice) → MayAnswer may_choose old choice → MayTell old choice) → CompactsFrom may_choose may_refuse o r events old new → AllByRecursion IsTold events
+    from_adds o own r events old new may c = compacted_adds c.answer o own c.does.done events old new (answer_may old may c.answer c.answered) c.does.compacts
 
 -- a strategy of the caller's may drop any tables
-any_told : (c : Core) (choice : Choice) → MayTell AnyRanges c choice
-any_told c DoNothing = tt
-any_told c (Move input) = tt
-any_told c (Merge input) = tt
-any_told c (Drop ids) = (tt, tt)
+any_told : (Of : ℕ → Type 0) (c : Core) (choice : Choice) → MayTell Of AnyRanges c choice
+any_told Of c DoNothing = tt
+any_told Of c (Move input) = tt
+any_told Of c (Merge input) = tt
+any_told Of c (Drop ids) = (tt, tt)
 
-any_begun : (c : Core) (answer : Result Choice Error) → IfOk answer (MayTell AnyRanges c)
-any_begun c (Ok choice) = any_told c choice
-any_begun c (Err e) = tt
+any_begun : (Of : ℕ → Type 0) (c : Core) (answer : Result Choice Error) → IfOk answer (MayTell Of AnyRanges c)
+any_begun Of c (Ok choice) = any_told Of c choice
+any_begun Of c (Err e) = tt
 
-compact_adds : (strategies : Strategies) (at : ℕ) (o : Options) (r : Reply) (events : List Event) (old new : Core) → TakesCompact strategies at o r events old new → AllByRecursion (IsUpkeepOrDrop AnyRanges) events
-compact_adds strategies at o reply.NoStrategy events old new t = all_of (IsUpkeepOrDrop AnyRanges) events [] t.0 tt
-compact_adds strategies at o r events old new t = from_adds AnyRanges (strategies.may_choose at) (strategies.may_refuse at) o r events old new (λ choice may. any_told old choice) t.1
+compact_adds : (strategies : Strategies) (at : ℕ) (o : Options) (r : Reply) (events : List Event) (old new : Core) → TakesCompact strategies at o r events old new → AllByRecursion (IsUpkeepOrDrop (IsMark o.mvcc_gc_watermark) AnyRanges) events
+compact_adds strategies at o reply.NoStrategy events old new t = all_of (IsUpkeepOrDrop (IsMark o.mvcc_gc_watermark) AnyRanges) events [] t.0 tt
+compact_adds strategies at o r events old new t = from_adds (IsMark o.mvcc_gc_watermark) AnyRanges (strategies.may_choose at) (strategies.may_refuse at) o refl r events old new (λ choice may. any_told (IsMark o.mvcc_gc_watermark) old choice) t.1
 
 -- a merge of all tables drops none
-none_told : (target : ℕ) (c : Core) (choice : Choice) → MayAnswer (major_choice target) c choice → MayTell NoRanges c choice
-none_told target c DoNothing may = tt
-none_told target c (Move input) may = tt
-none_told target c (Merge input) may = tt
-none_told target c (Drop ids) may = absurd (no_ids (is_any_hidden may.0 (lists.all_of (levels_of c))) may.2)
+none_told : (target w : ℕ) (c : Core) (choice : Choice) → MayAnswer (major_choice target) c choice → MayTell (IsMark w) NoRanges c choice
+none_told target w c DoNothing may = tt
+none_told target w c (Move input) may = tt
+none_told target w c (Merge input) may = tt
+none_told target w c (Drop ids) may = absurd (no_ids (is_any_hidden may.0 (lists.all_of (levels_of c))) may.2)
   where
     no_ids : (hidden : Bool) → MatchBool hidden (IsNothing (Drop ids)) (IsMerge (Drop ids) (lists.all_of (levels_of c)) 6 6 target) → ⊥
     no_ids true h = h
     no_ids false h = h
 
-major_adds : (target w : ℕ) (r : Reply) (events : List Event) (old new : Core) → TakesMajor target w r events old new → AllByRecursion IsUpkeep events
-major_adds target w r events old new t = from_adds NoRanges (major_choice target) only_memory (options_at w old) r events old new (none_told target old) t
+major_adds : (target w : ℕ) (r : Reply) (events : List Event) (old new : Core) → TakesMajor target w r events old new → AllByRecursion (IsUpkeep (IsMark w)) events
+major_adds target w r events old new t = from_adds (IsMark w) NoRanges (major_choice target) only_memory (options_at w old) refl r events old new (none_told target w old) t
 
 -- a drop of a range only those within it
-within_told : (bounds : OwnedBounds) (c : Core) → HasOwnIds (lists.all_of (levels_of c)) → (choice : Choice) → MayAnswer (drop_choice bounds) c choice → MayTell (RangesWithin bounds.start bounds.end) c choice
+within_told : (bounds : OwnedBounds) (c : Core) → HasOwnIds (lists.all_of (levels_of c)) → (choice : Choice) → MayAnswer (drop_choice bounds) c choice → MayTell (IsMark 0) (RangesWithin bounds.start bounds.end) c choice
 within_told bounds c own DoNothing may = tt
 within_told bounds c own (Move input) may = tt
 within_told bounds c own (Merge input) may = tt
@@ -251,14 +251,14 @@ within_told bounds c own (Drop ids) may = (drop_within bounds ids.keys (levels_o
     chosen true h = absurd h
     chosen false h = h
 
-range_adds : (bounds : OwnedBounds) (r : Reply) (events : List Event) (old new : Core) → TakesDropRange bounds r events old new → AllByRecursion (IsUpkeepOrDrop (RangesWithin bounds.start bounds.end)) events
-range_adds bounds r events old new (inl t) = all_of (IsUpkeepOrDrop (RangesWithin bounds.start bounds.end)) events [] t.3 tt
-range_adds bounds r events old new (inr t) = from_adds (RangesWithin bounds.start bounds.end) (drop_choice bounds) only_memory (options_at 0 old) r events old new (within_told bounds old t.2) t.1
+range_adds : (bounds : OwnedBounds) (r : Reply) (events : List Event) (old new : Core) → TakesDropRange bounds r events old new → AllByRecursion (IsUpkeepOrDrop (IsMark 0) (RangesWithin bounds.start bounds.end)) events
+range_adds bounds r events old new (inl t) = all_of (IsUpkeepOrDrop (IsMark 0) (RangesWithin bounds.start bounds.end)) events [] t.3 tt
+range_adds bounds r events old new (inr t) = from_adds (IsMark 0) (RangesWithin bounds.start bounds.end) (drop_choice bounds) only_memory (options_at 0 old) refl r events old new (within_told bounds old t.2) t.1
 
-begin_compaction_adds : (strategies : Strategies) (at : ℕ) (o : Options) (r : Reply) (events : List Event) (was is : Option Job) (old new : Core) → TakesBeginCompaction strategies at o r events was is old new → AllByRecursion (IsUpkeepOrDrop AnyRanges) events
-begin_compaction_adds strategies at o reply.SlotInUse events was is old new t = all_of (IsUpkeepOrDrop AnyRanges) events [] t.0.0 tt
-begin_compaction_adds strategies at o reply.NoStrategy events was is old new t = all_of (IsUpkeepOrDrop AnyRanges) events [] t.0.0 tt
-begin_compaction_adds strategies at o r events was is old new t = begun_adds AnyRanges t.answer o t.begun events old new (any_begun old t.answer) t.begins
+begin_compaction_adds : (strategies : Strategies) (at : ℕ) (o : Options) (r : Reply) (events : List Event) (was is : Option Job) (old new : Core) → TakesBeginCompaction strategies at o r events was is old new → AllByRecursion (IsUpkeepOrDrop (IsMark o.mvcc_gc_watermark) AnyRanges) events
+begin_compaction_adds strategies at o reply.SlotInUse events was is old new t = all_of (IsUpkeepOrDrop (IsMark o.mvcc_gc_watermark) AnyRanges) events [] t.0.0 tt
+begin_compaction_adds strategies at o reply.NoStrategy events was is old new t = all_of (IsUpkeepOrDrop (IsMark o.mvcc_gc_watermark) AnyRanges) events [] t.0.0 tt
+begin_compaction_adds strategies at o r events was is old new t = begun_adds (IsMark o.mvcc_gc_watermark) AnyRanges t.answer o refl t.begun events old new (any_begun (IsMark o.mvcc_gc_watermark) old t.answer) t.begins
 
 run_compaction_adds : (r : Reply) (events : List Event) (was is : Option Job) (old new : Core) → TakesRunCompaction r events was is old new → events ≡ []
 run_compaction_adds reply.Done events was is old new t = t.0
@@ -266,15 +266,15 @@ run_compaction_adds (reply.Refused x) events was is old new t = t.0.0
 run_compaction_adds reply.NoJob events was is old new t = t.0.0
 run_compaction_adds r events was is old new t = absurd t
 
-merge_adds : (r : Result Finished Error) (c : Core) (events : List Event) → TellsMerge r c events → AllByRecursion IsUpkeep events
-merge_adds (Ok IsFinished) c events t = all_of IsUpkeep events (Install c.seqno ∷ []) (t.done (inl refl)) (tt, tt)
-merge_adds (Ok (Over why)) c events t = all_of IsUpkeep events [] (t.told (λ h. cc h)) tt
-merge_adds (Err AfterCommit) c events t = all_of IsUpkeep events (Install c.seqno ∷ []) (t.done (inr refl)) (tt, tt)
-merge_adds (Err CommitUnknown) c events t = all_of IsUpkeep events [] (t.lost refl) tt
-merge_adds (Err e) c events t = all_of IsUpkeep events [] (t.refused (λ h. cc h) (λ h. cc h)) tt
+merge_adds : (r : Result Finished Error) (c : Core) (events : List Event) → TellsMerge r c events → AllByRecursion (IsUpkeep NoMark) events
+merge_adds (Ok IsFinished) c events t = all_of (IsUpkeep NoMark) events (Install c.seqno ∷ []) (t.done (inl refl)) (tt, tt)
+merge_adds (Ok (Over why)) c events t = all_of (IsUpkeep NoMark) events [] (t.told (λ h. cc h)) tt
+merge_adds (Err AfterCommit) c events t = all_of (IsUpkeep NoMark) events (Install c.seqno ∷ []) (t.done (inr refl)) (tt, tt)
+merge_adds (Err CommitUnknown) c events t = all_of (IsUpkeep NoMark) events [] (t.lost refl) tt
+merge_adds (Err e) c events t = all_of (IsUpkeep NoMark) events [] (t.refused (λ h. cc h) (λ h. cc h)) tt
 
-finish_adds : (r : Reply) (events : List Event) (was is : Option Job) (old new : Core) → TakesFinish r events was is old new → AllByRecursion IsUpkeep events
-finish_adds reply.NoJob events was is old new t = all_of IsUpkeep events [] t.0.0 tt
+finish_adds : (r : Reply) (events : List Event) (was is : Option Job) (old new : Core) → TakesFinish r events was is old new → AllByRecursion (IsUpkeep NoMark) events
+finish_adds reply.NoJob events was is old new t = all_of (IsUpkeep NoMark) events [] t.0.0 tt
 finish_adds r events was is old new t = merge_adds t.end old events t.ends.2
 
 abandon_compaction_adds : (r : Reply) (events : List Event) (was is : Option Job) (old new : Core) → TakesAbandonCompaction r events was is old new → events ≡ []

@@ -44,17 +44,17 @@ use Rattle.lsm_runs.proofs.Resting.{JobQuiet, Quiet}
 
 -- ---- errors that don't blame it
 
-abbrev blames : Error → Bool
+abbrev pub blames : Error → Bool
 blames Store = true
 blames CommitUnknown = true
 blames AfterCommit = true
 blames e = false
 
-abbrev Blameless : Error → Type 0
+abbrev pub Blameless : Error → Type 0
 Blameless e = BlamesStore e → ⊥
 
 -- an error of this name
-named : (x e : Error) → blames x ≡ false → e ≡ x → Blameless e
+pub named : (x e : Error) → blames x ≡ false → e ≡ x → Blameless e
 named x e free same blamed = cc (sym (subst (λ y. blames y ≡ false) (sym same) free) ∙ known)
   where
     known : blames e ≡ true
@@ -74,7 +74,7 @@ entry_reason e = go (is_long_key e.key.user_key) (is_long_value e.value) (is_gre
     go false false true = refl
     go false false false = tt
 
-batch_reason : (n : ℕ) (ops : List (Bytes × Op)) → IfSome (batch_refusal n ops) (λ y. blames y ≡ false)
+pub batch_reason : (n : ℕ) (ops : List (Bytes × Op)) → IfSome (batch_refusal n ops) (λ y. blames y ≡ false)
 batch_reason n ops = go (is_great n) (list_any (λ p. is_long_key p.0) ops) (list_any (λ p. is_long_value (op_value p.1)) ops) (repeats (keys_of ops))
   where
     go : (a b c d : Bool) → IfSome (if a then Some OutOfNumbers else (if b then Some KeyTooLong else (if c then Some ValueTooLong else (if d then Some DuplicateKey else None)))) (λ y. blames y ≡ false)
@@ -84,7 +84,7 @@ batch_reason n ops = go (is_great n) (list_any (λ p. is_long_key p.0) ops) (lis
     go false false false true = refl
     go false false false false = tt
 
-read_refusal : (s : ℕ) (c : Core) (x : Error) → IsReadRefusal s c x → Blameless x
+pub read_refusal : (s : ℕ) (c : Core) (x : Error) → IsReadRefusal s c x → Blameless x
 read_refusal s c x r = ⊎_elim (λ h. named SnapshotTooOld x refl h) (λ h. named OutOfMemory x refl h) r.0
 
 -- ---- calls on jobs

@@ -42,7 +42,7 @@ use Rattle.lsm_runs.proofs.Drawing.{Near, seqno_of, near_same, near_next, near_e
 
 -- ---- flushes
 
-flush_numbers_of : (w : ℕ) (marked : Bool) (r : Result (Option (ℕ × Outcome)) Error) (events : List Event) (old new : Core) → events ≡ flush_events w old.seqno marked r → Flushes w r old new → MarksFlush marked r → UsesNumbers Draws events old.seqno new.seqno
+flush_numbers_of : (w : ℕ) (marked : Bool) (r : Result (Option (ℕ × Outcome)) Error) (events : List Event) (old new : Core) → events ≡ flush_events w old.seqno marked r → Flushes w r old new → MarksFlush w marked r old new → UsesNumbers Draws events old.seqno new.seqno
 flush_numbers_of w false (Ok None) events old new is f m = idle events old new is (f.some refl).1
 flush_numbers_of w true (Ok None) events old new is f m = absurd (no (m.ok.1 refl))
   where

@@ -2,26 +2,15 @@
 use Rattle.std.proofs.Common.{◌≡◌, ℕ, List, [], ◌∷◌, ◌++◌, map, refl, ap, ◌∙◌, subst}
 use Rattle.lsm_model.specs.Journal.{Event, InOrder}
 use Rattle.lsm_model.specs.Counted.{Counted, events_of, CountedIsInOrder}
-use Rattle.lsm_model.specs.declared.journal.JournalEntry.TheVariants.{Write, Clear, Install, Dropped, Mark, Read}
+use Rattle.lsm_run_model.specs.Counting.{counted_at}
+use Rattle.lsm_run_model.proofs.Counting.{events_append}
 use Rattle.lsm_state.specs.Core.{Core}
 use Rattle.lsm_runs.specs.declared.steps.Step.{Step}
 use Rattle.lsm_runs.specs.Told.{Told}
 use Rattle.lsm_runs.specs.Slots.{Stage, at_first}
 use Rattle.lsm_runs.specs.Compacting.{Strategies}
 use Rattle.lsm_runs.specs.Runs.{Ran, RanToEnd, journal_of}
-use Rattle.lsm_runs.specs.Counting.{counted_at, RanCounted, RunIsInOrder}
-
-event_at : (before after : ℕ) (x : Event) → (counted_at before after x).event ≡ x
-event_at before after (Write e) = refl
-event_at before after (Clear n) = refl
-event_at before after (Install n) = refl
-event_at before after (Dropped ranges n) = refl
-event_at before after (Mark w) = refl
-event_at before after (Read at question answer) = refl
-
-events_append : (before after : ℕ) (xs : List Event) (rest : List Counted) → events_of (map (counted_at before after) xs ++ rest) ≡ xs ++ events_of rest
-events_append before after [] rest = refl
-events_append before after (x ∷ xs) rest = rw (event_at before after x) (ap (λ ys. x ∷ ys) (events_append before after xs rest))
+use Rattle.lsm_runs.specs.Counting.{RanCounted, RunIsInOrder}
 
 counted_run : (strategies : Strategies) (xs : List Step) (ts : List Told) (old new : Stage) → Ran strategies xs ts old new → (journal : List Counted) × RanCounted strategies xs ts journal old new
 counted_run strategies [] [] old new r = ([], (refl, r))

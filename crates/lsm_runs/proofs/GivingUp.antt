@@ -25,7 +25,7 @@ use Rattle.lsm_runs.proofs.OpenFlush.{one_flush, spent_other, none_isnt}
 closes_none : (old new : Core) → new ≡ old → Closes old new
 closes_none old new e = subst (Closes old) (sym e) (record { rest = refl; flush = inl refl; numbers = []; merges = refl })
 
-spent_closes : (n : ℕ) (old new : Core) → new ≡ spent n old → Closes old new
+pub spent_closes : (n : ℕ) (old new : Core) → new ≡ spent n old → Closes old new
 spent_closes n old new e = subst (Closes old) (sym e) (record { rest = refl; flush = go old.flush; numbers = []; merges = refl })
   where
     closed : (f : SeenOpen) (b : Bool) → (cond b None (Some f) ≡ Some f) ⊎ (cond b None (Some f) ≡ None)

@@ -49,6 +49,16 @@ abbrev pub AddsClear : Reply → List Event → Type 0
 AddsClear (Cleared n) events = events ≡ DidClear n ∷ []
 AddsClear reply events = events ≡ []
 
+-- which watermarks may be marked: one, any, or none
+abbrev pub IsMark : ℕ → ℕ → Type 0
+IsMark w v = v ≡ w
+
+abbrev pub AnyMark : ℕ → Type 0
+AnyMark v = Unit {0}
+
+abbrev pub NoMark : ℕ → Type 0
+NoMark v = ⊥
+
 -- which ranges may be dropped: any, none, or those of which each key is at or after the start of bounds, and at or before their end
 abbrev pub AnyRanges : List Keys → Type 0
 AnyRanges ranges = Unit {0}
@@ -59,29 +69,29 @@ NoRanges ranges = ⊥
 abbrev pub RangesWithin : Bound Bytes → Bound Bytes → List Keys → Type 0
 RangesWithin low high ranges = (k : Bytes) → in_any k ranges ≡ true → is_from low k && is_to high k ≡ true
 
--- a mark or an install, and beside them a drop of ranges that may be dropped
-abbrev pub IsUpkeepOrDrop : (List Keys → Type 0) → Event → Type 0
-IsUpkeepOrDrop May (Mark w) = Unit {0}
-IsUpkeepOrDrop May (Install n) = Unit {0}
-IsUpkeepOrDrop May (Dropped ranges n) = May ranges
-IsUpkeepOrDrop May (Wrote e) = ⊥
-IsUpkeepOrDrop May (DidClear n) = ⊥
-IsUpkeepOrDrop May (Read s question told) = ⊥
+-- a mark that may be set or an install, and beside them a drop of ranges that may be dropped
+abbrev pub IsUpkeepOrDrop : (ℕ → Type 0) → (List Keys → Type 0) → Event → Type 0
+IsUpkeepOrDrop Of May (Mark w) = Of w
+IsUpkeepOrDrop Of May (Install n) = Unit {0}
+IsUpkeepOrDrop Of May (Dropped ranges n) = May ranges
+IsUpkeepOrDrop Of May (Wrote e) = ⊥
+IsUpkeepOrDrop Of May (DidClear n) = ⊥
+IsUpkeepOrDrop Of May (Read s question told) = ⊥
 
 -- nothing is dropped
-abbrev pub IsUpkeep : Event → Type 0
-IsUpkeep = IsUpkeepOrDrop NoRanges
+abbrev pub IsUpkeep : (ℕ → Type 0) → Event → Type 0
+IsUpkeep Of = IsUpkeepOrDrop Of NoRanges
 
 -- ---- by steps
 
 abbrev pub JobAdds : JobStep → List Event → Type 0
-JobAdds RegisterTables events = AllByRecursion IsUpkeep events
-JobAdds (BeginCompaction at o) events = AllByRecursion (IsUpkeepOrDrop AnyRanges) events
-JobAdds FinishCompaction events = AllByRecursion IsUpkeep events
+JobAdds RegisterTables events = AllByRecursion (IsUpkeep AnyMark) events
+JobAdds (BeginCompaction at o) events = AllByRecursion (IsUpkeepOrDrop (IsMark o.mvcc_gc_watermark) AnyRanges) events
+JobAdds FinishCompaction events = AllByRecursion (IsUpkeep NoMark) events
 JobAdds step events = events ≡ []
 
--- a strategy of the caller's may drop any tables, a merge of all tables drops none, and a drop of a range only tables within it; all
--- steps that aren't named add nothing
+-- a step marks the watermark that it names, a drop of a range 0. A strategy of the caller's may drop any tables, a merge of all
+-- tables drops none, and a drop of a range only tables within it. All steps that aren't named add nothing
 abbrev pub Adds : Step → Reply → List Event → Type 0
 Adds (Insert k v n) reply events = AddsEntry (op_entry k n (SetTo v)) reply events
 Adds (Remove k n) reply events = AddsEntry (op_entry k n Del) reply events
@@ -93,12 +103,12 @@ Adds (Range low high s) reply events = AddsPairs (Between low high) s reply even
 Adds (Iter s) reply events = AddsPairs (Between Unbounded Unbounded) s reply events
 Adds (Prefix p s) reply events = AddsPairs (AskPrefix p) s reply events
 Adds Clear reply events = AddsClear reply events
-Adds (Flush w) reply events = AllByRecursion IsUpkeep events
-Adds (FlushActiveMemtable w) reply events = AllByRecursion IsUpkeep events
-Adds (Compact at w) reply events = AllByRecursion (IsUpkeepOrDrop AnyRanges) events
-Adds (DoCompaction at o) reply events = AllByRecursion (IsUpkeepOrDrop AnyRanges) events
-Adds (MajorCompact target w) reply events = AllByRecursion IsUpkeep events
-Adds (DropRange low high) reply events = AllByRecursion (IsUpkeepOrDrop (RangesWithin low high)) events
+Adds (Flush w) reply events = AllByRecursion (IsUpkeep (IsMark w)) events
+Adds (FlushActiveMemtable w) reply events = AllByRecursion (IsUpkeep (IsMark w)) events
+Adds (Compact at w) reply events = AllByRecursion (IsUpkeepOrDrop (IsMark w) AnyRanges) events
+Adds (DoCompaction at o) reply events = AllByRecursion (IsUpkeepOrDrop (IsMark o.mvcc_gc_watermark) AnyRanges) events
+Adds (MajorCompact target w) reply events = AllByRecursion (IsUpkeep (IsMark w)) events
+Adds (DropRange low high) reply events = AllByRecursion (IsUpkeepOrDrop (IsMark 0) (RangesWithin low high)) events
 Adds (AtSlot slot step) reply events = JobAdds step events
 Adds step reply events = events ≡ []
 

@@ -3,22 +3,13 @@ use Rattle.std.specs.Prelude.{◌≡◌, ℕ, List, [], ◌∷◌, ◌++◌, map
 use Rattle.lsm_below.specs.Entries.{Entry}
 use Rattle.lsm_model.specs.Journal.{Event, InOrder}
 use Rattle.lsm_model.specs.Counted.{Counted, InCountedOrder}
-use Rattle.lsm_model.specs.declared.journal.JournalEntry.TheVariants.{Write, Clear, Install, Dropped, Mark, Read}
+use Rattle.lsm_run_model.specs.Counting.{counted_at}
 use Rattle.lsm_state.specs.Core.{Core}
 use Rattle.lsm_runs.specs.declared.steps.Step.{Step}
 use Rattle.lsm_runs.specs.Slots.{Stage, at_first, Closes}
 use Rattle.lsm_runs.specs.Told.{Told}
 use Rattle.lsm_runs.specs.Compacting.{Strategies}
 use Rattle.lsm_runs.specs.Runs.{Takes, journal_of}
-
--- an event of a step, and where the counter stood at its time: a batch has drawn its sequence number by then, an install or a clear draws its own, a mark comes before both
-abbrev pub counted_at : ℕ → ℕ → Event → Counted
-counted_at before after (Write e) = record { event = Write e; counter = after }
-counted_at before after (Clear n) = record { event = Clear n; counter = n }
-counted_at before after (Install n) = record { event = Install n; counter = n }
-counted_at before after (Dropped ranges n) = record { event = Dropped ranges n; counter = n }
-counted_at before after (Mark w) = record { event = Mark w; counter = before }
-counted_at before after (Read at question answer) = record { event = Read at question answer; counter = after }
 
 -- the steps lead from the old state to the new with these outcomes, and this is their journal beside the counter
 abbrev pub RanCounted : Strategies → List Step → List Told → List Counted → Stage → Stage → Type 0

@@ -4,6 +4,7 @@
 //! |-|-|
 //! | `steps` | calls as data, and what each replies |
 //! | `slots` | jobs that wait for their next call |
+//! | `replies` | what is replied of a compaction |
 //! | `writes` | what writes reply, and what they add to the journal |
 //! | `runner` | a list of calls on a tree, with the replay theorem, and what a crash leaves |
 //! | `finding` | how the files of a tree are found, and life after life |
@@ -12,6 +13,7 @@
 
 mod finding;
 mod life;
+mod replies;
 mod runner;
 mod slots;
 mod steps;
@@ -19,6 +21,7 @@ mod writes;
 
 pub use finding::{TreeFiles, any_number_of_lives, openings_are_lives, runs_are_lives};
 pub use life::live;
+pub use replies::{of_begun, of_finished};
 pub use runner::run;
 pub use slots::{Job, Slot, Slots, make_room};
 pub use steps::{Compacted, Count, Counter, JobStep, Outcome, Reply, Step, Taken};

@@ -24,13 +24,13 @@ ghost use Rattle.lsm_runs.specs.After.{RunIsRight};
 
 use crate::finding::TreeFiles;
 use crate::slots::Slots;
-use crate::writes::{of_batch, of_entry, refused, share_ops, silent};
+use crate::writes::{of_batch, of_entry, refused, silent};
 use crate::{Outcome, Reply, Step, Taken};
 use lsm_below::{InternalValue, SeqNo, UserKey, UserValue, ValueType, share};
 use lsm_commit::stored_files_are_ready;
 use lsm_journal::{
-    append_noting, batch_entries, noted_compactions_keep_reads, one_entry, read_entry, write_entry,
-    write_noting,
+    append_noting, batch_entries, noted_compactions_keep_reads, one_entry, read_entry, share_ops,
+    write_entry, write_noting,
 };
 use lsm_manifest::{found_tables_show, images_stand_once};
 use lsm_model::{Op, counted_is_in_order, reads_are_sound};

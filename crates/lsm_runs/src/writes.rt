@@ -1,12 +1,12 @@
 // The outcomes of calls that write: what they reply, and what they add to the journal.
-ghost use Rattle.std.specs.Prelude.{◌≡◌, [], IfOk};
+ghost use Rattle.std.specs.Prelude.{◌≡◌, []};
 ghost use Rattle.lsm_runs.specs.Runs.{told_entry, told_batch};
 
 use crate::{Outcome, Reply};
-use lsm_below::{SeqNo, UserKey, share};
-use lsm_model::{JournalEntry, Op};
+use lsm_below::SeqNo;
+use lsm_model::JournalEntry;
 use lsm_parts::Error;
-use std::alloc::{AllocError, Global};
+use std::alloc::Global;
 
 pub(crate) fn refused(alloc: Global, error: Error) -> Outcome
     ensures { result ≡ record { reply = Reply.Refused error; entries = [] } }
@@ -33,31 +33,6 @@ pub(crate) fn of_entry(entries: Vec<JournalEntry>, written: Result<(u64, u64), E
         Err(error) => Reply::Refused(error),
     };
     Outcome { reply, entries }
-}
-
-// ---- batches
-
-fn share_op(op: &Op) -> Result<Op, AllocError>
-    ensures { IfOk result (λ copy. copy ≡ op.now) }
-{
-    match op {
-        Op::Set(value) => Ok(Op::Set(share(value)?)),
-        Op::Del => Ok(Op::Del),
-        Op::Weak => Ok(Op::Weak),
-    }
-}
-
-pub(crate) fn share_ops(
-    alloc: Global,
-    ops: &[(UserKey, Op)],
-) -> Result<Vec<(UserKey, Op)>, AllocError>
-    ensures { IfOk result (λ copy. copy.items ≡ ops.now) }
-{
-    let mut copy = Vec::with_capacity(alloc, ops.len())?;
-    for (key, op) in ops {
-        copy.push((share(key)?, share_op(op)?))?;
-    }
-    Ok(copy)
 }
 
 /// The outcome of a batch, beside which this is noted.

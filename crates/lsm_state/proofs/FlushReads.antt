@@ -96,7 +96,7 @@ module _ (theory : Soundness) where
   is_job : (w : ℕ) (size : ℕ) (a : Registered) (old new : Core) → InstallsWhole w size a old new → KeepsReads (Mark w ∷ (Install old.seqno ∷ [])) old new
   is_job w size a old new i = subst (λ v. KeepsReads (Mark v ∷ (Install old.seqno ∷ [])) old new) i.whole.watermark (deed_keeps i.job old new i.deeds)
 
-  flushes : (w : ℕ) (marked : Bool) (r : Result (Option (ℕ × Registered)) Error) (old new : Core) → Flushes w r old new → MarksFlush marked r → KeepsReads (flush_events w old.seqno marked r) old new
+  flushes : (w : ℕ) (marked : Bool) (r : Result (Option (ℕ × Registered)) Error) (old new : Core) → Flushes w r old new → MarksFlush w marked r old new → KeepsReads (flush_events w old.seqno marked r) old new
   flushes w false (Err e) old new f m = nothing_keeps old new (rest_same old new f.err)
   flushes w true (Err e) old new f m = mark_keeps w old new (rest_same old new f.err)
   flushes w false (Ok None) old new f m = nothing_keeps old new (λ journal. ap (state_of journal) (f.some refl).1)

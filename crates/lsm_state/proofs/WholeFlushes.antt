@@ -21,7 +21,7 @@ use Rattle.lsm_state.specs.Core.{Core, Seen, versions_left, written_by, written_
 use Rattle.lsm_commit.specs.Foreign.{AtRest, passes_then}
 use Rattle.lsm_state.specs.Commits.{UpholdsFiles, Upholds, counted}
 use Rattle.lsm_state.specs.Flushes.{sealed_ids, job_in, begun, Begins, wrote, spent, spent_in, IsCurrent, Registers, Installs, Doubts, IsFlushDeed, IsLostFlush}
-use Rattle.lsm_state.specs.WholeFlushes.{sealed_bytes, drawn_until, IsWhole, LeavesRest, Flushes, WritesJob}
+use Rattle.lsm_state.specs.WholeFlushes.{sealed_bytes, drawn_until, DrawsFew, IsWhole, LeavesRest, Flushes, MarksFlush, WritesJob}
 use Rattle.lsm_state.proofs.Upholding.{among_left, leaves_more, upheld_still}
 use Rattle.lsm_state.proofs.Writing.{stored_spent}
 
@@ -105,6 +105,10 @@ module _ (old mid : Core) (job : SeenJob) (begins : Begins (Ok (Some job)) old m
   -- a call behind it
   pub upholds_begun : (a b d : World) (made : Core) → b ≡ a → AtRest a → Upholds b d mid made → Upholds a d old made
   upholds_begun a b d made same rest then = upholds_behind a b d old mid made begun_versions (upholds_same a b old mid same begun_versions begun_written rest) then
+
+-- what is used of ids behind its beginning
+pub draws_few : (w : ℕ) (old mid : Core) (job : SeenJob) → Begins (Ok (Some job)) old mid → (n : ℕ) → DrawsFew w job mid.next_table n → DrawsFew w (job_in old) old.next_table n
+draws_few w old mid job begins n few = subst (λ (j : SeenJob). DrawsFew w j old.next_table n) begins.begins.0 (subst (λ (c : Core). DrawsFew w job c.next_table n) begins.begins.1 few)
 
 -- what a refused flush leaves has no tables but those of before
 pub left_below : (first : ℕ) (old new : Core) → LeavesRest old new → AreDrawnBelow first old → AreDrawnBelow first new
@@ -213,6 +217,14 @@ module _ (w : ℕ) (old mid made : Core) (job : SeenJob) (x : SeenWritten) (begi
     same_tables : new.next_table ≡ next
     same_tables = ap (λ (c : Core). c.next_table) installs.cleans.rest
 
+    pub marks_flushed : (size : ℕ) → MarksFlush w true (Ok (Some (size, a))) old new
+    marks_flushed size = record {
+      written = λ h. (x, is_whole new same_tables);
+      ok = (λ h. refl, λ h. refl);
+      registered = λ h. refl;
+      before = λ h. absurd (⊎_elim (λ u. cc u) (λ f. cc f) h);
+    }
+
     pub flushed : (size : ℕ) → size ≡ sealed_bytes old → (a.installed ≡ true → IsFlushDeed x made new) → Flushes w (Ok (Some (size, a))) old new
     flushed size is_size deed = record {
       none = λ e. absurd (none_sealed e);
@@ -228,6 +240,7 @@ module _ (w : ℕ) (old mid made : Core) (job : SeenJob) (x : SeenWritten) (begi
       err = tt;
       unknown = λ e. absurd (cc e);
       known = tt;
+      draws = subst (DrawsFew w (job_in old) old.next_table) (sym same_tables) (draws_few w old mid job begins next writes.draws);
       unrecoverable = (λ e. absurd (cc e), λ p. absurd (none_lost p.1));
       flush_open = (λ e. absurd (cc e), λ p. absurd (none_open p.1.1));
       before = λ e. absurd (⊎_elim (λ u. cc u) (λ f. cc f) e);
@@ -270,6 +283,15 @@ module _ (w : ℕ) (old mid made : Core) (job : SeenJob) (x : SeenWritten) (begi
         (λ (k : (e ≡ CommitUnknown → ⊥) × ((new ≡ drawn) ⊎ (new ≡ counted drawn))). ⊎_elim (λ is. leaves old.seqno old.lost is (inl refl)) (λ is. leaves (old.seqno + 1) old.lost is (inr refl)) k.1)
         left
 
+    same_next : new.next_table ≡ next
+    same_next = ⊎_elim
+        (λ (d : (e ≡ CommitUnknown) × Doubts x drawn new). ap (λ (c : Core). c.next_table) d.1.is)
+        (λ (k : (e ≡ CommitUnknown → ⊥) × ((new ≡ drawn) ⊎ (new ≡ counted drawn))). ⊎_elim (λ is. ap (λ (c : Core). c.next_table) is) (λ is. ap (λ (c : Core). c.next_table) is) k.1)
+        left
+
+    few : DrawsFew w (job_in old) old.next_table new.next_table
+    few = subst (DrawsFew w (job_in old) old.next_table) (sym same_next) (draws_few w old mid job begins next writes.draws)
+
     known : (e ≡ CommitUnknown → ⊥) → new.lost ≡ old.lost
     known isnt = ⊎_elim
         (λ (d : (e ≡ CommitUnknown) × Doubts x drawn new). absurd (isnt d.0))
@@ -294,6 +316,14 @@ module _ (w : ℕ) (old mid made : Core) (job : SeenJob) (x : SeenWritten) (begi
     doubted_tables : Doubts x drawn new → new.next_table ≡ next
     doubted_tables d = ap (λ (c : Core). c.next_table) d.is
 
+    pub marks_refused : MarksFlush w true (Err e) old new
+    marks_refused = record {
+      written = λ h. (x, is_whole new same_next);
+      ok = tt;
+      registered = λ h. refl;
+      before = λ h. absurd (⊎_elim not_lost (λ f. not_open (error_is FlushOpen f)) h);
+    }
+
     pub refused : (IsErrOf {T = Registered} (Err e) CommitUnknown → IsLostFlush x made new) → Flushes w (Err e) old new
     refused lost = record {
       none = λ h. absurd (none_sealed h);
@@ -309,6 +339,7 @@ module _ (w : ℕ) (old mid made : Core) (job : SeenJob) (x : SeenWritten) (begi
             deeds = subst (λ c. IsLostFlush x c new) made_is (lost (told CommitUnknown u));
           };
       known = known;
+      draws = few;
       unrecoverable = (λ u. absurd (not_lost u), λ p. absurd (none_lost p.1));
       flush_open = (λ f. absurd (not_open (error_is FlushOpen f)), λ p. absurd (none_open p.1.1));
       before = λ h. absurd (⊎_elim not_lost (λ f. not_open (error_is FlushOpen f)) h);

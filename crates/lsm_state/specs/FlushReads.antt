@@ -41,4 +41,4 @@ pub record FlushesKeepReads : Type 0 where
   -- registering a job, whatever it answers
   pub registers : (job : SeenWritten) (r : Result Registered Error) (old new : Core) → Registers job r old new → IfOk r (λ a. a.installed ≡ true → IsFlushDeed job old new) → KeepsReads (register_events job.watermark old.seqno r) old new
   -- a flush in one call, whatever it answers
-  pub flushes : (w : ℕ) (marked : Bool) (r : Result (Option (ℕ × Registered)) Error) (old new : Core) → Flushes w r old new → MarksFlush marked r → KeepsReads (flush_events w old.seqno marked r) old new
+  pub flushes : (w : ℕ) (marked : Bool) (r : Result (Option (ℕ × Registered)) Error) (old new : Core) → Flushes w r old new → MarksFlush w marked r old new → KeepsReads (flush_events w old.seqno marked r) old new

@@ -1,11 +1,12 @@
 -- A flush in one call: begun, merged, written and registered.
-use Rattle.std.specs.Prelude.{◌≡◌, ◌⊎◌, ℕ, ◌+◌, ◌-◌, ◌^◌, ◌<◌, ◌≤◌, Bool, true, false, [], flat_map, sum_by, Option, None, IsSome, IfSome, Result, Ok, Err, IfOk, IfErr, OnErr, IsErrOf, ◌↔◌}
+use Rattle.std.specs.Prelude.{◌≡◌, ◌⊎◌, ℕ, ◌+◌, ◌-◌, ◌^◌, ◌<◌, ◌≤◌, Bool, true, false, List, [], length, flat_map, sum_by, Option, None, IsSome, IfSome, Result, Ok, Err, IfOk, IfErr, OnErr, IsErrOf, ◌↔◌}
+use Rattle.lsm_below.specs.Entries.{Entry}
 use Rattle.lsm_below.specs.Sums.{capped}
 use Rattle.lsm_below.specs.declared.error.Error.{Error}
 use Rattle.lsm_below.specs.declared.error.Error.TheVariants.{OutOfMemory, Store, CommitUnknown, Unrecoverable, OutOfNumbers, FlushOpen, TooManyRuns}
 use Rattle.lsm_commit.specs.Writing.{HoldEntries}
 use Rattle.lsm_versions.specs.Refusals.{IsRefusedFor}
-use Rattle.lsm_flush.specs.Jobs.{SeenJob, SeenWritten, IsWrittenFrom}
+use Rattle.lsm_flush.specs.Jobs.{SeenJob, SeenWritten, IsMergedFrom, IsWrittenFrom}
 use Rattle.lsm_flush.specs.declared.jobs.Registered.{Registered}
 use Rattle.lsm_parts.specs.Held.{size_at}
 use Rattle.lsm_state.specs.Core.{Core}
@@ -28,6 +29,10 @@ pub record IsWhole (w : ℕ) (job : SeenWritten) (old new : Core) : Type 0 where
   pub watermark : job.watermark ≡ w
   pub written : IsWrittenFrom job.job w job.tables
   pub held : HoldEntries old.moment (flat_map (λ t. t.entries) job.tables) old.next_table new.next_table job.tables
+
+-- ids of tables are used, no more than entries are kept of a job
+abbrev pub DrawsFew : ℕ → SeenJob → ℕ → ℕ → Type 0
+DrawsFew w job old new = (new ≡ old) ⊎ ((kept : List Entry) × IsMergedFrom job w kept × (new ≤ old + length kept))
 
 -- ---- a flush
 
@@ -69,6 +74,7 @@ pub record Flushes (w : ℕ) (r : Result (Option (ℕ × Registered)) Error) (ol
   pub none : sealed_ids old ≡ [] → r ≡ Ok None
   pub some : IfOk r (λ a. a ≡ None → (sealed_ids old ≡ []) × (new ≡ old))
   pub installs : IfOk r (λ a. IfSome a (λ p. InstallsWhole w p.0 p.1 old new))
+  pub draws : DrawsFew w (job_in old) old.next_table new.next_table
   -- refused, nothing else changes, and a version is kept only behind a commit of unknown outcome
   pub err : OnErr r (LeavesRest old new)
   pub unknown : IsErrOf r CommitUnknown → DoubtsWhole w old new
@@ -84,8 +90,9 @@ pub record Flushes (w : ℕ) (r : Result (Option (ℕ × Registered)) Error) (ol
   pub numbered : IsErrOf r TooManyRuns → old.seqno < 2 ^ 63
   pub only : IfErr r (λ e. ((e ≡ OutOfMemory) ⊎ ((e ≡ Store) ⊎ (e ≡ CommitUnknown))) ⊎ (((e ≡ Unrecoverable) ⊎ (e ≡ FlushOpen)) ⊎ ((e ≡ OutOfNumbers) ⊎ (e ≡ TooManyRuns))))
 
--- did a flush come to register a job? Where it did its watermark counts, also where it is refused
-pub record MarksFlush (marked : Bool) (r : Result (Option (ℕ × Registered)) Error) : Type 0 where
+-- did a flush come to register a job, whose tables were written? Where it did its watermark counts, also where it is refused
+pub record MarksFlush (w : ℕ) (marked : Bool) (r : Result (Option (ℕ × Registered)) Error) (old new : Core) : Type 0 where
+  pub written : marked ≡ true → (job : SeenWritten) × IsWhole w job old new
   pub ok : IfOk r (λ a. IsSome a ↔ (marked ≡ true))
   pub registered : IsErrOf r CommitUnknown ⊎ IsErrOf r TooManyRuns → marked ≡ true
   pub before : IsErrOf r Unrecoverable ⊎ IsErrOf r FlushOpen → marked ≡ false
@@ -126,6 +133,7 @@ pub record WritesJob (w : ℕ) (job : SeenJob) (r : Result SeenWritten Error) (o
   pub ok : IfOk r (λ x. new ≡ wrote job.number x.tables new.next_table old)
   pub err : OnErr r (new ≡ spent job.number (with_next_table new.next_table old))
   pub rises : old.next_table ≤ new.next_table
+  pub draws : DrawsFew w job old.next_table new.next_table
   pub unrecoverable : IsErrOf r Unrecoverable → IsSome old.lost
   pub out_of_numbers : IsErrOf r OutOfNumbers → 2 ^ 63 ≤ new.next_table
   pub only : IfErr r (λ e. ((e ≡ OutOfMemory) ⊎ (e ≡ Store)) ⊎ ((e ≡ Unrecoverable) ⊎ (e ≡ OutOfNumbers)))

@@ -10,7 +10,6 @@ ghost use Rattle.lsm_logged.specs.Asking.{Asks};
 ghost use Rattle.lsm_log_runs.specs.Doing.{ActsRotate, ActsFlush, ActsFlushActive, ActsCompaction, ActsCompact, ActsClear};
 ghost use Rattle.lsm_log_runs.specs.Runs.{TakesRotate, TakesFlush, TakesFlushActive, TakesCompaction, TakesCompact, TakesClear, TakesMoment};
 
-use super::merge_jobs;
 use lsm_below::{Error, SeqNo, UserKey};
 use lsm_journal::copy_bound;
 use lsm_logged::Logged;
@@ -87,7 +86,7 @@ pub(super) fn set_moment<S: Store>(tree: &mut Logged<S>, moment: u64) -> Reply
 fn of_begun(begun: Result<Begun, Error>) -> Reply
     ensures { result ≡ reply_of begun }
 {
-    let (reply, _) = merge_jobs::of_begun(begun);
+    let (reply, _) = lsm_runs::of_begun(begun);
     reply
 }
 

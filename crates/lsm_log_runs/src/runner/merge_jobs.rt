@@ -1,8 +1,8 @@
 // The calls of a merge whose job waits in a slot.
-ghost use Rattle.std.specs.Prelude.{◌≡◌, []};
+ghost use Rattle.std.specs.Prelude.{[]};
 ghost use Rattle.lsm_commit.specs.Causes.{HasCause, Blames};
 ghost use Rattle.lsm_runs.specs.Causes.{ReplyBlames};
-ghost use Rattle.lsm_runs.specs.Compacting.{strategies_of, reply_of, job_of, end_reply_of, TakesRunCompaction};
+ghost use Rattle.lsm_runs.specs.Compacting.{strategies_of, TakesRunCompaction};
 ghost use Rattle.lsm_runs.specs.Files.{StaysStored};
 ghost use Rattle.lsm_state.specs.Compactions.{BeginsCompaction};
 ghost use Rattle.lsm_logged.specs.Acting.{CompactsAct};
@@ -13,43 +13,9 @@ ghost use Rattle.lsm_log_runs.specs.JobSteps.{TakesBeginCompaction, TakesFinish,
 use lsm_below::Error;
 use lsm_logged::Logged;
 use lsm_pick::CompactionStrategy;
-use lsm_runs::{Compacted, Job, Reply};
-use lsm_state::{Begun, Finished, Options};
+use lsm_runs::{Job, Reply, of_begun, of_finished};
+use lsm_state::{Begun, Options};
 use lsm_store::Store;
-
-// ---- replies
-
-/// What is replied of a compaction, and the job that waits then.
-pub(super) fn of_begun(begun: Result<Begun, Error>) -> (Reply, Option<Job>)
-    ensures reply { result.0 ≡ reply_of begun }
-    ensures job { result.1 ≡ job_of begun }
-{
-    let compacted = match begun {
-        Ok(Begun::DidNothing) => Compacted::DidNothing,
-        Ok(Begun::Declined(why)) => Compacted::Declined(why),
-        Ok(Begun::Installed) => Compacted::Installed,
-        Ok(Begun::Job(job)) => {
-            return (
-                Reply::Compacted(Compacted::Waits),
-                Some(Job::Compaction(job)),
-            );
-        }
-        Err(error) => return (Reply::Refused(error), None),
-    };
-    (Reply::Compacted(compacted), None)
-}
-
-/// What is replied of the end of a merge.
-fn of_finished(finished: Result<Finished, Error>) -> Reply
-    ensures { result ≡ end_reply_of finished }
-{
-    match finished {
-        Ok(finished) => Reply::Finished(finished),
-        Err(error) => Reply::Refused(error),
-    }
-}
-
-// ---- calls
 
 /// Begins what a strategy in a box chooses.
 fn begin_boxed<S: Store>(

@@ -4,13 +4,14 @@ ghost use Rattle.lsm_versions.specs.Levels.{all_of, HasOwnIds};
 ghost use Rattle.lsm_state.specs.Compactions.{levels_of};
 ghost use Rattle.lsm_state.specs.WholeCompactions.{options_at};
 ghost use Rattle.lsm_journal.specs.Noted.{IsAnswerOf, noted_of};
-ghost use Rattle.lsm_runs.specs.Compacting.{strategies_of, reply_of, job_of, end_reply_of, TakesBeginCompaction, TakesRunCompaction, TakesFinish, TakesAbandonCompaction, DoesAnswer, CompactsFrom, TakesCompact, TakesMajor, TakesDropRange, TakesTableId, IsCompactingReply};
+ghost use Rattle.lsm_runs.specs.Compacting.{strategies_of, TakesBeginCompaction, TakesRunCompaction, TakesFinish, TakesAbandonCompaction, DoesAnswer, CompactsFrom, TakesCompact, TakesMajor, TakesDropRange, TakesTableId, IsCompactingReply};
 ghost use Rattle.lsm_runs.specs.ReadSteps.{TakesSilent};
 ghost use Rattle.lsm_commit.specs.Causes.{HasCause, Blames};
 ghost use Rattle.lsm_state.specs.Commits.{Upholds};
 ghost use Rattle.lsm_runs.specs.Causes.{ReplyBlames};
 
 use super::{refused, silent};
+use crate::replies::{of_begun, of_finished};
 use crate::slots::Job;
 use crate::{Compacted, Outcome, Reply};
 use lsm_below::{SeqNo, UserKey};
@@ -18,44 +19,11 @@ use lsm_journal::{
     Chosen, ask, ask_with, begin_chosen, compact_chosen, copy_bound, drops_nothing, finish_entries,
     finish_noting, options_at,
 };
-use lsm_parts::Error;
 use lsm_pick::{CompactionStrategy, DropRange, Major, OwnedBounds};
-use lsm_state::{Begun, Finished, Options, TreeState};
+use lsm_state::{Options, TreeState};
 use lsm_store::Store;
 use std::alloc::{AllocError, Global};
 use std::ops::Bound;
-
-// ---- replies
-
-/// What is replied of a compaction, and the job that waits then.
-fn of_begun(begun: Result<Begun, Error>) -> (Reply, Option<Job>)
-    ensures reply { result.0 ≡ reply_of begun }
-    ensures job { result.1 ≡ job_of begun }
-{
-    let compacted = match begun {
-        Ok(Begun::DidNothing) => Compacted::DidNothing,
-        Ok(Begun::Declined(why)) => Compacted::Declined(why),
-        Ok(Begun::Installed) => Compacted::Installed,
-        Ok(Begun::Job(job)) => {
-            return (
-                Reply::Compacted(Compacted::Waits),
-                Some(Job::Compaction(job)),
-            );
-        }
-        Err(error) => return (Reply::Refused(error), None),
-    };
-    (Reply::Compacted(compacted), None)
-}
-
-/// What is replied of the end of a merge.
-fn of_finished(finished: Result<Finished, Error>) -> Reply
-    ensures { result ≡ end_reply_of finished }
-{
-    match finished {
-        Ok(finished) => Reply::Finished(finished),
-        Err(error) => Reply::Refused(error),
-    }
-}
 
 // ---- strategies
 

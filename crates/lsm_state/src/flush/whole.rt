@@ -65,7 +65,7 @@ impl<S: Store> TreeState<S> {
         marked: &mut bool,
     ) -> Result<Option<(u64, Registered)>, Error>
         ensures flushes { Flushes watermark result self.old.core self.new.core }
-        ensures marks { MarksFlush marked.new result }
+        ensures marks { MarksFlush watermark marked.new result self.old.core self.new.core }
         ensures unmarked { marked.new ≡ false → self.new.core.seqno ≡ self.old.core.seqno }
         ensures upholds { S.tells → Upholds (S.world self.old.store) (S.world self.new.store) self.old.core self.new.core }
         ensures causes { HasCause (BlamesOrUncleanFlush result) (S.world self.old.store) (S.world self.new.store) }
@@ -99,7 +99,7 @@ impl<S: Store> TreeState<S> {
         watermark: SeqNo,
     ) -> (Result<Option<(u64, Registered)>, Error>, bool)
         ensures flushes { Flushes watermark result.0 self.old.core self.new.core }
-        ensures marks { MarksFlush result.1 result.0 }
+        ensures marks { MarksFlush watermark result.1 result.0 self.old.core self.new.core }
         // Without a mark no sequence number is used.
         ensures unmarked { result.1 ≡ false → self.new.core.seqno ≡ self.old.core.seqno }
         // What a crash leaves.

@@ -3,14 +3,14 @@ use Rattle.lsm_below.specs.declared.error.Error.TheVariants.{CommitUnknown}
 use Rattle.lsm_commit.specs.Causes.{HasCause, BlamesStore, causes_then}
 use Rattle.lsm_state.specs.Kept.{KeepsTables}
 use Rattle.lsm_state.specs.Cleaning.{RemovesDrawn, LeavesNoFiles}
-use Rattle.lsm_state.specs.WholeFlushes.{Flushes}
+use Rattle.lsm_state.specs.WholeFlushes.{Flushes, MarksFlush}
 use Rattle.lsm_state.proofs.Installing.{upholds_join}
 use Rattle.lsm_state.proofs.Causing.{removes_then}
 use Rattle.std.proofs.Common.{ap, subst, Ok}
 use Rattle.std.proofs.lemmas.Result.{err_from_is_err_and}
 use Rattle.lsm_state.specs.Core.{versions_left}
 use Rattle.lsm_state.specs.Flushes.{Begins}
-use Rattle.lsm_state.proofs.WholeFlushes.{upholds_as_it_was, upholds_begun, upholds_whole, begun_core, made_history, flushed, refused, certain, left_below, drawn_below}
+use Rattle.lsm_state.proofs.WholeFlushes.{upholds_as_it_was, upholds_begun, upholds_whole, begun_core, made_history, flushed, refused, marks_flushed, marks_refused, certain, left_below, drawn_below}
 use Rattle.lsm_state.proofs.tree.TreeState.flush_marking.Goals as goal
 
 pub returns-in_err-job-clause-upholds : goal.returns-in_err-job-clause-upholds
@@ -55,6 +55,11 @@ returns-in-Ok-clause-flushes g c =
     let begins = subst (λ o. Begins (Ok o) c.args.self.now.core c.begin_flush.new.self.core) c.in-Some.is c.in_ok-job.ensures.begins in
     flushed c.args.watermark c.args.self.now.core c.begin_flush.new.self.core c.write_job.new.self.core c.in-Some.job c.in_ok-written.written begins c.in_ok-written.ensures.writes c.register.new.self.core c.in-Ok.registered c.in-Ok.ensures.registers c.sealed_size-size.result c.sealed_size-size.ensures c.in-Ok.ensures.deeds
 
+pub returns-in-Ok-clause-marks : goal.returns-in-Ok-clause-marks
+returns-in-Ok-clause-marks g c =
+    let begins = subst (λ o. Begins (Ok o) c.args.self.now.core c.begin_flush.new.self.core) c.in-Some.is c.in_ok-job.ensures.begins in
+    marks_flushed c.args.watermark c.args.self.now.core c.begin_flush.new.self.core c.write_job.new.self.core c.in-Some.job c.in_ok-written.written begins c.in_ok-written.ensures.writes c.register.new.self.core c.in-Ok.registered c.in-Ok.ensures.registers c.sealed_size-size.result
+
 pub returns-in-Ok-clause-upholds : goal.returns-in-Ok-clause-upholds
 returns-in-Ok-clause-upholds g c tells =
     let begins = subst (λ o. Begins (Ok o) c.args.self.now.core c.begin_flush.new.self.core) c.in-Some.is c.in_ok-job.ensures.begins in
@@ -71,6 +76,12 @@ returns-in-Err-CommitUnknown-clause-flushes g c =
     let begins = subst (λ o. Begins (Ok o) c.args.self.now.core c.begin_flush.new.self.core) c.in-Some.is c.in_ok-job.ensures.begins in
     subst (λ e. Flushes c.args.watermark (Err e) c.args.self.now.core c.register.new.self.core) c.in-Err-CommitUnknown.field-0-is
     (refused c.args.watermark c.args.self.now.core c.begin_flush.new.self.core c.write_job.new.self.core c.in-Some.job c.in_ok-written.written begins c.in_ok-written.ensures.writes c.register.new.self.core c.in-Err-CommitUnknown.field-0 c.in-Err-CommitUnknown.ensures.registers c.in-Err-CommitUnknown.ensures.lost)
+
+pub returns-in-Err-CommitUnknown-clause-marks : goal.returns-in-Err-CommitUnknown-clause-marks
+returns-in-Err-CommitUnknown-clause-marks g c =
+    let begins = subst (λ o. Begins (Ok o) c.args.self.now.core c.begin_flush.new.self.core) c.in-Some.is c.in_ok-job.ensures.begins in
+    subst (λ e. MarksFlush c.args.watermark true (Err e) c.args.self.now.core c.register.new.self.core) c.in-Err-CommitUnknown.field-0-is
+    (marks_refused c.args.watermark c.args.self.now.core c.begin_flush.new.self.core c.write_job.new.self.core c.in-Some.job c.in_ok-written.written begins c.in_ok-written.ensures.writes c.register.new.self.core c.in-Err-CommitUnknown.field-0 c.in-Err-CommitUnknown.ensures.registers)
 
 pub returns-in-Err-CommitUnknown-clause-upholds : goal.returns-in-Err-CommitUnknown-clause-upholds
 returns-in-Err-CommitUnknown-clause-upholds g c tells =
@@ -91,7 +102,7 @@ returns-in-Err g c =
     let all = subst (λ z. HasCause (BlamesStore c.in-Err.error) (w z) (w reg.store)) c.begin_flush.ensures.store both in
     record {
       flushes = subst (Flushes c.args.watermark (Err c.in-Err.error) old.core) (sym behind.core) (refused c.args.watermark c.args.self.now.core c.begin_flush.new.self.core c.write_job.new.self.core c.in-Some.job c.in_ok-written.written begins c.in_ok-written.ensures.writes c.register.new.self.core c.in-Err.error c.in-Err.ensures.registers c.in-Err.ensures.lost);
-      marks = search rules;
+      marks = subst (MarksFlush c.args.watermark true (Err c.in-Err.error) old.core) (sym behind.core) (marks_refused c.args.watermark c.args.self.now.core c.begin_flush.new.self.core c.write_job.new.self.core c.in-Some.job c.in_ok-written.written begins c.in_ok-written.ensures.writes c.register.new.self.core c.in-Err.error c.in-Err.ensures.registers);
       unmarked = λ h. absurd (cc h);
       upholds = λ tells. upholds_join (w old.store) (w reg.store) (w new.store) old.core reg.core new.core (ap versions_left behind.core) (upholds_whole c.args.watermark c.args.self.now.core c.begin_flush.new.self.core c.write_job.new.self.core c.in-Some.job c.in_ok-written.written begins c.in_ok-written.ensures.writes (g.S.Store.world c.args.self.now.store) (g.S.Store.world c.begin_flush.new.self.store) (g.S.Store.world c.write_job.new.self.store) (g.S.Store.world c.register.new.self.store) c.register.new.self.core (ap g.S.Store.world c.begin_flush.ensures.store) (c.stays_stored.ensures tells) (c.write_job.ensures.upholds tells) (c.register.ensures.upholds tells)) (behind.upholds tells);
       causes = causes_then _ ⊥ _ (w old.store) (w reg.store) (w new.store) all behind.causes (λ blamed. inl blamed);
