@@ -1,12 +1,10 @@
 -- Where the reply of a step blames the store, a call of it failed in that step.
-use Rattle.std.proofs.Common.{◌≡◌, ◌⊎◌, ⊎_elim, inl, inr, ℕ, Bool, true, false, if◌then◌else◌, List, [], ◌∷◌, ◌++◌, Option, Some, None, IfSome, Result, Ok, Err, refl, sym, ap, ◌∙◌, subst, arith}
-use Rattle.std.specs.List.{list_any}
+use Rattle.std.proofs.Common.{◌≡◌, ◌⊎◌, ⊎_elim, inl, inr, ℕ, Bool, true, false, List, [], ◌∷◌, ◌++◌, Option, Some, None, IfSome, Result, Ok, Err, refl, sym, ap, ◌∙◌, subst, arith}
 use Rattle.lsm_below.specs.Keys.{Bytes}
 use Rattle.lsm_below.specs.declared.error.Error.{Error}
-use Rattle.lsm_below.specs.declared.error.Error.TheVariants.{OutOfMemory, Store, CommitUnknown, AfterCommit, OutOfNumbers, Unrecoverable, FlushOpen, SnapshotTooOld, KeyTooLong, ValueTooLong, DuplicateKey}
+use Rattle.lsm_below.specs.declared.error.Error.TheVariants.{OutOfMemory, Store, CommitUnknown, AfterCommit, OutOfNumbers, Unrecoverable, FlushOpen}
 use Rattle.lsm_store.specs.World.{World}
 use Rattle.lsm_model.specs.Journal.{Event}
-use Rattle.lsm_model.specs.Ops.{op_value, repeats, keys_of}
 use Rattle.lsm_model.specs.declared.op.Op.{Op}
 use Rattle.lsm_model.specs.declared.question.Question.{Question}
 use Rattle.lsm_iter.specs.Guards.{Pair}
@@ -15,13 +13,13 @@ use Rattle.lsm_commit.specs.Stored.{CountsFaults}
 use Rattle.lsm_runs.specs.Causes.{ReplyBlames}
 use Rattle.lsm_runs.specs.Compacting.{TakesRunCompaction, end_reply_of}
 use Rattle.lsm_runs.specs.Flushing.{TakesRun}
-use Rattle.lsm_runs.specs.ReadSteps.{IsReadRefusal, TakesGet, TakesPairs}
+use Rattle.lsm_runs.specs.ReadSteps.{TakesGet, TakesPairs}
 use Rattle.lsm_runs.proofs.Causing.{blames, named, batch_reason, read_refusal}
 use Rattle.lsm_runs.specs.declared.slots.Job.{Job}
 use Rattle.lsm_runs.specs.declared.steps.Reply.{Reply}
 use Rattle.lsm_runs.specs.declared.steps.Reply.TheVariants.{Begun as BegunReply, Done, NoJob, SlotInUse, Sealed, Value, Pairs, Refused}
 use Rattle.lsm_state.specs.Core.{Core}
-use Rattle.lsm_state.specs.Refusals.{batch_refusal, is_long_key, is_long_value, is_great}
+use Rattle.lsm_state.specs.Refusals.{batch_refusal}
 use Rattle.lsm_state.specs.Flushes.{sealed_ids}
 use Rattle.lsm_state.specs.declared.compaction.Finished.{Finished}
 use Rattle.lsm_logged.specs.Flushing.{BeginsLogged}

@@ -1,5 +1,5 @@
 -- Jobs that are given up are no part of what the theory sees, and leave the tree's files as they are stored.
-use Rattle.std.proofs.Common.{◌≡◌, ◌⊎◌, inl, inr, ℕ, ◌==◌, Bool, true, false, cond, List, [], ◌∷◌, ◌++◌, Option, Some, None, Result, Ok, Err, refl, sym, ap, ◌∙◌, subst, Contains}
+use Rattle.std.proofs.Common.{◌≡◌, inl, inr, ℕ, Bool, true, false, List, [], ◌∷◌, Option, Some, None, Result, Ok, Err, refl, sym, ap, ◌∙◌, subst, Contains}
 use Rattle.std.specs.BTreeMap.{BTreeMap, IsOrdered, get}
 use Rattle.std.specs.Ordering.{nat_cmp}
 use Rattle.std.proofs.lemmas.Cmp.{nat_cmp_total}
@@ -10,20 +10,16 @@ use Rattle.lsm_store.specs.World.{World}
 use Rattle.lsm_model.specs.Journal.{Event}
 use Rattle.lsm_model.specs.Beginnings.{Note}
 use Rattle.lsm_commit.specs.Stored.{IsStored}
-use Rattle.lsm_flush.specs.Jobs.{SeenJob, SeenOpen}
-use Rattle.lsm_compaction.specs.Merges.{SeenCompaction}
-use Rattle.lsm_compaction.specs.OpenMerges.{SeenMerges, ended}
+use Rattle.lsm_flush.specs.Jobs.{SeenJob}
 use Rattle.lsm_log_model.specs.Logs.{Logged as Log, MayBeDrawn}
 use Rattle.lsm_log_model.specs.Records.{LogImage, opened_by}
 use Rattle.lsm_runs.specs.declared.slots.Job.{Job}
 use Rattle.lsm_runs.specs.Files.{AreApart, StaysStored}
-use Rattle.lsm_runs.specs.declared.slots.Job.TheVariants.{Begun, Merged, Written, Compaction, Compacted}
-use Rattle.lsm_runs.specs.Slots.{waiting, job_in, GivesUp, GivesUpAll, all_ended, Closes}
+use Rattle.lsm_runs.specs.Slots.{waiting, job_in, Closes}
 use Rattle.lsm_runs.proofs.Files.{closed_stored}
 use Rattle.lsm_runs.proofs.GivingUp.{spent_closes, all_closes}
 use Rattle.lsm_state.specs.Core.{Core, versions_left, written_of}
-use Rattle.lsm_state.specs.Compactions.{Spends}
-use Rattle.lsm_state.specs.Flushes.{sealed_ids, spent, spent_in}
+use Rattle.lsm_state.specs.Flushes.{sealed_ids, spent}
 use Rattle.lsm_logged.specs.Flushing.{BeginsLogged}
 use Rattle.lsm_logged.specs.Keeping.{SeenLogged, IsLogOf, KeepsLog}
 use Rattle.lsm_log_runs.specs.Pasts.{LogPast}

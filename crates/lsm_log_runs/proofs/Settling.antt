@@ -8,8 +8,7 @@ use Rattle.std.proofs.lemmas.Slice.Eq.{bytes_eq-Decides}
 use Rattle.lsm_store.specs.World.{Image, World, IsImage}
 use Rattle.lsm_store.specs.Moments.{same_or_not}
 use Rattle.lsm_versions.specs.Levels.{SeenVersion}
-use Rattle.lsm_manifest.specs.Finding.{FoundOnce, AgreesInRead, UnreadNamesDontMatter}
-use Rattle.lsm_manifest.specs.Names.{current_name, version_name, table_name}
+use Rattle.lsm_manifest.specs.Finding.{FoundOnce, UnreadNamesDontMatter}
 use Rattle.lsm_manifest.specs.Ready.{IsReady}
 use Rattle.lsm_log.specs.LogNames.{record_name}
 use Rattle.lsm_log.specs.Logs.{IsBadLog}
@@ -17,8 +16,8 @@ use Rattle.lsm_log.specs.Records.{Ops, IsRecordOf, front}
 use Rattle.lsm_log_model.specs.Records.{LogStands}
 use Rattle.lsm_logged.specs.Meanwhile.{ReadsVersion}
 use Rattle.lsm_logged.specs.Opening.{CanBeSettled}
-use Rattle.lsm_logged.proofs.LogNames.{not_in_log, refused_begins}
-use Rattle.lsm_logged.proofs.Meanwhile.{each_of, reads_by}
+use Rattle.lsm_logged.proofs.LogNames.{refused_begins}
+use Rattle.lsm_logged.proofs.Meanwhile.{reads_outside}
 use Rattle.lsm_runs.proofs.Readiness.{less_ready}
 use Rattle.lsm_log_runs.specs.Images.{HoldsLogged, MayBeOpened}
 
@@ -46,24 +45,9 @@ module _ (once : FoundOnce) (unread : UnreadNamesDontMatter) (image : Image) (m 
   outside : (n : List ℕ) → starts_with nat_eq n (codes "log/") ≡ false → changed n ≡ image n
   outside n out = changed_else n (λ e. both_ways (starts_with nat_eq n (codes "log/")) out (ap (λ (l : List ℕ). starts_with nat_eq l (codes "log/")) e ∙ inside))
 
-  agrees : AgreesInRead image changed
-  agrees = record {
-    current = outside current_name refl;
-    version = λ id ls named. outside (version_name id) refl;
-    tables = λ id ls named. each_of _ (each_of _ (each_of _ (λ t. outside (table_name t.id) refl))) ls;
-    no_version = outside (codes "version") refl;
-    in_tables = λ n bad. outside n (not_in_log n bad);
-  }
-
   -- is none of the version's
   pub reads_still : (v : SeenVersion) → ReadsVersion image v → ReadsVersion changed v
-  reads_still v reads =
-      let current = outside current_name refl in
-      record {
-        version = λ there. reads_by image changed v current (outside (version_name v.id) refl) (reads.version (subst (λ (o : Option (List ℕ)). IsSome o) current there));
-        found = λ there. (unread image changed agrees).0 v.levels (reads.found (subst (λ (o : Option (List ℕ)). IsSome o) current there));
-        fresh = λ none. reads.fresh (sym current ∙ none);
-      }
+  reads_still v reads = reads_outside unread image changed outside v reads
 
 -- ---- what its log reads
 

@@ -58,6 +58,29 @@ reads_by a b v current version reads =
       is = reads.is;
     }
 
+-- images that agree outside the folder of the log: what is found of tables, and of a version, is the same
+module _ (unread : UnreadNamesDontMatter) (image other : Image) (outside : (n : List ℕ) → starts_with nat_eq n (codes "log/") ≡ false → other n ≡ image n) where
+  agrees_outside : AgreesInRead image other
+  agrees_outside = record {
+    current = outside current_name refl;
+    version = λ id ls named. outside (version_name id) refl;
+    tables = λ id ls named. each_of _ (each_of _ (each_of _ (λ t. outside (table_name t.id) refl))) ls;
+    no_version = outside (codes "version") refl;
+    in_tables = λ n bad. outside n (not_in_log n bad);
+  }
+
+  pub finds_outside : (ts : SeenLevels) → Finds image ts → Finds other ts
+  finds_outside ts f = (unread image other agrees_outside).0 ts f
+
+  pub reads_outside : (v : SeenVersion) → ReadsVersion image v → ReadsVersion other v
+  reads_outside v r =
+      let current = outside current_name refl in
+      record {
+        version = λ there. reads_by image other v current (outside (version_name v.id) refl) (r.version (subst (λ (c : Option (List ℕ)). IsSome c) current there));
+        found = λ there. finds_outside v.levels (r.found (subst (λ (c : Option (List ℕ)). IsSome c) current there));
+        fresh = λ none. r.fresh (sym current ∙ none);
+      }
+
 some_none : {A : Type 0} (o : Option A) (x : A) → o ≡ Some x → o ≡ None → ⊥
 some_none o x there none = let z : Some x ≡ None = sym there ∙ none in cc z
 
@@ -96,24 +119,11 @@ module _ (once : FoundOnce) (unread : UnreadNamesDontMatter) (plain : PlainNumbe
   outside : (n : List ℕ) → starts_with nat_eq n (codes "log/") ≡ false → old.gives n ≡ was n
   outside n out = sym (chosen_else n (starts_with nat_eq n (codes "log/")) refl out)
 
-  agrees : AgreesInRead was old.gives
-  agrees = record {
-    current = outside current_name refl;
-    version = λ id ls named. outside (version_name id) refl;
-    tables = λ id ls named. each_of _ (each_of _ (each_of _ (λ t. outside (table_name t.id) refl))) ls;
-    no_version = outside (codes "version") refl;
-    in_tables = λ n bad. outside n (not_in_log n bad);
-  }
-
   levels_one : (ts : SeenLevels) → Finds was ts → v.levels ≡ ts
-  levels_one ts f = once old.gives v.levels ts finds ((unread was old.gives agrees).0 ts f)
+  levels_one ts f = once old.gives v.levels ts finds (finds_outside unread was old.gives outside ts f)
 
   version_one : (u : SeenVersion) → ReadsVersion was u → v ≡ u
-  version_one u r = version_is_one once old.gives v u reads (record {
-    version = λ there. reads_by was old.gives u (outside current_name refl) (outside (version_name u.id) refl) (r.version (subst (λ (c : Option (List ℕ)). IsSome c) (outside current_name refl) there));
-    found = λ there. (unread was old.gives agrees).0 u.levels (r.found (subst (λ (c : Option (List ℕ)). IsSome c) (outside current_name refl) there));
-    fresh = λ none. r.fresh (sym (outside current_name refl) ∙ none);
-  })
+  version_one u r = version_is_one once old.gives v u reads (reads_outside unread was old.gives outside u r)
 
   -- in the folder of the log
   record_put : (k : ℕ) → k < 2 ^ 63 → v.log_from ≤ k → (d : IsOldOrPassed old v.log_from (record_name k) (image (record_name k))) → image (record_name k) ≡ put_back (record_name k) d
@@ -298,26 +308,11 @@ module _ (once : FoundOnce) (unread : UnreadNamesDontMatter) (plain : PlainNumbe
       beside : (n : List ℕ) → starts_with nat_eq n (codes "log/") ≡ false → image n ≡ filled n
       beside n out = fill_else n (λ k lt e. both_ways (starts_with nat_eq n (codes "log/")) out (ap (λ (l : List ℕ). starts_with nat_eq l (codes "log/")) e)) (cleared n)
 
-      agrees_on : AgreesInRead filled image
-      agrees_on = record {
-        current = beside current_name refl;
-        version = λ id ls named. beside (version_name id) refl;
-        tables = λ id ls named. each_of _ (each_of _ (each_of _ (λ t. beside (table_name t.id) refl))) ls;
-        no_version = beside (codes "version") refl;
-        in_tables = λ n bad. beside n (not_in_log n bad);
-      }
-
       found_on : (ts : SeenLevels) → Finds filled ts → Finds image ts
-      found_on ts f = (unread filled image agrees_on).0 ts f
+      found_on ts f = finds_outside unread filled image beside ts f
 
       version_on : (u : SeenVersion) → ReadsVersion filled u → ReadsVersion image u
-      version_on u r =
-          let current = beside current_name refl in
-          record {
-            version = λ there. reads_by filled image u current (beside (version_name u.id) refl) (r.version (subst (λ (c : Option (List ℕ)). IsSome c) current there));
-            found = λ there. found_on u.levels (r.found (subst (λ (c : Option (List ℕ)). IsSome c) current there));
-            fresh = λ none. r.fresh (sym current ∙ none);
-          }
+      version_on u r = reads_outside unread filled image beside u r
 
       now : ReadsVersion image v
       now =

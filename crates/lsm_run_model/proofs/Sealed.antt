@@ -14,7 +14,7 @@ use Rattle.lsm_run_model.specs.Composing.{NotesTellSealed}
 -- ---- ids that fall
 
 -- each is below the one before it, and the first one below this
-abbrev FallBelow : ℕ → List ℕ → Type 0
+abbrev pub FallBelow : ℕ → List ℕ → Type 0
 FallBelow a [] = Unit {0}
 FallBelow a (i ∷ ids) = (i < a) × FallBelow i ids
 
@@ -45,10 +45,10 @@ taken a (i ∷ front) job f =
 -- ---- what stays so
 
 -- the notes tell what is sealed, and its ids fall from below that of the active memtable
-abbrev Knows : List Note → SuperVersion → Type 0
+abbrev pub Knows : List Note → SuperVersion → Type 0
 Knows notes sv = (sealed_in notes ≡ sv.sealed) × FallBelow sv.active sv.sealed
 
-same : (notes : List Note) (old new : SuperVersion) → new ≡ old → Knows notes old → Knows notes new
+pub same : (notes : List Note) (old new : SuperVersion) → new ≡ old → Knows notes old → Knows notes new
 same notes old new is k = subst (Knows notes) (sym is) k
 
 kept : (notes : List Note) (old new : SuperVersion) → new.active ≡ old.active → new.sealed ≡ old.sealed → Knows notes old → Knows notes new
@@ -60,7 +60,7 @@ flushed notes job old new active sealed k =
     let falls : FallBelow new.active (new.sealed ++ job) = subst (λ a. FallBelow a (new.sealed ++ job)) (sym active) (subst (FallBelow old.active) sealed k.1) in
     (ap (λ ids. filter (λ id. not (among job id)) ids) (k.0 ∙ sealed) ∙ taken new.active new.sealed job falls, left_fall new.active new.sealed job falls)
 
-step_knows : (opened : List Entry) (notes : List Note) (old : State) (action : Action) (new : State) → Step opened old action new → Knows notes old.latest → Knows (noted_by old action ++ notes) new.latest
+pub step_knows : (opened : List Entry) (notes : List Note) (old : State) (action : Action) (new : State) → Step opened old action new → Knows notes old.latest → Knows (noted_by old action ++ notes) new.latest
 step_knows opened notes old (Wrote e) new s k = same notes old.latest new.latest s.latest k
 step_knows opened notes old (Rotated a) new s k = subst (λ (t : State). Knows (noted_by old (Rotated a) ++ notes) t.latest) (sym s.1) (ap (λ ids. old.latest.active ∷ ids) k.0, (s.0, k.1))
 step_knows opened notes old (Flushed w job made) new s k = flushed notes job old.latest new.latest s.commit.active s.sealed k
@@ -74,7 +74,7 @@ step_knows opened notes old (Asked at question) new s k = same notes old.latest 
 step_knows opened notes old (Maintained w) new s k = let is : old.latest ≡ new.latest = cc s.was in same notes old.latest new.latest (sym is) k
 
 -- a commit of unknown outcome seals nothing, and none is flushed by it
-lost_same : (notes : List Note) (old : State) (action : Action) → sealed_in (noted_lost old action ++ notes) ≡ sealed_in notes
+pub lost_same : (notes : List Note) (old : State) (action : Action) → sealed_in (noted_lost old action ++ notes) ≡ sealed_in notes
 lost_same notes old (Cleared n a) = refl
 lost_same notes old other = refl
 

@@ -1,6 +1,6 @@
 -- The journal of a run beside the counter is its journal, so an order told by the counter is the journal's order.
-use Rattle.std.proofs.Common.{◌≡◌, ℕ, List, [], ◌∷◌, ◌++◌, map, refl, ap, ◌∙◌, subst}
-use Rattle.lsm_model.specs.Journal.{Event, InOrder}
+use Rattle.std.proofs.Common.{◌≡◌, List, [], ◌∷◌, ◌++◌, map, refl, ap, ◌∙◌, subst}
+use Rattle.lsm_model.specs.Journal.{InOrder}
 use Rattle.lsm_model.specs.Counted.{Counted, events_of, CountedIsInOrder}
 use Rattle.lsm_run_model.specs.Counting.{counted_at}
 use Rattle.lsm_run_model.proofs.Counting.{events_append}

@@ -1,7 +1,7 @@
 -- A run beside the counter of sequence numbers, and the order of calls as callers keep it.
-use Rattle.std.specs.Prelude.{◌≡◌, ℕ, List, [], ◌∷◌, ◌++◌, map}
+use Rattle.std.specs.Prelude.{◌≡◌, List, [], ◌∷◌, ◌++◌, map}
 use Rattle.lsm_below.specs.Entries.{Entry}
-use Rattle.lsm_model.specs.Journal.{Event, InOrder}
+use Rattle.lsm_model.specs.Journal.{InOrder}
 use Rattle.lsm_model.specs.Counted.{Counted, InCountedOrder}
 use Rattle.lsm_run_model.specs.Counting.{counted_at}
 use Rattle.lsm_state.specs.Core.{Core}
