@@ -1,6 +1,5 @@
 -- What an opening reads in an image that has a version of a tree and the log beside it is what a crash may leave of a logged tree.
-use Rattle.std.proofs.Common.{◌≡◌, ◌⊎◌, ⊎_elim, inl, inr, Bool, true, false, ℕ, ◌≤◌, eqb, eqb-true, List, [], ◌∷◌, ◌++◌, Option, Some, None, IsSome, map, option_to_list, refl, sym, ap, ◌∙◌, subst, arith}
-use Rattle.std.proofs.lemmas.Bool.{eqb-false}
+use Rattle.std.proofs.Common.{◌≡◌, ◌⊎◌, ⊎_elim, inl, inr, Bool, true, false, ℕ, ◌≤◌, List, [], ◌∷◌, ◌++◌, Option, Some, None, IsSome, map, option_to_list, refl, sym, ap, ◌∙◌, subst, arith}
 use Rattle.lsm_below.specs.Members.{IsIn, each_in}
 use Rattle.lsm_store.specs.World.{Image}
 use Rattle.lsm_model.specs.Journal.{Event}
@@ -25,6 +24,7 @@ use Rattle.lsm_logged.specs.Images.{RecordsAreThoseRead, VersionIsToldOnce}
 use Rattle.lsm_logged.specs.Keeping.{IsLogOf, IsRecordFile, IsNoNumber}
 use Rattle.lsm_logged.specs.Meanwhile.{ReadsVersion}
 use Rattle.lsm_logged.specs.Opening.{image_read}
+use Rattle.lsm_logged.proofs.Found.{number_of}
 use Rattle.lsm_log_runs.specs.Images.{ReadsLog, HoldsLogged}
 
 pub held_weaker : (P Q : LogImage → Type 0) (image : Image) → ((left : LogImage) → P left → Q left) → HoldsLogged P image → HoldsLogged Q image
@@ -37,18 +37,6 @@ in_one x (Some y) i = ⊎_elim (λ (e : y ≡ x). ap Some e) (λ (no : ⊥). abs
 in_map : {A B : Type 0} (f : A → B) (xs : List A) (x : A) → IsIn x xs → IsIn (f x) (map f xs)
 in_map f [] x i = absurd i
 in_map f (y ∷ xs) x i = ⊎_elim (λ (e : y ≡ x). inl (ap f e)) (λ (j : IsIn x xs). inr (in_map f xs x j)) i
-
--- is there a batch of this number?
-number_of : (n : ℕ) (bs : List Batch) → ((b : Batch) × IsIn b bs × (b.number ≡ n)) ⊎ IsNoNumber n bs
-number_of n [] = inr tt
-number_of n (c ∷ bs) =
-    elim (eqb c.number n) as (λ q. eqb c.number n ≡ q → ((b : Batch) × IsIn b (c ∷ bs) × (b.number ≡ n)) ⊎ IsNoNumber n (c ∷ bs)) [
-      | true ↦ λ h. inl (c, inl refl, eqb-true c.number n h)
-      | false ↦ λ h. ⊎_elim
-          (λ (z : (b : Batch) × IsIn b bs × (b.number ≡ n)). inl (z.0, inr z.1, z.2))
-          (λ (z : IsNoNumber n bs). inr (eqb-false c.number n h, z))
-          (number_of n bs)
-    ] refl
 
 module _ (once : VersionIsToldOnce) (those : RecordsAreThoseRead) (journal : List Event) (notes : List Note) (c : Core) (doubted : Bool) (t : Log) (is : IsLogOf journal notes c doubted t) (sound : LogIsSound t)
     (no_lower : (t.tree.others ≡ []) ⊎ (t.log_from ≤ t.other_from)) (stand : (left : LogImage) → MayLeave t left → Stands left.tables) (image : Image) (holds : HoldsLog c t image) where

@@ -64,7 +64,8 @@ search n (x ∷ rs) =
 found_in : (rs : List Record) (n : ℕ) → Contains (numbers_of rs) n → (r : Record) × IsIn r rs × (r.number ≡ n)
 found_in rs n has = ⊎_elim (λ z. z) (λ none. absurd (All-contains (λ k. k ≢ n) (numbers_of rs) n (All-from_recursion (λ k. k ≢ n) (numbers_of rs) none) has refl)) (search n rs)
 
-number_of : (n : ℕ) (bs : List Batch) → ((b : Batch) × IsIn b bs × (b.number ≡ n)) ⊎ IsNoNumber n bs
+-- is there a batch of this number?
+pub number_of : (n : ℕ) (bs : List Batch) → ((b : Batch) × IsIn b bs × (b.number ≡ n)) ⊎ IsNoNumber n bs
 number_of n [] = inr tt
 number_of n (c ∷ bs) =
     elim (eqb c.number n) as (λ q. eqb c.number n ≡ q → ((b : Batch) × IsIn b (c ∷ bs) × (b.number ≡ n)) ⊎ IsNoNumber n (c ∷ bs)) [
