@@ -1,4 +1,4 @@
-use Rattle.std.proofs.Common.{◌≡◌, ◌<◌, ◌^◌, Err, IsSome, [], inl, inr, sym, ◌∙◌, rules}
+use Rattle.std.proofs.Common.{◌≡◌, ◌<◌, ◌^◌, true, Err, IsSome, [], inl, inr, sym, ◌∙◌, rules}
 use Rattle.lsm_below.specs.declared.error.Error.TheVariants.{CommitUnknown}
 use Rattle.lsm_commit.specs.Causes.{HasCause, BlamesStore, causes_then}
 use Rattle.lsm_state.specs.Kept.{KeepsTables}
