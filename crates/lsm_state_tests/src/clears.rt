@@ -11,30 +11,37 @@ use crate::works::{Kind, Work};
 use lsm_checks::Why;
 use lsm_store::Fault;
 
+/// a = x in a table, b = y sealed, and c = z in the active memtable.
+const PLACES: [Row; 5] = [
+    Does(Set("a", "x"), Number(0)),
+    Does(Flush(0), Done),
+    Does(Set("b", "y"), Number(2)),
+    Does(Rotate, Sealed(Some(1))),
+    Does(Set("c", "z"), Number(3)),
+];
+
 const SNAPSHOTS: [Script; 3] = [
     (
         "old snapshots see what they saw, and new ones what was written behind a clear",
-        &[Plays(&[
-            Does(Set("a", "x"), Number(0)),
-            Does(Flush(0), Done),
-            Does(Set("b", "y"), Number(2)),
-            Does(Rotate, Sealed(Some(1))),
-            Does(Set("c", "z"), Number(3)),
-            Does(Clear, Number(4)),
-            Does(Set("b", "w"), Number(5)),
-            Shows("a", 1, "x"),
-            Shows("a", 4, "x"),
-            Shows("b", 3, "y"),
-            Shows("c", 4, "z"),
-            Shows("a", 5, ""),
-            Shows("b", 5, ""),
-            Shows("c", 6, ""),
-            Shows("b", 6, "w"),
-            Has(Count::Tables, 0),
-            Has(Count::Sealed, 0),
-            Has(Count::Next, 6),
-            Has(Count::Visible, 6),
-        ])],
+        &[
+            Plays(&PLACES),
+            Plays(&[
+                Does(Clear, Number(4)),
+                Does(Set("b", "w"), Number(5)),
+                Shows("a", 1, "x"),
+                Shows("a", 4, "x"),
+                Shows("b", 3, "y"),
+                Shows("c", 4, "z"),
+                Shows("a", 5, ""),
+                Shows("b", 5, ""),
+                Shows("c", 6, ""),
+                Shows("b", 6, "w"),
+                Has(Count::Tables, 0),
+                Has(Count::Sealed, 0),
+                Has(Count::Next, 6),
+                Has(Count::Visible, 6),
+            ]),
+        ],
     ),
     (
         "a flush behind a clear holds what was written behind it",
@@ -69,18 +76,16 @@ const SNAPSHOTS: [Script; 3] = [
 const FORGOTTEN: [Script; 3] = [
     (
         "what isn't flushed is forgotten",
-        &[Plays(&[
-            Does(Set("a", "x"), Number(0)),
-            Does(Flush(0), Done),
-            Does(Set("b", "y"), Number(2)),
-            Does(Rotate, Sealed(Some(1))),
-            Does(Set("c", "z"), Number(3)),
-            Does(Forget, Done),
-            Shows("a", 1, "x"),
-            Shows("a", 4, "x"),
-            Shows("b", 4, ""),
-            Shows("c", 4, ""),
-        ])],
+        &[
+            Plays(&PLACES),
+            Plays(&[
+                Does(Forget, Done),
+                Shows("a", 1, "x"),
+                Shows("a", 4, "x"),
+                Shows("b", 4, ""),
+                Shows("c", 4, ""),
+            ]),
+        ],
     ),
     (
         "nothing is forgotten where nothing was written",
