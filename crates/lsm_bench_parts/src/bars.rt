@@ -3,9 +3,7 @@ use crate::figures::{Figures, OURS, Timed};
 use crate::svg::{Anchor, begin, end, escape, grouped, text};
 use std::alloc::{AllocError, Global};
 
-/// The picture's width, where bars begin, and how long the longest of a workload is.
-const WIDTH: u64 = 720;
-
+/// Where bars begin, and how long the longest of a workload is.
 const LEFT: u64 = 210;
 
 const LONGEST: u64 = 300;
@@ -96,16 +94,8 @@ pub fn draw_bars(alloc: Global, figures: &Figures<'_>) -> Result<String, AllocEr
     let mut out = String::new(alloc);
     begin(
         &mut out,
-        WIDTH,
         top.saturating_add(GAP),
         "What operations take, beside other programs",
-    )?;
-    text(
-        &mut out,
-        16,
-        26,
-        Anchor::Start,
-        "dim",
         "Nanoseconds an operation; less is better",
     )?;
     out.push_str(body.as_str())?;

@@ -1,10 +1,8 @@
 // Lines of how the time of an operation grows with the number of keys.
 use crate::figures::{Figures, OURS};
-use crate::svg::{Anchor, begin, end, text};
+use crate::svg::{Anchor, begin, end, escape, grouped, text};
 use std::alloc::{AllocError, Global};
 use std::collections::BTreeMap;
-
-const WIDTH: u64 = 720;
 
 const HEIGHT: u64 = 420;
 
@@ -137,7 +135,7 @@ fn draw_line(
             out,
             "<circle class=\"ours\" cx=\"{x}\" cy=\"{y}\" r=\"3\"><title>"
         )?;
-        crate::svg::escape(out, name)?;
+        escape(out, name)?;
         write!(out, ", {keys} keys: {nanos} ns</title></circle>\n")?;
     }
     Ok(())
@@ -221,7 +219,7 @@ fn draw_keys(
     }
     for keys in &seen {
         let mut name = String::new(alloc);
-        crate::svg::grouped(&mut name, *keys)?;
+        grouped(&mut name, *keys)?;
         text(
             out,
             field.x(*keys),
@@ -241,16 +239,8 @@ pub fn draw_growth(alloc: Global, figures: &Figures<'_>) -> Result<String, Alloc
     let mut out = String::new(alloc);
     begin(
         &mut out,
-        WIDTH,
         HEIGHT,
         "How the time of an operation grows with the keys",
-    )?;
-    text(
-        &mut out,
-        16,
-        26,
-        Anchor::Start,
-        "dim",
         "Time of an operation against the number of keys, both by powers",
     )?;
     draw_times(&mut out, field)?;

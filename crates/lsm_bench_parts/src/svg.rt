@@ -10,17 +10,21 @@ text{font:12px ui-sans-serif,system-ui,sans-serif;fill:var(--ink)}\
 .axis{stroke:var(--line)}.way{stroke:var(--ours);stroke-width:2;fill:none}\
 </style>";
 
-/// Begins a picture of this size, with a title that readers of the page are told.
-pub fn begin(out: &mut String, width: u64, height: u64, title: &str) -> Result<(), AllocError> {
+/// The width of each picture.
+const WIDTH: u64 = 720;
+
+/// Begins a picture of this height, with a title that readers of the page are told, and what it shows at its head.
+pub fn begin(out: &mut String, height: u64, title: &str, head: &str) -> Result<(), AllocError> {
     write!(
         out,
-        "<svg xmlns=\"http://www.w3.org/2000/svg\" viewBox=\"0 0 {width} {height}\" role=\"img\">\n<title>"
+        "<svg xmlns=\"http://www.w3.org/2000/svg\" viewBox=\"0 0 {WIDTH} {height}\" role=\"img\">\n<title>"
     )?;
     escape(out, title)?;
     write!(
         out,
-        "</title>\n{STYLE}\n<rect class=\"page\" width=\"{width}\" height=\"{height}\" rx=\"6\"/>\n"
-    )
+        "</title>\n{STYLE}\n<rect class=\"page\" width=\"{WIDTH}\" height=\"{height}\" rx=\"6\"/>\n"
+    )?;
+    text(out, 16, 26, Anchor::Start, "dim", head)
 }
 
 pub fn end(out: &mut String) -> Result<(), AllocError> {

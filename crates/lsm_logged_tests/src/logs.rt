@@ -121,11 +121,21 @@ pub fn count_crashed(
 
 type Counted = ((bool, bool), (usize, usize, usize));
 
+/// Whether the keys are shown so behind a crash that brings the first record back, and what is counted then.
+fn count_back(
+    alloc: Global,
+    tree: &Logged,
+    a: Option<&str>,
+    b: Option<&str>,
+) -> Result<Counted, Error> {
+    let picks = [("log/0", Pick::Before)];
+    let shown = show_crashed(alloc, tree, &picks, a, b)?;
+    Ok((shown, count_crashed(alloc, tree, &picks)?))
+}
+
 fn pass_one(alloc: Global, tree: &mut Logged) -> Result<Counted, Error> {
     flush_between(alloc, tree)?;
-    let picks = [("log/0", Pick::Before)];
-    let shown = show_crashed(alloc, tree, &picks, Some("x"), Some("y"))?;
-    Ok((shown, count_crashed(alloc, tree, &picks)?))
+    count_back(alloc, tree, Some("x"), Some("y"))
 }
 
 fn passed(alloc: Global) -> Result<Counted, Error> {
@@ -224,9 +234,7 @@ fn clear_between(alloc: Global, tree: &mut Logged) -> Result<u64, Error> {
 
 fn clear_one(alloc: Global, tree: &mut Logged) -> Result<Counted, Error> {
     clear_between(alloc, tree)?;
-    let picks = [("log/0", Pick::Before)];
-    let shown = show_crashed(alloc, tree, &picks, None, Some("y"))?;
-    Ok((shown, count_crashed(alloc, tree, &picks)?))
+    count_back(alloc, tree, None, Some("y"))
 }
 
 fn cleared(alloc: Global) -> Result<Counted, Error> {

@@ -5,7 +5,7 @@ use crate::rows::{Count, Row, TOO_OLD};
 use crate::samples::Edge::In;
 use crate::scripts::Opening::Failing;
 use crate::scripts::Part::{Merge, Plays, Reopen};
-use crate::scripts::{End, Script, play_all};
+use crate::scripts::{Alike, End, Script, play_alike, play_all};
 use crate::steps::Step::{Compact, Del, Flush, Set};
 use crate::steps::Told::{Declined, Done, Installed, Job, Nothing, Number, Refused};
 use crate::works::{Kind, Work};
@@ -99,136 +99,94 @@ pub const THREE: [Row; 6] = [
     Does(Flush(0), Done),
 ];
 
-// The counter stays as it was.
-const REASONS: [Script; 10] = [
-    (
-        "a move of what overlaps",
-        &[
-            Plays(&TWICE),
-            Plays(&[
-                Does(
-                    Compact(Work::Choose(Kind::Move, &[0, 1], 6)),
-                    Declined(Why::Overlap),
-                ),
-                Has(Count::Next, 4),
-            ]),
-        ],
-    ),
-    (
-        "a move to no level",
-        &[
-            Plays(&TWICE),
-            Plays(&[
-                Does(
-                    Compact(Work::Choose(Kind::Move, &[0], 7)),
-                    Declined(Why::NoSuchLevel),
-                ),
-                Has(Count::Next, 4),
-            ]),
-        ],
-    ),
-    (
-        "a merge to no level",
-        &[
-            Plays(&TWICE),
-            Plays(&[
-                Does(
-                    Compact(Work::Choose(Kind::Merge, &[0], 7)),
-                    Declined(Why::NoSuchLevel),
-                ),
-                Has(Count::Next, 4),
-            ]),
-        ],
-    ),
-    (
-        "a move of what isn't there",
-        &[
-            Plays(&TWICE),
-            Plays(&[
-                Does(
-                    Compact(Work::Choose(Kind::Move, &[2], 6)),
-                    Declined(Why::Missing),
-                ),
-                Has(Count::Next, 4),
-            ]),
-        ],
-    ),
-    (
-        "a drop of what isn't there",
-        &[
-            Plays(&TWICE),
-            Plays(&[
-                Does(
-                    Compact(Work::Choose(Kind::Drop, &[2], 0)),
-                    Declined(Why::Missing),
-                ),
-                Has(Count::Next, 4),
-            ]),
-        ],
-    ),
-    (
-        "a move below an older table",
-        &[
-            Plays(&TWICE),
-            Plays(&[
-                Does(
-                    Compact(Work::Choose(Kind::Move, &[1], 6)),
-                    Declined(Why::Order),
-                ),
-                Has(Count::Next, 4),
-            ]),
-        ],
-    ),
-    (
-        "a move beside an older table",
-        &[
-            Plays(&BELOW),
-            Plays(&[
-                Does(
-                    Compact(Work::Choose(Kind::Move, &[1], 6)),
-                    Declined(Why::Eviction),
-                ),
-                Has(Count::Next, 5),
-            ]),
-        ],
-    ),
-    (
-        "a merge beside an older table",
-        &[
-            Plays(&BELOW),
-            Plays(&[
-                Does(
-                    Compact(Work::Choose(Kind::Merge, &[1], 6)),
-                    Declined(Why::Eviction),
-                ),
-                Has(Count::Next, 5),
-            ]),
-        ],
-    ),
-    (
-        "a merge of both",
-        &[
-            Plays(&BELOW),
-            Plays(&[
-                Does(Compact(Work::Choose(Kind::Merge, &[0, 1], 6)), Job),
-                Has(Count::Next, 5),
-            ]),
-        ],
-    ),
-    (
+/// What is answered to choices of `TWICE`; the counter stays as it was.
+const OF_TWICE: Alike = Alike {
+    begin: &[Plays(&TWICE)],
+    scripts: &[
+        (
+            "a move of what overlaps",
+            &[Plays(&[Does(
+                Compact(Work::Choose(Kind::Move, &[0, 1], 6)),
+                Declined(Why::Overlap),
+            )])],
+        ),
+        (
+            "a move to no level",
+            &[Plays(&[Does(
+                Compact(Work::Choose(Kind::Move, &[0], 7)),
+                Declined(Why::NoSuchLevel),
+            )])],
+        ),
+        (
+            "a merge to no level",
+            &[Plays(&[Does(
+                Compact(Work::Choose(Kind::Merge, &[0], 7)),
+                Declined(Why::NoSuchLevel),
+            )])],
+        ),
+        (
+            "a move of what isn't there",
+            &[Plays(&[Does(
+                Compact(Work::Choose(Kind::Move, &[2], 6)),
+                Declined(Why::Missing),
+            )])],
+        ),
+        (
+            "a drop of what isn't there",
+            &[Plays(&[Does(
+                Compact(Work::Choose(Kind::Drop, &[2], 0)),
+                Declined(Why::Missing),
+            )])],
+        ),
+        (
+            "a move below an older table",
+            &[Plays(&[Does(
+                Compact(Work::Choose(Kind::Move, &[1], 6)),
+                Declined(Why::Order),
+            )])],
+        ),
+    ],
+    end: &[Plays(&[Has(Count::Next, 4)])],
+};
+
+/// Of `BELOW`, likewise.
+const OF_BELOW: Alike = Alike {
+    begin: &[Plays(&BELOW)],
+    scripts: &[
+        (
+            "a move beside an older table",
+            &[Plays(&[Does(
+                Compact(Work::Choose(Kind::Move, &[1], 6)),
+                Declined(Why::Eviction),
+            )])],
+        ),
+        (
+            "a merge beside an older table",
+            &[Plays(&[Does(
+                Compact(Work::Choose(Kind::Merge, &[1], 6)),
+                Declined(Why::Eviction),
+            )])],
+        ),
+        (
+            "a merge of both",
+            &[Plays(&[Does(Compact(Work::Choose(Kind::Merge, &[0, 1], 6)), Job)])],
+        ),
+    ],
+    end: &[Plays(&[Has(Count::Next, 5)])],
+};
+
+/// Of `THREE`, likewise.
+const OF_THREE: Alike = Alike {
+    begin: &[Plays(&THREE)],
+    scripts: &[(
         "a merge around a third",
-        &[
-            Plays(&THREE),
-            Plays(&[
-                Does(
-                    Compact(Work::Choose(Kind::Merge, &[0, 2], 6)),
-                    Declined(Why::Gap),
-                ),
-                Has(Count::Next, 6),
-            ]),
-        ],
-    ),
-];
+        &[Plays(&[Does(
+            Compact(Work::Choose(Kind::Merge, &[0, 2], 6)),
+            Declined(Why::Gap),
+        )])],
+    )],
+    end: &[Plays(&[Has(Count::Next, 6)])],
+};
 
 // ---- open merges
 
@@ -314,7 +272,9 @@ fn entries_are_kept_as_long_as_needed(rt: HostRuntime) {
 
 #[test]
 fn the_first_reason_is_told(rt: HostRuntime) {
-    play_all(&rt, rt.alloc(), &REASONS);
+    play_alike(&rt, rt.alloc(), &OF_TWICE);
+    play_alike(&rt, rt.alloc(), &OF_BELOW);
+    play_alike(&rt, rt.alloc(), &OF_THREE);
 }
 
 #[test]

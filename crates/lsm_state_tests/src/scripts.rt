@@ -45,6 +45,13 @@ pub enum Part {
 /// What a script shows, and its parts.
 pub type Script = (&'static str, &'static [Part]);
 
+/// Scripts that begin and end alike.
+pub struct Alike {
+    pub begin: &'static [Part],
+    pub scripts: &'static [Script],
+    pub end: &'static [Part],
+}
+
 // ---- opening
 
 /// More calls than an opening makes.
@@ -222,26 +229,44 @@ fn behind(alloc: Global, mut tree: TreeState, part: &Part) -> Result<(TreeState,
     Ok((tree, right))
 }
 
-/// Whether each part of a script is as it says, in a new tree.
-fn is_played(alloc: Global, parts: &[Part]) -> Result<bool, Error> {
-    let mut tree = open(alloc, 0, MemStore::new(alloc))?;
+/// The tree behind parts, and whether each of them is as it says.
+fn played(alloc: Global, tree: TreeState, parts: &[Part]) -> Result<(TreeState, bool), Error> {
+    let mut tree = tree;
     let mut played = true;
     for part in parts {
         let (next, right) = behind(alloc, tree, part)?;
         tree = next;
         played = played && right;
     }
-    drop(tree);
-    Ok(played)
+    Ok((tree, played))
 }
 
-/// Plays each script in a tree of its own.
-pub fn play_all(rt: &impl Abort, alloc: Global, scripts: &[Script]) {
+/// Whether each part of a script is as it says, in a new tree, between the parts of others.
+fn is_played(alloc: Global, begin: &[Part], parts: &[Part], end: &[Part]) -> Result<bool, Error> {
+    let tree = open(alloc, 0, MemStore::new(alloc))?;
+    let (tree, begins) = played(alloc, tree, begin)?;
+    let (tree, goes_on) = played(alloc, tree, parts)?;
+    let (tree, ends) = played(alloc, tree, end)?;
+    drop(tree);
+    Ok(begins && goes_on && ends)
+}
+
+fn play_between(rt: &impl Abort, alloc: Global, begin: &[Part], scripts: &[Script], end: &[Part]) {
     for script in scripts {
         assert!(rt;
-            matches!(is_played(alloc, script.1), Ok(true)),
+            matches!(is_played(alloc, begin, script.1, end), Ok(true)),
             "{}",
             script.0
         );
     }
+}
+
+/// Plays each script in a tree of its own.
+pub fn play_all(rt: &impl Abort, alloc: Global, scripts: &[Script]) {
+    play_between(rt, alloc, &[], scripts, &[]);
+}
+
+/// Plays each of them in a tree of its own.
+pub fn play_alike(rt: &impl Abort, alloc: Global, alike: &Alike) {
+    play_between(rt, alloc, alike.begin, alike.scripts, alike.end);
 }

@@ -1,5 +1,5 @@
 // Clears of trees with a journal and of shared ones, and two callers who read back what they wrote.
-use crate::samples::{open_recorded, open_shared, share_recorded, text};
+use crate::samples::{open_recorded, open_shared, record, set, share_recorded, text};
 use lsm_tree::{
     Answer, Config, Error, JournalEntry, Op, Pass, Question, Recorded, RecordedTree, SeqNo, Tree,
     UserValue,
@@ -70,7 +70,7 @@ fn clears_shared(
     tree: &RecordedTree,
     pass: &mut Pass,
 ) -> Result<bool, Error> {
-    tree.write(rt, pass, vec![in alloc; (text("a"), Op::Set(text("x")))]?)?;
+    record(rt, alloc, tree, pass, "x")?;
     let cleared = tree.clear(rt, pass)?;
     let found = tree.get(rt, pass, b"a", 2)?;
     Ok(cleared == 1 && found.is_none())
@@ -105,19 +105,15 @@ fn a_clear_behind_the_lock_is_noted(rt: HostRuntime) -> Result<(), Fail> {
 
 // ---- without one
 
-fn set(rt: &impl Wait, alloc: Global, tree: &Tree, key: &'static str) -> Result<SeqNo, Error> {
-    tree.write(rt, vec![in alloc; (text(key), Op::Set(text("x")))]?)
-}
-
 fn has(rt: &impl Wait, tree: &Tree, key: &'static str, snapshot: SeqNo) -> bool {
     matches!(tree.contains_key(rt, key.as_bytes(), snapshot), Ok(true))
 }
 
 /// a is flushed and b isn't: what isn't flushed is forgotten, and then all.
 fn forgets(rt: &impl Wait, alloc: Global, tree: &Tree) -> Result<bool, Error> {
-    set(rt, alloc, tree, "a")?;
+    set(rt, alloc, tree, "a", "x")?;
     let flushed = tree.flush_active_memtable(rt, 0).is_ok();
-    set(rt, alloc, tree, "b")?;
+    set(rt, alloc, tree, "b", "x")?;
     tree.clear_active_memtable(rt)?;
     let is_kept = has(rt, tree, "a", 3) && !has(rt, tree, "b", 3);
     let cleared = tree.clear(rt)?;

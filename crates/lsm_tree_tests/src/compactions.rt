@@ -1,11 +1,11 @@
 // Compactions of shared trees, with a journal and without, and of a recorded tree with one owner.
 use crate::samples::{
-    did_nothing, is_installed, open_recorded, open_shared, record, record_in_table, set,
-    set_in_table, share_recorded, shows, text,
+    Noted, did_nothing, is_installed, open_recorded, open_shared, record, record_in_table, set,
+    set_in_table, share_recorded, shows, tells, text,
 };
 use lsm_tree::{
-    Begun, Choice, CompactionJob, Config, Error, Finished, JournalEntry, Leveled, Major, Op,
-    Options, OwnedBounds, Pass, Recorded, RecordedTree, Tree, Why,
+    Begun, Choice, CompactionJob, Config, Error, Finished, Leveled, Major, Op, Options,
+    OwnedBounds, Pass, Recorded, RecordedTree, Tree, Why,
 };
 use std::alloc::Global;
 use std::collections::HashSet;
@@ -157,35 +157,26 @@ fn record_drop(
     Ok(waits && drops && tree.table_count(rt) == 0)
 }
 
-/// Whether these are two writes, each with the mark and the install of its flush behind it.
-fn tells_of_tables(noted: &[(u64, JournalEntry)]) -> bool {
-    let mut entries = noted.iter().map(|noted| &noted.1);
-    matches!(entries.next(), Some(JournalEntry::Write(_)))
-        && matches!(entries.next(), Some(JournalEntry::Mark(0)))
-        && matches!(entries.next(), Some(JournalEntry::Install(1)))
-        && matches!(entries.next(), Some(JournalEntry::Write(_)))
-        && matches!(entries.next(), Some(JournalEntry::Mark(0)))
-        && matches!(entries.next(), Some(JournalEntry::Install(3)))
-        && entries.next().is_none()
-}
-
-/// Whether these are the mark of a merge, a write in between and its install; the mark where nothing is to be done; and a drop.
-fn tells_of_compactions(noted: &[(u64, JournalEntry)]) -> bool {
-    let mut entries = noted.iter().map(|noted| &noted.1);
-    matches!(entries.next(), Some(JournalEntry::Mark(0)))
-        && matches!(entries.next(), Some(JournalEntry::Write(_)))
-        && matches!(entries.next(), Some(JournalEntry::Install(5)))
-        && matches!(entries.next(), Some(JournalEntry::Mark(0)))
-        && matches!(entries.next(), Some(JournalEntry::Mark(0)))
-        && matches!(entries.next(), Some(JournalEntry::Dropped(_, 6)))
-        && matches!(entries.next(), Some(JournalEntry::Install(6)))
-        && entries.next().is_none()
-}
-
-fn tells_of_all(pass: &Pass) -> bool {
-    let noted = pass.entries();
-    noted.len() == 13 && tells_of_tables(&noted[..6]) && tells_of_compactions(&noted[6..])
-}
+/// What is noted of both.
+const NOTED: [Noted; 13] = [
+    // Two writes, each with its flush.
+    Noted::Write,
+    Noted::Mark(0),
+    Noted::Install(1),
+    Noted::Write,
+    Noted::Mark(0),
+    Noted::Install(3),
+    // The merge, with a write in between.
+    Noted::Mark(0),
+    Noted::Write,
+    Noted::Install(5),
+    // Where nothing is to be done, the mark alone.
+    Noted::Mark(0),
+    // The drop.
+    Noted::Mark(0),
+    Noted::Dropped(6),
+    Noted::Install(6),
+];
 
 /// Whether a pass lists the journal, which has so many entries.
 fn closes(rt: &impl Wait, alloc: Global, tree: &RecordedTree, pass: Pass, count: usize) -> bool {
@@ -206,7 +197,7 @@ fn compactions_are_noted(rt: HostRuntime) -> Result<(), Fail> {
     assert!(rt; matches!(merged, Ok(true)));
     let dropped = record_drop(&rt, alloc, &tree, &mut pass);
     assert!(rt; matches!(dropped, Ok(true)));
-    assert!(rt; tells_of_all(&pass));
+    assert!(rt; tells(&pass, &NOTED));
     assert!(rt; closes(&rt, alloc, &tree, pass, 13));
     drop(tree);
     Ok(())

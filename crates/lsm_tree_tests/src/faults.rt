@@ -1,7 +1,7 @@
 // Flushes of shared trees over a store of which a call fails.
-use crate::samples::text;
+use crate::samples::{record, set, text};
 use lsm_tree::{
-    Config, Error, Fault, Handle, MemStore, Op, Pass, Recorded, RecordedTree, Registered, Tree,
+    Config, Error, Fault, Handle, MemStore, Pass, Recorded, RecordedTree, Registered, Tree,
     TreeState,
 };
 use std::alloc::Global;
@@ -33,7 +33,7 @@ fn open(alloc: Global, call: u64) -> Result<Tree, Error> {
 
 /// Whether a flush of a = x blames the store, and the next one installs what it left.
 fn goes_on(rt: &impl Wait, alloc: Global, tree: &Tree) -> Result<bool, Error> {
-    tree.write(rt, vec![in alloc; (text("a"), Op::Set(text("x")))]?)?;
+    set(rt, alloc, tree, "a", "x")?;
     let told = tree.flush_active_memtable(rt, 0);
     let is_blamed = matches!(told, Err((Error::Store, Some(0))));
     let next = tree.flush(rt, 0)?;
@@ -64,7 +64,7 @@ fn a_shared_tree_goes_on_behind_a_failed_flush(rt: HostRuntime) {
 
 // ---- with a journal
 
-fn record(alloc: Global, call: u64) -> Result<RecordedTree, Error> {
+fn open_recorded(alloc: Global, call: u64) -> Result<RecordedTree, Error> {
     match Recorded::open(alloc, Config::new(0, 0, 0), failing(alloc, call)) {
         Ok(core) => Ok(Handle::new(alloc, core)?),
         Err((error, _)) => Err(error),
@@ -78,7 +78,7 @@ fn records_on(
     tree: &RecordedTree,
     pass: &mut Pass,
 ) -> Result<bool, Error> {
-    tree.write(rt, pass, vec![in alloc; (text("a"), Op::Set(text("x")))]?)?;
+    record(rt, alloc, tree, pass, "x")?;
     let told = tree.flush_active_memtable(rt, pass, 0);
     let is_blamed = matches!(told, Err((Error::Store, Some(0))));
     let next = tree.flush(rt, pass, 0)?;
@@ -87,7 +87,7 @@ fn records_on(
 }
 
 fn records_on_behind(rt: &impl Wait, alloc: Global, call: u64) -> bool {
-    let Ok(tree) = record(alloc, call) else {
+    let Ok(tree) = open_recorded(alloc, call) else {
         return false;
     };
     let mut pass = Pass::new(alloc);

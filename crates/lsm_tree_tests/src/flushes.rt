@@ -1,5 +1,7 @@
 // Flushes of shared trees, with a journal and without, and of a tree under a list of calls.
-use crate::samples::{open_shared, open_state, record, set, share_recorded, shows, text};
+use crate::samples::{
+    Noted, open_shared, open_state, record, set, share_recorded, shows, tells, text,
+};
 use lsm_tree::{
     Count, Error, FlushJob, JobStep, JournalEntry, Op, Ops, Outcome, Pass, RecordedTree,
     Registered, Reply, Step, Tree, TreeType, WrittenFlush, run,
@@ -150,17 +152,15 @@ fn record_flushes(
     }
 }
 
-/// Whether the entries of a pass are two writes, each with the mark and the install of its flush behind it.
-fn tells_of_flushes(pass: &Pass) -> bool {
-    let mut entries = pass.entries().iter().map(|noted| &noted.1);
-    matches!(entries.next(), Some(JournalEntry::Write(_)))
-        && matches!(entries.next(), Some(JournalEntry::Mark(0)))
-        && matches!(entries.next(), Some(JournalEntry::Install(1)))
-        && matches!(entries.next(), Some(JournalEntry::Write(_)))
-        && matches!(entries.next(), Some(JournalEntry::Mark(2)))
-        && matches!(entries.next(), Some(JournalEntry::Install(3)))
-        && entries.next().is_none()
-}
+/// Two writes, each with the mark and the install of its flush behind it.
+const NOTED: [Noted; 6] = [
+    Noted::Write,
+    Noted::Mark(0),
+    Noted::Install(1),
+    Noted::Write,
+    Noted::Mark(2),
+    Noted::Install(3),
+];
 
 #[test]
 fn flushes_are_noted(rt: HostRuntime) -> Result<(), Fail> {
@@ -169,7 +169,7 @@ fn flushes_are_noted(rt: HostRuntime) -> Result<(), Fail> {
     let mut pass = Pass::new(alloc);
     let flushed = record_flushes(&rt, alloc, &tree, &mut pass);
     assert!(rt; matches!(flushed, Ok(true)));
-    assert!(rt; tells_of_flushes(&pass));
+    assert!(rt; tells(&pass, &NOTED));
     assert!(rt; gives_up(&rt, alloc, &tree, &mut pass));
     drop(pass);
     drop(tree);

@@ -1,10 +1,11 @@
 // Compactions whose merge a gate does: no lock is held meanwhile, and a job that comes back is given up.
 use crate::samples::{
-    did_nothing, is_installed, open_shared, record_in_table, set_in_table, share_recorded, shows,
+    Noted, did_nothing, is_installed, open_shared, record_in_table, set_in_table, share_recorded,
+    shows, tells,
 };
 use lsm_tree::{
-    Begun, CompactionJob, Error, Gate, JournalEntry, Leveled, Major, MergedCompaction, Pass,
-    RecordedTree, RunJob, Tree,
+    Begun, CompactionJob, Error, Gate, Leveled, Major, MergedCompaction, Pass, RecordedTree,
+    RunJob, Tree,
 };
 use std::alloc::{AllocError, Global};
 use std::sync::{Arc, Mutex, Wait};
@@ -67,17 +68,15 @@ fn record_merge(
     Ok(is_refused && is_free && merges && tree.level_table_count(rt, 6) == Some(1))
 }
 
-/// Whether the entries are a write with its flush, the mark of the merge that is given up, and that of the other with its install.
-fn tells_of_gates(pass: &Pass) -> bool {
-    let mut entries = pass.entries().iter().map(|noted| &noted.1);
-    matches!(entries.next(), Some(JournalEntry::Write(_)))
-        && matches!(entries.next(), Some(JournalEntry::Mark(0)))
-        && matches!(entries.next(), Some(JournalEntry::Install(1)))
-        && matches!(entries.next(), Some(JournalEntry::Mark(0)))
-        && matches!(entries.next(), Some(JournalEntry::Mark(2)))
-        && matches!(entries.next(), Some(JournalEntry::Install(2)))
-        && entries.next().is_none()
-}
+/// A write with its flush, the mark of the merge that is given up, and that of the other with its install.
+const NOTED: [Noted; 6] = [
+    Noted::Write,
+    Noted::Mark(0),
+    Noted::Install(1),
+    Noted::Mark(0),
+    Noted::Mark(2),
+    Noted::Install(2),
+];
 
 #[test]
 fn what_goes_through_a_gate_is_noted(rt: HostRuntime) -> Result<(), Fail> {
@@ -86,7 +85,7 @@ fn what_goes_through_a_gate_is_noted(rt: HostRuntime) -> Result<(), Fail> {
     let mut pass = Pass::new(alloc);
     let done = record_merge(&rt, alloc, &tree, &mut pass);
     assert!(rt; matches!(done, Ok(true)));
-    assert!(rt; tells_of_gates(&pass));
+    assert!(rt; tells(&pass, &NOTED));
     drop(pass);
     drop(tree);
     Ok(())

@@ -1,7 +1,7 @@
 // What several tests write, and the trees that they begin with.
 use lsm_tree::{
-    Begun, Config, Error, Handle, MemStore, Op, Pass, Recorded, RecordedTree, Tree, TreeState,
-    UserKey,
+    Begun, Config, Error, Handle, JournalEntry, MemStore, Op, Pass, Recorded, RecordedTree, Tree,
+    TreeState, UserKey,
 };
 use std::alloc::Global;
 use std::sync::Wait;
@@ -107,4 +107,34 @@ pub(crate) fn record_in_table(
         Ok(_) => Ok(()),
         Err((error, _)) => Err(error),
     }
+}
+
+// ---- what is noted
+
+/// An entry of a journal, with its number: the watermark of a mark.
+pub(crate) enum Noted {
+    Write,
+    Mark(u64),
+    Install(u64),
+    Dropped(u64),
+}
+
+fn is_noted(entry: &JournalEntry, noted: &Noted) -> bool {
+    match (entry, noted) {
+        (JournalEntry::Write(_), Noted::Write) => true,
+        (JournalEntry::Mark(told), Noted::Mark(number))
+        | (JournalEntry::Install(told), Noted::Install(number))
+        | (JournalEntry::Dropped(_, told), Noted::Dropped(number)) => told == number,
+        _ => false,
+    }
+}
+
+/// Whether a pass has just these entries.
+pub(crate) fn tells(pass: &Pass, wanted: &[Noted]) -> bool {
+    for (entry, noted) in pass.entries().iter().zip(wanted) {
+        if !is_noted(&entry.1, noted) {
+            return false;
+        }
+    }
+    pass.entries().len() == wanted.len()
 }
