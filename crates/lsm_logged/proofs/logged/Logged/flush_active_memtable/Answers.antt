@@ -22,6 +22,10 @@ pub returns-in-Ok-flush-clause-behind : goal.returns-in-Ok-flush-clause-behind
 returns-in-Ok-flush-clause-behind g c tells =
     behind_rotated g.S.Store.world c.args.self.now c.rotate_memtable.new.self c.flush.new.self c.in-Ok.sealed c.in-Ok.ensures.ok c.in-Ok.ensures.store (c.flush.ensures.behind tells)
 
+pub returns-in-Ok-flush-clause-upholds : goal.returns-in-Ok-flush-clause-upholds
+returns-in-Ok-flush-clause-upholds g c tells =
+    upheld_rotated g.S.Store.world c.args.self.now c.rotate_memtable.new.self c.flush.new.self c.in-Ok.sealed c.in-Ok.ensures.ok c.in-Ok.ensures.store (c.flush.ensures.upholds tells)
+
 pub returns-in-Err-flush-clause-flushes : goal.returns-in-Err-flush-clause-flushes
 returns-in-Err-flush-clause-flushes g c = record {
   ok = tt;
