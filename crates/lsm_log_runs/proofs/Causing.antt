@@ -14,7 +14,7 @@ use Rattle.lsm_runs.specs.Causes.{ReplyBlames}
 use Rattle.lsm_runs.specs.Compacting.{TakesRunCompaction, end_reply_of}
 use Rattle.lsm_runs.specs.Flushing.{TakesRun}
 use Rattle.lsm_runs.specs.ReadSteps.{TakesGet, TakesPairs}
-use Rattle.lsm_runs.proofs.Causing.{blames, named, batch_reason, read_refusal}
+use Rattle.lsm_runs.proofs.Causing.{blames, Blameless, named, batch_reason, read_refusal}
 use Rattle.lsm_runs.specs.declared.slots.Job.{Job}
 use Rattle.lsm_runs.specs.declared.steps.Reply.{Reply}
 use Rattle.lsm_runs.specs.declared.steps.Reply.TheVariants.{Begun as BegunReply, Done, NoJob, SlotInUse, Sealed, Value, Pairs, Refused}
