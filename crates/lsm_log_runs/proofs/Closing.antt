@@ -1,5 +1,5 @@
 -- Jobs that are given up are no part of what the theory sees, and leave the tree's files as they are stored.
-use Rattle.std.proofs.Common.{◌≡◌, ◌⊎◌, inl, inr, ℕ, ◌==◌, Bool, true, false, cond, List, [], ◌∷◌, ◌++◌, Option, Some, None, Result, Ok, Err, refl, sym, ap, ◌∙◌, subst, Contains}
+use Rattle.std.proofs.Common.{◌≡◌, inl, inr, ℕ, Bool, true, false, List, [], ◌∷◌, Option, Some, None, Result, Ok, Err, refl, sym, ap, ◌∙◌, subst, Contains}
 use Rattle.std.specs.BTreeMap.{BTreeMap, IsOrdered, get}
 use Rattle.std.specs.Ordering.{nat_cmp}
 use Rattle.std.proofs.lemmas.Cmp.{nat_cmp_total}
@@ -10,19 +10,16 @@ use Rattle.lsm_store.specs.World.{World}
 use Rattle.lsm_model.specs.Journal.{Event}
 use Rattle.lsm_model.specs.Beginnings.{Note}
 use Rattle.lsm_commit.specs.Stored.{IsStored}
-use Rattle.lsm_flush.specs.Jobs.{SeenJob, SeenOpen}
-use Rattle.lsm_compaction.specs.Merges.{SeenCompaction}
-use Rattle.lsm_compaction.specs.OpenMerges.{SeenMerges, ended}
+use Rattle.lsm_flush.specs.Jobs.{SeenJob}
 use Rattle.lsm_log_model.specs.Logs.{Logged as Log, MayBeDrawn}
 use Rattle.lsm_log_model.specs.Records.{LogImage, opened_by}
 use Rattle.lsm_runs.specs.declared.slots.Job.{Job}
 use Rattle.lsm_runs.specs.Files.{AreApart, StaysStored}
-use Rattle.lsm_runs.specs.declared.slots.Job.TheVariants.{Begun, Merged, Written, Compaction, Compacted}
-use Rattle.lsm_runs.specs.Slots.{waiting, job_in, GivesUp, GivesUpAll, all_ended, Closes}
+use Rattle.lsm_runs.specs.Slots.{waiting, job_in, Closes}
 use Rattle.lsm_runs.proofs.Files.{closed_stored}
+use Rattle.lsm_runs.proofs.GivingUp.{spent_closes, all_closes}
 use Rattle.lsm_state.specs.Core.{Core, versions_left, written_of}
-use Rattle.lsm_state.specs.Compactions.{Spends}
-use Rattle.lsm_state.specs.Flushes.{sealed_ids, spent, spent_in}
+use Rattle.lsm_state.specs.Flushes.{sealed_ids, spent}
 use Rattle.lsm_logged.specs.Flushing.{BeginsLogged}
 use Rattle.lsm_logged.specs.Keeping.{SeenLogged, IsLogOf, KeepsLog}
 use Rattle.lsm_log_runs.specs.Pasts.{LogPast}
@@ -30,57 +27,7 @@ use Rattle.lsm_log_runs.specs.Slots.{LogStage, StaysBeside, AreAllThatWait, Ends
 use Rattle.lsm_log_runs.specs.Standing.{StandsLogged}
 use Rattle.lsm_log_runs.proofs.Waiting.{begins_of}
 
--- ---- a tree without its log
-
-none_closes : (old new : Core) → new ≡ old → Closes old new
-none_closes old new e = subst (Closes old) (sym e) (record { rest = refl; flush = inl refl; numbers = []; merges = refl })
-
-spent_closes : (n : ℕ) (old new : Core) → new ≡ spent n old → Closes old new
-spent_closes n old new e = subst (Closes old) (sym e) (record { rest = refl; flush = go old.flush; numbers = []; merges = refl })
-  where
-    closed : (f : SeenOpen) (b : Bool) → (cond b None (Some f) ≡ Some f) ⊎ (cond b None (Some f) ≡ None)
-    closed f true = inr refl
-    closed f false = inl refl
-
-    go : (o : Option SeenOpen) → (spent_in n o ≡ o) ⊎ (spent_in n o ≡ None)
-    go None = inl refl
-    go (Some f) = closed f (f.number == n)
-
-spends_closes : (job : SeenCompaction) (old new : Core) → Spends job old new → Closes old new
-spends_closes job old new (inl s) = subst (Closes old) (sym s.1) (record { rest = refl; flush = inl refl; numbers = job.number ∷ []; merges = refl })
-spends_closes job old new (inr s) = none_closes old new s.1
-
-place_closes : (place : Option Job) (old new : Core) → GivesUp place old new → Closes old new
-place_closes None old new g = none_closes old new g
-place_closes (Some (Begun job)) old new g = spent_closes job.number old new g
-place_closes (Some (Merged job)) old new g = spent_closes job.job.number old new g
-place_closes (Some (Written job)) old new g = spent_closes job.job.number old new g
-place_closes (Some (Compaction job)) old new g = spends_closes job old new g
-place_closes (Some (Compacted job)) old new g = spends_closes job.job old new g
-
-ended_append : (xs ys : List ℕ) (ms : SeenMerges) → all_ended (xs ++ ys) ms ≡ all_ended ys (all_ended xs ms)
-ended_append [] ys ms = refl
-ended_append (x ∷ xs) ys ms = ended_append xs ys (ended x ms)
-
--- some are given up, and then others
-both_close : (old mid new : Core) → Closes old mid → Closes mid new → Closes old new
-both_close old mid new a b = record {
-  rest = b.rest ∙ ap (λ (c : Core). record c { flush = new.flush; merges = new.merges }) a.rest;
-  flush = go b.flush a.flush;
-  numbers = a.numbers ++ b.numbers;
-  merges = b.merges ∙ ap (all_ended b.numbers) a.merges ∙ sym (ended_append a.numbers b.numbers old.merges);
-}
-  where
-    go : (new.flush ≡ mid.flush) ⊎ (new.flush ≡ None) → (mid.flush ≡ old.flush) ⊎ (mid.flush ≡ None) → (new.flush ≡ old.flush) ⊎ (new.flush ≡ None)
-    go (inl e) (inl f) = inl (e ∙ f)
-    go (inl e) (inr f) = inr (e ∙ f)
-    go (inr e) f = inr e
-
 -- ---- all jobs
-
-all_close : (xs : List (ℕ × Option Job)) (old new : Core) → GivesUpAll xs old new → Closes old new
-all_close [] old new g = none_closes old new g
-all_close (x ∷ xs) old new g = both_close old g.0 new (place_closes x.1 old g.0 g.1) (all_close xs g.0 new g.2)
 
 pub beside_then : {S : Type 0} (old mid new : SeenLogged S) → StaysBeside old mid → StaysBeside mid new → StaysBeside old new
 beside_then old mid new a b = record { store = b.store ∙ a.store; numbers = b.numbers ∙ a.numbers; doubt = b.doubt ∙ a.doubt }
@@ -97,7 +44,7 @@ all_waiting slots ordered n job = (λ waits. there (get nat_cmp slots n) refl wa
     there (Some place) found waits = (btree_map_get_iff nat_cmp_total exact_unsigned slots ordered n (Some job)).0 (found ∙ ap (λ (p : Option Job). Some p) (sym (ap waiting found) ∙ waits))
 
 pub ends_closes : {S : Type 0} (last : LogStage S) (new : SeenLogged S) → EndsLogged last new → ClosesLogged last.tree new
-ends_closes last new e = record { core = all_close e.places last.tree.core new.core e.given_up; rest = e.rest }
+ends_closes last new e = record { core = all_closes e.places last.tree.core new.core e.given_up; rest = e.rest }
 
 -- ---- what stands
 

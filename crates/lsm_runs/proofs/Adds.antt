@@ -42,7 +42,7 @@ use Rattle.lsm_runs.specs.declared.steps.Reply.{Reply}
 use Rattle.lsm_runs.specs.declared.steps.Reply.TheVariants as reply
 use Rattle.lsm_runs.specs.declared.steps.Step.{Step as Call}
 use Rattle.lsm_runs.specs.declared.steps.Step.TheVariants as step
-use Rattle.lsm_runs.specs.Adds.{AddsEntry, AddsBatch, AddsGet, AddsPairs, AddsClear, IsMark, AnyMark, NoMark, AnyRanges, NoRanges, RangesWithin, IsUpkeep, IsUpkeepOrDrop, JobAdds, Adds, EachAdds}
+use Rattle.lsm_runs.specs.Adds.{AddsEntry, AddsBatch, AddsGet, AddsPairs, AddsClear, AnyRanges, NoRanges, RangesWithin, IsUpkeep, IsUpkeepOrDrop, JobAdds, Adds, EachAdds}
 use Rattle.lsm_runs.specs.Clearing.{TakesClear, TakesForget}
 use Rattle.lsm_runs.specs.Compacting.{Strategies, TakesBeginCompaction, TakesRunCompaction, TakesFinish, TakesAbandonCompaction, CompactsFrom, TakesCompact, TakesMajor, TakesDropRange, TakesTableId}
 use Rattle.lsm_runs.specs.Flushing.{TakesBegin, TakesRun, TakesTables, TakesRegister, TakesAbandon, TakesFlush, TakesFlushActive, TakesMoment}
@@ -118,30 +118,30 @@ forget_adds r events old new t = absurd t
 all_of : (P : Event → Type 0) (events told : List Event) → events ≡ told → AllByRecursion P told → AllByRecursion P events
 all_of P events told is h = subst (AllByRecursion P) (sym is) h
 
-registered : (w n : ℕ) (r : Result Outcome Error) → AllByRecursion (IsUpkeep AnyMark) (register_events w n r)
-registered w n (Ok a) = elim a.installed as (λ b. AllByRecursion (IsUpkeep AnyMark) (cond b (Mark w ∷ (Install n ∷ [])) (Mark w ∷ []))) [ true ↦ (tt, (tt, tt)) | false ↦ (tt, tt) ]
+registered : (w n : ℕ) (r : Result Outcome Error) → AllByRecursion (IsUpkeep (λ v. Unit {0})) (register_events w n r)
+registered w n (Ok a) = elim a.installed as (λ b. AllByRecursion (IsUpkeep (λ v. Unit {0})) (cond b (Mark w ∷ (Install n ∷ [])) (Mark w ∷ []))) [ true ↦ (tt, (tt, tt)) | false ↦ (tt, tt) ]
 registered w n (Err e) = (tt, tt)
 
-flushed : (w n : ℕ) (marked : Bool) (r : Result (Option (ℕ × Outcome)) Error) → AllByRecursion (IsUpkeep (IsMark w)) (flush_events w n marked r)
+flushed : (w n : ℕ) (marked : Bool) (r : Result (Option (ℕ × Outcome)) Error) → AllByRecursion (IsUpkeep (λ v. v ≡ w)) (flush_events w n marked r)
 flushed w n false r = tt
 flushed w n true (Ok a) = (refl, (tt, tt))
 flushed w n true (Err e) = (refl, tt)
 
-flush_adds : (w : ℕ) (r : Reply) (events : List Event) (old new : Core) → TakesFlush w r events old new → AllByRecursion (IsUpkeep (IsMark w)) events
-flush_adds w (reply.Flushed a) events old new t = all_of (IsUpkeep (IsMark w)) events _ t.1 (flushed w old.seqno t.0 (Ok a))
-flush_adds w (reply.Refused x) events old new t = all_of (IsUpkeep (IsMark w)) events _ t.1 (flushed w old.seqno t.0 (Err x))
+flush_adds : (w : ℕ) (r : Reply) (events : List Event) (old new : Core) → TakesFlush w r events old new → AllByRecursion (IsUpkeep (λ v. v ≡ w)) events
+flush_adds w (reply.Flushed a) events old new t = all_of (IsUpkeep (λ v. v ≡ w)) events _ t.1 (flushed w old.seqno t.0 (Ok a))
+flush_adds w (reply.Refused x) events old new t = all_of (IsUpkeep (λ v. v ≡ w)) events _ t.1 (flushed w old.seqno t.0 (Err x))
 flush_adds w r events old new t = absurd t
 
-active_adds : (w : ℕ) (r : Reply) (events : List Event) (old new : Core) → TakesFlushActive w r events old new → AllByRecursion (IsUpkeep (IsMark w)) events
-active_adds w (reply.FlushedActive id a) events old new t = all_of (IsUpkeep (IsMark w)) events _ t.2.1 (flushed w t.0.seqno t.2.0 (Ok a))
-active_adds w (reply.RefusedActive id x) events old new (inl t) = all_of (IsUpkeep (IsMark w)) events [] t.0 tt
-active_adds w (reply.RefusedActive id x) events old new (inr t) = all_of (IsUpkeep (IsMark w)) events _ t.2.1 (flushed w t.0.seqno t.2.0 (Err x))
+active_adds : (w : ℕ) (r : Reply) (events : List Event) (old new : Core) → TakesFlushActive w r events old new → AllByRecursion (IsUpkeep (λ v. v ≡ w)) events
+active_adds w (reply.FlushedActive id a) events old new t = all_of (IsUpkeep (λ v. v ≡ w)) events _ t.2.1 (flushed w t.0.seqno t.2.0 (Ok a))
+active_adds w (reply.RefusedActive id x) events old new (inl t) = all_of (IsUpkeep (λ v. v ≡ w)) events [] t.0 tt
+active_adds w (reply.RefusedActive id x) events old new (inr t) = all_of (IsUpkeep (λ v. v ≡ w)) events _ t.2.1 (flushed w t.0.seqno t.2.0 (Err x))
 active_adds w r events old new t = absurd t
 
-register_adds : (r : Reply) (events : List Event) (was is : Option Job) (old new : Core) → TakesRegister r events was is old new → AllByRecursion (IsUpkeep AnyMark) events
-register_adds (reply.Registered a) events was is old new t = all_of (IsUpkeep AnyMark) events _ t.3 (registered t.0.watermark old.seqno (Ok a))
-register_adds (reply.Refused x) events was is old new t = all_of (IsUpkeep AnyMark) events _ t.3 (registered t.0.watermark old.seqno (Err x))
-register_adds reply.NoJob events was is old new t = all_of (IsUpkeep AnyMark) events [] t.0.0 tt
+register_adds : (r : Reply) (events : List Event) (was is : Option Job) (old new : Core) → TakesRegister r events was is old new → AllByRecursion (IsUpkeep (λ v. Unit {0})) events
+register_adds (reply.Registered a) events was is old new t = all_of (IsUpkeep (λ v. Unit {0})) events _ t.3 (registered t.0.watermark old.seqno (Ok a))
+register_adds (reply.Refused x) events was is old new t = all_of (IsUpkeep (λ v. Unit {0})) events _ t.3 (registered t.0.watermark old.seqno (Err x))
+register_adds reply.NoJob events was is old new t = all_of (IsUpkeep (λ v. Unit {0})) events [] t.0.0 tt
 register_adds r events was is old new t = absurd t
 
 begin_adds : (r : Reply) (events : List Event) (was is : Option Job) (old new : Core) → TakesBegin r events was is old new → events ≡ []
@@ -222,12 +222,12 @@ any_begun : (Of : ℕ → Type 0) (c : Core) (answer : Result Choice Error) → 
 any_begun Of c (Ok choice) = any_told Of c choice
 any_begun Of c (Err e) = tt
 
-compact_adds : (strategies : Strategies) (at : ℕ) (o : Options) (r : Reply) (events : List Event) (old new : Core) → TakesCompact strategies at o r events old new → AllByRecursion (IsUpkeepOrDrop (IsMark o.mvcc_gc_watermark) AnyRanges) events
-compact_adds strategies at o reply.NoStrategy events old new t = all_of (IsUpkeepOrDrop (IsMark o.mvcc_gc_watermark) AnyRanges) events [] t.0 tt
-compact_adds strategies at o r events old new t = from_adds (IsMark o.mvcc_gc_watermark) AnyRanges (strategies.may_choose at) (strategies.may_refuse at) o refl r events old new (λ choice may. any_told (IsMark o.mvcc_gc_watermark) old choice) t.1
+compact_adds : (strategies : Strategies) (at : ℕ) (o : Options) (r : Reply) (events : List Event) (old new : Core) → TakesCompact strategies at o r events old new → AllByRecursion (IsUpkeepOrDrop (λ v. v ≡ o.mvcc_gc_watermark) AnyRanges) events
+compact_adds strategies at o reply.NoStrategy events old new t = all_of (IsUpkeepOrDrop (λ v. v ≡ o.mvcc_gc_watermark) AnyRanges) events [] t.0 tt
+compact_adds strategies at o r events old new t = from_adds (λ v. v ≡ o.mvcc_gc_watermark) AnyRanges (strategies.may_choose at) (strategies.may_refuse at) o refl r events old new (λ choice may. any_told (λ v. v ≡ o.mvcc_gc_watermark) old choice) t.1
 
 -- a merge of all tables drops none
-none_told : (target w : ℕ) (c : Core) (choice : Choice) → MayAnswer (major_choice target) c choice → MayTell (IsMark w) NoRanges c choice
+none_told : (target w : ℕ) (c : Core) (choice : Choice) → MayAnswer (major_choice target) c choice → MayTell (λ v. v ≡ w) NoRanges c choice
 none_told target w c DoNothing may = tt
 none_told target w c (Move input) may = tt
 none_told target w c (Merge input) may = tt
@@ -237,11 +237,11 @@ none_told target w c (Drop ids) may = absurd (no_ids (is_any_hidden may.0 (lists
     no_ids true h = h
     no_ids false h = h
 
-major_adds : (target w : ℕ) (r : Reply) (events : List Event) (old new : Core) → TakesMajor target w r events old new → AllByRecursion (IsUpkeep (IsMark w)) events
-major_adds target w r events old new t = from_adds (IsMark w) NoRanges (major_choice target) only_memory (options_at w old) refl r events old new (none_told target w old) t
+major_adds : (target w : ℕ) (r : Reply) (events : List Event) (old new : Core) → TakesMajor target w r events old new → AllByRecursion (IsUpkeep (λ v. v ≡ w)) events
+major_adds target w r events old new t = from_adds (λ v. v ≡ w) NoRanges (major_choice target) only_memory (options_at w old) refl r events old new (none_told target w old) t
 
 -- a drop of a range only those within it
-within_told : (bounds : OwnedBounds) (c : Core) → HasOwnIds (lists.all_of (levels_of c)) → (choice : Choice) → MayAnswer (drop_choice bounds) c choice → MayTell (IsMark 0) (RangesWithin bounds.start bounds.end) c choice
+within_told : (bounds : OwnedBounds) (c : Core) → HasOwnIds (lists.all_of (levels_of c)) → (choice : Choice) → MayAnswer (drop_choice bounds) c choice → MayTell (λ v. v ≡ 0) (RangesWithin bounds.start bounds.end) c choice
 within_told bounds c own DoNothing may = tt
 within_told bounds c own (Move input) may = tt
 within_told bounds c own (Merge input) may = tt
@@ -251,14 +251,14 @@ within_told bounds c own (Drop ids) may = (drop_within bounds ids.keys (levels_o
     chosen true h = absurd h
     chosen false h = h
 
-range_adds : (bounds : OwnedBounds) (r : Reply) (events : List Event) (old new : Core) → TakesDropRange bounds r events old new → AllByRecursion (IsUpkeepOrDrop (IsMark 0) (RangesWithin bounds.start bounds.end)) events
-range_adds bounds r events old new (inl t) = all_of (IsUpkeepOrDrop (IsMark 0) (RangesWithin bounds.start bounds.end)) events [] t.3 tt
-range_adds bounds r events old new (inr t) = from_adds (IsMark 0) (RangesWithin bounds.start bounds.end) (drop_choice bounds) only_memory (options_at 0 old) refl r events old new (within_told bounds old t.2) t.1
+range_adds : (bounds : OwnedBounds) (r : Reply) (events : List Event) (old new : Core) → TakesDropRange bounds r events old new → AllByRecursion (IsUpkeepOrDrop (λ v. v ≡ 0) (RangesWithin bounds.start bounds.end)) events
+range_adds bounds r events old new (inl t) = all_of (IsUpkeepOrDrop (λ v. v ≡ 0) (RangesWithin bounds.start bounds.end)) events [] t.3 tt
+range_adds bounds r events old new (inr t) = from_adds (λ v. v ≡ 0) (RangesWithin bounds.start bounds.end) (drop_choice bounds) only_memory (options_at 0 old) refl r events old new (within_told bounds old t.2) t.1
 
-begin_compaction_adds : (strategies : Strategies) (at : ℕ) (o : Options) (r : Reply) (events : List Event) (was is : Option Job) (old new : Core) → TakesBeginCompaction strategies at o r events was is old new → AllByRecursion (IsUpkeepOrDrop (IsMark o.mvcc_gc_watermark) AnyRanges) events
-begin_compaction_adds strategies at o reply.SlotInUse events was is old new t = all_of (IsUpkeepOrDrop (IsMark o.mvcc_gc_watermark) AnyRanges) events [] t.0.0 tt
-begin_compaction_adds strategies at o reply.NoStrategy events was is old new t = all_of (IsUpkeepOrDrop (IsMark o.mvcc_gc_watermark) AnyRanges) events [] t.0.0 tt
-begin_compaction_adds strategies at o r events was is old new t = begun_adds (IsMark o.mvcc_gc_watermark) AnyRanges t.answer o refl t.begun events old new (any_begun (IsMark o.mvcc_gc_watermark) old t.answer) t.begins
+begin_compaction_adds : (strategies : Strategies) (at : ℕ) (o : Options) (r : Reply) (events : List Event) (was is : Option Job) (old new : Core) → TakesBeginCompaction strategies at o r events was is old new → AllByRecursion (IsUpkeepOrDrop (λ v. v ≡ o.mvcc_gc_watermark) AnyRanges) events
+begin_compaction_adds strategies at o reply.SlotInUse events was is old new t = all_of (IsUpkeepOrDrop (λ v. v ≡ o.mvcc_gc_watermark) AnyRanges) events [] t.0.0 tt
+begin_compaction_adds strategies at o reply.NoStrategy events was is old new t = all_of (IsUpkeepOrDrop (λ v. v ≡ o.mvcc_gc_watermark) AnyRanges) events [] t.0.0 tt
+begin_compaction_adds strategies at o r events was is old new t = begun_adds (λ v. v ≡ o.mvcc_gc_watermark) AnyRanges t.answer o refl t.begun events old new (any_begun (λ v. v ≡ o.mvcc_gc_watermark) old t.answer) t.begins
 
 run_compaction_adds : (r : Reply) (events : List Event) (was is : Option Job) (old new : Core) → TakesRunCompaction r events was is old new → events ≡ []
 run_compaction_adds reply.Done events was is old new t = t.0
@@ -266,15 +266,15 @@ run_compaction_adds (reply.Refused x) events was is old new t = t.0.0
 run_compaction_adds reply.NoJob events was is old new t = t.0.0
 run_compaction_adds r events was is old new t = absurd t
 
-merge_adds : (r : Result Finished Error) (c : Core) (events : List Event) → TellsMerge r c events → AllByRecursion (IsUpkeep NoMark) events
-merge_adds (Ok IsFinished) c events t = all_of (IsUpkeep NoMark) events (Install c.seqno ∷ []) (t.done (inl refl)) (tt, tt)
-merge_adds (Ok (Over why)) c events t = all_of (IsUpkeep NoMark) events [] (t.told (λ h. cc h)) tt
-merge_adds (Err AfterCommit) c events t = all_of (IsUpkeep NoMark) events (Install c.seqno ∷ []) (t.done (inr refl)) (tt, tt)
-merge_adds (Err CommitUnknown) c events t = all_of (IsUpkeep NoMark) events [] (t.lost refl) tt
-merge_adds (Err e) c events t = all_of (IsUpkeep NoMark) events [] (t.refused (λ h. cc h) (λ h. cc h)) tt
+merge_adds : (r : Result Finished Error) (c : Core) (events : List Event) → TellsMerge r c events → AllByRecursion (IsUpkeep (λ v. ⊥)) events
+merge_adds (Ok IsFinished) c events t = all_of (IsUpkeep (λ v. ⊥)) events (Install c.seqno ∷ []) (t.done (inl refl)) (tt, tt)
+merge_adds (Ok (Over why)) c events t = all_of (IsUpkeep (λ v. ⊥)) events [] (t.told (λ h. cc h)) tt
+merge_adds (Err AfterCommit) c events t = all_of (IsUpkeep (λ v. ⊥)) events (Install c.seqno ∷ []) (t.done (inr refl)) (tt, tt)
+merge_adds (Err CommitUnknown) c events t = all_of (IsUpkeep (λ v. ⊥)) events [] (t.lost refl) tt
+merge_adds (Err e) c events t = all_of (IsUpkeep (λ v. ⊥)) events [] (t.refused (λ h. cc h) (λ h. cc h)) tt
 
-finish_adds : (r : Reply) (events : List Event) (was is : Option Job) (old new : Core) → TakesFinish r events was is old new → AllByRecursion (IsUpkeep NoMark) events
-finish_adds reply.NoJob events was is old new t = all_of (IsUpkeep NoMark) events [] t.0.0 tt
+finish_adds : (r : Reply) (events : List Event) (was is : Option Job) (old new : Core) → TakesFinish r events was is old new → AllByRecursion (IsUpkeep (λ v. ⊥)) events
+finish_adds reply.NoJob events was is old new t = all_of (IsUpkeep (λ v. ⊥)) events [] t.0.0 tt
 finish_adds r events was is old new t = merge_adds t.end old events t.ends.2
 
 abandon_compaction_adds : (r : Reply) (events : List Event) (was is : Option Job) (old new : Core) → TakesAbandonCompaction r events was is old new → events ≡ []

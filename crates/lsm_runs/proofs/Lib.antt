@@ -23,7 +23,7 @@ mod Counting
 pub mod OpenWork
 pub mod OpenFlush
 mod OpenMerges
-mod GivingUp
+pub mod GivingUp
 pub mod Members
 pub mod StepDeeds
 pub mod CallDeeds

@@ -30,7 +30,7 @@ use Rattle.lsm_runs.specs.declared.steps.Reply.{Reply}
 use Rattle.lsm_runs.specs.declared.steps.Reply.TheVariants as reply
 use Rattle.lsm_runs.specs.declared.steps.Step.{Step as Call}
 use Rattle.lsm_runs.specs.declared.steps.Step.TheVariants as step
-use Rattle.lsm_runs.specs.Adds.{AddsGet, AddsPairs, AddsClear, IsMark, AnyMark, NoMark, AnyRanges, NoRanges, RangesWithin, IsUpkeepOrDrop, JobAdds}
+use Rattle.lsm_runs.specs.Adds.{AddsGet, AddsPairs, AddsClear, AnyRanges, NoRanges, RangesWithin, IsUpkeepOrDrop, JobAdds}
 use Rattle.lsm_runs.specs.Compacting.{Strategies}
 use Rattle.lsm_runs.specs.Runs.{Takes, TakesEntry, TakesBatch, Ran, RanToEnd, journal_of}
 use Rattle.lsm_runs.specs.Slots.{Stage, at_first}
@@ -114,9 +114,9 @@ clear_small (reply.Cleared n) events h = subst (AllByRecursion IsSmall) (sym h) 
 clear_small r events h = nothing_small events h
 
 job_small : (x : JobStep) (events : List Event) → JobAdds x events → AllByRecursion IsSmall events
-job_small job.RegisterTables events h = upkeeps_small AnyMark NoRanges events h
-job_small (job.BeginCompaction at o) events h = upkeeps_small (IsMark o.mvcc_gc_watermark) AnyRanges events h
-job_small job.FinishCompaction events h = upkeeps_small NoMark NoRanges events h
+job_small job.RegisterTables events h = upkeeps_small (λ v. Unit {0}) NoRanges events h
+job_small (job.BeginCompaction at o) events h = upkeeps_small (λ v. v ≡ o.mvcc_gc_watermark) AnyRanges events h
+job_small job.FinishCompaction events h = upkeeps_small (λ v. ⊥) NoRanges events h
 job_small x events h = nothing_small events h
 
 pub takes_small : (strategies : Strategies) (x : Call) (r : Reply) (events : List Event) (old new : Stage) → Takes strategies x r events old new → AllByRecursion IsSmall events
@@ -130,12 +130,12 @@ takes_small strategies (step.Range low high s) r events old new t = pairs_small 
 takes_small strategies (step.Iter s) r events old new t = pairs_small _ s r events (takes_adds strategies (step.Iter s) r events old new t)
 takes_small strategies (step.Prefix p s) r events old new t = pairs_small _ s r events (takes_adds strategies (step.Prefix p s) r events old new t)
 takes_small strategies step.Clear r events old new t = clear_small r events (takes_adds strategies step.Clear r events old new t)
-takes_small strategies (step.Flush w) r events old new t = upkeeps_small (IsMark w) NoRanges events (takes_adds strategies (step.Flush w) r events old new t)
-takes_small strategies (step.FlushActiveMemtable w) r events old new t = upkeeps_small (IsMark w) NoRanges events (takes_adds strategies (step.FlushActiveMemtable w) r events old new t)
-takes_small strategies (step.Compact at w) r events old new t = upkeeps_small (IsMark w) AnyRanges events (takes_adds strategies (step.Compact at w) r events old new t)
-takes_small strategies (step.DoCompaction at o) r events old new t = upkeeps_small (IsMark o.mvcc_gc_watermark) AnyRanges events (takes_adds strategies (step.DoCompaction at o) r events old new t)
-takes_small strategies (step.MajorCompact target w) r events old new t = upkeeps_small (IsMark w) NoRanges events (takes_adds strategies (step.MajorCompact target w) r events old new t)
-takes_small strategies (step.DropRange low high) r events old new t = upkeeps_small (IsMark 0) (RangesWithin low high) events (takes_adds strategies (step.DropRange low high) r events old new t)
+takes_small strategies (step.Flush w) r events old new t = upkeeps_small (λ v. v ≡ w) NoRanges events (takes_adds strategies (step.Flush w) r events old new t)
+takes_small strategies (step.FlushActiveMemtable w) r events old new t = upkeeps_small (λ v. v ≡ w) NoRanges events (takes_adds strategies (step.FlushActiveMemtable w) r events old new t)
+takes_small strategies (step.Compact at w) r events old new t = upkeeps_small (λ v. v ≡ w) AnyRanges events (takes_adds strategies (step.Compact at w) r events old new t)
+takes_small strategies (step.DoCompaction at o) r events old new t = upkeeps_small (λ v. v ≡ o.mvcc_gc_watermark) AnyRanges events (takes_adds strategies (step.DoCompaction at o) r events old new t)
+takes_small strategies (step.MajorCompact target w) r events old new t = upkeeps_small (λ v. v ≡ w) NoRanges events (takes_adds strategies (step.MajorCompact target w) r events old new t)
+takes_small strategies (step.DropRange low high) r events old new t = upkeeps_small (λ v. v ≡ 0) (RangesWithin low high) events (takes_adds strategies (step.DropRange low high) r events old new t)
 takes_small strategies (step.AtSlot slot x) r events old new t = job_small x events (takes_adds strategies (step.AtSlot slot x) r events old new t)
 takes_small strategies x r events old new t = nothing_small events (takes_adds strategies x r events old new t)
 

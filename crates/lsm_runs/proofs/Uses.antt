@@ -26,7 +26,7 @@ use Rattle.lsm_runs.specs.declared.steps.Reply.{Reply}
 use Rattle.lsm_runs.specs.declared.steps.Reply.TheVariants as reply
 use Rattle.lsm_runs.specs.declared.steps.Step.{Step as Call}
 use Rattle.lsm_runs.specs.declared.steps.Step.TheVariants as step
-use Rattle.lsm_runs.specs.Adds.{AddsEntry, AddsBatch, AddsGet, AddsPairs, AddsClear, IsMark, AnyMark, NoMark, AnyRanges, NoRanges, RangesWithin, IsUpkeepOrDrop, JobAdds, Adds}
+use Rattle.lsm_runs.specs.Adds.{AddsEntry, AddsBatch, AddsGet, AddsPairs, AddsClear, AnyRanges, NoRanges, RangesWithin, IsUpkeepOrDrop, JobAdds, Adds}
 use Rattle.lsm_runs.specs.Compacting.{Strategies}
 use Rattle.lsm_runs.specs.Drawing.{job_drawing, drawing_of, set_by, weak_by, sets_in, weaks_in, asks_of, plainly, RunUses, RunRises}
 use Rattle.lsm_runs.specs.JobSteps.{TakesJob}
@@ -167,9 +167,9 @@ clear_among (reply.Cleared n) events a = by_told [] [] events _ a (tt, tt)
 clear_among r events a = none_among [] [] events a
 
 job_among : (x : JobStep) (events : List Event) → JobAdds x events → AreAmong [] [] events
-job_among job.RegisterTables events a = upkeep_among AnyMark NoRanges [] [] events a
-job_among (job.BeginCompaction at o) events a = upkeep_among (IsMark o.mvcc_gc_watermark) AnyRanges [] [] events a
-job_among job.FinishCompaction events a = upkeep_among NoMark NoRanges [] [] events a
+job_among job.RegisterTables events a = upkeep_among (λ v. Unit {0}) NoRanges [] [] events a
+job_among (job.BeginCompaction at o) events a = upkeep_among (λ v. v ≡ o.mvcc_gc_watermark) AnyRanges [] [] events a
+job_among job.FinishCompaction events a = upkeep_among (λ v. ⊥) NoRanges [] [] events a
 job_among x events a = none_among [] [] events a
 
 pub adds_keys : (x : Call) (r : Reply) (events : List Event) → Adds x r events → UsesKeys (asks_of x) events
@@ -183,12 +183,12 @@ adds_keys (step.Range low high s) r events a = pairs_among _ s r events a
 adds_keys (step.Iter s) r events a = pairs_among _ s r events a
 adds_keys (step.Prefix p s) r events a = pairs_among _ s r events a
 adds_keys step.Clear r events a = clear_among r events a
-adds_keys (step.Flush w) r events a = upkeep_among (IsMark w) NoRanges [] [] events a
-adds_keys (step.FlushActiveMemtable w) r events a = upkeep_among (IsMark w) NoRanges [] [] events a
-adds_keys (step.Compact at w) r events a = upkeep_among (IsMark w) AnyRanges [] [] events a
-adds_keys (step.DoCompaction at o) r events a = upkeep_among (IsMark o.mvcc_gc_watermark) AnyRanges [] [] events a
-adds_keys (step.MajorCompact target w) r events a = upkeep_among (IsMark w) NoRanges [] [] events a
-adds_keys (step.DropRange low high) r events a = upkeep_among (IsMark 0) (RangesWithin low high) [] [] events a
+adds_keys (step.Flush w) r events a = upkeep_among (λ v. v ≡ w) NoRanges [] [] events a
+adds_keys (step.FlushActiveMemtable w) r events a = upkeep_among (λ v. v ≡ w) NoRanges [] [] events a
+adds_keys (step.Compact at w) r events a = upkeep_among (λ v. v ≡ w) AnyRanges [] [] events a
+adds_keys (step.DoCompaction at o) r events a = upkeep_among (λ v. v ≡ o.mvcc_gc_watermark) AnyRanges [] [] events a
+adds_keys (step.MajorCompact target w) r events a = upkeep_among (λ v. v ≡ w) NoRanges [] [] events a
+adds_keys (step.DropRange low high) r events a = upkeep_among (λ v. v ≡ 0) (RangesWithin low high) [] [] events a
 adds_keys (step.AtSlot slot x) r events a = job_among x events a
 adds_keys x r events a = none_among [] [] events a
 

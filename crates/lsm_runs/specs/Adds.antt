@@ -49,16 +49,6 @@ abbrev pub AddsClear : Reply → List Event → Type 0
 AddsClear (Cleared n) events = events ≡ DidClear n ∷ []
 AddsClear reply events = events ≡ []
 
--- which watermarks may be marked: one, any, or none
-abbrev pub IsMark : ℕ → ℕ → Type 0
-IsMark w v = v ≡ w
-
-abbrev pub AnyMark : ℕ → Type 0
-AnyMark v = Unit {0}
-
-abbrev pub NoMark : ℕ → Type 0
-NoMark v = ⊥
-
 -- which ranges may be dropped: any, none, or those of which each key is at or after the start of bounds, and at or before their end
 abbrev pub AnyRanges : List Keys → Type 0
 AnyRanges ranges = Unit {0}
@@ -85,9 +75,9 @@ IsUpkeep Of = IsUpkeepOrDrop Of NoRanges
 -- ---- by steps
 
 abbrev pub JobAdds : JobStep → List Event → Type 0
-JobAdds RegisterTables events = AllByRecursion (IsUpkeep AnyMark) events
-JobAdds (BeginCompaction at o) events = AllByRecursion (IsUpkeepOrDrop (IsMark o.mvcc_gc_watermark) AnyRanges) events
-JobAdds FinishCompaction events = AllByRecursion (IsUpkeep NoMark) events
+JobAdds RegisterTables events = AllByRecursion (IsUpkeep (λ v. Unit {0})) events
+JobAdds (BeginCompaction at o) events = AllByRecursion (IsUpkeepOrDrop (λ v. v ≡ o.mvcc_gc_watermark) AnyRanges) events
+JobAdds FinishCompaction events = AllByRecursion (IsUpkeep (λ v. ⊥)) events
 JobAdds step events = events ≡ []
 
 -- a step marks the watermark that it names, a drop of a range 0. A strategy of the caller's may drop any tables, a merge of all
@@ -103,12 +93,12 @@ Adds (Range low high s) reply events = AddsPairs (Between low high) s reply even
 Adds (Iter s) reply events = AddsPairs (Between Unbounded Unbounded) s reply events
 Adds (Prefix p s) reply events = AddsPairs (AskPrefix p) s reply events
 Adds Clear reply events = AddsClear reply events
-Adds (Flush w) reply events = AllByRecursion (IsUpkeep (IsMark w)) events
-Adds (FlushActiveMemtable w) reply events = AllByRecursion (IsUpkeep (IsMark w)) events
-Adds (Compact at w) reply events = AllByRecursion (IsUpkeepOrDrop (IsMark w) AnyRanges) events
-Adds (DoCompaction at o) reply events = AllByRecursion (IsUpkeepOrDrop (IsMark o.mvcc_gc_watermark) AnyRanges) events
-Adds (MajorCompact target w) reply events = AllByRecursion (IsUpkeep (IsMark w)) events
-Adds (DropRange low high) reply events = AllByRecursion (IsUpkeepOrDrop (IsMark 0) (RangesWithin low high)) events
+Adds (Flush w) reply events = AllByRecursion (IsUpkeep (λ v. v ≡ w)) events
+Adds (FlushActiveMemtable w) reply events = AllByRecursion (IsUpkeep (λ v. v ≡ w)) events
+Adds (Compact at w) reply events = AllByRecursion (IsUpkeepOrDrop (λ v. v ≡ w) AnyRanges) events
+Adds (DoCompaction at o) reply events = AllByRecursion (IsUpkeepOrDrop (λ v. v ≡ o.mvcc_gc_watermark) AnyRanges) events
+Adds (MajorCompact target w) reply events = AllByRecursion (IsUpkeep (λ v. v ≡ w)) events
+Adds (DropRange low high) reply events = AllByRecursion (IsUpkeepOrDrop (λ v. v ≡ 0) (RangesWithin low high)) events
 Adds (AtSlot slot step) reply events = JobAdds step events
 Adds step reply events = events ≡ []
 
