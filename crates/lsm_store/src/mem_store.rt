@@ -9,15 +9,12 @@ ghost use Rattle.lsm_store.specs.Files.{held_at};
 ghost use Rattle.lsm_store.specs.Memory.{HeldAs, EachHeldAs, written_by, synced_by, replaced_by, settled_by, sync_outcome, gives_of, may_of, world_of, KeepsMoment, gives_one, only_now};
 ghost use Rattle.lsm_store.specs.Picks.{picked, Crashes, Restarts};
 
-mod content;
 mod file;
 mod files;
 mod picks;
 mod plan;
 
 use crate::{Store, StoreError};
-use bytes::Bytes;
-use content::Content;
 use files::{
     Files, content_of, doubt_file, end_by, names_of, remove_file, replace_by, settle_by, write_by,
 };
@@ -141,18 +138,6 @@ impl MemStore {
         }
         Ok(outcome)
     }
-
-    /// `write`, of a content that is made.
-    fn write_content(&mut self, name: &str, content: Content) -> Result<(), StoreError>
-        ensures changes { Changes name.now Anything Anything (Some content) (world_of self.old) (world_of self.new) result }
-        ensures counts { Counts (world_of self.old) (world_of self.new) result }
-        ensures held { HeldAs name.now (written_by (outcome_at self.old.plan 1) content) self.old.files self.new.files result }
-        ensures planned { AsPlanned (outcome_at self.old.plan 1) self.old.plan self.new.plan result }
-    {
-        let outcome = self.begin()?;
-        write_by(self.alloc, &mut self.files, name, content, outcome)?;
-        self.answer(outcome)
-    }
 }
 
 impl Store for MemStore {
@@ -198,18 +183,9 @@ impl Store for MemStore {
         ensures held { HeldAs name.now (written_by (outcome_at self.old.plan 1) bytes.now) self.old.files self.new.files result }
         ensures planned { AsPlanned (outcome_at self.old.plan 1) self.old.plan self.new.plan result }
     {
-        let content = Content::copied(self.alloc, bytes)?;
-        self.write_content(name, content)
-    }
-
-    fn write_shared(&mut self, name: &str, bytes: &Bytes) -> Result<(), StoreError>
-        ensures changes { Changes name.now Anything Anything (Some bytes.now) (world_of self.old) (world_of self.new) result }
-        ensures counts { Counts (world_of self.old) (world_of self.new) result }
-        ensures held { HeldAs name.now (written_by (outcome_at self.old.plan 1) bytes.now) self.old.files self.new.files result }
-        ensures planned { AsPlanned (outcome_at self.old.plan 1) self.old.plan self.new.plan result }
-    {
-        let content = Content::shared(bytes)?;
-        self.write_content(name, content)
+        let outcome = self.begin()?;
+        write_by(self.alloc, &mut self.files, name, bytes, outcome)?;
+        self.answer(outcome)
     }
 
     fn sync(&mut self, name: &str) -> Result<(), StoreError>

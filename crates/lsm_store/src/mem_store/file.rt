@@ -4,7 +4,6 @@ ghost use Rattle.std.specs.List.{list_any};
 ghost use Rattle.std.specs.Str.{bytes_eq};
 ghost use Rattle.lsm_store.specs.Held.{MayHold, MayLack, fresh, nothing, written, doubted, removed, offered, settled, softened, IsWhole};
 
-use super::content::Content;
 use smallvec::SmallVec;
 use std::alloc::{AllocError, Global};
 use std::marker::Model;
@@ -43,7 +42,7 @@ impl Absence {
 /// The contents that a name may have, and which of them reads give.
 #[derive(Drop)]
 pub struct File {
-    contents: SmallVec<Content, 1>,
+    contents: SmallVec<Vec<u8>, 1>,
     /// The place of what reads give. None where the name is absent.
     given: Option<usize>,
     /// The place of what they gave before the last call. None where it was absent, or is no choice any more.
@@ -55,23 +54,23 @@ pub struct File {
 
 impl Model for File {
     ghost use Rattle.std.specs.Prelude.{length};
-    ghost use Rattle.lsm_store.specs.Held.{Held, content, IsPlace, GivesOrLacks};
+    ghost use Rattle.lsm_store.specs.Held.{Held, content, byte_lists, IsPlace, GivesOrLacks};
 
     ghost Value = { Held };
 
-    ghost view = { λ f. record { gives = content f.given f.contents.items; before = content f.before f.contents.items; contents = f.contents.items; absence = f.absence; torn = f.torn } };
+    ghost view = { λ f. record { gives = content f.given (byte_lists f.contents.items); before = content f.before (byte_lists f.contents.items); contents = byte_lists f.contents.items; absence = f.absence; torn = f.torn } };
 
     ghost invariant = { λ f. IsPlace f.given (length f.contents.items) × IsPlace f.before (length f.contents.items) × GivesOrLacks f.given f.absence };
 }
 
-fn is_among(contents: &[Content], bytes: &[u8]) -> bool
-    ensures { result ≡ list_any (λ v. bytes_eq v bytes.now) contents.now }
+fn is_among(contents: &[Vec<u8>], bytes: &[u8]) -> bool
+    ensures { result ≡ list_any (λ v. bytes_eq v.items bytes.now) contents.now }
 {
     contents.iter().any(|content| content.as_slice() == bytes)
 }
 
 /// One content, which takes no memory of its own.
-fn alone(alloc: Global, content: Content) -> SmallVec<Content, 1>
+fn alone(alloc: Global, content: Vec<u8>) -> SmallVec<Vec<u8>, 1>
     ensures { result.items ≡ content ∷ [] }
 {
     let mut contents = SmallVec::new(alloc);
@@ -98,7 +97,7 @@ impl File {
         ensures { IfOk result (λ file. file ≡ fresh (Some bytes.now)) }
     {
         Ok(File {
-            contents: alone(alloc, Content::copied(alloc, bytes)?),
+            contents: alone(alloc, bytes.to_vec(alloc)?),
             given: Some(0),
             before: None,
             absence: Absence::Never,
@@ -111,7 +110,7 @@ impl File {
         ensures { IfOk result (λ file. file ≡ offered shown bytes.now nothing) }
     {
         Ok(File {
-            contents: alone(alloc, Content::copied(alloc, bytes)?),
+            contents: alone(alloc, bytes.to_vec(alloc)?),
             given: if shown { Some(0) } else { None },
             before: None,
             absence: Absence::Possible,
@@ -124,7 +123,7 @@ impl File {
         ensures { option_copied result ≡ self.now.gives }
     {
         let at = self.given?;
-        Some(self.contents.as_slice()[at].as_slice())
+        Some(&self.contents.as_slice()[at])
     }
 
     /// What reads gave before the last call, where that left a choice.
@@ -132,7 +131,7 @@ impl File {
         ensures { option_copied result ≡ self.now.before }
     {
         let at = self.before?;
-        Some(self.contents.as_slice()[at].as_slice())
+        Some(&self.contents.as_slice()[at])
     }
 
     /// Whether a crash leaves nothing, unless something else is picked.
@@ -155,13 +154,13 @@ impl File {
         }
     }
 
-    /// Holds this content, which isn't on the disk. Where it is refused for memory, nothing changes.
-    pub fn write(&mut self, alloc: Global, content: Content) -> Result<(), AllocError>
-        ensures ok { OnOk result (self.new ≡ written content self.old) }
+    /// Holds these bytes, which aren't on the disk. Where it is refused for memory, nothing changes.
+    pub fn write(&mut self, alloc: Global, bytes: &[u8]) -> Result<(), AllocError>
+        ensures ok { OnOk result (self.new ≡ written bytes.now self.old) }
         ensures err { OnErr result (self.new ≡ self.old) }
     {
         let mut contents = SmallVec::with_capacity(alloc, 2)?;
-        let Ok(()) = contents.push(content) else {
+        let Ok(()) = contents.push(bytes.to_vec(alloc)?) else {
             unreachable!()
         };
         self.before = None;
@@ -195,7 +194,7 @@ impl File {
         ensures err { OnErr result (self.new ≡ self.old) }
     {
         let at = self.contents.len();
-        self.contents.push(Content::copied(alloc, bytes)?)?;
+        self.contents.push(bytes.to_vec(alloc)?)?;
         self.before = self.given;
         if shown {
             self.given = Some(at);

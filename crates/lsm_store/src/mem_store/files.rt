@@ -7,7 +7,6 @@ ghost use Rattle.lsm_store.specs.Files.{held_at, HoldSame, Alters, AltersEach};
 ghost use Rattle.lsm_store.specs.Memory.{gives_of, written_by, replaced_by, ended_by, settled_by, sync_outcome};
 ghost use Rattle.std.specs.String.{string_bytes};
 
-use super::content::Content;
 use super::file::File;
 use super::plan::Outcome;
 use std::alloc::{AllocError, Global};
@@ -42,14 +41,14 @@ pub fn write_file(
     alloc: Global,
     files: &mut Files,
     name: &str,
-    content: Content,
+    bytes: &[u8],
 ) -> Result<(), AllocError>
-    ensures ok { OnOk result (Alters name.now (written content) files.old files.new) }
+    ensures ok { OnOk result (Alters name.now (written bytes.now) files.old files.new) }
     ensures err { OnErr result (HoldSame files.old files.new) }
 {
     make_room(alloc, files, name)?;
     if let Some(file) = files.get_mut(name) {
-        file.write(alloc, content)?;
+        file.write(alloc, bytes)?;
     }
     Ok(())
 }
@@ -71,14 +70,14 @@ pub fn write_by(
     alloc: Global,
     files: &mut Files,
     name: &str,
-    content: Content,
+    bytes: &[u8],
     outcome: Outcome,
 ) -> Result<(), AllocError>
-    ensures ok { OnOk result (Alters name.now (written_by outcome content) files.old files.new) }
+    ensures ok { OnOk result (Alters name.now (written_by outcome bytes.now) files.old files.new) }
     ensures err { OnErr result (HoldSame files.old files.new) }
 {
     match outcome {
-        Outcome::Done | Outcome::FailsDone => write_file(alloc, files, name, content),
+        Outcome::Done | Outcome::FailsDone => write_file(alloc, files, name, bytes),
         Outcome::Fails => doubt_file(alloc, files, name),
         Outcome::NothingDone => Ok(()),
     }
