@@ -69,12 +69,12 @@ fn list_lent<S: Store>(
 // ---- all
 
 fn list_all<S: Store>(tree: &TreeState<S>, snapshot: SeqNo) -> Result<u64, Error> {
-    sum_entries(tree.iter(snapshot, None)?)
+    sum_entries(tree.iter(snapshot, None)?, u64::MAX)
 }
 
 fn lend_all<S: Store>(tree: &TreeState<S>, snapshot: SeqNo) -> Result<u64, Error> {
     let bounds = (Bound::Unbounded, Bound::Unbounded);
-    Ok(sum_pairs(tree.pairs(&bounds, snapshot, None)?))
+    Ok(sum_pairs(tree.pairs(&bounds, snapshot, None)?, u64::MAX))
 }
 
 fn lend_back<S: Store>(tree: &TreeState<S>, snapshot: SeqNo) -> Result<u64, Error> {
@@ -99,7 +99,8 @@ fn list_ranges<S: Store>(
     for id in ids {
         let low = Bound::Included(user_key(alloc, *id)?);
         let high = Bound::Excluded(user_key(alloc, id.saturating_add(RANGE))?);
-        sum = sum.wrapping_add(sum_range(tree, way, &(low, high), snapshot)?);
+        let bounds = (low, high);
+        sum = sum.wrapping_add(sum_range(tree, way, &bounds, snapshot, u64::MAX)?);
     }
     Ok(sum)
 }
@@ -115,7 +116,8 @@ fn list_open_ranges<S: Store>(
     let mut sum = 0u64;
     for id in ids {
         let low = Bound::Included(user_key(alloc, *id)?);
-        sum = sum.wrapping_add(sum_open(tree, way, &(low, Bound::Unbounded), snapshot)?);
+        let bounds = (low, Bound::Unbounded);
+        sum = sum.wrapping_add(sum_range(tree, way, &bounds, snapshot, RANGE)?);
     }
     Ok(sum)
 }
@@ -133,27 +135,17 @@ fn list_groups<S: Store>(
     Ok(sum)
 }
 
+/// The sum over the first so many in the bounds.
 fn sum_range<S: Store>(
     tree: &TreeState<S>,
     way: Way,
     bounds: &(Bound<UserKey>, Bound<UserKey>),
     snapshot: SeqNo,
+    most: u64,
 ) -> Result<u64, Error> {
     match way {
-        Way::Copied => sum_entries(tree.range(bounds, snapshot, None)?),
-        Way::Lent => Ok(sum_pairs(tree.pairs(bounds, snapshot, None)?)),
-    }
-}
-
-fn sum_open<S: Store>(
-    tree: &TreeState<S>,
-    way: Way,
-    bounds: &(Bound<UserKey>, Bound<UserKey>),
-    snapshot: SeqNo,
-) -> Result<u64, Error> {
-    match way {
-        Way::Copied => sum_first(tree.range(bounds, snapshot, None)?),
-        Way::Lent => Ok(sum_first_pairs(tree.pairs(bounds, snapshot, None)?)),
+        Way::Copied => sum_entries(tree.range(bounds, snapshot, None)?, most),
+        Way::Lent => Ok(sum_pairs(tree.pairs(bounds, snapshot, None)?, most)),
     }
 }
 
@@ -165,8 +157,8 @@ fn sum_group<S: Store>(
 ) -> Result<u64, Error> {
     let group = group_of(id);
     match way {
-        Way::Copied => sum_entries(tree.prefix(&group, snapshot, None)?),
-        Way::Lent => Ok(sum_pairs(tree.pairs_with_prefix(&group, snapshot, None)?)),
+        Way::Copied => sum_entries(tree.prefix(&group, snapshot, None)?, u64::MAX),
+        Way::Lent => Ok(sum_pairs(tree.pairs_with_prefix(&group, snapshot, None)?, u64::MAX)),
     }
 }
 
@@ -178,20 +170,10 @@ fn weight(key: &UserKey, value: &UserValue) -> u64 {
     u64::from(first).wrapping_add(key.len() as u64)
 }
 
-/// The sum over all entries.
-fn sum_entries(mut iter: TreeIter) -> Result<u64, Error> {
+/// The sum over the first so many entries.
+fn sum_entries(mut iter: TreeIter, most: u64) -> Result<u64, Error> {
     let mut sum = 0u64;
-    while let Some(entry) = iter.next_entry() {
-        let entry = entry?;
-        sum = sum.wrapping_add(weight(&entry.key.user_key, &entry.value));
-    }
-    Ok(sum)
-}
-
-/// The sum over as many entries as a range goes over.
-fn sum_first(mut iter: TreeIter) -> Result<u64, Error> {
-    let mut sum = 0u64;
-    for _ in 0..RANGE {
+    for _ in 0..most {
         let Some(entry) = iter.next_entry() else {
             break;
         };
@@ -201,19 +183,10 @@ fn sum_first(mut iter: TreeIter) -> Result<u64, Error> {
     Ok(sum)
 }
 
-/// The sum over all pairs.
-fn sum_pairs(pairs: Pairs<'_>) -> u64 {
+/// The sum over the first so many pairs.
+fn sum_pairs(mut pairs: Pairs<'_>, most: u64) -> u64 {
     let mut sum = 0u64;
-    for (key, value) in pairs {
-        sum = sum.wrapping_add(weight(key, value));
-    }
-    sum
-}
-
-/// The sum over as many pairs as a range goes over.
-fn sum_first_pairs(mut pairs: Pairs<'_>) -> u64 {
-    let mut sum = 0u64;
-    for _ in 0..RANGE {
+    for _ in 0..most {
         let Some((key, value)) = pairs.next() else {
             break;
         };
