@@ -12,19 +12,19 @@ ghost use Rattle.lsm_commit.specs.Contents.{IsWritten, AreWritten};
 use bytes::Bytes;
 use lsm_below::{Error, TableId};
 use lsm_manifest::{names_are_apart, table_name};
-use lsm_store::{Store, StoreError, write_synced};
+use lsm_store::{Store, StoreError, share_synced};
 use lsm_versions::LIMIT;
 use std::alloc::Global;
 
-/// Writes the file of a table, and syncs it. Each other name is as it was, also after a refusal.
-pub(crate) fn write_file<S: Store>(store: &mut S, id: TableId, content: &[u8]) -> Result<(), Error>
+/// Writes the file of a table, which the store may share, and syncs it. Each other name is as it was, also after a refusal.
+pub(crate) fn write_file<S: Store>(store: &mut S, id: TableId, content: &Bytes) -> Result<(), Error>
     ensures on_disk { S.tells → OnOk result (IsWritten (S.world store.new) id content.now) }
     ensures keeps { S.tells → KeepsOthers (table_name id) (S.world store.old) (S.world store.new) }
     ensures any_moment { S.tells → LeavesOnly (S.world store.old) (S.world store.new) (IsBeside (table_name id) (S.world store.old)) }
     ensures only { IfErr result (λ e. (e ≡ Error.OutOfMemory) ⊎ (e ≡ Error.Store)) }
     ensures counts { CountsFaults (S.world store.old) (S.world store.new) result }
 {
-    match write_synced(store, table_name(id).as_str(), content) {
+    match share_synced(store, table_name(id).as_str(), content) {
         Ok(()) => Ok(()),
         Err(StoreError::OutOfMemory) => Err(Error::OutOfMemory),
         Err(StoreError::Fault | StoreError::NothingDone) => Err(Error::Store),
@@ -59,7 +59,7 @@ fn write_files<S: Store>(
         }
         ids.push(id)?;
         *next = id + 1;
-        write_file(store, id, content.as_slice())?;
+        write_file(store, id, content)?;
     }
     Ok(ids)
 }

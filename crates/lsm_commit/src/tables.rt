@@ -27,16 +27,15 @@ fn table_of(
     id: TableId,
     made_at: u64,
     entries: &Entries<'_>,
-    file: Vec<u8>,
+    file: Bytes,
 ) -> Result<Table, Error>
     requires table { IsTable entries.now }
-    requires file { file.items ≡ image made_at entries.now }
+    requires file { file ≡ image made_at entries.now }
     ensures table { IfOk result (λ t. t ≡ record { id = id; created_at = made_at; entries = entries.now }) }
     ensures memory { IfErr result (λ e. e ≡ Error.OutOfMemory) }
 {
     no_image_begins_another();
-    let bytes = Bytes::from_vec(file)?;
-    match Table::recover(alloc, id, bytes) {
+    match Table::recover(alloc, id, file) {
         Ok(table) => Ok(table),
         Err(TableError::OutOfMemory) => Err(Error::OutOfMemory),
         Err(TableError::BadTable) => unreachable!(),
@@ -66,7 +65,7 @@ fn write_table<S: Store>(
     ensures only { IfErr result (λ e. (e ≡ Error.OutOfMemory) ⊎ (e ≡ Error.Store)) }
     ensures counts { CountsFaults (S.world store.old) (S.world store.new) result }
 {
-    let file = encode_parts(alloc, made_at, entries, held)?;
+    let file = Bytes::from_vec(encode_parts(alloc, made_at, entries, held)?)?;
     write_file(store, id, &file)?;
     table_of(alloc, id, made_at, entries, file)
 }

@@ -1,8 +1,9 @@
 // A folder of the file system, as a store that is only read.
-ghost use Rattle.std.specs.Prelude.{◌≡◌, ◌+◌, ◌-◌, ◌^◌, min, IfOk};
+ghost use Rattle.std.specs.Prelude.{◌≡◌, ◌+◌, ◌-◌, ◌^◌, min};
 ghost use Rattle.lsm_store.specs.NoWorld.{untold};
 ghost use Rattle.lsm_store.specs.World.{Counts};
 
+use bytes::Bytes;
 use lsm_store::{FolderCall, FolderFault, Store, StoreError};
 use std::alloc::{AllocError, Global};
 use std::fs::{self, File, Files};
@@ -174,6 +175,10 @@ impl<R: Files<File = File> + Alloc + Clone + Drop> Store for FolderView<R> {
     }
 
     fn write(&mut self, _name: &str, _bytes: &[u8]) -> Result<(), StoreError> {
+        self.refuse()
+    }
+
+    fn write_shared(&mut self, _name: &str, _bytes: &Bytes) -> Result<(), StoreError> {
         self.refuse()
     }
 

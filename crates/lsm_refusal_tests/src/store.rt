@@ -2,6 +2,7 @@
 ghost use Rattle.std.specs.Prelude.{◌≡◌};
 ghost use Rattle.lsm_store.specs.Memory.{world_of};
 
+use bytes::Bytes;
 use lsm_store::{Fault, MemStore, Store, StoreError};
 use std::alloc::{AllocError, Global};
 
@@ -104,6 +105,13 @@ impl Store for RefusingStore {
             return Err(StoreError::OutOfMemory);
         }
         self.inner.write(name, bytes)
+    }
+
+    fn write_shared(&mut self, name: &str, bytes: &Bytes) -> Result<(), StoreError> {
+        if self.count() {
+            return Err(StoreError::OutOfMemory);
+        }
+        self.inner.write_shared(name, bytes)
     }
 
     fn sync(&mut self, name: &str) -> Result<(), StoreError> {

@@ -1,6 +1,7 @@
 // A store that says how far long work is.
 use crate::cause::SessionStore;
 use crate::progress::{Progress, Watch};
+use bytes::Bytes;
 use lsm_tree::{FolderFault, Store, StoreError};
 use std::alloc::{AllocError, Global};
 use std::io::Write;
@@ -69,6 +70,14 @@ impl<S: SessionStore, C: Clock + Drop, E: Write + Drop> Store for WatchedStore<S
 
     fn write(&mut self, name: &str, bytes: &[u8]) -> Result<(), StoreError> {
         self.inner.write(name, bytes)?;
+        if name.starts_with(TABLES) {
+            self.progress.has_written(bytes.len());
+        }
+        Ok(())
+    }
+
+    fn write_shared(&mut self, name: &str, bytes: &Bytes) -> Result<(), StoreError> {
+        self.inner.write_shared(name, bytes)?;
         if name.starts_with(TABLES) {
             self.progress.has_written(bytes.len());
         }

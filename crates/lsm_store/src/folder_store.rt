@@ -5,6 +5,7 @@ ghost use Rattle.lsm_store.specs.NoWorld.{untold};
 ghost use Rattle.lsm_store.specs.World.{Counts};
 
 use crate::{Store, StoreError};
+use bytes::Bytes;
 use disk::{Failure, SUBFOLDERS, join};
 use std::alloc::{AllocError, Global};
 use std::fs::{File, Files};
@@ -218,6 +219,10 @@ impl<R: Files<File = File> + Alloc + Clone + Drop> Store for FolderStore<R> {
         self.spell(name)?;
         let outcome = disk::write_file(&self.rt, self.path.as_str(), bytes);
         self.tell_changed(FolderCall::Write, name, outcome)
+    }
+
+    fn write_shared(&mut self, name: &str, bytes: &Bytes) -> Result<(), StoreError> {
+        self.write(name, bytes.as_slice())
     }
 
     fn sync(&mut self, name: &str) -> Result<(), StoreError> {

@@ -16,4 +16,4 @@ mod synced;
 pub use folder_store::{FolderCall, FolderFault, FolderStore};
 pub use mem_store::{Fault, MemStore, Pick};
 pub use store::{Store, StoreError, runs_of_calls};
-pub use synced::write_synced;
+pub use synced::{share_synced, write_synced};

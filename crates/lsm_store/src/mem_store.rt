@@ -15,6 +15,7 @@ mod picks;
 mod plan;
 
 use crate::{Store, StoreError};
+use bytes::Bytes;
 use files::{
     Files, content_of, doubt_file, end_by, names_of, remove_file, replace_by, settle_by, write_by,
 };
@@ -138,6 +139,18 @@ impl MemStore {
         }
         Ok(outcome)
     }
+
+    /// `write`, of a content that is made.
+    fn write_content(&mut self, name: &str, content: Bytes) -> Result<(), StoreError>
+        ensures changes { Changes name.now Anything Anything (Some content) (world_of self.old) (world_of self.new) result }
+        ensures counts { Counts (world_of self.old) (world_of self.new) result }
+        ensures held { HeldAs name.now (written_by (outcome_at self.old.plan 1) content) self.old.files self.new.files result }
+        ensures planned { AsPlanned (outcome_at self.old.plan 1) self.old.plan self.new.plan result }
+    {
+        let outcome = self.begin()?;
+        write_by(self.alloc, &mut self.files, name, content, outcome)?;
+        self.answer(outcome)
+    }
 }
 
 impl Store for MemStore {
@@ -183,9 +196,17 @@ impl Store for MemStore {
         ensures held { HeldAs name.now (written_by (outcome_at self.old.plan 1) bytes.now) self.old.files self.new.files result }
         ensures planned { AsPlanned (outcome_at self.old.plan 1) self.old.plan self.new.plan result }
     {
-        let outcome = self.begin()?;
-        write_by(self.alloc, &mut self.files, name, bytes, outcome)?;
-        self.answer(outcome)
+        let content = Bytes::copy_from_slice(self.alloc, bytes)?;
+        self.write_content(name, content)
+    }
+
+    fn write_shared(&mut self, name: &str, bytes: &Bytes) -> Result<(), StoreError>
+        ensures changes { Changes name.now Anything Anything (Some bytes.now) (world_of self.old) (world_of self.new) result }
+        ensures counts { Counts (world_of self.old) (world_of self.new) result }
+        ensures held { HeldAs name.now (written_by (outcome_at self.old.plan 1) bytes.now) self.old.files self.new.files result }
+        ensures planned { AsPlanned (outcome_at self.old.plan 1) self.old.plan self.new.plan result }
+    {
+        self.write_content(name, bytes.clone()?)
     }
 
     fn sync(&mut self, name: &str) -> Result<(), StoreError>

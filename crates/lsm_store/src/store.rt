@@ -4,6 +4,7 @@ ghost use Rattle.std.specs.String.{string_bytes};
 ghost use Rattle.lsm_store.specs.declared.store.StoreError.TheVariants.{OutOfMemory, Fault};
 ghost use Rattle.lsm_store.specs.World.{Image, World, Anything, Only, OldOr, IsImage, At, Same, Becomes, Changes, Narrows, SettlesNames, Counts, Lists, LeavesOnly};
 
+use bytes::Bytes;
 use std::alloc::{AllocError, AllocFailed, Global};
 use thiserror::Error;
 
@@ -74,6 +75,11 @@ pub trait Store: Drop {
 
     /// Makes these bytes the whole content of a name. Until it is synced, a crash may leave nothing or any bytes.
     fn write(&mut self, name: &str, bytes: &[u8]) -> Result<(), StoreError>
+        ensures changes { tells → Changes name.now Anything Anything (Some bytes.now) (world self.old) (world self.new) result }
+        ensures counts { Counts (world self.old) (world self.new) result };
+
+    /// `write`, of bytes that the store may share: one in memory copies none.
+    fn write_shared(&mut self, name: &str, bytes: &Bytes) -> Result<(), StoreError>
         ensures changes { tells → Changes name.now Anything Anything (Some bytes.now) (world self.old) (world self.new) result }
         ensures counts { Counts (world self.old) (world self.new) result };
 

@@ -3,6 +3,7 @@ ghost use Rattle.lsm_store.specs.World.{LeavesOnly, Counts};
 ghost use Rattle.lsm_store.specs.Synced.{IsBeside, Puts};
 
 use crate::store::{Store, StoreError};
+use bytes::Bytes;
 
 /// Writes a file, and syncs it. After Ok a crash leaves it whole; each other name is as it was, also after a refusal.
 ///
@@ -16,5 +17,19 @@ pub fn write_synced<S: Store>(store: &mut S, name: &str, bytes: &[u8]) -> Result
     ensures counts { Counts (S.world store.old) (S.world store.new) result }
 {
     store.write(name, bytes)?;
+    store.sync(name)
+}
+
+/// `write_synced`, of bytes that the store may share.
+///
+/// # Errors
+///
+/// As `write_synced`.
+pub fn share_synced<S: Store>(store: &mut S, name: &str, bytes: &Bytes) -> Result<(), StoreError>
+    ensures any_moment { S.tells → LeavesOnly (S.world store.old) (S.world store.new) (IsBeside name.now (S.world store.old)) }
+    ensures puts { S.tells → Puts name.now bytes.now (S.world store.old) (S.world store.new) result }
+    ensures counts { Counts (S.world store.old) (S.world store.new) result }
+{
+    store.write_shared(name, bytes)?;
     store.sync(name)
 }

@@ -4,6 +4,7 @@ ghost use Rattle.std.specs.List.{list_any};
 ghost use Rattle.std.specs.Str.{bytes_eq};
 ghost use Rattle.lsm_store.specs.Held.{MayHold, MayLack, fresh, nothing, written, doubted, removed, offered, settled, softened, IsWhole};
 
+use bytes::Bytes;
 use smallvec::SmallVec;
 use std::alloc::{AllocError, Global};
 use std::marker::Model;
@@ -42,7 +43,7 @@ impl Absence {
 /// The contents that a name may have, and which of them reads give.
 #[derive(Drop)]
 pub struct File {
-    contents: SmallVec<Vec<u8>, 1>,
+    contents: SmallVec<Bytes, 1>,
     /// The place of what reads give. None where the name is absent.
     given: Option<usize>,
     /// The place of what they gave before the last call. None where it was absent, or is no choice any more.
@@ -54,23 +55,23 @@ pub struct File {
 
 impl Model for File {
     ghost use Rattle.std.specs.Prelude.{length};
-    ghost use Rattle.lsm_store.specs.Held.{Held, content, byte_lists, IsPlace, GivesOrLacks};
+    ghost use Rattle.lsm_store.specs.Held.{Held, content, IsPlace, GivesOrLacks};
 
     ghost Value = { Held };
 
-    ghost view = { λ f. record { gives = content f.given (byte_lists f.contents.items); before = content f.before (byte_lists f.contents.items); contents = byte_lists f.contents.items; absence = f.absence; torn = f.torn } };
+    ghost view = { λ f. record { gives = content f.given f.contents.items; before = content f.before f.contents.items; contents = f.contents.items; absence = f.absence; torn = f.torn } };
 
     ghost invariant = { λ f. IsPlace f.given (length f.contents.items) × IsPlace f.before (length f.contents.items) × GivesOrLacks f.given f.absence };
 }
 
-fn is_among(contents: &[Vec<u8>], bytes: &[u8]) -> bool
-    ensures { result ≡ list_any (λ v. bytes_eq v.items bytes.now) contents.now }
+fn is_among(contents: &[Bytes], bytes: &[u8]) -> bool
+    ensures { result ≡ list_any (λ v. bytes_eq v bytes.now) contents.now }
 {
     contents.iter().any(|content| content.as_slice() == bytes)
 }
 
 /// One content, which takes no memory of its own.
-fn alone(alloc: Global, content: Vec<u8>) -> SmallVec<Vec<u8>, 1>
+fn alone(alloc: Global, content: Bytes) -> SmallVec<Bytes, 1>
     ensures { result.items ≡ content ∷ [] }
 {
     let mut contents = SmallVec::new(alloc);
@@ -97,7 +98,7 @@ impl File {
         ensures { IfOk result (λ file. file ≡ fresh (Some bytes.now)) }
     {
         Ok(File {
-            contents: alone(alloc, bytes.to_vec(alloc)?),
+            contents: alone(alloc, Bytes::copy_from_slice(alloc, bytes)?),
             given: Some(0),
             before: None,
             absence: Absence::Never,
@@ -110,7 +111,7 @@ impl File {
         ensures { IfOk result (λ file. file ≡ offered shown bytes.now nothing) }
     {
         Ok(File {
-            contents: alone(alloc, bytes.to_vec(alloc)?),
+            contents: alone(alloc, Bytes::copy_from_slice(alloc, bytes)?),
             given: if shown { Some(0) } else { None },
             before: None,
             absence: Absence::Possible,
@@ -123,7 +124,7 @@ impl File {
         ensures { option_copied result ≡ self.now.gives }
     {
         let at = self.given?;
-        Some(&self.contents.as_slice()[at])
+        Some(self.contents.as_slice()[at].as_slice())
     }
 
     /// What reads gave before the last call, where that left a choice.
@@ -131,7 +132,7 @@ impl File {
         ensures { option_copied result ≡ self.now.before }
     {
         let at = self.before?;
-        Some(&self.contents.as_slice()[at])
+        Some(self.contents.as_slice()[at].as_slice())
     }
 
     /// Whether a crash leaves nothing, unless something else is picked.
@@ -154,13 +155,13 @@ impl File {
         }
     }
 
-    /// Holds these bytes, which aren't on the disk. Where it is refused for memory, nothing changes.
-    pub fn write(&mut self, alloc: Global, bytes: &[u8]) -> Result<(), AllocError>
-        ensures ok { OnOk result (self.new ≡ written bytes.now self.old) }
+    /// Holds this content, which isn't on the disk. Where it is refused for memory, nothing changes.
+    pub fn write(&mut self, alloc: Global, content: Bytes) -> Result<(), AllocError>
+        ensures ok { OnOk result (self.new ≡ written content self.old) }
         ensures err { OnErr result (self.new ≡ self.old) }
     {
         let mut contents = SmallVec::with_capacity(alloc, 2)?;
-        let Ok(()) = contents.push(bytes.to_vec(alloc)?) else {
+        let Ok(()) = contents.push(content) else {
             unreachable!()
         };
         self.before = None;
@@ -194,7 +195,7 @@ impl File {
         ensures err { OnErr result (self.new ≡ self.old) }
     {
         let at = self.contents.len();
-        self.contents.push(bytes.to_vec(alloc)?)?;
+        self.contents.push(Bytes::copy_from_slice(alloc, bytes)?)?;
         self.before = self.given;
         if shown {
             self.given = Some(at);

@@ -9,6 +9,7 @@ ghost use Rattle.std.specs.String.{string_bytes};
 
 use super::file::File;
 use super::plan::Outcome;
+use bytes::Bytes;
 use std::alloc::{AllocError, Global};
 use std::collections::HashMap;
 
@@ -41,14 +42,14 @@ pub fn write_file(
     alloc: Global,
     files: &mut Files,
     name: &str,
-    bytes: &[u8],
+    content: Bytes,
 ) -> Result<(), AllocError>
-    ensures ok { OnOk result (Alters name.now (written bytes.now) files.old files.new) }
+    ensures ok { OnOk result (Alters name.now (written content) files.old files.new) }
     ensures err { OnErr result (HoldSame files.old files.new) }
 {
     make_room(alloc, files, name)?;
     if let Some(file) = files.get_mut(name) {
-        file.write(alloc, bytes)?;
+        file.write(alloc, content)?;
     }
     Ok(())
 }
@@ -70,14 +71,14 @@ pub fn write_by(
     alloc: Global,
     files: &mut Files,
     name: &str,
-    bytes: &[u8],
+    content: Bytes,
     outcome: Outcome,
 ) -> Result<(), AllocError>
-    ensures ok { OnOk result (Alters name.now (written_by outcome bytes.now) files.old files.new) }
+    ensures ok { OnOk result (Alters name.now (written_by outcome content) files.old files.new) }
     ensures err { OnErr result (HoldSame files.old files.new) }
 {
     match outcome {
-        Outcome::Done | Outcome::FailsDone => write_file(alloc, files, name, bytes),
+        Outcome::Done | Outcome::FailsDone => write_file(alloc, files, name, content),
         Outcome::Fails => doubt_file(alloc, files, name),
         Outcome::NothingDone => Ok(()),
     }

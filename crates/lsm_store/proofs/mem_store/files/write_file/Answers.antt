@@ -21,4 +21,4 @@ returns-in_ok-write-clause-ok c =
     let room = c.make_room.new.files in
     let h = c.write.new.self in
     let was = found room name c.in-Some.file.now c.in-Some.ensures.value in
-    set_alters name room (c.get_mut.follows.lender h) h ((c.get_mut.follows.holds h).3 (search rules)) c.args.files.now (written c.args.bytes.now) c.make_room.ensures.same (c.in_ok-write.ensures.ok ∙ ap (written c.args.bytes.now) was)
+    set_alters name room (c.get_mut.follows.lender h) h ((c.get_mut.follows.holds h).3 (search rules)) c.args.files.now (written c.args.content) c.make_room.ensures.same (c.in_ok-write.ensures.ok ∙ ap (written c.args.content) was)

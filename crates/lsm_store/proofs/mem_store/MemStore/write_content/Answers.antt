@@ -4,13 +4,13 @@ use Rattle.lsm_store.specs.Plans.{answer_of}
 use Rattle.lsm_store.specs.Memory.{memory_world, world_of}
 use Rattle.lsm_store.specs.declared.mem_store.MemStore.{MemStore}
 use Rattle.lsm_store.proofs.MemoryCalls.{brought, wrote}
-use Rattle.lsm_store.proofs.mem_store.MemStoreStore.write.Goals as goal
+use Rattle.lsm_store.proofs.mem_store.MemStore.write_content.Goals as goal
 
 pub returns-clause-changes : goal.returns-clause-changes
 returns-clause-changes c =
     let begun : c.begin.new.self ≡ c.args.self.now = c.in_ok-outcome.ensures.ok.2 in
     let name = c.args.name.now in
-    let b = c.args.bytes.now in
+    let b = c.args.content in
     let was = c.begin.new.self in
     let new = c.answer.new.self in
     let mid = c.write_by.new.files in
