@@ -2,7 +2,7 @@ use Rattle.std.proofs.Common.{◌≡◌, ℕ, ◌+◌, ◌<◌, List, [], ◌∷
 use Rattle.std.specs.List.{AllByRecursion, range_with_len}
 use Rattle.std.proofs.lemmas.List.{take_more}
 use Rattle.lsm_versions.specs.declared.config.TheConstants.{LIMIT}
-use Rattle.lsm_commit.specs.Contents.{IsWritten, AreWritten}
+use Rattle.lsm_commit.specs.Contents.{AreWritten}
 use Rattle.lsm_commit.proofs.NextFiles.{files_none, leaves_more, files_more}
 use Rattle.lsm_commit.proofs.Tabled.{each_push}
 use Rattle.lsm_commit.proofs.WrittenFiles.{range_below, range_more, written_stay, written_more}
@@ -45,7 +45,7 @@ loop-content-preserved g c =
     let next : id ≡ first + k = at.invariant.next in
     let pushed : c.push.new.self.items ≡ at.ids.items ++ id ∷ [] = c.in_ok-push.ensures.items in
     let content = c.content-item.result in
-    let taken : take (k + 1) contents ≡ take k contents ++ content ∷ [] = take_more contents k content (omega arith) in
+    let taken : take (k + 1) contents ≡ take k contents ++ content ∷ [] = take_more contents k content (omega arith) ∙ ap (λ x. take k contents ++ x ∷ []) (sym c.content-item.is) in
     let ids : at.ids.items ++ id ∷ [] ≡ range_with_len first (k + 1) = ap (λ l. l ++ id ∷ []) at.invariant.ids ∙ ap (λ i. range_with_len first k ++ i ∷ []) next ∙ sym (range_more first k) in
     record {
       ids = pushed ∙ ids;
@@ -54,7 +54,7 @@ loop-content-preserved g c =
       written = λ tells.
           let before = subst (λ (l : List ℕ). AllByRecursion (λ i. i < id) l) (sym at.invariant.ids) (range_below first k id (omega arith)) in
           let stay = written_stay c.names_are_apart.ensures.tables id (omega arith) mid new (did.keeps tells) at.ids.items (take k contents) before (at.invariant.written tells) in
-          let more = written_more new at.ids.items (take k contents) id content stay (subst (IsWritten new id) c.content-item.is (did.on_disk tells)) in
+          let more = written_more new at.ids.items (take k contents) id content stay (did.on_disk tells) in
           subst (λ (l : List (List ℕ)). AreWritten new c.push.new.self.items l) (sym taken) (subst (λ (l : List ℕ). AreWritten new l (take k contents ++ content ∷ [])) (sym pushed) more);
       files = files_more first id old mid new (omega arith) (omega arith) g.S.Store.tells at.invariant.files did.keeps did.any_moment (did.counts.none (λ e. absurd (cc e)) (λ e. absurd (cc e)));
     }
