@@ -3,9 +3,8 @@ use Rattle.std.proofs.Common.{ℕ, ◌≤◌, ◌^◌, arith, List, map, ap}
 use Rattle.std.specs.FinMap.{empty}
 use Rattle.lsm_below.specs.Entries.{above}
 use Rattle.lsm_below.specs.declared.error.Error.{Error}
-use Rattle.lsm_store.specs.declared.mem_store.MemStore.{MemStore}
 use Rattle.lsm_store.specs.Files.{held_at}
-use Rattle.lsm_store.specs.Memory.{may_of, world_of, gives_one}
+use Rattle.lsm_store.specs.Memory.{MemStore, may_of, world_of, gives_one}
 use Rattle.lsm_store.specs.World.{Image, IsImage, Begins}
 use Rattle.lsm_model.specs.Journal.{Map}
 use Rattle.lsm_model.specs.Views.{held}

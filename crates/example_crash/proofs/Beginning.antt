@@ -2,8 +2,7 @@
 use Rattle.std.proofs.Common.{◌≡◌, ℕ, ◌≤◌, ◌^◌, max, arith, List, [], Ok, take, length, sym, ap, subst}
 use Rattle.lsm_below.specs.Entries.{Entry, above}
 use Rattle.lsm_below.specs.Sums.{capped}
-use Rattle.lsm_store.specs.declared.mem_store.MemStore.{MemStore}
-use Rattle.lsm_store.specs.Memory.{world_of}
+use Rattle.lsm_store.specs.Memory.{MemStore, world_of}
 use Rattle.lsm_store.specs.World.{Begins}
 use Rattle.lsm_model.specs.Journal.{Map, next_number}
 use Rattle.lsm_model.specs.Views.{held}

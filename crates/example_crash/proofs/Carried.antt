@@ -1,8 +1,7 @@
 -- What was taken step by step, as its caller has it, and one step more.
 use Rattle.std.proofs.Common.{◌≡◌, inl, ℕ, ◌+◌, ◌≤◌, ◌^◌, max, arith, cond, true, false, List, [], ◌∷◌, ◌++◌, map, take, length, refl, sym, ap, ◌∙◌, subst, append-nil, append_assoc}
 use Rattle.lsm_below.specs.Entries.{Entry, above}
-use Rattle.lsm_store.specs.declared.mem_store.MemStore.{MemStore}
-use Rattle.lsm_store.specs.Memory.{may_of, world_of}
+use Rattle.lsm_store.specs.Memory.{MemStore, may_of, world_of}
 use Rattle.lsm_store.specs.World.{Image, World, IsImage}
 use Rattle.lsm_model.specs.Beginnings.{covered}
 use Rattle.lsm_model.specs.Journal.{Event, Map, InOrder, next_number}

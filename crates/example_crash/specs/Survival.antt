@@ -4,8 +4,7 @@ use Rattle.std.specs.FinMap.{empty}
 use Rattle.lsm_below.specs.Entries.{Entry}
 use Rattle.lsm_below.specs.declared.error.Error.{Error}
 use Rattle.lsm_below.specs.declared.error.Error.TheVariants.{OutOfMemory, Store, CommitUnknown}
-use Rattle.lsm_store.specs.declared.mem_store.MemStore.{MemStore}
-use Rattle.lsm_store.specs.Memory.{may_of, world_of}
+use Rattle.lsm_store.specs.Memory.{MemStore, may_of, world_of}
 use Rattle.lsm_store.specs.Picks.{Picks, picked}
 use Rattle.lsm_store.specs.World.{IsImage}
 use Rattle.lsm_model.specs.Journal.{Map}

@@ -4,9 +4,8 @@ use Rattle.std.specs.FinMap.{empty}
 use Rattle.std.specs.List.{AllByRecursion}
 use Rattle.lsm_below.specs.Each.{each_weaker}
 use Rattle.lsm_below.specs.Entries.{Entry}
-use Rattle.lsm_store.specs.declared.mem_store.MemStore.{MemStore}
 use Rattle.lsm_store.specs.Files.{held_at}
-use Rattle.lsm_store.specs.Memory.{world_of, gives_one}
+use Rattle.lsm_store.specs.Memory.{MemStore, world_of, gives_one}
 use Rattle.lsm_store.specs.World.{Image, World, IsImage, Begins}
 use Rattle.lsm_model.specs.Journal.{Event, Map}
 use Rattle.lsm_model.specs.declared.op.Op.TheVariants.{Weak}

@@ -1,8 +1,7 @@
 -- What outlives any number of crashes, as a user asks it: derived from the contracts of public calls.
 use Rattle.std.specs.Prelude.{ℕ, ◌<◌, ◌^◌, List, [], ◌∷◌, length, take}
 use Rattle.lsm_below.specs.Entries.{Entry, above}
-use Rattle.lsm_store.specs.declared.mem_store.MemStore.{MemStore}
-use Rattle.lsm_store.specs.Memory.{world_of}
+use Rattle.lsm_store.specs.Memory.{MemStore, world_of}
 use Rattle.lsm_store.specs.World.{World}
 use Rattle.lsm_model.specs.Journal.{Map}
 use Rattle.lsm_log_model.specs.Recovery.{HoldsBatches}

@@ -1,9 +1,8 @@
 -- A new store, and one that a crash left.
 use Rattle.std.proofs.Common.{inl, None, refl, sym, subst}
 use Rattle.std.specs.FinMap.{empty}
-use Rattle.lsm_store.specs.declared.mem_store.MemStore.{MemStore}
 use Rattle.lsm_store.specs.Files.{held_at}
-use Rattle.lsm_store.specs.Memory.{world_of, gives_one}
+use Rattle.lsm_store.specs.Memory.{MemStore, world_of, gives_one}
 use Rattle.lsm_store.specs.World.{Image, World, IsImage, Begins}
 use Rattle.lsm_versions.specs.declared.config.Config.{Config}
 use Rattle.lsm_versions.specs.Levels.{empty_levels}

@@ -4,6 +4,7 @@
 //! |-|-|
 //! | `steps` | counts of comparisons and moves |
 //! | `spread` | items that move to two vectors, with one more at a place |
+//! | `arena` | chunks of memory that the keys and values of entries share |
 //! | `block` | up to 64 entries in order, with the heads of their keys |
 //! | `blocks` | blocks that together are one list: search, insert, split |
 //! | `part` | blocks that follow each other, in the two slices that a ring has of them |
@@ -13,6 +14,7 @@
 //! | `memtable` | a sorted table of entries in memory |
 #![tactic(auto)]
 
+mod arena;
 mod block;
 mod blocks;
 mod bounds;

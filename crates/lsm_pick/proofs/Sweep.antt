@@ -56,9 +56,6 @@ module _ (hidden : List ℕ) (run next : List SeenTable) where
     pub each : (p q : ℕ) → p < q → q < end → free p q ≡ true → (q - p ≤ best.count) × (best.count ≤ q - p → best.place ≤ p)
     pub found : 0 < best.count → (best.place + best.count < end) × (free best.place (best.place + best.count) ≡ true)
 
-  pub starts_so : IsStart 1 0
-  starts_so = record { low = omega arith; none = λ p h. absurd (omega arith) }
-
   module _ (end start place : ℕ) (old : IsStart end start) (now : IsFreeStart hidden run next start end place) where
     before : (p : ℕ) → p < place → free p end ≡ false
     before p less =

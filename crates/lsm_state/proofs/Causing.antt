@@ -2,7 +2,7 @@
 use Rattle.std.proofs.Common.{ℕ, ◌-◌, ◌≤◌, ◌^◌, min, arith, ◌≡◌, ◌∙◌, ◌⊎◌, inl, inr, ⊎_elim, Bool, false, List, Result, Ok, Err, IfErr, OnOk, ap, subst, refl}
 use Rattle.std.specs.Prelude.{is_ok}
 use Rattle.lsm_below.specs.declared.error.Error.{Error}
-use Rattle.lsm_below.specs.declared.error.Error.TheVariants.{OutOfMemory, Store, CommitUnknown, OutOfNumbers, AfterCommit, Unrecoverable}
+use Rattle.lsm_below.specs.declared.error.Error.TheVariants.{OutOfMemory, Store, OutOfNumbers, AfterCommit, Unrecoverable}
 use Rattle.lsm_store.specs.World.{World}
 use Rattle.lsm_state.specs.declared.compaction.Begun.{Begun}
 use Rattle.lsm_state.specs.declared.compaction.Begun.TheVariants.{DidNothing, Declined, Installed, Job}
@@ -18,14 +18,6 @@ use Rattle.lsm_state.specs.Cleaning.{AreAbsent, RemovesDrawn, RemovesTables}
 pub unclean : {T : Type 0} (old new : World) (r : Result T Error) (whole : Bool) → whole ≡ is_ok r → IfErr r (λ e. e ≡ Store) → CountsFaults old new r → HasCause (whole ≡ false) old new
 unclean old new (Ok x) whole is only counts = no_fault _ old new (counts.none (λ h. cc h) (λ h. cc h)) (λ h. cc (is, h))
 unclean old new (Err e) whole is only counts = one_fault _ old new (counts.store (ap Err only))
-
--- a commit that is answered, or refused
-not_after : {T : Type 0} (r : Result T Error) → IfErr r (λ e. ((e ≡ OutOfMemory) ⊎ (e ≡ Store)) ⊎ ((e ≡ CommitUnknown) ⊎ (e ≡ OutOfNumbers))) → r ≡ Err AfterCommit → ⊥
-not_after (Ok x) only h = cc h
-not_after (Err e) only h = ⊎_elim (λ a. ⊎_elim (λ x. cc (h, x)) (λ x. cc (h, x)) a) (λ a. ⊎_elim (λ x. cc (h, x)) (λ x. cc (h, x)) a) only
-
-pub commit_causes : {T : Type 0} (old new : World) (r : Result T Error) → IfErr r (λ e. ((e ≡ OutOfMemory) ⊎ (e ≡ Store)) ⊎ ((e ≡ CommitUnknown) ⊎ (e ≡ OutOfNumbers))) → CountsFaults old new r → HasCause (Blames r) old new
-commit_causes old new r only counts = causes_counted old new r (not_after r only) counts
 
 -- files that are written, or not
 not_behind : {T : Type 0} (r : Result T Error) → IfErr r (λ e. ((e ≡ OutOfMemory) ⊎ (e ≡ Store)) ⊎ (e ≡ OutOfNumbers)) → r ≡ Err AfterCommit → ⊥

@@ -1,15 +1,20 @@
 -- What a store in memory is to its callers.
-use Rattle.std.specs.Prelude.{◌≡◌, ◌⊎◌, ℕ, true, false, List, [], ◌∷◌, ◌++◌, Option, None, Some, Result, Ok, Err, length, drop, refl}
+use Rattle.std.specs.Prelude.{◌≡◌, ◌⊎◌, ℕ, true, false, List, [], ◌∷◌, ◌++◌, Option, None, Some, Vec, Result, Ok, Err, length, drop, refl}
 use mathlib.Core.Logic.{inl, inr}
 use Rattle.lsm_store.specs.World.{Image, Outcomes, World, IsImage}
 use Rattle.lsm_store.specs.declared.store.StoreError.{StoreError}
 use Rattle.lsm_store.specs.declared.store.StoreError.TheVariants.{OutOfMemory, Fault, NothingDone as Refused}
-use Rattle.lsm_store.specs.declared.mem_store.MemStore.{MemStore}
+use Rattle.std.specs.declared.alloc.Global.{Global}
+use Rattle.lsm_store.specs.declared.mem_store.MemStore.{MemStore as Keeping}
 use Rattle.lsm_store.specs.declared.mem_store.Moment.{Moment}
 use Rattle.lsm_store.specs.declared.mem_store.plan.Outcome.{Outcome}
 use Rattle.lsm_store.specs.declared.mem_store.plan.Outcome.TheVariants.{Done, Fails, FailsDone, NothingDone}
 use Rattle.lsm_store.specs.Held.{Held, MayHold, fresh, written, doubted, offered, settled}
 use Rattle.lsm_store.specs.Files.{Files, held_at, HoldSame, Alters, AltersEach}
+
+-- a store in memory, which keeps the moments of its calls
+abbrev pub MemStore : Type 0
+MemStore = Keeping (Vec Moment Global)
 
 -- the calls within which a crash may have come
 abbrev pub Past : Type 0

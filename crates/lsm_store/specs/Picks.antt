@@ -2,7 +2,6 @@
 use Rattle.std.specs.Prelude.{◌≡◌, ◌≤◌, ℕ, List, [], ◌∷◌, Option, Some, None, if◌then◌else◌}
 use Rattle.std.specs.Borrow.{Bor}
 use Rattle.std.specs.Str.{bytes_eq}
-use Rattle.lsm_store.specs.declared.mem_store.MemStore.{MemStore}
 use Rattle.lsm_store.specs.declared.mem_store.file.Absence.{Absence}
 use Rattle.lsm_store.specs.declared.mem_store.file.Absence.TheVariants.{Never, Possible, Usual}
 use Rattle.lsm_store.specs.declared.mem_store.picks.Pick.{Pick}
@@ -12,7 +11,7 @@ use Rattle.lsm_store.specs.World.{Image, IsImage, Begins}
 use Rattle.lsm_store.specs.Plans.{outcome_at}
 use Rattle.lsm_store.specs.Held.{Held, fresh}
 use Rattle.lsm_store.specs.Files.{Files, held_at}
-use Rattle.lsm_store.specs.Memory.{may_of, world_of}
+use Rattle.lsm_store.specs.Memory.{MemStore, may_of, world_of}
 
 abbrev pub Picks : Type 0
 Picks = List (Bor (List ℕ) × Pick)

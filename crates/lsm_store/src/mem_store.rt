@@ -29,7 +29,7 @@ use std::snapshot::Snapshot;
 
 /// A call that went by: what was held before it, and after the change that a crash may cut. It takes no bytes.
 #[derive(Drop)]
-struct Moment {
+pub struct Moment {
     before: Snapshot<Files>,
     after: Snapshot<Files>,
 }
@@ -42,12 +42,14 @@ struct Moment {
 /// store.write("1", bytes)?;
 /// let left = store.crash(&[("1", Pick::Absent)])?;
 /// ```
+///
+/// `P` is always what it is without being named. As a parameter it lets the prover see for itself that a store may be sent to a thread.
 #[derive(Drop)]
-pub struct MemStore {
+pub struct MemStore<P: Drop = Vec<Moment>> {
     alloc: Global,
     files: Files,
     // The calls within which a crash may have come.
-    past: Vec<Moment>,
+    past: P,
     failures: u64,
     plan: Plan,
 }

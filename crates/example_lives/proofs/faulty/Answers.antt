@@ -1,6 +1,5 @@
 use Rattle.std.proofs.Common.{None, sym, subst}
-use Rattle.lsm_store.specs.declared.mem_store.MemStore.{MemStore}
-use Rattle.lsm_store.specs.Memory.{world_of}
+use Rattle.lsm_store.specs.Memory.{MemStore, world_of}
 use Rattle.lsm_store.specs.World.{Begins}
 use Rattle.example_lives.proofs.faulty.Goals as goal
 

@@ -1,8 +1,7 @@
 use Rattle.std.proofs.Common.{arith, length, take, map, subst, ap}
 use Rattle.std.proofs.lemmas.Result.{err_from_is_err_and}
 use Rattle.std.specs.FinMap.{empty}
-use Rattle.lsm_store.specs.declared.mem_store.MemStore.{MemStore}
-use Rattle.lsm_store.specs.Memory.{world_of}
+use Rattle.lsm_store.specs.Memory.{MemStore, world_of}
 use Rattle.lsm_store.specs.Picks.{picked, Crashes}
 use Rattle.lsm_store.specs.World.{Begins}
 use Rattle.lsm_model.specs.Journal.{Map}

@@ -1,7 +1,6 @@
 use Rattle.std.proofs.Common.{ap, subst}
 use Rattle.std.specs.FinMap.{empty}
-use Rattle.lsm_store.specs.declared.mem_store.MemStore.{MemStore}
-use Rattle.lsm_store.specs.Memory.{world_of}
+use Rattle.lsm_store.specs.Memory.{MemStore, world_of}
 use Rattle.lsm_versions.specs.Levels.{SeenVersion}
 use Rattle.lsm_commit.specs.Foreign.{AtRest}
 use Rattle.lsm_logged.specs.Opening.{OpensLogged, version_of}

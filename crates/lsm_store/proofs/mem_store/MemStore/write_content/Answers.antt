@@ -1,8 +1,7 @@
 use Rattle.std.proofs.Common.{Some, ap, ◌≡◌, subst}
 use Rattle.lsm_store.specs.World.{Anything, Changes}
 use Rattle.lsm_store.specs.Plans.{answer_of}
-use Rattle.lsm_store.specs.Memory.{memory_world, world_of}
-use Rattle.lsm_store.specs.declared.mem_store.MemStore.{MemStore}
+use Rattle.lsm_store.specs.Memory.{MemStore, memory_world, world_of}
 use Rattle.lsm_store.proofs.MemoryCalls.{brought, wrote}
 use Rattle.lsm_store.proofs.mem_store.MemStore.write_content.Goals as goal
 

@@ -3,8 +3,7 @@ use Rattle.lsm_store.specs.World.{OldOr, Changes}
 use Rattle.lsm_store.specs.Plans.{answer_of}
 use Rattle.lsm_store.specs.Held.{removed}
 use Rattle.lsm_store.specs.Files.{Alters}
-use Rattle.lsm_store.specs.Memory.{memory_world, world_of, may_of}
-use Rattle.lsm_store.specs.declared.mem_store.MemStore.{MemStore}
+use Rattle.lsm_store.specs.Memory.{MemStore, memory_world, world_of, may_of}
 use Rattle.lsm_store.proofs.MemoryCalls.{brought, took_away}
 use Rattle.lsm_store.proofs.mem_store.MemStoreStore.remove.Goals as goal
 

@@ -2,8 +2,7 @@ use Rattle.std.proofs.Common.{◌≡◌, ap, ◌∙◌, subst, sym, Some}
 use Rattle.lsm_store.specs.World.{OldOr, Only, Changes}
 use Rattle.lsm_store.specs.Plans.{answer_of, MovesOn, AsPlanned, outcome_at}
 use Rattle.lsm_store.specs.Files.{Files, Alters}
-use Rattle.lsm_store.specs.Memory.{Past, memory_world, world_of, may_of, KeepsMoment, replaced_by, HeldAs}
-use Rattle.lsm_store.specs.declared.mem_store.MemStore.{MemStore}
+use Rattle.lsm_store.specs.Memory.{MemStore, Past, memory_world, world_of, may_of, KeepsMoment, replaced_by, HeldAs}
 use Rattle.lsm_store.proofs.MemoryCalls.{brought, put_in_place, held_by, planned_by}
 use Rattle.lsm_store.proofs.mem_store.MemStoreStore.replace.Goals as goal
 

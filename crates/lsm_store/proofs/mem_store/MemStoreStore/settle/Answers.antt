@@ -2,8 +2,7 @@ use Rattle.std.proofs.Common.{◌≡◌, ap, subst, sym}
 use Rattle.lsm_store.specs.World.{SettlesNames}
 use Rattle.lsm_store.specs.Plans.{outcome_at, answer_of}
 use Rattle.lsm_store.specs.Files.{Files, AltersEach}
-use Rattle.lsm_store.specs.Memory.{Past, memory_world, world_of, KeepsMoment, settled_by, EachHeldAs}
-use Rattle.lsm_store.specs.declared.mem_store.MemStore.{MemStore}
+use Rattle.lsm_store.specs.Memory.{MemStore, Past, memory_world, world_of, KeepsMoment, settled_by, EachHeldAs}
 use Rattle.lsm_store.proofs.MemoryCalls.{brought, each_held_by}
 use Rattle.lsm_store.proofs.MemorySettles.{settles_names}
 use Rattle.lsm_store.proofs.mem_store.MemStoreStore.settle.Goals as goal

@@ -3,8 +3,7 @@ use Rattle.lsm_store.specs.World.{Anything, Only, Changes}
 use Rattle.lsm_store.specs.Plans.{outcome_at, answer_of, MovesOn, AsPlanned}
 use Rattle.lsm_store.specs.Held.{doubted}
 use Rattle.lsm_store.specs.Files.{Files, Alters}
-use Rattle.lsm_store.specs.Memory.{Past, memory_world, world_of, gives_of, KeepsMoment, synced_by, ended_by, sync_outcome, HeldAs}
-use Rattle.lsm_store.specs.declared.mem_store.MemStore.{MemStore}
+use Rattle.lsm_store.specs.Memory.{MemStore, Past, memory_world, world_of, gives_of, KeepsMoment, synced_by, ended_by, sync_outcome, HeldAs}
 use Rattle.lsm_store.specs.declared.mem_store.plan.Outcome.TheVariants.{NothingDone}
 use Rattle.lsm_store.proofs.MemoryCalls.{brought, made_durable, sync_ends, sync_comes, synced_there, held_by, planned_by, sync_does}
 use Rattle.lsm_store.proofs.mem_store.MemStoreStore.sync.Goals as goal
