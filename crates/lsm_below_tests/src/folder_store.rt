@@ -57,7 +57,7 @@ const CALLS: [Call; 13] = [
     Call::Write("v0", b"partial"),
     Call::Write("v0", b"old"),
     Call::Sync("v0"),
-    Call::Write("tables/7", b"entries"),
+    Call::Share("tables/7", b"entries"),
     Call::Sync("tables/7"),
     Call::Replace("log/0", b"record"),
     Call::Write("log/1", b"record 1"),
@@ -217,7 +217,9 @@ where
     };
     is_told
         && match call {
-            Call::Write(name, _) => is_fault(store.last_fault(), name, FolderCall::Write, kind),
+            Call::Write(name, _) | Call::Share(name, _) => {
+                is_fault(store.last_fault(), name, FolderCall::Write, kind)
+            }
             Call::Replace(name, _) => {
                 is_fault(store.last_fault(), name, FolderCall::Replace, kind)
             }

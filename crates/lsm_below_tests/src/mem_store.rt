@@ -17,7 +17,7 @@ const B: &str = "b";
 const SCRIPT: [Call; 12] = [
     Call::Write(A, b"1"),
     Call::Sync(A),
-    Call::Write(B, b"2"),
+    Call::Share(B, b"2"),
     Call::Replace(A, b"3"),
     Call::Remove(B),
     Call::Settle,

@@ -1,5 +1,6 @@
 // What tests make entries, ranges and runs by.
 
+use bytes::Bytes;
 use lsm_below::{
     InternalValue, KeyRange, Ranged, Run, SeqNo, UserKey, UserValue, ValueType, is_run,
 };
@@ -37,6 +38,8 @@ pub fn run_of<T: Ranged + Drop>(rt: &impl Abort, tables: Vec<T>) -> Run<T> {
 #[derive(Clone, Copy)]
 pub enum Call {
     Write(&'static str, &'static [u8]),
+    /// A write of bytes that the store may share.
+    Share(&'static str, &'static [u8]),
     Sync(&'static str),
     Replace(&'static str, &'static [u8]),
     Remove(&'static str),
@@ -47,6 +50,7 @@ pub enum Call {
 pub fn answer(store: &mut impl Store, call: Call) -> Result<(), StoreError> {
     match call {
         Call::Write(name, bytes) => store.write(name, bytes),
+        Call::Share(name, bytes) => store.write_shared(name, &Bytes::from_static(bytes)),
         Call::Sync(name) => store.sync(name),
         Call::Replace(name, bytes) => store.replace(name, bytes),
         Call::Remove(name) => store.remove(name),

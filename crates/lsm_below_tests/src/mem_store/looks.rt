@@ -84,7 +84,7 @@ const REMOVED: &[Call] = &[WRITE, SYNC, Call::Remove(A)];
 
 const REPLACED: &[Call] = &[WRITE, SYNC, Call::Replace(A, b"3")];
 
-const CASES: [Case; 10] = [
+const CASES: [Case; 12] = [
     Case {
         name: "written and not synced",
         calls: &[WRITE, SYNC, Call::Write(A, b"6")],
@@ -104,6 +104,22 @@ const CASES: [Case; 10] = [
             Look::Refuses(Pick::Absent),
             Look::Alone(Some(b"1")),
         ],
+    },
+    Case {
+        name: "shared and not synced",
+        calls: &[WRITE, SYNC, Call::Share(A, b"6")],
+        fault: None,
+        looks: &[
+            Look::Leaves(Pick::Before, Some(b"1")),
+            Look::Leaves(Pick::Bytes(b"torn"), Some(b"torn")),
+            Look::Alone(None),
+        ],
+    },
+    Case {
+        name: "shared and synced",
+        calls: &[Call::Share(A, b"6"), SYNC],
+        fault: None,
+        looks: &[Look::Refuses(Pick::Before), Look::Alone(Some(b"6"))],
     },
     Case {
         name: "a failed sync",

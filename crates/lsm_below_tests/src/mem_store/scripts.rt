@@ -42,7 +42,7 @@ impl Row {
     /// Whether the call is answered. Whether it is to fail is told, and whether it has its effect.
     fn step(&mut self, call: Call, fails: bool, effect: bool) -> Result<bool, AllocError> {
         match call {
-            Call::Write(_, bytes) => {
+            Call::Write(_, bytes) | Call::Share(_, bytes) => {
                 self.torn = true;
                 self.read = if effect { Some(bytes) } else { self.read };
             }
@@ -73,7 +73,8 @@ impl Row {
 /// Whether the call may change what is held of the name.
 fn concerns(call: Call, name: &str) -> bool {
     match call {
-        Call::Write(of, _) | Call::Sync(of) | Call::Replace(of, _) | Call::Remove(of) => of == name,
+        Call::Write(of, _) | Call::Share(of, _) | Call::Replace(of, _) => of == name,
+        Call::Sync(of) | Call::Remove(of) => of == name,
         Call::Settle => true,
     }
 }
