@@ -64,9 +64,6 @@ ran_more strategies tells world steps replies old mid x r new ran one = record {
   ends = last_more old ran.stages new;
 }
 
-pub ran_none : {S : Type 0} (strategies : Strategies) (tells : Type 0) (world : S → World) (old : LogStage S) → RanTo strategies tells world [] [] old old
-ran_none strategies tells world old = record { stages = []; does = tt; ends = refl }
-
 last_tree : {S : Type 0} (old : LogStage S) (stages : List (LogStage S)) → last_of old.tree (map (λ st. st.tree) stages) ≡ (last_of old stages).tree
 last_tree old [] = refl
 last_tree old (st ∷ stages) = last_tree st stages

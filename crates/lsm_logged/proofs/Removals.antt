@@ -1,6 +1,5 @@
 -- Records that the version has passed are removed, behind a commit or not.
-use Rattle.std.proofs.Common.{◌≡◌, ⊎_elim, inl, inr, ℕ, ◌<◌, ◌≤◌, Bool, List, [], ◌++◌, Option, Some, None, Result, sym, ap, ◌∙◌, subst, arith}
-use Rattle.std.proofs.lemmas.List.Elements.{All-drop, All-weaker}
+use Rattle.std.proofs.Common.{◌≡◌, ⊎_elim, inl, inr, ℕ, Bool, List, [], ◌++◌, Option, Some, None, Result, sym, ap, ◌∙◌, subst}
 use Rattle.lsm_below.specs.Each.{each_append}
 use Rattle.lsm_below.specs.Members.{IsIn, each_in}
 use Rattle.lsm_below.specs.declared.error.Error.{Error}
@@ -9,23 +8,14 @@ use Rattle.lsm_store.specs.Moments.{weakened, joined}
 use Rattle.lsm_commit.specs.Foreign.{KeepsForeign, Passes}
 use Rattle.lsm_commit.specs.Stored.{IsStored, HoldsOneOf, AreAmong}
 use Rattle.lsm_log.specs.Changes.{IsBelow, AreCleared}
-use Rattle.lsm_log.proofs.Loaded.{rise_drop}
 use Rattle.lsm_state.specs.Core.{Core, Seen, versions_left, written_of}
 use Rattle.lsm_state.specs.Commits.{UpholdsFiles, Upholds}
 use Rattle.lsm_state.specs.Calls.{Rotates}
 use Rattle.lsm_state.proofs.Upholding.{among_right, leaves_more}
-use Rattle.lsm_logged.specs.Keeping.{SeenLogged, AreRecordNumbers}
-use Rattle.lsm_logged.specs.Removing.{log_from_of, Forgets, RemovesPassed, HasOldOrPassed, Passed}
+use Rattle.lsm_logged.specs.Keeping.{SeenLogged}
+use Rattle.lsm_logged.specs.Removing.{log_from_of, RemovesPassed, HasOldOrPassed, Passed}
 use Rattle.lsm_logged.specs.Flushing.{IsEither, RemovesBehind}
 use Rattle.lsm_logged.proofs.Seen.{logged_with}
-
--- ---- numbers
-
-pub numbered_left : (from n m : ℕ) (old new : List ℕ) → n ≤ m → AreRecordNumbers n old → Forgets from old new → AreRecordNumbers m new
-numbered_left from n m old new le are left = subst (AreRecordNumbers m) (sym left.items) (record {
-  rise = rise_drop left.at old are.rise;
-  below = All-drop (λ k. k < m) left.at old (All-weaker (λ k. k < n) (λ k. k < m) (λ k lt. omega (arith, lt, le)) old are.below);
-})
 
 -- ---- the store
 

@@ -1,5 +1,5 @@
 -- Which calls of the store failed where a call of a tree tells a fault.
-use Rattle.std.proofs.Common.{ℕ, ◌-◌, ◌≤◌, ◌^◌, min, arith, ◌≡◌, ◌∙◌, ◌⊎◌, inl, inr, ⊎_elim, Bool, false, List, Result, Ok, Err, IfErr, OnOk, ap, subst, refl}
+use Rattle.std.proofs.Common.{ℕ, ◌-◌, ◌≤◌, ◌^◌, min, arith, ◌≡◌, ◌∙◌, ◌⊎◌, inl, inr, ⊎_elim, Bool, false, List, Result, Ok, Err, IfErr, OnOk, ap, subst}
 use Rattle.std.specs.Prelude.{is_ok}
 use Rattle.lsm_below.specs.declared.error.Error.{Error}
 use Rattle.lsm_below.specs.declared.error.Error.TheVariants.{OutOfMemory, Store, OutOfNumbers, AfterCommit, Unrecoverable}
@@ -38,24 +38,13 @@ follows_tells (Err e) r mid new follows told = inl (subst Blames follows.0 told)
 pub follows_cause : (w v u : World) (begun r : Result Begun Error) (mid new : Core) → Follows begun r mid new → HasCause (Blames begun) w v → HasCause (BlamesEnd begun r) v u → HasCause (Blames r) w u
 follows_cause w v u begun r mid new follows first second = causes_then (Blames begun) (BlamesEnd begun r) (Blames r) w v u first second (follows_tells begun r mid new follows)
 
--- nothing follows but of a job
-pub nothing_follows : (w v : World) (begun r : Result Begun Error) → v.failures ≡ w.failures → (BlamesEnd begun r → ⊥) → HasCause (BlamesEnd begun r) w v
-nothing_follows w v begun r same isnt = no_fault (BlamesEnd begun r) w v same isnt
-
 -- ---- refusals that tell no fault
 
 pub no_memory : BlamesStore OutOfMemory → ⊥
 no_memory told = ⊎_elim (λ h. cc h) (λ later. ⊎_elim (λ h. cc h) (λ h. cc h) later) told
 
-pub no_numbers : BlamesStore OutOfNumbers → ⊥
-no_numbers told = ⊎_elim (λ h. cc h) (λ later. ⊎_elim (λ h. cc h) (λ h. cc h) later) told
-
 pub no_way : BlamesStore Unrecoverable → ⊥
 no_way told = ⊎_elim (λ h. cc h) (λ later. ⊎_elim (λ h. cc h) (λ h. cc h) later) told
-
--- no call was made
-pub refused_still : (w : World) (e : Error) → (BlamesStore e → ⊥) → HasCause (BlamesStore e) w w
-refused_still w e isnt = no_fault (BlamesStore e) w w refl isnt
 
 -- ---- files that are removed behind a refusal
 

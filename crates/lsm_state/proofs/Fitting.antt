@@ -3,7 +3,7 @@ use Rattle.std.proofs.Common.{◌≡◌, ℕ, ◌<◌, ◌^◌, Bool, true, fals
 use Rattle.std.specs.List.{AllByRecursion, list_any}
 use Rattle.std.proofs.lemmas.Bool.Decides.{nat_tests}
 use Rattle.lsm_below.specs.Keys.{Bytes}
-use Rattle.lsm_below.specs.Entries.{Entry, kept_value, plain}
+use Rattle.lsm_below.specs.Entries.{kept_value}
 use Rattle.lsm_below.specs.declared.value_type.ValueType.{ValueType}
 use Rattle.lsm_below.specs.declared.value_type.ValueType.TheVariants.{Value, Tombstone, WeakTombstone}
 use Rattle.lsm_below.specs.declared.error.Error.TheVariants.{OutOfNumbers, KeyTooLong, ValueTooLong, NumberTooGreat, DuplicateKey}
@@ -11,7 +11,7 @@ use Rattle.lsm_tables.specs.Image.{Fits}
 use Rattle.lsm_model.specs.Ops.{op_entry, op_entries, op_value, repeats, keys_of}
 use Rattle.lsm_model.specs.declared.op.Op.{Op}
 use Rattle.lsm_model.specs.declared.op.Op.TheVariants.{Set, Del, Weak}
-use Rattle.lsm_state.specs.Refusals.{is_great, is_long_key, is_long_value, entry_refusal, batch_refusal}
+use Rattle.lsm_state.specs.Refusals.{is_great, is_long_key, is_long_value, batch_refusal}
 
 -- ---- an entry
 
@@ -35,11 +35,6 @@ kept_once : (t : ValueType) (v : Bytes) → kept_value t (kept_value t v) ≡ ke
 kept_once Value v = refl
 kept_once Tombstone v = refl
 kept_once WeakTombstone v = refl
-
-pub plain_fits : (e : Entry) → entry_refusal (plain e) ≡ None → Fits (plain e)
-plain_fits e h =
-    let p = passes (is_long_key e.key.user_key) (is_long_value (plain e).value) (is_great e.key.seqno) h in
-    record { key = short_key e.key.user_key p.0; seqno = small e.key.seqno p.1.1; value = short_value (plain e).value p.1.0; empty = kept_once e.key.value_type e.value }
 
 -- ---- a batch
 

@@ -1,6 +1,8 @@
 -- What a store in memory holds of one name, and what a call makes of it.
 use Rattle.std.specs.Prelude.{◌≡◌, ◌⊎◌, ℕ, ◌<◌, Bool, true, false, List, [], ◌∷◌, ◌++◌, Option, Some, None, MatchOption, slice_get, option_to_list, if◌then◌else◌}
 use Rattle.lsm_store.specs.World.{Row}
+use Rattle.lsm_store.specs.declared.mem_store.content.Place.{Place}
+use Rattle.lsm_store.specs.declared.mem_store.content.Place.TheVariants.{Own, Shared}
 use Rattle.lsm_store.specs.declared.mem_store.file.Absence.{Absence}
 use Rattle.lsm_store.specs.declared.mem_store.file.Absence.TheVariants.{Never, Possible, Usual}
 
@@ -65,6 +67,10 @@ abbrev pub IsWhole : Held → Type 0
 IsWhole h = MatchOption h.gives (MayLack h.absence) (λ b. IsOneOf h.contents (Some b))
 
 -- ---- how it lies in memory: contents, and places among them
+
+abbrev pub bytes_of : Place → List ℕ
+bytes_of (Own v) = v.items
+bytes_of (Shared b) = b
 
 abbrev pub content : Option ℕ → List (List ℕ) → Option (List ℕ)
 content None bs = None

@@ -9,6 +9,7 @@ ghost use Rattle.lsm_store.specs.Files.{held_at};
 ghost use Rattle.lsm_store.specs.Memory.{HeldAs, EachHeldAs, written_by, synced_by, replaced_by, settled_by, sync_outcome, gives_of, may_of, world_of, KeepsMoment, gives_one, only_now};
 ghost use Rattle.lsm_store.specs.Picks.{picked, Crashes, Restarts};
 
+mod content;
 mod file;
 mod files;
 mod picks;
@@ -16,6 +17,7 @@ mod plan;
 
 use crate::{Store, StoreError};
 use bytes::Bytes;
+use content::Content;
 use files::{
     Files, content_of, doubt_file, end_by, names_of, remove_file, replace_by, settle_by, write_by,
 };
@@ -143,7 +145,7 @@ impl MemStore {
     }
 
     /// `write`, of a content that is made.
-    fn write_content(&mut self, name: &str, content: Bytes) -> Result<(), StoreError>
+    fn write_content(&mut self, name: &str, content: Content) -> Result<(), StoreError>
         ensures changes { Changes name.now Anything Anything (Some content) (world_of self.old) (world_of self.new) result }
         ensures counts { Counts (world_of self.old) (world_of self.new) result }
         ensures held { HeldAs name.now (written_by (outcome_at self.old.plan 1) content) self.old.files self.new.files result }
@@ -198,7 +200,7 @@ impl Store for MemStore {
         ensures held { HeldAs name.now (written_by (outcome_at self.old.plan 1) bytes.now) self.old.files self.new.files result }
         ensures planned { AsPlanned (outcome_at self.old.plan 1) self.old.plan self.new.plan result }
     {
-        let content = Bytes::copy_from_slice(self.alloc, bytes)?;
+        let content = Content::copied(self.alloc, bytes)?;
         self.write_content(name, content)
     }
 
@@ -208,7 +210,8 @@ impl Store for MemStore {
         ensures held { HeldAs name.now (written_by (outcome_at self.old.plan 1) bytes.now) self.old.files self.new.files result }
         ensures planned { AsPlanned (outcome_at self.old.plan 1) self.old.plan self.new.plan result }
     {
-        self.write_content(name, bytes.clone()?)
+        let content = Content::shared(bytes)?;
+        self.write_content(name, content)
     }
 
     fn sync(&mut self, name: &str) -> Result<(), StoreError>

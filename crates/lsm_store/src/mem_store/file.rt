@@ -4,7 +4,7 @@ ghost use Rattle.std.specs.List.{list_any};
 ghost use Rattle.std.specs.Str.{bytes_eq};
 ghost use Rattle.lsm_store.specs.Held.{MayHold, MayLack, fresh, nothing, written, doubted, removed, offered, settled, softened, IsWhole};
 
-use bytes::Bytes;
+use super::content::Content;
 use smallvec::SmallVec;
 use std::alloc::{AllocError, Global};
 use std::marker::Model;
@@ -43,7 +43,7 @@ impl Absence {
 /// The contents that a name may have, and which of them reads give.
 #[derive(Drop)]
 pub struct File {
-    contents: SmallVec<Bytes, 1>,
+    contents: SmallVec<Content, 1>,
     /// The place of what reads give. None where the name is absent.
     given: Option<usize>,
     /// The place of what they gave before the last call. None where it was absent, or is no choice any more.
@@ -64,14 +64,14 @@ impl Model for File {
     ghost invariant = { λ f. IsPlace f.given (length f.contents.items) × IsPlace f.before (length f.contents.items) × GivesOrLacks f.given f.absence };
 }
 
-fn is_among(contents: &[Bytes], bytes: &[u8]) -> bool
+fn is_among(contents: &[Content], bytes: &[u8]) -> bool
     ensures { result ≡ list_any (λ v. bytes_eq v bytes.now) contents.now }
 {
     contents.iter().any(|content| content.as_slice() == bytes)
 }
 
 /// One content, which takes no memory of its own.
-fn alone(alloc: Global, content: Bytes) -> SmallVec<Bytes, 1>
+fn alone(alloc: Global, content: Content) -> SmallVec<Content, 1>
     ensures { result.items ≡ content ∷ [] }
 {
     let mut contents = SmallVec::new(alloc);
@@ -98,7 +98,7 @@ impl File {
         ensures { IfOk result (λ file. file ≡ fresh (Some bytes.now)) }
     {
         Ok(File {
-            contents: alone(alloc, Bytes::copy_from_slice(alloc, bytes)?),
+            contents: alone(alloc, Content::copied(alloc, bytes)?),
             given: Some(0),
             before: None,
             absence: Absence::Never,
@@ -111,7 +111,7 @@ impl File {
         ensures { IfOk result (λ file. file ≡ offered shown bytes.now nothing) }
     {
         Ok(File {
-            contents: alone(alloc, Bytes::copy_from_slice(alloc, bytes)?),
+            contents: alone(alloc, Content::copied(alloc, bytes)?),
             given: if shown { Some(0) } else { None },
             before: None,
             absence: Absence::Possible,
@@ -156,7 +156,7 @@ impl File {
     }
 
     /// Holds this content, which isn't on the disk. Where it is refused for memory, nothing changes.
-    pub fn write(&mut self, alloc: Global, content: Bytes) -> Result<(), AllocError>
+    pub fn write(&mut self, alloc: Global, content: Content) -> Result<(), AllocError>
         ensures ok { OnOk result (self.new ≡ written content self.old) }
         ensures err { OnErr result (self.new ≡ self.old) }
     {
@@ -195,7 +195,7 @@ impl File {
         ensures err { OnErr result (self.new ≡ self.old) }
     {
         let at = self.contents.len();
-        self.contents.push(Bytes::copy_from_slice(alloc, bytes)?)?;
+        self.contents.push(Content::copied(alloc, bytes)?)?;
         self.before = self.given;
         if shown {
             self.given = Some(at);

@@ -7,9 +7,9 @@ ghost use Rattle.lsm_store.specs.Files.{held_at, HoldSame, Alters, AltersEach};
 ghost use Rattle.lsm_store.specs.Memory.{gives_of, written_by, replaced_by, ended_by, settled_by, sync_outcome};
 ghost use Rattle.std.specs.String.{string_bytes};
 
+use super::content::Content;
 use super::file::File;
 use super::plan::Outcome;
-use bytes::Bytes;
 use std::alloc::{AllocError, Global};
 use std::collections::HashMap;
 
@@ -42,7 +42,7 @@ pub fn write_file(
     alloc: Global,
     files: &mut Files,
     name: &str,
-    content: Bytes,
+    content: Content,
 ) -> Result<(), AllocError>
     ensures ok { OnOk result (Alters name.now (written content) files.old files.new) }
     ensures err { OnErr result (HoldSame files.old files.new) }
@@ -71,7 +71,7 @@ pub fn write_by(
     alloc: Global,
     files: &mut Files,
     name: &str,
-    content: Bytes,
+    content: Content,
     outcome: Outcome,
 ) -> Result<(), AllocError>
     ensures ok { OnOk result (Alters name.now (written_by outcome content) files.old files.new) }

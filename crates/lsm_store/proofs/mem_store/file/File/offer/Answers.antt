@@ -9,7 +9,7 @@ returns-clause-ok c =
     let vs = c.self.inside.contents.items in
     let ws = c.push.new.self.items in
     let b = c.args.bytes.now in
-    let v = c.in_ok-copy_from_slice.field-0 in
+    let v = c.in_ok-copied.field-0 in
     let copied : v ≡ b = search rules in
     let pushed : ws ≡ vs ++ v ∷ [] = c.in_ok-push.ensures.ok in
     let place : IsPlace c.self.inside.given (length vs) = c.self.invariant.0 in
@@ -25,8 +25,8 @@ returns-clause-ok c =
 pub returns-clause-whole : goal.returns-clause-whole
 returns-clause-whole c = subst IsWhole c.self.view_is (given_whole c.self.inside.given c.self.inside.contents.items c.self.inside.absence c.self.invariant.0 c.self.invariant.2)
 
-pub returns-in_err-copy_from_slice-clause-whole : goal.returns-in_err-copy_from_slice-clause-whole
-returns-in_err-copy_from_slice-clause-whole c = subst IsWhole c.self.view_is (given_whole c.self.inside.given c.self.inside.contents.items c.self.inside.absence c.self.invariant.0 c.self.invariant.2)
+pub returns-in_err-copied-clause-whole : goal.returns-in_err-copied-clause-whole
+returns-in_err-copied-clause-whole c = subst IsWhole c.self.view_is (given_whole c.self.inside.given c.self.inside.contents.items c.self.inside.absence c.self.invariant.0 c.self.invariant.2)
 
 pub returns-in_err-push-clause-whole : goal.returns-in_err-push-clause-whole
 returns-in_err-push-clause-whole c = subst IsWhole c.self.view_is (given_whole c.self.inside.given c.self.inside.contents.items c.self.inside.absence c.self.invariant.0 c.self.invariant.2)
