@@ -3,10 +3,7 @@ use Rattle.std.proofs.Common.{◌≡◌, ℕ, ◌<◌, ◌^◌, Bool, true, fals
 use Rattle.std.specs.List.{AllByRecursion, list_any}
 use Rattle.std.proofs.lemmas.Bool.Decides.{nat_tests}
 use Rattle.lsm_below.specs.Keys.{Bytes}
-use Rattle.lsm_below.specs.Entries.{kept_value}
-use Rattle.lsm_below.specs.declared.value_type.ValueType.{ValueType}
-use Rattle.lsm_below.specs.declared.value_type.ValueType.TheVariants.{Value, Tombstone, WeakTombstone}
-use Rattle.lsm_below.specs.declared.error.Error.TheVariants.{OutOfNumbers, KeyTooLong, ValueTooLong, NumberTooGreat, DuplicateKey}
+use Rattle.lsm_below.specs.declared.error.Error.TheVariants.{OutOfNumbers, KeyTooLong, ValueTooLong, DuplicateKey}
 use Rattle.lsm_tables.specs.Image.{Fits}
 use Rattle.lsm_model.specs.Ops.{op_entry, op_entries, op_value, repeats, keys_of}
 use Rattle.lsm_model.specs.declared.op.Op.{Op}
@@ -23,18 +20,6 @@ short_value v h = grind (arith, nat_tests)
 
 small : (n : ℕ) → is_great n ≡ false → n < 2 ^ 64
 small n h = grind (arith, nat_tests)
-
--- what isn't refused passes each test
-passes : (a b c : Bool) → cond a (Some KeyTooLong) (cond b (Some ValueTooLong) (cond c (Some NumberTooGreat) None)) ≡ None → (a ≡ false) × ((b ≡ false) × (c ≡ false))
-passes true b c h = absurd (cc h)
-passes false true c h = absurd (cc h)
-passes false false true h = absurd (cc h)
-passes false false false h = (refl, (refl, refl))
-
-kept_once : (t : ValueType) (v : Bytes) → kept_value t (kept_value t v) ≡ kept_value t v
-kept_once Value v = refl
-kept_once Tombstone v = refl
-kept_once WeakTombstone v = refl
 
 -- ---- a batch
 
