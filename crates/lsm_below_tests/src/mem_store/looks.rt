@@ -66,6 +66,12 @@ const WRITE: Call = Call::Write(A, b"1");
 
 const SYNC: Call = Call::Sync(A);
 
+const OVER_A_SYNCED_ONE: &[Look] = &[
+    Look::Leaves(Pick::Before, Some(b"1")),
+    Look::Leaves(Pick::Bytes(b"torn"), Some(b"torn")),
+    Look::Alone(None),
+];
+
 const AFTER_A_FAILED_SYNC: &[Look] = &[
     Look::Leaves(Pick::Bytes(b"torn"), Some(b"torn")),
     Look::Leaves(Pick::Before, Some(b"1")),
@@ -89,11 +95,7 @@ const CASES: [Case; 12] = [
         name: "written and not synced",
         calls: &[WRITE, SYNC, Call::Write(A, b"6")],
         fault: None,
-        looks: &[
-            Look::Leaves(Pick::Before, Some(b"1")),
-            Look::Leaves(Pick::Bytes(b"torn"), Some(b"torn")),
-            Look::Alone(None),
-        ],
+        looks: OVER_A_SYNCED_ONE,
     },
     Case {
         name: "synced",
@@ -109,11 +111,7 @@ const CASES: [Case; 12] = [
         name: "shared and not synced",
         calls: &[WRITE, SYNC, Call::Share(A, b"6")],
         fault: None,
-        looks: &[
-            Look::Leaves(Pick::Before, Some(b"1")),
-            Look::Leaves(Pick::Bytes(b"torn"), Some(b"torn")),
-            Look::Alone(None),
-        ],
+        looks: OVER_A_SYNCED_ONE,
     },
     Case {
         name: "shared and synced",
