@@ -1,7 +1,7 @@
 // What is known of steps that are taken one by one, as the contracts of functions that do nothing.
 ghost use Rattle.std.specs.Prelude.{ℕ, List, None};
 ghost use Rattle.std.specs.FinMap.{empty};
-ghost use Rattle.lsm_store.specs.Memory.{MemStore, may_of, world_of};
+ghost use Rattle.lsm_store.specs.Memory.{MemStore as Memory, may_of, world_of};
 ghost use Rattle.lsm_store.specs.World.{Image, IsImage, Begins};
 ghost use Rattle.lsm_model.specs.Journal.{Map};
 ghost use Rattle.lsm_runs.specs.declared.steps.Step.{Step};
@@ -34,9 +34,9 @@ pub fn single_steps_join(store: &MemStore, strategies: &[Box<dyn CompactionStrat
 /// Which stores may be opened, and what they stand for: a new one for nothing; and where a life kept the order, what it left, be it by a crash
 /// or because its process ended, for a beginning of its calls.
 pub fn lives_follow(store: &MemStore)
-    ensures new { (new : MemStore) → Begins (λ _. None) (world_of new) → MayBeOpened new empty }
-    ensures ended { (m : Map) (was : MemStore) (from : ℕ) (steps : List Step) (told : List Told) (is : MemStore) → (h : HasLived m was from steps told is) → KeepsOrder h.opened h.counter steps → ComesAfter m steps told is }
-    ensures crashed { (m : Map) (was : MemStore) (from : ℕ) (steps : List Step) (told : List Told) (is : MemStore) → (h : HasLived m was from steps told is) → KeepsOrder h.opened h.counter steps → (image : Image) (left : MemStore) → IsImage (may_of is.files) image → Begins image (world_of left) → ComesAfter m steps told left }
+    ensures new { (new : Memory) → Begins (λ _. None) (world_of new) → MayBeOpened new empty }
+    ensures ended { (m : Map) (was : Memory) (from : ℕ) (steps : List Step) (told : List Told) (is : Memory) → (h : HasLived m was from steps told is) → KeepsOrder h.opened h.counter steps → ComesAfter m steps told is }
+    ensures crashed { (m : Map) (was : Memory) (from : ℕ) (steps : List Step) (told : List Told) (is : Memory) → (h : HasLived m was from steps told is) → KeepsOrder h.opened h.counter steps → (image : Image) (left : Memory) → IsImage (may_of is.files) image → Begins image (world_of left) → ComesAfter m steps told left }
 {
     crashes_settle(store);
 }

@@ -3,7 +3,7 @@ ghost use Rattle.std.specs.Prelude.{◌≡◌, ◌≤◌, ◌++◌, ◌∷◌, �
 ghost use Rattle.std.specs.List.{AllByRecursion};
 ghost use Rattle.lsm_model.specs.Journal.{Map};
 ghost use Rattle.lsm_manifest.specs.Finding.{RefusesFound};
-ghost use Rattle.lsm_store.specs.Memory.{world_of};
+ghost use Rattle.lsm_store.specs.Memory.{MemStore as Memory, world_of};
 ghost use Rattle.lsm_store.specs.World.{Begins};
 ghost use Rattle.lsm_runs.specs.declared.steps.Step.{Step};
 ghost use Rattle.lsm_runs.specs.Told.{Told};
@@ -56,8 +56,8 @@ fn take_it(
     list: &[Step],
 ) -> Result<Outcome, AllocError>
     requires { length list.now ≡ 1 }
-    ensures ok { (m : Map) (was : MemStore) (from : ℕ) (steps : List Step) (told : List Told) → HasTaken m was from steps told tree.old → IfOk result (λ o. HasTaken m was from (steps ++ list.now) (told ++ o ∷ []) tree.new) }
-    ensures err { (m : Map) (was : MemStore) (from : ℕ) (steps : List Step) (told : List Told) → HasTaken m was from steps told tree.old → OnErr result (HasTaken m was from steps told tree.new) }
+    ensures ok { (m : Map) (was : Memory) (from : ℕ) (steps : List Step) (told : List Told) → HasTaken m was from steps told tree.old → IfOk result (λ o. HasTaken m was from (steps ++ list.now) (told ++ o ∷ []) tree.new) }
+    ensures err { (m : Map) (was : Memory) (from : ℕ) (steps : List Step) (told : List Told) → HasTaken m was from steps told tree.old → OnErr result (HasTaken m was from steps told tree.new) }
 {
     reads_are_sound();
     moments_join(tree.store(), &TreeFiles, &Reply::Done);
@@ -79,8 +79,8 @@ pub fn take_one(
     strategies: &[Box<dyn CompactionStrategy>],
     step: Step,
 ) -> Result<Outcome, AllocError>
-    ensures ok { (m : Map) (was : MemStore) (from : ℕ) (steps : List Step) (told : List Told) → HasTaken m was from steps told tree.old → IfOk result (λ o. HasTaken m was from (steps ++ step ∷ []) (told ++ o ∷ []) tree.new) }
-    ensures err { (m : Map) (was : MemStore) (from : ℕ) (steps : List Step) (told : List Told) → HasTaken m was from steps told tree.old → OnErr result (HasTaken m was from steps told tree.new) }
+    ensures ok { (m : Map) (was : Memory) (from : ℕ) (steps : List Step) (told : List Told) → HasTaken m was from steps told tree.old → IfOk result (λ o. HasTaken m was from (steps ++ step ∷ []) (told ++ o ∷ []) tree.new) }
+    ensures err { (m : Map) (was : Memory) (from : ℕ) (steps : List Step) (told : List Told) → HasTaken m was from steps told tree.old → OnErr result (HasTaken m was from steps told tree.new) }
 {
     take_it(alloc, tree, strategies, &[step])
 }
@@ -94,8 +94,8 @@ fn add_it(
     outcomes: &mut Vec<Outcome>,
 ) -> Result<(), AllocError>
     requires { length list.now ≡ 1 }
-    ensures ok { OnOk result ((o : Told) × (outcomes.new.items ≡ outcomes.old.items ++ o ∷ []) × ((m : Map) (was : MemStore) (from : ℕ) (steps : List Step) (told : List Told) → HasTaken m was from steps told tree.old → HasTaken m was from (steps ++ list.now) (told ++ o ∷ []) tree.new)) }
-    ensures err { (m : Map) (was : MemStore) (from : ℕ) (steps : List Step) (told : List Told) → HasTaken m was from steps told tree.old → OnErr result (HasTaken m was from steps told tree.new) }
+    ensures ok { OnOk result ((o : Told) × (outcomes.new.items ≡ outcomes.old.items ++ o ∷ []) × ((m : Map) (was : Memory) (from : ℕ) (steps : List Step) (told : List Told) → HasTaken m was from steps told tree.old → HasTaken m was from (steps ++ list.now) (told ++ o ∷ []) tree.new)) }
+    ensures err { (m : Map) (was : Memory) (from : ℕ) (steps : List Step) (told : List Told) → HasTaken m was from steps told tree.old → OnErr result (HasTaken m was from steps told tree.new) }
     ensures outcomes_err { OnErr result (outcomes.new.items ≡ outcomes.old.items) }
 {
     outcomes.try_reserve(1)?;
@@ -113,7 +113,7 @@ pub fn take_each(
 ) -> Taken
     ensures bound { length result.outcomes.items ≤ length steps.now }
     ensures whole { OnOk result.ended (length result.outcomes.items ≡ length steps.now) }
-    ensures taken { (m : Map) (was : MemStore) (from : ℕ) (before : List Step) (told : List Told) → HasTaken m was from before told tree.old → HasTaken m was from (before ++ take (length result.outcomes.items) steps.now) (told ++ result.outcomes.items) tree.new }
+    ensures taken { (m : Map) (was : Memory) (from : ℕ) (before : List Step) (told : List Told) → HasTaken m was from before told tree.old → HasTaken m was from (before ++ take (length result.outcomes.items) steps.now) (told ++ result.outcomes.items) tree.new }
 {
     let mut outcomes = Vec::new(alloc);
     for at in 0..steps.len() {
