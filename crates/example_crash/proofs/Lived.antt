@@ -5,10 +5,7 @@ use Rattle.lsm_below.specs.Each.{each_left}
 use Rattle.lsm_below.specs.Entries.{Entry, above}
 use Rattle.lsm_store.specs.World.{World}
 use Rattle.lsm_model.specs.Journal.{Event, Map, InOrder}
-use Rattle.lsm_manifest.specs.Ready.{IsReady}
 use Rattle.lsm_state.specs.Core.{Core}
-use Rattle.lsm_run_model.specs.Lives.{LeavesReady}
-use Rattle.lsm_run_model.specs.Moments.{last_of}
 use Rattle.lsm_run_model.specs.Composing.{AreNumbered}
 use Rattle.lsm_run_model.specs.Outcomes.{Past, nothing, after, after_all, without_low_reads}
 use Rattle.lsm_run_model.specs.Outcomes as out
@@ -17,34 +14,13 @@ use Rattle.lsm_runs.specs.declared.steps.Step.{Step}
 use Rattle.lsm_runs.specs.declared.steps.Reply.{Reply}
 use Rattle.lsm_runs.specs.Drawing.{asks_of}
 use Rattle.lsm_runs.specs.Lives.{StepsAreLives, Rise, LivesInOrder, told_of}
-use Rattle.lsm_runs.specs.Moments.{EachReady}
 use Rattle.lsm_runs.specs.Runs.{IsPlainUse, journal_of, EachAnswers}
 use Rattle.lsm_runs.specs.Told.{Told}
-use Rattle.lsm_runs.proofs.RunLives.{front_in_order}
+use Rattle.lsm_runs.proofs.RunLives.{front_in_order, length_front, front_ready, last_ready}
 use Rattle.lsm_runs.proofs.Uses.{drawings}
 use Rattle.example_crash.specs.SoFar.{SoFar}
 use Rattle.example_crash.proofs.Growing.{all_of, length_map}
 use Rattle.example_crash.proofs.Taking.{IsSmall}
-
-length_front : {A : Type 0} (many : ℕ) (xs : List A) → length (take many xs) ≤ many
-length_front zero xs = omega arith
-length_front (suc many) [] = omega arith
-length_front (suc many) (x ∷ xs) = let rest = length_front many xs in omega (rest, arith)
-
-module _ {F : Type 0} (world : F → World) where
-  front_ready : (many : ℕ) (was : F) (stores : List F) → EachReady world was stores → EachReady world was (take many stores)
-  front_ready zero was [] h = h
-  front_ready zero was (is ∷ stores) h = h.0
-  front_ready (suc many) was [] h = h
-  front_ready (suc many) was (is ∷ stores) h = (h.0, h.1, front_ready many is stores h.2)
-
-  -- from before the last call on
-  last_ready : (answered : ℕ) (was : F) (stores : List F) → length stores ≤ answered + 1 → EachReady world was stores → LeavesReady IsReady world (last_of was (take answered stores)) (last_of was stores)
-  last_ready zero was [] few h = h.1
-  last_ready zero was (is ∷ []) few h = h.1
-  last_ready zero was (is ∷ (x ∷ stores)) few h = absurd (omega (few, arith))
-  last_ready (suc answered) was [] few h = h.1
-  last_ready (suc answered) was (is ∷ stores) few h = last_ready answered is stores (omega (few, arith)) h.2
 
 -- ---- what holds of all that was written
 

@@ -32,20 +32,20 @@ map_take f zero xs = refl
 map_take f (suc many) [] = refl
 map_take f (suc many) (x ∷ xs) = ap (λ ys. f x ∷ ys) (map_take f many xs)
 
-length_front : {A : Type 0} (many : ℕ) (xs : List A) → length (take many xs) ≤ many
+pub length_front : {A : Type 0} (many : ℕ) (xs : List A) → length (take many xs) ≤ many
 length_front zero xs = omega arith
 length_front (suc many) [] = omega arith
 length_front (suc many) (x ∷ xs) = let rest = length_front many xs in omega (rest, arith)
 
 module _ {F : Type 0} (world : F → World) where
-  front_ready : (many : ℕ) (was : F) (stores : List F) → EachReady world was stores → EachReady world was (take many stores)
+  pub front_ready : (many : ℕ) (was : F) (stores : List F) → EachReady world was stores → EachReady world was (take many stores)
   front_ready zero was [] h = h
   front_ready zero was (is ∷ stores) h = h.0
   front_ready (suc many) was [] h = h
   front_ready (suc many) was (is ∷ stores) h = (h.0, h.1, front_ready many is stores h.2)
 
   -- from before the last call on
-  last_ready : (answered : ℕ) (was : F) (stores : List F) → length stores ≤ answered + 1 → EachReady world was stores → LeavesReady IsReady world (last_of was (take answered stores)) (last_of was stores)
+  pub last_ready : (answered : ℕ) (was : F) (stores : List F) → length stores ≤ answered + 1 → EachReady world was stores → LeavesReady IsReady world (last_of was (take answered stores)) (last_of was stores)
   last_ready zero was [] few h = h.1
   last_ready zero was (is ∷ []) few h = h.1
   last_ready zero was (is ∷ (x ∷ stores)) few h = absurd (omega (few, arith))
