@@ -1,6 +1,7 @@
 // A slow replay: what the journal before a read says of its key. It keeps no index, and shares nothing with the tree.
 use lsm_tree::{
-    Answer, InternalValue, JournalEntry, Question, SeqNo, UserKey, UserValue, ValueType,
+    Answer, InternalValue, JournalEntry, Question, SeqNo, SharedEntry, UserKey, UserValue,
+    ValueType,
 };
 
 /// What a write leaves of its key.
@@ -28,20 +29,20 @@ fn value_after<'a>(
 
 /// What a key has at a snapshot behind these entries.
 fn value_at<'a>(
-    entries: &'a [JournalEntry],
+    entries: &'a [SharedEntry],
     key: &UserKey,
     snapshot: SeqNo,
 ) -> Option<&'a UserValue> {
     let mut value = None;
     for entry in entries {
-        value = value_after(value, entry, key, snapshot);
+        value = value_after(value, entry.as_entry(), key, snapshot);
     }
     value
 }
 
 /// Whether a read is answered as the entries before it say. No other question than a get is asked.
 fn is_right(
-    entries: &[JournalEntry],
+    entries: &[SharedEntry],
     snapshot: SeqNo,
     question: &Question,
     answer: &Answer,
@@ -64,7 +65,7 @@ pub struct Counts {
     pub drops: usize,
 }
 
-fn count(counts: &mut Counts, before: &[JournalEntry], entry: &JournalEntry) {
+fn count(counts: &mut Counts, before: &[SharedEntry], entry: &JournalEntry) {
     match entry {
         JournalEntry::Read(snapshot, question, answer) => {
             counts.reads = counts.reads.saturating_add(1);
@@ -79,7 +80,7 @@ fn count(counts: &mut Counts, before: &[JournalEntry], entry: &JournalEntry) {
     }
 }
 
-pub fn count_all(journal: &[JournalEntry]) -> Counts {
+pub fn count_all(journal: &[SharedEntry]) -> Counts {
     let mut counts = Counts {
         reads: 0,
         right: 0,
@@ -88,7 +89,8 @@ pub fn count_all(journal: &[JournalEntry]) -> Counts {
         drops: 0,
     };
     for (place, entry) in journal.iter().enumerate() {
-        count(&mut counts, journal.get(..place).unwrap_or_default(), entry);
+        let before = journal.get(..place).unwrap_or_default();
+        count(&mut counts, before, entry.as_entry());
     }
     counts
 }

@@ -3,4 +3,3 @@ mod Telling
 mod Compacting
 mod KeptReads
 mod Rotated
-mod Putting

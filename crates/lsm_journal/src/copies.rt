@@ -119,17 +119,3 @@ pub fn copy_entry(alloc: Global, entry: &JournalEntry) -> Result<JournalEntry, A
         JournalEntry::Read(snapshot, question, answer) => copy_read(*snapshot, question, answer),
     }
 }
-
-/// A copy of a whole journal.
-pub fn copy_journal(
-    alloc: Global,
-    journal: &[JournalEntry],
-) -> Result<Vec<JournalEntry>, AllocError>
-    ensures { IfOk result (λ copy. copy.items ≡ journal.now) }
-{
-    let mut copies = Vec::with_capacity(alloc, journal.len())?;
-    for entry in journal {
-        copies.push(copy_entry(alloc, entry)?)?;
-    }
-    Ok(copies)
-}

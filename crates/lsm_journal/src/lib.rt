@@ -34,10 +34,10 @@ pub use compaction::{
     Chosen, ask, ask_with, begin_chosen, compact_chosen, drops_nothing, finish_entries,
     finish_noting, options_at,
 };
-pub use copies::{copy_bound, copy_entry, copy_journal, question_between, share_ops};
+pub use copies::{copy_bound, copy_entry, question_between, share_ops};
 pub use flush::{flush_active_noting, flush_entries, flush_noting, register_noting};
 pub use laws::noted_compactions_keep_reads;
 pub use lists::one_entry;
 pub use reads::{pairs_entry, read_entry, share_pairs, take_pairs};
 pub use same::same_entry;
-pub use writes::{append_noting, batch_entries, put_noting, write_entry, write_noting};
+pub use writes::{append_noting, batch_entries, write_entry, write_noting};

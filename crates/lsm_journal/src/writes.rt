@@ -1,17 +1,15 @@
 // Writes, and what is noted of them.
 ghost use Rattle.std.specs.Prelude.{◌≡◌, ◌<◌, ◌∷◌, ◌++◌, [], map, length, take, vec_len, vec_capacity, IfOk, OnOk, OnErr};
-ghost use Rattle.lsm_below.specs.Keys.{Bytes};
 ghost use Rattle.lsm_below.specs.Entries.{plain};
 ghost use Rattle.lsm_model.specs.declared.journal.JournalEntry.TheVariants.{Write};
-ghost use Rattle.lsm_model.specs.declared.op.Op.{Op as OpOf};
-ghost use Rattle.lsm_model.specs.Ops.{op_entry, op_entries};
-ghost use Rattle.lsm_state.specs.Calls.{Appends, WritesBatch};
+ghost use Rattle.lsm_model.specs.Ops.{op_entries};
+ghost use Rattle.lsm_state.specs.Calls.{Appends};
 ghost use Rattle.lsm_journal.specs.NotedWrites.{WritesNoted};
 
 use crate::lists::cut;
 use lsm_below::{InternalValue, SeqNo, UserKey};
 use lsm_model::{JournalEntry, Op};
-use lsm_parts::{Error, LIMIT};
+use lsm_parts::Error;
 use lsm_state::TreeState;
 use lsm_store::Store;
 use std::alloc::{AllocError, Global};
@@ -66,32 +64,6 @@ pub fn append_noting<S: Store>(
     let sizes = tree.append_entry(entry)?;
     put(history, note);
     Ok(sizes)
-}
-
-/// Writes a batch of one, whose entry under the next sequence number is made already, as `TreeState::write`, and appends to a history
-/// with room what is noted of it: the write, where it is answered. The cost and the errors are those of the tree's call.
-pub fn put_noting<S: Store>(
-    tree: &mut TreeState<S>,
-    entry: InternalValue,
-    note: JournalEntry,
-    history: &mut Vec<JournalEntry>,
-) -> Result<SeqNo, Error>
-    requires note { note ≡ Write entry }
-    requires room { vec_len history.old < vec_capacity history.old }
-    ensures writes { (k : Bytes) (op : OpOf) → entry ≡ op_entry k tree.old.core.seqno op → WritesBatch ((k, op) ∷ []) result tree.old.core tree.new.core }
-    ensures told { OnOk result (history.new.items ≡ history.old.items ++ Write entry ∷ []) }
-    ensures untold { OnErr result (history.new.items ≡ history.old.items) }
-    ensures store { tree.new.store ≡ tree.old.store }
-{
-    let number = tree.seqno().get();
-    if number >= LIMIT {
-        return Err(Error::OutOfNumbers);
-    }
-    tree.append_entry(entry)?;
-    tree.seqno_mut().set(number + 1);
-    tree.visible_seqno_mut().fetch_max(number + 1);
-    put(history, note);
-    Ok(number)
 }
 
 /// Writes a batch, as `TreeState::write`, and answers beside it what a journal notes of it: its writes, where it is answered. The

@@ -3,6 +3,7 @@ pub mod ClosingLemmas
 pub mod MarksLemmas
 pub mod RaisingLemmas
 pub mod WritesLemmas
+mod Putting
 pub mod Watermarks
 pub mod RecordedLemmas
 pub mod Telling

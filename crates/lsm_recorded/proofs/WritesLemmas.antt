@@ -6,10 +6,12 @@ use Rattle.lsm_below.specs.Keys.{Bytes}
 use Rattle.lsm_below.specs.declared.error.Error.{Error}
 use Rattle.lsm_below.specs.declared.error.Error.TheVariants.{OutOfMemory, OutOfOrder}
 use Rattle.lsm_model.specs.Ops.{op_entry, op_entries}
+use Rattle.lsm_model.specs.declared.journal.JournalEntry.{JournalEntry}
 use Rattle.lsm_model.specs.declared.op.Op.{Op}
 use Rattle.lsm_model.specs.declared.op.Op.TheVariants.{Set, Del, Weak}
 use Rattle.lsm_recorded.specs.declared.marks.Mark.{Mark}
 use Rattle.lsm_recorded.specs.Marks.{marked, marked_by, marked_all, next_mark, mark_allows, op_type, op_allowed}
+use Rattle.lsm_recorded.specs.Passes.{Notes}
 use Rattle.lsm_recorded.specs.Recorded.{OwnOr}
 
 -- ---- refusals
@@ -26,6 +28,17 @@ own_by r e false P is told = inl (is ∙ ap Err told)
 pub refused_told : {A : Type 0} (r : Result A Error) (e : Error) (b a : Bool) → r ≡ Err e → e ≡ cond b OutOfMemory OutOfOrder → a ≡ b → (IsErrOf r OutOfOrder ↔ (a ≡ false))
 refused_told r e true a is told same = (λ q. absurd (cc (is, told, q)), λ q. absurd (cc (same, q)))
 refused_told r e false a is told same = (λ q. same, λ q. is ∙ ap Err told)
+
+-- ---- an entry that is shared
+
+-- what is put into both lists, in which there was made room, is noted in both
+pub both_noted : (e note copy : JournalEntry) (journal room journal' : List JournalEntry) (pass wide pass' : List (ℕ × JournalEntry)) → note ≡ e → copy ≡ note → room ≡ journal → wide ≡ pass
+    → journal' ≡ room ++ note ∷ [] → pass' ≡ wide ++ (length room, copy) ∷ [] → Notes (e ∷ []) journal journal' pass pass'
+both_noted e note copy journal room journal' pass wide pass' is copied same still put passed = record {
+  behind = put ∙ ap (λ (l : List JournalEntry). l ++ note ∷ []) same ∙ ap (λ (x : JournalEntry). journal ++ x ∷ []) is;
+  passed = passed ∙ ap (λ (l : List (ℕ × JournalEntry)). l ++ (length room, copy) ∷ []) still ∙ ap (λ (l : List JournalEntry). pass ++ (length l, copy) ∷ []) same
+      ∙ ap (λ (x : JournalEntry). pass ++ (length journal, x) ∷ []) (copied ∙ is);
+}
 
 -- ---- a batch of one
 

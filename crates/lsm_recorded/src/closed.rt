@@ -1,5 +1,5 @@
 // A journal that is given out.
-use lsm_model::JournalEntry;
+use crate::shared_entry::SharedEntry;
 use lsm_parts::Version;
 
 /// What `close` answers: the journal, and what its replay starts from.
@@ -14,8 +14,8 @@ use lsm_parts::Version;
 /// ```
 #[derive(Drop)]
 pub struct Closed {
-    /// A copy of the journal, which shares its keys, values and lists.
-    pub journal: Vec<JournalEntry>,
+    /// A copy of the journal, which shares its entries.
+    pub journal: Vec<SharedEntry>,
     /// The version that the tree was opened with, whose tables it shares: what they show is the map that the replay of the
     /// journal starts from. A new tree has none.
     pub opened: Version,

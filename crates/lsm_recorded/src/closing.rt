@@ -5,12 +5,12 @@ ghost use Rattle.lsm_recorded.specs.Closing.{IsPassOf, ListTogether};
 ghost use Rattle.lsm_recorded.specs.Ticks.{Finds, FindsAll};
 
 use crate::pass::Pass;
+use crate::shared_entry::SharedEntry;
 use lsm_journal::same_entry;
-use lsm_model::JournalEntry;
 use std::alloc::{AllocError, Global};
 
 /// Ticks a place off where this entry stands, if it wasn't ticked before.
-fn tick(journal: &[JournalEntry], ticked: &mut [bool], place: usize, entry: &JournalEntry) -> bool
+fn tick(journal: &[SharedEntry], ticked: &mut [bool], place: usize, entry: &SharedEntry) -> bool
     requires { length ticked.old ≡ length journal.now }
     ensures there { IsTrue result → slice_get journal.now place ≡ Some entry.now }
     ensures new { IsTrue result → slice_index_or ticked.old place true ≡ false }
@@ -19,7 +19,7 @@ fn tick(journal: &[JournalEntry], ticked: &mut [bool], place: usize, entry: &Jou
     let Some(stands) = journal.get(place) else {
         return false;
     };
-    if ticked[place] || !same_entry(stands, entry) {
+    if ticked[place] || !same_entry(stands.as_entry(), entry.as_entry()) {
         return false;
     }
     ticked[place] = true;
@@ -27,7 +27,7 @@ fn tick(journal: &[JournalEntry], ticked: &mut [bool], place: usize, entry: &Jou
 }
 
 /// Ticks the places of a pass off, which rise and were not ticked before.
-fn tick_pass(journal: &[JournalEntry], ticked: &mut [bool], pass: &[(u64, JournalEntry)]) -> bool
+fn tick_pass(journal: &[SharedEntry], ticked: &mut [bool], pass: &[(u64, SharedEntry)]) -> bool
     requires { length ticked.old ≡ length journal.now }
     ensures pass { IsTrue result → IsPassOf journal.now pass.now }
     ensures ticked { IsTrue result → Finds pass.now ticked.old ticked.new }
@@ -44,7 +44,7 @@ fn tick_pass(journal: &[JournalEntry], ticked: &mut [bool], pass: &[(u64, Journa
 }
 
 /// Ticks the places of passes off.
-fn tick_passes(journal: &[JournalEntry], ticked: &mut [bool], passes: &[Pass]) -> bool
+fn tick_passes(journal: &[SharedEntry], ticked: &mut [bool], passes: &[Pass]) -> bool
     requires { length ticked.old ≡ length journal.now }
     ensures each { IsTrue result → All (IsPassOf journal.now) passes.now }
     ensures ticked { IsTrue result → FindsAll passes.now ticked.old ticked.new }
@@ -64,7 +64,7 @@ fn are_all_ticked(ticked: &[bool]) -> bool
 }
 
 /// Whether passes list a journal of which no place is ticked yet.
-fn tick_all(journal: &[JournalEntry], ticked: &mut [bool], passes: &[Pass]) -> bool
+fn tick_all(journal: &[SharedEntry], ticked: &mut [bool], passes: &[Pass]) -> bool
     requires as_long { length ticked.old ≡ length journal.now }
     requires none { All (λ t. t ≡ false) ticked.old }
     ensures { IsTrue result → ListTogether journal.now passes.now }
@@ -76,7 +76,7 @@ fn tick_all(journal: &[JournalEntry], ticked: &mut [bool], passes: &[Pass]) -> b
 /// each pass its own by rising places.
 pub(crate) fn list_together(
     alloc: Global,
-    journal: &[JournalEntry],
+    journal: &[SharedEntry],
     passes: &[Pass],
 ) -> Result<bool, AllocError>
     ensures { IfOk result (λ yes. IsTrue yes → ListTogether journal.now passes.now) }

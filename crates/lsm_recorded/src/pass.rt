@@ -2,27 +2,28 @@
 ghost use Rattle.std.specs.Prelude.{◌≡◌, [], ◌<◌, ◌≤◌, ◌+◌, ◌++◌, ◌∷◌, length, vec_len, vec_capacity, OnOk, OnErr};
 ghost use Rattle.lsm_recorded.specs.Passes.{Notes};
 
-use lsm_journal::copy_entry;
+use crate::shared_entry::SharedEntry;
 use lsm_model::JournalEntry;
 use std::alloc::{AllocError, Global};
 use std::marker::Model;
 
 /// The entries that one caller's calls added to a journal, each with its place there, counted from 0.
 ///
-/// It grows with every call that it is given to: by an entry for each write and each answered read. Keys, values and
-/// lists of pairs are shared with the journal. A caller who will never ask for the journal may use a new pass for
-/// each call.
+/// It grows with every call that it is given to: by 16 bytes and an entry, which it shares with the journal, for each write and
+/// each answered read. A caller who will never ask for the journal may use a new pass for each call.
 ///
 /// # Examples
 ///
 /// ```text
 /// let mut pass = Pass::new(alloc);
 /// let number = tree.write(&mut pass, ops)?;
-/// let noted = pass.entries().len();
+/// for (place, entry) in pass.entries() {
+///     if let JournalEntry::Write(written) = entry.as_entry() { .. }
+/// }
 /// ```
 #[derive(Drop)]
 pub struct Pass {
-    pub(crate) entries: Vec<(u64, JournalEntry)>,
+    pub(crate) entries: Vec<(u64, SharedEntry)>,
 }
 
 impl Model for Pass {
@@ -45,7 +46,7 @@ impl Pass {
     }
 
     /// The entries with their places.
-    pub fn entries(&self) -> &[(u64, JournalEntry)]
+    pub fn entries(&self) -> &[(u64, SharedEntry)]
         ensures { result.now ≡ self.now }
     {
         &self.entries
@@ -54,8 +55,8 @@ impl Pass {
 
 /// Makes room for entries in a journal and in a pass.
 pub(crate) fn make_room(
-    journal: &mut Vec<JournalEntry>,
-    pass: &mut Vec<(u64, JournalEntry)>,
+    journal: &mut Vec<SharedEntry>,
+    pass: &mut Vec<(u64, SharedEntry)>,
     count: usize,
 ) -> Result<(), AllocError>
     ensures journal { journal.new.items ≡ journal.old.items }
@@ -67,22 +68,12 @@ pub(crate) fn make_room(
     pass.try_reserve(count)
 }
 
-/// Appends a copy of an entry with its place in a journal to a pass. There is room.
-pub(crate) fn put_copy(pass: &mut Vec<(u64, JournalEntry)>, place: u64, copy: JournalEntry)
-    requires { vec_len pass.old < vec_capacity pass.old }
-    ensures { pass.new.items ≡ pass.old.items ++ (place, copy) ∷ [] }
-{
-    let Ok(()) = pass.push((place, copy)) else {
-        unreachable!()
-    };
-}
-
 /// Appends an entry to a journal, and a copy with its place to a pass. There is room.
 pub(crate) fn put_entry(
-    journal: &mut Vec<JournalEntry>,
-    pass: &mut Vec<(u64, JournalEntry)>,
-    entry: JournalEntry,
-    copy: JournalEntry,
+    journal: &mut Vec<SharedEntry>,
+    pass: &mut Vec<(u64, SharedEntry)>,
+    entry: SharedEntry,
+    copy: SharedEntry,
 )
     requires journal_room { vec_len journal.old < vec_capacity journal.old }
     requires pass_room { vec_len pass.old < vec_capacity pass.old }
@@ -105,14 +96,15 @@ pub(crate) fn put_entry(
 /// Appends an entry to a journal, and a copy with its place to a pass. Refused, it changes neither.
 pub(crate) fn note_entry(
     alloc: Global,
-    journal: &mut Vec<JournalEntry>,
-    pass: &mut Vec<(u64, JournalEntry)>,
+    journal: &mut Vec<SharedEntry>,
+    pass: &mut Vec<(u64, SharedEntry)>,
     entry: JournalEntry,
 ) -> Result<(), AllocError>
     ensures ok { OnOk result (Notes (entry ∷ []) journal.old.items journal.new.items pass.old.items pass.new.items) }
     ensures err { OnErr result ((journal.new.items ≡ journal.old.items) × (pass.new.items ≡ pass.old.items)) }
 {
-    let copy = copy_entry(alloc, &entry)?;
+    let entry = SharedEntry::new(alloc, entry)?;
+    let copy = entry.copy()?;
     make_room(journal, pass, 1)?;
     put_entry(journal, pass, entry, copy);
     Ok(())

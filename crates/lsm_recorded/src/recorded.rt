@@ -27,11 +27,12 @@ use crate::closing::list_together;
 use crate::marked_key::MarkedKey;
 use crate::marks::{Mark, share_marked};
 use crate::pass::{Pass, note_entry};
+use crate::shared_entry::{SharedEntry, copy_list};
 use crate::writes::{append_marked, write_marked};
 use lsm_below::{InternalValue, MemtableId, SeqNo, UserKey, UserValue, ValueType};
 use lsm_commit::crashes_leave_versions;
-use lsm_journal::{copy_journal, read_entry};
-use lsm_model::{Answer, JournalEntry, Op, Question, reads_are_sound};
+use lsm_journal::read_entry;
+use lsm_model::{Op, reads_are_sound};
 use lsm_parts::{Error, LIMIT, SequenceNumberCounter, Version};
 use lsm_state::TreeState;
 use lsm_store::{MemStore, Store};
@@ -42,10 +43,10 @@ use std::marker::Model;
 /// A tree with the journal of its calls, a history in memory that its answers are proved against. It is no
 /// write-ahead log: nothing of it is stored.
 ///
-/// The journal grows with every write and every answered read and is never cut: by some 120 bytes for each, and for a
-/// range by a list of its pairs. Keys and values share their bytes with the tree, also the key of a `get`, if it was ever
-/// written. A write costs what the tree's own costs and a look-up in the marks of all keys written so far, which is logarithmic
-/// in their number; a batch takes one for each of its writes, a `get` one where it finds no value, a range none.
+/// The journal grows with every write and every answered read and is never cut: by an entry of some 150 bytes, which it shares
+/// with the pass, and for a range by a list of its pairs. Keys and values share their bytes with the tree, also the key of a `get`,
+/// if it was ever written. A write costs what the tree's own costs and a look-up in the marks of all keys written so far, which is
+/// logarithmic in their number; a batch takes one for each of its writes, a `get` one where it finds no value, a range none.
 ///
 /// # Examples
 ///
@@ -69,7 +70,7 @@ use std::marker::Model;
 pub struct Recorded<S: Store = MemStore> {
     alloc: Global,
     core: TreeState<S>,
-    journal: Vec<JournalEntry>,
+    journal: Vec<SharedEntry>,
     marks: BTreeMap<MarkedKey, Mark>,
     /// The greatest sequence number of an install or a clear.
     floor: SeqNo,
@@ -131,7 +132,7 @@ impl<S: Store> Recorded<S> {
     }
 
     /// The journal of the calls so far.
-    pub fn journal(&self) -> &[JournalEntry]
+    pub fn journal(&self) -> &[SharedEntry]
         ensures { result.now ≡ self.now.journal }
     {
         &self.journal
@@ -222,6 +223,7 @@ impl<S: Store> Recorded<S> {
     {
         reads_are_sound();
         append_marked(
+            self.alloc,
             &mut self.core,
             &mut self.marks,
             self.floor,
@@ -297,12 +299,12 @@ impl<S: Store> Recorded<S> {
     {
         reads_are_sound();
         write_marked(
+            self.alloc,
             &mut self.core,
             &mut self.marks,
             self.floor,
             &mut self.journal,
             &mut pass.entries,
-            self.alloc,
             ops,
         )
     }
@@ -334,7 +336,7 @@ impl<S: Store> Recorded<S> {
             return Ok(None);
         }
         Ok(Some(Closed {
-            journal: copy_journal(self.alloc, &self.journal)?,
+            journal: copy_list(self.alloc, &self.journal)?,
             opened: self.opened.copy(self.alloc)?,
         }))
     }

@@ -3,22 +3,25 @@ ghost use Rattle.std.specs.Prelude.{◌≡◌, ◌⊎◌, ◌↔◌, ◌+◌, �
 ghost use Rattle.std.specs.List.{list_all};
 ghost use Rattle.lsm_below.specs.Keys.{Bytes};
 ghost use Rattle.lsm_below.specs.Entries.{plain};
-ghost use Rattle.lsm_model.specs.Ops.{op_entries};
+ghost use Rattle.lsm_model.specs.Ops.{op_entry, op_entries};
 ghost use Rattle.lsm_model.specs.declared.journal.JournalEntry.TheVariants.{Write as WriteEntry};
+ghost use Rattle.lsm_model.specs.declared.op.Op.{Op as OpOf};
 ghost use Rattle.lsm_state.specs.Calls.{Appends, WritesBatch};
 ghost use Rattle.lsm_recorded.specs.Marks.{mark_of, marked_by, marked_all, entry_allowed, op_allowed};
 ghost use Rattle.lsm_recorded.specs.Passes.{Notes};
 ghost use Rattle.lsm_recorded.specs.Recorded.{OwnOr};
 
+use crate::copies::{Copies, share_batch};
 use crate::marked_key::MarkedKey;
 use crate::marks::{Mark, NOTHING, admit_all, is_allowed, mark_after, share_key, type_of};
-use crate::noting::{beside_copies, put_all};
-use crate::pass::{make_room, put_copy};
+use crate::noting::put_all;
+use crate::pass::{make_room, put_entry};
 use crate::raising::{raise_batch, take_back};
+use crate::shared_entry::SharedEntry;
 use lsm_below::{InternalValue, SeqNo, UserKey};
-use lsm_journal::{append_noting, batch_entries, put_noting, write_entry, write_noting};
+use lsm_journal::write_entry;
 use lsm_model::{JournalEntry, Op};
-use lsm_parts::Error;
+use lsm_parts::{Error, LIMIT};
 use lsm_state::TreeState;
 use lsm_store::Store;
 use std::alloc::{AllocError, Global};
@@ -26,9 +29,10 @@ use std::collections::BTreeMap;
 
 /// Writes an entry, as `TreeState::append_entry`, and appends it to a journal and a pass. Refused, it changes nothing.
 fn append_noted<S: Store>(
+    alloc: Global,
     core: &mut TreeState<S>,
-    journal: &mut Vec<JournalEntry>,
-    pass: &mut Vec<(u64, JournalEntry)>,
+    journal: &mut Vec<SharedEntry>,
+    pass: &mut Vec<(u64, SharedEntry)>,
     entry: InternalValue,
 ) -> Result<(u64, u64), Error>
     ensures in_order { IsErrOf result Error.OutOfOrder → ⊥ }
@@ -36,12 +40,11 @@ fn append_noted<S: Store>(
     ensures noted { OnOk result (Notes (WriteEntry (plain entry) ∷ []) journal.old.items journal.new.items pass.old.items pass.new.items) }
     ensures err { OnErr result ((core.new ≡ core.old) × (journal.new.items ≡ journal.old.items) × (pass.new.items ≡ pass.old.items)) }
 {
-    let note = write_entry(&entry)?;
-    let copy = write_entry(&entry)?;
+    let note = SharedEntry::new(alloc, write_entry(&entry)?)?;
+    let copy = note.copy()?;
     make_room(journal, pass, 1)?;
-    let place = journal.len() as u64;
-    let sizes = append_noting(core, entry, note, journal)?;
-    put_copy(pass, place, copy);
+    let sizes = core.append_entry(entry)?;
+    put_entry(journal, pass, note, copy);
     Ok(sizes)
 }
 
@@ -49,11 +52,12 @@ fn append_noted<S: Store>(
 /// `OutOfOrder`, before all else, exactly where its mark, the floor or the counter tells that it breaks the order. Refused, it
 /// changes nothing but the room that there is.
 pub(crate) fn append_marked<S: Store>(
+    alloc: Global,
     core: &mut TreeState<S>,
     marks: &mut BTreeMap<MarkedKey, Mark>,
     floor: SeqNo,
-    journal: &mut Vec<JournalEntry>,
-    pass: &mut Vec<(u64, JournalEntry)>,
+    journal: &mut Vec<SharedEntry>,
+    pass: &mut Vec<(u64, SharedEntry)>,
     entry: InternalValue,
 ) -> Result<(u64, u64), Error>
     ensures out_of_order { IsErrOf result Error.OutOfOrder ↔ (entry_allowed (mark_of marks.old) floor core.old.core.seqno entry ≡ false) }
@@ -73,17 +77,34 @@ pub(crate) fn append_marked<S: Store>(
     if !is_allowed(*mark, number, kind) {
         return Err(Error::OutOfOrder);
     }
-    let sizes = append_noted(core, journal, pass, entry)?;
+    let sizes = append_noted(alloc, core, journal, pass, entry)?;
     *mark = mark_after(*mark, number, kind);
     Ok(sizes)
+}
+
+/// Writes a batch of one, whose entry under the next sequence number is made already, as `TreeState::write`. The cost and the errors
+/// are those of the tree's call.
+fn write_made<S: Store>(core: &mut TreeState<S>, entry: InternalValue) -> Result<SeqNo, Error>
+    ensures writes { (k : Bytes) (op : OpOf) → entry ≡ op_entry k core.old.core.seqno op → WritesBatch ((k, op) ∷ []) result core.old.core core.new.core }
+    ensures store { core.new.store ≡ core.old.store }
+{
+    let number = core.seqno().get();
+    if number >= LIMIT {
+        return Err(Error::OutOfNumbers);
+    }
+    core.append_entry(entry)?;
+    core.seqno_mut().set(number + 1);
+    core.visible_seqno_mut().fetch_max(number + 1);
+    Ok(number)
 }
 
 /// Writes a batch of one, as `TreeState::write`, and appends its entry to a journal and a pass. The entry is made once, and shared with
 /// both. Refused, it changes nothing.
 fn write_noted<S: Store>(
+    alloc: Global,
     core: &mut TreeState<S>,
-    journal: &mut Vec<JournalEntry>,
-    pass: &mut Vec<(u64, JournalEntry)>,
+    journal: &mut Vec<SharedEntry>,
+    pass: &mut Vec<(u64, SharedEntry)>,
     mut ops: Vec<(UserKey, Op)>,
 ) -> Result<SeqNo, Error>
     requires { length ops.items ≡ 1 }
@@ -96,22 +117,22 @@ fn write_noted<S: Store>(
         unreachable!()
     };
     let entry = op.into_entry(key, core.seqno().get());
-    let note = JournalEntry::Write(entry.copy()?);
-    let copy = JournalEntry::Write(entry.copy()?);
+    let note = SharedEntry::new(alloc, JournalEntry::Write(entry.copy()?))?;
+    let copy = note.copy()?;
     make_room(journal, pass, 1)?;
-    let place = journal.len() as u64;
-    let number = put_noting(core, entry, note, journal)?;
-    put_copy(pass, place, copy);
+    let number = write_made(core, entry)?;
+    put_entry(journal, pass, note, copy);
     Ok(number)
 }
 
 /// Writes a batch of one, as `write_marked`, for which its mark is looked up once.
 fn write_one<S: Store>(
+    alloc: Global,
     core: &mut TreeState<S>,
     marks: &mut BTreeMap<MarkedKey, Mark>,
     floor: SeqNo,
-    journal: &mut Vec<JournalEntry>,
-    pass: &mut Vec<(u64, JournalEntry)>,
+    journal: &mut Vec<SharedEntry>,
+    pass: &mut Vec<(u64, SharedEntry)>,
     ops: Vec<(UserKey, Op)>,
 ) -> Result<SeqNo, Error>
     requires { length ops.items ≡ 1 }
@@ -133,7 +154,7 @@ fn write_one<S: Store>(
     if !is_allowed(*mark, number, kind) {
         return Err(Error::OutOfOrder);
     }
-    let written = write_noted(core, journal, pass, ops)?;
+    let written = write_noted(alloc, core, journal, pass, ops)?;
     *mark = mark_after(*mark, number, kind);
     Ok(written)
 }
@@ -141,9 +162,8 @@ fn write_one<S: Store>(
 /// What a batch of several needs beside the tree.
 #[derive(Drop)]
 struct Prepared {
-    /// Its entries, and copies of them.
-    entries: Vec<JournalEntry>,
-    copies: Vec<JournalEntry>,
+    /// Its entries, twice.
+    copies: Copies,
     /// Room for what its marks are before they are raised.
     raised: Vec<(MarkedKey, Mark)>,
 }
@@ -151,28 +171,24 @@ struct Prepared {
 /// What a batch of several needs beside the tree, with room for it in a journal and a pass.
 fn prepare(
     alloc: Global,
-    journal: &mut Vec<JournalEntry>,
-    pass: &mut Vec<(u64, JournalEntry)>,
+    journal: &mut Vec<SharedEntry>,
+    pass: &mut Vec<(u64, SharedEntry)>,
     number: SeqNo,
     ops: &[(UserKey, Op)],
 ) -> Result<Prepared, AllocError>
-    ensures entries { IfOk result (λ p. p.entries.items ≡ map WriteEntry (op_entries number ops.now)) }
-    ensures copies { IfOk result (λ p. p.copies.items ≡ p.entries.items) }
+    ensures entries { IfOk result (λ p. p.copies.journal.items ≡ map WriteEntry (op_entries number ops.now)) }
+    ensures copies { IfOk result (λ p. p.copies.pass.items ≡ p.copies.journal.items) }
     ensures none { IfOk result (λ p. p.raised.items ≡ []) }
     ensures room { IfOk result (λ p. vec_len p.raised + length ops.now ≤ vec_capacity p.raised) }
     ensures journal { journal.new.items ≡ journal.old.items }
     ensures pass { pass.new.items ≡ pass.old.items }
-    ensures journal_room { IfOk result (λ p. vec_len journal.new + vec_len p.copies ≤ vec_capacity journal.new) }
-    ensures pass_room { IfOk result (λ p. vec_len pass.new + vec_len p.copies ≤ vec_capacity pass.new) }
+    ensures journal_room { IfOk result (λ p. vec_len journal.new + vec_len p.copies.pass ≤ vec_capacity journal.new) }
+    ensures pass_room { IfOk result (λ p. vec_len pass.new + vec_len p.copies.pass ≤ vec_capacity pass.new) }
 {
     let raised = Vec::with_capacity(alloc, ops.len())?;
-    let made = batch_entries(alloc, number, ops);
-    let (entries, copies) = beside_copies(alloc, journal, pass, made)?;
-    Ok(Prepared {
-        entries,
-        copies,
-        raised,
-    })
+    let copies = share_batch(alloc, number, ops)?;
+    make_room(journal, pass, ops.len())?;
+    Ok(Prepared { copies, raised })
 }
 
 /// Writes a batch of several, as `write_marked`, for which each mark is looked up once.
@@ -180,17 +196,17 @@ fn write_several<S: Store>(
     core: &mut TreeState<S>,
     marks: &mut BTreeMap<MarkedKey, Mark>,
     floor: SeqNo,
-    journal: &mut Vec<JournalEntry>,
-    pass: &mut Vec<(u64, JournalEntry)>,
+    journal: &mut Vec<SharedEntry>,
+    pass: &mut Vec<(u64, SharedEntry)>,
     ops: Vec<(UserKey, Op)>,
     prepared: Prepared,
 ) -> Result<SeqNo, Error>
-    requires entries { prepared.entries.items ≡ map WriteEntry (op_entries core.old.core.seqno ops.items) }
-    requires copies { prepared.copies.items ≡ prepared.entries.items }
+    requires entries { prepared.copies.journal.items ≡ map WriteEntry (op_entries core.old.core.seqno ops.items) }
+    requires copies { prepared.copies.pass.items ≡ prepared.copies.journal.items }
     requires none { prepared.raised.items ≡ [] }
     requires room { vec_len prepared.raised + length ops.items ≤ vec_capacity prepared.raised }
-    requires journal_room { vec_len journal.old + vec_len prepared.copies ≤ vec_capacity journal.old }
-    requires pass_room { vec_len pass.old + vec_len prepared.copies ≤ vec_capacity pass.old }
+    requires journal_room { vec_len journal.old + vec_len prepared.copies.pass ≤ vec_capacity journal.old }
+    requires pass_room { vec_len pass.old + vec_len prepared.copies.pass ≤ vec_capacity pass.old }
     ensures out_of_order { IsErrOf result Error.OutOfOrder ↔ (list_all (op_allowed (mark_of marks.old) floor core.old.core.seqno) ops.items ≡ false) }
     ensures core { OwnOr result (WritesBatch ops.items result core.old.core core.new.core) }
     ensures marks { OnOk result ((q : Bytes) → mark_of marks.new q ≡ marked_all (op_entries core.old.core.seqno ops.items) (mark_of marks.old) q) }
@@ -199,17 +215,12 @@ fn write_several<S: Store>(
     ensures err { OnErr result ((core.new ≡ core.old) × (journal.new.items ≡ journal.old.items) × (pass.new.items ≡ pass.old.items)) }
 {
     let number = core.seqno().get();
-    let Prepared {
-        entries,
-        copies,
-        mut raised,
-    } = prepared;
+    let Prepared { copies, mut raised } = prepared;
     // Where none is raised, the tree refuses the batch.
     let _ = raise_batch(marks, floor, number, &ops, &mut raised)?;
-    let (written, entries) = write_noting(core, ops, entries);
-    match written {
+    match core.write(ops) {
         Ok(number) => {
-            put_all(journal, pass, entries, copies);
+            put_all(journal, pass, copies.journal, copies.pass);
             Ok(number)
         }
         Err(error) => {
@@ -223,12 +234,12 @@ fn write_several<S: Store>(
 /// `OutOfOrder`, before all else, exactly where a mark or the floor tells that one of its writes breaks the order. Refused, it
 /// changes nothing but the room that there is.
 pub(crate) fn write_marked<S: Store>(
+    alloc: Global,
     core: &mut TreeState<S>,
     marks: &mut BTreeMap<MarkedKey, Mark>,
     floor: SeqNo,
-    journal: &mut Vec<JournalEntry>,
-    pass: &mut Vec<(u64, JournalEntry)>,
-    alloc: Global,
+    journal: &mut Vec<SharedEntry>,
+    pass: &mut Vec<(u64, SharedEntry)>,
     ops: Vec<(UserKey, Op)>,
 ) -> Result<SeqNo, Error>
     ensures out_of_order { IsErrOf result Error.OutOfOrder ↔ (list_all (op_allowed (mark_of marks.old) floor core.old.core.seqno) ops.items ≡ false) }
@@ -239,7 +250,7 @@ pub(crate) fn write_marked<S: Store>(
     ensures err { OnErr result ((core.new ≡ core.old) × (journal.new.items ≡ journal.old.items) × (pass.new.items ≡ pass.old.items)) }
 {
     if ops.len() == 1 {
-        return write_one(core, marks, floor, journal, pass, ops);
+        return write_one(alloc, core, marks, floor, journal, pass, ops);
     }
     let number = core.seqno().get();
     let Ok(prepared) = prepare(alloc, journal, pass, number, &ops) else {

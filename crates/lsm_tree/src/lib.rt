@@ -145,6 +145,7 @@ pub use lsm_pick::OwnedBounds;
 pub use lsm_recorded::Closed;
 pub use lsm_recorded::Pass;
 pub use lsm_recorded::Recorded;
+pub use lsm_recorded::SharedEntry;
 pub use lsm_runs::Compacted;
 pub use lsm_runs::Count;
 pub use lsm_runs::Counter;

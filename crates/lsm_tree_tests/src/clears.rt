@@ -1,8 +1,8 @@
 // Clears of trees with a journal and of shared ones, and two callers who read back what they wrote.
 use crate::samples::{open_recorded, open_shared, record, set, share_recorded, text};
 use lsm_tree::{
-    Answer, Config, Error, JournalEntry, Op, Pass, Question, Recorded, RecordedTree, SeqNo, Tree,
-    UserValue,
+    Answer, Config, Error, JournalEntry, Op, Pass, Question, Recorded, RecordedTree, SeqNo,
+    SharedEntry, Tree, UserValue,
 };
 use std::alloc::Global;
 use std::sync::Wait;
@@ -30,8 +30,8 @@ fn sets(tree: &mut Recorded, pass: &mut Pass, seqno: SeqNo) -> bool {
 }
 
 /// Whether these are a write, the clear, two reads and a write.
-fn tells_of_clear(journal: &[JournalEntry]) -> bool {
-    let mut entries = journal.iter();
+fn tells_of_clear(journal: &[SharedEntry]) -> bool {
+    let mut entries = journal.iter().map(|entry| entry.as_entry());
     matches!(entries.next(), Some(JournalEntry::Write(_)))
         && matches!(entries.next(), Some(JournalEntry::Clear(1)))
         && matches!(
@@ -85,7 +85,7 @@ fn closes(rt: &impl Wait, alloc: Global, tree: &RecordedTree, pass: Pass) -> boo
         Ok(closed) => {
             closed.opened.table_count() == 0
                 && closed.journal.len() == 3
-                && matches!(closed.journal[1], JournalEntry::Clear(1))
+                && matches!(closed.journal[1].as_entry(), JournalEntry::Clear(1))
         }
         Err(_) => false,
     }
@@ -154,8 +154,8 @@ fn call(rt: &impl Wait, alloc: Global, tree: &RecordedTree, key: &'static str) -
 }
 
 /// Whether an entry is a read of this key, which answered so.
-fn is_read(entry: Option<&JournalEntry>, key: &'static str, reply: &Option<UserValue>) -> bool {
-    match entry {
+fn is_read(entry: Option<&SharedEntry>, key: &'static str, reply: &Option<UserValue>) -> bool {
+    match entry.map(|noted| noted.as_entry()) {
         Some(JournalEntry::Read(_, Question::Get(asked), Answer::Found(found))) => {
             *asked == text(key) && found == reply
         }

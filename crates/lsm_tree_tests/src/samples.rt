@@ -132,7 +132,7 @@ fn is_noted(entry: &JournalEntry, noted: &Noted) -> bool {
 /// Whether a pass has just these entries.
 pub(crate) fn tells(pass: &Pass, wanted: &[Noted]) -> bool {
     for (entry, noted) in pass.entries().iter().zip(wanted) {
-        if !is_noted(&entry.1, noted) {
+        if !is_noted(entry.1.as_entry(), noted) {
             return false;
         }
     }

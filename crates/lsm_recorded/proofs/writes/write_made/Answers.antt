@@ -2,12 +2,12 @@ use Rattle.std.proofs.Common.{◌≡◌, ◌∷◌, [], max, ◌+◌, ◌<◌, E
 use Rattle.std.proofs.lemmas.Result.{err_from_is_err_and}
 use Rattle.lsm_below.specs.Entries.{plain}
 use Rattle.lsm_state.specs.Calls.{Appends, WritesBatch}
-use Rattle.lsm_journal.proofs.Putting.{put_done, put_refused}
-use Rattle.lsm_journal.proofs.writes.put_noting.Goals as goal
+use Rattle.lsm_recorded.proofs.Putting.{put_done, put_refused}
+use Rattle.lsm_recorded.proofs.writes.write_made.Goals as goal
 
 pub returns-in_err-append_entry-clause-writes : goal.returns-in_err-append_entry-clause-writes
 returns-in_err-append_entry-clause-writes g c k op is =
-    let old = c.args.tree.now.core in
+    let old = c.args.core.now.core in
     let new = c.append_entry.new.self.core in
     let a = c.get-number.ensures in
     let b = c.seqno.ensures in
@@ -19,7 +19,7 @@ returns-in_err-append_entry-clause-writes g c k op is =
 
 pub returns-clause-writes : goal.returns-clause-writes
 returns-clause-writes g c k op is =
-    let old = c.args.tree.now.core in
+    let old = c.args.core.now.core in
     let mid = c.append_entry.new.self.core in
     let first : c.get-number.result ≡ old.seqno = c.get-number.ensures ∙ c.seqno.ensures in
     let small = c.if-number-ge-LIMIT.false in

@@ -1,6 +1,0 @@
-use Rattle.std.proofs.Common.{◌≡◌, take}
-use Rattle.lsm_journal.proofs.copies.copy_journal.Given as goal
-
--- what is copied so far
-abbrev pub invariant-loop-entry : goal.invariant-loop-entry
-invariant-loop-entry l = l.copies.items ≡ take l.entry-index l.journal
