@@ -70,11 +70,7 @@ impl<S: Store> Handle<Logged<S>> {
     pub fn set_moment(&self, rt: &impl Wait, moment: u64)
         ensures { OnSomeLogged S (TouchesTreeAlone (λ old new. new ≡ record old { moment = moment })) }
     {
-        let mut tree = self.shared.lock(rt);
-        let tree = &mut *tree;
-        tree.facts();
-        tree.set_moment(moment);
-        tree.facts();
+        act!(self, rt, |tree| tree.set_moment(moment))
     }
 
     /// Whether a `CommitUnknown` came before, of a commit or of a record, as `Logged::is_uncertain`.

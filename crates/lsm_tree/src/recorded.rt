@@ -203,11 +203,7 @@ impl<S: Store> Handle<Recorded<S>> {
     pub fn set_moment(&self, rt: &impl Wait, moment: u64)
         ensures { OnSomeTree (λ old new. new ≡ record old { moment = moment }) }
     {
-        let mut tree = self.shared.lock(rt);
-        let tree = &mut *tree;
-        tree.facts();
-        tree.set_moment(moment);
-        tree.facts();
+        act!(self, rt, |tree| tree.set_moment(moment))
     }
 
     /// Whether a commit of unknown outcome came before, as `Recorded::is_uncertain`.

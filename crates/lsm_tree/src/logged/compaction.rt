@@ -81,11 +81,7 @@ impl<S: Store> Handle<Logged<S>> {
     pub fn abandon_compaction(&self, rt: &impl Wait, job: CompactionJob)
         ensures { OnSomeLogged S (TouchesTreeAlone (λ old new. Spends job old new)) }
     {
-        let mut tree = self.shared.lock(rt);
-        let tree = &mut *tree;
-        tree.facts();
-        tree.abandon_compaction(job);
-        tree.facts();
+        act!(self, rt, |tree| tree.abandon_compaction(job))
     }
 
     /// Compacts as a strategy chooses, in one call, at a watermark and at the tree's moment, as `Logged::compact`. The lock is held

@@ -51,11 +51,7 @@ impl<S: Store> Handle<Logged<S>> {
     pub fn abandon_flush(&self, rt: &impl Wait, job: FlushJob)
         ensures { OnSomeLogged S (TouchesTreeAlone (λ old new. new ≡ spent job.number old)) }
     {
-        let mut tree = self.shared.lock(rt);
-        let tree = &mut *tree;
-        tree.facts();
-        tree.abandon_flush(job);
-        tree.facts();
+        act!(self, rt, |tree| tree.abandon_flush(job))
     }
 
     /// Flushes all sealed memtables in one call, and removes the records that it passed, as `Logged::flush`. The lock is held

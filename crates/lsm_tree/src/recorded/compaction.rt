@@ -62,11 +62,7 @@ impl<S: Store> Handle<Recorded<S>> {
         ensures spends { OnSomeTree (λ old new. Spends job old new) }
         ensures pass { pass.new ≡ pass.old }
     {
-        let mut tree = self.shared.lock(rt);
-        let tree = &mut *tree;
-        tree.facts();
-        tree.abandon_compaction(pass, job);
-        tree.facts();
+        act!(self, rt, |tree| tree.abandon_compaction(pass, job))
     }
 
     /// Compacts as a strategy chooses, in one call, as `Recorded::do_compaction`. The lock is held throughout.

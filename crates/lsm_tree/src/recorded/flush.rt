@@ -61,11 +61,7 @@ impl<S: Store> Handle<Recorded<S>> {
         ensures core { OnSomeTree (λ old new. new ≡ spent job.number old) }
         ensures pass { pass.new ≡ pass.old }
     {
-        let mut tree = self.shared.lock(rt);
-        let tree = &mut *tree;
-        tree.facts();
-        tree.abandon_flush(pass, job);
-        tree.facts();
+        act!(self, rt, |tree| tree.abandon_flush(pass, job))
     }
 
     /// Flushes all sealed memtables in one call, as `Recorded::flush`. The lock is held throughout.

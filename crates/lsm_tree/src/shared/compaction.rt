@@ -77,11 +77,7 @@ impl<S: Store> Handle<TreeState<S>> {
     pub fn abandon_compaction(&self, rt: &impl Wait, job: CompactionJob)
         ensures { OnSomeTree (λ old new. Spends job old new) }
     {
-        let mut tree = self.shared.lock(rt);
-        let tree = &mut *tree;
-        tree.facts();
-        tree.abandon_compaction(job);
-        tree.facts();
+        act!(self, rt, |tree| tree.abandon_compaction(job))
     }
 
     /// Compacts as a strategy chooses, in one call, as `do_compaction` of a tree. The lock is held throughout.

@@ -51,11 +51,7 @@ impl<S: Store> Handle<TreeState<S>> {
     pub fn abandon_flush(&self, rt: &impl Wait, job: FlushJob)
         ensures { OnSomeTree (λ old new. new ≡ spent job.number old) }
     {
-        let mut tree = self.shared.lock(rt);
-        let tree = &mut *tree;
-        tree.facts();
-        tree.abandon_flush(job);
-        tree.facts();
+        act!(self, rt, |tree| tree.abandon_flush(job))
     }
 
     /// Flushes all sealed memtables in one call, as `TreeState::flush`. The lock is held throughout.
@@ -89,11 +85,7 @@ impl<S: Store> Handle<TreeState<S>> {
     pub fn set_moment(&self, rt: &impl Wait, moment: u64)
         ensures { OnSomeTree (λ old new. new ≡ record old { moment = moment }) }
     {
-        let mut tree = self.shared.lock(rt);
-        let tree = &mut *tree;
-        tree.facts();
-        tree.set_moment(moment);
-        tree.facts();
+        act!(self, rt, |tree| tree.set_moment(moment))
     }
 
     /// Whether a commit of unknown outcome came before, as `TreeState::is_uncertain`.
