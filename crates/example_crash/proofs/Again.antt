@@ -3,9 +3,9 @@ use Rattle.std.proofs.Common.{ℕ, ◌≤◌, ◌^◌, arith, List, map, ap}
 use Rattle.std.specs.FinMap.{empty}
 use Rattle.lsm_below.specs.Entries.{above}
 use Rattle.lsm_below.specs.declared.error.Error.{Error}
-use Rattle.lsm_store.specs.Files.{held_at}
-use Rattle.lsm_store.specs.Memory.{MemStore, may_of, world_of, gives_one}
+use Rattle.lsm_store.specs.Memory.{MemStore, may_of, world_of}
 use Rattle.lsm_store.specs.World.{Image, IsImage, Begins}
+use Rattle.lsm_store.proofs.Memories.{gives_now}
 use Rattle.lsm_model.specs.Journal.{Map}
 use Rattle.lsm_model.specs.Views.{held}
 use Rattle.lsm_versions.specs.Levels.{Levels, placed_of}
@@ -23,10 +23,6 @@ use Rattle.example_crash.proofs.Wants.{wants}
 
 abbrev pub Settles : Type 0
 Settles = (store : MemStore) (image : Image) (m : Map) → StandsForMap image m → Begins image (world_of store) → IsReady (world_of store)
-
--- what reads give of a store in memory is one of the images that a crash may leave
-gives_now : (store : MemStore) → IsImage (may_of store.files) (world_of store).gives
-gives_now store name = gives_one (held_at store.files name)
 
 pub comes_ended : (m : Map) (was : MemStore) (from : ℕ) (first : List Step) (told : List Told) (is : MemStore) (h : HasLived m was from first told is) → KeepsOrder h.opened h.counter first → ComesAfter m first told is
 comes_ended m was from first told is h k =

@@ -12,6 +12,7 @@ use Rattle.lsm_versions.specs.declared.config.Config.{Config}
 use Rattle.lsm_manifest.specs.Finding.{Finds, OpeningFinds}
 use Rattle.lsm_manifest.specs.Ready.{OpeningLeavesRead}
 use Rattle.lsm_manifest.specs.Standing.{HasSmallNumbers}
+use Rattle.lsm_manifest.proofs.FindingLemmas.{nothing_in as none}
 use Rattle.lsm_state.specs.Core.{Core, opened_core}
 use Rattle.lsm_state.specs.Opened.{found_entries, OpensTree}
 use Rattle.lsm_runs.specs.declared.steps.Step.{Step}
@@ -24,7 +25,7 @@ use Rattle.lsm_runs.proofs.Small.{found_low}
 use Rattle.example_crash.specs.Single.{KeepsOrder, MayBeOpened, HasLived, HasTaken}
 use Rattle.example_crash.proofs.Carried.{Laws, has_taken}
 use Rattle.example_crash.proofs.Joining.{begun}
-use Rattle.example_crash.proofs.Surviving.{none, finds_new}
+use Rattle.example_crash.proofs.Surviving.{finds_new}
 use Rattle.example_crash.proofs.Taking.{here, none_taken}
 
 module _ (laws : Laws) (finds : OpeningFinds MemStore world_of) (leaves : OpeningLeavesRead MemStore world_of) (strategies : Strategies) (was : MemStore) (config : Config) (first : MemStore) (old : Core)

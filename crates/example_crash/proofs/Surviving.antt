@@ -1,12 +1,12 @@
 -- From a life and its crash to the map that the next life starts from.
-use Rattle.std.proofs.Common.{◌≡◌, ⊎_elim, inl, ℕ, ◌+◌, ◌≤◌, ◌^◌, arith, List, [], ◌∷◌, None, codes, map, take, length, refl, sym, ap, ◌∙◌, subst}
+use Rattle.std.proofs.Common.{◌≡◌, ⊎_elim, inl, ℕ, ◌+◌, ◌≤◌, ◌^◌, arith, List, [], ◌∷◌, codes, map, take, length, refl, sym, ap, ◌∙◌, subst}
 use Rattle.std.specs.FinMap.{empty}
 use Rattle.std.specs.List.{AllByRecursion}
 use Rattle.lsm_below.specs.Entries.{above}
 use Rattle.lsm_below.specs.declared.error.Error.{Error}
-use Rattle.lsm_store.specs.Files.{held_at}
-use Rattle.lsm_store.specs.Memory.{MemStore, world_of, gives_one}
+use Rattle.lsm_store.specs.Memory.{MemStore, world_of}
 use Rattle.lsm_store.specs.World.{Image, IsImage, Begins}
+use Rattle.lsm_store.proofs.Memories.{gives_now}
 use Rattle.lsm_model.specs.Journal.{Map}
 use Rattle.lsm_model.specs.Beginnings.{IsBeginning, covered}
 use Rattle.lsm_model.specs.Views.{held}
@@ -14,7 +14,8 @@ use Rattle.lsm_versions.specs.Levels.{empty_levels, placed_of}
 use Rattle.lsm_manifest.specs.Finding.{Finds, Nothing, StandsForMap, RefusesFound, FoundOnce}
 use Rattle.lsm_manifest.specs.Names.{current_name}
 use Rattle.lsm_manifest.specs.Ready.{IsReady}
-use Rattle.lsm_run_model.specs.Lives.{End, Crashed, Killed, EndsIn, MayBe, GivesOne, IsKill, Running, LifeAfterLife}
+use Rattle.lsm_manifest.proofs.FindingLemmas.{finds_nothing, nothing_stands, nothing_in as none}
+use Rattle.lsm_run_model.specs.Lives.{End, Crashed, Killed, EndsIn, MayBe, IsKill, Running, LifeAfterLife}
 use Rattle.lsm_run_model.specs.Moments.{last_of}
 use Rattle.lsm_run_model.specs.Outcomes.{nothing, after_all}
 use Rattle.lsm_run_model.specs.Rising.{At}
@@ -31,19 +32,10 @@ use Rattle.example_crash.proofs.Wants.{wants}
 
 -- ---- a new store
 
-abbrev pub none : Image
-none name = None
-
-finds_none : Finds none empty_levels
-finds_none = Nothing refl (record { no_version = refl; in_tables = λ name refused. refl }) refl
-
-pub stands_none : StandsForMap none empty
-stands_none = record { levels = empty_levels; found = finds_none; ordered = λ k. tt; single = λ k. tt; shows = refl }
-
 reopens_none : FoundOnce → Reopens (2 ^ 63) none empty
 reopens_none once = record {
-  stands = stands_none;
-  below = λ levels finds. subst (λ ls. above (held (placed_of ls)) ≤ 2 ^ 63) (once none empty_levels levels finds_none finds) (omega arith);
+  stands = nothing_stands;
+  below = λ levels finds. subst (λ ls. above (held (placed_of ls)) ≤ 2 ^ 63) (once none empty_levels levels finds_nothing finds) (omega arith);
 }
 
 -- on a store that has nothing
@@ -132,10 +124,6 @@ module _ (once : FoundOnce) (many : AnyNumberOfLives world_of) (was is : MemStor
 -- a crash at this moment
 pub crashed_now : (store : MemStore) (image : Image) → IsImage (world_of store).may image → EndsIn world_of (world_of store) (world_of store) (Crashed image)
 crashed_now store image may = record { each = λ i same. subst (λ j. (world_of store).since (world_of store).moment j) (sym same) (inl may); gives = tt }
-
--- the end of the process
-gives_now : (store : MemStore) → GivesOne (world_of store)
-gives_now store name = gives_one (held_at store.files name)
 
 pub ended_now : (store : MemStore) → EndsIn world_of (world_of store) (world_of store) (Killed store)
 ended_now store = record { each = λ i may. inl may; gives = gives_now store }

@@ -12,7 +12,7 @@ use Rattle.lsm_run_model.specs.Composing.{AreNumbered}
 use Rattle.lsm_run_model.specs.Moments.{EachMoment, last_of}
 use Rattle.lsm_run_model.specs.Outcomes.{Past, after}
 use Rattle.lsm_run_model.specs.Outcomes as out
-use Rattle.lsm_run_model.specs.Rising.{UsesNumbers, EachUses}
+use Rattle.lsm_run_model.specs.Rising.{EachUses}
 use Rattle.lsm_run_model.specs.declared.noted.Noted.{Noted}
 use Rattle.lsm_runs.specs.declared.steps.JobStep.TheVariants as job
 use Rattle.lsm_runs.specs.declared.steps.Step.{Step}
@@ -22,11 +22,11 @@ use Rattle.lsm_runs.specs.declared.steps.Reply.TheVariants as reply
 use Rattle.lsm_runs.specs.After.{AnswersAfter, RunIsRight}
 use Rattle.lsm_runs.specs.Chains.{Point, RanAlong}
 use Rattle.lsm_runs.specs.Compacting.{Strategies}
-use Rattle.lsm_runs.specs.Drawing.{drawing_of, asks_of}
+use Rattle.lsm_runs.specs.Drawing.{asks_of}
 use Rattle.lsm_runs.specs.Files.{StaysStored}
 use Rattle.lsm_runs.specs.Moments.{outcome_of, outcomes_of, Reopens, StandsAfter, EachReady, HasMoments, GoesOn, TellsSo, RunHasMoments}
 use Rattle.lsm_runs.specs.Notes.{none_begun, Notes, EachTells}
-use Rattle.lsm_runs.specs.Runs.{Takes, IsPlainUse, RanToEnd}
+use Rattle.lsm_runs.specs.Runs.{Takes, IsPlainUse}
 use Rattle.lsm_runs.specs.Slots.{Stage, at_first, Closes}
 use Rattle.lsm_runs.specs.Told.{Told}
 use Rattle.example_crash.proofs.Growing.{length_more}
@@ -89,10 +89,6 @@ module _ {F : Type 0} (world : F → World) where
   took_one strategies x t was is old new run right stored =
       took_along strategies x t was is old new run.points run.ran run.ends run.closes (each_left IsSmall t.entries [] run.small) stored run.uses run.ready run.moments run.tells run.goes_on right.goes_on
 
-  -- the step uses numbers as it asks for
-  pub used_so : (x : Step) (t : Told) (was is : F) (old new : Core) → TookOne x t was is old new → UsesNumbers (drawing_of x) t.entries old.seqno new.seqno
-  used_so x t was is old new one = subst (λ n. UsesNumbers (drawing_of x) t.entries old.seqno n) one.counts one.uses.0
-
   -- the same of a run of a list that has just this step
   pub took_singly : (strategies : Strategies) (steps : List Step) (told : List Told) (x : Step) (t : Told) (was is : F) (old new : Core) → steps ≡ x ∷ [] → told ≡ t ∷ []
       → RunHasMoments world strategies (take (length told) steps) told (here was old) is new → RunIsRight strategies (take (length told) steps) told old new → StaysStored (world was) (world is) old new → TookOne x t was is old new
@@ -105,9 +101,6 @@ module _ {F : Type 0} (world : F → World) where
   pub none_taken : (strategies : Strategies) (steps : List Step) (told : List Told) (was is : F) (old new : Core) → told ≡ []
       → RunHasMoments world strategies (take (length told) steps) told (here was old) is new → RunIsRight strategies (take (length told) steps) told old new → RunHasMoments world strategies [] [] (here was old) is new × RunIsRight strategies [] [] old new
   none_taken strategies steps told was is old new e run right = (subst (λ ts. RunHasMoments world strategies (take (length ts) steps) ts (here was old) is new) e run, subst (λ ts. RunIsRight strategies (take (length ts) steps) ts old new) e right)
-
-pub ran_singly : (strategies : Strategies) (steps : List Step) (told : List Told) (x : Step) (t : Told) (old new : Core) → steps ≡ x ∷ [] → told ≡ t ∷ [] → RanToEnd strategies (take (length told) steps) told old new → RanToEnd strategies (x ∷ []) (t ∷ []) old new
-ran_singly strategies steps told x t old new e f ran = subst (λ ts. RanToEnd strategies (take (length ts) (x ∷ [])) ts old new) f (subst (λ xs. RanToEnd strategies (take (length told) xs) told old new) e ran)
 
 -- what has one element at most, and ends with this one, is this one
 pub only_one : {A : Type 0} (xs rest : List A) (x : A) → xs ≡ rest ++ x ∷ [] → length xs ≤ 1 → xs ≡ x ∷ []

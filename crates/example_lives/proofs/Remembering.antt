@@ -2,13 +2,11 @@
 use Rattle.std.proofs.Common.{◌≡◌, inl, ℕ, zero, suc, List, [], ◌∷◌, ◌++◌, length, take, append_assoc, append-nil, None, refl, sym, ap, ◌∙◌, subst, arith}
 use Rattle.std.specs.FinMap.{empty}
 use Rattle.std.specs.List.{AllByRecursion}
-use Rattle.lsm_below.specs.Each.{each_weaker}
 use Rattle.lsm_below.specs.Entries.{Entry}
-use Rattle.lsm_store.specs.Files.{held_at}
-use Rattle.lsm_store.specs.Memory.{MemStore, world_of, gives_one}
+use Rattle.lsm_store.specs.Memory.{MemStore, world_of}
 use Rattle.lsm_store.specs.World.{Image, World, IsImage, Begins}
-use Rattle.lsm_model.specs.Journal.{Event, Map}
-use Rattle.lsm_model.specs.declared.op.Op.TheVariants.{Weak}
+use Rattle.lsm_store.proofs.Memories.{gives_now}
+use Rattle.lsm_model.specs.Journal.{Map}
 use Rattle.lsm_versions.specs.Levels.{SeenVersion}
 use Rattle.lsm_manifest.specs.Names.{current_name}
 use Rattle.lsm_manifest.specs.Versions.{first_version}
@@ -22,13 +20,12 @@ use Rattle.lsm_logged.specs.Opening.{image_read}
 use Rattle.lsm_run_model.specs.Lives.{Crashed}
 use Rattle.lsm_runs.specs.declared.steps.Reply.{Reply}
 use Rattle.lsm_log_runs.specs.declared.steps.LogStep.{LogStep}
-use Rattle.lsm_log_runs.specs.declared.steps.LogStep.TheVariants.{Write}
 use Rattle.lsm_log_runs.specs.Images.{ReadsLog, MayBeOpened}
 use Rattle.lsm_log_runs.specs.Lives.{IsUsual, LoggedLife, StillKept, OpeningLife, AnyNumberOfLoggedLives, OpeningsAreLoggedLives}
 use Rattle.lsm_log_runs.specs.Living.{LivesLogged}
-use Rattle.lsm_log_runs.specs.Moments.{MayBeTried, EachKeeps}
+use Rattle.lsm_log_runs.specs.Moments.{EachKeeps}
 use Rattle.lsm_log_runs.specs.Pasts.{LogPast, nothing}
-use Rattle.lsm_log_runs.specs.Trying.{IsOverOne}
+use Rattle.lsm_log_runs.proofs.Lives.{tried}
 use Rattle.example_lives.specs.declared.lives.Life.{Life}
 use Rattle.example_lives.specs.declared.lives.Lived.{Lived}
 use Rattle.example_lives.specs.declared.lives.Lived.TheVariants.{Took, Refused}
@@ -40,10 +37,6 @@ pub first_usual : (n : ℕ) (steps : List LogStep) → AllByRecursion IsUsual st
 first_usual zero steps usual = tt
 first_usual (suc n) [] usual = tt
 first_usual (suc n) (x ∷ steps) usual = (usual.0, first_usual n steps usual.1)
-
-tried : (opened : List Entry) (journal : List Event) (x : LogStep) → IsUsual x → MayBeTried opened journal x
-tried opened journal (Write ops) usual = each_weaker (λ p. p.1 ≡ Weak → ⊥) (IsOverOne opened journal) (λ p none weak. absurd (none weak)) ops usual
-tried opened journal x usual = tt
 
 module _ {F : Type 0} (world : F → World) where
   -- each read of theirs answers what the replay does
@@ -83,14 +76,10 @@ module _ (was is next : MemStore) (image : Image) (may : IsImage (world_of is).m
       let on = openings was next opening in
       record { opens = on.opens; keeps = on.keeps }
 
--- what reads give could be left
-given_now : (store : MemStore) → IsImage (world_of store).may (world_of store).gives
-given_now store name = gives_one (held_at store.files name)
-
 pub leads_on : AnyNumberOfLoggedLives world_of → OpeningsAreLoggedLives world_of → (was is next : MemStore) (image : Image) → IsImage (world_of is).may image → Begins image (world_of next) → MayBeOpened (world_of was)
     → (life : Life) (how : Lived) → AllByRecursion IsUsual life.steps.items → LivesSo was life.steps.items how is → LeadsOn (world_of was) life how (world_of next)
 leads_on any openings was is next image may begins opens life (Took taken) usual lived =
-    leads was is next image may begins any (steps_taken life taken) taken.replies.items (given_now was) lived (first_usual (length taken.replies.items) life.steps.items usual)
+    leads was is next image may begins any (steps_taken life taken) taken.replies.items (gives_now was) lived (first_usual (length taken.replies.items) life.steps.items usual)
 leads_on any openings was is next image may begins opens life (Refused e) usual lived = keeps_all was is next image may begins openings opens lived
 
 -- ---- from life to life

@@ -4,11 +4,11 @@ use Rattle.std.specs.Option.{is_some}
 use Rattle.std.specs.List.{AllByRecursion}
 use Rattle.lsm_below.specs.Keys.{Bytes}
 use Rattle.lsm_store.specs.World.{Image, World, Begins}
-use Rattle.lsm_model.specs.Beginnings.{Stands}
 use Rattle.lsm_model.specs.Ops.{op_entries}
 use Rattle.lsm_model.specs.Views.{Placed}
 use Rattle.lsm_model.specs.declared.op.Op.{Op}
 use Rattle.lsm_model.specs.declared.journal.JournalEntry.TheVariants.{Write}
+use Rattle.lsm_model.proofs.Crashes.{no_tables_stand}
 use Rattle.lsm_versions.specs.declared.config.Config.{Config}
 use Rattle.lsm_versions.specs.Levels.{SeenVersion, empty_levels, placed_of}
 use Rattle.lsm_manifest.specs.Names.{current_name}
@@ -42,11 +42,8 @@ imaged tables from records = record { tables = tables; log_from = from; records 
 is_fresh : (v : SeenVersion) (records : List Record) → v.levels ≡ empty_levels → records ≡ [] → image_read v records ≡ fresh_image v.log_from
 is_fresh v records a b = ap (λ ls. imaged (placed_of ls) v.log_from records) a ∙ ap (imaged [] v.log_from) b
 
-nothing_stands : Stands []
-nothing_stands = record { distinct = tt; laid = record { covers = tt; by_level = tt }; ordered = λ k. tt; single = λ k. tt }
-
 pub fresh_stands : TablesAloneStand → (from : ℕ) → LogStands (fresh_image from)
-fresh_stands tables from = (tables [] from nothing_stands (omega arith)).0
+fresh_stands tables from = (tables [] from no_tables_stand (omega arith)).0
 
 -- ---- the batch
 

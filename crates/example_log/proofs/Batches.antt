@@ -1,5 +1,5 @@
 -- One batch alone: it is in order on a new tree, and its replay counts all of it.
-use Rattle.std.proofs.Common.{◌≡◌, ℕ, ◌<◌, Bool, true, false, ◌||◌, List, [], ◌∷◌, ◌++◌, fold, map, reverse, refl, sym, ap, ◌∙◌, subst, arith, append-nil, lt-ltb}
+use Rattle.std.proofs.Common.{◌≡◌, ℕ, ◌<◌, true, ◌||◌, List, [], ◌∷◌, ◌++◌, fold, map, reverse, refl, sym, ap, ◌∙◌, subst, arith, append-nil, lt-ltb}
 use Rattle.std.specs.List.{AllByRecursion}
 use Rattle.lsm_below.specs.Each.{each_filter}
 use Rattle.lsm_below.specs.Entries.{Entry, stack, IsFalling, IsSingle}
@@ -7,6 +7,7 @@ use Rattle.lsm_below.specs.Keys.{Bytes, is_same}
 use Rattle.lsm_model.specs.Beginnings.{beginning, spared_after}
 use Rattle.lsm_model.specs.Journal.{Map, InOrder, changed, map_after, replay}
 use Rattle.lsm_model.specs.declared.journal.JournalEntry.TheVariants.{Write}
+use Rattle.lsm_model.proofs.Counted.{or_true}
 use Rattle.lsm_log_model.specs.Records.{Batch, HasDistinctKeys, IsRising, LogImage, LogStands, counted, entries_in, entries_of, opened_by}
 use Rattle.lsm_log_model.specs.Replays.{ReplaysAreInOrder}
 use Rattle.lsm_log_model.proofs.Batches.{batch_falls, each_entry, each_reverse, since_all}
@@ -39,10 +40,6 @@ one_stands b distinct =
 
 pub in_order : ReplaysAreInOrder → (b : Batch) → HasDistinctKeys b → InOrder [] (map Write (entries_of b))
 in_order replays b distinct = subst (λ es. InOrder [] (map Write es)) (ap entries_in (all_counts b) ∙ append-nil (entries_of b)) (replays (one_image b) (one_stands b distinct))
-
-or_true : (b : Bool) → (b || true) ≡ true
-or_true true = refl
-or_true false = refl
 
 -- writes drop nothing
 pub spared_writes : (k : Bytes) (es : List Entry) → fold (spared_after k) true (map Write es) ≡ true

@@ -15,6 +15,7 @@ use Rattle.lsm_model.specs.Steps.{ReadsEqualReplay}
 use Rattle.lsm_model.specs.Views.{SuperVersion, found_at, held, shown, sources, walk}
 use Rattle.lsm_model.specs.declared.op.Op.{Op}
 use Rattle.lsm_model.specs.declared.journal.JournalEntry.TheVariants.{Write}
+use Rattle.lsm_model.proofs.Above.{above_each}
 use Rattle.lsm_versions.specs.declared.config.Config.{Config}
 use Rattle.lsm_versions.specs.Levels.{SeenVersion, empty_levels, placed_of}
 use Rattle.lsm_manifest.specs.Finding.{Finds}
@@ -31,7 +32,7 @@ use Rattle.lsm_log_model.specs.Recovery.{EveryCrashKeepsBatches, WholeIsLogged, 
 use Rattle.lsm_log_model.specs.Replays.{ReplaysAreInOrder, TablesAloneStand}
 use Rattle.lsm_log_model.proofs.Batches.{each_entry, each_entries, each_reverse, since_each}
 use Rattle.lsm_log_model.proofs.High.{found_latest}
-use Rattle.lsm_log_model.proofs.Stacks.{above-append, above_each}
+use Rattle.lsm_log_model.proofs.Stacks.{above-append}
 use Rattle.lsm_state.specs.Calls.{Gives}
 use Rattle.lsm_state.specs.Core.{Core, latest_of, older_of, state_of, versions_left, written_of}
 use Rattle.lsm_state.specs.Deeds.{saved_of}

@@ -1,10 +1,11 @@
 -- What holds along a list that rises.
-use Rattle.std.proofs.Common.{◌≡◌, ℕ, zero, suc, ◌<◌, ◌≤◌, List, [], ◌∷◌, length, get_or, sym, ◌∙◌, ap, arith}
+use Rattle.std.proofs.Common.{◌≡◌, ℕ, zero, suc, ◌<◌, ◌≤◌, List, [], ◌∷◌, ◌++◌, length, get_or, sym, ◌∙◌, ap, arith}
 use Rattle.std.specs.declared.cmp.Ordering.{Ordering}
 use Rattle.std.specs.declared.cmp.Ordering.TheVariants.{Less, Equal, Greater}
 use Rattle.std.specs.Ordering.{ordering_reverse, ordering_index}
 use Rattle.std.specs.Cmp.{IsTotalOrder}
-use Rattle.std.proofs.lemmas.List.Elements.{All-get_or}
+use Rattle.std.specs.List.{AllByRecursion}
+use Rattle.std.proofs.lemmas.List.Elements.{All-get_or, All-append, All-from_recursion}
 use Rattle.lsm_below.specs.Sorted.{Rises}
 
 module _ {X : Type 0} {R : X → X → Ordering} (o : IsTotalOrder R) where
@@ -38,3 +39,8 @@ module _ {X : Type 0} {R : X → X → Ordering} (o : IsTotalOrder R) where
   index_rises e a b Greater Less less ra sb = let no : Greater ≡ Less = less_not e b Less (o.trans e a b (flipped a e Greater ra) less) sb in absurd (cc no)
   index_rises e a b Greater Equal less ra sb = let no : Equal ≡ Less = less_not e b Equal (o.trans e a b (flipped a e Greater ra) less) sb in absurd (cc no)
   index_rises e a b Greater Greater less ra sb = omega arith
+
+-- a rising list behind another, all of which comes before it
+pub rises_append : {X : Type 0} (R : X → X → Ordering) (xs ys : List X) → Rises R xs → Rises R ys → AllByRecursion (λ x. AllByRecursion (λ y. R x y ≡ Less) ys) xs → Rises R (xs ++ ys)
+rises_append R [] ys h k apart = k
+rises_append R (x ∷ xs) ys h k apart = (All-append (λ y. R x y ≡ Less) xs ys h.0 (All-from_recursion (λ y. R x y ≡ Less) ys apart.0), rises_append R xs ys h.1 k apart.1)

@@ -1,12 +1,12 @@
 -- Laws of orders and of reversed comparisons, for proofs of every crate: a clause can't state those that range over orders.
 use Rattle.std.specs.Prelude.{◌≡◌, true, false, not}
-use Rattle.std.proofs.Common.{refl, ap, ◌∙◌}
+use Rattle.std.proofs.Common.{refl, sym, ap, ◌∙◌}
 use Rattle.std.specs.Cmp.{IsTotalOrder}
 use Rattle.std.specs.declared.cmp.Ordering.{Ordering}
 use Rattle.std.specs.declared.cmp.Ordering.TheVariants.{Less, Equal, Greater}
 use Rattle.std.specs.Ordering.{is_le, is_lt, is_gt, is_eq, ordering_reverse}
-use Rattle.std.proofs.lemmas.Cmp.{upto, nat_list_cmp_total}
-use Rattle.lsm_below.specs.Keys.{Bytes, bytes_cmp, is_same}
+use Rattle.std.proofs.lemmas.Cmp.{upto, nat_list_cmp_total, alike_right}
+use Rattle.lsm_below.specs.Keys.{Bytes, bytes_cmp, is_same, is_below}
 
 gt_from_le : (r : Ordering) → is_le r ≡ true → is_gt r ≡ false
 gt_from_le Less h = refl
@@ -56,3 +56,30 @@ not_lt_reversed Greater = refl
 -- two keys are the same in either order
 pub same_swap : (a b : Bytes) → is_same a b ≡ is_same b a
 same_swap a b = ap is_eq (nat_list_cmp_total.antisymm a b) ∙ eq_reversed (bytes_cmp b a)
+
+-- ---- the order of keys
+
+is_less : (r : Ordering) → is_lt r ≡ true → r ≡ Less
+is_less Less h = refl
+is_less Equal h = absurd (cc h)
+is_less Greater h = absurd (cc h)
+
+pub below_less : (a b : Bytes) → is_below a b ≡ true → bytes_cmp a b ≡ Less
+unfolding is_below
+below_less a b h = is_less (bytes_cmp a b) h
+
+pub le_less : (a b c : Bytes) → is_le (bytes_cmp a b) ≡ true → bytes_cmp b c ≡ Less → bytes_cmp a c ≡ Less
+le_less a b c h k = go (bytes_cmp a b) refl h
+  where
+    go : (r : Ordering) → bytes_cmp a b ≡ r → is_le r ≡ true → bytes_cmp a c ≡ Less
+    go Less is h = nat_list_cmp_total.trans a b c is k
+    go Equal is h = nat_list_cmp_total.congr a b c is ∙ k
+    go Greater is h = absurd (cc h)
+
+pub less_le : (a b c : Bytes) → bytes_cmp a b ≡ Less → is_le (bytes_cmp b c) ≡ true → bytes_cmp a c ≡ Less
+less_le a b c h k = go (bytes_cmp b c) refl k
+  where
+    go : (r : Ordering) → bytes_cmp b c ≡ r → is_le r ≡ true → bytes_cmp a c ≡ Less
+    go Less is k = nat_list_cmp_total.trans a b c h is
+    go Equal is k = sym (alike_right nat_list_cmp_total b c a is) ∙ h
+    go Greater is k = absurd (cc k)

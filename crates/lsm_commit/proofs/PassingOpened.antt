@@ -13,7 +13,7 @@ use Rattle.lsm_manifest.specs.Versions.{file_of, first_version}
 use Rattle.lsm_manifest.specs.Opening.{IsFirstNamed, Opens, LeavesStanding}
 use Rattle.lsm_commit.specs.Foreign.{IsForeign, KeepsForeign, Passes}
 
-no_orphan : (id : ℕ) (ids n : List ℕ) → IsForeign n → is_orphan id ids n ≡ false
+pub no_orphan : (id : ℕ) (ids n : List ℕ) → IsForeign n → is_orphan id ids n ≡ false
 no_orphan id ids n foreign = ap (λ k. is_old_version id n k || is_stray ids k) foreign.other
 
 both_ways : (b : Bool) → b ≡ true → b ≡ false → ⊥

@@ -100,7 +100,7 @@ module _ (ids : List ℕ) (id : ℕ) (is : among ids id ≡ true) (old mid new :
       (second.0, joined old mid new (HoldsOneOf versions) (HoldsOneOf versions) (HoldsOneOf versions) first.1 second.1 (λ image has. has) (λ image has. has))
 
 -- an absent name stays so where another one is made absent
-absent_after : (name : List ℕ) (old new : World) → KeepsOthers name old new → new.gives name ≡ None → (n : List ℕ) → old.gives n ≡ None → new.gives n ≡ None
+pub absent_after : (name : List ℕ) (old new : World) → KeepsOthers name old new → new.gives name ≡ None → (n : List ℕ) → old.gives n ≡ None → new.gives n ≡ None
 absent_after name old new keeps gone n was = ⊎_elim (λ (e : n ≡ name). ap new.gives e ∙ gone) (λ differs. keeps.gives n differs ∙ was) (same_or_not n name)
 
 -- one of two tests

@@ -13,6 +13,7 @@ use Rattle.lsm_store.specs.World.{World}
 use Rattle.lsm_store.specs.Synced.{KeepsOthers}
 use Rattle.lsm_tables.specs.Cutting.{IsWritable, IsCutting, CutsFirst}
 use Rattle.lsm_tables.specs.Tables.{SeenTable}
+use Rattle.lsm_tables.proofs.Cutting.{cut_none}
 use Rattle.lsm_versions.specs.Levels.{HasOwnIds}
 use Rattle.lsm_versions.specs.Installs.{CutTablesAreRuns}
 use Rattle.lsm_manifest.specs.Names.{table_name}
@@ -75,9 +76,6 @@ underway_more target made_at first next es tables rest front behind t so_far is 
 flat_entries : (tables : List SeenTable) → flat_map (λ l. l) (map (λ t. t.entries) tables) ≡ flat_map (λ t. t.entries) tables
 flat_entries [] = refl
 flat_entries (t ∷ tables) = flat_map-cons (λ (l : List Entry). l) t.entries (map (λ t. t.entries) tables) ∙ ap (λ (l : List Entry). t.entries ++ l) (flat_entries tables) ∙ sym (flat_map-cons (λ (u : SeenTable). u.entries) t tables)
-
-cut_none : (target : ℕ) → IsCutting target [] []
-cut_none target = record { whole = refl; some = tt; apart = tt; filled = tt; no_later = tt }
 
 pub all_written : CutTablesAreRuns → (target made_at first next : ℕ) (es : List Entry) (tables : List SeenTable) (rest : List Entry) → IsWritable es → IsUnderway target made_at first next es tables rest → rest ≡ [] → HoldEntries made_at es first next tables
 all_written runs target made_at first next es tables rest writable done none =

@@ -12,11 +12,8 @@ use Rattle.lsm_tables.specs.Tables.{SeenTable}
 use Rattle.lsm_versions.specs.Chosen.{AreThere, AreIdsOf}
 use Rattle.lsm_versions.specs.Levels.{Levels, all_of, chosen_in, in_front}
 use Rattle.lsm_versions.specs.TableLaws.{flips}
+use Rattle.lsm_versions.proofs.Runs.{front_append}
 use Rattle.lsm_compaction.specs.Merges.{inputs_in}
-
-front_append : (a : List SeenTable) (b c : List (List SeenTable)) → in_front a (b ++ c) ≡ in_front a b ++ c
-front_append [] b c = refl
-front_append (x ∷ xs) b c = refl
 
 pub inputs_append : (ids : List ℕ) (xs ys : List (List SeenTable)) → inputs_in ids (xs ++ ys) ≡ inputs_in ids xs ++ inputs_in ids ys
 inputs_append ids [] ys = refl

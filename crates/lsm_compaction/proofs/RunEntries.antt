@@ -1,12 +1,9 @@
 -- The entries of runs, as sources of a merge.
-use Rattle.std.proofs.Common.{◌≡◌, ℕ, true, List, [], ◌∷◌, ◌++◌, map, refl, sym, ap, ◌∙◌}
+use Rattle.std.proofs.Common.{◌≡◌, ℕ, true, List, [], ◌∷◌, ◌++◌, map, refl, ap, ◌∙◌}
 use Rattle.std.specs.List.{AllByRecursion}
-use Rattle.std.specs.Ordering.{nat_cmp, is_le, is_lt, ordering_then}
-use Rattle.std.specs.declared.cmp.Ordering.{Ordering}
-use Rattle.std.specs.declared.cmp.Ordering.TheVariants.{Less, Equal, Greater}
+use Rattle.std.specs.Ordering.{nat_cmp, is_le, ordering_then}
+use Rattle.std.specs.declared.cmp.Ordering.TheVariants.{Less}
 use Rattle.std.proofs.lemmas.Bool.{and_parts}
-use Rattle.std.proofs.lemmas.Cmp.{nat_list_cmp_total, alike_right}
-use Rattle.std.proofs.lemmas.List.Elements.{All-append, All-from_recursion}
 use Rattle.lsm_below.specs.Each.{each_append, each_weaker, each_filter}
 use Rattle.lsm_below.specs.Entries.{Entry, entry_cmp}
 use Rattle.lsm_below.specs.KeptLaws.{ascends}
@@ -15,6 +12,8 @@ use Rattle.lsm_below.specs.Ranges.{in_range}
 use Rattle.lsm_below.specs.Runs.{IsRun}
 use Rattle.lsm_below.specs.Sorted.{Rises}
 use Rattle.lsm_below.specs.Streams.{Rest, IsInOrder}
+use Rattle.lsm_below.specs.Orders.{below_less, le_less, less_le}
+use Rattle.lsm_below.proofs.Rising.{rises_append}
 use Rattle.lsm_tables.specs.Cutting.{IsWritable}
 use Rattle.lsm_tables.specs.Image.{IsTable, Fits}
 use Rattle.lsm_tables.specs.Tables.{SeenTable}
@@ -22,45 +21,14 @@ use Rattle.lsm_model.specs.Steps.{among}
 use Rattle.lsm_versions.specs.Levels.{Levels, range, AreCovered, AreRising, all_of, chosen_from}
 use Rattle.lsm_compaction.specs.Merges.{run_entries, sources_in, IsSoundRun}
 
--- ---- keys
-
-is_less : (r : Ordering) → is_lt r ≡ true → r ≡ Less
-is_less Less h = refl
-is_less Equal h = absurd (cc h)
-is_less Greater h = absurd (cc h)
-
-below_less : (a b : Bytes) → is_below a b ≡ true → bytes_cmp a b ≡ Less
-unfolding is_below
-below_less a b h = is_less (bytes_cmp a b) h
-
-le_less : (a b c : Bytes) → is_le (bytes_cmp a b) ≡ true → bytes_cmp b c ≡ Less → bytes_cmp a c ≡ Less
-le_less a b c h k = go (bytes_cmp a b) refl h
-  where
-    go : (r : Ordering) → bytes_cmp a b ≡ r → is_le r ≡ true → bytes_cmp a c ≡ Less
-    go Less is h = nat_list_cmp_total.trans a b c is k
-    go Equal is h = nat_list_cmp_total.congr a b c is ∙ k
-    go Greater is h = absurd (cc h)
-
-less_le : (a b c : Bytes) → bytes_cmp a b ≡ Less → is_le (bytes_cmp b c) ≡ true → bytes_cmp a c ≡ Less
-less_le a b c h k = go (bytes_cmp b c) refl k
-  where
-    go : (r : Ordering) → bytes_cmp b c ≡ r → is_le r ≡ true → bytes_cmp a c ≡ Less
-    go Less is k = nat_list_cmp_total.trans a b c h is
-    go Equal is k = sym (alike_right nat_list_cmp_total b c a is) ∙ h
-    go Greater is k = absurd (cc k)
+-- ---- tables of a run
 
 -- the entry of a lower key stands first
 lower_key : (e f : Entry) → bytes_cmp e.key.user_key f.key.user_key ≡ Less → entry_cmp e f ≡ Less
 lower_key e f h = ap (λ r. ordering_then r (nat_cmp f.key.seqno e.key.seqno)) h
 
--- ---- tables of a run
-
 abbrev AreBehind : Entry → List Entry → Type 0
 AreBehind e fs = AllByRecursion (λ f. entry_cmp e f ≡ Less) fs
-
-rises_append : (xs ys : List Entry) → Rises entry_cmp xs → Rises entry_cmp ys → AllByRecursion (λ x. AreBehind x ys) xs → Rises entry_cmp (xs ++ ys)
-rises_append [] ys h k apart = k
-rises_append (x ∷ xs) ys h k apart = (All-append (λ y. entry_cmp x y ≡ Less) xs ys h.0 (All-from_recursion (λ y. entry_cmp x y ≡ Less) ys apart.0), rises_append xs ys h.1 k apart.1)
 
 -- what comes after the greatest key of a range comes after all keys in it
 all_later : (e : Entry) (max : Bytes) → is_le (bytes_cmp e.key.user_key max) ≡ true → (ts : List SeenTable) → AllByRecursion (λ t. is_below max (range t).min ≡ true) ts → AreCovered ts → AreBehind e (run_entries ts)
@@ -75,7 +43,7 @@ all_later e max le (t ∷ ts) below covered =
 run_rises : (ts : List SeenTable) → IsRun range ts → AllByRecursion (λ t. IsTable t.entries) ts → AreCovered ts → Rises entry_cmp (run_entries ts)
 run_rises [] run tables covered = tt
 run_rises (t ∷ ts) run tables covered =
-    rises_append t.entries (run_entries ts) tables.0.rises (run_rises ts run.2 tables.1 covered.1)
+    rises_append entry_cmp t.entries (run_entries ts) tables.0.rises (run_rises ts run.2 tables.1 covered.1)
     (each_weaker (λ e. in_range e.key.user_key (range t) ≡ true) (λ e. AreBehind e (run_entries ts))
     (λ e inside. all_later e (range t).max (and_parts (is_le (bytes_cmp (range t).min e.key.user_key)) (is_le (bytes_cmp e.key.user_key (range t).max)) inside).1 ts run.1 covered.1) t.entries covered.0)
 

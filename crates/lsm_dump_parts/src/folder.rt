@@ -4,16 +4,12 @@ ghost use Rattle.lsm_store.specs.NoWorld.{untold};
 ghost use Rattle.lsm_store.specs.World.{Counts};
 
 use bytes::Bytes;
-use lsm_store::{FolderCall, FolderFault, Store, StoreError};
-use std::alloc::{AllocError, Global};
-use std::fs::{self, File, Files};
-use std::io::{self, ErrorKind, Read};
-
-/// The subfolders, those of tables and of a log.
-const SUBFOLDERS: [&str; 2] = ["tables", "log"];
-
-/// The file that is locked while a tree of the folder is open. It is no name of the store.
-const LOCK: &str = "lock";
+use lsm_store::{
+    FolderCall, FolderFault, SUBFOLDERS, Store, StoreError, list_files, path_below, read_file,
+};
+use std::alloc::Global;
+use std::fs::{File, Files};
+use std::io::{self, ErrorKind};
 
 /// A folder as a store that is only read: no call makes, changes or locks anything in it, so a tree of it may be open
 /// meanwhile. Calls that would change something are refused.
@@ -25,33 +21,6 @@ pub struct FolderView<R: Files<File = File> + Alloc + Clone + Drop> {
     last_fault: Option<FolderFault>,
 }
 
-fn join(alloc: Global, root: &str, name: &str) -> Result<String, AllocError> {
-    let mut path = String::from_str(alloc, root)?;
-    path.push('/')?;
-    path.push_str(name)?;
-    Ok(path)
-}
-
-/// Appends the names of a folder's regular files, each after a prefix.
-fn list_into<R: Files + Alloc + Clone + Drop>(
-    rt: &R,
-    alloc: Global,
-    folder: &str,
-    prefix: &str,
-    names: &mut Vec<String>,
-) -> io::Result<()> {
-    for entry in fs::read_dir(rt, folder)? {
-        let entry = entry?;
-        let is_lock = prefix.is_empty() && entry.file_name() == LOCK;
-        if !is_lock && entry.file_type()?.is_file() {
-            let mut name = String::from_str(alloc, prefix)?;
-            name.push_str(entry.file_name())?;
-            names.push(name)?;
-        }
-    }
-    Ok(())
-}
-
 /// The names of the files of a folder and its subfolders, which may be absent.
 fn list_folder<R: Files + Alloc + Clone + Drop>(
     rt: &R,
@@ -59,32 +28,17 @@ fn list_folder<R: Files + Alloc + Clone + Drop>(
     root: &str,
 ) -> io::Result<Vec<String>> {
     let mut names = Vec::new(alloc);
-    list_into(rt, alloc, root, "", &mut names)?;
+    list_files(rt, alloc, root, "", &mut names)?;
     for folder in SUBFOLDERS {
-        let path = join(alloc, root, folder)?;
-        let prefix = join(alloc, folder, "")?;
-        match list_into(rt, alloc, path.as_str(), prefix.as_str(), &mut names) {
+        let path = path_below(alloc, root, folder)?;
+        let prefix = path_below(alloc, folder, "")?;
+        match list_files(rt, alloc, path.as_str(), prefix.as_str(), &mut names) {
             Ok(()) => {}
             Err(error) if error.kind() == ErrorKind::NotFound => {}
             Err(error) => return Err(error),
         }
     }
     Ok(names)
-}
-
-/// All bytes of a file. None where it is absent.
-fn read_file<R: Files>(rt: &R, alloc: Global, path: &str) -> io::Result<Option<Vec<u8>>> {
-    match File::open(rt, path) {
-        Ok(mut file) => {
-            let mut bytes = Vec::new(alloc);
-            file.read_to_end(&mut bytes)?;
-            Ok(Some(bytes))
-        }
-        Err(error) => match error.kind() {
-            ErrorKind::NotFound => Ok(None),
-            _ => Err(error),
-        },
-    }
 }
 
 impl<R: Files<File = File> + Alloc + Clone + Drop> FolderView<R> {
@@ -169,7 +123,7 @@ impl<R: Files<File = File> + Alloc + Clone + Drop> Store for FolderView<R> {
     }
 
     fn read(&mut self, alloc: Global, name: &str) -> Result<Option<Vec<u8>>, StoreError> {
-        let path = join(alloc, self.root.as_str(), name)?;
+        let path = path_below(alloc, self.root.as_str(), name)?;
         let outcome = read_file(&self.rt, alloc, path.as_str());
         self.tell(FolderCall::Read, name, outcome)
     }

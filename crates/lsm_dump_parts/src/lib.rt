@@ -4,7 +4,6 @@
 //! |-|-|
 //! | `arguments` | what the program's arguments ask |
 //! | `folder` | a folder as a store that is only read |
-//! | `names` | what a name is to a tree and its log |
 //! | `look` | what a store holds, each file looked at once, also behind the first one that is damaged |
 //! | `flaws` | what is wrong with a file, and where |
 //! | `verdict` | whether a tree and its log would be opened |
@@ -25,7 +24,6 @@ mod grid;
 mod json;
 mod levels;
 mod look;
-mod names;
 mod rows;
 mod run;
 mod shown;

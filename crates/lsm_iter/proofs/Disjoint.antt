@@ -1,21 +1,22 @@
 -- What is left of the tables of a run, one behind the other, rises.
-use Rattle.std.proofs.Common.{◌≡◌, ℕ, ◌+◌, ◌<◌, ◌≤◌, true, ◌&&◌, List, [], ◌∷◌, ◌++◌, length, get_or, take, flat_map, refl, sym, ap, ◌∙◌, append-nil}
+use Rattle.std.proofs.Common.{◌≡◌, ℕ, ◌+◌, ◌<◌, ◌≤◌, true, ◌&&◌, List, [], ◌∷◌, ◌++◌, length, get_or, take, flat_map, sym, ap, ◌∙◌, append-nil}
 use Rattle.std.proofs.lemmas.Grind.{flat_map-append}
 use Rattle.std.proofs.lemmas.List.{take_all, take_more}
 use Rattle.std.specs.List.{All, AllByRecursion}
-use Rattle.std.specs.declared.cmp.Ordering.{Ordering}
-use Rattle.std.specs.declared.cmp.Ordering.TheVariants.{Less, Equal, Greater}
+use Rattle.std.specs.declared.cmp.Ordering.TheVariants.{Less}
 use Rattle.std.specs.declared.ops.Bound.{Bound}
-use Rattle.std.specs.Ordering.{is_le, is_lt}
+use Rattle.std.specs.Ordering.{is_le}
 use Rattle.std.proofs.lemmas.Bool.{and_parts}
-use Rattle.std.proofs.lemmas.Cmp.{nat_list_cmp_total, alike_right}
-use Rattle.std.proofs.lemmas.List.Elements.{All-append, All-from_recursion, All-head, All-tail}
+use Rattle.std.proofs.lemmas.List.Elements.{All-head, All-tail}
 use Rattle.lsm_below.specs.Keys.{Bytes, bytes_cmp, is_below}
 use Rattle.lsm_below.specs.Entries.{Entry, entry_cmp}
 use Rattle.lsm_below.specs.Sorted.{Rises}
 use Rattle.lsm_below.specs.Lookups.{is_from, is_to, within}
 use Rattle.lsm_below.specs.Ranges.{in_range}
 use Rattle.lsm_below.specs.Runs.{IsRun}
+use Rattle.lsm_below.specs.Orders.{below_less, le_less, less_le}
+use Rattle.lsm_below.specs.Each.{each_weaker, each_append}
+use Rattle.lsm_below.proofs.Rising.{rises_append}
 use Rattle.lsm_tables.specs.Tables.{SeenTable, range_of}
 use Rattle.lsm_iter.specs.Shown.{by_key}
 use Rattle.lsm_iter.specs.Reads.{at}
@@ -24,48 +25,6 @@ use Rattle.lsm_iter.specs.Trims.{counts}
 use Rattle.lsm_iter.specs.Shared.{IsSound}
 use Rattle.lsm_iter.proofs.Rises.{rises_filter}
 use Rattle.lsm_iter.proofs.Tops.{each_first, each_counted, rises_tops}
-
--- ---- keys
-
-pub less_le : (a b c : Bytes) → bytes_cmp a b ≡ Less → is_le (bytes_cmp b c) ≡ true → bytes_cmp a c ≡ Less
-less_le a b c h k = go (bytes_cmp b c) refl k
-  where
-    go : (r : Ordering) → bytes_cmp b c ≡ r → is_le r ≡ true → bytes_cmp a c ≡ Less
-    go Less is k = nat_list_cmp_total.trans a b c h is
-    go Equal is k = sym (alike_right nat_list_cmp_total b c a is) ∙ h
-    go Greater is k = absurd (cc k)
-
-pub le_less : (a b c : Bytes) → is_le (bytes_cmp a b) ≡ true → bytes_cmp b c ≡ Less → bytes_cmp a c ≡ Less
-le_less a b c h k = go (bytes_cmp a b) refl h
-  where
-    go : (r : Ordering) → bytes_cmp a b ≡ r → is_le r ≡ true → bytes_cmp a c ≡ Less
-    go Less is h = nat_list_cmp_total.trans a b c is k
-    go Equal is h = nat_list_cmp_total.congr a b c is ∙ k
-    go Greater is h = absurd (cc h)
-
-is_less : (r : Ordering) → is_lt r ≡ true → r ≡ Less
-is_less Less h = refl
-is_less Equal h = absurd (cc h)
-is_less Greater h = absurd (cc h)
-
-pub below_less : (a b : Bytes) → is_below a b ≡ true → bytes_cmp a b ≡ Less
-unfolding is_below
-below_less a b h = is_less (bytes_cmp a b) h
-
--- ---- lists
-
-module _ {X : Type 0} where
-  pub each_weaker : (P Q : X → Type 0) → ((x : X) → P x → Q x) → (xs : List X) → AllByRecursion P xs → AllByRecursion Q xs
-  each_weaker P Q up [] h = tt
-  each_weaker P Q up (x ∷ xs) h = (up x h.0, each_weaker P Q up xs h.1)
-
-  each_append : (P : X → Type 0) (xs ys : List X) → AllByRecursion P xs → AllByRecursion P ys → AllByRecursion P (xs ++ ys)
-  each_append P [] ys h k = k
-  each_append P (x ∷ xs) ys h k = (h.0, each_append P xs ys h.1 k)
-
-  rises_append : (R : X → X → Ordering) (xs ys : List X) → Rises R xs → Rises R ys → AllByRecursion (λ x. AllByRecursion (λ y. R x y ≡ Less) ys) xs → Rises R (xs ++ ys)
-  rises_append R [] ys h k apart = k
-  rises_append R (x ∷ xs) ys h k apart = (All-append (λ y. R x y ≡ Less) xs ys h.0 (All-from_recursion (λ y. R x y ≡ Less) ys apart.0), rises_append R xs ys h.1 k apart.1)
 
 -- ---- tables
 

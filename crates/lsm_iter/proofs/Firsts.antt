@@ -11,11 +11,12 @@ use Rattle.lsm_below.specs.Slots.{firsts, changes, same_key}
 use Rattle.lsm_below.specs.Lookups.{within, is_from, is_to}
 use Rattle.std.specs.declared.ops.Bound.{Bound}
 use Rattle.lsm_below.specs.Laws.{EntriesAreOrdered, MergesByKey}
+use Rattle.lsm_below.specs.KeptLaws.{ascends}
 use Rattle.lsm_iter.specs.Shown.{by_key, IsNewestOf}
 use Rattle.lsm_iter.specs.Reads.{Part, at, counted, cut}
 use Rattle.lsm_iter.specs.Left.{tops, copied, newest_in}
 use Rattle.lsm_iter.proofs.Rises.{rises_filter}
-use Rattle.lsm_iter.proofs.Shown.{ascends, lowers, rises_keys}
+use Rattle.lsm_iter.proofs.Shown.{lowers, rises_keys}
 use Rattle.lsm_iter.proofs.Newest.{newest_is}
 
 -- of entries in order, none of which is newer than the first, that is the newest

@@ -37,7 +37,7 @@ between (x ∷ r) b t (c ∷ k) lt f s =
     let ih = between r b t k lt f (λ i. s (suc i)) in
     grind (arith, nat_tests)
 
-and_true : (b : Bool) → (b && true) ≡ b
+pub and_true : (b : Bool) → (b && true) ≡ b
 and_true true = refl
 and_true false = refl
 

@@ -8,7 +8,7 @@ use Rattle.std.specs.Ordering.{nat_cmp, is_le, is_eq, ordering_then}
 use Rattle.std.specs.Cmp.Lexicographic.{slice_cmp}
 use Rattle.std.proofs.lemmas.Cmp.{nat_list_cmp_total, tied_itself}
 use Rattle.std.proofs.lemmas.List.{nil_from_length}
-use Rattle.std.proofs.lemmas.List.Elements.{recursion_from_All, All-contains, All-contains_itself, All-weaker, All-cons, All-nil, filter_passes}
+use Rattle.std.proofs.lemmas.List.Elements.{All-contains, All-contains_itself, All-weaker, All-cons, All-nil, filter_passes}
 use Rattle.lsm_below.specs.Keys.{Bytes, is_same}
 use Rattle.lsm_below.specs.Entries.{Entry, entry_cmp, stack, is_value, value_by, is_value_kind}
 use Rattle.lsm_below.specs.Sorted.{Rises}
@@ -135,10 +135,6 @@ all_outside maps low high k h es =
     filter_each (x ∷ xs) = ap (λ l. x ∷ l) (filter_each xs)
 
 -- ---- entries in order
-
-pub ascends : (es : List Entry) → Rises entry_cmp es → IsInOrder es
-ascends [] h = tt
-ascends (e ∷ es) h = (recursion_from_All (λ f. is_le (entry_cmp e f) ≡ true) es (All-weaker (λ f. entry_cmp e f ≡ Less) (λ f. is_le (entry_cmp e f) ≡ true) (λ f l. ap is_le l) es h.0), ascends es h.1)
 
 -- ---- the list that is shown
 

@@ -19,8 +19,10 @@ use Rattle.lsm_below.specs.Runs.{IsRun, IsSpan, is_short_of, starts_in, is_touch
 use Rattle.lsm_tables.specs.Tables.{SeenTable, range_of}
 use Rattle.lsm_iter.specs.Trims.{counts}
 use Rattle.lsm_below.specs.Slots.{firsts}
+use Rattle.lsm_below.specs.Orders.{below_less, le_less, less_le}
+use Rattle.lsm_below.specs.Each.{each_weaker}
 use Rattle.lsm_iter.specs.Shared.{IsSound}
-use Rattle.lsm_iter.proofs.Disjoint.{left_in, less_le, le_less, below_less, each_weaker}
+use Rattle.lsm_iter.proofs.Disjoint.{left_in}
 
 -- ---- keys
 

@@ -25,6 +25,7 @@ use Rattle.lsm_state.specs.CompactionDeeds.{MergeDeeds, IsMarkedIn}
 use Rattle.lsm_state.specs.CompactionReads.{SparesReads, IsAny, AreSparedBy, IsAnySnapshot, TellsMerge, TellsChoice, CompactionsKeepReads}
 use Rattle.lsm_state.specs.Deeds.{IsNoDeed}
 use Rattle.lsm_state.specs.WholeCompactions.{told_end, Follows}
+use Rattle.lsm_state.proofs.Wholes.{same_job}
 use Rattle.lsm_journal.specs.Noted.{BeginsAnswer, EndsNoted, TellsBehind, CompactsNoted, CompactsAnswer}
 use Rattle.lsm_journal.specs.NotedReads.{IsMarkedFor, NotedCompactionsKeepReads}
 use Rattle.lsm_journal.proofs.Compacting.{IsOpened, job_begun}
@@ -64,9 +65,6 @@ marked : (w : ℕ) (journal more : List Event) → IsMarkedIn w (journal ++ Mark
 marked w journal more = subst (IsMarkedIn w) (append_assoc journal (Mark w ∷ []) more) (lasts w (journal ++ Mark w ∷ []) more (mark_last w journal))
 
 -- ---- jobs
-
-same_job : (a b : SeenCompaction) → ◌≡◌ {A = Begun} (Job a) (Job b) → a ≡ b
-same_job a b h = cc h
 
 -- a job has the watermark of its options
 job_mark : (o : Options) (old : Core) (job : SeenCompaction) (input : Input) → ◌≡◌ {A = Begun} (Job job) (Job (job_for input o old)) → job.settings.watermark ≡ o.mvcc_gc_watermark

@@ -1,21 +1,18 @@
 -- A flush behind a rotation.
-use Rattle.std.proofs.Common.{◌≡◌, ℕ, zero, suc, ◌<◌, ◌^◌, true, List, [], ◌∷◌, drop, length, Option, Some, None, Result, Ok, Err, IfOk, IfErr, IfSome, inl, inr, refl, ap, sym, subst, arith}
-use Rattle.std.specs.List.{AllByRecursion}
+use Rattle.std.proofs.Common.{◌≡◌, ℕ, ◌<◌, ◌^◌, true, List, [], ◌∷◌, length, Option, Some, None, Result, Ok, Err, IfOk, IfErr, IfSome, inr, refl, ap, sym, subst}
 use Rattle.lsm_below.specs.declared.error.Error.{Error}
 use Rattle.lsm_below.specs.declared.error.Error.TheVariants.{CommitUnknown}
 use Rattle.lsm_store.specs.World.{World}
 use Rattle.lsm_model.specs.Journal.{Event}
-use Rattle.lsm_versions.specs.Levels.{SeenVersion}
-use Rattle.lsm_manifest.specs.Names.{version_name}
 use Rattle.lsm_commit.specs.Causes.{HasCause, causes_less}
 use Rattle.lsm_flush.specs.declared.jobs.Registered.{Registered}
-use Rattle.lsm_parts.specs.declared.version.super_version.SuperVersion.{SuperVersion}
 use Rattle.lsm_parts.specs.History.{SeenHistory}
 use Rattle.lsm_state.specs.Calls.{Rotates}
 use Rattle.lsm_state.specs.Causes.{BlamesOrUncleanFlush, BlamesOrUncleanBehind}
 use Rattle.lsm_state.specs.Cleaning.{LeavesNoFiles, RemovesDrawn}
 use Rattle.lsm_state.specs.Core.{Core, rotated_core}
 use Rattle.lsm_state.specs.Commits.{Upholds}
+use Rattle.lsm_state.proofs.CleaningUp.{same_versions}
 use Rattle.lsm_journal.specs.NotedFlushes.{FlushesNoted, FlushesActiveNoted, answer_behind}
 
 -- ---- the rotation
@@ -28,20 +25,11 @@ rotated_table : (old mid : Core) (id : Option ℕ) → Rotates old id mid → mi
 rotated_table old mid None t = ap (λ (c : Core). c.next_table) t.1
 rotated_table old mid (Some id) t = ap (λ (c : Core). c.next_table) t.2
 
--- it changes no version
-same_versions : (w : World) (a b : SuperVersion) (svs : List SuperVersion) (n : ℕ) → a.version ≡ b.version → AllByRecursion (λ sv. w.gives (version_name sv.version.id) ≡ None) (drop n (a ∷ svs)) → AllByRecursion (λ sv. w.gives (version_name sv.version.id) ≡ None) (drop n (b ∷ svs))
-same_versions w a b svs zero is all = (subst (λ (v : SeenVersion). w.gives (version_name v.id) ≡ None) is all.0, all.1)
-same_versions w a b svs (suc n) is all = all
-
 rotated_leaves : (w : World) (old mid : Core) (id : Option ℕ) (new : SeenHistory) → Rotates old id mid → LeavesNoFiles w [] mid.history new → LeavesNoFiles w [] old.history new
 rotated_leaves w old mid None new t left = subst (λ (c : Core). LeavesNoFiles w [] c.history new) t.1 left
 rotated_leaves w old mid (Some id) new t left =
     let mine = subst (λ (c : Core). LeavesNoFiles w [] c.history new) t.2 left in
     record { tables = mine.tables; versions = same_versions w (rotated_core old).history.latest old.history.latest old.history.older (length new.older) refl mine.versions }
-
--- where no id of a table was drawn, none is to be removed
-pub none_drawn : (n m : ℕ) (w v : World) → m ≡ n → RemovesDrawn n m w v
-none_drawn n m w v same = inl (λ i from below. absurd (omega (arith, same, from, below)))
 
 -- ---- the flush behind it
 

@@ -5,35 +5,19 @@ use Rattle.std.specs.List.{starts_with}
 use Rattle.std.specs.Str.Parse.{AllDigits}
 use Rattle.std.proofs.lemmas.Bool.{ltb-true, lt-ltb}
 use Rattle.std.proofs.lemmas.List.{take-append-drop}
-use Rattle.std.proofs.lemmas.Str.Parse.{digit_from_value}
 use Rattle.std.proofs.lemmas.Slice.Eq.{bytes_eq-Decides}
-use Rattle.std.proofs.lemmas.Fmt.{decimal_is_IsNumeral}
 use Rattle.lsm_below.specs.Numbers.{PlainNumbersAreRead, plain_number, plain_number-is}
 use Rattle.lsm_log.specs.declared.kinds.LogName.{LogName}
 use Rattle.lsm_log.specs.declared.kinds.LogName.TheVariants.{RecordFile, Skipped, Refused, Other}
 use Rattle.lsm_log.specs.LogNames.{record_name, numbered, kind_in_log, kind_of, kind_is_refused, kind_number}
+use Rattle.lsm_manifest.proofs.Apart.{not_dotted, not_skipped, digits, never}
 
 -- ---- the name of a record is that of its file
-
--- the digits of a number
-digits : (n : ℕ) → n < 2 ^ 64 → AllDigits 10 (decimal n)
-digits n small = (decimal_is_IsNumeral n small).0.1
-
--- what begins with a digit isn't skipped
-not_skipped : (ds : List ℕ) → AllDigits 10 ds → bytes_eq ds (codes ".DS_Store") ≡ true → ⊥
-not_skipped ds h e = omega (arith, digit_from_value 46 (subst (AllDigits 10) ((bytes_eq-Decides ds (codes ".DS_Store")).0 e) h).0)
 
 digits_front : (ds : List ℕ) → AllDigits 10 ds → AllDigits 10 (take 2 ds)
 digits_front [] h = tt
 digits_front (d ∷ []) h = (h.0, tt)
 digits_front (d ∷ (e ∷ ds)) h = (h.0, (h.1.0, tt))
-
-not_dotted : (ds : List ℕ) → AllDigits 10 ds → starts_with nat_eq ds (codes "._") ≡ true → ⊥
-not_dotted ds h e = omega (arith, digit_from_value 46 (subst (AllDigits 10) (sym ((bytes_eq-Decides (codes "._") (take 2 ds)).0 e)) (digits_front ds h)).0)
-
-never : (b : Bool) → (b ≡ true → ⊥) → b ≡ false
-never true h = absurd (h refl)
-never false h = refl
 
 by_tests : (a b : Bool) (k : LogName) → a ≡ false → b ≡ false → cond (a || b) Skipped k ≡ k
 by_tests a b k first second = rw (first, second) refl

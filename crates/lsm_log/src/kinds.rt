@@ -33,9 +33,9 @@ fn kind_in_log(text: &[u8]) -> LogName
     }
 }
 
-/// What a name is.
+/// What a name of a store is to a log.
 #[tactic(auto, unfolding(crate::specs::LogNames::kind_of))]
-fn kind_of(name: &[u8]) -> LogName
+pub fn kind_of(name: &[u8]) -> LogName
     ensures { result ≡ kind_of name.now }
 {
     if name.starts_with(b"log/") {

@@ -22,7 +22,7 @@ mod record_error;
 mod removing;
 mod writing;
 
-pub use kinds::LogName;
+pub use kinds::{LogName, kind_of};
 pub use loading::{check_log, first_from, read_record};
 pub use log::LogNumbers;
 pub use names::{RecordName, record_name};

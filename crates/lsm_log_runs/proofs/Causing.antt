@@ -1,5 +1,5 @@
 -- Where the reply of a step blames the store, a call of it failed in that step.
-use Rattle.std.proofs.Common.{◌≡◌, ◌⊎◌, ⊎_elim, inl, inr, ℕ, Bool, true, false, List, [], ◌∷◌, ◌++◌, Option, Some, None, IfSome, Result, Ok, Err, refl, sym, ap, ◌∙◌, subst, arith}
+use Rattle.std.proofs.Common.{◌≡◌, ◌⊎◌, ⊎_elim, inl, inr, ℕ, Bool, true, false, List, [], ◌∷◌, ◌++◌, Option, Some, None, IfSome, Result, Ok, Err, refl, sym, ap, ◌∙◌, subst}
 use Rattle.lsm_below.specs.Keys.{Bytes}
 use Rattle.lsm_below.specs.declared.error.Error.{Error}
 use Rattle.lsm_below.specs.declared.error.Error.TheVariants.{OutOfMemory, Store, CommitUnknown, AfterCommit, OutOfNumbers, Unrecoverable, FlushOpen}
@@ -14,7 +14,7 @@ use Rattle.lsm_runs.specs.Causes.{ReplyBlames}
 use Rattle.lsm_runs.specs.Compacting.{TakesRunCompaction, end_reply_of}
 use Rattle.lsm_runs.specs.Flushing.{TakesRun}
 use Rattle.lsm_runs.specs.ReadSteps.{TakesGet, TakesPairs}
-use Rattle.lsm_runs.proofs.Causing.{blames, Blameless, named, batch_reason, read_refusal}
+use Rattle.lsm_runs.proofs.Causing.{blames, Blameless, named, batch_reason, read_refusal, from_same}
 use Rattle.lsm_runs.specs.declared.slots.Job.{Job}
 use Rattle.lsm_runs.specs.declared.steps.Reply.{Reply}
 use Rattle.lsm_runs.specs.declared.steps.Reply.TheVariants.{Begun as BegunReply, Done, NoJob, SlotInUse, Sealed, Value, Pairs, Refused}
@@ -137,12 +137,6 @@ finished_cause (Ok f) reply w w' is c = rw is c
 finished_cause (Err e) reply w w' is c = rw is c
 
 -- ---- runs
-
--- what is the same of a store here is how many of its calls failed
-from_same : (Blamed : Type 0) (old mid new : World) → mid.failures ≡ old.failures → HasCause Blamed mid new → HasCause Blamed old new
-from_same Blamed old mid new same c =
-    let up = c.rises in
-    record { rises = omega (arith, up, same); cause = λ blamed. let failed = c.cause blamed in omega (arith, failed, same) }
 
 module _ {F : Type 0} (world : F → World) where
   -- one more step

@@ -1,15 +1,15 @@
 -- A new store may be opened: nothing is in it, and nothing can be left of it.
 use Rattle.std.proofs.Common.{◌≡◌, ⊎_elim, ℕ, ◌≤◌, List, [], ◌∷◌, map, Option, None, IsSome, refl, sym, ap, ◌∙◌, subst, arith}
-use Rattle.std.specs.FinMap.{empty}
 use Rattle.std.specs.List.{AllByRecursion}
 use Rattle.lsm_store.specs.World.{Image, World, Begins}
-use Rattle.lsm_model.specs.Beginnings.{Stands}
 use Rattle.lsm_model.specs.Views.{Placed}
-use Rattle.lsm_versions.specs.Levels.{SeenVersion, empty_levels, placed_of}
-use Rattle.lsm_manifest.specs.Finding.{Finds, Nothing, StandsForMap}
+use Rattle.lsm_model.proofs.Crashes.{no_tables_stand}
+use Rattle.lsm_versions.specs.Levels.{SeenVersion, placed_of}
+use Rattle.lsm_manifest.specs.Finding.{Nothing}
 use Rattle.lsm_manifest.specs.Names.{current_name}
 use Rattle.lsm_manifest.specs.Ready.{IsReady}
 use Rattle.lsm_manifest.specs.Versions.{first_version}
+use Rattle.lsm_manifest.proofs.FindingLemmas.{nothing_in}
 use Rattle.lsm_log.specs.declared.record.Record.{Record}
 use Rattle.lsm_log.specs.LogNames.{record_name}
 use Rattle.lsm_log.specs.Logs.{HasBadName, IsThere, IsNoRecordAt, IsRecordAt, IsBadLog}
@@ -18,18 +18,6 @@ use Rattle.lsm_log_model.specs.Replays.{TablesAloneStand}
 use Rattle.lsm_logged.specs.Meanwhile.{ReadsVersion}
 use Rattle.lsm_logged.specs.Opening.{CanBeSettled, batch_read, image_read}
 use Rattle.lsm_log_runs.specs.Images.{ReadsLog, HoldsLogged, MayBeOpened}
-
-abbrev pub nothing_in : Image
-nothing_in name = None
-
-finds_none : Finds nothing_in empty_levels
-finds_none = Nothing refl (record { no_version = refl; in_tables = λ name refused. refl }) refl
-
-pub stands_none : StandsForMap nothing_in empty
-stands_none = record { levels = empty_levels; found = finds_none; ordered = λ k. tt; single = λ k. tt; shows = refl }
-
-nothing_stands : Stands []
-nothing_stands = record { distinct = tt; laid = record { covers = tt; by_level = tt }; ordered = λ k. tt; single = λ k. tt }
 
 absent : {A : Type 0} (o : Option A) → o ≡ None → IsSome o → ⊥
 absent o none some = let s = subst (λ p. IsSome p) none some in absurd (cc s)
@@ -47,7 +35,7 @@ module _ (tables : TablesAloneStand) (image : Image) (none : (n : List ℕ) → 
   stands v records reads =
       let first = reads.version.fresh (none current_name) in
       let is : image_read v records ≡ imaged [] v.log_from [] = ap (λ (u : SeenVersion). imaged (placed_of u.levels) v.log_from records) first ∙ ap (imaged [] v.log_from) (no_records records reads.log.records_are) in
-      subst LogStands (sym is) (tables [] v.log_from nothing_stands (omega arith)).0
+      subst LogStands (sym is) (tables [] v.log_from no_tables_stand (omega arith)).0
 
   not_bad : (v : SeenVersion) → ReadsVersion image v → IsBadLog image v.log_from → ⊥
   not_bad v reads bad = ⊎_elim
@@ -61,7 +49,7 @@ module _ (tables : TablesAloneStand) (image : Image) (none : (n : List ℕ) → 
       version = first_version;
       read = record { version = λ some. absurd (absent (image current_name) (none current_name) some); found = λ some. absurd (absent (image current_name) (none current_name) some); fresh = λ n. refl };
       found = Nothing (none current_name) (record { no_version = none _; in_tables = λ name refused. none name }) refl;
-      stands = nothing_stands;
+      stands = no_tables_stand;
     };
     good = not_bad;
     reads = stands;

@@ -1,5 +1,5 @@
 -- What an opening reads in an image that has a version of a tree and the log beside it is what a crash may leave of a logged tree.
-use Rattle.std.proofs.Common.{◌≡◌, ◌⊎◌, ⊎_elim, inl, inr, Bool, true, false, ℕ, ◌≤◌, List, [], ◌∷◌, ◌++◌, Option, Some, None, IsSome, map, option_to_list, refl, sym, ap, ◌∙◌, subst, arith}
+use Rattle.std.proofs.Common.{◌≡◌, ◌⊎◌, ⊎_elim, inl, inr, Bool, ℕ, ◌≤◌, List, [], ◌∷◌, ◌++◌, Option, Some, None, IsSome, option_to_list, refl, sym, ap, ◌∙◌, subst, arith}
 use Rattle.lsm_below.specs.Members.{IsIn, each_in}
 use Rattle.lsm_store.specs.World.{Image}
 use Rattle.lsm_model.specs.Journal.{Event}
@@ -24,7 +24,7 @@ use Rattle.lsm_logged.specs.Images.{RecordsAreThoseRead, VersionIsToldOnce}
 use Rattle.lsm_logged.specs.Keeping.{IsLogOf, IsRecordFile, IsNoNumber}
 use Rattle.lsm_logged.specs.Meanwhile.{ReadsVersion}
 use Rattle.lsm_logged.specs.Opening.{image_read}
-use Rattle.lsm_logged.proofs.Found.{number_of}
+use Rattle.lsm_logged.proofs.Found.{number_of, in_map}
 use Rattle.lsm_log_runs.specs.Images.{ReadsLog, HoldsLogged}
 
 pub held_weaker : (P Q : LogImage → Type 0) (image : Image) → ((left : LogImage) → P left → Q left) → HoldsLogged P image → HoldsLogged Q image
@@ -33,10 +33,6 @@ held_weaker P Q image f h = record { finds = h.finds; good = h.good; reads = λ 
 in_one : {A : Type 0} (x : A) (o : Option A) → IsIn x (option_to_list o) → o ≡ Some x
 in_one x None i = absurd i
 in_one x (Some y) i = ⊎_elim (λ (e : y ≡ x). ap Some e) (λ (no : ⊥). absurd no) i
-
-in_map : {A B : Type 0} (f : A → B) (xs : List A) (x : A) → IsIn x xs → IsIn (f x) (map f xs)
-in_map f [] x i = absurd i
-in_map f (y ∷ xs) x i = ⊎_elim (λ (e : y ≡ x). inl (ap f e)) (λ (j : IsIn x xs). inr (in_map f xs x j)) i
 
 module _ (once : VersionIsToldOnce) (those : RecordsAreThoseRead) (journal : List Event) (notes : List Note) (c : Core) (doubted : Bool) (t : Log) (is : IsLogOf journal notes c doubted t) (sound : LogIsSound t)
     (no_lower : (t.tree.others ≡ []) ⊎ (t.log_from ≤ t.other_from)) (stand : (left : LogImage) → MayLeave t left → Stands left.tables) (image : Image) (holds : HoldsLog c t image) where

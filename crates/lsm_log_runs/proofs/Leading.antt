@@ -5,6 +5,7 @@ use Rattle.lsm_store.specs.World.{Image, World, IsImage, LeavesOnly}
 use Rattle.lsm_store.specs.Moments.{weakened}
 use Rattle.lsm_model.specs.Journal.{Event, InOrder}
 use Rattle.lsm_model.specs.Beginnings.{Note, Saved}
+use Rattle.lsm_model.proofs.Crashes.{is_in_behind}
 use Rattle.lsm_versions.specs.Levels.{SeenVersion}
 use Rattle.lsm_manifest.specs.Finding.{FoundOnce, UnreadNamesDontMatter}
 use Rattle.lsm_commit.specs.Foreign.{AtRest}
@@ -13,7 +14,6 @@ use Rattle.lsm_commit.specs.Stored.{HoldsOneOf}
 use Rattle.lsm_log_model.specs.Logs.{Logged as Log, LostBatch, Act, MayLeave, IsCertain}
 use Rattle.lsm_log_model.specs.Records.{LogImage, LogStands, logged, opened_by}
 use Rattle.lsm_log_model.specs.Recovery.{LogRecovers}
-use Rattle.lsm_log_model.proofs.Growth.{is_in_behind}
 use Rattle.lsm_run_model.specs.Lives.{LeavesReady}
 use Rattle.lsm_run_model.specs.Moments.{LeavesNow}
 use Rattle.lsm_runs.specs.Files.{StaysStored}

@@ -24,7 +24,7 @@ use Rattle.lsm_log_runs.proofs.Crashed.{given_is, begins_given, still_kept}
 use Rattle.lsm_log_runs.proofs.Settling.{less_opens}
 
 -- a usual step may be tried
-tried : (opened : List Entry) (journal : List Event) (x : LogStep) → IsUsual x → MayBeTried opened journal x
+pub tried : (opened : List Entry) (journal : List Event) (x : LogStep) → IsUsual x → MayBeTried opened journal x
 tried opened journal (Write ops) usual = each_weaker (λ p. p.1 ≡ Weak → ⊥) (IsOverOne opened journal) (λ p none weak. absurd (none weak)) ops usual
 tried opened journal x usual = tt
 

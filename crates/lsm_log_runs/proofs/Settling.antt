@@ -1,15 +1,14 @@
 -- A store of which each image that a crash may leave stands, and whose log isn't bad in any, can be opened: what its log reads can be put on
 -- the disk.
-use Rattle.std.proofs.Common.{◌≡◌, ◌≢◌, ⊎_elim, inl, inr, ℕ, Bool, true, false, cond, List, [], Option, Some, IsSome, refl, sym, ap, ◌∙◌, subst, codes}
-use Rattle.std.specs.Prelude.{bytes_eq, nat_eq, unwrap_or}
+use Rattle.std.proofs.Common.{◌≡◌, ◌≢◌, ⊎_elim, inl, inr, ℕ, true, false, List, [], Option, Some, IsSome, refl, sym, ap, ◌∙◌, subst, codes}
+use Rattle.std.specs.Prelude.{nat_eq, unwrap_or}
 use Rattle.std.specs.List.{starts_with}
 use Rattle.std.proofs.lemmas.Bool.{both_ways}
-use Rattle.std.proofs.lemmas.Slice.Eq.{bytes_eq-Decides}
 use Rattle.lsm_store.specs.World.{Image, World, IsImage}
-use Rattle.lsm_store.specs.Moments.{same_or_not}
 use Rattle.lsm_versions.specs.Levels.{SeenVersion}
 use Rattle.lsm_manifest.specs.Finding.{FoundOnce, UnreadNamesDontMatter}
 use Rattle.lsm_manifest.specs.Ready.{IsReady}
+use Rattle.lsm_manifest.proofs.Readiness.{changed, changed_here, changed_else, changed_is}
 use Rattle.lsm_log.specs.LogNames.{record_name}
 use Rattle.lsm_log.specs.Logs.{IsBadLog}
 use Rattle.lsm_log.specs.Records.{Ops, IsRecordOf, front}
@@ -24,30 +23,12 @@ use Rattle.lsm_log_runs.specs.Images.{HoldsLogged, MayBeOpened}
 -- ---- another content of a name in the folder of the log
 
 module _ (once : FoundOnce) (unread : UnreadNamesDontMatter) (image : Image) (m : List ℕ) (c : Option (List ℕ)) (inside : starts_with nat_eq m (codes "log/") ≡ true) where
-  abbrev pub changed : Image
-  changed n = cond (bytes_eq n m) c (image n)
-
-  pub changed_here : changed m ≡ c
-  changed_here = ap (λ b. cond b c (image m)) ((bytes_eq-Decides m m).1 refl)
-
-  by_test : (n : List ℕ) (b : Bool) → bytes_eq n m ≡ b → n ≢ m → cond b c (image n) ≡ image n
-  by_test n true is other = absurd (other ((bytes_eq-Decides n m).0 is))
-  by_test n false is other = refl
-
-  changed_else : (n : List ℕ) → n ≢ m → changed n ≡ image n
-  changed_else n other = by_test n (bytes_eq n m) refl other
-
-  pub changed_may : (w : World) → IsImage w.may image → w.may m c → IsImage w.may changed
-  changed_may w at may n =
-      ⊎_elim (λ (same : n ≡ m). subst (λ (k : List ℕ). w.may k (changed k)) (sym same) (subst (λ (o : Option (List ℕ)). w.may m o) (sym changed_here) may))
-      (λ (other : n ≢ m). subst (λ (o : Option (List ℕ)). w.may n o) (sym (changed_else n other)) (at n)) (same_or_not n m)
-
-  outside : (n : List ℕ) → starts_with nat_eq n (codes "log/") ≡ false → changed n ≡ image n
-  outside n out = changed_else n (λ e. both_ways (starts_with nat_eq n (codes "log/")) out (ap (λ (l : List ℕ). starts_with nat_eq l (codes "log/")) e ∙ inside))
+  outside : (n : List ℕ) → starts_with nat_eq n (codes "log/") ≡ false → changed image m c n ≡ image n
+  outside n out = changed_else image m c n (λ e. both_ways (starts_with nat_eq n (codes "log/")) out (ap (λ (l : List ℕ). starts_with nat_eq l (codes "log/")) e ∙ inside))
 
   -- is none of the version's
-  pub reads_still : (v : SeenVersion) → ReadsVersion image v → ReadsVersion changed v
-  reads_still v reads = reads_outside unread image changed outside v reads
+  pub reads_still : (v : SeenVersion) → ReadsVersion image v → ReadsVersion (changed image m c) v
+  reads_still v reads = reads_outside unread image (changed image m c) outside v reads
 
 -- ---- what its log reads
 
@@ -58,12 +39,12 @@ empty_is_none k ops r = let e = r.written in absurd (cc e)
 
 module _ (once : FoundOnce) (unread : UnreadNamesDontMatter) (w : World) (stands : (image : Image) → IsImage w.may image → HoldsLogged LogStands image) where
   -- so no name in the folder of the log can have a content that makes the log bad
-  never : (image : Image) (v : SeenVersion) → IsImage w.may image → ReadsVersion image v → (m : List ℕ) (c : Option (List ℕ)) (inside : starts_with nat_eq m (codes "log/") ≡ true) → IsBadLog (changed once unread image m c inside) v.log_from → ¬ w.may m c
+  never : (image : Image) (v : SeenVersion) → IsImage w.may image → ReadsVersion image v → (m : List ℕ) (c : Option (List ℕ)) (inside : starts_with nat_eq m (codes "log/") ≡ true) → IsBadLog (changed image m c) v.log_from → ¬ w.may m c
   never image v at reads m c inside bad may =
-      (stands (changed once unread image m c inside) (changed_may once unread image m c inside w at may)).good v (reads_still once unread image m c inside v reads) bad
+      (stands (changed image m c) (changed_is image m c w at may)).good v (reads_still once unread image m c inside v reads) bad
 
-  there : (image : Image) (m : List ℕ) (inside : starts_with nat_eq m (codes "log/") ≡ true) → IsSome (changed once unread image m (Some []) inside m)
-  there image m inside = subst (λ (o : Option (List ℕ)). IsSome o) (sym (changed_here once unread image m (Some []) inside)) refl
+  there : (image : Image) (m : List ℕ) (inside : starts_with nat_eq m (codes "log/") ≡ true) → IsSome (changed image m (Some []) m)
+  there image m inside = subst (λ (o : Option (List ℕ)). IsSome o) (sym (changed_here image m (Some []))) refl
 
   settles : (image : Image) (v : SeenVersion) → IsImage w.may image → ReadsVersion image v → CanBeSettled w v.log_from
   settles image v at reads = record {
@@ -74,7 +55,7 @@ module _ (once : FoundOnce) (unread : UnreadNamesDontMatter) (w : World) (stands
         record { small = small; file = there image (record_name k) refl },
         le,
         λ bytes ops file r.
-            let e : [] ≡ bytes = ap (λ (o : Option (List ℕ)). unwrap_or o []) (sym (changed_here once unread image (record_name k) (Some []) refl) ∙ file) in
+            let e : [] ≡ bytes = ap (λ (o : Option (List ℕ)). unwrap_or o []) (sym (changed_here image (record_name k) (Some [])) ∙ file) in
             empty_is_none k ops (subst (IsRecordOf k ops) (sym e) r),
       )),
     );

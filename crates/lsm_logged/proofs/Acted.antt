@@ -13,11 +13,12 @@ use Rattle.lsm_store.specs.World.{Image, World, Row, Only, OldOr, Same, LeavesOn
 use Rattle.lsm_store.specs.Moments.{weakened, rests, same_or_not, same_none}
 use Rattle.lsm_model.specs.Journal.{Event, InOrder}
 use Rattle.lsm_model.specs.Views.{EachPair, HasDistinctIds}
-use Rattle.lsm_model.specs.Steps.{State, Run, Wrote}
+use Rattle.lsm_model.specs.Steps.{Wrote}
 use Rattle.lsm_model.specs.Beginnings.{Note, Saved, Deeds, Done}
 use Rattle.lsm_model.specs.Ops.{op_entries, op_value, keys_of, repeats}
 use Rattle.lsm_model.specs.declared.op.Op.{Op}
 use Rattle.lsm_model.specs.declared.journal.JournalEntry.TheVariants.{Write}
+use Rattle.lsm_model.proofs.DeedReads.{writes}
 use Rattle.lsm_versions.specs.Levels.{placed_of}
 use Rattle.lsm_commit.specs.Foreign.{KeepsForeign, Passes}
 use Rattle.lsm_log.specs.LogNames.{record_name}
@@ -59,15 +60,6 @@ distinct_keys (p ∷ ops) h =
     each (q ∷ qs) none = let two = neither (is_same p.0 q.0) (list_any (is_same p.0) (keys_of qs)) none in (two.0, each qs two.1)
 
 -- ---- deeds
-
--- writes in turn are deeds in turn
-writes : (opened : List Entry) (es : List Entry) (old : Saved) (new : State) → Run opened old.state (map Wrote es) new → HasDistinctIds old.state.latest.tables
-    → Deeds opened old (map (λ e. Done (Wrote e)) es) (record { state = new; notes = old.notes; others = old.others })
-writes opened [] old new r distinct = ap (λ s. record { state = s; notes = old.notes; others = old.others }) r
-writes opened (e ∷ es) old new r distinct =
-    let mid : Saved = record { state = r.0; notes = old.notes; others = old.others } in
-    let there = subst HasDistinctIds (sym (ap (λ sv. sv.tables) r.1.latest)) distinct in
-    (mid, record { answered = refl; certain = λ commits. absurd (cc commits); step = r.1; distinct = there; notes = refl; others = refl }, writes opened es mid new r.2 there)
 
 -- where nothing was done foreign names are as they were
 passes_same : (w w' : World) → Passes w w → Same w w' → Passes w w'

@@ -38,7 +38,7 @@ from_map : {A B : Type 0} (f : A → B) (xs : List A) (y : B) → IsIn y (map f 
 from_map f [] y i = absurd i
 from_map f (x ∷ xs) y i = ⊎_elim (λ (e : f x ≡ y). (x, inl refl, e)) (λ (j : IsIn y (map f xs)). let r = from_map f xs y j in (r.0, inr r.1, r.2)) i
 
-in_map : {A B : Type 0} (f : A → B) (xs : List A) (x : A) → IsIn x xs → IsIn (f x) (map f xs)
+pub in_map : {A B : Type 0} (f : A → B) (xs : List A) (x : A) → IsIn x xs → IsIn (f x) (map f xs)
 in_map f [] x i = absurd i
 in_map f (y ∷ xs) x i = ⊎_elim (λ (e : y ≡ x). inl (ap f e)) (λ (j : IsIn x xs). inr (in_map f xs x j)) i
 

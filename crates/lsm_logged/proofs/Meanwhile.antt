@@ -12,7 +12,7 @@ use Rattle.lsm_manifest.specs.declared.found.Found.{Found}
 use Rattle.lsm_manifest.specs.declared.kinds.NameKind.TheVariants as tree
 use Rattle.lsm_manifest.specs.Clearing.{IsCleared, IsSettledFirst}
 use Rattle.lsm_manifest.specs.Finding.{Finds, Named, Nothing, FoundOnce, AgreesInRead, UnreadNamesDontMatter}
-use Rattle.lsm_manifest.specs.Kinds.{kind_of as kind_in_tree, is_old_version, is_stray, is_orphan}
+use Rattle.lsm_manifest.specs.Kinds.{kind_of as kind_in_tree, is_orphan}
 use Rattle.lsm_manifest.specs.Looking.{Looks}
 use Rattle.lsm_manifest.specs.Names.{current_name, version_name, table_name}
 use Rattle.lsm_manifest.specs.Opening.{ReadsFrom, IsBegun, IsOldOrBegun, LeavesStanding}
@@ -27,6 +27,7 @@ use Rattle.lsm_manifest.proofs.Readiness.{never_current}
 use Rattle.lsm_commit.specs.Foreign.{IsForeign, Passes, ForeignNamesSpare}
 use Rattle.lsm_commit.specs.Opening.{StoredIsReady}
 use Rattle.lsm_commit.specs.Stored.{IsStored, HoldsOneOf}
+use Rattle.lsm_commit.proofs.PassingOpened.{no_orphan}
 use Rattle.lsm_log.specs.declared.kinds.LogName.TheVariants.{Refused}
 use Rattle.lsm_log.specs.LogNames.{record_name, kind_of}
 use Rattle.lsm_log.specs.Logs.{HasGoodNames}
@@ -180,9 +181,6 @@ first_read image current version = record {
 }
 
 -- ---- while the tree's files are opened
-
-no_orphan : (id : ℕ) (ids n : List ℕ) → IsForeign n → is_orphan id ids n ≡ false
-no_orphan id ids n foreign = ap (λ k. is_old_version id n k || is_stray ids k) foreign.other
 
 no_first : (n : List ℕ) → IsForeign n → n ≢ version_name 0
 no_first n foreign e = let z : tree.Other ≡ tree.VersionFile = sym foreign.other ∙ (ap kind_in_tree e ∙ version_kind 0 (lit< tt)) in absurd (cc z)

@@ -32,10 +32,11 @@ use Rattle.lsm_log.specs.Changes.{IsBelow, IsOneOf, IsNoneOf, ClearsRecords, Are
 use Rattle.lsm_log.specs.Logs.{IsLogFrom, IsRecordAt}
 use Rattle.lsm_log_model.specs.Records.{LogImage, LogStands, entries_of, entries_in, counted, opened_by}
 use Rattle.lsm_model.specs.Ops.{op_entries}
+use Rattle.lsm_model.proofs.Above.{above_each}
 use Rattle.lsm_log_model.specs.Logs.{Logged as Log, MayBeDrawn}
 use Rattle.lsm_log_model.specs.Replays.{IsReopened, ReplaysReopen, logged_tree}
 use Rattle.lsm_log_model.specs.Joins.{CounterStaysAbove}
-use Rattle.lsm_log_model.proofs.Stacks.{above-append, above_each}
+use Rattle.lsm_log_model.proofs.Stacks.{above-append}
 use Rattle.lsm_log_model.proofs.Batches.{each_entries, each_reverse, since_all}
 use Rattle.lsm_state.specs.Core.{Core, state_of, opened_core, written_all}
 use Rattle.lsm_state.specs.Deeds.{saved_of, OpenedIsFresh}

@@ -14,7 +14,7 @@ use Rattle.lsm_manifest.specs.Names.{current_name, version_name, table_name}
 use Rattle.lsm_manifest.specs.Kinds.{kind_in_tables, kind_of, numbered}
 
 -- the digits of a number
-digits : (n : ℕ) → n < 2 ^ 64 → AllDigits 10 (decimal n)
+pub digits : (n : ℕ) → n < 2 ^ 64 → AllDigits 10 (decimal n)
 digits n small = (decimal_is_IsNumeral n small).0.1
 
 pub versions_apart : (i j : ℕ) → i < 2 ^ 64 → j < 2 ^ 64 → version_name i ≡ version_name j → i ≡ j
@@ -61,7 +61,7 @@ unfolding kind_of
 version_kind i small = version_by (list_any (λ b. eqb b 47) (version_name i)) (no_slash (decimal i) (digits i small))
 
 -- what begins with a digit isn't skipped
-not_skipped : (ds : List ℕ) → AllDigits 10 ds → bytes_eq ds (codes ".DS_Store") ≡ true → ⊥
+pub not_skipped : (ds : List ℕ) → AllDigits 10 ds → bytes_eq ds (codes ".DS_Store") ≡ true → ⊥
 not_skipped ds h e = omega (arith, digit_from_value 46 (subst (AllDigits 10) ((bytes_eq-Decides ds (codes ".DS_Store")).0 e) h).0)
 
 digits_front : (ds : List ℕ) → AllDigits 10 ds → AllDigits 10 (take 2 ds)
@@ -69,10 +69,10 @@ digits_front [] h = tt
 digits_front (d ∷ []) h = (h.0, tt)
 digits_front (d ∷ (e ∷ ds)) h = (h.0, (h.1.0, tt))
 
-not_dotted : (ds : List ℕ) → AllDigits 10 ds → starts_with nat_eq ds (codes "._") ≡ true → ⊥
+pub not_dotted : (ds : List ℕ) → AllDigits 10 ds → starts_with nat_eq ds (codes "._") ≡ true → ⊥
 not_dotted ds h e = omega (arith, digit_from_value 46 (subst (AllDigits 10) (sym ((bytes_eq-Decides (codes "._") (take 2 ds)).0 e)) (digits_front ds h)).0)
 
-never : (b : Bool) → (b ≡ true → ⊥) → b ≡ false
+pub never : (b : Bool) → (b ≡ true → ⊥) → b ≡ false
 never true h = absurd (h refl)
 never false h = refl
 

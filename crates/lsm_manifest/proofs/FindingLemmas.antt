@@ -1,5 +1,6 @@
 -- What opening finds in an image, and that it opens it.
-use Rattle.std.proofs.Common.{◌≡◌, ◌+◌, ◌<◌, ◌≤◌, ◌^◌, ℕ, List, [], ◌∷◌, ◌++◌, flat_map, Option, None, Result, Ok, Err, codes, sym, ap, ◌∙◌, subst, arith}
+use Rattle.std.proofs.Common.{◌≡◌, ◌+◌, ◌<◌, ◌≤◌, ◌^◌, ℕ, List, [], ◌∷◌, ◌++◌, flat_map, Option, None, Result, Ok, Err, codes, refl, sym, ap, ◌∙◌, subst, arith}
+use Rattle.std.specs.FinMap.{empty}
 use Rattle.std.specs.List.{AllByRecursion}
 use Rattle.lsm_below.specs.Each.{each_append, each_weaker}
 use Rattle.lsm_below.specs.Entries.{Entry, above}
@@ -12,7 +13,7 @@ use Rattle.lsm_tables.specs.Tables.{SeenTable}
 use Rattle.lsm_model.specs.Journal.{Map}
 use Rattle.lsm_model.specs.Views.{held, placed_from, view}
 use Rattle.lsm_model.specs.Beginnings.{ShownAbove}
-use Rattle.lsm_versions.specs.Levels.{Levels as SeenLevels, SeenVersion, shown_levels, placed_in, placed_of, tables_shown}
+use Rattle.lsm_versions.specs.Levels.{Levels as SeenLevels, SeenVersion, empty_levels, shown_levels, placed_in, placed_of, tables_shown}
 use Rattle.lsm_versions.specs.TableLaws.{placed_cons, entries_of_placed, held_both}
 use Rattle.lsm_manifest.specs.declared.fault.Fault.{Fault}
 use Rattle.lsm_manifest.specs.declared.fault.OpenError.{OpenError}
@@ -29,6 +30,19 @@ use Rattle.lsm_manifest.specs.Told.{InStore, TellsFault, TellsOpen}
 use Rattle.lsm_manifest.specs.Finding.{Finds, Named, Nothing, StandsForMap, IsSettled, FoundOnce, MapIsOne, RefusesFound, OpensFound, TellsFiles, TellsNew, OpeningFinds, FoundNumbersFit, FoundTablesShow}
 use Rattle.lsm_manifest.proofs.OpeningLemmas.{named_once, named_there, some_not_none}
 use Rattle.lsm_manifest.proofs.Takes.{ImagesAreFirst, files_fault, tables_once}
+
+-- ---- where nothing is
+
+abbrev pub nothing_in : Image
+nothing_in name = None
+
+pub finds_nothing : Finds nothing_in empty_levels
+finds_nothing = Nothing refl (record { no_version = refl; in_tables = λ name refused. refl }) refl
+
+pub nothing_stands : StandsForMap nothing_in empty
+nothing_stands = record { levels = empty_levels; found = finds_nothing; ordered = λ k. tt; single = λ k. tt; shows = refl }
+
+-- ---- what is found is one
 
 pub found_once : ImagesAreFirst → FoundOnce
 found_once first image xs ys (Named id ls a) (Named jd ms b) =

@@ -47,20 +47,20 @@ no_header id sum small fits e =
 -- ---- an image with another content of one name
 
 module _ (image : Image) (m : List ℕ) (c : Option (List ℕ)) where
-  abbrev changed : Image
+  abbrev pub changed : Image
   changed n = cond (bytes_eq n m) c (image n)
 
-  changed_here : changed m ≡ c
+  pub changed_here : changed m ≡ c
   changed_here = ap (λ b. cond b c (image m)) ((bytes_eq-Decides m m).1 refl)
 
   by_test : (n : List ℕ) (b : Bool) → bytes_eq n m ≡ b → n ≢ m → cond b c (image n) ≡ image n
   by_test n true is other = absurd (other ((bytes_eq-Decides n m).0 is))
   by_test n false is other = refl
 
-  changed_else : (n : List ℕ) → n ≢ m → changed n ≡ image n
+  pub changed_else : (n : List ℕ) → n ≢ m → changed n ≡ image n
   changed_else n other = by_test n (bytes_eq n m) refl other
 
-  changed_is : (w : World) → IsImage w.may image → w.may m c → IsImage w.may changed
+  pub changed_is : (w : World) → IsImage w.may image → w.may m c → IsImage w.may changed
   changed_is w at may n =
       ⊎_elim (λ same. subst (λ (k : List ℕ). w.may k (changed k)) (sym same) (subst (λ (o : Option (List ℕ)). w.may m o) (sym changed_here) may))
       (λ other. subst (λ (o : Option (List ℕ)). w.may n o) (sym (changed_else n other)) (at n)) (same_or_not n m)

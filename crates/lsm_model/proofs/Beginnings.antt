@@ -111,7 +111,7 @@ fall_kept notes other upto more (m ∷ sealed) l c same h =
 single_tail : (k : Bytes) (mems : Memtables) (m : ℕ) (ids : List ℕ) (rest : List Entry) → IsSingle (stack k (flat_map mems (m ∷ ids)) ++ rest) → IsSingle (stack k (flat_map mems ids) ++ rest)
 single_tail k mems m ids rest h = single_right (stack k (mems m)) (stack k (flat_map mems ids) ++ rest) (rw (← append_assoc (stack k (mems m)) (stack k (flat_map mems ids)) rest, ← stack-append k (mems m) (flat_map mems ids)) h)
 
-stack_same : (k : Bytes) (mems other : Memtables) (ids : List ℕ) → AllByRecursion (λ m. stack k (other m) ≡ stack k (mems m)) ids → stack k (flat_map other ids) ≡ stack k (flat_map mems ids)
+pub stack_same : (k : Bytes) (mems other : Memtables) (ids : List ℕ) → AllByRecursion (λ m. stack k (other m) ≡ stack k (mems m)) ids → stack k (flat_map other ids) ≡ stack k (flat_map mems ids)
 stack_same k mems other [] h = refl
 stack_same k mems other (m ∷ ids) h = stack-append k (other m) (flat_map other ids) ∙ ap₂ (λ (xs ys : List Entry). xs ++ ys) h.0 (stack_same k mems other ids h.1) ∙ sym (stack-append k (mems m) (flat_map mems ids))
 

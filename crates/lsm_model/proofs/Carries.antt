@@ -43,7 +43,7 @@ single_behind opened start t k h =
     let all : stack k (entries t.mems t.latest) ≡ a ++ (b ++ c) = stack_of k t.mems t.latest ∙ ap (λ es. es ++ c) (stack-append k (t.mems t.latest.active) (flat_map t.mems t.latest.sealed)) ∙ append_assoc a b c in
     single_right a (b ++ c) (subst IsSingle all (h.sound.fits k).0.single)
 
-sealed_below : (opened : List Entry) (start : Map) (t : State) → Holds opened start t → AllByRecursion (λ m. m < t.latest.active) t.latest.sealed
+pub sealed_below : (opened : List Entry) (start : Map) (t : State) → Holds opened start t → AllByRecursion (λ m. m < t.latest.active) t.latest.sealed
 sealed_below opened start t h = h.sound.ids.0.1
 
 -- ---- steps that leave the version
@@ -88,7 +88,7 @@ rotate_carries opened start old a notes l h c =
     }
 
 -- equal sources have equal memtables
-mems_of_sources : (f g : Memtables) (ids : List ℕ) (xs ys : List (List Entry)) → map f ids ++ xs ≡ map g ids ++ ys → AllByRecursion (λ m. f m ≡ g m) ids
+pub mems_of_sources : (f g : Memtables) (ids : List ℕ) (xs ys : List (List Entry)) → map f ids ++ xs ≡ map g ids ++ ys → AllByRecursion (λ m. f m ≡ g m) ids
 mems_of_sources f g [] xs ys e = tt
 mems_of_sources f g (i ∷ ids) xs ys e = (cc e, mems_of_sources f g ids xs ys (cc e))
 

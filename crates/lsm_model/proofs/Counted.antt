@@ -72,7 +72,7 @@ sets_grow : (k : Bytes) (n : ℕ) (more : List Event) → n ≤ fold (sets_after
 sets_grow k n [] = omega arith
 sets_grow k n (x ∷ more) = let a = sets_step k n x in let b = sets_grow k (sets_after k n x) more in omega arith
 
-or_true : (b : Bool) → (b || true) ≡ true
+pub or_true : (b : Bool) → (b || true) ≡ true
 or_true true = refl
 or_true false = refl
 

@@ -13,7 +13,7 @@ use Rattle.lsm_model.proofs.Beginnings.{begun, newest}
 use Rattle.lsm_model.proofs.Wholes.{stands_of}
 use Rattle.lsm_model.proofs.Crashes.{any_number}
 
-abbrev saved : State → List Note → List (List Placed) → Saved
+abbrev pub saved : State → List Note → List (List Placed) → Saved
 saved t notes others = record { state = t; notes = notes; others = others }
 
 abbrev one : List Placed
@@ -24,13 +24,13 @@ one = table 0 set0 ∷ []
 abbrev a0 : Saved
 a0 = saved (state [] m0 (sv 0 0 [] []) []) [] []
 
-abbrev a1 : Saved
+abbrev pub a1 : Saved
 a1 = saved (state (Write set0 ∷ []) m1 (sv 0 0 [] []) []) [] []
 
-abbrev a2 : Saved
+abbrev pub a2 : Saved
 a2 = saved (state (Write set0 ∷ []) m2 (sv 0 1 (0 ∷ []) []) []) (SealedAt 0 1 ∷ []) []
 
-abbrev a3 : Saved
+abbrev pub a3 : Saved
 a3 = saved (state (Write set0 ∷ (Install 1 ∷ [])) m2 (sv 1 1 [] one) (sv 0 1 (0 ∷ []) [] ∷ [])) (FlushedIds (0 ∷ []) ∷ (SealedAt 0 1 ∷ [])) []
 
 -- ---- the second one: opened on what was flushed, a clear of unknown outcome
@@ -38,7 +38,7 @@ a3 = saved (state (Write set0 ∷ (Install 1 ∷ [])) m2 (sv 1 1 [] one) (sv 0 1
 abbrev b0 : Saved
 b0 = saved (state [] m0 (sv 0 0 [] one) []) [] []
 
-abbrev cleared : State
+abbrev pub cleared : State
 cleared = state (Clear 1 ∷ []) (emptied m0 1) (sv 1 1 [] []) (history b0.state)
 
 abbrev b1 : Saved

@@ -40,7 +40,7 @@ begins_recover start journal notes least place tables stands enough within begin
   };
 }
 
-is_in_behind : {A : Type 0} (x : A) (xs ys : List A) → IsIn x ys → IsIn x (xs ++ ys)
+pub is_in_behind : {A : Type 0} (x : A) (xs ys : List A) → IsIn x ys → IsIn x (xs ++ ys)
 is_in_behind x [] ys h = h
 is_in_behind x (y ∷ xs) ys h = inr (is_in_behind x xs ys h)
 
@@ -114,7 +114,7 @@ lost_recovers opened start old other would notes q m distinct h c = absurd (cc q
 
 -- ---- notes
 
-more_covered : (extra notes : List Note) → covered notes ≤ covered (extra ++ notes)
+pub more_covered : (extra notes : List Note) → covered notes ≤ covered (extra ++ notes)
 more_covered [] notes = omega arith
 more_covered (SealedAt m p ∷ extra) notes = more_covered extra notes
 more_covered (FlushedIds ids ∷ extra) notes = let r = more_covered extra notes in omega arith
@@ -356,3 +356,7 @@ pub any_number : AnyNumberOfCrashes
 any_number first stands [] lives = tt
 any_number first stands (left ∷ more) lives =
     let well = life_well first left stands lives.0 in (well, any_number left well.recovers.stands more lives.1)
+
+-- no tables stand for a map
+pub no_tables_stand : Stands []
+no_tables_stand = record { distinct = tt; laid = record { covers = tt; by_level = tt }; ordered = λ k. tt; single = λ k. tt }

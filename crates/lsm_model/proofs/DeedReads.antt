@@ -1,9 +1,9 @@
 -- What deeds keep of reads.
-use Rattle.std.proofs.Common.{◌≡◌, ℕ, true, false, cond, List, [], ◌∷◌, ◌++◌, Some, refl, sym, ap, ◌∙◌, subst, ltb, eqb}
+use Rattle.std.proofs.Common.{◌≡◌, ℕ, true, false, cond, List, [], ◌∷◌, ◌++◌, map, Some, refl, sym, ap, ◌∙◌, subst, ltb, eqb}
 use Rattle.lsm_below.specs.Entries.{Entry}
 use Rattle.lsm_model.specs.Journal.{Map, InOrder}
-use Rattle.lsm_model.specs.Views.{SuperVersion, found_at, front, lookup}
-use Rattle.lsm_model.specs.Steps.{State, history, Action, Wrote, Rotated, LostDrop, Asked, Flushed, Merged, Moved, DroppedTables, Cleared, Marked, Maintained, Step, Spares, StaysAt}
+use Rattle.lsm_model.specs.Views.{SuperVersion, HasDistinctIds, found_at, front, lookup}
+use Rattle.lsm_model.specs.Steps.{State, Run, history, Action, Wrote, Rotated, LostDrop, Asked, Flushed, Merged, Moved, DroppedTables, Cleared, Marked, Maintained, Step, Spares, StaysAt}
 use Rattle.lsm_model.specs.Sound.{Holds}
 use Rattle.lsm_model.specs.Beginnings.{Saved, Deed, Done, Lost, Does, Deeds, is_commit, told_lost}
 use Rattle.lsm_model.proofs.Runs.{step_holds, step_order}
@@ -21,10 +21,19 @@ deeds_hold opened start old [] new d o h = subst (λ (t : Saved). Holds opened s
 deeds_hold opened start old (deed ∷ deeds) new d o h =
     deeds_hold opened start d.0 deeds new d.2 o (does_hold opened start old deed d.0 d.1 (grown_order opened d.0 new (deeds_grow opened d.0 deeds new d.2) o) h)
 
+-- writes in turn are deeds in turn
+pub writes : (opened : List Entry) (es : List Entry) (old : Saved) (new : State) → Run opened old.state (map Wrote es) new → HasDistinctIds old.state.latest.tables
+    → Deeds opened old (map (λ e. Done (Wrote e)) es) (record { state = new; notes = old.notes; others = old.others })
+writes opened [] old new r distinct = ap (λ s. record { state = s; notes = old.notes; others = old.others }) r
+writes opened (e ∷ es) old new r distinct =
+    let mid : Saved = record { state = r.0; notes = old.notes; others = old.others } in
+    let there = subst HasDistinctIds (sym (ap (λ sv. sv.tables) r.1.latest)) distinct in
+    (mid, record { answered = refl; certain = λ commits. absurd (cc commits); step = r.1; distinct = there; notes = refl; others = refl }, writes opened es mid new r.2 there)
+
 -- ---- a commit that is answered
 
 -- what finds a super version finds one behind another in front
-found_behind : (s : ℕ) (first latest : SuperVersion) (older : List SuperVersion) (sv : SuperVersion) → found_at s latest older ≡ Some sv → (there : SuperVersion) × (found_at s first (latest ∷ older) ≡ Some there)
+pub found_behind : (s : ℕ) (first latest : SuperVersion) (older : List SuperVersion) (sv : SuperVersion) → found_at s latest older ≡ Some sv → (there : SuperVersion) × (found_at s first (latest ∷ older) ≡ Some there)
 found_behind s first latest older sv f =
     elim (eqb s 0) as (λ b. cond b (Some (front latest older)) (lookup s (latest ∷ older)) ≡ Some sv → (there : SuperVersion) × (cond b (Some (front first (latest ∷ older))) (lookup s (first ∷ (latest ∷ older))) ≡ Some there)) [
       | true ↦ λ q. (front latest older, refl)

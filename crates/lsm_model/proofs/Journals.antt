@@ -98,7 +98,7 @@ in_order_last opened journal x h = in_order_last_from opened [] journal x h
 pub in_order_front : (opened : List Entry) (journal more : List Event) → InOrder opened (journal ++ more) → InOrder opened journal
 in_order_front opened journal more h = in_order_front_from opened [] journal more h
 
-not_kept : (s : ℕ) (more : List Event) → fold (kept_after s) false more ≡ false
+pub not_kept : (s : ℕ) (more : List Event) → fold (kept_after s) false more ≡ false
 not_kept s [] = refl
 not_kept s (Write e ∷ more) = not_kept s more
 not_kept s (Clear n ∷ more) = not_kept s more

@@ -42,7 +42,7 @@ value_high k s v (Dropped ranges n) h = refl
 value_high k s v (Mark w) h = refl
 value_high k s v (Read at question told) h = refl
 
-outside_high : (k : Bytes) (s : ℕ) (b : Bool) (x : Event) → number_in x < s → outside_after k s b x ≡ spared_after k b x
+pub outside_high : (k : Bytes) (s : ℕ) (b : Bool) (x : Event) → number_in x < s → outside_after k s b x ≡ spared_after k b x
 outside_high k s b (Write e) h = rw (lt-ltb e.key.seqno s h, and-true (is_same k e.key.user_key)) refl
 outside_high k s b (Clear n) h = rw (lt-ltb n s h) refl
 outside_high k s b (Install n) h = refl
@@ -55,7 +55,7 @@ replay_high : (k : Bytes) (s : ℕ) (v : Option Bytes) (journal : List Event) �
 replay_high k s v [] h = refl
 replay_high k s v (x ∷ journal) h = ap (λ w. replay_at k s w journal) (value_high k s v x (omega arith)) ∙ replay_high k s (begun_after k v x) journal (omega arith)
 
-spared_high : (k : Bytes) (s : ℕ) (b : Bool) (journal : List Event) → over journal ≤ s → fold (outside_after k s) b journal ≡ fold (spared_after k) b journal
+pub spared_high : (k : Bytes) (s : ℕ) (b : Bool) (journal : List Event) → over journal ≤ s → fold (outside_after k s) b journal ≡ fold (spared_after k) b journal
 spared_high k s b [] h = refl
 spared_high k s b (x ∷ journal) h = ap (λ c. fold (outside_after k s) c journal) (outside_high k s b x (omega arith)) ∙ spared_high k s (spared_after k b x) journal (omega arith)
 

@@ -4,8 +4,7 @@ use Rattle.std.specs.List.{AllByRecursion}
 use Rattle.std.proofs.lemmas.List.{drop_more, length-take-le, take-take}
 use Rattle.lsm_below.specs.Each.{each_weaker}
 use Rattle.lsm_store.specs.World.{World}
-use Rattle.lsm_store.specs.Synced.{KeepsOthers}
-use Rattle.lsm_store.specs.Moments.{joined, same_or_not}
+use Rattle.lsm_store.specs.Moments.{joined}
 use Rattle.lsm_manifest.specs.Names.{version_name}
 use Rattle.lsm_commit.specs.Stored.{HoldsOneOf}
 use Rattle.lsm_commit.specs.Foreign.{AtRest, Passes}
@@ -20,10 +19,6 @@ pub record KeepsFiles (tells : Type 0) (h : SeenHistory) (n : ℕ) (old new : Wo
   pub stored : tells → KeepsVersions h.latest.version.id old new
   pub passes : tells → Passes old new
   pub failures : new.failures ≡ old.failures
-
--- an absent name stays so where another one is made absent
-pub absent_after : (name : List ℕ) (old new : World) → KeepsOthers name old new → new.gives name ≡ None → (n : List ℕ) → old.gives n ≡ None → new.gives n ≡ None
-absent_after name old new keeps gone n was = ⊎_elim (λ (e : n ≡ name). ap new.gives e ∙ gone) (λ differs. keeps.gives n differs ∙ was) (same_or_not n name)
 
 drop_whole : {A : Type 0} (xs : List A) → drop (length xs) xs ≡ []
 drop_whole [] = refl

@@ -7,8 +7,9 @@ use Rattle.lsm_tables.specs.Tables.{SeenTable}
 use Rattle.lsm_model.specs.Steps.{among}
 use Rattle.lsm_versions.specs.TableLaws.{or_none, among_append, put_more}
 use Rattle.lsm_checks.specs.Choices.{AreIdsOf}
+use Rattle.lsm_checks.proofs.Choosing.{from_eqb}
 use Rattle.lsm_pick.specs.Tables.{AddsIds}
-use Rattle.lsm_pick.proofs.Members.{any_has, has_any, has_map, map_has, same_by, from_eqb, to_eqb}
+use Rattle.lsm_pick.proofs.Members.{any_has, has_any, has_map, map_has, same_by, to_eqb}
 
 or_assoc : (a b c : Bool) → (a || (b || c)) ≡ ((a || b) || c)
 or_assoc true b c = refl

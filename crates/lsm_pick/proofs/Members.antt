@@ -44,9 +44,6 @@ pub not_true : (b : Bool) → not b ≡ true → b ≡ false
 not_true true h = absurd (false≢true h)
 not_true false h = refl
 
-pub from_eqb : (m n : ℕ) → eqb m n ≡ true → m ≡ n
-from_eqb m n h = grind (arith, nat_tests)
-
 pub to_eqb : (n : ℕ) → eqb n n ≡ true
 to_eqb n = grind (arith, nat_tests)
 

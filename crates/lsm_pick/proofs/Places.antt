@@ -7,8 +7,9 @@ use Rattle.lsm_model.specs.Steps.{among}
 use Rattle.lsm_versions.specs.Levels.{Levels, all_of}
 use Rattle.lsm_versions.specs.TableLaws.{flat_append}
 use Rattle.lsm_checks.specs.Choices.{AreIdsOf}
+use Rattle.lsm_checks.proofs.Choosing.{from_eqb}
 use Rattle.lsm_pick.proofs.Standing.{is_chosen, run_of, StandsAt, IsPlain}
-use Rattle.lsm_pick.proofs.Members.{Has, from_eqb, to_eqb, has_map, map_has, any_has, has_any, has_append, has_left, has_right, has_at, at_has, flat_has, has_flat}
+use Rattle.lsm_pick.proofs.Members.{Has, to_eqb, has_map, map_has, any_has, has_any, has_append, has_left, has_right, has_at, at_has, flat_has, has_flat}
 
 -- a table of the levels
 abbrev pub IsThere : Levels → SeenTable → Type 0

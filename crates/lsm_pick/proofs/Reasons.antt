@@ -14,7 +14,8 @@ use Rattle.lsm_checks.specs.declared.choice.Kind.TheVariants.{Merge, Move}
 use Rattle.lsm_checks.specs.declared.parted_run.Fault.{Fault}
 use Rattle.lsm_checks.specs.declared.parted_run.Fault.TheVariants.{OutOfOrder, StandsBelow}
 use Rattle.lsm_checks.specs.Choices.{any_pair, is_bad, any_bad, is_clash, any_clash, resumes, has_gap, any_gap, is_there, first_reason_of}
-use Rattle.lsm_pick.proofs.Members.{any_has, has_any, has_at, and_left, and_right, and_both, not_true, from_eqb, to_eqb, or_cases}
+use Rattle.lsm_checks.proofs.Choosing.{from_eqb}
+use Rattle.lsm_pick.proofs.Members.{any_has, has_any, has_at, and_left, and_right, and_both, not_true, to_eqb, or_cases}
 use Rattle.lsm_pick.proofs.Standing.{is_chosen, run_of, StandsAt, IsPlain, Precedes, HaveNoGaps, ArePairsAllowed, AreApart}
 use Rattle.lsm_pick.proofs.Pairs.{not_so}
 use Rattle.lsm_pick.proofs.Places.{IsThere}

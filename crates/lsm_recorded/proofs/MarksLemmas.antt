@@ -27,9 +27,7 @@ use Rattle.lsm_recorded.specs.declared.marks.Mark.{Mark}
 use Rattle.lsm_recorded.specs.Headed.{headed_cmp}
 use Rattle.lsm_recorded.specs.Marks.{mark_of, marked, marked_by, marked_all, no_mark, next_mark, mark_in, kind_allows, mark_allows, entry_allowed, mark_tells_order}
 use Rattle.lsm_recorded.specs.Order.{weak_after, weak_of, kind_keeps, keeps_order}
-
-pub same_key : (a b : Bytes) → is_same a b ≡ true → a ≡ b
-same_key a b h = (bytes_eq-Decides a b).0 (sym (is_eq-slice_cmp a b) ∙ h)
+use Rattle.lsm_versions.proofs.Walks.{same_key}
 
 pub same_self : (a : Bytes) → is_same a a ≡ true
 same_self a = is_eq-slice_cmp a a ∙ (bytes_eq-Decides a a).1 refl

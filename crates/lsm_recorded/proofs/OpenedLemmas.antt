@@ -15,7 +15,8 @@ use Rattle.lsm_below.specs.declared.value_type.ValueType.TheVariants.{Value, Tom
 use Rattle.lsm_recorded.specs.declared.marks.Mark.{Mark}
 use Rattle.lsm_recorded.specs.declared.opened.OpenedMarks.{OpenedMarks}
 use Rattle.lsm_recorded.specs.Marks.{mark_of, marked, mark_in, next_mark, mark_allows, kind_allows, opened_type, AreInOrder, IsMarked, MarksMore}
-use Rattle.lsm_recorded.proofs.MarksLemmas.{same_key, same_self, both, le_of}
+use Rattle.lsm_recorded.proofs.MarksLemmas.{same_self, both, le_of}
+use Rattle.lsm_versions.proofs.Walks.{same_key}
 
 -- ---- entries in order
 

@@ -17,11 +17,13 @@ use Rattle.lsm_below.specs.declared.value_type.ValueType.TheVariants.{Value, Tom
 use Rattle.lsm_model.specs.Ops.{op_entry, op_entries, keys_of, repeats}
 use Rattle.lsm_model.specs.declared.op.Op.{Op}
 use Rattle.lsm_model.specs.declared.op.Op.TheVariants.{Set, Del, Weak}
+use Rattle.lsm_model.proofs.Counted.{or_true}
 use Rattle.lsm_recorded.specs.Headed.{headed_cmp}
 use Rattle.lsm_recorded.specs.declared.marks.Mark.{Mark}
 use Rattle.lsm_recorded.specs.Marks.{mark_of, marked, marked_by, marked_all, next_mark, mark_allows, kind_allows, op_type, op_allowed}
 use Rattle.lsm_recorded.specs.Raising.{restored, AreThere}
-use Rattle.lsm_recorded.proofs.MarksLemmas.{same_key, both, le_of, marked_by_same}
+use Rattle.lsm_recorded.proofs.MarksLemmas.{both, le_of, marked_by_same}
+use Rattle.lsm_versions.proofs.Walks.{same_key}
 
 -- ---- what isn't raised
 
@@ -131,10 +133,6 @@ module _ (n : ℕ) (ops : List (Bytes × Op)) (i : ℕ) (p : Bytes × Op) (lt : 
 -- marks are what they were but for those of these keys, which this number is no more above
 abbrev pub IsApart : ℕ → List Bytes → (Bytes → Mark) → (Bytes → Mark) → Bytes → Type 0
 IsApart n keys old new q = (new q ≡ old q) ⊎ ((n < (new q).next) × (list_any (is_same q) keys ≡ true))
-
-or_true : (b : Bool) → (b || true) ≡ true
-or_true true = refl
-or_true false = refl
 
 or_left : (a b : Bool) → a ≡ true → (a || b) ≡ true
 or_left true b h = refl

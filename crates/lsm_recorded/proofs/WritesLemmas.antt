@@ -13,6 +13,7 @@ use Rattle.lsm_recorded.specs.declared.marks.Mark.{Mark}
 use Rattle.lsm_recorded.specs.Marks.{marked, marked_by, marked_all, next_mark, mark_allows, op_type, op_allowed}
 use Rattle.lsm_recorded.specs.Passes.{Notes}
 use Rattle.lsm_recorded.specs.Recorded.{OwnOr}
+use Rattle.lsm_iter.proofs.Prefixes.{and_true}
 
 -- ---- refusals
 
@@ -54,10 +55,6 @@ popped_one ops (x ∷ rest) p is one =
     let long : length ops ≡ suc (length (rest ++ p ∷ [])) = ap (λ l. length l) is in
     let more = length-append rest (p ∷ []) in
     absurd (omega arith)
-
-and_true : (b : Bool) → (b && true) ≡ b
-and_true true = refl
-and_true false = refl
 
 floor_false : (low n : ℕ) → n < low → nat_le low n ≡ false
 floor_false low n below = grind (arith, nat_tests)

@@ -37,7 +37,7 @@ in_all : {A : Type 0} (P : A → Type 0) (x : A) (xs : List A) → AllByRecursio
 in_all P x [] h i = absurd i
 in_all P x (y ∷ ys) h i = ⊎_elim (λ (e : y ≡ x). subst P e h.0) (λ (j : IsIn x ys). in_all P x ys h.1 j) i
 
-distinct_behind : (opened : List Entry) (ds : List Deed) (old new : Saved) → Deeds opened old ds new → HasDistinctIds old.state.latest.tables → HasDistinctIds new.state.latest.tables
+pub distinct_behind : (opened : List Entry) (ds : List Deed) (old new : Saved) → Deeds opened old ds new → HasDistinctIds old.state.latest.tables → HasDistinctIds new.state.latest.tables
 distinct_behind opened [] old new d h = subst (λ t. HasDistinctIds t.state.latest.tables) (sym d) h
 distinct_behind opened (Done action ∷ ds) old new d h = distinct_behind opened ds d.0 new d.2 d.1.distinct
 distinct_behind opened (Lost action would ∷ ds) old new d h = distinct_behind opened ds d.0 new d.2 (subst (λ (t : State). HasDistinctIds t.latest.tables) (sym d.1.state) h)

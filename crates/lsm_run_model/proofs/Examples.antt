@@ -3,19 +3,22 @@ use Rattle.std.proofs.Common.{◌≡◌, ◌⊎◌, ⊎_elim, ℕ, zero, suc, �
 use Rattle.std.specs.FinMap.{get, empty, entries, find, get-empty, get-entries}
 use Rattle.std.specs.declared.ops.Bound.TheVariants.{Unbounded}
 use Rattle.lsm_below.specs.Keys.{Bytes, is_same, bytes_cmp}
-use Rattle.lsm_below.specs.Entries.{Entry, stack, keep, entry_at, value_of, IsFalling, IsSingle}
+use Rattle.lsm_below.specs.Entries.{Entry, stack, entry_at, value_of, IsFalling, IsSingle}
 use Rattle.lsm_below.specs.declared.value_type.ValueType.TheVariants.{Value}
 use Rattle.lsm_below.specs.Members.{IsIn}
 use Rattle.lsm_store.specs.World.{Image, World, LeavesOnly}
 use Rattle.lsm_model.specs.Journal.{Event, Map, changed}
-use Rattle.lsm_model.specs.Views.{Memtables, Placed, SuperVersion, held, written, emptied}
-use Rattle.lsm_model.specs.Steps.{State, Wrote, Rotated, Flushed as Flushing, Cleared as Clearing, history}
+use Rattle.lsm_model.specs.Views.{Memtables, Placed, held, written, emptied}
+use Rattle.lsm_model.specs.Steps.{Wrote, Rotated, Flushed as Flushing, Cleared as Clearing}
 use Rattle.lsm_model.specs.Soundness.{Soundness}
 use Rattle.lsm_model.specs.Laws.{MapsAreRead}
 use Rattle.lsm_model.specs.Beginnings.{Note, SealedAt, FlushedIds, ClearLost, covered, Saved, Done, Lost, IsStart, IsBeginning, EveryCrashRecovers, DeedsJoin, OpeningStarts, Stands, is_spared, beginning, shown_by, versions}
 use Rattle.lsm_model.specs.declared.journal.JournalEntry.TheVariants.{Write, Clear, Install, Dropped, Read}
 use Rattle.lsm_model.specs.declared.question.Question.TheVariants.{Get, Between}
 use Rattle.lsm_model.specs.declared.question.Answer.TheVariants.{Found, Pairs}
+use Rattle.lsm_model.proofs.Examples.{kept_one, state, sv}
+use Rattle.lsm_model.proofs.CrashExamples.{saved, a3, a2, a1, cleared}
+use Rattle.lsm_model.proofs.Crashes.{no_tables_stand}
 use Rattle.lsm_run_model.specs.Outcomes.{Told, nothing}
 use Rattle.lsm_run_model.specs.declared.noted.Noted.TheVariants.{Sealed, Flushed, ClearUnknown}
 use Rattle.lsm_run_model.specs.Moments.{EachMoment, HoldsBeginning}
@@ -37,15 +40,6 @@ set0 = entry_at key 0 Value (7 ∷ [])
 abbrev one : List Placed
 one = record { level = 0; table = record { id = 0; range = record { min = key; max = key }; entries = set0 ∷ [] } } ∷ []
 
-abbrev sv : ℕ → ℕ → List ℕ → List Placed → SuperVersion
-sv n a sealed tables = record { number = n; active = a; sealed = sealed; tables = tables }
-
-abbrev state : List Event → Memtables → SuperVersion → List SuperVersion → State
-state j m latest older = record { journal = j; mems = m; latest = latest; older = older }
-
-abbrev saved : State → List Note → List (List Placed) → Saved
-saved t notes others = record { state = t; notes = notes; others = others }
-
 abbrev m0 : Memtables
 m0 = λ i. []
 
@@ -58,20 +52,8 @@ m2 = emptied m1 1
 abbrev a0 : Saved
 a0 = saved (state [] m0 (sv 0 0 [] []) []) [] []
 
-abbrev a1 : Saved
-a1 = saved (state (Write set0 ∷ []) m1 (sv 0 0 [] []) []) [] []
-
-abbrev a2 : Saved
-a2 = saved (state (Write set0 ∷ []) m2 (sv 0 1 (0 ∷ []) []) []) (SealedAt 0 1 ∷ []) []
-
-abbrev a3 : Saved
-a3 = saved (state (Write set0 ∷ (Install 1 ∷ [])) m2 (sv 1 1 [] one) (sv 0 1 (0 ∷ []) [] ∷ [])) (FlushedIds (0 ∷ []) ∷ (SealedAt 0 1 ∷ [])) []
-
 abbrev b0 : Saved
 b0 = saved (state [] m0 (sv 0 0 [] one) []) [] []
-
-abbrev cleared : State
-cleared = state (Clear 1 ∷ []) (emptied m0 1) (sv 1 1 [] []) (history b0.state)
 
 abbrev b1 : Saved
 b1 = saved b0.state (ClearLost 1 0 ∷ []) ([] ∷ [])
@@ -125,9 +107,6 @@ point store tree = record { store = store; tree = tree }
 
 abbrev points : List (Point Store)
 points = point New a1 ∷ (point New a2 ∷ (point Behind a3 ∷ []))
-
-kept_one : (k : Bytes) (e : Entry) (w : ℕ) → stack k (e ∷ []) ≡ keep w false (stack k (e ∷ []))
-kept_one k e w = elim (is_same k e.key.user_key) as (λ b. cond b (e ∷ []) [] ≡ keep w false (cond b (e ∷ []) [])) [ true ↦ refl | false ↦ refl ]
 
 -- a call that leaves the store
 still : (old new : Saved) → IsIn [] (versions old) → LeavesOnly (world New) (world New) (FindsAmong Finds (IsOfEither old new))
@@ -228,9 +207,6 @@ single_alone k = elim (is_same k key) as (λ b. IsSingle (cond b (set0 ∷ []) [
 
 one_stands : Stands one
 one_stands = record { distinct = (tt, tt); laid = record { covers = ((refl, tt), tt); by_level = (tt, tt) }; ordered = λ k. falls_alone k; single = λ k. single_alone k }
-
-none_stands : Stands []
-none_stands = record { distinct = tt; laid = record { covers = tt; by_level = tt }; ordered = λ k. tt; single = λ k. tt }
 
 abbrev told_again : List (Told ℕ)
 told_again = record { reply = 0; entries = []; notes = ClearUnknown 1 ∷ [] } ∷ []
@@ -339,7 +315,7 @@ module _ (theory : Soundness) (crashes : EveryCrashRecovers) (join : DeedsJoin) 
 
   -- what the first crash left shows a beginning of its three calls, what the second one left a beginning of the clear
   pub both_well : AllGoWell ℕ AllKnown Always Shows world (λ m. IsIn m (empty ∷ [])) (Crashed (filled none)) (Crashed (filled mark) ∷ (Crashed (filled none) ∷ [])) lives
-  both_well = any_number ℕ AllKnown Always Shows world reads (Crashed (filled none)) (empty ∷ []) tt tt (λ image is. (empty, moved (filled none) image empty (ap (λ (i : Image). i []) is) ([], inl (refl, refl), none_stands, refl), inl refl)) (Crashed (filled mark) ∷ (Crashed (filled none) ∷ [])) lives
+  both_well = any_number ℕ AllKnown Always Shows world reads (Crashed (filled none)) (empty ∷ []) tt tt (λ image is. (empty, moved (filled none) image empty (ap (λ (i : Image). i []) is) ([], inl (refl, refl), no_tables_stand, refl), inl refl)) (Crashed (filled mark) ∷ (Crashed (filled none) ∷ [])) lives
 
 -- ---- why each moment has its own journal
 

@@ -108,13 +108,6 @@ rash_world = record { gives = filled names_new none; may = At old_file (OldOr (O
 abbrev synced_world : World
 synced_world = record { gives = filled names_new there; may = At current (Only names_new) doubt_may; moment = 2; since = λ t image. ((t ≤ 1) × (IsImage doubt_may image ⊎ IsImage (At current Anything doubt_may) image)) ⊎ IsImage (At current (Only names_new) doubt_may) image; failures = 0 }
 
--- what one possible content each leaves is among what more leave
-before_doubt : (image : Image) → IsImage before_may image → IsImage doubt_may image
-before_doubt image is [] = inl (is [])
-before_doubt image is (zero ∷ []) = is (zero ∷ [])
-before_doubt image is (suc x ∷ []) = is (suc x ∷ [])
-before_doubt image is (x ∷ (y ∷ zs)) = is (x ∷ (y ∷ zs))
-
 sure_doubt : (image : Image) → IsImage sure_may image → IsImage doubt_may image
 sure_doubt image is [] = inr (is [])
 sure_doubt image is (zero ∷ []) = is (zero ∷ [])

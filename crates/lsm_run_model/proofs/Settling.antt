@@ -2,7 +2,7 @@
 use Rattle.std.proofs.Common.{◌≡◌, ◌⊎◌, ⊎_elim, inl, inr, ℕ, arith, Bool, true, List, Option, None, refl}
 use Rattle.lsm_store.specs.World.{Image, Row, World, IsImage, At, Becomes, LeavesOnly}
 use Rattle.lsm_model.specs.Journal.{Map}
-use Rattle.lsm_run_model.specs.Lives.{Killed, EndsIn, ShowsOld}
+use Rattle.lsm_run_model.specs.Lives.{ShowsOld}
 use Rattle.lsm_run_model.specs.Settling.{TellsMoments, Grows, KillsAreMoments, LooksAt, IsPut, IsCleared, Settled, FailingOpens, NarrowingLeaves, SettlingPuts, Settling}
 
 module _ {F : Type 0} (Shows : Image → Map → Type 0) (world : F → World) where
@@ -101,12 +101,3 @@ pub breaks : (Shows : Image → Map → Type 0) (old mid new : World) (name : Li
     → (image : Image) → IsImage (At name during old.may) image → ((m : Map) → Shows image m → ⊥) → LeavesOnly old new (ShowsOld Shows old) → ⊥
 breaks Shows old mid new name during done call more image is shows_none promise =
     let s = promise.each image (more.since old.moment image call.later ((call.since old.moment image (omega arith)).1 (inr is))) in shows_none s.map s.shows
-
--- a process that is killed in a call of the store leaves it as a fault of that call does, and that is a kill in any call of the tree that
--- makes the call of the store, whatever it then answers
-pub kill_in_call : {F : Type 0} (world : F → World) → TellsMoments world → (old mid new cut : F) (name : List ℕ) (during done : Row) → Becomes name during done (world old) (world mid) → Grows (world mid) (world new)
-    → Becomes name during during (world old) (world cut) → EndsIn world (world old) (world new) (Killed cut)
-kill_in_call world tells old mid new cut name during done call more fault = record {
-  each = λ image may. more.since (world old).moment image call.later ((call.since (world old).moment image (omega arith)).1 (inr (λ n. (fault.may n (image n)).0 (may n))));
-  gives = tells.gives_one cut;
-}

@@ -15,6 +15,7 @@ use Rattle.lsm_model.specs.declared.question.Question.{Question}
 use Rattle.lsm_model.specs.declared.question.Question.TheVariants.{Get as AskGet}
 use Rattle.lsm_model.specs.declared.question.Answer.{Answer}
 use Rattle.lsm_model.specs.declared.question.Answer.TheVariants.{Found, Pairs as FoundPairs}
+use Rattle.lsm_model.proofs.DeedReads.{writes}
 use Rattle.lsm_iter.specs.Guards.{Pair}
 use Rattle.lsm_state.specs.Core.{Core, state_of, latest_of}
 use Rattle.lsm_state.specs.Calls.{Rotates}
@@ -29,7 +30,7 @@ use Rattle.lsm_runs.specs.Noting.{sealed_note, alone_notes}
 use Rattle.lsm_runs.specs.ReadSteps.{TakesGet, TakesGetEntry, TakesPairs}
 use Rattle.lsm_runs.specs.Runs.{TakesEntry, TakesBatch, TakesRotate, TakesNext, TakesCounter, with_counter, without_low_reads}
 use Rattle.lsm_run_model.proofs.LowReads.{writes_without}
-use Rattle.lsm_runs.proofs.StepDeeds.{HasDeeds, IsRight, IsSame, idle, nothing, no_deed, does, writes}
+use Rattle.lsm_runs.proofs.StepDeeds.{HasDeeds, IsRight, IsSame, idle, nothing, no_deed, does}
 
 module _ (theory : Soundness) (opened : List Entry) (start : Map) (journal : List Event) (notes : List Note) (old new : Core) (right : IsRight opened start journal old) where
   -- what of the events counts, and what is noted

@@ -327,7 +327,7 @@ begun_cause r reply old new is c = rw is (causes_less _ _ old new c (begun_blame
 -- ---- runs
 
 -- what is the same of a store here is how many of its calls failed
-from_same : (Blamed : Type 0) (old mid new : World) → mid.failures ≡ old.failures → HasCause Blamed mid new → HasCause Blamed old new
+pub from_same : (Blamed : Type 0) (old mid new : World) → mid.failures ≡ old.failures → HasCause Blamed mid new → HasCause Blamed old new
 from_same Blamed old mid new same c =
     let up = c.rises in
     record { rises = omega (arith, up, same); cause = λ blamed. let failed = c.cause blamed in omega (arith, failed, same) }

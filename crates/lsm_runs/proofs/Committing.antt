@@ -39,6 +39,7 @@ use Rattle.lsm_runs.specs.Flushing.{TakesRegister, TakesFlush, TakesFlushActive}
 use Rattle.lsm_checks.specs.declared.choice.Why.TheVariants.{UnknownJob}
 use Rattle.lsm_compaction.specs.OpenMerges.{IsOpenIn}
 use Rattle.lsm_runs.proofs.Drawing.{Near, seqno_of, near_same, near_next, near_either, same_or_counted, unnumbered, idle, drawn, rotated_same, spends_same}
+use Rattle.lsm_runs.proofs.CompactionRest.{IsOneOf}
 
 -- ---- flushes
 
@@ -136,9 +137,6 @@ refused {T} done e old new other near = undone done (Err e) old new not_done (λ
 -- of an error that is known
 refused_as : {T : Type 0} (done : T) (r : Result T Error) (e : Error) (old new : ℕ) → r ≡ Err e → (e ≡ AfterCommit → ⊥) → Near old new → Counts done r old new
 refused_as done r e old new is other near = subst (λ x. Counts done x old new) (sym is) (refused done e old new other near)
-
-abbrev IsOneOf : Error → Type 0
-IsOneOf e = ((e ≡ OutOfMemory) ⊎ ((e ≡ Store) ⊎ (e ≡ CommitUnknown))) ⊎ ((e ≡ OutOfNumbers) ⊎ ((e ≡ TooManyRuns) ⊎ (e ≡ AfterCommit)))
 
 installed_next : (v : SeenVersion) (w : ℕ) (whole : Bool) (old new : Core) → IsInstalled v w whole old new → new.seqno ≡ old.seqno + 1
 installed_next v w whole old new i = seqno_of new _ i.rest

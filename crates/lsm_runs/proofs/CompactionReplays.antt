@@ -29,6 +29,7 @@ use Rattle.lsm_runs.specs.Compacting.{Strategies, job_of, BeginsFrom, TakesBegin
 use Rattle.lsm_runs.specs.Runs.{without_low_reads}
 use Rattle.lsm_run_model.proofs.LowReads.{without-append}
 use Rattle.lsm_runs.proofs.Keeping.{AreNoReads, KeepsAfter, keeps_any, keeps_marked}
+use Rattle.lsm_runs.proofs.OpenMerges.{one_merge, no_merge}
 
 -- ---- the events of compactions
 
@@ -91,12 +92,6 @@ compacted_unread (Err e) o r events old new b = at events _ b.1 (mark_unread o.m
 -- the watermark of a merge whose job waits in a place is marked
 abbrev pub IsMarkedAt : List Event → Option Job → Type 0
 IsMarkedAt journal place = (job : SeenCompaction) → merge_in place ≡ Some job → IsMarkedIn job.settings.watermark journal
-
-no_merge : (o : Option SeenCompaction) (job : SeenCompaction) → o ≡ None → o ≡ Some job → ⊥
-no_merge o job none some = cc
-
-one_merge : (o : Option SeenCompaction) (a b : SeenCompaction) → o ≡ Some a → o ≡ Some b → a ≡ b
-one_merge o a b first second = cc
 
 -- none waits there
 pub free_marked : (journal : List Event) (is : Option Job) → merge_in is ≡ None → IsMarkedAt journal is

@@ -69,7 +69,7 @@ LeavesEnded job old new =
 
 -- ---- installing
 
-abbrev IsOneOf : Error → Type 0
+abbrev pub IsOneOf : Error → Type 0
 IsOneOf e = ((e ≡ OutOfMemory) ⊎ ((e ≡ Store) ⊎ (e ≡ CommitUnknown))) ⊎ ((e ≡ OutOfNumbers) ⊎ ((e ≡ TooManyRuns) ⊎ (e ≡ AfterCommit)))
 
 installed_work : (v : SeenVersion) (w : ℕ) (whole : Bool) (old new : Core) → IsInstalled v w whole old new → KeepsOpenWork old new

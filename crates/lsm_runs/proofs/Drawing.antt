@@ -33,6 +33,7 @@ use Rattle.lsm_runs.specs.Flushing.{TakesBegin, TakesRun, TakesTables, TakesAban
 use Rattle.lsm_runs.specs.ReadSteps.{TakesGet, TakesGetEntry, TakesPairs}
 use Rattle.lsm_runs.specs.Runs.{TakesEntry, TakesBatch, TakesRotate, TakesNext, TakesCounter}
 use Rattle.lsm_runs.proofs.Clearing.{forgets_either}
+use Rattle.lsm_runs.proofs.Small.{op_number}
 
 -- ---- words
 
@@ -82,11 +83,6 @@ pub entry_numbers : (e : Entry) (r : Reply) (events : List Event) (old new : Cor
 entry_numbers e (reply.Sizes size total) events old new t = (inr (e, t.0, refl), seqno_of new _ t.1.core)
 entry_numbers e (reply.Refused x) events old new t = (inl t.0, seqno_of new old t.1.unchanged)
 entry_numbers e r events old new t = absurd t
-
-op_number : (k : Bytes) (n : ℕ) (op : Op) → (op_entry k n op).key.seqno ≡ n
-op_number k n (SetTo v) = refl
-op_number k n Del = refl
-op_number k n Weak = refl
 
 op_key : (k : Bytes) (n : ℕ) (op : Op) → (op_entry k n op).key.user_key ≡ k
 op_key k n (SetTo v) = refl

@@ -33,10 +33,10 @@ use Rattle.lsm_runs.proofs.CompactionRest.{OpensJob, newest, LeavesBegun, Leaves
 use Rattle.lsm_runs.proofs.OpenFlush.{registered_work, start_open, still_open, job_open}
 use Rattle.lsm_runs.proofs.OpenWork.{alone_work}
 
-no_merge : (o : Option SeenCompaction) (job : SeenCompaction) → o ≡ None → o ≡ Some job → ⊥
+pub no_merge : (o : Option SeenCompaction) (job : SeenCompaction) → o ≡ None → o ≡ Some job → ⊥
 no_merge o job none some = cc
 
-one_merge : (o : Option SeenCompaction) (a b : SeenCompaction) → o ≡ Some a → o ≡ Some b → a ≡ b
+pub one_merge : (o : Option SeenCompaction) (a b : SeenCompaction) → o ≡ Some a → o ≡ Some b → a ≡ b
 one_merge o a b first second = cc
 
 -- ---- the open merges stay

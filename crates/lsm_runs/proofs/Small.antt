@@ -75,7 +75,7 @@ entry_small e (reply.Sizes size total) events old new t =
 entry_small e (reply.Refused x) events old new t = nothing_small events t.0
 entry_small e r events old new t = absurd t
 
-op_number : (k : Bytes) (n : ℕ) (op : Op) → (op_entry k n op).key.seqno ≡ n
+pub op_number : (k : Bytes) (n : ℕ) (op : Op) → (op_entry k n op).key.seqno ≡ n
 op_number k n (SetTo v) = refl
 op_number k n Del = refl
 op_number k n Weak = refl

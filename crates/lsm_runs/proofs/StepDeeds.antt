@@ -5,12 +5,13 @@ use Rattle.lsm_model.specs.Soundness.{Soundness}
 use Rattle.lsm_model.specs.Journal.{Event, Map, InOrder}
 use Rattle.lsm_model.specs.Sound.{Holds}
 use Rattle.lsm_model.specs.Views.{HasDistinctIds}
-use Rattle.lsm_model.specs.Steps.{State, Action, Wrote, Marked, Step, Run}
-use Rattle.lsm_model.specs.Beginnings.{Note, Saved, Deed, Done, Lost, Deeds, is_commit, is_lost, noted_by}
+use Rattle.lsm_model.specs.Steps.{State, Action, Marked, Step}
+use Rattle.lsm_model.specs.Beginnings.{Note, Saved, Deed, Done, Deeds, is_commit, is_lost, noted_by}
 use Rattle.lsm_model.specs.declared.journal.JournalEntry.TheVariants.{Mark}
 use Rattle.lsm_versions.specs.Levels.{placed_of}
 use Rattle.lsm_state.specs.Core.{Core, state_of, latest_of}
 use Rattle.lsm_state.specs.Deeds.{saved_of, HasOrder, IsNoDeed, IsMarkDeed}
+use Rattle.lsm_run_model.proofs.Composing.{distinct_behind}
 
 -- behind this journal and beside these notes, deeds of the theory are done which tell these events and note this
 abbrev pub HasDeeds : List Entry → List Event → List Note → List Event → List Note → Core → Core → Type 0
@@ -91,22 +92,7 @@ module _ (opened : List Entry) (journal : List Event) (notes : List Note) (old n
 
 -- ---- writes
 
--- writes in turn are deeds in turn
-pub writes : (opened : List Entry) (es : List Entry) (old : Saved) (new : State) → Run opened old.state (map Wrote es) new → HasDistinctIds old.state.latest.tables
-    → Deeds opened old (map (λ e. Done (Wrote e)) es) (record { state = new; notes = old.notes; others = old.others })
-writes opened [] old new r distinct = ap (λ s. record { state = s; notes = old.notes; others = old.others }) r
-writes opened (e ∷ es) old new r distinct =
-    let mid : Saved = record { state = r.0; notes = old.notes; others = old.others } in
-    let there = subst HasDistinctIds (sym (ap (λ sv. sv.tables) r.1.latest)) distinct in
-    (mid, record { answered = refl; certain = λ commits. absurd (cc commits); step = r.1; distinct = there; notes = refl; others = refl }, writes opened es mid new r.2 there)
-
 -- ---- what follows of deeds
-
--- no two tables have one id behind them
-pub distinct_behind : (opened : List Entry) (ds : List Deed) (old new : Saved) → Deeds opened old ds new → HasDistinctIds old.state.latest.tables → HasDistinctIds new.state.latest.tables
-distinct_behind opened [] old new d h = subst (λ t. HasDistinctIds t.state.latest.tables) (sym d) h
-distinct_behind opened (Done action ∷ ds) old new d h = distinct_behind opened ds d.0 new d.2 d.1.distinct
-distinct_behind opened (Lost action would ∷ ds) old new d h = distinct_behind opened ds d.0 new d.2 (subst (λ (t : State). HasDistinctIds t.latest.tables) (sym d.1.state) h)
 
 module _ (theory : Soundness) (opened : List Entry) (start : Map) where
   pub order_of : (journal : List Event) (c : Core) → Holds opened start (state_of journal c) → HasOrder c

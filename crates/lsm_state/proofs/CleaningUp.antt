@@ -151,7 +151,7 @@ gone_versions w v latest svs n low gone same = each_both (λ sv. sv.version.id <
     (each_dropped (λ sv. sv.version.id < latest) n svs low) gone
 
 -- a rotation before changes no version
-same_versions : (w : World) (a b : SuperVersion) (svs : List SuperVersion) (n : ℕ) → a.version ≡ b.version → AllByRecursion (λ sv. w.gives (version_name sv.version.id) ≡ None) (drop n (a ∷ svs)) → AllByRecursion (λ sv. w.gives (version_name sv.version.id) ≡ None) (drop n (b ∷ svs))
+pub same_versions : (w : World) (a b : SuperVersion) (svs : List SuperVersion) (n : ℕ) → a.version ≡ b.version → AllByRecursion (λ sv. w.gives (version_name sv.version.id) ≡ None) (drop n (a ∷ svs)) → AllByRecursion (λ sv. w.gives (version_name sv.version.id) ≡ None) (drop n (b ∷ svs))
 same_versions w a b svs zero is all = (subst (λ (v : SeenVersion). w.gives (version_name v.id) ≡ None) is all.0, all.1)
 same_versions w a b svs (suc n) is all = all
 

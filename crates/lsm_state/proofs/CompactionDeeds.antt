@@ -9,6 +9,7 @@ use Rattle.lsm_model.specs.Views.{HasDistinctIds}
 use Rattle.lsm_model.specs.Steps.{State, Action, Step, Maintained, Moved, DroppedTables}
 use Rattle.lsm_model.specs.Beginnings.{Note, Deeds, Done, Lost, IsDone, is_commit, is_lost, noted_by, noted_lost, told_lost}
 use Rattle.lsm_model.specs.declared.journal.JournalEntry.TheVariants.{Mark, Install}
+use Rattle.lsm_model.proofs.Journals.{not_kept}
 use Rattle.lsm_versions.specs.Levels.{SeenVersion, HasOwnIds, all_of, placed_in, placed_of}
 use Rattle.lsm_versions.specs.Installs.{MovesAreSteps, DropsAreSteps}
 use Rattle.lsm_checks.specs.declared.choice.Why.{Why}
@@ -37,7 +38,7 @@ use Rattle.lsm_state.specs.CompactionDeeds.{AreLostTelling, dropped_by, IsChoice
 use Rattle.lsm_state.proofs.Distinct.{distinct_placed}
 use Rattle.lsm_state.proofs.Forgetting.{cleaned_step}
 use Rattle.lsm_state.proofs.FlushSteps.{names_older}
-use Rattle.lsm_state.proofs.FlushDeeds.{clash, not_kept, marked, mark_done, none_other}
+use Rattle.lsm_state.proofs.FlushDeeds.{clash, marked, mark_done, none_other}
 
 -- ---- marks
 

@@ -1,5 +1,5 @@
 -- What a compaction leaves of reads.
-use Rattle.std.proofs.Common.{◌≡◌, inl, inr, ℕ, ◌≤◌, true, false, cond, eqb, ltb, List, [], ◌∷◌, ◌++◌, Some, Result, Ok, Err, refl, sym, ap, ◌∙◌, subst, fold, append_assoc, append-nil}
+use Rattle.std.proofs.Common.{◌≡◌, inl, inr, ℕ, ◌≤◌, true, List, [], ◌∷◌, ◌++◌, Some, Result, Ok, Err, refl, sym, ap, ◌∙◌, subst, fold, append_assoc, append-nil}
 use Rattle.std.proofs.lemmas.Grind.{fold-append}
 use Rattle.lsm_below.specs.Entries.{Entry}
 use Rattle.lsm_below.specs.declared.error.Error.{Error}
@@ -7,9 +7,10 @@ use Rattle.lsm_model.specs.Journal.{Event, Map, InOrder}
 use Rattle.lsm_model.specs.Steps.{State, Action, Marked, Moved, DroppedTables, Maintained, Step, StaysAt, Spares}
 use Rattle.lsm_model.specs.Sound.{Holds}
 use Rattle.lsm_model.specs.Soundness.{Soundness}
-use Rattle.lsm_model.specs.Views.{SuperVersion, found_at, front, lookup}
+use Rattle.lsm_model.specs.Views.{found_at}
 use Rattle.lsm_model.specs.Beginnings.{Done, Lost, is_commit}
 use Rattle.lsm_model.specs.declared.journal.JournalEntry.TheVariants.{Mark, Install}
+use Rattle.lsm_model.proofs.DeedReads.{found_behind}
 use Rattle.lsm_versions.specs.Levels.{placed_in}
 use Rattle.lsm_compaction.specs.Merges.{SeenCompaction}
 use Rattle.lsm_pick.specs.declared.choice.Choice.{Choice}
@@ -38,14 +39,6 @@ same_number before told d n m h = number (sym (last_behind before (d ∷ (Instal
   where
     number : ◌≡◌ {A = Event} (Install n) (Install m) → n ≡ m
     number e = cc e
-
--- what finds a super version finds one behind another in front
-found_behind : (s : ℕ) (first latest : SuperVersion) (older : List SuperVersion) (sv : SuperVersion) → found_at s latest older ≡ Some sv → (there : SuperVersion) × (found_at s first (latest ∷ older) ≡ Some there)
-found_behind s first latest older sv f =
-    elim (eqb s 0) as (λ b. cond b (Some (front latest older)) (lookup s (latest ∷ older)) ≡ Some sv → (there : SuperVersion) × (cond b (Some (front first (latest ∷ older))) (lookup s (first ∷ (latest ∷ older))) ≡ Some there)) [
-      | true ↦ λ q. (front latest older, refl)
-      | false ↦ λ q. elim (ltb first.number s) as (λ c. (there : SuperVersion) × (cond c (Some first) (lookup s (latest ∷ older)) ≡ Some there)) [ true ↦ (first, refl) | false ↦ (sv, q) ]
-    ] f
 
 module _ (theory : Soundness) where
   ordered : (c : Core) (opened : List Entry) (start : Map) (journal : List Event) → Holds opened start (state_of journal c) → HasOrder c

@@ -9,7 +9,8 @@ use Rattle.lsm_model.specs.Journal.{Event, is_kept, kept_after}
 use Rattle.lsm_model.specs.Views.{HasDistinctIds}
 use Rattle.lsm_model.specs.Steps.{Step, Marked, Maintained}
 use Rattle.lsm_model.specs.Beginnings.{Note, FlushedIds, IsDone, IsLost}
-use Rattle.lsm_model.specs.declared.journal.JournalEntry.TheVariants.{Write, Clear, Install, Dropped, Mark, Read}
+use Rattle.lsm_model.specs.declared.journal.JournalEntry.TheVariants.{Install, Mark}
+use Rattle.lsm_model.proofs.Journals.{not_kept}
 use Rattle.lsm_versions.specs.Levels.{all_of, placed_of}
 use Rattle.lsm_versions.specs.Installs.{FlushesAreSteps}
 use Rattle.lsm_flush.specs.Jobs.{SeenWritten, IsWrittenFrom}
@@ -30,15 +31,6 @@ use Rattle.lsm_state.proofs.FlushSteps.{flush_step, names_older}
 
 pub clash : false ≡ true → ⊥
 clash e = cc e
-
-pub not_kept : (s : ℕ) (more : List Event) → fold (kept_after s) false more ≡ false
-not_kept s [] = refl
-not_kept s (Write e ∷ more) = not_kept s more
-not_kept s (Clear n ∷ more) = not_kept s more
-not_kept s (Install n ∷ more) = not_kept s more
-not_kept s (Dropped ranges n ∷ more) = not_kept s more
-not_kept s (Read at question told ∷ more) = not_kept s more
-not_kept s (Mark w ∷ more) = elim (ltb s w) as (λ b. fold (kept_after s) (cond b false false) more ≡ false) [ true ↦ not_kept s more | false ↦ not_kept s more ]
 
 -- no kept snapshot is below a watermark of the journal
 pub marked : (s w : ℕ) (journal more : List Event) → is_kept s (journal ++ (Mark w ∷ more)) ≡ true → w ≤ s

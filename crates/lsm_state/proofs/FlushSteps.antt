@@ -4,13 +4,13 @@ use Rattle.std.proofs.lemmas.List.{map-append, reverse-append, reverse-reverse, 
 use Rattle.std.proofs.lemmas.List.Concat.{flat_map-cons}
 use Rattle.std.proofs.lemmas.List.Elements.{filter-append}
 use Rattle.std.proofs.lemmas.Grind.{flat_map-append}
-use Rattle.lsm_below.specs.Each.{each_left}
 use Rattle.lsm_below.specs.Keys.{Bytes, is_same}
 use Rattle.lsm_below.specs.Entries.{Entry, stack, keep, IsOrdered, IsFalling}
 use Rattle.lsm_model.specs.Journal.{Event}
 use Rattle.lsm_model.specs.Views.{Placed, SuperVersion as Shown, held}
 use Rattle.lsm_model.specs.Steps.{Step}
 use Rattle.lsm_model.specs.declared.journal.JournalEntry.TheVariants.{Install}
+use Rattle.lsm_model.proofs.Stacks.{falling_left, falling_right}
 use Rattle.lsm_versions.specs.Levels.{placed_in, placed_of}
 use Rattle.lsm_versions.specs.TableLaws.{entries_of_placed}
 use Rattle.lsm_versions.specs.Installs.{FlushesAreSteps}
@@ -25,14 +25,6 @@ use Rattle.lsm_state.specs.Deeds.{HasOrder}
 use Rattle.lsm_state.specs.Flushes.{IsCurrent, IsFlushed, flush_of, spent}
 
 -- ---- order
-
-falling_left : (xs ys : List Entry) → IsFalling (xs ++ ys) → IsFalling xs
-falling_left [] ys h = tt
-falling_left (x ∷ xs) ys h = (each_left _ xs ys h.0, falling_left xs ys h.1)
-
-falling_right : (xs ys : List Entry) → IsFalling (xs ++ ys) → IsFalling ys
-falling_right [] ys h = h
-falling_right (x ∷ xs) ys h = falling_right xs ys h.1
 
 -- the entries of a key, source by source
 stack_sources : (k : Bytes) (xs ys : List (List Entry)) → stack k (flat_map (λ es. es) (xs ++ ys)) ≡ stack k (flat_map (λ es. es) xs) ++ stack k (flat_map (λ es. es) ys)

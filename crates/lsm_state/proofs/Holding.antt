@@ -6,6 +6,7 @@ use Rattle.lsm_memtable.specs.Memtables.{SeenMemtable}
 use Rattle.lsm_parts.specs.History.{SeenHistory}
 use Rattle.lsm_parts.specs.Held.{HasFirst, ids_of, is_among, IsSealedIn}
 use Rattle.lsm_state.specs.Kept.{RiseFrom, KeepsIds, least_named}
+use Rattle.lsm_state.proofs.Kept.{all_push}
 
 rise_below : (m a : ℕ) (ids : List ℕ) → RiseFrom m (ids ++ a ∷ []) → AllByRecursion (λ i. i < a) ids × (m ≤ a)
 rise_below m a [] h = (tt, h.0)
@@ -22,10 +23,6 @@ first_over (t ∷ ts) a i h lt = subst (λ n. i < n) (sym h) lt
 all_sealed : (ts : List SeenMemtable) (a : ℕ) (ids : List ℕ) → HasFirst ts (λ m. m.id ≡ a) → AllByRecursion (λ i. is_among (ids_of ts) i ≡ true) ids → AllByRecursion (λ i. i < a) ids → AllByRecursion (IsSealedIn ts) ids
 all_sealed ts a [] first among below = tt
 all_sealed ts a (i ∷ ids) first among below = ((among.0, first_over ts a i first below.0), all_sealed ts a ids first among.1 below.1)
-
-all_push : (P : ℕ → Type 0) (ids : List ℕ) (i : ℕ) → AllByRecursion P ids → P i → AllByRecursion P (ids ++ i ∷ [])
-all_push P [] i h here = (here, tt)
-all_push P (j ∷ ids) i h here = (h.0, all_push P ids i h.1 here)
 
 all_reverse : (P : ℕ → Type 0) (ids : List ℕ) → AllByRecursion P ids → AllByRecursion P (reverse ids)
 all_reverse P [] h = tt

@@ -52,7 +52,7 @@ pub all_named_more : (n : ℕ) (ids : List ℕ) (versions : List SuperVersion) �
 all_named_more n ids [] h = tt
 all_named_more n ids (sv ∷ versions) h = (all_more n ids (sv.active_memtable ∷ sv.sealed_memtables) h.0, all_named_more n ids versions h.1)
 
-all_push : (P : ℕ → Type 0) (ids : List ℕ) (i : ℕ) → AllByRecursion P ids → P i → AllByRecursion P (ids ++ i ∷ [])
+pub all_push : (P : ℕ → Type 0) (ids : List ℕ) (i : ℕ) → AllByRecursion P ids → P i → AllByRecursion P (ids ++ i ∷ [])
 all_push P [] i h here = (here, tt)
 all_push P (j ∷ ids) i h here = (h.0, all_push P ids i h.1 here)
 

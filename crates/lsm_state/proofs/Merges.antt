@@ -13,6 +13,7 @@ use Rattle.lsm_store.specs.World.{World}
 use Rattle.lsm_tables.specs.Tables.{SeenTable}
 use Rattle.lsm_model.specs.Views.{IsLaidOut}
 use Rattle.lsm_model.specs.Steps.{among, AllCover}
+use Rattle.lsm_model.proofs.Counted.{or_true}
 use Rattle.lsm_versions.specs.Levels.{SeenVersion, HasOwnIds, IsNext, PutBetween, all_of, left_in, placed_in, placed_of, shown_table}
 use Rattle.lsm_versions.specs.Refusals.{IsRefusedFor}
 use Rattle.lsm_versions.specs.Installs.{ChangesKeepTables}
@@ -94,10 +95,6 @@ module _ (job : SeenCompaction) (contents : List (List ℕ)) (ids : List ℕ) (t
       law ids contents tables written made.files.ids made.files.spelled made.files.each (each_weaker (λ t. t.created_at ≡ job.settings.made_at) (λ t. t.created_at < 2 ^ 64) (λ t e. omega (arith, e, fits)) tables made.files.made)
 
 -- ---- the version
-
-or_true : (b : Bool) → (b || true) ≡ true
-or_true true = refl
-or_true false = refl
 
 id_in : (ts : List SeenTable) (t : SeenTable) → IsAmong ts t → list_any (λ u. eqb u.id t.id) ts ≡ true
 id_in [] t h = absurd h

@@ -71,7 +71,7 @@ whole_upholds w v u may_choose may_refuse o begun r old mid new begins follows f
 
 -- ---- which files are left
 
-same_job : (a b : SeenCompaction) → ◌≡◌ {A = Begun} (Job a) (Job b) → a ≡ b
+pub same_job : (a b : SeenCompaction) → ◌≡◌ {A = Begun} (Job a) (Job b) → a ≡ b
 same_job a b h = cc h
 
 opened_job : (choice : Choice) (o : Options) (job : SeenCompaction) (old mid : Core) → Does choice o (Ok (Job job)) old mid → (job.ids ≡ given_up choice) × (mid.history ≡ old.history)

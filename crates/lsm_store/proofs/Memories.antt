@@ -3,7 +3,7 @@ use Rattle.std.proofs.Common.{◌≡◌, ◌≢◌, ◌⊎◌, ◌↔◌, ◌≤
 use Rattle.lsm_store.specs.World.{Image, Row, IsImage, At, Same, Becomes}
 use Rattle.lsm_store.specs.Held.{Held, MayHold}
 use Rattle.lsm_store.specs.Files.{Files, held_at, HoldSame, Alters}
-use Rattle.lsm_store.specs.Memory.{Past, may_of, gives_of, between, HadBeen, KeepsMoment, memory_world}
+use Rattle.lsm_store.specs.Memory.{MemStore, Past, may_of, gives_of, between, HadBeen, KeepsMoment, memory_world, world_of, gives_one}
 use Rattle.lsm_store.specs.declared.mem_store.Moment.{Moment}
 use Rattle.lsm_store.proofs.HeldFiles.{by_name}
 
@@ -155,3 +155,7 @@ same_world old new past f g same = record {
 pub same_after : (old new : Files) (past later : Past) (f g : ℕ) → new ≡ old → later ≡ past → Same (memory_world old past f) (memory_world new later g)
 same_after old new past later f g files moments =
     subst (λ (p : Past). Same (memory_world old past f) (memory_world new p g)) (sym moments) (same_world old new past f g (λ n. ap (λ (fs : Files). held_at fs n) files))
+
+-- what reads give now may be there after a crash
+pub gives_now : (store : MemStore) → IsImage (world_of store).may (world_of store).gives
+gives_now store name = gives_one (held_at store.files name)

@@ -6,7 +6,7 @@ ghost use Rattle.lsm_store.specs.World.{Counts};
 
 use crate::{Store, StoreError};
 use bytes::Bytes;
-use disk::{Failure, SUBFOLDERS, join};
+use disk::Failure;
 use std::alloc::{AllocError, Global};
 use std::fs::{File, Files};
 use std::io::{self, ErrorKind};
@@ -14,6 +14,7 @@ use std::io::{self, ErrorKind};
 mod disk;
 mod fault;
 
+pub use disk::{SUBFOLDERS, list_files, path_below, read_file};
 pub use fault::{FolderCall, FolderFault};
 
 /// The file that `replace` fills before it renames it.
@@ -134,7 +135,7 @@ impl<R: Files<File = File> + Alloc + Clone + Drop> FolderStore<R> {
     fn folder_of(&self, name: &str) -> Result<String, AllocError> {
         let alloc = *self.root.allocator();
         match subfolder_of(name) {
-            Some(folder) => join(alloc, self.root.as_str(), folder),
+            Some(folder) => path_below(alloc, self.root.as_str(), folder),
             None => String::from_str(alloc, self.root.as_str()),
         }
     }
@@ -234,7 +235,7 @@ impl<R: Files<File = File> + Alloc + Clone + Drop> Store for FolderStore<R> {
 
     fn replace(&mut self, name: &str, bytes: &[u8]) -> Result<(), StoreError> {
         let folder = self.folder_of(name)?;
-        let fresh = join(*folder.allocator(), self.root.as_str(), FRESH)?;
+        let fresh = path_below(*folder.allocator(), self.root.as_str(), FRESH)?;
         self.spell(name)?;
         let path = self.path.as_str();
         let outcome = disk::replace_file(&self.rt, fresh.as_str(), path, folder.as_str(), bytes);
@@ -252,8 +253,8 @@ impl<R: Files<File = File> + Alloc + Clone + Drop> Store for FolderStore<R> {
     fn settle(&mut self) -> Result<(), StoreError> {
         let alloc = *self.root.allocator();
         let [tables, log] = SUBFOLDERS;
-        let tables = join(alloc, self.root.as_str(), tables)?;
-        let log = join(alloc, self.root.as_str(), log)?;
+        let tables = path_below(alloc, self.root.as_str(), tables)?;
+        let log = path_below(alloc, self.root.as_str(), log)?;
         let folders = [self.root.as_str(), tables.as_str(), log.as_str()];
         let outcome = disk::settle_folders(&self.rt, &folders);
         self.tell_changed(FolderCall::Settle, "", outcome.map_err(Failure::Unknown))

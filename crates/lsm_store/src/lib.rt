@@ -13,7 +13,9 @@ mod mem_store;
 mod store;
 mod synced;
 
-pub use folder_store::{FolderCall, FolderFault, FolderStore};
+pub use folder_store::{
+    FolderCall, FolderFault, FolderStore, SUBFOLDERS, list_files, path_below, read_file,
+};
 pub use mem_store::{Fault, MemStore, Pick};
 pub use store::{Store, StoreError, runs_of_calls};
 pub use synced::{share_synced, write_synced};

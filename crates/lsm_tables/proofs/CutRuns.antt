@@ -16,6 +16,7 @@ use Rattle.lsm_below.specs.Each.{each_left, each_right, each_both, each_weaker}
 use Rattle.lsm_tables.specs.Cutting.{IsApart}
 use Rattle.lsm_tables.specs.Tables.{first_key, last_key, range_of}
 use Rattle.lsm_tables.proofs.Covering.{is_range}
+use Rattle.lsm_tables.proofs.Cutting.{rises_right}
 
 -- an entry before one of another key has the lower key
 below_by : (a b : Bytes) (n m : ℕ) (r : Ordering) → ordering_then r (nat_cmp n m) ≡ Less → is_eq r ≡ false → is_lt r ≡ true
@@ -38,10 +39,6 @@ before_rest (x ∷ xs) ys h = (each_right (λ y. entry_cmp x y ≡ Less) xs ys (
 rises_left : (xs ys : List Entry) → Rises entry_cmp (xs ++ ys) → Rises entry_cmp xs
 rises_left [] ys h = tt
 rises_left (x ∷ xs) ys h = (All-from_recursion (λ y. entry_cmp x y ≡ Less) xs (each_left (λ y. entry_cmp x y ≡ Less) xs ys (recursion_from_All (λ y. entry_cmp x y ≡ Less) (xs ++ ys) h.0)), rises_left xs ys h.1)
-
-rises_right : (xs ys : List Entry) → Rises entry_cmp (xs ++ ys) → Rises entry_cmp ys
-rises_right [] ys h = h
-rises_right (x ∷ xs) ys h = rises_right xs ys h.1
 
 -- what holds of each key holds of the last one
 at_last : (P : Bytes → Type 0) (es : List Entry) → 0 < length es → AllByRecursion (λ e. P e.key.user_key) es → P (last_key es)

@@ -30,7 +30,7 @@ rises_left (x ∷ xs) ys h =
     let P = λ (y : Entry). entry_cmp x y ≡ Less in
     (All-from_recursion P xs (each_left P xs ys (recursion_from_All P (xs ++ ys) h.0)), rises_left xs ys h.1)
 
-rises_right : (xs ys : List Entry) → Rises entry_cmp (xs ++ ys) → Rises entry_cmp ys
+pub rises_right : (xs ys : List Entry) → Rises entry_cmp (xs ++ ys) → Rises entry_cmp ys
 rises_right [] ys h = h
 rises_right (x ∷ xs) ys h = rises_right xs ys h.1
 
@@ -82,9 +82,6 @@ module _ (keys : KeysAreOrdered) (entries : EntriesAreOrdered) (target : ℕ) (e
 
   front_length : length (take end es) ≡ end
   front_length = let l = length-take end es in let w = at.within in omega arith
-
-  pub front_writable : IsWritable (take end es)
-  front_writable = writable_left (take end es) (drop end es) (subst IsWritable (sym parts) writable)
 
   pub behind_writable : IsWritable (drop end es)
   behind_writable = writable_right (take end es) (drop end es) (subst IsWritable (sym parts) writable)

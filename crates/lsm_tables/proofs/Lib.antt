@@ -9,5 +9,4 @@ pub mod Cutting
 pub mod CutRuns
 pub mod Keeping
 pub mod Lists
-pub mod Search
 pub mod Bounds

@@ -27,7 +27,7 @@ abbrev pub found_in : Bytes → ℕ → Option SeenTable → Option Entry
 found_in k s None = None
 found_in k s (Some t) = top k s t.entries
 
-same_key : (a b : Bytes) → is_same a b ≡ true → a ≡ b
+pub same_key : (a b : Bytes) → is_same a b ≡ true → a ≡ b
 same_key a b h = (bytes_eq-Decides a b).0 (sym (is_eq-slice_cmp a b) ∙ h)
 
 -- a table has no entry of a key out of its range

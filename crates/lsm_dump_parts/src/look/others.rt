@@ -2,7 +2,6 @@
 use crate::flaws::Flaw;
 use crate::look::damage::Damage;
 use crate::look::version::Wanted;
-use crate::names::{kind_in_log, kind_in_tree};
 use lsm_below::TableId;
 use lsm_log::LogName;
 use lsm_manifest::{NameKind, version_name};
@@ -27,7 +26,7 @@ enum Fate {
 }
 
 fn fate_in_log(name: &[u8]) -> Fate {
-    match kind_in_log(name) {
+    match lsm_log::kind_of(name) {
         LogName::RecordFile(_) | LogName::Refused => Fate::Counts,
         LogName::Skipped => Fate::Foreign,
         LogName::Other if name == b"current".as_slice() || name == b"version".as_slice() => {
@@ -39,7 +38,7 @@ fn fate_in_log(name: &[u8]) -> Fate {
 
 /// What becomes of a name, beside the version of this id and the tables of these ids, which are sorted.
 fn fate_of(name: &[u8], id: Option<VersionId>, ids: &[TableId]) -> Fate {
-    match kind_in_tree(name) {
+    match lsm_manifest::kind_of(name) {
         NameKind::VersionFile if name == b"version".as_slice() => Fate::Counts,
         NameKind::VersionFile => match id {
             Some(id) if name == version_name(id).as_str().as_bytes() => Fate::Counts,
@@ -85,7 +84,7 @@ pub(crate) fn sort_names(
 }
 
 fn is_refused(name: &[u8]) -> bool {
-    kind_in_tree(name) == NameKind::Refused || kind_in_log(name) == LogName::Refused
+    lsm_manifest::kind_of(name) == NameKind::Refused || lsm_log::kind_of(name) == LogName::Refused
 }
 
 /// What is wrong with names: a mark of an older format, and those that a tree or its log refuses.

@@ -4,10 +4,9 @@ ghost use Rattle.lsm_store.specs.World.{Same};
 use crate::flaws::{Flaw, record_flaw};
 use crate::look::damage::Damage;
 use crate::look::reading::content_of;
-use crate::names::kind_in_log;
 use bytes::Bytes;
 use lsm_below::{Error, SeqNo, share};
-use lsm_log::{LogName, Record, RecordError, decode, record_name};
+use lsm_log::{LogName, Record, RecordError, decode, kind_of, record_name};
 use lsm_model::Op;
 use lsm_store::Store;
 use std::alloc::{AllocError, Global};
@@ -35,7 +34,7 @@ pub struct RecordLook {
 pub(crate) fn numbers_among(alloc: Global, names: &[String]) -> Result<Vec<SeqNo>, AllocError> {
     let mut numbers = Vec::new(alloc);
     for name in names {
-        if let LogName::RecordFile(number) = kind_in_log(name.as_bytes()) {
+        if let LogName::RecordFile(number) = kind_of(name.as_bytes()) {
             numbers.push(number)?;
         }
     }

@@ -4,9 +4,10 @@ ghost use Rattle.lsm_store.specs.World.{Same};
 use crate::flaws::{Flaw, current_flaw, version_flaw};
 use crate::look::damage::Damage;
 use crate::look::reading::content_of;
-use crate::names::kind_in_tree;
 use lsm_below::{Error, SeqNo, TableId};
-use lsm_manifest::{NameKind, RecoveredTable, Recovery, read_current, recover, version_name};
+use lsm_manifest::{
+    NameKind, RecoveredTable, Recovery, kind_of, read_current, recover, version_name,
+};
 use lsm_store::Store;
 use lsm_tables::Checksum;
 use lsm_versions::VersionId;
@@ -80,7 +81,7 @@ fn named_by(alloc: Global, recovery: Recovery) -> Result<Named, AllocError> {
 fn tables_among(alloc: Global, names: &[String]) -> Result<Vec<Wanted>, AllocError> {
     let mut tables = Vec::new(alloc);
     for name in names {
-        if let NameKind::TableFile(id) = kind_in_tree(name.as_bytes()) {
+        if let NameKind::TableFile(id) = kind_of(name.as_bytes()) {
             tables.push(Wanted {
                 level: 0,
                 run: 0,

@@ -13,14 +13,14 @@ pub(crate) enum Failure {
     NothingDone(io::Error),
 }
 
-/// The subfolders, those of tables and of a log. Names of files in them begin so.
-pub(crate) const SUBFOLDERS: [&str; 2] = ["tables", "log"];
+/// The subfolders of a folder, those of tables and of a log. Names of files in them begin so.
+pub const SUBFOLDERS: [&str; 2] = ["tables", "log"];
 
 /// The file that is locked while a store of the folder lives.
 const LOCK: &str = "lock";
 
-/// A path below a folder.
-pub(crate) fn join(alloc: Global, root: &str, name: &str) -> Result<String, AllocError> {
+/// The path of a name below a folder. Refused only for want of memory.
+pub fn path_below(alloc: Global, root: &str, name: &str) -> Result<String, AllocError> {
     let mut path = String::from_str(alloc, root)?;
     path.push('/')?;
     path.push_str(name)?;
@@ -45,7 +45,7 @@ pub(crate) fn make_folder<R: Files>(rt: &R, alloc: Global, path: &str) -> io::Re
         at.push('/')?;
     }
     for folder in SUBFOLDERS {
-        let below = join(alloc, path, folder)?;
+        let below = path_below(alloc, path, folder)?;
         make_one(rt, below.as_str(), parent.as_str())?;
     }
     Ok(())
@@ -69,7 +69,7 @@ pub(crate) fn lock_folder<R: Files<File = File>>(
     alloc: Global,
     folder: &str,
 ) -> io::Result<File> {
-    let path = join(alloc, folder, LOCK)?;
+    let path = path_below(alloc, folder, LOCK)?;
     let file = OpenOptions::new()
         .read(true)
         .write(true)
@@ -92,17 +92,21 @@ pub(crate) fn list_folder<R: Files + Alloc + Clone + Drop>(
     root: &str,
 ) -> io::Result<Vec<String>> {
     let mut names = Vec::new(alloc);
-    list_into(rt, alloc, root, "", &mut names)?;
+    list_files(rt, alloc, root, "", &mut names)?;
     for folder in SUBFOLDERS {
-        let path = join(alloc, root, folder)?;
-        let prefix = join(alloc, folder, "")?;
-        list_into(rt, alloc, path.as_str(), prefix.as_str(), &mut names)?;
+        let path = path_below(alloc, root, folder)?;
+        let prefix = path_below(alloc, folder, "")?;
+        list_files(rt, alloc, path.as_str(), prefix.as_str(), &mut names)?;
     }
     Ok(names)
 }
 
-/// Appends the names of a folder's regular files, each after a prefix.
-fn list_into<R: Files + Alloc + Clone + Drop>(
+/// Appends the names of a folder's regular files, each after a prefix. Without one it is the folder itself, whose lock is passed over.
+///
+/// # Errors
+///
+/// Those of the file system, `OutOfMemory` among them; names that were appended before stay.
+pub fn list_files<R: Files + Alloc + Clone + Drop>(
     rt: &R,
     alloc: Global,
     folder: &str,
@@ -121,12 +125,8 @@ fn list_into<R: Files + Alloc + Clone + Drop>(
     Ok(())
 }
 
-/// All bytes of a file. None where it is absent.
-pub(crate) fn read_file<R: Files>(
-    rt: &R,
-    alloc: Global,
-    path: &str,
-) -> io::Result<Option<Vec<u8>>> {
+/// All bytes of a file. None where it is absent. Refused as the file system refuses it.
+pub fn read_file<R: Files>(rt: &R, alloc: Global, path: &str) -> io::Result<Option<Vec<u8>>> {
     match File::open(rt, path) {
         Ok(mut file) => {
             let mut bytes = Vec::new(alloc);

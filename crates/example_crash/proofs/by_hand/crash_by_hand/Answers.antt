@@ -6,18 +6,19 @@ use Rattle.lsm_store.specs.Picks.{picked, Crashes}
 use Rattle.lsm_store.specs.World.{Begins}
 use Rattle.lsm_model.specs.Journal.{Map}
 use Rattle.lsm_manifest.specs.Finding.{StandsForMap}
+use Rattle.lsm_manifest.proofs.FindingLemmas.{nothing_in as none, nothing_stands}
 use Rattle.lsm_run_model.specs.Rising.{At, highest}
 use Rattle.lsm_runs.specs.Drawing.{drawing_of}
 use Rattle.example_crash.specs.Single.{MayBeOpened}
 use Rattle.example_crash.proofs.Again.{Settles, survives_again, refused_again}
 use Rattle.example_crash.proofs.Beginning.{new_counter, new_keeps}
 use Rattle.example_crash.proofs.Orders.{usual_keeps, first_keeps, first_highest, above_keeps}
-use Rattle.example_crash.proofs.Surviving.{none, stands_none, refused_new}
+use Rattle.example_crash.proofs.Surviving.{refused_new}
 use Rattle.example_crash.proofs.by_hand.crash_by_hand.Goals as goal
 
 -- a new store may be opened
 opens_new : Settles → ((store : MemStore) (image : _) (m : Map) → StandsForMap image m → Begins image (world_of store) → StandsForMap (world_of store).gives m) → (store : MemStore) → Begins none (world_of store) → MayBeOpened store empty
-opens_new ready stands store new = record { ready = ready store none empty stands_none new; stands = stands store none empty stands_none new }
+opens_new ready stands store new = record { ready = ready store none empty nothing_stands new; stands = stands store none empty nothing_stands new }
 
 pub returns-clause-by_hand : goal.returns-clause-by_hand
 returns-clause-by_hand c order over =

@@ -1,10 +1,10 @@
 use Rattle.std.specs.FinMap.{empty}
 use Rattle.example_crash.proofs.Again.{comes_ended, comes_crashed}
-use Rattle.example_crash.proofs.Surviving.{none, stands_none}
+use Rattle.lsm_manifest.proofs.FindingLemmas.{nothing_in as none, nothing_stands}
 use Rattle.example_crash.proofs.laws.lives_follow.Goals as goal
 
 pub returns-clause-new : goal.returns-clause-new
-returns-clause-new c new begins = record { ready = c.crashes_settle.ensures.ready new none empty stands_none begins; stands = c.crashes_settle.ensures.stands new none empty stands_none begins }
+returns-clause-new c new begins = record { ready = c.crashes_settle.ensures.ready new none empty nothing_stands begins; stands = c.crashes_settle.ensures.stands new none empty nothing_stands begins }
 
 pub returns-clause-ended : goal.returns-clause-ended
 returns-clause-ended c = comes_ended

@@ -3,15 +3,16 @@ use Rattle.std.proofs.lemmas.Result.{err_from_is_err_and}
 use Rattle.std.specs.FinMap.{empty}
 use Rattle.lsm_store.specs.Picks.{picked, Crashes}
 use Rattle.example_crash.proofs.Usual.{first_usual}
-use Rattle.example_crash.proofs.Surviving.{none, stands_none, refused_new, begins_itself, crash_leaves}
+use Rattle.example_crash.proofs.Surviving.{refused_new, begins_itself, crash_leaves}
 use Rattle.example_crash.proofs.Wants.{wants}
+use Rattle.lsm_manifest.proofs.FindingLemmas.{nothing_in as none, nothing_stands}
 use Rattle.example_crash.proofs.lives.crash_between.Goals as goal
 
 pub returns-clause-survives : goal.returns-clause-survives
 returns-clause-survives c usual more_usual =
     let store = c.args.store in
-    let ready = c.crashes_settle.ensures.ready store none empty stands_none c.requires.new in
-    let stands = c.crashes_settle.ensures.stands store none empty stands_none c.requires.new in
+    let ready = c.crashes_settle.ensures.ready store none empty nothing_stands c.requires.new in
+    let stands = c.crashes_settle.ensures.stands store none empty nothing_stands c.requires.new in
     let told = c.in_ok-store.before.outcomes.items in
     let is = c.in_ok-store.store in
     let image = picked is.files c.args.picks.now in
@@ -29,16 +30,16 @@ returns-clause-survives c usual more_usual =
 pub returns-clause-crashed : goal.returns-clause-crashed
 returns-clause-crashed c =
     let store = c.args.store in
-    let ready = c.crashes_settle.ensures.ready store none empty stands_none c.requires.new in
-    let stands = c.crashes_settle.ensures.stands store none empty stands_none c.requires.new in
+    let ready = c.crashes_settle.ensures.ready store none empty nothing_stands c.requires.new in
+    let stands = c.crashes_settle.ensures.stands store none empty nothing_stands c.requires.new in
     let is = c.in_ok-store.store in
     record { is = is; lives = c.in_ok-store.ensures.lives ready empty stands; has = (subst (Crashes is.files (picked is.files c.args.picks.now)) c.in-Some.is c.in_ok-left.ensures).0 }
 
 pub returns-in_default-clause-crashed : goal.returns-in_default-clause-crashed
 returns-in_default-clause-crashed c =
     let store = c.args.store in
-    let ready = c.crashes_settle.ensures.ready store none empty stands_none c.requires.new in
-    let stands = c.crashes_settle.ensures.stands store none empty stands_none c.requires.new in
+    let ready = c.crashes_settle.ensures.ready store none empty nothing_stands c.requires.new in
+    let stands = c.crashes_settle.ensures.stands store none empty nothing_stands c.requires.new in
     let is = c.in_ok-store.store in
     (c.in_ok-store.before.outcomes.items, record { is = is; lives = c.in_ok-store.ensures.lives ready empty stands; has = subst (Crashes is.files (picked is.files c.args.picks.now)) c.in_default.is c.in_ok-left.ensures })
 
@@ -48,14 +49,14 @@ pub returns-in_err-store-clause-survives : goal.returns-in_err-store-clause-surv
 returns-in_err-store-clause-survives c usual more_usual =
     let p = err_from_is_err_and c.from_residual.result c.from_residual.ensures.1 in
     let store = c.args.store in
-    let stands = c.crashes_settle.ensures.stands store none empty stands_none c.requires.new in
+    let stands = c.crashes_settle.ensures.stands store none empty nothing_stands c.requires.new in
     rw (p.1, p.2) (refused_new c.images_stand_once.ensures.found store c.requires.new c.in_err-store.field-0.0 (c.in_err-store.ensures.refused empty stands))
 
 pub returns-in_err-after-clause-survives : goal.returns-in_err-after-clause-survives
 returns-in_err-after-clause-survives c usual more_usual =
     let p = err_from_is_err_and c.from_residual-in_err-after.result c.from_residual-in_err-after.ensures.1 in
     let store = c.args.store in
-    let ready = c.crashes_settle.ensures.ready store none empty stands_none c.requires.new in
+    let ready = c.crashes_settle.ensures.ready store none empty nothing_stands c.requires.new in
     let told = c.in_ok-store.before.outcomes.items in
     let is = c.in_ok-store.store in
     let image = picked is.files c.args.picks.now in

@@ -7,13 +7,14 @@ use Rattle.lsm_commit.specs.Foreign.{AtRest}
 use Rattle.lsm_logged.specs.Opening.{version_of}
 use Rattle.example_log.proofs.Acknowledged.{has_one}
 use Rattle.example_log.proofs.Reopened.{holds_batch}
-use Rattle.example_log.proofs.Stores.{none, stands_none, left_gives, now_left}
+use Rattle.example_log.proofs.Stores.{left_gives, now_left}
+use Rattle.lsm_manifest.proofs.FindingLemmas.{nothing_in as none, nothing_stands}
 use Rattle.example_log.proofs.lives.write_and_crash.Goals as goal
 
 pub returns : goal.returns
 returns c =
     let store = c.args.store in
-    let ready = c.crashes_settle.ensures.ready store none empty stands_none c.requires.new in
+    let ready = c.crashes_settle.ensures.ready store none empty nothing_stands c.requires.new in
     let t = c.in_ok-tree.tree in
     let u = c.write.new.self in
     let opens = c.in_ok-tree.ensures in

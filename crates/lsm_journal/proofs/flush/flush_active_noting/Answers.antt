@@ -4,7 +4,8 @@ use Rattle.lsm_commit.specs.Causes.{HasCause}
 use Rattle.lsm_state.specs.Cleaning.{RemovesDrawn}
 use Rattle.lsm_state.specs.Commits.{Upholds}
 use Rattle.lsm_state.specs.Causes.{BlamesOrUncleanFlush}
-use Rattle.lsm_journal.proofs.Rotated.{rotated_upholds, none_drawn, active_noted, behind_cause, behind_gone, behind_refused}
+use Rattle.lsm_state.proofs.WholeFlushes.{none_drawn}
+use Rattle.lsm_journal.proofs.Rotated.{rotated_upholds, active_noted, behind_cause, behind_gone, behind_refused}
 use Rattle.lsm_journal.proofs.flush.flush_active_noting.Goals as goal
 
 pub returns-in-Err-clause-refused : goal.returns-in-Err-clause-refused

@@ -2,7 +2,8 @@ use Rattle.std.proofs.Common.{◌≡◌, ◌∙◌, sym, ap, subst, IfOk, true}
 use Rattle.std.specs.Ordering.{eq_by_cmp, is_eq}
 use Rattle.lsm_below.specs.Keys.{Bytes}
 use Rattle.lsm_recorded.specs.Headed.{headed_cmp}
-use Rattle.lsm_recorded.proofs.MarksLemmas.{headed_ties, same_key}
+use Rattle.lsm_recorded.proofs.MarksLemmas.{headed_ties}
+use Rattle.lsm_versions.proofs.Walks.{same_key}
 use Rattle.lsm_recorded.proofs.marks.share_marked.Goals as goal
 
 pub returns-in-Some : goal.returns-in-Some

@@ -1,5 +1,5 @@
 use Rattle.std.proofs.Common.{sym, ◌∙◌, ◌+◌, ◌-◌, ◌/◌, length, arith}
-use Rattle.lsm_memtable.proofs.Search.{all_ahead, none_ahead}
+use Rattle.lsm_below.proofs.Search.{all_ahead, none_ahead}
 use Rattle.lsm_memtable.proofs.Paid.{paid_step}
 use Rattle.lsm_memtable.proofs.block.Block.place.Goals as goal
 

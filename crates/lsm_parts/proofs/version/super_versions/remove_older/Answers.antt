@@ -1,9 +1,9 @@
 use Rattle.std.proofs.Common.{◌≡◌, ◌<◌, ◌≤◌, ◌≢◌, ℕ, List, None, arith}
 use Rattle.std.proofs.lemmas.Result.{IfOk-weaker}
 use Rattle.lsm_manifest.specs.Names.{version_name}
-use Rattle.lsm_parts.proofs.Removed.{absent_after}
 use Rattle.lsm_below.specs.Each.{each_weaker}
 use Rattle.lsm_versions.specs.Levels.{SeenVersion}
+use Rattle.lsm_commit.proofs.Removals.{absent_after}
 use Rattle.lsm_parts.proofs.version.super_versions.remove_older.Goals as goal
 
 pub returns-then-id-latest-clause-stored : goal.returns-then-id-latest-clause-stored

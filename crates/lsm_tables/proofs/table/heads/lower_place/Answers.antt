@@ -2,9 +2,9 @@ use Rattle.std.proofs.Common.{◌≡◌, ◌<◌, true, false, not, length, get_
 use Rattle.std.specs.List.Sorted.{IsPartitionPoint}
 use Rattle.lsm_below.specs.Entries.{Entry}
 use Rattle.lsm_below.specs.Lookups.{is_from}
+use Rattle.lsm_below.proofs.Bounds.{from_included, from_excluded}
 use Rattle.lsm_tables.specs.Image.{Fits}
 use Rattle.std.proofs.lemmas.List.Elements.{All-from_recursion}
-use Rattle.lsm_tables.proofs.Bounds.{from_included, from_excluded}
 use Rattle.lsm_tables.proofs.table.heads.lower_place.Goals as goal
 
 pub returns-in-Included-clause-parts : goal.returns-in-Included-clause-parts

@@ -1,6 +1,6 @@
 use Rattle.std.proofs.Common.{sym, ap, ◌∙◌, ◌+◌, ◌-◌, ◌/◌, arith}
 use Rattle.lsm_below.specs.Lookups.{stands_before}
-use Rattle.lsm_tables.proofs.Search.{all_ahead, none_ahead}
+use Rattle.lsm_below.proofs.Search.{all_ahead, none_ahead}
 use Rattle.lsm_tables.proofs.table.heads.place_below.Goals as goal
 
 pub loop-low-preserved-then-is_ahead : goal.loop-low-preserved-then-is_ahead
