@@ -71,21 +71,6 @@ module _ (xs : List InternalValue) (rises : Rises entry_cmp xs) (key : List ℕ)
         | inr ge ↦ let same : i ≡ j = omega arith in subst (λ k. stands_before key s (get_or xs k d) ≡ true) (sym same) here
       ]
 
-  -- a step of the binary search
-  pub all_to : (mid : ℕ) (e : InternalValue) → mid < length xs → e ≡ get_or xs mid e → stands_before key s e ≡ true → (j : ℕ) (d : InternalValue) → j < mid + 1 → stands_before key s (get_or xs j d) ≡ true
-  all_to mid e in_range read here j d lt =
-      parted j mid d (omega arith) in_range (subst (λ x. stands_before key s x ≡ true) (read ∙ get_or_default xs mid e d in_range) here)
-
-  pub none_from : (mid : ℕ) (e : InternalValue) → mid < length xs → e ≡ get_or xs mid e → stands_before key s e ≡ false → (j : ℕ) (d : InternalValue) → mid ≤ j → j < length xs → stands_before key s (get_or xs j d) ≡ false
-  none_from mid e in_range read here j d le lt = go (stands_before key s (get_or xs j d)) refl
-    where
-      go : (b : Bool) → stands_before key s (get_or xs j d) ≡ b → b ≡ false
-      go false is = refl
-      go true is =
-          let there : stands_before key s (get_or xs mid d) ≡ true = parted mid j d le lt is in
-          let here' : stands_before key s (get_or xs mid d) ≡ false = subst (λ x. stands_before key s x ≡ false) (read ∙ get_or_default xs mid e d in_range) here in
-          sym there ∙ here'
-
   module _ (at : ℕ) (before : (j : ℕ) (d : InternalValue) → j < at → stands_before key s (get_or xs j d) ≡ true) (behind : (j : ℕ) (d : InternalValue) → at ≤ j → j < length xs → stands_before key s (get_or xs j d) ≡ false) where
     -- the list ends before such an entry
     pub none_past_end : length xs ≤ at → first (is_visible key s) xs ≡ None

@@ -27,17 +27,7 @@ fn place_below(entries: &[InternalValue], key: &[u8], number: SeqNo) -> usize
     ensures before { (j : ℕ) (d : InternalValue) → j < result → stands_before key.now number (slice_index_or entries.now j d) ≡ true }
     ensures behind { (j : ℕ) (d : InternalValue) → result ≤ j → j < length entries.now → stands_before key.now number (slice_index_or entries.now j d) ≡ false }
 {
-    let mut low = 0;
-    let mut high = entries.len();
-    while low < high {
-        let mid = low + (high - low) / 2;
-        if stands_ahead(&entries[mid], key, number) {
-            low = mid + 1;
-        } else {
-            high = mid;
-        }
-    }
-    low
+    entries.partition_point(|entry| stands_ahead(entry, key, number))
 }
 
 /// The first entry of a key below the snapshot.

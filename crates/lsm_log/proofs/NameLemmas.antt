@@ -2,7 +2,6 @@
 use Rattle.std.proofs.Common.{◌≡◌, ℕ, ◌<◌, ◌^◌, Bool, true, false, ◌||◌, cond, ltb, List, [], ◌∷◌, ◌++◌, take, drop, Option, Some, None, refl, ap, sym, subst, ◌∙◌, codes, decimal, arith}
 use Rattle.std.specs.Prelude.{bytes_eq, nat_eq}
 use Rattle.std.specs.List.{starts_with}
-use Rattle.std.specs.Str.Parse.{AllDigits}
 use Rattle.std.proofs.lemmas.Bool.{ltb-true, lt-ltb}
 use Rattle.std.proofs.lemmas.List.{take-append-drop}
 use Rattle.std.proofs.lemmas.Slice.Eq.{bytes_eq-Decides}
@@ -13,11 +12,6 @@ use Rattle.lsm_log.specs.LogNames.{record_name, numbered, kind_in_log, kind_of, 
 use Rattle.lsm_manifest.proofs.Apart.{not_dotted, not_skipped, digits, never}
 
 -- ---- the name of a record is that of its file
-
-digits_front : (ds : List ℕ) → AllDigits 10 ds → AllDigits 10 (take 2 ds)
-digits_front [] h = tt
-digits_front (d ∷ []) h = (h.0, tt)
-digits_front (d ∷ (e ∷ ds)) h = (h.0, (h.1.0, tt))
 
 by_tests : (a b : Bool) (k : LogName) → a ≡ false → b ≡ false → cond (a || b) Skipped k ≡ k
 by_tests a b k first second = rw (first, second) refl

@@ -1,6 +1,6 @@
 -- What stands beside a logged tree that came about: which memtables are sealed by its notes, that its journal has no low reads, and from
 -- where a version of unknown outcome reads the log.
-use Rattle.std.proofs.Common.{◌≡◌, ℕ, ◌≤◌, arith, true, List, [], ◌∷◌, ◌++◌, refl, sym, ap, ◌∙◌, subst, ◌⊎◌, inl, inr, ⊎_elim}
+use Rattle.std.proofs.Common.{◌≡◌, ℕ, ◌≤◌, arith, true, List, [], ◌∷◌, refl, sym, ap, ◌∙◌, subst, ◌⊎◌, inl, inr, ⊎_elim}
 use Rattle.lsm_below.specs.Entries.{Entry}
 use Rattle.lsm_model.specs.Steps.{State, Action, Wrote, Flushed, Cleared, Step}
 use Rattle.lsm_model.specs.Beginnings.{Saved, Deed, Done, Lost, Deeds, Does, told_lost, is_commit}

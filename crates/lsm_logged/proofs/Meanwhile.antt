@@ -1,7 +1,7 @@
 -- What a crash leaves while a logged tree is opened reads as something that it could leave before.
 use Rattle.std.proofs.Common.{◌≡◌, ◌≢◌, ◌⊎◌, ⊎_elim, inl, inr, ℕ, ◌<◌, ◌≤◌, ◌^◌, ◌||◌, Bool, true, false, List, [], ◌∷◌, Option, Some, None, IsSome, refl, sym, ap, ◌∙◌, subst, codes, lit<}
 use Rattle.std.specs.Prelude.{nat_eq}
-use Rattle.std.specs.List.{AllByRecursion, IsDistinct, starts_with}
+use Rattle.std.specs.List.{AllByRecursion, starts_with}
 use Rattle.std.proofs.lemmas.Bool.{both_ways}
 use Rattle.lsm_below.specs.Numbers.{PlainNumbersAreRead}
 use Rattle.lsm_store.specs.World.{Image, World, IsImage, Same, LeavesOnly}
@@ -19,11 +19,12 @@ use Rattle.lsm_manifest.specs.Opening.{ReadsFrom, IsBegun, IsOldOrBegun, LeavesS
 use Rattle.lsm_manifest.specs.Persist.{naming}
 use Rattle.lsm_manifest.specs.Ready.{IsReady, KeepsNamed, IsOldOrRead, OpeningLeaves, ReadyKeepsNamed, OpeningLeavesRead}
 use Rattle.lsm_manifest.specs.Recovery.{IsNamed}
-use Rattle.lsm_manifest.specs.Spelling.{ids_of, IsFileFrom}
+use Rattle.lsm_manifest.specs.Spelling.{ids_of}
 use Rattle.lsm_manifest.specs.Versions.{named_levels, file_of, first_version}
 use Rattle.lsm_manifest.proofs.Apart.{version_kind}
 use Rattle.lsm_manifest.proofs.Pins.{current_stays, version_stays}
 use Rattle.lsm_manifest.proofs.Readiness.{never_current}
+use Rattle.lsm_manifest.proofs.FirstVersion.{first_file_reads}
 use Rattle.lsm_commit.specs.Foreign.{IsForeign, Passes, ForeignNamesSpare}
 use Rattle.lsm_commit.specs.Opening.{StoredIsReady}
 use Rattle.lsm_commit.specs.Stored.{IsStored, HoldsOneOf}
@@ -157,20 +158,6 @@ module _ (once : FoundOnce) (unread : UnreadNamesDontMatter) (plain : PlainNumbe
   )
 
 -- ---- the file of the first version
-
-first_file_reads : IsFileFrom (Some 0) (named_levels empty_levels) (file_of first_version)
-unfolding IsDistinct
-first_file_reads = record {
-  version = codes "3.1.10";
-  from_fits = lit< tt;
-  is = record {
-    version_fits = lit< tt;
-    layout_fits = lit< tt;
-    laid_out = record { count = refl; each = (record { count = lit< tt; each = tt }, (record { count = lit< tt; each = tt }, (record { count = lit< tt; each = tt }, (record { count = lit< tt; each = tt }, (record { count = lit< tt; each = tt }, (record { count = lit< tt; each = tt }, (record { count = lit< tt; each = tt }, tt))))))) };
-    distinct = tt;
-  };
-  spelling = refl;
-}
 
 first_read : (image : Image) → image current_name ≡ Some (naming 0 (file_of first_version)) → image (version_name 0) ≡ Some (file_of first_version) → ReadsFrom image first_version
 first_read image current version = record {

@@ -7,7 +7,7 @@ use Rattle.lsm_manifest.specs.declared.kinds.NameKind.TheVariants.{Refused}
 use Rattle.std.proofs.lemmas.Bool.{both_ways}
 use Rattle.lsm_manifest.specs.Names.{current_name, version_name}
 use Rattle.lsm_manifest.specs.Kinds.{kind_of}
-use Rattle.lsm_manifest.specs.Spelling.{IsVersionFile}
+use Rattle.lsm_manifest.specs.Spelling.{IsFileFrom}
 use Rattle.lsm_manifest.specs.Recovery.{Levels}
 use Rattle.lsm_manifest.specs.Standing.{HasGoodNames, StandsFor}
 use Rattle.lsm_manifest.specs.Persist.{naming}
@@ -21,26 +21,23 @@ first_file = file_of first_version
 abbrev pub first_levels : Levels
 first_levels = named_levels empty_levels
 
-first_reads : IsVersionFile first_levels first_file
+pub first_file_reads : IsFileFrom (Some 0) first_levels first_file
 unfolding IsDistinct
-first_reads = record {
-  from = Some 0;
-  file = record {
-    version = codes "3.1.10";
-    from_fits = lit< tt;
-    is = record {
-      version_fits = lit< tt;
-      layout_fits = lit< tt;
-      laid_out = record { count = refl; each = (record { count = lit< tt; each = tt }, (record { count = lit< tt; each = tt }, (record { count = lit< tt; each = tt }, (record { count = lit< tt; each = tt }, (record { count = lit< tt; each = tt }, (record { count = lit< tt; each = tt }, (record { count = lit< tt; each = tt }, tt))))))) };
-      distinct = tt;
-    };
-    spelling = refl;
+first_file_reads = record {
+  version = codes "3.1.10";
+  from_fits = lit< tt;
+  is = record {
+    version_fits = lit< tt;
+    layout_fits = lit< tt;
+    laid_out = record { count = refl; each = (record { count = lit< tt; each = tt }, (record { count = lit< tt; each = tt }, (record { count = lit< tt; each = tt }, (record { count = lit< tt; each = tt }, (record { count = lit< tt; each = tt }, (record { count = lit< tt; each = tt }, (record { count = lit< tt; each = tt }, tt))))))) };
+    distinct = tt;
   };
+  spelling = refl;
 }
 
 pub first_stands : (image : Image) → image current_name ≡ Some (naming 0 first_file) → image (version_name 0) ≡ Some first_file → HasGoodNames image → StandsFor image 0 first_levels empty_levels
 first_stands image current version good = record {
-  named = record { id_fits = lit< tt; bytes = first_file; current = current; version = version; reads = first_reads };
+  named = record { id_fits = lit< tt; bytes = first_file; current = current; version = version; reads = record { from = Some 0; file = first_file_reads } };
   tables = (tt, (tt, (tt, (tt, (tt, (tt, (tt, tt)))))));
   runs = (tt, (tt, (tt, (tt, (tt, (tt, (tt, tt)))))));
   names = good;

@@ -4,11 +4,10 @@ use Rattle.lsm_below.specs.declared.error.Error.{Error}
 use Rattle.lsm_below.specs.declared.error.Error.TheVariants.{OutOfMemory, Store, CommitUnknown, Unrecoverable, OutOfNumbers}
 use Rattle.lsm_below.specs.Entries.{Entry}
 use Rattle.lsm_model.specs.Journal.{Event}
-use Rattle.lsm_model.specs.declared.journal.JournalEntry.TheVariants.{Clear}
 use Rattle.lsm_parts.specs.Held.{first_entries}
 use Rattle.lsm_state.specs.Core.{Core}
 use Rattle.lsm_state.specs.Commits.{doubted}
-use Rattle.lsm_state.specs.Clearing.{cleared, cleared_in, Clears, ClearDeeds, clear_events, ClearsKeepReads, forgotten, ForgetsUnflushed}
+use Rattle.lsm_state.specs.Clearing.{cleared, cleared_in, Clears, clear_events, ClearsKeepReads, forgotten, ForgetsUnflushed}
 use Rattle.lsm_runs.specs.declared.steps.Reply.{Reply}
 use Rattle.lsm_runs.specs.declared.steps.Reply.TheVariants.{Cleared, Done, Refused}
 use Rattle.lsm_journal.specs.NotedClears.{ClearsNoted}

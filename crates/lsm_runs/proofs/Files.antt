@@ -1,5 +1,5 @@
 -- What steps leave of a tree's files.
-use Rattle.std.proofs.Common.{◌≡◌, ◌⊎◌, ⊎_elim, inl, inr, ℕ, ◌++◌, List, [], Option, Some, None, sym, ap, subst}
+use Rattle.std.proofs.Common.{◌≡◌, ◌⊎◌, ⊎_elim, inl, inr, ◌++◌, List, [], Option, None, sym, ap, subst}
 use Rattle.lsm_model.specs.Journal.{Event}
 use Rattle.lsm_flush.specs.Jobs.{SeenOpen}
 use Rattle.lsm_below.specs.Members.{IsIn}
@@ -7,7 +7,6 @@ use Rattle.lsm_store.specs.World.{Image, World}
 use Rattle.lsm_versions.specs.Levels.{SeenVersion}
 use Rattle.lsm_commit.specs.Stored.{IsStored, HoldsOneOf, Leaves}
 use Rattle.lsm_state.specs.Core.{Core, versions_left, written_by, written_of}
-use Rattle.lsm_state.specs.Calls.{Rotates}
 use Rattle.lsm_state.specs.Commits.{Upholds}
 use Rattle.lsm_runs.specs.declared.slots.Job.{Job}
 use Rattle.lsm_runs.specs.declared.steps.JobStep.{JobStep}

@@ -7,7 +7,7 @@ use Rattle.lsm_model.specs.declared.journal.JournalEntry.{JournalEntry}
 use Rattle.lsm_compaction.specs.Merges.{SeenCompaction, SeenCompacted}
 use Rattle.lsm_pick.specs.declared.choice.Choice.{Choice}
 use Rattle.lsm_pick.specs.declared.choice.ChooseError.{ChooseError}
-use Rattle.lsm_commit.specs.Causes.{HasCause, BlamesStore, Blames, causes_less}
+use Rattle.lsm_commit.specs.Causes.{HasCause, Blames, causes_less}
 use Rattle.lsm_state.specs.declared.compaction.Options.{Options}
 use Rattle.lsm_state.specs.declared.compaction.Begun.{Begun}
 use Rattle.lsm_state.specs.declared.compaction.Finished.{Finished}

@@ -1,23 +1,17 @@
-use Rattle.std.proofs.Common.{sym, ◌∙◌, ◌+◌, ◌-◌, ◌/◌, arith}
-use Rattle.lsm_below.proofs.Visible.{all_to, none_from}
+use Rattle.std.proofs.Common.{rules, tests, arith}
+use Rattle.std.proofs.lemmas.List.Sorted.{IsPartitionPoint-from_clause}
+use Rattle.lsm_below.specs.Lookups.{stands_before}
+use Rattle.lsm_below.proofs.Visible.{parted}
 use Rattle.lsm_below.proofs.lookup.place_below.Goals as goal
 
-pub loop-low-preserved-then-stands_ahead : goal.loop-low-preserved-then-stands_ahead
-loop-low-preserved-then-stands_ahead c =
-    let i = c.loop-low.invariant in
-    let t = c.loop-low-test.true in (
-      omega arith,
-      i.1,
-      all_to c.args.entries.now c.requires c.args.key.now c.args.number (c.loop-low.low + (c.loop-low.high - c.loop-low.low) / 2) c.index-entries-mid.result (omega arith) c.index-entries-mid.is (sym c.stands_ahead.ensures ∙ c.if-stands_ahead.true),
-      i.3,
-    )
+pub returns-clause-before : goal.returns-clause-before
+returns-clause-before c j d lt =
+    let p = stands_before c.args.key.now c.args.number in
+    let point = IsPartitionPoint-from_clause p c.args.entries.now c.partition_point.result c.partition_point.ensures.partitioned (parted c.args.entries.now c.requires c.args.key.now c.args.number) (λ a r f called. search (rules, tests)) in
+    point.0 j d (omega arith) lt
 
-pub loop-low-preserved : goal.loop-low-preserved
-loop-low-preserved c =
-    let i = c.loop-low.invariant in
-    let t = c.loop-low-test.true in (
-      omega arith,
-      omega arith,
-      i.2,
-      none_from c.args.entries.now c.requires c.args.key.now c.args.number (c.loop-low.low + (c.loop-low.high - c.loop-low.low) / 2) c.index-entries-mid.result (omega arith) c.index-entries-mid.is (sym c.stands_ahead.ensures ∙ c.if-stands_ahead.false),
-    )
+pub returns-clause-behind : goal.returns-clause-behind
+returns-clause-behind c j d le lt =
+    let p = stands_before c.args.key.now c.args.number in
+    let point = IsPartitionPoint-from_clause p c.args.entries.now c.partition_point.result c.partition_point.ensures.partitioned (parted c.args.entries.now c.requires c.args.key.now c.args.number) (λ a r f called. search (rules, tests)) in
+    point.1 j d le lt
