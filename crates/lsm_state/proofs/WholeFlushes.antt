@@ -73,6 +73,9 @@ none_drawn n m w v same = inl (λ i from below. absurd (omega (arith, same, from
 -- ---- a job that is begun
 
 module _ (old mid : Core) (job : SeenJob) (begins : Begins (Ok (Some job)) old mid) where
+  begun_is : (job ≡ job_in old) × (mid ≡ begun old)
+  begun_is = begins.begins
+
   pub something : sealed_ids old ≡ [] → ⊥
   something none = cc (begins.none none)
 

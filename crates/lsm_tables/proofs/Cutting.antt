@@ -83,6 +83,9 @@ module _ (keys : KeysAreOrdered) (entries : EntriesAreOrdered) (target : ℕ) (e
   front_length : length (take end es) ≡ end
   front_length = let l = length-take end es in let w = at.within in omega arith
 
+  front_writable : IsWritable (take end es)
+  front_writable = writable_left (take end es) (drop end es) (subst IsWritable (sym parts) writable)
+
   pub behind_writable : IsWritable (drop end es)
   behind_writable = writable_right (take end es) (drop end es) (subst IsWritable (sym parts) writable)
 
