@@ -7,7 +7,7 @@ use std::alloc::{AllocError, AllocFailed};
 use thiserror::Error;
 
 /// What a call refuses. Each error has a number, by which the program prints it, and a name.
-#[derive(Debug, Drop, Error)]
+#[derive(Clone, Debug, Drop, PartialEq, Eq, Error)]
 pub enum Error {
     /// 1: a growth was refused in this call.
     #[error("a growth was refused")]
@@ -16,10 +16,11 @@ pub enum Error {
     #[error("a store call failed")]
     Store,
     /// 3: replacing `current`, or a record of the log, failed in this call: whether it stands is unknown.
-    #[error("replacing `current` failed")]
+    #[error("whether it stands is unknown: open the tree again")]
     CommitUnknown,
-    /// 4: files are damaged or foreign; or a commit was asked for after one of unknown outcome.
-    #[error("the files can't be used")]
+    /// 4: files are damaged or foreign; or a commit, or a write of a logged tree, was asked for after one of unknown outcome: then open
+    /// the tree again.
+    #[error("the files can't be used, or an earlier outcome is unknown")]
     Unrecoverable,
     /// 5: the format byte of a version's file is neither 3 nor 4; 1 where a file `version` is there.
     #[error("format byte {0}")]
@@ -30,10 +31,11 @@ pub enum Error {
     /// 7: `current` isn't of its form, or a tree type isn't known.
     #[error("{0} isn't of its form")]
     InvalidHeader(&'static str),
-    /// 8: the snapshot is above 0, and no super version in the history is numbered below it.
+    /// 8: the snapshot is above 0, and no super version in the history is numbered below it: read at a newer one.
     #[error("the snapshot is too old")]
     SnapshotTooOld,
-    /// 9: a counter of numbers, ids or jobs is at 2^63 or above.
+    /// 9: a counter of numbers, ids or jobs is at 2^63 or above, a version's id at 2^64 - 1, or an opened entry's number at 2^63 or
+    /// above.
     #[error("a counter has no number left")]
     OutOfNumbers,
     /// 10: a key has more than 65,535 bytes.
@@ -45,17 +47,17 @@ pub enum Error {
     /// 12: a write is numbered 2^63 or more.
     #[error("the number is too great")]
     NumberTooGreat,
-    /// 13: a flush is open.
+    /// 13: a flush is open: register or abandon its job first.
     #[error("a flush is open")]
     FlushOpen,
-    /// 14: a level would have 256 runs, or a run 2^32 tables.
+    /// 14: a level would have 256 runs, or a run 2^32 tables: compact first.
     #[error("there are too many runs")]
     TooManyRuns,
     /// 15: level 0 has several runs where one is asked for.
     #[error("level 0 has several runs")]
     NotDisjoint,
-    /// 16: a table of level 0 is in use.
-    #[error("a table of level 0 is in use")]
+    /// 16: a chosen table is in use, of level 0 for `Leveled`: ask again when the open merge has ended.
+    #[error("a table is in use")]
     Busy,
     /// 17: the commit stands, the clean-up after it failed.
     #[error("the commit stands, the clean-up failed")]

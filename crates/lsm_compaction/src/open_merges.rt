@@ -84,7 +84,7 @@ fn show_tables(state: &mut CompactionState, merge: &OpenMerge)
 ///
 /// ```text
 /// let mut merges = OpenMerges::new(alloc);
-/// merges.open(job.number(), job.ids(), job.settings())?; // its tables are in use from here on
+/// let number = merges.open(job.ids(), job.settings())?; // its tables are in use from here on
 /// assert!(rt; merges.is_open(&job));
 /// merges.close(number); // when it ends, however it does
 /// ```

@@ -250,10 +250,17 @@ impl WrittenFlush {
 }
 
 /// What became of a flush.
+///
+/// # Examples
+///
+/// ```text
+/// let registered = tree.register_tables(written)?;
+/// if !registered.installed { .. } // stale: something else was installed meanwhile, so flush again
+/// ```
 #[derive(Clone, Copy, Debug, PartialEq, Eq)]
 pub struct Registered {
     /// Whether its tables are in the tree.
     pub installed: bool,
-    /// Whether all that it made needless was removed.
+    /// Where it is installed: whether all that it made needless was removed. Else true, and the files of a stale job stay.
     pub cleaned: bool,
 }

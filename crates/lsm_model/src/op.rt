@@ -23,6 +23,21 @@ pub enum Op {
 impl Op {
     ghost use Rattle.lsm_model.specs.Ops.{op_entry};
 
+    /// The same, which shares the bytes of a value: a batch that is refused is dropped, so who tries again passes copies.
+    ///
+    /// # Errors
+    ///
+    /// Refused only for want of memory.
+    pub fn copy(&self) -> Result<Op, AllocError>
+        ensures { IfOk result (λ copy. copy ≡ self.now) }
+    {
+        match self {
+            Op::Set(value) => Ok(Op::Set(share(value)?)),
+            Op::Del => Ok(Op::Del),
+            Op::Weak => Ok(Op::Weak),
+        }
+    }
+
     /// The entry of this write to a key, under a sequence number.
     pub fn into_entry(self, key: UserKey, number: SeqNo) -> InternalValue
         ensures { result ≡ op_entry key number self }

@@ -88,14 +88,14 @@ fn a_folder_is_read_again(rt: HostRuntime) -> Result<(), Fail> {
     Ok(())
 }
 
-/// What is told of a folder that isn't opened: what isn't one, one that another session has open, and one of an older format.
+/// What is told of a folder that isn't opened: what isn't one, one that another store has open, and one of an older format.
 #[test]
 fn refused_folders_are_told(rt: HostRuntime) -> Result<(), Fail> {
     let alloc = rt.alloc();
     let folder = "lsm_shell_refused";
     let store = filled(&rt, alloc, folder)?;
     let failed = b"error 2 Store\n";
-    let owned = b"lsm_shell_refused: lock: another session has the folder open\n";
+    let owned = b"lsm_shell_refused: lock: another store has the folder open\n";
     assert!(rt; answers_over(&rt, alloc, folder, (failed, owned, 1))?);
     drop(store);
     let file = b"lsm_shell_refused/current: make: Not a directory (os error 20)\n";

@@ -39,7 +39,7 @@ const NAME_ROOM: usize = 64;
 /// | `read` | the whole file |
 /// | `write` | makes the file, or cuts it to nothing, and writes all bytes; what it can't finish it removes. `NothingDone` where the file couldn't be made and isn't there |
 /// | `sync` | syncs the file, then its folder |
-/// | `replace` | removes a `replace.new` that was left, makes it anew in the folder, writes it, syncs it, renames it to the name, and syncs the name's folder; where it can't rename, it removes `replace.new`. `NothingDone` before the rename, and where that fails with another error than an input/output error |
+/// | `replace` | removes a `replace.new` that was left, makes it anew in the folder, writes it, syncs it, renames it to the name, and syncs the name's folder; where it can't rename, it removes `replace.new`. `NothingDone` before the rename, and where that fails with an error that tells so: no input/output error, interruption, time-out, stale handle, nor one without a kind |
 /// | `remove` | removes the file; an absent one is no error. `NothingDone` where memory is refused |
 /// | `settle` | syncs the folder and its subfolders, but for one in which nothing can be written |
 ///

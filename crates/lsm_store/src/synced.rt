@@ -9,8 +9,8 @@ use bytes::Bytes;
 ///
 /// # Errors
 ///
-/// `OutOfMemory` where a growth was refused, `Fault` where the store failed: of this name a crash may then leave
-/// anything.
+/// `OutOfMemory` where a growth was refused, `NothingDone` where the store failed and changed nothing, `Fault` where it failed otherwise:
+/// of this name a crash may then leave anything.
 pub fn write_synced<S: Store>(store: &mut S, name: &str, bytes: &[u8]) -> Result<(), StoreError>
     ensures any_moment { S.tells → LeavesOnly (S.world store.old) (S.world store.new) (IsBeside name.now (S.world store.old)) }
     ensures puts { S.tells → Puts name.now bytes.now (S.world store.old) (S.world store.new) result }

@@ -18,8 +18,11 @@ pub const LIMIT: SeqNo = 9_223_372_036_854_775_808;
 /// ```
 #[derive(Clone, Copy, Debug, PartialEq, Eq)]
 pub struct Config {
+    /// What `id` tells; no file has it.
     pub id: TreeId,
+    /// The first sequence number that a new tree draws; an opened one draws none that its entries have.
     pub seqno: SeqNo,
+    /// The first snapshot that callers are to take.
     pub visible_seqno: SeqNo,
 }
 

@@ -23,7 +23,7 @@ use std::marker::Model;
 /// # Examples
 ///
 /// ```text
-/// let mut history = SuperVersions::new(alloc, Version::new(0));
+/// let mut history = SuperVersions::new(alloc, Version::new(alloc, 0));
 /// history.append_version(version)?;
 /// let read = history.get_version_for_snapshot(snapshot)?;
 /// ```

@@ -78,7 +78,7 @@ pub(crate) fn lock_folder<R: Files<File = File>>(
     match file.try_lock() {
         Ok(()) => Ok(file),
         Err(TryLockError::WouldBlock) => {
-            let words = "another session has the folder open";
+            let words = "another store has the folder open";
             Err(io::Error::new(ErrorKind::WouldBlock, words))
         }
         Err(TryLockError::Error(error)) => Err(error),
