@@ -34,7 +34,6 @@ use Rattle.lsm_logged.specs.Asking.{Asks}
 use Rattle.lsm_logged.specs.Flushing.{BeginsLogged, WritesJobLogged}
 use Rattle.lsm_logged.specs.Keeping.{SeenLogged}
 use Rattle.lsm_runs.specs.Adds.{AnyRanges}
-use Rattle.lsm_runs.proofs.OpenMerges.{one_merge}
 use Rattle.lsm_log_runs.specs.Adds.{AddsBegun, AddsCompaction, AddsRegister, AddsMerge, AddsJob}
 use Rattle.lsm_log_runs.specs.JobSteps.{IsIdle, TakesBegin, TakesTables, TakesRegister, TakesAbandon, TakesBeginCompaction, TakesFinish, TakesAbandonCompaction, TakesJob}
 use Rattle.lsm_log_runs.specs.Pasts.{LogPast, with_begun}
@@ -58,6 +57,9 @@ one_flush o a b first second = cc
 
 no_merge : (o : Option SeenCompaction) (a : SeenCompaction) → o ≡ None → o ≡ Some a → ⊥
 no_merge o a none some = cc
+
+one_merge : (o : Option SeenCompaction) (a b : SeenCompaction) → o ≡ Some a → o ≡ Some b → a ≡ b
+one_merge o a b first second = cc
 
 -- nothing, a flush, a merge, or the same as before
 none_waits : (ids : List ℕ) (journal : List Event) (place : Option Job) → place ≡ None → WaitsAt ids journal place

@@ -1,5 +1,5 @@
 // Compactions of a logged tree.
-ghost use Rattle.std.specs.Prelude.{◌≡◌, ◌<◌, ◌^◌, Ok};
+ghost use Rattle.std.specs.Prelude.{◌≡◌, ◌<◌, ◌^◌, true, Ok};
 ghost use Rattle.lsm_below.specs.Numbers.{PlainNumbersAreRead};
 ghost use Rattle.lsm_commit.specs.Causes.{HasCause, Blames};
 ghost use Rattle.lsm_state.specs.Cleaning.{LeavesNoFiles};
@@ -11,6 +11,7 @@ ghost use Rattle.lsm_state.specs.Kept.{IsKeptTree};
 ghost use Rattle.lsm_state.specs.WholeCompactions.{CompactsChoice, Compacts, DropsRange, options_at, only_memory, major_choice, drop_choice};
 ghost use Rattle.lsm_logged.specs.Acting.{ActsNot, IsMerging, DropsWithin, CompactsBy, CompactsAct, MergesAct};
 ghost use Rattle.lsm_logged.specs.Asking.{Asks};
+ghost use Rattle.lsm_logged.specs.Keeping.{is_unsure};
 
 use crate::Logged;
 use lsm_below::{Error, SeqNo, plain_numbers_are_read};
@@ -51,6 +52,8 @@ impl<S: Store> Logged<S> {
         ensures causes { HasCause (Blames result) (S.world self.old.store) (S.world self.new.store) }
         // Behind a whole clean-up no file is left of what went.
         ensures gone { S.tells → result ≡ Ok Begun.Installed → LeavesNoFiles (S.world self.new.store) (given_up choice) self.old.core.history self.new.core.history }
+        // After an unknown outcome no call of the store is made.
+        ensures no_call { is_unsure self.old ≡ true → self.new.store ≡ self.old.store }
     {
         self.acts_are_known();
         self.tree.is_upheld();
@@ -79,6 +82,8 @@ impl<S: Store> Logged<S> {
         ensures causes { HasCause (Blames result) (S.world self.old.store) (S.world self.new.store) }
         // Behind a whole clean-up no file is left of what went.
         ensures gone { S.tells → result ≡ Ok Begun.Installed → LeavesNoneChosen (S.world self.new.store) (may_choose strategy.now) self.old.core self.new.core }
+        // After an unknown outcome no call of the store is made.
+        ensures no_call { is_unsure self.old ≡ true → self.new.store ≡ self.old.store }
     {
         self.acts_are_known();
         self.tree.is_upheld();
@@ -107,6 +112,8 @@ impl<S: Store> Logged<S> {
         ensures causes { HasCause (Blames result) (S.world self.old.store) (S.world self.new.store) }
         // Behind a whole clean-up no file is left of what went.
         ensures gone { S.tells → result ≡ Ok Begun.Installed → LeavesNoneChosen (S.world self.new.store) (C.may_choose strategy.now) self.old.core self.new.core }
+        // After an unknown outcome no call of the store is made.
+        ensures no_call { is_unsure self.old ≡ true → self.new.store ≡ self.old.store }
     {
         self.acts_are_known();
         self.tree.is_upheld();
@@ -131,6 +138,8 @@ impl<S: Store> Logged<S> {
         ensures causes { HasCause (Blames result) (S.world self.old.store) (S.world self.new.store) }
         // Behind a whole clean-up no file is left of what went.
         ensures gone { S.tells → result ≡ Ok Finished.Installed → LeavesNoFiles (S.world self.new.store) merged.job.ids self.old.core.history self.new.core.history }
+        // After an unknown outcome no call of the store is made.
+        ensures no_call { is_unsure self.old ≡ true → self.new.store ≡ self.old.store }
     {
         self.acts_are_known();
         self.tree.is_upheld();
@@ -167,6 +176,8 @@ impl<S: Store> Logged<S> {
         ensures causes { HasCause (Blames result) (S.world self.old.store) (S.world self.new.store) }
         // Behind a whole clean-up no file is left of what went.
         ensures gone { S.tells → result ≡ Ok Begun.Installed → LeavesNoFiles (S.world self.new.store) (given_up choice) self.old.core.history self.new.core.history }
+        // After an unknown outcome no call of the store is made.
+        ensures no_call { is_unsure self.old ≡ true → self.new.store ≡ self.old.store }
     {
         self.acts_are_known();
         self.tree.is_upheld();
@@ -195,6 +206,8 @@ impl<S: Store> Logged<S> {
         ensures causes { HasCause (Blames result) (S.world self.old.store) (S.world self.new.store) }
         // Behind a whole clean-up no file is left of what went.
         ensures gone { S.tells → result ≡ Ok Begun.Installed → LeavesNoneChosen (S.world self.new.store) (may_choose strategy.now) self.old.core self.new.core }
+        // After an unknown outcome no call of the store is made.
+        ensures no_call { is_unsure self.old ≡ true → self.new.store ≡ self.old.store }
     {
         self.acts_are_known();
         self.tree.is_upheld();
@@ -223,6 +236,8 @@ impl<S: Store> Logged<S> {
         ensures causes { HasCause (Blames result) (S.world self.old.store) (S.world self.new.store) }
         // Behind a whole clean-up no file is left of what went.
         ensures gone { S.tells → result ≡ Ok Begun.Installed → LeavesNoneChosen (S.world self.new.store) (C.may_choose strategy.now) self.old.core self.new.core }
+        // After an unknown outcome no call of the store is made.
+        ensures no_call { is_unsure self.old ≡ true → self.new.store ≡ self.old.store }
     {
         self.acts_are_known();
         self.tree.is_upheld();
@@ -247,6 +262,8 @@ impl<S: Store> Logged<S> {
         ensures causes { HasCause (Blames result) (S.world self.old.store) (S.world self.new.store) }
         // Behind a whole clean-up no file is left of what went.
         ensures gone { S.tells → result ≡ Ok Begun.Installed → LeavesNoneChosen (S.world self.new.store) (major_choice target) self.old.core self.new.core }
+        // After an unknown outcome no call of the store is made.
+        ensures no_call { is_unsure self.old ≡ true → self.new.store ≡ self.old.store }
     {
         self.acts_are_known();
         self.tree.is_upheld();
@@ -271,6 +288,8 @@ impl<S: Store> Logged<S> {
         ensures causes { HasCause (Blames result) (S.world self.old.store) (S.world self.new.store) }
         // Behind a whole clean-up no file is left of what went.
         ensures gone { S.tells → result ≡ Ok Begun.Installed → LeavesNoneChosen (S.world self.new.store) (drop_choice bounds) self.old.core self.new.core }
+        // After an unknown outcome no call of the store is made.
+        ensures no_call { is_unsure self.old ≡ true → self.new.store ≡ self.old.store }
     {
         self.acts_are_known();
         self.tree.is_upheld();

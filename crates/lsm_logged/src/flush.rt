@@ -4,6 +4,7 @@ ghost use Rattle.lsm_commit.specs.Causes.{HasCause, Blames};
 ghost use Rattle.lsm_state.specs.Causes.{BlamesOrUncleanFlush, BlamesOrUncleanBehind, BlamesOrUnclean, BlamesBeside};
 ghost use Rattle.lsm_state.specs.Commits.{UpholdsFiles, Upholds};
 ghost use Rattle.lsm_state.specs.Flushes.{sealed_ids, spent};
+ghost use Rattle.lsm_logged.specs.Keeping.{is_unsure};
 ghost use Rattle.lsm_logged.specs.Removing.{log_from_of, AreGone, KeepsKnown, Passed};
 ghost use Rattle.lsm_logged.specs.Acting.{ActsNot, FlushesAct, FlushesBothAct, RegistersAct, ClearsAct};
 ghost use Rattle.lsm_logged.specs.Flushing.{FlushesLogged, FlushesBoth, BeginsLogged, WritesJobLogged, RegistersLogged, ClearsLogged, CleansLog, RemovesBehind};
@@ -73,6 +74,8 @@ impl<S: Store> Logged<S> {
         ensures upholds { S.tells → UpholdsFiles (S.world self.old.store) (S.world self.new.store) self.old.core self.new.core }
         // The store is blamed only where a call of it failed.
         ensures causes { HasCause (BlamesOrUncleanFlush result) (S.world self.old.store) (S.world self.new.store) }
+        // After an unknown outcome no call of the store is made.
+        ensures no_call { is_unsure self.old ≡ true → self.new.store ≡ self.old.store }
     {
         plain_numbers_are_read();
         self.counter_fits();
@@ -108,6 +111,8 @@ impl<S: Store> Logged<S> {
         ensures acts { S.tells → FlushesBothAct watermark result (S.world self.old.store) (S.world self.new.store) self.old self.new }
         ensures upholds { S.tells → UpholdsFiles (S.world self.old.store) (S.world self.new.store) self.old.core self.new.core }
         ensures causes { HasCause (BlamesOrUncleanBehind result) (S.world self.old.store) (S.world self.new.store) }
+        // After an unknown outcome no call of the store is made.
+        ensures no_call { is_unsure self.old ≡ true → self.new.store ≡ self.old.store }
     {
         crashes_leave_versions(self.tree.store());
         flushes_are_deeds();
@@ -154,6 +159,8 @@ impl<S: Store> Logged<S> {
         ensures acts { S.tells → ActsNot (S.world self.old.store) (S.world self.new.store) self.old self.new }
         ensures upholds { S.tells → Upholds (S.world self.old.store) (S.world self.new.store) self.old.core self.new.core }
         ensures causes { HasCause (BlamesBeside result) (S.world self.old.store) (S.world self.new.store) }
+        // After an unknown outcome no call of the store is made.
+        ensures no_call { is_unsure self.old ≡ true → self.new.store ≡ self.old.store }
     {
         self.tree.is_upheld();
         if self.doubted {
@@ -191,6 +198,8 @@ impl<S: Store> Logged<S> {
         ensures acts { S.tells → RegistersAct job result (S.world self.old.store) (S.world self.new.store) self.old self.new }
         ensures upholds { S.tells → UpholdsFiles (S.world self.old.store) (S.world self.new.store) self.old.core self.new.core }
         ensures causes { HasCause (BlamesOrUnclean result) (S.world self.old.store) (S.world self.new.store) }
+        // After an unknown outcome no call of the store is made.
+        ensures no_call { is_unsure self.old ≡ true → self.new.store ≡ self.old.store }
     {
         plain_numbers_are_read();
         flushes_are_deeds();

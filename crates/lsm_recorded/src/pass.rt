@@ -9,8 +9,9 @@ use std::marker::Model;
 
 /// The entries that one caller's calls added to a journal, each with its place there, counted from 0.
 ///
-/// It grows with every call that it is given to: by 16 bytes and an entry, which it shares with the journal, for each write and
-/// each answered read. A caller who will never ask for the journal may use a new pass for each call.
+/// A written entry, an answered read, and each mark, clear and install of a flush or a compaction add 16 bytes, and an entry that it
+/// shares with the journal. A refused write or read adds none, nor does a rotation or a part of a flush before its end. A caller who
+/// will never ask for the journal may use a new pass for each call.
 ///
 /// # Examples
 ///
@@ -43,6 +44,13 @@ impl Pass {
         Pass {
             entries: Vec::new(alloc),
         }
+    }
+
+    /// The entries with their places, as a list of its own.
+    pub fn into_entries(self) -> Vec<(u64, SharedEntry)>
+        ensures { result.items ≡ self }
+    {
+        self.entries
     }
 
     /// The entries with their places.

@@ -194,6 +194,7 @@ impl<S: Store> Recorded<S> {
         ensures journal { self.new.journal ≡ self.old.journal }
         ensures pass { pass.new ≡ pass.old }
         ensures views { Stays self.old.tree.core self.new.tree.core }
+        ensures store { self.new.tree.store ≡ self.old.tree.store }
         ensures err { OnErr result (self.new ≡ self.old) }
         ensures opened { self.new.opened ≡ self.old.opened }
         ensures out_of_numbers { IsErrOf result Error.OutOfNumbers → LIMIT ≤ self.old.tree.core.next_memtable }
@@ -218,6 +219,7 @@ impl<S: Store> Recorded<S> {
         ensures core { OwnOr result (Appends (plain entry) result self.old.tree.core self.new.tree.core) }
         ensures noted { OnOk result (Notes (WriteEntry (plain entry) ∷ []) self.old.journal self.new.journal pass.old pass.new) }
         ensures views { OnOk result (StaysTo entry.key.seqno self.old.tree.core self.new.tree.core) }
+        ensures store { self.new.tree.store ≡ self.old.tree.store }
         ensures err { OnErr result ((self.new ≡ self.old) × (pass.new ≡ pass.old)) }
         ensures opened { self.new.opened ≡ self.old.opened }
     {
@@ -233,7 +235,8 @@ impl<S: Store> Recorded<S> {
         )
     }
 
-    /// Sets a key under a sequence number, as `append_entry`.
+    /// Sets a key under a sequence number, as `append_entry`. No call draws numbers for it: they are those below the counter that the
+    /// tree was opened with (`Config::seqno`). `write` draws its own.
     pub fn insert(
         &mut self,
         pass: &mut Pass,
@@ -245,6 +248,7 @@ impl<S: Store> Recorded<S> {
         ensures core { OwnOr result (Appends (op_entry key seqno (Set value)) result self.old.tree.core self.new.tree.core) }
         ensures noted { OnOk result (Notes (WriteEntry (op_entry key seqno (Set value)) ∷ []) self.old.journal self.new.journal pass.old pass.new) }
         ensures views { OnOk result (StaysTo seqno self.old.tree.core self.new.tree.core) }
+        ensures store { self.new.tree.store ≡ self.old.tree.store }
         ensures err { OnErr result ((self.new ≡ self.old) × (pass.new ≡ pass.old)) }
         ensures opened { self.new.opened ≡ self.old.opened }
     {
@@ -263,6 +267,7 @@ impl<S: Store> Recorded<S> {
         ensures core { OwnOr result (Appends (op_entry key seqno Del) result self.old.tree.core self.new.tree.core) }
         ensures noted { OnOk result (Notes (WriteEntry (op_entry key seqno Del) ∷ []) self.old.journal self.new.journal pass.old pass.new) }
         ensures views { OnOk result (StaysTo seqno self.old.tree.core self.new.tree.core) }
+        ensures store { self.new.tree.store ≡ self.old.tree.store }
         ensures err { OnErr result ((self.new ≡ self.old) × (pass.new ≡ pass.old)) }
         ensures opened { self.new.opened ≡ self.old.opened }
     {
@@ -280,6 +285,7 @@ impl<S: Store> Recorded<S> {
         ensures core { OwnOr result (Appends (op_entry key seqno Weak) result self.old.tree.core self.new.tree.core) }
         ensures noted { OnOk result (Notes (WriteEntry (op_entry key seqno Weak) ∷ []) self.old.journal self.new.journal pass.old pass.new) }
         ensures views { OnOk result (StaysTo seqno self.old.tree.core self.new.tree.core) }
+        ensures store { self.new.tree.store ≡ self.old.tree.store }
         ensures err { OnErr result ((self.new ≡ self.old) × (pass.new ≡ pass.old)) }
         ensures opened { self.new.opened ≡ self.old.opened }
     {
@@ -294,6 +300,7 @@ impl<S: Store> Recorded<S> {
         ensures core { OwnOr result (WritesBatch ops.items result self.old.tree.core self.new.tree.core) }
         ensures noted { OnOk result (Notes (map WriteEntry (op_entries self.old.tree.core.seqno ops.items)) self.old.journal self.new.journal pass.old pass.new) }
         ensures views { OnOk result (StaysTo self.old.tree.core.seqno self.old.tree.core self.new.tree.core) }
+        ensures store { self.new.tree.store ≡ self.old.tree.store }
         ensures err { OnErr result ((self.new ≡ self.old) × (pass.new ≡ pass.old)) }
         ensures opened { self.new.opened ≡ self.old.opened }
     {

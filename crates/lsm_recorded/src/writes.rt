@@ -38,6 +38,7 @@ fn append_noted<S: Store>(
     ensures in_order { IsErrOf result Error.OutOfOrder → ⊥ }
     ensures core { (result ≡ Err Error.OutOfMemory) ⊎ Appends (plain entry) result core.old.core core.new.core }
     ensures noted { OnOk result (Notes (WriteEntry (plain entry) ∷ []) journal.old.items journal.new.items pass.old.items pass.new.items) }
+    ensures store { core.new.store ≡ core.old.store }
     ensures err { OnErr result ((core.new ≡ core.old) × (journal.new.items ≡ journal.old.items) × (pass.new.items ≡ pass.old.items)) }
 {
     let note = SharedEntry::new(alloc, write_entry(&entry)?)?;
@@ -65,6 +66,7 @@ pub(crate) fn append_marked<S: Store>(
     ensures marks { OnOk result ((q : Bytes) → mark_of marks.new q ≡ marked_by entry (mark_of marks.old) q) }
     ensures noted { OnOk result (Notes (WriteEntry (plain entry) ∷ []) journal.old.items journal.new.items pass.old.items pass.new.items) }
     ensures unmarked { OnErr result ((q : Bytes) → mark_of marks.new q ≡ mark_of marks.old q) }
+    ensures store { core.new.store ≡ core.old.store }
     ensures err { OnErr result ((core.new ≡ core.old) × (journal.new.items ≡ journal.old.items) × (pass.new.items ≡ pass.old.items)) }
 {
     let number = entry.key.seqno;
@@ -111,6 +113,7 @@ fn write_noted<S: Store>(
     ensures in_order { IsErrOf result Error.OutOfOrder → ⊥ }
     ensures core { (result ≡ Err Error.OutOfMemory) ⊎ WritesBatch ops.items result core.old.core core.new.core }
     ensures noted { OnOk result (Notes (map WriteEntry (op_entries core.old.core.seqno ops.items)) journal.old.items journal.new.items pass.old.items pass.new.items) }
+    ensures store { core.new.store ≡ core.old.store }
     ensures err { OnErr result ((core.new ≡ core.old) × (journal.new.items ≡ journal.old.items) × (pass.new.items ≡ pass.old.items)) }
 {
     let Some((key, op)) = ops.pop() else {
@@ -141,6 +144,7 @@ fn write_one<S: Store>(
     ensures marks { OnOk result ((q : Bytes) → mark_of marks.new q ≡ marked_all (op_entries core.old.core.seqno ops.items) (mark_of marks.old) q) }
     ensures noted { OnOk result (Notes (map WriteEntry (op_entries core.old.core.seqno ops.items)) journal.old.items journal.new.items pass.old.items pass.new.items) }
     ensures unmarked { OnErr result ((q : Bytes) → mark_of marks.new q ≡ mark_of marks.old q) }
+    ensures store { core.new.store ≡ core.old.store }
     ensures err { OnErr result ((core.new ≡ core.old) × (journal.new.items ≡ journal.old.items) × (pass.new.items ≡ pass.old.items)) }
 {
     let number = core.seqno().get();
@@ -212,6 +216,7 @@ fn write_several<S: Store>(
     ensures marks { OnOk result ((q : Bytes) → mark_of marks.new q ≡ marked_all (op_entries core.old.core.seqno ops.items) (mark_of marks.old) q) }
     ensures noted { OnOk result (Notes (map WriteEntry (op_entries core.old.core.seqno ops.items)) journal.old.items journal.new.items pass.old.items pass.new.items) }
     ensures unmarked { OnErr result ((q : Bytes) → mark_of marks.new q ≡ mark_of marks.old q) }
+    ensures store { core.new.store ≡ core.old.store }
     ensures err { OnErr result ((core.new ≡ core.old) × (journal.new.items ≡ journal.old.items) × (pass.new.items ≡ pass.old.items)) }
 {
     let number = core.seqno().get();
@@ -247,6 +252,7 @@ pub(crate) fn write_marked<S: Store>(
     ensures marks { OnOk result ((q : Bytes) → mark_of marks.new q ≡ marked_all (op_entries core.old.core.seqno ops.items) (mark_of marks.old) q) }
     ensures noted { OnOk result (Notes (map WriteEntry (op_entries core.old.core.seqno ops.items)) journal.old.items journal.new.items pass.old.items pass.new.items) }
     ensures unmarked { OnErr result ((q : Bytes) → mark_of marks.new q ≡ mark_of marks.old q) }
+    ensures store { core.new.store ≡ core.old.store }
     ensures err { OnErr result ((core.new ≡ core.old) × (journal.new.items ≡ journal.old.items) × (pass.new.items ≡ pass.old.items)) }
 {
     if ops.len() == 1 {

@@ -338,12 +338,12 @@ fn take_steps<S: Store>(
 /// one that waits when the run ends is given up: each flush and each merge that a step begins ends within the run (`flush`,
 /// `merges`). A step costs what its call costs, and a list of pairs is kept once, for the reply and the journal.
 ///
-/// Without an index, and where no step forgets what isn't flushed (`ClearActiveMemtable`), the replay theorem holds
+/// Where no step forgets what isn't flushed (`ClearActiveMemtable`), the replay theorem holds
 /// (`replays`) and no step changes what it is not to change (`right`). That the journal is in order, the other premise of both,
 /// follows from the order that callers keep by the counter (`in_order`), and from the steps alone where their sequence numbers
 /// rise (`rises`). Over a store that holds the tree's files a crash at any moment of the run leaves a beginning of the calls so
 /// far, which holds all that they covered, and calls may go on from any moment (`moments`). From a step that leaves the outcome
-/// of a commit unknown on, none makes a commit or removes a name (`unknown`).
+/// of a commit unknown on, none calls the store (`unknown`).
 ///
 /// # Examples
 ///

@@ -84,7 +84,8 @@ pub enum JobStep {
     AbandonCompaction,
 }
 
-/// A call on a tree, as data: each is the method of `TreeState` that it is named after.
+/// A call on a tree, as data: each is the method of `TreeState` that it is named after, `DoCompaction` the function, and `Next`, `Set` and
+/// `FetchMax` those of its counters. `AtSlot` is a part of a job that waits in a slot.
 #[derive(Drop, Debug)]
 pub enum Step {
     /// Sets a key under a sequence number.
@@ -228,8 +229,9 @@ pub enum Reply {
     NoJob,
     /// Of a job that is to be begun: another one waits in the slot. Nothing changed.
     SlotInUse,
-    /// The step was refused. It changed nothing, but that a flush, a compaction or a clear may have used numbers and ids, and a
-    /// job that was to be registered or to end is spent; behind `AfterCommit` a compaction is installed.
+    /// The step was refused. It changed nothing, but that a flush, a compaction or a clear may have used numbers and ids, a
+    /// compaction noted its watermark, and a job that was to be registered or to end is spent; behind `AfterCommit` a compaction is
+    /// installed, behind `CommitUnknown` the tree is uncertain.
     Refused(Error),
 }
 
@@ -249,6 +251,13 @@ impl Model for Outcome {
 }
 
 impl Outcome {
+    /// What the step answered, out of the outcome.
+    pub fn into_reply(self) -> Reply
+        ensures { result ≡ self.reply }
+    {
+        self.reply
+    }
+
     /// What the step answered.
     pub fn reply(&self) -> &Reply
         ensures { result.now ≡ self.now.reply }

@@ -61,7 +61,7 @@ impl<S: Store> TreeState<S> {
     /// `Unrecoverable` after a `CommitUnknown`, with no store call. `OutOfNumbers` where the counter or the next memtable's id
     /// stands at 2^63 or above, or the version's id at 2^64 - 1; `OutOfMemory`; `Store` where the version's file wasn't written.
     /// `CommitUnknown` where replacing `current` failed: reads stay as they are, and a crash leaves the old version or one
-    /// without tables.
+    /// without tables. Refused, reads stay; after `Store` or `OutOfMemory` the sequence number may be used.
     pub fn clear(&mut self) -> Result<SeqNo, Error>
         ensures clears { Clears result self.old.core self.new.core }
         // What a crash leaves.

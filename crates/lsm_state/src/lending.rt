@@ -34,7 +34,7 @@ impl<S: Store> Found<S> {
 
 impl<S: Store> TreeState<S> {
     /// The record of a log that has this number, as `read_record` of `lsm_log`. The tree has no part in it, and nothing
-    /// changes.
+    /// changes. For the log above a tree (`Logged`).
     ///
     /// # Errors
     ///
@@ -55,7 +55,7 @@ impl<S: Store> TreeState<S> {
     }
 
     /// Removes those of these records of a log that are numbered below `from`, rising, as `remove_below` of `lsm_log`.
-    /// The tree has no part in it.
+    /// The tree has no part in it. For the log above a tree (`Logged`): it doesn't ask whether a flush holds what they tell.
     ///
     /// # Errors
     ///

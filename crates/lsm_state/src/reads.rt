@@ -92,7 +92,8 @@ impl<S: Store> TreeState<S> {
     /// in the first source that has one. None for a tombstone, or where there is no entry.
     /// `SnapshotTooOld` exactly where no super version is found for the snapshot; else only memory may be missing.
     ///
-    /// The value shares its bytes with the tree: who keeps a small one keeps the chunk of up to 64 KiB that it stands in.
+    /// The value shares its bytes with the tree. Who keeps a small one keeps what it stands in: a chunk of up to 64 KiB, or, of a
+    /// value that was flushed, all bytes of its table's file. Copy it to keep it for long.
     pub fn get(&self, key: &[u8], snapshot: SeqNo) -> Result<Option<UserValue>, Error>
         ensures ok { IfOk result (λ v. Gives self.now.core key.now snapshot v) }
         ensures step { IfOk result (λ v. IsGetStep self.now.core key.now snapshot v) }

@@ -118,11 +118,12 @@ fn put_batch(
 }
 
 impl<S: Store> TreeState<S> {
-    /// Sets a key under a sequence number, in whatever order they come.
+    /// Sets a key under a sequence number, in whatever order they come. For who draws numbers of their own: it moves no counter, so draw
+    /// the number by `seqno_mut`, and behind the insert raise `visible_seqno_mut` to the number + 1. `write` does all that.
     ///
     /// Returns the bytes that the entry counts (its key's, its value's and 48) and those of the active
     /// memtable. A write of the same key and sequence number is replaced. `KeyTooLong` above 65,535 bytes,
-    /// `ValueTooLong` above 2^32 - 1, `NumberTooGreat` from 2^63 on; of several the first is told.
+    /// `ValueTooLong` above 2^32 - 1, `NumberTooGreat` from 2^63 on; of several the first is told. `OutOfMemory`.
     /// Refused, it changes nothing.
     pub fn insert(
         &mut self,
@@ -144,7 +145,7 @@ impl<S: Store> TreeState<S> {
         self.append_entry(Op::Del.into_entry(key, seqno))
     }
 
-    /// Removes a key, of which at most one value was ever written. Returns and refuses as `insert`.
+    /// Removes a key, of which at most one value was ever written: of more, an older one may show again. Returns and refuses as `insert`.
     pub fn remove_weak(&mut self, key: UserKey, seqno: SeqNo) -> Result<(u64, u64), Error>
         ensures appends { Appends (op_entry key seqno Weak) result self.old.core self.new.core }
         ensures store { self.new.store ≡ self.old.store }
@@ -168,8 +169,8 @@ impl<S: Store> TreeState<S> {
     /// An empty batch uses a sequence number too.
     ///
     /// `OutOfNumbers` where the counter stands at 2^63 or above, `KeyTooLong` and `ValueTooLong` as
-    /// `insert`, `DuplicateKey` where a key comes twice; of several the first is told.
-    /// Refused, it changes nothing and uses no sequence number.
+    /// `insert`, `DuplicateKey` where a key comes twice; of several the first is told, or `OutOfMemory`.
+    /// Refused, it changes nothing and uses no sequence number; the batch is dropped (`Op::copy`).
     pub fn write(&mut self, ops: Vec<(UserKey, Op)>) -> Result<SeqNo, Error>
         ensures writes { WritesBatch ops.items result self.old.core self.new.core }
         ensures store { self.new.store ≡ self.old.store }

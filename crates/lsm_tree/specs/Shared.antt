@@ -9,7 +9,7 @@ use Rattle.lsm_model.specs.Beginnings.{shown_by}
 use Rattle.lsm_below.specs.declared.error.Error.{Error}
 use Rattle.lsm_below.specs.declared.error.Error.TheVariants.{OutOfMemory, OutOfNumbers, OutOfOrder, SnapshotTooOld}
 use Rattle.lsm_versions.specs.declared.config.TheConstants.{LIMIT}
-use Rattle.lsm_state.specs.Core.{Core, latest_of, older_of, state_of}
+use Rattle.lsm_state.specs.Core.{Core, Seen, latest_of, older_of, state_of}
 use Rattle.lsm_parts.specs.Held.{first_entries}
 use Rattle.lsm_state.specs.Kept.{IsKeptTree}
 use Rattle.lsm_logged.specs.Keeping.{SeenLogged, IsKeptLogged}
@@ -19,6 +19,10 @@ use Rattle.lsm_recorded.specs.Recorded.{SeenRecorded}
 -- a call that took some tree to another; of both holds what holds of every tree
 abbrev pub OnSomeTree : (Core → Core → Type 0) → Type 0
 OnSomeTree P = (old : Core) × (new : Core) × P old new × IsKeptTree old × IsKeptTree new
+
+-- the same, and the call left the tree's store alone
+abbrev pub OnSomeTreeAlone : (S : Type 0) → (Core → Core → Type 0) → Type 0
+OnSomeTreeAlone S P = (old : Seen S) × (new : Seen S) × P old.core new.core × (new.store ≡ old.store) × IsKeptTree old.core × IsKeptTree new.core
 
 -- a call that looked at some tree, of which holds what holds of every tree
 abbrev pub AtSomeTree : (Core → Type 0) → Type 0

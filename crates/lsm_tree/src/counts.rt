@@ -80,6 +80,20 @@ impl<C: HasTree> Handle<C> {
         read_tree!(self, rt, |tree| tree.tree_type())
     }
 
+    /// The snapshot that sees every write so far that was made visible.
+    pub fn visible_number(&self, rt: &impl Wait) -> SeqNo
+        ensures { AtSomeTree (λ c. c.visible_seqno ≡ result) }
+    {
+        read_tree!(self, rt, |tree| tree.visible_seqno().get())
+    }
+
+    /// The moment, in nanoseconds, at which tables are made, as `set_moment` set it: `Options` take it.
+    pub fn moment(&self, rt: &impl Wait) -> u64
+        ensures { AtSomeTree (λ c. result ≡ c.moment) }
+    {
+        read_tree!(self, rt, |tree| tree.moment())
+    }
+
     /// The latest version: a copy, which shares its tables. Its `log_from` is the number from which a log above the tree is
     /// read. The cost is linear in the tables.
     ///

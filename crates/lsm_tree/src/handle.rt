@@ -63,15 +63,29 @@ pub type RecordedTree<S = MemStore> = Handle<Recorded<S>>;
 pub type LoggedTree<S = MemStore> = Handle<Logged<S>>;
 
 impl<C: Drop + Send> Handle<C> {
-    /// The first handle on a tree.
+    /// The first handle on a tree. Whatever handles are left, `into_inner` of the last one gives the tree back.
     ///
     /// # Errors
     ///
-    /// Only for want of memory.
+    /// Only for want of memory; then the tree is dropped.
     pub fn new(alloc: Global, core: C) -> Result<Handle<C>, AllocError> {
         Ok(Handle {
             shared: Arc::new(alloc, Mutex::new(core))?,
         })
+    }
+}
+
+impl<C: Drop> Handle<C> {
+    /// The tree, where no other handle is on it: after a `CommitUnknown` say, to open its store again.
+    ///
+    /// # Errors
+    ///
+    /// This handle, where there is another one.
+    pub fn into_inner(self) -> Result<C, Handle<C>> {
+        match Arc::try_unwrap(self.shared) {
+            Ok(lock) => Ok(lock.into_inner()),
+            Err(shared) => Err(Handle { shared }),
+        }
     }
 }
 

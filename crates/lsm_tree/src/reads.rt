@@ -79,13 +79,6 @@ impl<C: ReadsTree> Handle<C> {
         read_tree!(self, rt, |tree| tree.size_of(key, snapshot))
     }
 
-    /// The snapshot that sees every write so far that was made visible.
-    pub fn visible_number(&self, rt: &impl Wait) -> SeqNo
-        ensures { AtSomeTree (λ c. c.visible_seqno ≡ result) }
-    {
-        read_tree!(self, rt, |tree| tree.visible_seqno().get())
-    }
-
     /// What a snapshot shows in the bounds, under an index, as `TreeState::create_internal_range`.
     pub fn create_internal_range(
         &self,

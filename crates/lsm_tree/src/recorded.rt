@@ -17,7 +17,7 @@ ghost use Rattle.lsm_state.specs.Calls.{Appends, WritesBatch, Rotates};
 ghost use Rattle.lsm_recorded.specs.Recorded.{OwnOr};
 ghost use Rattle.lsm_recorded.specs.Flushing.{RefusesUnnoted};
 ghost use Rattle.lsm_recorded.specs.Clearing.{ClearsNoted};
-ghost use Rattle.lsm_tree.specs.Shared.{OnSomeTree, OnSomeStore, OnSomeRecorded, AtSomeTree, AtSomeRecorded, RefusesRecordedRead, RefusesSharedRotation, Puts};
+ghost use Rattle.lsm_tree.specs.Shared.{OnSomeTreeAlone, OnSomeStore, OnSomeRecorded, AtSomeTree, AtSomeRecorded, RefusesRecordedRead, RefusesSharedRotation, Puts};
 
 use crate::handle::Handle;
 use crate::lock::{act, read};
@@ -92,7 +92,7 @@ impl<S: Store> Handle<Recorded<S>> {
         rt: &impl Wait,
         pass: &mut Pass,
     ) -> Result<Option<MemtableId>, Error>
-        ensures rotates { IfOk result (λ id. OnSomeTree (λ old new. Rotates old id new)) }
+        ensures rotates { IfOk result (λ id. OnSomeTreeAlone S (λ old new. Rotates old id new)) }
         ensures refused { RefusesSharedRotation result }
         ensures pass { pass.new ≡ pass.old }
     {
@@ -106,7 +106,7 @@ impl<S: Store> Handle<Recorded<S>> {
         pass: &mut Pass,
         entry: InternalValue,
     ) -> Result<(u64, u64), Error>
-        ensures core { OwnOr result (OnSomeTree (λ old new. Appends (plain entry) result old new)) }
+        ensures core { OwnOr result (OnSomeTreeAlone S (λ old new. Appends (plain entry) result old new)) }
         ensures out_of_order { IsErrOf result Error.OutOfOrder → AtSomeRecorded S (λ t. keeps_order (held t.opened) t.journal t.tree.core.seqno (plain entry) ≡ false) }
         ensures noted { OnOk result (Puts (WriteEntry (plain entry) ∷ []) pass.old pass.new) }
         ensures err { OnErr result (pass.new ≡ pass.old) }
@@ -123,7 +123,7 @@ impl<S: Store> Handle<Recorded<S>> {
         value: UserValue,
         seqno: SeqNo,
     ) -> Result<(u64, u64), Error>
-        ensures core { OwnOr result (OnSomeTree (λ old new. Appends (op_entry key seqno (Set value)) result old new)) }
+        ensures core { OwnOr result (OnSomeTreeAlone S (λ old new. Appends (op_entry key seqno (Set value)) result old new)) }
         ensures out_of_order { IsErrOf result Error.OutOfOrder → AtSomeRecorded S (λ t. keeps_order (held t.opened) t.journal t.tree.core.seqno (op_entry key seqno (Set value)) ≡ false) }
         ensures noted { OnOk result (Puts (WriteEntry (op_entry key seqno (Set value)) ∷ []) pass.old pass.new) }
         ensures err { OnErr result (pass.new ≡ pass.old) }
@@ -139,7 +139,7 @@ impl<S: Store> Handle<Recorded<S>> {
         key: UserKey,
         seqno: SeqNo,
     ) -> Result<(u64, u64), Error>
-        ensures core { OwnOr result (OnSomeTree (λ old new. Appends (op_entry key seqno Del) result old new)) }
+        ensures core { OwnOr result (OnSomeTreeAlone S (λ old new. Appends (op_entry key seqno Del) result old new)) }
         ensures out_of_order { IsErrOf result Error.OutOfOrder → AtSomeRecorded S (λ t. keeps_order (held t.opened) t.journal t.tree.core.seqno (op_entry key seqno Del) ≡ false) }
         ensures noted { OnOk result (Puts (WriteEntry (op_entry key seqno Del) ∷ []) pass.old pass.new) }
         ensures err { OnErr result (pass.new ≡ pass.old) }
@@ -155,7 +155,7 @@ impl<S: Store> Handle<Recorded<S>> {
         key: UserKey,
         seqno: SeqNo,
     ) -> Result<(u64, u64), Error>
-        ensures core { OwnOr result (OnSomeTree (λ old new. Appends (op_entry key seqno Weak) result old new)) }
+        ensures core { OwnOr result (OnSomeTreeAlone S (λ old new. Appends (op_entry key seqno Weak) result old new)) }
         ensures out_of_order { IsErrOf result Error.OutOfOrder → AtSomeRecorded S (λ t. keeps_order (held t.opened) t.journal t.tree.core.seqno (op_entry key seqno Weak) ≡ false) }
         ensures noted { OnOk result (Puts (WriteEntry (op_entry key seqno Weak) ∷ []) pass.old pass.new) }
         ensures err { OnErr result (pass.new ≡ pass.old) }
@@ -170,7 +170,7 @@ impl<S: Store> Handle<Recorded<S>> {
         pass: &mut Pass,
         ops: Vec<(UserKey, Op)>,
     ) -> Result<SeqNo, Error>
-        ensures core { OwnOr result (OnSomeTree (λ old new. WritesBatch ops.items result old new)) }
+        ensures core { OwnOr result (OnSomeTreeAlone S (λ old new. WritesBatch ops.items result old new)) }
         ensures out_of_order { IsErrOf result Error.OutOfOrder → AtSomeRecorded S (λ t. batch_keeps_order (held t.opened) t.journal t.tree.core.seqno ops.items ≡ false) }
         ensures noted { IfOk result (λ n. Puts (map WriteEntry (op_entries n ops.items)) pass.old pass.new) }
         ensures err { OnErr result (pass.new ≡ pass.old) }
@@ -201,7 +201,7 @@ impl<S: Store> Handle<Recorded<S>> {
 
     /// Sets the moment, in nanoseconds, at which tables are made from now on, as `Recorded::set_moment`.
     pub fn set_moment(&self, rt: &impl Wait, moment: u64)
-        ensures { OnSomeTree (λ old new. new ≡ record old { moment = moment }) }
+        ensures { OnSomeTreeAlone S (λ old new. new ≡ record old { moment = moment }) }
     {
         act!(self, rt, |tree| tree.set_moment(moment))
     }

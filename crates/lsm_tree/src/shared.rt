@@ -1,5 +1,5 @@
 // The calls of a tree behind the lock.
-ghost use Rattle.std.specs.Prelude.{◌≡◌, ◌<◌, ◌≤◌, ◌+◌, Option, IfOk, IfErr, IsErrOf};
+ghost use Rattle.std.specs.Prelude.{◌≡◌, ◌<◌, ◌≤◌, ◌+◌, max, Option, IfOk, IfErr, IsErrOf};
 ghost use Rattle.lsm_below.specs.Entries.{plain};
 ghost use Rattle.lsm_model.specs.Ops.{op_entry};
 ghost use Rattle.lsm_model.specs.declared.op.Op.TheVariants.{Set, Del, Weak};
@@ -7,7 +7,7 @@ ghost use Rattle.lsm_commit.specs.Causes.{HasCause, Blames};
 ghost use Rattle.lsm_state.specs.Flushes.{with_next_table};
 ghost use Rattle.lsm_state.specs.Calls.{Appends, WritesBatch, Rotates};
 ghost use Rattle.lsm_state.specs.Clearing.{Clears, ForgetsUnflushed};
-ghost use Rattle.lsm_tree.specs.Shared.{OnSomeTree, OnSomeStore, AtSomeTree, RefusesSharedRotation};
+ghost use Rattle.lsm_tree.specs.Shared.{OnSomeTree, OnSomeTreeAlone, OnSomeStore, AtSomeTree, RefusesSharedRotation};
 
 use crate::handle::Handle;
 use crate::lock::act;
@@ -23,7 +23,7 @@ use std::sync::Wait;
 impl<S: Store> Handle<TreeState<S>> {
     /// Seals the active memtable, as `TreeState::rotate_memtable`.
     pub fn rotate_memtable(&self, rt: &impl Wait) -> Result<Option<MemtableId>, Error>
-        ensures rotates { IfOk result (λ id. OnSomeTree (λ old new. Rotates old id new)) }
+        ensures rotates { IfOk result (λ id. OnSomeTreeAlone S (λ old new. Rotates old id new)) }
         ensures refused { RefusesSharedRotation result }
     {
         act!(self, rt, |tree| tree.rotate_memtable())
@@ -31,7 +31,7 @@ impl<S: Store> Handle<TreeState<S>> {
 
     /// Writes an entry under its own sequence number, as `TreeState::append_entry`.
     pub fn append_entry(&self, rt: &impl Wait, entry: InternalValue) -> Result<(u64, u64), Error>
-        ensures { OnSomeTree (λ old new. Appends (plain entry) result old new) }
+        ensures { OnSomeTreeAlone S (λ old new. Appends (plain entry) result old new) }
     {
         act!(self, rt, |tree| tree.append_entry(entry))
     }
@@ -44,14 +44,14 @@ impl<S: Store> Handle<TreeState<S>> {
         value: UserValue,
         seqno: SeqNo,
     ) -> Result<(u64, u64), Error>
-        ensures { OnSomeTree (λ old new. Appends (op_entry key seqno (Set value)) result old new) }
+        ensures { OnSomeTreeAlone S (λ old new. Appends (op_entry key seqno (Set value)) result old new) }
     {
         act!(self, rt, |tree| tree.insert(key, value, seqno))
     }
 
     /// Removes a key under a sequence number, as `TreeState::remove`.
     pub fn remove(&self, rt: &impl Wait, key: UserKey, seqno: SeqNo) -> Result<(u64, u64), Error>
-        ensures { OnSomeTree (λ old new. Appends (op_entry key seqno Del) result old new) }
+        ensures { OnSomeTreeAlone S (λ old new. Appends (op_entry key seqno Del) result old new) }
     {
         act!(self, rt, |tree| tree.remove(key, seqno))
     }
@@ -63,14 +63,14 @@ impl<S: Store> Handle<TreeState<S>> {
         key: UserKey,
         seqno: SeqNo,
     ) -> Result<(u64, u64), Error>
-        ensures { OnSomeTree (λ old new. Appends (op_entry key seqno Weak) result old new) }
+        ensures { OnSomeTreeAlone S (λ old new. Appends (op_entry key seqno Weak) result old new) }
     {
         act!(self, rt, |tree| tree.remove_weak(key, seqno))
     }
 
     /// Writes a batch under the next sequence number, which it returns, as `TreeState::write`.
     pub fn write(&self, rt: &impl Wait, ops: Vec<(UserKey, Op)>) -> Result<SeqNo, Error>
-        ensures { OnSomeTree (λ old new. WritesBatch ops.items result old new) }
+        ensures { OnSomeTreeAlone S (λ old new. WritesBatch ops.items result old new) }
     {
         act!(self, rt, |tree| tree.write(ops))
     }
@@ -86,7 +86,7 @@ impl<S: Store> Handle<TreeState<S>> {
 
     /// Forgets what isn't flushed, as `TreeState::clear_active_memtable`.
     pub fn clear_active_memtable(&self, rt: &impl Wait) -> Result<(), Error>
-        ensures { OnSomeTree (λ old new. ForgetsUnflushed result old new) }
+        ensures { OnSomeTreeAlone S (λ old new. ForgetsUnflushed result old new) }
     {
         act!(self, rt, |tree| tree.clear_active_memtable())
     }
@@ -97,14 +97,12 @@ impl<S: Store> Handle<TreeState<S>> {
     ///
     /// `OutOfNumbers` from 2^63 on; then nothing changes.
     pub fn next_seqno(&self, rt: &impl Wait) -> Result<SeqNo, Error>
+        ensures draws { IfOk result (λ n. OnSomeTreeAlone S (λ old new. (n ≡ old.seqno) × (new ≡ record old { seqno = old.seqno + 1 }))) }
         ensures below { IfOk result (λ n. n < LIMIT) }
         ensures only { IfErr result (λ e. e ≡ Error.OutOfNumbers) }
         ensures out_of_numbers { IsErrOf result Error.OutOfNumbers → AtSomeTree (λ c. LIMIT ≤ c.seqno) }
     {
-        let mut tree = self.shared.lock(rt);
-        let tree = &mut *tree;
-        tree.facts();
-        tree.seqno_mut().next()
+        act!(self, rt, |tree| tree.seqno_mut().next())
     }
 
     /// Draws an id for a table, as `TreeState::get_next_table_id`: no table of the tree gets it.
@@ -113,16 +111,19 @@ impl<S: Store> Handle<TreeState<S>> {
     ///
     /// `OutOfNumbers` where the next id is 2^63 or more; then nothing changes.
     pub fn get_next_table_id(&self, rt: &impl Wait) -> Result<TableId, Error>
-        ensures draws { IfOk result (λ id. OnSomeTree (λ old new. (id ≡ old.next_table) × (new ≡ with_next_table (old.next_table + 1) old))) }
+        ensures draws { IfOk result (λ id. OnSomeTreeAlone S (λ old new. (id ≡ old.next_table) × (new ≡ with_next_table (old.next_table + 1) old))) }
         ensures only { IfErr result (λ e. e ≡ Error.OutOfNumbers) }
         ensures out_of_numbers { IsErrOf result Error.OutOfNumbers → AtSomeTree (λ c. LIMIT ≤ c.next_table) }
     {
         act!(self, rt, |tree| tree.get_next_table_id())
     }
 
-    /// Raises the visible counter to a sequence number, unless it stands at a greater one.
-    pub fn raise_visible(&self, rt: &impl Wait, seqno: SeqNo) {
-        self.shared.lock(rt).visible_seqno_mut().fetch_max(seqno);
+    /// Raises the visible counter to a number, unless it stands at a greater one: snapshots at it see what is numbered below it, so
+    /// behind a write under the number n raise it to n + 1.
+    pub fn raise_visible(&self, rt: &impl Wait, seqno: SeqNo)
+        ensures { OnSomeTreeAlone S (λ old new. new ≡ record old { visible_seqno = max old.visible_seqno seqno }) }
+    {
+        act!(self, rt, |tree| tree.visible_seqno_mut().fetch_max(seqno))
     }
 }
 

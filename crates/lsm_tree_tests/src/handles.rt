@@ -290,6 +290,34 @@ fn numbers_are_drawn_and_made_visible(rt: HostRuntime) -> Result<(), Fail> {
     Ok(())
 }
 
+/// An operation, and a copy of it, in a batch each.
+fn write_twice(rt: &impl Wait, alloc: Global, tree: &Tree) -> Result<u64, Error> {
+    let op = Op::Set(text("x"));
+    let again = op.copy()?;
+    tree.write(rt, vec![in alloc; (text("a"), op)]?)?;
+    tree.write(rt, vec![in alloc; (text("b"), again)]?)
+}
+
+/// How many entries the tree has that a handle gives back, None where there is another handle.
+fn entries_given_back(tree: Tree) -> Option<usize> {
+    match tree.into_inner() {
+        Ok(core) => Some(core.approximate_len()),
+        Err(_) => None,
+    }
+}
+
+#[test]
+fn the_last_handle_gives_the_tree_back(rt: HostRuntime) -> Result<(), Fail> {
+    let alloc = rt.alloc();
+    let tree = open_shared(alloc)?;
+    let other = tree.clone()?;
+    assert!(rt; matches!(write_twice(&rt, alloc, &tree), Ok(1)));
+    assert_eq!(rt; entries_given_back(tree), None);
+    assert_eq!(rt; other.moment(&rt), 0);
+    assert_eq!(rt; entries_given_back(other), Some(2));
+    Ok(())
+}
+
 /// A tombstone of each kind, one of them as an entry, then a batch.
 fn write_all(rt: &impl Wait, alloc: Global, tree: &Tree) -> Result<u64, Error> {
     tree.remove(rt, text("a"), 0)?;

@@ -253,7 +253,8 @@ impl<S: Store> TreeState<S> {
     /// stands at 2^63 or above, or the version's id at 2^64 - 1; `TooManyRuns` where a level would have 256 runs or a run 2^32
     /// tables; `OutOfMemory`; `Store` where a file wasn't written. `CommitUnknown` where replacing `current` failed: reads
     /// stay as they are, and a crash leaves the old version or the new one. `AfterCommit` where the merge is installed, but
-    /// the store failed behind it: files may stay that nothing needs.
+    /// the store failed behind it: files may stay that nothing needs. Refused otherwise, reads stay and the files that were written are
+    /// removed, as far as the store lets it; a sequence number and ids of tables may be used.
     pub fn finish_compaction(&mut self, merged: MergedCompaction) -> Result<Finished, Error>
         ensures finishes { Finishes merged.job result self.old.core self.new.core }
         // What a crash leaves.

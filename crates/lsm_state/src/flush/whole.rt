@@ -1,5 +1,5 @@
 // A flush in one call.
-ghost use Rattle.std.specs.Prelude.{◌≡◌, ◌<◌, [], true, false, IfOk, IfErr, IfSome, IsSome};
+ghost use Rattle.std.specs.Prelude.{◌≡◌, ◌<◌, [], None, true, false, IfOk, IfErr, IfSome, IsSome};
 ghost use Rattle.lsm_commit.specs.Foreign.{AtRest};
 ghost use Rattle.lsm_commit.specs.Causes.{HasCause, Blames};
 ghost use Rattle.lsm_state.specs.Cleaning.{LeavesNoFiles, RemovesDrawn};
@@ -72,6 +72,8 @@ impl<S: Store> TreeState<S> {
         ensures gone { S.tells → IfOk result (λ a. IfSome a (λ p. p.1.cleaned ≡ true → LeavesNoFiles (S.world self.new.store) [] self.old.core.history self.new.core.history)) }
         ensures refused { S.tells → self.old.core.next_table < LIMIT → IfErr result (λ e. (e ≡ Error.CommitUnknown → ⊥) → RemovesDrawn self.old.core.next_table self.new.core.next_table (S.world self.old.store) (S.world self.new.store)) }
         ensures no_call { IsSome self.old.core.lost → self.new.store ≡ self.old.store }
+        // Where nothing is sealed it makes none either.
+        ensures rests { IfOk result (λ a. a ≡ None → self.new.store ≡ self.old.store) }
     {
         self.stays_stored();
         *marked = false;
@@ -111,6 +113,8 @@ impl<S: Store> TreeState<S> {
         // Refused, no file is left of what it wrote, unless a call of the store failed, or the outcome of a commit is unknown.
         ensures refused { S.tells → self.old.core.next_table < LIMIT → IfErr (result.0) (λ e. (e ≡ Error.CommitUnknown → ⊥) → RemovesDrawn self.old.core.next_table self.new.core.next_table (S.world self.old.store) (S.world self.new.store)) }
         ensures no_call { IsSome self.old.core.lost → self.new.store ≡ self.old.store }
+        // Where nothing is sealed it makes none either.
+        ensures rests { IfOk (result.0) (λ a. a ≡ None → self.new.store ≡ self.old.store) }
     {
         let mut marked = false;
         let flushed = self.flush_marking(watermark, &mut marked);
@@ -145,6 +149,8 @@ impl<S: Store> TreeState<S> {
         // Refused, no file is left of what it wrote, unless a call of the store failed, or the outcome of a commit is unknown.
         ensures refused { S.tells → self.old.core.next_table < LIMIT → IfErr result (λ e. (e ≡ Error.CommitUnknown → ⊥) → RemovesDrawn self.old.core.next_table self.new.core.next_table (S.world self.old.store) (S.world self.new.store)) }
         ensures no_call { IsSome self.old.core.lost → self.new.store ≡ self.old.store }
+        // Where nothing is sealed it makes none either.
+        ensures rests { IfOk result (λ a. a ≡ None → self.new.store ≡ self.old.store) }
     {
         self.flush_with_mark(watermark).0
     }

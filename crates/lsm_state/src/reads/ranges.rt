@@ -274,7 +274,17 @@ impl<S: Store> TreeState<S> {
         }
     }
 
-    /// What a snapshot shows within bounds, as `create_internal_range`.
+    /// What a snapshot shows within bounds, as `create_internal_range`: an iterator from both ends that owns its pairs. To make it copies
+    /// the newest entry of each key of memtables in the bounds; `pairs` lends them instead, and copies none.
+    ///
+    /// # Examples
+    ///
+    /// ```text
+    /// let bounds = (Bound::Included(first), Bound::Unbounded);
+    /// for pair in tree.range(&bounds, tree.visible_seqno().get(), None)? {
+    ///     let (key, value) = pair.into_inner()?;
+    /// }
+    /// ```
     pub fn range(
         &self,
         bounds: &(Bound<UserKey>, Bound<UserKey>),
@@ -289,7 +299,7 @@ impl<S: Store> TreeState<S> {
         self.create_internal_range(bounds, snapshot, index)
     }
 
-    /// The same once more, under the name that it has beside the other `create_` calls.
+    /// `range`, under the name that it has in the crate that this one follows.
     pub fn create_range(
         &self,
         bounds: &(Bound<UserKey>, Bound<UserKey>),
@@ -316,7 +326,7 @@ impl<S: Store> TreeState<S> {
         self.create_internal_range(&ALL, snapshot, index)
     }
 
-    /// The same once more, beside the other `create_` calls.
+    /// `iter`, under the name that it has in the crate that this one follows.
     pub fn create_iter(
         &self,
         snapshot: SeqNo,

@@ -5,7 +5,7 @@ ghost use Rattle.lsm_state.specs.Causes.{BlamesBeside, BlamesOrUnclean, BlamesOr
 ghost use Rattle.lsm_state.specs.Flushes.{Begins, WritesTables, spent};
 ghost use Rattle.lsm_state.specs.WholeFlushes.{FlushesActive};
 ghost use Rattle.lsm_recorded.specs.Flushing.{SpendsUnnoted, IsSpentFlush, RegistersNoted, RefusesUnnoted, FlushesNoted, NotesActive};
-ghost use Rattle.lsm_tree.specs.Shared.{OnSomeTree, OnSomeStore, OnSomeRecorded};
+ghost use Rattle.lsm_tree.specs.Shared.{OnSomeTree, OnSomeTreeAlone, OnSomeStore, OnSomeRecorded};
 
 use crate::handle::Handle;
 use crate::lock::act;
@@ -21,7 +21,7 @@ use std::sync::Wait;
 impl<S: Store> Handle<Recorded<S>> {
     /// Opens a flush of all sealed memtables, as `Recorded::begin_flush`.
     pub fn begin_flush(&self, rt: &impl Wait, pass: &mut Pass) -> Result<Option<FlushJob>, Error>
-        ensures begins { OnSomeTree (λ old new. Begins result old new) }
+        ensures begins { OnSomeTreeAlone S (λ old new. Begins result old new) }
         ensures pass { pass.new ≡ pass.old }
     {
         act!(self, rt, |tree| tree.begin_flush(pass))
@@ -58,7 +58,7 @@ impl<S: Store> Handle<Recorded<S>> {
 
     /// Gives up a job, as `Recorded::abandon_flush`.
     pub fn abandon_flush(&self, rt: &impl Wait, pass: &mut Pass, job: FlushJob)
-        ensures core { OnSomeTree (λ old new. new ≡ spent job.number old) }
+        ensures core { OnSomeTreeAlone S (λ old new. new ≡ spent job.number old) }
         ensures pass { pass.new ≡ pass.old }
     {
         act!(self, rt, |tree| tree.abandon_flush(pass, job))

@@ -4,7 +4,7 @@ ghost use Rattle.lsm_commit.specs.Causes.{HasCause};
 ghost use Rattle.lsm_state.specs.Causes.{BlamesBeside, BlamesOrUnclean, BlamesOrUncleanFlush, BlamesOrUncleanBehind};
 ghost use Rattle.lsm_state.specs.Flushes.{Begins, WritesTables, Registers, spent};
 ghost use Rattle.lsm_state.specs.WholeFlushes.{Flushes, FlushesActive};
-ghost use Rattle.lsm_tree.specs.Shared.{OnSomeTree, OnSomeStore, AtSomeTree};
+ghost use Rattle.lsm_tree.specs.Shared.{OnSomeTree, OnSomeTreeAlone, OnSomeStore, AtSomeTree};
 
 use crate::handle::Handle;
 use crate::lock::{act, read};
@@ -20,7 +20,7 @@ use std::sync::Wait;
 impl<S: Store> Handle<TreeState<S>> {
     /// Opens a flush of all sealed memtables, as `TreeState::begin_flush`.
     pub fn begin_flush(&self, rt: &impl Wait) -> Result<Option<FlushJob>, Error>
-        ensures { OnSomeTree (λ old new. Begins result old new) }
+        ensures { OnSomeTreeAlone S (λ old new. Begins result old new) }
     {
         act!(self, rt, |tree| tree.begin_flush())
     }
@@ -49,7 +49,7 @@ impl<S: Store> Handle<TreeState<S>> {
 
     /// Gives up a job, as `TreeState::abandon_flush`.
     pub fn abandon_flush(&self, rt: &impl Wait, job: FlushJob)
-        ensures { OnSomeTree (λ old new. new ≡ spent job.number old) }
+        ensures { OnSomeTreeAlone S (λ old new. new ≡ spent job.number old) }
     {
         act!(self, rt, |tree| tree.abandon_flush(job))
     }
@@ -83,7 +83,7 @@ impl<S: Store> Handle<TreeState<S>> {
 
     /// Sets the moment, in nanoseconds, at which tables are made from now on, as `TreeState::set_moment`.
     pub fn set_moment(&self, rt: &impl Wait, moment: u64)
-        ensures { OnSomeTree (λ old new. new ≡ record old { moment = moment }) }
+        ensures { OnSomeTreeAlone S (λ old new. new ≡ record old { moment = moment }) }
     {
         act!(self, rt, |tree| tree.set_moment(moment))
     }

@@ -111,4 +111,5 @@ returns-in-Err g c =
           let gone = subst (λ n. n < 2 ^ 63 → RemovesDrawn n reg.core.next_table (w reg.store) (w new.store)) first (behind.gone tells) small in
           removes_then old.core.next_table new.core.next_table (w old.store) (w reg.store) (w new.store) all.rises (subst (λ n. RemovesDrawn old.core.next_table n (w reg.store) (w new.store)) next gone);
       no_call = λ some. let z = subst IsSome (certain old.core c.begin_flush.new.self.core c.in-Some.job begins) some in absurd (cc z);
+      rests = tt;
     }
