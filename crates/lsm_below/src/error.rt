@@ -56,7 +56,7 @@ pub enum Error {
     /// 15: level 0 has several runs where one is asked for.
     #[error("level 0 has several runs")]
     NotDisjoint,
-    /// 16: a chosen table is in use, of level 0 for `Leveled`: ask again when the open merge has ended.
+    /// 16: `Fifo` was asked while a table of level 0 is in use: ask again when the open merge has ended.
     #[error("a table is in use")]
     Busy,
     /// 17: the commit stands, the clean-up after it failed.
