@@ -1,5 +1,5 @@
 -- One batch alone: it is in order on a new tree, and its replay counts all of it.
-use Rattle.std.proofs.Common.{◌≡◌, ℕ, ◌<◌, true, ◌||◌, List, [], ◌∷◌, ◌++◌, fold, map, reverse, refl, sym, ap, ◌∙◌, subst, arith, append-nil, lt-ltb}
+use Rattle.std.proofs.Common.{◌≡◌, ℕ, ◌<◌, true, List, [], ◌∷◌, ◌++◌, fold, map, reverse, refl, sym, ap, ◌∙◌, subst, arith, append-nil, lt-ltb}
 use Rattle.std.specs.List.{AllByRecursion}
 use Rattle.lsm_below.specs.Each.{each_filter}
 use Rattle.lsm_below.specs.Entries.{Entry, stack, IsFalling, IsSingle}

@@ -1,5 +1,5 @@
 -- What an opening reads in an image that has a version of a tree and the log beside it is what a crash may leave of a logged tree.
-use Rattle.std.proofs.Common.{◌≡◌, ◌⊎◌, ⊎_elim, inl, inr, Bool, ℕ, ◌≤◌, List, [], ◌∷◌, ◌++◌, Option, Some, None, IsSome, option_to_list, refl, sym, ap, ◌∙◌, subst, arith}
+use Rattle.std.proofs.Common.{◌≡◌, ◌⊎◌, ⊎_elim, inl, inr, Bool, ℕ, ◌≤◌, List, [], ◌++◌, Option, Some, None, IsSome, option_to_list, refl, sym, ap, ◌∙◌, subst, arith}
 use Rattle.lsm_below.specs.Members.{IsIn, each_in}
 use Rattle.lsm_store.specs.World.{Image}
 use Rattle.lsm_model.specs.Journal.{Event}
