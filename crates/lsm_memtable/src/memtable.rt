@@ -90,7 +90,18 @@ fn count_after(count: usize, more: usize, replaced: &Option<InternalValue>) -> u
     }
 }
 
-/// Puts an entry in its place, and returns the one that it replaces. Refused only for want of memory, also where
+/// The entry, its bytes in the chunk that entries share.
+fn house(content: &mut Content, alloc: Global, entry: InternalValue) -> InternalValue
+    requires { IsContent content.old }
+    ensures same { result ≡ entry }
+    ensures stays { content_of content.new ≡ content_of content.old }
+    ensures blocks { content.new.blocks ≡ content.old.blocks }
+    ensures sound { IsContent content.new }
+{
+    housed(&mut content.arena, alloc, entry, content.size)
+}
+
+/// Puts an entry in its place, with the bytes that it has, and returns the one that it replaces. Refused only for want of memory, also where
 /// there are 2^64 - 1 entries, and then nothing changes.
 fn add_entry(
     content: &mut Content,
@@ -113,7 +124,6 @@ fn add_entry(
     slices_hold_bytes(entry.key.user_key.as_slice());
     let size = content.size.saturating_add(size_of_entry(&entry));
     let highest = content.highest.unwrap_or(0).max(entry.key.seqno);
-    let entry = housed(&mut content.arena, alloc, entry, content.size);
     let replaced = put_entry(&mut content.blocks, alloc, entry, steps)?;
     content.count = count_after(content.count, more, &replaced);
     content.size = size;
@@ -138,6 +148,7 @@ fn add_noted(
     ensures len { vec_len log.new ≤ vec_len log.old + 1 }
     ensures capacity { vec_capacity log.old ≤ vec_capacity log.new }
 {
+    let entry = house(content, alloc, entry);
     let key = entry.key.copy()?;
     let replaced = add_entry(content, alloc, entry, &mut Steps::new())?;
     log.push(Undo { key, replaced }).unwrap();
@@ -377,6 +388,42 @@ impl Memtable {
         item: InternalValue,
         steps: &mut Steps,
     ) -> Result<(u64, u64), Error>
+        ensures sizes { IfOk result (λ r. (r.0 ≡ entry_size item) × (r.1 ≡ self.new.size)) }
+        ensures ok { OnOk result (self.new ≡ with_entry item self.old) }
+        ensures id { self.new.id ≡ self.old.id }
+        ensures err { OnErr result (self.new ≡ self.old) }
+        ensures memory { IfErr result (λ e. e ≡ Error.OutOfMemory) }
+        ensures compared { (blocks : List (List Entry)) × AreBlocksOf self.old.entries blocks × CountsDigits (length blocks) 8 steps.old.compared steps.new.compared }
+        ensures moved { steps.new.moved ≤ steps.old.moved + 64 }
+        ensures unmoved { OnErr result (steps.new.moved ≡ steps.old.moved) }
+    {
+        let item = self.house(item);
+        self.put_counted(item, steps)
+    }
+
+    /// The entry with its bytes where `insert` puts them: a key and value of up to 1,024 bytes together are copied into a
+    /// chunk. Copies that are made of it before `insert_housed` puts it share these bytes with the memtable. The entries
+    /// stay; an entry that is not put takes its place in the chunk all the same.
+    pub fn house(&mut self, item: InternalValue) -> InternalValue
+        ensures same { result ≡ item }
+        ensures stays { self.new ≡ self.old }
+    {
+        house(&mut self.content, self.alloc, item)
+    }
+
+    /// `insert`, of an entry that `house` gave: its bytes are copied no more.
+    pub fn insert_housed(&mut self, item: InternalValue) -> Result<(u64, u64), Error>
+        ensures sizes { IfOk result (λ r. (r.0 ≡ entry_size item) × (r.1 ≡ self.new.size)) }
+        ensures ok { OnOk result (self.new ≡ with_entry item self.old) }
+        ensures id { self.new.id ≡ self.old.id }
+        ensures err { OnErr result (self.new ≡ self.old) }
+        ensures memory { IfErr result (λ e. e ≡ Error.OutOfMemory) }
+    {
+        self.put_counted(item, &mut Steps::new())
+    }
+
+    /// Puts an entry in its place, with the bytes that it has, as `insert_counted`.
+    fn put_counted(&mut self, item: InternalValue, steps: &mut Steps) -> Result<(u64, u64), Error>
         ensures sizes { IfOk result (λ r. (r.0 ≡ entry_size item) × (r.1 ≡ self.new.size)) }
         ensures ok { OnOk result (self.new ≡ with_entry item self.old) }
         ensures id { self.new.id ≡ self.old.id }

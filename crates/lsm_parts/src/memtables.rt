@@ -212,7 +212,27 @@ impl Memtables {
         ensures err { OnErr result (self.new ≡ self.old) }
         ensures memory { IfErr result (λ e. e ≡ Error.OutOfMemory) }
     {
-        let sizes = self.active.insert(entry);
+        let entry = self.house(entry);
+        self.insert_housed(entry)
+    }
+
+    /// An entry with its bytes where `insert` puts them, as `Memtable::house`.
+    pub fn house(&mut self, entry: InternalValue) -> InternalValue
+        ensures same { result ≡ entry }
+        ensures stays { self.new ≡ self.old }
+    {
+        self.active.house(entry)
+    }
+
+    /// `insert`, of an entry that `house` gave: its bytes are copied no more.
+    pub fn insert_housed(&mut self, entry: InternalValue) -> Result<(u64, u64), Error>
+        requires { Fits entry }
+        ensures sizes { IfOk result (λ r. (r.0 ≡ entry_size entry) × (r.1 ≡ first_size self.new)) }
+        ensures ok { OnOk result (self.new ≡ put_first entry self.old) }
+        ensures err { OnErr result (self.new ≡ self.old) }
+        ensures memory { IfErr result (λ e. e ≡ Error.OutOfMemory) }
+    {
+        let sizes = self.active.insert_housed(entry);
         self.active.facts();
         sizes
     }

@@ -1,3 +1,4 @@
+pub mod OwnOr
 pub mod BatchLemmas
 pub mod ClosingLemmas
 pub mod MarksLemmas

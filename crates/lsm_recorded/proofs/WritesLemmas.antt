@@ -1,16 +1,17 @@
 -- Writes on their way into a tree, the marks and a journal.
-use Rattle.std.proofs.Common.{cond, ◌≡◌, ℕ, ◌<◌, ◌≤◌, Bool, true, false, ◌&&◌, nat_le, List, [], ◌∷◌, ◌++◌, suc, ◌+◌, length, length-append, get_or, Result, Err, IsErrOf, OnErr, Ok, ◌↔◌, inl, inr, refl, sym, ap, ◌∙◌, arith}
+use Rattle.std.proofs.Common.{cond, ◌≡◌, ℕ, ◌<◌, ◌≤◌, Bool, true, false, ◌&&◌, nat_le, List, [], ◌∷◌, ◌++◌, suc, ◌+◌, length, length-append, Result, Err, IsErrOf, OnErr, Ok, ◌↔◌, inl, inr, refl, sym, ap, ◌∙◌, arith}
 use Rattle.std.specs.List.{list_all}
 use Rattle.std.proofs.lemmas.Bool.Decides.{nat_tests}
 use Rattle.lsm_below.specs.Keys.{Bytes}
+use Rattle.lsm_below.specs.Entries.{Entry}
 use Rattle.lsm_below.specs.declared.error.Error.{Error}
 use Rattle.lsm_below.specs.declared.error.Error.TheVariants.{OutOfMemory, OutOfOrder}
-use Rattle.lsm_model.specs.Ops.{op_entry, op_entries}
+use Rattle.lsm_model.specs.Ops.{op_entry}
 use Rattle.lsm_model.specs.declared.journal.JournalEntry.{JournalEntry}
 use Rattle.lsm_model.specs.declared.op.Op.{Op}
 use Rattle.lsm_model.specs.declared.op.Op.TheVariants.{Set, Del, Weak}
 use Rattle.lsm_recorded.specs.declared.marks.Mark.{Mark}
-use Rattle.lsm_recorded.specs.Marks.{marked, marked_by, marked_all, next_mark, mark_allows, op_type, op_allowed}
+use Rattle.lsm_recorded.specs.Marks.{mark_allows, op_type, op_allowed}
 use Rattle.lsm_recorded.specs.Passes.{Notes}
 use Rattle.lsm_recorded.specs.Recorded.{OwnOr}
 use Rattle.lsm_iter.proofs.Prefixes.{and_true}
@@ -43,11 +44,6 @@ both_noted e note copy journal room journal' pass wide pass' is copied same stil
 
 -- ---- a batch of one
 
-pub one_op : (ops : List (Bytes × Op)) (p : Bytes × Op) → length ops ≡ 1 → p ≡ get_or ops 0 p → ops ≡ p ∷ []
-one_op [] p one is = absurd (omega arith)
-one_op (x ∷ []) p one is = ap (λ y. y ∷ []) (sym is)
-one_op (x ∷ (y ∷ ops)) p one is = absurd (omega arith)
-
 -- the last of a batch of one is all of it
 pub popped_one : (ops rest : List (Bytes × Op)) (p : Bytes × Op) → ops ≡ rest ++ p ∷ [] → length ops ≡ 1 → ops ≡ p ∷ []
 popped_one ops [] p is one = is
@@ -66,16 +62,20 @@ pub floor_refuses : (marks : Bytes → Mark) (low n : ℕ) (ops : List (Bytes ×
 floor_refuses marks low n [] one below = absurd (omega arith)
 floor_refuses marks low n (p ∷ ops) one below = ap (λ b. (b && mark_allows (marks p.0) n (op_type p.1)) && list_all (op_allowed marks low n) ops) (floor_false low n below)
 
--- its order is that of its mark
-pub one_allowed : (marks : Bytes → Mark) (low n : ℕ) (ops : List (Bytes × Op)) (p : Bytes × Op) → length ops ≡ 1 → p ≡ get_or ops 0 p → low ≤ n → list_all (op_allowed marks low n) ops ≡ mark_allows (marks p.0) n (op_type p.1)
-one_allowed marks low n ops p one is up =
-    ap (list_all (op_allowed marks low n)) (one_op ops p one is) ∙ and_true (op_allowed marks low n p) ∙ ap (λ b. b && mark_allows (marks p.0) n (op_type p.1)) (floor_true low n up)
-
--- its mark is that of its entry
-pub one_marked : (marks : Bytes → Mark) (n : ℕ) (ops : List (Bytes × Op)) (p : Bytes × Op) → length ops ≡ 1 → p ≡ get_or ops 0 p → (q : Bytes) → marked marks p.0 (next_mark (marks p.0) n (op_type p.1)) q ≡ marked_all (op_entries n ops) marks q
-one_marked marks n ops p one is q = by_type p.1 ∙ ap (λ l. marked_all (op_entries n l) marks q) (sym (one_op ops p one is))
+-- its order is that of the mark of its entry
+pub entry_allows : (marks : Bytes → Mark) (low n : ℕ) (ops : List (Bytes × Op)) (k : Bytes) (op : Op) (e : Entry) → ops ≡ (k, op) ∷ [] → e ≡ op_entry k n op → low ≤ n
+    → list_all (op_allowed marks low n) ops ≡ mark_allows (marks e.key.user_key) e.key.seqno e.key.value_type
+entry_allows marks low n ops k op e one is up =
+    ap (list_all (op_allowed marks low n)) one ∙ and_true (op_allowed marks low n (k, op)) ∙ ap (λ b. b && mark_allows (marks k) n (op_type op)) (floor_true low n up)
+    ∙ by_type op ∙ ap (λ (x : Entry). mark_allows (marks x.key.user_key) x.key.seqno x.key.value_type) (sym is)
   where
-    by_type : (op : Op) → marked marks p.0 (next_mark (marks p.0) n (op_type op)) q ≡ marked_by (op_entry p.0 n op) marks q
+    by_type : (op : Op) → mark_allows (marks k) n (op_type op) ≡ mark_allows (marks (op_entry k n op).key.user_key) (op_entry k n op).key.seqno (op_entry k n op).key.value_type
     by_type (Set value) = refl
     by_type Del = refl
     by_type Weak = refl
+
+-- it has the sequence number that it was made with
+pub op_number : (k : Bytes) (n : ℕ) (op : Op) → (op_entry k n op).key.seqno ≡ n
+op_number k n (Set value) = refl
+op_number k n Del = refl
+op_number k n Weak = refl

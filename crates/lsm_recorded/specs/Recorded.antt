@@ -14,6 +14,7 @@ use Rattle.lsm_below.specs.declared.error.Error.{Error}
 use Rattle.lsm_below.specs.declared.error.Error.TheVariants.{OutOfMemory, OutOfOrder}
 use Rattle.lsm_state.specs.Core.{Core, Seen, state_of}
 use Rattle.lsm_state.specs.Calls.{RefusesRead}
+use Rattle.lsm_state.specs.Kept.{IsKeptTree}
 use Rattle.lsm_state.specs.CompactionDeeds.{IsMarkedIn}
 use Rattle.lsm_state.specs.CompactionReads.{AreSparedBy}
 use Rattle.lsm_recorded.specs.declared.marks.Mark.{Mark}
@@ -44,6 +45,15 @@ pub record IsRecorded (opened : List Placed) (least : ℕ) (marks : BTreeMap Byt
   pub noted : (k : Bytes) → mark_of marks k ≡ mark_in (held opened) journal k
   -- no snapshot that is kept is below the watermark of an open merge
   pub marked : AreMarked journal c
+
+-- what it tells its callers: each read of it agrees with the replay before it, its writes are in order, below the counter, and the
+-- watermark of each open merge is marked
+pub record IsKeptRecorded {S : Type 0} (t : SeenRecorded S) : Type 0 where
+  pub tree : IsKeptTree t.tree.core
+  pub reads : ReadsEqualReplay (held t.opened) (shown_by t.opened) (state_of t.journal t.tree.core)
+  pub in_order : InOrder (held t.opened) t.journal
+  pub counted : next_number (held t.opened) t.journal ≤ t.tree.core.seqno
+  pub marked : AreMarked t.journal t.tree.core
 
 -- a refusal of the journal's own, or what the tree below replied
 abbrev pub OwnOr : {A : Type 0} → Result A Error → Type 0 → Type 0

@@ -4,9 +4,8 @@ ghost use Rattle.std.specs.FinMap.{get as value_in};
 ghost use Rattle.lsm_below.specs.Entries.{plain, above};
 ghost use Rattle.lsm_model.specs.Views.{held};
 ghost use Rattle.lsm_model.specs.Beginnings.{shown_by};
-ghost use Rattle.lsm_model.specs.Journal.{is_outside, replay, IsKept, Agrees, InOrder, next_number};
+ghost use Rattle.lsm_model.specs.Journal.{is_outside, replay, IsKept, Agrees};
 ghost use Rattle.lsm_model.specs.Ops.{op_entry, op_entries};
-ghost use Rattle.lsm_model.specs.Steps.{ReadsEqualReplay};
 ghost use Rattle.lsm_model.specs.declared.journal.JournalEntry.TheVariants.{Write as WriteEntry, Read as ReadEntry};
 ghost use Rattle.lsm_model.specs.declared.question.Question.TheVariants.{Get as GetQuestion};
 ghost use Rattle.lsm_model.specs.declared.question.Answer.TheVariants.{Found};
@@ -14,8 +13,6 @@ ghost use Rattle.lsm_model.specs.declared.op.Op.TheVariants.{Set, Del, Weak};
 ghost use Rattle.lsm_versions.specs.Levels.{placed_of};
 ghost use Rattle.lsm_commit.specs.Foreign.{AtRest};
 ghost use Rattle.lsm_parts.specs.Held.{first_entries};
-ghost use Rattle.lsm_state.specs.Kept.{IsKeptTree};
-ghost use Rattle.lsm_state.specs.Core.{state_of};
 ghost use Rattle.lsm_state.specs.Calls.{Appends, WritesBatch, Gives, IsGetStep, RefusesRead, Rotates};
 ghost use Rattle.lsm_state.specs.Commits.{Upholds};
 ghost use Rattle.lsm_recorded.specs.Order.{keeps_order, batch_keeps_order};
@@ -45,7 +42,7 @@ use std::marker::Model;
 ///
 /// The journal grows with every write and every answered read and is never cut: by an entry of some 150 bytes, which it shares
 /// with the pass, and for a range by a list of its pairs. Keys and values share their bytes with the tree, also the key of a `get`,
-/// if it was ever written. A write costs what the tree's own costs and a look-up in the marks of all keys written so far, which is
+/// if it was ever written; those of a batch of several are its caller's. A write costs what the tree's own costs and a look-up in the marks of all keys written so far, which is
 /// logarithmic in their number; a batch takes one for each of its writes, a `get` one where it finds no value, a range none.
 ///
 /// # Examples
@@ -115,18 +112,14 @@ fn find<S: Store>(
 }
 
 impl<S: Store> Recorded<S> {
-    ghost use Rattle.lsm_recorded.specs.Recorded.{AreMarked, OwnOr, Stays, StaysTo, RefusesRecorded};
+    ghost use Rattle.lsm_recorded.specs.Recorded.{IsKeptRecorded, OwnOr, Stays, StaysTo, RefusesRecorded};
 
     /// The facts that the type keeps: every super version is ordered, each view equals the replay,
     /// kept snapshots are answered, and each read of the journal agrees with the replay before it;
     /// the journal is in order, and the counter stands above each of its sequence numbers; the watermark of each open merge is
     /// marked. Of the tree holds what `TreeState::facts` tells.
     pub fn facts(&self)
-        ensures tree { IsKeptTree self.now.tree.core }
-        ensures reads { ReadsEqualReplay (held self.now.opened) (shown_by self.now.opened) (state_of self.now.journal self.now.tree.core) }
-        ensures in_order { InOrder (held self.now.opened) self.now.journal }
-        ensures counted { next_number (held self.now.opened) self.now.journal ≤ self.now.tree.core.seqno }
-        ensures marked { AreMarked self.now.journal self.now.tree.core }
+        ensures { IsKeptRecorded self.now }
     {
         self.core.facts();
     }

@@ -1,5 +1,5 @@
 // Writes to a tree that are noted: in the marks of their keys, in a journal and in a pass.
-ghost use Rattle.std.specs.Prelude.{◌≡◌, ◌⊎◌, ◌↔◌, ◌+◌, ◌≤◌, ◌∷◌, [], false, Err, map, length, vec_len, vec_capacity, OnOk, OnErr, IfOk, IsErrOf};
+ghost use Rattle.std.specs.Prelude.{◌≡◌, ◌⊎◌, ◌↔◌, ◌+◌, ◌<◌, ◌≤◌, ◌∷◌, [], false, Err, map, length, vec_len, vec_capacity, OnOk, OnErr, IfOk, IsErrOf};
 ghost use Rattle.std.specs.List.{list_all};
 ghost use Rattle.lsm_below.specs.Keys.{Bytes};
 ghost use Rattle.lsm_below.specs.Entries.{plain};
@@ -7,13 +7,13 @@ ghost use Rattle.lsm_model.specs.Ops.{op_entry, op_entries};
 ghost use Rattle.lsm_model.specs.declared.journal.JournalEntry.TheVariants.{Write as WriteEntry};
 ghost use Rattle.lsm_model.specs.declared.op.Op.{Op as OpOf};
 ghost use Rattle.lsm_state.specs.Calls.{Appends, WritesBatch};
-ghost use Rattle.lsm_recorded.specs.Marks.{mark_of, marked_by, marked_all, entry_allowed, op_allowed};
+ghost use Rattle.lsm_recorded.specs.Marks.{mark_of, mark_allows, marked_by, marked_all, entry_allowed, op_allowed};
 ghost use Rattle.lsm_recorded.specs.Passes.{Notes};
 ghost use Rattle.lsm_recorded.specs.Recorded.{OwnOr};
 
 use crate::copies::{Copies, share_batch};
 use crate::marked_key::MarkedKey;
-use crate::marks::{Mark, NOTHING, admit_all, is_allowed, mark_after, share_key, type_of};
+use crate::marks::{Mark, NOTHING, admit_all, is_allowed, mark_after, share_key};
 use crate::noting::put_all;
 use crate::pass::{make_room, put_entry};
 use crate::raising::{raise_batch, take_back};
@@ -27,7 +27,8 @@ use lsm_store::Store;
 use std::alloc::{AllocError, Global};
 use std::collections::BTreeMap;
 
-/// Writes an entry, as `TreeState::append_entry`, and appends it to a journal and a pass. Refused, it changes nothing.
+/// Writes an entry that `TreeState::house` gave, as `TreeState::append_entry`, and appends it to a journal and a pass, which
+/// share its bytes with the tree. Refused, it changes nothing.
 fn append_noted<S: Store>(
     alloc: Global,
     core: &mut TreeState<S>,
@@ -44,7 +45,7 @@ fn append_noted<S: Store>(
     let note = SharedEntry::new(alloc, write_entry(&entry)?)?;
     let copy = note.copy()?;
     make_room(journal, pass, 1)?;
-    let sizes = core.append_entry(entry)?;
+    let sizes = core.append_housed(entry)?;
     put_entry(journal, pass, note, copy);
     Ok(sizes)
 }
@@ -74,6 +75,7 @@ pub(crate) fn append_marked<S: Store>(
     if number < floor || core.seqno().get() <= number {
         return Err(Error::OutOfOrder);
     }
+    let entry = core.house(entry);
     let key = share_key(marks, &entry.key.user_key, number, kind)?;
     let mark = marks.entry(key)?.or_insert(NOTHING);
     if !is_allowed(*mark, number, kind) {
@@ -84,42 +86,41 @@ pub(crate) fn append_marked<S: Store>(
     Ok(sizes)
 }
 
-/// Writes a batch of one, whose entry under the next sequence number is made already, as `TreeState::write`. The cost and the errors
+/// Writes a batch of one, whose entry under the next sequence number `TreeState::house` gave, as `TreeState::write`. The cost and the errors
 /// are those of the tree's call.
 fn write_made<S: Store>(core: &mut TreeState<S>, entry: InternalValue) -> Result<SeqNo, Error>
+    ensures in_order { IsErrOf result Error.OutOfOrder → ⊥ }
     ensures writes { (k : Bytes) (op : OpOf) → entry ≡ op_entry k core.old.core.seqno op → WritesBatch ((k, op) ∷ []) result core.old.core core.new.core }
+    ensures numbered { OnOk result (core.old.core.seqno < LIMIT) }
     ensures store { core.new.store ≡ core.old.store }
+    ensures err { OnErr result (core.new ≡ core.old) }
 {
     let number = core.seqno().get();
     if number >= LIMIT {
         return Err(Error::OutOfNumbers);
     }
-    core.append_entry(entry)?;
+    core.append_housed(entry)?;
     core.seqno_mut().set(number + 1);
     core.visible_seqno_mut().fetch_max(number + 1);
     Ok(number)
 }
 
-/// Writes a batch of one, as `TreeState::write`, and appends its entry to a journal and a pass. The entry is made once, and shared with
-/// both. Refused, it changes nothing.
+/// Writes a batch of one, as `write_made`, and appends its entry to a journal and a pass, which share its bytes with the tree.
+/// Refused, it changes nothing.
 fn write_noted<S: Store>(
     alloc: Global,
     core: &mut TreeState<S>,
     journal: &mut Vec<SharedEntry>,
     pass: &mut Vec<(u64, SharedEntry)>,
-    mut ops: Vec<(UserKey, Op)>,
+    entry: InternalValue,
 ) -> Result<SeqNo, Error>
-    requires { length ops.items ≡ 1 }
     ensures in_order { IsErrOf result Error.OutOfOrder → ⊥ }
-    ensures core { (result ≡ Err Error.OutOfMemory) ⊎ WritesBatch ops.items result core.old.core core.new.core }
-    ensures noted { OnOk result (Notes (map WriteEntry (op_entries core.old.core.seqno ops.items)) journal.old.items journal.new.items pass.old.items pass.new.items) }
+    ensures core { (result ≡ Err Error.OutOfMemory) ⊎ ((k : Bytes) (op : OpOf) → entry ≡ op_entry k core.old.core.seqno op → WritesBatch ((k, op) ∷ []) result core.old.core core.new.core) }
+    ensures noted { OnOk result (Notes (WriteEntry entry ∷ []) journal.old.items journal.new.items pass.old.items pass.new.items) }
+    ensures numbered { OnOk result (core.old.core.seqno < LIMIT) }
     ensures store { core.new.store ≡ core.old.store }
     ensures err { OnErr result ((core.new ≡ core.old) × (journal.new.items ≡ journal.old.items) × (pass.new.items ≡ pass.old.items)) }
 {
-    let Some((key, op)) = ops.pop() else {
-        unreachable!()
-    };
-    let entry = op.into_entry(key, core.seqno().get());
     let note = SharedEntry::new(alloc, JournalEntry::Write(entry.copy()?))?;
     let copy = note.copy()?;
     make_room(journal, pass, 1)?;
@@ -128,7 +129,38 @@ fn write_noted<S: Store>(
     Ok(number)
 }
 
-/// Writes a batch of one, as `write_marked`, for which its mark is looked up once.
+/// Writes a batch of one, as `write_noted`, and notes it in the mark of its key, which is looked up once. `OutOfOrder`, before
+/// all else, exactly where the mark tells that it breaks the order.
+fn write_at_mark<S: Store>(
+    alloc: Global,
+    core: &mut TreeState<S>,
+    marks: &mut BTreeMap<MarkedKey, Mark>,
+    journal: &mut Vec<SharedEntry>,
+    pass: &mut Vec<(u64, SharedEntry)>,
+    entry: InternalValue,
+) -> Result<SeqNo, Error>
+    requires { entry.key.seqno ≡ core.old.core.seqno }
+    ensures out_of_order { IsErrOf result Error.OutOfOrder ↔ (mark_allows (mark_of marks.old entry.key.user_key) entry.key.seqno entry.key.value_type ≡ false) }
+    ensures core { OwnOr result ((k : Bytes) (op : OpOf) → entry ≡ op_entry k core.old.core.seqno op → WritesBatch ((k, op) ∷ []) result core.old.core core.new.core) }
+    ensures marks { OnOk result ((q : Bytes) → mark_of marks.new q ≡ marked_by entry (mark_of marks.old) q) }
+    ensures noted { OnOk result (Notes (WriteEntry entry ∷ []) journal.old.items journal.new.items pass.old.items pass.new.items) }
+    ensures unmarked { OnErr result ((q : Bytes) → mark_of marks.new q ≡ mark_of marks.old q) }
+    ensures store { core.new.store ≡ core.old.store }
+    ensures err { OnErr result ((core.new ≡ core.old) × (journal.new.items ≡ journal.old.items) × (pass.new.items ≡ pass.old.items)) }
+{
+    let number = entry.key.seqno;
+    let kind = entry.key.value_type;
+    let key = share_key(marks, &entry.key.user_key, number, kind)?;
+    let mark = marks.entry(key)?.or_insert(NOTHING);
+    if !is_allowed(*mark, number, kind) {
+        return Err(Error::OutOfOrder);
+    }
+    let written = write_noted(alloc, core, journal, pass, entry)?;
+    *mark = mark_after(*mark, number, kind);
+    Ok(written)
+}
+
+/// Writes a batch of one, as `write_marked`: its entry is made once, its bytes are copied once.
 fn write_one<S: Store>(
     alloc: Global,
     core: &mut TreeState<S>,
@@ -136,7 +168,7 @@ fn write_one<S: Store>(
     floor: SeqNo,
     journal: &mut Vec<SharedEntry>,
     pass: &mut Vec<(u64, SharedEntry)>,
-    ops: Vec<(UserKey, Op)>,
+    mut ops: Vec<(UserKey, Op)>,
 ) -> Result<SeqNo, Error>
     requires { length ops.items ≡ 1 }
     ensures out_of_order { IsErrOf result Error.OutOfOrder ↔ (list_all (op_allowed (mark_of marks.old) floor core.old.core.seqno) ops.items ≡ false) }
@@ -151,16 +183,11 @@ fn write_one<S: Store>(
     if number < floor {
         return Err(Error::OutOfOrder);
     }
-    let (key, op) = &ops[0];
-    let kind = type_of(op);
-    let key = share_key(marks, key, number, kind)?;
-    let mark = marks.entry(key)?.or_insert(NOTHING);
-    if !is_allowed(*mark, number, kind) {
-        return Err(Error::OutOfOrder);
-    }
-    let written = write_noted(alloc, core, journal, pass, ops)?;
-    *mark = mark_after(*mark, number, kind);
-    Ok(written)
+    let Some((key, op)) = ops.pop() else {
+        unreachable!()
+    };
+    let entry = core.house(op.into_entry(key, number));
+    write_at_mark(alloc, core, marks, journal, pass, entry)
 }
 
 /// What a batch of several needs beside the tree.

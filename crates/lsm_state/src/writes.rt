@@ -158,11 +158,30 @@ impl<S: Store> TreeState<S> {
         ensures appends { Appends (plain entry) result self.old.core self.new.core }
         ensures store { self.new.store ≡ self.old.store }
     {
+        let entry = self.house(entry);
+        self.append_housed(entry)
+    }
+
+    /// An entry with its bytes where a write puts them: a key and value of up to 1,024 bytes together are copied into a chunk
+    /// of the active memtable. Copies that are made of it before `append_housed` writes it share these bytes with the tree, so who keeps
+    /// one keeps no bytes of its own. The tree stays; an entry that is not written takes its place in the chunk all the same.
+    pub fn house(&mut self, entry: InternalValue) -> InternalValue
+        ensures same { result ≡ entry }
+        ensures stays { self.new ≡ self.old }
+    {
+        self.memtables.house(entry)
+    }
+
+    /// `append_entry`, of an entry that `house` gave: its bytes are copied no more. Returns and refuses as `insert`.
+    pub fn append_housed(&mut self, entry: InternalValue) -> Result<(u64, u64), Error>
+        ensures appends { Appends (plain entry) result self.old.core self.new.core }
+        ensures store { self.new.store ≡ self.old.store }
+    {
         let entry = entry.into_plain();
         if let Some(error) = refusal_of(&entry) {
             return Err(error);
         }
-        self.memtables.insert(entry)
+        self.memtables.insert_housed(entry)
     }
 
     /// Writes a batch under the next sequence number, all of it or none, makes it visible, and returns it.

@@ -88,6 +88,18 @@ fn counts_replaced_entries_again(rt: HostRuntime) {
     drop(table);
 }
 
+#[test]
+fn puts_a_housed_entry(rt: HostRuntime) -> Result<(), Fail> {
+    let mut table = Memtable::new(rt.alloc(), 0);
+    let entry = table.house(item(&("a", Some("x"), 1)));
+    let kept = entry.copy()?;
+    assert!(rt; table.is_empty());
+    assert!(rt; table.insert_housed(entry)? == (50, 50));
+    assert!(rt; finds(&table, "a", 2, Some((1, "x"))) && kept.value.as_slice() == b"x".as_slice());
+    drop(table);
+    Ok(())
+}
+
 // ---- bounds
 
 /// Bounds, how many entries lie within, the first one's number, and how many of these lie within other bounds.

@@ -1,10 +1,13 @@
 // Writes, reads of one key and rotation of a tree.
 use crate::rows::Row::{Decides, Does, Has, Reads, Shows};
 use crate::rows::{Count, Row};
+use crate::samples::item;
 use crate::scripts::Part::Plays;
-use crate::scripts::{Script, play_all};
+use crate::scripts::{Script, open, play_all};
 use crate::steps::Step::{Batch, Counter, Del, Insert, Long, Remove, Rotate, Set, Weak};
 use crate::steps::Told::{Done, Number, Refused, Sealed, Sizes};
+use lsm_store::MemStore;
+use std::test::Fail;
 
 const WRITES: [Script; 6] = [
     (
@@ -96,4 +99,19 @@ const ROTATIONS: [Script; 3] = [
 fn writes_are_numbered_sealed_and_read(rt: HostRuntime) {
     play_all(&rt, rt.alloc(), &WRITES);
     play_all(&rt, rt.alloc(), &ROTATIONS);
+}
+
+#[test]
+fn writes_a_housed_entry(rt: HostRuntime) -> Result<(), Fail> {
+    let alloc = rt.alloc();
+    let mut tree = open(alloc, 1, MemStore::new(alloc))?;
+    let entry = tree.house(item(&("a", Some("x"), 0)));
+    assert!(rt; tree.get(b"a", 1)?.is_none());
+    assert!(rt; tree.append_housed(entry)? == (50, 50));
+    match tree.get(b"a", 1)? {
+        Some(value) => assert!(rt; value.as_slice() == b"x".as_slice()),
+        None => assert!(rt; false, "nothing is found"),
+    }
+    drop(tree);
+    Ok(())
 }

@@ -1,4 +1,3 @@
-mod OwnOr
 pub mod RecordedReads
 pub mod Gates
 pub mod Closing

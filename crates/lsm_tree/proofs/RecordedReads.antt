@@ -1,14 +1,16 @@
--- Why a read of a tree with its journal is refused behind a lock.
-use Rattle.std.proofs.Common.{◌≡◌, ◌⊎◌, inl, inr, ⊎_elim, ℕ, ◌<◌, ◌≤◌, true, false, nat_lt, List, None, Result, Ok, Err, IfErr, refl, sym, ap, subst, arith}
+-- Why a read of a tree with its journal is refused behind a lock, and what it answers.
+use Rattle.std.proofs.Common.{◌≡◌, ◌⊎◌, inl, inr, ⊎_elim, ℕ, ◌<◌, ◌≤◌, Bool, true, false, cond, nat_lt, List, Option, None, Result, Ok, Err, IfErr, refl, sym, ap, subst, arith}
 use Rattle.std.proofs.lemmas.Bool.Decides.{nat_tests}
+use Rattle.lsm_below.specs.Keys.{Bytes}
 use Rattle.lsm_below.specs.Entries.{above}
 use Rattle.lsm_below.specs.declared.error.Error.{Error}
 use Rattle.lsm_below.specs.declared.error.Error.TheVariants.{OutOfMemory, OutOfOrder, SnapshotTooOld}
+use Rattle.lsm_model.specs.declared.question.Answer.TheVariants.{Found}
 use Rattle.lsm_model.specs.Views.{held, SuperVersion, found_at}
 use Rattle.lsm_state.specs.Core.{Core, latest_of, older_of}
 use Rattle.lsm_state.specs.Calls.{RefusesRead}
-use Rattle.lsm_recorded.specs.Recorded.{SeenRecorded, RefusesRecorded}
-use Rattle.lsm_tree.specs.Shared.{IsKeptRecorded, RefusesRecordedRead}
+use Rattle.lsm_recorded.specs.Recorded.{SeenRecorded, IsKeptRecorded, RefusesRecorded}
+use Rattle.lsm_tree.specs.Shared.{RefusesRecordedRead}
 
 above_or_below : (a b : ℕ) → (a ≤ b) ⊎ (b < a)
 above_or_below a b = elim (nat_lt b a) as (λ t. nat_lt b a ≡ t → (a ≤ b) ⊎ (b < a)) [ true ↦ λ e. inr (grind (arith, nat_tests)) | false ↦ λ e. inl (grind (arith, nat_tests)) ] refl
@@ -38,3 +40,8 @@ shared_read t s r kept refuses =
       at_zero = λ zero. at_zero_of t.tree.core s r zero read;
     })
     (λ below. late t s r kept below (refuses.out_of_order.1 below)) (above_or_below (above (held t.opened)) s)
+
+-- a get that answers what the replay does, outside dropped ranges, agrees with it
+pub get_agrees : (outside : Bool) (v w : Option Bytes) → (outside ≡ true → v ≡ w) → cond outside (Found v) (Found None) ≡ cond outside (Found w) (Found None)
+get_agrees true v w same = ap Found (same refl)
+get_agrees false v w same = refl

@@ -1,20 +1,19 @@
 -- Calls of a tree behind a lock: what it was before is not known, nor what it is later.
-use Rattle.std.specs.Prelude.{◌≡◌, ℕ, ◌<◌, ◌≤◌, ◌⊎◌, List, [], ◌++◌, None, Result, IfErr, IsErrOf, IsOk}
+use Rattle.std.specs.Prelude.{◌≡◌, ℕ, ◌<◌, ◌≤◌, ◌⊎◌, List, [], ◌∷◌, None, Result, IfErr, IsErrOf, IsOk}
 use Rattle.lsm_model.specs.declared.journal.JournalEntry.{JournalEntry}
 use Rattle.lsm_below.specs.Entries.{above}
-use Rattle.lsm_model.specs.Journal.{InOrder, next_number}
-use Rattle.lsm_model.specs.Steps.{ReadsEqualReplay}
-use Rattle.lsm_model.specs.Views.{held, found_at}
 use Rattle.lsm_model.specs.Beginnings.{shown_by}
+use Rattle.lsm_model.specs.Journal.{ReadAgrees}
+use Rattle.lsm_model.specs.Views.{held, found_at}
 use Rattle.lsm_below.specs.declared.error.Error.{Error}
 use Rattle.lsm_below.specs.declared.error.Error.TheVariants.{OutOfMemory, OutOfNumbers, OutOfOrder, SnapshotTooOld}
 use Rattle.lsm_versions.specs.declared.config.TheConstants.{LIMIT}
-use Rattle.lsm_state.specs.Core.{Core, Seen, latest_of, older_of, state_of}
+use Rattle.lsm_state.specs.Core.{Core, Seen, latest_of, older_of}
 use Rattle.lsm_parts.specs.Held.{first_entries}
 use Rattle.lsm_state.specs.Kept.{IsKeptTree}
 use Rattle.lsm_logged.specs.Keeping.{SeenLogged, IsKeptLogged}
-use Rattle.lsm_recorded.specs.Passes.{listed}
-use Rattle.lsm_recorded.specs.Recorded.{SeenRecorded}
+use Rattle.lsm_recorded.specs.Passes.{Notes}
+use Rattle.lsm_recorded.specs.Recorded.{SeenRecorded, IsKeptRecorded}
 
 -- a call that took some tree to another; of both holds what holds of every tree
 abbrev pub OnSomeTree : (Core → Core → Type 0) → Type 0
@@ -28,17 +27,24 @@ OnSomeTreeAlone S P = (old : Seen S) × (new : Seen S) × P old.core new.core ×
 abbrev pub AtSomeTree : (Core → Type 0) → Type 0
 AtSomeTree P = (c : Core) × P c × IsKeptTree c
 
--- a call that took some tree with its journal to another; of both trees holds what holds of every tree
+-- a call that took some tree with its journal to another; of both holds what holds of every one
 abbrev pub OnSomeRecorded : (S : Type 0) → (SeenRecorded S → SeenRecorded S → Type 0) → Type 0
-OnSomeRecorded S P = (old : SeenRecorded S) × (new : SeenRecorded S) × P old new × IsKeptTree old.tree.core × IsKeptTree new.tree.core
+OnSomeRecorded S P = (old : SeenRecorded S) × (new : SeenRecorded S) × P old new × IsKeptRecorded old × IsKeptRecorded new
 
--- what always holds of a tree with its journal: each read of it agrees with the replay before it, and its writes are in order,
--- below the counter
-pub record IsKeptRecorded {S : Type 0} (t : SeenRecorded S) : Type 0 where
-  pub tree : IsKeptTree t.tree.core
-  pub reads : ReadsEqualReplay (held t.opened) (shown_by t.opened) (state_of t.journal t.tree.core)
-  pub in_order : InOrder (held t.opened) t.journal
-  pub counted : next_number (held t.opened) t.journal ≤ t.tree.core.seqno
+-- an answered read: what it gives of the tree, which stays, is what the replay of the journal does, outside dropped ranges, and is
+-- noted in the journal and in the pass
+pub record ReadsNoted {S : Type 0} (gives : Core → Type 0) (read : JournalEntry) (old new : SeenRecorded S) (pass pass' : List (ℕ × JournalEntry)) : Type 0 where
+  pub gives : gives old.tree.core
+  pub agrees : ReadAgrees (shown_by old.opened) old.journal read
+  pub noted : Notes (read ∷ []) old.journal new.journal pass pass'
+  pub tree : new.tree ≡ old.tree
+  pub opened : new.opened ≡ old.opened
+
+-- an answered write is noted in the tree's journal and in the pass
+pub record WritesNoted {S : Type 0} (writes : Core → Core → Type 0) (entries : List JournalEntry) (old new : SeenRecorded S) (pass pass' : List (ℕ × JournalEntry)) : Type 0 where
+  pub writes : writes old.tree.core new.tree.core
+  pub noted : Notes entries old.journal new.journal pass pass'
+  pub opened : new.opened ≡ old.opened
 
 -- a call that looked at some tree with its journal, of which this holds
 abbrev pub AtSomeRecorded : (S : Type 0) → (SeenRecorded S → Type 0) → Type 0
@@ -88,7 +94,3 @@ pub record RefusesSharedLook {A : Type 0} (snapshot : ℕ) (r : Result A Error) 
 pub record RefusesSharedRotation {A : Type 0} (r : Result A Error) : Type 0 where
   pub only : IfErr r (λ e. (e ≡ OutOfNumbers) ⊎ (e ≡ OutOfMemory))
   pub out_of_numbers : IsErrOf r OutOfNumbers → AtSomeTree (λ c. (LIMIT ≤ c.next_memtable) × (first_entries c.memtables ≡ [] → ⊥))
-
--- these entries, and nothing else, are appended to a pass, with places that follow each other
-abbrev pub Puts : List JournalEntry → List (ℕ × JournalEntry) → List (ℕ × JournalEntry) → Type 0
-Puts entries old new = (place : ℕ) × (new ≡ old ++ listed place entries)

@@ -13,11 +13,12 @@ ghost use Rattle.lsm_versions.specs.Levels.{placed_of};
 ghost use Rattle.lsm_commit.specs.Causes.{HasCause, Blames};
 ghost use Rattle.lsm_recorded.specs.Closing.{ListTogether};
 ghost use Rattle.lsm_recorded.specs.Order.{keeps_order, batch_keeps_order};
-ghost use Rattle.lsm_state.specs.Calls.{Appends, WritesBatch, Rotates};
+ghost use Rattle.lsm_state.specs.Calls.{Appends, Gives, WritesBatch, Rotates};
+ghost use Rattle.lsm_state.specs.Listing.{Lists, ListsPrefix};
 ghost use Rattle.lsm_recorded.specs.Recorded.{OwnOr};
 ghost use Rattle.lsm_recorded.specs.Flushing.{RefusesUnnoted};
 ghost use Rattle.lsm_recorded.specs.Clearing.{ClearsNoted};
-ghost use Rattle.lsm_tree.specs.Shared.{OnSomeTreeAlone, OnSomeStore, OnSomeRecorded, AtSomeTree, AtSomeRecorded, RefusesRecordedRead, RefusesSharedRotation, Puts};
+ghost use Rattle.lsm_tree.specs.Shared.{OnSomeTreeAlone, OnSomeStore, OnSomeRecorded, AtSomeTree, AtSomeRecorded, RefusesRecordedRead, RefusesSharedRotation, ReadsNoted, WritesNoted};
 
 use crate::handle::Handle;
 use crate::lock::{act, read};
@@ -41,13 +42,10 @@ impl<S: Store> Handle<Recorded<S>> {
         snapshot: SeqNo,
     ) -> Result<Option<UserValue>, Error>
         ensures refused { RefusesRecordedRead S snapshot result }
-        ensures noted { IfOk result (λ v. Puts (ReadEntry snapshot (GetQuestion key.now) (Found v) ∷ []) pass.old pass.new) }
+        ensures gives { IfOk result (λ v. OnSomeRecorded S (λ old new. ReadsNoted (λ c. Gives c key.now snapshot v) (ReadEntry snapshot (GetQuestion key.now) (Found v)) old new pass.old pass.new)) }
         ensures err { OnErr result (pass.new ≡ pass.old) }
     {
-        let mut tree = self.shared.lock(rt);
-        let tree = &mut *tree;
-        tree.facts();
-        tree.get(pass, key, snapshot)
+        act!(self, rt, |tree| tree.get(pass, key, snapshot))
     }
 
     /// The pairs in the bounds that a snapshot shows, as `Recorded::range`.
@@ -59,13 +57,10 @@ impl<S: Store> Handle<Recorded<S>> {
         snapshot: SeqNo,
     ) -> Result<KvPairs, Error>
         ensures refused { RefusesRecordedRead S snapshot result }
-        ensures noted { IfOk result (λ pairs. Puts (ReadEntry snapshot (Between bounds.now.0 bounds.now.1) (PairsAnswer pairs) ∷ []) pass.old pass.new) }
+        ensures gives { IfOk result (λ pairs. OnSomeRecorded S (λ old new. ReadsNoted (λ c. Lists c bounds.now.0 bounds.now.1 snapshot pairs) (ReadEntry snapshot (Between bounds.now.0 bounds.now.1) (PairsAnswer pairs)) old new pass.old pass.new)) }
         ensures err { OnErr result (pass.new ≡ pass.old) }
     {
-        let mut tree = self.shared.lock(rt);
-        let tree = &mut *tree;
-        tree.facts();
-        tree.range(pass, bounds, snapshot)
+        act!(self, rt, |tree| tree.range(pass, bounds, snapshot))
     }
 
     /// The pairs of the keys that begin so, as `Recorded::prefix`.
@@ -77,13 +72,10 @@ impl<S: Store> Handle<Recorded<S>> {
         snapshot: SeqNo,
     ) -> Result<KvPairs, Error>
         ensures refused { RefusesRecordedRead S snapshot result }
-        ensures noted { IfOk result (λ pairs. Puts (ReadEntry snapshot (Prefix prefix.now) (PairsAnswer pairs) ∷ []) pass.old pass.new) }
+        ensures gives { IfOk result (λ pairs. OnSomeRecorded S (λ old new. ReadsNoted (λ c. ListsPrefix c prefix.now snapshot pairs) (ReadEntry snapshot (Prefix prefix.now) (PairsAnswer pairs)) old new pass.old pass.new)) }
         ensures err { OnErr result (pass.new ≡ pass.old) }
     {
-        let mut tree = self.shared.lock(rt);
-        let tree = &mut *tree;
-        tree.facts();
-        tree.prefix(pass, prefix, snapshot)
+        act!(self, rt, |tree| tree.prefix(pass, prefix, snapshot))
     }
 
     /// Seals the active memtable, as `Recorded::rotate_memtable`.
@@ -108,7 +100,7 @@ impl<S: Store> Handle<Recorded<S>> {
     ) -> Result<(u64, u64), Error>
         ensures core { OwnOr result (OnSomeTreeAlone S (λ old new. Appends (plain entry) result old new)) }
         ensures out_of_order { IsErrOf result Error.OutOfOrder → AtSomeRecorded S (λ t. keeps_order (held t.opened) t.journal t.tree.core.seqno (plain entry) ≡ false) }
-        ensures noted { OnOk result (Puts (WriteEntry (plain entry) ∷ []) pass.old pass.new) }
+        ensures noted { OnOk result (OnSomeRecorded S (λ old new. WritesNoted (Appends (plain entry) result) (WriteEntry (plain entry) ∷ []) old new pass.old pass.new)) }
         ensures err { OnErr result (pass.new ≡ pass.old) }
     {
         act!(self, rt, |tree| tree.append_entry(pass, entry))
@@ -125,7 +117,7 @@ impl<S: Store> Handle<Recorded<S>> {
     ) -> Result<(u64, u64), Error>
         ensures core { OwnOr result (OnSomeTreeAlone S (λ old new. Appends (op_entry key seqno (Set value)) result old new)) }
         ensures out_of_order { IsErrOf result Error.OutOfOrder → AtSomeRecorded S (λ t. keeps_order (held t.opened) t.journal t.tree.core.seqno (op_entry key seqno (Set value)) ≡ false) }
-        ensures noted { OnOk result (Puts (WriteEntry (op_entry key seqno (Set value)) ∷ []) pass.old pass.new) }
+        ensures noted { OnOk result (OnSomeRecorded S (λ old new. WritesNoted (Appends (op_entry key seqno (Set value)) result) (WriteEntry (op_entry key seqno (Set value)) ∷ []) old new pass.old pass.new)) }
         ensures err { OnErr result (pass.new ≡ pass.old) }
     {
         act!(self, rt, |tree| tree.insert(pass, key, value, seqno))
@@ -141,7 +133,7 @@ impl<S: Store> Handle<Recorded<S>> {
     ) -> Result<(u64, u64), Error>
         ensures core { OwnOr result (OnSomeTreeAlone S (λ old new. Appends (op_entry key seqno Del) result old new)) }
         ensures out_of_order { IsErrOf result Error.OutOfOrder → AtSomeRecorded S (λ t. keeps_order (held t.opened) t.journal t.tree.core.seqno (op_entry key seqno Del) ≡ false) }
-        ensures noted { OnOk result (Puts (WriteEntry (op_entry key seqno Del) ∷ []) pass.old pass.new) }
+        ensures noted { OnOk result (OnSomeRecorded S (λ old new. WritesNoted (Appends (op_entry key seqno Del) result) (WriteEntry (op_entry key seqno Del) ∷ []) old new pass.old pass.new)) }
         ensures err { OnErr result (pass.new ≡ pass.old) }
     {
         act!(self, rt, |tree| tree.remove(pass, key, seqno))
@@ -157,7 +149,7 @@ impl<S: Store> Handle<Recorded<S>> {
     ) -> Result<(u64, u64), Error>
         ensures core { OwnOr result (OnSomeTreeAlone S (λ old new. Appends (op_entry key seqno Weak) result old new)) }
         ensures out_of_order { IsErrOf result Error.OutOfOrder → AtSomeRecorded S (λ t. keeps_order (held t.opened) t.journal t.tree.core.seqno (op_entry key seqno Weak) ≡ false) }
-        ensures noted { OnOk result (Puts (WriteEntry (op_entry key seqno Weak) ∷ []) pass.old pass.new) }
+        ensures noted { OnOk result (OnSomeRecorded S (λ old new. WritesNoted (Appends (op_entry key seqno Weak) result) (WriteEntry (op_entry key seqno Weak) ∷ []) old new pass.old pass.new)) }
         ensures err { OnErr result (pass.new ≡ pass.old) }
     {
         act!(self, rt, |tree| tree.remove_weak(pass, key, seqno))
@@ -172,7 +164,7 @@ impl<S: Store> Handle<Recorded<S>> {
     ) -> Result<SeqNo, Error>
         ensures core { OwnOr result (OnSomeTreeAlone S (λ old new. WritesBatch ops.items result old new)) }
         ensures out_of_order { IsErrOf result Error.OutOfOrder → AtSomeRecorded S (λ t. batch_keeps_order (held t.opened) t.journal t.tree.core.seqno ops.items ≡ false) }
-        ensures noted { IfOk result (λ n. Puts (map WriteEntry (op_entries n ops.items)) pass.old pass.new) }
+        ensures noted { OnOk result (OnSomeRecorded S (λ old new. WritesNoted (WritesBatch ops.items result) (map WriteEntry (op_entries old.tree.core.seqno ops.items)) old new pass.old pass.new)) }
         ensures err { OnErr result (pass.new ≡ pass.old) }
     {
         act!(self, rt, |tree| tree.write(pass, ops))

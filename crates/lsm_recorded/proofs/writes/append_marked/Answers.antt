@@ -1,4 +1,4 @@
-use Rattle.std.proofs.Common.{◌≡◌, ◌∙◌, arith}
+use Rattle.std.proofs.Common.{◌≡◌, ◌∙◌, inr, ap, arith}
 use Rattle.std.proofs.lemmas.Result.{err_from_is_err_and}
 use Rattle.std.proofs.lemmas.Grind.{common_steps}
 use Rattle.std.specs.BTreeMap.Entry.{map_with_value}
@@ -31,5 +31,8 @@ returns-clause-marks g c q =
     let w = c.mark_after.result in
     let entry = c.args.entry in
     let written : mark_of (map_with_value c.in_ok-marks.field-0 w) q ≡ marked_by entry (mark_of c.args.marks.now) q =
-    mark_written c.args.marks.now (map_with_value c.in_ok-marks.field-0 w) c.in_ok-key.key entry.key.user_key m w entry.key.seqno entry.key.value_type c.in_ok-key.ensures.ok found c.mark_after.ensures (c.in_ok-marks.ensures.update.0 w).0 q in
+    mark_written c.args.marks.now (map_with_value c.in_ok-marks.field-0 w) c.in_ok-key.key entry.key.user_key m w entry.key.seqno entry.key.value_type (c.in_ok-key.ensures.ok ∙ ap (λ e. e.key.user_key) c.house-entry.ensures.same) found c.mark_after.ensures (c.in_ok-marks.ensures.update.0 w).0 q in
     grind (arith, common_steps, written)
+
+pub returns-clause-core : goal.returns-clause-core
+returns-clause-core g c = inr (rw (c.house-entry.ensures.same, ap (λ t. t.core) c.house-entry.ensures.stays) at c.in_ok-sizes.ensures.core)

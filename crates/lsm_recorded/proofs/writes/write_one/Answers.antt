@@ -1,11 +1,13 @@
-use Rattle.std.proofs.Common.{◌≡◌, refl, ap, sym, ◌∙◌, arith}
-use Rattle.std.proofs.lemmas.Result.{err_from_is_err_and}
-use Rattle.std.proofs.lemmas.Grind.{common_steps}
-use Rattle.std.specs.BTreeMap.Entry.{map_with_value}
-use Rattle.lsm_model.specs.Ops.{op_entries}
-use Rattle.lsm_recorded.specs.Marks.{mark_of, next_mark, mark_allows, op_type, marked_all}
-use Rattle.lsm_recorded.proofs.MarksLemmas.{mark_found, mark_kept, mark_written}
-use Rattle.lsm_recorded.proofs.WritesLemmas.{on_err, floor_refuses, refused_told, one_allowed, one_marked}
+use Rattle.std.proofs.Common.{◌≡◌, ◌++◌, ◌∷◌, [], ◌↔◌, false, refl, ap, sym, subst, ◌∙◌, map, option_to_list, OnOk, IsErrOf, arith}
+use Rattle.lsm_below.specs.Keys.{Bytes}
+use Rattle.lsm_below.specs.declared.error.Error.TheVariants.{OutOfOrder}
+use Rattle.lsm_model.specs.Ops.{op_entry, op_entries}
+use Rattle.lsm_model.specs.declared.journal.JournalEntry.TheVariants.{Write}
+use Rattle.lsm_state.specs.Calls.{WritesBatch}
+use Rattle.lsm_recorded.specs.Marks.{mark_of, marked_by, marked_all}
+use Rattle.lsm_recorded.specs.Passes.{Notes}
+use Rattle.lsm_recorded.proofs.OwnOr.{own_or-weaker}
+use Rattle.lsm_recorded.proofs.WritesLemmas.{floor_refuses, popped_one, entry_allows, op_number}
 use Rattle.lsm_recorded.proofs.writes.write_one.Goals as goal
 
 pub returns-then-number-floor-clause-out_of_order : goal.returns-then-number-floor-clause-out_of_order
@@ -14,40 +16,61 @@ returns-then-number-floor-clause-out_of_order g c =
     let b = c.seqno.ensures in
     (λ told. floor_refuses (mark_of c.args.marks.now) c.args.floor c.args.core.now.core.seqno c.args.ops.items c.requires (omega arith), λ refused. refl)
 
-pub returns-in_err-key-clause-out_of_order : goal.returns-in_err-key-clause-out_of_order
-returns-in_err-key-clause-out_of_order g c =
-    let p = err_from_is_err_and c.from_residual.result c.from_residual.ensures.1 in
-    let op = c.index.result.now in
-    let a = c.get-number.ensures in
-    let b = c.seqno.ensures in
-    let first : c.get-number.result ≡ c.args.core.now.core.seqno = a ∙ b in
-    refused_told c.from_residual.result p.0 _ _ p.1 (p.2 ∙ c.in_err-key.ensures.err)
-    (one_allowed (mark_of c.args.marks.now) c.args.floor c.args.core.now.core.seqno c.args.ops.items op c.requires c.index.ensures (omega arith)
-    ∙ ap (λ n. mark_allows (mark_of c.args.marks.now op.0) n (op_type op.1)) (sym first) ∙ ap (mark_allows (mark_of c.args.marks.now op.0) c.get-number.result) (sym c.type_of-kind.ensures))
+pub write_at_mark-requires : goal.write_at_mark-requires
+write_at_mark-requires g c =
+    let first : c.get-number.result ≡ c.args.core.now.core.seqno = c.get-number.ensures ∙ c.seqno.ensures in
+    let made = c.house-entry.ensures.same ∙ c.into_entry.ensures in
+    ap (λ e. e.key.seqno) made ∙ op_number c.in-Some.key c.get-number.result c.in-Some.op ∙ first ∙ sym (ap (λ t. t.core.seqno) c.house-entry.ensures.stays)
 
-pub returns-then-not-is_allowed-clause-unmarked : goal.returns-then-not-is_allowed-clause-unmarked
-returns-then-not-is_allowed-clause-unmarked g c q =
-    let same : mark_of (map_with_value c.in_ok-marks.field-0 c.or_insert-mark.result.now) q ≡ mark_of c.args.marks.now q =
-    mark_kept c.args.marks.now (map_with_value c.in_ok-marks.field-0 c.or_insert-mark.result.now) c.in_ok-key.key c.or_insert-mark.result.now _ c.or_insert-mark.ensures.value c.in_ok-marks.ensures.value (c.in_ok-marks.ensures.update.0 c.or_insert-mark.result.now).0 q in
-    grind (arith, common_steps, same)
+pub returns-clause-out_of_order : goal.returns-clause-out_of_order
+returns-clause-out_of_order g c =
+    let n = c.args.core.now.core.seqno in
+    let key = c.in-Some.key in
+    let op = c.in-Some.op in
+    let rest = c.pop.new.self.items in
+    let one = popped_one c.args.ops.items rest (key, op) (c.pop.ensures.items ∙ ap (λ o. rest ++ option_to_list o) c.in-Some.is) c.requires in
+    let first : c.get-number.result ≡ n = c.get-number.ensures ∙ c.seqno.ensures in
+    let made = c.house-entry.ensures.same ∙ c.into_entry.ensures ∙ ap (λ m. op_entry key m op) first in
+    let told = entry_allows (mark_of c.args.marks.now) c.args.floor n c.args.ops.items key op c.house-entry.result one made (omega arith) in
+    subst (λ b. IsErrOf c.write_at_mark.result OutOfOrder ↔ (b ≡ false)) (sym told) c.write_at_mark.ensures.out_of_order
 
-pub returns-in_err-written-clause-unmarked : goal.returns-in_err-written-clause-unmarked
-returns-in_err-written-clause-unmarked g c = on_err c.from_residual-in_err-written.result (λ q.
-    let same : mark_of (map_with_value c.in_ok-marks.field-0 c.or_insert-mark.result.now) q ≡ mark_of c.args.marks.now q =
-    mark_kept c.args.marks.now (map_with_value c.in_ok-marks.field-0 c.or_insert-mark.result.now) c.in_ok-key.key c.or_insert-mark.result.now _ c.or_insert-mark.ensures.value c.in_ok-marks.ensures.value (c.in_ok-marks.ensures.update.0 c.or_insert-mark.result.now).0 q in
-    grind (arith, common_steps, same))
+pub returns-clause-core : goal.returns-clause-core
+returns-clause-core g c =
+    let old = c.args.core.now.core in
+    let new = c.write_at_mark.new.core.core in
+    let key = c.in-Some.key in
+    let op = c.in-Some.op in
+    let rest = c.pop.new.self.items in
+    let one = popped_one c.args.ops.items rest (key, op) (c.pop.ensures.items ∙ ap (λ o. rest ++ option_to_list o) c.in-Some.is) c.requires in
+    let first : c.get-number.result ≡ old.seqno = c.get-number.ensures ∙ c.seqno.ensures in
+    let stays = ap (λ t. t.core) c.house-entry.ensures.stays in
+    let made = c.house-entry.ensures.same ∙ c.into_entry.ensures ∙ ap (λ m. op_entry key m op) (first ∙ sym (ap (λ t. t.seqno) stays)) in
+    own_or-weaker _ _ _ (λ writes. subst (λ ops. WritesBatch ops c.write_at_mark.result old new) (sym one) (subst (λ t. WritesBatch ((key, op) ∷ []) c.write_at_mark.result t new) stays (writes key op made))) c.write_at_mark.ensures.core
 
 pub returns-clause-marks : goal.returns-clause-marks
-returns-clause-marks g c q =
-    let m = c.or_insert-mark.result.now in
-    let found = mark_found c.args.marks.now c.in_ok-key.key m _ c.or_insert-mark.ensures.value c.in_ok-marks.ensures.value in
-    let w = c.mark_after.result in
-    let op = c.index.result.now in
+returns-clause-marks g c =
     let n = c.args.core.now.core.seqno in
-    let a = c.get-number.ensures in
-    let b = c.seqno.ensures in
-    let first : c.get-number.result ≡ n = a ∙ b in
-    let after : w ≡ next_mark m n (op_type op.1) = c.mark_after.ensures ∙ ap (λ x. next_mark m x c.type_of-kind.result) first ∙ ap (next_mark m n) c.type_of-kind.ensures in
-    let written : mark_of (map_with_value c.in_ok-marks.field-0 w) q ≡ marked_all (op_entries n c.args.ops.items) (mark_of c.args.marks.now) q =
-    mark_written c.args.marks.now (map_with_value c.in_ok-marks.field-0 w) c.in_ok-key.key op.0 m w n (op_type op.1) c.in_ok-key.ensures.ok found after (c.in_ok-marks.ensures.update.0 w).0 q ∙ one_marked (mark_of c.args.marks.now) n c.args.ops.items op c.requires c.index.ensures q in
-    grind (arith, common_steps, written)
+    let old = mark_of c.args.marks.now in
+    let new = mark_of c.write_at_mark.new.marks in
+    let key = c.in-Some.key in
+    let op = c.in-Some.op in
+    let rest = c.pop.new.self.items in
+    let one = popped_one c.args.ops.items rest (key, op) (c.pop.ensures.items ∙ ap (λ o. rest ++ option_to_list o) c.in-Some.is) c.requires in
+    let first : c.get-number.result ≡ n = c.get-number.ensures ∙ c.seqno.ensures in
+    let made = c.house-entry.ensures.same ∙ c.into_entry.ensures ∙ ap (λ m. op_entry key m op) first in
+    subst (λ ops. OnOk c.write_at_mark.result ((q : Bytes) → new q ≡ marked_all (op_entries n ops) old q)) (sym one)
+    (subst (λ e. OnOk c.write_at_mark.result ((q : Bytes) → new q ≡ marked_by e old q)) made c.write_at_mark.ensures.marks)
+
+pub returns-clause-noted : goal.returns-clause-noted
+returns-clause-noted g c =
+    let n = c.args.core.now.core.seqno in
+    let key = c.in-Some.key in
+    let op = c.in-Some.op in
+    let rest = c.pop.new.self.items in
+    let one = popped_one c.args.ops.items rest (key, op) (c.pop.ensures.items ∙ ap (λ o. rest ++ option_to_list o) c.in-Some.is) c.requires in
+    let first : c.get-number.result ≡ n = c.get-number.ensures ∙ c.seqno.ensures in
+    let made = c.house-entry.ensures.same ∙ c.into_entry.ensures ∙ ap (λ m. op_entry key m op) first in
+    let journal = c.args.journal.now.items in
+    let pass = c.args.pass.now.items in
+    subst (λ ops. OnOk c.write_at_mark.result (Notes (map Write (op_entries n ops)) journal c.write_at_mark.new.journal.items pass c.write_at_mark.new.pass.items)) (sym one)
+    (subst (λ e. OnOk c.write_at_mark.result (Notes (Write e ∷ []) journal c.write_at_mark.new.journal.items pass c.write_at_mark.new.pass.items)) made c.write_at_mark.ensures.noted)

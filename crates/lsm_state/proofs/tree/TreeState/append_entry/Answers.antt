@@ -1,13 +1,11 @@
-use Rattle.std.proofs.Common.{sym, ◌∙◌, subst}
-use Rattle.lsm_state.specs.Core.{Core}
+use Rattle.std.proofs.Common.{ap, subst}
+use Rattle.lsm_below.specs.Entries.{plain}
 use Rattle.lsm_state.specs.Calls.{Appends}
-use Rattle.lsm_state.proofs.Steps.{appended, with_memtables}
 use Rattle.lsm_state.proofs.tree.TreeState.append_entry.Goals as goal
 
 pub returns-clause-appends : goal.returns-clause-appends
 returns-clause-appends g c =
-    let i = c.self.inside in
-    let old : Core = record { config = i.config; memtables = i.memtables; history = i.history; next_memtable = i.next_memtable; next_table = i.next_table; next_job = i.next_job; moment = i.moment; seqno = i.seqno; visible_seqno = i.visible_seqno; flush = i.flush; lost = i.lost; merges = i.merges } in
-    let e = c.into_plain-entry.result in
-    let done = appended e c.insert.result old c.insert.new.self c.self.invariant.0.active (sym c.refusal_of.ensures ∙ c.in_default.is) c.insert.ensures.sizes c.insert.ensures.ok c.insert.ensures.err c.insert.ensures.memory in
-    rw (← c.self.view_is) (subst (λ x. Appends x c.insert.result old (with_memtables old c.insert.new.self)) c.into_plain-entry.ensures done)
+    let told = c.append_housed.result in
+    let new = c.append_housed.new.self.core in
+    let same = subst (λ e. Appends (plain e) told c.house-entry.new.self.core new) c.house-entry.ensures.same c.append_housed.ensures.appends in
+    subst (λ old. Appends (plain c.args.entry) told old new) (ap (λ t. t.core) c.house-entry.ensures.stays) same

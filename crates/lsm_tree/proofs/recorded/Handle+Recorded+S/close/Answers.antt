@@ -8,5 +8,5 @@ pub returns-clause-tree : goal.returns-clause-tree
 returns-clause-tree g c =
     let t = c.deref-tree.result.now in
     if_both c.close.result (λ x. x.journal.items ≡ t.journal) (λ x. placed_of x.opened.levels ≡ t.opened) _
-    (λ x journal opened. (t, (sym journal, sym opened), record { tree = c.facts.ensures.tree; reads = c.facts.ensures.reads; in_order = c.facts.ensures.in_order; counted = c.facts.ensures.counted }))
+    (λ x journal opened. (t, (sym journal, sym opened), c.facts.ensures))
     c.close.ensures.journal c.close.ensures.opened

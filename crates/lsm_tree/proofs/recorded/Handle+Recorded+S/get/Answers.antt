@@ -1,7 +1,15 @@
-use Rattle.lsm_tree.proofs.RecordedReads.{shared_read}
+-- The tree before and after the call is the one that the lock guards.
+use Rattle.lsm_tree.proofs.Closing.{if_both, if_more}
+use Rattle.lsm_tree.proofs.RecordedReads.{shared_read, get_agrees}
 use Rattle.lsm_tree.proofs.recorded.Handle+Recorded+S.get.Goals as goal
 
 pub returns-clause-refused : goal.returns-clause-refused
-returns-clause-refused g c =
-    let t = c.deref_mut-tree.result.now in
-    shared_read t c.args.snapshot c.get.result (record { tree = c.facts.ensures.tree; reads = c.facts.ensures.reads; in_order = c.facts.ensures.in_order; counted = c.facts.ensures.counted }) c.get.ensures.refuses
+returns-clause-refused g c = shared_read c.deref_mut-tree.result.now c.args.snapshot c.get-told.result c.facts.ensures c.get-told.ensures.refuses
+
+pub returns-clause-gives : goal.returns-clause-gives
+returns-clause-gives g c =
+    let tells = c.get-told.ensures in
+    let agrees = if_more c.get-told.result _ _ (λ v replay. get_agrees _ v _ replay) tells.replay in
+    if_both c.get-told.result _ _ _
+    (λ told both noted. (c.deref_mut-tree.result.now, c.get-told.new.self, record { gives = both.0; agrees = both.1; noted = noted; tree = tells.tree; opened = tells.opened }, c.facts.ensures, c.facts-2.ensures))
+    (if_both c.get-told.result _ _ _ (λ told gives agrees. (gives, agrees)) tells.core agrees) tells.noted

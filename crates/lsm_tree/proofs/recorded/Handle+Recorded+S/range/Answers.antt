@@ -1,7 +1,14 @@
+-- The tree before and after the call is the one that the lock guards.
+use Rattle.lsm_tree.proofs.Closing.{if_both}
 use Rattle.lsm_tree.proofs.RecordedReads.{shared_read}
 use Rattle.lsm_tree.proofs.recorded.Handle+Recorded+S.range.Goals as goal
 
 pub returns-clause-refused : goal.returns-clause-refused
-returns-clause-refused g c =
-    let t = c.deref_mut-tree.result.now in
-    shared_read t c.args.snapshot c.range.result (record { tree = c.facts.ensures.tree; reads = c.facts.ensures.reads; in_order = c.facts.ensures.in_order; counted = c.facts.ensures.counted }) c.range.ensures.refuses
+returns-clause-refused g c = shared_read c.deref_mut-tree.result.now c.args.snapshot c.range-told.result c.facts.ensures c.range-told.ensures.refuses
+
+pub returns-clause-gives : goal.returns-clause-gives
+returns-clause-gives g c =
+    let tells = c.range-told.ensures in
+    if_both c.range-told.result _ _ _
+    (λ told both noted. (c.deref_mut-tree.result.now, c.range-told.new.self, record { gives = both.0; agrees = both.1; noted = noted; tree = tells.tree; opened = tells.opened }, c.facts.ensures, c.facts-2.ensures))
+    (if_both c.range-told.result _ _ _ (λ told gives agrees. (gives, agrees)) tells.core tells.replay) tells.noted
