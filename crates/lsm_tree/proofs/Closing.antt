@@ -6,6 +6,10 @@ pub if_both : {X Y : Type 0} (r : Result X Y) (P Q R : X → Type 0) → ((x : X
 if_both (Ok x) P Q R f p q = f x p q
 if_both (Err e) P Q R f p q = tt
 
+pub if_three : {X Y : Type 0} (r : Result X Y) (P Q R T : X → Type 0) → ((x : X) → P x → Q x → R x → T x) → IfOk r P → IfOk r Q → IfOk r R → IfOk r T
+if_three (Ok x) P Q R T f p q h = f x p q h
+if_three (Err e) P Q R T f p q h = tt
+
 -- one of what it holds, and one that holds behind it
 pub if_on : {X Y : Type 0} (r : Result X Y) (P : X → Type 0) (Q : Type 0) (R : X → Type 0) → ((x : X) → P x → Q → R x) → IfOk r P → OnOk r Q → IfOk r R
 if_on (Ok x) P Q R f p q = f x p q

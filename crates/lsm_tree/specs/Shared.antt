@@ -7,11 +7,14 @@ use Rattle.lsm_model.specs.Journal.{ReadAgrees}
 use Rattle.lsm_model.specs.Views.{held, found_at}
 use Rattle.lsm_below.specs.declared.error.Error.{Error}
 use Rattle.lsm_below.specs.declared.error.Error.TheVariants.{OutOfMemory, OutOfNumbers, OutOfOrder, SnapshotTooOld}
+use Rattle.lsm_store.specs.World.{World}
 use Rattle.lsm_versions.specs.declared.config.TheConstants.{LIMIT}
 use Rattle.lsm_state.specs.Core.{Core, Seen, latest_of, older_of}
 use Rattle.lsm_parts.specs.Held.{first_entries}
 use Rattle.lsm_state.specs.Kept.{IsKeptTree}
 use Rattle.lsm_logged.specs.Keeping.{SeenLogged, IsKeptLogged}
+use Rattle.lsm_logged.specs.Removing.{log_from_of, KeepsKnown, Passed}
+use Rattle.lsm_logged.specs.Flushing.{RemovesBehind}
 use Rattle.lsm_recorded.specs.Passes.{Notes}
 use Rattle.lsm_recorded.specs.Recorded.{SeenRecorded, IsKeptRecorded}
 
@@ -33,16 +36,16 @@ OnSomeRecorded S P = (old : SeenRecorded S) × (new : SeenRecorded S) × P old n
 
 -- an answered read: what it gives of the tree, which stays, is what the replay of the journal does, outside dropped ranges, and is
 -- noted in the journal and in the pass
-pub record ReadsNoted {S : Type 0} (gives : Core → Type 0) (read : JournalEntry) (old new : SeenRecorded S) (pass pass' : List (ℕ × JournalEntry)) : Type 0 where
-  pub gives : gives old.tree.core
+pub record ReadsNoted {S : Type 0} (answers : Core → Type 0) (read : JournalEntry) (old new : SeenRecorded S) (pass pass' : List (ℕ × JournalEntry)) : Type 0 where
+  pub gives : answers old.tree.core
   pub agrees : ReadAgrees (shown_by old.opened) old.journal read
   pub noted : Notes (read ∷ []) old.journal new.journal pass pass'
   pub tree : new.tree ≡ old.tree
   pub opened : new.opened ≡ old.opened
 
 -- an answered write is noted in the tree's journal and in the pass
-pub record WritesNoted {S : Type 0} (writes : Core → Core → Type 0) (entries : List JournalEntry) (old new : SeenRecorded S) (pass pass' : List (ℕ × JournalEntry)) : Type 0 where
-  pub writes : writes old.tree.core new.tree.core
+pub record WritesNoted {S : Type 0} (does : Core → Core → Type 0) (entries : List JournalEntry) (old new : SeenRecorded S) (pass pass' : List (ℕ × JournalEntry)) : Type 0 where
+  pub writes : does old.tree.core new.tree.core
   pub noted : Notes entries old.journal new.journal pass pass'
   pub opened : new.opened ≡ old.opened
 
@@ -64,6 +67,13 @@ pub record TouchesTreeAlone {S : Type 0} (P : Core → Core → Type 0) (old new
   pub store : new.store ≡ old.store
   pub numbers : new.numbers ≡ old.numbers
   pub doubt : new.doubted ≡ old.doubted
+
+-- what a flush or a clear leaves of the log: only records that the version has passed go, none before that version is on the disk,
+-- and each that is left is known
+pub record LeavesLog {S : Type 0} (world : S → World) (old new : SeenLogged S) : Type 0 where
+  pub passes : Passed (log_from_of new.core) (world old.store) (world new.store)
+  pub behind : RemovesBehind (world old.store) (world new.store) old.core new.core
+  pub known : KeepsKnown (world old.store) (world new.store) old.numbers new.numbers
 
 -- a call that took the store of some tree to another
 abbrev pub OnSomeStore : (S : Type 0) → (S → S → Type 0) → Type 0

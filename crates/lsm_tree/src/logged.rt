@@ -12,7 +12,7 @@ ghost use Rattle.lsm_state.specs.Calls.{Rotates};
 ghost use Rattle.lsm_logged.specs.Keeping.{is_unsure};
 ghost use Rattle.lsm_logged.specs.Flushing.{ClearsLogged};
 ghost use Rattle.lsm_logged.specs.Writing.{WritesLogged};
-ghost use Rattle.lsm_tree.specs.Shared.{OnSomeStore, OnSomeLogged, AtSomeTree, AtSomeLogged, TouchesTreeAlone, RefusesSharedRotation};
+ghost use Rattle.lsm_tree.specs.Shared.{OnSomeStore, OnSomeLogged, AtSomeTree, AtSomeLogged, TouchesTreeAlone, LeavesLog, RefusesSharedRotation};
 
 use crate::handle::Handle;
 use crate::lock::{act, read, read_tree};
@@ -47,7 +47,7 @@ impl<S: Store> Handle<Logged<S>> {
 
     /// Clears the tree, as `Logged::clear`. The lock is held while the version's file is written and records are removed.
     pub fn clear(&self, rt: &impl Wait) -> Result<SeqNo, Error>
-        ensures clears { OnSomeLogged S (λ old new. ClearsLogged result old new) }
+        ensures clears { OnSomeLogged S (λ old new. ClearsLogged result old new × (S.tells → LeavesLog S.world old new)) }
         // The store is blamed only where a call of it failed.
         ensures causes { OnSomeStore S (λ old new. HasCause (Blames result) (S.world old) (S.world new)) }
     {

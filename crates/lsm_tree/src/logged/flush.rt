@@ -4,7 +4,7 @@ ghost use Rattle.lsm_commit.specs.Causes.{HasCause};
 ghost use Rattle.lsm_state.specs.Causes.{BlamesBeside, BlamesOrUnclean, BlamesOrUncleanFlush, BlamesOrUncleanBehind};
 ghost use Rattle.lsm_state.specs.Flushes.{spent};
 ghost use Rattle.lsm_logged.specs.Flushing.{FlushesLogged, FlushesBoth, BeginsLogged, WritesJobLogged, RegistersLogged};
-ghost use Rattle.lsm_tree.specs.Shared.{OnSomeStore, OnSomeLogged, TouchesTreeAlone};
+ghost use Rattle.lsm_tree.specs.Shared.{OnSomeStore, OnSomeLogged, TouchesTreeAlone, LeavesLog};
 
 use crate::handle::Handle;
 use crate::lock::act;
@@ -40,7 +40,7 @@ impl<S: Store> Handle<Logged<S>> {
 
     /// Installs the tables of a job, or finds it stale, and removes the records that it passed, as `Logged::register_tables`.
     pub fn register_tables(&self, rt: &impl Wait, job: WrittenFlush) -> Result<Registered, Error>
-        ensures registers { OnSomeLogged S (λ old new. RegistersLogged job result old new) }
+        ensures registers { OnSomeLogged S (λ old new. RegistersLogged job result old new × (S.tells → LeavesLog S.world old new)) }
         // The store is blamed only where a call of it failed.
         ensures causes { OnSomeStore S (λ old new. HasCause (BlamesOrUnclean result) (S.world old) (S.world new)) }
     {
@@ -61,7 +61,7 @@ impl<S: Store> Handle<Logged<S>> {
         rt: &impl Wait,
         watermark: SeqNo,
     ) -> Result<Option<(u64, Registered)>, Error>
-        ensures flushes { OnSomeLogged S (λ old new. FlushesLogged watermark result old new) }
+        ensures flushes { OnSomeLogged S (λ old new. FlushesLogged watermark result old new × (S.tells → LeavesLog S.world old new)) }
         // The store is blamed only where a call of it failed.
         ensures causes { OnSomeStore S (λ old new. HasCause (BlamesOrUncleanFlush result) (S.world old) (S.world new)) }
     {
@@ -75,7 +75,7 @@ impl<S: Store> Handle<Logged<S>> {
         rt: &impl Wait,
         watermark: SeqNo,
     ) -> Result<(Option<MemtableId>, Option<(u64, Registered)>), (Error, Option<MemtableId>)>
-        ensures flushes { OnSomeLogged S (λ old new. FlushesBoth watermark result old new) }
+        ensures flushes { OnSomeLogged S (λ old new. FlushesBoth watermark result old new × (S.tells → LeavesLog S.world old new)) }
         // The store is blamed only where a call of it failed.
         ensures causes { OnSomeStore S (λ old new. HasCause (BlamesOrUncleanBehind result) (S.world old) (S.world new)) }
     {

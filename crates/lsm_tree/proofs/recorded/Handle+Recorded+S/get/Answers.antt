@@ -1,5 +1,5 @@
 -- The tree before and after the call is the one that the lock guards.
-use Rattle.lsm_tree.proofs.Closing.{if_both, if_more}
+use Rattle.lsm_tree.proofs.Closing.{if_three, if_more}
 use Rattle.lsm_tree.proofs.RecordedReads.{shared_read, get_agrees}
 use Rattle.lsm_tree.proofs.recorded.Handle+Recorded+S.get.Goals as goal
 
@@ -9,7 +9,6 @@ returns-clause-refused g c = shared_read c.deref_mut-tree.result.now c.args.snap
 pub returns-clause-gives : goal.returns-clause-gives
 returns-clause-gives g c =
     let tells = c.get-told.ensures in
-    let agrees = if_more c.get-told.result _ _ (λ v replay. get_agrees _ v _ replay) tells.replay in
-    if_both c.get-told.result _ _ _
-    (λ told both noted. (c.deref_mut-tree.result.now, c.get-told.new.self, record { gives = both.0; agrees = both.1; noted = noted; tree = tells.tree; opened = tells.opened }, c.facts.ensures, c.facts-2.ensures))
-    (if_both c.get-told.result _ _ _ (λ told gives agrees. (gives, agrees)) tells.core agrees) tells.noted
+    if_three c.get-told.result _ _ _ _
+    (λ told gives agrees noted. (c.deref_mut-tree.result.now, c.get-told.new.self, record { gives = gives; agrees = agrees; noted = noted; tree = tells.tree; opened = tells.opened }, c.facts.ensures, c.facts-2.ensures))
+    tells.core (if_more c.get-told.result _ _ (λ v replay. get_agrees _ v _ replay) tells.replay) tells.noted

@@ -1,5 +1,5 @@
 -- The tree before and after the call is the one that the lock guards.
-use Rattle.lsm_tree.proofs.Closing.{if_both}
+use Rattle.lsm_tree.proofs.Closing.{if_three}
 use Rattle.lsm_tree.proofs.RecordedReads.{shared_read}
 use Rattle.lsm_tree.proofs.recorded.Handle+Recorded+S.prefix.Goals as goal
 
@@ -9,6 +9,6 @@ returns-clause-refused g c = shared_read c.deref_mut-tree.result.now c.args.snap
 pub returns-clause-gives : goal.returns-clause-gives
 returns-clause-gives g c =
     let tells = c.prefix-told.ensures in
-    if_both c.prefix-told.result _ _ _
-    (λ told both noted. (c.deref_mut-tree.result.now, c.prefix-told.new.self, record { gives = both.0; agrees = both.1; noted = noted; tree = tells.tree; opened = tells.opened }, c.facts.ensures, c.facts-2.ensures))
-    (if_both c.prefix-told.result _ _ _ (λ told gives agrees. (gives, agrees)) tells.core tells.replay) tells.noted
+    if_three c.prefix-told.result _ _ _ _
+    (λ told gives agrees noted. (c.deref_mut-tree.result.now, c.prefix-told.new.self, record { gives = gives; agrees = agrees; noted = noted; tree = tells.tree; opened = tells.opened }, c.facts.ensures, c.facts-2.ensures))
+    tells.core tells.replay tells.noted
