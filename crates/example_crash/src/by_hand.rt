@@ -15,12 +15,13 @@ use lsm_tree::laws::{crashes_settle, images_stand_once};
 use lsm_tree::{CompactionStrategy, Error, MemStore, Pick, SeqNo, Step};
 use std::alloc::Global;
 
-/// As `crash_between`, where each step is taken by a run of its own, and the counter of each life starts at a number of the caller's choice,
-/// or above what is found, if that is higher.
+/// As `crash_between`, where each step is taken by a run of its own, and the counter of each life starts at a number of the
+/// caller's choice, or above what is found, if that is higher.
 ///
-/// So a write may have a number of its own below the counter. Of the first life is asked that its numbers rise, and that a key that it
-/// removes weakly was set once at most (`KeepsOrder`); of the second one that its counter starts above all numbers of the first, that its
-/// own numbers rise over them, and that it removes nothing weakly (`KeepsOrderAbove`). Reads have any snapshots, also below what was opened.
+/// So a write may have a number of its own below the counter. Of the first life is asked that its numbers rise, and that a
+/// key that it removes weakly was set once at most (`KeepsOrder`); of the second one that its counter starts above all
+/// numbers of the first, that its own numbers rise over them, and that it removes nothing weakly (`KeepsOrderAbove`). Reads
+/// have any snapshots, also below what was opened.
 pub fn crash_by_hand(
     alloc: Global,
     store: MemStore,

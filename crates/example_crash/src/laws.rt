@@ -16,9 +16,10 @@ use lsm_runs::TreeFiles;
 use lsm_tree::laws::reads_are_sound;
 use lsm_tree::{CompactionStrategy, MemStore, Reply};
 
-/// A tree is opened, and takes steps one by one, each by a `run` of its own, so that its caller acts between any two: all of them are a
-/// life as one run of them would be. What a crash leaves at any moment, in a step or between two, is a beginning of the steps so far,
-/// which holds all that the answered ones covered; and each read answers what the replay of the steps before it does.
+/// A tree is opened, and takes steps one by one, each by a `run` of its own, so that its caller acts between any two: all
+/// of them are a life as one run of them would be. What a crash leaves at any moment, in a step or between two, is a
+/// beginning of the steps so far, which holds all that the answered ones covered; and each read answers what the replay of
+/// the steps before it does.
 pub fn single_steps_join(store: &MemStore, strategies: &[Box<dyn CompactionStrategy>])
     ensures begins { SoFarBegins world_of (strategies_of (λ b. may_choose b) (λ b. may_refuse b) strategies.now) }
     ensures grows { SoFarGrows world_of (strategies_of (λ b. may_choose b) (λ b. may_refuse b) strategies.now) }
@@ -31,8 +32,8 @@ pub fn single_steps_join(store: &MemStore, strategies: &[Box<dyn CompactionStrat
     order_without_reads();
 }
 
-/// Which stores may be opened, and what they stand for: a new one for nothing; and where a life kept the order, what it left, be it by a crash
-/// or because its process ended, for a beginning of its calls.
+/// Which stores may be opened, and what they stand for: a new one for nothing; and where a life kept the order, what it
+/// left, be it by a crash or because its process ended, for a beginning of its calls.
 pub fn lives_follow(store: &MemStore)
     ensures new { (new : Memory) → Begins (λ _. None) (world_of new) → MayBeOpened new empty }
     ensures ended { (m : Map) (was : Memory) (from : ℕ) (steps : List Step) (told : List Told) (is : Memory) → (h : HasLived m was from steps told is) → KeepsOrder h.opened h.counter steps → ComesAfter m steps told is }

@@ -37,9 +37,9 @@ fn life(alloc: Global, store: MemStore, steps: &[Step]) -> Result<(MemStore, Tak
 /// Takes steps on a new tree, crashes its store so that of these names this is left, opens a tree on that, and takes steps on it.
 /// None where that can't be left. Faults may be planned in the store.
 ///
-/// Of usual steps nothing else is asked (`IsUsual`): each read answers what the replay of the calls before it does; and the second life
-/// starts from a beginning of the first one's calls, which holds each flush that was installed and each clear that was answered. It is refused
-/// only for want of memory, or where a call of the store failed.
+/// Of usual steps nothing else is asked (`IsUsual`): each read answers what the replay of the calls before it does; and the
+/// second life starts from a beginning of the first one's calls, which holds each flush that was installed and each clear
+/// that was answered. It is refused only for want of memory, or where a call of the store failed.
 pub fn crash_between(
     alloc: Global,
     store: MemStore,

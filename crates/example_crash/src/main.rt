@@ -1,6 +1,7 @@
 //! Lives of a tree, one after the other: calls, a crash or the end of the process, and calls on what it left.
 //!
-//! The contracts in `lives`, `single` and `by_hand` are derived from those of public calls: they say what a user wants to know of a crash.
+//! The contracts in `lives`, `single` and `by_hand` are derived from those of public calls: they say what a user wants to
+//! know of a crash.
 #![tactic(auto)]
 
 mod by_hand;

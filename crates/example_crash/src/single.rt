@@ -71,8 +71,9 @@ fn take_it(
     }
 }
 
-/// Takes a step by a run of its own, whatever it is. What its caller has taken of the tree so far is a life, and with this step it is one
-/// (`HasTaken`): so he looks at each reply before he takes the next. Where there is no memory for the outcome, the step isn't taken.
+/// Takes a step by a run of its own, whatever it is. What its caller has taken of the tree so far is a life, and with this
+/// step it is one (`HasTaken`): so he looks at each reply before he takes the next. Where there is no memory for the
+/// outcome, the step isn't taken.
 pub fn take_one(
     alloc: Global,
     tree: &mut TreeState<MemStore>,
@@ -134,8 +135,8 @@ pub fn take_each(
     }
 }
 
-/// Opens the tree of a store, takes steps on it one by one, and gives the store back: it lived as `live` would have made it, with one run of
-/// them all (`HasLived`).
+/// Opens the tree of a store, takes steps on it one by one, and gives the store back: it lived as `live` would have made
+/// it, with one run of them all (`HasLived`).
 pub fn live_singly(
     alloc: Global,
     store: MemStore,

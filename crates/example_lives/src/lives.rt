@@ -60,13 +60,13 @@ fn live_and_crash(
     }
 }
 
-/// Lives a logged tree again and again, from a new store on: each life opens what the crash behind the one before left, takes its steps,
-/// and ends by a crash. It answers how each one went, or None where a crash can't leave what is picked. Faults may be planned in the
-/// store.
+/// Lives a logged tree again and again, from a new store on: each life opens what the crash behind the one before left,
+/// takes its steps, and ends by a crash. It answers how each one went, or None where a crash can't leave what is picked.
+/// Faults may be planned in the store.
 ///
-/// Of usual steps nothing else is asked, but that no batch removes a key weakly: each life begins with a beginning of the calls of the last
-/// one before it that was opened, between batches, which holds all that was acknowledged; and each read answers what the replay of its life's
-/// calls does over that.
+/// Of usual steps nothing else is asked, but that no batch removes a key weakly: each life begins with a beginning of the
+/// calls of the last one before it that was opened, between batches, which holds all that was acknowledged; and each read
+/// answers what the replay of its life's calls does over that.
 pub fn live_again(
     alloc: Global,
     store: MemStore,

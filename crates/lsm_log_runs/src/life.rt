@@ -63,9 +63,10 @@ pub fn new_logs_open<S: Store>(store: &S)
     tables_alone_stand();
 }
 
-/// A crash or a kill in the opening of a logged tree ends a life that is only this opening; so does an opening that gives back its store.
-/// The next store may be opened, and of the calls before all is kept that was: whatever stood for a beginning of them between batches
-/// that holds what was acknowledged still does. `Logged::open` says so much of each moment of it, by `leaves`, whatever it answers.
+/// A crash or a kill in the opening of a logged tree ends a life that is only this opening; so does an opening that gives
+/// back its store. The next store may be opened, and of the calls before all is kept that was: whatever stood for a
+/// beginning of them between batches that holds what was acknowledged still does. `Logged::open` says so much of each
+/// moment of it, by `leaves`, whatever it answers.
 ///
 /// # Examples
 ///
@@ -95,10 +96,11 @@ pub fn standing_logs_are_taken<S: Store>(store: &S)
     opening_finds(store);
 }
 
-/// Over any number of lives of usual steps (no batch removes a key weakly), each ended by a crash in its last step or behind it, or
-/// as its process is killed there or ends: the next store may be opened, and is kept of the life: it stands for a beginning of its calls
-/// between batches, which holds all that was acknowledged, flushed or cleared before the last step, and where the end came behind
-/// that one, what it acknowledged too. A life may also end in its opening: then all is kept that was.
+/// Over any number of lives of usual steps (no batch removes a key weakly), each ended by a crash in its last step or
+/// behind it, or as its process is killed there or ends: the next store may be opened, and is kept of the life: it stands
+/// for a beginning of its calls between batches, which holds all that was acknowledged, flushed or cleared before the last
+/// step, and where the end came behind that one, what it acknowledged too. A life may also end in its opening: then all is
+/// kept that was.
 ///
 /// # Examples
 ///

@@ -141,19 +141,21 @@ fn take_steps<S: Store>(
     }
 }
 
-/// Takes the steps in turn on a logged tree, and returns each one's reply. A step names a strategy by its index; where there is none
-/// it changes nothing. A job waits in its slot from one step to the next, and one that waits when the run ends is given up.
+/// Takes the steps in turn on a logged tree, and returns each one's reply. A step names a strategy by its index; where
+/// there is none it changes nothing. A job waits in its slot from one step to the next, and one that waits when the run
+/// ends is given up.
 ///
 /// A step that is refused has that as its reply, and the run goes on with the next one. The run ends early only before a step
 /// for whose reply, or for whose batch, no memory is left, and says so (`whole`): the tree is as it was before that step, and
 /// the replies are those of the steps that were taken.
 ///
-/// After whatever was called before (`StandsLogged`, as `Logged::open` leaves it), and as long as no batch removes a key weakly that
-/// was set more than once, reads equal the replay of the calls before them, and no step changes what a snapshot sees but a write, a clear
-/// or a drop numbered below it; at each moment a crash leaves an image that `Logged::open` takes, and that stands for a beginning of the calls between batches, which holds all that was acknowledged, flushed or cleared before
-/// the step of that moment: each batch is in it whole, or not at all. While every outcome is known, an image stands for all that
-/// was called. A process that is killed in a step leaves what `Logged::open` takes, too. Behind each step the same holds again, so that
-/// calls may go on.
+/// After whatever was called before (`StandsLogged`, as `Logged::open` leaves it), and as long as no batch removes a key
+/// weakly that was set more than once, reads equal the replay of the calls before them, and no step changes what a snapshot
+/// sees but a write, a clear or a drop numbered below it; at each moment a crash leaves an image that `Logged::open` takes,
+/// and that stands for a beginning of the calls between batches, which holds all that was acknowledged, flushed or cleared
+/// before the step of that moment: each batch is in it whole, or not at all. While every outcome is known, an image stands
+/// for all that was called. A process that is killed in a step leaves what `Logged::open` takes, too. Behind each step the
+/// same holds again, so that calls may go on.
 ///
 /// # Examples
 ///

@@ -7,6 +7,7 @@ use Rattle.lsm_state.specs.declared.compaction.Begun.{Begun}
 use Rattle.lsm_state.specs.declared.compaction.Begun.TheVariants.{Installed}
 use Rattle.lsm_state.specs.Core.{Core, Seen}
 use Rattle.lsm_state.specs.Compactions.{Relation, LeavesNoneChosen}
+use Rattle.lsm_state.specs.Cleaning.{RemovesRefused}
 use Rattle.lsm_logged.specs.Keeping.{SeenLogged}
 
 -- the logged tree in which a tree stands, with these numbers
@@ -17,3 +18,7 @@ logged_with tree numbers doubted = record { store = tree.store; core = tree.core
 pub leaves_seen : {S : Type 0} (may_choose : Relation Choice) (r : Result Begun Error) (w : World) (t u : SeenLogged S) (new : Core) → t ≡ u
     → (r ≡ Ok Installed → LeavesNoneChosen w may_choose t.core new) → r ≡ Ok Installed → LeavesNoneChosen w may_choose u.core new
 leaves_seen {S} may_choose r w t u new is left = subst (λ (x : SeenLogged S). r ≡ Ok Installed → LeavesNoneChosen w may_choose x.core new) is left
+
+-- behind a refused compaction none is left of those that it wrote
+pub refused_seen : {S A : Type 0} (world : S → World) (r : Result A Error) (t u new : SeenLogged S) → t ≡ u → RemovesRefused r t.core new.core (world t.store) (world new.store) → RemovesRefused r u.core new.core (world u.store) (world new.store)
+refused_seen {S} world r t u new is = subst (λ (x : SeenLogged S). RemovesRefused r x.core new.core (world x.store) (world new.store)) is

@@ -2,7 +2,7 @@
 ghost use Rattle.std.specs.Prelude.{◌≡◌, ◌<◌, ◌^◌, true, Ok};
 ghost use Rattle.lsm_below.specs.Numbers.{PlainNumbersAreRead};
 ghost use Rattle.lsm_commit.specs.Causes.{HasCause, Blames};
-ghost use Rattle.lsm_state.specs.Cleaning.{LeavesNoFiles};
+ghost use Rattle.lsm_state.specs.Cleaning.{LeavesNoFiles, RemovesRefused};
 ghost use Rattle.lsm_state.specs.Commits.{Upholds};
 ghost use Rattle.lsm_state.specs.CompactionDeeds.{CompactionsAreDeeds};
 ghost use Rattle.lsm_state.specs.Compactions.{given_up, LeavesNoneChosen, BeginsChoice, BeginsCompaction, Finishes, Spends};
@@ -138,6 +138,8 @@ impl<S: Store> Logged<S> {
         ensures causes { HasCause (Blames result) (S.world self.old.store) (S.world self.new.store) }
         // Behind a whole clean-up no file is left of what went.
         ensures gone { S.tells → result ≡ Ok Finished.Installed → LeavesNoFiles (S.world self.new.store) merged.job.ids self.old.core.history self.new.core.history }
+        // Refused, no file is left of what it wrote, unless a call of the store failed, or a version may name it.
+        ensures refused { S.tells → RemovesRefused result self.old.core self.new.core (S.world self.old.store) (S.world self.new.store) }
         // After an unknown outcome no call of the store is made.
         ensures no_call { is_unsure self.old ≡ true → self.new.store ≡ self.old.store }
     {
@@ -176,6 +178,8 @@ impl<S: Store> Logged<S> {
         ensures causes { HasCause (Blames result) (S.world self.old.store) (S.world self.new.store) }
         // Behind a whole clean-up no file is left of what went.
         ensures gone { S.tells → result ≡ Ok Begun.Installed → LeavesNoFiles (S.world self.new.store) (given_up choice) self.old.core.history self.new.core.history }
+        // Refused, no file is left of what it wrote, unless a call of the store failed, or a version may name it.
+        ensures refused { S.tells → RemovesRefused result self.old.core self.new.core (S.world self.old.store) (S.world self.new.store) }
         // After an unknown outcome no call of the store is made.
         ensures no_call { is_unsure self.old ≡ true → self.new.store ≡ self.old.store }
     {
@@ -206,6 +210,8 @@ impl<S: Store> Logged<S> {
         ensures causes { HasCause (Blames result) (S.world self.old.store) (S.world self.new.store) }
         // Behind a whole clean-up no file is left of what went.
         ensures gone { S.tells → result ≡ Ok Begun.Installed → LeavesNoneChosen (S.world self.new.store) (may_choose strategy.now) self.old.core self.new.core }
+        // Refused, no file is left of what it wrote, unless a call of the store failed, or a version may name it.
+        ensures refused { S.tells → RemovesRefused result self.old.core self.new.core (S.world self.old.store) (S.world self.new.store) }
         // After an unknown outcome no call of the store is made.
         ensures no_call { is_unsure self.old ≡ true → self.new.store ≡ self.old.store }
     {
@@ -236,6 +242,8 @@ impl<S: Store> Logged<S> {
         ensures causes { HasCause (Blames result) (S.world self.old.store) (S.world self.new.store) }
         // Behind a whole clean-up no file is left of what went.
         ensures gone { S.tells → result ≡ Ok Begun.Installed → LeavesNoneChosen (S.world self.new.store) (C.may_choose strategy.now) self.old.core self.new.core }
+        // Refused, no file is left of what it wrote, unless a call of the store failed, or a version may name it.
+        ensures refused { S.tells → RemovesRefused result self.old.core self.new.core (S.world self.old.store) (S.world self.new.store) }
         // After an unknown outcome no call of the store is made.
         ensures no_call { is_unsure self.old ≡ true → self.new.store ≡ self.old.store }
     {
@@ -262,6 +270,8 @@ impl<S: Store> Logged<S> {
         ensures causes { HasCause (Blames result) (S.world self.old.store) (S.world self.new.store) }
         // Behind a whole clean-up no file is left of what went.
         ensures gone { S.tells → result ≡ Ok Begun.Installed → LeavesNoneChosen (S.world self.new.store) (major_choice target) self.old.core self.new.core }
+        // Refused, no file is left of what it wrote, unless a call of the store failed, or a version may name it.
+        ensures refused { S.tells → RemovesRefused result self.old.core self.new.core (S.world self.old.store) (S.world self.new.store) }
         // After an unknown outcome no call of the store is made.
         ensures no_call { is_unsure self.old ≡ true → self.new.store ≡ self.old.store }
     {
@@ -288,6 +298,8 @@ impl<S: Store> Logged<S> {
         ensures causes { HasCause (Blames result) (S.world self.old.store) (S.world self.new.store) }
         // Behind a whole clean-up no file is left of what went.
         ensures gone { S.tells → result ≡ Ok Begun.Installed → LeavesNoneChosen (S.world self.new.store) (drop_choice bounds) self.old.core self.new.core }
+        // Refused, no file is left of what it wrote, unless a call of the store failed, or a version may name it.
+        ensures refused { S.tells → RemovesRefused result self.old.core self.new.core (S.world self.old.store) (S.world self.new.store) }
         // After an unknown outcome no call of the store is made.
         ensures no_call { is_unsure self.old ≡ true → self.new.store ≡ self.old.store }
     {

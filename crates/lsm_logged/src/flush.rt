@@ -1,9 +1,10 @@
 // Flushes of a logged tree, and a clear.
-ghost use Rattle.std.specs.Prelude.{◌≡◌, ◌⊎◌, ◌<◌, ◌^◌, [], true, false, IfOk, OnOk, IfSome};
+ghost use Rattle.std.specs.Prelude.{◌≡◌, ◌⊎◌, ◌<◌, ◌^◌, [], true, false, map, IfOk, IfErr, OnOk, IfSome, IsErrOf};
 ghost use Rattle.lsm_commit.specs.Causes.{HasCause, Blames};
 ghost use Rattle.lsm_state.specs.Causes.{BlamesOrUncleanFlush, BlamesOrUncleanBehind, BlamesOrUnclean, BlamesBeside};
+ghost use Rattle.lsm_state.specs.Cleaning.{RemovesDrawn, RemovesTables};
 ghost use Rattle.lsm_state.specs.Commits.{UpholdsFiles, Upholds};
-ghost use Rattle.lsm_state.specs.Flushes.{sealed_ids, spent};
+ghost use Rattle.lsm_state.specs.Flushes.{sealed_ids, spent, IsCurrent};
 ghost use Rattle.lsm_logged.specs.Keeping.{is_unsure};
 ghost use Rattle.lsm_logged.specs.Removing.{log_from_of, AreGone, KeepsKnown, Passed};
 ghost use Rattle.lsm_logged.specs.Acting.{ActsNot, FlushesAct, FlushesBothAct, RegistersAct, ClearsAct};
@@ -13,6 +14,7 @@ use crate::Logged;
 use lsm_below::{Error, MemtableId, SeqNo, plain_numbers_are_read};
 use lsm_commit::crashes_leave_versions;
 use lsm_flush::{FlushJob, MergedFlush, Registered, WrittenFlush};
+use lsm_parts::LIMIT;
 use lsm_state::flushes_are_deeds;
 use lsm_store::Store;
 
@@ -74,6 +76,8 @@ impl<S: Store> Logged<S> {
         ensures upholds { S.tells → UpholdsFiles (S.world self.old.store) (S.world self.new.store) self.old.core self.new.core }
         // The store is blamed only where a call of it failed.
         ensures causes { HasCause (BlamesOrUncleanFlush result) (S.world self.old.store) (S.world self.new.store) }
+        // Refused, no file is left of what it wrote, unless a call of the store failed, or the outcome of a commit is unknown.
+        ensures refused { S.tells → self.old.core.next_table < LIMIT → IfErr result (λ e. (e ≡ Error.CommitUnknown → ⊥) → RemovesDrawn self.old.core.next_table self.new.core.next_table (S.world self.old.store) (S.world self.new.store)) }
         // After an unknown outcome no call of the store is made.
         ensures no_call { is_unsure self.old ≡ true → self.new.store ≡ self.old.store }
     {
@@ -111,6 +115,8 @@ impl<S: Store> Logged<S> {
         ensures acts { S.tells → FlushesBothAct watermark result (S.world self.old.store) (S.world self.new.store) self.old self.new }
         ensures upholds { S.tells → UpholdsFiles (S.world self.old.store) (S.world self.new.store) self.old.core self.new.core }
         ensures causes { HasCause (BlamesOrUncleanBehind result) (S.world self.old.store) (S.world self.new.store) }
+        // Refused, no file is left of what it wrote, unless a call of the store failed, or the outcome of a commit is unknown.
+        ensures refused { S.tells → self.old.core.next_table < LIMIT → IfErr result (λ e. (e.0 ≡ Error.CommitUnknown → ⊥) → RemovesDrawn self.old.core.next_table self.new.core.next_table (S.world self.old.store) (S.world self.new.store)) }
         // After an unknown outcome no call of the store is made.
         ensures no_call { is_unsure self.old ≡ true → self.new.store ≡ self.old.store }
     {
@@ -159,6 +165,8 @@ impl<S: Store> Logged<S> {
         ensures acts { S.tells → ActsNot (S.world self.old.store) (S.world self.new.store) self.old self.new }
         ensures upholds { S.tells → Upholds (S.world self.old.store) (S.world self.new.store) self.old.core self.new.core }
         ensures causes { HasCause (BlamesBeside result) (S.world self.old.store) (S.world self.new.store) }
+        // Refused, no file is left, unless a call of the store failed.
+        ensures refused { S.tells → self.old.core.next_table < LIMIT → IfErr result (λ _. RemovesDrawn self.old.core.next_table self.new.core.next_table (S.world self.old.store) (S.world self.new.store)) }
         // After an unknown outcome no call of the store is made.
         ensures no_call { is_unsure self.old ≡ true → self.new.store ≡ self.old.store }
     {
@@ -198,6 +206,8 @@ impl<S: Store> Logged<S> {
         ensures acts { S.tells → RegistersAct job result (S.world self.old.store) (S.world self.new.store) self.old self.new }
         ensures upholds { S.tells → UpholdsFiles (S.world self.old.store) (S.world self.new.store) self.old.core self.new.core }
         ensures causes { HasCause (BlamesOrUnclean result) (S.world self.old.store) (S.world self.new.store) }
+        // Refused so while it is current, no file is left of its tables, unless a call of the store failed.
+        ensures refused { S.tells → IsCurrent job self.old.core → IsErrOf result Error.OutOfNumbers ⊎ IsErrOf result Error.TooManyRuns → RemovesTables (map (λ t. t.id) job.tables) (S.world self.old.store) (S.world self.new.store) }
         // After an unknown outcome no call of the store is made.
         ensures no_call { is_unsure self.old ≡ true → self.new.store ≡ self.old.store }
     {

@@ -134,11 +134,11 @@ fn take_log<S: Store>(tree: &mut TreeState<S>, from: SeqNo, log: &LogNumbers) ->
 }
 
 impl<S: Store> Logged<S> {
-    /// The logged tree that a store holds, or a new one where there is no `current`. All of the log is read and checked before
-    /// anything is changed. Then the records from the version's `log_from` on are read again and written to the active memtable,
-    /// by rising number, each batch under its own number; those below are removed unread. Both counters start just above all numbers
-    /// that were met, and at `log_from` at least, or where the configuration says, if that is higher. The memtable must fit in
-    /// memory, beside one record at a time.
+    /// The logged tree that a store holds, or a new one where there is no `current`. All of the log is read and checked
+    /// before anything is changed. Then the records from the version's `log_from` on are read again and written to the
+    /// active memtable, by rising number, each batch under its own number; those below are removed unread. Both counters
+    /// start just above all numbers that were met, and at `log_from` at least, or where the configuration says, if that is
+    /// higher. The memtable must fit in memory, beside one record at a time.
     ///
     /// A store that was written through `Logged` is opened through nothing else: a flush of another tree over it would pass
     /// records that it never read. Refused, it gives the store back beside the error.

@@ -101,8 +101,8 @@ fn house(content: &mut Content, alloc: Global, entry: InternalValue) -> Internal
     housed(&mut content.arena, alloc, entry, content.size)
 }
 
-/// Puts an entry in its place, with the bytes that it has, and returns the one that it replaces. Refused only for want of memory, also where
-/// there are 2^64 - 1 entries, and then nothing changes.
+/// Puts an entry in its place, with the bytes that it has, and returns the one that it replaces. Refused only for want of
+/// memory, also where there are 2^64 - 1 entries, and then nothing changes.
 fn add_entry(
     content: &mut Content,
     alloc: Global,
@@ -398,7 +398,9 @@ impl Memtable {
         ensures unmoved { OnErr result (steps.new.moved ≡ steps.old.moved) }
     {
         let item = self.house(item);
-        self.put_counted(item, steps)
+        let added = size_of_entry(&item);
+        add_entry(&mut self.content, self.alloc, item, steps)?;
+        Ok((added, self.content.size))
     }
 
     /// The entry with its bytes where `insert` puts them: a key and value of up to 1,024 bytes together are copied into a
@@ -419,22 +421,8 @@ impl Memtable {
         ensures err { OnErr result (self.new ≡ self.old) }
         ensures memory { IfErr result (λ e. e ≡ Error.OutOfMemory) }
     {
-        self.put_counted(item, &mut Steps::new())
-    }
-
-    /// Puts an entry in its place, with the bytes that it has, as `insert_counted`.
-    fn put_counted(&mut self, item: InternalValue, steps: &mut Steps) -> Result<(u64, u64), Error>
-        ensures sizes { IfOk result (λ r. (r.0 ≡ entry_size item) × (r.1 ≡ self.new.size)) }
-        ensures ok { OnOk result (self.new ≡ with_entry item self.old) }
-        ensures id { self.new.id ≡ self.old.id }
-        ensures err { OnErr result (self.new ≡ self.old) }
-        ensures memory { IfErr result (λ e. e ≡ Error.OutOfMemory) }
-        ensures compared { (blocks : List (List Entry)) × AreBlocksOf self.old.entries blocks × CountsDigits (length blocks) 8 steps.old.compared steps.new.compared }
-        ensures moved { steps.new.moved ≤ steps.old.moved + 64 }
-        ensures unmoved { OnErr result (steps.new.moved ≡ steps.old.moved) }
-    {
         let added = size_of_entry(&item);
-        add_entry(&mut self.content, self.alloc, item, steps)?;
+        add_entry(&mut self.content, self.alloc, item, &mut Steps::new())?;
         Ok((added, self.content.size))
     }
 

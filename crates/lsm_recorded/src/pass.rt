@@ -9,9 +9,9 @@ use std::marker::Model;
 
 /// The entries that one caller's calls added to a journal, each with its place there, counted from 0.
 ///
-/// A written entry, an answered read, and each mark, clear and install of a flush or a compaction add 16 bytes, and an entry that it
-/// shares with the journal. A refused write or read adds none, nor does a rotation or a part of a flush before its end. A caller who
-/// will never ask for the journal may use a new pass for each call.
+/// A written entry, an answered read, and each mark, clear and install of a flush or a compaction add 16 bytes, and an
+/// entry that it shares with the journal. A refused write or read adds none, nor does a rotation or a part of a flush
+/// before its end. A caller who will never ask for the journal may use a new pass for each call.
 ///
 /// # Examples
 ///

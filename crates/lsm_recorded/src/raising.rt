@@ -104,8 +104,9 @@ pub(crate) fn take_back(marks: &mut BTreeMap<MarkedKey, Mark>, raised: &mut Vec<
     }
 }
 
-/// Raises the marks of the keys of a batch, for which there is room, or none. `OutOfOrder`, before all else, exactly where one of its
-/// writes breaks the order. False where the number is too great, or where a key comes twice: then the tree refuses the batch.
+/// Raises the marks of the keys of a batch, for which there is room, or none. `OutOfOrder`, before all else, exactly where
+/// one of its writes breaks the order. False where the number is too great, or where a key comes twice: then the tree
+/// refuses the batch.
 pub(crate) fn raise_batch(
     marks: &mut BTreeMap<MarkedKey, Mark>,
     floor: SeqNo,

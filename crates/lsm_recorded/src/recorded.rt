@@ -40,10 +40,11 @@ use std::marker::Model;
 /// A tree with the journal of its calls, a history in memory that its answers are proved against. It is no
 /// write-ahead log: nothing of it is stored.
 ///
-/// The journal grows with every write and every answered read and is never cut: by an entry of some 150 bytes, which it shares
-/// with the pass, and for a range by a list of its pairs. Keys and values share their bytes with the tree, also the key of a `get`,
-/// if it was ever written; those of a batch of several are its caller's. A write costs what the tree's own costs and a look-up in the marks of all keys written so far, which is
-/// logarithmic in their number; a batch takes one for each of its writes, a `get` one where it finds no value, a range none.
+/// The journal grows with every write and every answered read and is never cut: by an entry of some 150 bytes, which it
+/// shares with the pass, and for a range by a list of its pairs. Keys and values share their bytes with the tree, also the
+/// key of a `get`, if it was ever written; those of a batch of several are its caller's. A write costs what the tree's own
+/// costs and a look-up in the marks of all keys written so far, which is logarithmic in their number; a batch takes one for
+/// each of its writes, a `get` one where it finds no value, a range none.
 ///
 /// # Examples
 ///
@@ -228,8 +229,8 @@ impl<S: Store> Recorded<S> {
         )
     }
 
-    /// Sets a key under a sequence number, as `append_entry`. No call draws numbers for it: they are those below the counter that the
-    /// tree was opened with (`Config::seqno`). `write` draws its own.
+    /// Sets a key under a sequence number, as `append_entry`. No call draws numbers for it: they are those below the
+    /// counter that the tree was opened with (`Config::seqno`). `write` draws its own.
     pub fn insert(
         &mut self,
         pass: &mut Pass,

@@ -86,8 +86,8 @@ pub(crate) fn append_marked<S: Store>(
     Ok(sizes)
 }
 
-/// Writes a batch of one, whose entry under the next sequence number `TreeState::house` gave, as `TreeState::write`. The cost and the errors
-/// are those of the tree's call.
+/// Writes a batch of one, whose entry under the next sequence number `TreeState::house` gave, as `TreeState::write`. The
+/// cost and the errors are those of the tree's call.
 fn write_made<S: Store>(core: &mut TreeState<S>, entry: InternalValue) -> Result<SeqNo, Error>
     ensures in_order { IsErrOf result Error.OutOfOrder → ⊥ }
     ensures writes { (k : Bytes) (op : OpOf) → entry ≡ op_entry k core.old.core.seqno op → WritesBatch ((k, op) ∷ []) result core.old.core core.new.core }

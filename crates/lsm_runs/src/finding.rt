@@ -32,10 +32,10 @@ impl Telling for Reply {
     ghost known = { AreSteps };
 }
 
-/// Over any number of lives, each ended by a crash or because its process is killed or ends, also in an opening: what is left shows a
-/// beginning of the calls of its life, which holds all that was covered by the calls that had been answered, and the next life
-/// starts from what is left. The calls of a life are steps in plain use, whose outcomes tell by their kinds and replies what is
-/// written and what is covered (`AreSteps`).
+/// Over any number of lives, each ended by a crash or because its process is killed or ends, also in an opening: what is
+/// left shows a beginning of the calls of its life, which holds all that was covered by the calls that had been answered,
+/// and the next life starts from what is left. The calls of a life are steps in plain use, whose outcomes tell by their
+/// kinds and replies what is written and what is covered (`AreSteps`).
 ///
 /// # Examples
 ///
@@ -63,8 +63,8 @@ pub fn runs_are_lives<S: Store>(_: &S, strategies: &[Box<dyn CompactionStrategy>
     ensures { RunsAreLives S.world (strategies_of (λ b. may_choose b) (λ b. may_refuse b) strategies.now) }
 {}
 
-/// A crash in the opening of a tree, or a kill in it, is the end of a life, as `any_number_of_lives` takes it: what it leaves is ready to be
-/// opened again, and shows a map that a crash might have left before.
+/// A crash in the opening of a tree, or a kill in it, is the end of a life, as `any_number_of_lives` takes it: what it
+/// leaves is ready to be opened again, and shows a map that a crash might have left before.
 ///
 /// # Examples
 ///

@@ -27,15 +27,16 @@ use std::alloc::Global;
 /// was found, or where the configuration says, if that is higher. It answers the tree and the steps that were taken, or the refusal
 /// of the opening beside the store.
 ///
-/// Where the store is ready to be opened (`IsReady`) and stands for a map, this is a life (`lives`): the first so many steps, in plain
-/// use and in order, as it is where their numbers rise, read what the replay from that map reads, and at each moment a crash, or the end of the
-/// process, leaves a beginning of the calls so far, which holds all that was covered by those that were answered. What is left begins the
-/// next life, so this holds over any number of lives (`any_number_of_lives`).
+/// Where the store is ready to be opened (`IsReady`) and stands for a map, this is a life (`lives`): the first so many
+/// steps, in plain use and in order, as it is where their numbers rise, read what the replay from that map reads, and at
+/// each moment a crash, or the end of the process, leaves a beginning of the calls so far, which holds all that was covered
+/// by those that were answered. What is left begins the next life, so this holds over any number of lives
+/// (`any_number_of_lives`).
 ///
 /// # Errors
 ///
-/// Those of `TreeState::open_raised`. Where the store stands for a map, these are want of memory, a fault of the store, or a sequence
-/// number of 2^63 or more; a crash meanwhile leaves what stands for the map.
+/// Those of `TreeState::open_raised`. Where the store stands for a map, these are want of memory, a fault of the store, or
+/// a sequence number of 2^63 or more; a crash meanwhile leaves what stands for the map.
 ///
 /// # Examples
 ///

@@ -332,11 +332,11 @@ fn take_steps<S: Store>(
 /// Takes the steps in turn, and returns each one's outcome. A step names a strategy by its index; where there is none it
 /// changes nothing.
 ///
-/// A step that is refused has that as its reply, and the run goes on with the next one. The run ends early only
-/// before a step for whose outcome, journal entries included, no memory is left, and says so (`whole`): the tree is as it was
-/// before that step, and the outcomes are those of the steps that were taken. A job waits in its slot from one step to the next, and
-/// one that waits when the run ends is given up: each flush and each merge that a step begins ends within the run (`flush`,
-/// `merges`). A step costs what its call costs, and a list of pairs is kept once, for the reply and the journal.
+/// A step that is refused has that as its reply, and the run goes on with the next one. The run ends early only before a
+/// step for whose outcome, journal entries included, no memory is left, and says so (`whole`): the tree is as it was before
+/// that step, and the outcomes are those of the steps that were taken. A job waits in its slot from one step to the next,
+/// and one that waits when the run ends is given up: each flush and each merge that a step begins ends within the run
+/// (`flush`, `merges`). A step costs what its call costs, and a list of pairs is kept once, for the reply and the journal.
 ///
 /// Where no step forgets what isn't flushed (`ClearActiveMemtable`), the replay theorem holds
 /// (`replays`) and no step changes what it is not to change (`right`). That the journal is in order, the other premise of both,

@@ -84,8 +84,8 @@ pub enum JobStep {
     AbandonCompaction,
 }
 
-/// A call on a tree, as data: each is the method of `TreeState` that it is named after, `DoCompaction` the function, and `Next`, `Set` and
-/// `FetchMax` those of its counters. `AtSlot` is a part of a job that waits in a slot.
+/// A call on a tree, as data: each is the method of `TreeState` that it is named after, `DoCompaction` the function, and
+/// `Next`, `Set` and `FetchMax` those of its counters. `AtSlot` is a part of a job that waits in a slot.
 #[derive(Drop, Debug)]
 pub enum Step {
     /// Sets a key under a sequence number.

@@ -16,7 +16,7 @@ use Rattle.lsm_flush.specs.declared.jobs.Registered.{Registered}
 use Rattle.lsm_parts.specs.Held.{entries_of}
 use Rattle.lsm_state.specs.Calls.{Rotates}
 use Rattle.lsm_state.specs.Kept.{KeepsTables}
-use Rattle.lsm_state.specs.Cleaning.{AreDrawnBelow, RemovesDrawn}
+use Rattle.lsm_state.specs.Cleaning.{AreDrawnBelow}
 use Rattle.lsm_state.specs.Core.{Core, Seen, versions_left, written_by, written_of}
 use Rattle.lsm_commit.specs.Foreign.{AtRest, passes_then}
 use Rattle.lsm_state.specs.Commits.{UpholdsFiles, Upholds, counted}
@@ -65,10 +65,6 @@ rotated_lost old (Some id) mid rotates = ap (λ (c : Core). c.lost) rotates.2
 pub rotated_table : (old : Core) (id : Option ℕ) (mid : Core) → Rotates old id mid → mid.next_table ≡ old.next_table
 rotated_table old None mid rotates = ap (λ (c : Core). c.next_table) rotates.1
 rotated_table old (Some id) mid rotates = ap (λ (c : Core). c.next_table) rotates.2
-
--- where no id of a table was drawn, none is to be removed
-pub none_drawn : (n m : ℕ) (w v : World) → m ≡ n → RemovesDrawn n m w v
-none_drawn n m w v same = inl (λ i from below. absurd (omega (arith, same, from, below)))
 
 -- ---- a job that is begun
 

@@ -1,8 +1,9 @@
 -- What is cleaned up behind a commit: super versions that no kept snapshot reads, and memtables that none of the others names.
-use Rattle.std.specs.Prelude.{◌≡◌, ◌⊎◌, ◌≤◌, ◌<◌, ℕ, Bool, true, false, List, ◌++◌, None, drop, length, Result, Ok, Err}
+use Rattle.std.specs.Prelude.{◌≡◌, ◌⊎◌, ◌≤◌, ◌<◌, ◌^◌, ℕ, Bool, true, false, List, ◌++◌, None, drop, length, Result, Ok, Err, IfErr}
 use Rattle.std.specs.List.{AllByRecursion}
+use Rattle.std.proofs.Common.{arith, inl}
 use Rattle.lsm_below.specs.declared.error.Error.{Error}
-use Rattle.lsm_below.specs.declared.error.Error.TheVariants.{Store}
+use Rattle.lsm_below.specs.declared.error.Error.TheVariants.{Store, CommitUnknown, AfterCommit}
 use Rattle.lsm_store.specs.World.{World}
 use Rattle.lsm_model.specs.Steps.{among}
 use Rattle.lsm_versions.specs.Levels.{all_of}
@@ -51,3 +52,15 @@ RemovesTables ids old new = AreAbsent new ids ⊎ HasFailed old new
 -- no file is left of the tables with ids from the first on and below the next one, or a call of the store failed meanwhile
 abbrev pub RemovesDrawn : ℕ → ℕ → World → World → Type 0
 RemovesDrawn first next old new = ((i : ℕ) → first ≤ i → i < next → new.gives (table_name i) ≡ None) ⊎ HasFailed old new
+
+-- refused, a call leaves no file of a table under an id that it drew, unless a call of the store failed, or a version may name it
+abbrev pub RemovesRefused : {T : Type 0} → Result T Error → Core → Core → World → World → Type 0
+RemovesRefused r old new w v = old.next_table < 2 ^ 63 → IfErr r (λ e. (e ≡ CommitUnknown → ⊥) → (e ≡ AfterCommit → ⊥) → RemovesDrawn old.next_table new.next_table w v)
+
+-- where no id was drawn, none is to be removed
+pub none_drawn : (n m : ℕ) (w v : World) → m ≡ n → RemovesDrawn n m w v
+none_drawn n m w v same = inl (λ i from below. absurd (omega (arith, same, from, below)))
+
+pub none_refused : {T : Type 0} (r : Result T Error) (old new : Core) (w v : World) → new.next_table ≡ old.next_table → RemovesRefused r old new w v
+none_refused (Ok x) old new w v same small = tt
+none_refused (Err e) old new w v same small known before = none_drawn old.next_table new.next_table w v same

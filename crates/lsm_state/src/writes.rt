@@ -118,8 +118,9 @@ fn put_batch(
 }
 
 impl<S: Store> TreeState<S> {
-    /// Sets a key under a sequence number, in whatever order they come. For who draws numbers of their own: it moves no counter, so draw
-    /// the number by `seqno_mut`, and behind the insert raise `visible_seqno_mut` to the number + 1. `write` does all that.
+    /// Sets a key under a sequence number, in whatever order they come. For who draws numbers of their own: it moves no
+    /// counter, so draw the number by `seqno_mut`, and behind the insert raise `visible_seqno_mut` to the number + 1.
+    /// `write` does all that.
     ///
     /// Returns the bytes that the entry counts (its key's, its value's and 48) and those of the active
     /// memtable. A write of the same key and sequence number is replaced. `KeyTooLong` above 65,535 bytes,
@@ -145,7 +146,8 @@ impl<S: Store> TreeState<S> {
         self.append_entry(Op::Del.into_entry(key, seqno))
     }
 
-    /// Removes a key, of which at most one value was ever written: of more, an older one may show again. Returns and refuses as `insert`.
+    /// Removes a key, of which at most one value was ever written: of more, an older one may show again. Returns and
+    /// refuses as `insert`.
     pub fn remove_weak(&mut self, key: UserKey, seqno: SeqNo) -> Result<(u64, u64), Error>
         ensures appends { Appends (op_entry key seqno Weak) result self.old.core self.new.core }
         ensures store { self.new.store ≡ self.old.store }
@@ -162,9 +164,10 @@ impl<S: Store> TreeState<S> {
         self.append_housed(entry)
     }
 
-    /// An entry with its bytes where a write puts them: a key and value of up to 1,024 bytes together are copied into a chunk
-    /// of the active memtable. Copies that are made of it before `append_housed` writes it share these bytes with the tree, so who keeps
-    /// one keeps no bytes of its own. The tree stays; an entry that is not written takes its place in the chunk all the same.
+    /// An entry with its bytes where a write puts them: a key and value of up to 1,024 bytes together are copied into a
+    /// chunk of the active memtable. Copies that are made of it before `append_housed` writes it share these bytes with the
+    /// tree, so who keeps one keeps no bytes of its own. The tree stays; an entry that is not written takes its place in
+    /// the chunk all the same.
     pub fn house(&mut self, entry: InternalValue) -> InternalValue
         ensures same { result ≡ entry }
         ensures stays { self.new ≡ self.old }

@@ -1,8 +1,8 @@
 // How a merge ends, and what is noted of that.
-ghost use Rattle.std.specs.Prelude.{◌≡◌, ◌<◌, ◌∷◌, [], Ok, IfOk, IfErr, IsSome, length, take};
+ghost use Rattle.std.specs.Prelude.{◌≡◌, ◌∷◌, [], Ok, IfOk, IsSome, length, take};
 ghost use Rattle.lsm_model.specs.declared.journal.JournalEntry.TheVariants.{Install};
 ghost use Rattle.lsm_commit.specs.Causes.{HasCause, Blames};
-ghost use Rattle.lsm_state.specs.Cleaning.{LeavesNoFiles, RemovesDrawn};
+ghost use Rattle.lsm_state.specs.Cleaning.{LeavesNoFiles, RemovesRefused};
 ghost use Rattle.lsm_state.specs.Commits.{Upholds};
 ghost use Rattle.lsm_state.specs.Core.{Core};
 ghost use Rattle.lsm_state.specs.CompactionReads.{TellsMerge};
@@ -12,7 +12,7 @@ use crate::lists::one_entry;
 use lsm_below::SeqNo;
 use lsm_compaction::MergedCompaction;
 use lsm_model::JournalEntry;
-use lsm_parts::{Error, LIMIT};
+use lsm_parts::Error;
 use lsm_state::{Finished, TreeState};
 use lsm_store::Store;
 use std::alloc::{AllocError, Global};
@@ -55,7 +55,7 @@ pub fn finish_noting<S: Store>(
     // Behind a whole clean-up no file is left of what went.
     ensures gone { S.tells → result.0 ≡ Ok Finished.Installed → LeavesNoFiles (S.world tree.new.store) merged.job.ids tree.old.core.history tree.new.core.history }
     // Refused, no file is left of what it wrote, unless a call of the store failed, or a version may name it.
-    ensures refused { S.tells → tree.old.core.next_table < LIMIT → IfErr (result.0) (λ e. (e ≡ Error.CommitUnknown → ⊥) → (e ≡ Error.AfterCommit → ⊥) → RemovesDrawn tree.old.core.next_table tree.new.core.next_table (S.world tree.old.store) (S.world tree.new.store)) }
+    ensures refused { S.tells → RemovesRefused result.0 tree.old.core tree.new.core (S.world tree.old.store) (S.world tree.new.store) }
     ensures no_call { IsSome tree.old.core.lost → tree.new.store ≡ tree.old.store }
 {
     let finished = tree.finish_compaction(merged);

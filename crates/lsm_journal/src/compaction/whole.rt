@@ -1,7 +1,7 @@
 // A compaction in one call, and what is noted of it.
 ghost use Rattle.std.specs.Prelude.{◌≡◌, IsSome, IfOk, Ok, length, take};
 ghost use Rattle.lsm_commit.specs.Causes.{HasCause, Blames};
-ghost use Rattle.lsm_state.specs.Cleaning.{LeavesNoFiles};
+ghost use Rattle.lsm_state.specs.Cleaning.{LeavesNoFiles, RemovesRefused};
 ghost use Rattle.lsm_state.specs.Commits.{Upholds};
 ghost use Rattle.lsm_state.specs.Compactions.{given_up};
 ghost use Rattle.lsm_journal.specs.Noted.{noted_of, CompactsAnswer};
@@ -35,6 +35,8 @@ pub fn compact_chosen<S: Store>(
     ensures causes { (Blames chosen.answer → ⊥) → HasCause (Blames result.0) (S.world tree.old.store) (S.world tree.new.store) }
     // Behind a whole clean-up no file is left of what went.
     ensures gone { S.tells → IfOk chosen.answer (λ choice. result.0 ≡ Ok Begun.Installed → LeavesNoFiles (S.world tree.new.store) (given_up choice) tree.old.core.history tree.new.core.history) }
+    // Refused, no file is left of what it wrote, unless a call of the store failed, or a version may name it.
+    ensures refused { S.tells → RemovesRefused result.0 tree.old.core tree.new.core (S.world tree.old.store) (S.world tree.new.store) }
     ensures no_call { IsSome tree.old.core.lost → tree.new.store ≡ tree.old.store }
 {
     tree.is_upheld();

@@ -1,7 +1,7 @@
 // The calls of a compaction, and what they add to a journal.
-ghost use Rattle.std.specs.Prelude.{◌≡◌, ◌⊎◌, ◌<◌, IsSome, Ok, IfOk, IfErr};
+ghost use Rattle.std.specs.Prelude.{◌≡◌, ◌⊎◌, IsSome, Ok, IfOk};
 ghost use Rattle.lsm_commit.specs.Causes.{HasCause, Blames};
-ghost use Rattle.lsm_state.specs.Cleaning.{LeavesNoFiles, RemovesDrawn};
+ghost use Rattle.lsm_state.specs.Cleaning.{LeavesNoFiles, RemovesRefused};
 ghost use Rattle.lsm_state.specs.Commits.{Upholds};
 ghost use Rattle.lsm_state.specs.Compactions.{Spends, given_up, LeavesNoneChosen};
 ghost use Rattle.lsm_state.specs.WholeCompactions.{options_at, only_memory, major_choice, drop_choice};
@@ -19,7 +19,7 @@ use lsm_journal::{
     finish_noting, noted_compactions_keep_reads, options_at,
 };
 use lsm_model::reads_are_sound;
-use lsm_parts::{Error, LIMIT};
+use lsm_parts::Error;
 use lsm_pick::{CompactionStrategy, DropRange, Major, OwnedBounds};
 use lsm_state::{Begun, Finished, Options};
 use lsm_store::Store;
@@ -118,7 +118,7 @@ impl<S: Store> Recorded<S> {
         // Behind a whole clean-up no file is left of what went.
         ensures gone { S.tells → result ≡ Ok Finished.Installed → LeavesNoFiles (S.world self.new.tree.store) merged.job.ids self.old.tree.core.history self.new.tree.core.history }
         // Refused, no file is left of what it wrote, unless a call of the store failed, or a version may name it.
-        ensures refused { S.tells → self.old.tree.core.next_table < LIMIT → IfErr result (λ e. (e ≡ Error.CommitUnknown → ⊥) → (e ≡ Error.AfterCommit → ⊥) → RemovesDrawn self.old.tree.core.next_table self.new.tree.core.next_table (S.world self.old.tree.store) (S.world self.new.tree.store)) }
+        ensures refused { S.tells → RemovesRefused result self.old.tree.core self.new.tree.core (S.world self.old.tree.store) (S.world self.new.tree.store) }
         ensures no_call { IsSome self.old.tree.core.lost → self.new.tree.store ≡ self.old.tree.store }
         ensures views { Stays self.old.tree.core self.new.tree.core }
         ensures opened { self.new.opened ≡ self.old.opened }
@@ -170,6 +170,7 @@ impl<S: Store> Recorded<S> {
         ensures upholds { S.tells → Upholds (S.world self.old.tree.store) (S.world self.new.tree.store) self.old.tree.core self.new.tree.core }
         ensures causes { (Blames chosen.answer → ⊥) → HasCause (Blames result) (S.world self.old.tree.store) (S.world self.new.tree.store) }
         ensures gone { S.tells → IfOk chosen.answer (λ choice. result ≡ Ok Begun.Installed → LeavesNoFiles (S.world self.new.tree.store) (given_up choice) self.old.tree.core.history self.new.tree.core.history) }
+        ensures refused { S.tells → RemovesRefused result self.old.tree.core self.new.tree.core (S.world self.old.tree.store) (S.world self.new.tree.store) }
         ensures no_call { IsSome self.old.tree.core.lost → self.new.tree.store ≡ self.old.tree.store }
         ensures views { StaysBehind self.old.journal self.new.journal self.old.tree.core self.new.tree.core }
         ensures opened { self.new.opened ≡ self.old.opened }
@@ -213,6 +214,8 @@ impl<S: Store> Recorded<S> {
         ensures causes { HasCause (Blames result) (S.world self.old.tree.store) (S.world self.new.tree.store) }
         // Behind a whole clean-up no file is left of what went.
         ensures gone { S.tells → result ≡ Ok Begun.Installed → LeavesNoneChosen (S.world self.new.tree.store) (may_choose strategy.now) self.old.tree.core self.new.tree.core }
+        // Refused, no file is left of what it wrote, unless a call of the store failed, or a version may name it.
+        ensures refused { S.tells → RemovesRefused result self.old.tree.core self.new.tree.core (S.world self.old.tree.store) (S.world self.new.tree.store) }
         ensures no_call { IsSome self.old.tree.core.lost → self.new.tree.store ≡ self.old.tree.store }
         ensures views { StaysBehind self.old.journal self.new.journal self.old.tree.core self.new.tree.core }
         ensures opened { self.new.opened ≡ self.old.opened }
@@ -239,6 +242,8 @@ impl<S: Store> Recorded<S> {
         ensures causes { HasCause (Blames result) (S.world self.old.tree.store) (S.world self.new.tree.store) }
         // Behind a whole clean-up no file is left of what went.
         ensures gone { S.tells → result ≡ Ok Begun.Installed → LeavesNoneChosen (S.world self.new.tree.store) (C.may_choose strategy.now) self.old.tree.core self.new.tree.core }
+        // Refused, no file is left of what it wrote, unless a call of the store failed, or a version may name it.
+        ensures refused { S.tells → RemovesRefused result self.old.tree.core self.new.tree.core (S.world self.old.tree.store) (S.world self.new.tree.store) }
         ensures no_call { IsSome self.old.tree.core.lost → self.new.tree.store ≡ self.old.tree.store }
         ensures views { StaysBehind self.old.journal self.new.journal self.old.tree.core self.new.tree.core }
         ensures opened { self.new.opened ≡ self.old.opened }
@@ -270,6 +275,8 @@ impl<S: Store> Recorded<S> {
         ensures causes { HasCause (Blames result) (S.world self.old.tree.store) (S.world self.new.tree.store) }
         // Behind a whole clean-up no file is left of what went.
         ensures gone { S.tells → result ≡ Ok Begun.Installed → LeavesNoneChosen (S.world self.new.tree.store) (may_choose strategy.now) self.old.tree.core self.new.tree.core }
+        // Refused, no file is left of what it wrote, unless a call of the store failed, or a version may name it.
+        ensures refused { S.tells → RemovesRefused result self.old.tree.core self.new.tree.core (S.world self.old.tree.store) (S.world self.new.tree.store) }
         ensures no_call { IsSome self.old.tree.core.lost → self.new.tree.store ≡ self.old.tree.store }
         ensures views { StaysBehind self.old.journal self.new.journal self.old.tree.core self.new.tree.core }
         ensures opened { self.new.opened ≡ self.old.opened }
@@ -296,6 +303,8 @@ impl<S: Store> Recorded<S> {
         ensures causes { HasCause (Blames result) (S.world self.old.tree.store) (S.world self.new.tree.store) }
         // Behind a whole clean-up no file is left of what went.
         ensures gone { S.tells → result ≡ Ok Begun.Installed → LeavesNoneChosen (S.world self.new.tree.store) (major_choice target) self.old.tree.core self.new.tree.core }
+        // Refused, no file is left of what it wrote, unless a call of the store failed, or a version may name it.
+        ensures refused { S.tells → RemovesRefused result self.old.tree.core self.new.tree.core (S.world self.old.tree.store) (S.world self.new.tree.store) }
         ensures no_call { IsSome self.old.tree.core.lost → self.new.tree.store ≡ self.old.tree.store }
         ensures views { StaysBehind self.old.journal self.new.journal self.old.tree.core self.new.tree.core }
         ensures opened { self.new.opened ≡ self.old.opened }
@@ -318,6 +327,8 @@ impl<S: Store> Recorded<S> {
         ensures causes { HasCause (Blames result) (S.world self.old.tree.store) (S.world self.new.tree.store) }
         // Behind a whole clean-up no file is left of what went.
         ensures gone { S.tells → result ≡ Ok Begun.Installed → LeavesNoneChosen (S.world self.new.tree.store) (drop_choice bounds) self.old.tree.core self.new.tree.core }
+        // Refused, no file is left of what it wrote, unless a call of the store failed, or a version may name it.
+        ensures refused { S.tells → RemovesRefused result self.old.tree.core self.new.tree.core (S.world self.old.tree.store) (S.world self.new.tree.store) }
         ensures no_call { IsSome self.old.tree.core.lost → self.new.tree.store ≡ self.old.tree.store }
         ensures views { StaysBehind self.old.journal self.new.journal self.old.tree.core self.new.tree.core }
         ensures opened { self.new.opened ≡ self.old.opened }

@@ -285,8 +285,8 @@ impl<S: Store> TreeState<S> {
     /// # Errors
     ///
     /// Those of `begin_choice`, and where the strategy has no choice its refusal: `OutOfMemory`, `NotDisjoint`, `Busy`, or
-    /// `Strategy` for a reason of its own; then nothing changes. After a `CommitUnknown` it isn't asked. Refused otherwise, reads stay,
-    /// and a sequence number may be used.
+    /// `Strategy` for a reason of its own; then nothing changes. After a `CommitUnknown` it isn't asked. Refused otherwise,
+    /// reads stay, and a sequence number may be used.
     pub fn begin_compaction(
         &mut self,
         strategy: &dyn CompactionStrategy,

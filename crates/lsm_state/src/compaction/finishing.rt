@@ -8,7 +8,7 @@ ghost use Rattle.lsm_commit.specs.Contents.{AreWritten, FilesAreTables};
 ghost use Rattle.lsm_compaction.specs.OpenMerges.{IsOpenIn};
 ghost use Rattle.lsm_versions.specs.Refusals.{IsRefusedFor};
 ghost use Rattle.lsm_commit.specs.Causes.{HasCause, Blames};
-ghost use Rattle.lsm_state.specs.Cleaning.{LeavesNoFiles, RemovesDrawn};
+ghost use Rattle.lsm_state.specs.Cleaning.{LeavesNoFiles, RemovesRefused};
 ghost use Rattle.lsm_state.specs.Commits.{Upholds};
 ghost use Rattle.lsm_state.specs.Flushes.{with_next_table};
 ghost use Rattle.lsm_state.specs.Deeds.{IsNoDeed};
@@ -171,7 +171,7 @@ impl<S: Store> TreeState<S> {
         ensures upholds { S.tells → Upholds (S.world self.old.store) (S.world self.new.store) self.old.core self.new.core }
         ensures causes { HasCause (Blames result) (S.world self.old.store) (S.world self.new.store) }
         ensures gone { S.tells → OnOk result (LeavesNoFiles (S.world self.new.store) merged.now.job.ids self.old.core.history self.new.core.history) }
-        ensures refused { S.tells → self.old.core.next_table < LIMIT → IfErr result (λ e. (e ≡ Error.CommitUnknown → ⊥) → (e ≡ Error.AfterCommit → ⊥) → RemovesDrawn self.old.core.next_table self.new.core.next_table (S.world self.old.store) (S.world self.new.store)) }
+        ensures refused { S.tells → RemovesRefused result self.old.core self.new.core (S.world self.old.store) (S.world self.new.store) }
     {
         let first = self.next_table.get();
         match self.install_written(merged) {
@@ -185,7 +185,8 @@ impl<S: Store> TreeState<S> {
         }
     }
 
-    /// The first reason to decline a merge at its end. Where its inputs are known to be tables of this tree, ids are compared alone.
+    /// The first reason to decline a merge at its end. Where its inputs are known to be tables of this tree, ids are
+    /// compared alone.
     fn reason_at_end(&self, job: &CompactionJob, own: bool) -> Result<Option<Why>, Error>
         requires own { own ≡ true → HasOwnInputs job.now self.now.core }
         ensures ends { IfOk result (EndsAs (tables_of job.now.inputs) job.now.ids job.now.settings.dest_level (levels_of self.now.core)) }
@@ -208,7 +209,7 @@ impl<S: Store> TreeState<S> {
         ensures upholds { S.tells → Upholds (S.world self.old.store) (S.world self.new.store) self.old.core self.new.core }
         ensures causes { HasCause (Blames result) (S.world self.old.store) (S.world self.new.store) }
         ensures gone { S.tells → result ≡ Ok Finished.Installed → LeavesNoFiles (S.world self.new.store) merged.now.job.ids self.old.core.history self.new.core.history }
-        ensures refused { S.tells → self.old.core.next_table < LIMIT → IfErr result (λ e. (e ≡ Error.CommitUnknown → ⊥) → (e ≡ Error.AfterCommit → ⊥) → RemovesDrawn self.old.core.next_table self.new.core.next_table (S.world self.old.store) (S.world self.new.store)) }
+        ensures refused { S.tells → RemovesRefused result self.old.core self.new.core (S.world self.old.store) (S.world self.new.store) }
     {
         self.is_upheld();
         let job = merged.job();
@@ -227,7 +228,7 @@ impl<S: Store> TreeState<S> {
         ensures upholds { S.tells → Upholds (S.world self.old.store) (S.world self.new.store) self.old.core self.new.core }
         ensures causes { HasCause (Blames result) (S.world self.old.store) (S.world self.new.store) }
         ensures gone { S.tells → result ≡ Ok Finished.Installed → LeavesNoFiles (S.world self.new.store) merged.job.ids self.old.core.history self.new.core.history }
-        ensures refused { S.tells → self.old.core.next_table < LIMIT → IfErr result (λ e. (e ≡ Error.CommitUnknown → ⊥) → (e ≡ Error.AfterCommit → ⊥) → RemovesDrawn self.old.core.next_table self.new.core.next_table (S.world self.old.store) (S.world self.new.store)) }
+        ensures refused { S.tells → RemovesRefused result self.old.core self.new.core (S.world self.old.store) (S.world self.new.store) }
         ensures no_call { IsSome self.old.core.lost → self.new.store ≡ self.old.store }
     {
         self.is_upheld();
@@ -250,11 +251,11 @@ impl<S: Store> TreeState<S> {
     /// # Errors
     ///
     /// `Unrecoverable` after a `CommitUnknown`, with no store call. `OutOfNumbers` where the counter or the next table's id
-    /// stands at 2^63 or above, or the version's id at 2^64 - 1; `TooManyRuns` where a level would have 256 runs or a run 2^32
-    /// tables; `OutOfMemory`; `Store` where a file wasn't written. `CommitUnknown` where replacing `current` failed: reads
-    /// stay as they are, and a crash leaves the old version or the new one. `AfterCommit` where the merge is installed, but
-    /// the store failed behind it: files may stay that nothing needs. Refused otherwise, reads stay and the files that were written are
-    /// removed, as far as the store lets it; a sequence number and ids of tables may be used.
+    /// stands at 2^63 or above, or the version's id at 2^64 - 1; `TooManyRuns` where a level would have 256 runs or a run
+    /// 2^32 tables; `OutOfMemory`; `Store` where a file wasn't written. `CommitUnknown` where replacing `current` failed:
+    /// reads stay as they are, and a crash leaves the old version or the new one. `AfterCommit` where the merge is
+    /// installed, but the store failed behind it: files may stay that nothing needs. Refused otherwise, reads stay and the
+    /// files that were written are removed, as far as the store lets it; a sequence number and ids of tables may be used.
     pub fn finish_compaction(&mut self, merged: MergedCompaction) -> Result<Finished, Error>
         ensures finishes { Finishes merged.job result self.old.core self.new.core }
         // What a crash leaves.
@@ -264,7 +265,7 @@ impl<S: Store> TreeState<S> {
         // Behind a whole clean-up no file is left of what went.
         ensures gone { S.tells → result ≡ Ok Finished.Installed → LeavesNoFiles (S.world self.new.store) merged.job.ids self.old.core.history self.new.core.history }
         // Refused, no file is left of what it wrote, unless a call of the store failed, or a version may name it.
-        ensures refused { S.tells → self.old.core.next_table < LIMIT → IfErr result (λ e. (e ≡ Error.CommitUnknown → ⊥) → (e ≡ Error.AfterCommit → ⊥) → RemovesDrawn self.old.core.next_table self.new.core.next_table (S.world self.old.store) (S.world self.new.store)) }
+        ensures refused { S.tells → RemovesRefused result self.old.core self.new.core (S.world self.old.store) (S.world self.new.store) }
         ensures no_call { IsSome self.old.core.lost → self.new.store ≡ self.old.store }
         // As the theories see it: the merge and its maintenance, or one of unknown outcome, else nothing.
         ensures deeds { MergeDeeds merged.job result self.old.core self.new.core }
@@ -281,6 +282,7 @@ impl<S: Store> TreeState<S> {
         ensures upholds { S.tells → Upholds (S.world self.old.store) (S.world self.new.store) self.old.core self.new.core }
         ensures causes { HasCause (Blames result) (S.world self.old.store) (S.world self.new.store) }
         ensures gone { S.tells → result ≡ Ok Finished.Installed → LeavesNoFiles (S.world self.new.store) merged.job.ids self.old.core.history self.new.core.history }
+        ensures refused { S.tells → RemovesRefused result self.old.core self.new.core (S.world self.old.store) (S.world self.new.store) }
         ensures no_call { IsSome self.old.core.lost → self.new.store ≡ self.old.store }
         ensures deeds { MergeDeeds merged.job result self.old.core self.new.core }
     {

@@ -4,7 +4,7 @@ ghost use Rattle.lsm_commit.specs.Causes.{HasCause, Blames};
 ghost use Rattle.lsm_state.specs.Causes.{BlamesEnd};
 ghost use Rattle.lsm_compaction.specs.Merges.{SeenCompaction};
 ghost use Rattle.lsm_state.specs.declared.compaction.Begun.TheVariants.{Job};
-ghost use Rattle.lsm_state.specs.Cleaning.{LeavesNoFiles};
+ghost use Rattle.lsm_state.specs.Cleaning.{LeavesNoFiles, RemovesRefused};
 ghost use Rattle.lsm_state.specs.Commits.{Upholds};
 ghost use Rattle.lsm_state.specs.Compactions.{given_up, LeavesNoneChosen};
 ghost use Rattle.lsm_state.specs.OwnInputs.{HasOwnInputs, BeganHere};
@@ -25,6 +25,7 @@ impl<S: Store> TreeState<S> {
         ensures upholds { S.tells → Upholds (S.world self.old.store) (S.world self.new.store) self.old.core self.new.core }
         ensures causes { HasCause (Blames result) (S.world self.old.store) (S.world self.new.store) }
         ensures gone { S.tells → result ≡ Ok Begun.Installed → LeavesNoFiles (S.world self.new.store) job.ids self.old.core.history self.new.core.history }
+        ensures refused { S.tells → RemovesRefused result self.old.core self.new.core (S.world self.old.store) (S.world self.new.store) }
         ensures no_call { IsSome self.old.core.lost → self.new.store ≡ self.old.store }
     {
         let merged = match job.run() {
@@ -49,6 +50,7 @@ impl<S: Store> TreeState<S> {
         ensures causes { HasCause (BlamesEnd begun result) (S.world self.old.store) (S.world self.new.store) }
         ensures gone { S.tells → (job : SeenCompaction) → begun ≡ Ok (Job job) → result ≡ Ok Begun.Installed → LeavesNoFiles (S.world self.new.store) job.ids self.old.core.history self.new.core.history }
         ensures rests { begun ≡ Ok Begun.Installed → self.new.store ≡ self.old.store }
+        ensures refused { S.tells → RemovesRefused result self.old.core self.new.core (S.world self.old.store) (S.world self.new.store) }
         ensures no_call { IsSome self.old.core.lost → self.new.store ≡ self.old.store }
     {
         self.is_upheld();
@@ -76,6 +78,8 @@ impl<S: Store> TreeState<S> {
         ensures causes { HasCause (Blames result) (S.world self.old.store) (S.world self.new.store) }
         // Behind a whole clean-up no file is left of what went.
         ensures gone { S.tells → result ≡ Ok Begun.Installed → LeavesNoFiles (S.world self.new.store) (given_up choice) self.old.core.history self.new.core.history }
+        // Refused, no file is left of what it wrote, unless a call of the store failed, or a version may name it.
+        ensures refused { S.tells → RemovesRefused result self.old.core self.new.core (S.world self.old.store) (S.world self.new.store) }
         ensures no_call { IsSome self.old.core.lost → self.new.store ≡ self.old.store }
     {
         self.facts();
@@ -96,6 +100,8 @@ impl<S: Store> TreeState<S> {
         ensures causes { HasCause (Blames result) (S.world self.old.store) (S.world self.new.store) }
         // Behind a whole clean-up no file is left of what went.
         ensures gone { S.tells → result ≡ Ok Begun.Installed → LeavesNoneChosen (S.world self.new.store) (C.may_choose strategy.now) self.old.core self.new.core }
+        // Refused, no file is left of what it wrote, unless a call of the store failed, or a version may name it.
+        ensures refused { S.tells → RemovesRefused result self.old.core self.new.core (S.world self.old.store) (S.world self.new.store) }
         ensures no_call { IsSome self.old.core.lost → self.new.store ≡ self.old.store }
     {
         self.facts();
@@ -130,6 +136,8 @@ impl<S: Store> TreeState<S> {
         ensures causes { HasCause (Blames result) (S.world self.old.store) (S.world self.new.store) }
         // Behind a whole clean-up no file is left of what went.
         ensures gone { S.tells → result ≡ Ok Begun.Installed → LeavesNoneChosen (S.world self.new.store) (may_choose strategy.now) self.old.core self.new.core }
+        // Refused, no file is left of what it wrote, unless a call of the store failed, or a version may name it.
+        ensures refused { S.tells → RemovesRefused result self.old.core self.new.core (S.world self.old.store) (S.world self.new.store) }
         ensures no_call { IsSome self.old.core.lost → self.new.store ≡ self.old.store }
     {
         let options = self.options_at(watermark);
@@ -150,6 +158,8 @@ impl<S: Store> TreeState<S> {
         ensures causes { HasCause (Blames result) (S.world self.old.store) (S.world self.new.store) }
         // Behind a whole clean-up no file is left of what went.
         ensures gone { S.tells → result ≡ Ok Begun.Installed → LeavesNoneChosen (S.world self.new.store) (major_choice target) self.old.core self.new.core }
+        // Refused, no file is left of what it wrote, unless a call of the store failed, or a version may name it.
+        ensures refused { S.tells → RemovesRefused result self.old.core self.new.core (S.world self.old.store) (S.world self.new.store) }
         ensures no_call { IsSome self.old.core.lost → self.new.store ≡ self.old.store }
     {
         let options = self.options_at(watermark);
@@ -171,6 +181,8 @@ impl<S: Store> TreeState<S> {
         ensures causes { HasCause (Blames result) (S.world self.old.store) (S.world self.new.store) }
         // Behind a whole clean-up no file is left of what went.
         ensures gone { S.tells → result ≡ Ok Begun.Installed → LeavesNoneChosen (S.world self.new.store) (drop_choice bounds) self.old.core self.new.core }
+        // Refused, no file is left of what it wrote, unless a call of the store failed, or a version may name it.
+        ensures refused { S.tells → RemovesRefused result self.old.core self.new.core (S.world self.old.store) (S.world self.new.store) }
         ensures no_call { IsSome self.old.core.lost → self.new.store ≡ self.old.store }
     {
         self.is_upheld();
@@ -185,9 +197,9 @@ impl<S: Store> TreeState<S> {
     }
 }
 
-/// Compacts as a strategy chooses, in one call: begins, and where the choice is a merge does and finishes it. Nothing comes in
-/// between, so the end compares no entries. The answer is never `Begun::Job`. The cost is that of the other parts; where other callers wait for the tree, begin,
-/// merge outside and finish instead.
+/// Compacts as a strategy chooses, in one call: begins, and where the choice is a merge does and finishes it. Nothing comes
+/// in between, so the end compares no entries. The answer is never `Begun::Job`. The cost is that of the other parts; where
+/// other callers wait for the tree, begin, merge outside and finish instead.
 ///
 /// # Errors
 ///
@@ -205,6 +217,8 @@ pub fn do_compaction<S: Store>(
     ensures causes { HasCause (Blames result) (S.world tree.old.store) (S.world tree.new.store) }
     // Behind a whole clean-up no file is left of what went.
     ensures gone { S.tells → result ≡ Ok Begun.Installed → LeavesNoneChosen (S.world tree.new.store) (may_choose strategy.now) tree.old.core tree.new.core }
+    // Refused, no file is left of what it wrote, unless a call of the store failed, or a version may name it.
+    ensures refused { S.tells → RemovesRefused result tree.old.core tree.new.core (S.world tree.old.store) (S.world tree.new.store) }
     ensures no_call { IsSome tree.old.core.lost → tree.new.store ≡ tree.old.store }
 {
     tree.facts();

@@ -241,9 +241,9 @@ impl<S: Store> TreeState<S> {
     /// `CommitUnknown` where replacing `current` failed: reads stay as they are, and a crash leaves the old version or the
     /// new one.
     ///
-    /// Refused with `OutOfNumbers`, `TooManyRuns`, `Store`, or `OutOfMemory` once it has begun, the files of its tables are removed, as
-    /// far as the store lets it. Else they stay, also those of a stale job, since they may be another tree's; the next opening removes
-    /// what isn't named.
+    /// Refused with `OutOfNumbers`, `TooManyRuns`, `Store`, or `OutOfMemory` once it has begun, the files of its tables are
+    /// removed, as far as the store lets it. Else they stay, also those of a stale job, since they may be another tree's;
+    /// the next opening removes what isn't named.
     pub fn register_tables(&mut self, job: WrittenFlush) -> Result<Registered, Error>
         ensures registers { Registers job result self.old.core self.new.core }
         // What a crash leaves.

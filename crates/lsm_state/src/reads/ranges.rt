@@ -274,8 +274,8 @@ impl<S: Store> TreeState<S> {
         }
     }
 
-    /// What a snapshot shows within bounds, as `create_internal_range`: an iterator from both ends that owns its pairs. To make it copies
-    /// the newest entry of each key of memtables in the bounds; `pairs` lends them instead, and copies none.
+    /// What a snapshot shows within bounds, as `create_internal_range`: an iterator from both ends that owns its pairs. To
+    /// make it copies the newest entry of each key of memtables in the bounds; `pairs` lends them instead, and copies none.
     ///
     /// # Examples
     ///

@@ -1,10 +1,9 @@
 use Rattle.std.proofs.Common.{◌≡◌, ◌<◌, ◌^◌, IfErr, ap, subst}
 use Rattle.lsm_below.specs.declared.error.Error.TheVariants.{CommitUnknown}
 use Rattle.lsm_commit.specs.Causes.{HasCause}
-use Rattle.lsm_state.specs.Cleaning.{RemovesDrawn}
+use Rattle.lsm_state.specs.Cleaning.{RemovesDrawn, none_drawn}
 use Rattle.lsm_state.specs.Commits.{Upholds}
 use Rattle.lsm_state.specs.Causes.{BlamesOrUncleanFlush}
-use Rattle.lsm_state.proofs.WholeFlushes.{none_drawn}
 use Rattle.lsm_journal.proofs.Rotated.{rotated_upholds, active_noted, behind_cause, behind_gone, behind_refused}
 use Rattle.lsm_journal.proofs.flush.flush_active_noting.Goals as goal
 

@@ -1,6 +1,7 @@
 use Rattle.std.proofs.Common.{◌≡◌, Ok, List, length, take, refl, sym, ap, ◌∙◌, subst}
 use Rattle.lsm_model.specs.Journal.{Event}
 use Rattle.lsm_commit.specs.Causes.{Blames, no_fault}
+use Rattle.lsm_state.specs.Cleaning.{none_refused}
 use Rattle.lsm_journal.specs.Noted.{noted_of, kept_of, CompactsAnswer, CompactsNoted}
 use Rattle.lsm_journal.proofs.Compacting.{compacts_noted}
 use Rattle.lsm_journal.proofs.compaction.whole.compact_chosen.Goals as goal
@@ -20,3 +21,6 @@ returns-in-Ok-clause-compacts g c =
 
 pub returns-in-Err-clause-causes : goal.returns-in-Err-clause-causes
 returns-in-Err-clause-causes g c blameless = no_fault _ _ _ refl (λ blamed. blameless (subst Blames (sym c.in-Err.is) blamed))
+
+pub returns-in-Err-clause-refused : goal.returns-in-Err-clause-refused
+returns-in-Err-clause-refused g c tells = none_refused _ _ _ _ _ refl

@@ -1,7 +1,9 @@
+use Rattle.std.proofs.Common.{refl}
+use Rattle.lsm_state.specs.Cleaning.{none_refused}
 use Rattle.lsm_logged.proofs.Compacted.{answered_acts, unsure_acts}
 use Rattle.lsm_logged.proofs.WholeActs.{compacts_outcome}
 use Rattle.lsm_logged.proofs.Reopening.{numbered_more}
-use Rattle.lsm_logged.proofs.Seen.{leaves_seen}
+use Rattle.lsm_logged.proofs.Seen.{logged_with, leaves_seen, refused_seen}
 use Rattle.lsm_logged.proofs.Rising.{compacts}
 use Rattle.lsm_logged.proofs.logged.Logged.compact_with.Goals as goal
 
@@ -21,3 +23,12 @@ pub returns-clause-acts : goal.returns-clause-acts
 returns-clause-acts g c tells =
     answered_acts c.args.options.mvcc_gc_watermark g.S.Store.world c.self.inside.tree c.compact_with.new.self c.self.inside.numbers.items c.self.inside.doubted c.args.self.now c.self.view_is c.acts_are_known.ensures.tree c.acts_are_known.ensures.counter c.acts_are_known.ensures.numbers c.if-self.false (c.compact_with.ensures.upholds tells) c.compact_with.result
     (λ kept. compacts_outcome _ _ c.args.options c.compact_with.result c.self.inside.tree.core c.compact_with.new.self.core c.acts_are_known.ensures.compactions kept (c.acts_are_known.ensures.flushes.spends c.args.options.mvcc_gc_watermark 0 c.self.inside.tree.core kept) c.compact_with.ensures.compacts)
+
+pub returns-then-self-clause-refused : goal.returns-then-self-clause-refused
+returns-then-self-clause-refused g c tells = none_refused _ _ _ _ _ refl
+
+pub returns-clause-refused : goal.returns-clause-refused
+returns-clause-refused g c tells =
+    let i = c.self.inside in
+    let new = c.compact_with.new.self in
+    refused_seen g.S.Store.world c.compact_with.result _ _ (logged_with new i.numbers.items i.doubted) c.self.view_is (c.compact_with.ensures.refused tells)

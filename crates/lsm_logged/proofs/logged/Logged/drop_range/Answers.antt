@@ -1,10 +1,12 @@
+use Rattle.std.proofs.Common.{refl}
 use Rattle.lsm_state.specs.WholeCompactions.{drop_choice}
 use Rattle.lsm_logged.specs.Acting.{DropsWithin}
+use Rattle.lsm_state.specs.Cleaning.{none_refused}
 use Rattle.lsm_logged.proofs.Compacted.{answers_act, unsure_acts}
 use Rattle.lsm_logged.proofs.WholeActs.{dropping_only, drops_outcome}
 use Rattle.lsm_logged.proofs.Reopening.{numbered_more}
 use Rattle.lsm_logged.proofs.Rising.{drops_range}
-use Rattle.lsm_logged.proofs.Seen.{leaves_seen}
+use Rattle.lsm_logged.proofs.Seen.{logged_with, leaves_seen, refused_seen}
 use Rattle.lsm_logged.proofs.logged.Logged.drop_range.Goals as goal
 
 pub invariant_of-self : goal.invariant_of-self
@@ -23,3 +25,12 @@ pub returns-clause-acts : goal.returns-clause-acts
 returns-clause-acts g c tells =
     answers_act (DropsWithin c.args.bounds) 0 (dropping_only c.args.bounds) g.S.Store.world c.self.inside.tree c.drop_range.new.self c.self.inside.numbers.items c.self.inside.doubted c.args.self.now c.self.view_is c.acts_are_known.ensures.tree c.acts_are_known.ensures.counter c.acts_are_known.ensures.numbers c.if-self.false (c.drop_range.ensures.upholds tells) c.drop_range.result
     (λ kept. drops_outcome c.args.bounds c.drop_range.result c.self.inside.tree.core c.drop_range.new.self.core c.acts_are_known.ensures.compactions kept (c.acts_are_known.ensures.flushes.spends 0 0 c.self.inside.tree.core kept) c.drop_range.ensures.drops)
+
+pub returns-then-self-clause-refused : goal.returns-then-self-clause-refused
+returns-then-self-clause-refused g c tells = none_refused _ _ _ _ _ refl
+
+pub returns-clause-refused : goal.returns-clause-refused
+returns-clause-refused g c tells =
+    let i = c.self.inside in
+    let new = c.drop_range.new.self in
+    refused_seen g.S.Store.world c.drop_range.result _ _ (logged_with new i.numbers.items i.doubted) c.self.view_is (c.drop_range.ensures.refused tells)

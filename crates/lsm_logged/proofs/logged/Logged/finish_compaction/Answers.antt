@@ -1,8 +1,9 @@
 use Rattle.std.proofs.Common.{refl}
+use Rattle.lsm_state.specs.Cleaning.{none_refused}
 use Rattle.lsm_logged.proofs.FinishActs.{merge_acts, unsure_merge}
 use Rattle.lsm_logged.proofs.Reopening.{numbered_more}
 use Rattle.lsm_logged.proofs.Rising.{finishes}
-use Rattle.lsm_logged.proofs.Seen.{logged_with}
+use Rattle.lsm_logged.proofs.Seen.{logged_with, refused_seen}
 use Rattle.lsm_logged.proofs.logged.Logged.finish_compaction.Goals as goal
 
 pub invariant_of-self : goal.invariant_of-self
@@ -25,3 +26,12 @@ returns-clause-acts g c tells =
     let old = logged_with i.tree i.numbers.items i.doubted in
     let new = logged_with mid i.numbers.items i.doubted in
     merge_acts c.args.merged.job g.S.Store.world old c.args.self.now new c.self.view_is known.tree known.compactions c.if-self.false refl (c.finish_compaction.ensures.upholds tells) c.finish_compaction.result c.finish_compaction.ensures.finishes
+
+pub returns-then-self-clause-refused : goal.returns-then-self-clause-refused
+returns-then-self-clause-refused g c tells = none_refused _ _ _ _ _ refl
+
+pub returns-clause-refused : goal.returns-clause-refused
+returns-clause-refused g c tells =
+    let i = c.self.inside in
+    let new = c.finish_compaction.new.self in
+    refused_seen g.S.Store.world c.finish_compaction.result _ _ (logged_with new i.numbers.items i.doubted) c.self.view_is (c.finish_compaction.ensures.refused tells)

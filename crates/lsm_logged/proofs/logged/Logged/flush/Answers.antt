@@ -1,8 +1,9 @@
-use Rattle.std.proofs.Common.{◌≡◌, ◌⊎◌, ℕ, ◌<◌, ◌^◌, false, [], Option, Some, None, Result, Ok, Err, refl, sym, ap, ◌∙◌, subst}
+use Rattle.std.proofs.Common.{◌≡◌, ◌⊎◌, ℕ, ◌<◌, ◌^◌, false, [], Option, Some, None, Result, Ok, Err, IfErr, refl, sym, ap, ◌∙◌, subst}
 use Rattle.std.proofs.lemmas.Result.{err_from_is_err_and}
 use Rattle.lsm_below.specs.declared.error.Error.{Error}
-use Rattle.lsm_below.specs.declared.error.Error.TheVariants.{Unrecoverable}
+use Rattle.lsm_below.specs.declared.error.Error.TheVariants.{CommitUnknown, Unrecoverable}
 use Rattle.lsm_flush.specs.declared.jobs.Registered.{Registered}
+use Rattle.lsm_state.specs.Cleaning.{RemovesDrawn, none_drawn}
 use Rattle.lsm_state.specs.Flushes.{sealed_ids}
 use Rattle.lsm_state.specs.WholeFlushes.{Flushes}
 use Rattle.lsm_logged.specs.Keeping.{SeenLogged}
@@ -116,3 +117,16 @@ returns-in-Some-clause-passed_are_gone g c tells cleaned =
     let f = subst (λ (x : Option (ℕ × Registered)). Flushes c.args.watermark (Ok x) i.tree.core mid.core) c.in-Some.is c.in_ok-flushed.ensures.flushes in
     let gone = c.clean_log.ensures.gone tells (c.clean_log.ensures.cleans.installed ∙ f.installs.installed) cleaned in
     gone_left g.S.Store.world i.tree mid.core i.numbers.items i.doubted c.clean_log.new.self c.args.self.now c.self.view_is c.clean_log.ensures.cleans.core gone
+
+pub returns-then-is_flush_unsure-clause-refused : goal.returns-then-is_flush_unsure-clause-refused
+returns-then-is_flush_unsure-clause-refused g c tells small known = none_drawn _ _ _ _ refl
+
+pub returns-in_err-flushed-clause-refused : goal.returns-in_err-flushed-clause-refused
+returns-in_err-flushed-clause-refused g c tells =
+    let w = g.S.Store.world in
+    let i = c.self.inside in
+    let new = c.flush.new.self in
+    let old = logged_with i.tree i.numbers.items i.doubted in
+    let told = err_from_is_err_and c.from_residual.result c.from_residual.ensures.1 in
+    subst (λ (t : SeenLogged g.row.S.Denot). t.core.next_table < 2 ^ 63 → IfErr c.from_residual.result (λ e. (e ≡ CommitUnknown → ⊥) → RemovesDrawn t.core.next_table new.core.next_table (w t.store) (w new.store))) c.self.view_is
+    (subst (λ (r : Result (Option (ℕ × Registered)) Error). old.core.next_table < 2 ^ 63 → IfErr r (λ e. (e ≡ CommitUnknown → ⊥) → RemovesDrawn old.core.next_table new.core.next_table (w old.store) (w new.store))) (sym (told.1 ∙ ap (λ (x : Error). Err x) told.2)) (c.in_err-flushed.ensures.refused tells))

@@ -1,7 +1,10 @@
-use Rattle.std.proofs.Common.{◌≡◌, ℕ, true, List, None, IfSome, Ok, Err, inr, refl, sym, subst}
+use Rattle.std.proofs.Common.{◌≡◌, ℕ, ◌<◌, ◌^◌, true, List, None, IfSome, Ok, Err, inr, refl, sym, ap, subst}
+use Rattle.lsm_below.specs.declared.error.Error.TheVariants.{CommitUnknown}
 use Rattle.lsm_commit.specs.Foreign.{AtRest}
+use Rattle.lsm_state.specs.Cleaning.{RemovesDrawn, none_drawn}
 use Rattle.lsm_state.specs.Commits.{UpholdsFiles}
 use Rattle.lsm_state.proofs.Upholding.{upheld_still}
+use Rattle.lsm_state.proofs.WholeFlushes.{rotated_table}
 use Rattle.lsm_logged.specs.Keeping.{SeenLogged}
 use Rattle.lsm_logged.specs.Removing.{log_from_of, AreGone, KeepsKnown}
 use Rattle.lsm_logged.specs.Acting.{ActsBehind}
@@ -84,3 +87,21 @@ returns-in-Ok-flush-clause-passed_are_gone g c tells =
     let w = g.S.Store.world in
     let new = c.flush.new.self in
     subst (λ (l : List ℕ). IfSome c.in-Ok-flush.flushed (λ p. p.1.cleaned ≡ true → AreGone (w new.store) (log_from_of new.core) l)) c.in-Ok.ensures.log.0 (c.in-Ok-flush.ensures.passed_are_gone tells)
+
+pub returns-in-Err-clause-refused : goal.returns-in-Err-clause-refused
+returns-in-Err-clause-refused g c tells small known =
+    let w = g.S.Store.world in
+    let old = c.args.self.now in
+    let new = c.rotate_memtable.new.self in
+    none_drawn old.core.next_table new.core.next_table (w old.store) (w new.store) (ap (λ (t : SeenLogged g.row.S.Denot). t.core.next_table) c.in-Err.ensures.err)
+
+pub returns-in-Err-flush-clause-refused : goal.returns-in-Err-flush-clause-refused
+returns-in-Err-flush-clause-refused g c tells =
+    let w = g.S.Store.world in
+    let old = c.args.self.now in
+    let mid = c.rotate_memtable.new.self in
+    let new = c.flush.new.self in
+    let e = c.in-Err-flush.error in
+    let same = rotated_table old.core c.in-Ok.sealed mid.core c.in-Ok.ensures.ok in
+    let did = subst (λ n. n < 2 ^ 63 → (e ≡ CommitUnknown → ⊥) → RemovesDrawn n new.core.next_table (w mid.store) (w new.store)) same (c.in-Err-flush.ensures.refused tells) in
+    subst (λ (s : g.row.S.Denot). old.core.next_table < 2 ^ 63 → (e ≡ CommitUnknown → ⊥) → RemovesDrawn old.core.next_table new.core.next_table (w s) (w new.store)) c.in-Ok.ensures.store did

@@ -1,12 +1,13 @@
-use Rattle.std.proofs.Common.{◌≡◌, ◌<◌, ◌^◌, false, Result, Ok, Err, refl, sym, ap, ◌∙◌, subst}
+use Rattle.std.proofs.Common.{◌≡◌, ◌⊎◌, ⊎_elim, ◌<◌, ◌^◌, false, map, Result, Ok, Err, IsErrOf, refl, sym, ap, ◌∙◌, subst}
 use Rattle.std.proofs.lemmas.Result.{err_from_is_err_and}
 use Rattle.lsm_below.specs.declared.error.Error.{Error}
-use Rattle.lsm_below.specs.declared.error.Error.TheVariants.{Unrecoverable}
+use Rattle.lsm_below.specs.declared.error.Error.TheVariants.{OutOfNumbers, TooManyRuns, Unrecoverable}
 use Rattle.lsm_flush.specs.Jobs.{SeenJob}
 use Rattle.lsm_flush.specs.declared.jobs.Registered.{Registered}
 use Rattle.lsm_commit.specs.Foreign.{AtRest}
 use Rattle.lsm_state.specs.Core.{Core}
-use Rattle.lsm_state.specs.Flushes.{spent}
+use Rattle.lsm_state.specs.Cleaning.{RemovesTables}
+use Rattle.lsm_state.specs.Flushes.{spent, IsCurrent}
 use Rattle.lsm_state.specs.Commits.{UpholdsFiles, Upholds}
 use Rattle.lsm_state.proofs.Registering.{spent_upholds}
 use Rattle.lsm_logged.specs.Keeping.{SeenLogged}
@@ -129,3 +130,21 @@ pub returns-clause-passed_are_gone : goal.returns-clause-passed_are_gone
 returns-clause-passed_are_gone g c tells installed cleaned =
     let i = c.self.inside in
     gone_left g.S.Store.world i.tree c.register_tables.new.self.core i.numbers.items i.doubted c.clean_log.new.self c.args.self.now c.self.view_is c.clean_log.ensures.cleans.core (c.clean_log.ensures.gone tells installed cleaned)
+
+pub returns-then-self-clause-refused : goal.returns-then-self-clause-refused
+returns-then-self-clause-refused g c tells current = ⊎_elim (λ h. cc h) (λ h. cc h)
+
+pub returns-in_err-registered-clause-refused : goal.returns-in_err-registered-clause-refused
+returns-in_err-registered-clause-refused g c tells =
+    let w = g.S.Store.world in
+    let i = c.self.inside in
+    let new = c.register_tables.new.self in
+    let job = c.args.job in
+    let ids = map (λ t. t.id) job.tables in
+    let old = logged_with i.tree i.numbers.items i.doubted in
+    let told = err_from_is_err_and c.from_residual.result c.from_residual.ensures.1 in
+    subst (λ (t : SeenLogged g.row.S.Denot). IsCurrent job t.core → IsErrOf c.from_residual.result OutOfNumbers ⊎ IsErrOf c.from_residual.result TooManyRuns → RemovesTables ids (w t.store) (w new.store)) c.self.view_is
+    (subst (λ (r : Result Registered Error). IsCurrent job old.core → IsErrOf r OutOfNumbers ⊎ IsErrOf r TooManyRuns → RemovesTables ids (w old.store) (w new.store)) (sym (told.1 ∙ ap (λ (x : Error). Err x) told.2)) (c.in_err-registered.ensures.refused tells))
+
+pub returns-clause-refused : goal.returns-clause-refused
+returns-clause-refused g c tells current = ⊎_elim (λ h. cc h) (λ h. cc h)

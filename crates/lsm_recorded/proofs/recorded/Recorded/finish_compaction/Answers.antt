@@ -1,6 +1,4 @@
-use Rattle.std.proofs.Common.{◌≡◌, ◌<◌, ◌^◌, IfErr}
-use Rattle.lsm_below.specs.declared.error.Error.TheVariants.{CommitUnknown, AfterCommit}
-use Rattle.lsm_state.specs.Cleaning.{RemovesDrawn}
+use Rattle.lsm_state.specs.Cleaning.{RemovesRefused, none_refused}
 use Rattle.std.proofs.Common.{◌∙◌, ◌++◌, ap, sym, subst}
 use Rattle.lsm_versions.specs.Levels.{placed_of}
 use Rattle.lsm_recorded.specs.Recorded.{IsRecorded, Stays}
@@ -43,4 +41,4 @@ pub returns-clause-refused : goal.returns-clause-refused
 returns-clause-refused g c tells =
     let w = g.S.Store.world in
     let ended = c.finish_noting-entries in
-    subst (λ t. t.tree.core.next_table < 2 ^ 63 → IfErr ended.result.0 (λ e. (e ≡ CommitUnknown → ⊥) → (e ≡ AfterCommit → ⊥) → RemovesDrawn t.tree.core.next_table ended.new.tree.core.next_table (w t.tree.store) (w ended.new.tree.store))) c.self.view_is (ended.ensures.refused tells)
+    subst (λ t. RemovesRefused ended.result.0 t.tree.core ended.new.tree.core (w t.tree.store) (w ended.new.tree.store)) c.self.view_is (ended.ensures.refused tells)

@@ -1,6 +1,6 @@
 use Rattle.lsm_state.proofs.OwnInputs.{choice_here}
 use Rattle.lsm_state.proofs.Causing.{follows_cause}
-use Rattle.lsm_state.proofs.Wholes.{choice_upholds}
+use Rattle.lsm_state.proofs.Wholes.{choice_upholds, choice_draws, refused_behind}
 use Rattle.lsm_state.proofs.tree.TreeState.compact_choice.Goals as goal
 
 pub returns-clause-upholds : goal.returns-clause-upholds
@@ -17,6 +17,15 @@ returns-clause-causes g c =
     let mid = c.begin_choice-begun.new.self in
     let new = c.follow.new.self in
     follows_cause (w c.args.self.now.store) (w mid.store) (w new.store) c.begin_choice-begun.result c.follow.result mid.core new.core c.follow.ensures.follows c.begin_choice-begun.ensures.causes c.follow.ensures.causes
+
+pub returns-clause-refused : goal.returns-clause-refused
+returns-clause-refused g c tells =
+    let w = g.S.Store.world in
+    let old = c.args.self.now in
+    let begun = c.begin_choice-begun in
+    let mid = begun.new.self in
+    let new = c.follow.new.self in
+    refused_behind (w old.store) (w mid.store) (w new.store) begun.result c.follow.result old.core mid.core new.core begun.ensures.causes.rises (choice_draws c.args.choice c.args.options begun.result old.core mid.core begun.ensures.begins) c.follow.ensures.follows (c.follow.ensures.refused tells)
 
 pub follow-requires : goal.follow-requires
 follow-requires g c = choice_here c.args.choice c.args.options c.begin_choice-begun.result c.args.self.now.core c.begin_choice-begun.new.self.core c.facts.ensures c.begin_choice-begun.ensures.begins

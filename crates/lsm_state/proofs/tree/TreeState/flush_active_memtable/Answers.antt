@@ -1,11 +1,11 @@
 use Rattle.std.proofs.Common.{◌≡◌, ◌<◌, ◌^◌, ℕ, true, [], Option, Some, None, IfSome}
 use Rattle.lsm_flush.specs.declared.jobs.Registered.{Registered}
 use Rattle.lsm_below.specs.declared.error.Error.TheVariants.{CommitUnknown}
-use Rattle.lsm_state.specs.Cleaning.{LeavesNoFiles, RemovesDrawn}
+use Rattle.lsm_state.specs.Cleaning.{LeavesNoFiles, RemovesDrawn, none_drawn}
 use Rattle.lsm_state.proofs.CleaningUp.{rotated_leaves}
 use Rattle.std.proofs.Common.{◌∙◌, sym, ap, subst, IsSome}
 use Rattle.lsm_state.specs.Core.{versions_left, written_of}
-use Rattle.lsm_state.proofs.WholeFlushes.{upholds_same, rotated_lost, rotated_table, none_drawn}
+use Rattle.lsm_state.proofs.WholeFlushes.{upholds_same, rotated_lost, rotated_table}
 use Rattle.lsm_state.proofs.tree.TreeState.flush_active_memtable.Goals as goal
 
 pub returns-in-Err-clause-upholds : goal.returns-in-Err-clause-upholds

@@ -1,5 +1,5 @@
 use Rattle.std.proofs.Common.{ap}
-use Rattle.lsm_memtable.proofs.memtable.Memtable.put_counted.Goals as goal
+use Rattle.lsm_memtable.proofs.memtable.Memtable.insert_counted.Goals as goal
 
 pub returns-clause-compared : goal.returns-clause-compared
 returns-clause-compared c = (
