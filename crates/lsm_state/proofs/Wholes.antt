@@ -1,5 +1,5 @@
 -- A compaction in one call: what a crash in its parts leaves, and which files are left.
-use Rattle.std.proofs.Common.{◌≡◌, ◌-◌, ◌≤◌, ◌<◌, ◌^◌, min, Option, None, Some, IsSome, Result, Ok, Err, inl, inr, ⊎_elim, refl, sym, ap, subst, ◌∙◌}
+use Rattle.std.proofs.Common.{◌≡◌, ◌⊎◌, ℕ, ◌-◌, ◌≤◌, ◌<◌, ◌^◌, min, Option, None, Some, IsSome, Result, Ok, Err, inl, inr, ⊎_elim, refl, sym, ap, subst, ◌∙◌}
 use Rattle.lsm_below.specs.declared.error.Error.{Error}
 use Rattle.lsm_below.specs.declared.error.Error.TheVariants.{CommitUnknown, AfterCommit}
 use Rattle.lsm_store.specs.World.{World}
@@ -141,7 +141,7 @@ draws_none (Err e) old mid same = λ known before. same (λ h. cc h)
 
 installing_draws : {Made : SeenVersion → Type 0} {Unmade : Error → Type 0} (w : ℕ) (begun : Result Begun Error) (old mid : Core) → InstallsChoice Made Unmade w begun old mid → DrawsNone begun old mid
 installing_draws w (Ok begun) old mid did = draws_none (Ok begun) old mid (λ isnt. absurd (isnt (ap Ok did.ok)))
-installing_draws w (Err e) old mid did known before = ⊎_elim
+installing_draws w (Err e) old mid did = λ known before. ⊎_elim
     (⊎_elim (λ h. as_before_or_counted (did.settles.memory (ap Err h))) (⊎_elim (λ h. as_before_or_counted (did.settles.store (ap Err h))) (λ h. absurd (known h))))
     (⊎_elim (λ h. as_before (did.settles.before (inl (ap Err h)))) (⊎_elim (λ h. as_before (did.settles.before (inr (ap Err h)))) (λ h. absurd (before h))))
     did.only
@@ -195,15 +195,15 @@ same_error d e h = cc h
 
 -- what follows leaves none, so both together leave none
 pub refused_behind : (w v u : World) (begun r : Result Begun Error) (old mid new : Core) → min w.failures (2 ^ 64 - 1) ≤ v.failures → DrawsNone begun old mid → Follows begun r mid new → RemovesRefused r mid new v u → RemovesRefused r old new w u
-refused_behind w v u begun (Ok x) old mid new rises draws follows did small = tt
-refused_behind w v u begun (Err e) old mid new rises draws follows did small known before = by_begun begun draws follows
+refused_behind w v u begun (Ok x) old mid new rises draws follows did = λ small. tt
+refused_behind w v u begun (Err e) old mid new rises draws follows did = λ small known before. by_begun small known before begun draws follows
   where
-    then : mid.next_table ≡ old.next_table → RemovesDrawn old.next_table new.next_table w u
-    then same = removes_then old.next_table new.next_table w v u rises (subst (λ n. RemovesDrawn n new.next_table v u) same (did (subst (λ n. n < 2 ^ 63) (sym same) small) known before))
+    then : old.next_table < 2 ^ 63 → (e ≡ CommitUnknown → ⊥) → (e ≡ AfterCommit → ⊥) → mid.next_table ≡ old.next_table → RemovesDrawn old.next_table new.next_table w u
+    then small known before same = removes_then old.next_table new.next_table w v u rises (subst (λ n. RemovesDrawn n new.next_table v u) same (did (subst (λ n. n < 2 ^ 63) (sym same) small) known before))
 
-    by_begun : (b : Result Begun Error) → DrawsNone b old mid → Follows b (Err e) mid new → RemovesDrawn old.next_table new.next_table w u
-    by_begun (Ok (Job job)) drawn is = then drawn
-    by_begun (Ok DidNothing) drawn is = absurd (cc is.0)
-    by_begun (Ok (Declined why)) drawn is = absurd (cc is.0)
-    by_begun (Ok Installed) drawn is = absurd (cc is.0)
-    by_begun (Err d) drawn is = let one = same_error e d is.0 in then (drawn (λ h. known (one ∙ h)) (λ h. before (one ∙ h)))
+    by_begun : old.next_table < 2 ^ 63 → (e ≡ CommitUnknown → ⊥) → (e ≡ AfterCommit → ⊥) → (b : Result Begun Error) → DrawsNone b old mid → Follows b (Err e) mid new → RemovesDrawn old.next_table new.next_table w u
+    by_begun small known before (Ok (Job job)) drawn is = then small known before drawn
+    by_begun small known before (Ok DidNothing) drawn is = absurd (cc is.0)
+    by_begun small known before (Ok (Declined why)) drawn is = absurd (cc is.0)
+    by_begun small known before (Ok Installed) drawn is = absurd (cc is.0)
+    by_begun small known before (Err d) drawn is = let one = same_error e d is.0 in then small known before (drawn (λ h. known (one ∙ h)) (λ h. before (one ∙ h)))

@@ -60,7 +60,3 @@ RemovesRefused r old new w v = old.next_table < 2 ^ 63 → IfErr r (λ e. (e ≡
 -- where no id was drawn, none is to be removed
 pub none_drawn : (n m : ℕ) (w v : World) → m ≡ n → RemovesDrawn n m w v
 none_drawn n m w v same = inl (λ i from below. absurd (omega (arith, same, from, below)))
-
-pub none_refused : {T : Type 0} (r : Result T Error) (old new : Core) (w v : World) → new.next_table ≡ old.next_table → RemovesRefused r old new w v
-none_refused (Ok x) old new w v same small = tt
-none_refused (Err e) old new w v same small known before = none_drawn old.next_table new.next_table w v same

@@ -1,7 +1,7 @@
 use Rattle.std.proofs.Common.{◌≡◌, Ok, List, length, take, refl, sym, ap, ◌∙◌, subst}
 use Rattle.lsm_model.specs.Journal.{Event}
 use Rattle.lsm_commit.specs.Causes.{Blames, no_fault}
-use Rattle.lsm_state.specs.Cleaning.{none_refused}
+use Rattle.lsm_state.specs.Cleaning.{none_drawn}
 use Rattle.lsm_journal.specs.Noted.{noted_of, kept_of, CompactsAnswer, CompactsNoted}
 use Rattle.lsm_journal.proofs.Compacting.{compacts_noted}
 use Rattle.lsm_journal.proofs.compaction.whole.compact_chosen.Goals as goal
@@ -23,4 +23,7 @@ pub returns-in-Err-clause-causes : goal.returns-in-Err-clause-causes
 returns-in-Err-clause-causes g c blameless = no_fault _ _ _ refl (λ blamed. blameless (subst Blames (sym c.in-Err.is) blamed))
 
 pub returns-in-Err-clause-refused : goal.returns-in-Err-clause-refused
-returns-in-Err-clause-refused g c tells = none_refused _ _ _ _ _ refl
+returns-in-Err-clause-refused g c tells small known before =
+    let w = g.S.Store.world in
+    let now = c.args.tree.now in
+    none_drawn now.core.next_table now.core.next_table (w now.store) (w now.store) refl

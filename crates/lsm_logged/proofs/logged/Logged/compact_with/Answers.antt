@@ -1,5 +1,5 @@
-use Rattle.std.proofs.Common.{refl}
-use Rattle.lsm_state.specs.Cleaning.{none_refused}
+use Rattle.std.proofs.Common.{ap, inl, arith}
+use Rattle.lsm_logged.specs.Keeping.{SeenLogged}
 use Rattle.lsm_logged.proofs.Compacted.{answered_acts, unsure_acts}
 use Rattle.lsm_logged.proofs.WholeActs.{compacts_outcome}
 use Rattle.lsm_logged.proofs.Reopening.{numbered_more}
@@ -25,7 +25,9 @@ returns-clause-acts g c tells =
     (λ kept. compacts_outcome _ _ c.args.options c.compact_with.result c.self.inside.tree.core c.compact_with.new.self.core c.acts_are_known.ensures.compactions kept (c.acts_are_known.ensures.flushes.spends c.args.options.mvcc_gc_watermark 0 c.self.inside.tree.core kept) c.compact_with.ensures.compacts)
 
 pub returns-then-self-clause-refused : goal.returns-then-self-clause-refused
-returns-then-self-clause-refused g c tells = none_refused _ _ _ _ _ refl
+returns-then-self-clause-refused g c tells small known before =
+    let same = ap (λ (t : SeenLogged g.row.S.Denot). t.core.next_table) c.self.view_is in
+    inl (λ i from below. absurd (omega (arith, same, from, below)))
 
 pub returns-clause-refused : goal.returns-clause-refused
 returns-clause-refused g c tells =

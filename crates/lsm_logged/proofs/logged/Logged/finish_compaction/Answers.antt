@@ -1,5 +1,5 @@
-use Rattle.std.proofs.Common.{refl}
-use Rattle.lsm_state.specs.Cleaning.{none_refused}
+use Rattle.std.proofs.Common.{refl, ap, inl, arith}
+use Rattle.lsm_logged.specs.Keeping.{SeenLogged}
 use Rattle.lsm_logged.proofs.FinishActs.{merge_acts, unsure_merge}
 use Rattle.lsm_logged.proofs.Reopening.{numbered_more}
 use Rattle.lsm_logged.proofs.Rising.{finishes}
@@ -28,7 +28,9 @@ returns-clause-acts g c tells =
     merge_acts c.args.merged.job g.S.Store.world old c.args.self.now new c.self.view_is known.tree known.compactions c.if-self.false refl (c.finish_compaction.ensures.upholds tells) c.finish_compaction.result c.finish_compaction.ensures.finishes
 
 pub returns-then-self-clause-refused : goal.returns-then-self-clause-refused
-returns-then-self-clause-refused g c tells = none_refused _ _ _ _ _ refl
+returns-then-self-clause-refused g c tells small known before =
+    let same = ap (λ (t : SeenLogged g.row.S.Denot). t.core.next_table) c.self.view_is in
+    inl (λ i from below. absurd (omega (arith, same, from, below)))
 
 pub returns-clause-refused : goal.returns-clause-refused
 returns-clause-refused g c tells =

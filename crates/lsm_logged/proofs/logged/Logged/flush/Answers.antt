@@ -1,9 +1,9 @@
-use Rattle.std.proofs.Common.{◌≡◌, ◌⊎◌, ℕ, ◌<◌, ◌^◌, false, [], Option, Some, None, Result, Ok, Err, IfErr, refl, sym, ap, ◌∙◌, subst}
+use Rattle.std.proofs.Common.{◌≡◌, ◌⊎◌, ℕ, ◌<◌, ◌^◌, false, [], Option, Some, None, Result, Ok, Err, IfErr, arith, inl, refl, sym, ap, ◌∙◌, subst}
 use Rattle.std.proofs.lemmas.Result.{err_from_is_err_and}
 use Rattle.lsm_below.specs.declared.error.Error.{Error}
 use Rattle.lsm_below.specs.declared.error.Error.TheVariants.{CommitUnknown, Unrecoverable}
 use Rattle.lsm_flush.specs.declared.jobs.Registered.{Registered}
-use Rattle.lsm_state.specs.Cleaning.{RemovesDrawn, none_drawn}
+use Rattle.lsm_state.specs.Cleaning.{RemovesDrawn}
 use Rattle.lsm_state.specs.Flushes.{sealed_ids}
 use Rattle.lsm_state.specs.WholeFlushes.{Flushes}
 use Rattle.lsm_logged.specs.Keeping.{SeenLogged}
@@ -119,7 +119,9 @@ returns-in-Some-clause-passed_are_gone g c tells cleaned =
     gone_left g.S.Store.world i.tree mid.core i.numbers.items i.doubted c.clean_log.new.self c.args.self.now c.self.view_is c.clean_log.ensures.cleans.core gone
 
 pub returns-then-is_flush_unsure-clause-refused : goal.returns-then-is_flush_unsure-clause-refused
-returns-then-is_flush_unsure-clause-refused g c tells small known = none_drawn _ _ _ _ refl
+returns-then-is_flush_unsure-clause-refused g c tells small known =
+    let same = ap (λ (t : SeenLogged g.row.S.Denot). t.core.next_table) c.self.view_is in
+    inl (λ i from below. absurd (omega (arith, same, from, below)))
 
 pub returns-in_err-flushed-clause-refused : goal.returns-in_err-flushed-clause-refused
 returns-in_err-flushed-clause-refused g c tells =

@@ -1,5 +1,5 @@
-use Rattle.std.proofs.Common.{◌<◌, ◌^◌, IfErr, refl, subst}
-use Rattle.lsm_state.specs.Cleaning.{RemovesDrawn, none_drawn}
+use Rattle.std.proofs.Common.{◌<◌, ◌^◌, IfErr, arith, inl, ap, subst}
+use Rattle.lsm_state.specs.Cleaning.{RemovesDrawn}
 use Rattle.lsm_logged.specs.Keeping.{SeenLogged}
 use Rattle.lsm_logged.proofs.NoActs.{unsure_not, written_not}
 use Rattle.lsm_logged.proofs.logged.Logged.flush_to_tables.Goals as goal
@@ -12,7 +12,9 @@ returns-clause-acts g c tells =
     written_not g.S.Store.world c.self.inside.tree c.flush_to_tables.new.self c.self.inside.numbers.items c.self.inside.doubted c.args.self.now c.self.view_is (c.flush_to_tables.ensures.upholds tells) c.args.job c.flush_to_tables.result c.flush_to_tables.ensures.writes
 
 pub returns-then-self-clause-refused : goal.returns-then-self-clause-refused
-returns-then-self-clause-refused g c tells small = none_drawn _ _ _ _ refl
+returns-then-self-clause-refused g c tells small =
+    let same = ap (λ (t : SeenLogged g.row.S.Denot). t.core.next_table) c.self.view_is in
+    inl (λ i from below. absurd (omega (arith, same, from, below)))
 
 pub returns-clause-refused : goal.returns-clause-refused
 returns-clause-refused g c tells =

@@ -1,7 +1,7 @@
-use Rattle.std.proofs.Common.{refl}
+use Rattle.std.proofs.Common.{ap, inl, arith}
 use Rattle.lsm_state.specs.WholeCompactions.{major_choice, only_memory, options_at}
 use Rattle.lsm_logged.specs.Acting.{IsMerging}
-use Rattle.lsm_state.specs.Cleaning.{none_refused}
+use Rattle.lsm_logged.specs.Keeping.{SeenLogged}
 use Rattle.lsm_logged.proofs.Compacted.{answers_act, unsure_acts}
 use Rattle.lsm_logged.proofs.WholeActs.{merging_only, major_outcome}
 use Rattle.lsm_logged.proofs.Reopening.{numbered_more}
@@ -27,7 +27,9 @@ returns-clause-acts g c tells =
     (λ kept. major_outcome c.args.target c.args.watermark c.major_compact.result c.self.inside.tree.core c.major_compact.new.self.core c.acts_are_known.ensures.compactions kept (c.acts_are_known.ensures.flushes.spends c.args.watermark 0 c.self.inside.tree.core kept) c.major_compact.ensures.compacts)
 
 pub returns-then-self-clause-refused : goal.returns-then-self-clause-refused
-returns-then-self-clause-refused g c tells = none_refused _ _ _ _ _ refl
+returns-then-self-clause-refused g c tells small known before =
+    let same = ap (λ (t : SeenLogged g.row.S.Denot). t.core.next_table) c.self.view_is in
+    inl (λ i from below. absurd (omega (arith, same, from, below)))
 
 pub returns-clause-refused : goal.returns-clause-refused
 returns-clause-refused g c tells =

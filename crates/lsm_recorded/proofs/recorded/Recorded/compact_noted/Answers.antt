@@ -1,7 +1,7 @@
-use Rattle.std.proofs.Common.{◌≡◌, ◌∙◌, ◌++◌, Ok, IfOk, refl, ap, subst}
+use Rattle.std.proofs.Common.{◌≡◌, ◌∙◌, ◌++◌, Ok, IfOk, inl, arith, ap, subst}
 use Rattle.lsm_versions.specs.Levels.{placed_of}
 use Rattle.lsm_state.specs.declared.compaction.Begun.TheVariants.{Installed}
-use Rattle.lsm_state.specs.Cleaning.{LeavesNoFiles, RemovesRefused, none_refused}
+use Rattle.lsm_state.specs.Cleaning.{LeavesNoFiles, RemovesRefused}
 use Rattle.lsm_state.specs.Compactions.{given_up}
 use Rattle.lsm_recorded.specs.Recorded.{StaysBehind}
 use Rattle.lsm_recorded.proofs.CompactingLemmas.{compact_recorded, any_ok}
@@ -28,7 +28,9 @@ returns-clause-gone g c tells =
     subst (λ t. IfOk c.args.chosen.answer (λ choice. c.compact_chosen-begun.result.0 ≡ Ok Installed → LeavesNoFiles (w c.compact_chosen-begun.new.tree.store) (given_up choice) t.tree.core.history c.compact_chosen-begun.new.tree.core.history)) c.self.view_is (c.compact_chosen-begun.ensures.gone tells)
 
 pub returns-in_default-clause-refused : goal.returns-in_default-clause-refused
-returns-in_default-clause-refused g c tells = none_refused _ _ _ _ _ refl
+returns-in_default-clause-refused g c tells small known before =
+    let same = ap (λ t. t.tree.core.next_table) c.self.view_is in
+    inl (λ i from below. absurd (omega (arith, same, from, below)))
 
 pub returns-clause-refused : goal.returns-clause-refused
 returns-clause-refused g c tells =

@@ -1,6 +1,5 @@
 -- What is installed is a choice that the strategy may make.
-use Rattle.std.proofs.Common.{refl, subst}
-use Rattle.lsm_state.specs.Cleaning.{none_refused}
+use Rattle.std.proofs.Common.{inl, arith, ap, subst}
 use Rattle.lsm_journal.specs.Noted.{IsAnswerOf, CompactsAnswer}
 use Rattle.lsm_recorded.proofs.CompactingLemmas.{leaves_chosen}
 use Rattle.lsm_recorded.proofs.recorded.Recorded.compact_with.Goals as goal
@@ -16,4 +15,6 @@ returns-in-Ok-clause-gone g c tells done =
     leaves_chosen (g.C.CompactionStrategy.may_choose strategy) (g.C.CompactionStrategy.may_refuse strategy) (λ a events. CompactsAnswer a c.args.options did.result events old.tree.core new.tree.core) (g.S.Store.world new.tree.store) answer did.result old new c.args.pass.now did.new.pass (λ e es told. told.0) is did.ensures.compacts (did.ensures.gone tells) done
 
 pub returns-in-Err-clause-refused : goal.returns-in-Err-clause-refused
-returns-in-Err-clause-refused g c tells = none_refused _ _ _ _ _ refl
+returns-in-Err-clause-refused g c tells small known before =
+    let same = ap (λ t. t.tree.core.next_table) c.self.view_is in
+    inl (λ i from below. absurd (omega (arith, same, from, below)))

@@ -1,4 +1,4 @@
-use Rattle.lsm_state.specs.Cleaning.{RemovesRefused, none_refused}
+use Rattle.lsm_state.specs.Cleaning.{RemovesRefused}
 use Rattle.std.proofs.Common.{◌∙◌, ◌++◌, ap, sym, subst}
 use Rattle.lsm_versions.specs.Levels.{placed_of}
 use Rattle.lsm_recorded.specs.Recorded.{IsRecorded, Stays}

@@ -1,6 +1,6 @@
 use Rattle.std.proofs.Common.{sym, subst}
 use Rattle.lsm_compaction.specs.Merges.{SeenCompaction}
-use Rattle.lsm_state.specs.Cleaning.{none_refused}
+use Rattle.lsm_state.specs.Cleaning.{none_drawn}
 use Rattle.lsm_state.specs.OwnInputs.{HasOwnInputs}
 use Rattle.lsm_state.proofs.Wholes.{spending_draws}
 use Rattle.lsm_state.proofs.tree.TreeState.complete.Goals as goal
@@ -9,4 +9,8 @@ pub finish_own-requires : goal.finish_own-requires
 finish_own-requires g c = subst (λ (job : SeenCompaction). HasOwnInputs job c.args.self.now.core) (sym c.in-Ok.ensures.job) c.requires
 
 pub returns-in-Err-clause-refused : goal.returns-in-Err-clause-refused
-returns-in-Err-clause-refused g c tells = none_refused _ _ _ _ _ (spending_draws _ _ _ c.abandon_compaction.ensures.spends)
+returns-in-Err-clause-refused g c tells small known before =
+    let w = g.S.Store.world in
+    let old = c.args.self.now in
+    let new = c.abandon_compaction.new.self in
+    none_drawn old.core.next_table new.core.next_table (w old.store) (w new.store) (spending_draws c.in-Err.job old.core new.core c.abandon_compaction.ensures.spends)
