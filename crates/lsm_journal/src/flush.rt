@@ -101,7 +101,7 @@ pub fn flush_noting<S: Store>(
     ensures causes { HasCause (BlamesOrUncleanFlush result.0) (S.world tree.old.store) (S.world tree.new.store) }
     // Behind a whole clean-up no file is left of what went.
     ensures gone { S.tells → IfOk result.0 (λ a. IfSome a (λ p. p.1.cleaned ≡ true → LeavesNoFiles (S.world tree.new.store) [] tree.old.core.history tree.new.core.history)) }
-    // Refused, no file is left of what it wrote, unless a call of the store failed, or the outcome of a commit is unknown.
+    // Refused, no table's file is left of what it wrote, unless a call of the store failed, or the outcome of a commit is unknown.
     ensures refused { S.tells → tree.old.core.next_table < LIMIT → IfErr result.0 (λ e. (e ≡ Error.CommitUnknown → ⊥) → RemovesDrawn tree.old.core.next_table tree.new.core.next_table (S.world tree.old.store) (S.world tree.new.store)) }
     ensures no_call { IsSome tree.old.core.lost → tree.new.store ≡ tree.old.store }
 {
@@ -144,7 +144,7 @@ pub fn flush_active_noting<S: Store>(
     ensures causes { HasCause (BlamesOrUncleanBehind result.0) (S.world tree.old.store) (S.world tree.new.store) }
     // Behind a whole clean-up no file is left of what went.
     ensures gone { S.tells → IfOk result.0 (λ a. IfSome a.1 (λ p. p.1.cleaned ≡ true → LeavesNoFiles (S.world tree.new.store) [] tree.old.core.history tree.new.core.history)) }
-    // Refused, no file is left of what it wrote, unless a call of the store failed, or the outcome of a commit is unknown.
+    // Refused, no table's file is left of what it wrote, unless a call of the store failed, or the outcome of a commit is unknown.
     ensures refused { S.tells → tree.old.core.next_table < LIMIT → IfErr result.0 (λ e. (e.0 ≡ Error.CommitUnknown → ⊥) → RemovesDrawn tree.old.core.next_table tree.new.core.next_table (S.world tree.old.store) (S.world tree.new.store)) }
     ensures no_call { IsSome tree.old.core.lost → tree.new.store ≡ tree.old.store }
 {

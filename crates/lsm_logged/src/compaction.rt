@@ -138,7 +138,7 @@ impl<S: Store> Logged<S> {
         ensures causes { HasCause (Blames result) (S.world self.old.store) (S.world self.new.store) }
         // Behind a whole clean-up no file is left of what went.
         ensures gone { S.tells → result ≡ Ok Finished.Installed → LeavesNoFiles (S.world self.new.store) merged.job.ids self.old.core.history self.new.core.history }
-        // Refused, no file is left of what it wrote, unless a call of the store failed, or a version may name it.
+        // Refused, no table's file is left of what it wrote, unless a call of the store failed, or a version may name it.
         ensures refused { S.tells → RemovesRefused result self.old.core self.new.core (S.world self.old.store) (S.world self.new.store) }
         // After an unknown outcome no call of the store is made.
         ensures no_call { is_unsure self.old ≡ true → self.new.store ≡ self.old.store }
@@ -178,7 +178,7 @@ impl<S: Store> Logged<S> {
         ensures causes { HasCause (Blames result) (S.world self.old.store) (S.world self.new.store) }
         // Behind a whole clean-up no file is left of what went.
         ensures gone { S.tells → result ≡ Ok Begun.Installed → LeavesNoFiles (S.world self.new.store) (given_up choice) self.old.core.history self.new.core.history }
-        // Refused, no file is left of what it wrote, unless a call of the store failed, or a version may name it.
+        // Refused, no table's file is left of what it wrote, unless a call of the store failed, or a version may name it.
         ensures refused { S.tells → RemovesRefused result self.old.core self.new.core (S.world self.old.store) (S.world self.new.store) }
         // After an unknown outcome no call of the store is made.
         ensures no_call { is_unsure self.old ≡ true → self.new.store ≡ self.old.store }
@@ -210,7 +210,7 @@ impl<S: Store> Logged<S> {
         ensures causes { HasCause (Blames result) (S.world self.old.store) (S.world self.new.store) }
         // Behind a whole clean-up no file is left of what went.
         ensures gone { S.tells → result ≡ Ok Begun.Installed → LeavesNoneChosen (S.world self.new.store) (may_choose strategy.now) self.old.core self.new.core }
-        // Refused, no file is left of what it wrote, unless a call of the store failed, or a version may name it.
+        // Refused, no table's file is left of what it wrote, unless a call of the store failed, or a version may name it.
         ensures refused { S.tells → RemovesRefused result self.old.core self.new.core (S.world self.old.store) (S.world self.new.store) }
         // After an unknown outcome no call of the store is made.
         ensures no_call { is_unsure self.old ≡ true → self.new.store ≡ self.old.store }
@@ -242,7 +242,7 @@ impl<S: Store> Logged<S> {
         ensures causes { HasCause (Blames result) (S.world self.old.store) (S.world self.new.store) }
         // Behind a whole clean-up no file is left of what went.
         ensures gone { S.tells → result ≡ Ok Begun.Installed → LeavesNoneChosen (S.world self.new.store) (C.may_choose strategy.now) self.old.core self.new.core }
-        // Refused, no file is left of what it wrote, unless a call of the store failed, or a version may name it.
+        // Refused, no table's file is left of what it wrote, unless a call of the store failed, or a version may name it.
         ensures refused { S.tells → RemovesRefused result self.old.core self.new.core (S.world self.old.store) (S.world self.new.store) }
         // After an unknown outcome no call of the store is made.
         ensures no_call { is_unsure self.old ≡ true → self.new.store ≡ self.old.store }
@@ -270,7 +270,7 @@ impl<S: Store> Logged<S> {
         ensures causes { HasCause (Blames result) (S.world self.old.store) (S.world self.new.store) }
         // Behind a whole clean-up no file is left of what went.
         ensures gone { S.tells → result ≡ Ok Begun.Installed → LeavesNoneChosen (S.world self.new.store) (major_choice target) self.old.core self.new.core }
-        // Refused, no file is left of what it wrote, unless a call of the store failed, or a version may name it.
+        // Refused, no table's file is left of what it wrote, unless a call of the store failed, or a version may name it.
         ensures refused { S.tells → RemovesRefused result self.old.core self.new.core (S.world self.old.store) (S.world self.new.store) }
         // After an unknown outcome no call of the store is made.
         ensures no_call { is_unsure self.old ≡ true → self.new.store ≡ self.old.store }
@@ -290,7 +290,8 @@ impl<S: Store> Logged<S> {
     /// As that call, and `Unrecoverable` also where a record has unknown outcome.
     pub fn drop_range(&mut self, bounds: OwnedBounds) -> Result<Begun, Error>
         ensures asks { Asks result self.old self.new (DropsRange bounds result self.old.core self.new.core) }
-        // As the theory sees it: an installed drop of the tables within the bounds, or one of unknown outcome, else the mark of its watermark.
+        // As the theory sees it: an installed drop of the tables within the bounds, or one of unknown outcome, else the mark
+        // of its watermark.
         ensures acts { S.tells → CompactsBy (DropsWithin bounds self.old.core) 0 result (S.world self.old.store) (S.world self.new.store) self.old self.new }
         // What a crash leaves, of the tree's files and of names that are none of its own.
         ensures upholds { S.tells → Upholds (S.world self.old.store) (S.world self.new.store) self.old.core self.new.core }
@@ -298,7 +299,7 @@ impl<S: Store> Logged<S> {
         ensures causes { HasCause (Blames result) (S.world self.old.store) (S.world self.new.store) }
         // Behind a whole clean-up no file is left of what went.
         ensures gone { S.tells → result ≡ Ok Begun.Installed → LeavesNoneChosen (S.world self.new.store) (drop_choice bounds) self.old.core self.new.core }
-        // Refused, no file is left of what it wrote, unless a call of the store failed, or a version may name it.
+        // Refused, no table's file is left of what it wrote, unless a call of the store failed, or a version may name it.
         ensures refused { S.tells → RemovesRefused result self.old.core self.new.core (S.world self.old.store) (S.world self.new.store) }
         // After an unknown outcome no call of the store is made.
         ensures no_call { is_unsure self.old ≡ true → self.new.store ≡ self.old.store }

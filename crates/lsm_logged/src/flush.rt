@@ -69,14 +69,16 @@ impl<S: Store> Logged<S> {
         ensures behind { S.tells → RemovesBehind (S.world self.old.store) (S.world self.new.store) self.old.core self.new.core }
         // Each record that is there stays known, and a number is forgotten only where its record is gone.
         ensures known { S.tells → KeepsKnown (S.world self.old.store) (S.world self.new.store) self.old.numbers self.new.numbers }
-        // Behind a whole clean-up no record is left that the version has passed: none of the known ones, and with `known` none at all.
+        // Behind a whole clean-up no record is left that the version has passed: none of the known ones, and with `known`
+        // none at all.
         ensures passed_are_gone { S.tells → IfOk result (λ a. IfSome a (λ p. p.1.cleaned ≡ true → AreGone (S.world self.new.store) (log_from_of self.new.core) self.old.numbers)) }
         // As the theory sees it: a flush, or one of unknown outcome, else nothing.
         ensures acts { S.tells → FlushesAct watermark result (S.world self.old.store) (S.world self.new.store) self.old self.new }
         ensures upholds { S.tells → UpholdsFiles (S.world self.old.store) (S.world self.new.store) self.old.core self.new.core }
         // The store is blamed only where a call of it failed.
         ensures causes { HasCause (BlamesOrUncleanFlush result) (S.world self.old.store) (S.world self.new.store) }
-        // Refused, no file is left of what it wrote, unless a call of the store failed, or the outcome of a commit is unknown.
+        // Refused, no table's file is left of what it wrote, unless a call of the store failed, or the outcome of a commit is
+        // unknown.
         ensures refused { S.tells → self.old.core.next_table < LIMIT → IfErr result (λ e. (e ≡ Error.CommitUnknown → ⊥) → RemovesDrawn self.old.core.next_table self.new.core.next_table (S.world self.old.store) (S.world self.new.store)) }
         // After an unknown outcome no call of the store is made.
         ensures no_call { is_unsure self.old ≡ true → self.new.store ≡ self.old.store }
@@ -109,13 +111,15 @@ impl<S: Store> Logged<S> {
         ensures behind { S.tells → RemovesBehind (S.world self.old.store) (S.world self.new.store) self.old.core self.new.core }
         // Each record that is there stays known, and a number is forgotten only where its record is gone.
         ensures known { S.tells → KeepsKnown (S.world self.old.store) (S.world self.new.store) self.old.numbers self.new.numbers }
-        // Behind a whole clean-up no record is left that the version has passed: none of the known ones, and with `known` none at all.
+        // Behind a whole clean-up no record is left that the version has passed: none of the known ones, and with `known`
+        // none at all.
         ensures passed_are_gone { S.tells → IfOk result (λ a. IfSome a.1 (λ p. p.1.cleaned ≡ true → AreGone (S.world self.new.store) (log_from_of self.new.core) self.old.numbers)) }
         // As the theory sees it: a rotation, and behind it a flush.
         ensures acts { S.tells → FlushesBothAct watermark result (S.world self.old.store) (S.world self.new.store) self.old self.new }
         ensures upholds { S.tells → UpholdsFiles (S.world self.old.store) (S.world self.new.store) self.old.core self.new.core }
         ensures causes { HasCause (BlamesOrUncleanBehind result) (S.world self.old.store) (S.world self.new.store) }
-        // Refused, no file is left of what it wrote, unless a call of the store failed, or the outcome of a commit is unknown.
+        // Refused, no table's file is left of what it wrote, unless a call of the store failed, or the outcome of a commit is
+        // unknown.
         ensures refused { S.tells → self.old.core.next_table < LIMIT → IfErr result (λ e. (e.0 ≡ Error.CommitUnknown → ⊥) → RemovesDrawn self.old.core.next_table self.new.core.next_table (S.world self.old.store) (S.world self.new.store)) }
         // After an unknown outcome no call of the store is made.
         ensures no_call { is_unsure self.old ≡ true → self.new.store ≡ self.old.store }
@@ -200,7 +204,8 @@ impl<S: Store> Logged<S> {
         ensures behind { S.tells → RemovesBehind (S.world self.old.store) (S.world self.new.store) self.old.core self.new.core }
         // Each record that is there stays known, and a number is forgotten only where its record is gone.
         ensures known { S.tells → KeepsKnown (S.world self.old.store) (S.world self.new.store) self.old.numbers self.new.numbers }
-        // Behind a whole clean-up no record is left that the version has passed: none of the known ones, and with `known` none at all.
+        // Behind a whole clean-up no record is left that the version has passed: none of the known ones, and with `known`
+        // none at all.
         ensures passed_are_gone { S.tells → IfOk result (λ a. a.installed ≡ true → a.cleaned ≡ true → AreGone (S.world self.new.store) (log_from_of self.new.core) self.old.numbers) }
         // As the theory sees it: a flush, or one of unknown outcome, else nothing.
         ensures acts { S.tells → RegistersAct job result (S.world self.old.store) (S.world self.new.store) self.old self.new }
@@ -239,7 +244,8 @@ impl<S: Store> Logged<S> {
         ensures behind { S.tells → RemovesBehind (S.world self.old.store) (S.world self.new.store) self.old.core self.new.core }
         // Each record that is there stays known, and a number is forgotten only where its record is gone.
         ensures known { S.tells → KeepsKnown (S.world self.old.store) (S.world self.new.store) self.old.numbers self.new.numbers }
-        // Behind a whole clean-up no record is left that the version has passed: none of the known ones, and with `known` none at all.
+        // Behind a whole clean-up no record is left that the version has passed: none of the known ones, and with `known`
+        // none at all.
         ensures passed_are_gone { S.tells → OnOk result (AreGone (S.world self.new.store) (log_from_of self.new.core) self.old.numbers) }
         // As the theory sees it: a clear, or one of unknown outcome, else nothing.
         ensures acts { S.tells → ClearsAct result (S.world self.old.store) (S.world self.new.store) self.old self.new }

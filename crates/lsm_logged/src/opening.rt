@@ -152,8 +152,8 @@ impl<S: Store> Logged<S> {
     pub fn open(alloc: Global, config: Config, store: S) -> Result<Logged<S>, (Error, S)>
         ensures opens { IfOk result (OpensLogged S.tells S.world store config) }
         ensures refused { S.tells → IfErr result (λ e. RefusesLogged (S.world store) (S.world e.1) e.0) }
-        // What a crash leaves at each moment of it reads as what it could leave before: the same version, and the same records from its
-        // `log_from` on; and the store may be opened again.
+        // What a crash leaves at each moment of it reads as what it could leave before: the same version, and the same
+        // records from its `log_from` on; and the store may be opened again.
         ensures leaves { S.tells → IsReady (S.world store) → LeavesAsBefore (S.world store) (S.world (logged_left result)) }
         // One call of the store failed where the error says so, and none where it doesn't.
         ensures counts { CountsFaults (S.world store) (S.world (logged_left result)) (logged_told result) }

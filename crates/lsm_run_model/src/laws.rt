@@ -34,7 +34,8 @@ pub fn moments_make_runs<S: Store, V: Finding, R>(_: &S, _: &V, _: &R)
     ensures { (n : ℕ) → MomentsMakeRuns R (V.shows n) S.world }
 {}
 
-/// What a crash left since a moment after the first calls is a beginning of all of them that holds all that those first ones covered.
+/// What a crash left since a moment after the first calls is a beginning of all of them that holds all that those first ones
+/// covered.
 pub fn moments_since<S: Store, V: Finding, R>(_: &S, _: &V, _: &R)
     ensures { (n : ℕ) → MomentsSince R (V.shows n) S.world }
 {}

@@ -58,7 +58,8 @@ pub fn live<S: Store>(
     ensures lives { S.tells → IsReady (S.world store) → (m : Map) → StandsForMap (S.world store).gives m → IfOk result (λ r. LivesInOrder S.world m (take (length r.1.outcomes.items) steps.now) r.1.outcomes.items store r.0.store) }
     // The whole of what `run` says, behind what opening left.
     ensures lives_on { S.tells → IsReady (S.world store) → (m : Map) → StandsForMap (S.world store).gives m → IfOk result (λ r. LivesOn S.world (strategies_of (λ b. may_choose b) (λ b. may_refuse b) strategies.now) m (take (length r.1.outcomes.items) steps.now) r.1.outcomes.items r.0.store r.0.core) }
-    // Refused, it leaves the store ready to be opened again, and meanwhile a crash what it could before, or the tables that were read.
+    // Refused, it leaves the store ready to be opened again, and meanwhile a crash what it could before, or the tables that
+    // were read.
     ensures opens_again { S.tells → IsReady (S.world store) → (tables : Levels) → Finds (S.world store).gives tables → IfErr result (λ e. OpeningLeaves (S.world store) (S.world e.1) tables) }
     // The store is blamed only where a call of it failed.
     ensures causes { IfOk result (λ r. EachHasCause S.world r.1.outcomes.items store r.0.store) }

@@ -367,15 +367,16 @@ pub fn run<S: Store>(
     // Which sequence numbers and keys it uses, and that the journal is in order where the steps' own numbers rise.
     ensures uses { RunUses (take (length result.outcomes.items) steps.now) result.outcomes.items state.old.core }
     ensures rises { RunRises (take (length result.outcomes.items) steps.now) result.outcomes.items state.old.core }
-    // Answers, and what no step changes of them, after whatever was called before, and of the first so many steps, whatever comes later.
+    // Answers, and what no step changes of them, after whatever was called before, and of the first so many steps, whatever
+    // comes later.
     ensures right { RunIsRight (strategies_of (λ b. may_choose b) (λ b. may_refuse b) strategies.now) (take (length result.outcomes.items) steps.now) result.outcomes.items state.old.core state.new.core }
     ensures in_order { RunIsInOrder (strategies_of (λ b. may_choose b) (λ b. may_refuse b) strategies.now) (take (length result.outcomes.items) steps.now) result.outcomes.items state.old.core state.new.core }
     // Each flush and each merge that a step begins ends or is given up, at the latest when the run ends.
     ensures flush { state.new.core.flush ≡ state.old.core.flush }
     ensures merges { state.new.core.merges.underway ≡ state.old.core.merges.underway }
-    // What a crash leaves at each moment, along a chain of stores, after whatever was called before: inside a step it is a beginning of the calls
-    // up to and with it. Calls may go on from there. What each step notes follows from its kind and its reply, and behind each step the store is
-    // ready to be opened again.
+    // What a crash leaves at each moment, along a chain of stores, after whatever was called before: inside a step it is a
+    // beginning of the calls up to and with it. Calls may go on from there. What each step notes follows from its kind and
+    // its reply, and behind each step the store is ready to be opened again.
     ensures moments { S.tells → RunHasMoments S.world (strategies_of (λ b. may_choose b) (λ b. may_refuse b) strategies.now) (take (length result.outcomes.items) steps.now) result.outcomes.items (record { store = state.old.store; stage = at_first state.old.core }) state.new.store state.new.core }
     ensures stored { S.tells → StaysStored (S.world state.old.store) (S.world state.new.store) state.old.core state.new.core }
     // Names that are none of the tree's are as they were, also in what a crash meanwhile leaves.

@@ -20,8 +20,8 @@ pub const LIMIT: SeqNo = 9_223_372_036_854_775_808;
 pub struct Config {
     /// What `id` tells; no file has it.
     pub id: TreeId,
-    /// The first sequence number that the tree draws, also below entries that `open` finds; `open_raised` and a logged tree go on above
-    /// all that they find.
+    /// The first sequence number that the tree draws, also below entries that `open` finds; `open_raised` and a logged tree
+    /// go on above all that they find.
     pub seqno: SeqNo,
     /// The first snapshot that callers are to take, raised alike.
     pub visible_seqno: SeqNo,

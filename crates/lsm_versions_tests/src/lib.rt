@@ -1,4 +1,5 @@
-//! Tests of `lsm_versions`, `lsm_checks` and `lsm_compaction`, and nothing else: a crate with tests is proved twice, with and without them.
+//! Tests of `lsm_versions`, `lsm_checks` and `lsm_compaction`, and nothing else: a crate with tests is proved twice, with and
+//! without them.
 //!
 //! | Module | Tests |
 //! |-|-|

@@ -54,7 +54,7 @@ pub fn finish_noting<S: Store>(
     ensures causes { HasCause (Blames result.0) (S.world tree.old.store) (S.world tree.new.store) }
     // Behind a whole clean-up no file is left of what went.
     ensures gone { S.tells → result.0 ≡ Ok Finished.Installed → LeavesNoFiles (S.world tree.new.store) merged.job.ids tree.old.core.history tree.new.core.history }
-    // Refused, no file is left of what it wrote, unless a call of the store failed, or a version may name it.
+    // Refused, no table's file is left of what it wrote, unless a call of the store failed, or a version may name it.
     ensures refused { S.tells → RemovesRefused result.0 tree.old.core tree.new.core (S.world tree.old.store) (S.world tree.new.store) }
     ensures no_call { IsSome tree.old.core.lost → tree.new.store ≡ tree.old.store }
 {

@@ -117,7 +117,7 @@ impl<S: Store> Recorded<S> {
         ensures causes { HasCause (Blames result) (S.world self.old.tree.store) (S.world self.new.tree.store) }
         // Behind a whole clean-up no file is left of what went.
         ensures gone { S.tells → result ≡ Ok Finished.Installed → LeavesNoFiles (S.world self.new.tree.store) merged.job.ids self.old.tree.core.history self.new.tree.core.history }
-        // Refused, no file is left of what it wrote, unless a call of the store failed, or a version may name it.
+        // Refused, no table's file is left of what it wrote, unless a call of the store failed, or a version may name it.
         ensures refused { S.tells → RemovesRefused result self.old.tree.core self.new.tree.core (S.world self.old.tree.store) (S.world self.new.tree.store) }
         ensures no_call { IsSome self.old.tree.core.lost → self.new.tree.store ≡ self.old.tree.store }
         ensures views { Stays self.old.tree.core self.new.tree.core }
@@ -214,7 +214,7 @@ impl<S: Store> Recorded<S> {
         ensures causes { HasCause (Blames result) (S.world self.old.tree.store) (S.world self.new.tree.store) }
         // Behind a whole clean-up no file is left of what went.
         ensures gone { S.tells → result ≡ Ok Begun.Installed → LeavesNoneChosen (S.world self.new.tree.store) (may_choose strategy.now) self.old.tree.core self.new.tree.core }
-        // Refused, no file is left of what it wrote, unless a call of the store failed, or a version may name it.
+        // Refused, no table's file is left of what it wrote, unless a call of the store failed, or a version may name it.
         ensures refused { S.tells → RemovesRefused result self.old.tree.core self.new.tree.core (S.world self.old.tree.store) (S.world self.new.tree.store) }
         ensures no_call { IsSome self.old.tree.core.lost → self.new.tree.store ≡ self.old.tree.store }
         ensures views { StaysBehind self.old.journal self.new.journal self.old.tree.core self.new.tree.core }
@@ -242,7 +242,7 @@ impl<S: Store> Recorded<S> {
         ensures causes { HasCause (Blames result) (S.world self.old.tree.store) (S.world self.new.tree.store) }
         // Behind a whole clean-up no file is left of what went.
         ensures gone { S.tells → result ≡ Ok Begun.Installed → LeavesNoneChosen (S.world self.new.tree.store) (C.may_choose strategy.now) self.old.tree.core self.new.tree.core }
-        // Refused, no file is left of what it wrote, unless a call of the store failed, or a version may name it.
+        // Refused, no table's file is left of what it wrote, unless a call of the store failed, or a version may name it.
         ensures refused { S.tells → RemovesRefused result self.old.tree.core self.new.tree.core (S.world self.old.tree.store) (S.world self.new.tree.store) }
         ensures no_call { IsSome self.old.tree.core.lost → self.new.tree.store ≡ self.old.tree.store }
         ensures views { StaysBehind self.old.journal self.new.journal self.old.tree.core self.new.tree.core }
@@ -275,7 +275,7 @@ impl<S: Store> Recorded<S> {
         ensures causes { HasCause (Blames result) (S.world self.old.tree.store) (S.world self.new.tree.store) }
         // Behind a whole clean-up no file is left of what went.
         ensures gone { S.tells → result ≡ Ok Begun.Installed → LeavesNoneChosen (S.world self.new.tree.store) (may_choose strategy.now) self.old.tree.core self.new.tree.core }
-        // Refused, no file is left of what it wrote, unless a call of the store failed, or a version may name it.
+        // Refused, no table's file is left of what it wrote, unless a call of the store failed, or a version may name it.
         ensures refused { S.tells → RemovesRefused result self.old.tree.core self.new.tree.core (S.world self.old.tree.store) (S.world self.new.tree.store) }
         ensures no_call { IsSome self.old.tree.core.lost → self.new.tree.store ≡ self.old.tree.store }
         ensures views { StaysBehind self.old.journal self.new.journal self.old.tree.core self.new.tree.core }
@@ -303,7 +303,7 @@ impl<S: Store> Recorded<S> {
         ensures causes { HasCause (Blames result) (S.world self.old.tree.store) (S.world self.new.tree.store) }
         // Behind a whole clean-up no file is left of what went.
         ensures gone { S.tells → result ≡ Ok Begun.Installed → LeavesNoneChosen (S.world self.new.tree.store) (major_choice target) self.old.tree.core self.new.tree.core }
-        // Refused, no file is left of what it wrote, unless a call of the store failed, or a version may name it.
+        // Refused, no table's file is left of what it wrote, unless a call of the store failed, or a version may name it.
         ensures refused { S.tells → RemovesRefused result self.old.tree.core self.new.tree.core (S.world self.old.tree.store) (S.world self.new.tree.store) }
         ensures no_call { IsSome self.old.tree.core.lost → self.new.tree.store ≡ self.old.tree.store }
         ensures views { StaysBehind self.old.journal self.new.journal self.old.tree.core self.new.tree.core }
@@ -327,7 +327,7 @@ impl<S: Store> Recorded<S> {
         ensures causes { HasCause (Blames result) (S.world self.old.tree.store) (S.world self.new.tree.store) }
         // Behind a whole clean-up no file is left of what went.
         ensures gone { S.tells → result ≡ Ok Begun.Installed → LeavesNoneChosen (S.world self.new.tree.store) (drop_choice bounds) self.old.tree.core self.new.tree.core }
-        // Refused, no file is left of what it wrote, unless a call of the store failed, or a version may name it.
+        // Refused, no table's file is left of what it wrote, unless a call of the store failed, or a version may name it.
         ensures refused { S.tells → RemovesRefused result self.old.tree.core self.new.tree.core (S.world self.old.tree.store) (S.world self.new.tree.store) }
         ensures no_call { IsSome self.old.tree.core.lost → self.new.tree.store ≡ self.old.tree.store }
         ensures views { StaysBehind self.old.journal self.new.journal self.old.tree.core self.new.tree.core }

@@ -145,7 +145,8 @@ impl<S: Store> Recorded<S> {
         ensures causes { HasCause (BlamesOrUncleanFlush result) (S.world self.old.tree.store) (S.world self.new.tree.store) }
         // Behind a whole clean-up no file is left of what went.
         ensures gone { S.tells → IfOk result (λ a. IfSome a (λ p. p.1.cleaned ≡ true → LeavesNoFiles (S.world self.new.tree.store) [] self.old.tree.core.history self.new.tree.core.history)) }
-        // Refused, no file is left of what it wrote, unless a call of the store failed, or the outcome of a commit is unknown.
+        // Refused, no table's file is left of what it wrote, unless a call of the store failed, or the outcome of a commit is
+        // unknown.
         ensures refused { S.tells → self.old.tree.core.next_table < LIMIT → IfErr result (λ e. (e ≡ Error.CommitUnknown → ⊥) → RemovesDrawn self.old.tree.core.next_table self.new.tree.core.next_table (S.world self.old.tree.store) (S.world self.new.tree.store)) }
         ensures no_call { IsSome self.old.tree.core.lost → self.new.tree.store ≡ self.old.tree.store }
         ensures views { Stays self.old.tree.core self.new.tree.core }
@@ -190,7 +191,8 @@ impl<S: Store> Recorded<S> {
         ensures causes { HasCause (BlamesOrUncleanBehind result) (S.world self.old.tree.store) (S.world self.new.tree.store) }
         // Behind a whole clean-up no file is left of what went.
         ensures gone { S.tells → IfOk result (λ a. IfSome a.1 (λ p. p.1.cleaned ≡ true → LeavesNoFiles (S.world self.new.tree.store) [] self.old.tree.core.history self.new.tree.core.history)) }
-        // Refused, no file is left of what it wrote, unless a call of the store failed, or the outcome of a commit is unknown.
+        // Refused, no table's file is left of what it wrote, unless a call of the store failed, or the outcome of a commit is
+        // unknown.
         ensures refused { S.tells → self.old.tree.core.next_table < LIMIT → IfErr result (λ e. (e.0 ≡ Error.CommitUnknown → ⊥) → RemovesDrawn self.old.tree.core.next_table self.new.tree.core.next_table (S.world self.old.tree.store) (S.world self.new.tree.store)) }
         ensures no_call { IsSome self.old.tree.core.lost → self.new.tree.store ≡ self.old.tree.store }
         ensures views { Stays self.old.tree.core self.new.tree.core }

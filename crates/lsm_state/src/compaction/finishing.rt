@@ -264,7 +264,7 @@ impl<S: Store> TreeState<S> {
         ensures causes { HasCause (Blames result) (S.world self.old.store) (S.world self.new.store) }
         // Behind a whole clean-up no file is left of what went.
         ensures gone { S.tells → result ≡ Ok Finished.Installed → LeavesNoFiles (S.world self.new.store) merged.job.ids self.old.core.history self.new.core.history }
-        // Refused, no file is left of what it wrote, unless a call of the store failed, or a version may name it.
+        // Refused, no table's file is left of what it wrote, unless a call of the store failed, or a version may name it.
         ensures refused { S.tells → RemovesRefused result self.old.core self.new.core (S.world self.old.store) (S.world self.new.store) }
         ensures no_call { IsSome self.old.core.lost → self.new.store ≡ self.old.store }
         // As the theories see it: the merge and its maintenance, or one of unknown outcome, else nothing.

@@ -110,7 +110,8 @@ impl<S: Store> TreeState<S> {
         ensures causes { HasCause (BlamesOrUncleanFlush (result.0)) (S.world self.old.store) (S.world self.new.store) }
         // Behind a whole clean-up no file is left of what went.
         ensures gone { S.tells → IfOk (result.0) (λ a. IfSome a (λ p. p.1.cleaned ≡ true → LeavesNoFiles (S.world self.new.store) [] self.old.core.history self.new.core.history)) }
-        // Refused, no file is left of what it wrote, unless a call of the store failed, or the outcome of a commit is unknown.
+        // Refused, no table's file is left of what it wrote, unless a call of the store failed, or the outcome of a commit is
+        // unknown.
         ensures refused { S.tells → self.old.core.next_table < LIMIT → IfErr (result.0) (λ e. (e ≡ Error.CommitUnknown → ⊥) → RemovesDrawn self.old.core.next_table self.new.core.next_table (S.world self.old.store) (S.world self.new.store)) }
         ensures no_call { IsSome self.old.core.lost → self.new.store ≡ self.old.store }
         // Where nothing is sealed it makes none either.
@@ -146,7 +147,8 @@ impl<S: Store> TreeState<S> {
         ensures causes { HasCause (BlamesOrUncleanFlush result) (S.world self.old.store) (S.world self.new.store) }
         // Behind a whole clean-up no file is left of what went.
         ensures gone { S.tells → IfOk result (λ a. IfSome a (λ p. p.1.cleaned ≡ true → LeavesNoFiles (S.world self.new.store) [] self.old.core.history self.new.core.history)) }
-        // Refused, no file is left of what it wrote, unless a call of the store failed, or the outcome of a commit is unknown.
+        // Refused, no table's file is left of what it wrote, unless a call of the store failed, or the outcome of a commit is
+        // unknown.
         ensures refused { S.tells → self.old.core.next_table < LIMIT → IfErr result (λ e. (e ≡ Error.CommitUnknown → ⊥) → RemovesDrawn self.old.core.next_table self.new.core.next_table (S.world self.old.store) (S.world self.new.store)) }
         ensures no_call { IsSome self.old.core.lost → self.new.store ≡ self.old.store }
         // Where nothing is sealed it makes none either.
@@ -174,7 +176,8 @@ impl<S: Store> TreeState<S> {
         ensures causes { HasCause (BlamesOrUncleanBehind result) (S.world self.old.store) (S.world self.new.store) }
         // Behind a whole clean-up no file is left of what went.
         ensures gone { S.tells → IfOk result (λ a. IfSome a.1 (λ p. p.1.cleaned ≡ true → LeavesNoFiles (S.world self.new.store) [] self.old.core.history self.new.core.history)) }
-        // Refused, no file is left of what it wrote, unless a call of the store failed, or the outcome of a commit is unknown.
+        // Refused, no table's file is left of what it wrote, unless a call of the store failed, or the outcome of a commit is
+        // unknown.
         ensures refused { S.tells → self.old.core.next_table < LIMIT → IfErr result (λ e. (e.0 ≡ Error.CommitUnknown → ⊥) → RemovesDrawn self.old.core.next_table self.new.core.next_table (S.world self.old.store) (S.world self.new.store)) }
         ensures no_call { IsSome self.old.core.lost → self.new.store ≡ self.old.store }
     {
