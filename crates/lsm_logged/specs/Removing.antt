@@ -31,10 +31,14 @@ pub record KeepsKnown (old new : World) (numbers left : List ℕ) : Type 0 where
   -- each record that is there is known, where each was
   pub known : AreKnown old numbers → AreKnown new left
 
+-- names that aren't those of records with these numbers give what they gave
+abbrev pub KeepsRest : List ℕ → World → World → Type 0
+KeepsRest numbers old new = (n : List ℕ) → IsNoneOf (Contains numbers) n → new.gives n ≡ old.gives n
+
 -- records below `log_from` go, and nothing else, nor is another one brought back; after Ok none of these numbers is left below
 pub record RemovesPassed {T : Type 0} (from : ℕ) (numbers : List ℕ) (old new : World) (r : Result T Error) : Type 0 where
   pub clears : ClearsRecords (IsBelow from) old new
-  pub others : (n : List ℕ) → IsNoneOf (Contains numbers) n → new.gives n ≡ old.gives n
+  pub others : KeepsRest numbers old new
   pub any_moment : LeavesOnly old new (AreCleared (IsBelow from) old)
   pub gone : OnOk r (AreGone new from numbers)
 

@@ -2,11 +2,11 @@
 ghost use Rattle.std.specs.Prelude.{◌≡◌, ◌⊎◌, ◌<◌, ◌^◌, [], true, false, map, IfOk, IfErr, OnOk, IfSome, IsErrOf};
 ghost use Rattle.lsm_commit.specs.Causes.{HasCause, Blames};
 ghost use Rattle.lsm_state.specs.Causes.{BlamesOrUncleanFlush, BlamesOrUncleanBehind, BlamesOrUnclean, BlamesBeside};
-ghost use Rattle.lsm_state.specs.Cleaning.{RemovesDrawn, RemovesTables};
+ghost use Rattle.lsm_state.specs.Cleaning.{LeavesNoFiles, RemovesDrawn, RemovesTables};
 ghost use Rattle.lsm_state.specs.Commits.{UpholdsFiles, Upholds};
 ghost use Rattle.lsm_state.specs.Flushes.{sealed_ids, spent, IsCurrent};
 ghost use Rattle.lsm_logged.specs.Keeping.{is_unsure};
-ghost use Rattle.lsm_logged.specs.Removing.{log_from_of, AreGone, KeepsKnown, Passed};
+ghost use Rattle.lsm_logged.specs.Removing.{log_from_of, AreGone, KeepsKnown, KeepsRest, Passed};
 ghost use Rattle.lsm_logged.specs.Acting.{ActsNot, FlushesAct, FlushesBothAct, RegistersAct, ClearsAct};
 ghost use Rattle.lsm_logged.specs.Flushing.{FlushesLogged, FlushesBoth, BeginsLogged, WritesJobLogged, RegistersLogged, ClearsLogged, CleansLog, RemovesBehind};
 
@@ -41,6 +41,7 @@ impl<S: Store> Logged<S> {
         ensures passes { S.tells → Passed (log_from_of self.old.core) (S.world self.old.store) (S.world self.new.store) }
         ensures upholds { S.tells → UpholdsFiles (S.world self.old.store) (S.world self.new.store) self.old.core self.new.core }
         ensures known { S.tells → KeepsKnown (S.world self.old.store) (S.world self.new.store) self.old.numbers self.new.numbers }
+        ensures others { S.tells → KeepsRest self.old.numbers (S.world self.old.store) (S.world self.new.store) }
         ensures gone { S.tells → result.installed ≡ true → result.cleaned ≡ true → AreGone (S.world self.new.store) (log_from_of self.old.core) self.old.numbers }
         ensures causes { HasCause (flushed.cleaned ≡ true × result.cleaned ≡ false) (S.world self.old.store) (S.world self.new.store) }
     {
@@ -77,6 +78,8 @@ impl<S: Store> Logged<S> {
         ensures upholds { S.tells → UpholdsFiles (S.world self.old.store) (S.world self.new.store) self.old.core self.new.core }
         // The store is blamed only where a call of it failed.
         ensures causes { HasCause (BlamesOrUncleanFlush result) (S.world self.old.store) (S.world self.new.store) }
+        // Behind a whole clean-up no file is left of what went.
+        ensures gone { S.tells → IfOk result (λ a. IfSome a (λ p. p.1.cleaned ≡ true → LeavesNoFiles (S.world self.new.store) [] self.old.core.history self.new.core.history)) }
         // Refused, no table's file is left of what it wrote, unless a call of the store failed, or the outcome of a commit is
         // unknown.
         ensures refused { S.tells → self.old.core.next_table < LIMIT → IfErr result (λ e. (e ≡ Error.CommitUnknown → ⊥) → RemovesDrawn self.old.core.next_table self.new.core.next_table (S.world self.old.store) (S.world self.new.store)) }
@@ -118,6 +121,8 @@ impl<S: Store> Logged<S> {
         ensures acts { S.tells → FlushesBothAct watermark result (S.world self.old.store) (S.world self.new.store) self.old self.new }
         ensures upholds { S.tells → UpholdsFiles (S.world self.old.store) (S.world self.new.store) self.old.core self.new.core }
         ensures causes { HasCause (BlamesOrUncleanBehind result) (S.world self.old.store) (S.world self.new.store) }
+        // Behind a whole clean-up no file is left of what went.
+        ensures gone { S.tells → IfOk result (λ a. IfSome a.1 (λ p. p.1.cleaned ≡ true → LeavesNoFiles (S.world self.new.store) [] self.old.core.history self.new.core.history)) }
         // Refused, no table's file is left of what it wrote, unless a call of the store failed, or the outcome of a commit is
         // unknown.
         ensures refused { S.tells → self.old.core.next_table < LIMIT → IfErr result (λ e. (e.0 ≡ Error.CommitUnknown → ⊥) → RemovesDrawn self.old.core.next_table self.new.core.next_table (S.world self.old.store) (S.world self.new.store)) }
@@ -211,6 +216,8 @@ impl<S: Store> Logged<S> {
         ensures acts { S.tells → RegistersAct job result (S.world self.old.store) (S.world self.new.store) self.old self.new }
         ensures upholds { S.tells → UpholdsFiles (S.world self.old.store) (S.world self.new.store) self.old.core self.new.core }
         ensures causes { HasCause (BlamesOrUnclean result) (S.world self.old.store) (S.world self.new.store) }
+        // Behind a whole clean-up no file is left of what went.
+        ensures gone { S.tells → IfOk result (λ a. a.installed ≡ true → a.cleaned ≡ true → LeavesNoFiles (S.world self.new.store) [] self.old.core.history self.new.core.history) }
         // Refused so while it is current, no file is left of its tables, unless a call of the store failed.
         ensures refused { S.tells → IsCurrent job self.old.core → IsErrOf result Error.OutOfNumbers ⊎ IsErrOf result Error.TooManyRuns → RemovesTables (map (λ t. t.id) job.tables) (S.world self.old.store) (S.world self.new.store) }
         // After an unknown outcome no call of the store is made.

@@ -7,3 +7,6 @@ returns-clause-passes g c tells =
     let w = g.S.Store.world in
     let old = c.args.self.now in
     removed_on (log_from_of old.core) old.numbers (w old.store) (w c.remove_passed.new.self.store) c.remove_passed.result (c.remove_passed.ensures.removes tells)
+
+pub returns-clause-others : goal.returns-clause-others
+returns-clause-others g c tells = (c.remove_passed.ensures.removes tells).others

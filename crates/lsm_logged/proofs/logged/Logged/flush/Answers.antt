@@ -1,9 +1,9 @@
-use Rattle.std.proofs.Common.{◌≡◌, ◌⊎◌, ℕ, ◌<◌, ◌^◌, false, [], Option, Some, None, Result, Ok, Err, IfErr, arith, inl, refl, sym, ap, ◌∙◌, subst}
+use Rattle.std.proofs.Common.{◌≡◌, ◌⊎◌, ℕ, ◌<◌, ◌^◌, true, false, [], Option, Some, None, IfSome, Result, Ok, Err, IfErr, arith, inl, refl, sym, ap, ◌∙◌, subst}
 use Rattle.std.proofs.lemmas.Result.{err_from_is_err_and}
 use Rattle.lsm_below.specs.declared.error.Error.{Error}
 use Rattle.lsm_below.specs.declared.error.Error.TheVariants.{CommitUnknown, Unrecoverable}
 use Rattle.lsm_flush.specs.declared.jobs.Registered.{Registered}
-use Rattle.lsm_state.specs.Cleaning.{RemovesDrawn}
+use Rattle.lsm_state.specs.Cleaning.{LeavesNoFiles, RemovesDrawn}
 use Rattle.lsm_state.specs.Flushes.{sealed_ids}
 use Rattle.lsm_state.specs.WholeFlushes.{Flushes}
 use Rattle.lsm_logged.specs.Keeping.{SeenLogged}
@@ -12,6 +12,7 @@ use Rattle.lsm_logged.specs.Acting.{FlushesAct}
 use Rattle.lsm_logged.proofs.FlushActs.{unsure_flush, refused_flush, installed_flush, none_flush}
 use Rattle.lsm_logged.proofs.Known.{known_still, leaves_logged, all_left, gone_left}
 use Rattle.lsm_logged.proofs.Removals.{passes_alone, none_alone, leaves_behind}
+use Rattle.lsm_logged.proofs.Gone.{gone_behind}
 use Rattle.lsm_logged.proofs.Seen.{logged_with}
 use Rattle.lsm_logged.proofs.logged.Logged.flush.Goals as goal
 
@@ -132,3 +133,11 @@ returns-in_err-flushed-clause-refused g c tells =
     let told = err_from_is_err_and c.from_residual.result c.from_residual.ensures.1 in
     subst (λ (t : SeenLogged g.row.S.Denot). t.core.next_table < 2 ^ 63 → IfErr c.from_residual.result (λ e. (e ≡ CommitUnknown → ⊥) → RemovesDrawn t.core.next_table new.core.next_table (w t.store) (w new.store))) c.self.view_is
     (subst (λ (r : Result (Option (ℕ × Registered)) Error). old.core.next_table < 2 ^ 63 → IfErr r (λ e. (e ≡ CommitUnknown → ⊥) → RemovesDrawn old.core.next_table new.core.next_table (w old.store) (w new.store))) (sym (told.1 ∙ ap (λ (x : Error). Err x) told.2)) (c.in_err-flushed.ensures.refused tells))
+
+pub returns-in-Some-clause-gone : goal.returns-in-Some-clause-gone
+returns-in-Some-clause-gone g c tells cleaned =
+    let w = g.S.Store.world in
+    let i = c.self.inside in
+    let mid = c.flush.new.self in
+    let left = subst (λ (x : Option (ℕ × Registered)). IfSome x (λ p. p.1.cleaned ≡ true → LeavesNoFiles (w mid.store) [] i.tree.core.history mid.core.history)) c.in-Some.is (c.in_ok-flushed.ensures.gone tells) in
+    gone_behind w i.tree mid i.numbers.items i.doubted c.clean_log.new.self c.args.self.now c.self.view_is c.clean_log.ensures.cleans.core (c.clean_log.ensures.others tells) (left (c.clean_log.ensures.cleans.cleaned cleaned))

@@ -8,6 +8,7 @@ use Rattle.lsm_state.proofs.WholeFlushes.{rotated_table}
 use Rattle.lsm_logged.specs.Keeping.{SeenLogged}
 use Rattle.lsm_logged.specs.Removing.{log_from_of, AreGone, KeepsKnown}
 use Rattle.lsm_logged.specs.Acting.{ActsBehind}
+use Rattle.lsm_logged.proofs.Gone.{rotated_gone}
 use Rattle.lsm_logged.proofs.Known.{known_still, known_behind}
 use Rattle.lsm_logged.proofs.Removals.{behind_rotated, upheld_rotated}
 use Rattle.lsm_logged.proofs.RotateActs.{refused_rotation, flushed_behind}
@@ -105,3 +106,8 @@ returns-in-Err-flush-clause-refused g c tells =
     let same = rotated_table old.core c.in-Ok.sealed mid.core c.in-Ok.ensures.ok in
     let did = subst (λ n. n < 2 ^ 63 → (e ≡ CommitUnknown → ⊥) → RemovesDrawn n new.core.next_table (w mid.store) (w new.store)) same (c.in-Err-flush.ensures.refused tells) in
     subst (λ (s : g.row.S.Denot). old.core.next_table < 2 ^ 63 → (e ≡ CommitUnknown → ⊥) → RemovesDrawn old.core.next_table new.core.next_table (w s) (w new.store)) c.in-Ok.ensures.store did
+
+pub returns-in-Ok-flush-clause-gone : goal.returns-in-Ok-flush-clause-gone
+returns-in-Ok-flush-clause-gone g c tells =
+    let new = c.flush.new.self in
+    rotated_gone (g.S.Store.world new.store) c.in-Ok-flush.flushed c.args.self.now.core c.rotate_memtable.new.self.core c.in-Ok.sealed new.core.history c.in-Ok.ensures.ok (c.in-Ok-flush.ensures.gone tells)

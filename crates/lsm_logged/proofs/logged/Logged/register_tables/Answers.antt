@@ -15,6 +15,7 @@ use Rattle.lsm_logged.specs.Removing.{KeepsKnown}
 use Rattle.lsm_logged.specs.Flushing.{RemovesBehind}
 use Rattle.lsm_logged.specs.Acting.{RegistersAct}
 use Rattle.lsm_logged.proofs.RegisterActs.{spent_acts, refused_acts, registered_acts}
+use Rattle.lsm_logged.proofs.Gone.{gone_behind}
 use Rattle.lsm_logged.proofs.Known.{known_still, leaves_logged, all_left, gone_left}
 use Rattle.lsm_logged.proofs.Removals.{none_behind, passes_alone, none_alone, leaves_behind}
 use Rattle.lsm_logged.proofs.Seen.{logged_with}
@@ -148,3 +149,10 @@ returns-in_err-registered-clause-refused g c tells =
 
 pub returns-clause-refused : goal.returns-clause-refused
 returns-clause-refused g c tells current = ⊎_elim (λ h. cc h) (λ h. cc h)
+
+pub returns-clause-gone : goal.returns-clause-gone
+returns-clause-gone g c tells installed cleaned =
+    let i = c.self.inside in
+    let cleans = c.clean_log.ensures.cleans in
+    let left = c.in_ok-registered.ensures.gone tells (sym cleans.installed ∙ installed) (cleans.cleaned cleaned) in
+    gone_behind g.S.Store.world i.tree c.register_tables.new.self i.numbers.items i.doubted c.clean_log.new.self c.args.self.now c.self.view_is cleans.core (c.clean_log.ensures.others tells) left
