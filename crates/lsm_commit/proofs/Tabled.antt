@@ -18,6 +18,7 @@ use Rattle.lsm_versions.specs.Levels.{HasOwnIds}
 use Rattle.lsm_versions.specs.Installs.{CutTablesAreRuns}
 use Rattle.lsm_manifest.specs.Names.{table_name}
 use Rattle.lsm_commit.specs.Stored.{table_file, IsTableOnDisk, AreOnDisk}
+use Rattle.lsm_commit.specs.declared.tables.TheConstants.{TABLE_TARGET}
 use Rattle.lsm_commit.specs.Writing.{HoldEntries}
 use Rattle.lsm_commit.proofs.NextFiles.{file_stays}
 
@@ -38,6 +39,7 @@ pub record IsUnderway (target made_at first next : ℕ) (es : List Entry) (table
   pub fresh : AllByRecursion (λ t. first ≤ t.id) tables
   pub below : AllByRecursion (λ t. t.id < next) tables
   pub own_ids : HasOwnIds tables
+  pub drawn : next ≡ first + length tables
   pub rises : first ≤ next
 
 -- a table more is written, and one id more is used
@@ -51,7 +53,7 @@ unfolding IsDistinct
 own_none = tt
 
 pub underway_none : (target made_at first : ℕ) (es : List Entry) → IsWritable es → IsUnderway target made_at first first es [] es
-underway_none target made_at first es writable = record { goes_on = λ later cut. cut; writable = writable; made = tt; fresh = tt; below = tt; own_ids = own_none; rises = omega arith }
+underway_none target made_at first es writable = record { goes_on = λ later cut. cut; writable = writable; made = tt; fresh = tt; below = tt; own_ids = own_none; drawn = omega arith; rises = omega arith }
 
 not_there : (n : ℕ) (tables : List SeenTable) → AllByRecursion (λ t. t.id < n) tables → list_any (λ j. eqb n j) (map (λ t. t.id) tables) ≡ false
 not_there n [] h = refl
@@ -62,6 +64,8 @@ pub underway_more : (target made_at first next : ℕ) (es : List Entry) (tables 
 underway_more target made_at first next es tables rest front behind t so_far is writable cut =
     let id : t.id ≡ next = ap (λ (u : SeenTable). u.id) is in
     let le : first ≤ next = so_far.rises in
+    let drawn : next ≡ first + length tables = so_far.drawn in
+    let one_more : length (tables ++ t ∷ []) ≡ length tables + 1 = length-append tables (t ∷ []) in
     let listed : map (λ (u : SeenTable). u.entries) (tables ++ t ∷ []) ≡ map (λ u. u.entries) tables ++ front ∷ [] = map-append (λ (u : SeenTable). u.entries) tables (t ∷ []) ∙ ap (λ (u : SeenTable). map (λ u. u.entries) tables ++ u.entries ∷ []) is in
     record {
       goes_on = λ later rest_cut. subst (λ (l : List (List Entry)). IsCutting target es l) (sym (ap (λ (l : List (List Entry)). l ++ later) listed ∙ append_assoc (map (λ u. u.entries) tables) (front ∷ []) later)) (so_far.goes_on (front ∷ later) (cut later rest_cut));
@@ -70,6 +74,7 @@ underway_more target made_at first next es tables rest front behind t so_far is 
       fresh = each_push (λ u. first ≤ u.id) tables t so_far.fresh (omega (arith, id, le));
       below = each_push (λ u. u.id < next + 1) tables t (each_weaker (λ u. u.id < next) (λ u. u.id < next + 1) (λ u (h : u.id < next). omega arith) tables so_far.below) (omega (arith, id));
       own_ids = subst (IsDistinct nat_eq) (sym (map-append (λ (u : SeenTable). u.id) tables (t ∷ []))) (IsDistinct-push nat_eq_equiv (map (λ u. u.id) tables) t.id so_far.own_ids (subst (λ i. list_any (λ j. eqb i j) (map (λ u. u.id) tables) ≡ false) (sym id) (not_there next tables so_far.below)));
+      drawn = omega (arith, drawn, one_more);
       rises = omega arith;
     }
 
@@ -77,16 +82,18 @@ flat_entries : (tables : List SeenTable) → flat_map (λ l. l) (map (λ t. t.en
 flat_entries [] = refl
 flat_entries (t ∷ tables) = flat_map-cons (λ (l : List Entry). l) t.entries (map (λ t. t.entries) tables) ∙ ap (λ (l : List Entry). t.entries ++ l) (flat_entries tables) ∙ sym (flat_map-cons (λ (u : SeenTable). u.entries) t tables)
 
-pub all_written : CutTablesAreRuns → (target made_at first next : ℕ) (es : List Entry) (tables : List SeenTable) (rest : List Entry) → IsWritable es → IsUnderway target made_at first next es tables rest → rest ≡ [] → HoldEntries made_at es first next tables
-all_written runs target made_at first next es tables rest writable done none =
-    let cut : IsCutting target es (map (λ t. t.entries) tables) = subst (λ (l : List (List Entry)). IsCutting target es l) (append-nil (map (λ t. t.entries) tables)) (done.goes_on [] (subst (λ (l : List Entry). IsCutting target l []) (sym none) (cut_none target))) in
+pub all_written : CutTablesAreRuns → (made_at first next : ℕ) (es : List Entry) (tables : List SeenTable) (rest : List Entry) → IsWritable es → IsUnderway TABLE_TARGET made_at first next es tables rest → rest ≡ [] → HoldEntries made_at es first next tables
+all_written runs made_at first next es tables rest writable done none =
+    let cut : IsCutting TABLE_TARGET es (map (λ t. t.entries) tables) = subst (λ (l : List (List Entry)). IsCutting TABLE_TARGET es l) (append-nil (map (λ t. t.entries) tables)) (done.goes_on [] (subst (λ (l : List Entry). IsCutting TABLE_TARGET l []) (sym none) (cut_none TABLE_TARGET))) in
     record {
       whole = sym (flat_entries tables) ∙ cut.whole;
+      cut = cut;
       made = done.made;
-      run = runs target es tables writable.rises cut;
+      run = runs TABLE_TARGET es tables writable.rises cut;
       fresh = done.fresh;
       below = done.below;
       own_ids = done.own_ids;
+      drawn = done.drawn;
     }
 
 -- ---- files

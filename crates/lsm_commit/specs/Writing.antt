@@ -1,22 +1,27 @@
 -- Tables that are written under the next ids.
-use Rattle.std.specs.Prelude.{◌≡◌, ◌≢◌, ℕ, ◌<◌, ◌≤◌, ◌^◌, List, flat_map}
+use Rattle.std.specs.Prelude.{◌≡◌, ◌≢◌, ℕ, ◌+◌, ◌<◌, ◌≤◌, ◌^◌, List, length, map, flat_map}
 use Rattle.std.specs.List.{AllByRecursion}
 use Rattle.lsm_below.specs.Entries.{Entry}
 use Rattle.lsm_below.specs.Runs.{IsRun}
 use Rattle.lsm_store.specs.World.{Image, World}
+use Rattle.lsm_tables.specs.Cutting.{IsCutting}
 use Rattle.lsm_tables.specs.Tables.{SeenTable}
 use Rattle.lsm_versions.specs.Levels.{SeenVersion, range, all_of, HasOwnIds}
 use Rattle.lsm_manifest.specs.Names.{table_name}
+use Rattle.lsm_commit.specs.declared.tables.TheConstants.{TABLE_TARGET}
 use Rattle.lsm_commit.specs.Stored.{IsStored, Keeps, Leaves}
 
--- the tables that hold these entries, made at this moment, under ids from first on and below next
+-- the tables that hold these entries, made at this moment, each cut where it has the target of 64 MiB, under ids from first on and below
+-- next, of which each table has one
 pub record HoldEntries (made_at : ℕ) (entries : List Entry) (first next : ℕ) (tables : List SeenTable) : Type 0 where
   pub whole : flat_map (λ t. t.entries) tables ≡ entries
+  pub cut : IsCutting TABLE_TARGET entries (map (λ t. t.entries) tables)
   pub made : AllByRecursion (λ t. t.created_at ≡ made_at) tables
   pub run : IsRun range tables
   pub fresh : AllByRecursion (λ t. first ≤ t.id) tables
   pub below : AllByRecursion (λ t. t.id < next) tables
   pub own_ids : HasOwnIds tables
+  pub drawn : next ≡ first + length tables
 
 -- the name of no table from this id on
 abbrev pub IsElsewhere : ℕ → List ℕ → Type 0

@@ -1,5 +1,5 @@
 -- A compaction in one call: what a crash in its parts leaves, and which files are left.
-use Rattle.std.proofs.Common.{◌≡◌, ◌⊎◌, ℕ, ◌-◌, ◌≤◌, ◌<◌, ◌^◌, min, Option, None, Some, IsSome, Result, Ok, Err, inl, inr, ⊎_elim, refl, sym, ap, subst, ◌∙◌}
+use Rattle.std.proofs.Common.{◌≡◌, ◌⊎◌, ℕ, ◌-◌, ◌≤◌, ◌<◌, ◌^◌, min, Option, None, Some, IsSome, Result, Ok, Err, IfOk, inl, inr, ⊎_elim, refl, sym, ap, subst, ◌∙◌}
 use Rattle.lsm_below.specs.declared.error.Error.{Error}
 use Rattle.lsm_below.specs.declared.error.Error.TheVariants.{CommitUnknown, AfterCommit}
 use Rattle.lsm_store.specs.World.{World}
@@ -16,7 +16,7 @@ use Rattle.lsm_state.specs.declared.compaction.Begun.TheVariants.{DidNothing, De
 use Rattle.lsm_state.specs.Core.{Core, versions_left}
 use Rattle.lsm_state.specs.Commits.{Upholds, counted}
 use Rattle.lsm_state.specs.Cleaning.{LeavesNoFiles, RemovesDrawn, RemovesRefused}
-use Rattle.lsm_state.specs.Compactions.{reason_of, job_for, InstallsChoice, OpensMerge, Does, BeginsChoice, Relation, BeginsCompaction, Spends, given_up, LeavesNoneChosen}
+use Rattle.lsm_state.specs.Compactions.{reason_of, job_for, InstallsChoice, OpensMerge, Does, BeginsChoice, Relation, BeginsCompaction, Spends, given_up, LeavesNoneChosen, InstallsOrRests}
 use Rattle.lsm_state.specs.WholeCompactions.{Follows}
 use Rattle.lsm_state.proofs.Causing.{removes_then}
 use Rattle.lsm_state.proofs.Installing.{upholds_join}
@@ -207,3 +207,21 @@ refused_behind w v u begun (Err e) old mid new rises draws follows did = λ smal
     by_begun small known before (Ok (Declined why)) drawn is = absurd (cc is.0)
     by_begun small known before (Ok Installed) drawn is = absurd (cc is.0)
     by_begun small known before (Err d) drawn is = let one = same_error e d is.0 in then small known before (drawn (λ h. known (one ∙ h)) (λ h. before (one ∙ h)))
+
+-- where neither installs anything, both together make no call of the store
+pub rests_behind : {S : Type 0} (begun r : Result Begun Error) (s m n : S) (mid new : Core) → Follows begun r mid new → IfOk begun (λ b. InstallsOrRests b s m) → IfOk r (λ b. InstallsOrRests b m n) → IfOk r (λ b. InstallsOrRests b s n)
+rests_behind begun (Err e) s m n mid new follows first then = tt
+rests_behind {S} begun (Ok x) s m n mid new follows first then = by_begun begun follows first
+  where
+    moved : m ≡ s → InstallsOrRests x s n
+    moved same = subst (λ (t : S). InstallsOrRests x t n) same then
+
+    same_answer : (y : Begun) → ◌≡◌ {A = Result Begun Error} (Ok x) (Ok y) → x ≡ y
+    same_answer y h = cc h
+
+    by_begun : (b : Result Begun Error) → Follows b (Ok x) mid new → IfOk b (λ y. InstallsOrRests y s m) → InstallsOrRests x s n
+    by_begun (Ok (Job job)) is rests = moved rests
+    by_begun (Ok DidNothing) is rests = moved rests
+    by_begun (Ok (Declined why)) is rests = moved rests
+    by_begun (Ok Installed) is rests = subst (λ (y : Begun). InstallsOrRests y s n) (sym (same_answer Installed is.0)) tt
+    by_begun (Err e) is rests = absurd (cc is.0)

@@ -6,7 +6,9 @@ use Rattle.std.proofs.lemmas.Bool.Decides.{nat_tests}
 use Rattle.lsm_below.specs.Each.{each_left, each_right, each_weaker, each_append}
 use Rattle.lsm_below.specs.Entries.{Entry}
 use Rattle.lsm_store.specs.World.{World}
+use Rattle.lsm_tables.specs.Cutting.{IsCutting}
 use Rattle.lsm_tables.specs.Tables.{SeenTable}
+use Rattle.lsm_tables.proofs.Cutting.{cut_none}
 use Rattle.lsm_versions.specs.Levels.{SeenVersion, all_of, HasOwnIds}
 use Rattle.lsm_commit.specs.Stored.{IsStored, AreOnDisk}
 use Rattle.lsm_commit.specs.Writing.{HoldEntries, KeepsStored}
@@ -51,7 +53,16 @@ none_or (e ∷ es) h = let none : suc (length es) ≡ 0 = is_zero (suc (length e
 
 -- no entries: no tables
 pub no_tables : (made_at n : ℕ) (es : List Entry) (tables : List SeenTable) → nat_eq (length es) 0 ≡ true → tables ≡ [] → HoldEntries made_at es n n tables
-no_tables made_at n es tables empty none = subst (HoldEntries made_at es n n) (sym none) (record { whole = sym (none_or es empty); made = tt; run = tt; fresh = tt; below = tt; own_ids = own_none })
+no_tables made_at n es tables empty none = subst (HoldEntries made_at es n n) (sym none) (record {
+  whole = sym (none_or es empty);
+  cut = subst (λ (l : List Entry). IsCutting _ l []) (sym (none_or es empty)) (cut_none _);
+  made = tt;
+  run = tt;
+  fresh = tt;
+  below = tt;
+  own_ids = own_none;
+  drawn = omega arith;
+})
 
 -- ---- what a tree keeps
 

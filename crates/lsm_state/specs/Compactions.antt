@@ -166,6 +166,13 @@ given_up (Drop ids) = ids.keys
 abbrev pub LeavesNoneChosen : World → Relation Choice → Core → Core → Type 0
 LeavesNoneChosen w may_choose old new = (choice : Choice) × MayAnswer may_choose old choice × LeavesNoFiles w (given_up choice) old.history new.history
 
+-- with this answer something was installed, or no call of the store was made
+abbrev pub InstallsOrRests : {S : Type 0} → Begun → S → S → Type 0
+InstallsOrRests Installed old new = Unit {0}
+InstallsOrRests DidNothing old new = new ≡ old
+InstallsOrRests (Declined why) old new = new ≡ old
+InstallsOrRests (Job job) old new = new ≡ old
+
 -- what beginning a compaction answers and does
 pub record BeginsCompaction (may_choose : Relation Choice) (may_refuse : Relation ChooseError) (o : Options) (r : Result Begun Error) (old new : Core) : Type 0 where
   pub unrecoverable : IsErrOf r Unrecoverable ↔ IsSome old.lost
@@ -244,6 +251,11 @@ abbrev pub Ends : SeenCompaction → Result Finished Error → Core → Core →
 Ends job r old new =
     ((r ≡ Err OutOfMemory) × (new ≡ old))
     ⊎ ((why : Option Why) × IsLastReason (tables_of job.inputs) job.ids job.settings.dest_level (levels_of old) why × EndsFor job why r old new)
+
+-- with this end the merge was installed, or no call of the store was made
+abbrev pub EndsOrRests : {S : Type 0} → Finished → S → S → Type 0
+EndsOrRests Done old new = Unit {0}
+EndsOrRests (Over why) old new = new ≡ old
 
 -- a job is spent: it is no longer open, where it was
 abbrev pub Spends : SeenCompaction → Core → Core → Type 0

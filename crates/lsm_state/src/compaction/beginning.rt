@@ -6,7 +6,7 @@ ghost use Rattle.lsm_commit.specs.Causes.{HasCause, Blames};
 ghost use Rattle.lsm_state.specs.Cleaning.{LeavesNoFiles};
 ghost use Rattle.lsm_state.specs.Commits.{Upholds};
 ghost use Rattle.lsm_state.specs.Settling.{MaySettle, HasItsTables};
-ghost use Rattle.lsm_state.specs.Compactions.{hidden_in, levels_of, reason_of, IsPossible, IsMovedTo, IsDroppedFrom, IsNotMoved, IsNotDropped, InstallsChoice, OpensMerge, Does, BeginsChoice, BeginsCompaction, MayAnswer, error_of, given_up, LeavesNoneChosen};
+ghost use Rattle.lsm_state.specs.Compactions.{hidden_in, levels_of, reason_of, IsPossible, IsMovedTo, IsDroppedFrom, IsNotMoved, IsNotDropped, InstallsChoice, OpensMerge, Does, BeginsChoice, BeginsCompaction, MayAnswer, error_of, given_up, LeavesNoneChosen, InstallsOrRests};
 ghost use Rattle.lsm_state.specs.CompactionDeeds.{ChoiceDeeds};
 
 use crate::{Begun, Options, TreeState, compactions_are_deeds};
@@ -109,6 +109,7 @@ impl<S: Store> TreeState<S> {
         ensures upholds { S.tells → Upholds (S.world self.old.store) (S.world self.new.store) self.old.core self.new.core }
         ensures causes { HasCause (Blames result) (S.world self.old.store) (S.world self.new.store) }
         ensures gone { S.tells → OnOk result (LeavesNoFiles (S.world self.new.store) [] self.old.core.history self.new.core.history) }
+        ensures rests { IfOk result (λ b. InstallsOrRests b self.old.store self.new.store) }
     {
         self.is_upheld();
         if self.seqno.get() >= LIMIT {
@@ -133,6 +134,7 @@ impl<S: Store> TreeState<S> {
         ensures upholds { S.tells → Upholds (S.world self.old.store) (S.world self.new.store) self.old.core self.new.core }
         ensures causes { HasCause (Blames result) (S.world self.old.store) (S.world self.new.store) }
         ensures gone { S.tells → OnOk result (LeavesNoFiles (S.world self.new.store) ids.now.keys self.old.core.history self.new.core.history) }
+        ensures rests { IfOk result (λ b. InstallsOrRests b self.old.store self.new.store) }
     {
         self.is_upheld();
         if self.seqno.get() >= LIMIT {
@@ -160,6 +162,7 @@ impl<S: Store> TreeState<S> {
         requires possible { IsPossible (Merge input) self.old.core }
         ensures opens { OpensMerge input options result self.old.core self.new.core }
         ensures store { self.new.store ≡ self.old.store }
+        ensures rests { IfOk result (λ b. InstallsOrRests b self.old.store self.new.store) }
     {
         let settings = MergeSettings {
             dest_level: input.dest_level,
@@ -186,6 +189,7 @@ impl<S: Store> TreeState<S> {
         ensures upholds { S.tells → Upholds (S.world self.old.store) (S.world self.new.store) self.old.core self.new.core }
         ensures causes { HasCause (Blames result) (S.world self.old.store) (S.world self.new.store) }
         ensures gone { S.tells → result ≡ Ok Begun.Installed → LeavesNoFiles (S.world self.new.store) (given_up choice) self.old.core.history self.new.core.history }
+        ensures rests { IfOk result (λ b. InstallsOrRests b self.old.store self.new.store) }
     {
         self.is_upheld();
         match choice {
@@ -202,6 +206,7 @@ impl<S: Store> TreeState<S> {
         ensures upholds { S.tells → Upholds (S.world self.old.store) (S.world self.new.store) self.old.core self.new.core }
         ensures causes { HasCause (Blames result) (S.world self.old.store) (S.world self.new.store) }
         ensures gone { S.tells → result ≡ Ok Begun.Installed → LeavesNoFiles (S.world self.new.store) (given_up choice) self.old.core.history self.new.core.history }
+        ensures rests { IfOk result (λ b. InstallsOrRests b self.old.store self.new.store) }
         ensures no_call { IsSome self.old.core.lost → self.new.store ≡ self.old.store }
     {
         self.is_upheld();
@@ -233,6 +238,8 @@ impl<S: Store> TreeState<S> {
         ensures causes { HasCause (Blames result) (S.world self.old.store) (S.world self.new.store) }
         // Behind a whole clean-up no file is left of what went.
         ensures gone { S.tells → result ≡ Ok Begun.Installed → LeavesNoFiles (S.world self.new.store) (given_up choice) self.old.core.history self.new.core.history }
+        // Where nothing is installed, and nothing refused, no call of the store is made.
+        ensures rests { IfOk result (λ b. InstallsOrRests b self.old.store self.new.store) }
         ensures no_call { IsSome self.old.core.lost → self.new.store ≡ self.old.store }
         // As the theories see it: the mark, and behind it the move or the drop with its maintenance, or one of unknown outcome.
         ensures deeds { ChoiceDeeds choice options.mvcc_gc_watermark result self.old.core self.new.core }
@@ -272,6 +279,7 @@ impl<S: Store> TreeState<S> {
         ensures upholds { S.tells → Upholds (S.world self.old.store) (S.world self.new.store) self.old.core self.new.core }
         ensures causes { HasCause (Blames result) (S.world self.old.store) (S.world self.new.store) }
         ensures gone { S.tells → IfOk chosen (λ choice. result ≡ Ok Begun.Installed → LeavesNoFiles (S.world self.new.store) (given_up choice) self.old.core.history self.new.core.history) }
+        ensures rests { IfOk result (λ b. InstallsOrRests b self.old.store self.new.store) }
     {
         self.is_upheld();
         match chosen {
@@ -299,6 +307,8 @@ impl<S: Store> TreeState<S> {
         ensures causes { HasCause (Blames result) (S.world self.old.store) (S.world self.new.store) }
         // Behind a whole clean-up no file is left of what went.
         ensures gone { S.tells → result ≡ Ok Begun.Installed → LeavesNoneChosen (S.world self.new.store) (may_choose strategy.now) self.old.core self.new.core }
+        // Where nothing is installed, and nothing refused, no call of the store is made.
+        ensures rests { IfOk result (λ b. InstallsOrRests b self.old.store self.new.store) }
         ensures no_call { IsSome self.old.core.lost → self.new.store ≡ self.old.store }
     {
         self.is_upheld();
@@ -322,6 +332,8 @@ impl<S: Store> TreeState<S> {
         ensures causes { HasCause (Blames result) (S.world self.old.store) (S.world self.new.store) }
         // Behind a whole clean-up no file is left of what went.
         ensures gone { S.tells → result ≡ Ok Begun.Installed → LeavesNoneChosen (S.world self.new.store) (C.may_choose strategy.now) self.old.core self.new.core }
+        // Where nothing is installed, and nothing refused, no call of the store is made.
+        ensures rests { IfOk result (λ b. InstallsOrRests b self.old.store self.new.store) }
         ensures no_call { IsSome self.old.core.lost → self.new.store ≡ self.old.store }
     {
         self.is_upheld();

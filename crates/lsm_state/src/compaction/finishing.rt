@@ -13,7 +13,7 @@ ghost use Rattle.lsm_state.specs.Commits.{Upholds};
 ghost use Rattle.lsm_state.specs.Flushes.{with_next_table};
 ghost use Rattle.lsm_state.specs.Deeds.{IsNoDeed};
 ghost use Rattle.lsm_state.specs.Settling.{MaySettle, HasItsTables};
-ghost use Rattle.lsm_state.specs.Compactions.{levels_of, closed, AreMerged, MayMerge, IsMergedInto, DrawsFor, InstallsMerge, Ends, Spends, Finishes};
+ghost use Rattle.lsm_state.specs.Compactions.{levels_of, closed, AreMerged, MayMerge, IsMergedInto, DrawsFor, InstallsMerge, Ends, EndsOrRests, Spends, Finishes};
 ghost use Rattle.lsm_state.specs.CompactionDeeds.{MergeDeeds};
 ghost use Rattle.lsm_state.specs.OwnInputs.{HasOwnInputs};
 
@@ -141,6 +141,7 @@ impl<S: Store> TreeState<S> {
         ensures upholds { S.tells → Upholds (S.world self.old.store) (S.world self.new.store) self.old.core self.new.core }
         ensures causes { HasCause (Blames result) (S.world self.old.store) (S.world self.new.store) }
         ensures gone { S.tells → OnOk result (LeavesNoFiles (S.world self.new.store) merged.now.job.ids self.old.core.history self.new.core.history) }
+        ensures rests { IfOk result (λ f. EndsOrRests f self.old.store self.new.store) }
     {
         self.is_upheld();
         merged.facts();
@@ -171,6 +172,7 @@ impl<S: Store> TreeState<S> {
         ensures upholds { S.tells → Upholds (S.world self.old.store) (S.world self.new.store) self.old.core self.new.core }
         ensures causes { HasCause (Blames result) (S.world self.old.store) (S.world self.new.store) }
         ensures gone { S.tells → OnOk result (LeavesNoFiles (S.world self.new.store) merged.now.job.ids self.old.core.history self.new.core.history) }
+        ensures rests { IfOk result (λ f. EndsOrRests f self.old.store self.new.store) }
         ensures refused { S.tells → RemovesRefused result self.old.core self.new.core (S.world self.old.store) (S.world self.new.store) }
     {
         let first = self.next_table.get();
@@ -209,6 +211,7 @@ impl<S: Store> TreeState<S> {
         ensures upholds { S.tells → Upholds (S.world self.old.store) (S.world self.new.store) self.old.core self.new.core }
         ensures causes { HasCause (Blames result) (S.world self.old.store) (S.world self.new.store) }
         ensures gone { S.tells → result ≡ Ok Finished.Installed → LeavesNoFiles (S.world self.new.store) merged.now.job.ids self.old.core.history self.new.core.history }
+        ensures rests { IfOk result (λ f. EndsOrRests f self.old.store self.new.store) }
         ensures refused { S.tells → RemovesRefused result self.old.core self.new.core (S.world self.old.store) (S.world self.new.store) }
     {
         self.is_upheld();
@@ -228,6 +231,7 @@ impl<S: Store> TreeState<S> {
         ensures upholds { S.tells → Upholds (S.world self.old.store) (S.world self.new.store) self.old.core self.new.core }
         ensures causes { HasCause (Blames result) (S.world self.old.store) (S.world self.new.store) }
         ensures gone { S.tells → result ≡ Ok Finished.Installed → LeavesNoFiles (S.world self.new.store) merged.job.ids self.old.core.history self.new.core.history }
+        ensures rests { IfOk result (λ f. EndsOrRests f self.old.store self.new.store) }
         ensures refused { S.tells → RemovesRefused result self.old.core self.new.core (S.world self.old.store) (S.world self.new.store) }
         ensures no_call { IsSome self.old.core.lost → self.new.store ≡ self.old.store }
     {
@@ -264,6 +268,8 @@ impl<S: Store> TreeState<S> {
         ensures causes { HasCause (Blames result) (S.world self.old.store) (S.world self.new.store) }
         // Behind a whole clean-up no file is left of what went.
         ensures gone { S.tells → result ≡ Ok Finished.Installed → LeavesNoFiles (S.world self.new.store) merged.job.ids self.old.core.history self.new.core.history }
+        // Where nothing is installed, and nothing refused, no call of the store is made.
+        ensures rests { IfOk result (λ f. EndsOrRests f self.old.store self.new.store) }
         // Refused, no table's file is left of what it wrote, unless a call of the store failed, or a version may name it.
         ensures refused { S.tells → RemovesRefused result self.old.core self.new.core (S.world self.old.store) (S.world self.new.store) }
         ensures no_call { IsSome self.old.core.lost → self.new.store ≡ self.old.store }
@@ -282,6 +288,7 @@ impl<S: Store> TreeState<S> {
         ensures upholds { S.tells → Upholds (S.world self.old.store) (S.world self.new.store) self.old.core self.new.core }
         ensures causes { HasCause (Blames result) (S.world self.old.store) (S.world self.new.store) }
         ensures gone { S.tells → result ≡ Ok Finished.Installed → LeavesNoFiles (S.world self.new.store) merged.job.ids self.old.core.history self.new.core.history }
+        ensures rests { IfOk result (λ f. EndsOrRests f self.old.store self.new.store) }
         ensures refused { S.tells → RemovesRefused result self.old.core self.new.core (S.world self.old.store) (S.world self.new.store) }
         ensures no_call { IsSome self.old.core.lost → self.new.store ≡ self.old.store }
         ensures deeds { MergeDeeds merged.job result self.old.core self.new.core }

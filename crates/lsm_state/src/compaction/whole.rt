@@ -1,12 +1,12 @@
 // A compaction in one call.
-ghost use Rattle.std.specs.Prelude.{◌≡◌, Ok, IsSome};
+ghost use Rattle.std.specs.Prelude.{◌≡◌, Ok, IfOk, IsSome};
 ghost use Rattle.lsm_commit.specs.Causes.{HasCause, Blames};
 ghost use Rattle.lsm_state.specs.Causes.{BlamesEnd};
 ghost use Rattle.lsm_compaction.specs.Merges.{SeenCompaction};
 ghost use Rattle.lsm_state.specs.declared.compaction.Begun.TheVariants.{Job};
 ghost use Rattle.lsm_state.specs.Cleaning.{LeavesNoFiles, RemovesRefused};
 ghost use Rattle.lsm_state.specs.Commits.{Upholds};
-ghost use Rattle.lsm_state.specs.Compactions.{given_up, LeavesNoneChosen};
+ghost use Rattle.lsm_state.specs.Compactions.{given_up, LeavesNoneChosen, InstallsOrRests};
 ghost use Rattle.lsm_state.specs.OwnInputs.{HasOwnInputs, BeganHere};
 ghost use Rattle.lsm_state.specs.WholeCompactions.{Completes, Follows, CompactsChoice, Compacts, DropsRange, options_at, only_memory, major_choice, drop_choice};
 
@@ -25,6 +25,7 @@ impl<S: Store> TreeState<S> {
         ensures upholds { S.tells → Upholds (S.world self.old.store) (S.world self.new.store) self.old.core self.new.core }
         ensures causes { HasCause (Blames result) (S.world self.old.store) (S.world self.new.store) }
         ensures gone { S.tells → result ≡ Ok Begun.Installed → LeavesNoFiles (S.world self.new.store) job.ids self.old.core.history self.new.core.history }
+        ensures rests { IfOk result (λ b. InstallsOrRests b self.old.store self.new.store) }
         ensures refused { S.tells → RemovesRefused result self.old.core self.new.core (S.world self.old.store) (S.world self.new.store) }
         ensures no_call { IsSome self.old.core.lost → self.new.store ≡ self.old.store }
     {
@@ -49,7 +50,8 @@ impl<S: Store> TreeState<S> {
         ensures upholds { S.tells → Upholds (S.world self.old.store) (S.world self.new.store) self.old.core self.new.core }
         ensures causes { HasCause (BlamesEnd begun result) (S.world self.old.store) (S.world self.new.store) }
         ensures gone { S.tells → (job : SeenCompaction) → begun ≡ Ok (Job job) → result ≡ Ok Begun.Installed → LeavesNoFiles (S.world self.new.store) job.ids self.old.core.history self.new.core.history }
-        ensures rests { begun ≡ Ok Begun.Installed → self.new.store ≡ self.old.store }
+        ensures done { begun ≡ Ok Begun.Installed → self.new.store ≡ self.old.store }
+        ensures rests { IfOk result (λ b. InstallsOrRests b self.old.store self.new.store) }
         ensures refused { S.tells → RemovesRefused result self.old.core self.new.core (S.world self.old.store) (S.world self.new.store) }
         ensures no_call { IsSome self.old.core.lost → self.new.store ≡ self.old.store }
     {
@@ -78,6 +80,8 @@ impl<S: Store> TreeState<S> {
         ensures causes { HasCause (Blames result) (S.world self.old.store) (S.world self.new.store) }
         // Behind a whole clean-up no file is left of what went.
         ensures gone { S.tells → result ≡ Ok Begun.Installed → LeavesNoFiles (S.world self.new.store) (given_up choice) self.old.core.history self.new.core.history }
+        // Where nothing is installed, and nothing refused, no call of the store is made.
+        ensures rests { IfOk result (λ b. InstallsOrRests b self.old.store self.new.store) }
         // Refused, no table's file is left of what it wrote, unless a call of the store failed, or a version may name it.
         ensures refused { S.tells → RemovesRefused result self.old.core self.new.core (S.world self.old.store) (S.world self.new.store) }
         ensures no_call { IsSome self.old.core.lost → self.new.store ≡ self.old.store }
@@ -100,6 +104,8 @@ impl<S: Store> TreeState<S> {
         ensures causes { HasCause (Blames result) (S.world self.old.store) (S.world self.new.store) }
         // Behind a whole clean-up no file is left of what went.
         ensures gone { S.tells → result ≡ Ok Begun.Installed → LeavesNoneChosen (S.world self.new.store) (C.may_choose strategy.now) self.old.core self.new.core }
+        // Where nothing is installed, and nothing refused, no call of the store is made.
+        ensures rests { IfOk result (λ b. InstallsOrRests b self.old.store self.new.store) }
         // Refused, no table's file is left of what it wrote, unless a call of the store failed, or a version may name it.
         ensures refused { S.tells → RemovesRefused result self.old.core self.new.core (S.world self.old.store) (S.world self.new.store) }
         ensures no_call { IsSome self.old.core.lost → self.new.store ≡ self.old.store }
@@ -136,6 +142,8 @@ impl<S: Store> TreeState<S> {
         ensures causes { HasCause (Blames result) (S.world self.old.store) (S.world self.new.store) }
         // Behind a whole clean-up no file is left of what went.
         ensures gone { S.tells → result ≡ Ok Begun.Installed → LeavesNoneChosen (S.world self.new.store) (may_choose strategy.now) self.old.core self.new.core }
+        // Where nothing is installed, and nothing refused, no call of the store is made.
+        ensures rests { IfOk result (λ b. InstallsOrRests b self.old.store self.new.store) }
         // Refused, no table's file is left of what it wrote, unless a call of the store failed, or a version may name it.
         ensures refused { S.tells → RemovesRefused result self.old.core self.new.core (S.world self.old.store) (S.world self.new.store) }
         ensures no_call { IsSome self.old.core.lost → self.new.store ≡ self.old.store }
@@ -158,6 +166,8 @@ impl<S: Store> TreeState<S> {
         ensures causes { HasCause (Blames result) (S.world self.old.store) (S.world self.new.store) }
         // Behind a whole clean-up no file is left of what went.
         ensures gone { S.tells → result ≡ Ok Begun.Installed → LeavesNoneChosen (S.world self.new.store) (major_choice target) self.old.core self.new.core }
+        // Where nothing is installed, and nothing refused, no call of the store is made.
+        ensures rests { IfOk result (λ b. InstallsOrRests b self.old.store self.new.store) }
         // Refused, no table's file is left of what it wrote, unless a call of the store failed, or a version may name it.
         ensures refused { S.tells → RemovesRefused result self.old.core self.new.core (S.world self.old.store) (S.world self.new.store) }
         ensures no_call { IsSome self.old.core.lost → self.new.store ≡ self.old.store }
@@ -181,6 +191,8 @@ impl<S: Store> TreeState<S> {
         ensures causes { HasCause (Blames result) (S.world self.old.store) (S.world self.new.store) }
         // Behind a whole clean-up no file is left of what went.
         ensures gone { S.tells → result ≡ Ok Begun.Installed → LeavesNoneChosen (S.world self.new.store) (drop_choice bounds) self.old.core self.new.core }
+        // Where nothing is installed, and nothing refused, no call of the store is made.
+        ensures rests { IfOk result (λ b. InstallsOrRests b self.old.store self.new.store) }
         // Refused, no table's file is left of what it wrote, unless a call of the store failed, or a version may name it.
         ensures refused { S.tells → RemovesRefused result self.old.core self.new.core (S.world self.old.store) (S.world self.new.store) }
         ensures no_call { IsSome self.old.core.lost → self.new.store ≡ self.old.store }
@@ -217,6 +229,8 @@ pub fn do_compaction<S: Store>(
     ensures causes { HasCause (Blames result) (S.world tree.old.store) (S.world tree.new.store) }
     // Behind a whole clean-up no file is left of what went.
     ensures gone { S.tells → result ≡ Ok Begun.Installed → LeavesNoneChosen (S.world tree.new.store) (may_choose strategy.now) tree.old.core tree.new.core }
+    // Where nothing is installed, and nothing refused, no call of the store is made.
+    ensures rests { IfOk result (λ b. InstallsOrRests b tree.old.store tree.new.store) }
     // Refused, no table's file is left of what it wrote, unless a call of the store failed, or a version may name it.
     ensures refused { S.tells → RemovesRefused result tree.old.core tree.new.core (S.world tree.old.store) (S.world tree.new.store) }
     ensures no_call { IsSome tree.old.core.lost → tree.new.store ≡ tree.old.store }

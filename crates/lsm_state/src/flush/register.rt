@@ -1,5 +1,5 @@
 // How a flush is installed.
-ghost use Rattle.std.specs.Prelude.{ℕ, [], ◌≡◌, ◌⊎◌, ◌↔◌, ◌++◌, ◌-◌, ◌^◌, None, true, take, reverse, length, map, IsTrue, IsSome, IfOk, IfErr, IsErrOf};
+ghost use Rattle.std.specs.Prelude.{ℕ, [], ◌≡◌, ◌⊎◌, ◌↔◌, ◌++◌, ◌-◌, ◌^◌, None, true, false, take, reverse, length, map, IsTrue, IsSome, IfOk, IfErr, IsErrOf};
 ghost use Rattle.std.specs.List.Sorted.{IsPermutation};
 ghost use Rattle.lsm_model.specs.Steps.{among};
 ghost use Rattle.lsm_versions.specs.Levels.{range, all_of, HasOwnIds};
@@ -151,6 +151,7 @@ impl<S: Store> TreeState<S> {
         ensures passes { S.tells → Passes (S.world self.old.store) (S.world self.new.store) }
         ensures causes { HasCause (BlamesOrUnclean result) (S.world self.old.store) (S.world self.new.store) }
         ensures gone { S.tells → IfOk result (λ a. a.cleaned ≡ true → LeavesNoFiles (S.world self.new.store) [] self.old.core.history self.new.core.history) }
+        ensures rests { IfOk result (λ a. a.installed ≡ false → self.new.store ≡ self.old.store) }
     {
         crashes_leave_versions(&self.store);
         let number = self.seqno.get();
@@ -174,6 +175,7 @@ impl<S: Store> TreeState<S> {
         ensures upholds { S.tells → Upholds (S.world self.old.store) (S.world self.new.store) self.old.core self.new.core }
         ensures causes { HasCause (BlamesOrUnclean result) (S.world self.old.store) (S.world self.new.store) }
         ensures gone { S.tells → IfOk result (λ a. a.installed ≡ true → a.cleaned ≡ true → LeavesNoFiles (S.world self.new.store) [] self.old.core.history self.new.core.history) }
+        ensures rests { IfOk result (λ a. a.installed ≡ false → self.new.store ≡ self.old.store) }
         ensures no_call { IsSome self.old.core.lost → self.new.store ≡ self.old.store }
         ensures marks { IsMarkDeed job.watermark self.old.core (spent job.job.number self.old.core) }
         ensures deeds { IfOk result (λ a. a.installed ≡ true → IsFlushDeed job self.old.core self.new.core) }
@@ -205,6 +207,7 @@ impl<S: Store> TreeState<S> {
         ensures upholds { S.tells → Upholds (S.world self.old.store) (S.world self.new.store) self.old.core self.new.core }
         ensures causes { HasCause (BlamesOrUnclean result) (S.world self.old.store) (S.world self.new.store) }
         ensures gone { S.tells → IfOk result (λ a. a.installed ≡ true → a.cleaned ≡ true → LeavesNoFiles (S.world self.new.store) [] self.old.core.history self.new.core.history) }
+        ensures rests { IfOk result (λ a. a.installed ≡ false → self.new.store ≡ self.old.store) }
         ensures refused { S.tells → IsErrOf result Error.OutOfNumbers ⊎ IsErrOf result Error.TooManyRuns → RemovesTables (map (λ t. t.id) job.tables) (S.world self.old.store) (S.world self.new.store) }
         ensures deeds { IfOk result (λ a. a.installed ≡ true → IsFlushDeed job self.old.core self.new.core) }
         ensures lost { IsErrOf result Error.CommitUnknown → IsLostFlush job self.old.core self.new.core }
@@ -252,6 +255,8 @@ impl<S: Store> TreeState<S> {
         ensures causes { HasCause (BlamesOrUnclean result) (S.world self.old.store) (S.world self.new.store) }
         // Behind a whole clean-up no file is left of what went.
         ensures gone { S.tells → IfOk result (λ a. a.installed ≡ true → a.cleaned ≡ true → LeavesNoFiles (S.world self.new.store) [] self.old.core.history self.new.core.history) }
+        // Where the job is stale, no call of the store is made.
+        ensures rests { IfOk result (λ a. a.installed ≡ false → self.new.store ≡ self.old.store) }
         // Where the counter or the level was full, no file is left of a current job, unless a call of the store failed.
         ensures refused { S.tells → IsCurrent job self.old.core → IsErrOf result Error.OutOfNumbers ⊎ IsErrOf result Error.TooManyRuns → RemovesTables (map (λ t. t.id) job.tables) (S.world self.old.store) (S.world self.new.store) }
         ensures no_call { IsSome self.old.core.lost → self.new.store ≡ self.old.store }

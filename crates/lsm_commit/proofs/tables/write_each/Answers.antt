@@ -49,4 +49,4 @@ loop-rest-preserved g c =
 
 pub returns-clause-tables : goal.returns-clause-tables
 returns-clause-tables g c =
-    all_written c.cut_tables_are_runs.ensures TABLE_TARGET c.args.made_at c.args.next.now c.loop-rest.next c.args.entries.now c.loop-rest.tables.items c.loop-rest.rest c.requires c.loop-rest.invariant.written (c.is_empty.ensures.0 c.loop-rest-test.false)
+    all_written c.cut_tables_are_runs.ensures c.args.made_at c.args.next.now c.loop-rest.next c.args.entries.now c.loop-rest.tables.items c.loop-rest.rest c.requires c.loop-rest.invariant.written (c.is_empty.ensures.0 c.loop-rest-test.false)

@@ -1,6 +1,6 @@
 use Rattle.lsm_state.proofs.OwnInputs.{choice_here}
 use Rattle.lsm_state.proofs.Causing.{follows_cause}
-use Rattle.lsm_state.proofs.Wholes.{choice_upholds, choice_draws, refused_behind}
+use Rattle.lsm_state.proofs.Wholes.{choice_upholds, choice_draws, refused_behind, rests_behind}
 use Rattle.lsm_state.proofs.tree.TreeState.compact_choice.Goals as goal
 
 pub returns-clause-upholds : goal.returns-clause-upholds
@@ -26,6 +26,13 @@ returns-clause-refused g c tells =
     let mid = begun.new.self in
     let new = c.follow.new.self in
     refused_behind (w old.store) (w mid.store) (w new.store) begun.result c.follow.result old.core mid.core new.core begun.ensures.causes.rises (choice_draws c.args.choice c.args.options begun.result old.core mid.core begun.ensures.begins) c.follow.ensures.follows (c.follow.ensures.refused tells)
+
+pub returns-clause-rests : goal.returns-clause-rests
+returns-clause-rests g c =
+    let begun = c.begin_choice-begun in
+    let mid = begun.new.self in
+    let new = c.follow.new.self in
+    rests_behind begun.result c.follow.result c.args.self.now.store mid.store new.store mid.core new.core c.follow.ensures.follows begun.ensures.rests c.follow.ensures.rests
 
 pub follow-requires : goal.follow-requires
 follow-requires g c = choice_here c.args.choice c.args.options c.begin_choice-begun.result c.args.self.now.core c.begin_choice-begun.new.self.core c.facts.ensures c.begin_choice-begun.ensures.begins

@@ -1,7 +1,7 @@
 use Rattle.lsm_state.proofs.OwnInputs.{compaction_here}
 use Rattle.lsm_state.proofs.Causing.{follows_cause}
 use Rattle.std.proofs.Common.{ap}
-use Rattle.lsm_state.proofs.Wholes.{whole_upholds, follows_leave, compaction_draws, refused_behind}
+use Rattle.lsm_state.proofs.Wholes.{whole_upholds, follows_leave, compaction_draws, refused_behind, rests_behind}
 use Rattle.lsm_state.proofs.tree.TreeState.compact_with.Goals as goal
 
 pub returns-clause-upholds : goal.returns-clause-upholds
@@ -25,7 +25,7 @@ returns-clause-gone g c tells done =
     let mid = c.begin_with-begun.new.self in
     let new = c.follow.new.self in
     let begun = c.begin_with-begun in
-    follows_leave _ _ c.args.options (w mid.store) (w new.store) begun.result c.follow.result c.args.self.now.core mid.core new.core begun.ensures.begins c.follow.ensures.follows (begun.ensures.gone tells) (c.follow.ensures.gone tells) (λ is. ap w (c.follow.ensures.rests is)) done
+    follows_leave _ _ c.args.options (w mid.store) (w new.store) begun.result c.follow.result c.args.self.now.core mid.core new.core begun.ensures.begins c.follow.ensures.follows (begun.ensures.gone tells) (c.follow.ensures.gone tells) (λ is. ap w (c.follow.ensures.done is)) done
 
 pub returns-clause-refused : goal.returns-clause-refused
 returns-clause-refused g c tells =
@@ -35,6 +35,13 @@ returns-clause-refused g c tells =
     let mid = begun.new.self in
     let new = c.follow.new.self in
     refused_behind (w old.store) (w mid.store) (w new.store) begun.result c.follow.result old.core mid.core new.core begun.ensures.causes.rises (compaction_draws _ _ c.args.options begun.result old.core mid.core begun.ensures.begins) c.follow.ensures.follows (c.follow.ensures.refused tells)
+
+pub returns-clause-rests : goal.returns-clause-rests
+returns-clause-rests g c =
+    let begun = c.begin_with-begun in
+    let mid = begun.new.self in
+    let new = c.follow.new.self in
+    rests_behind begun.result c.follow.result c.args.self.now.store mid.store new.store mid.core new.core c.follow.ensures.follows begun.ensures.rests c.follow.ensures.rests
 
 pub follow-requires : goal.follow-requires
 follow-requires g c = compaction_here _ _ c.args.options c.begin_with-begun.result c.args.self.now.core c.begin_with-begun.new.self.core c.facts.ensures c.begin_with-begun.ensures.begins

@@ -23,6 +23,7 @@ returns-in-Err g c =
       upholds = λ tells. upholds_join (w old.store) (w mid.store) (w new.store) old.core mid.core new.core (ap versions_left behind.core) (did.upholds tells) (behind.upholds tells);
       causes = causes_then _ ⊥ _ (w old.store) (w mid.store) (w new.store) did.causes behind.causes (λ blamed. inl blamed);
       gone = λ tells. tt;
+      rests = tt;
       refused = λ tells small known before.
           let gone = subst (λ n. n < 2 ^ 63 → RemovesDrawn n mid.core.next_table (w mid.store) (w new.store)) first (behind.gone tells) small in
           removes_then old.core.next_table new.core.next_table (w old.store) (w mid.store) (w new.store) did.causes.rises (subst (λ n. RemovesDrawn old.core.next_table n (w mid.store) (w new.store)) next gone);

@@ -59,6 +59,7 @@ returns g c =
       upholds = λ tells. upholds_join (w old.store) (w mid.store) (w new.store) old.core mid.core new.core (ap versions_left behind.core) (did.upholds tells) (behind.upholds tells);
       causes = causes_then _ ⊥ _ (w old.store) (w mid.store) (w new.store) did.causes behind.causes (λ blamed. inl blamed);
       gone = λ tells. tt;
+      rests = tt;
       refused = λ tells full. removes_behind c.in-Ok.ids.keys _ (w old.store) (w mid.store) (w new.store) did.causes.rises (subst (λ (ts : List SeenTable). (i : ℕ) → among c.in-Ok.ids.keys i ≡ among (map (λ t. t.id) ts) i) c.tables.ensures c.in-Ok.ensures) (behind.gone tells);
       deeds = tt;
       lost = λ h. search rules;
